@@ -1,0 +1,6 @@
+//! Least paths: the tree of best paths from a bridge under an ECT mask (IEEE 802.1aq, 28.5 to 28.8).
+#![tactic(auto)]
+
+pub use key::PathKey;
+
+mod key;

@@ -1,0 +1,5 @@
+pub mod Address
+pub mod Ect
+pub mod Graph
+pub mod Bytes
+pub mod Name

@@ -1,0 +1,27 @@
+//! Identities, the graph of a backbone and the tables of a bridge: the words that every other crate uses.
+//!
+//! A value is `Copy` where it is small, and each list is a [`Seq`], which contracts see as the list of its items.
+//! No call here takes memory; each takes constant time, but for `Name::new`, which reads its at most 16 bytes.
+#![tactic(auto)]
+
+pub use address::{BridgeId, LspId, Mac, SystemId};
+pub use ect::ect_mask;
+pub use graph::{Edge, Graph, GraphBridge, Member};
+pub use memory::NoMemory;
+pub use name::Name;
+pub use ports::PortSet;
+pub use seq::Seq;
+pub use service::{Isid, SourceId, Vid, VidPlan};
+pub use tables::{GroupRow, Path, Tables, UnicastRow};
+pub use take::{Short, take_u8, take_u16, take_u24, take_u32};
+
+mod address;
+mod ect;
+mod graph;
+mod memory;
+mod name;
+mod ports;
+mod seq;
+mod service;
+mod tables;
+mod take;
