@@ -1,3 +1,5 @@
 pub mod Among
 pub mod Placing
 pub mod Walks
+pub mod Members
+pub mod KeyOrder
