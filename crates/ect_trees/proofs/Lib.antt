@@ -3,3 +3,4 @@ pub mod Placing
 pub mod Walks
 pub mod Members
 pub mod KeyOrder
+pub mod Least
