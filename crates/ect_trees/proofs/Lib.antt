@@ -4,3 +4,4 @@ pub mod Walks
 pub mod Members
 pub mod KeyOrder
 pub mod Least
+pub mod Exists
