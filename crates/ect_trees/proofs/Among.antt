@@ -1,5 +1,5 @@
 -- System ids in lists: equality is decided, a member splits its list, and distinct members of a list are no more than it has.
-use Rattle.std.proofs.Common.{◌≡◌, ℕ, ◌≤◌, Bool, true, false, true≢false, ◌≢◌, ◌⊎◌, inl, inr, List, [], ◌∷◌, ◌++◌, length, reverse, refl, sym, ap, ◌∙◌, subst, arith, length-append}
+use Rattle.std.proofs.Common.{◌≡◌, ◌≤◌, Bool, true, false, true≢false, ◌≢◌, ◌⊎◌, inl, inr, List, [], ◌∷◌, ◌++◌, length, reverse, refl, sym, ap, ◌∙◌, subst, arith, length-append}
 use Rattle.std.proofs.lemmas.List.{reverse-append}
 use Rattle.std.proofs.lemmas.Slice.Eq.{bytes_eq-Decides}
 use Rattle.spb_types.specs.Address.{same_system}
@@ -57,14 +57,14 @@ length-within (x ∷ xs) ys d w =
     let shorter : length xs ≤ length (s.0 ++ s.1) = length-within xs (s.0 ++ s.1) d.1 others in
     let whole : length ys ≡ length (s.0 ++ x ∷ s.1) = ap length s.2 in
     omega (arith, shorter, whole, length-append s.0 s.1, length-append s.0 (x ∷ s.1))
-    where
-      among_without : (x z : SystemId) (l r xs : List SystemId) → (IsAmong x xs → ⊥) → IsAmong z xs → IsAmong z (l ++ x ∷ r) → IsAmong z (l ++ r)
-      among_without x z l r xs d h i =
-          elim (among_parts z l (x ∷ r) i) [
-            | inl j ↦ among_left z l r j
-            | inr (inl e) ↦ absurd (d (subst (λ t. IsAmong t xs) e h))
-            | inr (inr j) ↦ among_right z l r j
-          ]
+  where
+    among_without : (x z : SystemId) (l r xs : List SystemId) → (IsAmong x xs → ⊥) → IsAmong z xs → IsAmong z (l ++ x ∷ r) → IsAmong z (l ++ r)
+    among_without x z l r xs d h i =
+        elim (among_parts z l (x ∷ r) i) [
+          | inl j ↦ among_left z l r j
+          | inr (inl e) ↦ absurd (d (subst (λ t. IsAmong t xs) e h))
+          | inr (inr j) ↦ among_right z l r j
+        ]
 
 pub distinct_snoc : (xs : List SystemId) (y : SystemId) → IsDistinct xs → (IsAmong y xs → ⊥) → IsDistinct (xs ++ y ∷ [])
 distinct_snoc [] y d n = ((λ h. h), tt)

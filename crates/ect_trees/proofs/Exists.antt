@@ -1,8 +1,8 @@
 -- best_of looks at all node lists: it gives the best path, and nothing exactly where there is no path.
-use Rattle.std.proofs.Common.{◌≡◌, ℕ, zero, suc, ◌≤◌, Bool, true, false, true≢false, not, ◌&&◌, ◌||◌, ◌≢◌, ◌⊎◌, inl, inr, ◌↔◌, List, [], ◌∷◌, ◌++◌, length, map, filter, flat_map, Option, Some, None, is_some, IsSome, if◌then◌else◌, refl, sym, ap, ◌∙◌, subst, arith, is_gt, Ordering, Less, Equal, Greater, Decides}
-use Rattle.std.proofs.lemmas.Bool.Decides.{Decides-and, Decides-or, Decides-not, Decides-like}
+use Rattle.std.proofs.Common.{◌≡◌, ℕ, zero, suc, ◌≤◌, Bool, true, false, true≢false, not, ◌&&◌, ◌⊎◌, inl, inr, ◌↔◌, List, [], ◌∷◌, length, map, Some, None, is_some, if◌then◌else◌, refl, sym, ap, ◌∙◌, subst, arith, is_gt, Ordering, Less, Equal, Greater, Decides}
+use Rattle.std.proofs.lemmas.Bool.Decides.{Decides-and, Decides-or, Decides-not}
 use Rattle.spb_types.specs.Address.{same_system}
-use Rattle.spb_types.specs.Graph.{IsAmong, IsDistinct, IsBridge, IsValid, systems_of, cost_between}
+use Rattle.spb_types.specs.Graph.{IsAmong, IsDistinct, IsValid, systems_of, cost_between}
 use Rattle.spb_types.specs.declared.address.SystemId.{SystemId}
 use Rattle.spb_types.specs.declared.graph.GraphBridge.{GraphBridge}
 use Rattle.spb_types.specs.declared.graph.Graph.{Graph}
@@ -12,7 +12,6 @@ use Rattle.ect_trees.specs.Key.{key_of, key_cmp, IsBelow}
 use Rattle.ect_trees.specs.Best.{IsBest, is_among, is_distinct, leads, is_path, lists_within, paths_of, lower_of, least_of, best_of}
 use Rattle.ect_trees.specs.Laws.{IsLeast}
 use Rattle.ect_trees.proofs.Among.{same_is, same_self}
-use Rattle.ect_trees.proofs.Placing.{gt_is}
 use Rattle.ect_trees.proofs.Walks.{path_bridges, path_length}
 use Rattle.ect_trees.proofs.Members.{Has, has_map, has_flat_map, has_filter, filter_has}
 use Rattle.ect_trees.proofs.KeyOrder.{not_below_itself, not_below_both, below_trans, below_cases}
@@ -94,45 +93,45 @@ under k l m n o b =
 
 lowest_of : (g : Graph) (mask : ℕ) (p r : List SystemId) (ps : List (List SystemId)) (t : Bool) → is_gt (key_cmp (key_of g mask p) (key_of g mask r)) ≡ t → IsLowest g mask ps r → IsLowest g mask (p ∷ ps) (if t then r else p)
 lowest_of g mask p r ps true e h = record { listed = inr h.listed; lowest = at }
-    where
-      at : (q : List SystemId) → Has q (p ∷ ps) → IsBelow (key_of g mask q) (key_of g mask r) → ⊥
-      at q (inl s) b = gt_not_less (key_cmp (key_of g mask p) (key_of g mask r)) e (subst (λ t. IsBelow (key_of g mask t) (key_of g mask r)) s b)
-      at q (inr i) b = h.lowest q i b
+  where
+    at : (q : List SystemId) → Has q (p ∷ ps) → IsBelow (key_of g mask q) (key_of g mask r) → ⊥
+    at q (inl s) b = gt_not_less (key_cmp (key_of g mask p) (key_of g mask r)) e (subst (λ t. IsBelow (key_of g mask t) (key_of g mask r)) s b)
+    at q (inr i) b = h.lowest q i b
 lowest_of g mask p r ps false e h = record { listed = inl refl; lowest = at }
-    where
-      at : (q : List SystemId) → Has q (p ∷ ps) → IsBelow (key_of g mask q) (key_of g mask p) → ⊥
-      at q (inl s) b = not_below_itself (key_of g mask p) (subst (λ t. IsBelow (key_of g mask t) (key_of g mask p)) s b)
-      at q (inr i) b =
-          under (key_of g mask p) (key_of g mask r) (key_of g mask q) (h.lowest q i) (not_above (key_cmp (key_of g mask p) (key_of g mask r)) (key_of g mask p) (key_of g mask r) refl e) b
+  where
+    at : (q : List SystemId) → Has q (p ∷ ps) → IsBelow (key_of g mask q) (key_of g mask p) → ⊥
+    at q (inl s) b = not_below_itself (key_of g mask p) (subst (λ t. IsBelow (key_of g mask t) (key_of g mask p)) s b)
+    at q (inr i) b =
+        under (key_of g mask p) (key_of g mask r) (key_of g mask q) (h.lowest q i) (not_above (key_cmp (key_of g mask p) (key_of g mask r)) (key_of g mask p) (key_of g mask r) refl e) b
 
 -- the last list alone
 lowest_last : (g : Graph) (mask : ℕ) (p : List SystemId) → IsLowest g mask (p ∷ []) p
 lowest_last g mask p = record { listed = inl refl; lowest = at }
-    where
-      at : (q : List SystemId) → Has q (p ∷ []) → IsBelow (key_of g mask q) (key_of g mask p) → ⊥
-      at q (inl s) b = not_below_itself (key_of g mask p) (subst (λ t. IsBelow (key_of g mask t) (key_of g mask p)) s b)
-      at q (inr i) b = i
+  where
+    at : (q : List SystemId) → Has q (p ∷ []) → IsBelow (key_of g mask q) (key_of g mask p) → ⊥
+    at q (inl s) b = not_below_itself (key_of g mask p) (subst (λ t. IsBelow (key_of g mask t) (key_of g mask p)) s b)
+    at q (inr i) b = i
 
 -- a list of lists is empty, or least_of gives a lowest one
 least_of_lowest : (g : Graph) (mask : ℕ) (ps : List (List SystemId)) → ((ps ≡ []) × (least_of g mask ps ≡ None)) ⊎ ((p : List SystemId) × (least_of g mask ps ≡ Some p) × IsLowest g mask ps p)
 least_of_lowest g mask [] = inl (refl, refl)
 least_of_lowest g mask (p ∷ ps) = more (least_of_lowest g mask ps)
-    where
-      more : ((ps ≡ []) × (least_of g mask ps ≡ None)) ⊎ ((q : List SystemId) × (least_of g mask ps ≡ Some q) × IsLowest g mask ps q) → ((p ∷ ps ≡ []) × (least_of g mask (p ∷ ps) ≡ None)) ⊎ ((q : List SystemId) × (least_of g mask (p ∷ ps) ≡ Some q) × IsLowest g mask (p ∷ ps) q)
-      more (inl h) = inr (p, ap (λ o. Some (lower_of g mask p o)) h.1, subst (λ t. IsLowest g mask (p ∷ t) p) (sym h.0) (lowest_last g mask p))
-      more (inr h) =
-          inr (lower_of g mask p (Some h.0), ap (λ o. Some (lower_of g mask p o)) h.1, lowest_of g mask p h.0 ps (is_gt (key_cmp (key_of g mask p) (key_of g mask h.0))) refl h.2)
+  where
+    more : ((ps ≡ []) × (least_of g mask ps ≡ None)) ⊎ ((q : List SystemId) × (least_of g mask ps ≡ Some q) × IsLowest g mask ps q) → ((p ∷ ps ≡ []) × (least_of g mask (p ∷ ps) ≡ None)) ⊎ ((q : List SystemId) × (least_of g mask (p ∷ ps) ≡ Some q) × IsLowest g mask (p ∷ ps) q)
+    more (inl h) = inr (p, ap (λ o. Some (lower_of g mask p o)) h.1, subst (λ t. IsLowest g mask (p ∷ t) p) (sym h.0) (lowest_last g mask p))
+    more (inr h) =
+        inr (lower_of g mask p (Some h.0), ap (λ o. Some (lower_of g mask p o)) h.1, lowest_of g mask p h.0 ps (is_gt (key_cmp (key_of g mask p) (key_of g mask h.0))) refl h.2)
 
 -- there is no path and best_of gives none, or it gives the best one
 pub best_of_cases : (g : Graph) (mask : ℕ) (a b : SystemId) → IsValid g → (((p : List SystemId) → IsPath g a b p → ⊥) × (best_of g mask a b ≡ None)) ⊎ ((p : List SystemId) × (best_of g mask a b ≡ Some p) × IsBest g mask a b p)
 unfolding best_of
 best_of_cases g mask a b valid = cases_at (least_of_lowest g mask (paths_of g a b))
-    where
-      cases_at : ((paths_of g a b ≡ []) × (least_of g mask (paths_of g a b) ≡ None)) ⊎ ((p : List SystemId) × (least_of g mask (paths_of g a b) ≡ Some p) × IsLowest g mask (paths_of g a b) p) → (((p : List SystemId) → IsPath g a b p → ⊥) × (best_of g mask a b ≡ None)) ⊎ ((p : List SystemId) × (best_of g mask a b ≡ Some p) × IsBest g mask a b p)
-      cases_at (inl h) = inl ((λ p w. subst (λ t. Has p t) h.0 (path_listed g a b p w)), h.1)
-      cases_at (inr h) =
-          let least : IsLeast g mask a b h.0 = record { path = listed_path g a b h.0 h.2.listed; least = λ q w m. h.2.lowest q (path_listed g a b q w) m } in
-          inr (h.0, h.1, least_is_best g mask a b h.0 valid least)
+  where
+    cases_at : ((paths_of g a b ≡ []) × (least_of g mask (paths_of g a b) ≡ None)) ⊎ ((p : List SystemId) × (least_of g mask (paths_of g a b) ≡ Some p) × IsLowest g mask (paths_of g a b) p) → (((p : List SystemId) → IsPath g a b p → ⊥) × (best_of g mask a b ≡ None)) ⊎ ((p : List SystemId) × (best_of g mask a b ≡ Some p) × IsBest g mask a b p)
+    cases_at (inl h) = inl ((λ p w. subst (λ t. Has p t) h.0 (path_listed g a b p w)), h.1)
+    cases_at (inr h) =
+        let least : IsLeast g mask a b h.0 = record { path = listed_path g a b h.0 h.2.listed; least = λ q w m. h.2.lowest q (path_listed g a b q w) m } in
+        inr (h.0, h.1, least_is_best g mask a b h.0 valid least)
 
 -- where there is a path, there is a best one
 pub best_exists : (g : Graph) (mask : ℕ) (a b : SystemId) (p : List SystemId) → IsValid g → IsPath g a b p → (q : List SystemId) × IsBest g mask a b q

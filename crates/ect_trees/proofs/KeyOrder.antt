@@ -1,5 +1,5 @@
 -- The order of keys: it is total, and one bridge more keeps it; masked ids of different bridges differ.
-use Rattle.std.proofs.Common.{◌≡◌, ℕ, zero, suc, ◌+◌, ◌<◌, ◌≤◌, Bool, true, false, true≢false, ◌≢◌, ◌⊎◌, inl, inr, List, [], ◌∷◌, ◌++◌, length, map, if◌then◌else◌, refl, sym, ap, ◌∙◌, subst, arith, ltb, eqb, lt-ltb, Ordering, Less, Equal, Greater, is_gt, nat_cmp, bit_xor}
+use Rattle.std.proofs.Common.{◌≡◌, ℕ, suc, ◌+◌, ◌<◌, ◌≤◌, Bool, true, false, ◌⊎◌, inl, inr, List, [], ◌∷◌, ◌++◌, length, map, if◌then◌else◌, refl, sym, ap, ◌∙◌, subst, arith, lt-ltb, Ordering, Less, Equal, Greater, nat_cmp, bit_xor}
 use Rattle.std.specs.Ordering.{ordering_then, ordering_reverse, MatchOrdering}
 use Rattle.std.specs.Int.Bits.{xor_assoc, xor_self, xor_zero_r}
 use Rattle.std.specs.Cmp.{IsTotalOrder}
@@ -12,12 +12,12 @@ use Rattle.spb_types.specs.declared.address.BridgeId.{BridgeId}
 use Rattle.spb_types.specs.declared.graph.GraphBridge.{GraphBridge}
 use Rattle.spb_types.specs.declared.graph.Graph.{Graph}
 use Rattle.ect_trees.specs.declared.key.PathKey.{PathKey}
-use Rattle.ect_trees.specs.Path.{IsPath, cost_of, hops_of, cost_along}
+use Rattle.ect_trees.specs.Path.{IsPath, cost_of, hops_of}
 use Rattle.ect_trees.specs.Key.{id_cmp, bridge_id_among, masked_id, placed, ascending, key_of, key_cmp, IsBelow}
 use Rattle.ect_trees.proofs.Among.{same_is}
-use Rattle.ect_trees.proofs.Placing.{nat_tied, then_parts, gt_is, lists_tied, ids_tied, placed_keeps_order, length-ascending}
-use Rattle.ect_trees.proofs.Members.{Has, has_map, ascending_has, has_ascending}
-use Rattle.ect_trees.proofs.Walks.{step, step_comm, cost-snoc, hops-snoc, ids-snoc}
+use Rattle.ect_trees.proofs.Placing.{nat_tied, then_parts, lists_tied, ids_tied, placed_keeps_order, length-ascending}
+use Rattle.ect_trees.proofs.Members.{Has, ascending_has, has_ascending}
+use Rattle.ect_trees.proofs.Walks.{step, cost-snoc, hops-snoc, ids-snoc}
 
 pub keys_total : IsTotalOrder key_cmp
 keys_total = then_total (on_total (λ (k : PathKey). k.cost) nat_cmp_total) (then_total (on_total (λ (k : PathKey). k.hops) nat_cmp_total) (on_total (λ (k : PathKey). k.ids) (lists_total nat_list_cmp_total)))
@@ -43,11 +43,11 @@ below_trans k l m = keys_total.trans k l m
 -- of two keys one is below the other, or they are equal
 pub below_cases : (k l : PathKey) → IsBelow k l ⊎ ((k ≡ l) ⊎ IsBelow l k)
 below_cases k l = cases_at (key_cmp k l) refl
-    where
-      cases_at : (o : Ordering) → key_cmp k l ≡ o → IsBelow k l ⊎ ((k ≡ l) ⊎ IsBelow l k)
-      cases_at Less e = inl e
-      cases_at Equal e = inr (inl (keys_tied k l e))
-      cases_at Greater e = inr (inr (keys_total.antisymm l k ∙ ap ordering_reverse e))
+  where
+    cases_at : (o : Ordering) → key_cmp k l ≡ o → IsBelow k l ⊎ ((k ≡ l) ⊎ IsBelow l k)
+    cases_at Less e = inl e
+    cases_at Equal e = inr (inl (keys_tied k l e))
+    cases_at Greater e = inr (inr (keys_total.antisymm l k ∙ ap ordering_reverse e))
 
 then_less : (o r : Ordering) → o ≡ Less → ordering_then o r ≡ Less
 then_less o r e = ap (λ t. ordering_then t r) e
@@ -97,9 +97,9 @@ raised k l m n c z mc nc mh nh mi ni same =
     ap (λ o. ordering_then o (ordering_then (nat_cmp m.hops n.hops) (slice_cmp id_cmp m.ids n.ids))) costs ∙
     (ap (λ o. ordering_then (nat_cmp k.cost l.cost) (ordering_then o (slice_cmp id_cmp m.ids n.ids))) hops ∙
     ap (λ o. ordering_then (nat_cmp k.cost l.cost) o) (then_alike (nat_cmp k.hops l.hops) (slice_cmp id_cmp m.ids n.ids) (slice_cmp id_cmp k.ids l.ids) ids))
-    where
-      ids_at : k.hops ≡ l.hops → slice_cmp id_cmp m.ids n.ids ≡ slice_cmp id_cmp k.ids l.ids
-      ids_at t = ap (λ s. slice_cmp id_cmp s n.ids) mi ∙ (ap (λ s. slice_cmp id_cmp (placed z k.ids) s) ni ∙ placed_keeps_order z k.ids l.ids (same t))
+  where
+    ids_at : k.hops ≡ l.hops → slice_cmp id_cmp m.ids n.ids ≡ slice_cmp id_cmp k.ids l.ids
+    ids_at t = ap (λ s. slice_cmp id_cmp s n.ids) mi ∙ (ap (λ s. slice_cmp id_cmp (placed z k.ids) s) ni ∙ placed_keeps_order z k.ids l.ids (same t))
 
 length-map : (f : SystemId → List ℕ) (p : List SystemId) → length (map f p) ≡ length p
 length-map f [] = refl
@@ -136,9 +136,9 @@ key_cmp-cons g mask a b c x p q v w =
 -- XOR with a mask can be undone
 pub xor_once : (m x y : ℕ) → bit_xor x m ≡ bit_xor y m → x ≡ y
 xor_once m x y e = sym (back x) ∙ (ap (λ t. bit_xor t m) e ∙ back y)
-    where
-      back : (t : ℕ) → bit_xor (bit_xor t m) m ≡ t
-      back t = xor_assoc t m m ∙ (ap (bit_xor t) (xor_self m) ∙ xor_zero_r t)
+  where
+    back : (t : ℕ) → bit_xor (bit_xor t m) m ≡ t
+    back t = xor_assoc t m m ∙ (ap (bit_xor t) (xor_self m) ∙ xor_zero_r t)
 
 map_once : (f : ℕ → ℕ) → ((x y : ℕ) → f x ≡ f y → x ≡ y) → (xs ys : List ℕ) → map f xs ≡ map f ys → xs ≡ ys
 map_once f o [] [] e = refl
@@ -158,10 +158,10 @@ masked_once mask x y e =
 pub bridge_id-system : (bs : List GraphBridge) (x : SystemId) → (bridge_id_among bs x).system ≡ x
 bridge_id-system [] x = refl
 bridge_id-system (b ∷ bs) x = system_at (same_system b.id.system x) refl (bridge_id-system bs x)
-    where
-      system_at : (t : Bool) → same_system b.id.system x ≡ t → (bridge_id_among bs x).system ≡ x → (if t then b.id else bridge_id_among bs x).system ≡ x
-      system_at true e h = same_is b.id.system x e
-      system_at false e h = h
+  where
+    system_at : (t : Bool) → same_system b.id.system x ≡ t → (bridge_id_among bs x).system ≡ x → (if t then b.id else bridge_id_among bs x).system ≡ x
+    system_at true e h = same_is b.id.system x e
+    system_at false e h = h
 
 -- masked ids of different bridges differ
 pub masked_id_once : (g : Graph) (mask : ℕ) (x y : SystemId) → masked_id g mask x ≡ masked_id g mask y → x ≡ y

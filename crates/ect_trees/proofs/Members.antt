@@ -29,45 +29,45 @@ has_flat_map f x y (z ∷ xs) (inr h) k = has_right y (f z) (flat_map f xs) (has
 pub has_filter : {X : Type 0} (p : X → Bool) (x : X) (xs : List X) → Has x xs → p x ≡ true → Has x (filter p xs)
 has_filter p x [] h e = absurd h
 has_filter p x (z ∷ xs) h e = has_filter_at (p z) refl h (λ i. has_filter p x xs i e)
-    where
-      has_filter_at : (b : Bool) → p z ≡ b → Has x (z ∷ xs) → (Has x xs → Has x (filter p xs)) → Has x (if b then z ∷ filter p xs else filter p xs)
-      has_filter_at true f (inl i) r = inl i
-      has_filter_at true f (inr i) r = inr (r i)
-      has_filter_at false f (inl i) r = absurd (true≢false (sym e ∙ (ap p i ∙ f)))
-      has_filter_at false f (inr i) r = r i
+  where
+    has_filter_at : (b : Bool) → p z ≡ b → Has x (z ∷ xs) → (Has x xs → Has x (filter p xs)) → Has x (if b then z ∷ filter p xs else filter p xs)
+    has_filter_at true f (inl i) r = inl i
+    has_filter_at true f (inr i) r = inr (r i)
+    has_filter_at false f (inl i) r = absurd (true≢false (sym e ∙ (ap p i ∙ f)))
+    has_filter_at false f (inr i) r = r i
 
 pub filter_has : {X : Type 0} (p : X → Bool) (x : X) (xs : List X) → Has x (filter p xs) → p x ≡ true
 filter_has p x [] h = absurd h
 filter_has p x (z ∷ xs) h = filter_has_at (p z) refl h (filter_has p x xs)
-    where
-      filter_has_at : (b : Bool) → p z ≡ b → Has x (if b then z ∷ filter p xs else filter p xs) → (Has x (filter p xs) → p x ≡ true) → p x ≡ true
-      filter_has_at true f (inl i) r = ap p i ∙ f
-      filter_has_at true f (inr i) r = r i
-      filter_has_at false f i r = r i
+  where
+    filter_has_at : (b : Bool) → p z ≡ b → Has x (if b then z ∷ filter p xs else filter p xs) → (Has x (filter p xs) → p x ≡ true) → p x ≡ true
+    filter_has_at true f (inl i) r = ap p i ∙ f
+    filter_has_at true f (inr i) r = r i
+    filter_has_at false f i r = r i
 
 -- placing keeps the members
 pub placed_has : (z x : List ℕ) (ys : List (List ℕ)) → Has z (x ∷ ys) → Has z (placed x ys)
 placed_has z x [] h = h
 placed_has z x (y ∷ ys) h = placed_has_at (is_gt (id_cmp x y)) h (placed_has z x ys)
-    where
-      placed_has_at : (b : Bool) → Has z (x ∷ y ∷ ys) → (Has z (x ∷ ys) → Has z (placed x ys)) → Has z (if b then y ∷ placed x ys else x ∷ y ∷ ys)
-      placed_has_at true (inl e) r = inr (r (inl e))
-      placed_has_at true (inr (inl e)) r = inl e
-      placed_has_at true (inr (inr i)) r = inr (r (inr i))
-      placed_has_at false i r = i
+  where
+    placed_has_at : (b : Bool) → Has z (x ∷ y ∷ ys) → (Has z (x ∷ ys) → Has z (placed x ys)) → Has z (if b then y ∷ placed x ys else x ∷ y ∷ ys)
+    placed_has_at true (inl e) r = inr (r (inl e))
+    placed_has_at true (inr (inl e)) r = inl e
+    placed_has_at true (inr (inr i)) r = inr (r (inr i))
+    placed_has_at false i r = i
 
 pub has_placed : (z x : List ℕ) (ys : List (List ℕ)) → Has z (placed x ys) → Has z (x ∷ ys)
 has_placed z x [] h = h
 has_placed z x (y ∷ ys) h = has_placed_at (is_gt (id_cmp x y)) h (has_placed z x ys)
-    where
-      has_placed_at : (b : Bool) → Has z (if b then y ∷ placed x ys else x ∷ y ∷ ys) → (Has z (placed x ys) → Has z (x ∷ ys)) → Has z (x ∷ y ∷ ys)
-      has_placed_at true (inl e) r = inr (inl e)
-      has_placed_at true (inr i) r = behind (r i)
-          where
-            behind : Has z (x ∷ ys) → Has z (x ∷ y ∷ ys)
-            behind (inl e) = inl e
-            behind (inr j) = inr (inr j)
-      has_placed_at false i r = i
+  where
+    has_placed_at : (b : Bool) → Has z (if b then y ∷ placed x ys else x ∷ y ∷ ys) → (Has z (placed x ys) → Has z (x ∷ ys)) → Has z (x ∷ y ∷ ys)
+    has_placed_at true (inl e) r = inr (inl e)
+    has_placed_at true (inr i) r = behind (r i)
+      where
+        behind : Has z (x ∷ ys) → Has z (x ∷ y ∷ ys)
+        behind (inl e) = inl e
+        behind (inr j) = inr (inr j)
+    has_placed_at false i r = i
 
 pub ascending_has : (z : List ℕ) (xs : List (List ℕ)) → Has z xs → Has z (ascending xs)
 ascending_has z [] h = h
@@ -77,7 +77,7 @@ ascending_has z (x ∷ xs) (inr h) = placed_has z x (ascending xs) (inr (ascendi
 pub has_ascending : (z : List ℕ) (xs : List (List ℕ)) → Has z (ascending xs) → Has z xs
 has_ascending z [] h = h
 has_ascending z (x ∷ xs) h = has_ascending_at (has_placed z x (ascending xs) h) (has_ascending z xs)
-    where
-      has_ascending_at : Has z (x ∷ ascending xs) → (Has z (ascending xs) → Has z xs) → Has z (x ∷ xs)
-      has_ascending_at (inl e) r = inl e
-      has_ascending_at (inr i) r = inr (r i)
+  where
+    has_ascending_at : Has z (x ∷ ascending xs) → (Has z (ascending xs) → Has z xs) → Has z (x ∷ xs)
+    has_ascending_at (inl e) r = inl e
+    has_ascending_at (inr i) r = inr (r i)

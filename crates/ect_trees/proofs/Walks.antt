@@ -1,5 +1,5 @@
 -- Paths of a graph: one bridge more at an end, reversal, and the parts at a bridge; their costs and their ids.
-use Rattle.std.proofs.Common.{◌≡◌, ℕ, suc, ◌+◌, ◌-◌, ◌<◌, ◌≤◌, Bool, true, false, ◌&&◌, ◌||◌, if◌then◌else◌, true≢false, ◌≢◌, ◌⊎◌, inl, inr, List, [], ◌∷◌, ◌++◌, length, map, reverse, Option, Some, None, IsSome, unwrap_or, refl, sym, ap, ◌∙◌, subst, arith, length-append, add-zero, add_assoc}
+use Rattle.std.proofs.Common.{◌≡◌, ℕ, suc, ◌+◌, ◌-◌, ◌≤◌, Bool, true, false, ◌&&◌, ◌||◌, if◌then◌else◌, true≢false, inl, inr, List, [], ◌∷◌, ◌++◌, length, map, reverse, Some, IsSome, unwrap_or, refl, sym, ap, ◌∙◌, subst, arith, length-append}
 use Rattle.std.specs.List.{AllByRecursion}
 use Rattle.std.proofs.lemmas.List.{length-reverse}
 use Rattle.spb_types.specs.Address.{same_system}
@@ -9,8 +9,8 @@ use Rattle.spb_types.specs.declared.graph.Edge.{Edge}
 use Rattle.spb_types.specs.declared.graph.Graph.{Graph}
 use Rattle.ect_trees.specs.Path.{Leads, IsPath, cost_along, cost_of, hops_of}
 use Rattle.ect_trees.specs.Key.{masked_id, placed, ascending}
-use Rattle.ect_trees.proofs.Among.{same_is, same_self, among_left, among_right, distinct_snoc, distinct_back, distinct_reverse, among_reverse, reverse-cons, length-within}
-use Rattle.ect_trees.proofs.Placing.{ascending-snoc, length-ascending}
+use Rattle.ect_trees.proofs.Among.{among_left, distinct_snoc, distinct_back, among_reverse, reverse-cons, length-within}
+use Rattle.ect_trees.proofs.Placing.{ascending-snoc}
 
 or_comm : (a b : Bool) → (a || b) ≡ (b || a)
 or_comm true true = refl
@@ -40,10 +40,10 @@ step_comm g x y = ap (λ o. unwrap_or o 0) (cost_comm g x y)
 step_among : (g : Graph) (es : List Edge) (x y : SystemId) → AllByRecursion (λ e. IsEdgeOf g e) es → IsSome (cost_among es x y) → 1 ≤ unwrap_or (cost_among es x y) 0
 step_among g [] x y v s = absurd (true≢false (sym s))
 step_among g (e ∷ es) x y v s = step_at (joins e x y) s (step_among g es x y v.1)
-    where
-      step_at : (b : Bool) → IsSome (if b then Some e.cost else cost_among es x y) → (IsSome (cost_among es x y) → 1 ≤ unwrap_or (cost_among es x y) 0) → 1 ≤ unwrap_or (if b then Some e.cost else cost_among es x y) 0
-      step_at true s h = v.0.low
-      step_at false s h = h s
+  where
+    step_at : (b : Bool) → IsSome (if b then Some e.cost else cost_among es x y) → (IsSome (cost_among es x y) → 1 ≤ unwrap_or (cost_among es x y) 0) → 1 ≤ unwrap_or (if b then Some e.cost else cost_among es x y) 0
+    step_at true s h = v.0.low
+    step_at false s h = h s
 
 -- each edge costs at least 1
 pub step_positive : (g : Graph) (x y : SystemId) → IsValid g → IsSome (cost_between g x y) → 1 ≤ step g x y

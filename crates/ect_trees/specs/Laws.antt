@@ -1,4 +1,4 @@
-use Rattle.std.specs.Prelude.{◌≡◌, ◌≢◌, ◌↔◌, ℕ, List, [], ◌∷◌, ◌++◌, reverse, Option, Some, None}
+use Rattle.std.specs.Prelude.{◌≡◌, ◌↔◌, ℕ, List, [], ◌∷◌, ◌++◌, reverse, Some, None}
 use Rattle.std.specs.declared.cmp.Ordering.{Ordering}
 use Rattle.std.specs.Cmp.{IsTotalOrder}
 use Rattle.spb_types.specs.declared.address.SystemId.{SystemId}
@@ -45,7 +45,7 @@ BestOfSome = (g : Graph) (mask : ℕ) (a b : SystemId) (p : List SystemId) → I
 
 -- the best path from b to a is the best path from a to b in reverse
 abbrev pub BestReversed : Type 0
-BestReversed = (g : Graph) (mask : ℕ) (a b : SystemId) (p : List SystemId) → IsValid g → IsBest g mask a b p → IsBest g mask b a (reverse p)
+BestReversed = (g : Graph) (mask : ℕ) (a b : SystemId) (p : List SystemId) → IsBest g mask a b p → IsBest g mask b a (reverse p)
 
 -- the part of a best path up to a bridge on it is best
 abbrev pub FrontIsBest : Type 0
