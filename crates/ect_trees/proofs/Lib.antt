@@ -5,3 +5,4 @@ pub mod Members
 pub mod KeyOrder
 pub mod Least
 pub mod Exists
+pub mod Steps
