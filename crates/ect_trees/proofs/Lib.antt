@@ -6,3 +6,4 @@ pub mod KeyOrder
 pub mod Least
 pub mod Exists
 pub mod Steps
+pub mod Alike

@@ -1,8 +1,8 @@
 -- Steps of a search for best paths: a best path is a best path and one edge more; edges, their costs and how far costs go.
-use Rattle.std.proofs.Common.{◌≡◌, ℕ, ◌+◌, ◌*◌, ◌^◌, ◌<◌, ◌≤◌, Bool, true, false, true≢false, ◌&&◌, ◌||◌, ◌⊎◌, inl, inr, List, [], ◌∷◌, ◌++◌, length, Some, IsSome, unwrap_or, if◌then◌else◌, refl, sym, ap, ◌∙◌, subst, arith, append_assoc}
+use Rattle.std.proofs.Common.{◌↔◌, ◌≡◌, ℕ, ◌+◌, ◌*◌, ◌^◌, ◌<◌, ◌≤◌, Bool, true, false, true≢false, ◌&&◌, ◌||◌, ◌⊎◌, inl, inr, List, [], ◌∷◌, ◌++◌, length, Some, IsSome, unwrap_or, if◌then◌else◌, refl, sym, ap, ◌∙◌, subst, arith, append_assoc}
 use Rattle.std.specs.List.{AllByRecursion}
 use Rattle.spb_types.specs.Address.{same_system}
-use Rattle.spb_types.specs.Graph.{IsBridge, IsValid, IsEdgeOf, OneEdge, joins, cost_among, cost_between}
+use Rattle.spb_types.specs.Graph.{IsAmong, IsBridge, IsValid, IsEdgeOf, OneEdge, joins, cost_among, cost_between}
 use Rattle.spb_types.specs.declared.address.SystemId.{SystemId}
 use Rattle.spb_types.specs.declared.graph.Edge.{Edge}
 use Rattle.spb_types.specs.declared.graph.Graph.{Graph}
@@ -10,7 +10,7 @@ use Rattle.ect_trees.specs.Path.{Leads, IsPath, cost_along, cost_of, hops_of}
 use Rattle.ect_trees.specs.Best.{IsBest}
 use Rattle.ect_trees.proofs.Among.{same_is, same_self}
 use Rattle.ect_trees.proofs.Members.{Has}
-use Rattle.ect_trees.proofs.Walks.{step, path_length}
+use Rattle.ect_trees.proofs.Walks.{leads_end, path_single, step, path_length}
 use Rattle.ect_trees.proofs.Least.{best_front}
 
 -- a list that isn't empty has a last element
@@ -160,3 +160,15 @@ cost_has (f ∷ es) e o (inr i) = rw (first_joins f e es o.0 i) (cost_has es e o
 -- the cost between the ends of an edge of a valid graph is its cost
 pub cost_of_edge : (g : Graph) (e : Edge) → IsValid g → Has e g.edges → cost_between g e.a e.b ≡ Some e.cost
 cost_of_edge g e v h = cost_has g.edges e v.one_edge h
+
+-- the path from a bridge to itself is that bridge alone
+pub path_to_itself : (g : Graph) (a : SystemId) (p : List SystemId) → IsPath g a a p → p ≡ a ∷ []
+path_to_itself g a [] w = absurd w
+path_to_itself g a (x ∷ []) w = ap (λ t. t ∷ []) w.0
+path_to_itself g a (x ∷ y ∷ ys) w = absurd (w.2.0 (subst (λ t. IsAmong t (y ∷ ys)) (sym w.0) (leads_end g y a ys w.1.2)))
+
+pub best_to_itself : (g : Graph) (mask : ℕ) (a : SystemId) (p : List SystemId) → IsBridge g a → IsBest g mask a a p ↔ (p ≡ a ∷ [])
+best_to_itself g mask a p h = ((λ k. path_to_itself g a p k.path), (λ e. subst (λ q. IsBest g mask a a q) (sym e) alone))
+  where
+    alone : IsBest g mask a a (a ∷ [])
+    alone = record { path = path_single g a h; below = λ q w d. absurd (d (path_to_itself g a q w)) }

@@ -75,7 +75,8 @@ path_length g a b p w =
     let h : length p ≤ length (systems_of g.bridges) = length-within p (systems_of g.bridges) (path_distinct g a b p w) (λ x i. path_bridges g a b x p w i) in
     omega (arith, h, length-systems g.bridges)
 
-leads_end : (g : Graph) (a b : SystemId) (xs : List SystemId) → Leads g a xs b → IsAmong b (a ∷ xs)
+-- a walk's end is on it
+pub leads_end : (g : Graph) (a b : SystemId) (xs : List SystemId) → Leads g a xs b → IsAmong b (a ∷ xs)
 leads_end g a b [] l = inl (sym l.1)
 leads_end g a b (x ∷ xs) l = inr (leads_end g x b xs l.2)
 
