@@ -1,3 +1,4 @@
 pub mod Path
 pub mod Key
 pub mod Best
+pub mod Laws

@@ -4,3 +4,4 @@
 pub use key::PathKey;
 
 mod key;
+pub mod laws;

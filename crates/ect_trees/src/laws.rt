@@ -1,0 +1,54 @@
+//! The laws of keys and of best paths. Each is the contract of a function that does nothing.
+ghost use Rattle.ect_trees.specs.Laws.{AreKeysOrdered, KeepsOrder, NoTieIsLeast, BestIsUnique, BestExists, BestOfNone, BestOfSome, BestToItself, BestReversed, FrontIsBest, BackIsBest, OrderSaysNothing};
+
+/// Keys are totally ordered, and only equal keys tie.
+pub fn keys_are_ordered()
+    ensures { AreKeysOrdered }
+{}
+
+/// One bridge more, added to two paths at the bridge where both end, keeps the order of their keys.
+pub fn one_more_bridge_keeps_order()
+    ensures { KeepsOrder }
+{}
+
+/// No tie is least: a path that no other is below is below every other.
+pub fn no_tie_is_least()
+    ensures { NoTieIsLeast }
+{}
+
+/// There is at most one best path.
+pub fn best_is_unique()
+    ensures { BestIsUnique }
+{}
+
+/// Where there is a path, there is a best one.
+pub fn best_exists()
+    ensures { BestExists }
+{}
+
+/// `best_of` gives the best path, and nothing exactly where there is no path.
+pub fn best_of_is_best()
+    ensures none { BestOfNone }
+    ensures some { BestOfSome }
+{}
+
+/// The best path from a bridge to itself is that bridge alone.
+pub fn best_to_itself_is_alone()
+    ensures { BestToItself }
+{}
+
+/// The best path back is the best path in reverse.
+pub fn best_back_is_reverse()
+    ensures { BestReversed }
+{}
+
+/// Both parts of a best path at a bridge on it are best.
+pub fn parts_of_best_are_best()
+    ensures front { FrontIsBest }
+    ensures back { BackIsBest }
+{}
+
+/// Best paths don't depend on the order of a graph's lists, nor on the order of an edge's ends.
+pub fn order_says_nothing()
+    ensures { OrderSaysNothing }
+{}
