@@ -4,3 +4,4 @@ pub mod Graph
 pub mod Bytes
 pub mod Name
 pub mod Padding
+pub mod Ports

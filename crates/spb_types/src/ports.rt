@@ -1,5 +1,69 @@
+ghost use Rattle.std.specs.Prelude.{◌≡◌, ◌≤◌};
+ghost use Rattle.spb_types.specs.Ports.{has, no_ports, with_port, without_port};
+
 /// A set of backbone ports, 1 to 32: port `p` is bit `p - 1`.
 #[derive(Clone, Copy, Debug, PartialEq, Eq, PartialOrd, Ord, Hash)]
 pub struct PortSet {
     pub bits: u32,
+}
+
+impl PortSet {
+    /// The set of no port.
+    #[tactic(auto, unfolding(crate::specs::Ports::no_ports))]
+    pub fn none() -> PortSet
+        ensures { result ≡ no_ports }
+    {
+        PortSet { bits: 0 }
+    }
+
+    /// Whether the port, 1 to 32, is in the set.
+    #[tactic(auto, using(crate::proofs::PortLemmas::has_bit))]
+    pub fn has(self, port: u8) -> bool
+        requires low { 1 ≤ port }
+        requires high { port ≤ 32 }
+        ensures { result ≡ has self port }
+    {
+        (self.bits >> (port - 1)) & 1 == 1
+    }
+
+    /// The set and this port, 1 to 32.
+    #[tactic(auto, unfolding(crate::specs::Ports::with_port))]
+    pub fn with(self, port: u8) -> PortSet
+        requires low { 1 ≤ port }
+        requires high { port ≤ 32 }
+        ensures { result ≡ with_port self port }
+    {
+        PortSet {
+            bits: self.bits | (1 << (port - 1)),
+        }
+    }
+
+    /// The set but for this port, 1 to 32.
+    #[tactic(auto, unfolding(crate::specs::Ports::without_port))]
+    pub fn without(self, port: u8) -> PortSet
+        requires low { 1 ≤ port }
+        requires high { port ≤ 32 }
+        ensures { result ≡ without_port self port }
+    {
+        PortSet {
+            bits: self.bits & !(1 << (port - 1)),
+        }
+    }
+}
+
+#[cfg(test)]
+mod tests {
+    use super::*;
+
+    #[test]
+    fn ports_enter_and_leave_a_set(rt: HostRuntime) {
+        let set = PortSet::none().with(1).with(32).with(9);
+        assert_eq!(rt; set.bits, 0x8000_0101);
+        assert_eq!(rt;
+            (set.has(1), set.has(2), set.has(9), set.has(32)),
+            (true, false, true, true)
+        );
+        assert_eq!(rt; set.without(32).without(2).bits, 0x101);
+        assert_eq!(rt; PortSet::none().bits, 0);
+    }
 }
