@@ -1,0 +1,52 @@
+use crate::search::{Search, paths_of};
+use spb_types::{Graph, NoMemory, Path, Seq, SystemId};
+use std::alloc::Global;
+
+/// The best paths from a source, one to each bridge that has a path. Contracts see the source and the list of paths.
+#[derive(Debug, Drop)]
+pub struct Tree {
+    source: SystemId,
+    paths: Vec<Path>,
+}
+
+/// Whether the path ends at this bridge.
+fn ends_at(path: &Path, to: SystemId) -> bool {
+    match path.bridges.as_slice().last() {
+        None => false,
+        Some(end) => *end == to,
+    }
+}
+
+/// The tree of the best paths from `source` under `mask` (IEEE 802.1aq, 28.5 to 28.8).
+pub fn tree_from(
+    alloc: Global,
+    graph: &Graph,
+    source: SystemId,
+    mask: u8,
+) -> Result<Tree, NoMemory> {
+    let search = Search::new(alloc, graph, source, mask)?;
+    let mut labels = search.start(alloc)?;
+    search.settle(alloc, &mut labels)?;
+    Ok(Tree {
+        source,
+        paths: paths_of(alloc, labels)?,
+    })
+}
+
+impl Tree {
+    /// The bridge from which the paths lead.
+    pub fn source(&self) -> SystemId {
+        self.source
+    }
+
+    /// The best path to a bridge. None exactly where there is no path.
+    pub fn path_to(&self, alloc: Global, to: SystemId) -> Result<Option<Path>, NoMemory> {
+        match self.paths.iter().find(|path| ends_at(path, to)) {
+            None => Ok(None),
+            Some(path) => Ok(Some(Path {
+                cost: path.cost,
+                bridges: Seq::from_vec(Vec::from_slice(alloc, path.bridges.as_slice())?),
+            })),
+        }
+    }
+}
