@@ -1,4 +1,4 @@
-ghost use Rattle.std.specs.Prelude.{◌≡◌, IfOk};
+ghost use Rattle.std.specs.Prelude.{IfOk};
 ghost use Rattle.spb_types.specs.Graph.{IsValid};
 
 use super::*;
@@ -46,7 +46,9 @@ macro_rules! edge {
 }
 
 /// Four bridges in a square, whose two ways from corner to corner tie.
-fn square(alloc: Global) -> Result<Graph, NoMemory> {
+fn square(alloc: Global) -> Result<Graph, NoMemory>
+    ensures { IfOk result IsValid }
+{
     let bridges = vec![in alloc; bridge!(1), bridge!(2), bridge!(3), bridge!(4)]?;
     let edges = vec![in alloc; edge!(1, 2, 10), edge!(2, 4, 10), edge!(1, 3, 10), edge!(3, 4, 10)]?;
     Ok(Graph {
@@ -57,7 +59,9 @@ fn square(alloc: Global) -> Result<Graph, NoMemory> {
 }
 
 /// Two ways of cost 30 from 1 to 4: 1 2 3 4, and 1 9 4. Bridge 7 has no edge.
-fn detour(alloc: Global) -> Result<Graph, NoMemory> {
+fn detour(alloc: Global) -> Result<Graph, NoMemory>
+    ensures { IfOk result IsValid }
+{
     let bridges = vec![in alloc;
         bridge!(4), bridge!(7), bridge!(1), bridge!(9), bridge!(3), bridge!(2)
     ]?;
@@ -89,7 +93,9 @@ fn assert_best(
     mask: u8,
     cost: u64,
     want: &[u8],
-) -> Result<(), NoMemory> {
+) -> Result<(), NoMemory>
+    requires { IsValid graph.now }
+{
     if let [from, .., to] = want {
         let tree = tree_from(alloc, graph, system!(*from), mask)?;
         let path = tree.path_to(alloc, system!(*to))?;

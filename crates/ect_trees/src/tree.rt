@@ -1,6 +1,11 @@
+ghost use Rattle.std.specs.Prelude.{◌≡◌, IfOk};
+ghost use Rattle.spb_types.specs.Graph.{IsValid};
+ghost use Rattle.ect_trees.specs.Tree as tree;
+
 use crate::search::{Search, paths_of};
 use spb_types::{Graph, NoMemory, Path, Seq, SystemId};
 use std::alloc::Global;
+use std::marker::Model;
 
 /// The best paths from a source, one to each bridge that has a path. Contracts see the source and the list of paths.
 #[derive(Debug, Drop)]
@@ -9,8 +14,18 @@ pub struct Tree {
     paths: Vec<Path>,
 }
 
+impl Model for Tree {
+    ghost use Rattle.ect_trees.specs.Tree.{Paths};
+
+    ghost Value = { Paths };
+
+    ghost view = { λ t. record { source = t.source; paths = t.paths.items } };
+}
+
 /// Whether the path ends at this bridge.
-fn ends_at(path: &Path, to: SystemId) -> bool {
+fn ends_at(path: &Path, to: SystemId) -> bool
+    ensures { result ≡ tree.ends_at path.now.bridges to }
+{
     match path.bridges.as_slice().last() {
         None => false,
         Some(end) => *end == to,
@@ -23,7 +38,10 @@ pub fn tree_from(
     graph: &Graph,
     source: SystemId,
     mask: u8,
-) -> Result<Tree, NoMemory> {
+) -> Result<Tree, NoMemory>
+    requires { IsValid graph.now }
+    ensures { IfOk result (tree.GivesBest graph.now mask source) }
+{
     let search = Search::new(alloc, graph, source, mask)?;
     let mut labels = search.start(alloc)?;
     search.settle(alloc, &mut labels)?;
@@ -35,12 +53,16 @@ pub fn tree_from(
 
 impl Tree {
     /// The bridge from which the paths lead.
-    pub fn source(&self) -> SystemId {
+    pub fn source(&self) -> SystemId
+        ensures { result ≡ self.now.source }
+    {
         self.source
     }
 
     /// The best path to a bridge. None exactly where there is no path.
-    pub fn path_to(&self, alloc: Global, to: SystemId) -> Result<Option<Path>, NoMemory> {
+    pub fn path_to(&self, alloc: Global, to: SystemId) -> Result<Option<Path>, NoMemory>
+        ensures { IfOk result (λ path. path ≡ tree.path_in self.now.paths to) }
+    {
         match self.paths.iter().find(|path| ends_at(path, to)) {
             None => Ok(None),
             Some(path) => Ok(Some(Path {
