@@ -1,6 +1,6 @@
 -- What the search for the best paths keeps true.
-use Rattle.std.specs.Prelude.{◌≡◌, ℕ, ◌+◌, ◌≤◌, List, [], ◌∷◌, ◌++◌, length, Bool, false, Option, Some, None, option_map, unwrap_or, slice_get}
-use Rattle.std.specs.List.{position, slice_index_or}
+use Rattle.std.specs.Prelude.{◌≡◌, ℕ, ◌+◌, ◌≤◌, List, [], ◌∷◌, ◌++◌, length, Bool, false, Option, Some, None, option_map, slice_get}
+use Rattle.std.specs.List.{position_or_len, slice_index_or}
 use Rattle.spb_types.specs.Address.{same_system, masked}
 use Rattle.spb_types.specs.Graph.{systems_of, cost_between, IsValid}
 use Rattle.spb_types.specs.declared.address.SystemId.{SystemId}
@@ -22,7 +22,7 @@ IsAt g place x = slice_get (systems_of g.bridges) place ≡ Some x
 
 -- the place of the first bridge with this system id
 abbrev pub place_in : List GraphBridge → SystemId → ℕ
-place_in bridges x = unwrap_or (position (λ b. same_system b.id.system x) bridges) 0
+place_in bridges x = position_or_len (λ b. same_system b.id.system x) bridges
 
 -- both directions of each edge
 abbrev pub hops_of : List GraphBridge → List Edge → List Hop

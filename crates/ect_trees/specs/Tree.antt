@@ -1,4 +1,4 @@
-use Rattle.std.specs.Prelude.{◌≡◌, ℕ, List, [], ◌∷◌, Bool, false, Option, Some, None, option_map, if◌then◌else◌}
+use Rattle.std.specs.Prelude.{◌≡◌, ℕ, List, [], ◌∷◌, Bool, false, Option, option_map, find}
 use Rattle.spb_types.specs.Address.{same_system}
 use Rattle.spb_types.specs.declared.address.SystemId.{SystemId}
 use Rattle.spb_types.specs.declared.graph.Graph.{Graph}
@@ -19,8 +19,7 @@ ends_at (y ∷ z ∷ zs) x = ends_at (z ∷ zs) x
 
 -- the first of the paths that ends at x
 abbrev pub path_in : List Path → SystemId → Option Path
-path_in [] x = None
-path_in (p ∷ ps) x = if ends_at p.bridges x then Some p else path_in ps x
+path_in ps x = find (λ p. ends_at p.bridges x) ps
 
 -- the best path from a to b with its cost, if there is a path
 abbrev pub best_path : Graph → ℕ → SystemId → SystemId → Option Path

@@ -1,6 +1,7 @@
-ghost use Rattle.std.specs.Prelude.{◌≡◌, ◌↔◌, ⊤, IsTrue, IfOk, OnOk, MatchOption};
+ghost use Rattle.std.specs.Prelude.{◌≡◌, ◌↔◌, ⊤, IsTrue, IfOk, OnOk, MatchOption, position};
 ghost use Rattle.std.specs.Ordering.{nat_cmp, ordering_then};
-ghost use Rattle.spb_types.specs.Graph.{IsValid, IsBridge};
+ghost use Rattle.spb_types.specs.Address.{same_system};
+ghost use Rattle.spb_types.specs.Graph.{IsValid};
 ghost use Rattle.spb_types.specs.declared.address.SystemId.{SystemId};
 ghost use Rattle.ect_trees.specs.Key.{IsBelow};
 ghost use Rattle.ect_trees.specs.declared.search.Label.{Label};
@@ -37,15 +38,13 @@ pub struct Search<'a> {
 }
 
 /// The place of a bridge in the graph.
-fn place_of(graph: &Graph, system: SystemId) -> usize
-    requires { IsBridge graph.now system }
-    ensures { result ≡ search.place_in graph.now.bridges system }
+fn place_of(graph: &Graph, system: SystemId) -> Option<usize>
+    ensures { result ≡ position (λ b. same_system b.id.system system) graph.now.bridges }
 {
     graph
         .bridges
         .iter()
         .position(|bridge| bridge.id.system == system)
-        .unwrap()
 }
 
 /// Both directions of each edge, in the order of the edges.
@@ -55,8 +54,8 @@ fn hops_of(alloc: Global, graph: &Graph) -> Result<Vec<Hop>, NoMemory>
 {
     let mut hops = Vec::new(alloc);
     for edge in graph.edges.as_slice() {
-        let a = place_of(graph, edge.a);
-        let b = place_of(graph, edge.b);
+        let a = place_of(graph, edge.a).unwrap();
+        let b = place_of(graph, edge.b).unwrap();
         let cost = edge.cost;
         hops.push(Hop { from: a, to: b, cost })?;
         hops.push(Hop { from: b, to: a, cost })?;
@@ -232,7 +231,7 @@ impl<'a> Search<'a> {
         requires settled { search.IsSettled self.now 0 labels.old.items }
         ensures { OnOk result (search.AreBest self.now labels.new.items) }
     {
-        for _ in 1..self.graph.bridges.len() {
+        for _hops in 1..self.graph.bridges.len() {
             if !self.round(alloc, labels)? {
                 return Ok(());
             }

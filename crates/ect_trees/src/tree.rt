@@ -1,4 +1,5 @@
 ghost use Rattle.std.specs.Prelude.{◌≡◌, IfOk};
+ghost use Rattle.std.specs.Option.{option_copied};
 ghost use Rattle.spb_types.specs.Graph.{IsValid};
 ghost use Rattle.ect_trees.specs.Tree as tree;
 
@@ -59,16 +60,26 @@ impl Tree {
         self.source
     }
 
+    /// The path that ends at a bridge, if there is one.
+    fn find(&self, to: SystemId) -> Option<&Path>
+        ensures { option_copied result ≡ tree.path_in self.now.paths to }
+    {
+        self.paths.iter().find(|path| ends_at(path, to))
+    }
+
     /// The best path to a bridge. None exactly where there is no path.
     pub fn path_to(&self, alloc: Global, to: SystemId) -> Result<Option<Path>, NoMemory>
         ensures { IfOk result (λ path. path ≡ tree.path_in self.now.paths to) }
     {
-        match self.paths.iter().find(|path| ends_at(path, to)) {
+        match self.find(to) {
             None => Ok(None),
-            Some(path) => Ok(Some(Path {
-                cost: path.cost,
-                bridges: Seq::from_vec(Vec::from_slice(alloc, path.bridges.as_slice())?),
-            })),
+            Some(path) => {
+                let bridges = Vec::from_slice(alloc, path.bridges.as_slice())?;
+                Ok(Some(Path {
+                    cost: path.cost,
+                    bridges: Seq::from_vec(bridges),
+                }))
+            }
         }
     }
 }
