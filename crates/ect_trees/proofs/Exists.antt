@@ -4,7 +4,6 @@ use Rattle.std.proofs.lemmas.Bool.Decides.{Decides-and, Decides-or, Decides-not}
 use Rattle.spb_types.specs.Address.{same_system}
 use Rattle.spb_types.specs.Graph.{IsAmong, IsDistinct, IsValid, systems_of, cost_between}
 use Rattle.spb_types.specs.declared.address.SystemId.{SystemId}
-use Rattle.spb_types.specs.declared.graph.GraphBridge.{GraphBridge}
 use Rattle.spb_types.specs.declared.graph.Graph.{Graph}
 use Rattle.ect_trees.specs.declared.key.PathKey.{PathKey}
 use Rattle.ect_trees.specs.Path.{Leads, IsPath}
@@ -56,14 +55,10 @@ listed_within (suc n) xs (x ∷ p) h w =
     let rest : Has p (lists_within n xs) = listed_within n xs p (omega (arith, h)) (λ z i. w z (inr i)) in
     inr (has_flat_map (λ y. map (λ q. y ∷ q) (lists_within n xs)) x (x ∷ p) xs (among_has x xs (w x (inl refl))) (has_map (λ q. x ∷ q) p (lists_within n xs) rest))
 
-length-systems : (bs : List GraphBridge) → length (systems_of bs) ≡ length bs
-length-systems [] = refl
-length-systems (b ∷ bs) = ap suc (length-systems bs)
-
 -- every path is listed, and nothing else
 pub path_listed : (g : Graph) (a b : SystemId) (p : List SystemId) → IsPath g a b p → Has p (paths_of g a b)
 path_listed g a b p w =
-    let short : length p ≤ length g.bridges = omega (arith, path_length g a b p w, length-systems g.bridges) in
+    let short : length p ≤ length g.bridges = omega (arith, path_length g a b p w) in
     has_filter (is_path g a b) p (lists_within (length g.bridges) (systems_of g.bridges)) (listed_within (length g.bridges) (systems_of g.bridges) p short (λ x i. path_bridges g a b x p w i)) ((Decides-path g a b p).1 w)
 
 pub listed_path : (g : Graph) (a b : SystemId) (p : List SystemId) → Has p (paths_of g a b) → IsPath g a b p

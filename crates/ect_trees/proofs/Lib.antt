@@ -12,3 +12,5 @@ pub mod Ends
 pub mod Placed
 pub mod Started
 pub mod Masked
+pub mod Steps
+pub mod Alike

@@ -6,6 +6,7 @@ use Rattle.spb_types.specs.Address.{same_system}
 use Rattle.spb_types.specs.Graph.{IsAmong, IsDistinct, IsBridge, joins, cost_among, cost_between, IsEdgeOf, IsValid, systems_of}
 use Rattle.spb_types.specs.declared.address.SystemId.{SystemId}
 use Rattle.spb_types.specs.declared.graph.Edge.{Edge}
+use Rattle.spb_types.specs.declared.graph.GraphBridge.{GraphBridge}
 use Rattle.spb_types.specs.declared.graph.Graph.{Graph}
 use Rattle.ect_trees.specs.Path.{Leads, IsPath, cost_along, cost_of, hops_of}
 use Rattle.ect_trees.specs.Key.{masked_id, placed, ascending}
@@ -64,11 +65,18 @@ pub path_distinct : (g : Graph) (a b : SystemId) (p : List SystemId) → IsPath 
 path_distinct g a b [] w = absurd w
 path_distinct g a b (x ∷ xs) w = w.2
 
--- a path has at most as many bridges as the graph
-pub path_length : (g : Graph) (a b : SystemId) (p : List SystemId) → IsPath g a b p → length p ≤ length (systems_of g.bridges)
-path_length g a b p w = length-within p (systems_of g.bridges) (path_distinct g a b p w) (λ x i. path_bridges g a b x p w i)
+length-systems : (bs : List GraphBridge) → length (systems_of bs) ≡ length bs
+length-systems [] = refl
+length-systems (b ∷ bs) = ap suc (length-systems bs)
 
-leads_end : (g : Graph) (a b : SystemId) (xs : List SystemId) → Leads g a xs b → IsAmong b (a ∷ xs)
+-- a path has at most as many bridges as the graph
+pub path_length : (g : Graph) (a b : SystemId) (p : List SystemId) → IsPath g a b p → length p ≤ length g.bridges
+path_length g a b p w =
+    let h : length p ≤ length (systems_of g.bridges) = length-within p (systems_of g.bridges) (path_distinct g a b p w) (λ x i. path_bridges g a b x p w i) in
+    omega (arith, h, length-systems g.bridges)
+
+-- a walk's end is on it
+pub leads_end : (g : Graph) (a b : SystemId) (xs : List SystemId) → Leads g a xs b → IsAmong b (a ∷ xs)
 leads_end g a b [] l = inl (sym l.1)
 leads_end g a b (x ∷ xs) l = inr (leads_end g x b xs l.2)
 

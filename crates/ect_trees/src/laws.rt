@@ -1,5 +1,5 @@
 //! The laws of keys and of best paths. Each is the contract of a function that does nothing.
-ghost use Rattle.ect_trees.specs.Laws.{AreKeysOrdered, KeepsOrder, NoTieIsLeast, BestIsUnique, BestExists, BestOfNone, BestOfSome, BestReversed, FrontIsBest, BackIsBest};
+ghost use Rattle.ect_trees.specs.Laws.{AreKeysOrdered, KeepsOrder, NoTieIsLeast, BestIsUnique, BestExists, BestOfNone, BestOfSome, BestToItself, BestReversed, FrontIsBest, BackIsBest, OrderSaysNothing};
 
 /// Keys are totally ordered, and only equal keys tie.
 pub fn keys_are_ordered()
@@ -32,6 +32,11 @@ pub fn best_of_is_best()
     ensures some { BestOfSome }
 {}
 
+/// The best path from a bridge to itself is that bridge alone.
+pub fn best_to_itself_is_alone()
+    ensures { BestToItself }
+{}
+
 /// The best path back is the best path in reverse.
 pub fn best_back_is_reverse()
     ensures { BestReversed }
@@ -41,4 +46,9 @@ pub fn best_back_is_reverse()
 pub fn parts_of_best_are_best()
     ensures front { FrontIsBest }
     ensures back { BackIsBest }
+{}
+
+/// Best paths don't depend on the order of a graph's lists, nor on the order of an edge's ends.
+pub fn order_says_nothing()
+    ensures { OrderSaysNothing }
 {}

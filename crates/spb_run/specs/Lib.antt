@@ -1,0 +1,5 @@
+pub mod Reason
+pub mod World
+pub mod Tables
+pub mod Report
+pub mod Listing
