@@ -43,9 +43,8 @@ along_high g x (y ∷ ys) v =
 path_small : (g : Graph) (a b : SystemId) (p : List SystemId) → IsValid g → IsPath g a b p → (cost_of g p < 2 ^ 40) × (hops_of p < 65536)
 path_small g a b [] v w = absurd w
 path_small g a b (x ∷ xs) v w =
-    let long : suc (length xs) ≤ length (systems_of g.bridges) = path_length g a b (x ∷ xs) w in
-    let same : length (systems_of g.bridges) ≡ length g.bridges = length-map g.bridges (λ (t : GraphBridge). t.id.system) in
-    let few : length xs ≤ 65535 = omega (arith, long, same, v.few) in
+    let long : suc (length xs) ≤ length g.bridges = path_length g a b (x ∷ xs) w in
+    let few : length xs ≤ 65535 = omega (arith, long, v.few) in
     let high : cost_along g x xs ≤ 16777214 * length xs = along_high g x xs v in
     (omega (arith, high, few), omega (arith, few))
 

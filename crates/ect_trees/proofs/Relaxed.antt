@@ -195,9 +195,8 @@ settled_whole s ls n labels enough settled = record { labels = labels; settled =
     all : (m : ℕ) → IsSettled s m ls
     all m place x p here long best =
         let g = s.graph.now in
-        let within : length p ≤ length (systems_of g.bridges) = path_length g s.source x p best.path in
-        let same : length (systems_of g.bridges) ≡ length g.bridges = length-map g.bridges _ in
-        settled place x p here (omega (arith, within, same, enough)) best
+        let within : length p ≤ length g.bridges = path_length g s.source x p best.path in
+        settled place x p here (omega (arith, within, enough)) best
 
 -- the label that is read at the place of a bridge
 pub read_label : (s : Search) (ls : List (Option Label)) (i : ℕ) (x : SystemId) (o : Option Label) → AreLabels s ls → IsAt s.graph.now i x → o ≡ get_or ls i o → label_at ls i ≡ o
