@@ -22,6 +22,14 @@ impl From<AllocError> for WriteError {
     }
 }
 
+impl From<spb_types::NoMemory> for WriteError {
+    ghost from_gives = { λ _ e. e ≡ NoMemory };
+
+    fn from(_refused: spb_types::NoMemory) -> Self {
+        WriteError::NoMemory
+    }
+}
+
 /// Where bytes go.
 pub trait Sink {
     /// The bytes taken so far, where the sink tells them.
