@@ -1,2 +1,6 @@
 pub mod Splitting
 pub mod Digits
+pub mod Values
+pub mod FormLaws
+pub mod WordLaws
+pub mod LineLaws

@@ -1,4 +1,4 @@
-use Rattle.std.specs.Prelude.{◌≡◌, ℕ, ◌≤◌, ◌%◌, List, [], ◌∷◌, ◌++◌, length, not, IsTrue, codes, ⊤}
+use Rattle.std.specs.Prelude.{◌≡◌, ℕ, ◌≤◌, ◌%◌, List, [], ◌∷◌, ◌++◌, length, not, IsTrue, codes, ⊤, ◌⊎◌}
 use Rattle.std.specs.List.{list_all}
 use Rattle.hex.specs.Hex.{is_hex_digit}
 use Rattle.spb_types.specs.Name.{is_name, is_digit}
@@ -11,7 +11,7 @@ use Rattle.scenario.specs.declared.keyword.Keyword.{Keyword}
 use Rattle.scenario.specs.Words.{is_blank}
 use Rattle.scenario.specs.WordForms.{decimal, decoded, hexadecimal}
 use Rattle.scenario.specs.Keywords.{text_of}
-use Rattle.scenario.specs.Grammar.{Kind, a_name, a_number, a_system, a_source, a_frame, a_dir, a_side, Value, Form, gives, takes, form_of}
+use Rattle.scenario.specs.Grammar.{Kind, a_name, a_number, a_system, a_source, a_frame, a_dir, a_side, Value, Form, gives, takes, form_of, is_comment}
 
 -- How a command may be spelled in a line.
 
@@ -73,3 +73,7 @@ pub record Spells (line : List ℕ) (command : Command) : Type 0 where
   pub short : length line ≤ 8192
   pub apart : AreWords (text_of keyword ∷ words) line
   pub form : SpellsForm (form_of keyword) command words
+
+-- The line is passed over: it has at most 8,192 bytes, and it is blank or a comment.
+abbrev pub IsPassedOver : List ℕ → Type 0
+IsPassedOver line = (length line ≤ 8192) × (AreBlank line ⊎ IsTrue (is_comment line))

@@ -2,7 +2,7 @@ use Rattle.std.specs.Prelude.{ℕ, ◌+◌, List, [], ◌∷◌, length, Bool, t
 use Rattle.std.specs.List.{before_first}
 
 -- a space or a tab
-abbrev pub is_blank : ℕ → Bool
+unfoldable pub is_blank : ℕ → Bool
 is_blank byte = (byte == 32) || (byte == 9)
 
 -- a word of a line, and the column of its first byte, counted from 1

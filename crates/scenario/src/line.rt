@@ -1,6 +1,7 @@
-ghost use Rattle.std.specs.Prelude.{◌≡◌, ◌≤◌, length};
+ghost use Rattle.std.specs.Prelude.{◌≡◌, ◌≤◌, ◌↔◌, length};
 ghost use Rattle.scenario.specs.Grammar.{read, form_of, is_comment as is_comment_line, line_of, head_of};
 ghost use Rattle.scenario.specs.Answers.{Gives, Reads};
+ghost use Rattle.scenario.specs.Spelling.{Spells, IsPassedOver};
 
 use crate::command::Command;
 use crate::error::LineError;
@@ -74,12 +75,9 @@ pub fn head(line: &[u8]) -> Option<FirstWord>
     })
 }
 
-/// The command that a line gives, without its end (LF, or CR LF). None exactly where the line is blank or a comment.
-///
-/// `Words(column)` exactly where the line isn't in the grammar, and `NoMemory` only where it is a frame that no memory
-/// was found for.
+/// What the grammar gives for a line.
 #[tactic(auto, unfolding(crate::specs::Grammar::line_of, crate::specs::Words::next))]
-pub fn parse_line(alloc: Global, line: &[u8]) -> Result<Option<Command>, LineError>
+fn read_line(alloc: Global, line: &[u8]) -> Result<Option<Command>, LineError>
     ensures { Reads result (line_of line.now) }
 {
     if line.len() > LINE_LIMIT {
@@ -97,4 +95,21 @@ pub fn parse_line(alloc: Global, line: &[u8]) -> Result<Option<Command>, LineErr
     };
     let command = command(alloc, keyword, &mut words)?;
     Ok(Some(command))
+}
+
+/// The command that a line gives. The line comes without its end (LF, or CR LF).
+///
+/// None exactly where the line is blank or a comment, `Words` exactly where it isn't in the grammar or has more than
+/// 8,192 bytes, and `NoMemory` only where it is a `frame` line and no memory was found for the bytes of the frame.
+pub fn parse_line(alloc: Global, line: &[u8]) -> Result<Option<Command>, LineError>
+    ensures exact { Reads result (line_of line.now) }
+
+    // Above the grammar: a line gives a command exactly where it spells it, and it spells one at most.
+    ensures spelled { (command : _) → result ≡ Ok (Some command) → Spells line.now command }
+    ensures only { (command : _) → Spells line.now command → Reads result (Ok (Some command)) }
+    ensures one { (a b : _) → Spells line.now a → Spells line.now b → a ≡ b }
+
+    ensures passed_over { (result ≡ Ok None) ↔ IsPassedOver line.now }
+{
+    read_line(alloc, line)
 }

@@ -26,6 +26,7 @@ impl<'a> Model for Words<'a> {
 }
 
 /// Whether a byte stands between words: a space or a tab.
+#[tactic(auto, unfolding(crate::specs::Words::is_blank))]
 fn is_blank(byte: u8) -> bool
     ensures { result ≡ is_blank_byte byte }
 {

@@ -1,0 +1,86 @@
+use Rattle.std.proofs.Common.{◌≡◌, ℕ, ◌%◌, ◌==◌, List, length, Bool, true, false, ◌&&◌, Some, None, nat_le, codes, ◌⊎◌, if◌then◌else◌, refl, ap, ◌∙◌, inl, inr, arith}
+use Rattle.std.specs.List.{list_all}
+use Rattle.std.specs.Str.{bytes_eq}
+use Rattle.std.proofs.lemmas.Bool.{and_parts, eqb-true}
+use Rattle.std.proofs.lemmas.Bool.Decides.{nat_tests}
+use Rattle.std.proofs.lemmas.Option.{cond_some}
+use Rattle.std.proofs.lemmas.Slice.Eq.{bytes_eq-Decides}
+use Rattle.hex.specs.Hex.{is_hex_digit}
+use Rattle.spb_types.specs.Name.{is_name, is_digit}
+use Rattle.spb_types.specs.declared.address.Mac.{Mac}
+use Rattle.spb_types.specs.declared.service.SourceId.{SourceId}
+use Rattle.scenario.specs.declared.command.Side.{Side}
+use Rattle.scenario.specs.declared.command.Side.TheVariants.{A, B}
+use Rattle.scenario.specs.declared.command.Dir.{Dir}
+use Rattle.scenario.specs.declared.command.Dir.TheVariants.{Ab, Ba}
+use Rattle.scenario.specs.WordForms.{name, number, system, source, frame, dir, side, decimal, decoded, hexadecimal}
+use Rattle.scenario.specs.Grammar.{Kind, a_name, a_number, a_system, a_source, a_frame, a_dir, a_side, Value, meaning}
+use Rattle.scenario.specs.Spelling.{dir_text, side_text, SpellsValue}
+
+-- which of two tests a choice passed
+chosen : {X : Type 0} (p q : Bool) (x y z : X) → (if p then Some x else (if q then Some y else None)) ≡ Some z
+    → ((p ≡ true) × (x ≡ z)) ⊎ ((q ≡ true) × (y ≡ z))
+chosen true q x y z h = inl (refl, cc)
+chosen false true x y z h = inr (refl, cc)
+chosen false false x y z h = cc
+
+spells-dir : (v : Dir) (word : List ℕ) → dir word ≡ Some v → word ≡ dir_text v
+unfolding dir
+spells-dir v word h =
+    elim (chosen (bytes_eq word (codes "ab")) (bytes_eq word (codes "ba")) Ab Ba v h) [
+      | inl first ↦ (bytes_eq-Decides word (codes "ab")).0 first.0 ∙ ap dir_text first.1
+      | inr second ↦ (bytes_eq-Decides word (codes "ba")).0 second.0 ∙ ap dir_text second.1
+    ]
+
+spells-side : (v : Side) (word : List ℕ) → side word ≡ Some v → word ≡ side_text v
+unfolding side
+spells-side v word h =
+    elim (chosen (bytes_eq word (codes "a")) (bytes_eq word (codes "b")) A B v h) [
+      | inl first ↦ (bytes_eq-Decides word (codes "a")).0 first.0 ∙ ap side_text first.1
+      | inr second ↦ (bytes_eq-Decides word (codes "b")).0 second.0 ∙ ap side_text second.1
+    ]
+
+-- a word that means a value spells it
+pub spells-meaning : (k : Kind) (v : Value k) (word : List ℕ) → meaning k word ≡ Some v → SpellsValue k v word
+unfolding name number system source frame dir side
+spells-meaning a_name v word h =
+    let p = cond_some (is_name word) word v h in
+    (p.0, p.1)
+spells-meaning a_number v word h =
+    let p = cond_some (nat_le 1 (length word) && nat_le (length word) 10 && list_all is_digit word) (decimal word) v h in
+    let q = and_parts (nat_le 1 (length word) && nat_le (length word) 10) (list_all is_digit word) p.0 in
+    let r = and_parts (nat_le 1 (length word)) (nat_le (length word) 10) q.0 in
+    (grind (arith, nat_tests), grind (arith, nat_tests), q.1, p.1)
+spells-meaning a_system v word h =
+    let p = cond_some ((length word == 12) && list_all is_hex_digit word) (let m : Mac = record { bytes = decoded word } in m) v h in
+    let q = and_parts (length word == 12) (list_all is_hex_digit word) p.0 in
+    (eqb-true (length word) 12 q.0, q.1, ap (λ (m : Mac). m.bytes) p.1)
+spells-meaning a_source v word h =
+    let p = cond_some ((length word == 5) && list_all is_hex_digit word) (let s : SourceId = record { value = hexadecimal word } in s) v h in
+    let q = and_parts (length word == 5) (list_all is_hex_digit word) p.0 in
+    (eqb-true (length word) 5 q.0, q.1, ap (λ (s : SourceId). s.value) p.1)
+spells-meaning a_frame v word h =
+    let p = cond_some (nat_le 1 (length word) && (length word % 2 == 0) && list_all is_hex_digit word) (decoded word) v h in
+    let q = and_parts (nat_le 1 (length word) && (length word % 2 == 0)) (list_all is_hex_digit word) p.0 in
+    let r = and_parts (nat_le 1 (length word)) (length word % 2 == 0) q.0 in
+    (grind (arith, nat_tests), eqb-true (length word % 2) 0 r.1, q.1, p.1)
+spells-meaning a_dir v word h = spells-dir v word h
+spells-meaning a_side v word h = spells-side v word h
+
+-- a word that spells a value means it
+pub meaning-spelled : (k : Kind) (v : Value k) (word : List ℕ) → SpellsValue k v word → meaning k word ≡ Some v
+unfolding name number system source frame dir side
+meaning-spelled a_name v word h = rw h.0 (ap Some h.1)
+meaning-spelled a_number v word h =
+    let low : nat_le 1 (length word) ≡ true = grind (arith, nat_tests) in
+    let high : nat_le (length word) 10 ≡ true = grind (arith, nat_tests) in
+    rw (low, high, h.2, h.3) refl
+meaning-spelled a_system v word h = rw (h.2, h.0, h.1) refl
+meaning-spelled a_source v word h = rw (h.2, h.0, h.1) refl
+meaning-spelled a_frame v word h =
+    let low : nat_le 1 (length word) ≡ true = grind (arith, nat_tests) in
+    rw (h.3, low, h.1, h.2) refl
+meaning-spelled a_dir Ab word h = rw h refl
+meaning-spelled a_dir Ba word h = rw h refl
+meaning-spelled a_side A word h = rw h refl
+meaning-spelled a_side B word h = rw h refl
