@@ -5,3 +5,4 @@ pub mod Tlvs
 pub mod Checksum
 pub mod Spelling
 pub mod Reading
+pub mod Grammar
