@@ -155,10 +155,10 @@ hello_laid o h after ok id =
     subst (λ (ys : List ℕ). IsLaidOut (hello_with o (record h { source = with_bytes ys }) ++ after) (hello (record h { source = with_bytes ys }))) (sym (six xs id))
       (hello_cells o h.circuit_type h.holding h.circuit _ _ _ _ _ _ h.tlvs after ok)
 
-abbrev LspLaid : PassedOver → LspValue → List ℕ → Type 0
+abbrev pub LspLaid : PassedOver → LspValue → List ℕ → Type 0
 LspLaid o l after = IsLaidOut (lsp_with o l ++ after) (lsp l) × (has_sum kinds.Lsp (lsp_with o l ++ after) ≡ is_sound_lsp l)
 
-lsp_laid : (o : PassedOver) (l : LspValue) (after : List ℕ) → IsPassedOver o → IsId l.id.system → LspLaid o l after
+pub lsp_laid : (o : PassedOver) (l : LspValue) (after : List ℕ) → IsPassedOver o → IsId l.id.system → LspLaid o l after
 lsp_laid o l after ok id =
     let xs : List ℕ = l.id.system.mac.bytes in
     subst (λ (ys : List ℕ). LspLaid o (record l { id = record l.id { system = with_bytes ys } }) after) (sym (six xs id))

@@ -1,5 +1,5 @@
 -- Which values are PDUs, and what in the bytes of a PDU is passed over.
-use Rattle.std.specs.Prelude.{◌≡◌, ℕ, ◌+◌, ◌/◌, ◌<◌, List, length, Bool, true, ◌&&◌, ◌||◌, ◌==◌, nat_le, IsTrue}
+use Rattle.std.specs.Prelude.{◌≡◌, ℕ, ◌+◌, ◌/◌, ◌<◌, List, ◌++◌, length, drop, ◌≤◌, Bool, true, ◌&&◌, ◌||◌, ◌==◌, nat_le, IsTrue}
 use Rattle.spb_types.specs.declared.address.SystemId.{SystemId}
 use Rattle.spb_types.specs.Bytes.{u8_at}
 use Rattle.isis_pdu.specs.declared.kind.Kind.{Kind}
@@ -8,7 +8,7 @@ use Rattle.isis_pdu.specs.Header.{fixed_length}
 use Rattle.isis_pdu.specs.Pdu.{PduValue, LspValue, hello, lsp, csnp, psnp}
 use Rattle.isis_pdu.specs.Tlvs.{is_whole}
 use Rattle.isis_pdu.specs.Checksum.{is_checked, covered}
-use Rattle.isis_pdu.specs.Spelling.{PassedOver}
+use Rattle.isis_pdu.specs.Spelling.{PassedOver, IsPassedOver, pdu_with}
 
 abbrev pub kind_of_pdu : PduValue → Kind
 kind_of_pdu (hello h) = kinds.Hello
@@ -63,3 +63,16 @@ passed_over_in p bytes = record {
     circuit_in (lsp l) = 0
     circuit_in (csnp c) = u8_at bytes 16
     circuit_in (psnp q) = u8_at bytes 16
+
+-- the numbers of a list are bytes
+abbrev pub IsBytes : List ℕ → Type 0
+IsBytes bytes = (i : ℕ) → u8_at bytes i < 256
+
+-- what the bytes are, of which p was read: p with what is passed over, and after it bytes of no PDU. p is a PDU, whose
+-- checksum holds if it must
+pub record IsReadFrom (bytes : List ℕ) (p : PduValue) : Type 0 where
+  pub allowed : IsPassedOver (passed_over_in p bytes)
+  pub parts : bytes ≡ pdu_with (passed_over_in p bytes) p ++ drop (length_of p) bytes
+  pub within : length_of p ≤ length bytes
+  pub pdu : IsPdu p
+  pub sound : IsTrue (is_sound p)
