@@ -3,3 +3,4 @@ pub mod Sums
 pub mod TlvWalk
 pub mod Written
 pub mod Read
+pub mod FormatLaws

@@ -1,6 +1,6 @@
 -- What is read as a PDU is spelled as it, but for what is passed over.
-use Rattle.std.proofs.Common.{◌≡◌, ℕ, zero, suc, ◌+◌, ◌*◌, ◌-◌, ◌/◌, ◌%◌, ◌<◌, ◌≤◌, List, [], ◌∷◌, ◌++◌, length, get_or, take, drop, Bool, true, false, cond, Option, Some, None, Result, Ok, Err, refl, sym, ap, ◌∙◌, subst, arith, drop-cons}
-use Rattle.std.specs.Prelude.{IsTrue, ◌&&◌, ◌||◌, ◌==◌, nat_le, slice_range, slice_index, if◌then◌else◌}
+use Rattle.std.proofs.Common.{◌≡◌, ℕ, zero, suc, ◌+◌, ◌*◌, ◌-◌, ◌/◌, ◌%◌, ◌<◌, ◌≤◌, List, [], ◌∷◌, ◌++◌, length, drop, Bool, true, false, Option, Some, None, Result, Ok, refl, sym, ap, ◌∙◌, subst, arith, drop-cons}
+use Rattle.std.specs.Prelude.{IsTrue, ◌&&◌, ◌||◌, ◌==◌, nat_le, slice_range, if◌then◌else◌}
 use Rattle.std.proofs.lemmas.Bool.{leb-true, eqb-true}
 use Rattle.std.proofs.lemmas.List.{length-take, length-drop}
 use Rattle.std.proofs.lemmas.List.Folds.{drop_split}
@@ -8,13 +8,13 @@ use Rattle.spb_types.specs.Bytes.{u8_at, u16_at, u32_at}
 use Rattle.isis_pdu.specs.declared.kind.Kind.{Kind}
 use Rattle.isis_pdu.specs.declared.kind.Kind.TheVariants as kinds
 use Rattle.isis_pdu.specs.declared.pdu.PduError.{PduError}
-use Rattle.isis_pdu.specs.Header.{kind_of, number_of, fixed_length, length_place}
-use Rattle.isis_pdu.specs.Pdu.{PduValue, HelloValue, LspValue, CsnpValue, PsnpValue, hello, lsp, csnp, psnp}
+use Rattle.isis_pdu.specs.Header.{kind_of, number_of, fixed_length}
+use Rattle.isis_pdu.specs.Pdu.{PduValue, LspValue, lsp}
 use Rattle.isis_pdu.specs.Tlvs.{is_whole}
-use Rattle.isis_pdu.specs.Spelling.{PassedOver, IsPassedOver, hello_with, lsp_with, csnp_with, psnp_with, pdu_with}
-use Rattle.isis_pdu.specs.Reading.{is_isis, kind_at, pdu_length, has_length, has_sum, tlvs_in, value_in, unless, read_as, read, system_at, lsp_id_at}
+use Rattle.isis_pdu.specs.Spelling.{PassedOver, IsPassedOver, pdu_with}
+use Rattle.isis_pdu.specs.Reading.{is_isis, kind_at, pdu_length, has_length, has_sum, tlvs_in, value_in, unless, read_as, read, lsp_id_at}
 use Rattle.isis_pdu.proofs.Written.{lsp_laid}
-use Rattle.isis_pdu.specs.Grammar.{kind_of_pdu, tlvs_of, length_of, IsId, HasIds, IsPdu, is_sound_lsp, is_sound, passed_over_in, IsBytes, IsReadFrom}
+use Rattle.isis_pdu.specs.Grammar.{length_of, IsId, is_sound_lsp, passed_over_in, IsBytes, IsReadFrom}
 
 -- ---- what the tests say
 

@@ -1,24 +1,21 @@
 -- What is spelled as a PDU is read as it.
-use Rattle.std.proofs.Common.{◌≡◌, ℕ, zero, suc, ◌+◌, ◌*◌, ◌-◌, ◌/◌, ◌%◌, ◌<◌, ◌≤◌, List, [], ◌∷◌, ◌++◌, length, get_or, take, drop, Bool, true, false, cond, Option, Some, None, Result, Ok, Err, refl, sym, ap, ◌∙◌, subst, arith}
-use Rattle.std.specs.Prelude.{IsTrue, ◌&&◌, ◌||◌, ◌==◌, nat_le, slice_range, slice_index, if◌then◌else◌}
+use Rattle.std.proofs.Common.{◌≡◌, ℕ, ◌+◌, ◌*◌, ◌-◌, ◌/◌, ◌%◌, ◌<◌, ◌≤◌, List, [], ◌∷◌, ◌++◌, length, take, true, Some, Ok, Err, refl, sym, ◌∙◌, subst, arith}
+use Rattle.std.specs.Prelude.{IsTrue, ◌==◌, nat_le, slice_range, slice_index, if◌then◌else◌}
 use Rattle.std.proofs.lemmas.Bool.{le-leb}
 use Rattle.std.proofs.lemmas.List.{take_at, length-append}
-use Rattle.spb_types.specs.declared.address.Mac.{Mac}
 use Rattle.spb_types.specs.declared.address.SystemId.{SystemId}
 use Rattle.spb_types.specs.declared.address.LspId.{LspId}
-use Rattle.spb_types.specs.Bytes.{u8_at, u16_at, u32_at}
+use Rattle.spb_types.specs.Bytes.{u8_at}
 use Rattle.isis_pdu.specs.declared.kind.Kind.{Kind}
 use Rattle.isis_pdu.specs.declared.kind.Kind.TheVariants as kinds
-use Rattle.isis_pdu.specs.declared.pdu.PduError.{PduError}
 use Rattle.isis_pdu.specs.declared.pdu.PduError.TheVariants as refusals
-use Rattle.isis_pdu.specs.Bytes.{u16_bytes, u32_bytes, lsp_id_bytes}
-use Rattle.isis_pdu.specs.Header.{kind_of, number_of, fixed_length, length_place}
+use Rattle.isis_pdu.specs.Header.{fixed_length}
 use Rattle.isis_pdu.specs.Pdu.{PduValue, HelloValue, LspValue, CsnpValue, PsnpValue, hello, lsp, csnp, psnp}
 use Rattle.isis_pdu.specs.Tlvs.{is_whole}
-use Rattle.isis_pdu.specs.Checksum.{covered, is_checked}
+use Rattle.isis_pdu.specs.Checksum.{covered}
 use Rattle.isis_pdu.specs.Spelling.{PassedOver, IsPassedOver, hello_with, lsp_with, csnp_with, psnp_with, pdu_with}
-use Rattle.isis_pdu.specs.Reading.{is_isis, kind_at, pdu_length, has_length, has_sum, tlvs_in, value_in, unless, read_as, read}
-use Rattle.isis_pdu.specs.Grammar.{kind_of_pdu, tlvs_of, length_of, IsId, HasIds, IsPdu, is_sound_lsp, is_sound, passed_over_in}
+use Rattle.isis_pdu.specs.Reading.{is_isis, kind_at, pdu_length, has_length, has_sum, tlvs_in, value_in, read_as, read}
+use Rattle.isis_pdu.specs.Grammar.{kind_of_pdu, tlvs_of, length_of, IsId, IsPdu, is_sound_lsp, is_sound}
 
 -- bytes that begin with a PDU, up to the check of its sum
 pub record IsLaidOut (bytes : List ℕ) (p : PduValue) : Type 0 where

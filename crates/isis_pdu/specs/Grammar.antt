@@ -8,7 +8,7 @@ use Rattle.isis_pdu.specs.Header.{fixed_length}
 use Rattle.isis_pdu.specs.Pdu.{PduValue, LspValue, hello, lsp, csnp, psnp}
 use Rattle.isis_pdu.specs.Tlvs.{is_whole}
 use Rattle.isis_pdu.specs.Checksum.{is_checked, covered}
-use Rattle.isis_pdu.specs.Spelling.{PassedOver, IsPassedOver, pdu_with}
+use Rattle.isis_pdu.specs.Spelling.{PassedOver, IsPassedOver, zeros, pdu_with}
 
 abbrev pub kind_of_pdu : PduValue → Kind
 kind_of_pdu (hello h) = kinds.Hello
@@ -76,3 +76,8 @@ pub record IsReadFrom (bytes : List ℕ) (p : PduValue) : Type 0 where
   pub within : length_of p ≤ length bytes
   pub pdu : IsPdu p
   pub sound : IsTrue (is_sound p)
+
+-- the bytes are as a writer makes them: 0 in each place that is passed over, and nothing after the PDU
+pub record IsCanonical (bytes : List ℕ) (p : PduValue) : Type 0 where
+  pub over : passed_over_in p bytes ≡ zeros
+  pub end : length bytes ≡ length_of p
