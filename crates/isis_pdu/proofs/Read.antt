@@ -53,7 +53,7 @@ kind_number : (n : ℕ) (k : Kind) → kind_of n ≡ Some k → n ≡ number_of 
 kind_number n k h = first (n == 17) (n == 18) (n == 24) (n == 26) refl refl refl refl h
   where
     first : (a b c d : Bool) → (n == 17) ≡ a → (n == 18) ≡ b → (n == 24) ≡ c → (n == 26) ≡ d
-      → (if a then Some kinds.Hello else if b then Some kinds.Lsp else if c then Some kinds.Csnp else if d then Some kinds.Psnp else None) ≡ Some k → n ≡ number_of k
+        → (if a then Some kinds.Hello else if b then Some kinds.Lsp else if c then Some kinds.Csnp else if d then Some kinds.Psnp else None) ≡ Some k → n ≡ number_of k
     first true b c d p q r s e = eqb-true n 17 p ∙ ap number_of (found_is _ _ e)
     first false true c d p q r s e = eqb-true n 18 q ∙ ap number_of (found_is _ _ e)
     first false false true d p q r s e = eqb-true n 24 r ∙ ap number_of (found_is _ _ e)
@@ -70,22 +70,25 @@ accepted bytes p h =
     of_kind : (o : Option Kind) → kind_at bytes ≡ o → is_isis bytes ≡ true → read_as o bytes ≡ Ok p → (k : Kind) × IsAccepted bytes k × (value_in k bytes ≡ p)
     of_kind None e isis h = absurd cc
     of_kind (Some k) e isis h =
-      let a = unless_ok _ (u8_at bytes 1 == fixed_length k) _ p h in
-      let b = unless_ok _ (has_length k bytes) _ p a.1 in
-      let c = unless_ok _ (is_whole (tlvs_in k bytes)) _ p b.1 in
-      let d = unless_ok _ (has_sum k bytes) _ p c.1 in
-      let high = and_true _ _ b.0 in
-      let low = and_true _ _ high.0 in
-      (k, record {
-        isis = isis;
-        number = kind_number _ k e;
-        header = eqb-true _ _ a.0;
-        long = leb-true _ _ low.0;
-        low = leb-true _ _ low.1;
-        high = leb-true _ _ high.1;
-        whole = c.0;
-        sum = d.0;
-      }, ok_is _ _ d.1)
+        let a = unless_ok _ (u8_at bytes 1 == fixed_length k) _ p h in
+        let b = unless_ok _ (has_length k bytes) _ p a.1 in
+        let c = unless_ok _ (is_whole (tlvs_in k bytes)) _ p b.1 in
+        let d = unless_ok _ (has_sum k bytes) _ p c.1 in
+        let high = and_true _ _ b.0 in
+        let low = and_true _ _ high.0 in (
+          k,
+          record {
+            isis = isis;
+            number = kind_number _ k e;
+            header = eqb-true _ _ a.0;
+            long = leb-true _ _ low.0;
+            low = leb-true _ _ low.1;
+            high = leb-true _ _ high.1;
+            whole = c.0;
+            sum = d.0;
+          },
+          ok_is _ _ d.1,
+        )
 
 -- ---- the bytes one by one
 

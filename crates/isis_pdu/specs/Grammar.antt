@@ -44,7 +44,7 @@ pub record IsPdu (p : PduValue) : Type 0 where
 -- an LSP with a lifetime and a sequence number has a checksum that isn't 0 and that holds. No other PDU has one
 abbrev pub is_sound_lsp : LspValue → Bool
 is_sound_lsp l =
-  (l.lifetime == 0) || (l.seq == 0) || (nat_le 1 l.sum && is_checked (covered l.id l.seq l.sum l.flags l.tlvs))
+    (l.lifetime == 0) || (l.seq == 0) || (nat_le 1 l.sum && is_checked (covered l.id l.seq l.sum l.flags l.tlvs))
 
 abbrev pub is_sound : PduValue → Bool
 is_sound (hello h) = true
@@ -55,8 +55,12 @@ is_sound (psnp p) = true
 -- what the bytes of a PDU have in the places that are passed over
 abbrev pub passed_over_in : PduValue → List ℕ → PassedOver
 passed_over_in p bytes = record {
-  id_length = u8_at bytes 3; type_bits = u8_at bytes 4 / 32; reserved = u8_at bytes 6; max_areas = u8_at bytes 7;
-  circuit = circuit_in p }
+  id_length = u8_at bytes 3;
+  type_bits = u8_at bytes 4 / 32;
+  reserved = u8_at bytes 6;
+  max_areas = u8_at bytes 7;
+  circuit = circuit_in p;
+}
   where
     circuit_in : PduValue → ℕ
     circuit_in (hello h) = 0

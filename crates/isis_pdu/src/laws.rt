@@ -15,14 +15,12 @@ use crate::pdu::PduError;
 pub fn spelled_is_read()
     ensures { (over : PassedOver) (pdu : PduValue) (after : List ℕ) → IsPassedOver over → IsPdu pdu
         → read (pdu_with over pdu ++ after) ≡ (if is_sound pdu then Ok pdu else Err PduError.Sum) }
-{
-}
+{}
 
 /// What is read from bytes is spelled in them.
 pub fn read_is_spelled()
     ensures { (bytes : List ℕ) (pdu : PduValue) → IsBytes bytes → read bytes ≡ Ok pdu → IsReadFrom bytes pdu }
-{
-}
+{}
 
 /// What a writer writes is read again. An LSP is so exactly where its checksum isn't 0 and holds, or its lifetime or its
 /// sequence number is 0.
@@ -32,25 +30,21 @@ pub fn written_is_read()
         → read (lsp_bytes l) ≡ (if is_sound_lsp l then Ok (lsp l) else Err PduError.Sum) }
     ensures csnps { (c : CsnpValue) → IsPdu (csnp c) → read (csnp_bytes c) ≡ Ok (csnp c) }
     ensures psnps { (p : PsnpValue) → IsPdu (psnp p) → read (psnp_bytes p) ≡ Ok (psnp p) }
-{
-}
+{}
 
 /// What is read from bytes that are as a writer makes them is written to the same bytes.
 pub fn read_is_written_again()
     ensures { (bytes : List ℕ) (pdu : PduValue) → IsBytes bytes → read bytes ≡ Ok pdu → IsCanonical bytes pdu
         → pdu_bytes pdu ≡ bytes }
-{
-}
+{}
 
 /// An LSP with the checksum that `lsp_sum` gives it is read.
 pub fn made_sums_hold()
     ensures { (l : LspValue) → l.sum ≡ lsp_sum_of l.id l.seq l.flags l.tlvs → IsTrue (is_sound_lsp l) }
-{
-}
+{}
 
 /// One TLV is whole, and whole TLVs before others change nothing of these.
 pub fn whole_tlvs()
     ensures one { (code : ℕ) (value : List ℕ) → IsTrue (is_whole (code ∷ length value ∷ value)) }
     ensures joined { (first after : List ℕ) → IsTrue (is_whole first) → is_whole (first ++ after) ≡ is_whole after }
-{
-}
+{}
