@@ -1,7 +1,7 @@
 -- The laws that the public functions state.
-use Rattle.std.proofs.Common.{◌≡◌, ℕ, zero, suc, ◌≤◌, List, [], ◌∷◌, ◌++◌, length, drop, Bool, true, false, Result, Ok, Err, refl, sym, ap, ◌∙◌, arith}
+use Rattle.std.proofs.Common.{inl, inr, ◌≡◌, ℕ, zero, suc, ◌≤◌, List, [], ◌∷◌, ◌++◌, length, drop, Bool, true, false, Result, Ok, Err, refl, sym, ap, ◌∙◌, arith}
 use Rattle.std.specs.Prelude.{IsTrue, IfOk, if◌then◌else◌, ◌&&◌, ◌||◌, ◌==◌, nat_le}
-use Rattle.std.proofs.lemmas.Bool.{le-leb}
+use Rattle.std.proofs.lemmas.Bool.{cases_lt, lt-leb, le-leb}
 use Rattle.std.proofs.lemmas.List.{append-nil, drop_all}
 use Rattle.isis_pdu.specs.declared.pdu.Pdu.{Pdu}
 use Rattle.isis_pdu.specs.declared.pdu.PduError.{PduError}
@@ -14,6 +14,7 @@ use Rattle.isis_pdu.specs.Reading.{read, answer_of}
 use Rattle.isis_pdu.specs.Grammar.{length_of, IsPdu, is_sound, is_sound_lsp, IsBytes, IsReadFrom, IsCanonical}
 use Rattle.isis_pdu.proofs.Sums.{lsp_sum-bytes, lsp_sum-holds}
 use Rattle.isis_pdu.proofs.Written.{spelled_is_read}
+use Rattle.isis_pdu.proofs.TlvWalk.{past_value, cut_value}
 use Rattle.isis_pdu.proofs.Read.{read_is_spelled}
 
 zeros_allowed : IsPassedOver zeros
@@ -48,6 +49,17 @@ answered_again (Ok pdu) bytes fits e = λ c. canonical_again bytes (pdu_of pdu) 
 answered_again (Err refused) bytes fits e = tt
 
 -- ---- TLVs
+
+whole_past : (left : ℕ) (bytes : List ℕ) → is_whole_after left bytes ≡ (nat_le left (length bytes) && is_whole (drop left bytes))
+whole_past left bytes =
+    elim (cases_lt (length bytes) left) [
+      | inl lt ↦ cut_value left bytes lt ∙ rw (lt-leb left (length bytes) lt) refl
+      | inr le ↦ past_value left bytes le ∙ rw (le-leb left (length bytes) le) refl
+    ]
+
+pub whole_next : (code len : ℕ) (bytes : List ℕ) → is_whole (code ∷ len ∷ bytes) ≡ (nat_le len (length bytes) && is_whole (drop len bytes))
+unfolding is_whole_after
+whole_next code len bytes = whole_past len bytes
 
 pub whole_value : (value : List ℕ) → is_whole_after (length value) value ≡ true
 unfolding is_whole_after

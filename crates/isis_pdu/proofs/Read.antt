@@ -1,8 +1,8 @@
 -- What is read as a PDU is spelled as it, but for what is passed over.
-use Rattle.std.proofs.Common.{◌≡◌, ℕ, zero, suc, ◌+◌, ◌*◌, ◌-◌, ◌/◌, ◌%◌, ◌<◌, ◌≤◌, List, [], ◌∷◌, ◌++◌, length, drop, Bool, true, false, Option, Some, None, Result, Ok, refl, sym, ap, ◌∙◌, subst, arith, drop-cons}
+use Rattle.std.proofs.Common.{◌≡◌, ℕ, zero, suc, ◌+◌, ◌*◌, ◌-◌, ◌/◌, ◌%◌, ◌<◌, ◌≤◌, List, [], ◌∷◌, ◌++◌, length, drop, Bool, true, false, Option, Some, None, Result, Ok, refl, sym, ap, ◌∙◌, subst, arith, drop-cons, inl, inr, take}
 use Rattle.std.specs.Prelude.{IsTrue, ◌&&◌, ◌||◌, ◌==◌, nat_le, slice_range, if◌then◌else◌}
-use Rattle.std.proofs.lemmas.Bool.{leb-true, eqb-true}
-use Rattle.std.proofs.lemmas.List.{length-take, length-drop}
+use Rattle.std.proofs.lemmas.Bool.{leb-true, eqb-true, cases_lt}
+use Rattle.std.proofs.lemmas.List.{length-take, length-drop, get_or-drop, get_or-take, get_or_past}
 use Rattle.std.proofs.lemmas.List.Folds.{drop_split}
 use Rattle.spb_types.specs.Bytes.{u8_at, u16_at, u32_at}
 use Rattle.isis_pdu.specs.declared.kind.Kind.{Kind}
@@ -12,9 +12,9 @@ use Rattle.isis_pdu.specs.Header.{kind_of, number_of, fixed_length}
 use Rattle.isis_pdu.specs.Pdu.{PduValue, LspValue, lsp}
 use Rattle.isis_pdu.specs.Tlvs.{is_whole}
 use Rattle.isis_pdu.specs.Spelling.{PassedOver, IsPassedOver, pdu_with}
-use Rattle.isis_pdu.specs.Reading.{is_isis, kind_at, pdu_length, has_length, has_sum, tlvs_in, value_in, unless, read_as, read, lsp_id_at}
+use Rattle.isis_pdu.specs.Reading.{is_isis, kind_at, pdu_length, has_length, has_sum, tlvs_in, value_in, unless, read_as, read, lsp_id_at, system_at}
 use Rattle.isis_pdu.proofs.Written.{lsp_laid}
-use Rattle.isis_pdu.specs.Grammar.{length_of, IsId, is_sound_lsp, passed_over_in, IsBytes, IsReadFrom}
+use Rattle.isis_pdu.specs.Grammar.{length_of, IsId, is_sound_lsp, passed_over_in, IsBytes, IsLspIdOfBytes, HasFields, IsReadFrom}
 
 -- ---- what the tests say
 
@@ -201,6 +201,50 @@ psnp_parts bytes fits h =
     let e9 : (17 + length (tlvs_in kinds.Psnp bytes)) % 256 ≡ u8_at bytes 9 = rw len (low_byte _ _ (fits 9)) in
     in_parts 17 (pdu_length kinds.Psnp bytes) bytes h.low h.high ∙ cc
 
+-- ---- the ranges of the fields
+
+u16_fits : (bytes : List ℕ) (i : ℕ) → IsBytes bytes → u16_at bytes i < 65536
+u16_fits bytes i fits = omega (arith, fits i, fits (i + 1))
+
+u32_fits : (bytes : List ℕ) (i : ℕ) → IsBytes bytes → u32_at bytes i < 4294967296
+u32_fits bytes i fits = omega (arith, fits i, fits (i + 1), fits (i + 2), fits (i + 3))
+
+six_fit : (a b c d e f : ℕ) → a < 256 → b < 256 → c < 256 → d < 256 → e < 256 → f < 256 → IsBytes (a ∷ b ∷ c ∷ d ∷ e ∷ f ∷ [])
+six_fit a b c d e f p q r s t u zero = p
+six_fit a b c d e f p q r s t u (suc zero) = q
+six_fit a b c d e f p q r s t u (suc (suc zero)) = r
+six_fit a b c d e f p q r s t u (suc (suc (suc zero))) = s
+six_fit a b c d e f p q r s t u (suc (suc (suc (suc zero)))) = t
+six_fit a b c d e f p q r s t u (suc (suc (suc (suc (suc zero))))) = u
+six_fit a b c d e f p q r s t u (suc (suc (suc (suc (suc (suc i)))))) = omega arith
+
+IsBytes-drop : (n : ℕ) (bytes : List ℕ) → IsBytes bytes → IsBytes (drop n bytes)
+IsBytes-drop n bytes fits i = rw get_or-drop (fits (n + i))
+
+IsBytes-take : (n : ℕ) (bytes : List ℕ) → IsBytes bytes → IsBytes (take n bytes)
+IsBytes-take n bytes fits i =
+    elim (cases_lt i n) [
+      | inl lt ↦ rw (get_or-take n bytes i 0 lt) (fits i)
+      | inr le ↦ rw (get_or_past (take n bytes) i 0 (omega (arith, length-take n bytes))) (omega arith)
+    ]
+
+tlvs_fit : (k : Kind) (bytes : List ℕ) → IsBytes bytes → IsBytes (tlvs_in k bytes)
+tlvs_fit k bytes fits = IsBytes-take _ _ (IsBytes-drop (fixed_length k) bytes fits)
+
+system_fits : (bytes : List ℕ) (i : ℕ) → IsBytes bytes → IsBytes (system_at bytes i).mac.bytes
+system_fits bytes i fits =
+    six_fit _ _ _ _ _ _ (fits i) (fits (i + 1)) (fits (i + 2)) (fits (i + 3)) (fits (i + 4)) (fits (i + 5))
+
+lsp_id_fits : (bytes : List ℕ) (i : ℕ) → IsBytes bytes → IsLspIdOfBytes (lsp_id_at bytes i)
+lsp_id_fits bytes i fits = (system_fits bytes i fits, fits (i + 6), fits (i + 7))
+
+fields_of : (k : Kind) (bytes : List ℕ) → IsBytes bytes → HasFields (value_in k bytes)
+unfolding value_in
+fields_of kinds.Hello bytes fits = (fits 8, system_fits bytes 9 fits, u16_fits bytes 15 fits, fits 19, tlvs_fit kinds.Hello bytes fits)
+fields_of kinds.Lsp bytes fits = (u16_fits bytes 10 fits, lsp_id_fits bytes 12 fits, u32_fits bytes 20 fits, u16_fits bytes 24 fits, fits 26, tlvs_fit kinds.Lsp bytes fits)
+fields_of kinds.Csnp bytes fits = (system_fits bytes 10 fits, lsp_id_fits bytes 17 fits, lsp_id_fits bytes 25 fits, tlvs_fit kinds.Csnp bytes fits)
+fields_of kinds.Psnp bytes fits = (system_fits bytes 10 fits, tlvs_fit kinds.Psnp bytes fits)
+
 -- ---- the law
 
 lsp_sound : (o : PassedOver) (l : LspValue) (after bytes : List ℕ) → IsPassedOver o → IsId l.id.system → bytes ≡ pdu_with o (lsp l) ++ after → has_sum kinds.Lsp bytes ≡ true → IsTrue (is_sound_lsp l)
@@ -217,6 +261,7 @@ read_from kinds.Hello bytes fits h =
       within = rw (tlvs_end kinds.Hello bytes h) h.high;
       pdu = record { ids = refl; whole = h.whole };
       sound = refl;
+      fields = fields_of kinds.Hello bytes fits;
     }
 read_from kinds.Lsp bytes fits h =
     let head = header_of bytes kinds.Lsp h in
@@ -230,6 +275,7 @@ read_from kinds.Lsp bytes fits h =
       within = rw (tlvs_end kinds.Lsp bytes h) h.high;
       pdu = record { ids = refl; whole = h.whole };
       sound = lsp_sound o l (drop (length_of (lsp l)) bytes) bytes over refl parts h.sum;
+      fields = fields_of kinds.Lsp bytes fits;
     }
 read_from kinds.Csnp bytes fits h =
     let head = header_of bytes kinds.Csnp h in
@@ -239,6 +285,7 @@ read_from kinds.Csnp bytes fits h =
       within = rw (tlvs_end kinds.Csnp bytes h) h.high;
       pdu = record { ids = (refl, refl, refl); whole = h.whole };
       sound = refl;
+      fields = fields_of kinds.Csnp bytes fits;
     }
 read_from kinds.Psnp bytes fits h =
     let head = header_of bytes kinds.Psnp h in
@@ -248,6 +295,7 @@ read_from kinds.Psnp bytes fits h =
       within = rw (tlvs_end kinds.Psnp bytes h) h.high;
       pdu = record { ids = refl; whole = h.whole };
       sound = refl;
+      fields = fields_of kinds.Psnp bytes fits;
     }
 
 -- what is read is spelled so

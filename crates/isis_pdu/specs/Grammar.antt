@@ -1,6 +1,7 @@
 -- Which values are PDUs, and what in the bytes of a PDU is passed over.
 use Rattle.std.specs.Prelude.{◌≡◌, ℕ, ◌+◌, ◌/◌, ◌<◌, List, ◌++◌, length, drop, ◌≤◌, Bool, true, ◌&&◌, ◌||◌, ◌==◌, nat_le, IsTrue}
 use Rattle.spb_types.specs.declared.address.SystemId.{SystemId}
+use Rattle.spb_types.specs.declared.address.LspId.{LspId}
 use Rattle.spb_types.specs.Bytes.{u8_at}
 use Rattle.isis_pdu.specs.declared.kind.Kind.{Kind}
 use Rattle.isis_pdu.specs.declared.kind.Kind.TheVariants as kinds
@@ -72,6 +73,18 @@ passed_over_in p bytes = record {
 abbrev pub IsBytes : List ℕ → Type 0
 IsBytes bytes = (i : ℕ) → u8_at bytes i < 256
 
+abbrev pub IsLspIdOfBytes : LspId → Type 0
+IsLspIdOfBytes id = IsBytes id.system.mac.bytes × (id.pseudonode < 256) × (id.number < 256)
+
+-- each field is a number that its bytes can say
+abbrev pub HasFields : PduValue → Type 0
+HasFields (hello h) =
+    (h.circuit_type < 256) × IsBytes h.source.mac.bytes × (h.holding < 65536) × (h.circuit < 256) × IsBytes h.tlvs
+HasFields (lsp l) =
+    (l.lifetime < 65536) × IsLspIdOfBytes l.id × (l.seq < 4294967296) × (l.sum < 65536) × (l.flags < 256) × IsBytes l.tlvs
+HasFields (csnp c) = IsBytes c.source.mac.bytes × IsLspIdOfBytes c.start × IsLspIdOfBytes c.end × IsBytes c.tlvs
+HasFields (psnp p) = IsBytes p.source.mac.bytes × IsBytes p.tlvs
+
 -- what the bytes are, of which p was read: p with what is passed over, and after it bytes of no PDU. p is a PDU, whose
 -- checksum holds if it must
 pub record IsReadFrom (bytes : List ℕ) (p : PduValue) : Type 0 where
@@ -80,6 +93,7 @@ pub record IsReadFrom (bytes : List ℕ) (p : PduValue) : Type 0 where
   pub within : length_of p ≤ length bytes
   pub pdu : IsPdu p
   pub sound : IsTrue (is_sound p)
+  pub fields : HasFields p
 
 -- the bytes are as a writer makes them: 0 in each place that is passed over, and nothing after the PDU
 pub record IsCanonical (bytes : List ℕ) (p : PduValue) : Type 0 where

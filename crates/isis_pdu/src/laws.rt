@@ -1,6 +1,6 @@
 //! Laws of the format, for whoever reasons about PDUs as values. Each is its contract; none does anything.
 
-ghost use Rattle.std.specs.Prelude.{◌≡◌, ℕ, List, ◌∷◌, ◌++◌, length, IsTrue, if◌then◌else◌};
+ghost use Rattle.std.specs.Prelude.{◌≡◌, ℕ, List, ◌∷◌, ◌++◌, length, drop, nat_le, ◌&&◌, IsTrue, if◌then◌else◌};
 ghost use Rattle.isis_pdu.specs.Checksum.{lsp_sum_of};
 ghost use Rattle.isis_pdu.specs.Grammar.{IsBytes, IsPdu, IsReadFrom, IsCanonical, is_sound, is_sound_lsp};
 ghost use Rattle.isis_pdu.specs.Pdu.{HelloValue, LspValue, CsnpValue, PsnpValue, PduValue, hello, lsp, csnp, psnp};
@@ -43,8 +43,11 @@ pub fn made_sums_hold()
     ensures { (l : LspValue) → l.sum ≡ lsp_sum_of l.id l.seq l.flags l.tlvs → IsTrue (is_sound_lsp l) }
 {}
 
-/// One TLV is whole, and whole TLVs before others change nothing of these.
+/// Whole TLVs, one by one: a TLV is whole, those that begin with one go on behind its value, and whole ones before others
+/// change nothing of these.
 pub fn whole_tlvs()
+    ensures next { (code len : ℕ) (bytes : List ℕ)
+        → is_whole (code ∷ len ∷ bytes) ≡ (nat_le len (length bytes) && is_whole (drop len bytes)) }
     ensures one { (code : ℕ) (value : List ℕ) → IsTrue (is_whole (code ∷ length value ∷ value)) }
     ensures joined { (first after : List ℕ) → IsTrue (is_whole first) → is_whole (first ++ after) ≡ is_whole after }
 {}
