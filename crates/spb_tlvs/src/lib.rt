@@ -22,5 +22,7 @@ mod error;
 mod fields;
 mod neighbours;
 mod piece;
+#[cfg(test)]
+mod tests;
 mod three_way;
 mod tlv;
