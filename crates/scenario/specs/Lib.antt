@@ -1,0 +1,5 @@
+pub mod Words
+pub mod WordForms
+pub mod Keywords
+pub mod Grammar
+pub mod Answers

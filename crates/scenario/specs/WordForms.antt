@@ -1,0 +1,66 @@
+use Rattle.std.specs.Prelude.{ℕ, ◌+◌, ◌-◌, ◌*◌, ◌%◌, List, [], ◌∷◌, length, ◌&&◌, ◌==◌, nat_le, if◌then◌else◌, Option, Some, None, Result, Ok, Err, codes, fold, unwrap_or}
+use Rattle.std.specs.List.{list_all}
+use Rattle.std.specs.Str.{bytes_eq}
+use Rattle.hex.specs.Hex.{decode_of, decode_sized, is_hex_digit}
+use Rattle.hex.specs.declared.error.FromHexError.{FromHexError}
+use Rattle.spb_types.specs.Name.{is_name, is_digit}
+use Rattle.spb_types.specs.Bytes.{u24_at}
+use Rattle.spb_types.specs.declared.address.Mac.{Mac}
+use Rattle.spb_types.specs.declared.service.SourceId.{SourceId}
+use Rattle.scenario.specs.declared.command.Side.{Side}
+use Rattle.scenario.specs.declared.command.Side.TheVariants.{A, B}
+use Rattle.scenario.specs.declared.command.Dir.{Dir}
+use Rattle.scenario.specs.declared.command.Dir.TheVariants.{Ab, Ba}
+
+-- what a word means in each of its forms, or None where it isn't of that form
+
+-- 1 to 16 letters, digits, `_` or `-`, with a letter first
+unfoldable pub name : List ℕ → Option (List ℕ)
+name word = if is_name word then Some word else None
+
+-- the number that decimal digits write
+abbrev pub decimal : List ℕ → ℕ
+decimal digits = fold (λ value digit. value * 10 + (digit - 48)) 0 digits
+
+-- 1 to 10 decimal digits
+unfoldable pub number : List ℕ → Option ℕ
+number word =
+    if nat_le 1 (length word) && nat_le (length word) 10 && list_all is_digit word then Some (decimal word) else None
+
+-- the bytes that hexadecimal digits write, in either case, where there is an even number of them and nothing else
+abbrev pub bytes_in : Result (List ℕ) FromHexError → Option (List ℕ)
+bytes_in (Ok bytes) = Some bytes
+bytes_in (Err e) = None
+
+abbrev pub mac_of : Option (List ℕ) → Option Mac
+mac_of (Some bytes) = Some (record { bytes = bytes })
+mac_of None = None
+
+-- 12 hexadecimal digits
+unfoldable pub system : List ℕ → Option Mac
+system word = mac_of (bytes_in (decode_sized word 6))
+
+abbrev pub source_of : Option (List ℕ) → Option SourceId
+source_of (Some bytes) = Some (record { value = u24_at bytes 0 })
+source_of None = None
+
+-- 5 hexadecimal digits: behind a digit 0 they write three bytes, the greatest first
+unfoldable pub source : List ℕ → Option SourceId
+source word = if length word == 5 then source_of (bytes_in (decode_sized (48 ∷ word) 3)) else None
+
+-- the bytes that hexadecimal digits write
+abbrev pub decoded : List ℕ → List ℕ
+decoded digits = unwrap_or (bytes_in (decode_of digits)) []
+
+-- a positive even number of hexadecimal digits
+unfoldable pub frame : List ℕ → Option (List ℕ)
+frame word =
+    if nat_le 1 (length word) && (length word % 2 == 0) && list_all is_hex_digit word then Some (decoded word) else None
+
+-- `ab` or `ba`
+unfoldable pub dir : List ℕ → Option Dir
+dir word = if bytes_eq word (codes "ab") then Some Ab else (if bytes_eq word (codes "ba") then Some Ba else None)
+
+-- `a` or `b`
+unfoldable pub side : List ℕ → Option Side
+side word = if bytes_eq word (codes "a") then Some A else (if bytes_eq word (codes "b") then Some B else None)

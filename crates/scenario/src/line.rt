@@ -1,0 +1,100 @@
+ghost use Rattle.std.specs.Prelude.{◌≡◌, ◌≤◌, length};
+ghost use Rattle.scenario.specs.Grammar.{read, form_of, is_comment as is_comment_line, line_of, head_of};
+ghost use Rattle.scenario.specs.Answers.{Gives};
+
+use crate::command::Command;
+use crate::error::LineError;
+use crate::forms;
+use crate::keyword::Keyword;
+use crate::words::Words;
+use std::alloc::Global;
+
+/// How many bytes a line has at most, without its end.
+pub const LINE_LIMIT: usize = 8192;
+
+/// The first word of a line.
+#[derive(Clone, Copy, Debug, PartialEq, Eq)]
+pub struct FirstWord {
+    /// The column of its first byte, counted from 1.
+    pub column: usize,
+    /// The keyword that it spells, if it spells one.
+    pub keyword: Option<Keyword>,
+}
+
+/// Whether a line is a comment: its very first byte is `#`.
+fn is_comment(line: &[u8]) -> bool
+    ensures { result ≡ is_comment_line line.now }
+{
+    line.first() == Some(&b'#')
+}
+
+/// The command of the keyword's form, of the words behind it.
+fn command(alloc: Global, keyword: Keyword, words: &mut Words<'_>) -> Result<Command, LineError>
+    ensures { Gives result (read (form_of keyword) words.old) }
+{
+    match keyword {
+        Keyword::Vid => forms::vid(words),
+        Keyword::Bridge => forms::bridge(words),
+        Keyword::Link => forms::link(words),
+        Keyword::Isid => forms::isid(words),
+        Keyword::Attach => forms::attach(words),
+        Keyword::Detach => forms::detach(words),
+        Keyword::Metric => forms::metric(words),
+        Keyword::Down => forms::down(words),
+        Keyword::Up => forms::up(words),
+        Keyword::Restart => forms::restart(words),
+        Keyword::Tick => forms::tick(words),
+        Keyword::Deliver => forms::deliver(words),
+        Keyword::Lose => forms::lose(words),
+        Keyword::Double => forms::double(words),
+        Keyword::Round => forms::round(words),
+        Keyword::Drain => forms::drain(words),
+        Keyword::Frame => forms::frame(alloc, words),
+        Keyword::State => forms::state(words),
+        Keyword::Show => forms::show(words),
+        Keyword::Wiring => forms::wiring(words),
+        Keyword::Db => forms::db(words),
+        Keyword::Adj => forms::adj(words),
+        Keyword::Path => forms::path(words),
+    }
+}
+
+/// The first word of a line. None exactly where the line is blank, is a comment or has more than 8,192 bytes.
+#[tactic(auto, unfolding(crate::specs::Grammar::head_of, crate::specs::Words::next))]
+pub fn head(line: &[u8]) -> Option<FirstWord>
+    ensures { result ≡ head_of line.now }
+{
+    if line.len() > LINE_LIMIT || is_comment(line) {
+        return None;
+    }
+    let (column, word) = Words::new(line).next_word()?;
+    Some(FirstWord {
+        column,
+        keyword: Keyword::read(word),
+    })
+}
+
+/// The command that a line gives, without its end (LF, or CR LF). None exactly where the line is blank or a comment.
+///
+/// `Words(column)` exactly where the line isn't in the grammar, and `NoMemory` only where it is a frame that no memory
+/// was found for.
+#[tactic(auto, unfolding(crate::specs::Grammar::line_of, crate::specs::Words::next))]
+pub fn parse_line(alloc: Global, line: &[u8]) -> Result<Option<Command>, LineError>
+    ensures { Gives result (line_of line.now) }
+{
+    if line.len() > LINE_LIMIT {
+        return Err(LineError::Words(LINE_LIMIT + 1));
+    }
+    if is_comment(line) {
+        return Ok(None);
+    }
+    let mut words = Words::new(line);
+    let Some((column, word)) = words.next_word() else {
+        return Ok(None);
+    };
+    let Some(keyword) = Keyword::read(word) else {
+        return Err(LineError::Words(column));
+    };
+    let command = command(alloc, keyword, &mut words)?;
+    Ok(Some(command))
+}
