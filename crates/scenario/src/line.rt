@@ -1,6 +1,6 @@
 ghost use Rattle.std.specs.Prelude.{◌≡◌, ◌≤◌, length};
 ghost use Rattle.scenario.specs.Grammar.{read, form_of, is_comment as is_comment_line, line_of, head_of};
-ghost use Rattle.scenario.specs.Answers.{Gives};
+ghost use Rattle.scenario.specs.Answers.{Gives, Reads};
 
 use crate::command::Command;
 use crate::error::LineError;
@@ -80,7 +80,7 @@ pub fn head(line: &[u8]) -> Option<FirstWord>
 /// was found for.
 #[tactic(auto, unfolding(crate::specs::Grammar::line_of, crate::specs::Words::next))]
 pub fn parse_line(alloc: Global, line: &[u8]) -> Result<Option<Command>, LineError>
-    ensures { Gives result (line_of line.now) }
+    ensures { Reads result (line_of line.now) }
 {
     if line.len() > LINE_LIMIT {
         return Err(LineError::Words(LINE_LIMIT + 1));

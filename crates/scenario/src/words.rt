@@ -1,7 +1,7 @@
 ghost use Rattle.std.specs.Prelude.{◌≡◌, ◌≤◌, ◌+◌, [], ◌∷◌, length, MatchOption, Ok};
 ghost use Rattle.std.specs.List.{prefix_len, position_or_len};
 ghost use Rattle.scenario.specs.Words.{is_blank as is_blank_byte, rest_from, next, at_end};
-ghost use Rattle.scenario.specs.Answers.{Gives, Takes};
+ghost use Rattle.scenario.specs.Answers.{Ends, Takes};
 
 use crate::error::LineError;
 use crate::field::Field;
@@ -101,7 +101,7 @@ impl<'a> Words<'a> {
     /// `Words` exactly where a word is left.
     #[tactic(auto, unfolding(crate::specs::Words::at_end))]
     pub fn finish(&mut self) -> Result<(), LineError>
-        ensures { Gives result (at_end self.old) }
+        ensures { Ends result (at_end self.old) }
     {
         match self.next_word() {
             None => Ok(()),
