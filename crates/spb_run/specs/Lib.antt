@@ -1,0 +1,4 @@
+pub mod Reason
+pub mod World
+pub mod Tables
+pub mod Report

@@ -1,0 +1,91 @@
+use Rattle.std.specs.Prelude.{◌≡◌, ◌↔◌, ℕ, List, [], ◌∷◌, Option, Some, ◌⊎◌, ⊤, if◌then◌else◌, slice_get, option_map, option_and_then}
+use Rattle.std.specs.List.{AllByRecursion, filter_map, flat_map}
+use Rattle.std.specs.declared.cmp.Ordering.{Ordering}
+use Rattle.std.specs.Ordering.{nat_cmp, ordering_then, is_gt}
+use Rattle.std.specs.Cmp.Lexicographic.{slice_cmp}
+use Rattle.spb_types.specs.Ect.{mask_of}
+use Rattle.spb_types.specs.Graph.{systems_of, port_between}
+use Rattle.spb_types.specs.declared.address.Mac.{Mac}
+use Rattle.spb_types.specs.declared.address.SystemId.{SystemId}
+use Rattle.spb_types.specs.declared.graph.Graph.{Graph}
+use Rattle.spb_types.specs.declared.service.VidPlan.{VidPlan}
+use Rattle.spb_types.specs.declared.tables.UnicastRow.{UnicastRow}
+use Rattle.ect_trees.specs.Best.{IsBest, best_of}
+
+-- an item put at its place in an ascending list
+abbrev pub placed : {A : Type 0} → (A → A → Ordering) → A → List A → List A
+placed cmp x [] = x ∷ []
+placed cmp x (y ∷ ys) = if is_gt (cmp x y) then y ∷ placed cmp x ys else x ∷ y ∷ ys
+
+-- the list in ascending order
+abbrev pub ascending : {A : Type 0} → (A → A → Ordering) → List A → List A
+ascending cmp [] = []
+ascending cmp (x ∷ xs) = placed cmp x (ascending cmp xs)
+
+-- addresses compare as their bytes
+abbrev pub mac_cmp : Mac → Mac → Ordering
+mac_cmp x y = slice_cmp nat_cmp x.bytes y.bytes
+
+abbrev pub system_cmp : SystemId → SystemId → Ordering
+system_cmp x y = mac_cmp x.mac y.mac
+
+abbrev pub vid_cmp : VidPlan → VidPlan → Ordering
+vid_cmp p q = nat_cmp p.vid.value q.vid.value
+
+-- the port at `me` of the edge to the second bridge of the best path from `me` to d, if there is one
+abbrev pub port_towards : Graph → ℕ → SystemId → SystemId → Option ℕ
+port_towards g mask me d = option_and_then (λ next. port_between g me next) (option_and_then (λ path. slice_get path 1) (best_of g mask me d))
+
+-- the row of `me` for a VID and the bridge d
+abbrev pub unicast_row : Graph → SystemId → VidPlan → SystemId → Option UnicastRow
+unicast_row g me plan d = option_map (λ port. record { vid = plan.vid; mac = d.mac; port = port }) (port_towards g (mask_of plan.ect) me d)
+
+-- the rows of `me` for a VID, by ascending address
+abbrev pub rows_of_vid : Graph → SystemId → VidPlan → List UnicastRow
+rows_of_vid g me plan = filter_map (unicast_row g me plan) (ascending system_cmp (systems_of g.bridges))
+
+-- the unicast rows of `me`, by ascending VID and address (IEEE 802.1aq, 8.8 and 28.10)
+unfoldable pub unicast_rows : Graph → SystemId → List VidPlan → List UnicastRow
+unicast_rows g me vids = flat_map (rows_of_vid g me) (ascending vid_cmp vids)
+
+-- the plan is one of these
+abbrev pub IsPlanned : VidPlan → List VidPlan → Type 0
+IsPlanned p [] = ⊥
+IsPlanned p (q ∷ qs) = (p ≡ q) ⊎ IsPlanned p qs
+
+-- no VID stands twice in the list
+abbrev pub AreVidsApart : List VidPlan → Type 0
+AreVidsApart [] = ⊤
+AreVidsApart (p ∷ ps) = AllByRecursion (λ q. p.vid.value ≡ q.vid.value → ⊥) ps × AreVidsApart ps
+
+-- the row is one of these
+abbrev pub IsRow : UnicastRow → List UnicastRow → Type 0
+IsRow r [] = ⊥
+IsRow r (s ∷ ss) = (r ≡ s) ⊎ IsRow r ss
+
+-- a row of `me`: for one of the VIDs, and a bridge with a best path of two bridges or more, it has the bridge's
+-- address and the port of the edge from `me` to the second bridge of that path
+pub record IsUnicast (g : Graph) (me : SystemId) (vids : List VidPlan) (r : UnicastRow) : Type 0 where
+  pub plan : VidPlan
+  pub to : SystemId
+  pub next : SystemId
+  pub rest : List SystemId
+  pub planned : IsPlanned plan vids
+  pub best : IsBest g (mask_of plan.ect) me to (me ∷ next ∷ rest)
+  pub vid : r.vid ≡ plan.vid
+  pub mac : r.mac ≡ to.mac
+  pub port : port_between g me next ≡ Some r.port
+
+-- rows compare by VID, then by address
+abbrev pub row_cmp : UnicastRow → UnicastRow → Ordering
+row_cmp r s = ordering_then (nat_cmp r.vid.value s.vid.value) (mac_cmp r.mac s.mac)
+
+-- each row is below every later one
+abbrev pub Ascends : List UnicastRow → Type 0
+Ascends [] = ⊤
+Ascends (r ∷ rs) = AllByRecursion (λ s. row_cmp r s ≡ Ordering.Less) rs × Ascends rs
+
+-- the unicast table of `me`: just its rows, each once, ascending
+pub record IsUnicastTable (g : Graph) (me : SystemId) (vids : List VidPlan) (rows : List UnicastRow) : Type 0 where
+  pub members : (r : UnicastRow) → IsRow r rows ↔ IsUnicast g me vids r
+  pub ascends : Ascends rows

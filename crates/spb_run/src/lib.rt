@@ -1,0 +1,10 @@
+//! The run of a script: what is declared, which lines are refused, and what is answered.
+#![tactic(auto)]
+
+pub use declaration::{DeclaredBridge, DeclaredLink, LinkEnd};
+pub use reason::{Reason, Refusal};
+pub use world::World;
+
+mod declaration;
+mod reason;
+mod world;
