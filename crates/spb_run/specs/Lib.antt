@@ -2,3 +2,4 @@ pub mod Reason
 pub mod World
 pub mod Tables
 pub mod Report
+pub mod Listing

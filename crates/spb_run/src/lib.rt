@@ -7,4 +7,5 @@ pub use world::World;
 
 mod declaration;
 mod reason;
+mod report;
 mod world;
