@@ -2,9 +2,10 @@
 #![tactic(auto)]
 
 pub use declaration::{DeclaredBridge, DeclaredLink, LinkEnd};
-pub use reason::{Reason, Refusal};
+pub use reason::{PlayError, Reason, Refusal};
 pub use world::World;
 
+mod check;
 mod declaration;
 mod reason;
 mod report;

@@ -1,6 +1,8 @@
-use crate::{DeclaredBridge, DeclaredLink};
+use crate::check;
+use crate::reason::reason_unless;
+use crate::{DeclaredBridge, DeclaredLink, LinkEnd, PlayError, Reason};
 use indexmap::IndexMap;
-use spb_types::{Name, VidPlan};
+use spb_types::{BridgeId, Edge, Graph, GraphBridge, Mac, Name, NoMemory, Seq, SourceId, SystemId, Vid, VidPlan};
 use std::alloc::Global;
 use std::marker::Model;
 
@@ -24,6 +26,8 @@ impl Model for World {
 
 impl World {
     ghost use Rattle.std.specs.Prelude.{◌≡◌, []};
+    ghost use Rattle.spb_run.specs.World.{place_of};
+    ghost use Rattle.spb_run.specs.Play as play;
 
     /// The world in which nothing is declared, which takes no memory.
     pub fn new(alloc: Global) -> Self
@@ -34,5 +38,65 @@ impl World {
             bridges: IndexMap::new(alloc),
             links: IndexMap::new(alloc),
         }
+    }
+
+    /// The place of the bridge of this name in order of declaration. None exactly where there is none.
+    pub fn bridge_place(&self, name: Name) -> Option<usize>
+        ensures { result ≡ place_of name self.now.bridges }
+    {
+        self.bridges.get_index_of(&name)
+    }
+
+    /// Why a base VID can't be declared, if it can't.
+    #[tactic(auto, unfolding(crate::specs::Play::vid_refusal))]
+    fn vid_refusal(&self, vid: u64, ect: u64) -> Option<Reason>
+        ensures { result ≡ play.vid_refusal self.now vid ect }
+    {
+        reason_unless(self.vids.is_empty(), Reason::Range)
+            .or(reason_unless(check::is_vid(vid, ect), Reason::Range))
+            .or(reason_unless(self.bridges.len() == 0, Reason::Range))
+    }
+
+    /// Why a bridge can't be declared, if it can't.
+    #[tactic(auto, unfolding(crate::specs::Play::bridge_refusal))]
+    fn bridge_refusal(
+        &self,
+        name: Name,
+        priority: u64,
+        system: Mac,
+        source: SourceId,
+        ports: u64,
+    ) -> Option<Reason>
+        ensures { result ≡ play.bridge_refusal self.now name priority system source ports }
+    {
+        let is_new_name = check::is_new_name(&self.bridges, name);
+        let is_new_id = check::is_new_id(&self.bridges, system, source);
+        reason_unless(is_new_name, Reason::Range)
+            .or(reason_unless(is_new_id, Reason::Range))
+            .or(reason_unless(check::is_bridge_range(priority, system, ports), Reason::Range))
+            .or(reason_unless(self.bridges.len() < 96, Reason::Range))
+    }
+
+    /// Why a link between the bridges at two places can't be declared, if it can't.
+    #[tactic(auto, unfolding(crate::specs::Play::link_refusal))]
+    fn link_refusal(
+        &self,
+        name: Name,
+        i: usize,
+        port_a: u64,
+        j: usize,
+        port_b: u64,
+        cost: u64,
+    ) -> Option<Reason>
+        ensures { result ≡ play.link_refusal self.now name i port_a j port_b cost }
+    {
+        let is_new_name = check::is_new_name(&self.links, name);
+        let are_free_ports = check::are_free_ports(&self.links, i, port_a, j, port_b);
+        let is_range = check::is_link_range(&self.bridges, i, port_a, j, port_b, cost);
+        reason_unless(is_new_name, Reason::Range)
+            .or(reason_unless(are_free_ports, Reason::Range))
+            .or(reason_unless(is_range, Reason::Range))
+            .or(reason_unless(self.links.len() < 400, Reason::Range))
+            .or(reason_unless(check::is_unlinked(&self.links, i, j), Reason::Range))
     }
 }
