@@ -1,2 +1,6 @@
 pub mod TextLemmas
 pub mod PlaceLemmas
+pub mod ListLemmas
+pub mod NameLemmas
+pub mod WorldLemmas
+pub mod RefusalLemmas

@@ -113,6 +113,10 @@ refusal_of w _ = None
 
 -- What an accepted command changes.
 
+-- a base VID with the number of its ECT algorithm
+abbrev pub plan_of : ℕ → ℕ → VidPlan
+plan_of vid ect = record { vid = record { value = vid }; ect = ect }
+
 -- a bridge of these ids and ports
 abbrev pub bridge_of : ℕ → Mac → SourceId → ℕ → DeclaredBridge
 bridge_of priority system source ports = record { bridge = record { id = record { priority = priority; system = record { mac = system } }; source = source }; ports = ports }
@@ -141,7 +145,7 @@ with_named_link w name (Some i) port_a (Some j) port_b cost = with_link w name (
 
 -- the world after an accepted command
 abbrev pub next_state : World → Command → World
-next_state w (Vid vid ect) = with_vid w (record { vid = record { value = vid }; ect = ect })
+next_state w (Vid vid ect) = with_vid w (plan_of vid ect)
 next_state w (Bridge name priority system source ports) = with_bridge w name (bridge_of priority system source ports)
 next_state w (Link name a port_a b port_b cost) = with_named_link w name (place_of a w.bridges) port_a (place_of b w.bridges) port_b cost
 next_state w _ = w

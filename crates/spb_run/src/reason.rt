@@ -3,6 +3,7 @@ ghost use Rattle.spb_run.specs.Reason.{number_of, name_of, reason_unless as spec
 ghost use Rattle.spb_run.specs.declared.reason.PlayError.TheVariants.{NoMemory as no_memory};
 
 use spb_types::NoMemory;
+use std::alloc::AllocFailed;
 
 /// Why a command is refused. Of several reasons that hold, the one of least number is given.
 #[derive(Clone, Copy, Debug, PartialEq, Eq, Hash)]
@@ -64,6 +65,14 @@ impl From<NoMemory> for PlayError {
     ghost from_gives = { λ _ e. e ≡ no_memory };
 
     fn from(_refused: NoMemory) -> Self {
+        PlayError::NoMemory
+    }
+}
+
+impl<T: Drop> From<AllocFailed<T>> for PlayError {
+    ghost from_gives = { λ _ e. e ≡ no_memory };
+
+    fn from(_refused: AllocFailed<T>) -> Self {
         PlayError::NoMemory
     }
 }
