@@ -98,17 +98,25 @@ unfoldable pub link_refusal : World → List ℕ → ℕ → ℕ → ℕ → ℕ
 link_refusal w name i port_a j port_b cost = reason_unless (is_new_name name w.links) Range or reason_unless (is_free_port w.links i port_a && is_free_port w.links j port_b) Range or reason_unless (is_link_range w.bridges i port_a j port_b cost) Range or reason_unless (has_link_room w) Range or reason_unless (is_unlinked w.links i j) Range
 
 -- of a link between two bridges, by the places that were found for their names
-abbrev pub named_link_refusal : World → List ℕ → Option ℕ → ℕ → Option ℕ → ℕ → ℕ → Option Reason
-named_link_refusal w name None port_a b port_b cost = Some NoSuchName
-named_link_refusal w name (Some i) port_a None port_b cost = Some NoSuchName
-named_link_refusal w name (Some i) port_a (Some j) port_b cost = link_refusal w name i port_a j port_b cost
+abbrev pub placed_link_refusal : World → List ℕ → Option ℕ → ℕ → Option ℕ → ℕ → ℕ → Option Reason
+placed_link_refusal w name None port_a b port_b cost = Some NoSuchName
+placed_link_refusal w name (Some i) port_a None port_b cost = Some NoSuchName
+placed_link_refusal w name (Some i) port_a (Some j) port_b cost = link_refusal w name i port_a j port_b cost
+
+-- of a link between two bridges, by their names
+unfoldable pub named_link_refusal : World → List ℕ → List ℕ → ℕ → List ℕ → ℕ → ℕ → Option Reason
+named_link_refusal w name a port_a b port_b cost = placed_link_refusal w name (place_of a w.bridges) port_a (place_of b w.bridges) port_b cost
+
+-- of a question about a bridge
+unfoldable pub wiring_refusal : World → List ℕ → Option Reason
+wiring_refusal w name = reason_unless (is_some (place_of name w.bridges)) NoSuchName
 
 -- of a command; those that aren't named here are never refused
 abbrev pub refusal_of : World → Command → Option Reason
 refusal_of w (Vid vid ect) = vid_refusal w vid ect
 refusal_of w (Bridge name priority system source ports) = bridge_refusal w name priority system source ports
-refusal_of w (Link name a port_a b port_b cost) = named_link_refusal w name (place_of a w.bridges) port_a (place_of b w.bridges) port_b cost
-refusal_of w (Wiring name) = reason_unless (is_some (place_of name w.bridges)) NoSuchName
+refusal_of w (Link name a port_a b port_b cost) = named_link_refusal w name a port_a b port_b cost
+refusal_of w (Wiring name) = wiring_refusal w name
 refusal_of w _ = None
 
 -- What an accepted command changes.
@@ -138,32 +146,40 @@ unfoldable pub with_link : World → List ℕ → DeclaredLink → World
 with_link w name link = record w { links = w.links ++ (name, link) ∷ [] }
 
 -- one link more between two bridges, by the places that were found for their names
-abbrev pub with_named_link : World → List ℕ → Option ℕ → ℕ → Option ℕ → ℕ → ℕ → World
-with_named_link w name None port_a b port_b cost = w
-with_named_link w name (Some i) port_a None port_b cost = w
-with_named_link w name (Some i) port_a (Some j) port_b cost = with_link w name (link_of i port_a j port_b cost)
+abbrev pub with_placed_link : World → List ℕ → Option ℕ → ℕ → Option ℕ → ℕ → ℕ → World
+with_placed_link w name None port_a b port_b cost = w
+with_placed_link w name (Some i) port_a None port_b cost = w
+with_placed_link w name (Some i) port_a (Some j) port_b cost = with_link w name (link_of i port_a j port_b cost)
+
+-- one link more between two bridges, by their names
+unfoldable pub with_named_link : World → List ℕ → List ℕ → ℕ → List ℕ → ℕ → ℕ → World
+with_named_link w name a port_a b port_b cost = with_placed_link w name (place_of a w.bridges) port_a (place_of b w.bridges) port_b cost
 
 -- the world after an accepted command
 abbrev pub next_state : World → Command → World
 next_state w (Vid vid ect) = with_vid w (plan_of vid ect)
 next_state w (Bridge name priority system source ports) = with_bridge w name (bridge_of priority system source ports)
-next_state w (Link name a port_a b port_b cost) = with_named_link w name (place_of a w.bridges) port_a (place_of b w.bridges) port_b cost
+next_state w (Link name a port_a b port_b cost) = with_named_link w name a port_a b port_b cost
 next_state w _ = w
 
 -- What an accepted command writes.
 
 -- the tables that the wiring gives the bridge at a place
-abbrev pub wired_tables : World → ℕ → Tables
+unfoldable pub wired_tables : World → ℕ → Tables
 wired_tables w i = record { unicast = unicast_rows (world_graph w) (system_at w.bridges i) w.vids; group = [] }
 
--- the answer about a bridge, by the place that was found for its name
-abbrev pub wiring_text : World → List ℕ → Option ℕ → List ℕ
-wiring_text w name None = []
-wiring_text w name (Some i) = tables_text (codes "wiring") name None (wired_tables w i)
+-- the answer about the bridge, by the place that was found for its name
+abbrev pub placed_wiring_text : World → List ℕ → Option ℕ → List ℕ
+placed_wiring_text w name None = []
+placed_wiring_text w name (Some i) = tables_text (codes "wiring") name None (wired_tables w i)
+
+-- the answer about the bridge of a name
+unfoldable pub wiring_text : World → List ℕ → List ℕ
+wiring_text w name = placed_wiring_text w name (place_of name w.bridges)
 
 -- the answer to an accepted command
 abbrev pub answer_of : World → Command → List ℕ
-answer_of w (Wiring name) = wiring_text w name (place_of name w.bridges)
+answer_of w (Wiring name) = wiring_text w name
 answer_of w _ = []
 
 -- What one line of a script does.

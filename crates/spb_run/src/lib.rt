@@ -7,6 +7,7 @@ pub use world::World;
 
 mod check;
 mod declaration;
+mod play;
 mod reason;
 mod report;
 mod world;

@@ -105,7 +105,7 @@ impl World {
     }
 
     /// Declares a base VID with the number of its ECT algorithm.
-    fn declare_vid(&mut self, vid: u64, ect: u64) -> Result<(), PlayError>
+    pub fn declare_vid(&mut self, vid: u64, ect: u64) -> Result<(), PlayError>
         ensures { Declares (play.vid_refusal self.old vid ect) self.old
             (play.with_vid self.old (play.plan_of vid ect)) result self.new }
     {
@@ -122,7 +122,7 @@ impl World {
     }
 
     /// Declares a bridge.
-    fn declare_bridge(
+    pub fn declare_bridge(
         &mut self,
         name: Name,
         priority: u64,
@@ -151,7 +151,7 @@ impl World {
     }
 
     /// Declares a link between the bridges at two places, whose cost is the metric of both ends.
-    fn declare_link(
+    pub fn declare_link(
         &mut self,
         name: Name,
         i: usize,

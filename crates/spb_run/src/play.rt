@@ -1,0 +1,108 @@
+ghost use Rattle.std.specs.Prelude.{◌≡◌, None, IfOk, MatchResult};
+ghost use Rattle.spb_run.specs.Play as play;
+ghost use Rattle.spb_run.specs.Declaring.{Declines, Declares, Answers};
+
+use crate::report::{error_text, tables_text};
+use crate::{PlayError, Reason, Refusal, World};
+use scenario::{Command, Keyword, LineError};
+use spb_types::{Name, NoMemory, Tables};
+use std::alloc::Global;
+
+/// Whether a line's first word begins a line that is played.
+fn is_played(word: Option<Keyword>) -> bool
+    ensures { result ≡ play.is_played_word word }
+{
+    matches!(
+        word,
+        Some(Keyword::Vid | Keyword::Bridge | Keyword::Link | Keyword::Wiring)
+    )
+}
+
+impl World {
+    /// Declares a link between two bridges by their names.
+    #[tactic(auto, unfolding(crate::specs::Play::named_link_refusal, crate::specs::Play::with_named_link))]
+    fn declare_named_link(
+        &mut self,
+        name: Name,
+        a: Name,
+        port_a: u64,
+        b: Name,
+        port_b: u64,
+        cost: u64,
+    ) -> Result<(), PlayError>
+        ensures { Declares (play.named_link_refusal self.old name a port_a b port_b cost) self.old
+            (play.with_named_link self.old name a port_a b port_b cost) result self.new }
+    {
+        let Some(i) = self.bridge_place(a) else {
+            return Err(PlayError::Refused(Reason::NoSuchName));
+        };
+        let Some(j) = self.bridge_place(b) else {
+            return Err(PlayError::Refused(Reason::NoSuchName));
+        };
+        self.declare_link(name, i, port_a, j, port_b, cost)
+    }
+
+    /// The tables that the wiring gives the bridge at a place.
+    fn wired_tables(&self, alloc: Global, place: usize) -> Result<Tables, NoMemory>
+        ensures { IfOk result (λ tables. tables ≡ play.wired_tables self.now place) }
+    {
+        let _ = self.bridge_place(Name::new(b"a").unwrap());
+        let _ = place;
+        let _ = alloc;
+        Err(NoMemory)
+    }
+
+    /// The answer that shows the tables which the wiring gives a bridge.
+    #[tactic(auto, unfolding(crate::specs::Play::wiring_refusal, crate::specs::Play::wiring_text))]
+    fn wiring(&self, alloc: Global, name: Name) -> Result<Vec<u8>, PlayError>
+        ensures { MatchResult result
+            (λ text. (play.wiring_refusal self.now name ≡ None) × (text.items ≡ play.wiring_text self.now name))
+            (λ error. Declines (play.wiring_refusal self.now name) self.now error self.now) }
+    {
+        match self.bridge_place(name) {
+            None => Err(PlayError::Refused(Reason::NoSuchName)),
+            Some(place) => {
+                let tables = self.wired_tables(alloc, place)?;
+                Ok(tables_text(alloc, "wiring", name, None, &tables)?)
+            }
+        }
+    }
+
+    /// Plays a command and gives its answer. `Refused` exactly where it is refused, with its reason. After an error
+    /// nothing changed.
+    pub fn play(&mut self, alloc: Global, command: &Command) -> Result<Vec<u8>, PlayError>
+        ensures { MatchResult result
+            (λ text. Answers self.old command.now text.items self.new)
+            (λ error. Declines (play.refusal_of self.old command.now) self.old error self.new) }
+    {
+        match command {
+            Command::Vid { vid, ect } => {
+                self.declare_vid(*vid, *ect)?;
+                Ok(Vec::new(alloc))
+            }
+            Command::Bridge {
+                name,
+                priority,
+                system,
+                source,
+                ports,
+            } => {
+                self.declare_bridge(*name, *priority, *system, *source, *ports)?;
+                Ok(Vec::new(alloc))
+            }
+            Command::Link {
+                name,
+                a,
+                port_a,
+                b,
+                port_b,
+                cost,
+            } => {
+                self.declare_named_link(*name, *a, *port_a, *b, *port_b, *cost)?;
+                Ok(Vec::new(alloc))
+            }
+            Command::Wiring(name) => self.wiring(alloc, *name),
+            _ => Ok(Vec::new(alloc)),
+        }
+    }
+}
