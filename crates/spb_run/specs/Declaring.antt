@@ -4,7 +4,8 @@ use Rattle.spb_run.specs.declared.reason.PlayError.{PlayError}
 use Rattle.spb_run.specs.declared.reason.PlayError.TheVariants.{Refused, NoMemory}
 use Rattle.spb_run.specs.declared.reason.Reason.{Reason}
 use Rattle.spb_run.specs.World.{World}
-use Rattle.spb_run.specs.Play.{refusal_of, next_state, answer_of}
+use Rattle.spb_run.specs.declared.reply.Reply.{Reply}
+use Rattle.spb_run.specs.Play.{Judged, refusal_of, next_state, answer_of}
 
 -- nothing was played: it is refused just for its reason, and neither a refusal nor want of memory changes anything
 abbrev pub Declines : Option Reason → World → PlayError → World → Type 0
@@ -19,3 +20,9 @@ Declares refusal old next (Err error) new = Declines refusal old error new
 -- a command was played: it isn't refused, and it gives its answer and the next world
 abbrev pub Answers : World → Command → List ℕ → World → Type 0
 Answers old command text new = (refusal_of old command ≡ None) × (text ≡ answer_of old command) × (new ≡ next_state old command)
+
+-- a line was judged so
+pub record Replies (judgement : Judged) (reply : Reply) (new : World) : Type 0 where
+  pub text : reply.text.items ≡ judgement.text
+  pub refused : reply.refused ≡ judgement.refused
+  pub state : new ≡ judgement.state

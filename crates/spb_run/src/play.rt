@@ -1,10 +1,13 @@
-ghost use Rattle.std.specs.Prelude.{◌≡◌, None, IfOk, MatchResult};
+ghost use Rattle.std.specs.Prelude.{◌≡◌, Some, None, codes, IfOk, OnErr, MatchResult};
 ghost use Rattle.spb_run.specs.Play as play;
-ghost use Rattle.spb_run.specs.Declaring.{Declines, Declares, Answers};
+ghost use Rattle.scenario.specs.Grammar.{line_of};
+ghost use Rattle.spb_run.specs.Report as texts;
+ghost use Rattle.spb_run.specs.declared.reason.Refusal.TheVariants as refusal;
+ghost use Rattle.spb_run.specs.Declaring.{Declines, Declares, Answers, Replies};
 
 use crate::report::{error_text, tables_text};
-use crate::{PlayError, Reason, Refusal, World};
-use scenario::{Command, Keyword, LineError};
+use crate::{PlayError, Reason, Refusal, Reply, World};
+use scenario::{Command, Keyword, LineError, head, parse_line};
 use spb_types::{Name, NoMemory, Tables};
 use std::alloc::Global;
 
@@ -103,6 +106,87 @@ impl World {
             }
             Command::Wiring(name) => self.wiring(alloc, *name),
             _ => Ok(Vec::new(alloc)),
+        }
+    }
+}
+
+/// The reply to a line that is outside the grammar from a column on.
+fn misspelled(alloc: Global, number: u32, column: usize) -> Result<Reply, NoMemory>
+    ensures { IfOk result (λ reply. (reply.text.items ≡ texts.error_text number 1 (codes "Words") (Some column))
+        × (reply.refused ≡ Some (refusal.Words column))) }
+{
+    Ok(Reply {
+        text: error_text(alloc, number, 1, "Words", Some(column))?,
+        refused: Some(Refusal::Words(column)),
+    })
+}
+
+/// Plays a command that a line gave.
+fn play_command(
+    alloc: Global,
+    world: &mut World,
+    number: u32,
+    command: &Command,
+) -> Result<Reply, NoMemory>
+    ensures ok { IfOk result (λ reply. Replies
+        (play.judged_by world.old number command.now (play.refusal_of world.old command.now))
+        reply world.new) }
+    ensures err { OnErr result (world.new ≡ world.old) }
+{
+    match world.play(alloc, command) {
+        Ok(text) => Ok(Reply {
+            text,
+            refused: None,
+        }),
+        Err(PlayError::Refused(reason)) => Ok(Reply {
+            text: error_text(alloc, number, reason.number(), reason.name(), None)?,
+            refused: Some(Refusal::Command(reason)),
+        }),
+        Err(PlayError::NoMemory) => Err(NoMemory),
+    }
+}
+
+/// Plays a line by what it gives.
+fn play_parsed(
+    alloc: Global,
+    world: &mut World,
+    number: u32,
+    line: &[u8],
+) -> Result<Reply, NoMemory>
+    ensures ok { IfOk result (λ reply. Replies
+        (play.judged_as world.old number (line_of line.now)) reply world.new) }
+    ensures err { OnErr result (world.new ≡ world.old) }
+{
+    match parse_line(alloc, line) {
+        Ok(Some(command)) => play_command(alloc, world, number, &command),
+        Ok(None) => Ok(Reply {
+            text: Vec::new(alloc),
+            refused: None,
+        }),
+        Err(LineError::Words(column)) => misspelled(alloc, number, column),
+        Err(LineError::NoMemory) => Err(NoMemory),
+    }
+}
+
+/// Judges and plays the line of this number, counted from 1, given without its end. After NoMemory nothing changed.
+#[tactic(auto, unfolding(crate::specs::Play::judged))]
+pub fn play_line(
+    alloc: Global,
+    world: &mut World,
+    number: u32,
+    line: &[u8],
+) -> Result<Reply, NoMemory>
+    ensures ok { IfOk result (λ reply. Replies (play.judged world.old number line.now) reply world.new) }
+    ensures err { OnErr result (world.new ≡ world.old) }
+{
+    match head(line) {
+        None => play_parsed(alloc, world, number, line),
+        Some(first) => {
+            if is_played(first.keyword) {
+                play_parsed(alloc, world, number, line)
+            } else {
+                misspelled(alloc, number, first.column)
+            }
         }
     }
 }
