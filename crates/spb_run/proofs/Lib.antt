@@ -4,3 +4,4 @@ pub mod ListLemmas
 pub mod NameLemmas
 pub mod WorldLemmas
 pub mod RefusalLemmas
+pub mod ValidLemmas
