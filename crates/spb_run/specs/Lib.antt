@@ -3,3 +3,5 @@ pub mod World
 pub mod Tables
 pub mod Report
 pub mod Listing
+pub mod Play
+pub mod Declaring

@@ -1,4 +1,4 @@
-use Rattle.std.specs.Prelude.{◌≡◌, ◌↔◌, ℕ, List, [], ◌∷◌, Option, Some, ◌⊎◌, ⊤, if◌then◌else◌, slice_get, option_map, option_and_then}
+use Rattle.std.specs.Prelude.{◌≡◌, ◌≢◌, ◌↔◌, ℕ, ◌≤◌, List, [], ◌∷◌, Option, Some, ◌⊎◌, ⊤, if◌then◌else◌, slice_get, option_map, option_and_then}
 use Rattle.std.specs.List.{AllByRecursion, filter_map, flat_map}
 use Rattle.std.specs.declared.cmp.Ordering.{Ordering}
 use Rattle.std.specs.Ordering.{nat_cmp, ordering_then, is_gt}
@@ -56,7 +56,12 @@ IsPlanned p (q ∷ qs) = (p ≡ q) ⊎ IsPlanned p qs
 -- no VID stands twice in the list
 abbrev pub AreVidsApart : List VidPlan → Type 0
 AreVidsApart [] = ⊤
-AreVidsApart (p ∷ ps) = AllByRecursion (λ q. p.vid.value ≡ q.vid.value → ⊥) ps × AreVidsApart ps
+AreVidsApart (p ∷ ps) = AllByRecursion (λ q. p.vid.value ≢ q.vid.value) ps × AreVidsApart ps
+
+-- each plan has the number of an ECT algorithm, and no VID stands twice
+pub record ArePlans (vids : List VidPlan) : Type 0 where
+  pub ects : AllByRecursion (λ p. (1 ≤ p.ect) × (p.ect ≤ 16)) vids
+  pub apart : AreVidsApart vids
 
 -- the row is one of these
 abbrev pub IsRow : UnicastRow → List UnicastRow → Type 0

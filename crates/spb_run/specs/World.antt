@@ -10,6 +10,7 @@ use Rattle.spb_types.specs.declared.service.VidPlan.{VidPlan}
 use Rattle.spb_run.specs.declared.declaration.DeclaredBridge.{DeclaredBridge}
 use Rattle.spb_run.specs.declared.declaration.DeclaredLink.{DeclaredLink}
 use Rattle.spb_run.specs.declared.declaration.LinkEnd.{LinkEnd}
+use Rattle.spb_run.specs.Tables.{ArePlans}
 
 -- the declared bridges, each with its name, in order of declaration
 abbrev pub Bridges : Type 0
@@ -29,13 +30,17 @@ pub record World : Type 0 where
 abbrev pub names_of : {T : Type 0} → List (List ℕ × T) → List (List ℕ)
 names_of entries = map (λ e. e.0) entries
 
+-- what is declared, without the names
+abbrev pub things_of : {T : Type 0} → List (List ℕ × T) → List T
+things_of entries = map (λ e. e.1) entries
+
 -- the place of the thing of this name in order of declaration, counted from 0
 abbrev pub place_of : {T : Type 0} → List ℕ → List (List ℕ × T) → Option ℕ
 place_of name entries = position (bytes_eq name) (names_of entries)
 
 -- the bridges of a graph, in order of declaration
 abbrev pub graph_bridges : Bridges → List GraphBridge
-graph_bridges bridges = map (λ b. b.1.bridge) bridges
+graph_bridges bridges = map (λ b. b.bridge) (things_of bridges)
 
 -- the system id of the bridge at a place
 abbrev pub system_at : Bridges → ℕ → SystemId
@@ -59,7 +64,7 @@ live_edge bridges l = if l.live then Some (edge_of bridges l) else None
 
 -- the actual wiring: all bridges, and an edge for each link that is up
 abbrev pub world_graph : World → Graph
-world_graph w = record { bridges = graph_bridges w.bridges; edges = filter_map (λ l. live_edge w.bridges l.1) w.links; members = [] }
+world_graph w = record { bridges = graph_bridges w.bridges; edges = filter_map (live_edge w.bridges) (things_of w.links); members = [] }
 
 -- whether the link joins the bridges at two places, whichever of its ends is which
 abbrev pub is_between : DeclaredLink → ℕ → ℕ → Bool
@@ -90,15 +95,16 @@ pub record AreApart (l m : DeclaredLink) : Type 0 where
   pub port_b : is_at_port l m.b.bridge m.b.port ≡ false
 
 -- each two of the links are apart
-abbrev pub AllApart : Links → Type 0
+abbrev pub AllApart : List DeclaredLink → Type 0
 AllApart [] = ⊤
-AllApart (l ∷ ls) = AllByRecursion (λ m. AreApart l.1 m.1) ls × AllApart ls
+AllApart (l ∷ ls) = AllByRecursion (AreApart l) ls × AllApart ls
 
 -- what every world keeps that declarations made: the system ids differ, each link has two ends at ports of different
--- bridges, no port has two links, and no two bridges are linked twice
+-- bridges, no port has two links, no two bridges are linked twice, and the VIDs differ
 pub record Sound (w : World) : Type 0 where
   pub few : length w.bridges ≤ 96
-  pub ports : AllByRecursion (λ b. b.1.ports ≤ 32) w.bridges
+  pub ports : AllByRecursion (λ b. b.ports ≤ 32) (things_of w.bridges)
   pub systems : IsDistinct (systems_of (graph_bridges w.bridges))
-  pub links : AllByRecursion (λ l. IsLink w.bridges l.1) w.links
-  pub links_apart : AllApart w.links
+  pub links : AllByRecursion (IsLink w.bridges) (things_of w.links)
+  pub links_apart : AllApart (things_of w.links)
+  pub plans : ArePlans w.vids

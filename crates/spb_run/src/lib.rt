@@ -2,10 +2,16 @@
 #![tactic(auto)]
 
 pub use declaration::{DeclaredBridge, DeclaredLink, LinkEnd};
-pub use reason::{Reason, Refusal};
+pub use reason::{PlayError, Reason, Refusal};
+pub use play::play_line;
+pub use reply::Reply;
+pub use report::{error_text, tables_text};
 pub use world::World;
 
+mod check;
 mod declaration;
+mod play;
 mod reason;
+mod reply;
 mod report;
 mod world;

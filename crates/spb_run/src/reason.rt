@@ -1,5 +1,9 @@
 ghost use Rattle.std.specs.Prelude.{◌≡◌};
-ghost use Rattle.spb_run.specs.Reason.{number_of, name_of};
+ghost use Rattle.spb_run.specs.Reason.{number_of, name_of, reason_unless as spec_reason_unless};
+ghost use Rattle.spb_run.specs.declared.reason.PlayError.TheVariants.{NoMemory as no_memory};
+
+use spb_types::NoMemory;
+use std::alloc::AllocFailed;
 
 /// Why a command is refused. Of several reasons that hold, the one of least number is given.
 #[derive(Clone, Copy, Debug, PartialEq, Eq, Hash)]
@@ -39,4 +43,36 @@ pub enum Refusal {
     Words(usize),
     /// The line is a command that is refused.
     Command(Reason),
+}
+
+/// The reason, where the test fails.
+pub fn reason_unless(test: bool, reason: Reason) -> Option<Reason>
+    ensures { result ≡ spec_reason_unless test reason }
+{
+    if test { None } else { Some(reason) }
+}
+
+/// Why a command wasn't played.
+#[derive(Clone, Copy, Debug, PartialEq, Eq)]
+pub enum PlayError {
+    /// It is refused, and changed nothing.
+    Refused(Reason),
+    /// No memory was found, and nothing changed.
+    NoMemory,
+}
+
+impl From<NoMemory> for PlayError {
+    ghost from_gives = { λ _ e. e ≡ no_memory };
+
+    fn from(_refused: NoMemory) -> Self {
+        PlayError::NoMemory
+    }
+}
+
+impl<T: Drop> From<AllocFailed<T>> for PlayError {
+    ghost from_gives = { λ _ e. e ≡ no_memory };
+
+    fn from(_refused: AllocFailed<T>) -> Self {
+        PlayError::NoMemory
+    }
 }
