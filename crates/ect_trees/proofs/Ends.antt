@@ -91,6 +91,7 @@ paths_are_best s ls to ready best = by (path_in (paths_in ls) to) refl (best_of_
   where
     g : Graph
     g = s.graph.now
+
     -- a path that is found leads to its end
     leads : (p : Path) → path_in (paths_in ls) to ≡ Some p → (f : Found ls to p) × IsAt s.graph.now f.place to × IsLabel s to f.label
     leads p h =
@@ -99,6 +100,7 @@ paths_are_best s ls to ready best = by (path_in (paths_in ls) to) refl (best_of_
         let label = best.labels.each f.place x.0 f.label x.1 f.here in
         let same : x.0 ≡ to = path_once s.graph.now s.source x.0 to f.label.bridges.items label.path f.ends in
         (f, subst (IsAt s.graph.now f.place) same x.1, subst (λ t. IsLabel s t f.label) same label)
+
     by : (o : Option Path) → path_in (paths_in ls) to ≡ o → (((p : List SystemId) → IsPath s.graph.now s.source to p → ⊥) × (best_of s.graph.now s.mask s.source to ≡ None)) ⊎ ((p : List SystemId) × (best_of s.graph.now s.mask s.source to ≡ Some p) × IsBest s.graph.now s.mask s.source to p) → path_in (paths_in ls) to ≡ best_path s.graph.now s.mask s.source to
     by None h (inl n) = h ∙ sym (ap (option_map (λ p. record { cost = cost_of s.graph.now p; bridges = p })) n.1)
     by (Some p) h (inl n) = let l = leads p h in absurd (n.0 l.0.label.bridges.items l.2.path)

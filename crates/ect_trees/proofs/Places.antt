@@ -45,9 +45,9 @@ place_at (b ∷ bs) x h = found (same_system b.id.system x) refl (place_at bs x)
     found : (t : Bool) → same_system b.id.system x ≡ t → (IsAmong x (systems_of bs) → slice_get (systems_of bs) (place_in bs x) ≡ Some x) → slice_get (systems_of (b ∷ bs)) (cond (not t) (1 + place_in bs x) 0) ≡ Some x
     found true e ih = ap Some (same_is b.id.system x e)
     found false e ih = elim h [
-        | inl i ↦ absurd (true≢false (sym (same_self x) ∙ (ap (λ t. same_system t x) i ∙ e)))
-        | inr i ↦ let one : 1 + place_in bs x ≡ suc (place_in bs x) = omega arith in subst (λ n. slice_get (systems_of (b ∷ bs)) n ≡ Some x) (sym one) (ih i)
-      ]
+      | inl i ↦ absurd (true≢false (sym (same_self x) ∙ (ap (λ t. same_system t x) i ∙ e)))
+      | inr i ↦ let one : 1 + place_in bs x ≡ suc (place_in bs x) = omega arith in subst (λ n. slice_get (systems_of (b ∷ bs)) n ≡ Some x) (sym one) (ih i)
+    ]
 
 -- at a place the bridge of that system id is found
 found_at : (bs : List GraphBridge) (i : ℕ) (b : GraphBridge) → IsDistinct (systems_of bs) → slice_get bs i ≡ Some b → bridge_id_among bs b.id.system ≡ b.id
@@ -75,10 +75,11 @@ joins_own e = ap (λ t. (t && same_system e.b e.b) || (same_system e.a e.b && sa
 -- the cost between the ends of each edge is its own
 costs_own : (es : List Edge) → OneEdge es → AllByRecursion (λ e. cost_among es e.a e.b ≡ Some e.cost) es
 costs_own [] o = tt
-costs_own (e ∷ es) o =
-    (ap (λ t. if t then Some e.cost else cost_among es e.a e.b) (joins_own e),
-    all_with (λ f. joins e f.a f.b ≡ false) (λ f. cost_among es f.a f.b ≡ Some f.cost) (λ f. cost_among (e ∷ es) f.a f.b ≡ Some f.cost) es
-      (λ f apart own. ap (λ t. if t then Some e.cost else cost_among es f.a f.b) apart ∙ own) o.0 (costs_own es o.1))
+costs_own (e ∷ es) o = (
+  ap (λ t. if t then Some e.cost else cost_among es e.a e.b) (joins_own e),
+  all_with (λ f. joins e f.a f.b ≡ false) (λ f. cost_among es f.a f.b ≡ Some f.cost) (λ f. cost_among (e ∷ es) f.a f.b ≡ Some f.cost) es
+      (λ f apart own. ap (λ t. if t then Some e.cost else cost_among es f.a f.b) apart ∙ own) o.0 (costs_own es o.1),
+)
 
 -- the hop leads from a bridge to a bridge
 abbrev pub CanGo : Graph → Hop → Type 0
@@ -88,10 +89,13 @@ hops_go : (g : Graph) (es : List Edge) → AllByRecursion (λ e. IsEdgeOf g e) e
 hops_go g [] v o = tt
 hops_go g (e ∷ es) v o =
     let from = place_at g.bridges e.a v.0.from in
-    let to = place_at g.bridges e.b v.0.to in
-    ((e.a, e.b, record { from = from; to = to; cost = o.0 }),
-    ((e.b, e.a, record { from = to; to = from; cost = cost_comm g e.b e.a ∙ o.0 }),
-    hops_go g es v.1 o.1))
+    let to = place_at g.bridges e.b v.0.to in (
+      (e.a, e.b, record { from = from; to = to; cost = o.0 }),
+      (
+        (e.b, e.a, record { from = to; to = from; cost = cost_comm g e.b e.a ∙ o.0 }),
+        hops_go g es v.1 o.1,
+      ),
+    )
 
 -- each hop leads along an edge
 pub hops_lead : (g : Graph) → IsValid g → AllByRecursion (CanGo g) (hops_of g.bridges g.edges)
@@ -123,8 +127,10 @@ goes_among g (e ∷ es) x y c v h = by (joins e x y) refl h (goes_among g es x y
   where
     from : IsAt g (place_in g.bridges e.a) e.a
     from = place_at g.bridges e.a v.0.from
+
     to : IsAt g (place_in g.bridges e.b) e.b
     to = place_at g.bridges e.b v.0.to
+
     joined : e.cost ≡ c → (same_system e.a x && same_system e.b y) ≡ true ⊎ (same_system e.a y && same_system e.b x) ≡ true → GoesAt g (hops_of g.bridges (e ∷ es)) x y c
     joined k (inl t) =
         let p = and_parts (same_system e.a x) (same_system e.b y) t in
@@ -132,6 +138,7 @@ goes_among g (e ∷ es) x y c v h = by (joins e x y) refl h (goes_among g es x y
     joined k (inr t) =
         let p = and_parts (same_system e.a y) (same_system e.b x) t in
         record { at = 1; hop = record { from = place_in g.bridges e.b; to = place_in g.bridges e.a; cost = e.cost }; here = refl; from = subst (IsAt g (place_in g.bridges e.b)) (same_is e.b x p.1) to; to = subst (IsAt g (place_in g.bridges e.a)) (same_is e.a y p.0) from; cost_is = k }
+
     by : (t : Bool) → joins e x y ≡ t → (if t then Some e.cost else cost_among es x y) ≡ Some c → (cost_among es x y ≡ Some c → GoesAt g (hops_of g.bridges es) x y c) → GoesAt g (hops_of g.bridges (e ∷ es)) x y c
     by true j k ih = joined (same_Some e.cost c k) (or_parts (same_system e.a x && same_system e.b y) (same_system e.a y && same_system e.b x) j)
     by false j k ih = later g _ _ (hops_of g.bridges es) x y c (ih k)
@@ -155,7 +162,7 @@ read_bridge g bs i y v e h =
     let read : Some (get_or g.bridges i no_bridge).id.system ≡ Some y = sym (slice_get-map (λ (t : GraphBridge). t.id.system) g.bridges i ∙ ap (option_map (λ (t : GraphBridge). t.id.system)) here) ∙ h in
     let same : (get_or g.bridges i no_bridge).id.system ≡ y = same_Some (get_or g.bridges i no_bridge).id.system y read in
     subst (λ t. ((get_or t i no_bridge).id.system ≡ y) × (bridge_id_among g.bridges y ≡ (get_or t i no_bridge).id)) (sym e)
-      (same, subst (λ t. bridge_id_among g.bridges t ≡ (get_or g.bridges i no_bridge).id) same (found_at g.bridges i (get_or g.bridges i no_bridge) v.apart here))
+    (same, subst (λ t. bridge_id_among g.bridges t ≡ (get_or g.bridges i no_bridge).id) same (found_at g.bridges i (get_or g.bridges i no_bridge) v.apart here))
 
 -- an edge that is read from the graph's list is one of the graph
 pub read_edge : (g : Graph) (es : List Edge) (i : ℕ) → IsValid g → es ≡ g.edges → i < length es → IsEdgeOf g (get_or es i no_edge)

@@ -39,8 +39,8 @@ relaxed_same s hop l ls labels from worse = record {
   labels = labels;
   keeps = λ place x p here best has. has;
   step = λ x y p go best has longer.
-    let e : l.bridges.items ≡ p = path_is ls hop.from l p from has in
-    subst (λ t. HasPath ls hop.to (t ++ y ∷ [])) e (worse y go.to (subst (λ t. IsBest s.graph.now s.mask s.source y (t ++ y ∷ [])) (sym e) longer));
+      let e : l.bridges.items ≡ p = path_is ls hop.from l p from has in
+      subst (λ t. HasPath ls hop.to (t ++ y ∷ [])) e (worse y go.to (subst (λ t. IsBest s.graph.now s.mask s.source y (t ++ y ∷ [])) (sym e) longer));
   still = λ e. refl;
 }
 
@@ -57,22 +57,25 @@ relaxed_set s hop l new ls labels within from better = record {
   labels = record { places = length-set ls hop.to (Some new) ∙ labels.places; each = each };
   keeps = keeps;
   step = λ x y p go best has longer.
-    let e : l.bridges.items ≡ p = path_is ls hop.from l p from has in
-    ap (option_map (λ (t : Label). t.bridges.items)) here ∙ ap Some ((better.0 y go.to).1 ∙ ap (λ t. t ++ y ∷ []) e);
+      let e : l.bridges.items ≡ p = path_is ls hop.from l p from has in
+      ap (option_map (λ (t : Label). t.bridges.items)) here ∙ ap Some ((better.0 y go.to).1 ∙ ap (λ t. t ++ y ∷ []) e);
   still = λ e. absurd (true≢false e);
 }
   where
     here : label_at (set ls hop.to (Some new)) hop.to ≡ Some new
     here = get_or-set_same ls hop.to (Some new) None within
+
     there : (place : ℕ) → place ≢ hop.to → label_at (set ls hop.to (Some new)) place ≡ label_at ls place
     there place n = get_or-set_other ls hop.to place (Some new) None n
+
     each : (place : ℕ) (x : SystemId) (k : Label) → IsAt s.graph.now place x → label_at (set ls hop.to (Some new)) place ≡ Some k → IsLabel s x k
     each place x k at e = elim (same_or_not place hop.to) [
-        | inl same ↦
-            let own : new ≡ k = same_Some new k (sym here ∙ subst (λ t. label_at (set ls hop.to (Some new)) t ≡ Some k) same e) in
-            subst (IsLabel s x) own (better.0 x (subst (λ t. IsAt s.graph.now t x) same at)).0
-        | inr other ↦ labels.each place x k at (sym (there place other) ∙ e)
-      ]
+      | inl same ↦
+          let own : new ≡ k = same_Some new k (sym here ∙ subst (λ t. label_at (set ls hop.to (Some new)) t ≡ Some k) same e) in
+          subst (IsLabel s x) own (better.0 x (subst (λ t. IsAt s.graph.now t x) same at)).0
+      | inr other ↦ labels.each place x k at (sym (there place other) ∙ e)
+    ]
+
     beats : (o : Option Label) (x : SystemId) (p : List SystemId) → label_at ls hop.to ≡ o → IsAt s.graph.now hop.to x → IsBest s.graph.now s.mask s.source x p → option_map (λ (t : Label). t.bridges.items) o ≡ Some p → ⊥
     beats None x p e at best h = none-some p h
     beats (Some o) x p e at best h =
@@ -84,11 +87,12 @@ relaxed_set s hop l new ls labels within from better = record {
         let left : IsBelow (key_of g s.mask new.bridges.items) o.key = subst (λ k. IsBelow k o.key) fresh.keyed below in
         let right : IsBelow (key_of g s.mask new.bridges.items) (key_of g s.mask p) = subst (IsBelow (key_of g s.mask new.bridges.items)) (kept.keyed ∙ ap (key_of g s.mask) same) left in
         (best_is_least g s.mask s.source x p best).least new.bridges.items fresh.path right
+
     keeps : KeepsBest s ls (set ls hop.to (Some new))
     keeps place x p at best has = elim (same_or_not place hop.to) [
-        | inl same ↦ absurd (beats (label_at ls hop.to) x p refl (subst (λ t. IsAt s.graph.now t x) same at) best (subst (λ t. HasPath ls t p) same has))
-        | inr other ↦ ap (option_map (λ (t : Label). t.bridges.items)) (there place other) ∙ has
-      ]
+      | inl same ↦ absurd (beats (label_at ls hop.to) x p refl (subst (λ t. IsAt s.graph.now t x) same at) best (subst (λ t. HasPath ls t p) same has))
+      | inr other ↦ ap (option_map (λ (t : Label). t.bridges.items)) (there place other) ∙ has
+    ]
 
 -- what the first k hops of a round did
 pub record SoFar (s : Search) (k : ℕ) (old now : List (Option Label)) (changed : Bool) : Type 0 where
@@ -116,12 +120,12 @@ so_far_more s k hop old now new changed more both sofar here relaxed parts = rec
   where
     steps : (j : ℕ) (h : Hop) → j < k + 1 → slice_get s.hops.items j ≡ Some h → TakesStep s h old new
     steps j h below at = elim (same_or_not j k) [
-        | inl same ↦
-            let own : hop ≡ h = same_Some hop h (sym here ∙ subst (λ t. slice_get s.hops.items t ≡ Some h) same at) in
-            subst (λ t. TakesStep s t old new) own (λ x y p go best has longer. relaxed.step x y p go best (sofar.keeps hop.from x p go.from best has) longer)
-        | inr other ↦ λ x y p go best has longer.
-            relaxed.keeps h.to y (p ++ y ∷ []) go.to longer (sofar.steps j h (omega (arith, below, other)) at x y p go best has longer)
-      ]
+      | inl same ↦
+          let own : hop ≡ h = same_Some hop h (sym here ∙ subst (λ t. slice_get s.hops.items t ≡ Some h) same at) in
+          subst (λ t. TakesStep s t old new) own (λ x y p go best has longer. relaxed.step x y p go best (sofar.keeps hop.from x p go.from best has) longer)
+      | inr other ↦ λ x y p go best has longer.
+          relaxed.keeps h.to y (p ++ y ∷ []) go.to longer (sofar.steps j h (omega (arith, below, other)) at x y p go best has longer)
+    ]
 
 -- a path has one bridge, or one more than a path to a bridge from which an edge leads to its end
 pub record Longer (g : Graph) (b : SystemId) (p : List SystemId) : Type 0 where
@@ -153,25 +157,25 @@ round_done s old now changed ready sofar = record { labels = sofar.labels; furth
   where
     further : (n : ℕ) → IsSettled s n old → IsSettled s (n + 1) now
     further n settled place y p here long best = elim (path_parts s.graph.now s.source y p best.path) [
-        | inl e ↦
-            let short : length p ≡ 1 = ap length e in
-            sofar.keeps place y p here best (settled place y p here (omega (arith, short)) best)
-        | inr w ↦
-            let g = s.graph.now in
-            let q = w.front ++ w.last ∷ [] in
-            let whole : p ≡ w.front ++ w.last ∷ y ∷ [] = w.parts ∙ append_assoc w.front (w.last ∷ []) (y ∷ []) in
-            let best' : IsBest g s.mask s.source w.last q = best_front g s.mask s.source y w.last w.front (y ∷ []) ready.valid (subst (IsBest g s.mask s.source y) whole best) in
-            let counted : length p ≡ length (q ++ y ∷ []) = ap length w.parts in
-            let shorter : length q ≤ n + 1 = omega (arith, counted, long, length-append q (y ∷ [])) in
-            let cost = some_is (cost_between g w.last y) w.joined in
-            let go = goes g w.last y cost.0 ready.valid cost.1 in
-            let listed : slice_get s.hops.items go.at ≡ Some go.hop = subst (λ t. slice_get t go.at ≡ Some go.hop) (sym ready.hops) go.here in
-            let lead : Leads g go.hop w.last y = record { from = go.from; to = go.to; cost = cost.1 ∙ ap Some (sym go.cost_is) } in
-            let has : HasPath old go.hop.from q = settled go.hop.from w.last q go.from shorter best' in
-            let stepped : HasPath now go.hop.to (q ++ y ∷ []) = sofar.steps go.at go.hop (within (s.hops.items) go.at go.hop listed) listed w.last y q lead best' has (subst (IsBest g s.mask s.source y) w.parts best) in
-            let same : go.hop.to ≡ place = at_once (systems_of g.bridges) go.hop.to place y ready.valid.apart go.to here in
-            subst (λ t. HasPath now place t) (sym w.parts) (subst (λ t. HasPath now t (q ++ y ∷ [])) same stepped)
-      ]
+      | inl e ↦
+          let short : length p ≡ 1 = ap length e in
+          sofar.keeps place y p here best (settled place y p here (omega (arith, short)) best)
+      | inr w ↦
+          let g = s.graph.now in
+          let q = w.front ++ w.last ∷ [] in
+          let whole : p ≡ w.front ++ w.last ∷ y ∷ [] = w.parts ∙ append_assoc w.front (w.last ∷ []) (y ∷ []) in
+          let best' : IsBest g s.mask s.source w.last q = best_front g s.mask s.source y w.last w.front (y ∷ []) ready.valid (subst (IsBest g s.mask s.source y) whole best) in
+          let counted : length p ≡ length (q ++ y ∷ []) = ap length w.parts in
+          let shorter : length q ≤ n + 1 = omega (arith, counted, long, length-append q (y ∷ [])) in
+          let cost = some_is (cost_between g w.last y) w.joined in
+          let go = goes g w.last y cost.0 ready.valid cost.1 in
+          let listed : slice_get s.hops.items go.at ≡ Some go.hop = subst (λ t. slice_get t go.at ≡ Some go.hop) (sym ready.hops) go.here in
+          let lead : Leads g go.hop w.last y = record { from = go.from; to = go.to; cost = cost.1 ∙ ap Some (sym go.cost_is) } in
+          let has : HasPath old go.hop.from q = settled go.hop.from w.last q go.from shorter best' in
+          let stepped : HasPath now go.hop.to (q ++ y ∷ []) = sofar.steps go.at go.hop (within (s.hops.items) go.at go.hop listed) listed w.last y q lead best' has (subst (IsBest g s.mask s.source y) w.parts best) in
+          let same : go.hop.to ≡ place = at_once (systems_of g.bridges) go.hop.to place y ready.valid.apart go.to here in
+          subst (λ t. HasPath now place t) (sym w.parts) (subst (λ t. HasPath now t (q ++ y ∷ [])) same stepped)
+    ]
       where
         within : (hs : List Hop) (i : ℕ) (h : Hop) → slice_get hs i ≡ Some h → i < length hs
         within = Rattle.std.proofs.lemmas.Option.slice_get_within
@@ -182,8 +186,10 @@ settled_still s old now n round settled = record { labels = round.labels; settle
   where
     more : (m : ℕ) → IsSettled s m now → IsSettled s (m + 1) now
     more m h = round.further m (subst (IsSettled s m) (round.still refl) h)
+
     zero_first : IsSettled s 0 now
     zero_first place x p here short best = subst (λ t. HasPath t place p) (sym (round.still refl)) (settled place x p here (omega (arith, short)) best)
+
     all : (m : ℕ) → IsSettled s m now
     all zero = zero_first
     all (suc m) = λ place x p here long best. more m (all m) place x p here (omega (arith, long)) best

@@ -69,6 +69,7 @@ started_labels s ls n e st = record { places = st.long ∙ e; each = each }
     is_label : (x : SystemId) (o : Option Label) (l : Label) → o ≡ Some l → IsStart s x o → IsLabel s x l
     is_label x None l h k = absurd (none-some l h)
     is_label x (Some m) l h k = subst (IsLabel s x) (same_Some m l h) k.0
+
     each : (place : ℕ) (x : SystemId) (l : Label) → IsAt s.graph.now place x → label_at ls place ≡ Some l → IsLabel s x l
     each place x l here h = is_label x (label_at ls place) l h (st.each place x (omega (arith, at_within s.graph.now place x here, e)) here)
 

@@ -28,8 +28,8 @@ place_in bridges x = position_or_len (λ b. same_system b.id.system x) bridges
 abbrev pub hops_of : List GraphBridge → List Edge → List Hop
 hops_of bridges [] = []
 hops_of bridges (e ∷ es) = record { from = place_in bridges e.a; to = place_in bridges e.b; cost = e.cost }
-  ∷ record { from = place_in bridges e.b; to = place_in bridges e.a; cost = e.cost }
-  ∷ hops_of bridges es
+    ∷ record { from = place_in bridges e.b; to = place_in bridges e.a; cost = e.cost }
+    ∷ hops_of bridges es
 
 -- the hop leads along an edge of the graph from x to y
 pub record Leads (g : Graph) (hop : Hop) (x y : SystemId) : Type 0 where

@@ -7,7 +7,6 @@ pub use tree::{Tree, tree_from};
 mod key;
 pub mod laws;
 mod search;
-mod tree;
-
 #[cfg(test)]
 mod tests;
+mod tree;

@@ -57,8 +57,16 @@ fn hops_of(alloc: Global, graph: &Graph) -> Result<Vec<Hop>, NoMemory>
         let a = place_of(graph, edge.a).unwrap();
         let b = place_of(graph, edge.b).unwrap();
         let cost = edge.cost;
-        hops.push(Hop { from: a, to: b, cost })?;
-        hops.push(Hop { from: b, to: a, cost })?;
+        hops.push(Hop {
+            from: a,
+            to: b,
+            cost,
+        })?;
+        hops.push(Hop {
+            from: b,
+            to: a,
+            cost,
+        })?;
     }
     Ok(hops)
 }

@@ -2,9 +2,7 @@ ghost use Rattle.std.specs.Prelude.{IfOk};
 ghost use Rattle.spb_types.specs.Graph.{IsValid};
 
 use super::*;
-use spb_types::{
-    BridgeId, Edge, Graph, GraphBridge, Mac, NoMemory, Path, Seq, SourceId, SystemId,
-};
+use spb_types::{BridgeId, Edge, Graph, GraphBridge, Mac, NoMemory, Path, Seq, SourceId, SystemId};
 use std::alloc::Global;
 use std::cmp::Ordering;
 use std::process::Abort;
@@ -50,7 +48,12 @@ fn square(alloc: Global) -> Result<Graph, NoMemory>
     ensures { IfOk result IsValid }
 {
     let bridges = vec![in alloc; bridge!(1), bridge!(2), bridge!(3), bridge!(4)]?;
-    let edges = vec![in alloc; edge!(1, 2, 10), edge!(2, 4, 10), edge!(1, 3, 10), edge!(3, 4, 10)]?;
+    let edges = vec![in alloc;
+        edge!(1, 2, 10),
+        edge!(2, 4, 10),
+        edge!(1, 3, 10),
+        edge!(3, 4, 10),
+    ]?;
     Ok(Graph {
         bridges: Seq::from_vec(bridges),
         edges: Seq::from_vec(edges),
@@ -63,10 +66,19 @@ fn detour(alloc: Global) -> Result<Graph, NoMemory>
     ensures { IfOk result IsValid }
 {
     let bridges = vec![in alloc;
-        bridge!(4), bridge!(7), bridge!(1), bridge!(9), bridge!(3), bridge!(2)
+        bridge!(4),
+        bridge!(7),
+        bridge!(1),
+        bridge!(9),
+        bridge!(3),
+        bridge!(2),
     ]?;
     let edges = vec![in alloc;
-        edge!(1, 2, 10), edge!(3, 2, 10), edge!(3, 4, 10), edge!(9, 1, 10), edge!(9, 4, 20)
+        edge!(1, 2, 10),
+        edge!(3, 2, 10),
+        edge!(3, 4, 10),
+        edge!(9, 1, 10),
+        edge!(9, 4, 20),
     ]?;
     Ok(Graph {
         bridges: Seq::from_vec(bridges),

@@ -34,12 +34,7 @@ fn ends_at(path: &Path, to: SystemId) -> bool
 }
 
 /// The tree of the best paths from `source` under `mask` (IEEE 802.1aq, 28.5 to 28.8).
-pub fn tree_from(
-    alloc: Global,
-    graph: &Graph,
-    source: SystemId,
-    mask: u8,
-) -> Result<Tree, NoMemory>
+pub fn tree_from(alloc: Global, graph: &Graph, source: SystemId, mask: u8) -> Result<Tree, NoMemory>
     requires { IsValid graph.now }
     ensures { IfOk result (tree.GivesBest graph.now mask source) }
 {

@@ -9,7 +9,7 @@ returns c =
     record {
       from = refl;
       best = λ to.
-        ap (λ t. path_in t to) c.in_ok-paths_of.ensures
-        ∙ (paths_are_best c.in_ok-search.search c.settle.new.labels.items to seeks.ready c.in_ok-settle.ensures
-        ∙ (λ i. best_path (seeks.graph_is i) (seeks.mask_is i) (seeks.source_is i) to));
+          ap (λ t. path_in t to) c.in_ok-paths_of.ensures
+          ∙ (paths_are_best c.in_ok-search.search c.settle.new.labels.items to seeks.ready c.in_ok-settle.ensures
+          ∙ (λ i. best_path (seeks.graph_is i) (seeks.mask_is i) (seeks.source_is i) to));
     }

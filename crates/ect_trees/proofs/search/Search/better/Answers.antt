@@ -53,11 +53,11 @@ returns-then-is_better c =
     let z : SystemId = (get_or c.as_slice.result.now c.args.hop.to no_bridge).id.system in
     let missed : list_any (λ t. same_system t z) l.bridges.items ≡ false = ap (list_any (λ t. same_system t z)) (sym c.deref.ensures.value) ∙ (sym c.contains.ensures.value ∙ c.if-contains.false) in
     let free = λ (y : SystemId) (here : IsAt s.graph.now c.args.hop.to y) (on : IsAmong y l.bridges.items).
-      not_on_path z l.bridges.items missed (subst (λ t. IsAmong t l.bridges.items) (sym (read_bridge s.graph.now c.as_slice.result.now c.args.hop.to y c.requires.ready.valid c.as_slice.ensures here).0) on) in
+    not_on_path z l.bridges.items missed (subst (λ t. IsAmong t l.bridges.items) (sym (read_bridge s.graph.now c.as_slice.result.now c.args.hop.to y c.requires.ready.valid c.as_slice.ensures here).0) on) in
     is_improved s c.args.hop l c.in_ok-longer.longer c.args.old.now
-      (λ y here. extended_label s c.args.hop y l c.in_ok-longer.longer c.requires.hop here (free y here) c.in_ok-longer.ensures)
-      c.in_ok-longer.ensures
-      (λ o e. MatchOption-at_some ⊤ (λ t. IsBelow c.in_ok-longer.longer.key t.key) o e (c.is_better.ensures.0 c.if-is_better.true))
+    (λ y here. extended_label s c.args.hop y l c.in_ok-longer.longer c.requires.hop here (free y here) c.in_ok-longer.ensures)
+    c.in_ok-longer.ensures
+    (λ o e. MatchOption-at_some ⊤ (λ t. IsBelow c.in_ok-longer.longer.key t.key) o e (c.is_better.ensures.0 c.if-is_better.true))
 
 pub returns-else-is_better : goal.returns-else-is_better
 returns-else-is_better c =
@@ -66,8 +66,8 @@ returns-else-is_better c =
     let z : SystemId = (get_or c.as_slice.result.now c.args.hop.to no_bridge).id.system in
     let missed : list_any (λ t. same_system t z) l.bridges.items ≡ false = ap (list_any (λ t. same_system t z)) (sym c.deref.ensures.value) ∙ (sym c.contains.ensures.value ∙ c.if-contains.false) in
     let free = λ (y : SystemId) (here : IsAt s.graph.now c.args.hop.to y) (on : IsAmong y l.bridges.items).
-      not_on_path z l.bridges.items missed (subst (λ t. IsAmong t l.bridges.items) (sym (read_bridge s.graph.now c.as_slice.result.now c.args.hop.to y c.requires.ready.valid c.as_slice.ensures here).0) on) in
+    not_on_path z l.bridges.items missed (subst (λ t. IsAmong t l.bridges.items) (sym (read_bridge s.graph.now c.as_slice.result.now c.args.hop.to y c.requires.ready.valid c.as_slice.ensures here).0) on) in
     none_better s c.args.hop l c.in_ok-longer.longer c.args.old.now c.requires.old
-      (λ y here. extended_label s c.args.hop y l c.in_ok-longer.longer c.requires.hop here (free y here) c.in_ok-longer.ensures)
-      c.in_ok-longer.ensures
-      (λ m. true≢false (sym (c.is_better.ensures.1 m) ∙ c.if-is_better.false))
+    (λ y here. extended_label s c.args.hop y l c.in_ok-longer.longer c.requires.hop here (free y here) c.in_ok-longer.ensures)
+    c.in_ok-longer.ensures
+    (λ m. true≢false (sym (c.is_better.ensures.1 m) ∙ c.if-is_better.false))

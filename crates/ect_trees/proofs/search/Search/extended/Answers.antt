@@ -20,8 +20,8 @@ returns c =
     let bridge = λ (y : SystemId) (here : IsAt s.graph.now c.args.hop.to y). read_bridge s.graph.now c.as_slice.result.now c.args.hop.to y c.requires.ready.valid c.as_slice.ensures here in
     record {
       keyed = λ y here.
-        let ids : c.in_ok-with_id.field-0 ≡ placed (masked_id s.graph.now s.mask y) l.key.ids = c.in_ok-with_id.ensures ∙ ap (λ t. placed t l.key.ids) (c.masked_id.ensures ∙ sym (ap (masked s.mask) (bridge y here).1)) in
-        λ i. record { cost = l.key.cost + c.from.ensures i; hops = l.key.hops + 1; ids = ids i };
+          let ids : c.in_ok-with_id.field-0 ≡ placed (masked_id s.graph.now s.mask y) l.key.ids = c.in_ok-with_id.ensures ∙ ap (λ t. placed t l.key.ids) (c.masked_id.ensures ∙ sym (ap (masked s.mask) (bridge y here).1)) in
+          λ i. record { cost = l.key.cost + c.from.ensures i; hops = l.key.hops + 1; ids = ids i };
       longer = λ y here.
-        c.in_ok-push.ensures.items ∙ (ap (λ t. t ++ (get_or c.as_slice.result.now c.args.hop.to no_bridge).id.system ∷ []) (c.in_ok-bridges.ensures.items ∙ c.as_slice-2.ensures.value) ∙ ap (λ t. l.bridges.items ++ t ∷ []) (bridge y here).0);
+          c.in_ok-push.ensures.items ∙ (ap (λ t. t ++ (get_or c.as_slice.result.now c.args.hop.to no_bridge).id.system ∷ []) (c.in_ok-bridges.ensures.items ∙ c.as_slice-2.ensures.value) ∙ ap (λ t. l.bridges.items ++ t ∷ []) (bridge y here).0);
     }

@@ -32,7 +32,7 @@ returns-in-None-better c =
           let to = read_label s ls c.args.hop.to h.1 w.index-in-Some.result.now c.requires.labels h.2.to w.index-in-Some.ensures in
           let none : w.in_ok-better-in-Some.better ≡ None = sym w.better-is ∙ c.in-None-better.is in
           relaxed_same s c.args.hop w.in-Some.label ls c.requires.labels (from ∙ w.in-Some.is)
-            (subst (λ o. Improves s c.args.hop w.in-Some.label o None) (sym to) (subst (Improves s c.args.hop w.in-Some.label w.index-in-Some.result.now) none w.in_ok-better-in-Some.ensures))
+          (subst (λ o. Improves s c.args.hop w.in-Some.label o None) (sym to) (subst (Improves s c.args.hop w.in-Some.label w.index-in-Some.result.now) none w.in_ok-better-in-Some.ensures))
     ]
 
 pub returns-in-Some-better : goal.returns-in-Some-better
@@ -48,5 +48,5 @@ returns-in-Some-better c =
           let to = read_label s ls c.args.hop.to h.1 w.index-in-Some.result.now c.requires.labels h.2.to w.index-in-Some.ensures in
           let some : w.in_ok-better-in-Some.better ≡ Some c.in-Some-better.label = sym w.better-is ∙ c.in-Some-better.is in
           relaxed_set s c.args.hop w.in-Some.label c.in-Some-better.label ls c.requires.labels (omega (arith, within, c.requires.labels.places)) (from ∙ w.in-Some.is)
-            (subst (λ o. Improves s c.args.hop w.in-Some.label o (Some c.in-Some-better.label)) (sym to) (subst (Improves s c.args.hop w.in-Some.label w.index-in-Some.result.now) some w.in_ok-better-in-Some.ensures))
+          (subst (λ o. Improves s c.args.hop w.in-Some.label o (Some c.in-Some-better.label)) (sym to) (subst (Improves s c.args.hop w.in-Some.label w.index-in-Some.result.now) some w.in_ok-better-in-Some.ensures))
     ]

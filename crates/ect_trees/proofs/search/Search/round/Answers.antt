@@ -19,10 +19,10 @@ loop-hop-preserved c =
     let k = c.loop-hop.hop-index in
     let here = subst (λ t. slice_get t k ≡ Some (get_or hs k no_hop)) c.deref-hop-items.ensures.value (slice_get-get_or hs k no_hop c.loop-hop-test.true) in
     let parts : c.if-branch.changed ≡ false → (c.loop-hop.changed ≡ false) × (c.in_ok-relax.field-0 ≡ false) = λ e.
-      elim c.if-branch.branch [
-        | then-branch w ↦ absurd (true≢false (sym w.changed-is ∙ e))
-        | else-branch w ↦ (sym w.changed-is ∙ e, w.if-branch.false)
-      ] in
+    elim c.if-branch.branch [
+      | then-branch w ↦ absurd (true≢false (sym w.changed-is ∙ e))
+      | else-branch w ↦ (sym w.changed-is ∙ e, w.if-branch.false)
+    ] in
     so_far_more s k (get_or hs k no_hop) c.args.labels.now.items c.loop-hop.labels.items c.relax.new.labels.items c.loop-hop.changed c.in_ok-relax.field-0 c.if-branch.changed c.loop-hop.invariant here c.in_ok-relax.ensures parts
 
 pub returns : goal.returns

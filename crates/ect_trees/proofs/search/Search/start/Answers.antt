@@ -11,10 +11,10 @@ loop-bridge-preserved c =
     let bs = c.as_slice-bridge-items.result.now in
     let i = c.loop-bridge.bridge-index in
     let next : (x : SystemId) → IsAt s.graph.now i x → IsStart s x c.if-eq.label = λ x here.
-      elim c.if-eq.branch [
-        | then-eq+in_ok-first w ↦ subst (IsStart s x) (sym w.label-is) (start_first s bs i w.in_ok-first.field-0 x c.requires c.as_slice-bridge-items.ensures (sym w.if-eq.ensures) w.in_ok-first.ensures here)
-        | else-eq w ↦ subst (IsStart s x) (sym w.label-is) (start_none s bs i x c.requires c.as_slice-bridge-items.ensures (sym w.if-eq.ensures) here)
-      ] in
+    elim c.if-eq.branch [
+      | then-eq+in_ok-first w ↦ subst (IsStart s x) (sym w.label-is) (start_first s bs i w.in_ok-first.field-0 x c.requires c.as_slice-bridge-items.ensures (sym w.if-eq.ensures) w.in_ok-first.ensures here)
+      | else-eq w ↦ subst (IsStart s x) (sym w.label-is) (start_none s bs i x c.requires c.as_slice-bridge-items.ensures (sym w.if-eq.ensures) here)
+    ] in
     subst (Started s (i + 1)) (sym c.in_ok-push.ensures.items) (started_more s i c.loop-bridge.labels.items c.if-eq.label c.loop-bridge.invariant next)
 
 pub returns-clause-labels : goal.returns-clause-labels
