@@ -5,3 +5,7 @@ pub mod NameLemmas
 pub mod WorldLemmas
 pub mod RefusalLemmas
 pub mod ValidLemmas
+pub mod LinesOf
+pub mod Playing
+pub mod Reading
+pub mod Writing

@@ -5,3 +5,6 @@ pub mod Report
 pub mod Listing
 pub mod Play
 pub mod Declaring
+pub mod Text
+pub mod Output
+pub mod Run

@@ -1,0 +1,50 @@
+use Rattle.std.specs.Prelude.{ℕ, List, [], ◌∷◌, Bool, true, false, codes}
+use Rattle.std.specs.Str.{bytes_eq}
+use Rattle.spb_run.specs.declared.status.Status.{Status}
+use Rattle.spb_run.specs.declared.status.Status.TheVariants.{Done, Refused, Usage, NoMemory, ReadFault, WriteFault, TooLong}
+
+-- whether the program's words are just `run`
+abbrev pub is_run : List (List ℕ) → Bool
+is_run [] = false
+is_run (word ∷ []) = bytes_eq word (codes "run")
+is_run (word ∷ another ∷ more) = false
+
+-- the number of a status, which is the program's exit status
+abbrev pub status_number : Status → ℕ
+status_number Done = 0
+status_number (Refused line why) = 1
+status_number Usage = 2
+status_number NoMemory = 3
+status_number ReadFault = 4
+status_number WriteFault = 5
+status_number TooLong = 6
+
+-- whether the script was played as far as it goes
+abbrev pub is_played : Status → Bool
+is_played Done = true
+is_played (Refused line why) = true
+is_played Usage = false
+is_played NoMemory = false
+is_played ReadFault = false
+is_played WriteFault = false
+is_played TooLong = true
+
+-- whether the run was cut short while it wrote, or by want of memory
+abbrev pub is_cut : Status → Bool
+is_cut NoMemory = true
+is_cut WriteFault = true
+is_cut Done = false
+is_cut (Refused line why) = false
+is_cut Usage = false
+is_cut ReadFault = false
+is_cut TooLong = false
+
+-- whether nothing is written
+abbrev pub is_silent : Status → Bool
+is_silent Usage = true
+is_silent ReadFault = true
+is_silent TooLong = true
+is_silent Done = false
+is_silent (Refused line why) = false
+is_silent NoMemory = false
+is_silent WriteFault = false

@@ -1,0 +1,144 @@
+ghost use Rattle.std.specs.Prelude.{◌≡◌, ◌≢◌, ◌≤◌, ◌<◌, ◌+◌, ◌↔◌, ◌⊎◌, Err, List, ℕ, length, false, map, string_bytes, codes, IsErrOf, IsTrue, OnOk, IfOk, OnErr, IfSome, List, ℕ};
+ghost use Rattle.std.specs.Io.KnownBytes.{Appends, Consumes, IsAtEnd};
+ghost use Rattle.std.specs.Str.Lines.{lines};
+ghost use Rattle.spb_outside.specs.Faults.{Rose};
+ghost use Rattle.spb_run.specs.Output.{AppendsFront};
+ghost use Rattle.spb_run.specs.Play.{judged};
+ghost use Rattle.spb_run.specs.Text.{most_bytes, played, opening, text_of, fate_of, end_of};
+ghost use Rattle.spb_run.specs.Run as forms;
+
+use crate::output::write_all;
+use crate::play::play_line;
+use crate::script::{ReadError, next_line, read_script};
+use crate::{Refusal, Status, World};
+use spb_outside::{Sink, Source, WriteError};
+use std::alloc::Global;
+
+/// Plays a line and writes its answer.
+fn answer_line<K: Sink>(
+    alloc: Global,
+    world: &mut World,
+    number: u32,
+    line: &[u8],
+    sink: &mut K,
+) -> Result<Option<Refusal>, WriteError>
+    ensures text { OnOk result (Appends (K.holds sink.old) (K.holds sink.new) (judged world.old number line.now).text) }
+    ensures refused { IfOk result (λ refused. refused ≡ (judged world.old number line.now).refused) }
+    ensures state { OnOk result (world.new ≡ (judged world.old number line.now).state) }
+    ensures front { OnErr result (AppendsFront (K.holds sink.old) (K.holds sink.new) (judged world.old number line.now).text) }
+    ensures count { K.faults sink.old ≤ K.faults sink.new }
+    ensures failed { IsErrOf result WriteError.Failed → Rose (K.faults sink.old) (K.faults sink.new) }
+    ensures reliable { IsTrue (K.is_reliable sink.old) →
+        (result ≢ Err WriteError.Failed) × IsTrue (K.is_reliable sink.new) }
+{
+    let reply = play_line(alloc, world, number, line)?;
+    write_all(sink, &reply.text)?;
+    Ok(reply.refused)
+}
+
+/// Plays the lines of a script in the opening world, and writes the answers to each before the next is played. It ends
+/// with the first line that is refused.
+fn play_script<K: Sink>(
+    alloc: Global,
+    world: &mut World,
+    script: &[u8],
+    sink: &mut K,
+) -> Result<Option<(u32, Refusal)>, WriteError>
+    requires opening { world.old ≡ opening }
+    requires short { length script.now ≤ most_bytes }
+    ensures text { OnOk result (Appends (K.holds sink.old) (K.holds sink.new) (played script.now).text) }
+    ensures refused { IfOk result (λ refused. refused ≡ (played script.now).refused) }
+    ensures world { OnOk result (world.new ≡ end_of script.now) }
+    ensures front { OnErr result (AppendsFront (K.holds sink.old) (K.holds sink.new) (played script.now).text) }
+    ensures failed { IsErrOf result WriteError.Failed → Rose (K.faults sink.old) (K.faults sink.new) }
+    ensures reliable { IsTrue (K.is_reliable sink.old) → result ≢ Err WriteError.Failed }
+{
+    let mut rest = script;
+    let mut number = 1;
+    while let Some((line, behind)) = next_line(rest) {
+        if let Some(why) = answer_line(alloc, world, number, line, sink)? {
+            return Ok(Some((number, why)));
+        }
+        rest = behind;
+        number += 1;
+    }
+    Ok(None)
+}
+
+/// Whether the program's words are just `run`.
+fn is_run(words: &[String]) -> bool
+    ensures { result ≡ forms.is_run (map string_bytes words.now) }
+{
+    match words {
+        [word] => word.as_str() == "run",
+        _ => false,
+    }
+}
+
+/// Plays a script that was read, and gives the status.
+fn status_of_script<K: Sink>(alloc: Global, script: &[u8], sink: &mut K) -> Status
+    requires { length script.now ≤ most_bytes }
+    ensures fate { IsTrue (forms.is_played result) → result ≡ fate_of script.now }
+    ensures text { IsTrue (forms.is_played result) → Appends (K.holds sink.old) (K.holds sink.new) (text_of script.now) }
+    ensures front { IsTrue (forms.is_cut result) → AppendsFront (K.holds sink.old) (K.holds sink.new) (text_of script.now) }
+    ensures other { IsTrue (forms.is_silent result) → ⊥ }
+    ensures failed { result ≡ Status.WriteFault → Rose (K.faults sink.old) (K.faults sink.new) }
+    ensures reliable { IsTrue (K.is_reliable sink.old) → result ≢ Status.WriteFault }
+{
+    let mut world = World::new(alloc);
+    match play_script(alloc, &mut world, script, sink) {
+        Ok(None) => Status::Done,
+        Ok(Some((number, why))) => Status::Refused(number, why),
+        Err(WriteError::Failed) => Status::WriteFault,
+        Err(WriteError::NoMemory) => Status::NoMemory,
+    }
+}
+
+/// Runs the program with these words, which don't have its own name among them.
+///
+/// For the words `run` it plays the script that the source gives and writes the answers to the sink. The script is
+/// read whole before its first line is judged, and the answers to each line are written before the next is played.
+pub fn run<S: Source, K: Sink>(
+    alloc: Global,
+    words: &[String],
+    source: &mut S,
+    sink: &mut K,
+) -> Status
+    // Usage comes exactly for other words, and then nothing is read or written.
+    ensures usage { (result ≡ Status.Usage) ↔ (forms.is_run (map string_bytes words.now) ≡ false) }
+    ensures idle { result ≡ Status.Usage → source.new ≡ source.old }
+    ensures silent { IsTrue (forms.is_silent result) → sink.new ≡ sink.old }
+
+    // The status is the script's fate and all of its text is written, unless the run was cut short.
+    ensures fate { IsTrue (forms.is_played result) → IfSome (S.left source.old) (λ script. result ≡ fate_of script) }
+    ensures text { IsTrue (forms.is_played result) → IfSome (S.left source.old) (λ script.
+        Appends (K.holds sink.old) (K.holds sink.new) (text_of script)) }
+    ensures ended { result ≡ Status.Done → IsAtEnd (S.left source.new) }
+
+    // A run that was cut short wrote a front of the text.
+    ensures front { IsTrue (forms.is_cut result) → IfSome (S.left source.old) (λ script.
+        AppendsFront (K.holds sink.old) (K.holds sink.new) (text_of script)) }
+
+    // A fault comes only where the source or the sink failed in this call.
+    ensures read_fault { result ≡ Status.ReadFault → Rose (S.faults source.old) (S.faults source.new) }
+    ensures write_fault { result ≡ Status.WriteFault → Rose (K.faults sink.old) (K.faults sink.new) }
+    ensures reliable_source { IsTrue (S.is_reliable source.old) → result ≢ Status.ReadFault }
+    ensures reliable_sink { IsTrue (K.is_reliable sink.old) → result ≢ Status.WriteFault }
+
+    // So over a source and a sink that don't fail, only memory can be wanting.
+    ensures complete { IsTrue (forms.is_run (map string_bytes words.now)) → IsTrue (S.is_reliable source.old) →
+        IsTrue (K.is_reliable sink.old) → IfSome (S.left source.old) (λ script. (result ≡ fate_of script) ⊎ (result ≡ Status.NoMemory)) }
+
+    // At most one byte more is read than a script may have.
+    ensures few { (read : List ℕ) × Consumes (S.left source.old) (S.left source.new) read × (length read ≤ most_bytes + 1) }
+{
+    if !is_run(words) {
+        return Status::Usage;
+    }
+    match read_script(alloc, source) {
+        Ok(script) => status_of_script(alloc, &script, sink),
+        Err(ReadError::Failed) => Status::ReadFault,
+        Err(ReadError::TooLong) => Status::TooLong,
+        Err(ReadError::NoMemory) => Status::NoMemory,
+    }
+}

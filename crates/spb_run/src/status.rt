@@ -1,0 +1,42 @@
+ghost use Rattle.std.specs.Prelude.{◌≡◌};
+
+use crate::Refusal;
+
+/// How a run ended.
+#[derive(Clone, Copy, Debug, PartialEq, Eq, Hash)]
+pub enum Status {
+    /// The script was read to its end, and all answers are written.
+    Done,
+    /// The line of this number, from 1, is the first that is refused. The answers before it and its `error` line are
+    /// written.
+    Refused(u32, Refusal),
+    /// The words are no form of the program. Nothing was read or written.
+    Usage,
+    /// No memory was found. A front of the answers is written.
+    NoMemory,
+    /// A read failed. Nothing was written.
+    ReadFault,
+    /// A write failed. A front of the answers is written.
+    WriteFault,
+    /// The script has more than 65,536 bytes. Nothing was written.
+    TooLong,
+}
+
+impl Status {
+    ghost use Rattle.spb_run.specs.Run.{status_number};
+
+    /// The number of the status, which is the program's exit status.
+    pub fn number(&self) -> u8
+        ensures { result ≡ status_number self.now }
+    {
+        match self {
+            Status::Done => 0,
+            Status::Refused(_, _) => 1,
+            Status::Usage => 2,
+            Status::NoMemory => 3,
+            Status::ReadFault => 4,
+            Status::WriteFault => 5,
+            Status::TooLong => 6,
+        }
+    }
+}
