@@ -19,3 +19,6 @@ pub use command::{Command, Dir, Side};
 pub use error::LineError;
 pub use keyword::{KEYWORDS, Keyword};
 pub use line::{FirstWord, LINE_LIMIT, head, parse_line};
+
+#[cfg(test)]
+mod tests;
