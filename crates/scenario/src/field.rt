@@ -5,7 +5,6 @@ ghost use Rattle.spb_types.specs.Name.{is_digit};
 ghost use Rattle.scenario.specs.WordForms as forms;
 
 use crate::command::{Dir, Side};
-use crate::keyword::Keyword;
 use spb_types::{Mac, Name, NoMemory, Seq, SourceId};
 use std::alloc::Global;
 use std::marker::Model;
@@ -145,16 +144,6 @@ impl<'a> Field<'a> for Side {
             b"b" => Some(Side::B),
             _ => None,
         }
-    }
-}
-
-impl<'a> Field<'a> for Keyword {
-    ghost use Rattle.scenario.specs.Keywords.{keyword};
-
-    ghost meaning = { keyword };
-
-    fn read(word: &'a [u8]) -> Option<Keyword> {
-        Keyword::read(word)
     }
 }
 

@@ -1,4 +1,9 @@
-//! The script's line grammar.
+//! The line grammar of a script: what each line says, and where a line that says nothing goes wrong.
+//!
+//! A line is its words, apart by spaces or tabs: a keyword, and then what its form takes. `parse_line` reads it from
+//! left to right, once; `head` reads the first word alone. Both take time in proportion to the line: each byte of a
+//! word is looked at a few times, and the first word is compared with the keywords, of which there are 23. A line of
+//! more than 8,192 bytes is refused before it is looked at. Only the bytes of a frame take memory.
 #![tactic(auto)]
 
 mod command;
@@ -14,3 +19,6 @@ pub use command::{Command, Dir, Side};
 pub use error::LineError;
 pub use keyword::{KEYWORDS, Keyword};
 pub use line::{FirstWord, LINE_LIMIT, head, parse_line};
+
+#[cfg(test)]
+mod tests;
