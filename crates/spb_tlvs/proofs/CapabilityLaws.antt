@@ -1,24 +1,18 @@
 -- The laws of capabilities.
-use Rattle.std.proofs.Common.{◌≡◌, ℕ, suc, ◌+◌, ◌-◌, ◌*◌, ◌/◌, ◌%◌, ◌^◌, ◌≤◌, ◌<◌, Bool, true, false, cond, ◌&&◌, not, eqb, leb, ltb, List, [], ◌∷◌, ◌++◌, length, map, drop, All, Option, Some, None, Result, Ok, Err, refl, sym, ap, subst, ◌∙◌, arith}
-use Rattle.std.specs.List.{flat_map, filter_map, list_all, list_any, cons_option, AllByRecursion}
-use Rattle.std.specs.Simd.{first_chunks}
+use Rattle.std.proofs.Common.{◌≡◌, ℕ, ◌+◌, ◌-◌, ◌*◌, ◌/◌, ◌%◌, ◌^◌, ◌<◌, Bool, true, false, cond, eqb, leb, ltb, List, [], ◌∷◌, length, map, Option, Some, Result, Ok, refl, sym, ap, ◌∙◌, arith}
+use Rattle.std.specs.List.{filter_map, list_any, cons_option, AllByRecursion}
 use Rattle.std.proofs.lemmas.List.Elements.{recursion_from_All}
-use Rattle.std.proofs.lemmas.List.{length-append}
-use Rattle.std.proofs.lemmas.Bool.{or_from, le-leb, lt-leb, le-ltb, eq-eqb, ne_eqb, and_from}
+use Rattle.std.proofs.lemmas.Bool.{or_from, le-leb, le-ltb, eq-eqb, ne_eqb}
 use Rattle.spb_types.specs.declared.address.Mac.{Mac}
 use Rattle.spb_types.specs.declared.service.Vid.{Vid}
 use Rattle.spb_types.specs.declared.service.VidPlan.{VidPlan}
 use Rattle.spb_types.specs.declared.service.SourceId.{SourceId}
 use Rattle.spb_tlvs.specs.declared.error.TlvError.{TlvError}
-use Rattle.spb_tlvs.specs.declared.error.TlvError.TheVariants.{Cut, Range}
 use Rattle.spb_tlvs.specs.declared.capability.Capability.{Capability}
 use Rattle.spb_tlvs.specs.declared.capability.Capability.TheVariants.{Inst, Services}
 use Rattle.spb_tlvs.specs.declared.capability.Service.{Service}
-use Rattle.spb_tlvs.specs.Number.{two, three, four}
-use Rattle.spb_tlvs.specs.Piece.{pieces, ends_whole}
-use Rattle.spb_tlvs.specs.Tlv.{Tlv, tlv, tlvs_in, are_whole}
 use Rattle.spb_tlvs.specs.Capability as spec
-use Rattle.spb_tlvs.specs.RoundTrip.{IsMac, IsHeld, CapabilityAgain, CapabilitySame}
+use Rattle.spb_tlvs.specs.RoundTrip.{IsMac, CapabilityAgain, CapabilitySame}
 use Rattle.spb_tlvs.proofs.Numbers.{two_again, three_again, four_again, six, chunks_of_joined, everywhere}
 use Rattle.spb_tlvs.proofs.TlvLaws.{tlv_alone, tlv_alone_whole}
 use Rattle.spb_tlvs.proofs.Written.{trees_len, services_len}

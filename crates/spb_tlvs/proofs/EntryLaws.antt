@@ -1,5 +1,5 @@
 -- The laws of LSP entries.
-use Rattle.std.proofs.Common.{◌≡◌, ℕ, zero, suc, ◌+◌, ◌*◌, ◌/◌, ◌%◌, ◌^◌, ◌<◌, Bool, true, false, cond, eqb, List, [], ◌∷◌, ◌++◌, length, take, drop, map, get_or, Result, Ok, Err, refl, sym, ap, subst, ◌∙◌, arith, inl, inr}
+use Rattle.std.proofs.Common.{◌≡◌, ℕ, zero, suc, ◌+◌, ◌*◌, ◌/◌, ◌%◌, Bool, true, false, cond, eqb, List, [], ◌∷◌, ◌++◌, length, take, drop, map, Result, Ok, Err, refl, sym, ap, ◌∙◌, arith, inl, inr}
 use Rattle.std.specs.List.{flat_map, AllByRecursion}
 use Rattle.std.specs.Simd.{first_chunks}
 use Rattle.std.proofs.lemmas.Bool.{eq-eqb, eqb-true, cases_lt}
@@ -8,8 +8,8 @@ use Rattle.spb_tlvs.specs.declared.error.TlvError.{TlvError}
 use Rattle.spb_tlvs.specs.declared.error.TlvError.TheVariants.{Cut}
 use Rattle.spb_tlvs.specs.declared.entries.SnpEntry.{SnpEntry}
 use Rattle.spb_tlvs.specs.Number.{two, four}
-use Rattle.spb_tlvs.specs.Entry.{entry_bytes, entry_at, entries_value, entries_of}
-use Rattle.spb_tlvs.specs.RoundTrip.{IsMac, IsEntry, AreBytes, EntriesAgain, EntriesSame}
+use Rattle.spb_tlvs.specs.Entry.{entry_bytes, entry_at, entries_value}
+use Rattle.spb_tlvs.specs.RoundTrip.{IsEntry, AreBytes, EntriesAgain, EntriesSame}
 use Rattle.spb_tlvs.proofs.Numbers.{two_again, four_again, two_same, four_same, six, sixteen, chunks_of_joined, length_of_joined, weaker}
 
 entry_len : (e : SnpEntry) → IsEntry e → length (entry_bytes e) ≡ 16

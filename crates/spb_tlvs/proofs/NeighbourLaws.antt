@@ -1,15 +1,14 @@
 -- The laws of neighbours.
-use Rattle.std.proofs.Common.{◌≡◌, ℕ, ◌+◌, ◌*◌, ◌/◌, ◌%◌, ◌^◌, ◌≤◌, ◌<◌, Bool, true, false, cond, ◌&&◌, eqb, List, [], ◌∷◌, ◌++◌, length, map, Option, Some, None, Result, Ok, Err, refl, sym, ap, subst, ◌∙◌, arith}
-use Rattle.std.specs.List.{flat_map, filter_map, cons_option, list_all, AllByRecursion}
+use Rattle.std.proofs.Common.{◌≡◌, ℕ, true, List, [], ◌∷◌, ◌++◌, length, map, Option, Some, Result, Ok, refl, sym, ap, ◌∙◌, arith}
+use Rattle.std.specs.List.{filter_map, cons_option, list_all, AllByRecursion}
 use Rattle.std.proofs.lemmas.Bool.{and_from}
 use Rattle.spb_tlvs.specs.declared.error.TlvError.{TlvError}
-use Rattle.spb_tlvs.specs.declared.error.TlvError.TheVariants.{Cut}
 use Rattle.spb_tlvs.specs.declared.neighbours.Neighbour.{Neighbour}
 use Rattle.spb_tlvs.specs.Number.{two, three}
-use Rattle.spb_tlvs.specs.Piece.{piece_len, pieces, left, ends_whole}
+use Rattle.spb_tlvs.specs.Piece.{piece_len, pieces, ends_whole}
 use Rattle.spb_tlvs.specs.Tlv.{tlv}
 use Rattle.spb_tlvs.specs.Neighbour.{neighbour_bytes, is_entry_whole, neighbour_of, neighbours_value, neighbours_of}
-use Rattle.spb_tlvs.specs.RoundTrip.{IsMac, IsNeighbour, NeighboursAgain, NeighboursSame}
+use Rattle.spb_tlvs.specs.RoundTrip.{IsNeighbour, NeighboursAgain, NeighboursSame}
 use Rattle.spb_tlvs.proofs.Numbers.{two_again, three_again, six}
 use Rattle.spb_tlvs.proofs.Pieces.{pieces_before, whole_before, nothing_is_whole, nothing_is_piece}
 use Rattle.spb_tlvs.proofs.TlvLaws.{tlv_alone, tlv_alone_whole}

@@ -1,9 +1,8 @@
 -- The pieces of bytes, one at a time, and those of two byte strings joined.
-use Rattle.std.proofs.Common.{◌≡◌, ℕ, zero, suc, ◌+◌, ◌-◌, ◌≤◌, ◌<◌, Bool, true, false, cond, eqb, List, [], ◌∷◌, ◌++◌, length, take, drop, refl, sym, ap, ◌∙◌, arith, inl, inr}
+use Rattle.std.proofs.Common.{◌≡◌, ℕ, zero, suc, ◌+◌, ◌-◌, ◌≤◌, ◌<◌, true, false, eqb, List, [], ◌∷◌, ◌++◌, length, take, drop, refl, sym, ap, ◌∙◌, arith, inl, inr}
 use Rattle.std.proofs.lemmas.List.{length-drop, length-append, length-take-le, get_or_append_left, get_or-take, take_at, drop_at, take-append-drop, append_assoc, nil_from_length}
 use Rattle.std.proofs.lemmas.Bool.{cases_Bool}
 use Rattle.std.proofs.lemmas.Bool.Decides.{nat_tests}
-use Rattle.spb_types.specs.Bytes.{u8_at}
 use Rattle.spb_tlvs.specs.Piece.{piece_len, starts_whole, first_piece, after_first, pieces_within, left_within, pieces, left, ends_whole}
 
 -- a whole piece has its head, so the bytes after it are fewer

@@ -1,5 +1,5 @@
 -- The laws of the three-way adjacency.
-use Rattle.std.proofs.Common.{◌≡◌, ℕ, ◌+◌, ◌*◌, ◌^◌, ◌≤◌, ◌<◌, Bool, true, false, cond, eqb, leb, ◌||◌, List, [], ◌∷◌, ◌++◌, length, Option, Some, None, Result, Ok, Err, refl, sym, ap, subst, ◌∙◌, arith, inl, inr}
+use Rattle.std.proofs.Common.{◌≡◌, ℕ, ◌+◌, ◌*◌, ◌^◌, ◌≤◌, ◌<◌, Bool, true, false, cond, eqb, leb, List, [], ◌∷◌, ◌++◌, length, Option, Some, None, Result, Ok, Err, refl, inl, inr}
 use Rattle.std.proofs.lemmas.Bool.{le-leb}
 use Rattle.std.proofs.lemmas.Bool.Decides.{eqb_tells}
 use Rattle.spb_types.specs.declared.address.SystemId.{SystemId}
@@ -8,7 +8,7 @@ use Rattle.spb_tlvs.specs.declared.error.TlvError.TheVariants.{Cut, Range}
 use Rattle.spb_tlvs.specs.declared.three_way.ThreeWay.{ThreeWay}
 use Rattle.spb_tlvs.specs.Number.{four}
 use Rattle.spb_tlvs.specs.ThreeWay.{neighbour_bytes, three_way_value, three_way_of}
-use Rattle.spb_tlvs.specs.RoundTrip.{IsMac, IsNamed, IsThreeWay, AreBytes, ThreeWayAgain, ThreeWaySame}
+use Rattle.spb_tlvs.specs.RoundTrip.{IsNamed, AreBytes, ThreeWayAgain, ThreeWaySame}
 use Rattle.spb_tlvs.proofs.Numbers.{four_again, four_same, five, six, fifteen}
 
 again_at : (state circuit : ℕ) (o : Option (SystemId × ℕ)) → state ≤ 2 → circuit < 2 ^ 32 → IsNamed o → three_way_of (state ∷ four circuit ++ neighbour_bytes o) ≡ Ok (record { state = state; circuit = circuit; neighbour = o })

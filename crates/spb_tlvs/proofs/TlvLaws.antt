@@ -1,10 +1,10 @@
 -- The laws of TLVs one after another.
-use Rattle.std.proofs.Common.{◌≡◌, ◌≢◌, ℕ, ◌≤◌, Bool, true, false, eqb, List, [], ◌∷◌, ◌++◌, length, map, refl, sym, ap, ◌∙◌, arith}
+use Rattle.std.proofs.Common.{◌≡◌, ℕ, true, false, eqb, List, [], ◌∷◌, ◌++◌, refl, sym, ap, ◌∙◌, arith}
 use Rattle.std.proofs.lemmas.List.{append-nil, map-append}
 use Rattle.std.proofs.lemmas.List.Elements.{filter-append}
 use Rattle.std.proofs.lemmas.Bool.{eq-eqb, ne_eqb, eqb-true}
-use Rattle.spb_tlvs.specs.Piece.{pieces, left, ends_whole}
-use Rattle.spb_tlvs.specs.Tlv.{Tlv, tlv, tlv_of, tlvs_in, values_with}
+use Rattle.spb_tlvs.specs.Piece.{pieces, ends_whole}
+use Rattle.spb_tlvs.specs.Tlv.{tlv}
 use Rattle.spb_tlvs.specs.RoundTrip.{TlvHere, TlvElsewhere, TlvsJoin, TlvIsWhole}
 use Rattle.spb_tlvs.proofs.Pieces.{nothing_is_piece, nothing_is_whole, pieces_before, whole_before, pieces_join}
 
