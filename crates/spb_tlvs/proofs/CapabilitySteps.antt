@@ -1,5 +1,5 @@
 -- Reading capabilities, one sub-TLV at a time.
-use Rattle.std.proofs.Common.{◌≡◌, ℕ, ◌≤◌, Bool, true, false, cond, ◌&&◌, ◌||◌, List, [], ◌∷◌, ◌++◌, length, Option, Some, None, Result, Ok, Err, refl, sym, ap, ◌∙◌, append_assoc, arith}
+use Rattle.std.proofs.Common.{◌≡◌, ℕ, Bool, true, false, cond, ◌&&◌, List, [], ◌++◌, Option, Some, None, Result, Ok, Err, refl, sym, ap, ◌∙◌, append_assoc, arith}
 use Rattle.std.specs.Prelude.{option_to_list}
 use Rattle.std.specs.List.{filter_map, cons_option, list_all, list_any}
 use Rattle.std.proofs.lemmas.List.{append-nil}
@@ -7,7 +7,7 @@ use Rattle.spb_tlvs.specs.declared.error.TlvError.{TlvError}
 use Rattle.spb_tlvs.specs.declared.error.TlvError.TheVariants.{Cut, Range, NoMemory}
 use Rattle.spb_tlvs.specs.declared.capability.Capability.{Capability}
 use Rattle.spb_tlvs.specs.Piece.{starts_whole, first_piece, after_first, ends_whole}
-use Rattle.spb_tlvs.specs.Tlv.{Tlv, tlv_of, tlvs_in, are_whole}
+use Rattle.spb_tlvs.specs.Tlv.{tlv_of, tlvs_in, are_whole}
 use Rattle.spb_tlvs.specs.Reading.{Gives, Reads}
 use Rattle.spb_tlvs.specs.Capability.{is_sub_whole, has_outside, capability_of, one_capability, sub_capabilities_of}
 use Rattle.spb_tlvs.proofs.Pieces.{pieces_more, pieces_none}

@@ -1,5 +1,5 @@
 -- What is written of a capability before its trees or its services.
-use Rattle.std.proofs.Common.{◌≡◌, ℕ, suc, ◌+◌, ◌*◌, List, [], ◌∷◌, ◌++◌, length, take, replicate, refl, sym, ap, ◌∙◌, append_assoc, arith}
+use Rattle.std.proofs.Common.{◌≡◌, ℕ, ◌+◌, ◌*◌, List, ◌++◌, length, take, ◌∙◌, append_assoc, arith}
 use Rattle.std.specs.Prelude.{Result, Ok, Err, OnOk, OnErr}
 use Rattle.std.specs.List.{flat_map}
 use Rattle.std.proofs.lemmas.List.{length-append}
@@ -9,10 +9,10 @@ use Rattle.spb_types.specs.declared.service.VidPlan.{VidPlan}
 use Rattle.spb_types.specs.declared.service.SourceId.{SourceId}
 use Rattle.spb_tlvs.specs.declared.capability.Service.{Service}
 use Rattle.spb_tlvs.specs.declared.capability.Capability.TheVariants.{Inst, Services}
-use Rattle.spb_tlvs.specs.Number.{two, four}
+use Rattle.spb_tlvs.specs.Number.{two}
 use Rattle.spb_tlvs.specs.Tlv.{tlv}
 use Rattle.spb_tlvs.specs.Capability.{tree_bytes, service_bytes, heads, inst_fields, services_fields, capability_value}
-use Rattle.spb_tlvs.proofs.Written.{kept_still, on_err, trees_len, services_len}
+use Rattle.spb_tlvs.proofs.Written.{kept_still, trees_len, services_len}
 
 pub inst_tlv : (priority : ℕ) (source : SourceId) (trees : List VidPlan) → tlv 144 (capability_value (Inst priority source trees)) ≡ heads 1 (19 + 8 * length trees) ++ inst_fields priority source (length trees) ++ flat_map tree_bytes trees
 inst_tlv priority source trees = let e = trees_len trees in grind arith

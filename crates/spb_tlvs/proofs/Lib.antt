@@ -1,9 +1,15 @@
+pub mod CapabilityLaws
 pub mod CapabilitySteps
 pub mod Chunks
+pub mod EntryLaws
 pub mod Heads
 pub mod Metrics
+pub mod NeighbourLaws
 pub mod NeighbourSteps
+pub mod Numbers
 pub mod Pieces
+pub mod ThreeWayLaws
+pub mod TlvLaws
 pub mod TlvSteps
 pub mod Whole
 pub mod Written

@@ -1,14 +1,13 @@
 -- Reading neighbours, one entry at a time.
-use Rattle.std.proofs.Common.{◌≡◌, ◌≢◌, ℕ, ◌≤◌, Bool, true, false, cond, eqb, ◌&&◌, List, [], ◌∷◌, ◌++◌, length, Option, Some, None, Result, Ok, Err, refl, sym, ap, subst, ◌∙◌, append_assoc, arith}
+use Rattle.std.proofs.Common.{◌≡◌, ℕ, Bool, true, false, cond, eqb, ◌&&◌, List, ◌++◌, length, Option, Some, None, Result, Ok, Err, refl, sym, ap, ◌∙◌, append_assoc, arith}
 use Rattle.std.specs.Prelude.{option_to_list}
 use Rattle.std.specs.List.{filter_map, cons_option, list_all}
 use Rattle.std.proofs.lemmas.List.{append-nil}
-use Rattle.std.proofs.lemmas.Bool.{eq-eqb, ne_eqb}
 use Rattle.spb_tlvs.specs.declared.error.TlvError.{TlvError}
 use Rattle.spb_tlvs.specs.declared.error.TlvError.TheVariants.{Cut}
 use Rattle.spb_tlvs.specs.declared.neighbours.Neighbour.{Neighbour}
 use Rattle.spb_tlvs.specs.Piece.{starts_whole, first_piece, after_first, pieces, ends_whole}
-use Rattle.spb_tlvs.specs.Neighbour.{is_entry_whole, neighbour_of, one_neighbour, neighbours_of}
+use Rattle.spb_tlvs.specs.Neighbour.{is_entry_whole, neighbour_of, one_neighbour}
 use Rattle.spb_tlvs.specs.Reading.{Reads}
 use Rattle.spb_tlvs.proofs.Pieces.{pieces_more, pieces_none}
 use Rattle.spb_tlvs.proofs.Whole.{whole_more, whole_none, and-false, and-true}

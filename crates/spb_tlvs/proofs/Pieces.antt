@@ -1,9 +1,8 @@
 -- The pieces of bytes, one at a time, and those of two byte strings joined.
-use Rattle.std.proofs.Common.{◌≡◌, ℕ, zero, suc, ◌+◌, ◌-◌, ◌≤◌, ◌<◌, Bool, true, false, cond, List, [], ◌∷◌, ◌++◌, length, take, drop, refl, sym, ap, ◌∙◌, arith, inl, inr}
-use Rattle.std.proofs.lemmas.List.{length-drop, length-append, get_or_append_left, take-append-le, drop-append-le, append-nil}
+use Rattle.std.proofs.Common.{◌≡◌, ℕ, zero, suc, ◌+◌, ◌-◌, ◌≤◌, ◌<◌, true, false, eqb, List, [], ◌∷◌, ◌++◌, length, take, drop, refl, sym, ap, ◌∙◌, arith, inl, inr}
+use Rattle.std.proofs.lemmas.List.{length-drop, length-append, length-take-le, get_or_append_left, get_or-take, take_at, drop_at, take-append-drop, append_assoc, nil_from_length}
 use Rattle.std.proofs.lemmas.Bool.{cases_Bool}
 use Rattle.std.proofs.lemmas.Bool.Decides.{nat_tests}
-use Rattle.spb_types.specs.Bytes.{u8_at}
 use Rattle.spb_tlvs.specs.Piece.{piece_len, starts_whole, first_piece, after_first, pieces_within, left_within, pieces, left, ends_whole}
 
 -- a whole piece has its head, so the bytes after it are fewer
@@ -83,3 +82,67 @@ pieces_none head bytes e = pieces_within-none (length bytes) head bytes e
 pub left_none : (head : ℕ) (bytes : List ℕ) → starts_whole head bytes ≡ false → left head bytes ≡ bytes
 unfolding left
 left_none head bytes e = left_within-none (length bytes) head bytes e
+
+-- no bytes have no pieces, and are whole
+pub nothing_is_piece : (head : ℕ) → 1 ≤ head → pieces head [] ≡ []
+nothing_is_piece head low = pieces_none head [] (none_in_few head [] (omega arith))
+
+pub nothing_is_whole : (head : ℕ) → 1 ≤ head → ends_whole head [] ≡ true
+unfolding ends_whole
+nothing_is_whole head low = rw (left_none head [] (none_in_few head [] (omega arith))) refl
+
+-- ---- pieces joined
+
+-- a piece that stands before other bytes
+pub piece_before : (head : ℕ) (piece rest : List ℕ) → 1 ≤ head → head ≤ length piece → piece_len head piece ≡ length piece → (starts_whole head (piece ++ rest) ≡ true) × (first_piece head (piece ++ rest) ≡ piece) × (after_first head (piece ++ rest) ≡ rest)
+piece_before head piece rest low long len =
+    let total = length-append piece rest in
+    let same : piece_len head (piece ++ rest) ≡ length piece = ap (λ (n : ℕ). head + n) (get_or_append_left piece rest 0 (head - 1) (omega arith)) ∙ len in (
+      whole_from_len head (piece ++ rest) (omega arith) (omega arith),
+      ap (λ (n : ℕ). take n (piece ++ rest)) same ∙ take_at piece rest (length piece) refl,
+      ap (λ (n : ℕ). drop n (piece ++ rest)) same ∙ drop_at piece rest (length piece) refl,
+    )
+
+pub pieces_before : (head : ℕ) (piece rest : List ℕ) → 1 ≤ head → head ≤ length piece → piece_len head piece ≡ length piece → pieces head (piece ++ rest) ≡ piece ∷ pieces head rest
+pieces_before head piece rest low long len =
+    let p = piece_before head piece rest low long len in
+    pieces_more head (piece ++ rest) low p.0 ∙ rw (p.1, p.2) refl
+
+pub left_before : (head : ℕ) (piece rest : List ℕ) → 1 ≤ head → head ≤ length piece → piece_len head piece ≡ length piece → left head (piece ++ rest) ≡ left head rest
+left_before head piece rest low long len =
+    let p = piece_before head piece rest low long len in
+    left_more head (piece ++ rest) low p.0 ∙ ap (left head) p.2
+
+pub whole_before : (head : ℕ) (piece rest : List ℕ) → 1 ≤ head → head ≤ length piece → piece_len head piece ≡ length piece → ends_whole head (piece ++ rest) ≡ ends_whole head rest
+unfolding ends_whole
+whole_before head piece rest low long len = ap (λ (xs : List ℕ). eqb (length xs) 0) (left_before head piece rest low long len)
+
+-- the piece at the front is a piece by itself
+front_is_piece : (head : ℕ) (bytes : List ℕ) → 1 ≤ head → starts_whole head bytes ≡ true → (head ≤ length (first_piece head bytes)) × (piece_len head (first_piece head bytes) ≡ length (first_piece head bytes))
+front_is_piece head bytes low e =
+    let h = len_of_whole head bytes e in
+    let len : length (first_piece head bytes) ≡ piece_len head bytes = length-take-le (piece_len head bytes) bytes h.1 in
+    let same : piece_len head (first_piece head bytes) ≡ piece_len head bytes = ap (λ (n : ℕ). head + n) (get_or-take (piece_len head bytes) bytes (head - 1) 0 (omega arith)) in
+    (omega arith, same ∙ sym len)
+
+-- whole pieces before other bytes
+joined_empty : (head : ℕ) (front rest : List ℕ) → 1 ≤ head → front ≡ [] → pieces head (front ++ rest) ≡ pieces head front ++ pieces head rest
+joined_empty head front rest low e = rw (e, pieces_none head [] (none_in_few head [] (omega arith))) refl
+
+joined_within : (n head : ℕ) (front rest : List ℕ) → 1 ≤ head → length front ≤ n → length (left head front) ≡ 0 → pieces head (front ++ rest) ≡ pieces head front ++ pieces head rest
+joined_within zero head front rest low bound whole = joined_empty head front rest low (nil_from_length front (omega arith))
+joined_within (suc n) head front rest low bound whole =
+    elim (cases_Bool (starts_whole head front)) [
+      | inl e ↦
+          let h = after_is_shorter head front low e in
+          let p = front_is_piece head front low e in
+          let parts : front ≡ first_piece head front ++ after_first head front = sym (take-append-drop (piece_len head front) front) in
+          let more : pieces head (front ++ rest) ≡ first_piece head front ∷ pieces head (after_first head front ++ rest) =
+          ap (λ (xs : List ℕ). pieces head (xs ++ rest)) parts ∙ ap (pieces head) (append_assoc (first_piece head front) (after_first head front) rest) ∙ pieces_before head (first_piece head front) (after_first head front ++ rest) low p.0 p.1 in
+          let later = joined_within n head (after_first head front) rest low (omega arith) (ap length (sym (left_more head front low e)) ∙ whole) in
+          more ∙ rw (later, pieces_more head front low e) refl
+      | inr e ↦ joined_empty head front rest low (nil_from_length front (ap length (sym (left_none head front e)) ∙ whole))
+    ]
+
+pub pieces_join : (head : ℕ) (front rest : List ℕ) → 1 ≤ head → length (left head front) ≡ 0 → pieces head (front ++ rest) ≡ pieces head front ++ pieces head rest
+pieces_join head front rest low whole = joined_within (length front) head front rest low (omega arith) whole

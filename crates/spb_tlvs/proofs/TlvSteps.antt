@@ -1,9 +1,9 @@
 -- The values with a code, one TLV at a time.
-use Rattle.std.proofs.Common.{◌≡◌, ◌≢◌, ℕ, zero, suc, ◌+◌, ◌-◌, ◌≤◌, ◌<◌, Bool, true, false, eqb, List, [], ◌∷◌, ◌++◌, length, take, drop, get_or, Option, Some, None, refl, sym, ap, ◌∙◌, arith}
+use Rattle.std.proofs.Common.{◌≡◌, ◌≢◌, ℕ, zero, suc, ◌-◌, true, false, eqb, List, [], ◌∷◌, length, take, drop, get_or, Option, Some, None, refl, sym, ap, ◌∙◌, arith}
 use Rattle.std.specs.List.{slice_get}
 use Rattle.std.proofs.lemmas.List.{length-drop, take_all}
 use Rattle.std.proofs.lemmas.Bool.{eq-eqb, ne_eqb}
-use Rattle.spb_tlvs.specs.Piece.{starts_whole, first_piece, after_first, pieces}
+use Rattle.spb_tlvs.specs.Piece.{starts_whole, first_piece, after_first}
 use Rattle.spb_tlvs.specs.Tlv.{values_with}
 use Rattle.spb_tlvs.proofs.Pieces.{pieces_more, pieces_none}
 

@@ -1,6 +1,6 @@
 -- Whether bytes are whole TLVs that pass a test, one TLV at a time.
-use Rattle.std.proofs.Common.{◌≡◌, ℕ, ◌≤◌, Bool, true, false, ◌&&◌, eqb, List, length, refl, sym, ap, ◌∙◌, arith}
-use Rattle.spb_tlvs.specs.Piece.{starts_whole, first_piece, after_first, pieces, left, ends_whole}
+use Rattle.std.proofs.Common.{◌≡◌, ℕ, ◌≤◌, Bool, true, false, ◌&&◌, eqb, List, length, refl, sym, ◌∙◌, arith}
+use Rattle.spb_tlvs.specs.Piece.{starts_whole, first_piece, after_first, ends_whole}
 use Rattle.spb_tlvs.specs.Tlv.{Tlv, tlv_of, are_whole}
 use Rattle.spb_tlvs.proofs.Pieces.{pieces_more, pieces_none, left_more, left_none}
 

@@ -6,3 +6,4 @@ pub mod ThreeWay
 pub mod Entry
 pub mod Neighbour
 pub mod Capability
+pub mod RoundTrip

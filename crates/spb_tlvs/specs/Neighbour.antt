@@ -1,6 +1,6 @@
 -- The extended IS reachability TLV, code 22 (RFC 5305, 3), whose entries carry the SPB link metric, sub-TLV 29
 -- (RFC 6329, 15.1).
-use Rattle.std.specs.Prelude.{ℕ, List, [], ◌∷◌, ◌++◌, length, drop, Bool, ◌&&◌, ◌||◌, not, nat_le, Option, None, Result, Ok, Err, ◌==◌, if◌then◌else◌}
+use Rattle.std.specs.Prelude.{ℕ, List, ◌∷◌, ◌++◌, length, drop, Bool, ◌&&◌, ◌||◌, not, nat_le, Option, None, Result, Ok, Err, ◌==◌, if◌then◌else◌}
 use Rattle.std.specs.List.{flat_map, filter_map, list_all, slice_get}
 use Rattle.std.specs.Option.{option_map}
 use Rattle.spb_types.specs.Bytes.{u8_at, u16_at, u24_at}

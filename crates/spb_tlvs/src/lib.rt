@@ -11,6 +11,10 @@
 pub use capability::{Capability, Service, read_capability, write_capability};
 pub use entries::{SnpEntry, read_entries, write_entries};
 pub use error::TlvError;
+pub use laws::{
+    capability_again, capability_same, entries_again, entries_same, neighbours_again,
+    neighbours_same, three_way_again, three_way_same, tlvs_in_order,
+};
 pub use neighbours::{Neighbour, read_neighbours, write_neighbours};
 pub use three_way::{ThreeWay, read_three_way, write_three_way};
 pub use tlv::find_tlv;
@@ -20,6 +24,7 @@ mod capability;
 mod entries;
 mod error;
 mod fields;
+mod laws;
 mod neighbours;
 mod piece;
 #[cfg(test)]

@@ -259,10 +259,17 @@ fn refusals_of_a_capability(rt: HostRuntime) -> Result<(), Fail> {
 #[test]
 fn a_tlv_by_its_code_and_number(rt: HostRuntime) {
     let tlvs = [1, 1, 0x49, 9, 0, 1, 2, 5, 6, 9, 1, 7, 1, 3, 8];
-    assert_eq!(rt; find_tlv(&tlvs, 1, 0), Some([0x49].as_slice()));
-    assert_eq!(rt; find_tlv(&tlvs, 1, 1), Some([5, 6].as_slice()));
-    assert_eq!(rt; find_tlv(&tlvs, 1, 2), None);
-    assert_eq!(rt; find_tlv(&tlvs, 9, 0), Some([].as_slice()));
-    assert_eq!(rt; find_tlv(&tlvs, 9, 1), Some([7].as_slice()));
-    assert_eq!(rt; find_tlv(&tlvs, 240, 0), None);
+    is_found(&rt, find_tlv(&tlvs, 1, 0), &[0x49]);
+    is_found(&rt, find_tlv(&tlvs, 1, 1), &[5, 6]);
+    is_found(&rt, find_tlv(&tlvs, 9, 0), &[]);
+    is_found(&rt, find_tlv(&tlvs, 9, 1), &[7]);
+    assert!(rt; find_tlv(&tlvs, 1, 2).is_none());
+    assert!(rt; find_tlv(&tlvs, 240, 0).is_none());
+}
+
+fn is_found(rt: &impl Abort, found: Option<&[u8]>, want: &[u8]) {
+    match found {
+        Some(value) => assert_eq!(rt; value, want),
+        None => panic!(rt; "not found"),
+    }
 }
