@@ -1,0 +1,4 @@
+pub mod Version
+pub mod Entry
+pub mod Database
+pub mod Certificate
