@@ -6,7 +6,8 @@
 #![tactic(auto)]
 
 pub use held::{DbRow, Held};
-pub use version::{Relation, Version};
+pub use version::{Relation, Version, compare, join};
 
 mod held;
+pub mod laws;
 mod version;
