@@ -1,0 +1,5 @@
+pub mod Version
+pub mod Entry
+pub mod Database
+pub mod Certificate
+pub mod Laws

@@ -1,0 +1,133 @@
+ghost use Rattle.std.specs.Prelude.{◌≡◌};
+ghost use Rattle.lsdb.specs.Version.{leq, relation, join_of, number_of, claimed};
+
+/// The version of an LSP (ISO/IEC 10589, 7.3.16).
+#[derive(Clone, Copy, Debug, PartialEq, Eq, Hash)]
+pub enum Version {
+    /// There is none.
+    Absent,
+    /// Sequence number, at least 1, and checksum of an LSP that has a lifetime left.
+    Live { seq: u32, sum: u16 },
+    /// Sequence number, at least 1, of an LSP whose lifetime has run out.
+    Dead { seq: u32 },
+}
+
+/// How one version stands to another.
+#[derive(Clone, Copy, Debug, PartialEq, Eq, Hash)]
+pub enum Relation {
+    /// It is below the other.
+    Older,
+    /// They are one.
+    Equal,
+    /// It is above the other.
+    Newer,
+    /// Neither: both are live, with one number and different checksums.
+    Confused,
+}
+
+impl Version {
+    /// The version that a PDU speaks of: number 0 means none, and lifetime 0 a dead one.
+    pub fn claimed(seq: u32, lifetime: u16, sum: u16) -> Version
+        ensures { result ≡ claimed seq lifetime sum }
+    {
+        if seq == 0 {
+            Version::Absent
+        } else if lifetime == 0 {
+            Version::Dead { seq }
+        } else {
+            Version::Live { seq, sum }
+        }
+    }
+
+    /// The sequence number, 0 where there is no LSP.
+    pub fn number(self) -> u32
+        ensures { result ≡ number_of self }
+    {
+        match self {
+            Version::Absent => 0,
+            Version::Live { seq, sum: _ } => seq,
+            Version::Dead { seq } => seq,
+        }
+    }
+
+    /// Whether this version is at most another: absent is least, a greater number is above a lower one, and at one
+    /// number every live version is below the dead one.
+    #[tactic(auto, unfolding(crate::specs::Version::leq))]
+    pub fn is_at_most(self, other: Version) -> bool
+        ensures { result ≡ leq self other }
+    {
+        match (self, other) {
+            (Version::Absent, _) => true,
+            (_, Version::Absent) => false,
+            (Version::Live { seq, sum }, Version::Live { seq: n, sum: s }) => {
+                seq < n || (seq == n && sum == s)
+            }
+            (Version::Live { seq, sum: _ }, Version::Dead { seq: n }) => seq <= n,
+            (Version::Dead { seq }, Version::Live { seq: n, sum: _ }) => seq < n,
+            (Version::Dead { seq }, Version::Dead { seq: n }) => seq <= n,
+        }
+    }
+}
+
+/// How a version stands to the one that is held.
+#[tactic(auto, unfolding(crate::specs::Version::relation))]
+pub fn compare(a: Version, h: Version) -> Relation
+    ensures { result ≡ relation a h }
+{
+    match (a.is_at_most(h), h.is_at_most(a)) {
+        (true, true) => Relation::Equal,
+        (true, false) => Relation::Older,
+        (false, true) => Relation::Newer,
+        (false, false) => Relation::Confused,
+    }
+}
+
+/// The least version that both are at most: the newer one, and of confused versions the dead one of their number.
+#[tactic(auto, unfolding(crate::specs::Version::join_of))]
+pub fn join(a: Version, h: Version) -> Version
+    ensures { result ≡ join_of a h }
+{
+    if a.is_at_most(h) {
+        h
+    } else if h.is_at_most(a) {
+        a
+    } else {
+        Version::Dead { seq: a.number() }
+    }
+}
+
+#[cfg(test)]
+mod tests {
+    use super::*;
+
+    fn live(seq: u32, sum: u16) -> Version {
+        Version::Live { seq, sum }
+    }
+
+    #[test]
+    fn versions_stand_in_their_order(rt: HostRuntime) {
+        let dead = Version::Dead { seq: 5 };
+        for (a, h, relation, top) in [
+            (Version::Absent, Version::Absent, Relation::Equal, Version::Absent),
+            (Version::Absent, live(1, 7), Relation::Older, live(1, 7)),
+            (live(5, 7), live(5, 7), Relation::Equal, live(5, 7)),
+            (live(5, 7), live(5, 8), Relation::Confused, dead),
+            (live(5, 7), live(4, 9), Relation::Newer, live(5, 7)),
+            (live(5, 7), dead, Relation::Older, dead),
+            (live(6, 0), dead, Relation::Newer, live(6, 0)),
+            (dead, live(5, 7), Relation::Newer, dead),
+            (dead, Version::Dead { seq: 6 }, Relation::Older, Version::Dead { seq: 6 }),
+        ] {
+            assert_eq!(rt; compare(a, h), relation, "{a:?} and {h:?}");
+            assert_eq!(rt; join(a, h), top, "{a:?} and {h:?}");
+        }
+    }
+
+    #[test]
+    fn a_pdu_speaks_of_a_version(rt: HostRuntime) {
+        assert_eq!(rt; Version::claimed(0, 1200, 7), Version::Absent);
+        assert_eq!(rt; Version::claimed(9, 0, 7), Version::Dead { seq: 9 });
+        assert_eq!(rt; Version::claimed(9, 1, 7), live(9, 7));
+        assert_eq!(rt; live(9, 7).number(), 9);
+    }
+}
