@@ -1,0 +1,4 @@
+pub mod Bytes
+pub mod Sums
+pub mod TlvWalk
+pub mod Written

@@ -1,0 +1,93 @@
+use spb_types::{LspId, SystemId};
+use std::error::Error;
+use std::fmt;
+
+/// A point-to-point IS to IS hello (ISO/IEC 10589, 9.7).
+#[derive(Clone, Copy, Debug, PartialEq, Eq)]
+pub struct Hello<'a> {
+    /// The levels that the sender speaks on this circuit: 1 is level 1 alone.
+    pub circuit_type: u8,
+    pub source: SystemId,
+    /// How long the sender is to be held as a neighbour, in seconds.
+    pub holding: u16,
+    /// The local circuit id that the sender gave the circuit.
+    pub circuit: u8,
+    /// The TLVs, one after another, as bytes.
+    pub tlvs: &'a [u8],
+}
+
+/// A level 1 link state PDU (ISO/IEC 10589, 9.8).
+#[derive(Clone, Copy, Debug, PartialEq, Eq)]
+pub struct Lsp<'a> {
+    /// The remaining lifetime, in seconds. An LSP with 0 is dead.
+    pub lifetime: u16,
+    pub id: LspId,
+    pub seq: u32,
+    /// The checksum field: its two check bytes, the first one times 256.
+    pub sum: u16,
+    /// The octet of P, ATT, LSPDBOL and IS type.
+    pub flags: u8,
+    /// The TLVs, one after another, as bytes.
+    pub tlvs: &'a [u8],
+}
+
+/// A level 1 complete sequence numbers PDU (ISO/IEC 10589, 9.10).
+#[derive(Clone, Copy, Debug, PartialEq, Eq)]
+pub struct Csnp<'a> {
+    pub source: SystemId,
+    /// The first LSP id of the range that it speaks of.
+    pub start: LspId,
+    /// The last LSP id of that range.
+    pub end: LspId,
+    /// The TLVs, one after another, as bytes.
+    pub tlvs: &'a [u8],
+}
+
+/// A level 1 partial sequence numbers PDU (ISO/IEC 10589, 9.12).
+#[derive(Clone, Copy, Debug, PartialEq, Eq)]
+pub struct Psnp<'a> {
+    pub source: SystemId,
+    /// The TLVs, one after another, as bytes.
+    pub tlvs: &'a [u8],
+}
+
+/// A PDU that was read. Its TLVs lie in the bytes that it was read from.
+#[derive(Clone, Copy, Debug, PartialEq, Eq)]
+pub enum Pdu<'a> {
+    Hello(Hello<'a>),
+    Lsp(Lsp<'a>),
+    Csnp(Csnp<'a>),
+    Psnp(Psnp<'a>),
+}
+
+/// Why bytes are no PDU: the first of these rules, in this order, that they break.
+#[derive(Clone, Copy, Debug, PartialEq, Eq, PartialOrd, Ord, Hash)]
+pub enum PduError {
+    /// There are fewer than 8 bytes.
+    Short,
+    /// The discriminator, a version, the id length or the number of areas isn't one that is read.
+    NotIsis,
+    /// The type isn't one of the four that are read, or the header length isn't that of the type.
+    Kind,
+    /// There are fewer bytes than the header, or the PDU length is less than the header or more than the bytes.
+    Length,
+    /// The TLVs don't end exactly at the PDU length.
+    TlvCut,
+    /// A live LSP has the checksum 0, or one that doesn't hold.
+    Sum,
+}
+
+impl fmt::Display for PduError {
+    fn fmt<W: fmt::Write>(&self, f: &mut fmt::Formatter<W>) -> fmt::Result {
+        f.write_str(match self {
+            PduError::Short => "fewer bytes than the common header",
+            PduError::NotIsis => "no IS-IS PDU",
+            PduError::Kind => "an unknown type or a wrong header length",
+            PduError::Length => "a wrong PDU length",
+            PduError::TlvCut => "a TLV passes the end",
+            PduError::Sum => "a wrong checksum",
+        })
+    }
+}
+
+impl Error for PduError {}
