@@ -3,3 +3,4 @@ pub mod WordForms
 pub mod Keywords
 pub mod Grammar
 pub mod Answers
+pub mod Spelling

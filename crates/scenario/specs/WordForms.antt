@@ -1,10 +1,9 @@
-use Rattle.std.specs.Prelude.{ℕ, ◌+◌, ◌-◌, ◌*◌, ◌%◌, List, [], ◌∷◌, length, ◌&&◌, ◌==◌, nat_le, if◌then◌else◌, Option, Some, None, Result, Ok, Err, codes, fold, unwrap_or}
+use Rattle.std.specs.Prelude.{ℕ, ◌+◌, ◌-◌, ◌*◌, ◌%◌, List, [], length, ◌&&◌, ◌==◌, nat_le, if◌then◌else◌, Option, Some, None, Result, Ok, Err, codes, fold, unwrap_or}
 use Rattle.std.specs.List.{list_all}
 use Rattle.std.specs.Str.{bytes_eq}
-use Rattle.hex.specs.Hex.{decode_of, decode_sized, is_hex_digit}
+use Rattle.hex.specs.Hex.{decode_of, hex_digit_value, is_hex_digit}
 use Rattle.hex.specs.declared.error.FromHexError.{FromHexError}
 use Rattle.spb_types.specs.Name.{is_name, is_digit}
-use Rattle.spb_types.specs.Bytes.{u24_at}
 use Rattle.spb_types.specs.declared.address.Mac.{Mac}
 use Rattle.spb_types.specs.declared.service.SourceId.{SourceId}
 use Rattle.scenario.specs.declared.command.Side.{Side}
@@ -27,30 +26,25 @@ unfoldable pub number : List ℕ → Option ℕ
 number word =
     if nat_le 1 (length word) && nat_le (length word) 10 && list_all is_digit word then Some (decimal word) else None
 
--- the bytes that hexadecimal digits write, in either case, where there is an even number of them and nothing else
-abbrev pub bytes_in : Result (List ℕ) FromHexError → Option (List ℕ)
-bytes_in (Ok bytes) = Some bytes
-bytes_in (Err e) = None
+-- the bytes that hexadecimal digits write, two for each, in either case
+abbrev pub bytes_in : Result (List ℕ) FromHexError → List ℕ
+bytes_in (Ok bytes) = bytes
+bytes_in (Err e) = []
 
-abbrev pub mac_of : Option (List ℕ) → Option Mac
-mac_of (Some bytes) = Some (record { bytes = bytes })
-mac_of None = None
+abbrev pub decoded : List ℕ → List ℕ
+decoded digits = bytes_in (decode_of digits)
+
+-- the number that hexadecimal digits write, in either case
+abbrev pub hexadecimal : List ℕ → ℕ
+hexadecimal digits = fold (λ value digit. value * 16 + unwrap_or (hex_digit_value digit) 0) 0 digits
 
 -- 12 hexadecimal digits
 unfoldable pub system : List ℕ → Option Mac
-system word = mac_of (bytes_in (decode_sized word 6))
+system word = if (length word == 12) && list_all is_hex_digit word then Some (record { bytes = decoded word }) else None
 
-abbrev pub source_of : Option (List ℕ) → Option SourceId
-source_of (Some bytes) = Some (record { value = u24_at bytes 0 })
-source_of None = None
-
--- 5 hexadecimal digits: behind a digit 0 they write three bytes, the greatest first
+-- 5 hexadecimal digits
 unfoldable pub source : List ℕ → Option SourceId
-source word = if length word == 5 then source_of (bytes_in (decode_sized (48 ∷ word) 3)) else None
-
--- the bytes that hexadecimal digits write
-abbrev pub decoded : List ℕ → List ℕ
-decoded digits = unwrap_or (bytes_in (decode_of digits)) []
+source word = if (length word == 5) && list_all is_hex_digit word then Some (record { value = hexadecimal word }) else None
 
 -- a positive even number of hexadecimal digits
 unfoldable pub frame : List ℕ → Option (List ℕ)

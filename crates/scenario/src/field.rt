@@ -1,5 +1,5 @@
-ghost use Rattle.std.specs.Prelude.{◌≡◌, ◌+◌, ◌≤◌, ◌<◌, ℕ, List, Option, length, IsTrue, IfOk};
-ghost use Rattle.hex.specs.Hex.{is_hex_digit};
+ghost use Rattle.std.specs.Prelude.{◌≡◌, ◌+◌, ◌≤◌, ◌<◌, ℕ, List, Option, length, IsTrue, IfOk, unwrap_or};
+ghost use Rattle.hex.specs.Hex.{hex_digit_value, is_hex_digit};
 ghost use Rattle.std.specs.List.{list_all};
 ghost use Rattle.spb_types.specs.Name.{is_digit};
 ghost use Rattle.scenario.specs.WordForms as forms;
@@ -61,6 +61,13 @@ impl<'a> Field<'a> for u64 {
     }
 }
 
+/// Whether every byte is a hexadecimal digit, in either case.
+fn are_hex_digits(bytes: &[u8]) -> bool
+    ensures { result ≡ list_all is_hex_digit bytes.now }
+{
+    bytes.iter().all(u8::is_ascii_hexdigit)
+}
+
 impl<'a> Field<'a> for Mac {
     ghost meaning = { forms.system };
 
@@ -74,23 +81,43 @@ impl<'a> Field<'a> for Mac {
     }
 }
 
+/// The value of a hexadecimal digit, in either case.
+fn digit_value(digit: u8) -> u32
+    requires { IsTrue (is_hex_digit digit) }
+    ensures value { result ≡ unwrap_or (hex_digit_value digit) 0 }
+    ensures small { result < 16 }
+{
+    match digit {
+        b'0'..=b'9' => u32::from(digit - b'0'),
+        b'a'..=b'f' => u32::from(digit - b'a') + 10,
+        _ => u32::from(digit - b'A') + 10,
+    }
+}
+
+/// The number that at most five hexadecimal digits write.
+fn hexadecimal(digits: &[u8]) -> u32
+    requires few { length digits.now ≤ 5 }
+    requires digits { IsTrue (list_all is_hex_digit digits.now) }
+    ensures { result ≡ forms.hexadecimal digits.now }
+{
+    let mut value = 0;
+    for digit in digits {
+        value = value * 16 + digit_value(*digit);
+    }
+    value
+}
+
 impl<'a> Field<'a> for SourceId {
     ghost meaning = { forms.source };
 
     #[tactic(auto, unfolding(crate::specs::WordForms::source))]
     fn read(word: &'a [u8]) -> Option<SourceId> {
-        let [a, b, c, d, e] = word else {
-            return None;
-        };
-        let mut bytes = [0; 3];
-        match hex::decode_to_slice([b'0', *a, *b, *c, *d, *e].as_slice(), &mut bytes) {
-            Ok(()) => {
-                let [high, middle, low] = bytes;
-                Some(SourceId {
-                    value: (u32::from(high) * 256 + u32::from(middle)) * 256 + u32::from(low),
-                })
-            }
-            Err(_) => None,
+        if word.len() == 5 && are_hex_digits(word) {
+            Some(SourceId {
+                value: hexadecimal(word),
+            })
+        } else {
+            None
         }
     }
 }
@@ -156,13 +183,6 @@ impl<'a> Hex<'a> {
             Err(_) => Err(NoMemory),
         }
     }
-}
-
-/// Whether every byte is a hexadecimal digit, in either case.
-fn are_hex_digits(bytes: &[u8]) -> bool
-    ensures { result ≡ list_all is_hex_digit bytes.now }
-{
-    bytes.iter().all(u8::is_ascii_hexdigit)
 }
 
 impl<'a> Field<'a> for Hex<'a> {

@@ -1,0 +1,75 @@
+use Rattle.std.specs.Prelude.{◌≡◌, ℕ, ◌≤◌, ◌%◌, List, [], ◌∷◌, ◌++◌, length, not, IsTrue, codes, ⊤}
+use Rattle.std.specs.List.{list_all}
+use Rattle.hex.specs.Hex.{is_hex_digit}
+use Rattle.spb_types.specs.Name.{is_name, is_digit}
+use Rattle.scenario.specs.declared.command.Side.{Side}
+use Rattle.scenario.specs.declared.command.Side.TheVariants.{A, B}
+use Rattle.scenario.specs.declared.command.Dir.{Dir}
+use Rattle.scenario.specs.declared.command.Dir.TheVariants.{Ab, Ba}
+use Rattle.scenario.specs.declared.command.Command.{Command}
+use Rattle.scenario.specs.declared.keyword.Keyword.{Keyword}
+use Rattle.scenario.specs.Words.{is_blank}
+use Rattle.scenario.specs.WordForms.{decimal, decoded, hexadecimal}
+use Rattle.scenario.specs.Keywords.{text_of}
+use Rattle.scenario.specs.Grammar.{Kind, a_name, a_number, a_system, a_source, a_frame, a_dir, a_side, Value, Form, gives, takes, form_of}
+
+-- How a command may be spelled in a line.
+
+abbrev pub AreDigits : List ℕ → Type 0
+AreDigits word = IsTrue (list_all is_digit word)
+
+abbrev pub AreHexDigits : List ℕ → Type 0
+AreHexDigits word = IsTrue (list_all is_hex_digit word)
+
+abbrev pub side_text : Side → List ℕ
+side_text A = codes "a"
+side_text B = codes "b"
+
+abbrev pub dir_text : Dir → List ℕ
+dir_text Ab = codes "ab"
+dir_text Ba = codes "ba"
+
+-- the word spells the value
+abbrev pub SpellsValue : (k : Kind) → Value k → List ℕ → Type 0
+SpellsValue a_name name word = IsTrue (is_name word) × (word ≡ name)
+SpellsValue a_number number word = (1 ≤ length word) × (length word ≤ 10) × AreDigits word × (decimal word ≡ number)
+SpellsValue a_system system word = (length word ≡ 12) × AreHexDigits word × (decoded word ≡ system.bytes)
+SpellsValue a_source source word = (length word ≡ 5) × AreHexDigits word × (hexadecimal word ≡ source.value)
+SpellsValue a_frame frame word = (1 ≤ length word) × (length word % 2 ≡ 0) × AreHexDigits word × (decoded word ≡ frame)
+SpellsValue a_dir dir word = word ≡ dir_text dir
+SpellsValue a_side side word = word ≡ side_text side
+
+-- the words spell what the form takes, one word for each, and the form then gives the command
+abbrev pub SpellsForm : Form → Command → List (List ℕ) → Type 0
+SpellsForm (gives given) command [] = given ≡ command
+SpellsForm (gives given) command (word ∷ words) = ⊥
+SpellsForm (takes kind more) command [] = ⊥
+SpellsForm (takes kind more) command (word ∷ words) =
+    (value : Value kind) × SpellsValue kind value word × SpellsForm (more value) command words
+
+abbrev pub AreBlank : List ℕ → Type 0
+AreBlank bytes = IsTrue (list_all is_blank bytes)
+
+-- at least one byte, and none that is blank
+abbrev pub IsWord : List ℕ → Type 0
+IsWord [] = ⊥
+IsWord (byte ∷ bytes) = IsTrue (list_all (λ b. not (is_blank b)) (byte ∷ bytes))
+
+-- nothing, or a blank first
+abbrev pub EndsWord : List ℕ → Type 0
+EndsWord [] = ⊤
+EndsWord (byte ∷ bytes) = IsTrue (is_blank byte)
+
+-- the bytes are these words in order, with at least one blank between two of them, and any blanks around
+abbrev pub AreWords : List (List ℕ) → List ℕ → Type 0
+AreWords [] bytes = AreBlank bytes
+AreWords (word ∷ words) bytes =
+    (before after : List ℕ) × AreBlank before × IsWord word × EndsWord after × (bytes ≡ before ++ (word ++ after)) × AreWords words after
+
+-- The line spells the command: it has at most 8,192 bytes, and its words are a keyword and what its form takes.
+pub record Spells (line : List ℕ) (command : Command) : Type 0 where
+  pub keyword : Keyword
+  pub words : List (List ℕ)
+  pub short : length line ≤ 8192
+  pub apart : AreWords (text_of keyword ∷ words) line
+  pub form : SpellsForm (form_of keyword) command words
