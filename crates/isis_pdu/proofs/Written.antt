@@ -1,24 +1,21 @@
 -- What is spelled as a PDU is read as it.
-use Rattle.std.proofs.Common.{◌≡◌, ℕ, zero, suc, ◌+◌, ◌*◌, ◌-◌, ◌/◌, ◌%◌, ◌<◌, ◌≤◌, List, [], ◌∷◌, ◌++◌, length, get_or, take, drop, Bool, true, false, cond, Option, Some, None, Result, Ok, Err, refl, sym, ap, ◌∙◌, subst, arith}
-use Rattle.std.specs.Prelude.{IsTrue, ◌&&◌, ◌||◌, ◌==◌, nat_le, slice_range, slice_index, if◌then◌else◌}
+use Rattle.std.proofs.Common.{◌≡◌, ℕ, ◌+◌, ◌*◌, ◌-◌, ◌/◌, ◌%◌, ◌<◌, ◌≤◌, List, [], ◌∷◌, ◌++◌, length, take, true, Some, Ok, Err, refl, sym, ◌∙◌, subst, arith}
+use Rattle.std.specs.Prelude.{IsTrue, ◌==◌, nat_le, slice_range, slice_index, if◌then◌else◌}
 use Rattle.std.proofs.lemmas.Bool.{le-leb}
 use Rattle.std.proofs.lemmas.List.{take_at, length-append}
-use Rattle.spb_types.specs.declared.address.Mac.{Mac}
 use Rattle.spb_types.specs.declared.address.SystemId.{SystemId}
 use Rattle.spb_types.specs.declared.address.LspId.{LspId}
-use Rattle.spb_types.specs.Bytes.{u8_at, u16_at, u32_at}
+use Rattle.spb_types.specs.Bytes.{u8_at}
 use Rattle.isis_pdu.specs.declared.kind.Kind.{Kind}
 use Rattle.isis_pdu.specs.declared.kind.Kind.TheVariants as kinds
-use Rattle.isis_pdu.specs.declared.pdu.PduError.{PduError}
 use Rattle.isis_pdu.specs.declared.pdu.PduError.TheVariants as refusals
-use Rattle.isis_pdu.specs.Bytes.{u16_bytes, u32_bytes, lsp_id_bytes}
-use Rattle.isis_pdu.specs.Header.{kind_of, number_of, fixed_length, length_place}
+use Rattle.isis_pdu.specs.Header.{fixed_length}
 use Rattle.isis_pdu.specs.Pdu.{PduValue, HelloValue, LspValue, CsnpValue, PsnpValue, hello, lsp, csnp, psnp}
 use Rattle.isis_pdu.specs.Tlvs.{is_whole}
-use Rattle.isis_pdu.specs.Checksum.{covered, is_checked}
+use Rattle.isis_pdu.specs.Checksum.{covered}
 use Rattle.isis_pdu.specs.Spelling.{PassedOver, IsPassedOver, hello_with, lsp_with, csnp_with, psnp_with, pdu_with}
-use Rattle.isis_pdu.specs.Reading.{is_isis, kind_at, pdu_length, has_length, has_sum, tlvs_in, value_in, unless, read_as, read}
-use Rattle.isis_pdu.specs.Grammar.{kind_of_pdu, tlvs_of, length_of, IsId, HasIds, IsPdu, is_sound_lsp, is_sound, passed_over_in}
+use Rattle.isis_pdu.specs.Reading.{is_isis, kind_at, pdu_length, has_length, has_sum, tlvs_in, value_in, read_as, read}
+use Rattle.isis_pdu.specs.Grammar.{kind_of_pdu, tlvs_of, length_of, IsId, IsPdu, is_sound_lsp, is_sound}
 
 -- bytes that begin with a PDU, up to the check of its sum
 pub record IsLaidOut (bytes : List ℕ) (p : PduValue) : Type 0 where
@@ -104,22 +101,30 @@ lsp_id_of a b c d e f n m = record { system = id_of a b c d e f; pseudonode = n;
 
 lsp_cells : (o : PassedOver) (life a b c d e f n m seq sum flags : ℕ) (tlvs after : List ℕ) → IsPassedOver o
     → let v : LspValue = record { lifetime = life; id = lsp_id_of a b c d e f n m; seq = seq; sum = sum; flags = flags; tlvs = tlvs } in
-      IsLaidOut (lsp_with o v ++ after) (lsp v) × (has_sum kinds.Lsp (lsp_with o v ++ after) ≡ is_sound_lsp v)
+    IsLaidOut (lsp_with o v ++ after) (lsp v) × (has_sum kinds.Lsp (lsp_with o v ++ after) ≡ is_sound_lsp v)
 unfolding value_in
-lsp_cells o life a b c d e f n m seq sum flags tlvs after ok = (record {
-  long = omega (arith, length-append tlvs after);
-  isis = rw (ok.id_length, ok.max_areas) refl;
-  kind = rw (kind_back o.type_bits 18 (omega arith)) refl;
-  header = refl;
-  len = u16_back (27 + length tlvs);
-  tlvs = tlvs_back 27 tlvs after;
-  value = rw (u16_back life, u32_back seq, u16_back sum, u16_back (27 + length tlvs), tlvs_back 27 tlvs after) refl;
-}, rw (u16_back life, u32_back seq, u16_back sum, u16_back (27 + length tlvs),
-      take_at (covered (lsp_id_of a b c d e f n m) seq sum flags tlvs) after (27 + length tlvs - 12) (omega arith)) refl)
+lsp_cells o life a b c d e f n m seq sum flags tlvs after ok = (
+  record {
+    long = omega (arith, length-append tlvs after);
+    isis = rw (ok.id_length, ok.max_areas) refl;
+    kind = rw (kind_back o.type_bits 18 (omega arith)) refl;
+    header = refl;
+    len = u16_back (27 + length tlvs);
+    tlvs = tlvs_back 27 tlvs after;
+    value = rw (u16_back life, u32_back seq, u16_back sum, u16_back (27 + length tlvs), tlvs_back 27 tlvs after) refl;
+  },
+  rw (
+    u16_back life,
+    u32_back seq,
+    u16_back sum,
+    u16_back (27 + length tlvs),
+    take_at (covered (lsp_id_of a b c d e f n m) seq sum flags tlvs) after (27 + length tlvs - 12) (omega arith),
+  ) refl,
+)
 
 csnp_cells : (o : PassedOver) (a b c d e f : ℕ) (a' b' c' d' e' f' n' m' : ℕ) (a'' b'' c'' d'' e'' f'' n'' m'' : ℕ) (tlvs after : List ℕ) → IsPassedOver o
     → let v : CsnpValue = record { source = id_of a b c d e f; start = lsp_id_of a' b' c' d' e' f' n' m'; end = lsp_id_of a'' b'' c'' d'' e'' f'' n'' m''; tlvs = tlvs } in
-      IsLaidOut (csnp_with o v ++ after) (csnp v)
+    IsLaidOut (csnp_with o v ++ after) (csnp v)
 unfolding value_in
 csnp_cells o a b c d e f a' b' c' d' e' f' n' m' a'' b'' c'' d'' e'' f'' n'' m'' tlvs after ok = record {
   long = omega (arith, length-append tlvs after);
@@ -153,16 +158,16 @@ hello_laid : (o : PassedOver) (h : HelloValue) (after : List ℕ) → IsPassedOv
 hello_laid o h after ok id =
     let xs : List ℕ = h.source.mac.bytes in
     subst (λ (ys : List ℕ). IsLaidOut (hello_with o (record h { source = with_bytes ys }) ++ after) (hello (record h { source = with_bytes ys }))) (sym (six xs id))
-      (hello_cells o h.circuit_type h.holding h.circuit _ _ _ _ _ _ h.tlvs after ok)
+    (hello_cells o h.circuit_type h.holding h.circuit _ _ _ _ _ _ h.tlvs after ok)
 
-abbrev LspLaid : PassedOver → LspValue → List ℕ → Type 0
+abbrev pub LspLaid : PassedOver → LspValue → List ℕ → Type 0
 LspLaid o l after = IsLaidOut (lsp_with o l ++ after) (lsp l) × (has_sum kinds.Lsp (lsp_with o l ++ after) ≡ is_sound_lsp l)
 
-lsp_laid : (o : PassedOver) (l : LspValue) (after : List ℕ) → IsPassedOver o → IsId l.id.system → LspLaid o l after
+pub lsp_laid : (o : PassedOver) (l : LspValue) (after : List ℕ) → IsPassedOver o → IsId l.id.system → LspLaid o l after
 lsp_laid o l after ok id =
     let xs : List ℕ = l.id.system.mac.bytes in
     subst (λ (ys : List ℕ). LspLaid o (record l { id = record l.id { system = with_bytes ys } }) after) (sym (six xs id))
-      (lsp_cells o l.lifetime _ _ _ _ _ _ l.id.pseudonode l.id.number l.seq l.sum l.flags l.tlvs after ok)
+    (lsp_cells o l.lifetime _ _ _ _ _ _ l.id.pseudonode l.id.number l.seq l.sum l.flags l.tlvs after ok)
 
 csnp_laid : (o : PassedOver) (c : CsnpValue) (after : List ℕ) → IsPassedOver o → IsId c.source → IsId c.start.system → IsId c.end.system → IsLaidOut (csnp_with o c ++ after) (csnp c)
 csnp_laid o c after ok i j k =
@@ -177,9 +182,9 @@ csnp_laid o c after ok i j k =
     } in
     let laid : List ℕ → List ℕ → List ℕ → Type 0 = λ x y z. IsLaidOut (csnp_with o (made x y z) ++ after) (csnp (made x y z)) in
     let cells : laid (six_of xs) (six_of ys) (six_of zs) =
-      csnp_cells o (slice_index xs 0) (slice_index xs 1) (slice_index xs 2) (slice_index xs 3) (slice_index xs 4) (slice_index xs 5)
-        (slice_index ys 0) (slice_index ys 1) (slice_index ys 2) (slice_index ys 3) (slice_index ys 4) (slice_index ys 5) c.start.pseudonode c.start.number
-        (slice_index zs 0) (slice_index zs 1) (slice_index zs 2) (slice_index zs 3) (slice_index zs 4) (slice_index zs 5) c.end.pseudonode c.end.number c.tlvs after ok in
+    csnp_cells o (slice_index xs 0) (slice_index xs 1) (slice_index xs 2) (slice_index xs 3) (slice_index xs 4) (slice_index xs 5)
+    (slice_index ys 0) (slice_index ys 1) (slice_index ys 2) (slice_index ys 3) (slice_index ys 4) (slice_index ys 5) c.start.pseudonode c.start.number
+    (slice_index zs 0) (slice_index zs 1) (slice_index zs 2) (slice_index zs 3) (slice_index zs 4) (slice_index zs 5) c.end.pseudonode c.end.number c.tlvs after ok in
     let third : laid (six_of xs) (six_of ys) zs = subst (λ (w : List ℕ). laid (six_of xs) (six_of ys) w) (sym (six zs k)) cells in
     let second : laid (six_of xs) ys zs = subst (λ (w : List ℕ). laid (six_of xs) w zs) (sym (six ys j)) third in
     subst (λ (w : List ℕ). laid w ys zs) (sym (six xs i)) second
@@ -188,7 +193,7 @@ psnp_laid : (o : PassedOver) (p : PsnpValue) (after : List ℕ) → IsPassedOver
 psnp_laid o p after ok id =
     let xs : List ℕ = p.source.mac.bytes in
     subst (λ (ys : List ℕ). IsLaidOut (psnp_with o (record p { source = with_bytes ys }) ++ after) (psnp (record p { source = with_bytes ys }))) (sym (six xs id))
-      (psnp_cells o _ _ _ _ _ _ p.tlvs after ok)
+    (psnp_cells o _ _ _ _ _ _ p.tlvs after ok)
 
 -- what is spelled is read, or its sum is wrong
 pub spelled_is_read : (o : PassedOver) (p : PduValue) (after : List ℕ) → IsPassedOver o → IsPdu p → read (pdu_with o p ++ after) ≡ (if is_sound p then Ok p else Err refusals.Sum)

@@ -1,5 +1,5 @@
 -- Which values are PDUs, and what in the bytes of a PDU is passed over.
-use Rattle.std.specs.Prelude.{◌≡◌, ℕ, ◌+◌, ◌/◌, ◌<◌, List, length, Bool, true, ◌&&◌, ◌||◌, ◌==◌, nat_le, IsTrue}
+use Rattle.std.specs.Prelude.{◌≡◌, ℕ, ◌+◌, ◌/◌, ◌<◌, List, ◌++◌, length, drop, ◌≤◌, Bool, true, ◌&&◌, ◌||◌, ◌==◌, nat_le, IsTrue}
 use Rattle.spb_types.specs.declared.address.SystemId.{SystemId}
 use Rattle.spb_types.specs.Bytes.{u8_at}
 use Rattle.isis_pdu.specs.declared.kind.Kind.{Kind}
@@ -8,7 +8,7 @@ use Rattle.isis_pdu.specs.Header.{fixed_length}
 use Rattle.isis_pdu.specs.Pdu.{PduValue, LspValue, hello, lsp, csnp, psnp}
 use Rattle.isis_pdu.specs.Tlvs.{is_whole}
 use Rattle.isis_pdu.specs.Checksum.{is_checked, covered}
-use Rattle.isis_pdu.specs.Spelling.{PassedOver}
+use Rattle.isis_pdu.specs.Spelling.{PassedOver, IsPassedOver, zeros, pdu_with}
 
 abbrev pub kind_of_pdu : PduValue → Kind
 kind_of_pdu (hello h) = kinds.Hello
@@ -44,7 +44,7 @@ pub record IsPdu (p : PduValue) : Type 0 where
 -- an LSP with a lifetime and a sequence number has a checksum that isn't 0 and that holds. No other PDU has one
 abbrev pub is_sound_lsp : LspValue → Bool
 is_sound_lsp l =
-  (l.lifetime == 0) || (l.seq == 0) || (nat_le 1 l.sum && is_checked (covered l.id l.seq l.sum l.flags l.tlvs))
+    (l.lifetime == 0) || (l.seq == 0) || (nat_le 1 l.sum && is_checked (covered l.id l.seq l.sum l.flags l.tlvs))
 
 abbrev pub is_sound : PduValue → Bool
 is_sound (hello h) = true
@@ -55,11 +55,33 @@ is_sound (psnp p) = true
 -- what the bytes of a PDU have in the places that are passed over
 abbrev pub passed_over_in : PduValue → List ℕ → PassedOver
 passed_over_in p bytes = record {
-  id_length = u8_at bytes 3; type_bits = u8_at bytes 4 / 32; reserved = u8_at bytes 6; max_areas = u8_at bytes 7;
-  circuit = circuit_in p }
+  id_length = u8_at bytes 3;
+  type_bits = u8_at bytes 4 / 32;
+  reserved = u8_at bytes 6;
+  max_areas = u8_at bytes 7;
+  circuit = circuit_in p;
+}
   where
     circuit_in : PduValue → ℕ
     circuit_in (hello h) = 0
     circuit_in (lsp l) = 0
     circuit_in (csnp c) = u8_at bytes 16
     circuit_in (psnp q) = u8_at bytes 16
+
+-- the numbers of a list are bytes
+abbrev pub IsBytes : List ℕ → Type 0
+IsBytes bytes = (i : ℕ) → u8_at bytes i < 256
+
+-- what the bytes are, of which p was read: p with what is passed over, and after it bytes of no PDU. p is a PDU, whose
+-- checksum holds if it must
+pub record IsReadFrom (bytes : List ℕ) (p : PduValue) : Type 0 where
+  pub allowed : IsPassedOver (passed_over_in p bytes)
+  pub parts : bytes ≡ pdu_with (passed_over_in p bytes) p ++ drop (length_of p) bytes
+  pub within : length_of p ≤ length bytes
+  pub pdu : IsPdu p
+  pub sound : IsTrue (is_sound p)
+
+-- the bytes are as a writer makes them: 0 in each place that is passed over, and nothing after the PDU
+pub record IsCanonical (bytes : List ℕ) (p : PduValue) : Type 0 where
+  pub over : passed_over_in p bytes ≡ zeros
+  pub end : length bytes ≡ length_of p

@@ -103,3 +103,9 @@ csnp_bytes c = csnp_with zeros c
 
 unfoldable pub psnp_bytes : PsnpValue → List ℕ
 psnp_bytes p = psnp_with zeros p
+
+abbrev pub pdu_bytes : PduValue → List ℕ
+pdu_bytes (hello h) = hello_bytes h
+pdu_bytes (lsp l) = lsp_bytes l
+pdu_bytes (csnp c) = csnp_bytes c
+pdu_bytes (psnp p) = psnp_bytes p

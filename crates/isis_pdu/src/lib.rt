@@ -6,13 +6,20 @@
 #![tactic(auto)]
 
 pub use checksum::{check_ok, lsp_sum};
+pub use laws::{
+    made_sums_hold, read_is_spelled, read_is_written_again, spelled_is_read, whole_tlvs,
+    written_is_read,
+};
 pub use pdu::{Csnp, Hello, Lsp, Pdu, PduError, Psnp};
 pub use reading::decode;
 pub use writing::{write_csnp, write_hello, write_lsp, write_psnp};
 
 mod checksum;
 mod kind;
+mod laws;
 mod pdu;
 mod reading;
+#[cfg(test)]
+mod tests;
 mod tlvs;
 mod writing;

@@ -1,7 +1,9 @@
-ghost use Rattle.std.specs.Prelude.{◌≡◌, ◌+◌, ◌≤◌, length, IsTrue, Some};
+ghost use Rattle.std.specs.Prelude.{◌≡◌, ◌+◌, ◌≤◌, length, IsTrue, IfOk, Some};
 ghost use Rattle.spb_types.specs.Bytes.{u16_at, u32_at};
 ghost use Rattle.isis_pdu.specs.Header.{fixed_length, length_place};
+ghost use Rattle.isis_pdu.specs.Grammar.{IsReadFrom, IsCanonical};
 ghost use Rattle.isis_pdu.specs.Pdu.{pdu_of};
+ghost use Rattle.isis_pdu.specs.Spelling.{pdu_bytes};
 ghost use Rattle.isis_pdu.specs.Reading as layout;
 ghost use Rattle.isis_pdu.specs.Reading.{system_at, lsp_id_at, pdu_length, tlvs_in, value_in, read_as, read, answer_of};
 
@@ -155,12 +157,9 @@ fn decode_as(kind: Kind, bytes: &[u8]) -> Result<Pdu<'_>, PduError>
     Ok(value(kind, bytes, tlvs))
 }
 
-/// The PDU that the bytes begin with, up to its PDU length. Bytes after that are passed over.
-///
-/// A refusal names the first rule that the bytes break, in the order of [`PduError`].
 #[tactic(auto, unfolding(crate::specs::Reading::read, crate::specs::Reading::read_as))]
-pub fn decode(bytes: &[u8]) -> Result<Pdu<'_>, PduError>
-    ensures exact { answer_of result ≡ read bytes.now }
+fn first_pdu(bytes: &[u8]) -> Result<Pdu<'_>, PduError>
+    ensures { answer_of result ≡ read bytes.now }
 {
     if bytes.len() < 8 {
         return Err(PduError::Short);
@@ -172,4 +171,17 @@ pub fn decode(bytes: &[u8]) -> Result<Pdu<'_>, PduError>
         Some(kind) => decode_as(kind, bytes),
         None => Err(PduError::Kind),
     }
+}
+
+/// The PDU that the bytes begin with, up to its PDU length. Bytes after that are passed over.
+///
+/// A refusal names the first rule that the bytes break, in the order of [`PduError`].
+pub fn decode(bytes: &[u8]) -> Result<Pdu<'_>, PduError>
+    ensures exact { answer_of result ≡ read bytes.now }
+    // What is read is a PDU, and is spelled in the bytes but for what is passed over.
+    ensures spelled { IfOk result (λ pdu. IsReadFrom bytes.now (pdu_of pdu)) }
+    // Bytes that are as a writer makes them are written again.
+    ensures again { IfOk result (λ pdu. IsCanonical bytes.now (pdu_of pdu) → pdu_bytes (pdu_of pdu) ≡ bytes.now) }
+{
+    first_pdu(bytes)
 }

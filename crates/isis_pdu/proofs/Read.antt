@@ -1,0 +1,257 @@
+-- What is read as a PDU is spelled as it, but for what is passed over.
+use Rattle.std.proofs.Common.{◌≡◌, ℕ, zero, suc, ◌+◌, ◌*◌, ◌-◌, ◌/◌, ◌%◌, ◌<◌, ◌≤◌, List, [], ◌∷◌, ◌++◌, length, drop, Bool, true, false, Option, Some, None, Result, Ok, refl, sym, ap, ◌∙◌, subst, arith, drop-cons}
+use Rattle.std.specs.Prelude.{IsTrue, ◌&&◌, ◌||◌, ◌==◌, nat_le, slice_range, if◌then◌else◌}
+use Rattle.std.proofs.lemmas.Bool.{leb-true, eqb-true}
+use Rattle.std.proofs.lemmas.List.{length-take, length-drop}
+use Rattle.std.proofs.lemmas.List.Folds.{drop_split}
+use Rattle.spb_types.specs.Bytes.{u8_at, u16_at, u32_at}
+use Rattle.isis_pdu.specs.declared.kind.Kind.{Kind}
+use Rattle.isis_pdu.specs.declared.kind.Kind.TheVariants as kinds
+use Rattle.isis_pdu.specs.declared.pdu.PduError.{PduError}
+use Rattle.isis_pdu.specs.Header.{kind_of, number_of, fixed_length}
+use Rattle.isis_pdu.specs.Pdu.{PduValue, LspValue, lsp}
+use Rattle.isis_pdu.specs.Tlvs.{is_whole}
+use Rattle.isis_pdu.specs.Spelling.{PassedOver, IsPassedOver, pdu_with}
+use Rattle.isis_pdu.specs.Reading.{is_isis, kind_at, pdu_length, has_length, has_sum, tlvs_in, value_in, unless, read_as, read, lsp_id_at}
+use Rattle.isis_pdu.proofs.Written.{lsp_laid}
+use Rattle.isis_pdu.specs.Grammar.{length_of, IsId, is_sound_lsp, passed_over_in, IsBytes, IsReadFrom}
+
+-- ---- what the tests say
+
+unless_ok : (e : PduError) (t : Bool) (r : Result PduValue PduError) (p : PduValue) → unless e t r ≡ Ok p → (t ≡ true) × (r ≡ Ok p)
+unless_ok e true r p h = (refl, h)
+unless_ok e false r p h = absurd cc
+
+and_true : (a b : Bool) → (a && b) ≡ true → (a ≡ true) × (b ≡ true)
+and_true true b h = (refl, h)
+and_true false b h = absurd cc
+
+abbrev done : PduValue → Result PduValue PduError
+done p = Ok p
+
+ok_is : (v p : PduValue) → done v ≡ done p → v ≡ p
+ok_is v p h = cc
+
+abbrev found : Kind → Option Kind
+found k = Some k
+
+found_is : (a b : Kind) → found a ≡ found b → a ≡ b
+found_is a b e = cc
+
+-- what holds of bytes that are read
+pub record IsAccepted (bytes : List ℕ) (k : Kind) : Type 0 where
+  pub isis : is_isis bytes ≡ true
+  pub number : u8_at bytes 4 % 32 ≡ number_of k
+  pub header : u8_at bytes 1 ≡ fixed_length k
+  pub long : fixed_length k ≤ length bytes
+  pub low : fixed_length k ≤ pdu_length k bytes
+  pub high : pdu_length k bytes ≤ length bytes
+  pub whole : is_whole (tlvs_in k bytes) ≡ true
+  pub sum : has_sum k bytes ≡ true
+
+kind_number : (n : ℕ) (k : Kind) → kind_of n ≡ Some k → n ≡ number_of k
+kind_number n k h = first (n == 17) (n == 18) (n == 24) (n == 26) refl refl refl refl h
+  where
+    first : (a b c d : Bool) → (n == 17) ≡ a → (n == 18) ≡ b → (n == 24) ≡ c → (n == 26) ≡ d
+        → (if a then Some kinds.Hello else if b then Some kinds.Lsp else if c then Some kinds.Csnp else if d then Some kinds.Psnp else None) ≡ Some k → n ≡ number_of k
+    first true b c d p q r s e = eqb-true n 17 p ∙ ap number_of (found_is _ _ e)
+    first false true c d p q r s e = eqb-true n 18 q ∙ ap number_of (found_is _ _ e)
+    first false false true d p q r s e = eqb-true n 24 r ∙ ap number_of (found_is _ _ e)
+    first false false false true p q r s e = eqb-true n 26 s ∙ ap number_of (found_is _ _ e)
+    first false false false false p q r s e = absurd cc
+
+accepted : (bytes : List ℕ) (p : PduValue) → read bytes ≡ Ok p → (k : Kind) × IsAccepted bytes k × (value_in k bytes ≡ p)
+unfolding read read_as
+accepted bytes p h =
+    let a = unless_ok _ (nat_le 8 (length bytes)) _ p h in
+    let b = unless_ok _ (is_isis bytes) _ p a.1 in
+    of_kind (kind_at bytes) refl b.0 b.1
+  where
+    of_kind : (o : Option Kind) → kind_at bytes ≡ o → is_isis bytes ≡ true → read_as o bytes ≡ Ok p → (k : Kind) × IsAccepted bytes k × (value_in k bytes ≡ p)
+    of_kind None e isis h = absurd cc
+    of_kind (Some k) e isis h =
+        let a = unless_ok _ (u8_at bytes 1 == fixed_length k) _ p h in
+        let b = unless_ok _ (has_length k bytes) _ p a.1 in
+        let c = unless_ok _ (is_whole (tlvs_in k bytes)) _ p b.1 in
+        let d = unless_ok _ (has_sum k bytes) _ p c.1 in
+        let high = and_true _ _ b.0 in
+        let low = and_true _ _ high.0 in (
+          k,
+          record {
+            isis = isis;
+            number = kind_number _ k e;
+            header = eqb-true _ _ a.0;
+            long = leb-true _ _ low.0;
+            low = leb-true _ _ low.1;
+            high = leb-true _ _ high.1;
+            whole = c.0;
+            sum = d.0;
+          },
+          ok_is _ _ d.1,
+        )
+
+-- ---- the bytes one by one
+
+cells : ℕ → ℕ → List ℕ → List ℕ
+cells zero i bytes = []
+cells (suc n) i bytes = u8_at bytes i ∷ cells n (suc i) bytes
+
+drop-cells : (n i : ℕ) (bytes : List ℕ) → i + n ≤ length bytes → drop i bytes ≡ cells n i bytes ++ drop (i + n) bytes
+unfolding cells
+drop-cells zero i bytes h = ap (λ (j : ℕ). drop j bytes) (omega arith)
+drop-cells (suc n) i bytes h =
+    let next : suc i + n ≡ i + suc n = omega arith in
+    drop-cons bytes i 0 (omega arith) ∙ ap (λ (xs : List ℕ). u8_at bytes i ∷ xs) (drop-cells n (suc i) bytes (omega arith) ∙ ap (λ (j : ℕ). cells n (suc i) bytes ++ drop j bytes) next)
+
+-- the fixed part, the TLVs, and what follows the PDU
+in_parts : (n end : ℕ) (bytes : List ℕ) → n ≤ end → end ≤ length bytes → bytes ≡ cells n 0 bytes ++ (slice_range bytes n end ++ drop end bytes)
+in_parts n end bytes low high =
+    let start : 0 + n ≡ n = omega arith in
+    drop-cells n 0 bytes (omega arith) ∙ rw start (ap (λ (xs : List ℕ). cells n 0 bytes ++ xs) (drop_split bytes n end low))
+
+-- a number of two bytes and one of four, byte by byte
+high_byte : (a b : ℕ) → b < 256 → (a * 256 + b) / 256 ≡ a
+high_byte a b h = omega arith
+
+low_byte : (a b : ℕ) → b < 256 → (a * 256 + b) % 256 ≡ b
+low_byte a b h = omega arith
+
+first_byte : (a b c d : ℕ) → b < 256 → c < 256 → d < 256 → (((a * 256 + b) * 256 + c) * 256 + d) / 16777216 ≡ a
+first_byte a b c d hb hc hd = omega arith
+
+second_byte : (a b c d : ℕ) → b < 256 → c < 256 → d < 256 → (((a * 256 + b) * 256 + c) * 256 + d) / 65536 % 256 ≡ b
+second_byte a b c d hb hc hd = omega arith
+
+third_byte : (a b c d : ℕ) → c < 256 → d < 256 → (((a * 256 + b) * 256 + c) * 256 + d) / 256 % 256 ≡ c
+third_byte a b c d hc hd = omega arith
+
+-- the bytes that every header has
+pub record IsHeader (bytes : List ℕ) (k : Kind) : Type 0 where
+  pub discriminator : u8_at bytes 0 ≡ 0x83
+  pub length_octet : u8_at bytes 1 ≡ fixed_length k
+  pub version : u8_at bytes 2 ≡ 1
+  pub id_length : IsTrue ((u8_at bytes 3 == 0) || (u8_at bytes 3 == 6))
+  pub type : u8_at bytes 4 / 32 * 32 + number_of k ≡ u8_at bytes 4
+  pub second_version : u8_at bytes 5 ≡ 1
+  pub max_areas : IsTrue ((u8_at bytes 7 == 0) || (u8_at bytes 7 == 3))
+
+header_of : (bytes : List ℕ) (k : Kind) → IsAccepted bytes k → IsHeader bytes k
+header_of bytes k h =
+    let a = and_true _ _ h.isis in
+    let b = and_true _ _ a.0 in
+    let c = and_true _ _ b.0 in
+    let d = and_true _ _ c.0 in
+    record {
+      discriminator = eqb-true _ _ d.0;
+      length_octet = h.header;
+      version = eqb-true _ _ d.1;
+      id_length = c.1;
+      type = rw (← h.number) (omega arith);
+      second_version = eqb-true _ _ b.1;
+      max_areas = a.1;
+    }
+
+-- the TLVs end at the PDU length
+tlvs_end : (k : Kind) (bytes : List ℕ) → IsAccepted bytes k → fixed_length k + length (tlvs_in k bytes) ≡ pdu_length k bytes
+tlvs_end k bytes h = omega (arith, length-take (pdu_length k bytes - fixed_length k) (drop (fixed_length k) bytes), length-drop (fixed_length k) bytes, h.low, h.high)
+
+hello_parts : (bytes : List ℕ) → IsBytes bytes → IsAccepted bytes kinds.Hello → bytes ≡ pdu_with (passed_over_in (value_in kinds.Hello bytes) bytes) (value_in kinds.Hello bytes) ++ drop (length_of (value_in kinds.Hello bytes)) bytes
+unfolding value_in pdu_with cells
+hello_parts bytes fits h =
+    let head = header_of bytes kinds.Hello h in
+    let len : 20 + length (tlvs_in kinds.Hello bytes) ≡ pdu_length kinds.Hello bytes = tlvs_end kinds.Hello bytes h in
+    let e15 : u16_at bytes 15 / 256 ≡ u8_at bytes 15 = high_byte _ _ (fits 16) in
+    let e16 : u16_at bytes 15 % 256 ≡ u8_at bytes 16 = low_byte _ _ (fits 16) in
+    let e17 : (20 + length (tlvs_in kinds.Hello bytes)) / 256 ≡ u8_at bytes 17 = rw len (high_byte _ _ (fits 18)) in
+    let e18 : (20 + length (tlvs_in kinds.Hello bytes)) % 256 ≡ u8_at bytes 18 = rw len (low_byte _ _ (fits 18)) in
+    in_parts 20 (pdu_length kinds.Hello bytes) bytes h.low h.high ∙ cc
+
+lsp_parts : (bytes : List ℕ) → IsBytes bytes → IsAccepted bytes kinds.Lsp → bytes ≡ pdu_with (passed_over_in (value_in kinds.Lsp bytes) bytes) (value_in kinds.Lsp bytes) ++ drop (length_of (value_in kinds.Lsp bytes)) bytes
+unfolding value_in pdu_with cells
+lsp_parts bytes fits h =
+    let head = header_of bytes kinds.Lsp h in
+    let len : 27 + length (tlvs_in kinds.Lsp bytes) ≡ pdu_length kinds.Lsp bytes = tlvs_end kinds.Lsp bytes h in
+    let e10 : u16_at bytes 10 / 256 ≡ u8_at bytes 10 = high_byte _ _ (fits 11) in
+    let e11 : u16_at bytes 10 % 256 ≡ u8_at bytes 11 = low_byte _ _ (fits 11) in
+    let e24 : u16_at bytes 24 / 256 ≡ u8_at bytes 24 = high_byte _ _ (fits 25) in
+    let e25 : u16_at bytes 24 % 256 ≡ u8_at bytes 25 = low_byte _ _ (fits 25) in
+    let e20 : u32_at bytes 20 / 16777216 ≡ u8_at bytes 20 = first_byte (u8_at bytes 20) (u8_at bytes 21) (u8_at bytes 22) (u8_at bytes 23) (fits 21) (fits 22) (fits 23) in
+    let e21 : u32_at bytes 20 / 65536 % 256 ≡ u8_at bytes 21 = second_byte (u8_at bytes 20) (u8_at bytes 21) (u8_at bytes 22) (u8_at bytes 23) (fits 21) (fits 22) (fits 23) in
+    let e22 : u32_at bytes 20 / 256 % 256 ≡ u8_at bytes 22 = third_byte (u8_at bytes 20) (u8_at bytes 21) (u8_at bytes 22) (u8_at bytes 23) (fits 22) (fits 23) in
+    let e23 : u32_at bytes 20 % 256 ≡ u8_at bytes 23 = low_byte _ _ (fits 23) in
+    let e8 : (27 + length (tlvs_in kinds.Lsp bytes)) / 256 ≡ u8_at bytes 8 = rw len (high_byte _ _ (fits 9)) in
+    let e9 : (27 + length (tlvs_in kinds.Lsp bytes)) % 256 ≡ u8_at bytes 9 = rw len (low_byte _ _ (fits 9)) in
+    in_parts 27 (pdu_length kinds.Lsp bytes) bytes h.low h.high ∙ cc
+
+csnp_parts : (bytes : List ℕ) → IsBytes bytes → IsAccepted bytes kinds.Csnp → bytes ≡ pdu_with (passed_over_in (value_in kinds.Csnp bytes) bytes) (value_in kinds.Csnp bytes) ++ drop (length_of (value_in kinds.Csnp bytes)) bytes
+unfolding value_in pdu_with cells
+csnp_parts bytes fits h =
+    let head = header_of bytes kinds.Csnp h in
+    let len : 33 + length (tlvs_in kinds.Csnp bytes) ≡ pdu_length kinds.Csnp bytes = tlvs_end kinds.Csnp bytes h in
+    let e8 : (33 + length (tlvs_in kinds.Csnp bytes)) / 256 ≡ u8_at bytes 8 = rw len (high_byte _ _ (fits 9)) in
+    let e9 : (33 + length (tlvs_in kinds.Csnp bytes)) % 256 ≡ u8_at bytes 9 = rw len (low_byte _ _ (fits 9)) in
+    in_parts 33 (pdu_length kinds.Csnp bytes) bytes h.low h.high ∙ cc
+
+psnp_parts : (bytes : List ℕ) → IsBytes bytes → IsAccepted bytes kinds.Psnp → bytes ≡ pdu_with (passed_over_in (value_in kinds.Psnp bytes) bytes) (value_in kinds.Psnp bytes) ++ drop (length_of (value_in kinds.Psnp bytes)) bytes
+unfolding value_in pdu_with cells
+psnp_parts bytes fits h =
+    let head = header_of bytes kinds.Psnp h in
+    let len : 17 + length (tlvs_in kinds.Psnp bytes) ≡ pdu_length kinds.Psnp bytes = tlvs_end kinds.Psnp bytes h in
+    let e8 : (17 + length (tlvs_in kinds.Psnp bytes)) / 256 ≡ u8_at bytes 8 = rw len (high_byte _ _ (fits 9)) in
+    let e9 : (17 + length (tlvs_in kinds.Psnp bytes)) % 256 ≡ u8_at bytes 9 = rw len (low_byte _ _ (fits 9)) in
+    in_parts 17 (pdu_length kinds.Psnp bytes) bytes h.low h.high ∙ cc
+
+-- ---- the law
+
+lsp_sound : (o : PassedOver) (l : LspValue) (after bytes : List ℕ) → IsPassedOver o → IsId l.id.system → bytes ≡ pdu_with o (lsp l) ++ after → has_sum kinds.Lsp bytes ≡ true → IsTrue (is_sound_lsp l)
+unfolding pdu_with
+lsp_sound o l after bytes over id parts h = sym (lsp_laid o l after over id).1 ∙ subst (λ (xs : List ℕ). has_sum kinds.Lsp xs ≡ true) parts h
+
+read_from : (k : Kind) (bytes : List ℕ) → IsBytes bytes → IsAccepted bytes k → IsReadFrom bytes (value_in k bytes)
+unfolding value_in
+read_from kinds.Hello bytes fits h =
+    let head = header_of bytes kinds.Hello h in
+    record {
+      allowed = record { id_length = head.id_length; max_areas = head.max_areas };
+      parts = hello_parts bytes fits h;
+      within = rw (tlvs_end kinds.Hello bytes h) h.high;
+      pdu = record { ids = refl; whole = h.whole };
+      sound = refl;
+    }
+read_from kinds.Lsp bytes fits h =
+    let head = header_of bytes kinds.Lsp h in
+    let l : LspValue = record { lifetime = u16_at bytes 10; id = lsp_id_at bytes 12; seq = u32_at bytes 20; sum = u16_at bytes 24; flags = u8_at bytes 26; tlvs = tlvs_in kinds.Lsp bytes } in
+    let o : PassedOver = passed_over_in (lsp l) bytes in
+    let over : IsPassedOver o = record { id_length = head.id_length; max_areas = head.max_areas } in
+    let parts : bytes ≡ pdu_with o (lsp l) ++ drop (length_of (lsp l)) bytes = lsp_parts bytes fits h in
+    record {
+      allowed = over;
+      parts = parts;
+      within = rw (tlvs_end kinds.Lsp bytes h) h.high;
+      pdu = record { ids = refl; whole = h.whole };
+      sound = lsp_sound o l (drop (length_of (lsp l)) bytes) bytes over refl parts h.sum;
+    }
+read_from kinds.Csnp bytes fits h =
+    let head = header_of bytes kinds.Csnp h in
+    record {
+      allowed = record { id_length = head.id_length; max_areas = head.max_areas };
+      parts = csnp_parts bytes fits h;
+      within = rw (tlvs_end kinds.Csnp bytes h) h.high;
+      pdu = record { ids = (refl, refl, refl); whole = h.whole };
+      sound = refl;
+    }
+read_from kinds.Psnp bytes fits h =
+    let head = header_of bytes kinds.Psnp h in
+    record {
+      allowed = record { id_length = head.id_length; max_areas = head.max_areas };
+      parts = psnp_parts bytes fits h;
+      within = rw (tlvs_end kinds.Psnp bytes h) h.high;
+      pdu = record { ids = refl; whole = h.whole };
+      sound = refl;
+    }
+
+-- what is read is spelled so
+pub read_is_spelled : (bytes : List ℕ) (p : PduValue) → IsBytes bytes → read bytes ≡ Ok p → IsReadFrom bytes p
+read_is_spelled bytes p fits h =
+    let a = accepted bytes p h in
+    subst (λ (v : PduValue). IsReadFrom bytes v) a.2 (read_from a.0 bytes fits a.1)
