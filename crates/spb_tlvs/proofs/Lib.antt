@@ -1,0 +1,9 @@
+pub mod CapabilitySteps
+pub mod Chunks
+pub mod Heads
+pub mod Metrics
+pub mod NeighbourSteps
+pub mod Pieces
+pub mod TlvSteps
+pub mod Whole
+pub mod Written

@@ -1,0 +1,93 @@
+ghost use Rattle.std.specs.Prelude.{◌≡◌, ◌≤◌, ◌++◌, length, map, take, IfOk, OnOk, OnErr};
+ghost use Rattle.spb_tlvs.specs.Tlv.{tlv};
+ghost use Rattle.spb_tlvs.specs.Reading.{Reads};
+ghost use Rattle.spb_tlvs.specs.Entry.{entries_of, entries_value, entry_at, entry_bytes};
+
+use crate::append::{put, whole_or_none};
+use crate::error::TlvError;
+use crate::fields::{system_in, u16_in, u32_in};
+use spb_types::{LspId, NoMemory};
+use std::alloc::{AllocError, Global};
+
+/// What an SNP says of an LSP, in a TLV 9 (ISO/IEC 10589, 9.10 to 9.13).
+#[derive(Clone, Copy, Debug, PartialEq, Eq, Hash)]
+pub struct SnpEntry {
+    /// The remaining lifetime in seconds.
+    pub lifetime: u16,
+    /// The id of the LSP.
+    pub id: LspId,
+    /// Its sequence number.
+    pub seq: u32,
+    /// Its checksum.
+    pub sum: u16,
+}
+
+const LSP_ENTRIES: u8 = 9;
+
+/// Reads the value of a TLV 9 (ISO/IEC 10589, 9.10 to 9.13): the entries in order. `Cut` exactly where its length is
+/// no multiple of 16.
+pub fn read_entries(alloc: Global, value: &[u8]) -> Result<Vec<SnpEntry>, TlvError>
+    ensures { Reads result (entries_of value.now) }
+{
+    let (entries, rest) = value.as_chunks::<16>();
+    if !rest.is_empty() {
+        return Err(TlvError::Cut);
+    }
+    Ok(entries_in(alloc, entries)?)
+}
+
+fn entries_in(alloc: Global, entries: &[[u8; 16]]) -> Result<Vec<SnpEntry>, AllocError>
+    ensures { IfOk result (λ v. v.items ≡ map entry_at entries.now) }
+{
+    entries.iter().map(|entry| entry_in(entry)).collect(alloc)
+}
+
+fn entry_in(entry: &[u8; 16]) -> SnpEntry
+    ensures { result ≡ entry_at entry.now }
+{
+    SnpEntry {
+        lifetime: u16_in(entry, 0),
+        id: LspId {
+            system: system_in(entry, 2),
+            pseudonode: entry[8],
+            number: entry[9],
+        },
+        seq: u32_in(entry, 10),
+        sum: u16_in(entry, 14),
+    }
+}
+
+/// Appends the TLV 9 of these entries, at most 15 (ISO/IEC 10589, 9.10 to 9.13).
+pub fn write_entries(out: &mut Vec<u8>, items: &[SnpEntry]) -> Result<(), NoMemory>
+    requires { length items.now ≤ 15 }
+    ensures ok { OnOk result (out.new.items ≡ out.old.items ++ tlv 9 (entries_value items.now)) }
+    ensures err { OnErr result (out.new.items ≡ out.old.items) }
+{
+    let before = out.len();
+    let ended = put_entries(out, items);
+    whole_or_none(out, before, ended)
+}
+
+fn put_entries(out: &mut Vec<u8>, items: &[SnpEntry]) -> Result<(), NoMemory>
+    requires { length items.now ≤ 15 }
+    ensures ok { OnOk result (out.new.items ≡ out.old.items ++ tlv 9 (entries_value items.now)) }
+    ensures err { OnErr result (take (length out.old.items) out.new.items ≡ out.old.items) }
+{
+    put(out, &[LSP_ENTRIES, 16 * items.len() as u8])?;
+    for entry in items {
+        put_entry(out, entry)?;
+    }
+    Ok(())
+}
+
+fn put_entry(out: &mut Vec<u8>, entry: &SnpEntry) -> Result<(), NoMemory>
+    ensures ok { OnOk result (out.new.items ≡ out.old.items ++ entry_bytes entry.now) }
+    ensures len { OnOk result (length (entry_bytes entry.now) ≡ 16) }
+    ensures err { OnErr result (take (length out.old.items) out.new.items ≡ out.old.items) }
+{
+    put(out, &entry.lifetime.to_be_bytes())?;
+    put(out, &entry.id.system.mac.bytes)?;
+    put(out, &[entry.id.pseudonode, entry.id.number])?;
+    put(out, &entry.seq.to_be_bytes())?;
+    put(out, &entry.sum.to_be_bytes())
+}

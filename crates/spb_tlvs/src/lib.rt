@@ -1,0 +1,28 @@
+//! The TLVs of a bridge's IS-IS PDUs, read and written: the three-way adjacency, the entries of an SNP, the
+//! neighbours of a bridge, and its SPB capabilities.
+//!
+//! What is written has one spelling. A reader answers with the value or with the first refusal that holds, on every
+//! byte string, and passes over what it doesn't know.
+//!
+//! A reader takes time in proportion to the bytes, and memory for the list that it answers. A writer takes memory
+//! for the bytes that it appends alone. [`find_tlv`] and [`read_three_way`] take none.
+#![tactic(auto)]
+
+pub use capability::{Capability, Service, read_capability, write_capability};
+pub use entries::{SnpEntry, read_entries, write_entries};
+pub use error::TlvError;
+pub use neighbours::{Neighbour, read_neighbours, write_neighbours};
+pub use three_way::{ThreeWay, read_three_way, write_three_way};
+pub use tlv::find_tlv;
+
+mod append;
+mod capability;
+mod entries;
+mod error;
+mod fields;
+mod neighbours;
+mod piece;
+#[cfg(test)]
+mod tests;
+mod three_way;
+mod tlv;
