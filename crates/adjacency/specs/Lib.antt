@@ -1,0 +1,4 @@
+pub mod States
+pub mod Hearing
+pub mod Adjacency
+pub mod Laws

@@ -1,0 +1,14 @@
+//! The laws of neighbours. Each is the contract of a function that does nothing.
+ghost use Rattle.adjacency.specs.Laws.{HelloKeeps, SecondKeeps, CarrierKeeps, HelloNames};
+
+/// A neighbour that is kept was kept before, or is the sender of the hello that was just heard.
+pub fn a_kept_neighbour_was_kept_or_heard()
+    ensures hello { HelloKeeps }
+    ensures second { SecondKeeps }
+    ensures carrier { CarrierKeeps }
+{}
+
+/// The own hello names its port, and nobody but the neighbour that is kept.
+pub fn a_hello_names_nobody_but_the_kept_neighbour()
+    ensures { HelloNames }
+{}

@@ -1,0 +1,15 @@
+//! The three-way adjacency at a point-to-point port (RFC 5303): the state machine, the holding count, and what the
+//! own hello says. The laws by which a network keeps track of who is whose neighbour stand here too.
+//!
+//! No call takes memory, and each takes constant time.
+#![tactic(auto)]
+
+pub use laws::{a_hello_names_nobody_but_the_kept_neighbour, a_kept_neighbour_was_kept_or_heard};
+pub use port::Adjacency;
+pub use state::{AdjState, Heard};
+
+mod laws;
+mod port;
+mod state;
+#[cfg(test)]
+mod tests;

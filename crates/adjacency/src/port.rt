@@ -1,0 +1,204 @@
+ghost use Rattle.std.specs.Prelude.{◌≡◌, ◌≤◌, true};
+ghost use Rattle.isis_pdu.specs.Pdu.{hello_of};
+ghost use Rattle.adjacency.specs.Hearing as hearing;
+ghost use Rattle.adjacency.specs.Adjacency.{IsSound, down, after_hello, after_heard, after_second, after_carrier, state_towards, is_new_up, change_of, heard_of, neighbour_of, said};
+
+use crate::state::{AdjState, Heard};
+use isis_pdu::Hello;
+use spb_tlvs::ThreeWay;
+use spb_types::{Mac, SystemId};
+
+/// The three-way adjacency at a port (RFC 5303).
+///
+/// `neighbour`, `circuit` and `hold` are 0 where the state is Down. Otherwise `hold` is at least 1, and there is
+/// carrier. Each call has this as its condition and keeps it.
+#[derive(Clone, Copy, Debug, PartialEq, Eq, Hash)]
+pub struct Adjacency {
+    /// Whether the port has carrier.
+    pub carrier: bool,
+    pub state: AdjState,
+    /// The neighbour's system id.
+    pub neighbour: SystemId,
+    /// The neighbour's extended local circuit id.
+    pub circuit: u32,
+    /// How many seconds the neighbour is still kept without a further hello.
+    pub hold: u16,
+}
+
+const NO_SYSTEM: SystemId = SystemId {
+    mac: Mac { bytes: [0; 6] },
+};
+
+impl Adjacency {
+    /// The adjacency of a port at which no neighbour is kept.
+    pub fn down(carrier: bool) -> Self
+        ensures new { result ≡ down carrier }
+        ensures sound { IsSound result }
+    {
+        Adjacency {
+            carrier,
+            state: AdjState::Down,
+            neighbour: NO_SYSTEM,
+            circuit: 0,
+            hold: 0,
+        }
+    }
+
+    /// Hears a hello at port number `port` of the system `me`; `way` is its three-way adjacency (RFC 5303, 3.2).
+    /// `Discarded` exactly where its circuit type lacks level 1, its source is `me`, or it names another system or
+    /// circuit as its neighbour. Holding time 0 makes the state Down.
+    ///
+    /// The port has carrier, and the state in `way` is at most 2.
+    pub fn hear(&mut self, me: SystemId, port: u8, hello: &Hello, way: &ThreeWay) -> Heard
+        requires carrier { self.old.carrier ≡ true }
+        requires state { way.now.state ≤ 2 }
+        requires sound { IsSound self.old }
+        ensures new { self.new ≡ after_hello me port (hello_of hello.now) way.now self.old }
+        ensures heard { result ≡ heard_of me port (hello_of hello.now) way.now self.old }
+        ensures still_sound { IsSound self.new }
+    {
+        if is_discarded(me, port, hello, way) {
+            return Heard::Discarded;
+        }
+        let before = *self;
+        *self = before.after(hello, way);
+        before.change_to(self)
+    }
+
+    /// The adjacency after a hello that isn't discarded.
+    fn after(&self, hello: &Hello, way: &ThreeWay) -> Self
+        requires { way.now.state ≤ 2 }
+        ensures new { result ≡ after_heard (hello_of hello.now) way.now self.now }
+        ensures sound { IsSound result }
+    {
+        if hello.holding == 0 {
+            return Adjacency::down(true);
+        }
+        let state = self
+            .state_towards(hello.source, way.circuit)
+            .after(AdjState::numbered(way.state));
+        if state == AdjState::Down {
+            return Adjacency::down(true);
+        }
+        Adjacency {
+            carrier: true,
+            state,
+            neighbour: hello.source,
+            circuit: way.circuit,
+            hold: hello.holding,
+        }
+    }
+
+    /// The state to which a hello from this system and circuit comes: another neighbour or circuit than the kept one
+    /// makes it Down first.
+    fn state_towards(&self, system: SystemId, circuit: u32) -> AdjState
+        ensures { result ≡ state_towards (system, circuit) self.now }
+    {
+        if self.neighbour == system && self.circuit == circuit {
+            self.state
+        } else {
+            AdjState::Down
+        }
+    }
+
+    /// Counts a second of the holding count down. At 0 the state becomes Down.
+    pub fn tick(&mut self) -> Heard
+        requires { IsSound self.old }
+        ensures new { self.new ≡ after_second self.old }
+        ensures heard { result ≡ change_of self.old self.new }
+        ensures sound { IsSound self.new }
+    {
+        if self.state == AdjState::Down {
+            return Heard::Kept;
+        }
+        let before = *self;
+        if self.hold == 1 {
+            *self = Adjacency::down(self.carrier);
+        } else {
+            self.hold -= 1;
+        }
+        before.change_to(self)
+    }
+
+    /// Carrier came or went. Without it the state is Down.
+    pub fn set_carrier(&mut self, on: bool) -> Heard
+        requires { IsSound self.old }
+        ensures new { self.new ≡ after_carrier on self.old }
+        ensures heard { result ≡ change_of self.old self.new }
+        ensures sound { IsSound self.new }
+    {
+        let before = *self;
+        if on {
+            self.carrier = true;
+        } else {
+            *self = Adjacency::down(false);
+        }
+        before.change_to(self)
+    }
+
+    /// What the own hello says at port number `port`: the state, the port as the extended local circuit id, and the
+    /// neighbour that is kept (RFC 5303, 3).
+    pub fn three_way(&self, port: u8) -> ThreeWay
+        ensures { result ≡ said port self.now }
+    {
+        ThreeWay {
+            state: self.state.number(),
+            circuit: u32::from(port),
+            neighbour: self.kept_neighbour(),
+        }
+    }
+
+    fn kept_neighbour(&self) -> Option<(SystemId, u32)>
+        ensures { result ≡ neighbour_of self.now }
+    {
+        match self.state {
+            AdjState::Down => None,
+            AdjState::Initializing | AdjState::Up => Some((self.neighbour, self.circuit)),
+        }
+    }
+
+    /// What the change from this adjacency to `new` did.
+    fn change_to(&self, new: &Self) -> Heard
+        ensures { result ≡ change_of self.now new.now }
+    {
+        if new.is_new_up(self) {
+            Heard::CameUp
+        } else if self.state == AdjState::Up && new.state != AdjState::Up {
+            Heard::LeftUp
+        } else {
+            Heard::Kept
+        }
+    }
+
+    /// Whether the state is Up, and `before` isn't Up with the same neighbour and circuit.
+    fn is_new_up(&self, before: &Self) -> bool
+        ensures { result ≡ is_new_up self.now before.now }
+    {
+        let same_end = self.neighbour == before.neighbour && self.circuit == before.circuit;
+        self.state == AdjState::Up && !(before.state == AdjState::Up && same_end)
+    }
+}
+
+/// Whether a hello is discarded: its circuit type lacks level 1, its source is `me`, or it names another end of the
+/// circuit as its neighbour.
+fn is_discarded(me: SystemId, port: u8, hello: &Hello, way: &ThreeWay) -> bool
+    ensures { result ≡ hearing.is_discarded me port (hello_of hello.now) way.now }
+{
+    !has_level_one(hello.circuit_type) || hello.source == me || names_another(me, port, way)
+}
+
+fn has_level_one(circuit_type: u8) -> bool
+    ensures { result ≡ hearing.has_level_one circuit_type }
+{
+    circuit_type == 1 || circuit_type == 3
+}
+
+/// Whether a neighbour is named that isn't the system `me` at its port number `port`.
+fn names_another(me: SystemId, port: u8, way: &ThreeWay) -> bool
+    ensures { result ≡ hearing.names_another (me, port) way.now.neighbour }
+{
+    match way.neighbour {
+        None => false,
+        Some((system, circuit)) => !(system == me && circuit == u32::from(port)),
+    }
+}

@@ -1,0 +1,214 @@
+//! The machine at a port, from outside: two systems A and B at the circuits 1 of each other.
+ghost use Rattle.std.specs.Prelude.{◌≡◌, ◌≤◌, true};
+ghost use Rattle.adjacency.specs.Adjacency.{IsSound};
+
+use crate::{AdjState, Adjacency, Heard};
+use isis_pdu::Hello;
+use spb_tlvs::ThreeWay;
+use spb_types::{Mac, SystemId};
+
+const fn system(last: u8) -> SystemId {
+    SystemId {
+        mac: Mac {
+            bytes: [2, 0, 0, 0, 0, last],
+        },
+    }
+}
+
+fn hello(source: u8, holding: u16) -> Hello<'static> {
+    Hello {
+        circuit_type: 1,
+        source: system(source),
+        holding,
+        circuit: 1,
+        tlvs: &[],
+    }
+}
+
+/// What a sender in this state says: as its neighbour A at circuit 1, unless Down.
+fn way(state: AdjState) -> ThreeWay
+    ensures { result.state ≤ 2 }
+{
+    match state {
+        AdjState::Down => ThreeWay {
+            state: 2,
+            circuit: 1,
+            neighbour: None,
+        },
+        AdjState::Initializing => ThreeWay {
+            state: 1,
+            circuit: 1,
+            neighbour: Some((system(1), 1)),
+        },
+        AdjState::Up => ThreeWay {
+            state: 0,
+            circuit: 1,
+            neighbour: Some((system(1), 1)),
+        },
+    }
+}
+
+/// A's port in this state; where it isn't Down, B's circuit 1 is kept for two seconds.
+fn port_in(state: AdjState) -> Adjacency
+    ensures carrier { result.carrier ≡ true }
+    ensures sound { IsSound result }
+{
+    match state {
+        AdjState::Down => Adjacency::down(true),
+        AdjState::Initializing | AdjState::Up => Adjacency {
+            carrier: true,
+            state,
+            neighbour: system(2),
+            circuit: 1,
+            hold: 2,
+        },
+    }
+}
+
+/// Whether A's port, Up, discards the hello and stays as it was.
+fn is_discarded(hello: &Hello, way: &ThreeWay) -> bool
+    requires { way.now.state ≤ 2 }
+{
+    let mut port = port_in(AdjState::Up);
+    port.hear(system(1), 1, hello, way) == Heard::Discarded && port == port_in(AdjState::Up)
+}
+
+#[test]
+fn the_nine_cells_of_the_table(rt: HostRuntime) {
+    let down = AdjState::Down;
+    let init = AdjState::Initializing;
+    let up = AdjState::Up;
+    for (state, received, after, heard) in [
+        (down, down, init, Heard::Kept),
+        (down, init, up, Heard::CameUp),
+        (down, up, down, Heard::Kept),
+        (init, down, init, Heard::Kept),
+        (init, init, up, Heard::CameUp),
+        (init, up, up, Heard::CameUp),
+        (up, down, init, Heard::LeftUp),
+        (up, init, up, Heard::Kept),
+        (up, up, up, Heard::Kept),
+    ] {
+        let mut port = port_in(state);
+        assert_eq!(rt;
+            port.hear(system(1), 1, &hello(2, 3), &way(received)),
+            heard
+        );
+        let hold = if after == AdjState::Down { 0 } else { 3 };
+        assert_eq!(rt;
+            (port.state, port.hold),
+            (after, hold),
+            "from {state:?} by {received:?}"
+        );
+        assert_eq!(rt; port.neighbour == system(2), after != AdjState::Down);
+    }
+}
+
+#[test]
+fn holding_time_0_makes_it_down(rt: HostRuntime) {
+    for (state, heard) in [
+        (AdjState::Down, Heard::Kept),
+        (AdjState::Initializing, Heard::Kept),
+        (AdjState::Up, Heard::LeftUp),
+    ] {
+        let mut port = port_in(state);
+        assert_eq!(rt;
+            port.hear(system(1), 1, &hello(2, 0), &way(AdjState::Initializing)),
+            heard
+        );
+        assert_eq!(rt; port, Adjacency::down(true));
+    }
+}
+
+#[test]
+fn hellos_of_no_use_are_discarded(rt: HostRuntime) {
+    let up = way(AdjState::Up);
+    assert!(rt; is_discarded(&hello(1, 3), &up));
+    let mut level_two = hello(2, 3);
+    level_two.circuit_type = 2;
+    assert!(rt; is_discarded(&level_two, &up));
+    let mut other_system = up;
+    other_system.neighbour = Some((system(9), 1));
+    assert!(rt; is_discarded(&hello(2, 3), &other_system));
+    let mut other_circuit = up;
+    other_circuit.neighbour = Some((system(1), 2));
+    assert!(rt; is_discarded(&hello(2, 0), &other_circuit));
+    let mut both_levels = hello(2, 3);
+    both_levels.circuit_type = 3;
+    assert!(rt; !is_discarded(&both_levels, &up));
+}
+
+#[test]
+fn another_neighbour_or_circuit_begins_anew(rt: HostRuntime) {
+    let mut moved = way(AdjState::Initializing);
+    moved.circuit = 7;
+    let mut port = port_in(AdjState::Up);
+    assert_eq!(rt;
+        port.hear(system(1), 1, &hello(2, 3), &moved),
+        Heard::CameUp
+    );
+    assert_eq!(rt;
+        (port.state, port.neighbour, port.circuit),
+        (AdjState::Up, system(2), 7)
+    );
+    assert_eq!(rt;
+        port.hear(system(1), 1, &hello(3, 3), &way(AdjState::Down)),
+        Heard::LeftUp
+    );
+    assert_eq!(rt;
+        (port.state, port.neighbour, port.circuit),
+        (AdjState::Initializing, system(3), 1)
+    );
+    assert_eq!(rt;
+        port.hear(system(1), 1, &hello(2, 3), &way(AdjState::Up)),
+        Heard::Kept
+    );
+    assert_eq!(rt; port, Adjacency::down(true));
+}
+
+#[test]
+fn the_neighbour_is_lost_when_the_count_or_the_carrier_ends(rt: HostRuntime) {
+    let mut port = port_in(AdjState::Up);
+    assert_eq!(rt; port.tick(), Heard::Kept);
+    assert_eq!(rt; (port.state, port.hold), (AdjState::Up, 1));
+    assert_eq!(rt; port.tick(), Heard::LeftUp);
+    assert_eq!(rt; port, Adjacency::down(true));
+    assert_eq!(rt; port.tick(), Heard::Kept);
+
+    let mut port = port_in(AdjState::Up);
+    assert_eq!(rt; port.set_carrier(true), Heard::Kept);
+    assert_eq!(rt; port, port_in(AdjState::Up));
+    assert_eq!(rt; port.set_carrier(false), Heard::LeftUp);
+    assert_eq!(rt; port, Adjacency::down(false));
+    assert_eq!(rt; port.set_carrier(true), Heard::Kept);
+    assert_eq!(rt; port, Adjacency::down(true));
+}
+
+#[test]
+fn the_own_hello_names_the_neighbour_unless_down(rt: HostRuntime) {
+    assert_eq!(rt;
+        port_in(AdjState::Down).three_way(1),
+        ThreeWay {
+            state: 2,
+            circuit: 1,
+            neighbour: None
+        }
+    );
+    let named = Some((system(2), 1));
+    assert_eq!(rt;
+        port_in(AdjState::Initializing).three_way(4),
+        ThreeWay {
+            state: 1,
+            circuit: 4,
+            neighbour: named
+        }
+    );
+    assert_eq!(rt;
+        port_in(AdjState::Up).three_way(4),
+        ThreeWay {
+            state: 0,
+            circuit: 4,
+            neighbour: named
+        }
+    );
+}
