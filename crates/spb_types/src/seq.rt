@@ -1,4 +1,4 @@
-ghost use Rattle.std.specs.Prelude.{◌≡◌, List, [], length, nat_eq};
+ghost use Rattle.std.specs.Prelude.{◌≡◌, ◌<◌, List, [], length, nat_eq, take, slice_set};
 
 use std::alloc::Global;
 use std::marker::Model;
@@ -71,6 +71,23 @@ impl<T> Seq<T> {
     }
 }
 
+impl<T: Drop> Seq<T> {
+    /// Drops the items from place `len` on.
+    pub fn truncate(&mut self, len: usize)
+        ensures { self.new ≡ take len self.old }
+    {
+        self.items.truncate(len);
+    }
+
+    /// Writes the item at a place that there is.
+    pub fn set(&mut self, place: usize, item: T)
+        requires { place < length self.old }
+        ensures { self.new ≡ slice_set self.old place item }
+    {
+        self.items[place] = item;
+    }
+}
+
 #[cfg(test)]
 mod tests {
     use super::*;
@@ -84,6 +101,11 @@ mod tests {
         assert_eq!(rt; list.as_slice(), [7, 8].as_slice());
         assert_eq!(rt; list.iter().count(), 2);
         assert_eq!(rt; list.into_vec().as_slice(), [7, 8].as_slice());
+        let mut list = Seq::from_vec(vec![in rt.alloc(); 7, 8]?);
+        list.truncate(1);
+        assert_eq!(rt; list.len(), 1);
+        list.set(0, 9);
+        assert_eq!(rt; list.into_vec().as_slice(), [9].as_slice());
         Ok(())
     }
 }
