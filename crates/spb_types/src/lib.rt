@@ -11,7 +11,7 @@ pub use memory::NoMemory;
 pub use name::Name;
 pub use ports::PortSet;
 pub use seq::Seq;
-pub use service::{Isid, SourceId, Vid, VidPlan};
+pub use service::{Attachment, Isid, SourceId, Vid, VidPlan};
 pub use tables::{GroupRow, Path, Tables, UnicastRow};
 pub use take::{Short, take_u8, take_u16, take_u24, take_u32};
 

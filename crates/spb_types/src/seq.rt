@@ -1,5 +1,6 @@
-ghost use Rattle.std.specs.Prelude.{◌≡◌, ◌<◌, List, [], length, nat_eq, take, slice_set};
+ghost use Rattle.std.specs.Prelude.{◌≡◌, ◌<◌, List, [], ◌∷◌, ◌++◌, length, nat_eq, take, slice_set, OnOk, OnErr};
 
+use crate::memory::NoMemory;
 use std::alloc::Global;
 use std::marker::Model;
 use std::slice;
@@ -86,6 +87,15 @@ impl<T: Drop> Seq<T> {
     {
         self.items[place] = item;
     }
+
+    /// Puts an item behind the others. After `NoMemory` nothing changed.
+    pub fn push(&mut self, item: T) -> Result<(), NoMemory>
+        ensures ok { OnOk result (self.new ≡ self.old ++ item ∷ []) }
+        ensures err { OnErr result (self.new ≡ self.old) }
+    {
+        self.items.push(item)?;
+        Ok(())
+    }
 }
 
 #[cfg(test)]
@@ -105,7 +115,8 @@ mod tests {
         list.truncate(1);
         assert_eq!(rt; list.len(), 1);
         list.set(0, 9);
-        assert_eq!(rt; list.into_vec().as_slice(), [9].as_slice());
+        list.push(6)?;
+        assert_eq!(rt; list.into_vec().as_slice(), [9, 6].as_slice());
         Ok(())
     }
 }

@@ -22,3 +22,12 @@ pub struct VidPlan {
     pub vid: Vid,
     pub ect: u8,
 }
+
+/// A customer port, and the service instance and base VID that it is attached to (IEEE 802.1ah, 25.10).
+#[derive(Clone, Copy, Debug, PartialEq, Eq, PartialOrd, Ord, Hash)]
+pub struct Attachment {
+    /// The number of the port, from 1 on.
+    pub port: u16,
+    pub isid: Isid,
+    pub vid: Vid,
+}
