@@ -14,4 +14,5 @@ mod play;
 mod reason;
 mod reply;
 mod report;
+mod tables;
 mod world;
