@@ -133,7 +133,7 @@ best_is_least g mask a b p h = record { path = h.path; least = λ q w m. not_bel
     other : (q : List SystemId) → IsBelow (key_of g mask q) (key_of g mask p) → q ≢ p
     other q m e = not_below_itself (key_of g mask p) (subst (λ t. IsBelow (key_of g mask t) (key_of g mask p)) e m)
 
-lists_eq_or_not : (p q : List SystemId) → (p ≡ q) ⊎ (p ≢ q)
+pub lists_eq_or_not : (p q : List SystemId) → (p ≡ q) ⊎ (p ≢ q)
 lists_eq_or_not [] [] = inl refl
 lists_eq_or_not [] (y ∷ q) = inr (λ e. cc)
 lists_eq_or_not (x ∷ p) [] = inr (λ e. cc)

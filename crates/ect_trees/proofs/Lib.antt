@@ -5,5 +5,12 @@ pub mod Members
 pub mod KeyOrder
 pub mod Least
 pub mod Exists
+pub mod Places
+pub mod Extended
+pub mod Relaxed
+pub mod Ends
+pub mod Placed
+pub mod Started
+pub mod Masked
 pub mod Steps
 pub mod Alike

@@ -17,8 +17,12 @@ pub record AreKeysOrdered : Type 0 where
   pub tied : (k l : PathKey) → key_cmp k l ≡ Ordering.Equal → k ≡ l
 
 -- one bridge more, added to two paths at the bridge where both end, keeps the order of their keys
+-- (that it is joined there and on neither path is not needed for this)
 abbrev pub KeepsOrder : Type 0
-KeepsOrder = (g : Graph) (mask : ℕ) (a b x y : SystemId) (p q : List SystemId) → IsPath g a x p → IsPath g b x q → IsBelow (key_of g mask p) (key_of g mask q) ↔ IsBelow (key_of g mask (p ++ y ∷ [])) (key_of g mask (q ++ y ∷ []))
+KeepsOrder = (g : Graph) (mask : ℕ) (a b x y : SystemId) (p q : List SystemId)
+    → IsPath g a x p → IsPath g b x q
+    → IsBelow (key_of g mask p) (key_of g mask q)
+    ↔ IsBelow (key_of g mask (p ++ y ∷ [])) (key_of g mask (q ++ y ∷ []))
 
 -- a path that no other from a to b is below
 pub record IsLeast (g : Graph) (mask : ℕ) (a b : SystemId) (p : List SystemId) : Type 0 where
@@ -27,39 +31,48 @@ pub record IsLeast (g : Graph) (mask : ℕ) (a b : SystemId) (p : List SystemId)
 
 -- no tie is least: a path that no other is below is below every other
 abbrev pub NoTieIsLeast : Type 0
-NoTieIsLeast = (g : Graph) (mask : ℕ) (a b : SystemId) (p : List SystemId) → IsValid g → IsLeast g mask a b p → IsBest g mask a b p
+NoTieIsLeast = (g : Graph) (mask : ℕ) (a b : SystemId) (p : List SystemId)
+    → IsValid g → IsLeast g mask a b p → IsBest g mask a b p
 
 -- there is at most one best path
 abbrev pub BestIsUnique : Type 0
-BestIsUnique = (g : Graph) (mask : ℕ) (a b : SystemId) (p q : List SystemId) → IsBest g mask a b p → IsBest g mask a b q → p ≡ q
+BestIsUnique = (g : Graph) (mask : ℕ) (a b : SystemId) (p q : List SystemId)
+    → IsBest g mask a b p → IsBest g mask a b q → p ≡ q
 
 -- where there is a path, there is a best one
 abbrev pub BestExists : Type 0
-BestExists = (g : Graph) (mask : ℕ) (a b : SystemId) (p : List SystemId) → IsValid g → IsPath g a b p → (q : List SystemId) × IsBest g mask a b q
+BestExists = (g : Graph) (mask : ℕ) (a b : SystemId) (p : List SystemId)
+    → IsValid g → IsPath g a b p → (q : List SystemId) × IsBest g mask a b q
 
 -- best_of gives None exactly where there is no path
 abbrev pub BestOfNone : Type 0
-BestOfNone = (g : Graph) (mask : ℕ) (a b : SystemId) → IsValid g → (best_of g mask a b ≡ None) ↔ ((p : List SystemId) → IsPath g a b p → ⊥)
+BestOfNone = (g : Graph) (mask : ℕ) (a b : SystemId)
+    → IsValid g → (best_of g mask a b ≡ None) ↔ ((p : List SystemId) → IsPath g a b p → ⊥)
 
 -- best_of gives a path exactly where it is the best one
 abbrev pub BestOfSome : Type 0
-BestOfSome = (g : Graph) (mask : ℕ) (a b : SystemId) (p : List SystemId) → IsValid g → (best_of g mask a b ≡ Some p) ↔ IsBest g mask a b p
+BestOfSome = (g : Graph) (mask : ℕ) (a b : SystemId) (p : List SystemId)
+    → IsValid g → (best_of g mask a b ≡ Some p) ↔ IsBest g mask a b p
 
 -- the best path from a bridge to itself is that bridge alone
 abbrev pub BestToItself : Type 0
-BestToItself = (g : Graph) (mask : ℕ) (a : SystemId) (p : List SystemId) → IsBridge g a → IsBest g mask a a p ↔ (p ≡ a ∷ [])
+BestToItself = (g : Graph) (mask : ℕ) (a : SystemId) (p : List SystemId)
+    → IsBridge g a → IsBest g mask a a p ↔ (p ≡ a ∷ [])
 
 -- the best path from b to a is the best path from a to b in reverse
 abbrev pub BestReversed : Type 0
-BestReversed = (g : Graph) (mask : ℕ) (a b : SystemId) (p : List SystemId) → IsBest g mask a b p → IsBest g mask b a (reverse p)
+BestReversed = (g : Graph) (mask : ℕ) (a b : SystemId) (p : List SystemId)
+    → IsBest g mask a b p → IsBest g mask b a (reverse p)
 
 -- the part of a best path up to a bridge on it is best
 abbrev pub FrontIsBest : Type 0
-FrontIsBest = (g : Graph) (mask : ℕ) (a b x : SystemId) (p q : List SystemId) → IsValid g → IsBest g mask a b (p ++ x ∷ q) → IsBest g mask a x (p ++ x ∷ [])
+FrontIsBest = (g : Graph) (mask : ℕ) (a b x : SystemId) (p q : List SystemId)
+    → IsValid g → IsBest g mask a b (p ++ x ∷ q) → IsBest g mask a x (p ++ x ∷ [])
 
 -- the part of a best path from a bridge on it is best
 abbrev pub BackIsBest : Type 0
-BackIsBest = (g : Graph) (mask : ℕ) (a b x : SystemId) (p q : List SystemId) → IsValid g → IsBest g mask a b (p ++ x ∷ q) → IsBest g mask x b (x ∷ q)
+BackIsBest = (g : Graph) (mask : ℕ) (a b x : SystemId) (p q : List SystemId)
+    → IsValid g → IsBest g mask a b (p ++ x ∷ q) → IsBest g mask x b (x ∷ q)
 
 -- the edge with its ends exchanged
 abbrev pub turned : Edge → Edge
@@ -76,4 +89,5 @@ pub record AreAlike (g h : Graph) : Type 0 where
 
 -- best paths don't depend on the order of a graph's lists, nor on the order of an edge's ends
 abbrev pub OrderSaysNothing : Type 0
-OrderSaysNothing = (g h : Graph) (mask : ℕ) (a b : SystemId) → IsValid g → IsValid h → AreAlike g h → best_of g mask a b ≡ best_of h mask a b
+OrderSaysNothing = (g h : Graph) (mask : ℕ) (a b : SystemId)
+    → IsValid g → IsValid h → AreAlike g h → best_of g mask a b ≡ best_of h mask a b

@@ -3,3 +3,4 @@ pub mod Ect
 pub mod Graph
 pub mod Bytes
 pub mod Name
+pub mod Padding

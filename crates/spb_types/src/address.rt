@@ -39,3 +39,47 @@ pub struct LspId {
     pub pseudonode: u8,
     pub number: u8,
 }
+
+#[cfg(test)]
+mod tests {
+    use super::*;
+
+    #[test]
+    fn group_addresses_have_the_lowest_bit_of_the_first_byte(rt: HostRuntime) {
+        for (first, is_group) in [
+            (0x00, false),
+            (0x01, true),
+            (0x02, false),
+            (0x03, true),
+            (0xff, true),
+        ] {
+            let mac = Mac {
+                bytes: [first, 0, 0, 0, 0, 1],
+            };
+            assert_eq!(rt; mac.is_group(), is_group, "first byte {first}");
+        }
+    }
+
+    #[test]
+    fn lsp_ids_are_ordered_as_their_bytes(rt: HostRuntime) {
+        let low = LspId {
+            system: SystemId {
+                mac: Mac {
+                    bytes: [2, 0, 0, 0, 0, 1],
+                },
+            },
+            pseudonode: 0,
+            number: 9,
+        };
+        let high = LspId {
+            system: SystemId {
+                mac: Mac {
+                    bytes: [2, 0, 0, 0, 0, 1],
+                },
+            },
+            pseudonode: 1,
+            number: 0,
+        };
+        assert!(rt; low < high);
+    }
+}

@@ -19,7 +19,7 @@ pub struct Name {
 
 impl Model for Name {
     ghost use Rattle.std.specs.Prelude.{ℕ, List, ◌++◌, ◌-◌, length, take, replicate};
-    ghost use Rattle.spb_types.specs.Name.{IsPadded, padded_len, padded_bytes};
+    ghost use Rattle.spb_types.specs.Padding.{IsPadded, padded_len, padded_bytes};
 
     ghost Value = { List ℕ };
 
@@ -117,5 +117,24 @@ impl fmt::Debug for Name {
             f.write_char(char::from(*byte))?;
         }
         Ok(())
+    }
+}
+
+#[cfg(test)]
+mod tests {
+    use super::*;
+
+    #[test]
+    fn names_are_letters_digits_dashes_and_underscores(rt: HostRuntime) {
+        for name in ["A", "z9", "b-1_c", "abcdefghijklmnop"] {
+            let known = Name::new(name.as_bytes());
+            assert!(rt; known.is_some(), "{name}");
+            if let Some(known) = known {
+                assert_eq!(rt; known.bytes(), name.as_bytes());
+            }
+        }
+        for name in ["", "9a", "_a", "-", "a b", "a.b", "abcdefghijklmnopq"] {
+            assert!(rt; Name::new(name.as_bytes()).is_none(), "{name}");
+        }
     }
 }

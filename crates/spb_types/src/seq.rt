@@ -70,3 +70,20 @@ impl<T> Seq<T> {
         self.items.is_empty()
     }
 }
+
+#[cfg(test)]
+mod tests {
+    use super::*;
+    use std::test::Fail;
+
+    #[test]
+    fn a_list_gives_back_its_items(rt: HostRuntime) -> Result<(), Fail> {
+        assert!(rt; Seq::<u8>::new(rt.alloc()).is_empty());
+        let list = Seq::from_vec(vec![in rt.alloc(); 7, 8]?);
+        assert_eq!(rt; (list.len(), list.is_empty()), (2, false));
+        assert_eq!(rt; list.as_slice(), [7, 8].as_slice());
+        assert_eq!(rt; list.iter().count(), 2);
+        assert_eq!(rt; list.into_vec().as_slice(), [7, 8].as_slice());
+        Ok(())
+    }
+}

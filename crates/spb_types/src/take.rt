@@ -58,3 +58,21 @@ pub fn take_u32(input: &[u8], at: usize) -> Result<u32, Short>
     let high = u32::from(input[at]) * 256 + u32::from(input[at + 1]);
     Ok((high * 256 + u32::from(input[at + 2])) * 256 + u32::from(input[at + 3]))
 }
+
+#[cfg(test)]
+mod tests {
+    use super::*;
+
+    #[test]
+    fn numbers_are_big_endian(rt: HostRuntime) {
+        let bytes = [0x83, 0x14, 0x01, 0x00, 0x11];
+        assert_eq!(rt; take_u8(&bytes, 4), Ok(0x11));
+        assert_eq!(rt; take_u8(&bytes, 5), Err(Short));
+        assert_eq!(rt; take_u16(&bytes, 0), Ok(0x8314));
+        assert_eq!(rt; take_u16(&bytes, 4), Err(Short));
+        assert_eq!(rt; take_u24(&bytes, 2), Ok(0x01_0011));
+        assert_eq!(rt; take_u24(&bytes, usize::MAX), Err(Short));
+        assert_eq!(rt; take_u32(&bytes, 1), Ok(0x1401_0011));
+        assert_eq!(rt; take_u32(&bytes, 2), Err(Short));
+    }
+}

@@ -1,4 +1,4 @@
-use Rattle.spb_types.specs.Name.{IsPadded-made}
+use Rattle.spb_types.specs.Padding.{IsPadded-made}
 use Rattle.spb_types.proofs.name.Name.new.Goals as goal
 
 pub invariant_of-result : goal.invariant_of-result

@@ -1,0 +1,153 @@
+ghost use Rattle.std.specs.Prelude.{IfOk};
+ghost use Rattle.spb_types.specs.Graph.{IsValid};
+
+use super::*;
+use spb_types::{
+    BridgeId, Edge, Graph, GraphBridge, Mac, NoMemory, Path, Seq, SourceId, SystemId,
+};
+use std::alloc::Global;
+use std::cmp::Ordering;
+use std::process::Abort;
+use std::test::Fail;
+
+/// The system id 02:00:00:00:00:NN.
+macro_rules! system {
+    ($last:expr) => {
+        SystemId {
+            mac: Mac {
+                bytes: [2, 0, 0, 0, 0, $last],
+            },
+        }
+    };
+}
+
+macro_rules! bridge {
+    ($last:expr) => {
+        GraphBridge {
+            id: BridgeId {
+                priority: 32768,
+                system: system!($last),
+            },
+            source: SourceId { value: $last },
+        }
+    };
+}
+
+macro_rules! edge {
+    ($a:expr, $b:expr, $cost:expr) => {
+        Edge {
+            a: system!($a),
+            port_a: 1,
+            b: system!($b),
+            port_b: 1,
+            cost: $cost,
+        }
+    };
+}
+
+/// Four bridges in a square, whose two ways from corner to corner tie.
+fn square(alloc: Global) -> Result<Graph, NoMemory>
+    ensures { IfOk result IsValid }
+{
+    let bridges = vec![in alloc; bridge!(1), bridge!(2), bridge!(3), bridge!(4)]?;
+    let edges = vec![in alloc; edge!(1, 2, 10), edge!(2, 4, 10), edge!(1, 3, 10), edge!(3, 4, 10)]?;
+    Ok(Graph {
+        bridges: Seq::from_vec(bridges),
+        edges: Seq::from_vec(edges),
+        members: Seq::new(alloc),
+    })
+}
+
+/// Two ways of cost 30 from 1 to 4: 1 2 3 4, and 1 9 4. Bridge 7 has no edge.
+fn detour(alloc: Global) -> Result<Graph, NoMemory>
+    ensures { IfOk result IsValid }
+{
+    let bridges = vec![in alloc;
+        bridge!(4), bridge!(7), bridge!(1), bridge!(9), bridge!(3), bridge!(2)
+    ]?;
+    let edges = vec![in alloc;
+        edge!(1, 2, 10), edge!(3, 2, 10), edge!(3, 4, 10), edge!(9, 1, 10), edge!(9, 4, 20)
+    ]?;
+    Ok(Graph {
+        bridges: Seq::from_vec(bridges),
+        edges: Seq::from_vec(edges),
+        members: Seq::new(alloc),
+    })
+}
+
+fn ends(alloc: Global, path: &Option<Path>) -> Result<Vec<u8>, NoMemory> {
+    let mut ends = Vec::new(alloc);
+    if let Some(path) = path {
+        for system in path.bridges.as_slice() {
+            ends.push(system.mac.bytes[5])?;
+        }
+    }
+    Ok(ends)
+}
+
+/// Asserts that the best path has this cost and these bridges, by the last byte of each. No bridges: there is none.
+fn assert_best(
+    rt: &impl Abort,
+    alloc: Global,
+    graph: &Graph,
+    mask: u8,
+    cost: u64,
+    want: &[u8],
+) -> Result<(), NoMemory>
+    requires { IsValid graph.now }
+{
+    if let [from, .., to] = want {
+        let tree = tree_from(alloc, graph, system!(*from), mask)?;
+        let path = tree.path_to(alloc, system!(*to))?;
+        let found = ends(alloc, &path)?;
+        assert_eq!(rt; found.as_slice(), want, "under mask {mask}");
+        assert_eq!(rt; path.map(|path| path.cost), Some(cost));
+    }
+    Ok(())
+}
+
+#[test]
+fn ties_fall_by_masked_ids(rt: HostRuntime) -> Result<(), Fail> {
+    let graph = square(rt.alloc())?;
+    for (mask, cost, want) in [
+        (0x00, 20, [1, 2, 4]),
+        (0xff, 20, [1, 3, 4]),
+        (0x00, 20, [4, 2, 1]),
+        (0xff, 20, [4, 3, 1]),
+    ] {
+        assert_best(&rt, rt.alloc(), &graph, mask, cost, &want)?;
+    }
+    Ok(())
+}
+
+#[test]
+fn fewer_hops_win_at_equal_cost(rt: HostRuntime) -> Result<(), Fail> {
+    let graph = detour(rt.alloc())?;
+    for mask in [0x00, 0xff] {
+        assert_best(&rt, rt.alloc(), &graph, mask, 30, &[1, 9, 4])?;
+        assert_best(&rt, rt.alloc(), &graph, mask, 30, &[4, 9, 1])?;
+        assert_best(&rt, rt.alloc(), &graph, mask, 20, &[1, 2, 3])?;
+        assert_best(&rt, rt.alloc(), &graph, mask, 20, &[9, 1, 2])?;
+        assert_best(&rt, rt.alloc(), &graph, mask, 30, &[9, 4, 3])?;
+    }
+    Ok(())
+}
+
+#[test]
+fn no_path_is_none(rt: HostRuntime) -> Result<(), Fail> {
+    let graph = detour(rt.alloc())?;
+    let tree = tree_from(rt.alloc(), &graph, system!(7), 0)?;
+    let own = tree.path_to(rt.alloc(), system!(7))?;
+    assert_eq!(rt; ends(rt.alloc(), &own)?.as_slice(), [7].as_slice());
+    assert_eq!(rt; own.map(|path| path.cost), Some(0));
+    for to in [1, 2, 3, 4, 9, 5] {
+        let path = tree.path_to(rt.alloc(), system!(to))?;
+        assert!(rt; path.is_none());
+    }
+    let strange = tree_from(rt.alloc(), &graph, system!(5), 0)?;
+    for to in [1, 5, 7] {
+        let path = strange.path_to(rt.alloc(), system!(to))?;
+        assert!(rt; path.is_none());
+    }
+    Ok(())
+}

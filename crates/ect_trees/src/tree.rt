@@ -1,0 +1,85 @@
+ghost use Rattle.std.specs.Prelude.{◌≡◌, IfOk};
+ghost use Rattle.std.specs.Option.{option_copied};
+ghost use Rattle.spb_types.specs.Graph.{IsValid};
+ghost use Rattle.ect_trees.specs.Tree as tree;
+
+use crate::search::{Search, paths_of};
+use spb_types::{Graph, NoMemory, Path, Seq, SystemId};
+use std::alloc::Global;
+use std::marker::Model;
+
+/// The best paths from a source, one to each bridge that has a path. Contracts see the source and the list of paths.
+#[derive(Debug, Drop)]
+pub struct Tree {
+    source: SystemId,
+    paths: Vec<Path>,
+}
+
+impl Model for Tree {
+    ghost use Rattle.ect_trees.specs.Tree.{Paths};
+
+    ghost Value = { Paths };
+
+    ghost view = { λ t. record { source = t.source; paths = t.paths.items } };
+}
+
+/// Whether the path ends at this bridge.
+fn ends_at(path: &Path, to: SystemId) -> bool
+    ensures { result ≡ tree.ends_at path.now.bridges to }
+{
+    match path.bridges.as_slice().last() {
+        None => false,
+        Some(end) => *end == to,
+    }
+}
+
+/// The tree of the best paths from `source` under `mask` (IEEE 802.1aq, 28.5 to 28.8).
+pub fn tree_from(
+    alloc: Global,
+    graph: &Graph,
+    source: SystemId,
+    mask: u8,
+) -> Result<Tree, NoMemory>
+    requires { IsValid graph.now }
+    ensures { IfOk result (tree.GivesBest graph.now mask source) }
+{
+    let search = Search::new(alloc, graph, source, mask)?;
+    let mut labels = search.start(alloc)?;
+    search.settle(alloc, &mut labels)?;
+    Ok(Tree {
+        source,
+        paths: paths_of(alloc, labels)?,
+    })
+}
+
+impl Tree {
+    /// The bridge from which the paths lead.
+    pub fn source(&self) -> SystemId
+        ensures { result ≡ self.now.source }
+    {
+        self.source
+    }
+
+    /// The path that ends at a bridge, if there is one.
+    fn find(&self, to: SystemId) -> Option<&Path>
+        ensures { option_copied result ≡ tree.path_in self.now.paths to }
+    {
+        self.paths.iter().find(|path| ends_at(path, to))
+    }
+
+    /// The best path to a bridge. None exactly where there is no path.
+    pub fn path_to(&self, alloc: Global, to: SystemId) -> Result<Option<Path>, NoMemory>
+        ensures { IfOk result (λ path. path ≡ tree.path_in self.now.paths to) }
+    {
+        match self.find(to) {
+            None => Ok(None),
+            Some(path) => {
+                let bridges = Vec::from_slice(alloc, path.bridges.as_slice())?;
+                Ok(Some(Path {
+                    cost: path.cost,
+                    bridges: Seq::from_vec(bridges),
+                }))
+            }
+        }
+    }
+}

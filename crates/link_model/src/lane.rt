@@ -1,0 +1,249 @@
+ghost use Rattle.std.specs.Prelude.{◌≡◌, ◌≤◌, ◌<◌, ◌↔◌, false, IsOk, List, [], ◌∷◌, ℕ, length, map, nat_eq, MatchOption, MatchResult, OnOk, OnErr, IfOk, IsErrOf, slice_get, remove, nat_lt, if◌then◌else◌, ⊤};
+ghost use Rattle.std.specs.Option.{option_copied};
+ghost use Rattle.std.specs.Result.{OkIff};
+ghost use Rattle.link_model.specs.declared.lane.DoubleError.TheVariants as double_errors;
+ghost use Rattle.link_model.specs.Lane.{pushed, doubled, has_room, after_double, after_lose};
+
+use spb_types::NoMemory;
+use std::alloc::{AllocError, AllocFailed, Global};
+use std::collections::VecDeque;
+use std::error::Error;
+use std::fmt;
+use std::marker::Model;
+
+/// The most frames that a lane holds.
+const MOST: usize = 1024;
+
+/// One direction of a link: its frames in the order in which they were sent, at most 1,024. Contracts see it as
+/// the list of the frames' bytes, the front first.
+#[derive(Debug, Drop)]
+pub struct Lane {
+    frames: VecDeque<Vec<u8>>,
+}
+
+impl Model for Lane {
+    ghost use Rattle.std.specs.Prelude.{List, ℕ, ◌≤◌, map};
+    ghost use Rattle.std.specs.VecDeque.{deque_len};
+
+    ghost Value = { List (List ℕ) };
+
+    ghost view = { λ lane. map (λ frame. frame.items) lane.frames.items };
+
+    ghost invariant = { λ lane. deque_len lane.frames ≤ 1024 };
+}
+
+/// What became of a frame that was pushed.
+#[derive(Clone, Copy, Debug, PartialEq, Eq, Hash)]
+pub enum Pushed {
+    /// It stands at the back of the lane.
+    Kept,
+    /// It is lost, since 1,024 frames stand.
+    Dropped,
+}
+
+/// The lane has no frame at that place.
+#[derive(Clone, Copy, Debug, PartialEq, Eq, Hash)]
+pub struct NoFrame;
+
+impl fmt::Display for NoFrame {
+    fn fmt<W: fmt::Write>(&self, f: &mut fmt::Formatter<W>) -> fmt::Result {
+        f.write_str("no frame at that place")
+    }
+}
+
+impl Error for NoFrame {}
+
+/// Why a frame wasn't doubled.
+#[derive(Clone, Copy, Debug, PartialEq, Eq, Hash)]
+pub enum DoubleError {
+    /// The lane has no frame at that place.
+    NoFrame,
+    /// No memory was found for the copy.
+    NoMemory,
+}
+
+impl fmt::Display for DoubleError {
+    fn fmt<W: fmt::Write>(&self, f: &mut fmt::Formatter<W>) -> fmt::Result {
+        f.write_str(match self {
+            DoubleError::NoFrame => "no frame at that place",
+            DoubleError::NoMemory => "out of memory",
+        })
+    }
+}
+
+impl Error for DoubleError {}
+
+impl From<AllocError> for DoubleError {
+    ghost from_gives = { λ _ e. e ≡ double_errors.NoMemory };
+
+    fn from(_refused: AllocError) -> Self {
+        DoubleError::NoMemory
+    }
+}
+
+impl<T: Drop> From<AllocFailed<T>> for DoubleError {
+    ghost from_gives = { λ _ e. e ≡ double_errors.NoMemory };
+
+    fn from(_refused: AllocFailed<T>) -> Self {
+        DoubleError::NoMemory
+    }
+}
+
+impl Lane {
+    /// The empty lane, which takes no memory.
+    pub fn new(alloc: Global) -> Self
+        ensures { result ≡ [] }
+    {
+        Lane {
+            frames: VecDeque::new(alloc),
+        }
+    }
+
+    /// How many frames stand in the lane, at most 1,024.
+    pub fn len(&self) -> usize
+        ensures len { result ≡ length self.now }
+        ensures within { result ≤ 1024 }
+    {
+        self.frames.len()
+    }
+
+    /// Whether no frame stands in the lane.
+    pub fn is_empty(&self) -> bool
+        ensures { result ≡ nat_eq (length self.now) 0 }
+    {
+        self.frames.is_empty()
+    }
+
+    /// Sends a frame into the lane. It is lost exactly where 1,024 frames stand.
+    pub fn push(&mut self, frame: Vec<u8>) -> Result<Pushed, NoMemory>
+        ensures dropped { (result ≡ Ok Pushed.Dropped) ↔ (has_room self.old ≡ false) }
+        ensures ok { OnOk result (self.new ≡ pushed self.old frame.items) }
+        ensures err { OnErr result (self.new ≡ self.old) }
+    {
+        if self.frames.len() == MOST {
+            return Ok(Pushed::Dropped);
+        }
+        self.frames.push_back(frame)?;
+        Ok(Pushed::Kept)
+    }
+
+    /// The frame at the front. None exactly where the lane is empty.
+    pub fn front(&self) -> Option<&[u8]>
+        ensures { option_copied result ≡ slice_get self.now 0 }
+    {
+        self.at(0)
+    }
+
+    /// The frame at place `k`, counted from 0 at the front. None exactly where `k` isn't below the length.
+    pub fn at(&self, k: usize) -> Option<&[u8]>
+        ensures { option_copied result ≡ slice_get self.now k }
+    {
+        match self.frames.get(k) {
+            None => None,
+            Some(frame) => Some(frame.as_slice()),
+        }
+    }
+
+    /// Takes the frame at the front. None exactly where the lane is empty.
+    pub fn pop(&mut self) -> Option<Vec<u8>>
+        ensures { MatchOption result ((self.old ≡ []) × (self.new ≡ [])) (λ frame. self.old ≡ frame.items ∷ self.new) }
+    {
+        self.frames.pop_front()
+    }
+
+    /// Removes the frame at place `k`, counted from 0 at the front. `NoFrame` exactly where `k` isn't below the
+    /// length, and then nothing changes.
+    pub fn lose(&mut self, k: usize) -> Result<(), NoFrame>
+        ensures ok { IsOk result ↔ (k < length self.old) }
+        ensures frames { self.new ≡ after_lose self.old k }
+    {
+        match self.frames.remove(k) {
+            None => Err(NoFrame),
+            Some(_lost) => Ok(()),
+        }
+    }
+
+    /// Puts a copy of the frame at place `k`, counted from 0 at the front, right behind it; the copy is lost where
+    /// 1,024 frames stand. `NoFrame` exactly where `k` isn't below the length. After an error nothing changes.
+    pub fn double(&mut self, k: usize) -> Result<(), DoubleError>
+        ensures no_frame { IsErrOf result DoubleError.NoFrame ↔ (length self.old ≤ k) }
+        ensures ok { OnOk result (self.new ≡ after_double self.old k (slice_get self.old k)) }
+        ensures err { OnErr result (self.new ≡ self.old) }
+    {
+        let Some(frame) = self.at(k) else {
+            return Err(DoubleError::NoFrame);
+        };
+        if self.frames.len() == MOST {
+            return Ok(());
+        }
+        let copy = Vec::from_slice(*self.frames.allocator(), frame)?;
+        self.frames.insert(k + 1, copy)?;
+        Ok(())
+    }
+
+    /// Loses every frame.
+    pub fn flush(&mut self)
+        ensures { self.new ≡ [] }
+    {
+        self.frames.clear();
+    }
+}
+
+#[cfg(test)]
+mod tests {
+    use super::*;
+    use std::test::Fail;
+
+    fn lane_of(alloc: Global, frames: &[u8]) -> Result<Lane, NoMemory> {
+        let mut lane = Lane::new(alloc);
+        for frame in frames {
+            let _ = lane.push(vec![in alloc; *frame; usize::from(*frame)]?)?;
+        }
+        Ok(lane)
+    }
+
+    /// The first byte of the frame at place `k`.
+    fn byte_at(lane: &Lane, k: usize) -> Option<u8> {
+        let frame = lane.at(k)?;
+        frame.first().copied()
+    }
+
+    #[test]
+    fn frames_come_out_in_the_order_in_which_they_went_in(rt: HostRuntime) -> Result<(), Fail> {
+        let mut lane = lane_of(rt.alloc(), &[7, 8, 9])?;
+        assert_eq!(rt; (lane.len(), lane.is_empty()), (3, false));
+        assert_eq!(rt; lane.front().ok_or("empty")?, [7; 7].as_slice());
+        assert_eq!(rt; byte_at(&lane, 2), Some(9));
+        assert_eq!(rt; byte_at(&lane, 3), None);
+        assert_eq!(rt; lane.pop().ok_or("empty")?.as_slice(), [7; 7].as_slice());
+        assert_eq!(rt; byte_at(&lane, 0), Some(8));
+        lane.flush();
+        assert!(rt; lane.pop().is_none());
+        Ok(())
+    }
+
+    #[test]
+    fn a_frame_is_lost_or_doubled_at_its_place(rt: HostRuntime) -> Result<(), Fail> {
+        let mut lane = lane_of(rt.alloc(), &[7, 8, 9])?;
+        assert_eq!(rt; lane.double(1), Ok(()));
+        assert_eq!(rt; byte_at(&lane, 2), Some(8));
+        assert_eq!(rt; lane.lose(0), Ok(()));
+        assert_eq!(rt; byte_at(&lane, 0), Some(8));
+        assert_eq!(rt; lane.lose(3), Err(NoFrame));
+        assert_eq!(rt; lane.double(3), Err(DoubleError::NoFrame));
+        assert_eq!(rt; lane.len(), 3);
+        Ok(())
+    }
+
+    #[test]
+    fn the_frame_after_1024_and_a_copy_after_them_are_lost(rt: HostRuntime) -> Result<(), Fail> {
+        let mut lane = Lane::new(rt.alloc());
+        for _ in 0..1024 {
+            assert_eq!(rt; lane.push(vec![in rt.alloc(); 1]?)?, Pushed::Kept);
+        }
+        assert_eq!(rt; lane.push(vec![in rt.alloc(); 2]?)?, Pushed::Dropped);
+        assert_eq!(rt; lane.double(0), Ok(()));
+        assert_eq!(rt; lane.len(), 1024);
+        Ok(())
+    }
+}
