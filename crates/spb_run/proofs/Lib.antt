@@ -6,3 +6,4 @@ pub mod WorldLemmas
 pub mod RefusalLemmas
 pub mod ValidLemmas
 pub mod PlacedLemmas
+pub mod RowLemmas
