@@ -3,6 +3,9 @@ use Rattle.std.specs.List.{AllByRecursion, filter_map}
 use Rattle.std.specs.Option.{option_to_list}
 use Rattle.std.proofs.lemmas.List.{take_more}
 use Rattle.std.proofs.lemmas.List.Elements.{filter_map-append}
+use Rattle.std.specs.declared.cmp.Ordering.{Ordering}
+use Rattle.std.specs.Ordering.{is_gt}
+use Rattle.spb_run.specs.Tables.{placed, ascending}
 use Rattle.spb_types.specs.Address.{same_system}
 use Rattle.spb_types.specs.Graph.{joins, port_at, port_among, edges_at, ArePorts}
 use Rattle.spb_types.specs.declared.address.SystemId.{SystemId}
@@ -50,3 +53,22 @@ cons_one (Some y) = refl
 pub filter_map-take_more : {X Y : Type 0} (f : X → Option Y) (xs : List X) (i : ℕ) (d : X) → i < length xs → filter_map f (take (i + 1) xs) ≡ filter_map f (take i xs) ++ option_to_list (f (get_or xs i d))
 filter_map-take_more f xs i d within =
     ap (filter_map f) (take_more xs i d within) ∙ filter_map-append f (take i xs) (get_or xs i d ∷ []) ∙ ap (λ r. filter_map f (take i xs) ++ r) (cons_one (f (get_or xs i d)))
+
+-- what holds of each item holds of the item at a place
+pub All-at : {X : Type 0} (P : X → Type 0) (xs : List X) (i : ℕ) (d : X) → AllByRecursion P xs → i < length xs → P (get_or xs i d)
+All-at P [] i d h within = absurd (omega arith)
+All-at P (x ∷ xs) zero d h within = h.0
+All-at P (x ∷ xs) (suc i) d h within = All-at P xs i d h.1 (omega arith)
+
+All-placed : {X : Type 0} (P : X → Type 0) (cmp : X → X → Ordering) (x : X) (ys : List X) → P x → AllByRecursion P ys → AllByRecursion P (placed cmp x ys)
+All-placed P cmp x [] p h = (p, tt)
+All-placed P cmp x (y ∷ ys) p h = by (is_gt (cmp x y)) (All-placed P cmp x ys p h.1)
+  where
+    by : (b : Bool) → AllByRecursion P (placed cmp x ys) → AllByRecursion P (if b then y ∷ placed cmp x ys else x ∷ y ∷ ys)
+    by true rest = (h.0, rest)
+    by false rest = (p, h)
+
+-- what holds of each item holds of them in ascending order
+pub All-ascending : {X : Type 0} (P : X → Type 0) (cmp : X → X → Ordering) (xs : List X) → AllByRecursion P xs → AllByRecursion P (ascending cmp xs)
+All-ascending P cmp [] h = tt
+All-ascending P cmp (x ∷ xs) h = All-placed P cmp x (ascending cmp xs) h.0 (All-ascending P cmp xs h.1)

@@ -10,6 +10,7 @@ pub use world::World;
 
 mod check;
 mod declaration;
+mod graph;
 mod play;
 mod reason;
 mod reply;
