@@ -12,6 +12,7 @@ pub use world::World;
 
 mod check;
 mod declaration;
+mod graph;
 mod output;
 mod play;
 mod reason;
@@ -20,4 +21,5 @@ mod report;
 mod runner;
 mod script;
 mod status;
+mod tables;
 mod world;
