@@ -7,3 +7,5 @@ pub mod RefusalLemmas
 pub mod ValidLemmas
 pub mod PlacedLemmas
 pub mod RowLemmas
+pub mod AscendLemmas
+pub mod TableLemmas

@@ -17,3 +17,6 @@ mod reply;
 mod report;
 mod tables;
 mod world;
+
+#[cfg(test)]
+mod tests;
