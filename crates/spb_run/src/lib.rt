@@ -11,6 +11,7 @@ pub use world::World;
 mod check;
 mod declaration;
 mod graph;
+pub mod laws;
 mod play;
 mod reason;
 mod reply;
