@@ -1,23 +1,21 @@
 -- The unicast table: its rows are just those of the definition, and they ascend.
-use Rattle.std.proofs.Common.{◌≡◌, ◌≢◌, ℕ, suc, zero, Bool, true, false, ◌⊎◌, inl, inr, ◌↔◌, List, [], ◌∷◌, ◌++◌, flat_map, Contains, Option, Some, None, option_map, option_and_then, slice_get, refl, sym, ap, ◌∙◌, subst, Ordering, Less, Equal, nat_cmp}
-use Rattle.std.specs.List.{AllByRecursion, filter_map}
+use Rattle.std.proofs.Common.{◌≡◌, ◌≢◌, ℕ, inl, inr, List, [], ◌∷◌, Contains, Option, Some, None, option_map, option_and_then, slice_get, refl, sym, ap, ◌∙◌, subst, Ordering, Less, Equal, nat_cmp}
 use Rattle.std.specs.Ordering.{ordering_then}
 use Rattle.std.specs.Cmp.{IsTotalOrder}
 use Rattle.std.proofs.lemmas.Cmp.{nat_cmp_total, nat_list_cmp_total, then_total, on_total, tied_itself}
 use Rattle.spb_types.specs.Ect.{mask_of}
 use Rattle.spb_types.specs.Graph.{IsAmong, IsDistinct, IsBridge, systems_of, port_between, IsValid}
-use Rattle.spb_types.specs.declared.address.Mac.{Mac}
 use Rattle.spb_types.specs.declared.address.SystemId.{SystemId}
 use Rattle.spb_types.specs.declared.graph.Graph.{Graph}
 use Rattle.spb_types.specs.declared.service.VidPlan.{VidPlan}
 use Rattle.spb_types.specs.declared.tables.UnicastRow.{UnicastRow}
-use Rattle.ect_trees.specs.Path.{IsPath, Leads}
+use Rattle.ect_trees.specs.Path.{Leads}
 use Rattle.ect_trees.specs.Best.{IsBest, best_of}
 use Rattle.ect_trees.proofs.Alike.{has_from_contains, contains_from_has}
 use Rattle.ect_trees.proofs.Exists.{best_of_some}
 use Rattle.ect_trees.proofs.Members.{Has, has_flat_map}
 use Rattle.ect_trees.proofs.Placing.{nat_tied, ids_tied}
-use Rattle.spb_run.specs.Tables.{ascending, mac_cmp, system_cmp, vid_cmp, row_cmp, port_towards, unicast_row, rows_of_vid, unicast_rows, AreVidsApart, ArePlans, IsUnicast, IsUnicastTable, Ascends, RowsAreTable, TableIsOne}
+use Rattle.spb_run.specs.Tables.{ascending, mac_cmp, system_cmp, vid_cmp, row_cmp, port_towards, unicast_row, rows_of_vid, unicast_rows, AreVidsApart, IsUnicast, Ascends, RowsAreTable, TableIsOne}
 use Rattle.spb_run.proofs.AscendLemmas.{All-has, All-each, ascending_has, has_ascending, Ascends-placed, Ascends-one, Ascends-filter_map, Ascends-flat_map, filter_map_has, has_filter_map, flat_map_has}
 
 systems_total : IsTotalOrder system_cmp
@@ -66,6 +64,7 @@ route g mask me d port valid h = by (best_of g mask me d) refl h
     along (x ∷ []) best k = cc
     along (x ∷ y ∷ rest) best k =
         record { next = y; rest = rest; best = subst (λ z. IsBest g mask me d (z ∷ y ∷ rest)) best.path.0 best; leads = k }
+
     by : (o : Option (List SystemId)) → best_of g mask me d ≡ o → option_and_then (λ next. port_between g me next) (option_and_then (λ path. slice_get path 1) o) ≡ Some port → Route g mask me d port
     by None e k = cc
     by (Some p) e k = along p ((best_of_some g mask me d p valid).0 e) k
@@ -146,21 +145,24 @@ rows_ascend g me vids valid apart =
         let er = (row_for g me p u r hr).is in
         let es = (row_for g me p v s hs).is in
         ap (λ z. row_cmp z s) er ∙ ap (λ z. row_cmp (row_with p u r.port) z) es ∙ same_then p.vid.value (system_cmp u v) ∙ less
+
     each : (p : VidPlan) → Ascends row_cmp (rows_of_vid g me p)
     each p = Ascends-filter_map system_cmp row_cmp (unicast_row g me p) (within p) (ascending system_cmp (systems_of g.bridges)) (systems_ascend (systems_of g.bridges) valid.apart)
+
     vid_is : (p : VidPlan) (r : UnicastRow) → Has r (rows_of_vid g me p) → r.vid.value ≡ p.vid.value
     vid_is p r i =
         let from = filter_map_has (unicast_row g me p) r (ascending system_cmp (systems_of g.bridges)) i in
         ap (λ z. z.vid.value) (row_for g me p from.0 r from.2).is
+
     across : (p q : VidPlan) (r s : UnicastRow) → vid_cmp p q ≡ Less → Has r (rows_of_vid g me p) → Has s (rows_of_vid g me q) → row_cmp r s ≡ Less
     across p q r s less i j =
         ap (λ n. ordering_then (nat_cmp n s.vid.value) (mac_cmp r.mac s.mac)) (vid_is p r i) ∙ ap (λ n. ordering_then (nat_cmp p.vid.value n) (mac_cmp r.mac s.mac)) (vid_is q s j) ∙ ap (λ o. ordering_then o (mac_cmp r.mac s.mac)) less
 
 pub rows_are_table : RowsAreTable
 rows_are_table g me vids valid plans = record {
-    members = λ r. (rows_are g me vids r valid, are_rows g me vids r valid);
-    ascends = rows_ascend g me vids valid plans.apart;
-  }
+  members = λ r. (rows_are g me vids r valid, are_rows g me vids r valid);
+  ascends = rows_ascend g me vids valid plans.apart;
+}
 
 pub table_is_one : TableIsOne
 table_is_one g me vids rows others t u =

@@ -2,8 +2,8 @@
 #![tactic(auto)]
 
 pub use declaration::{DeclaredBridge, DeclaredLink, LinkEnd};
-pub use reason::{PlayError, Reason, Refusal};
 pub use play::play_line;
+pub use reason::{PlayError, Reason, Refusal};
 pub use reply::Reply;
 pub use report::{error_text, tables_text};
 pub use world::World;
@@ -17,7 +17,6 @@ mod reason;
 mod reply;
 mod report;
 mod tables;
-mod world;
-
 #[cfg(test)]
 mod tests;
+mod world;
