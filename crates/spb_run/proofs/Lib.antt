@@ -11,3 +11,5 @@ pub mod Reading
 pub mod Writing
 pub mod PlacedLemmas
 pub mod RowLemmas
+pub mod AscendLemmas
+pub mod TableLemmas

@@ -1,4 +1,4 @@
-use Rattle.std.proofs.Common.{◌≡◌, ℕ, zero, suc, List, [], ◌∷◌, Option, Some, None, slice_get, replicate, refl}
+use Rattle.std.proofs.Common.{◌≡◌, ℕ, zero, suc, [], ◌∷◌, slice_get, replicate, refl}
 use Rattle.std.specs.Option.{option_map_or}
 use Rattle.spb_run.specs.World.{Bridges, ports_at, system_at}
 

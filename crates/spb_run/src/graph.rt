@@ -21,10 +21,7 @@ pub fn system_at(bridges: &IndexMap<Name, DeclaredBridge>, place: usize) -> Syst
 }
 
 /// The edge that a link makes, if it is up.
-fn live_edge(
-    bridges: &IndexMap<Name, DeclaredBridge>,
-    link: &DeclaredLink,
-) -> Option<Edge>
+fn live_edge(bridges: &IndexMap<Name, DeclaredBridge>, link: &DeclaredLink) -> Option<Edge>
     ensures { result ≡ state.live_edge bridges.now.entries link.now }
 {
     if !link.live {
@@ -46,10 +43,7 @@ pub fn graph_bridges(
 ) -> Result<Vec<GraphBridge>, NoMemory>
     ensures { IfOk result (λ list. list.items ≡ state.graph_bridges bridges.now.entries) }
 {
-    let list = bridges
-        .values()
-        .map(|bridge| bridge.bridge)
-        .collect(alloc)?;
+    let list = bridges.values().map(|bridge| bridge.bridge).collect(alloc)?;
     Ok(list)
 }
 

@@ -1,13 +1,15 @@
 ghost use Rattle.std.specs.Prelude.{◌≡◌, [], ◌∷◌, ◌++◌, true, OnOk, OnErr};
 ghost use Rattle.spb_run.specs.Play.{is_new_name};
 
-use crate::check;
 use crate::graph::{graph_bridges, graph_edges, system_at};
 use crate::reason::reason_unless;
 use crate::tables::tables_of;
-use crate::{DeclaredBridge, DeclaredLink, LinkEnd, PlayError, Reason};
+use crate::{DeclaredBridge, DeclaredLink, LinkEnd, PlayError, Reason, check};
 use indexmap::IndexMap;
-use spb_types::{BridgeId, Graph, GraphBridge, Mac, Name, NoMemory, Seq, SourceId, SystemId, Tables, Vid, VidPlan};
+use spb_types::{
+    BridgeId, Graph, GraphBridge, Mac, Name, NoMemory, Seq, SourceId, SystemId, Tables, Vid,
+    VidPlan,
+};
 use std::alloc::Global;
 use std::marker::Model;
 
@@ -103,7 +105,10 @@ impl World {
         let is_new_id = check::is_new_id(&self.bridges, system, source);
         reason_unless(is_new_name, Reason::Range)
             .or(reason_unless(is_new_id, Reason::Range))
-            .or(reason_unless(check::is_bridge_range(priority, system, ports), Reason::Range))
+            .or(reason_unless(
+                check::is_bridge_range(priority, system, ports),
+                Reason::Range,
+            ))
             .or(reason_unless(self.bridges.len() < 96, Reason::Range))
     }
 
@@ -214,11 +219,7 @@ impl World {
 }
 
 /// Puts a thing of a new name behind the others. After NoMemory nothing changed.
-fn insert_new<T: Drop>(
-    things: &mut IndexMap<Name, T>,
-    name: Name,
-    thing: T,
-) -> Result<(), NoMemory>
+fn insert_new<T: Drop>(things: &mut IndexMap<Name, T>, name: Name, thing: T) -> Result<(), NoMemory>
     requires { is_new_name name things.old.entries ≡ true }
     ensures ok { OnOk result (things.new.entries ≡ things.old.entries ++ (name, thing) ∷ []) }
     ensures err { OnErr result (things.new.entries ≡ things.old.entries) }
