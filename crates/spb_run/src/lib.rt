@@ -13,6 +13,7 @@ pub use world::World;
 mod check;
 mod declaration;
 mod graph;
+pub mod laws;
 mod output;
 mod play;
 mod reason;
@@ -22,4 +23,6 @@ mod runner;
 mod script;
 mod status;
 mod tables;
+#[cfg(test)]
+mod tests;
 mod world;
