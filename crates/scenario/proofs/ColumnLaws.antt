@@ -1,17 +1,15 @@
-use Rattle.std.proofs.Common.{◌≡◌, ℕ, ◌+◌, ◌≤◌, ◌<◌, List, [], ◌∷◌, ◌++◌, length, Bool, true, false, nat_lt, codes, Option, Some, None, Ok, Err, Result, ◌⊎◌, refl, sym, ap, ◌∙◌, subst, inl, inr, arith}
+use Rattle.std.proofs.Common.{◌≡◌, ℕ, ◌+◌, ◌≤◌, List, [], ◌∷◌, ◌++◌, length, false, nat_lt, codes, Option, Some, None, Ok, Err, Result, ◌⊎◌, refl, sym, ap, ◌∙◌, subst, inl, inr, arith}
 use Rattle.std.proofs.lemmas.Bool.{cases_Bool}
 use Rattle.std.proofs.lemmas.Bool.Decides.{nat_tests}
-use Rattle.spb_types.specs.declared.address.Mac.{Mac}
-use Rattle.spb_types.specs.declared.service.SourceId.{SourceId}
 use Rattle.scenario.specs.declared.command.Side.TheVariants.{A}
 use Rattle.scenario.specs.declared.command.Dir.TheVariants.{Ab}
 use Rattle.scenario.specs.declared.command.Command.{Command}
 use Rattle.scenario.specs.declared.keyword.Keyword.{Keyword}
 use Rattle.scenario.specs.declared.keyword.Keyword.TheVariants.{State}
-use Rattle.scenario.specs.Words.{is_blank, Word, words_in, Rest, rest_from, next, at_end, meant}
-use Rattle.scenario.specs.WordForms.{decimal, decoded, hexadecimal}
+use Rattle.scenario.specs.Words.{is_blank, Word, words_in, rest_from, next, at_end, meant}
+use Rattle.scenario.specs.WordForms.{decoded, hexadecimal}
 use Rattle.scenario.specs.Keywords.{text_of, keyword}
-use Rattle.scenario.specs.Grammar.{Kind, a_name, a_number, a_system, a_source, a_frame, a_dir, a_side, Value, meaning, Form, gives, takes, read, form_of, is_comment, some, unless_blank, command_in, line_of, ◌then◌}
+use Rattle.scenario.specs.Grammar.{Kind, a_name, a_number, a_system, a_source, a_frame, a_dir, a_side, Value, meaning, Form, gives, takes, read, form_of, is_comment, some, unless_blank, line_of, ◌then◌}
 use Rattle.scenario.specs.Spelling.{SpellsValue, SpellsForm, SpellsWords, CanGoOn, bytes_of, Misfits, Misses, IsRefusedAt, too_long, misfits, misses}
 use Rattle.scenario.proofs.Values.{spells-meaning, meaning-spelled}
 use Rattle.scenario.proofs.FormLaws.{rest}
