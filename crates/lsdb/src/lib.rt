@@ -5,9 +5,12 @@
 //! copies the database or a body. Only `put` takes memory.
 #![tactic(auto)]
 
+pub use database::{Database, PutError, Raised};
 pub use held::{DbRow, Held};
 pub use version::{Relation, Version, compare, join};
 
+mod database;
 mod held;
+mod item;
 pub mod laws;
 mod version;
