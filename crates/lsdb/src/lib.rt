@@ -14,3 +14,6 @@ mod held;
 mod item;
 pub mod laws;
 mod version;
+
+#[cfg(test)]
+mod tests;
