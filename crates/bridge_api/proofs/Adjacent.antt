@@ -82,7 +82,7 @@ pub up_since : (old new : Adjacency) → is_up new.state ≡ true → (change_of
 up_since old new up =
     elim (up_since_at (is_up new.state) (is_up old.state) (same_end (new.neighbour, new.circuit) (old.neighbour, old.circuit)) (is_up old.state && not (is_up new.state)) up) [
       | inl came ↦ inl came
-      | inr was ↦ inr (was.0, up_keeps new up ∙ (ap (λ n. Some n) (same_is _ _ was.1) ∙ sym (up_keeps old was.0)))
+      | inr was ↦ inr (was.0, up_keeps new up ∙ (ap (λ (n : End). Some n) (same_is (new.neighbour, new.circuit) (old.neighbour, old.circuit) was.1) ∙ sym (up_keeps old was.0)))
     ]
 
 -- what left Up isn't Up, and what came up is

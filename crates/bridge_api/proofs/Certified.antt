@@ -34,7 +34,7 @@ use Rattle.bridge_api.specs.Ticking.{later, after_tick}
 use Rattle.bridge_api.specs.Step.{Input, second, frame, carrier, step, sent}
 use Rattle.bridge_api.specs.Laws.{IsSoundPort, IsSoundView, ConfiguredIsSound, StepsStaySound, IsSameBridge, StepsKeepBridge, IsHeard, StepsKeepNeighbours, IsFresh, EnteringUpIsWhole, StepsCarryDatabase, greeter, port_of, claims_of}
 use Rattle.bridge_api.proofs.Adjacent.{second_keeps, second_up, carrier_keeps, up_since, came_up, stayed_up, hello_sound, second_sound, carrier_sound, not_discarded}
-use Rattle.bridge_api.proofs.Changes.{found, one_port, changed_bridge, changed_unheld, Greeted, frame_step, greeted_ports, Carried, carrier_step, carried_ports, ticked, tick_port, tick_unheld}
+use Rattle.bridge_api.proofs.Changes.{found, one_port, Greeted, frame_step, greeted_ports, greeted_bridge, greeted_unheld, Carried, carrier_step, carried_ports, carried_bridge, carried_unheld, ticked, tick_port, tick_unheld}
 
 -- ---- the bridge stays the same
 
@@ -52,18 +52,18 @@ same_itself : (v w : BridgeView) → w ≡ v → IsSameBridge v w
 same_itself v w e = subst (λ (u : BridgeView). IsSameBridge v u) (sym e) (record { id = refl; source = refl; vids = refl; attached = refl; ports = refl; failed = refl })
 
 pub steps_keep_bridge : StepsKeepBridge
-steps_keep_bridge second v = record { id = refl; source = refl; vids = refl; attached = refl; ports = length-map _ _ ∙ length-map _ _; failed = refl }
+steps_keep_bridge second v = record { id = refl; source = refl; vids = refl; attached = refl; ports = length-map (map later v.ports) (with_due false) ∙ length-map v.ports later; failed = refl }
 steps_keep_bridge (frame q bytes) v =
     elim (frame_step v q bytes) [
       | inl e ↦ same_itself v (after_receive q bytes v) e
       | inr g ↦ subst (λ (u : BridgeView). IsSameBridge v u) (sym g.after)
-          (same_after v (greeted g.hello g.way q g.port v) (changed_bridge _ q _ v) (ap length (greeted_ports g.hello g.way q g.port v g.there) ∙ length-set _ _ _))
+          (same_after v (greeted g.hello g.way q g.port v) (greeted_bridge g.hello g.way q g.port v) (ap length (greeted_ports g.hello g.way q g.port v g.there) ∙ length-set v.ports (q - 1) (greeted_port v.id.system q g.hello g.way g.port)))
     ]
 steps_keep_bridge (carrier q on) v =
     elim (carrier_step v q on) [
       | inl e ↦ same_itself v (with_carrier q on v) e
       | inr g ↦ subst (λ (u : BridgeView). IsSameBridge v u) (sym g.after)
-          (same_after v (carried_at q on (Some g.port) v) (changed_bridge _ q _ v) (ap length (carried_ports q on g.port v g.there) ∙ length-set _ _ _))
+          (same_after v (carried_at q on (Some g.port) v) (carried_bridge q on g.port v) (ap length (carried_ports q on g.port v g.there) ∙ length-set v.ports (q - 1) (carried_port on g.port)))
     ]
 
 -- ---- who is kept
@@ -193,7 +193,7 @@ steps_stay_sound (frame q bytes) v was =
           let sound = greeted_sound v q g.hello g.way g.port (all_at v.ports (q - 1) g.port was.ports at.1) in
           sound_after v (after_receive q bytes v) was (steps_keep_bridge (frame q bytes) v)
           (subst (λ (ports : List BridgePort). AllByRecursion IsSoundPort ports) (sym (ap (λ (u : BridgeView). u.ports) g.after ∙ greeted_ports g.hello g.way q g.port v g.there)) (all_set v.ports (q - 1) _ was.ports sound))
-          (ap (λ (u : BridgeView). u.database) g.after ∙ changed_unheld _ q _ v was.unheld)
+          (ap (λ (u : BridgeView). u.database) g.after ∙ greeted_unheld g.hello g.way q g.port v was.unheld)
     ]
 steps_stay_sound (carrier q on) v was =
     elim (carrier_step v q on) [
@@ -204,7 +204,7 @@ steps_stay_sound (carrier q on) v was =
           let sound = change_sound g.port (after_carrier on g.port.adjacency) port (carrier_sound on g.port.adjacency port.adjacency) in
           sound_after v (with_carrier q on v) was (steps_keep_bridge (carrier q on) v)
           (subst (λ (ports : List BridgePort). AllByRecursion IsSoundPort ports) (sym (ap (λ (u : BridgeView). u.ports) g.after ∙ carried_ports q on g.port v g.there)) (all_set v.ports (q - 1) _ was.ports sound))
-          (ap (λ (u : BridgeView). u.database) g.after ∙ changed_unheld _ q _ v was.unheld)
+          (ap (λ (u : BridgeView). u.database) g.after ∙ carried_unheld q on g.port v was.unheld)
     ]
 
 -- ---- entering Up, and the database
@@ -261,8 +261,8 @@ with_flags v w p unheld (inr due) = inr (record { due = due; flagged = λ id. in
 
 pub entering_up_is_whole : EnteringUpIsWhole
 entering_up_is_whole second v p was up =
-    let in' = tick_up_in (port_at v p) (sym (ap is_up_in (tick_port v p)) ∙ up) in
-    inl (in'.0, ap neighbour_in (tick_port v p) ∙ in'.1)
+    let before = tick_up_in (port_at v p) (sym (ap is_up_in (tick_port v p)) ∙ up) in
+    inl (before.0, ap neighbour_in (tick_port v p) ∙ before.1)
 entering_up_is_whole (frame q bytes) v p was up =
     with_flags v (after_receive q bytes v) p (steps_stay_sound (frame q bytes) v was).unheld
     (elim (frame_step v q bytes) [
@@ -284,6 +284,6 @@ pub steps_carry_database : StepsCarryDatabase
 steps_carry_database input v was =
     let unheld : (step input v).database ≡ empty = (steps_stay_sound input v was).unheld in
     record {
-      rises = λ id. subst (λ (a : Version). IsAtMost a (version_in (get (step input v).database id))) (sym (nothing_at v.database id was.unheld)) (absent_least _);
+      rises = λ id. subst (λ (a : Version). IsAtMost a (version_in (get (step input v).database id))) (sym (nothing_at v.database id was.unheld)) (absent_least (version_in (get (step input v).database id)));
       kept = λ id p up. is_absent (nothing_at (step input v).database id unheld);
     }

@@ -4,7 +4,7 @@ use Rattle.std.specs.Prelude.{slice_get, slice_set, nat_le, if◌then◌else◌}
 use Rattle.std.specs.Option.{option_map}
 use Rattle.std.specs.FinMap.{empty}
 use Rattle.std.proofs.lemmas.List.{set-set}
-use Rattle.std.proofs.lemmas.Option.{slice_get-map, slice_get_within}
+use Rattle.std.proofs.lemmas.Option.{slice_get-map, slice_get_within, some_pair_parts}
 use Rattle.std.proofs.lemmas.Bool.{le-leb, leb-true, cases_eq}
 use Rattle.spb_types.specs.declared.address.SystemId.{SystemId}
 use Rattle.isis_pdu.specs.Pdu.{HelloValue}
@@ -99,7 +99,13 @@ frame_step v q bytes = by_port (port_at v q) v q bytes refl
 pub greeted_ports : (h : HelloValue) (way : ThreeWay) (q : ℕ) (port : BridgePort) (v : BridgeView) → port_at v q ≡ Some port → (greeted h way q port v).ports ≡ slice_set v.ports (q - 1) (greeted_port v.id.system q h way port)
 greeted_ports h way q port v there =
     changed_ports (heard_of v.id.system q h way port.adjacency) q port (with_adjacency (after_hello v.id.system q h way port.adjacency) port) v (found v.ports q port there).1
-    (λ e. ap (λ a. with_adjacency a port) (kept_whole v.id.system q h way port.adjacency e))
+    (λ e. ap (λ (a : Adjacency). with_adjacency a port) (kept_whole v.id.system q h way port.adjacency e))
+
+pub greeted_bridge : (h : HelloValue) (way : ThreeWay) (q : ℕ) (port : BridgePort) (v : BridgeView) → greeted h way q port v ≡ record v { ports = (greeted h way q port v).ports; database = (greeted h way q port v).database }
+greeted_bridge h way q port v = changed_bridge (heard_of v.id.system q h way port.adjacency) q (with_adjacency (after_hello v.id.system q h way port.adjacency) port) v
+
+pub greeted_unheld : (h : HelloValue) (way : ThreeWay) (q : ℕ) (port : BridgePort) (v : BridgeView) → v.database ≡ empty → (greeted h way q port v).database ≡ empty
+greeted_unheld h way q port v unheld = changed_unheld (heard_of v.id.system q h way port.adjacency) q (with_adjacency (after_hello v.id.system q h way port.adjacency) port) v unheld
 
 -- ---- carrier
 
@@ -120,6 +126,12 @@ carried_ports q on port v there =
     changed_ports (change_of port.adjacency (after_carrier on port.adjacency)) q port (with_adjacency (after_carrier on port.adjacency) port) v (found v.ports q port there).1
     (λ e. absurd (not_discarded port.adjacency (after_carrier on port.adjacency) e))
 
+pub carried_bridge : (q : ℕ) (on : Bool) (port : BridgePort) (v : BridgeView) → carried_at q on (Some port) v ≡ record v { ports = (carried_at q on (Some port) v).ports; database = (carried_at q on (Some port) v).database }
+carried_bridge q on port v = changed_bridge (change_of port.adjacency (after_carrier on port.adjacency)) q (with_adjacency (after_carrier on port.adjacency) port) v
+
+pub carried_unheld : (q : ℕ) (on : Bool) (port : BridgePort) (v : BridgeView) → v.database ≡ empty → (carried_at q on (Some port) v).database ≡ empty
+carried_unheld q on port v unheld = changed_unheld (change_of port.adjacency (after_carrier on port.adjacency)) q (with_adjacency (after_carrier on port.adjacency) port) v unheld
+
 -- ---- a second
 
 -- a port after a tick
@@ -131,7 +143,7 @@ twice None = refl
 twice (Some port) = refl
 
 tick_at : (b : Bool) (ports : List BridgePort) (k : ℕ) → (if b then slice_get (map (with_due false) (map later ports)) k else None) ≡ option_map ticked (if b then slice_get ports k else None)
-tick_at true ports k = slice_get-map (with_due false) (map later ports) k ∙ (ap (λ o. option_map (with_due false) o) (slice_get-map later ports k) ∙ twice (slice_get ports k))
+tick_at true ports k = slice_get-map (with_due false) (map later ports) k ∙ (ap (λ (o : Option BridgePort). option_map (with_due false) o) (slice_get-map later ports k) ∙ twice (slice_get ports k))
 tick_at false ports k = refl
 
 pub tick_port : (v : BridgeView) (p : ℕ) → port_at (after_tick v) p ≡ option_map ticked (port_at v p)
@@ -148,26 +160,40 @@ with_ports ports v = record v { ports = ports }
 same_view : (v w : BridgeView) (ports : List BridgePort) → v.database ≡ empty → w ≡ record v { ports = w.ports; database = w.database } → w.ports ≡ ports → w.database ≡ empty → w ≡ with_ports ports v
 same_view v w ports unheld is at none = is ∙ (λ i. record v { ports = at i; database = (none ∙ sym unheld) i })
 
+-- the branch that is taken
+when_true : {X : Type 0} (b : Bool) (x y : X) → b ≡ true → (if b then x else y) ≡ x
+when_true true x y e = refl
+when_true false x y e = absurd cc
+
+when_false : {X : Type 0} (b : Bool) (x y : X) → b ≡ false → (if b then x else y) ≡ y
+when_false true x y e = absurd cc
+when_false false x y e = refl
+
+heard_lit : (v : BridgeView) (q : ℕ) (bytes : List ℕ) (port : BridgePort) → 1 ≤ q → slice_get v.ports (q - 1) ≡ Some port → port.adjacency.carrier ≡ true → after_receive q bytes v ≡ heard_as (judged bytes) q port v
+heard_lit v q bytes port low at lit =
+    ap (λ (o : Option BridgePort). heard_at q bytes o v) (port_found v q low ∙ at) ∙ when_true port.adjacency.carrier (heard_as (judged bytes) q port v) v lit
+
 pub greeted_is : (v : BridgeView) (q : ℕ) (bytes : List ℕ) (port : BridgePort) (h : HelloValue) (way : ThreeWay) → v.database ≡ empty → 1 ≤ q → slice_get v.ports (q - 1) ≡ Some port → port.adjacency.carrier ≡ true → greeting_in (judged bytes) ≡ Some (h, way) → after_receive q bytes v ≡ with_ports (slice_set v.ports (q - 1) (greeted_port v.id.system q h way port)) v
 greeted_is v q bytes port h way unheld low at lit some =
-    rw (port_found v q low, at, lit) (kind_is (judged bytes) some)
+    heard_lit v q bytes port low at lit ∙ kind_is (judged bytes) some
   where
     kind_is : (j : Judged) → greeting_in j ≡ Some (h, way) → heard_as j q port v ≡ with_ports (slice_set v.ports (q - 1) (greeted_port v.id.system q h way port)) v
     kind_is (useless reason) e = absurd cc
     kind_is (greeting g w) e =
-        let a : g ≡ h = cc in
-        let b : w ≡ way = cc in
-        rw (a, b) (same_view v (greeted h way q port v) (slice_set v.ports (q - 1) (greeted_port v.id.system q h way port)) unheld (changed_bridge _ q _ v) (greeted_ports h way q port v (port_found v q low ∙ at)) (changed_unheld _ q _ v unheld))
+        let parts : (g ≡ h) × (w ≡ way) = some_pair_parts g h w way e in
+        rw (parts.0, parts.1)
+          (same_view v (greeted h way q port v) (slice_set v.ports (q - 1) (greeted_port v.id.system q h way port)) unheld (greeted_bridge h way q port v) (greeted_ports h way q port v (port_found v q low ∙ at)) (greeted_unheld h way q port v unheld))
     kind_is (link_state l) e = absurd cc
     kind_is (complete c) e = absurd cc
     kind_is (partial s) e = absurd cc
     kind_is (tenant da sa vid isid customer) e = absurd cc
 
 pub deaf_is : (v : BridgeView) (q : ℕ) (bytes : List ℕ) (port : BridgePort) → 1 ≤ q → slice_get v.ports (q - 1) ≡ Some port → port.adjacency.carrier ≡ false → after_receive q bytes v ≡ v
-deaf_is v q bytes port low at dark = rw (port_found v q low, at, dark) refl
+deaf_is v q bytes port low at dark =
+    ap (λ (o : Option BridgePort). heard_at q bytes o v) (port_found v q low ∙ at) ∙ when_false port.adjacency.carrier (heard_as (judged bytes) q port v) v dark
 
 pub idle_is : (v : BridgeView) (q : ℕ) (bytes : List ℕ) (port : BridgePort) → 1 ≤ q → slice_get v.ports (q - 1) ≡ Some port → port.adjacency.carrier ≡ true → greeting_in (judged bytes) ≡ None → after_receive q bytes v ≡ v
-idle_is v q bytes port low at lit none = rw (port_found v q low, at, lit) (kind_is (judged bytes) none)
+idle_is v q bytes port low at lit none = heard_lit v q bytes port low at lit ∙ kind_is (judged bytes) none
   where
     kind_is : (j : Judged) → greeting_in j ≡ None → heard_as j q port v ≡ v
     kind_is (useless reason) e = refl
@@ -179,8 +205,8 @@ idle_is v q bytes port low at lit none = rw (port_found v q low, at, lit) (kind_
 
 pub carried_is : (v : BridgeView) (q : ℕ) (on : Bool) (port : BridgePort) → v.database ≡ empty → 1 ≤ q → slice_get v.ports (q - 1) ≡ Some port → with_carrier q on v ≡ with_ports (slice_set v.ports (q - 1) (carried_port on port)) v
 carried_is v q on port unheld low at =
-    rw (port_found v q low, at)
-    (same_view v (carried_at q on (Some port) v) (slice_set v.ports (q - 1) (carried_port on port)) unheld (changed_bridge _ q _ v) (carried_ports q on port v (port_found v q low ∙ at)) (changed_unheld _ q _ v unheld))
+    ap (λ (o : Option BridgePort). carried_at q on o v) (port_found v q low ∙ at)
+      ∙ same_view v (carried_at q on (Some port) v) (slice_set v.ports (q - 1) (carried_port on port)) unheld (carried_bridge q on port v) (carried_ports q on port v (port_found v q low ∙ at)) (carried_unheld q on port v unheld)
 
 pub tick_is : (v : BridgeView) → v.database ≡ empty → after_tick v ≡ with_ports (map (with_due false) (map later v.ports)) v
 tick_is v unheld = same_view v (after_tick v) (map (with_due false) (map later v.ports)) unheld refl refl (tick_unheld v unheld)

@@ -12,8 +12,9 @@ use Rattle.isis_pdu.specs.Tlvs.{is_whole, is_whole_after}
 use Rattle.isis_pdu.specs.Spelling.{hello_bytes, hello_with, zeros}
 use Rattle.isis_pdu.specs.Reading.{read}
 use Rattle.isis_pdu.specs.Grammar.{IsPdu}
-use Rattle.isis_pdu.proofs.FormatLaws.{written_again, whole_one, whole_both}
+use Rattle.isis_pdu.proofs.FormatLaws.{written_again, whole_one}
 use Rattle.spb_tlvs.specs.declared.three_way.ThreeWay.{ThreeWay}
+use Rattle.spb_tlvs.specs.Piece.{pieces, pieces_within}
 use Rattle.spb_tlvs.specs.Tlv.{tlv, values_with}
 use Rattle.spb_tlvs.specs.ThreeWay.{three_way_value, neighbour_bytes, three_way_of}
 use Rattle.spb_tlvs.specs.RoundTrip.{IsThreeWay, IsNamed}
@@ -37,27 +38,28 @@ use Rattle.bridge_api.proofs.Changes.{ticked, tick_port}
 
 -- ---- the TLVs of a hello
 
-abbrev first_tlvs : List ℕ
-first_tlvs = tlv 1 (0x03 ∷ 0x49 ∷ 0x00 ∷ 0x01 ∷ []) ++ tlv 129 (0xc1 ∷ [])
-
 pub tlvs_whole : (way : ThreeWay) → IsTrue (is_whole (hello_tlvs way))
 unfolding is_whole_after
-tlvs_whole way = rw (whole_both first_tlvs (tlv 240 (three_way_value way)) refl) (whole_one 240 (three_way_value way))
+tlvs_whole way = whole_one 240 (three_way_value way)
 
 named_short : (n : Option End) → IsNamed n → length (neighbour_bytes n) ≤ 10
 named_short None named = omega arith
 named_short (Some n) named = rw length-append (omega (arith, named.0))
 
 pub tlvs_short : (way : ThreeWay) → IsNamed way.neighbour → length (hello_tlvs way) ≤ 26
-tlvs_short way named = simp length-append (omega (arith, named_short way.neighbour named))
+tlvs_short way named = omega (arith, named_short way.neighbour named)
+
+none_left : values_with 240 [] ≡ []
+unfolding pieces pieces_within
+none_left = refl
 
 way_found : (way : ThreeWay) → values_with 240 (hello_tlvs way) ≡ three_way_value way ∷ []
 way_found way =
     ap (values_with 240) (append_assoc (tlv 1 (0x03 ∷ 0x49 ∷ 0x00 ∷ 0x01 ∷ [])) (tlv 129 (0xc1 ∷ [])) (tlv 240 (three_way_value way)))
-    ∙ (tlv_elsewhere 1 240 (0x03 ∷ 0x49 ∷ 0x00 ∷ 0x01 ∷ []) (tlv 129 (0xc1 ∷ []) ++ tlv 240 (three_way_value way)) cc
-    ∙ (tlv_elsewhere 129 240 (0xc1 ∷ []) (tlv 240 (three_way_value way)) cc
-    ∙ (ap (values_with 240) (sym (append-nil (tlv 240 (three_way_value way))))
-    ∙ tlv_here 240 (three_way_value way) [])))
+      ∙ (tlv_elsewhere 1 240 (0x03 ∷ 0x49 ∷ 0x00 ∷ 0x01 ∷ []) (tlv 129 (0xc1 ∷ []) ++ tlv 240 (three_way_value way)) (λ e. absurd (omega arith))
+      ∙ (tlv_elsewhere 129 240 (0xc1 ∷ []) (tlv 240 (three_way_value way)) (λ e. absurd (omega arith))
+      ∙ (ap (values_with 240) (sym (append-nil (tlv 240 (three_way_value way))))
+      ∙ (tlv_here 240 (three_way_value way) [] ∙ ap (λ (vs : List (List ℕ)). three_way_value way ∷ vs) none_left))))
 
 -- ---- the PDU and the frame
 
@@ -81,9 +83,9 @@ hello_heard control_again system p port six low named =
     let whole : IsPdu (hello h) = record { ids = six; whole = tlvs_whole way } in
     let again : three_way_of (three_way_value way) ≡ Ok way = three_way_again way (record { state = said_state port.adjacency.state; circuit = omega (arith, low); named = named }) in
     ap by_content framed
-    ∙ (ap by_pdu (written_again (hello h) whole)
-    ∙ (ap (λ (vs : List (List ℕ)). by_three_way h (slice_get vs 0)) (way_found way)
-    ∙ ap (by_reading h) again))
+      ∙ (ap by_pdu (written_again (hello h) whole)
+      ∙ (ap (λ (vs : List (List ℕ)). by_three_way h (slice_get vs 0)) (way_found way)
+      ∙ ap (by_reading h) again))
 
 -- ---- which frames are sent
 
@@ -105,8 +107,8 @@ sent_where system q [] p bytes none = absurd none
 sent_where system q (port ∷ ports) p bytes some =
     elim (sent_first port.adjacency.carrier system q port (sent_from system (q + 1) ports) p bytes some) [
       | inl here ↦ record { port = port; place = 0; number = omega (arith, here.0); found = refl; is = sym here.1 ∙ ap (λ (k : ℕ). hello_frame system k port) here.0 }
-      | inr later ↦
-          let at = sent_where system (q + 1) ports p bytes later in
+      | inr after ↦
+          let at = sent_where system (q + 1) ports p bytes after in
           record { port = at.port; place = suc at.place; number = omega (arith, at.number); found = at.found; is = at.is }
     ]
 

@@ -14,7 +14,7 @@ pub each_none : (f : LspId → Entry → Entry) → each f empty ≡ empty
 unfolding each
 each_none f =
     let nothing : entries (empty {X = Entry} {R = id_cmp}) ≡ [] = nil_from_length _ (sym (len-entries (empty {X = Entry} {R = id_cmp})) ∙ len-empty id_cmp Entry) in
-    rw nothing (empty_of_len _ (len-entries _ ∙ ap length (entries-from_sorted [] tt)))
+    rw nothing (empty_of_len _ (len-entries _ ∙ ap length (entries-from_sorted id_cmp [] tt)))
 
 -- a port of the bridge is found by its number
 pub port_found : (v : BridgeView) (p : ℕ) → 1 ≤ p → port_at v p ≡ slice_get v.ports (p - 1)
