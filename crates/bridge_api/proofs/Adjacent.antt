@@ -1,5 +1,5 @@
 -- What a change of an adjacency makes of who is kept, and of what is sound.
-use Rattle.std.proofs.Common.{◌≡◌, ◌⊎◌, inl, inr, ◌≤◌, ◌-◌, ℕ, Bool, true, false, refl, sym, ap, ◌∙◌, Option, Some, None, arith}
+use Rattle.std.proofs.Common.{◌≡◌, ◌⊎◌, inl, inr, ◌≤◌, ◌-◌, ℕ, Bool, true, false, refl, sym, ap, ◌∙◌, Some, arith}
 use Rattle.std.specs.Prelude.{◌==◌, ◌&&◌, not, if◌then◌else◌}
 use Rattle.std.proofs.lemmas.Bool.{and_parts, eqb-true, eqb-false}
 use Rattle.std.proofs.lemmas.Slice.Eq.{bytes_eq-Decides}
@@ -9,12 +9,11 @@ use Rattle.isis_pdu.specs.Pdu.{HelloValue}
 use Rattle.spb_tlvs.specs.declared.three_way.ThreeWay.{ThreeWay}
 use Rattle.adjacency.specs.declared.state.AdjState.{AdjState}
 use Rattle.adjacency.specs.declared.state.AdjState.TheVariants.{Down, Initializing, Up}
-use Rattle.adjacency.specs.declared.state.Heard.{Heard}
 use Rattle.adjacency.specs.declared.state.Heard.TheVariants.{Kept, CameUp, LeftUp, Discarded}
 use Rattle.adjacency.specs.declared.port.Adjacency.{Adjacency}
 use Rattle.adjacency.specs.States.{next_state, state_numbered}
 use Rattle.adjacency.specs.Hearing.{End, same_end, is_discarded, sender}
-use Rattle.adjacency.specs.Adjacency.{down, keeping, led_to, state_towards, kept_in, neighbour_of, is_down, is_up, IsSound, after_heard, after_hello, after_second, after_carrier, is_new_up, change_of, heard_of}
+use Rattle.adjacency.specs.Adjacency.{down, led_to, state_towards, kept_in, neighbour_of, is_down, is_up, IsSound, after_heard, after_hello, after_second, after_carrier, is_new_up, change_of, heard_of}
 
 -- a second, for each of its cases
 second_keeps_at : (idle ended : Bool) (a : Adjacency) (n : End) → neighbour_of (if idle then a else (if ended then down a.carrier else record a { hold = a.hold - 1 })) ≡ Some n → neighbour_of a ≡ Some n

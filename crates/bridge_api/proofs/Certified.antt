@@ -1,5 +1,5 @@
 -- The laws of a step.
-use Rattle.std.proofs.Common.{◌≡◌, ◌≢◌, ◌⊎◌, inl, inr, ◌≤◌, ◌<◌, ◌-◌, ℕ, zero, suc, Bool, true, false, List, [], ◌∷◌, length, map, refl, sym, ap, ◌∙◌, subst, Option, Some, None, arith}
+use Rattle.std.proofs.Common.{◌≡◌, ◌⊎◌, inl, inr, ◌-◌, ℕ, zero, suc, Bool, true, false, List, [], ◌∷◌, length, map, refl, sym, ap, ◌∙◌, subst, Option, Some, None, arith}
 use Rattle.std.specs.Prelude.{slice_get, slice_set, if◌then◌else◌}
 use Rattle.std.specs.Option.{option_map, option_and_then}
 use Rattle.std.specs.List.{AllByRecursion}
@@ -7,34 +7,31 @@ use Rattle.std.specs.FinMap.{empty, get, get-empty}
 use Rattle.std.proofs.lemmas.List.{length-set, length-map}
 use Rattle.spb_types.specs.declared.address.BridgeId.{BridgeId}
 use Rattle.spb_types.specs.declared.address.LspId.{LspId}
-use Rattle.spb_types.specs.Ports.{has}
 use Rattle.isis_pdu.specs.Pdu.{HelloValue}
 use Rattle.spb_tlvs.specs.declared.three_way.ThreeWay.{ThreeWay}
 use Rattle.lsdb.specs.declared.version.Version.{Version}
 use Rattle.lsdb.specs.declared.version.Version.TheVariants.{Absent}
 use Rattle.lsdb.specs.Version.{IsAtMost, leq}
-use Rattle.lsdb.specs.Entry.{Entry}
-use Rattle.lsdb.specs.Database.{Lsps, id_cmp, version_in, srm_in}
-use Rattle.lsdb.specs.Certificate.{Certificate, Kept, is_absent}
+use Rattle.lsdb.specs.Database.{Lsps, version_in}
+use Rattle.lsdb.specs.Certificate.{is_absent}
 use Rattle.adjacency.specs.declared.state.Heard.{Heard}
 use Rattle.adjacency.specs.declared.state.Heard.TheVariants as did
 use Rattle.adjacency.specs.declared.port.Adjacency.{Adjacency}
 use Rattle.adjacency.specs.Hearing.{End, sender}
-use Rattle.adjacency.specs.Adjacency.{down, IsSound, neighbour_of, is_up, is_new_up, after_hello, after_heard, after_carrier, after_second, change_of, heard_of}
+use Rattle.adjacency.specs.Adjacency.{IsSound, neighbour_of, is_up, after_hello, after_heard, after_carrier, change_of, heard_of}
 use Rattle.adjacency.specs.Hearing as hearing
 use Rattle.adjacency.proofs.Neighbours.{hello_keeps}
 use Rattle.bridge_api.specs.declared.port.BridgePort.{BridgePort}
-use Rattle.bridge_api.specs.declared.config.BridgeConfig.{BridgeConfig}
-use Rattle.bridge_api.specs.View.{BridgeView, port_in, port_at, neighbour_at, is_port_up, is_up_in, is_up_at, is_due_at, is_due_in, control_of}
-use Rattle.bridge_api.specs.Config.{IsWhole, configured, dark}
-use Rattle.bridge_api.specs.Judging.{greeting_in, judged}
+use Rattle.bridge_api.specs.View.{BridgeView, port_in, port_at, neighbour_at, is_port_up, is_up_in, is_up_at, is_due_at, is_due_in}
+use Rattle.bridge_api.specs.Config.{dark}
+use Rattle.bridge_api.specs.Judging.{judged}
 use Rattle.bridge_api.specs.Hearing.{with_due, with_adjacency, greeted, after_receive, carried_at, with_carrier}
 use Rattle.bridge_api.specs.Ports.{noted, greeted_port, carried_port}
 use Rattle.bridge_api.specs.Ticking.{later, after_tick}
-use Rattle.bridge_api.specs.Step.{Input, second, frame, carrier, step, sent}
-use Rattle.bridge_api.specs.Laws.{IsSoundPort, IsSoundView, ConfiguredIsSound, StepsStaySound, IsSameBridge, StepsKeepBridge, IsHeard, StepsKeepNeighbours, IsFresh, EnteringUpIsWhole, StepsCarryDatabase, greeter, port_of, claims_of}
+use Rattle.bridge_api.specs.Step.{second, frame, carrier, step}
+use Rattle.bridge_api.specs.Laws.{IsSoundPort, IsSoundView, ConfiguredIsSound, StepsStaySound, IsSameBridge, StepsKeepBridge, StepsKeepNeighbours, IsFresh, EnteringUpIsWhole, StepsCarryDatabase, greeter}
 use Rattle.bridge_api.proofs.Adjacent.{second_keeps, second_up, carrier_keeps, up_since, came_up, stayed_up, hello_sound, second_sound, carrier_sound, not_discarded}
-use Rattle.bridge_api.proofs.Changes.{found, one_port, Greeted, frame_step, greeted_ports, greeted_bridge, greeted_unheld, Carried, carrier_step, carried_ports, carried_bridge, carried_unheld, ticked, tick_port, tick_unheld}
+use Rattle.bridge_api.proofs.Changes.{found, one_port, Greeted, frame_step, greeted_ports, greeted_bridge, greeted_unheld, carrier_step, carried_ports, carried_bridge, carried_unheld, ticked, tick_port, tick_unheld}
 
 -- ---- the bridge stays the same
 

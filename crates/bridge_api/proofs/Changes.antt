@@ -1,12 +1,11 @@
 -- What a step makes of the ports, one by one.
-use Rattle.std.proofs.Common.{◌≡◌, ◌≢◌, ◌⊎◌, inl, inr, ◌≤◌, ◌<◌, ◌-◌, ℕ, Bool, true, false, List, map, refl, sym, ap, ◌∙◌, subst, Option, Some, None, arith}
+use Rattle.std.proofs.Common.{◌≡◌, ◌≢◌, ◌⊎◌, inl, inr, ◌≤◌, ◌-◌, ℕ, Bool, true, false, List, map, refl, sym, ap, ◌∙◌, Option, Some, None, arith}
 use Rattle.std.specs.Prelude.{slice_get, slice_set, nat_le, if◌then◌else◌}
 use Rattle.std.specs.Option.{option_map}
 use Rattle.std.specs.FinMap.{empty}
 use Rattle.std.proofs.lemmas.List.{set-set}
 use Rattle.std.proofs.lemmas.Option.{slice_get-map, slice_get_within, some_pair_parts}
 use Rattle.std.proofs.lemmas.Bool.{le-leb, leb-true, cases_eq}
-use Rattle.spb_types.specs.declared.address.SystemId.{SystemId}
 use Rattle.isis_pdu.specs.Pdu.{HelloValue}
 use Rattle.spb_tlvs.specs.declared.three_way.ThreeWay.{ThreeWay}
 use Rattle.adjacency.specs.declared.state.Heard.{Heard}
@@ -182,7 +181,7 @@ greeted_is v q bytes port h way unheld low at lit some =
     kind_is (greeting g w) e =
         let parts : (g ≡ h) × (w ≡ way) = some_pair_parts g h w way e in
         rw (parts.0, parts.1)
-          (same_view v (greeted h way q port v) (slice_set v.ports (q - 1) (greeted_port v.id.system q h way port)) unheld (greeted_bridge h way q port v) (greeted_ports h way q port v (port_found v q low ∙ at)) (greeted_unheld h way q port v unheld))
+        (same_view v (greeted h way q port v) (slice_set v.ports (q - 1) (greeted_port v.id.system q h way port)) unheld (greeted_bridge h way q port v) (greeted_ports h way q port v (port_found v q low ∙ at)) (greeted_unheld h way q port v unheld))
     kind_is (link_state l) e = absurd cc
     kind_is (complete c) e = absurd cc
     kind_is (partial s) e = absurd cc
@@ -206,7 +205,7 @@ idle_is v q bytes port low at lit none = heard_lit v q bytes port low at lit ∙
 pub carried_is : (v : BridgeView) (q : ℕ) (on : Bool) (port : BridgePort) → v.database ≡ empty → 1 ≤ q → slice_get v.ports (q - 1) ≡ Some port → with_carrier q on v ≡ with_ports (slice_set v.ports (q - 1) (carried_port on port)) v
 carried_is v q on port unheld low at =
     ap (λ (o : Option BridgePort). carried_at q on o v) (port_found v q low ∙ at)
-      ∙ same_view v (carried_at q on (Some port) v) (slice_set v.ports (q - 1) (carried_port on port)) unheld (carried_bridge q on port v) (carried_ports q on port v (port_found v q low ∙ at)) (carried_unheld q on port v unheld)
+    ∙ same_view v (carried_at q on (Some port) v) (slice_set v.ports (q - 1) (carried_port on port)) unheld (carried_bridge q on port v) (carried_ports q on port v (port_found v q low ∙ at)) (carried_unheld q on port v unheld)
 
 pub tick_is : (v : BridgeView) → v.database ≡ empty → after_tick v ≡ with_ports (map (with_due false) (map later v.ports)) v
 tick_is v unheld = same_view v (after_tick v) (map (with_due false) (map later v.ports)) unheld refl refl (tick_unheld v unheld)

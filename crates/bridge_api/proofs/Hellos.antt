@@ -1,23 +1,21 @@
 -- The hellos that are sent are heard as such.
-use Rattle.std.proofs.Common.{◌≡◌, ◌≢◌, ◌⊎◌, inl, inr, ◌≤◌, ◌<◌, ◌+◌, ◌-◌, ◌^◌, ℕ, zero, suc, Bool, true, false, List, [], ◌∷◌, ◌++◌, length, map, refl, sym, ap, ◌∙◌, subst, Option, Some, None, Ok, arith, length-append, zero-add, add-suc, lit<}
+use Rattle.std.proofs.Common.{◌≡◌, ◌⊎◌, inl, inr, ◌≤◌, ◌<◌, ◌+◌, ◌-◌, ℕ, suc, Bool, true, false, List, [], ◌∷◌, ◌++◌, length, map, refl, sym, ap, ◌∙◌, subst, Option, Some, None, Ok, arith, length-append}
 use Rattle.std.specs.Prelude.{slice_get, nat_le, IsTrue, if◌then◌else◌}
-use Rattle.std.specs.Int.{w32, w16, to_be_bytes}
 use Rattle.std.specs.Option.{option_map, option_and_then}
 use Rattle.std.proofs.lemmas.List.{append-nil, append_assoc, length-map}
 use Rattle.std.proofs.lemmas.Option.{slice_get-map, slice_get_within}
 use Rattle.std.proofs.lemmas.Bool.{le-leb}
 use Rattle.spb_types.specs.declared.address.SystemId.{SystemId}
-use Rattle.isis_pdu.specs.Pdu.{HelloValue, PduValue, hello}
+use Rattle.isis_pdu.specs.Pdu.{HelloValue, hello}
 use Rattle.isis_pdu.specs.Tlvs.{is_whole, is_whole_after}
-use Rattle.isis_pdu.specs.Spelling.{hello_bytes, hello_with, zeros}
-use Rattle.isis_pdu.specs.Reading.{read}
+use Rattle.isis_pdu.specs.Spelling.{hello_bytes}
 use Rattle.isis_pdu.specs.Grammar.{IsPdu}
 use Rattle.isis_pdu.proofs.FormatLaws.{written_again, whole_one}
 use Rattle.spb_tlvs.specs.declared.three_way.ThreeWay.{ThreeWay}
 use Rattle.spb_tlvs.specs.Piece.{pieces, pieces_within}
 use Rattle.spb_tlvs.specs.Tlv.{tlv, values_with}
 use Rattle.spb_tlvs.specs.ThreeWay.{three_way_value, neighbour_bytes, three_way_of}
-use Rattle.spb_tlvs.specs.RoundTrip.{IsThreeWay, IsNamed}
+use Rattle.spb_tlvs.specs.RoundTrip.{IsNamed}
 use Rattle.spb_tlvs.proofs.ThreeWayLaws.{three_way_again}
 use Rattle.spb_tlvs.proofs.TlvLaws.{tlv_here, tlv_elsewhere}
 use Rattle.itag_frames.specs.Frame.{content_in, control_bytes, ControlAgain}
@@ -28,12 +26,10 @@ use Rattle.adjacency.specs.States.{number_of}
 use Rattle.adjacency.specs.Hearing.{End}
 use Rattle.adjacency.specs.Adjacency.{neighbour_of, said}
 use Rattle.bridge_api.specs.declared.port.BridgePort.{BridgePort}
-use Rattle.bridge_api.specs.View.{BridgeView, port_in, port_at, neighbour_at}
+use Rattle.bridge_api.specs.View.{port_at, neighbour_at}
 use Rattle.bridge_api.specs.Judging.{judged, greeting, by_content, by_pdu, by_three_way, by_reading}
-use Rattle.bridge_api.specs.Hearing.{with_due}
-use Rattle.bridge_api.specs.Ticking.{later, hello_tlvs, hello_at, hello_frame, sent_at, sent_from, after_tick}
-use Rattle.bridge_api.specs.Step.{second, step, sent}
-use Rattle.bridge_api.specs.Laws.{IsSoundView, IsSent, IsHelloOf, HellosAreHeard}
+use Rattle.bridge_api.specs.Ticking.{later, hello_tlvs, hello_at, hello_frame, sent_from, after_tick}
+use Rattle.bridge_api.specs.Laws.{IsSent, HellosAreHeard}
 use Rattle.bridge_api.proofs.Changes.{ticked, tick_port}
 
 -- ---- the TLVs of a hello
@@ -56,10 +52,10 @@ none_left = refl
 way_found : (way : ThreeWay) → values_with 240 (hello_tlvs way) ≡ three_way_value way ∷ []
 way_found way =
     ap (values_with 240) (append_assoc (tlv 1 (0x03 ∷ 0x49 ∷ 0x00 ∷ 0x01 ∷ [])) (tlv 129 (0xc1 ∷ [])) (tlv 240 (three_way_value way)))
-      ∙ (tlv_elsewhere 1 240 (0x03 ∷ 0x49 ∷ 0x00 ∷ 0x01 ∷ []) (tlv 129 (0xc1 ∷ []) ++ tlv 240 (three_way_value way)) (λ e. absurd (omega arith))
-      ∙ (tlv_elsewhere 129 240 (0xc1 ∷ []) (tlv 240 (three_way_value way)) (λ e. absurd (omega arith))
-      ∙ (ap (values_with 240) (sym (append-nil (tlv 240 (three_way_value way))))
-      ∙ (tlv_here 240 (three_way_value way) [] ∙ ap (λ (vs : List (List ℕ)). three_way_value way ∷ vs) none_left))))
+    ∙ (tlv_elsewhere 1 240 (0x03 ∷ 0x49 ∷ 0x00 ∷ 0x01 ∷ []) (tlv 129 (0xc1 ∷ []) ++ tlv 240 (three_way_value way)) (λ e. absurd (omega arith))
+    ∙ (tlv_elsewhere 129 240 (0xc1 ∷ []) (tlv 240 (three_way_value way)) (λ e. absurd (omega arith))
+    ∙ (ap (values_with 240) (sym (append-nil (tlv 240 (three_way_value way))))
+    ∙ (tlv_here 240 (three_way_value way) [] ∙ ap (λ (vs : List (List ℕ)). three_way_value way ∷ vs) none_left))))
 
 -- ---- the PDU and the frame
 
@@ -83,9 +79,9 @@ hello_heard control_again system p port six low named =
     let whole : IsPdu (hello h) = record { ids = six; whole = tlvs_whole way } in
     let again : three_way_of (three_way_value way) ≡ Ok way = three_way_again way (record { state = said_state port.adjacency.state; circuit = omega (arith, low); named = named }) in
     ap by_content framed
-      ∙ (ap by_pdu (written_again (hello h) whole)
-      ∙ (ap (λ (vs : List (List ℕ)). by_three_way h (slice_get vs 0)) (way_found way)
-      ∙ ap (by_reading h) again))
+    ∙ (ap by_pdu (written_again (hello h) whole)
+    ∙ (ap (λ (vs : List (List ℕ)). by_three_way h (slice_get vs 0)) (way_found way)
+    ∙ ap (by_reading h) again))
 
 -- ---- which frames are sent
 

@@ -1,12 +1,11 @@
-use Rattle.std.proofs.Common.{◌≡◌, ◌≢◌, ◌≤◌, ◌<◌, ◌-◌, ℕ, zero, suc, List, [], ◌∷◌, map, length, refl, sym, ap, ◌∙◌, subst, true, false, Option, Some, None, arith}
-use Rattle.std.specs.Prelude.{slice_get, slice_set, nat_le, if◌then◌else◌}
-use Rattle.std.specs.FinMap.{empty, entries, from_sorted, len-entries, len-empty, empty_of_len, entries-from_sorted}
+use Rattle.std.proofs.Common.{◌≡◌, ◌≢◌, ◌≤◌, ◌<◌, ◌-◌, ℕ, zero, suc, List, [], ◌∷◌, length, refl, sym, ap, ◌∙◌, Some, arith}
+use Rattle.std.specs.Prelude.{slice_get, slice_set}
+use Rattle.std.specs.FinMap.{empty, entries, len-entries, len-empty, empty_of_len, entries-from_sorted}
 use Rattle.std.proofs.lemmas.List.{nil_from_length}
 use Rattle.std.proofs.lemmas.Bool.{le-leb}
 use Rattle.spb_types.specs.declared.address.LspId.{LspId}
 use Rattle.lsdb.specs.Entry.{Entry}
-use Rattle.lsdb.specs.Database.{Lsps, each, id_cmp}
-use Rattle.bridge_api.specs.declared.port.BridgePort.{BridgePort}
+use Rattle.lsdb.specs.Database.{each, id_cmp}
 use Rattle.bridge_api.specs.View.{BridgeView, port_at}
 
 -- a change of every entry changes nothing where there is none

@@ -7,7 +7,7 @@ use Rattle.spb_tlvs.specs.declared.three_way.ThreeWay.{ThreeWay}
 use Rattle.spb_tlvs.specs.Tlv.{tlv}
 use Rattle.spb_tlvs.specs.ThreeWay.{three_way_value}
 use Rattle.itag_frames.specs.Frame.{control_bytes}
-use Rattle.adjacency.specs.Adjacency.{after_second, is_up, said}
+use Rattle.adjacency.specs.Adjacency.{after_second, said}
 use Rattle.lsdb.specs.Database.{each}
 use Rattle.lsdb.specs.Entry.{Entry, parted, aged}
 use Rattle.bridge_api.specs.declared.port.BridgePort.{BridgePort}

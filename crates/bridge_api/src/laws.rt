@@ -1,5 +1,7 @@
 //! What every step of a bridge keeps, whatever comes to it. Each is the contract of a function that does nothing.
-ghost use Rattle.bridge_api.specs.Laws.{ConfiguredIsSound, StepsStaySound, StepsKeepBridge, StepsKeepNeighbours, EnteringUpIsWhole, StepsCarryDatabase};
+ghost use Rattle.bridge_api.specs.Laws.{ConfiguredIsSound, StepsStaySound, StepsKeepBridge, StepsKeepNeighbours, HellosAreHeard, EnteringUpIsWhole, StepsCarryDatabase};
+
+use itag_frames::control_again;
 
 /// A configured bridge is sound, and stays so.
 pub fn bridges_are_sound()
@@ -16,6 +18,13 @@ pub fn steps_keep_the_bridge()
 pub fn steps_keep_neighbours()
     ensures { StepsKeepNeighbours }
 {}
+
+/// Each hello that is sent is heard as one of its sender and port, and names nobody but the neighbour that is kept.
+pub fn hellos_are_heard()
+    ensures { HellosAreHeard }
+{
+    control_again();
+}
 
 /// A port that is Up was so before with the same neighbour, or everything is to be sent there.
 pub fn entering_up_is_whole()

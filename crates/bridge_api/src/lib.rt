@@ -9,8 +9,8 @@ pub use bridge::Bridge;
 pub use config::BridgeConfig;
 pub use kind::Kind;
 pub use laws::{
-    bridges_are_sound, entering_up_is_whole, steps_carry_the_database, steps_keep_neighbours,
-    steps_keep_the_bridge,
+    bridges_are_sound, entering_up_is_whole, hellos_are_heard, steps_carry_the_database,
+    steps_keep_neighbours, steps_keep_the_bridge,
 };
 pub use outbox::Outbox;
 pub use port::BridgePort;
