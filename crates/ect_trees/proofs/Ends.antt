@@ -1,10 +1,10 @@
 -- The paths of the labels, as the map from the bridges where they end.
-use Rattle.std.proofs.Common.{◌≡◌, ℕ, zero, suc, ◌+◌, ◌-◌, ◌<◌, ◌≤◌, Bool, true, false, true≢false, if◌then◌else◌, ◌⊎◌, inl, inr, List, [], ◌∷◌, ◌++◌, length, Option, Some, None, option_map, refl, sym, ap, ◌∙◌, subst, arith}
+use Rattle.std.proofs.Common.{◌≡◌, ℕ, zero, suc, ◌-◌, ◌<◌, Bool, true, false, true≢false, if◌then◌else◌, ◌⊎◌, inl, inr, List, [], ◌∷◌, ◌++◌, length, Option, Some, None, option_map, refl, sym, ap, ◌∙◌, subst, arith}
 use Rattle.std.specs.List.{slice_get}
 use Rattle.std.proofs.lemmas.List.{length-map}
 use Rattle.std.proofs.lemmas.Option.{same_Some, none-some, slice_get-get_or}
 use Rattle.spb_types.specs.Address.{same_system}
-use Rattle.spb_types.specs.Graph.{IsBridge, IsValid, systems_of}
+use Rattle.spb_types.specs.Graph.{IsBridge, systems_of}
 use Rattle.spb_types.specs.declared.address.SystemId.{SystemId}
 use Rattle.spb_types.specs.declared.graph.Graph.{Graph}
 use Rattle.spb_types.specs.declared.tables.Path.{Path}
@@ -13,14 +13,13 @@ use Rattle.ect_trees.specs.declared.search.Label.{Label}
 use Rattle.ect_trees.specs.declared.search.Search.{Search}
 use Rattle.ect_trees.specs.Path.{IsPath, cost_of}
 use Rattle.ect_trees.specs.Path as path
-use Rattle.ect_trees.specs.Key.{key_of}
 use Rattle.ect_trees.specs.Best.{IsBest, best_of}
 use Rattle.ect_trees.specs.Tree.{ends_at, path_in, best_path}
 use Rattle.ect_trees.specs.Search.{IsAt, IsReady, IsLabel, label_at, AreLabels, HasPath, AreBest, paths_in}
 use Rattle.ect_trees.proofs.Among.{same_is, same_self}
 use Rattle.ect_trees.proofs.Walks.{path_bridges, path_end}
 use Rattle.ect_trees.proofs.Exists.{best_of_cases}
-use Rattle.ect_trees.proofs.Places.{among_at, at_within}
+use Rattle.ect_trees.proofs.Places.{among_at}
 
 leads_ends : (g : Graph) (a b : SystemId) (xs : List SystemId) → path.Leads g a xs b → ends_at (a ∷ xs) b ≡ true
 leads_ends g a b [] l = subst (λ t. same_system a t ≡ true) l.1 (same_self a)

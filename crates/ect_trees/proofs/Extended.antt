@@ -1,15 +1,13 @@
 -- One hop more at the end of a label, and when it makes a better one.
-use Rattle.std.proofs.Common.{◌≡◌, ℕ, suc, ◌+◌, ◌*◌, ◌^◌, ◌<◌, ◌≤◌, Bool, true, false, true≢false, ◌||◌, if◌then◌else◌, ◌⊎◌, inl, inr, List, [], ◌∷◌, ◌++◌, length, map, Option, Some, None, IsSome, unwrap_or, option_map, refl, sym, ap, ◌∙◌, subst, arith, Ordering, Less, Equal, Greater, nat_cmp}
+use Rattle.std.proofs.Common.{◌≡◌, ℕ, suc, ◌+◌, ◌*◌, ◌^◌, ◌<◌, ◌≤◌, Bool, true, false, true≢false, ◌||◌, if◌then◌else◌, inl, inr, List, [], ◌∷◌, ◌++◌, length, map, Option, Some, None, IsSome, unwrap_or, refl, sym, ap, ◌∙◌, subst, arith, Ordering, Less, Equal, Greater, nat_cmp}
 use Rattle.std.specs.List.{AllByRecursion, list_any}
 use Rattle.std.specs.Ordering.{ordering_then, is_lt}
 use Rattle.std.specs.Option.{MatchOption}
 use Rattle.std.specs.Bool.{⊤}
 use Rattle.std.proofs.lemmas.Option.{same_Some}
-use Rattle.std.proofs.lemmas.List.{length-map}
 use Rattle.spb_types.specs.Address.{same_system}
-use Rattle.spb_types.specs.Graph.{IsAmong, IsDistinct, IsBridge, IsEdgeOf, IsValid, systems_of, joins, cost_among, cost_between}
+use Rattle.spb_types.specs.Graph.{IsAmong, IsDistinct, IsEdgeOf, IsValid, systems_of, joins, cost_among, cost_between}
 use Rattle.spb_types.specs.declared.address.SystemId.{SystemId}
-use Rattle.spb_types.specs.declared.graph.GraphBridge.{GraphBridge}
 use Rattle.spb_types.specs.declared.graph.Edge.{Edge}
 use Rattle.spb_types.specs.declared.graph.Graph.{Graph}
 use Rattle.ect_trees.specs.declared.key.PathKey.{PathKey}

@@ -1,10 +1,10 @@
 -- Places of bridges in a graph, and the hops between them.
-use Rattle.std.proofs.Common.{◌≡◌, ℕ, zero, suc, ◌+◌, ◌*◌, ◌<◌, ◌≤◌, Bool, true, false, true≢false, ◌&&◌, ◌||◌, not, if◌then◌else◌, cond, ◌⊎◌, inl, inr, List, [], ◌∷◌, length, get_or, map, Option, Some, None, IsSome, unwrap_or, option_map, refl, sym, ap, ◌∙◌, subst, arith, lt-ltb}
-use Rattle.std.specs.List.{AllByRecursion, slice_get, position, position_or_len}
+use Rattle.std.proofs.Common.{◌≡◌, ℕ, zero, suc, ◌+◌, ◌<◌, Bool, true, false, true≢false, ◌&&◌, ◌||◌, not, if◌then◌else◌, cond, ◌⊎◌, inl, inr, List, [], ◌∷◌, length, get_or, Some, None, IsSome, option_map, refl, sym, ap, ◌∙◌, subst, arith, lt-ltb}
+use Rattle.std.specs.List.{AllByRecursion, slice_get, position}
 use Rattle.std.proofs.lemmas.Option.{none-some, same_Some, slice_get-map, slice_get_within, slice_get-get_or}
 use Rattle.std.proofs.lemmas.List.{length-map}
 use Rattle.std.proofs.lemmas.List.Elements.{All-from_recursion}
-use Rattle.spb_types.specs.Address.{same_system, masked}
+use Rattle.spb_types.specs.Address.{same_system}
 use Rattle.spb_types.specs.Graph.{IsAmong, IsDistinct, IsBridge, IsEdgeOf, OneEdge, IsValid, systems_of, joins, cost_among, cost_between}
 use Rattle.spb_types.specs.declared.address.SystemId.{SystemId}
 use Rattle.spb_types.specs.declared.graph.GraphBridge.{GraphBridge}
@@ -12,7 +12,7 @@ use Rattle.spb_types.specs.declared.graph.Edge.{Edge}
 use Rattle.spb_types.specs.declared.graph.Graph.{Graph}
 use Rattle.ect_trees.specs.declared.search.Hop.{Hop}
 use Rattle.ect_trees.specs.declared.search.Search.{Search}
-use Rattle.ect_trees.specs.Key.{bridge_id_among, masked_id}
+use Rattle.ect_trees.specs.Key.{bridge_id_among}
 use Rattle.ect_trees.specs.Search.{IsAt, Leads, place_in, hops_of, IsReady}
 use Rattle.ect_trees.proofs.Among.{same_is, same_self}
 use Rattle.ect_trees.proofs.Walks.{cost_comm}

@@ -2,9 +2,9 @@
 use Rattle.std.proofs.Common.{◌≡◌, ℕ, zero, suc, ◌+◌, ◌<◌, ◌≤◌, ◌≢◌, Bool, true, false, true≢false, ◌⊎◌, inl, inr, List, [], ◌∷◌, ◌++◌, length, get_or, eqb, eqb-true, eq-eqb, Option, Some, None, IsSome, option_map, refl, sym, ap, ◌∙◌, subst, arith, append_assoc}
 use Rattle.std.proofs.Math.ListN.{set, length-set}
 use Rattle.std.specs.List.{slice_get}
-use Rattle.std.proofs.lemmas.List.{get_or-set_same, get_or-set_other, get_or_read, length-map, length-append}
+use Rattle.std.proofs.lemmas.List.{get_or-set_same, get_or-set_other, get_or_read, length-append}
 use Rattle.std.proofs.lemmas.Option.{same_Some, none-some}
-use Rattle.spb_types.specs.Graph.{IsAmong, IsBridge, IsValid, systems_of, cost_between}
+use Rattle.spb_types.specs.Graph.{systems_of, cost_between}
 use Rattle.spb_types.specs.declared.address.SystemId.{SystemId}
 use Rattle.spb_types.specs.declared.graph.Graph.{Graph}
 use Rattle.ect_trees.specs.declared.search.Label.{Label}
@@ -14,11 +14,10 @@ use Rattle.ect_trees.specs.Path.{IsPath}
 use Rattle.ect_trees.specs.Path as path
 use Rattle.ect_trees.specs.Key.{key_of, IsBelow}
 use Rattle.ect_trees.specs.Best.{IsBest}
-use Rattle.ect_trees.specs.Search.{IsAt, Leads, hops_of, IsReady, IsLabel, label_at, AreLabels, HasPath, IsSettled, AreBest, KeepsBest, TakesStep, Extends, Improves, IsRelaxed, IsRound}
-use Rattle.ect_trees.proofs.Walks.{path_bridges, path_end, path_length}
+use Rattle.ect_trees.specs.Search.{IsAt, Leads, IsReady, IsLabel, label_at, AreLabels, HasPath, IsSettled, AreBest, KeepsBest, TakesStep, Improves, IsRelaxed, IsRound}
+use Rattle.ect_trees.proofs.Walks.{path_length}
 use Rattle.ect_trees.proofs.Least.{best_is_least, best_front}
-use Rattle.ect_trees.proofs.Places.{at_once, at_within, GoesAt, goes}
-use Rattle.ect_trees.proofs.Extended.{at_same}
+use Rattle.ect_trees.proofs.Places.{at_once, at_within, goes}
 
 -- nothing changes where the start of the hop has no label
 pub relaxed_nothing : (s : Search) (hop : Hop) (ls : List (Option Label)) → AreLabels s ls → label_at ls hop.from ≡ None → IsRelaxed s hop ls ls false

@@ -1,19 +1,15 @@
 -- The labels at the start: the path of no hop at the source, and no other.
-use Rattle.std.proofs.Common.{◌≡◌, ℕ, suc, ◌+◌, ◌<◌, ◌≤◌, ◌≢◌, Bool, true, false, true≢false, ◌⊎◌, inl, inr, List, [], ◌∷◌, ◌++◌, length, get_or, Option, Some, None, option_map, refl, sym, ap, ◌∙◌, subst, arith, length-append}
+use Rattle.std.proofs.Common.{◌≡◌, ℕ, ◌+◌, ◌<◌, ◌≤◌, ◌≢◌, true, false, true≢false, ◌⊎◌, inl, inr, List, [], ◌∷◌, ◌++◌, length, get_or, Option, Some, None, option_map, refl, sym, ap, ◌∙◌, subst, arith}
 use Rattle.std.proofs.lemmas.List.{get_or_push, get_or_append_left, length_push}
 use Rattle.std.proofs.lemmas.Option.{same_Some, none-some}
 use Rattle.spb_types.specs.Address.{same_system, masked}
-use Rattle.spb_types.specs.Graph.{IsBridge, IsValid, systems_of}
+use Rattle.spb_types.specs.Graph.{systems_of}
 use Rattle.spb_types.specs.declared.address.SystemId.{SystemId}
 use Rattle.spb_types.specs.declared.graph.GraphBridge.{GraphBridge}
-use Rattle.spb_types.specs.declared.graph.Graph.{Graph}
-use Rattle.ect_trees.specs.declared.key.PathKey.{PathKey}
 use Rattle.ect_trees.specs.declared.search.Label.{Label}
 use Rattle.ect_trees.specs.declared.search.Search.{Search}
 use Rattle.ect_trees.specs.Path.{IsPath}
-use Rattle.ect_trees.specs.Path as path
 use Rattle.ect_trees.specs.Key.{key_of}
-use Rattle.ect_trees.specs.Best.{IsBest}
 use Rattle.ect_trees.specs.Search.{IsAt, IsReady, IsLabel, IsFirst, label_at, AreLabels, HasPath, IsSettled}
 use Rattle.ect_trees.proofs.Among.{same_is, same_self}
 use Rattle.ect_trees.proofs.Walks.{path_single}

@@ -98,7 +98,7 @@ pub record IsExtended (s : Search) (hop : Hop) (l new : Label) : Type 0 where
   pub keyed : (y : SystemId) → IsAt s.graph.now hop.to y → new.key ≡ record { cost = l.key.cost + hop.cost; hops = l.key.hops + 1; ids = placed (masked_id s.graph.now s.mask y) l.key.ids }
   pub longer : (y : SystemId) → IsAt s.graph.now hop.to y → new.bridges.items ≡ l.bridges.items ++ y ∷ []
 
--- what the path by way of the hop is to the old label: better, or no better or no path
+-- what comes of the hop at its end: a label below the old one, or nothing, where the path is no best one or is there
 abbrev pub Improves : Search → Hop → Label → Option Label → Option Label → Type 0
 Improves s hop l old None = (y : SystemId) → IsAt s.graph.now hop.to y → IsBest s.graph.now s.mask s.source y (l.bridges.items ++ y ∷ []) → option_map (λ o. o.bridges.items) old ≡ Some (l.bridges.items ++ y ∷ [])
 Improves s hop l old (Some new) = ((y : SystemId) → IsAt s.graph.now hop.to y → IsLabel s y new × (new.bridges.items ≡ l.bridges.items ++ y ∷ [])) × ((o : Label) → old ≡ Some o → IsBelow new.key o.key)

@@ -21,9 +21,12 @@ macro_rules! system {
 
 macro_rules! bridge {
     ($last:expr) => {
+        bridge!($last, 32768)
+    };
+    ($last:expr, $priority:expr) => {
         GraphBridge {
             id: BridgeId {
-                priority: 32768,
+                priority: $priority,
                 system: system!($last),
             },
             source: SourceId { value: $last },
@@ -61,6 +64,33 @@ fn square(alloc: Global) -> Result<Graph, NoMemory>
     })
 }
 
+/// Two ways from 1 to 8 of the same cost and hops: 1 5 2 8 and 1 3 4 8, with a priority of bridge 3.
+fn ladder(alloc: Global, priority: u16) -> Result<Graph, NoMemory>
+    ensures { IfOk result IsValid }
+{
+    let bridges = vec![in alloc;
+        bridge!(1),
+        bridge!(2),
+        bridge!(3, priority),
+        bridge!(4),
+        bridge!(5),
+        bridge!(8),
+    ]?;
+    let edges = vec![in alloc;
+        edge!(1, 5, 10),
+        edge!(5, 2, 10),
+        edge!(2, 8, 10),
+        edge!(1, 3, 10),
+        edge!(3, 4, 10),
+        edge!(4, 8, 10),
+    ]?;
+    Ok(Graph {
+        bridges: Seq::from_vec(bridges),
+        edges: Seq::from_vec(edges),
+        members: Seq::new(alloc),
+    })
+}
+
 /// Two ways of cost 30 from 1 to 4: 1 2 3 4, and 1 9 4. Bridge 7 has no edge.
 fn detour(alloc: Global) -> Result<Graph, NoMemory>
     ensures { IfOk result IsValid }
@@ -84,6 +114,15 @@ fn detour(alloc: Global) -> Result<Graph, NoMemory>
         bridges: Seq::from_vec(bridges),
         edges: Seq::from_vec(edges),
         members: Seq::new(alloc),
+    })
+}
+
+fn key(alloc: Global, (cost, hops, last): (u64, u32, u8)) -> Result<PathKey, NoMemory> {
+    let ids = vec![in alloc; [0x80, 0, 2, 0, 0, 0, 0, last]]?;
+    Ok(PathKey {
+        cost,
+        hops,
+        ids: Seq::from_vec(ids),
     })
 }
 
@@ -133,6 +172,35 @@ fn ties_fall_by_masked_ids(rt: HostRuntime) -> Result<(), Fail> {
 }
 
 #[test]
+fn ids_compare_in_ascending_order(rt: HostRuntime) -> Result<(), Fail> {
+    for (priority, mask, want) in [
+        (32768, 0x00, [1, 5, 2, 8]),
+        (32768, 0x44, [1, 3, 4, 8]),
+        (32768, 0xff, [1, 5, 2, 8]),
+        (4096, 0x00, [1, 3, 4, 8]),
+        (4096, 0xff, [1, 5, 2, 8]),
+    ] {
+        let graph = ladder(rt.alloc(), priority)?;
+        assert_best(&rt, rt.alloc(), &graph, mask, 30, &want)?;
+    }
+    Ok(())
+}
+
+#[test]
+fn keys_compare_by_cost_then_hops_then_ids(rt: HostRuntime) -> Result<(), Fail> {
+    for (a, b, want) in [
+        ((10, 2, 9), (20, 1, 1), Ordering::Less),
+        ((10, 2, 9), (10, 3, 1), Ordering::Less),
+        ((10, 2, 9), (10, 2, 1), Ordering::Greater),
+        ((10, 2, 9), (10, 2, 9), Ordering::Equal),
+    ] {
+        let (a, b) = (key(rt.alloc(), a)?, key(rt.alloc(), b)?);
+        assert_eq!(rt; compare_keys(&a, &b), want);
+    }
+    Ok(())
+}
+
+#[test]
 fn fewer_hops_win_at_equal_cost(rt: HostRuntime) -> Result<(), Fail> {
     let graph = detour(rt.alloc())?;
     for mask in [0x00, 0xff] {
@@ -149,6 +217,7 @@ fn fewer_hops_win_at_equal_cost(rt: HostRuntime) -> Result<(), Fail> {
 fn no_path_is_none(rt: HostRuntime) -> Result<(), Fail> {
     let graph = detour(rt.alloc())?;
     let tree = tree_from(rt.alloc(), &graph, system!(7), 0)?;
+    assert_eq!(rt; tree.source(), system!(7));
     let own = tree.path_to(rt.alloc(), system!(7))?;
     assert_eq!(rt; ends(rt.alloc(), &own)?.as_slice(), [7].as_slice());
     assert_eq!(rt; own.map(|path| path.cost), Some(0));

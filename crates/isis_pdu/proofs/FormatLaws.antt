@@ -89,6 +89,7 @@ or_right false true c h = refl
 or_right false false c h = h
 
 pub made_is_sound : (l : LspValue) → l.sum ≡ lsp_sum_of l.id l.seq l.flags l.tlvs → IsTrue (is_sound_lsp l)
+unfolding is_sound_lsp
 made_is_sound l e =
     let bytes = lsp_sum-bytes l.id l.seq l.flags l.tlvs in
     let low : nat_le 1 l.sum ≡ true = le-leb 1 l.sum (rw e (above _ bytes)) in

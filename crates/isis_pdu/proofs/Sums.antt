@@ -232,7 +232,7 @@ made_of id seq flags tlvs x y x1 x2 y1 y2 c0 c1 =
     }
 
 lsp_sum_made : (id : LspId) (seq flags : ℕ) (tlvs : List ℕ) → IsMade id seq flags tlvs (lsp_sum_of id seq flags tlvs)
-unfolding check_field ends
+unfolding lsp_sum_of check_field ends
 lsp_sum_made id seq flags tlvs =
     let t : ℕ = length tlvs in
     let z : Sums = ends id seq flags tlvs 0 0 in

@@ -102,7 +102,7 @@ lsp_id_of a b c d e f n m = record { system = id_of a b c d e f; pseudonode = n;
 lsp_cells : (o : PassedOver) (life a b c d e f n m seq sum flags : ℕ) (tlvs after : List ℕ) → IsPassedOver o
     → let v : LspValue = record { lifetime = life; id = lsp_id_of a b c d e f n m; seq = seq; sum = sum; flags = flags; tlvs = tlvs } in
     IsLaidOut (lsp_with o v ++ after) (lsp v) × (has_sum kinds.Lsp (lsp_with o v ++ after) ≡ is_sound_lsp v)
-unfolding value_in
+unfolding value_in is_sound_lsp
 lsp_cells o life a b c d e f n m seq sum flags tlvs after ok = (
   record {
     long = omega (arith, length-append tlvs after);

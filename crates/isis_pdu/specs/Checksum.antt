@@ -44,5 +44,5 @@ unfoldable pub check_field : Sums → ℕ → ℕ
 check_field s len = first_check s len * 256 + second_check s len
 
 -- the checksum field that an LSP of these fields is given
-abbrev pub lsp_sum_of : LspId → ℕ → ℕ → List ℕ → ℕ
+unfoldable pub lsp_sum_of : LspId → ℕ → ℕ → List ℕ → ℕ
 lsp_sum_of id seq flags tlvs = check_field (sums_of (covered id seq 0 flags tlvs)) (length tlvs)

@@ -43,7 +43,7 @@ pub record IsPdu (p : PduValue) : Type 0 where
   pub whole : IsTrue (is_whole (tlvs_of p))
 
 -- an LSP with a lifetime and a sequence number has a checksum that isn't 0 and that holds. No other PDU has one
-abbrev pub is_sound_lsp : LspValue → Bool
+unfoldable pub is_sound_lsp : LspValue → Bool
 is_sound_lsp l =
     (l.lifetime == 0) || (l.seq == 0) || (nat_le 1 l.sum && is_checked (covered l.id l.seq l.sum l.flags l.tlvs))
 

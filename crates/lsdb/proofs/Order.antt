@@ -146,9 +146,10 @@ one_number (Dead n) (Live m t) e a = (λ i. let b = ltb-true n m i in absurd (om
 one_number (Dead n) (Dead m) e a = (λ i. inl (ap (λ (k : ℕ). Dead k) e), λ c. le-leb n m (omega arith))
 
 pub not_at_most : NotAtMost
-not_at_most a h e =
-    (⊎_elim (λ (low : number_of a < number_of h). let b = greater a h low in absurd (false≢true (sym e ∙ b))) (λ (high : number_of h ≤ number_of a). high) (cases_lt (number_of a) (number_of h)),
-     λ same. false≢true (sym e ∙ subst (λ (b : Version). IsAtMost a b) same (itself a)))
+not_at_most a h e = (
+  ⊎_elim (λ (low : number_of a < number_of h). let b = greater a h low in absurd (false≢true (sym e ∙ b))) (λ (high : number_of h ≤ number_of a). high) (cases_lt (number_of a) (number_of h)),
+  λ same. false≢true (sym e ∙ subst (λ (b : Version). IsAtMost a b) same (itself a)),
+)
 
 -- the join and the relation, by the two tests
 relation_by : Bool → Bool → Relation
@@ -208,19 +209,22 @@ not_above : (a h : Version) → IsAtMost a h → a ≢ h → leq h a ≡ false
 not_above a h e ne = ⊎_elim (λ i. absurd (ne (both_ways a h e i))) (λ i. i) (cases_Bool (leq h a))
 
 pub older_is_below : OlderIsBelow
-older_is_below a h =
-    (λ e. let both = older_is a h e in (both.0, λ same. true≢false (sym (subst (λ (b : Version). IsAtMost b a) same (itself a)) ∙ both.1)),
-     λ both. relation_from a h true false both.0 (not_above a h both.0 both.1))
+older_is_below a h = (
+  λ e. let both = older_is a h e in (both.0, λ same. true≢false (sym (subst (λ (b : Version). IsAtMost b a) same (itself a)) ∙ both.1)),
+  λ both. relation_from a h true false both.0 (not_above a h both.0 both.1),
+)
 
 pub newer_is_above : NewerIsAbove
-newer_is_above a h =
-    (λ e. let both = newer_is a h e in (both.1, λ same. true≢false (sym (subst (λ (b : Version). IsAtMost a b) same (itself a)) ∙ both.0)),
-     λ both. relation_from a h false true (not_above h a both.0 (λ same. both.1 (sym same))) both.0)
+newer_is_above a h = (
+  λ e. let both = newer_is a h e in (both.1, λ same. true≢false (sym (subst (λ (b : Version). IsAtMost a b) same (itself a)) ∙ both.0)),
+  λ both. relation_from a h false true (not_above h a both.0 (λ same. both.1 (sym same))) both.0,
+)
 
 pub equal_is_same : EqualIsSame
-equal_is_same a h =
-    (λ e. equal_is a h e,
-     λ e. subst (λ (b : Version). relation a b ≡ Equal) e (relation_from a a true true (itself a) (itself a)))
+equal_is_same a h = (
+  λ e. equal_is a h e,
+  λ e. subst (λ (b : Version). relation a b ≡ Equal) e (relation_from a a true true (itself a) (itself a)),
+)
 
 pub confused_is_neither : ConfusedIsNeither
 confused_is_neither a h = (λ e. confused_is a h e, λ both. relation_from a h false false both.0 both.1)
@@ -229,9 +233,10 @@ lives_confused : (n s t : ℕ) → s ≢ t → relation (Live n s) (Live n t) �
 lives_confused n s t e = relation_from (Live n s) (Live n t) false false (lives_apart n s t e) (lives_apart n t s (λ f. e (sym f)))
 
 pub confused_are_live : ConfusedAreLive
-confused_are_live a h =
-    (λ e. let both = confused_is a h e in apart a h both.0 both.1,
-     λ two. subst (λ (b : Version). relation b h ≡ Confused) (sym two.first) (subst (λ (b : Version). relation (Live two.number two.sum) b ≡ Confused) (sym two.second) (lives_confused two.number two.sum two.other_sum two.apart)))
+confused_are_live a h = (
+  λ e. let both = confused_is a h e in apart a h both.0 both.1,
+  λ two. subst (λ (b : Version). relation b h ≡ Confused) (sym two.first) (subst (λ (b : Version). relation (Live two.number two.sum) b ≡ Confused) (sym two.second) (lives_confused two.number two.sum two.other_sum two.apart)),
+)
 
 pub confused_join_is_dead : ConfusedJoinIsDead
 confused_join_is_dead a h e = let both = confused_is a h e in join_from a h false false both.0 both.1
@@ -251,20 +256,20 @@ apart_second a h two =
 pub join_is_above : JoinIsAbove
 join_is_above a h =
     ⊎_elim
-      (λ below. subst (λ (b : Version). IsAtMost a b × IsAtMost h b) (sym (join_from a h true (leq h a) below refl)) (below, itself h))
-      (λ not_below. ⊎_elim
-        (λ above. subst (λ (b : Version). IsAtMost a b × IsAtMost h b) (sym (join_from a h false true not_below above)) (itself a, above))
-        (λ not_above. subst (λ (b : Version). IsAtMost a b × IsAtMost h b) (sym (join_from a h false false not_below not_above)) (let two = apart a h not_below not_above in (apart_first a h two, apart_second a h two)))
-        (cases_Bool (leq h a)))
-      (cases_Bool (leq a h))
+    (λ below. subst (λ (b : Version). IsAtMost a b × IsAtMost h b) (sym (join_from a h true (leq h a) below refl)) (below, itself h))
+    (λ not_below. ⊎_elim
+    (λ above. subst (λ (b : Version). IsAtMost a b × IsAtMost h b) (sym (join_from a h false true not_below above)) (itself a, above))
+    (λ not_above. subst (λ (b : Version). IsAtMost a b × IsAtMost h b) (sym (join_from a h false false not_below not_above)) (let two = apart a h not_below not_above in (apart_first a h two, apart_second a h two)))
+    (cases_Bool (leq h a)))
+    (cases_Bool (leq a h))
 
 lives_least : (n s t : ℕ) (b : Version) → s ≢ t → IsAtMost (Live n s) b → IsAtMost (Live n t) b → IsAtMost (Dead n) b
 unfolding leq
 lives_least n s t Absent ne h i = cc
 lives_least n s t (Live m u) ne h i = least_number n s t m u ne h i
   where
-  least_number : (n s t m u : ℕ) → s ≢ t → below n s m u ≡ true → below n t m u ≡ true → nat_lt n m ≡ true
-  least_number n s t m u ne h i = grind (arith, nat_tests)
+    least_number : (n s t m u : ℕ) → s ≢ t → below n s m u ≡ true → below n t m u ≡ true → nat_lt n m ≡ true
+    least_number n s t m u ne h i = grind (arith, nat_tests)
 lives_least n s t (Dead m) ne h i = h
 
 apart_least : (a h b : Version) → AreTwoLives a h → IsAtMost a b → IsAtMost h b → IsAtMost (Dead (number_of a)) b
@@ -275,9 +280,9 @@ apart_least a h b two e f =
 pub join_is_least : JoinIsLeast
 join_is_least a h b e f =
     ⊎_elim
-      (λ below. subst (λ (c : Version). IsAtMost c b) (sym (join_from a h true (leq h a) below refl)) f)
-      (λ not_below. ⊎_elim
-        (λ above. subst (λ (c : Version). IsAtMost c b) (sym (join_from a h false true not_below above)) e)
-        (λ not_above. subst (λ (c : Version). IsAtMost c b) (sym (join_from a h false false not_below not_above)) (apart_least a h b (apart a h not_below not_above) e f))
-        (cases_Bool (leq h a)))
-      (cases_Bool (leq a h))
+    (λ below. subst (λ (c : Version). IsAtMost c b) (sym (join_from a h true (leq h a) below refl)) f)
+    (λ not_below. ⊎_elim
+    (λ above. subst (λ (c : Version). IsAtMost c b) (sym (join_from a h false true not_below above)) e)
+    (λ not_above. subst (λ (c : Version). IsAtMost c b) (sym (join_from a h false false not_below not_above)) (apart_least a h b (apart a h not_below not_above) e f))
+    (cases_Bool (leq h a)))
+    (cases_Bool (leq a h))

@@ -108,7 +108,12 @@ mod tests {
     fn versions_stand_in_their_order(rt: HostRuntime) {
         let dead = Version::Dead { seq: 5 };
         for (a, h, relation, top) in [
-            (Version::Absent, Version::Absent, Relation::Equal, Version::Absent),
+            (
+                Version::Absent,
+                Version::Absent,
+                Relation::Equal,
+                Version::Absent,
+            ),
             (Version::Absent, live(1, 7), Relation::Older, live(1, 7)),
             (live(5, 7), live(5, 7), Relation::Equal, live(5, 7)),
             (live(5, 7), live(5, 8), Relation::Confused, dead),
@@ -116,7 +121,12 @@ mod tests {
             (live(5, 7), dead, Relation::Older, dead),
             (live(6, 0), dead, Relation::Newer, live(6, 0)),
             (dead, live(5, 7), Relation::Newer, dead),
-            (dead, Version::Dead { seq: 6 }, Relation::Older, Version::Dead { seq: 6 }),
+            (
+                dead,
+                Version::Dead { seq: 6 },
+                Relation::Older,
+                Version::Dead { seq: 6 },
+            ),
         ] {
             assert_eq!(rt; compare(a, h), relation, "{a:?} and {h:?}");
             assert_eq!(rt; join(a, h), top, "{a:?} and {h:?}");

@@ -1,15 +1,12 @@
-use Rattle.std.proofs.Common.{◌≡◌, ℕ, List, [], ◌∷◌, Option, Some, None, Ok, refl, ap, map}
+use Rattle.std.proofs.Common.{◌≡◌, ℕ, List, [], ◌∷◌, Option, Some, None, Ok, refl, ap}
 use Rattle.scenario.specs.declared.command.Command.{Command}
 use Rattle.scenario.specs.Words.{Word, Rest, next, at_end, meant}
 use Rattle.scenario.specs.Grammar.{Kind, Value, meaning, Form, gives, takes, read, ◌then◌}
-use Rattle.scenario.specs.Spelling.{SpellsForm}
+use Rattle.scenario.specs.Spelling.{SpellsForm, bytes_of}
 use Rattle.scenario.proofs.Values.{spells-meaning, meaning-spelled}
 
 abbrev pub rest : List Word → ℕ → Rest
 rest words end = record { words = words; end = end }
-
-abbrev pub bytes_of : List Word → List (List ℕ)
-bytes_of words = map (λ w. w.bytes) words
 
 -- the form behind a word that was read
 taken : (k : Kind) (more : Value k → Form) (command : Command) (word : Word) (words : List Word) (end : ℕ)

@@ -4,3 +4,4 @@ pub mod Values
 pub mod FormLaws
 pub mod WordLaws
 pub mod LineLaws
+pub mod ColumnLaws

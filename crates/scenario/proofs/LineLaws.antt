@@ -11,8 +11,8 @@ use Rattle.scenario.specs.declared.keyword.TheConstants.{KEYWORDS}
 use Rattle.scenario.specs.Words.{is_blank, Word, words_in, rest_from, next, meant}
 use Rattle.scenario.specs.Keywords.{text_of, keyword}
 use Rattle.scenario.specs.Grammar.{read, form_of, is_comment, some, unless_blank, command_in, line_of, ◌then◌}
-use Rattle.scenario.specs.Spelling.{AreBlank, SpellsForm, Spells, IsPassedOver}
-use Rattle.scenario.proofs.FormLaws.{bytes_of, rest, spells-read, read-spelled}
+use Rattle.scenario.specs.Spelling.{AreBlank, SpellsForm, Spells, IsPassedOver, bytes_of}
+use Rattle.scenario.proofs.FormLaws.{rest, spells-read, read-spelled}
 use Rattle.scenario.proofs.WordLaws.{words-apart, words-same, words_in-none}
 
 -- what a search finds passes the test
@@ -28,13 +28,13 @@ find-passes p (y ∷ ys) x h =
     ]
 
 -- a word that means a keyword is its text
-keyword-text : (word : List ℕ) (k : Keyword) → keyword word ≡ Some k → word ≡ text_of k
+pub keyword-text : (word : List ℕ) (k : Keyword) → keyword word ≡ Some k → word ≡ text_of k
 unfolding keyword
 keyword-text word k h =
     sym ((bytes_eq-Decides (text_of k) word).0 (find-passes (λ k. bytes_eq (text_of k) word) KEYWORDS k h))
 
 -- each keyword's text means it
-text-keyword : (k : Keyword) → keyword (text_of k) ≡ Some k
+pub text-keyword : (k : Keyword) → keyword (text_of k) ≡ Some k
 unfolding keyword
 text-keyword Vid = refl
 text-keyword _ = refl

@@ -1,4 +1,4 @@
-use Rattle.std.specs.Prelude.{◌≡◌, ℕ, ◌≤◌, ◌%◌, List, [], ◌∷◌, ◌++◌, length, not, IsTrue, codes, ⊤, ◌⊎◌}
+use Rattle.std.specs.Prelude.{◌≡◌, ℕ, ◌+◌, ◌≤◌, ◌<◌, ◌%◌, List, [], ◌∷◌, ◌++◌, length, map, false, not, IsTrue, codes, ⊤, ◌⊎◌}
 use Rattle.std.specs.List.{list_all}
 use Rattle.hex.specs.Hex.{is_hex_digit}
 use Rattle.spb_types.specs.Name.{is_name, is_digit}
@@ -8,7 +8,7 @@ use Rattle.scenario.specs.declared.command.Dir.{Dir}
 use Rattle.scenario.specs.declared.command.Dir.TheVariants.{Ab, Ba}
 use Rattle.scenario.specs.declared.command.Command.{Command}
 use Rattle.scenario.specs.declared.keyword.Keyword.{Keyword}
-use Rattle.scenario.specs.Words.{is_blank}
+use Rattle.scenario.specs.Words.{is_blank, Word, words_in}
 use Rattle.scenario.specs.WordForms.{decimal, decoded, hexadecimal}
 use Rattle.scenario.specs.Keywords.{text_of}
 use Rattle.scenario.specs.Grammar.{Kind, a_name, a_number, a_system, a_source, a_frame, a_dir, a_side, Value, Form, gives, takes, form_of, is_comment}
@@ -77,3 +77,41 @@ pub record Spells (line : List ℕ) (command : Command) : Type 0 where
 -- The line is passed over: it has at most 8,192 bytes, and it is blank or a comment.
 abbrev pub IsPassedOver : List ℕ → Type 0
 IsPassedOver line = (length line ≤ 8192) × (AreBlank line ⊎ IsTrue (is_comment line))
+
+-- ---- Where a line goes wrong
+
+-- the words are a keyword and what its form takes
+pub record SpellsWords (words : List (List ℕ)) (command : Command) : Type 0 where
+  pub keyword : Keyword
+  pub others : List (List ℕ)
+  pub words_are : words ≡ text_of keyword ∷ others
+  pub form : SpellsForm (form_of keyword) command others
+
+-- some words more make a command of these, if any are missing
+abbrev pub CanGoOn : List (List ℕ) → Type 0
+CanGoOn words = (more : List (List ℕ)) × (command : Command) × SpellsWords (words ++ more) command
+
+-- the bytes of words
+abbrev pub bytes_of : List Word → List (List ℕ)
+bytes_of words = map (λ w. w.bytes) words
+
+-- Of these words the one at the column is the first that doesn't fit: those before it can go on, and not with it.
+pub record Misfits (words : List Word) (column : ℕ) : Type 0 where
+  pub before : List Word
+  pub word : Word
+  pub after : List Word
+  pub words_are : words ≡ before ++ (word ∷ after)
+  pub column_is : column ≡ word.column
+  pub fit : CanGoOn (bytes_of before)
+  pub misfit : CanGoOn (bytes_of before ++ (word.bytes ∷ [])) → ⊥
+
+-- All words fit, and some are missing.
+pub record Misses (words : List Word) : Type 0 where
+  pub fit : CanGoOn (bytes_of words)
+  pub missing : (command : Command) → SpellsWords (bytes_of words) command → ⊥
+
+-- The line is refused at the column: it is too long, or a word doesn't fit, or words are missing.
+pub data IsRefusedAt (line : List ℕ) (column : ℕ) : Type 0 where
+  too_long : 8192 < length line → column ≡ 8193 → IsRefusedAt line column
+  misfits : length line ≤ 8192 → Misfits (words_in is_blank false 1 line) column → IsRefusedAt line column
+  misses : length line ≤ 8192 → Misses (words_in is_blank false 1 line) → column ≡ length line + 1 → IsRefusedAt line column

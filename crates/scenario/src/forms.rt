@@ -9,6 +9,7 @@ use crate::keyword::Keyword;
 use crate::words::Words;
 use std::alloc::Global;
 
+/// The words behind the keyword of `vid V E`.
 pub fn vid(words: &mut Words<'_>) -> Result<Command, LineError>
     ensures { Gives result (read (form_of Keyword.Vid) words.old) }
 {
@@ -18,6 +19,7 @@ pub fn vid(words: &mut Words<'_>) -> Result<Command, LineError>
     Ok(Command::Vid { vid, ect })
 }
 
+/// The words behind the keyword of `bridge N PRIO SYSID SRC PORTS`.
 pub fn bridge(words: &mut Words<'_>) -> Result<Command, LineError>
     ensures { Gives result (read (form_of Keyword.Bridge) words.old) }
 {
@@ -36,6 +38,7 @@ pub fn bridge(words: &mut Words<'_>) -> Result<Command, LineError>
     })
 }
 
+/// The words behind the keyword of `link L A PA B PB COST`.
 pub fn link(words: &mut Words<'_>) -> Result<Command, LineError>
     ensures { Gives result (read (form_of Keyword.Link) words.old) }
 {
@@ -56,6 +59,7 @@ pub fn link(words: &mut Words<'_>) -> Result<Command, LineError>
     })
 }
 
+/// The words behind the keyword of `isid I V`.
 pub fn isid(words: &mut Words<'_>) -> Result<Command, LineError>
     ensures { Gives result (read (form_of Keyword.Isid) words.old) }
 {
@@ -65,6 +69,7 @@ pub fn isid(words: &mut Words<'_>) -> Result<Command, LineError>
     Ok(Command::Isid { isid, vid })
 }
 
+/// The words behind the keyword of `attach B P I`.
 pub fn attach(words: &mut Words<'_>) -> Result<Command, LineError>
     ensures { Gives result (read (form_of Keyword.Attach) words.old) }
 {
@@ -75,6 +80,7 @@ pub fn attach(words: &mut Words<'_>) -> Result<Command, LineError>
     Ok(Command::Attach { bridge, port, isid })
 }
 
+/// The words behind the keyword of `detach B P`.
 pub fn detach(words: &mut Words<'_>) -> Result<Command, LineError>
     ensures { Gives result (read (form_of Keyword.Detach) words.old) }
 {
@@ -84,6 +90,7 @@ pub fn detach(words: &mut Words<'_>) -> Result<Command, LineError>
     Ok(Command::Detach { bridge, port })
 }
 
+/// The words behind the keyword of `metric L END M`.
 pub fn metric(words: &mut Words<'_>) -> Result<Command, LineError>
     ensures { Gives result (read (form_of Keyword.Metric) words.old) }
 {
@@ -94,6 +101,7 @@ pub fn metric(words: &mut Words<'_>) -> Result<Command, LineError>
     Ok(Command::Metric { link, side, metric })
 }
 
+/// The words behind the keyword of `down L`.
 pub fn down(words: &mut Words<'_>) -> Result<Command, LineError>
     ensures { Gives result (read (form_of Keyword.Down) words.old) }
 {
@@ -102,6 +110,7 @@ pub fn down(words: &mut Words<'_>) -> Result<Command, LineError>
     Ok(Command::Down(link))
 }
 
+/// The words behind the keyword of `up L`.
 pub fn up(words: &mut Words<'_>) -> Result<Command, LineError>
     ensures { Gives result (read (form_of Keyword.Up) words.old) }
 {
@@ -110,6 +119,7 @@ pub fn up(words: &mut Words<'_>) -> Result<Command, LineError>
     Ok(Command::Up(link))
 }
 
+/// The words behind the keyword of `restart B`.
 pub fn restart(words: &mut Words<'_>) -> Result<Command, LineError>
     ensures { Gives result (read (form_of Keyword.Restart) words.old) }
 {
@@ -118,6 +128,7 @@ pub fn restart(words: &mut Words<'_>) -> Result<Command, LineError>
     Ok(Command::Restart(bridge))
 }
 
+/// The words behind the keyword of `tick B`.
 pub fn tick(words: &mut Words<'_>) -> Result<Command, LineError>
     ensures { Gives result (read (form_of Keyword.Tick) words.old) }
 {
@@ -126,6 +137,7 @@ pub fn tick(words: &mut Words<'_>) -> Result<Command, LineError>
     Ok(Command::Tick(bridge))
 }
 
+/// The words behind the keyword of `deliver L DIR`.
 pub fn deliver(words: &mut Words<'_>) -> Result<Command, LineError>
     ensures { Gives result (read (form_of Keyword.Deliver) words.old) }
 {
@@ -135,6 +147,7 @@ pub fn deliver(words: &mut Words<'_>) -> Result<Command, LineError>
     Ok(Command::Deliver { link, dir })
 }
 
+/// The words behind the keyword of `lose L DIR K`.
 pub fn lose(words: &mut Words<'_>) -> Result<Command, LineError>
     ensures { Gives result (read (form_of Keyword.Lose) words.old) }
 {
@@ -145,6 +158,7 @@ pub fn lose(words: &mut Words<'_>) -> Result<Command, LineError>
     Ok(Command::Lose { link, dir, place })
 }
 
+/// The words behind the keyword of `double L DIR K`.
 pub fn double(words: &mut Words<'_>) -> Result<Command, LineError>
     ensures { Gives result (read (form_of Keyword.Double) words.old) }
 {
@@ -155,6 +169,7 @@ pub fn double(words: &mut Words<'_>) -> Result<Command, LineError>
     Ok(Command::Double { link, dir, place })
 }
 
+/// The words behind the keyword of `round N`.
 pub fn round(words: &mut Words<'_>) -> Result<Command, LineError>
     ensures { Gives result (read (form_of Keyword.Round) words.old) }
 {
@@ -163,6 +178,7 @@ pub fn round(words: &mut Words<'_>) -> Result<Command, LineError>
     Ok(Command::Round(times))
 }
 
+/// The words behind the keyword of `drain N`.
 pub fn drain(words: &mut Words<'_>) -> Result<Command, LineError>
     ensures { Gives result (read (form_of Keyword.Drain) words.old) }
 {
@@ -171,6 +187,7 @@ pub fn drain(words: &mut Words<'_>) -> Result<Command, LineError>
     Ok(Command::Drain(most))
 }
 
+/// The words behind the keyword of `show B`.
 pub fn show(words: &mut Words<'_>) -> Result<Command, LineError>
     ensures { Gives result (read (form_of Keyword.Show) words.old) }
 {
@@ -179,6 +196,7 @@ pub fn show(words: &mut Words<'_>) -> Result<Command, LineError>
     Ok(Command::Show(bridge))
 }
 
+/// The words behind the keyword of `wiring B`.
 pub fn wiring(words: &mut Words<'_>) -> Result<Command, LineError>
     ensures { Gives result (read (form_of Keyword.Wiring) words.old) }
 {
@@ -187,6 +205,7 @@ pub fn wiring(words: &mut Words<'_>) -> Result<Command, LineError>
     Ok(Command::Wiring(bridge))
 }
 
+/// The words behind the keyword of `db B`.
 pub fn db(words: &mut Words<'_>) -> Result<Command, LineError>
     ensures { Gives result (read (form_of Keyword.Db) words.old) }
 {
@@ -195,6 +214,7 @@ pub fn db(words: &mut Words<'_>) -> Result<Command, LineError>
     Ok(Command::Db(bridge))
 }
 
+/// The words behind the keyword of `adj B`.
 pub fn adj(words: &mut Words<'_>) -> Result<Command, LineError>
     ensures { Gives result (read (form_of Keyword.Adj) words.old) }
 {
@@ -203,6 +223,7 @@ pub fn adj(words: &mut Words<'_>) -> Result<Command, LineError>
     Ok(Command::Adj(bridge))
 }
 
+/// The words behind the keyword of `path A B V`.
 pub fn path(words: &mut Words<'_>) -> Result<Command, LineError>
     ensures { Gives result (read (form_of Keyword.Path) words.old) }
 {
@@ -213,6 +234,7 @@ pub fn path(words: &mut Words<'_>) -> Result<Command, LineError>
     Ok(Command::Path { from, to, vid })
 }
 
+/// The words behind the keyword of `frame B P HEX`.
 pub fn frame(alloc: Global, words: &mut Words<'_>) -> Result<Command, LineError>
     ensures { Gives result (read (form_of Keyword.Frame) words.old) }
 {
@@ -228,6 +250,7 @@ pub fn frame(alloc: Global, words: &mut Words<'_>) -> Result<Command, LineError>
     })
 }
 
+/// The words behind the keyword of `state`.
 pub fn state(words: &mut Words<'_>) -> Result<Command, LineError>
     ensures { Gives result (read (form_of Keyword.State) words.old) }
 {

@@ -9,3 +9,7 @@ pub mod LinesOf
 pub mod Playing
 pub mod Reading
 pub mod Writing
+pub mod PlacedLemmas
+pub mod RowLemmas
+pub mod AscendLemmas
+pub mod TableLemmas

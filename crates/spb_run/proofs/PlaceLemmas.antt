@@ -1,4 +1,4 @@
-use Rattle.std.proofs.Common.{◌≡◌, ℕ, zero, suc, List, [], ◌∷◌, Option, Some, None, slice_get, refl}
+use Rattle.std.proofs.Common.{◌≡◌, ℕ, zero, suc, [], ◌∷◌, slice_get, replicate, refl}
 use Rattle.std.specs.Option.{option_map_or}
 use Rattle.spb_run.specs.World.{Bridges, ports_at, system_at}
 
@@ -6,3 +6,8 @@ pub ports_at_entry : (bridges : Bridges) (place : ℕ) → ports_at bridges plac
 ports_at_entry [] place = refl
 ports_at_entry (b ∷ bs) zero = refl
 ports_at_entry (b ∷ bs) (suc place) = ports_at_entry bs place
+
+pub system_at_entry : (bridges : Bridges) (place : ℕ) → system_at bridges place ≡ option_map_or (λ b. b.1.bridge.id.system) (slice_get bridges place) (record { mac = record { bytes = replicate 6 0 } })
+system_at_entry [] place = refl
+system_at_entry (b ∷ bs) zero = refl
+system_at_entry (b ∷ bs) (suc place) = system_at_entry bs place

@@ -1,16 +1,15 @@
-use Rattle.std.proofs.Common.{◌≡◌, ◌≢◌, ℕ, zero, suc, ◌+◌, ◌<◌, ◌≤◌, ◌%◌, ◌==◌, Bool, true, false, not, ◌&&◌, List, [], ◌∷◌, ◌++◌, length, Option, Some, None, is_none, nat_lt, nat_le, refl, sym, ap, ◌∙◌, arith}
+use Rattle.std.proofs.Common.{◌≡◌, ◌≢◌, ℕ, ◌<◌, ◌≤◌, ◌==◌, Bool, true, false, ◌&&◌, List, [], ◌∷◌, length, Option, Some, None, nat_lt, nat_le, refl, arith}
 use Rattle.std.proofs.lemmas.Bool.Decides.{nat_tests}
-use Rattle.std.specs.List.{AllByRecursion, list_any}
-use Rattle.std.specs.Option.{option_or}
+use Rattle.std.specs.List.{AllByRecursion}
 use Rattle.std.specs.Str.{bytes_eq}
 use Rattle.spb_types.specs.declared.address.Mac.{Mac}
 use Rattle.spb_types.specs.declared.service.SourceId.{SourceId}
 use Rattle.spb_run.specs.declared.declaration.DeclaredLink.{DeclaredLink}
 use Rattle.spb_run.specs.declared.reason.Reason.{Reason}
-use Rattle.spb_run.specs.declared.reason.Reason.TheVariants.{NoSuchName, Range}
+use Rattle.spb_run.specs.declared.reason.Reason.TheVariants.{Range}
 use Rattle.spb_run.specs.Reason.{reason_unless}
-use Rattle.spb_run.specs.World.{World, Bridges, Links, things_of, ports_at, is_between, is_at_port, AreApart}
-use Rattle.spb_run.specs.Play.{◌or◌, vid_refusal, bridge_refusal, link_refusal, is_first_vid, is_vid, is_before_bridges, is_new_name, is_new_system, is_new_source, is_bridge_address, is_bridge_range, has_bridge_room, is_free_port, is_port, is_link_range, has_link_room, is_unlinked, bridge_of, link_of}
+use Rattle.spb_run.specs.World.{World, things_of, ports_at, is_between, is_at_port, AreApart}
+use Rattle.spb_run.specs.Play.{◌or◌, vid_refusal, bridge_refusal, link_refusal, is_first_vid, is_vid, is_new_name, is_new_system, is_new_source, is_bridge_range, has_bridge_room, is_free_port, is_link_range, is_unlinked, bridge_of, link_of}
 use Rattle.spb_run.proofs.ListLemmas.{All-none, and-left, and-right, not-true}
 use Rattle.spb_run.proofs.WorldLemmas.{IsNewBridge, IsNewLink, ports_at-within}
 

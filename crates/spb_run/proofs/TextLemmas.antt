@@ -1,5 +1,5 @@
-use Rattle.std.proofs.Common.{◌≡◌, ℕ, zero, suc, ◌+◌, ◌-◌, ◌≤◌, Bool, true, false, List, [], ◌∷◌, ◌++◌, filter, decimal, codes, cond, refl, sym, ap, ◌∙◌, append_assoc, arith, if◌then◌else◌, append-nil}
-use Rattle.std.specs.List.{flat_map, range_with_len}
+use Rattle.std.proofs.Common.{◌≡◌, ℕ, zero, suc, ◌+◌, ◌-◌, ◌≤◌, Bool, true, false, List, [], ◌∷◌, ◌++◌, filter, decimal, codes, refl, sym, ap, ◌∙◌, append_assoc, arith, if◌then◌else◌, append-nil}
+use Rattle.std.specs.List.{range_with_len}
 use Rattle.std.proofs.lemmas.List.Concat.{flat_map-append}
 use Rattle.std.proofs.lemmas.List.Elements.{filter-append}
 use Rattle.spb_types.specs.declared.ports.PortSet.{PortSet}
@@ -48,7 +48,7 @@ ListsPorts-more set p start mid last first empty low so one = by (has set p) ref
         let now = one.has_port h in
         let e = ports_below-more set p true low h in
         let text : last ≡ start ++ listed (ports_below set p ++ p ∷ []) =
-            now.0 ∙ ap (λ f. mid ++ comma_unless f ++ decimal p) so.empty ∙ ap (λ t. t ++ comma_unless (is_nil (ports_below set p)) ++ decimal p) so.text ∙ rw listed-push (simp append_assoc)
+        now.0 ∙ ap (λ f. mid ++ comma_unless f ++ decimal p) so.empty ∙ ap (λ t. t ++ comma_unless (is_nil (ports_below set p)) ++ decimal p) so.text ∙ rw listed-push (simp append_assoc)
         in
         record { empty = rw e (now.1 ∙ sym (is_nil-push (ports_below set p) p)); text = rw e text }
     by false h =

@@ -1,17 +1,14 @@
-use Rattle.std.proofs.Common.{◌≡◌, ◌≢◌, ◌⊎◌, inl, inr, ℕ, zero, suc, ◌+◌, ◌<◌, ◌≤◌, ◌==◌, ◌&&◌, ◌||◌, Bool, true, false, true≢false, List, [], ◌∷◌, ◌++◌, length, map, max, Option, Some, None, refl, sym, ap, ◌∙◌, subst, arith, if◌then◌else◌}
+use Rattle.std.proofs.Common.{◌≡◌, ◌≢◌, inl, inr, ℕ, zero, suc, ◌<◌, ◌≤◌, ◌==◌, ◌&&◌, ◌||◌, Bool, true, false, true≢false, List, [], ◌∷◌, length, max, Option, Some, None, refl, sym, ap, ◌∙◌, subst, arith, if◌then◌else◌}
 use Rattle.std.proofs.lemmas.Bool.Decides.{nat_tests}
 use Rattle.std.specs.List.{AllByRecursion, filter_map}
 use Rattle.std.specs.List.{cons_option}
-use Rattle.spb_types.specs.Graph.{IsAmong, IsDistinct, IsBridge, systems_of, joins, port_at, edges_at, ArePorts, ArePortsApart, OneEdge, IsEdgeOf, IsValid, IsValidFor}
+use Rattle.spb_types.specs.Graph.{IsAmong, IsDistinct, systems_of, joins, port_at, edges_at, ArePortsApart, OneEdge, IsEdgeOf, IsValid, IsValidFor}
 use Rattle.spb_types.specs.Address.{same_system}
 use Rattle.spb_types.specs.declared.address.SystemId.{SystemId}
 use Rattle.spb_types.specs.declared.graph.Edge.{Edge}
-use Rattle.spb_types.specs.declared.graph.Graph.{Graph}
 use Rattle.ect_trees.proofs.Among.{same_is, same_self}
-use Rattle.spb_run.specs.declared.declaration.DeclaredBridge.{DeclaredBridge}
 use Rattle.spb_run.specs.declared.declaration.DeclaredLink.{DeclaredLink}
-use Rattle.spb_run.specs.declared.declaration.LinkEnd.{LinkEnd}
-use Rattle.spb_run.specs.World.{World, Bridges, Links, things_of, graph_bridges, system_at, ports_at, edge_of, live_edge, world_graph, is_between, is_at_port, IsEnd, IsLink, AreApart, AllApart, Sound}
+use Rattle.spb_run.specs.World.{World, Bridges, things_of, graph_bridges, system_at, edge_of, live_edge, world_graph, is_between, is_at_port, IsLink, AreApart, AllApart, Sound}
 use Rattle.spb_run.proofs.ListLemmas.{All-map}
 use Rattle.spb_run.proofs.WorldLemmas.{ports_at-le}
 
@@ -69,12 +66,12 @@ max-high m n k h i = omega arith
 
 edge_is : (w : World) → Sound w → (l : DeclaredLink) → IsLink w.bridges l → IsEdgeOf (world_graph w) (edge_of w.bridges l)
 edge_is w sound l h = record {
-    from = among_at w.bridges l.a.bridge h.a.bridge;
-    to = among_at w.bridges l.b.bridge h.b.bridge;
-    apart = same_at w.bridges sound.systems l.a.bridge l.b.bridge h.a.bridge h.b.bridge ∙ eq-apart l.a.bridge l.b.bridge h.apart;
-    low = max-low l.a.metric l.b.metric h.a.metric_low;
-    high = max-high l.a.metric l.b.metric 16777214 h.a.metric_high h.b.metric_high;
-  }
+  from = among_at w.bridges l.a.bridge h.a.bridge;
+  to = among_at w.bridges l.b.bridge h.b.bridge;
+  apart = same_at w.bridges sound.systems l.a.bridge l.b.bridge h.a.bridge h.b.bridge ∙ eq-apart l.a.bridge l.b.bridge h.apart;
+  low = max-low l.a.metric l.b.metric h.a.metric_low;
+  high = max-high l.a.metric l.b.metric 16777214 h.a.metric_high h.b.metric_high;
+}
 
 -- the edges of two links that are apart join different pairs of bridges
 joins_at : (bs : Bridges) → IsDistinct (systems_of (graph_bridges bs)) → (l m : DeclaredLink) → IsLink bs l → IsLink bs m → joins (edge_of bs l) (edge_of bs m).a (edge_of bs m).b ≡ is_between l m.a.bridge m.b.bridge
@@ -108,12 +105,12 @@ one_edge bs d (l ∷ ls) links apart = put (live_edge bs l) refl (one_edge bs d 
 
 pub valid : (w : World) → Sound w → IsValid (world_graph w)
 valid w sound = record {
-    few = omega (arith, length-graph_bridges w.bridges, sound.few);
-    apart = sound.systems;
-    edges = All-filter_map (IsLink w.bridges) (IsEdgeOf (world_graph w)) (live_edge w.bridges) (λ l e h g. subst (IsEdgeOf (world_graph w)) (sym (live_is w.bridges l e g)) (edge_is w sound l h)) (things_of w.links) sound.links;
-    one_edge = one_edge w.bridges sound.systems (things_of w.links) sound.links sound.links_apart;
-    members = tt;
-  }
+  few = omega (arith, length-graph_bridges w.bridges, sound.few);
+  apart = sound.systems;
+  edges = All-filter_map (IsLink w.bridges) (IsEdgeOf (world_graph w)) (live_edge w.bridges) (λ l e h g. subst (IsEdgeOf (world_graph w)) (sym (live_is w.bridges l e g)) (edge_is w sound l h)) (things_of w.links) sound.links;
+  one_edge = one_edge w.bridges sound.systems (things_of w.links) sound.links sound.links_apart;
+  members = tt;
+}
 
 record HasPorts (e : Edge) : Type 0 where
   a_low : 1 ≤ e.port_a
@@ -123,11 +120,11 @@ record HasPorts (e : Edge) : Type 0 where
 
 has_ports : (w : World) → Sound w → (l : DeclaredLink) → IsLink w.bridges l → HasPorts (edge_of w.bridges l)
 has_ports w sound l h = record {
-    a_low = h.a.port_low;
-    a_high = omega (arith, h.a.port_high, ports_at-le w.bridges l.a.bridge sound.ports);
-    b_low = h.b.port_low;
-    b_high = omega (arith, h.b.port_high, ports_at-le w.bridges l.b.bridge sound.ports);
-  }
+  a_low = h.a.port_low;
+  a_high = omega (arith, h.a.port_high, ports_at-le w.bridges l.a.bridge sound.ports);
+  b_low = h.b.port_low;
+  b_high = omega (arith, h.b.port_high, ports_at-le w.bridges l.b.bridge sound.ports);
+}
 
 port_range : (e : Edge) (x : SystemId) → HasPorts e → (1 ≤ port_at e x) × (port_at e x ≤ 32)
 port_range e x h = by (same_system e.a x)
@@ -165,8 +162,10 @@ apart_ports bs d x l m two at_l at_m =
   where
     meet : (i j : ℕ) → i < length bs → j < length bs → same_system (system_at bs i) x ≡ true → same_system (system_at bs j) x ≡ true → i ≡ j
     meet i j hi hj e f = place_from bs d i j hi hj (same_is _ _ e ∙ sym (same_is _ _ f))
+
     clash : (b : Bool) → b ≡ true → b ≡ false → ⊥
     clash b e f = true≢false (sym e ∙ f)
+
     by : (p q : Bool) → same_system (system_at bs l.a.bridge) x ≡ p → same_system (system_at bs m.a.bridge) x ≡ q → (p || same_system (system_at bs l.b.bridge) x) ≡ true → (q || same_system (system_at bs m.b.bridge) x) ≡ true → (if p then l.a.port else l.b.port) ≢ (if q then m.a.port else m.b.port)
     by true true hp hq tl tm = λ e. clash _ (at_port_a l _ _ (meet _ _ two.first.a.bridge two.second.a.bridge hp hq) e) two.apart.port_a
     by true false hp hq tl tm = λ e. clash _ (at_port_a l _ _ (meet _ _ two.first.a.bridge two.second.b.bridge hp tm) e) two.apart.port_b
@@ -184,17 +183,19 @@ ports_apart bs d x (l ∷ ls) links apart = put (live_edge bs l) refl (ports_apa
   where
     others : AllByRecursion (λ f. IsOther bs l f × (is_at x f ≡ true)) (edges_at (filter_map (live_edge bs) ls) x)
     others = All-edges_at (IsOther bs l) x (filter_map (live_edge bs) ls) (All-filter_map (AreTwo bs l) (IsOther bs l) (live_edge bs) (λ m f h g. record { link = m; is = live_is bs m f g; two = h }) ls (all_two bs l links.0 ls links.1 apart.0))
+
     here : (e : Edge) → e ≡ edge_of bs l → (b : Bool) → is_at x e ≡ b → ArePortsApart (edges_at (filter_map (live_edge bs) ls) x) x → ArePortsApart (if b then e ∷ edges_at (filter_map (live_edge bs) ls) x else edges_at (filter_map (live_edge bs) ls) x) x
     here e is true at rest =
         (All-map (λ f. IsOther bs l f × (is_at x f ≡ true)) (λ f. port_at e x ≢ port_at f x) (edges_at (filter_map (live_edge bs) ls) x) (λ f o. subst (λ y. port_at y x ≢ port_at f x) (sym is) (subst (λ y. port_at (edge_of bs l) x ≢ port_at y x) (sym o.0.is) (apart_ports bs d x l o.0.link o.0.two (subst (λ y. is_at x y ≡ true) is at) (subst (λ y. is_at x y ≡ true) o.0.is o.1)))) others, rest)
     here e is false at rest = rest
+
     put : (o : Option Edge) → live_edge bs l ≡ o → ArePortsApart (edges_at (filter_map (live_edge bs) ls) x) x → ArePortsApart (edges_at (cons_option o (filter_map (live_edge bs) ls)) x) x
     put None e rest = rest
     put (Some edge) e rest = here edge (live_is bs l edge e) (is_at x edge) refl rest
 
 pub valid_for : (w : World) (me : SystemId) → Sound w → IsValidFor (world_graph w) me
 valid_for w me sound = record {
-    valid = valid w sound;
-    ports = All-map (λ e. HasPorts e × (is_at me e ≡ true)) (λ e. (1 ≤ port_at e me) × (port_at e me ≤ 32)) (edges_at (world_graph w).edges me) (λ e h. port_range e me h.0) (All-edges_at HasPorts me (world_graph w).edges (All-filter_map (IsLink w.bridges) HasPorts (live_edge w.bridges) (λ l e h g. subst HasPorts (sym (live_is w.bridges l e g)) (has_ports w sound l h)) (things_of w.links) sound.links));
-    ports_apart = ports_apart w.bridges sound.systems me (things_of w.links) sound.links sound.links_apart;
-  }
+  valid = valid w sound;
+  ports = All-map (λ e. HasPorts e × (is_at me e ≡ true)) (λ e. (1 ≤ port_at e me) × (port_at e me ≤ 32)) (edges_at (world_graph w).edges me) (λ e h. port_range e me h.0) (All-edges_at HasPorts me (world_graph w).edges (All-filter_map (IsLink w.bridges) HasPorts (live_edge w.bridges) (λ l e h g. subst HasPorts (sym (live_is w.bridges l e g)) (has_ports w sound l h)) (things_of w.links) sound.links));
+  ports_apart = ports_apart w.bridges sound.systems me (things_of w.links) sound.links sound.links_apart;
+}

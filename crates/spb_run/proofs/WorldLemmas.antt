@@ -1,7 +1,7 @@
-use Rattle.std.proofs.Common.{◌≡◌, ◌≢◌, ℕ, zero, suc, ◌+◌, ◌<◌, ◌≤◌, Bool, true, false, true≢false, not, List, [], ◌∷◌, ◌++◌, length, map, refl, sym, ap, ◌∙◌, arith, ⊎_elim}
-use Rattle.std.specs.List.{AllByRecursion, list_any}
+use Rattle.std.proofs.Common.{◌≡◌, ℕ, zero, suc, ◌<◌, ◌≤◌, false, true≢false, List, [], ◌∷◌, ◌++◌, length, refl, sym, ap, ◌∙◌, arith, ⊎_elim}
+use Rattle.std.specs.List.{AllByRecursion}
 use Rattle.std.specs.Str.{bytes_eq}
-use Rattle.spb_types.specs.Graph.{IsAmong, IsDistinct, systems_of}
+use Rattle.spb_types.specs.Graph.{IsAmong, systems_of}
 use Rattle.spb_types.specs.Address.{same_system}
 use Rattle.spb_types.specs.declared.address.SystemId.{SystemId}
 use Rattle.ect_trees.proofs.Among.{same_self, distinct_snoc}
@@ -10,8 +10,8 @@ use Rattle.spb_run.specs.declared.declaration.DeclaredLink.{DeclaredLink}
 use Rattle.spb_run.specs.declared.declaration.LinkEnd.{LinkEnd}
 use Rattle.spb_types.specs.declared.service.VidPlan.{VidPlan}
 use Rattle.spb_run.specs.Play.{with_vid, with_bridge, with_link}
-use Rattle.spb_run.specs.World.{World, Bridges, Links, things_of, graph_bridges, system_at, ports_at, IsEnd, IsLink, AreApart, AllApart, Sound}
-use Rattle.spb_run.proofs.ListLemmas.{All-map, All-push, All-none, things_of-push, length-push}
+use Rattle.spb_run.specs.World.{World, Bridges, things_of, graph_bridges, system_at, ports_at, IsEnd, IsLink, AreApart, AllApart, Sound}
+use Rattle.spb_run.proofs.ListLemmas.{All-map, All-push, things_of-push, length-push}
 
 pub ports_at-push : (bs : Bridges) (b : List ℕ × DeclaredBridge) (i : ℕ) → i < length bs → ports_at (bs ++ b ∷ []) i ≡ ports_at bs i
 ports_at-push [] b i h = absurd (omega arith)
@@ -30,12 +30,12 @@ ports_at-within (b ∷ bs) (suc i) h = omega (arith, ports_at-within bs i h)
 
 IsEnd-push : (bs : Bridges) (b : List ℕ × DeclaredBridge) (e : LinkEnd) → IsEnd bs e → IsEnd (bs ++ b ∷ []) e
 IsEnd-push bs b e h = record {
-    bridge = omega (arith, length-push bs b, h.bridge);
-    port_low = h.port_low;
-    port_high = rw (ports_at-push bs b e.bridge h.bridge) h.port_high;
-    metric_low = h.metric_low;
-    metric_high = h.metric_high;
-  }
+  bridge = omega (arith, length-push bs b, h.bridge);
+  port_low = h.port_low;
+  port_high = rw (ports_at-push bs b e.bridge h.bridge) h.port_high;
+  metric_low = h.metric_low;
+  metric_high = h.metric_high;
+}
 
 pub IsLink-push : (bs : Bridges) (b : List ℕ × DeclaredBridge) (l : DeclaredLink) → IsLink bs l → IsLink (bs ++ b ∷ []) l
 IsLink-push bs b l h = record { a = IsEnd-push bs b l.a h.a; b = IsEnd-push bs b l.b h.b; apart = h.apart }
@@ -64,13 +64,13 @@ pub record IsNewBridge (w : World) (b : DeclaredBridge) : Type 0 where
 pub Sound-with_bridge : (w : World) (name : List ℕ) (b : DeclaredBridge) → Sound w → IsNewBridge w b → Sound (with_bridge w name b)
 unfolding with_bridge
 Sound-with_bridge w name b sound new = record {
-    few = omega (arith, length-push w.bridges (name, b), new.room);
-    ports = rw things_of-push (All-push (λ c. c.ports ≤ 32) (things_of w.bridges) b sound.ports new.ports);
-    systems = rw systems-push (distinct_snoc (systems_of (graph_bridges w.bridges)) b.bridge.id.system sound.systems (new_among w.bridges b.bridge.id.system new.system));
-    links = All-map (IsLink w.bridges) (IsLink (w.bridges ++ (name, b) ∷ [])) (things_of w.links) (IsLink-push w.bridges (name, b)) sound.links;
-    links_apart = sound.links_apart;
-    plans = sound.plans;
-  }
+  few = omega (arith, length-push w.bridges (name, b), new.room);
+  ports = rw things_of-push (All-push (λ c. c.ports ≤ 32) (things_of w.bridges) b sound.ports new.ports);
+  systems = rw systems-push (distinct_snoc (systems_of (graph_bridges w.bridges)) b.bridge.id.system sound.systems (new_among w.bridges b.bridge.id.system new.system));
+  links = All-map (IsLink w.bridges) (IsLink (w.bridges ++ (name, b) ∷ [])) (things_of w.links) (IsLink-push w.bridges (name, b)) sound.links;
+  links_apart = sound.links_apart;
+  plans = sound.plans;
+}
 
 -- what is asked of a link, so that it can be declared
 pub record IsNewLink (w : World) (l : DeclaredLink) : Type 0 where
@@ -80,24 +80,24 @@ pub record IsNewLink (w : World) (l : DeclaredLink) : Type 0 where
 pub Sound-with_link : (w : World) (name : List ℕ) (l : DeclaredLink) → Sound w → IsNewLink w l → Sound (with_link w name l)
 unfolding with_link
 Sound-with_link w name l sound new = record {
-    few = sound.few;
-    ports = sound.ports;
-    systems = sound.systems;
-    links = rw things_of-push (All-push (IsLink w.bridges) (things_of w.links) l sound.links new.link);
-    links_apart = rw things_of-push (AllApart-push (things_of w.links) l sound.links_apart new.apart);
-    plans = sound.plans;
-  }
+  few = sound.few;
+  ports = sound.ports;
+  systems = sound.systems;
+  links = rw things_of-push (All-push (IsLink w.bridges) (things_of w.links) l sound.links new.link);
+  links_apart = rw things_of-push (AllApart-push (things_of w.links) l sound.links_apart new.apart);
+  plans = sound.plans;
+}
 
 pub Sound-with_vid : (w : World) (p : VidPlan) → Sound w → w.vids ≡ [] → 1 ≤ p.ect → p.ect ≤ 16 → Sound (with_vid w p)
 unfolding with_vid
 Sound-with_vid w p sound none low high = record {
-    few = sound.few;
-    ports = sound.ports;
-    systems = sound.systems;
-    links = sound.links;
-    links_apart = sound.links_apart;
-    plans = rw none (record { ects = ((low, high), tt); apart = (tt, tt) });
-  }
+  few = sound.few;
+  ports = sound.ports;
+  systems = sound.systems;
+  links = sound.links;
+  links_apart = sound.links_apart;
+  plans = rw none (record { ects = ((low, high), tt); apart = (tt, tt) });
+}
 
 pub ports_at-le : (bs : Bridges) (i : ℕ) → AllByRecursion (λ b. b.ports ≤ 32) (things_of bs) → ports_at bs i ≤ 32
 ports_at-le [] i h = omega arith

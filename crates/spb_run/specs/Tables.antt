@@ -1,10 +1,10 @@
-use Rattle.std.specs.Prelude.{◌≡◌, ◌≢◌, ◌↔◌, ℕ, ◌≤◌, List, [], ◌∷◌, Option, Some, ◌⊎◌, ⊤, if◌then◌else◌, slice_get, option_map, option_and_then}
+use Rattle.std.specs.Prelude.{◌≡◌, ◌≢◌, ◌↔◌, ℕ, ◌≤◌, List, [], ◌∷◌, Option, Some, Contains, ⊤, if◌then◌else◌, slice_get, option_map, option_and_then}
 use Rattle.std.specs.List.{AllByRecursion, filter_map, flat_map}
 use Rattle.std.specs.declared.cmp.Ordering.{Ordering}
 use Rattle.std.specs.Ordering.{nat_cmp, ordering_then, is_gt}
 use Rattle.std.specs.Cmp.Lexicographic.{slice_cmp}
 use Rattle.spb_types.specs.Ect.{mask_of}
-use Rattle.spb_types.specs.Graph.{systems_of, port_between}
+use Rattle.spb_types.specs.Graph.{systems_of, port_between, IsValid}
 use Rattle.spb_types.specs.declared.address.Mac.{Mac}
 use Rattle.spb_types.specs.declared.address.SystemId.{SystemId}
 use Rattle.spb_types.specs.declared.graph.Graph.{Graph}
@@ -48,11 +48,6 @@ rows_of_vid g me plan = filter_map (unicast_row g me plan) (ascending system_cmp
 unfoldable pub unicast_rows : Graph → SystemId → List VidPlan → List UnicastRow
 unicast_rows g me vids = flat_map (rows_of_vid g me) (ascending vid_cmp vids)
 
--- the plan is one of these
-abbrev pub IsPlanned : VidPlan → List VidPlan → Type 0
-IsPlanned p [] = ⊥
-IsPlanned p (q ∷ qs) = (p ≡ q) ⊎ IsPlanned p qs
-
 -- no VID stands twice in the list
 abbrev pub AreVidsApart : List VidPlan → Type 0
 AreVidsApart [] = ⊤
@@ -63,11 +58,6 @@ pub record ArePlans (vids : List VidPlan) : Type 0 where
   pub ects : AllByRecursion (λ p. (1 ≤ p.ect) × (p.ect ≤ 16)) vids
   pub apart : AreVidsApart vids
 
--- the row is one of these
-abbrev pub IsRow : UnicastRow → List UnicastRow → Type 0
-IsRow r [] = ⊥
-IsRow r (s ∷ ss) = (r ≡ s) ⊎ IsRow r ss
-
 -- a row of `me`: for one of the VIDs, and a bridge with a best path of two bridges or more, it has the bridge's
 -- address and the port of the edge from `me` to the second bridge of that path
 pub record IsUnicast (g : Graph) (me : SystemId) (vids : List VidPlan) (r : UnicastRow) : Type 0 where
@@ -75,7 +65,7 @@ pub record IsUnicast (g : Graph) (me : SystemId) (vids : List VidPlan) (r : Unic
   pub to : SystemId
   pub next : SystemId
   pub rest : List SystemId
-  pub planned : IsPlanned plan vids
+  pub planned : Contains vids plan
   pub best : IsBest g (mask_of plan.ect) me to (me ∷ next ∷ rest)
   pub vid : r.vid ≡ plan.vid
   pub mac : r.mac ≡ to.mac
@@ -85,12 +75,22 @@ pub record IsUnicast (g : Graph) (me : SystemId) (vids : List VidPlan) (r : Unic
 abbrev pub row_cmp : UnicastRow → UnicastRow → Ordering
 row_cmp r s = ordering_then (nat_cmp r.vid.value s.vid.value) (mac_cmp r.mac s.mac)
 
--- each row is below every later one
-abbrev pub Ascends : List UnicastRow → Type 0
-Ascends [] = ⊤
-Ascends (r ∷ rs) = AllByRecursion (λ s. row_cmp r s ≡ Ordering.Less) rs × Ascends rs
+-- each item is below every later one
+abbrev pub Ascends : {A : Type 0} → (A → A → Ordering) → List A → Type 0
+Ascends cmp [] = ⊤
+Ascends cmp (x ∷ xs) = AllByRecursion (λ y. cmp x y ≡ Ordering.Less) xs × Ascends cmp xs
 
 -- the unicast table of `me`: just its rows, each once, ascending
 pub record IsUnicastTable (g : Graph) (me : SystemId) (vids : List VidPlan) (rows : List UnicastRow) : Type 0 where
-  pub members : (r : UnicastRow) → IsRow r rows ↔ IsUnicast g me vids r
-  pub ascends : Ascends rows
+  pub members : (r : UnicastRow) → Contains rows r ↔ IsUnicast g me vids r
+  pub ascends : Ascends row_cmp rows
+
+-- in a valid graph, `unicast_rows` is the unicast table
+abbrev pub RowsAreTable : Type 0
+RowsAreTable = (g : Graph) (me : SystemId) (vids : List VidPlan)
+    → IsValid g → ArePlans vids → IsUnicastTable g me vids (unicast_rows g me vids)
+
+-- there is just one such table, whatever the order of a graph's lists and of the VIDs
+abbrev pub TableIsOne : Type 0
+TableIsOne = (g : Graph) (me : SystemId) (vids : List VidPlan) (rows others : List UnicastRow)
+    → IsUnicastTable g me vids rows → IsUnicastTable g me vids others → rows ≡ others

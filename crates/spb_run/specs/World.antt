@@ -1,4 +1,4 @@
-use Rattle.std.specs.Prelude.{◌≡◌, ◌≢◌, ℕ, zero, suc, ◌≤◌, ◌<◌, List, [], ◌∷◌, length, map, Bool, false, ◌&&◌, ◌||◌, ◌==◌, Option, Some, None, position, max, if◌then◌else◌, ⊤}
+use Rattle.std.specs.Prelude.{◌≡◌, ◌≢◌, ℕ, zero, suc, ◌≤◌, ◌<◌, List, [], ◌∷◌, length, map, Bool, false, ◌&&◌, ◌||◌, ◌==◌, replicate, Option, Some, None, position, max, if◌then◌else◌, ⊤}
 use Rattle.std.specs.List.{AllByRecursion, filter_map}
 use Rattle.std.specs.Str.{bytes_eq}
 use Rattle.spb_types.specs.Graph.{IsDistinct, systems_of}
@@ -42,9 +42,9 @@ place_of name entries = position (bytes_eq name) (names_of entries)
 abbrev pub graph_bridges : Bridges → List GraphBridge
 graph_bridges bridges = map (λ b. b.bridge) (things_of bridges)
 
--- the system id of the bridge at a place
+-- the system id of the bridge at a place, and zeros past the last bridge
 abbrev pub system_at : Bridges → ℕ → SystemId
-system_at [] i = record { mac = record { bytes = [] } }
+system_at [] i = record { mac = record { bytes = replicate 6 0 } }
 system_at (b ∷ bs) zero = b.1.bridge.id.system
 system_at (b ∷ bs) (suc i) = system_at bs i
 

@@ -40,11 +40,7 @@ fn is_new_source(bridges: &IndexMap<Name, DeclaredBridge>, source: SourceId) -> 
 }
 
 /// Whether no bridge has this system id or this source id.
-pub fn is_new_id(
-    bridges: &IndexMap<Name, DeclaredBridge>,
-    system: Mac,
-    source: SourceId,
-) -> bool
+pub fn is_new_id(bridges: &IndexMap<Name, DeclaredBridge>, system: Mac, source: SourceId) -> bool
     ensures { result
         ≡ (play.is_new_system system bridges.now.entries && play.is_new_source source bridges.now.entries) }
 {

@@ -12,6 +12,8 @@ pub use world::World;
 
 mod check;
 mod declaration;
+mod graph;
+pub mod laws;
 mod output;
 mod play;
 mod reason;
@@ -20,4 +22,7 @@ mod report;
 mod runner;
 mod script;
 mod status;
+mod tables;
+#[cfg(test)]
+mod tests;
 mod world;

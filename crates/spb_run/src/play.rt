@@ -8,7 +8,7 @@ ghost use Rattle.spb_run.specs.Declaring.{Declines, Declares, Answers, Replies};
 use crate::report::{error_text, tables_text};
 use crate::{PlayError, Reason, Refusal, Reply, World};
 use scenario::{Command, Keyword, LineError, head, parse_line};
-use spb_types::{Name, NoMemory, Tables};
+use spb_types::{Name, NoMemory};
 use std::alloc::Global;
 
 /// Whether a line's first word begins a line that is played.
@@ -43,16 +43,6 @@ impl World {
             return Err(PlayError::Refused(Reason::NoSuchName));
         };
         self.declare_link(name, i, port_a, j, port_b, cost)
-    }
-
-    /// The tables that the wiring gives the bridge at a place.
-    fn wired_tables(&self, alloc: Global, place: usize) -> Result<Tables, NoMemory>
-        ensures { IfOk result (λ tables. tables ≡ play.wired_tables self.now place) }
-    {
-        let _ = self.bridge_place(Name::new(b"a").unwrap());
-        let _ = place;
-        let _ = alloc;
-        Err(NoMemory)
     }
 
     /// The answer that shows the tables which the wiring gives a bridge.

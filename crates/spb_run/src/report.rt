@@ -65,12 +65,7 @@ fn push_listed(out: &mut Vec<u8>, is_first: bool, number: u8) -> Result<(), NoMe
 }
 
 /// Writes a port if the set has it. The answer is whether none was written so far.
-fn push_port(
-    out: &mut Vec<u8>,
-    is_first: bool,
-    ports: PortSet,
-    port: u8,
-) -> Result<bool, NoMemory>
+fn push_port(out: &mut Vec<u8>, is_first: bool, ports: PortSet, port: u8) -> Result<bool, NoMemory>
     requires low { 1 ≤ port }
     requires high { port ≤ 32 }
     ensures { IfOk result (λ is_empty. ListsPort ports port is_first out.old.items is_empty out.new.items) }

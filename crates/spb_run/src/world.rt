@@ -1,11 +1,15 @@
 ghost use Rattle.std.specs.Prelude.{◌≡◌, [], ◌∷◌, ◌++◌, true, OnOk, OnErr};
 ghost use Rattle.spb_run.specs.Play.{is_new_name};
 
-use crate::check;
+use crate::graph::{graph_bridges, graph_edges, system_at};
 use crate::reason::reason_unless;
-use crate::{DeclaredBridge, DeclaredLink, LinkEnd, PlayError, Reason};
+use crate::tables::tables_of;
+use crate::{DeclaredBridge, DeclaredLink, LinkEnd, PlayError, Reason, check};
 use indexmap::IndexMap;
-use spb_types::{BridgeId, Edge, Graph, GraphBridge, Mac, Name, NoMemory, Seq, SourceId, SystemId, Vid, VidPlan};
+use spb_types::{
+    BridgeId, Graph, GraphBridge, Mac, Name, NoMemory, Seq, SourceId, SystemId, Tables, Vid,
+    VidPlan,
+};
 use std::alloc::Global;
 use std::marker::Model;
 
@@ -28,7 +32,8 @@ impl Model for World {
 }
 
 impl World {
-    ghost use Rattle.std.specs.Prelude.{◌≡◌, []};
+    ghost use Rattle.std.specs.Prelude.{◌≡◌, [], IfOk};
+    ghost use Rattle.spb_run.specs.World as state;
     ghost use Rattle.spb_run.specs.World.{place_of};
     ghost use Rattle.spb_run.specs.Play as play;
     ghost use Rattle.spb_run.specs.Declaring.{Declares};
@@ -49,6 +54,29 @@ impl World {
         ensures { result ≡ place_of name self.now.bridges }
     {
         self.bridges.get_index_of(&name)
+    }
+
+    /// The actual wiring: all bridges, and an edge for each link that is up.
+    fn graph(&self, alloc: Global) -> Result<Graph, NoMemory>
+        ensures { IfOk result (λ graph. graph ≡ state.world_graph self.now) }
+    {
+        let bridges = graph_bridges(alloc, &self.bridges)?;
+        let edges = graph_edges(alloc, &self.bridges, &self.links)?;
+        Ok(Graph {
+            bridges: Seq::from_vec(bridges),
+            edges: Seq::from_vec(edges),
+            members: Seq::new(alloc),
+        })
+    }
+
+    /// The tables that the wiring gives the bridge at a place.
+    #[tactic(auto, unfolding(crate::specs::Play::wired_tables))]
+    pub fn wired_tables(&self, alloc: Global, place: usize) -> Result<Tables, NoMemory>
+        ensures { IfOk result (λ tables. tables ≡ play.wired_tables self.now place) }
+    {
+        let graph = self.graph(alloc)?;
+        let me = system_at(&self.bridges, place);
+        tables_of(alloc, &graph, me, self.vids.as_slice())
     }
 
     /// Why a base VID can't be declared, if it can't.
@@ -77,7 +105,10 @@ impl World {
         let is_new_id = check::is_new_id(&self.bridges, system, source);
         reason_unless(is_new_name, Reason::Range)
             .or(reason_unless(is_new_id, Reason::Range))
-            .or(reason_unless(check::is_bridge_range(priority, system, ports), Reason::Range))
+            .or(reason_unless(
+                check::is_bridge_range(priority, system, ports),
+                Reason::Range,
+            ))
             .or(reason_unless(self.bridges.len() < 96, Reason::Range))
     }
 
@@ -188,11 +219,7 @@ impl World {
 }
 
 /// Puts a thing of a new name behind the others. After NoMemory nothing changed.
-fn insert_new<T: Drop>(
-    things: &mut IndexMap<Name, T>,
-    name: Name,
-    thing: T,
-) -> Result<(), NoMemory>
+fn insert_new<T: Drop>(things: &mut IndexMap<Name, T>, name: Name, thing: T) -> Result<(), NoMemory>
     requires { is_new_name name things.old.entries ≡ true }
     ensures ok { OnOk result (things.new.entries ≡ things.old.entries ++ (name, thing) ∷ []) }
     ensures err { OnErr result (things.new.entries ≡ things.old.entries) }

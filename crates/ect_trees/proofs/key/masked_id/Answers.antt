@@ -1,4 +1,4 @@
-use Rattle.std.proofs.Common.{◌≡◌, ℕ, List, ◌<◌, ◌/◌, ◌%◌, ◌∷◌, [], ◌++◌, length, get_or, map, bit_xor, ap, ◌∙◌, subst, arith, append-nil}
+use Rattle.std.proofs.Common.{◌≡◌, ℕ, List, ◌<◌, ◌/◌, ◌%◌, ◌∷◌, [], ◌++◌, length, get_or, map, bit_xor, ap, ◌∙◌, arith, append-nil}
 use Rattle.spb_types.specs.Address.{bridge_id_bytes}
 use Rattle.ect_trees.proofs.Masked.{map_at_each}
 use Rattle.ect_trees.proofs.key.masked_id.Goals as goal

@@ -1,4 +1,4 @@
-use Rattle.std.proofs.Common.{◌≡◌, ◌∙◌, sym, ap, length, unwrap_or}
+use Rattle.std.proofs.Common.{◌≡◌, ◌∙◌, ap, length, unwrap_or}
 use Rattle.std.specs.Ordering.{is_le}
 use Rattle.std.specs.List.{insert, position}
 use Rattle.ect_trees.specs.Key.{id_cmp}

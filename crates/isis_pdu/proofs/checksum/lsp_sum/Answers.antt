@@ -6,6 +6,7 @@ use Rattle.isis_pdu.proofs.Sums.{lsp_sum-bytes, lsp_sum-holds, lsp_sum-only}
 use Rattle.isis_pdu.proofs.checksum.lsp_sum.Goals as goal
 
 value : (c : goal.After-check_field) → c.check_field.result ≡ lsp_sum_of c.args.id.now c.args.seq c.args.flags c.args.tlvs.now
+unfolding lsp_sum_of
 value c = c.check_field.ensures ∙ ap (λ (s : Sums). check_field s (length c.args.tlvs.now)) c.sums_without_check.ensures
 
 pub returns-clause-bytes : goal.returns-clause-bytes
@@ -16,3 +17,6 @@ returns-clause-holds c = subst (λ (n : ℕ). IsTrue (is_checked (covered c.args
 
 pub returns-clause-only : goal.returns-clause-only
 returns-clause-only c = λ sum fits holds. lsp_sum-only c.args.id.now c.args.seq c.args.flags c.args.tlvs.now sum fits holds ∙ sym (value c)
+
+pub returns-clause-value : goal.returns-clause-value
+returns-clause-value c = value c

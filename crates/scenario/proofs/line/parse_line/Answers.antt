@@ -4,6 +4,7 @@ use Rattle.scenario.specs.declared.error.LineError.{LineError}
 use Rattle.scenario.specs.declared.error.LineError.TheVariants.{Words, NoMemory}
 use Rattle.scenario.specs.Answers.{Reads}
 use Rattle.scenario.proofs.LineLaws.{Spells-line_of, line_of-spelled, one-command, IsPassedOver-line_of, line_of-passed_over}
+use Rattle.scenario.proofs.ColumnLaws.{refused-line}
 use Rattle.scenario.proofs.line.parse_line.Goals as goal
 
 -- a line that gives nothing was answered so
@@ -26,3 +27,6 @@ returns-clause-passed_over c = (
   λ e. IsPassedOver-line_of c.args.line.now (rw e at c.read_line.ensures),
   λ h. none-answered _ (rw (line_of-passed_over c.args.line.now h) at c.read_line.ensures),
 )
+
+pub returns-clause-refused : goal.returns-clause-refused
+returns-clause-refused c column e = refused-line c.args.line.now column (rw e at c.read_line.ensures)

@@ -1,8 +1,7 @@
 use Rattle.std.proofs.Common.{ap, not, rules, tests, ◌==◌}
 use Rattle.std.proofs.lemmas.Iterator.Consumers.{YieldsList-from_rest}
 use Rattle.std.proofs.lemmas.Iterator.Search.{any_from_yields_List}
-use Rattle.std.specs.Str.{bytes_eq}
-use Rattle.spb_run.specs.World.{things_of, is_at_port, is_between}
+use Rattle.spb_run.specs.World.{things_of}
 use Rattle.spb_run.specs.Play.{is_new_source}
 use Rattle.spb_run.proofs.check.is_new_source.Goals as goal
 

@@ -1,4 +1,4 @@
-use Rattle.std.proofs.Common.{◌≡◌, ◌+◌, ◌<◌, true, false, true≢false, length, get_or, Some, None, sym, ap, subst, ◌∙◌, arith, Less, nat_cmp}
+use Rattle.std.proofs.Common.{◌≡◌, ◌+◌, true, false, true≢false, length, get_or, None, sym, ap, subst, ◌∙◌, arith, Less, nat_cmp}
 use Rattle.std.specs.List.{list_any}
 use Rattle.std.specs.Ordering.{ordering_then}
 use Rattle.std.specs.Bool.{⊤}
@@ -6,9 +6,8 @@ use Rattle.std.proofs.lemmas.Option.{MatchOption-at_some}
 use Rattle.spb_types.specs.Address.{same_system}
 use Rattle.spb_types.specs.Graph.{IsAmong}
 use Rattle.spb_types.specs.declared.address.SystemId.{SystemId}
-use Rattle.ect_trees.specs.declared.search.Label.{Label}
 use Rattle.ect_trees.specs.Key.{IsBelow}
-use Rattle.ect_trees.specs.Search.{IsAt, IsLabel, Improves}
+use Rattle.ect_trees.specs.Search.{IsAt, Improves}
 use Rattle.ect_trees.proofs.Places.{no_bridge, at_within, read_bridge}
 use Rattle.ect_trees.proofs.Extended.{label_small, lt_is, beaten, visited, extended_label, is_improved, none_better, on_path, not_on_path}
 use Rattle.ect_trees.proofs.search.Search.better.Goals as goal

@@ -1,5 +1,5 @@
-use Rattle.std.proofs.Common.{◌≡◌, ◌<◌, Some, None, sym, subst, ◌∙◌, arith}
-use Rattle.ect_trees.specs.Search.{label_at, Extends, Improves}
+use Rattle.std.proofs.Common.{◌≡◌, Some, None, sym, subst, ◌∙◌, arith}
+use Rattle.ect_trees.specs.Search.{Improves}
 use Rattle.ect_trees.proofs.Places.{at_within}
 use Rattle.ect_trees.proofs.Relaxed.{read_label, relaxed_nothing, relaxed_same, relaxed_set}
 use Rattle.ect_trees.proofs.search.Search.relax.Goals as goal

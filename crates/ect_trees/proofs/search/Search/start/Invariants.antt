@@ -1,4 +1,3 @@
-use Rattle.std.proofs.Common.{◌≡◌, length}
 use Rattle.ect_trees.proofs.Started.{Started}
 use Rattle.ect_trees.proofs.search.Search.start.Given as goal
 

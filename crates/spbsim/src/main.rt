@@ -1,0 +1,57 @@
+//! `spbsim run` plays a script of a shortest path backbone from standard input, and writes the answers to standard
+//! output. Its exit status is the number of the run's status, 0 to 6.
+//!
+//! All of it is done by `spb_run::run`, over the standard streams: here stand the words and the messages alone.
+#![tactic(auto)]
+
+ghost use Rattle.std.specs.Prelude.{◌≡◌, is_some, nat_le};
+ghost use Rattle.spb_run.specs.Run.{status_number};
+
+use spb_outside::{StdSink, StdSource};
+use spb_run::{Status, run};
+use std::env;
+use std::io::ErrorKind;
+use std::process::ExitCode;
+use std::rt::{Env, HostRuntime};
+
+#[cfg(test)]
+mod tests;
+
+/// The program's words, without its name. A word that isn't text is none of the program's, so there is no form for it.
+fn words(rt: &(impl Env + AllocGlobal)) -> Result<Vec<String>, Status> {
+    match env::args(rt) {
+        Ok(all) => all
+            .skip(1)
+            .collect(rt.alloc())
+            .map_err(|_| Status::NoMemory),
+        Err(error) if error.kind() == ErrorKind::OutOfMemory => Err(Status::NoMemory),
+        Err(_) => Err(Status::Usage),
+    }
+}
+
+/// The line for standard error: there is one for each status that isn't the script's own.
+fn message(status: Status) -> Option<&'static str>
+    ensures { is_some result ≡ nat_le 2 (status_number status) }
+{
+    match status {
+        Status::Done | Status::Refused(_, _) => None,
+        Status::Usage => Some("usage: spbsim run"),
+        Status::NoMemory => Some("spbsim: out of memory"),
+        Status::ReadFault => Some("spbsim: standard input can't be read"),
+        Status::WriteFault => Some("spbsim: standard output can't be written"),
+        Status::TooLong => Some("spbsim: the script has more than 65536 bytes"),
+    }
+}
+
+fn main(rt: HostRuntime) -> ExitCode {
+    let mut source = StdSource::new(rt.stdin());
+    let mut sink = StdSink::new(rt.stdout());
+    let status = match words(&rt) {
+        Ok(words) => run(rt.alloc(), &words, &mut source, &mut sink),
+        Err(status) => status,
+    };
+    if let Some(text) = message(status) {
+        let _ = eprintln!(rt; "{text}");
+    }
+    ExitCode::from(status.number())
+}
