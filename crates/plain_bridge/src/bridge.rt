@@ -6,14 +6,13 @@ ghost use Rattle.bridge_api.specs.Ticking.{after_tick, sent_in_tick};
 ghost use Rattle.bridge_api.specs.Step.{with_wire};
 ghost use Rattle.plain_bridge.specs.Plain as plain;
 
+use crate::hello::{hello_in, send_hellos};
+use crate::ports::{carry, clear_due, count_down, dark_ports, greet};
 use adjacency::Adjacency;
 use bridge_api::{Bridge, BridgeConfig, BridgePort, Kind, Outbox};
 use spb_types::{Attachment, BridgeId, Mac, NoMemory, Seq, SourceId, SystemId, VidPlan};
 use std::alloc::Global;
 use std::marker::Model;
-
-use crate::hello::{hello_in, send_hellos};
-use crate::ports::{carry, clear_due, count_down, dark_ports, greet};
 
 /// A bridge of the kind [`Kind::Plain`].
 #[derive(Debug, Drop)]

@@ -27,7 +27,12 @@ const FIRST_TLVS: [u8; 9] = [1, 4, 0x03, 0x49, 0x00, 0x01, 129, 1, 0xc1];
 const THREE_WAY: u8 = 240;
 
 /// Puts a hello into the outbox for each port with carrier, in order.
-pub(crate) fn send_hellos(alloc: Global, system: SystemId, ports: &[BridgePort], outbox: &mut Outbox) -> Result<(), NoMemory>
+pub(crate) fn send_hellos(
+    alloc: Global,
+    system: SystemId,
+    ports: &[BridgePort],
+    outbox: &mut Outbox,
+) -> Result<(), NoMemory>
     requires { length ports.now ≤ 32 }
     ensures { OnOk result (outbox.new ≡ with_wire (api.sent_from system 1 ports.now) outbox.old) }
 {
@@ -38,7 +43,13 @@ pub(crate) fn send_hellos(alloc: Global, system: SystemId, ports: &[BridgePort],
 }
 
 /// Puts a hello into the outbox if the port has carrier.
-fn send_hello(alloc: Global, system: SystemId, number: u8, port: &BridgePort, outbox: &mut Outbox) -> Result<(), NoMemory>
+fn send_hello(
+    alloc: Global,
+    system: SystemId,
+    number: u8,
+    port: &BridgePort,
+    outbox: &mut Outbox,
+) -> Result<(), NoMemory>
     ensures { OnOk result (outbox.new ≡ with_wire (api.sent_at system number port.now) outbox.old) }
 {
     if !port.adjacency.carrier {
@@ -49,7 +60,12 @@ fn send_hello(alloc: Global, system: SystemId, number: u8, port: &BridgePort, ou
 }
 
 /// The hello of a port, as a control frame.
-fn hello_frame(alloc: Global, system: SystemId, number: u8, port: &BridgePort) -> Result<Vec<u8>, NoMemory>
+fn hello_frame(
+    alloc: Global,
+    system: SystemId,
+    number: u8,
+    port: &BridgePort,
+) -> Result<Vec<u8>, NoMemory>
     ensures { IfOk result (λ frame. frame.items ≡ api.hello_frame system number port.now) }
 {
     let tlvs = hello_tlvs(alloc, &port.adjacency.three_way(number))?;

@@ -9,6 +9,3 @@ pub use bridge::PlainBridge;
 mod bridge;
 mod hello;
 mod ports;
-
-#[cfg(test)]
-mod tests;

@@ -19,7 +19,10 @@ use std::alloc::Global;
 pub(crate) fn dark_ports(alloc: Global, metrics: &[u32]) -> Result<Vec<BridgePort>, NoMemory>
     ensures { IfOk result (λ ports. ports.items ≡ map dark metrics.now) }
 {
-    let ports = metrics.iter().map(|metric| dark_port(*metric)).collect(alloc)?;
+    let ports = metrics
+        .iter()
+        .map(|metric| dark_port(*metric))
+        .collect(alloc)?;
     Ok(ports)
 }
 
