@@ -52,9 +52,9 @@ IsClean e = AreKept e.version e.lifetime e.body
 abbrev pub entry_of : Held → Entry
 entry_of h = record { version = h.version; lifetime = h.lifetime; body = h.body; srm = h.srm; ssn = h.ssn }
 
--- the entry that a held LSP is put in as
-abbrev pub put_as : Held → Entry
-put_as h = made h.version h.lifetime h.body h.srm h.ssn
+-- an entry with the lifetime and the body that its version is kept with
+abbrev pub cleaned : Entry → Entry
+cleaned e = made e.version e.lifetime e.body e.srm e.ssn
 
 -- all of a held LSP but its body
 abbrev pub row_of : Held → DbRow
@@ -63,6 +63,18 @@ row_of h = record { id = h.id; version = h.version; lifetime = h.lifetime; srm =
 -- a set of ports with this port put in or taken out
 abbrev pub switched : Bool → PortSet → ℕ → PortSet
 switched on set port = if on then with_port set port else without_port set port
+
+-- other flags
+abbrev pub with_flags : PortSet → PortSet → Entry → Entry
+with_flags srm ssn e = record e { srm = srm; ssn = ssn }
+
+-- a port put into the ports at which the LSP is to be sent, or taken out of them
+abbrev pub with_srm : ℕ → Bool → Entry → Entry
+with_srm port on e = record e { srm = switched on e.srm port }
+
+-- a port put into the ports at which the LSP is to be acknowledged, or taken out of them
+abbrev pub with_ssn : ℕ → Bool → Entry → Entry
+with_ssn port on e = record e { ssn = switched on e.ssn port }
 
 -- another version with its lifetime and body, at the flags that stand
 abbrev pub raised : Version → ℕ → List ℕ → Entry → Entry
@@ -100,6 +112,10 @@ flagged port e = record e { srm = with_port e.srm port }
 -- the LSP is to be sent at a port that has come up, unless it is absent
 abbrev pub joined : ℕ → Entry → Entry
 joined port e = if is_absent e.version then e else flagged port e
+
+-- an LSP that is dead at this number, and goes to every port of a set
+abbrev pub buried : ℕ → PortSet → Entry → Entry
+buried seq ports e = flooded ports (Dead seq) 0 []
 
 -- the flags of a port that is no longer Up are cleared
 abbrev pub parted : ℕ → Entry → Entry

@@ -1,4 +1,5 @@
 //! The laws of versions. Each is the contract of a function that does nothing.
+ghost use Rattle.lsdb.specs.CertificateLaws.{StandingIsCertified, StepsCompose, SilenceServesAll, StoringIsCertified, AckingIsCertified, ClearingIsCertified, EnteringIsCertified, AskingIsCertified, FlaggingIsCertified, FloodingIsCertified, AgeingIsCertified, PartingIsCertified, JoiningIsCertified, EntryStepsCompose, PlacingIsCertified, ChangingIsCertified, ChangingEachIsCertified};
 ghost use Rattle.lsdb.specs.Laws.{AtMostItself, SameBothWays, AtMostThrough, AbsentIsLeast, JoinIsAbove, JoinIsLeast, OlderIsBelow, NewerIsAbove, EqualIsSame, ConfusedIsNeither, ConfusedAreLive, ConfusedJoinIsDead, NumbersFollow, GreaterNumberIsAbove, AtOneNumber, NotAtMost};
 
 /// Versions are ordered, and absent is the least of them.
@@ -31,4 +32,33 @@ pub fn numbers_follow_the_order()
     ensures greater { GreaterNumberIsAbove }
     ensures same { AtOneNumber }
     ensures not { NotAtMost }
+{}
+
+/// A step in which nothing changes is certified, certified steps compose, and one without claims serves every port.
+pub fn certified_steps_compose()
+    ensures standing { StandingIsCertified }
+    ensures through { StepsCompose }
+    ensures silence { SilenceServesAll }
+    ensures entries { EntryStepsCompose }
+{}
+
+/// Each change that a bridge makes to an entry is certified.
+pub fn changes_of_an_entry_are_certified()
+    ensures storing { StoringIsCertified }
+    ensures acking { AckingIsCertified }
+    ensures clearing { ClearingIsCertified }
+    ensures entering { EnteringIsCertified }
+    ensures asking { AskingIsCertified }
+    ensures flagging { FlaggingIsCertified }
+    ensures flooding { FloodingIsCertified }
+    ensures ageing { AgeingIsCertified }
+    ensures parting { PartingIsCertified }
+    ensures joining { JoiningIsCertified }
+{}
+
+/// What is certified of entries is certified of the database.
+pub fn changes_of_a_database_are_certified()
+    ensures placing { PlacingIsCertified }
+    ensures changing { ChangingIsCertified }
+    ensures each { ChangingEachIsCertified }
 {}

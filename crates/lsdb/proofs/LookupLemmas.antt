@@ -1,0 +1,92 @@
+-- What stands under an id after a change of the map.
+use Rattle.std.specs.Prelude.{◌≡◌, Bool, true, false, ◌&&◌, ◌||◌, cond, T, List, [], ◌∷◌, map, Option, Some, None, nat_lt, is_some, if◌then◌else◌}
+use Rattle.std.proofs.Common.{refl, sym, ap, subst, ◌∙◌, ◌⊎◌, inl, inr, ⊎_elim}
+use Rattle.std.proofs.lemmas.Bool.{false≢true}
+use Rattle.std.specs.declared.cmp.Ordering.{Ordering}
+use Rattle.std.specs.declared.cmp.Ordering.TheVariants.{Less, Equal, Greater}
+use Rattle.std.specs.Ordering.{is_eq, is_lt}
+use Rattle.std.specs.Option.{option_map}
+use Rattle.std.specs.FinMap.{find, is_sorted, get, insert, entries, entries_sorted, get-from_sorted, get-entries, get-insert, len, same_map}
+use Rattle.std.specs.FinMap.Entries.{below_all}
+use Rattle.spb_types.specs.declared.address.LspId.{LspId}
+use Rattle.lsdb.specs.Entry.{Entry}
+use Rattle.lsdb.specs.Database.{Lsps, id_cmp, fits, placed, changed, changed_to, each}
+use Rattle.lsdb.proofs.Ids.{ids_total, ids_tied, tied_same}
+
+tied_is : (x y : LspId) → is_eq (id_cmp x y) ≡ true → x ≡ y
+tied_is x y e = ids_tied x y (equal_from (id_cmp x y) e)
+  where
+    equal_from : (o : Ordering) → is_eq o ≡ true → o ≡ Equal
+    equal_from Less e = cc
+    equal_from Equal e = refl
+    equal_from Greater e = cc
+
+-- an entry put in is under its id, and every other id has what it had
+pub get-insert_same : (db : Lsps) (id : LspId) (e : Entry) → get (insert db id e) id ≡ Some e
+get-insert_same db id e = get-insert ids_total db id e id ∙ ap (λ o. cond (is_eq o) (Some e) (get db id)) (tied_same id id refl)
+
+pub get-insert_other : (db : Lsps) (id : LspId) (e : Entry) (x : LspId) → (x ≡ id → ⊥) → get (insert db id e) x ≡ get db x
+get-insert_other db id e x apart = get-insert ids_total db id e x ∙ other (is_eq (id_cmp x id)) refl
+  where
+    other : (b : Bool) → is_eq (id_cmp x id) ≡ b → cond b (Some e) (get db x) ≡ get db x
+    other true t = absurd (apart (tied_is x id t))
+    other false t = refl
+
+-- two ids are one or not
+pub same_or_not : (x y : LspId) → (x ≡ y) ⊎ (x ≡ y → ⊥)
+same_or_not x y = by_test (is_eq (id_cmp x y)) refl
+  where
+    by_test : (b : Bool) → is_eq (id_cmp x y) ≡ b → (x ≡ y) ⊎ (x ≡ y → ⊥)
+    by_test true t = inl (tied_is x y t)
+    by_test false t = inr (λ e. false≢true (sym t ∙ ap is_eq (tied_same x y e)))
+
+-- the entry under an id after every entry was changed
+below_each : (x : LspId) (f : LspId → Entry → Entry) (es : List (LspId × Entry)) → below_all id_cmp x (map (λ e. (e.0, f e.0 e.1)) es) ≡ below_all id_cmp x es
+below_each x f [] = refl
+below_each x f (e ∷ es) = ap (λ b. is_lt (id_cmp x e.0) && b) (below_each x f es)
+
+sorted_each : (f : LspId → Entry → Entry) (es : List (LspId × Entry)) → is_sorted id_cmp (map (λ e. (e.0, f e.0 e.1)) es) ≡ is_sorted id_cmp es
+sorted_each f [] = refl
+sorted_each f (e ∷ es) = λ i. below_each e.0 f es i && sorted_each f es i
+
+find_each_at : (f : LspId → Entry → Entry) (e : LspId × Entry) (x : LspId) (m o : Option Entry) → m ≡ option_map (f x) o → (b : Bool) → is_eq (id_cmp x e.0) ≡ b → cond b (Some (f e.0 e.1)) m ≡ option_map (f x) (cond b (Some e.1) o)
+find_each_at f e x m o rest true t = ap (λ (y : LspId). Some (f y e.1)) (sym (tied_is x e.0 t))
+find_each_at f e x m o rest false t = rest
+
+find_each : (f : LspId → Entry → Entry) (es : List (LspId × Entry)) (x : LspId) → find id_cmp x (map (λ e. (e.0, f e.0 e.1)) es) ≡ option_map (f x) (find id_cmp x es)
+find_each f [] x = refl
+find_each f (e ∷ es) x = find_each_at f e x (find id_cmp x (map (λ d. (d.0, f d.0 d.1)) es)) (find id_cmp x es) (find_each f es x) (is_eq (id_cmp x e.0)) refl
+
+pub get-each : (f : LspId → Entry → Entry) (db : Lsps) (x : LspId) → get (each f db) x ≡ option_map (f x) (get db x)
+unfolding each
+get-each f db x =
+    let es = entries db in
+    get-from_sorted id_cmp (map (λ (e : LspId × Entry). (e.0, f e.0 e.1)) es) x (subst T (sym (sorted_each f es)) (entries_sorted db))
+    ∙ find_each f es x ∙ ap (option_map (f x)) (sym (get-entries db x))
+
+-- an entry changed twice, and an entry that is placed where the id is held
+pub insert-insert : (db : Lsps) (id : LspId) (e f : Entry) → insert (insert db id e) id f ≡ insert db id f
+insert-insert db id e f = same_map ids_total ids_tied (insert (insert db id e) id f) (insert db id f) (λ x. ⊎_elim
+    (λ here. subst (λ (y : LspId). get (insert (insert db id e) id f) y ≡ get (insert db id f) y) (sym here) (get-insert_same (insert db id e) id f ∙ sym (get-insert_same db id f)))
+    (λ elsewhere. get-insert_other (insert db id e) id f x elsewhere ∙ get-insert_other db id e x elsewhere ∙ sym (get-insert_other db id f x elsewhere))
+    (same_or_not x id))
+
+changed_twice : (f g : Entry → Entry) (db : Lsps) (id : LspId) (o : Option Entry) → get db id ≡ o → changed g (changed_to db id (option_map f o)) id ≡ changed_to db id (option_map (λ e. g (f e)) o)
+changed_twice f g db id None is = ap (λ o. changed_to db id (option_map g o)) is
+changed_twice f g db id (Some e) is =
+    ap (λ o. changed_to (insert db id (f e)) id (option_map g o)) (get-insert_same db id (f e)) ∙ insert-insert db id (f e) (g (f e))
+
+pub changed-changed : (f g : Entry → Entry) (db : Lsps) (id : LspId) → changed g (changed f db id) id ≡ changed (λ e. g (f e)) db id
+changed-changed f g db id = changed_twice f g db id (get db id) refl
+
+pub changed_held : (f : Entry → Entry) (db : Lsps) (id : LspId) (e : Entry) → get db id ≡ Some e → changed f db id ≡ insert db id (f e)
+changed_held f db id e is = ap (λ o. changed_to db id (option_map f o)) is
+
+pub changed_missing : (f : Entry → Entry) (db : Lsps) (id : LspId) → get db id ≡ None → changed f db id ≡ db
+changed_missing f db id is = ap (λ o. changed_to db id (option_map f o)) is
+
+pub fits_held : (db : Lsps) (id : LspId) (e : Entry) → get db id ≡ Some e → fits db id ≡ true
+fits_held db id e is = ap (λ o. is_some o || nat_lt (len db) 2048) is
+
+pub placed_held : (db : Lsps) (id : LspId) (e new : Entry) → get db id ≡ Some e → placed db id (Some new) ≡ insert db id new
+placed_held db id e new is = ap (λ b. if b then insert db id new else db) (fits_held db id e is)

@@ -1,0 +1,16 @@
+use Rattle.lsdb.proofs.Certified.{storing, acking, clearing, entering, asking, flagging, flooding, ageing, parting, joining}
+use Rattle.lsdb.proofs.laws.changes_of_an_entry_are_certified.Goals as goal
+
+pub returns : goal.returns
+returns c = record {
+  storing = storing;
+  acking = acking;
+  clearing = clearing;
+  entering = entering;
+  asking = asking;
+  flagging = flagging;
+  flooding = flooding;
+  ageing = ageing;
+  parting = parting;
+  joining = joining;
+}

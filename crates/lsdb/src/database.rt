@@ -1,0 +1,280 @@
+ghost use Rattle.std.specs.Prelude.{◌≡◌, ◌≤◌, ◌↔◌, ℕ, Some, None, false, IfOk, IfErr, IfSome, OnOk, OnErr, IsErrOf, IsNone, nat_eq, slice_get, map};
+ghost use Rattle.std.specs.Option.{option_map, option_copied};
+ghost use Rattle.std.specs.FinMap as finite;
+ghost use Rattle.std.specs.List.{AllByRecursion};
+ghost use Rattle.lsdb.specs.Version.{relation, is_absent};
+ghost use Rattle.lsdb.specs.Entry.{entry_of, CanBeHeld, IsClean, cleaned, with_flags, with_srm, with_ssn, raised, buried, parted, aged};
+ghost use Rattle.lsdb.specs.Database.{keyed, fits, version_at, changed, each};
+ghost use Rattle.lsdb.specs.Place.{AreSorted, IsAt, IsGap, with_entry};
+
+use crate::{Held, Relation, Version, item};
+use spb_types::{LspId, PortSet};
+use std::alloc::{AllocFailed, Global};
+use std::error::Error;
+use std::fmt;
+use std::marker::Model;
+
+/// The most LSPs that a database holds.
+const MOST: usize = 2048;
+
+/// The link state database of a bridge: at most 2,048 LSPs in order of id. Contracts see it as the finite map from ids
+/// to entries.
+#[derive(Debug, Drop)]
+pub struct Database {
+    held: Vec<Held>,
+}
+
+impl Model for Database {
+    ghost use Rattle.std.specs.Prelude.{map};
+    ghost use Rattle.std.specs.Coded.{codes};
+    ghost use Rattle.std.specs.FinMap.{from_sorted, code};
+    ghost use Rattle.lsdb.specs.Database.{Lsps, keyed};
+    ghost use Rattle.lsdb.specs.Place.{IsSound};
+
+    ghost Value = { Lsps };
+
+    ghost coded = { code (Prim.hlevel codes) (Prim.hlevel codes) };
+
+    ghost view = { λ d. from_sorted (map keyed d.held.items) };
+
+    ghost invariant = { λ d. IsSound d.held.items };
+}
+
+/// Why an LSP wasn't put in.
+#[derive(Clone, Copy, Debug, PartialEq, Eq, Hash)]
+pub enum PutError {
+    /// The id is new, and 2,048 ids are held.
+    Full,
+    /// No memory was found for a place.
+    NoMemory,
+}
+
+impl fmt::Display for PutError {
+    fn fmt<W: fmt::Write>(&self, f: &mut fmt::Formatter<W>) -> fmt::Result {
+        f.write_str(match self {
+            PutError::Full => "the database is full",
+            PutError::NoMemory => "out of memory",
+        })
+    }
+}
+
+impl Error for PutError {}
+
+impl<T: Drop> From<AllocFailed<T>> for PutError {
+    ghost use Rattle.lsdb.specs.declared.database.PutError.TheVariants.{NoMemory};
+
+    ghost from_gives = { λ _ e. e ≡ NoMemory };
+
+    fn from(_refused: AllocFailed<T>) -> Self {
+        PutError::NoMemory
+    }
+}
+
+/// Whether there was an LSP to raise.
+#[derive(Clone, Copy, Debug, PartialEq, Eq, Hash)]
+pub enum Raised {
+    /// It has the new version.
+    Raised,
+    /// The id isn't held.
+    NotHeld,
+}
+
+// Changes every LSP by `item::age`.
+fn age_all(held: &mut Vec<Held>, up: PortSet)
+    requires { AllByRecursion (λ h. IsClean (entry_of h)) held.old.items }
+    ensures { held.new.items ≡ map (with_entry (aged up)) held.old.items }
+{
+    for h in held.iter_mut() {
+        item::age(h, up);
+    }
+}
+
+// Changes every LSP by `item::part`.
+fn part_all(held: &mut Vec<Held>, port: u8)
+    requires low { 1 ≤ port }
+    requires high { port ≤ 32 }
+    ensures { held.new.items ≡ map (with_entry (parted port)) held.old.items }
+{
+    for h in held.iter_mut() {
+        item::part(h, port);
+    }
+}
+
+// Where the id stands, or where it would go.
+fn place_of(held: &[Held], id: &LspId) -> Result<usize, usize>
+    requires { AreSorted held.now }
+    ensures found { IfOk result (IsAt held.now id.now) }
+    ensures absent { IfErr result (IsGap held.now id.now) }
+{
+    held.binary_search_by_key(id, |h| h.id)
+}
+
+impl Database {
+    /// The empty database, which takes no memory.
+    pub fn new(alloc: Global) -> Self
+        ensures { result ≡ finite.empty }
+    {
+        Database {
+            held: Vec::new(alloc),
+        }
+    }
+
+    /// How many ids are held, at most 2,048.
+    pub fn len(&self) -> usize
+        ensures len { result ≡ finite.len self.now }
+        ensures few { result ≤ 2048 }
+    {
+        self.held.len()
+    }
+
+    /// Whether no id is held.
+    pub fn is_empty(&self) -> bool
+        ensures { result ≡ nat_eq (finite.len self.now) 0 }
+    {
+        self.len() == 0
+    }
+
+    /// The LSP at a place, counted from 0 in order of id. None exactly where the place is past the last.
+    pub fn at(&self, place: usize) -> Option<&Held>
+        ensures entry { option_map keyed (option_copied result) ≡ slice_get (finite.entries self.now) place }
+        ensures clean { IfSome result (λ h. IsClean (entry_of h.now)) }
+    {
+        if place < self.held.len() {
+            Some(&self.held[place])
+        } else {
+            None
+        }
+    }
+
+    /// The LSP under an id. None exactly where the id isn't held.
+    pub fn find(&self, id: &LspId) -> Option<&Held>
+        ensures entry { option_map entry_of (option_copied result) ≡ finite.get self.now id.now }
+        ensures id { IfSome result (λ h. h.now.id ≡ id.now) }
+        ensures clean { IfSome result (λ h. IsClean (entry_of h.now)) }
+    {
+        match place_of(&self.held, id) {
+            Ok(place) => Some(&self.held[place]),
+            Err(_) => None,
+        }
+    }
+
+    /// The version under an id, absent where the id isn't held.
+    pub fn version_at(&self, id: &LspId) -> Version
+        ensures { result ≡ version_at self.now id.now }
+    {
+        match self.find(id) {
+            Some(held) => held.version,
+            None => Version::Absent,
+        }
+    }
+
+    /// Puts an LSP in, in place of the one that is held under its id. A dead one is kept with lifetime 0 and the body 01,
+    /// and an absent one with neither. A live one has a lifetime of at least 1, and all but an absent one have a body.
+    ///
+    /// `Full` exactly where the id is new and 2,048 ids are held. After an error the database is as it was.
+    pub fn put(&mut self, held: Held) -> Result<(), PutError>
+        requires { CanBeHeld held.version held.lifetime held.body }
+        ensures ok { OnOk result (self.new ≡ finite.insert self.old held.id (cleaned (entry_of held))) }
+        ensures full { IsErrOf result PutError.Full ↔ (fits self.old held.id ≡ false) }
+        ensures err { OnErr result (self.new ≡ self.old) }
+    {
+        let mut held = held;
+        item::clean(&mut held);
+        match place_of(&self.held, &held.id) {
+            Ok(place) => {
+                self.held[place] = held;
+                Ok(())
+            }
+            Err(place) => {
+                if self.held.len() >= MOST {
+                    return Err(PutError::Full);
+                }
+                self.held.insert(place, held)?;
+                Ok(())
+            }
+        }
+    }
+
+    /// Gives the LSP under an id a newer version, lifetime and body; its flags stay. A dead one is kept with lifetime 0
+    /// and the body 01. `to` is newer than what is held, a live one has a lifetime of at least 1, and the body at least
+    /// one byte. Takes no memory.
+    pub fn raise(&mut self, id: &LspId, to: Version, lifetime: u16, body: Vec<u8>) -> Raised
+        requires newer { relation to (version_at self.old id.now) ≡ Relation.Newer }
+        requires can { CanBeHeld to lifetime body.items }
+        ensures held { (result ≡ Raised.NotHeld) ↔ IsNone (finite.get self.old id.now) }
+        ensures entry { self.new ≡ changed (raised to lifetime body.items) self.old id.now }
+    {
+        match place_of(&self.held, id) {
+            Ok(place) => {
+                item::raise(&mut self.held[place], to, lifetime, body);
+                Raised::Raised
+            }
+            Err(_) => Raised::NotHeld,
+        }
+    }
+
+    /// Gives the LSP under an id these flags. Nothing happens where the id isn't held.
+    pub fn set_flags(&mut self, id: &LspId, srm: PortSet, ssn: PortSet)
+        ensures { self.new ≡ changed (with_flags srm ssn) self.old id.now }
+    {
+        match place_of(&self.held, id) {
+            Ok(place) => item::set_flags(&mut self.held[place], srm, ssn),
+            Err(_) => {}
+        }
+    }
+
+    /// Makes the LSP under an id dead at this number, to be sent at these ports and acknowledged at none. The id is held,
+    /// and not as absent. Takes no memory.
+    pub fn bury(&mut self, id: &LspId, seq: u32, srm: PortSet)
+        requires { is_absent (version_at self.old id.now) ≡ false }
+        ensures { self.new ≡ changed (buried seq srm) self.old id.now }
+    {
+        match place_of(&self.held, id) {
+            Ok(place) => item::bury(&mut self.held[place], seq, srm),
+            Err(_) => {}
+        }
+    }
+
+    /// Puts a port, 1 to 32, into the ports at which the LSP under an id is to be sent, or takes it out of them. Nothing
+    /// happens where the id isn't held.
+    pub fn set_srm(&mut self, id: &LspId, port: u8, on: bool)
+        requires low { 1 ≤ port }
+        requires high { port ≤ 32 }
+        ensures { self.new ≡ changed (with_srm port on) self.old id.now }
+    {
+        match place_of(&self.held, id) {
+            Ok(place) => item::set_srm(&mut self.held[place], port, on),
+            Err(_) => {}
+        }
+    }
+
+    /// Puts a port, 1 to 32, into the ports at which the LSP under an id is to be acknowledged, or takes it out of them.
+    /// Nothing happens where the id isn't held.
+    pub fn set_ssn(&mut self, id: &LspId, port: u8, on: bool)
+        requires low { 1 ≤ port }
+        requires high { port ≤ 32 }
+        ensures { self.new ≡ changed (with_ssn port on) self.old id.now }
+    {
+        match place_of(&self.held, id) {
+            Ok(place) => item::set_ssn(&mut self.held[place], port, on),
+            Err(_) => {}
+        }
+    }
+
+    /// Takes a port, 1 to 32, out of the flags of every LSP.
+    pub fn clear_port(&mut self, port: u8)
+        requires low { 1 ≤ port }
+        requires high { port ≤ 32 }
+        ensures { self.new ≡ each (λ id e. parted port e) self.old }
+    {
+        part_all(&mut self.held, port);
+    }
+
+    /// A second passes: each live lifetime falls by one. At 0 the LSP is dead at its number, with lifetime 0 and the body
+    /// 01, and is to be sent at every Up port; where it is to be acknowledged stays. Takes no memory.
+    pub fn age_one(&mut self, up: PortSet)
+        ensures { self.new ≡ each (λ id e. aged up e) self.old }
+    {
+        age_all(&mut self.held, up);
+    }
+}

@@ -1,0 +1,120 @@
+//! Changes of one held LSP. None takes memory.
+ghost use Rattle.std.specs.Prelude.{◌≡◌, ◌≤◌, ◌∷◌, [], ℕ, length};
+ghost use Rattle.lsdb.specs.Entry as entry;
+ghost use Rattle.lsdb.specs.Entry.{entry_of, CanBeHeld, IsClean, cleaned, raised, with_flags, buried, with_srm, with_ssn, parted, aged};
+ghost use Rattle.lsdb.specs.Place.{with_entry};
+
+use crate::{Held, Version};
+use spb_types::{PortSet, Seq};
+
+// Leaves the flags octet of a dead LSP alone.
+fn keep_flags_octet(body: &mut Seq<u8>)
+    requires { 1 ≤ length body.old }
+    ensures { body.new ≡ 1 ∷ [] }
+{
+    body.truncate(1);
+    body.set(0, 1);
+}
+
+/// Gives the LSP the lifetime and the body that its version is kept with.
+pub fn clean(held: &mut Held)
+    requires { CanBeHeld held.old.version held.old.lifetime held.old.body }
+    ensures { held.new ≡ with_entry cleaned held.old }
+{
+    match held.version {
+        Version::Absent => {
+            held.lifetime = 0;
+            held.body.truncate(0);
+        }
+        Version::Live { seq: _, sum: _ } => {}
+        Version::Dead { seq: _ } => {
+            held.lifetime = 0;
+            keep_flags_octet(&mut held.body);
+        }
+    }
+}
+
+/// Gives the LSP another version, lifetime and body.
+pub fn raise(held: &mut Held, to: Version, lifetime: u16, body: Vec<u8>)
+    requires { CanBeHeld to lifetime body.items }
+    ensures { held.new ≡ with_entry (raised to lifetime body.items) held.old }
+{
+    held.version = to;
+    held.lifetime = lifetime;
+    held.body = Seq::from_vec(body);
+    clean(held);
+}
+
+/// Gives the LSP these flags.
+pub fn set_flags(held: &mut Held, srm: PortSet, ssn: PortSet)
+    ensures { held.new ≡ with_entry (with_flags srm ssn) held.old }
+{
+    held.srm = srm;
+    held.ssn = ssn;
+}
+
+/// Makes the LSP dead at this number, to be sent at these ports.
+pub fn bury(held: &mut Held, seq: u32, srm: PortSet)
+    requires { 1 ≤ length held.old.body }
+    ensures { held.new ≡ with_entry (buried seq srm) held.old }
+{
+    held.version = Version::Dead { seq };
+    clean(held);
+    set_flags(held, srm, PortSet::none());
+}
+
+fn switched(ports: PortSet, port: u8, on: bool) -> PortSet
+    requires low { 1 ≤ port }
+    requires high { port ≤ 32 }
+    ensures { result ≡ entry.switched on ports port }
+{
+    if on {
+        ports.with(port)
+    } else {
+        ports.without(port)
+    }
+}
+
+/// Puts a port into the ports at which the LSP is to be sent, or takes it out.
+pub fn set_srm(held: &mut Held, port: u8, on: bool)
+    requires low { 1 ≤ port }
+    requires high { port ≤ 32 }
+    ensures { held.new ≡ with_entry (with_srm port on) held.old }
+{
+    held.srm = switched(held.srm, port, on);
+}
+
+/// Puts a port into the ports at which the LSP is to be acknowledged, or takes it out.
+pub fn set_ssn(held: &mut Held, port: u8, on: bool)
+    requires low { 1 ≤ port }
+    requires high { port ≤ 32 }
+    ensures { held.new ≡ with_entry (with_ssn port on) held.old }
+{
+    held.ssn = switched(held.ssn, port, on);
+}
+
+/// Takes a port out of the flags.
+pub fn part(held: &mut Held, port: u8)
+    requires low { 1 ≤ port }
+    requires high { port ≤ 32 }
+    ensures { held.new ≡ with_entry (parted port) held.old }
+{
+    held.srm = held.srm.without(port);
+    held.ssn = held.ssn.without(port);
+}
+
+/// Lets a second pass. Where a live LSP's lifetime ends it is dead, and to be sent at every Up port.
+pub fn age(held: &mut Held, up: PortSet)
+    requires { IsClean (entry_of held.old) }
+    ensures { held.new ≡ with_entry (aged up) held.old }
+{
+    if let Version::Live { seq, sum: _ } = held.version {
+        if held.lifetime <= 1 {
+            held.version = Version::Dead { seq };
+            clean(held);
+            held.srm = up;
+        } else {
+            held.lifetime -= 1;
+        }
+    }
+}
