@@ -5,3 +5,4 @@ pub mod Tables
 pub mod Database
 pub mod Adjacencies
 pub mod Lines
+pub mod Laws
