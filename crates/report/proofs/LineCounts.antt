@@ -1,6 +1,5 @@
 -- How many lines the answers have.
 use Rattle.std.proofs.Common.{◌≡◌, ℕ, ◌+◌, Bool, true, false, List, [], ◌∷◌, ◌++◌, length, map, refl, sym, ap, subst, ◌∙◌, arith, if◌then◌else◌, codes, decimal, append-nil, append_assoc, Option, Some, None}
-use Rattle.std.specs.Prelude.{⊤, All}
 use Rattle.std.specs.Int.{w16, to_be_bytes}
 use Rattle.std.specs.List.{flat_map, enumerate_from, AllByRecursion}
 use Rattle.std.proofs.lemmas.List.Elements.{recursion_from_All}
@@ -14,15 +13,14 @@ use Rattle.lsdb.specs.declared.version.Version.TheVariants.{Absent, Live, Dead}
 use Rattle.adjacency.specs.declared.state.AdjState.{AdjState}
 use Rattle.adjacency.specs.declared.state.AdjState.TheVariants.{Down, Initializing, Up}
 use Rattle.adjacency.specs.declared.port.Adjacency.{Adjacency}
-use Rattle.spb_types.specs.declared.ports.PortSet.{PortSet}
 use Rattle.hex.specs.Hex.{encode_lower}
 use Rattle.report.specs.Words.{spaced, line}
 use Rattle.report.specs.Ports.{ports_text}
 use Rattle.report.specs.Tables.{unicast_line, group_line, quiet_words, tables_head, tables_text}
-use Rattle.report.specs.Database.{id_text, sum_text, version_words, held_line, db_text}
+use Rattle.report.specs.Database.{id_text, version_words, held_line, db_text}
 use Rattle.report.specs.Adjacencies.{due_text, neighbour_words, state_words, adjacency_words, port_line, port_lines, adj_text}
 use Rattle.report.specs.Lines as lines
-use Rattle.report.specs.Laws.{newlines, LacksNewline, IsName, HasLines, TablesHaveLines, DatabaseHasLines, AdjacenciesHaveLines, PathIsLine, OutIsLine, StateIsLine, ErrorIsLine}
+use Rattle.report.specs.Laws.{LacksNewline, IsName, HasLines, TablesHaveLines, DatabaseHasLines, AdjacenciesHaveLines, PathIsLine, OutIsLine, StateIsLine, ErrorIsLine}
 use Rattle.report.proofs.Newlines.{newlines-append, append_lacks, spaced_lack, decimal_lacks, hex_lacks, name_lacks, ports_lack}
 
 -- words without LF, one list after another
@@ -98,9 +96,10 @@ held_is_line : (r : DbRow) → HasLines 1 (held_line r)
 unfolding held_line
 held_is_line r =
     let flags = codes "srm" ∷ ports_text r.srm ∷ codes "ssn" ∷ ports_text r.ssn ∷ [] in
-    is_line (codes "l") (id_text r.id ∷ version_words r.version r.lifetime ++ flags) refl
-    (hex_lacks (r.id.system.mac.bytes ++ r.id.pseudonode ∷ r.id.number ∷ []),
-      words-append (version_words r.version r.lifetime) flags (version_lacks r.version r.lifetime) (refl, (ports_lack r.srm, (refl, (ports_lack r.ssn, tt)))))
+    is_line (codes "l") (id_text r.id ∷ version_words r.version r.lifetime ++ flags) refl (
+      hex_lacks (r.id.system.mac.bytes ++ r.id.pseudonode ∷ r.id.number ∷ []),
+      words-append (version_words r.version r.lifetime) flags (version_lacks r.version r.lifetime) (refl, (ports_lack r.srm, (refl, (ports_lack r.ssn, tt)))),
+    )
 
 pub database_has_lines : DatabaseHasLines
 unfolding db_text

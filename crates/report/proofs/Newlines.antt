@@ -1,6 +1,6 @@
 -- How often LF stands in the parts of a line.
 use Rattle.std.proofs.Common.{◌≡◌, ℕ, zero, suc, ◌+◌, ◌/◌, ◌%◌, Bool, true, false, not, ◌&&◌, List, [], ◌∷◌, ◌++◌, get_or, refl, sym, ap, subst, ◌∙◌, arith, if◌then◌else◌, codes, decimal}
-use Rattle.std.specs.Prelude.{◌==◌, nat_le, ⊤, length}
+use Rattle.std.specs.Prelude.{◌==◌, nat_le, length}
 use Rattle.std.specs.List.{flat_map, list_all, AllByRecursion}
 use Rattle.std.specs.Fmt.{digits, digits_onto, digit_glyph}
 use Rattle.std.proofs.lemmas.Bool.{and_parts, eqb-true}
@@ -8,7 +8,7 @@ use Rattle.std.proofs.lemmas.Bool.Decides.{nat_tests}
 use Rattle.std.proofs.lemmas.List.Sums.{sum_by-append, sum_by-cons}
 use Rattle.hex.specs.Hex.{encode_lower, encode_with, lower_digits}
 use Rattle.spb_types.specs.declared.ports.PortSet.{PortSet}
-use Rattle.spb_types.specs.Name.{is_name, is_name_byte, is_letter}
+use Rattle.spb_types.specs.Name.{is_name_byte, is_letter}
 use Rattle.report.specs.Words.{spaced}
 use Rattle.report.specs.Ports.{ports_of, listed, ports_text}
 use Rattle.report.specs.Laws.{newlines, LacksNewline, IsName}

@@ -9,7 +9,7 @@ use Rattle.spb_types.specs.declared.ports.PortSet.{PortSet}
 use Rattle.spb_types.specs.Ports.{has}
 use Rattle.spb_types.proofs.PortLemmas.{has_port}
 use Rattle.report.specs.Ports.{ports_among}
-use Rattle.report.specs.Laws.{ListsPorts, PortsAreThoseOfTheSet}
+use Rattle.report.specs.Laws.{PortsAreThoseOfTheSet}
 
 -- an element that passes the test stands among those that do
 Contains-filter : (p : ℕ → Bool) (xs : List ℕ) (i : ℕ) → i < length xs → p (get_or xs i 0) ≡ true → Contains (filter p xs) (get_or xs i 0)

@@ -4,7 +4,7 @@ use Rattle.std.specs.List.{flat_map, range_with_len}
 use Rattle.spb_types.specs.declared.ports.PortSet.{PortSet}
 use Rattle.spb_types.specs.Ports.{has}
 
--- the ports of a set from 1 on, of the first `count` that there are, ascending
+-- those of the numbers from 1 to `count` that are ports of the set, ascending
 unfoldable pub ports_among : PortSet → ℕ → List ℕ
 ports_among set count = filter (has set) (range_with_len 1 count)
 

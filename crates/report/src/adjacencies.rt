@@ -12,11 +12,7 @@ use std::alloc::Global;
 /// line of `adj`, the bridge's name and the number of ports; then, for each port, `p PORT` and `off` without carrier,
 /// `down`, `init SYSTEM CIRCUIT HOLD -`, or `up SYSTEM CIRCUIT HOLD` and `due` or `-`.
 #[tactic(auto, unfolding(crate::specs::Adjacencies::adj_text))]
-pub fn adj_text(
-    alloc: Global,
-    name: Name,
-    ports: &[(Adjacency, bool)],
-) -> Result<Vec<u8>, NoMemory>
+pub fn adj_text(alloc: Global, name: Name, ports: &[(Adjacency, bool)]) -> Result<Vec<u8>, NoMemory>
     ensures { IfOk result (λ bytes. bytes.items ≡ texts.adj_text name ports.now) }
 {
     let mut text = Text::new(alloc);
@@ -81,5 +77,9 @@ fn put_neighbour(text: &mut Text, adjacency: &Adjacency) -> Result<(), NoMemory>
 fn put_due(text: &mut Text, due: bool) -> Result<(), NoMemory>
     ensures { OnOk result (text.new ≡ text.old ++ spaced (texts.due_text due)) }
 {
-    if due { text.word(b"due") } else { text.word(b"-") }
+    if due {
+        text.word(b"due")
+    } else {
+        text.word(b"-")
+    }
 }

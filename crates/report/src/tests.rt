@@ -33,11 +33,7 @@ const fn group(bytes: [u8; 6], bits: u32) -> GroupRow {
     }
 }
 
-fn tables(
-    alloc: Global,
-    unicast: &[UnicastRow],
-    group: &[GroupRow],
-) -> Result<Tables, AllocError> {
+fn tables(alloc: Global, unicast: &[UnicastRow], group: &[GroupRow]) -> Result<Tables, AllocError> {
     Ok(Tables {
         unicast: Seq::from_vec(Vec::from_slice(alloc, unicast)?),
         group: Seq::from_vec(Vec::from_slice(alloc, group)?),
@@ -73,12 +69,19 @@ const fn kept(state: AdjState, last: u8, circuit: u32, hold: u16) -> Adjacency {
 }
 
 #[test]
-fn tables_of_the_wiring(rt: HostRuntime) -> Result<(), Fail> {
+fn tables_are_counts_and_rows(rt: HostRuntime) -> Result<(), Fail> {
     let alloc = rt.alloc();
     let rows = tables(alloc, &[unicast(2, 1)], &[])?;
     let text = tables_text(alloc, "wiring", name("A")?, None, &rows)?;
-    assert_eq!(rt; text.as_slice(), b"wiring A 1 0\nu 10 020000000002 1\n".as_slice());
-    let rows = tables(alloc, &[unicast(2, 1)], &[group([0xf3, 0x30, 0x13, 0, 0, 100], 1)])?;
+    assert_eq!(rt;
+        text.as_slice(),
+        b"wiring A 1 0\nu 10 020000000002 1\n".as_slice()
+    );
+    let rows = tables(
+        alloc,
+        &[unicast(2, 1)],
+        &[group([0xf3, 0x30, 0x13, 0, 0, 100], 1)],
+    )?;
     let text = tables_text(alloc, "wiring", name("X")?, None, &rows)?;
     assert_eq!(rt;
         text.as_slice(),
@@ -88,13 +91,16 @@ fn tables_of_the_wiring(rt: HostRuntime) -> Result<(), Fail> {
 }
 
 #[test]
-fn tables_of_a_bridge(rt: HostRuntime) -> Result<(), Fail> {
+fn tables_of_a_bridge_say_quiet_or_busy(rt: HostRuntime) -> Result<(), Fail> {
     let alloc = rt.alloc();
     let none = tables(alloc, &[], &[])?;
     let text = tables_text(alloc, "show", name("A")?, Some(true), &none)?;
     assert_eq!(rt; text.as_slice(), b"show A quiet 0 0\n".as_slice());
     let text = tables_text(alloc, "show", name("long-name_16byte")?, Some(false), &none)?;
-    assert_eq!(rt; text.as_slice(), b"show long-name_16byte busy 0 0\n".as_slice());
+    assert_eq!(rt;
+        text.as_slice(),
+        b"show long-name_16byte busy 0 0\n".as_slice()
+    );
     let rows = tables(
         alloc,
         &[
@@ -125,7 +131,7 @@ fn tables_of_a_bridge(rt: HostRuntime) -> Result<(), Fail> {
 }
 
 #[test]
-fn a_database(rt: HostRuntime) -> Result<(), Fail> {
+fn a_database_lists_live_dead_and_absent_ids(rt: HostRuntime) -> Result<(), Fail> {
     let live = Version::Live {
         seq: 2,
         sum: 0xa512,
@@ -152,7 +158,7 @@ fn a_database(rt: HostRuntime) -> Result<(), Fail> {
 }
 
 #[test]
-fn adjacencies(rt: HostRuntime) -> Result<(), Fail> {
+fn adjacencies_are_listed_by_state(rt: HostRuntime) -> Result<(), Fail> {
     let ports = [
         (Adjacency::down(false), false),
         (Adjacency::down(true), false),
@@ -174,7 +180,7 @@ fn adjacencies(rt: HostRuntime) -> Result<(), Fail> {
 }
 
 #[test]
-fn a_path(rt: HostRuntime) -> Result<(), Fail> {
+fn a_path_is_cost_hops_and_names_or_none(rt: HostRuntime) -> Result<(), Fail> {
     let alloc = rt.alloc();
     let (a, b, d) = (name("A")?, name("B")?, name("D")?);
     let text = path_text(alloc, a, d, VID, 20, &[a, b, d])?;
@@ -187,7 +193,7 @@ fn a_path(rt: HostRuntime) -> Result<(), Fail> {
 }
 
 #[test]
-fn a_frame_that_leaves(rt: HostRuntime) -> Result<(), Fail> {
+fn a_frame_that_leaves_is_hexadecimal(rt: HostRuntime) -> Result<(), Fail> {
     let frame = [
         0xff, 0xff, 0xff, 0xff, 0xff, 0xff, 0x0a, 0, 0, 0, 0, 0x01, 0x08, 0,
     ];
@@ -200,7 +206,7 @@ fn a_frame_that_leaves(rt: HostRuntime) -> Result<(), Fail> {
 }
 
 #[test]
-fn a_state(rt: HostRuntime) -> Result<(), Fail> {
+fn a_state_names_the_conditions_that_fail(rt: HostRuntime) -> Result<(), Fail> {
     let text = state_text(rt.alloc(), &[])?;
     assert_eq!(rt; text.as_slice(), b"state quiet\n".as_slice());
     let text = state_text(rt.alloc(), &[1, 3])?;
@@ -209,7 +215,7 @@ fn a_state(rt: HostRuntime) -> Result<(), Fail> {
 }
 
 #[test]
-fn a_refused_line(rt: HostRuntime) -> Result<(), Fail> {
+fn a_refused_line_has_a_column_if_given(rt: HostRuntime) -> Result<(), Fail> {
     let text = error_text(rt.alloc(), 1, 1, "Words", Some(8))?;
     assert_eq!(rt; text.as_slice(), b"error 1 1 Words 8\n".as_slice());
     let text = error_text(rt.alloc(), 4, 11, "NoFrame", None)?;

@@ -3,16 +3,14 @@ ghost use Rattle.spb_types.specs.Ports.{has};
 ghost use Rattle.hex.specs.Hex.{encode_lower};
 ghost use Rattle.report.specs.Words.{spaced};
 ghost use Rattle.report.specs.Ports.{ports_among, ports_text};
-ghost use Rattle.report.specs.Listing.{separated, separator_after};
+ghost use Rattle.report.specs.Listing.{comma, separated, separator_after};
 
 use itoa::Buffer;
 use spb_types::{NoMemory, PortSet};
 use std::alloc::Global;
 use std::marker::Model;
 
-/// A text that grows word by word. Contracts see its bytes.
-///
-/// Each call but `new`, `into_bytes` and `begin` writes what it names behind the text so far.
+/// A text that grows word by word: each call that changes it writes behind what stands there. Contracts see its bytes.
 #[derive(Drop)]
 pub(crate) struct Text {
     bytes: Vec<u8>,
@@ -43,7 +41,7 @@ impl Text {
         self.bytes
     }
 
-    /// Bytes as they are: the first word of a line.
+    /// Bytes as they are, as the first word of a line.
     pub(crate) fn push(&mut self, bytes: &[u8]) -> Result<(), NoMemory>
         ensures { OnOk result (self.new ≡ self.old ++ bytes.now) }
     {
@@ -131,7 +129,7 @@ impl Text {
         requires high { port ≤ 32 }
         ensures text { OnOk result
             (self.new ≡ self.old ++ (if has ports port then separator ∷ decimal port else [])) }
-        ensures next { IfOk result (λ next. next ≡ (if has ports port then 44 else separator)) }
+        ensures next { IfOk result (λ next. next ≡ (if has ports port then comma else separator)) }
     {
         if !ports.has(port) {
             return Ok(separator);

@@ -1,5 +1,5 @@
 use Rattle.std.proofs.Common.{◌-◌}
-use Rattle.report.specs.Listing.{Separates}
+use Rattle.report.proofs.PortText.{Separates}
 use Rattle.report.proofs.text.Text.separated_ports.Given as goal
 
 abbrev pub invariant-loop-port : goal.invariant-loop-port
