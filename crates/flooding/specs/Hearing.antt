@@ -1,5 +1,5 @@
 -- What an LSP, or an entry of an SNP, changes where it is heard (ISO/IEC 10589, 7.3.15.1 and 7.3.15.2).
-use Rattle.std.specs.Prelude.{ℕ, List, [], ◌∷◌, Bool, true, false, ◌&&◌, not, Option, Some, None, if◌then◌else◌}
+use Rattle.std.specs.Prelude.{ℕ, List, ◌∷◌, Bool, true, false, ◌&&◌, not, Option, Some, None, if◌then◌else◌}
 use Rattle.std.specs.Option.{option_map}
 use Rattle.std.specs.FinMap.{get}
 use Rattle.spb_types.specs.declared.address.LspId.{LspId}
@@ -7,15 +7,14 @@ use Rattle.spb_types.specs.declared.ports.PortSet.{PortSet}
 use Rattle.spb_types.specs.Address.{same_system}
 use Rattle.isis_pdu.specs.Pdu.{LspValue}
 use Rattle.lsdb.specs.declared.version.Version.{Version}
-use Rattle.lsdb.specs.declared.version.Version.TheVariants.{Dead}
 use Rattle.lsdb.specs.declared.version.Relation.{Relation}
 use Rattle.lsdb.specs.declared.version.Relation.TheVariants.{Older, Equal, Newer, Confused}
 use Rattle.lsdb.specs.Version.{number_of, is_absent, relation, claimed}
-use Rattle.lsdb.specs.Entry.{Entry, stored, flooded, entered, acked, cleared, asked}
+use Rattle.lsdb.specs.Entry.{Entry, stored, entered, acked, cleared, asked}
 use Rattle.lsdb.specs.Database.{Lsps, version_in, fits, placed}
 use Rattle.lsdb.specs.Certificate.{Claim}
 use Rattle.flooding.specs.declared.own.Own.{Own}
-use Rattle.flooding.specs.Own.{answered, answering}
+use Rattle.flooding.specs.Own.{ended, answered, answering}
 
 -- what an LSP says of its sender: it holds this version of this id
 abbrev pub claim_of : LspValue → Claim
@@ -29,17 +28,14 @@ body_of l = l.flags ∷ l.tlvs
 abbrev pub unless_absent : (Entry → Entry) → Entry → Entry
 unless_absent f e = if is_absent e.version then e else f e
 
--- both versions are live, with one number and two checksums: neither can stand, and the dead one goes to every Up port
-abbrev pub dead_at : PortSet → Version → Entry
-dead_at up a = flooded up (Dead (number_of a)) 0 []
-
 -- what an LSP heard at a port makes of what is held under its id, by the relation of its version to the held one:
--- a newer one is stored; the same one is acknowledged; of an older one the neighbour gets what is held
+-- a newer one is stored; the same one is acknowledged; of an older one the neighbour gets what is held; and confused ones
+-- can't stand, so the dead one of their number goes to every Up port
 abbrev pub lsp_row : PortSet → ℕ → LspValue → Relation → Option Entry → Option Entry
 lsp_row up port l Newer held = Some (stored up port (claimed l.seq l.lifetime l.sum) l.lifetime (body_of l))
 lsp_row up port l Equal held = option_map (unless_absent (acked port)) held
 lsp_row up port l Older held = option_map (asked port) held
-lsp_row up port l Confused held = Some (dead_at up (claimed l.seq l.lifetime l.sum))
+lsp_row up port l Confused held = Some (ended up l.seq)
 
 -- a newer version that a neighbour has is asked for at its port; an id that isn't held is entered as absent for it
 abbrev pub wanted : ℕ → Option Entry → Entry
@@ -47,12 +43,12 @@ wanted port None = entered port
 wanted port (Some e) = acked port e
 
 -- what an entry of an SNP heard at a port makes of what is held under its id: a newer version is asked for; the same
--- one needn't be sent there; of an older one the neighbour gets what is held
+-- one needn't be sent there; of an older one the neighbour gets what is held; and confused ones end as above
 abbrev pub snp_row : PortSet → ℕ → Version → Relation → Option Entry → Option Entry
 snp_row up port a Newer held = Some (wanted port held)
 snp_row up port a Equal held = option_map (unless_absent (cleared port)) held
 snp_row up port a Older held = option_map (asked port) held
-snp_row up port a Confused held = Some (dead_at up a)
+snp_row up port a Confused held = Some (ended up (number_of a))
 
 -- a claim that isn't equal to what is held, nor older
 abbrev pub is_beyond : Relation → Bool
