@@ -1,7 +1,7 @@
 ghost use Rattle.std.specs.Prelude.{◌≡◌, ◌≤◌, Some, true, false, length, OnOk, OnErr};
 ghost use Rattle.std.specs.FinMap.{get};
 ghost use Rattle.lsdb.specs.Version.{is_absent};
-ghost use Rattle.lsdb.specs.Database.{version_at, fits, placed};
+ghost use Rattle.lsdb.specs.Database.{version_at, ssn_in, fits, placed};
 ghost use Rattle.flooding.specs.Own.{own_id};
 ghost use Rattle.flooding.specs.Origination.{spent_entry, originated};
 ghost use Rattle.flooding.specs.Placing.{holding};
@@ -46,10 +46,17 @@ fn spend(db: &mut Database, up: PortSet, id: &LspId)
     requires { is_absent (version_at db.old id.now) ≡ false }
     ensures { db.new ≡ placed db.old id.now (Some (spent_entry up (get db.old id.now))) }
 {
-    let ssn = match db.find(id) {
-        Some(held) => held.ssn,
-        None => PortSet::none(),
-    };
+    let ssn = ssn_at(db, id);
     db.bury(id, u32::MAX, up);
     db.set_flags(id, up, ssn);
+}
+
+/// The ports at which the LSP under an id is to be acknowledged; none where the id isn't held.
+fn ssn_at(db: &Database, id: &LspId) -> PortSet
+    ensures { result ≡ ssn_in (get db.now id.now) }
+{
+    match db.find(id) {
+        Some(held) => held.ssn,
+        None => PortSet::none(),
+    }
 }
