@@ -13,6 +13,7 @@ pub use send::{lsp_of, to_send, write_held};
 
 mod error;
 mod hear;
+pub mod laws;
 mod origination;
 mod own;
 mod put;
