@@ -4,3 +4,6 @@ pub mod Originated
 pub mod Sent
 pub mod Claimed
 pub mod Steps
+pub mod Owns
+pub mod AtMostHeld
+pub mod Flags
