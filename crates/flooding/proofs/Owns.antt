@@ -1,5 +1,5 @@
 -- What hearing leaves of the own LSP, and what an origination makes of it.
-use Rattle.std.specs.Prelude.{◌≡◌, ◌≢◌, ℕ, ◌+◌, ◌<◌, Bool, true, false, ◌&&◌, not, Option, Some, None, nat_lt, if◌then◌else◌}
+use Rattle.std.specs.Prelude.{◌≡◌, ◌≢◌, ℕ, ◌+◌, ◌<◌, Bool, true, false, ◌&&◌, not, Option, Some, nat_lt, if◌then◌else◌}
 use Rattle.std.proofs.Common.{refl, sym, ap, subst, ◌∙◌}
 use Rattle.std.proofs.lemmas.Bool.{lt-ltb}
 use Rattle.std.proofs.lemmas.Slice.Eq.{bytes_eq-Decides}
@@ -18,8 +18,8 @@ use Rattle.lsdb.specs.Certificate.{Claim}
 use Rattle.lsdb.proofs.LookupLemmas.{fits_held}
 use Rattle.flooding.specs.declared.own.Own.{Own}
 use Rattle.flooding.specs.Own.{last_number, own_id, is_originated, renewed, ended, answered, answering}
-use Rattle.flooding.specs.Hearing.{Holding, claim_of, unless_absent, lsp_row, snp_row, is_beyond, is_answered, lacks_place, after_entry, own_after, after_claim, is_full}
-use Rattle.flooding.specs.Origination.{next_entry, next_own, originated_from, originated}
+use Rattle.flooding.specs.Hearing.{Holding, claim_of, lsp_row, snp_row, is_beyond, is_answered, lacks_place, after_entry, own_after, after_claim, is_full}
+use Rattle.flooding.specs.Origination.{next_entry, originated_from, originated}
 use Rattle.flooding.specs.Laws.{OwnStands, OwnIsNotSpent, OwnEntry, is_kept, is_renewed, LspLeavesOwn, EntryLeavesOwn, OriginatedStands, OriginationLeavesOthers, OriginationIsNotSpent}
 use Rattle.flooding.proofs.Heard.{Row}
 use Rattle.flooding.proofs.Claimed.{heard_of, get-placed_other, get-placed_fit, SaysOfHeld, lsp_row_says, snp_row_says, heard_stands, fitting_is_not_full}
