@@ -188,15 +188,27 @@ fn an_lsp_is_heard_and_sent_on(rt: HostRuntime) -> Result<(), Fail> {
     Ok(())
 }
 
+/// Originates where there is a place and a body.
+fn originate_in(alloc: Global, db: &mut Database, up: PortSet, own: &mut Own) -> Result<(), Fail> {
+    if db.len() >= 2048 {
+        return Err("full".into());
+    }
+    if own.body.is_empty() {
+        return Err("no body".into());
+    }
+    originate(alloc, db, up, own)?;
+    Ok(())
+}
+
 #[test]
 fn each_origination_goes_one_number_further(rt: HostRuntime) -> Result<(), Fail> {
     let mut db = Database::new(rt.alloc());
     let mut first = own(rt.alloc(), &FIRST_LSP[26..])?;
     let up = ports(&[4]);
-    originate(rt.alloc(), &mut db, PortSet::none(), &mut first)?;
+    originate_in(rt.alloc(), &mut db, PortSet::none(), &mut first)?;
     assert_eq!(rt; db.version_at(&first.id()), live(1, 0x4fd7));
     let mut second = own(rt.alloc(), &WITH_NEIGHBOUR)?;
-    originate(rt.alloc(), &mut db, up, &mut second)?;
+    originate_in(rt.alloc(), &mut db, up, &mut second)?;
     let held = db.find(&second.id()).ok_or("not held")?;
     assert_eq!(rt; (held.version, held.lifetime), (live(2, 0xa512), 1200));
     assert_eq!(rt; (held.srm, held.ssn), (up, PortSet::none()));
@@ -209,11 +221,11 @@ fn no_number_comes_after_the_last(rt: HostRuntime) -> Result<(), Fail> {
     let mut db = Database::new(rt.alloc());
     let mut own = own(rt.alloc(), &[1])?;
     db.put(held(rt.alloc(), own.id(), live(u32::MAX, 9))?)?;
-    originate(rt.alloc(), &mut db, ports(&[1, 2, 3]), &mut own)?;
+    originate_in(rt.alloc(), &mut db, ports(&[1, 2, 3]), &mut own)?;
     let flags = db.find(&own.id()).map(|h| (h.version, h.srm.bits, h.ssn.bits));
     assert_eq!(rt; flags, Some((dead(u32::MAX), 0b111, 0b110)));
     assert!(rt; own.spent);
-    originate(rt.alloc(), &mut db, PortSet::none(), &mut own)?;
+    originate_in(rt.alloc(), &mut db, PortSet::none(), &mut own)?;
     let flags = db.find(&own.id()).map(|h| h.srm.bits);
     assert_eq!(rt; flags, Some(0b111));
     Ok(())
@@ -258,6 +270,7 @@ fn what_is_to_be_sent_stands_in_order_of_id(rt: HostRuntime) -> Result<(), Fail>
 }
 
 #[test]
+#[tactic(auto, unfolding(isis_pdu::specs::Tlvs::is_whole_after))]
 fn a_dead_lsp_is_its_header_alone(rt: HostRuntime) -> Result<(), Fail> {
     let held = Held {
         id: lsp_id(2, 0),
