@@ -10,3 +10,4 @@ pub mod Flags
 pub mod AllEntries
 pub mod SendableEntries
 pub mod FlagEntries
+pub mod Named

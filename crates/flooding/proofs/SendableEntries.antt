@@ -1,6 +1,6 @@
 -- The LSP of every entry can be written and is read again, whatever was heard, originated or aged.
-use Rattle.std.specs.Prelude.{◌≡◌, ℕ, ◌+◌, ◌-◌, ◌≤◌, [], Bool, true, false, ◌&&◌, ◌||◌, Option, Some, None, ◌==◌, nat_lt, nat_le, if◌then◌else◌, IsTrue}
-use Rattle.std.proofs.Common.{refl, sym, subst, arith}
+use Rattle.std.specs.Prelude.{◌≡◌, ℕ, ◌+◌, ◌-◌, ◌≤◌, [], Bool, true, false, ◌&&◌, ◌||◌, Option, Some, None, Ok, Err, ◌==◌, nat_lt, nat_le, if◌then◌else◌, IsTrue}
+use Rattle.std.proofs.Common.{refl, sym, ap, subst, arith, ◌∙◌}
 use Rattle.std.proofs.lemmas.Bool.{and_parts, true≢false, eqb-true, eqb-false, leb-false, ltb-false, ne_eqb}
 use Rattle.std.proofs.lemmas.Slice.Eq.{bytes_eq-Decides}
 use Rattle.std.proofs.Math.Nat.{pos_of_ne-zero}
@@ -11,11 +11,13 @@ use Rattle.spb_types.specs.declared.address.LspId.{LspId}
 use Rattle.spb_types.specs.declared.ports.PortSet.{PortSet}
 use Rattle.spb_types.specs.Address.{same_system}
 use Rattle.isis_pdu.specs.declared.kind.Kind.TheVariants as kinds
-use Rattle.isis_pdu.specs.Pdu.{LspValue}
+use Rattle.isis_pdu.specs.declared.pdu.PduError.TheVariants.{Sum}
+use Rattle.isis_pdu.specs.Pdu.{LspValue, lsp}
 use Rattle.isis_pdu.specs.Spelling.{CanWrite}
 use Rattle.isis_pdu.specs.Grammar.{is_sound_lsp}
 use Rattle.isis_pdu.specs.Tlvs.{is_whole_after}
-use Rattle.isis_pdu.proofs.FormatLaws.{made_is_sound}
+use Rattle.isis_pdu.proofs.FormatLaws.{made_is_sound, written_again}
+use Rattle.isis_pdu.proofs.Read.{read_is_spelled}
 use Rattle.lsdb.specs.declared.version.Version.{Version}
 use Rattle.lsdb.specs.declared.version.Version.TheVariants.{Absent, Live, Dead}
 use Rattle.lsdb.specs.declared.version.Relation.{Relation}
@@ -29,7 +31,7 @@ use Rattle.flooding.specs.Hearing.{claim_of, body_of, unless_absent, wanted, lsp
 use Rattle.flooding.specs.Origination.{spent_entry}
 use Rattle.flooding.specs.Sending.{lsp_in}
 use Rattle.flooding.specs.Entries.{IsNumbered, IsSendable}
-use Rattle.flooding.specs.Laws.{HasBody, IsWhole, LspKeepsSendable, EntryKeepsSendable, OriginationKeepsSendable, AgeingKeepsSendable, FlagsKeepSendable}
+use Rattle.flooding.specs.Laws.{HasBody, IsWhole, SentIsRead, ReadIsWhole, ClaimIsNumbered, LspKeepsSendable, EntryKeepsSendable, OriginationKeepsSendable, AgeingKeepsSendable, FlagsKeepSendable}
 use Rattle.flooding.proofs.Heard.{number-claimed}
 use Rattle.flooding.proofs.Steps.{beyond_is}
 use Rattle.flooding.proofs.AllEntries.{all_after_claim, all_originated}
@@ -65,9 +67,11 @@ numbered_by seq lifetime sum true d is = tt
 numbered_by seq lifetime sum false true is = pos_of_ne-zero (eqb-false seq 0 is)
 numbered_by seq lifetime sum false false is = pos_of_ne-zero (eqb-false seq 0 is)
 
--- what a PDU claims is numbered
-pub claimed_numbered : (l : LspValue) → IsNumbered (claim_of l).version
-claimed_numbered l = numbered_by l.seq l.lifetime l.sum (l.seq == 0) (l.lifetime == 0) refl
+pub claim_is_numbered : ClaimIsNumbered
+claim_is_numbered seq lifetime sum = numbered_by seq lifetime sum (seq == 0) (lifetime == 0) refl
+
+claimed_numbered : (l : LspValue) → IsNumbered (claim_of l).version
+claimed_numbered l = claim_is_numbered l.seq l.lifetime l.sum
 
 -- ---- the own LSP
 
@@ -188,6 +192,19 @@ origination_keeps_sendable up h has_body all =
     let held = get h.db (own_id h.own.system) in
     let seq = number_of (version_in held) in
     all_originated IsSendable up h all (next_by up h.own seq held (nat_lt seq last_number) refl has_body)
+
+-- ---- reading and writing
+
+pub sent_is_read : SentIsRead
+sent_is_read id e six s =
+    written_again (lsp (lsp_in id e)) (record { ids = six; whole = s.written.whole })
+    ∙ ap (λ b. if b then Ok (lsp (lsp_in id e)) else Err Sum) s.sound
+
+pub read_is_whole : ReadIsWhole
+read_is_whole bytes l fit few is =
+    let from = read_is_spelled bytes (lsp l) fit is in
+    let within = from.within in
+    record { written = record { whole = from.pdu.whole; short = omega arith }; sound = from.sound }
 
 -- ---- a second
 
