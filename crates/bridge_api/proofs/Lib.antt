@@ -1,0 +1,5 @@
+pub mod Places
+pub mod Adjacent
+pub mod Changes
+pub mod Certified
+pub mod Hellos

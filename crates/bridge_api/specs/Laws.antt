@@ -1,0 +1,110 @@
+-- What every step of a bridge keeps, whatever comes to it: the facts that a network rests on.
+use Rattle.std.specs.Prelude.{◌≡◌, ◌⊎◌, ℕ, ◌≤◌, List, [], ◌∷◌, length, true, Option, Some}
+use Rattle.std.specs.List.{AllByRecursion}
+use Rattle.std.specs.Option.{option_map}
+use Rattle.std.specs.FinMap.{empty, get}
+use Rattle.spb_types.specs.declared.address.LspId.{LspId}
+use Rattle.spb_types.specs.Ports.{has}
+use Rattle.isis_pdu.specs.Pdu.{HelloValue}
+use Rattle.spb_tlvs.specs.declared.three_way.ThreeWay.{ThreeWay}
+use Rattle.spb_tlvs.specs.RoundTrip.{IsNamed}
+use Rattle.lsdb.specs.declared.version.Version.TheVariants.{Absent}
+use Rattle.lsdb.specs.Database.{version_in, srm_in}
+use Rattle.lsdb.specs.Certificate.{Claim, Certificate}
+use Rattle.adjacency.specs.Hearing.{End, sender}
+use Rattle.adjacency.specs.Adjacency.{IsSound}
+use Rattle.bridge_api.specs.declared.port.BridgePort.{BridgePort}
+use Rattle.bridge_api.specs.declared.config.BridgeConfig.{BridgeConfig}
+use Rattle.bridge_api.specs.View.{BridgeView, neighbour_at, is_up_at, is_due_at, is_port_up, control_of}
+use Rattle.bridge_api.specs.Config.{IsWhole, configured}
+use Rattle.bridge_api.specs.Judging.{Judged, greeting, greeting_in, judged}
+use Rattle.bridge_api.specs.Step.{Input, second, frame, carrier, step, sent}
+
+-- a port whose adjacency is sound, and where CSNPs are due only if it is Up
+pub record IsSoundPort (port : BridgePort) : Type 0 where
+  pub adjacency : IsSound port.adjacency
+  pub due : port.due ≡ true → is_port_up port ≡ true
+
+-- a bridge with an address of six bytes and at most 32 ports, each sound, which holds no LSP yet
+pub record IsSoundView (v : BridgeView) : Type 0 where
+  pub address : length v.id.system.mac.bytes ≡ 6
+  pub few : length v.ports ≤ 32
+  pub ports : AllByRecursion IsSoundPort v.ports
+  pub unheld : v.database ≡ empty
+
+-- the configured bridge is sound, and stays so
+abbrev pub ConfiguredIsSound : Type 0
+ConfiguredIsSound = (c : BridgeConfig) → IsWhole c → IsSoundView (configured c)
+
+abbrev pub StepsStaySound : Type 0
+StepsStaySound = (input : Input) (v : BridgeView) → IsSoundView v → IsSoundView (step input v)
+
+-- the same bridge: its ids, its VIDs, what is attached, and the number of its ports
+pub record IsSameBridge (v w : BridgeView) : Type 0 where
+  pub id : w.id ≡ v.id
+  pub source : w.source ≡ v.source
+  pub vids : w.vids ≡ v.vids
+  pub attached : w.attached ≡ v.attached
+  pub ports : length w.ports ≡ length v.ports
+  pub failed : w.failed ≡ v.failed
+
+abbrev pub StepsKeepBridge : Type 0
+StepsKeepBridge = (input : Input) (v : BridgeView) → IsSameBridge v (step input v)
+
+-- the end of which a frame is the hello
+abbrev pub greeter : Judged → Option End
+greeter j = option_map (λ g. sender g.0 g.1) (greeting_in j)
+
+-- this end was heard at the port, by the frame that came in
+abbrev pub IsHeard : Input → ℕ → End → Type 0
+IsHeard second p n = ⊥
+IsHeard (frame q bytes) p n = (q ≡ p) × (greeter (judged bytes) ≡ Some n)
+IsHeard (carrier q on) p n = ⊥
+
+-- a neighbour that is kept was kept before, or is the end that was just heard
+abbrev pub StepsKeepNeighbours : Type 0
+StepsKeepNeighbours = (input : Input) (v : BridgeView) (p : ℕ) (n : End) → neighbour_at (step input v) p ≡ Some n → (neighbour_at v p ≡ Some n) ⊎ IsHeard input p n
+
+-- one of the frames sent is this one, at the port
+abbrev pub IsSent : List (ℕ × List ℕ) → ℕ → List ℕ → Type 0
+IsSent [] p bytes = ⊥
+IsSent (s ∷ ss) p bytes = ((s.0 ≡ p) × (s.1 ≡ bytes)) ⊎ IsSent ss p bytes
+
+-- a frame is heard as the hello of this bridge at the port: of level 1, to be held for three seconds, naming the port,
+-- and as its neighbour the one that is kept there, if one is
+pub record IsHelloOf (v : BridgeView) (p : ℕ) (bytes : List ℕ) : Type 0 where
+  pub hello : HelloValue
+  pub way : ThreeWay
+  pub heard : judged bytes ≡ greeting hello way
+  pub sender : sender hello way ≡ (v.id.system, p)
+  pub level : hello.circuit_type ≡ 1
+  pub holding : hello.holding ≡ 3
+  pub state : way.state ≤ 2
+  pub neighbour : way.neighbour ≡ neighbour_at v p
+
+-- each frame that a bridge sends is such a hello, where the neighbour can be named: a system id of six bytes, and a
+-- circuit id of four
+abbrev pub HellosAreHeard : Type 0
+HellosAreHeard = (v : BridgeView) (p : ℕ) (bytes : List ℕ) → IsSoundView v → IsNamed (neighbour_at (step second v) p) → IsSent (sent second v) p bytes → IsHelloOf (step second v) p bytes
+
+-- a port that has just come up: CSNPs are due there, and each LSP that is held is to be sent there
+pub record IsFresh (v : BridgeView) (p : ℕ) : Type 0 where
+  pub due : is_due_at v p ≡ true
+  pub flagged : (id : LspId) → (has (srm_in (get v.database id)) p ≡ true) ⊎ (version_in (get v.database id) ≡ Absent)
+
+-- entering Up is one operation: a port that is Up was so before, with the same neighbour, or is fresh
+abbrev pub EnteringUpIsWhole : Type 0
+EnteringUpIsWhole = (input : Input) (v : BridgeView) (p : ℕ) → IsSoundView v → is_up_at (step input v) p ≡ true → ((is_up_at v p ≡ true) × (neighbour_at (step input v) p ≡ neighbour_at v p)) ⊎ IsFresh (step input v) p
+
+-- the port at which something came in, and the claims that were heard: LSPs and sequence numbers aren't heard yet
+abbrev pub port_of : Input → ℕ
+port_of second = 0
+port_of (frame p bytes) = p
+port_of (carrier p on) = p
+
+abbrev pub claims_of : Input → List Claim
+claims_of input = []
+
+-- no version falls, and the neighbour at each Up port is no further behind
+abbrev pub StepsCarryDatabase : Type 0
+StepsCarryDatabase = (input : Input) (v : BridgeView) → IsSoundView v → Certificate (port_of input) (claims_of input) (control_of v) (control_of (step input v))

@@ -1,0 +1,37 @@
+//! What every step of a bridge keeps, whatever comes to it. Each is the contract of a function that does nothing.
+ghost use Rattle.bridge_api.specs.Laws.{ConfiguredIsSound, StepsStaySound, StepsKeepBridge, StepsKeepNeighbours, HellosAreHeard, EnteringUpIsWhole, StepsCarryDatabase};
+
+use itag_frames::control_again;
+
+/// A configured bridge is sound, and stays so.
+pub fn bridges_are_sound()
+    ensures configured { ConfiguredIsSound }
+    ensures steps { StepsStaySound }
+{}
+
+/// A bridge keeps its ids, its VIDs, what is attached, and the number of its ports.
+pub fn steps_keep_the_bridge()
+    ensures { StepsKeepBridge }
+{}
+
+/// A neighbour that is kept was kept before, or is the sender of the hello that was just heard.
+pub fn steps_keep_neighbours()
+    ensures { StepsKeepNeighbours }
+{}
+
+/// Each hello that is sent is heard as one of its sender and port, and names nobody but the neighbour that is kept.
+pub fn hellos_are_heard()
+    ensures { HellosAreHeard }
+{
+    control_again();
+}
+
+/// A port that is Up was so before with the same neighbour, or everything is to be sent there.
+pub fn entering_up_is_whole()
+    ensures { EnteringUpIsWhole }
+{}
+
+/// No version that is held falls, and the neighbour at each Up port is no further behind.
+pub fn steps_carry_the_database()
+    ensures { StepsCarryDatabase }
+{}
