@@ -3,3 +3,5 @@ pub mod Adjacent
 pub mod Changes
 pub mod Certified
 pub mod Hellos
+pub mod Listed
+pub mod Meeting

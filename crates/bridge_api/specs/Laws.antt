@@ -1,5 +1,5 @@
 -- What every step of a bridge keeps, whatever comes to it: the facts that a network rests on.
-use Rattle.std.specs.Prelude.{◌≡◌, ◌⊎◌, ℕ, ◌≤◌, List, [], ◌∷◌, length, true, Option, Some}
+use Rattle.std.specs.Prelude.{◌≡◌, ◌≢◌, ◌⊎◌, ℕ, ◌≤◌, List, [], ◌∷◌, length, true, Option, Some}
 use Rattle.std.specs.List.{AllByRecursion}
 use Rattle.std.specs.Option.{option_map}
 use Rattle.std.specs.FinMap.{empty, get}
@@ -18,6 +18,7 @@ use Rattle.bridge_api.specs.declared.config.BridgeConfig.{BridgeConfig}
 use Rattle.bridge_api.specs.View.{BridgeView, neighbour_at, is_up_at, is_due_at, is_port_up, control_of}
 use Rattle.bridge_api.specs.Config.{IsWhole, configured}
 use Rattle.bridge_api.specs.Judging.{Judged, greeting, greeting_in, judged}
+use Rattle.bridge_api.specs.Hearing.{with_carrier}
 use Rattle.bridge_api.specs.Step.{Input, second, frame, carrier, step, sent}
 
 -- a port whose adjacency is sound, and where CSNPs are due only if it is Up
@@ -108,3 +109,31 @@ claims_of input = []
 -- no version falls, and the neighbour at each Up port is no further behind
 abbrev pub StepsCarryDatabase : Type 0
 StepsCarryDatabase = (input : Input) (v : BridgeView) → IsSoundView v → Certificate (port_of input) (claims_of input) (control_of v) (control_of (step input v))
+
+-- ---- bridges come up, so that what is said of Up ports is said of something
+
+-- a bridge just configured, with carrier at its port 1
+abbrev pub lit : BridgeConfig → BridgeView
+lit c = with_carrier 1 true (configured c)
+
+-- the bytes of the first of these frames
+abbrev pub first_of : List (ℕ × List ℕ) → List ℕ
+first_of [] = []
+first_of (s ∷ ss) = s.1
+
+-- a bridge that heard at its port 1 what another sends first in a second
+abbrev pub hearing_from : BridgeView → BridgeView → BridgeView
+hearing_from w v = step (frame 1 (first_of (sent second w))) v
+
+-- a bridge that has heard a neighbour which has heard it is Up
+abbrev pub NeighboursComeUp : Type 0
+NeighboursComeUp = (c d : BridgeConfig) → IsWhole c → IsWhole d → 1 ≤ c.ports → 1 ≤ d.ports → c.id.system ≢ d.id.system → is_up_at (hearing_from (hearing_from (lit c) (lit d)) (lit c)) 1 ≡ true
+
+-- two configurations by which this is so, and the sound bridge whose port 1 is Up
+pub record SomeBridge : Type 0 where
+  pub config : BridgeConfig
+  pub other : BridgeConfig
+  pub whole : IsWhole config
+  pub other_whole : IsWhole other
+  pub sound : IsSoundView (hearing_from (hearing_from (lit config) (lit other)) (lit config))
+  pub up : is_up_at (hearing_from (hearing_from (lit config) (lit other)) (lit config)) 1 ≡ true

@@ -1,5 +1,5 @@
 //! What every step of a bridge keeps, whatever comes to it. Each is the contract of a function that does nothing.
-ghost use Rattle.bridge_api.specs.Laws.{ConfiguredIsSound, StepsStaySound, StepsKeepBridge, StepsKeepNeighbours, HellosAreHeard, EnteringUpIsWhole, StepsCarryDatabase};
+ghost use Rattle.bridge_api.specs.Laws.{ConfiguredIsSound, StepsStaySound, StepsKeepBridge, StepsKeepNeighbours, HellosAreHeard, EnteringUpIsWhole, StepsCarryDatabase, NeighboursComeUp, SomeBridge};
 
 use itag_frames::control_again;
 
@@ -35,3 +35,11 @@ pub fn entering_up_is_whole()
 pub fn steps_carry_the_database()
     ensures { StepsCarryDatabase }
 {}
+
+/// Bridges that hear each other come up, and there are such bridges.
+pub fn neighbours_come_up()
+    ensures up { NeighboursComeUp }
+    ensures some { SomeBridge }
+{
+    control_again();
+}
