@@ -117,6 +117,7 @@ by_port (Some port) v q bytes e = by_carrier port.adjacency.carrier v q bytes po
 
 -- a frame changes nothing, or is such a hello
 pub frame_step : (v : BridgeView) (q : ℕ) (bytes : List ℕ) → (after_receive q bytes v ≡ v) ⊎ Greeted v q bytes (after_receive q bytes v)
+unfolding after_receive
 frame_step v q bytes = by_port (port_at v q) v q bytes refl
 
 pub greeted_ports : (h : HelloValue) (way : ThreeWay) (q : ℕ) (port : BridgePort) (v : BridgeView) → port_at v q ≡ Some port → (greeted h way q port v).ports ≡ slice_set v.ports (q - 1) (greeted_port v.id.system q h way port)
@@ -142,6 +143,7 @@ carrier_port None v q on e = inl refl
 carrier_port (Some port) v q on e = inr (record { port = port; there = e; after = refl })
 
 pub carrier_step : (v : BridgeView) (q : ℕ) (on : Bool) → (with_carrier q on v ≡ v) ⊎ Carried v q on (with_carrier q on v)
+unfolding with_carrier
 carrier_step v q on = carrier_port (port_at v q) v q on refl
 
 pub carried_ports : (q : ℕ) (on : Bool) (port : BridgePort) (v : BridgeView) → port_at v q ≡ Some port → (carried_at q on (Some port) v).ports ≡ slice_set v.ports (q - 1) (carried_port on port)
@@ -170,9 +172,11 @@ tick_at true ports k = slice_get-map (with_due false) (map later ports) k ∙ (a
 tick_at false ports k = refl
 
 pub tick_port : (v : BridgeView) (p : ℕ) → port_at (after_tick v) p ≡ option_map ticked (port_at v p)
+unfolding after_tick
 tick_port v p = tick_at (nat_le 1 p) v.ports (p - 1)
 
 pub tick_unheld : (v : BridgeView) → v.database ≡ empty → (after_tick v).database ≡ empty
+unfolding after_tick
 tick_unheld v unheld = rw (unheld, each_none) (each_none _)
 
 -- ---- the whole view, of a bridge that holds no LSP
@@ -193,6 +197,7 @@ when_false true x y e = absurd cc
 when_false false x y e = refl
 
 heard_lit : (v : BridgeView) (q : ℕ) (bytes : List ℕ) (port : BridgePort) → 1 ≤ q → slice_get v.ports (q - 1) ≡ Some port → port.adjacency.carrier ≡ true → after_receive q bytes v ≡ heard_as (judged bytes) q port v
+unfolding after_receive
 heard_lit v q bytes port low at lit =
     ap (λ (o : Option BridgePort). heard_at q bytes o v) (port_found v q low ∙ at) ∙ when_true port.adjacency.carrier (heard_as (judged bytes) q port v) v lit
 
@@ -212,6 +217,7 @@ greeted_is v q bytes port h way unheld low at lit some =
     kind_is (tenant da sa vid isid customer) e = absurd cc
 
 pub deaf_is : (v : BridgeView) (q : ℕ) (bytes : List ℕ) (port : BridgePort) → 1 ≤ q → slice_get v.ports (q - 1) ≡ Some port → port.adjacency.carrier ≡ false → after_receive q bytes v ≡ v
+unfolding after_receive
 deaf_is v q bytes port low at dark =
     ap (λ (o : Option BridgePort). heard_at q bytes o v) (port_found v q low ∙ at) ∙ when_false port.adjacency.carrier (heard_as (judged bytes) q port v) v dark
 
@@ -219,9 +225,11 @@ pub idle_is : (v : BridgeView) (q : ℕ) (bytes : List ℕ) (port : BridgePort) 
 idle_is v q bytes port low at lit none = heard_lit v q bytes port low at lit ∙ other_idle (judged bytes) q port v none
 
 pub carried_is : (v : BridgeView) (q : ℕ) (on : Bool) (port : BridgePort) → v.database ≡ empty → 1 ≤ q → slice_get v.ports (q - 1) ≡ Some port → with_carrier q on v ≡ with_ports (slice_set v.ports (q - 1) (carried_port on port)) v
+unfolding with_carrier
 carried_is v q on port unheld low at =
     ap (λ (o : Option BridgePort). carried_at q on o v) (port_found v q low ∙ at)
     ∙ same_view v (carried_at q on (Some port) v) (slice_set v.ports (q - 1) (carried_port on port)) unheld (carried_bridge q on port v) (carried_ports q on port v (port_found v q low ∙ at)) (carried_unheld q on port v unheld)
 
 pub tick_is : (v : BridgeView) → v.database ≡ empty → after_tick v ≡ with_ports (map (with_due false) (map later v.ports)) v
+unfolding after_tick
 tick_is v unheld = same_view v (after_tick v) (map (with_due false) (map later v.ports)) unheld refl refl (tick_unheld v unheld)

@@ -5,3 +5,4 @@ pub mod Certified
 pub mod Hellos
 pub mod Listed
 pub mod Meeting
+pub mod Carriers

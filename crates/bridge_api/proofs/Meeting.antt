@@ -19,8 +19,8 @@ use Rattle.bridge_api.specs.declared.config.BridgeConfig.{BridgeConfig}
 use Rattle.bridge_api.specs.View.{BridgeView, is_up_at}
 use Rattle.bridge_api.specs.Config.{IsWhole, dark, configured}
 use Rattle.bridge_api.specs.Judging.{Judged, judged, greeting}
-use Rattle.bridge_api.specs.Hearing.{changed_at, heard_as}
-use Rattle.bridge_api.specs.Ticking.{hello_at, hello_frame}
+use Rattle.bridge_api.specs.Hearing.{changed_at, heard_as, after_receive, with_carrier}
+use Rattle.bridge_api.specs.Ticking.{hello_at, hello_frame, sent_in_tick}
 use Rattle.bridge_api.specs.Step.{frame, carrier}
 use Rattle.bridge_api.specs.Laws.{IsSoundView, lit, hearing_from, NeighboursComeUp, SomeBridge}
 use Rattle.bridge_api.proofs.Certified.{configured_is_sound, steps_stay_sound}
@@ -60,6 +60,7 @@ heard_down v m h way s heard held next =
 
 -- the neighbour hears the first hello, and then its own answer is heard
 neighbours : ControlAgain → (c d : BridgeConfig) (m n : ℕ) (ms ns : List ℕ) → length c.id.system.mac.bytes ≡ 6 → length d.id.system.mac.bytes ≡ 6 → same_system c.id.system d.id.system ≡ false → same_system d.id.system c.id.system ≡ false → same_system c.id.system c.id.system ≡ true → is_up_at (hearing_from (hearing_from (lit (record c { metrics = m ∷ ms })) (lit (record d { metrics = n ∷ ns }))) (lit (record c { metrics = m ∷ ms }))) 1 ≡ true
+unfolding after_receive with_carrier sent_in_tick is_up_at
 neighbours again c d m n ms ns six_c six_d apart apart' same =
     let v : BridgeView = first c (port_with (down true) m) ms in
     let w : BridgeView = first d (port_with (down true) n) ns in

@@ -97,7 +97,7 @@ heard_at p frame None v = v
 heard_at p frame (Some port) v = if port.adjacency.carrier then heard_as (judged frame) p port v else dropped drop.NotAdjacent v
 
 -- a bridge after a frame came in at its port number p
-abbrev pub after_receive : ℕ → List ℕ → BridgeView → BridgeView
+unfoldable pub after_receive : ℕ → List ℕ → BridgeView → BridgeView
 after_receive p frame v = heard_at p frame (port_at v p) v
 
 -- a bridge after carrier came or went at its port number p
@@ -106,5 +106,5 @@ carried_at p on None v = v
 carried_at p on (Some port) v =
     changed_at (change_of port.adjacency (after_carrier on port.adjacency)) p (with_adjacency (after_carrier on port.adjacency) port) v
 
-abbrev pub with_carrier : ℕ → Bool → BridgeView → BridgeView
+unfoldable pub with_carrier : ℕ → Bool → BridgeView → BridgeView
 with_carrier p on v = carried_at p on (port_at v p) v
