@@ -63,7 +63,7 @@ way_found way =
 
 -- ---- the PDU and the frame
 
-hello_short : (h : HelloValue) → length h.source.mac.bytes ≡ 6 → length (hello_bytes h) ≡ 20 + length h.tlvs
+pub hello_short : (h : HelloValue) → length h.source.mac.bytes ≡ 6 → length (hello_bytes h) ≡ 20 + length h.tlvs
 unfolding hello_bytes
 hello_short h six = simp length-append (omega (arith, six))
 
