@@ -23,13 +23,13 @@ use Rattle.adjacency.specs.Adjacency.{IsSound, neighbour_of, is_up, after_hello,
 use Rattle.adjacency.specs.Hearing as hearing
 use Rattle.adjacency.proofs.Neighbours.{hello_keeps}
 use Rattle.bridge_api.specs.declared.port.BridgePort.{BridgePort}
-use Rattle.bridge_api.specs.View.{BridgeView, port_in, port_at, neighbour_at, is_port_up, is_up_in, is_up_at, is_due_at, is_due_in, has_carrier_in, has_carrier_at, metrics_of}
+use Rattle.bridge_api.specs.View.{BridgeView, IsPort, port_in, port_at, neighbour_at, is_port_up, is_up_in, is_up_at, is_due_at, is_due_in, has_carrier_in, has_carrier_at, metrics_of}
 use Rattle.bridge_api.specs.Config.{dark}
 use Rattle.bridge_api.specs.Judging.{judged}
 use Rattle.bridge_api.specs.Hearing.{with_due, with_adjacency, greeted, after_receive, carried_at, with_carrier}
 use Rattle.bridge_api.specs.Ports.{noted, greeted_port, carried_port}
 use Rattle.bridge_api.specs.Ticking.{later, after_tick}
-use Rattle.bridge_api.specs.Step.{second, frame, carrier, step}
+use Rattle.bridge_api.specs.Step.{Input, second, frame, carrier, step}
 use Rattle.bridge_api.specs.Laws.{IsSoundPort, IsSoundView, ConfiguredIsSound, ConfiguredIsDark, StepsStaySound, IsSameBridge, StepsKeepBridge, StepsKeepNeighbours, IsFresh, EnteringUpIsWhole, StepsCarryDatabase, greeter}
 use Rattle.bridge_api.proofs.Places.{set_again, seen_set}
 use Rattle.bridge_api.proofs.Adjacent.{second_keeps, second_up, carrier_keeps, up_since, came_up, stayed_up, hello_sound, second_sound, carrier_sound, not_discarded}
@@ -85,6 +85,13 @@ steps_keep_bridge (carrier q on) v =
       | inr g ↦ subst (λ (u : BridgeView). IsSameBridge v u) (sym g.after)
           (one_same v (carried_at q on (Some g.port) v) q g.port (carried_port on g.port) g.there (carried_bridge q on g.port v) (carried_ports q on g.port v g.there) (noted_metric (change_of g.port.adjacency (after_carrier on g.port.adjacency)) (with_adjacency (after_carrier on g.port.adjacency) g.port)))
     ]
+
+-- a step keeps the number of ports
+pub ports_after : (input : Input) (v w : BridgeView) → w ≡ step input v → length w.ports ≡ length v.ports
+ports_after input v w is = ap (λ (u : BridgeView). length u.ports) is ∙ (steps_keep_bridge input v).ports
+
+pub port_after : (input : Input) (v w : BridgeView) (p : ℕ) → w ≡ step input v → IsPort v p → IsPort w p
+port_after input v w p is within = record { low = within.low; high = omega (arith, ports_after input v w is, within.high) }
 
 -- ---- who is kept
 

@@ -1,13 +1,13 @@
 use Rattle.std.proofs.Common.{◌≡◌, ◌≤◌, ℕ, List, length, sym, subst, ap, ◌∙◌, rules, arith}
 use Rattle.std.specs.Prelude.{IsTrue}
 use Rattle.std.proofs.lemmas.Result.{IfOk-weaker}
-use Rattle.isis_pdu.specs.Pdu.{HelloValue}
 use Rattle.isis_pdu.specs.Tlvs.{is_whole}
 use Rattle.isis_pdu.specs.Spelling.{hello_bytes}
 use Rattle.itag_frames.specs.Frame.{control_bytes}
 use Rattle.adjacency.specs.Adjacency.{said}
 use Rattle.bridge_api.specs.Ticking.{hello_tlvs, hello_at, hello_frame}
-use Rattle.bridge_api.proofs.Hellos.{tlvs_whole, hello_short}
+use Rattle.bridge_api.proofs.Hellos.{tlvs_whole}
+use Rattle.plain_bridge.proofs.Sending.{pdu_short}
 use Rattle.plain_bridge.proofs.hello.hello_frame.Goals as goal
 
 pub write_hello-requires : goal.write_hello-requires
@@ -21,8 +21,8 @@ write_hello-requires c =
 pub control_frame-requires : goal.control_frame-requires
 control_frame-requires c =
     let six : length c.args.system.mac.bytes ≡ 6 = search rules in
-    let hello : HelloValue = record { circuit_type = 1; source = c.args.system; holding = 3; circuit = c.args.number; tlvs = c.as_slice.result.now } in
-    omega (arith, ap length c.as_slice-2.ensures.value, ap length c.in_ok-pdu.ensures, hello_short hello six, ap length c.as_slice.ensures.value, c.in_ok-tlvs.ensures.short)
+    let few : length c.as_slice.result.now ≤ 26 = omega (arith, ap length c.as_slice.ensures.value, c.in_ok-tlvs.ensures.short) in
+    pdu_short c.as_slice-2.result.now _ (c.as_slice-2.ensures.value ∙ c.in_ok-pdu.ensures) six few
 
 pub returns : goal.returns
 unfolding hello_frame

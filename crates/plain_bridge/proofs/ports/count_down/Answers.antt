@@ -1,4 +1,4 @@
-use Rattle.std.proofs.Common.{◌<◌, List, length, slice_set, sym, ap, subst, ◌∙◌}
+use Rattle.std.proofs.Common.{◌<◌, List, length, slice_set, ap, subst, ◌∙◌}
 use Rattle.bridge_api.specs.declared.port.BridgePort.{BridgePort}
 use Rattle.bridge_api.specs.Ticking.{later}
 use Rattle.plain_bridge.proofs.Loops.{sound_next, changed_next}

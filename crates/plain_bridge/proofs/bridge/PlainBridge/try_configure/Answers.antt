@@ -1,5 +1,4 @@
-use Rattle.std.proofs.Common.{◌≡◌, List, map, ap, ◌∙◌, arith}
-use Rattle.bridge_api.specs.declared.port.BridgePort.{BridgePort}
+use Rattle.std.proofs.Common.{◌≡◌, map, ap, ◌∙◌, arith}
 use Rattle.bridge_api.specs.Config.{dark}
 use Rattle.plain_bridge.proofs.Loops.{kept_dark}
 use Rattle.plain_bridge.proofs.bridge.PlainBridge.try_configure.Goals as goal

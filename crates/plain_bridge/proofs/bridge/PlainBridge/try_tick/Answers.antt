@@ -1,9 +1,7 @@
-use Rattle.std.proofs.Common.{◌≡◌, List, ℕ, map, ap, sym, ◌∙◌, subst}
-use Rattle.std.specs.Prelude.{OnErr}
-use Rattle.bridge_api.specs.declared.port.BridgePort.{BridgePort}
+use Rattle.std.proofs.Common.{List, ℕ, ap, ◌∙◌, subst}
 use Rattle.bridge_api.specs.Step.{with_wire, Gains}
-use Rattle.bridge_api.specs.Ticking.{later, sent_from, sent_in_tick}
-use Rattle.plain_bridge.specs.Plain.{Plain, view_of, IsKept}
+use Rattle.bridge_api.specs.Ticking.{sent_from}
+use Rattle.plain_bridge.specs.Plain.{Plain}
 use Rattle.plain_bridge.proofs.Loops.{kept_later, kept_cleared}
 use Rattle.plain_bridge.proofs.Sending.{on_err}
 use Rattle.plain_bridge.proofs.Steps.{tick_plain, sent_plain}
