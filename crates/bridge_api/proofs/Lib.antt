@@ -6,3 +6,4 @@ pub mod Hellos
 pub mod Listed
 pub mod Meeting
 pub mod Carriers
+pub mod UpPorts

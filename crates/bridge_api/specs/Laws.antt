@@ -15,7 +15,7 @@ use Rattle.adjacency.specs.Hearing.{End, sender}
 use Rattle.adjacency.specs.Adjacency.{IsSound}
 use Rattle.bridge_api.specs.declared.port.BridgePort.{BridgePort}
 use Rattle.bridge_api.specs.declared.config.BridgeConfig.{BridgeConfig}
-use Rattle.bridge_api.specs.View.{BridgeView, IsPort, neighbour_at, is_up_at, has_carrier_at, is_due_at, is_port_up, metrics_of, control_of}
+use Rattle.bridge_api.specs.View.{BridgeView, IsPort, neighbour_at, is_up_at, has_carrier_at, is_due_at, is_port_up, metrics_of, up_ports, control_of}
 use Rattle.bridge_api.specs.Config.{IsWhole, configured}
 use Rattle.bridge_api.specs.Judging.{Judged, greeting, greeting_in, judged}
 use Rattle.bridge_api.specs.Hearing.{with_carrier}
@@ -120,6 +120,10 @@ pub record IsFresh (v : BridgeView) (p : ℕ) : Type 0 where
 -- entering Up is one operation: a port that is Up was so before, with the same neighbour, or is fresh
 abbrev pub EnteringUpIsWhole : Type 0
 EnteringUpIsWhole = (input : Input) (v : BridgeView) (p : ℕ) → IsSoundView v → is_up_at (step input v) p ≡ true → ((is_up_at v p ≡ true) × (neighbour_at (step input v) p ≡ neighbour_at v p)) ⊎ IsFresh (step input v) p
+
+-- the set of the Up ports has each port that is Up, and no other number
+abbrev pub UpPortsAreUp : Type 0
+UpPortsAreUp = (v : BridgeView) (p : ℕ) → IsSoundView v → has (up_ports v) p ≡ is_up_at v p
 
 -- the port at which something came in, and the claims that were heard: LSPs and sequence numbers aren't heard yet
 abbrev pub port_of : Input → ℕ

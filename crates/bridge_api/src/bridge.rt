@@ -22,8 +22,10 @@ pub trait Bridge: Drop {
     /// The kind of the box, which never changes.
     ghost kind_of: { Self → Kind };
 
+    /// Whether the bridge wasn't configured yet.
     ghost blank: { Self → Bool };
 
+    /// The bridge as it is seen from outside. Of a blank one it says nothing but that it isn't failed.
     ghost view: { Self → BridgeView };
 
     /// The kind of this implementation.

@@ -1,5 +1,5 @@
 //! What every step of a bridge keeps, whatever comes to it. Each is the contract of a function that does nothing.
-ghost use Rattle.bridge_api.specs.Laws.{ConfiguredIsSound, ConfiguredIsDark, StepsStaySound, StepsKeepBridge, StepsKeepCarrier, StepsKeepNeighbours, HellosAreHeard, SentWithCarrier, EnteringUpIsWhole, StepsCarryDatabase, NeighboursComeUp, SomeBridge};
+ghost use Rattle.bridge_api.specs.Laws.{ConfiguredIsSound, ConfiguredIsDark, StepsStaySound, StepsKeepBridge, StepsKeepCarrier, StepsKeepNeighbours, HellosAreHeard, SentWithCarrier, EnteringUpIsWhole, UpPortsAreUp, StepsCarryDatabase, NeighboursComeUp, SomeBridge};
 
 use itag_frames::control_again;
 
@@ -36,9 +36,11 @@ pub fn entering_up_is_whole()
     ensures { EnteringUpIsWhole }
 {}
 
-/// No version that is held falls, and the neighbour at each Up port is no further behind.
+/// No version that is held falls, and the neighbour at each Up port is no further behind. The set of the Up ports has
+/// each port that is Up, and no other number.
 pub fn steps_carry_the_database()
-    ensures { StepsCarryDatabase }
+    ensures steps { StepsCarryDatabase }
+    ensures up_ports { UpPortsAreUp }
 {}
 
 /// Bridges that hear each other come up, and there are such bridges.
