@@ -1,0 +1,110 @@
+-- What hearing a frame, and a change of carrier, make of a bridge.
+use Rattle.std.specs.Prelude.{ℕ, List, Bool, true, false, Option, Some, None, Result, Ok, Err, if◌then◌else◌}
+use Rattle.spb_types.specs.declared.address.Mac.{Mac}
+use Rattle.spb_types.specs.declared.service.Vid.{Vid}
+use Rattle.spb_types.specs.declared.service.Isid.{Isid}
+use Rattle.isis_pdu.specs.Pdu.{HelloValue, LspValue, CsnpValue, PsnpValue}
+use Rattle.spb_tlvs.specs.declared.error.TlvError.{TlvError}
+use Rattle.spb_tlvs.specs.declared.entries.SnpEntry.{SnpEntry}
+use Rattle.spb_tlvs.specs.declared.three_way.ThreeWay.{ThreeWay}
+use Rattle.lsdb.specs.Database.{each}
+use Rattle.lsdb.specs.Entry.{joined, parted}
+use Rattle.adjacency.specs.declared.state.Heard.{Heard}
+use Rattle.adjacency.specs.declared.state.Heard.TheVariants as did
+use Rattle.adjacency.specs.declared.port.Adjacency.{Adjacency}
+use Rattle.adjacency.specs.Adjacency.{after_hello, heard_of, after_carrier, change_of}
+use Rattle.bridge_api.specs.declared.port.BridgePort.{BridgePort}
+use Rattle.bridge_api.specs.View.{BridgeView, port_at, with_port_at, is_port_up}
+use Rattle.bridge_api.specs.Judging.{Drop, Judged, useless, greeting, link_state, complete, partial, tenant, judged, entries_in}
+use Rattle.bridge_api.specs.Judging as drop
+
+-- a frame that is dropped changes nothing: the counts aren't kept yet
+abbrev pub dropped : Drop → BridgeView → BridgeView
+dropped reason v = v
+
+-- a bridge after its own LSP was brought up to its content: it originates none yet
+abbrev pub settled : BridgeView → BridgeView
+settled v = v
+
+-- a port with another adjacency, and with CSNPs due or not
+abbrev pub with_adjacency : Adjacency → BridgePort → BridgePort
+with_adjacency adjacency port = record port { adjacency = adjacency }
+
+abbrev pub with_due : Bool → BridgePort → BridgePort
+with_due due port = record port { due = due }
+
+-- on leaving Up, the flags of the port are cleared
+abbrev pub left : ℕ → BridgePort → BridgeView → BridgeView
+left p port v = let w : BridgeView = with_port_at p (with_due false port) v in record w { database = each (λ id e. parted p e) w.database }
+
+-- on entering Up, every LSP is to be sent at the port, and CSNPs are due there
+abbrev pub joined_at : ℕ → BridgePort → BridgeView → BridgeView
+joined_at p port v = let w : BridgeView = with_port_at p (with_due true port) v in record w { database = each (λ id e. joined p e) w.database }
+
+-- entering Up is one operation: the flags of the port, which may have been Up with another neighbour, are cleared
+-- first; then the bridge originates; the flags of entering Up are set last
+abbrev pub entered : ℕ → BridgePort → BridgeView → BridgeView
+entered p port v = joined_at p port (settled (left p port v))
+
+-- a bridge at whose port number p, now in this state, this came to pass
+abbrev pub changed_at : Heard → ℕ → BridgePort → BridgeView → BridgeView
+changed_at did.Discarded p port v = dropped drop.Hello v
+changed_at did.Kept p port v = settled (with_port_at p port v)
+changed_at did.LeftUp p port v = settled (left p port v)
+changed_at did.CameUp p port v = entered p port v
+
+-- a bridge after a hello at its port number p
+abbrev pub greeted : HelloValue → ThreeWay → ℕ → BridgePort → BridgeView → BridgeView
+greeted h way p port v =
+    changed_at (heard_of v.id.system p h way port.adjacency) p (with_adjacency (after_hello v.id.system p h way port.adjacency) port) v
+
+-- a bridge that heard an LSP, or a complete or a partial sequence numbers PDU with these entries, at its port number p,
+-- or to which a customer's frame came there over the backbone. These change nothing yet
+abbrev pub flooded : LspValue → ℕ → BridgeView → BridgeView
+flooded l p v = v
+
+abbrev pub completed : CsnpValue → List SnpEntry → ℕ → BridgeView → BridgeView
+completed c entries p v = v
+
+abbrev pub requested : PsnpValue → List SnpEntry → ℕ → BridgeView → BridgeView
+requested s entries p v = v
+
+abbrev pub forwarded : Mac → Mac → Vid → Isid → List ℕ → ℕ → BridgeView → BridgeView
+forwarded da sa vid isid customer p v = v
+
+-- sequence numbers PDUs are dropped where their entries can't be read
+abbrev pub with_complete : CsnpValue → Result (List SnpEntry) TlvError → ℕ → BridgeView → BridgeView
+with_complete c (Err e) p v = dropped drop.Tlv v
+with_complete c (Ok entries) p v = settled (completed c entries p v)
+
+abbrev pub with_partial : PsnpValue → Result (List SnpEntry) TlvError → ℕ → BridgeView → BridgeView
+with_partial s (Err e) p v = dropped drop.Tlv v
+with_partial s (Ok entries) p v = settled (requested s entries p v)
+
+-- a bridge after a frame of each kind at a port with carrier. LSPs and sequence numbers PDUs are heard only at a port
+-- that is Up
+abbrev pub heard_as : Judged → ℕ → BridgePort → BridgeView → BridgeView
+heard_as (useless reason) p port v = dropped reason v
+heard_as (greeting h way) p port v = greeted h way p port v
+heard_as (link_state l) p port v = if is_port_up port then settled (flooded l p v) else dropped drop.NotAdjacent v
+heard_as (complete c) p port v = if is_port_up port then with_complete c (entries_in c.tlvs) p v else dropped drop.NotAdjacent v
+heard_as (partial s) p port v = if is_port_up port then with_partial s (entries_in s.tlvs) p v else dropped drop.NotAdjacent v
+heard_as (tenant da sa vid isid customer) p port v = forwarded da sa vid isid customer p v
+
+-- the first thing that is looked at is the carrier of the port
+abbrev pub heard_at : ℕ → List ℕ → Option BridgePort → BridgeView → BridgeView
+heard_at p frame None v = v
+heard_at p frame (Some port) v = if port.adjacency.carrier then heard_as (judged frame) p port v else dropped drop.NotAdjacent v
+
+-- a bridge after a frame came in at its port number p
+unfoldable pub after_receive : ℕ → List ℕ → BridgeView → BridgeView
+after_receive p frame v = heard_at p frame (port_at v p) v
+
+-- a bridge after carrier came or went at its port number p
+abbrev pub carried_at : ℕ → Bool → Option BridgePort → BridgeView → BridgeView
+carried_at p on None v = v
+carried_at p on (Some port) v =
+    changed_at (change_of port.adjacency (after_carrier on port.adjacency)) p (with_adjacency (after_carrier on port.adjacency) port) v
+
+unfoldable pub with_carrier : ℕ → Bool → BridgeView → BridgeView
+with_carrier p on v = carried_at p on (port_at v p) v

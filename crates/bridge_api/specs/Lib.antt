@@ -1,0 +1,9 @@
+pub mod View
+pub mod Config
+pub mod Judging
+pub mod Hearing
+pub mod Ports
+pub mod Ticking
+pub mod Step
+pub mod Among
+pub mod Laws

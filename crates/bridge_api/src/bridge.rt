@@ -1,0 +1,140 @@
+use crate::config::BridgeConfig;
+use crate::kind::Kind;
+use crate::outbox::Outbox;
+use adjacency::Adjacency;
+use spb_types::NoMemory;
+
+/// A bridge of the backbone, with its IS-IS control.
+///
+/// A bridge is blank until `configure` is called, and each call but `kind`, `is_blank`, `is_failed` and `configure`
+/// has the condition that it isn't blank. A call that finds no memory leaves the bridge failed: from then on each call
+/// that can answer `NoMemory` answers it and changes nothing. What else a failed bridge's view says isn't told, and
+/// the outbox may have gained the first of that call's frames.
+pub trait Bridge: Drop {
+    ghost use Rattle.std.specs.Prelude.{◌≡◌, Bool, true, false, OnOk, OnErr, IsErr, Some};
+    ghost use Rattle.bridge_api.specs.declared.kind.Kind.{Kind};
+    ghost use Rattle.bridge_api.specs.View.{BridgeView, IsPort, port_at, is_due_at, adjacency_at};
+    ghost use Rattle.bridge_api.specs.Config.{IsWhole, configured};
+    ghost use Rattle.bridge_api.specs.Hearing.{after_receive, with_carrier};
+    ghost use Rattle.bridge_api.specs.Ticking.{after_tick, sent_in_tick};
+    ghost use Rattle.bridge_api.specs.Step.{with_wire, Gains};
+
+    /// The kind of the box, which never changes.
+    ghost kind_of: { Self → Kind };
+
+    /// Whether the bridge wasn't configured yet.
+    ghost blank: { Self → Bool };
+
+    /// The bridge as it is seen from outside. Of a blank one it says nothing but that it isn't failed.
+    ghost view: { Self → BridgeView };
+
+    /// The kind of this implementation.
+    fn kind(&self) -> Kind
+        ensures { result ≡ kind_of self.now };
+
+    /// Whether `configure` was never called.
+    fn is_blank(&self) -> bool
+        ensures { result ≡ blank self.now };
+
+    /// Whether a call answered `NoMemory`. A blank bridge isn't failed.
+    fn is_failed(&self) -> bool
+        ensures failed { result ≡ (view self.now).failed }
+        ensures made { result ≡ true → blank self.now ≡ false };
+
+    /// Makes the blank bridge that of a whole configuration. There is no carrier afterwards.
+    fn configure(&mut self, config: &BridgeConfig) -> Result<(), NoMemory>
+        requires blank { blank self.old ≡ true }
+        requires whole { IsWhole config.now }
+        ensures view { OnOk result (view self.new ≡ configured config.now) }
+        ensures memory { OnErr result ((view self.new).failed ≡ true) }
+        ensures made { blank self.new ≡ false }
+        ensures kind { kind_of self.new ≡ kind_of self.old };
+
+    /// A second passes: the holding counts fall, and a hello goes out at each port with carrier, in ascending order.
+    fn tick(&mut self, outbox: &mut Outbox) -> Result<(), NoMemory>
+        requires { blank self.old ≡ false }
+        ensures view { OnOk result (view self.new ≡ after_tick (view self.old)) }
+        ensures sent { OnOk result (outbox.new ≡ with_wire (sent_in_tick (view self.old)) outbox.old) }
+        ensures memory { OnErr result ((view self.new).failed ≡ true) }
+        ensures gained { OnErr result (Gains (sent_in_tick (view self.old)) outbox.old outbox.new) }
+        ensures failed { (view self.old).failed ≡ true → IsErr result × (view self.new ≡ view self.old) × (outbox.new ≡ outbox.old) }
+        ensures made { blank self.new ≡ false }
+        ensures kind { kind_of self.new ≡ kind_of self.old };
+
+    /// Hears a frame, which may be any bytes, at a port. A frame of no use is dropped and changes nothing.
+    fn receive(&mut self, port: u8, frame: &[u8], outbox: &mut Outbox) -> Result<(), NoMemory>
+        requires made { blank self.old ≡ false }
+        requires port { IsPort (view self.old) port }
+        ensures view { OnOk result (view self.new ≡ after_receive port frame.now (view self.old)) }
+        ensures sent { outbox.new ≡ outbox.old }
+        ensures memory { OnErr result ((view self.new).failed ≡ true) }
+        ensures failed { (view self.old).failed ≡ true → IsErr result × (view self.new ≡ view self.old) }
+        ensures still_made { blank self.new ≡ false }
+        ensures kind { kind_of self.new ≡ kind_of self.old };
+
+    /// Carrier comes or goes at a port.
+    fn carrier(&mut self, port: u8, on: bool) -> Result<(), NoMemory>
+        requires made { blank self.old ≡ false }
+        requires port { IsPort (view self.old) port }
+        ensures view { OnOk result (view self.new ≡ with_carrier port on (view self.old)) }
+        ensures memory { OnErr result ((view self.new).failed ≡ true) }
+        ensures failed { (view self.old).failed ≡ true → IsErr result × (view self.new ≡ view self.old) }
+        ensures still_made { blank self.new ≡ false }
+        ensures kind { kind_of self.new ≡ kind_of self.old };
+
+    /// The adjacency at a port.
+    fn adjacent(&self, port: u8) -> Adjacency
+        requires made { blank self.now ≡ false }
+        requires port { IsPort (view self.now) port }
+        ensures { Some result ≡ adjacency_at (view self.now) port };
+
+    /// Whether CSNPs are to be sent at a port at the next tick.
+    fn due(&self, port: u8) -> bool
+        requires made { blank self.now ≡ false }
+        requires port { IsPort (view self.now) port }
+        ensures { result ≡ is_due_at (view self.now) port };
+}
+
+impl Bridge for Box<dyn Bridge> {
+    ghost kind_of = { λ b. (Bridge-box b).kind_of b.value };
+
+    ghost blank = { λ b. (Bridge-box b).blank b.value };
+
+    ghost view = { λ b. (Bridge-box b).view b.value };
+
+    fn kind(&self) -> Kind {
+        (**self).kind()
+    }
+
+    fn is_blank(&self) -> bool {
+        (**self).is_blank()
+    }
+
+    fn is_failed(&self) -> bool {
+        (**self).is_failed()
+    }
+
+    fn configure(&mut self, config: &BridgeConfig) -> Result<(), NoMemory> {
+        (**self).configure(config)
+    }
+
+    fn tick(&mut self, outbox: &mut Outbox) -> Result<(), NoMemory> {
+        (**self).tick(outbox)
+    }
+
+    fn receive(&mut self, port: u8, frame: &[u8], outbox: &mut Outbox) -> Result<(), NoMemory> {
+        (**self).receive(port, frame, outbox)
+    }
+
+    fn carrier(&mut self, port: u8, on: bool) -> Result<(), NoMemory> {
+        (**self).carrier(port, on)
+    }
+
+    fn adjacent(&self, port: u8) -> Adjacency {
+        (**self).adjacent(port)
+    }
+
+    fn due(&self, port: u8) -> bool {
+        (**self).due(port)
+    }
+}

@@ -1,0 +1,8 @@
+/// The implementation that a box holds. All do the same.
+#[derive(Clone, Copy, Debug, PartialEq, Eq, Hash)]
+pub enum Kind {
+    /// One that computes its tables anew.
+    Plain,
+    /// One that repairs the trees that it has.
+    Swift,
+}
