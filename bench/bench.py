@@ -1,0 +1,90 @@
+#!/usr/bin/env python3
+"""Runs spbsim on made workloads, and prints what each takes in one table.
+
+    bench/bench.py [PROGRAM ..]
+
+Without arguments it measures the program built in this repository (build it first: ./spbsim run < examples/two-bridges.spb).
+Each further program that takes the word `run` and a script on standard input is measured beside it.
+"""
+import os
+import random
+import subprocess
+import sys
+import tempfile
+
+HERE = os.path.dirname(os.path.abspath(__file__))
+BUILT = os.path.join(HERE, "..", "crates", "spbsim", "out", "spbsim")
+
+
+def bridges(count, ports):
+    """The declarations of so many bridges, b1 and on."""
+    for k in range(1, count + 1):
+        yield f"bridge b{k} 32768 0200000000{k:02x} {k:05x} {ports}"
+
+
+def mesh(count, links, seed=1):
+    """The pairs of a connected graph: a ring first, then pairs at random; no bridge has more than 32 links."""
+    chosen = [(k, k % count + 1) for k in range(1, count + 1)]
+    degree = {k: 2 for k in range(1, count + 1)}
+    taken = {frozenset(pair) for pair in chosen}
+    pick = random.Random(seed)
+    while len(chosen) < links:
+        a, b = pick.sample(range(1, count + 1), 2)
+        if frozenset((a, b)) in taken or degree[a] == 32 or degree[b] == 32:
+            continue
+        taken.add(frozenset((a, b)))
+        chosen.append((a, b))
+        degree[a] += 1
+        degree[b] += 1
+    return chosen
+
+
+def wired(count, pairs):
+    """A script that declares so many bridges and a link for each pair, at the next free ports."""
+    yield "vid 10 1"
+    yield from bridges(count, 32)
+    used = {}
+    for number, (a, b) in enumerate(pairs, 1):
+        ends = []
+        for bridge in (a, b):
+            used[bridge] = used.get(bridge, 0) + 1
+            ends.append(f"b{bridge} {used[bridge]}")
+        yield f"link l{number} {ends[0]} {ends[1]} {10 + number % 7}"
+
+
+def workloads():
+    """Name, script and number of deliveries of each workload."""
+    pairs = mesh(96, 400)
+    fabric = list(wired(96, pairs))
+    for rounds in (1000, 20000):
+        yield f"96 bridges, 400 links, round {rounds}", fabric + [f"round {rounds}"], rounds * 2 * len(pairs)
+    yield "the same, wiring of each", fabric + [f"wiring b{k}" for k in range(1, 97)], 0
+    chain = [(k, k + 1) for k in range(1, 96)]
+    yield "96 bridges in a line, round 1000", list(wired(96, chain)) + ["round 1000"], 1000 * 2 * len(chain)
+    # as many of the shortest lines as a script may have
+    yield "32,768 lines", ["#"] * 32768, 0
+
+
+def measure(program, path):
+    """Processor seconds, peak memory in MB and exit status of one run."""
+    with open(path, "rb") as script, open(os.devnull, "wb") as nowhere:
+        process = subprocess.Popen([program, "run"], stdin=script, stdout=nowhere, stderr=nowhere)
+        _, status, usage = os.wait4(process.pid, 0)
+    return usage.ru_utime + usage.ru_stime, usage.ru_maxrss / 1024, os.waitstatus_to_exitcode(status)
+
+
+def main():
+    programs = [BUILT] + sys.argv[1:]
+    print(f"{'workload':40} {'program':24} {'cpu s':>8} {'peak MB':>8} {'deliveries/s':>13}")
+    for name, lines, deliveries in workloads():
+        with tempfile.NamedTemporaryFile("w", suffix=".spb", delete=False) as script:
+            script.write("\n".join(lines) + "\n")
+        for program in programs:
+            seconds, memory, status = measure(program, script.name)
+            rate = f"{deliveries / seconds:,.0f}" if deliveries and seconds else "-"
+            note = "" if status == 0 else f"  status {status}"
+            print(f"{name:40} {os.path.basename(program):24} {seconds:8.2f} {memory:8.1f} {rate:>13}{note}")
+        os.unlink(script.name)
+
+
+main()
