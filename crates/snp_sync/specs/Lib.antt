@@ -1,0 +1,4 @@
+pub mod Line
+pub mod Parts
+pub mod Ids
+pub mod Sending

@@ -1,0 +1,9 @@
+//! The sequence numbers PDUs of a bridge (ISO/IEC 10589, 7.3.15.2 to 7.3.15.4).
+#![tactic(auto)]
+
+pub use ids::successor;
+pub use sending::{csnps, psnps};
+
+mod ids;
+mod lines;
+mod sending;

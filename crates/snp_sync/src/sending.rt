@@ -1,0 +1,85 @@
+ghost use Rattle.std.specs.Prelude.{◌≡◌, ◌≤◌, ◌<◌, IfOk, OnErr, map, length};
+ghost use Rattle.isis_pdu.specs.Spelling.{csnp_bytes, psnp_bytes};
+ghost use Rattle.snp_sync.specs.Sending.{csnp_with, psnp_with, csnps_of, psnps_of, all_settled};
+
+use crate::ids::{FIRST, LAST, successor};
+use crate::lines::{listed, owed, tlvs_of};
+use isis_pdu::{Csnp, Psnp, write_csnp, write_psnp};
+use lsdb::Database;
+use spb_tlvs::SnpEntry;
+use spb_types::{LspId, NoMemory, SystemId};
+use std::alloc::Global;
+
+/// The most lines in a PDU.
+const PDU_LINES: usize = 90;
+
+fn csnp(alloc: Global, me: SystemId, start: LspId, end: LspId, lines: &[SnpEntry]) -> Result<Vec<u8>, NoMemory>
+    requires { length lines.now ≤ 90 }
+    ensures { IfOk result (λ v. v.items ≡ csnp_bytes (csnp_with me start end lines.now)) }
+{
+    let tlvs = tlvs_of(alloc, lines)?;
+    write_csnp(alloc, &Csnp { source: me, start, end, tlvs: &tlvs })
+}
+
+fn psnp(alloc: Global, me: SystemId, lines: &[SnpEntry]) -> Result<Vec<u8>, NoMemory>
+    requires { length lines.now ≤ 90 }
+    ensures { IfOk result (λ v. v.items ≡ psnp_bytes (psnp_with me lines.now)) }
+{
+    let tlvs = tlvs_of(alloc, lines)?;
+    write_psnp(alloc, &Psnp { source: me, tlvs: &tlvs })
+}
+
+/// The CSNPs of the whole database.
+pub fn csnps(alloc: Global, db: &Database, me: SystemId) -> Result<Vec<Vec<u8>>, NoMemory>
+    ensures { IfOk result (λ pdus. map (λ v. v.items) pdus.items ≡ map csnp_bytes (csnps_of me db.now)) }
+{
+    let lines = listed(alloc, db)?;
+    let mut pdus = Vec::new(alloc);
+    let mut start = FIRST;
+    let mut rest = lines.as_slice();
+    while rest.len() > PDU_LINES {
+        let (page, more) = rest.split_at(PDU_LINES);
+        let end = page[PDU_LINES - 1].id;
+        pdus.push(csnp(alloc, me, start, end, page)?)?;
+        start = successor(end);
+        rest = more;
+    }
+    pdus.push(csnp(alloc, me, start, LAST, rest)?)?;
+    Ok(pdus)
+}
+
+fn psnps_of(alloc: Global, lines: &[SnpEntry], me: SystemId) -> Result<Vec<Vec<u8>>, NoMemory>
+{
+    let mut pdus = Vec::new(alloc);
+    for page in lines.chunks(PDU_LINES) {
+        pdus.push(psnp(alloc, me, page)?)?;
+    }
+    Ok(pdus)
+}
+
+fn settle(db: &mut Database, port: u8)
+    requires low { 1 ≤ port }
+    requires high { port ≤ 32 }
+    ensures { db.new ≡ all_settled port db.old }
+{
+    for place in 0..db.len() {
+        if let Some(held) = db.at(place) {
+            if held.ssn.has(port) {
+                let id = held.id;
+                db.set_ssn(&id, port, false);
+            }
+        }
+    }
+}
+
+/// The PSNPs of what is owed at a port.
+pub fn psnps(alloc: Global, db: &mut Database, me: SystemId, port: u8) -> Result<Vec<Vec<u8>>, NoMemory>
+    requires low { 1 ≤ port }
+    requires high { port ≤ 32 }
+    ensures err { OnErr result (db.new ≡ db.old) }
+{
+    let lines = owed(alloc, db, port)?;
+    let pdus = psnps_of(alloc, &lines, me)?;
+    settle(db, port);
+    Ok(pdus)
+}
