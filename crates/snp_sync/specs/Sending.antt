@@ -1,5 +1,6 @@
 -- The sequence numbers PDUs that a bridge sends (ISO/IEC 10589, 7.3.15.3 and 7.3.15.4).
 use Rattle.std.specs.Prelude.{ℕ, false, List, [], ◌∷◌, map, if◌then◌else◌}
+use Rattle.std.specs.Global.{Vec}
 use Rattle.spb_types.specs.declared.address.LspId.{LspId}
 use Rattle.spb_types.specs.declared.address.SystemId.{SystemId}
 use Rattle.spb_tlvs.specs.declared.entries.SnpEntry.{SnpEntry}
@@ -9,6 +10,10 @@ use Rattle.lsdb.specs.Database.{Lsps, each}
 use Rattle.snp_sync.specs.Line.{lines_where, is_listed, is_owed}
 use Rattle.snp_sync.specs.Parts.{line_tlvs, pages, pages_or_one}
 use Rattle.snp_sync.specs.Ids.{successor, first_id, last_id}
+
+-- the bytes of PDUs
+abbrev pub bytes_in : List (Vec ℕ) → List (List ℕ)
+bytes_in pdus = map (λ pdu. pdu.items) pdus
 
 -- a CSNP of a range, and a PSNP, with these lines
 abbrev pub csnp_with : SystemId → LspId → LspId → List SnpEntry → CsnpValue

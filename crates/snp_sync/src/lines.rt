@@ -1,7 +1,7 @@
-ghost use Rattle.std.specs.Prelude.{◌≡◌, ◌≤◌, IfOk, length};
+ghost use Rattle.std.specs.Prelude.{◌≡◌, ◌≤◌, ◌+◌, ◌*◌, IfOk, length};
 ghost use Rattle.lsdb.specs.Entry.{entry_of};
 ghost use Rattle.snp_sync.specs.Line as lines;
-ghost use Rattle.snp_sync.specs.Line.{lines_where, is_listed, is_owed};
+ghost use Rattle.snp_sync.specs.Line.{lines_where, is_owed};
 ghost use Rattle.snp_sync.specs.Parts.{line_tlvs};
 
 use lsdb::{Database, Held, Version};
@@ -34,14 +34,24 @@ fn line_of(held: &Held) -> SnpEntry
     }
 }
 
+fn is_listed(held: &Held) -> bool
+    ensures { result ≡ lines.is_listed (entry_of held.now) }
+{
+    match held.version {
+        Version::Absent => false,
+        Version::Live { seq: _, sum: _ } => true,
+        Version::Dead { seq: _ } => true,
+    }
+}
+
 /// The lines of all LSPs but the absent ones, in order of id.
 pub fn listed(alloc: Global, db: &Database) -> Result<Vec<SnpEntry>, NoMemory>
-    ensures { IfOk result (λ v. v.items ≡ lines_where is_listed db.now) }
+    ensures { IfOk result (λ v. v.items ≡ lines_where lines.is_listed db.now) }
 {
     let mut lines = Vec::new(alloc);
     for place in 0..db.len() {
         if let Some(held) = db.at(place) {
-            if held.version != Version::Absent {
+            if is_listed(held) {
                 lines.push(line_of(held))?;
             }
         }
@@ -68,7 +78,8 @@ pub fn owed(alloc: Global, db: &Database, port: u8) -> Result<Vec<SnpEntry>, NoM
 
 /// The TLVs of lines.
 pub fn tlvs_of(alloc: Global, lines: &[SnpEntry]) -> Result<Vec<u8>, NoMemory>
-    ensures { IfOk result (λ v. v.items ≡ line_tlvs lines.now) }
+    ensures tlvs { IfOk result (λ v. v.items ≡ line_tlvs lines.now) }
+    ensures short { IfOk result (λ v. 15 * length v.items ≤ 242 * length lines.now + 28) }
 {
     let mut tlvs = Vec::new(alloc);
     for part in lines.chunks(TLV_LINES) {

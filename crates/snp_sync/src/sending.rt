@@ -1,6 +1,8 @@
-ghost use Rattle.std.specs.Prelude.{◌≡◌, ◌≤◌, ◌<◌, IfOk, OnErr, map, length};
+ghost use Rattle.std.specs.Prelude.{◌≡◌, ◌≤◌, ◌<◌, IfOk, OnOk, OnErr, map, length};
 ghost use Rattle.isis_pdu.specs.Spelling.{csnp_bytes, psnp_bytes};
-ghost use Rattle.snp_sync.specs.Sending.{csnp_with, psnp_with, csnps_of, psnps_of, all_settled};
+ghost use Rattle.snp_sync.specs.Parts.{pages};
+ghost use Rattle.snp_sync.specs.Sending as sending;
+ghost use Rattle.snp_sync.specs.Sending.{bytes_in, csnp_with, psnp_with, csnps_of, all_settled};
 
 use crate::ids::{FIRST, LAST, successor};
 use crate::lines::{listed, owed, tlvs_of};
@@ -31,7 +33,7 @@ fn psnp(alloc: Global, me: SystemId, lines: &[SnpEntry]) -> Result<Vec<u8>, NoMe
 
 /// The CSNPs of the whole database.
 pub fn csnps(alloc: Global, db: &Database, me: SystemId) -> Result<Vec<Vec<u8>>, NoMemory>
-    ensures { IfOk result (λ pdus. map (λ v. v.items) pdus.items ≡ map csnp_bytes (csnps_of me db.now)) }
+    ensures { IfOk result (λ pdus. bytes_in pdus.items ≡ map csnp_bytes (csnps_of me db.now)) }
 {
     let lines = listed(alloc, db)?;
     let mut pdus = Vec::new(alloc);
@@ -48,7 +50,9 @@ pub fn csnps(alloc: Global, db: &Database, me: SystemId) -> Result<Vec<Vec<u8>>,
     Ok(pdus)
 }
 
+/// The PSNPs of lines.
 fn psnps_of(alloc: Global, lines: &[SnpEntry], me: SystemId) -> Result<Vec<Vec<u8>>, NoMemory>
+    ensures { IfOk result (λ pdus. bytes_in pdus.items ≡ map psnp_bytes (map (psnp_with me) (pages lines.now))) }
 {
     let mut pdus = Vec::new(alloc);
     for page in lines.chunks(PDU_LINES) {
@@ -76,6 +80,8 @@ fn settle(db: &mut Database, port: u8)
 pub fn psnps(alloc: Global, db: &mut Database, me: SystemId, port: u8) -> Result<Vec<Vec<u8>>, NoMemory>
     requires low { 1 ≤ port }
     requires high { port ≤ 32 }
+    ensures ok { IfOk result (λ pdus. bytes_in pdus.items ≡ map psnp_bytes (sending.psnps_of me port db.old)) }
+    ensures settled { OnOk result (db.new ≡ all_settled port db.old) }
     ensures err { OnErr result (db.new ≡ db.old) }
 {
     let lines = owed(alloc, db, port)?;
