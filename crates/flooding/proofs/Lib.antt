@@ -1,0 +1,4 @@
+pub mod Changed
+pub mod Heard
+pub mod Originated
+pub mod Sent
