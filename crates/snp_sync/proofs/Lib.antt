@@ -2,3 +2,4 @@ pub mod Gathered
 pub mod Cuts
 pub mod Pages
 pub mod Places
+pub mod Heard

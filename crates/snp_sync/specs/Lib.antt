@@ -2,3 +2,4 @@ pub mod Line
 pub mod Parts
 pub mod Ids
 pub mod Sending
+pub mod Hearing

@@ -1,0 +1,107 @@
+ghost use Rattle.std.specs.Prelude.{◌≡◌, ◌≤◌, length, if◌then◌else◌, IfOk, OnOk, OnErr};
+ghost use Rattle.std.specs.FinMap.{get};
+ghost use Rattle.lsdb.specs.Version.{claimed};
+ghost use Rattle.lsdb.specs.Entry.{cleared};
+ghost use Rattle.lsdb.specs.Database.{changed};
+ghost use Rattle.flooding.specs.Hearing.{wanted, unless_absent, hear_entry_of, is_full_for_entry};
+ghost use Rattle.flooding.specs.Placing.{Puts, Hears, holding};
+ghost use Rattle.snp_sync.specs.Hearing.{claim_in, claims_in, hear_entries_of, full_count, HeardSome, hear_csnp_of, flag_missed};
+
+use flooding::{FloodError, Own, answer_claim, ask};
+use lsdb::{Database, Held, Relation, Version, compare};
+use spb_tlvs::SnpEntry;
+use spb_types::{LspId, NoMemory, PortSet, Seq};
+use std::alloc::Global;
+
+fn version_of(entry: &SnpEntry) -> Version
+    ensures { result ≡ claimed entry.now.seq entry.now.lifetime entry.now.sum }
+{
+    Version::claimed(entry.seq, entry.lifetime, entry.sum)
+}
+
+/// The neighbour at a port has a newer LSP, which is asked for. An id that isn't held is entered as absent.
+fn want(alloc: Global, db: &mut Database, port: u8, id: &LspId) -> Result<(), FloodError>
+    requires low { 1 ≤ port }
+    requires high { port ≤ 32 }
+    ensures { Puts result id.now (wanted port (get db.old id.now)) db.old db.new }
+{
+    if db.find(id).is_some() {
+        db.set_srm(id, port, false);
+        db.set_ssn(id, port, true);
+        return Ok(());
+    }
+    db.put(Held {
+        id: *id,
+        version: Version::Absent,
+        lifetime: 0,
+        body: Seq::new(alloc),
+        srm: PortSet::none(),
+        ssn: PortSet::none().with(port),
+    })?;
+    Ok(())
+}
+
+/// The neighbour at a port has the LSP. Nothing happens where it is absent.
+fn clear(db: &mut Database, port: u8, id: &LspId)
+    requires low { 1 ≤ port }
+    requires high { port ≤ 32 }
+    ensures { db.new ≡ changed (unless_absent (cleared port)) db.old id.now }
+{
+    if let Version::Absent = db.version_at(id) {
+        return;
+    }
+    db.set_srm(id, port, false);
+}
+
+/// Hears an entry at a port.
+fn hear_entry(alloc: Global, db: &mut Database, up: PortSet, port: u8, entry: &SnpEntry, own: &mut Own) -> Result<(), FloodError>
+    requires low { 1 ≤ port }
+    requires high { port ≤ 32 }
+    requires body { 1 ≤ length own.old.body }
+    ensures { Hears result (is_full_for_entry up port (claim_in entry.now) (holding db.old own.old)) (holding db.old own.old)
+        (hear_entry_of up port (claim_in entry.now) (holding db.old own.old)) (holding db.new own.new) }
+{
+    let relation = compare(version_of(entry), db.version_at(&entry.id));
+    if own.answers(&entry.id, relation) {
+        return answer_claim(alloc, db, up, &entry.id, entry.seq, own);
+    }
+    match relation {
+        Relation::Newer => return want(alloc, db, port, &entry.id),
+        Relation::Equal => clear(db, port, &entry.id),
+        Relation::Older => ask(db, port, &entry.id),
+        Relation::Confused => db.bury(&entry.id, entry.seq, up),
+    }
+    Ok(())
+}
+
+/// Hears an entry at a port, and counts it where it needed a place that there wasn't.
+fn count_entry(alloc: Global, db: &mut Database, up: PortSet, port: u8, entry: &SnpEntry, own: &mut Own) -> Result<u64, NoMemory>
+    requires low { 1 ≤ port }
+    requires high { port ≤ 32 }
+    requires body { 1 ≤ length own.old.body }
+    ensures full { IfOk result (λ n. n ≡ (if is_full_for_entry up port (claim_in entry.now) (holding db.old own.old) then 1 else 0)) }
+    ensures heard { OnOk result (holding db.new own.new ≡ hear_entry_of up port (claim_in entry.now) (holding db.old own.old)) }
+    ensures err { OnErr result (holding db.new own.new ≡ holding db.old own.old) }
+{
+    match hear_entry(alloc, db, up, port, entry, own) {
+        Ok(()) => Ok(0),
+        Err(FloodError::Full) => Ok(1),
+        Err(FloodError::NoMemory) => Err(NoMemory),
+    }
+}
+
+/// Hears the entries of a PSNP.
+pub fn hear_psnp(alloc: Global, db: &mut Database, up: PortSet, port: u8, entries: &[SnpEntry], own: &mut Own) -> Result<u64, NoMemory>
+    requires low { 1 ≤ port }
+    requires high { port ≤ 32 }
+    requires body { 1 ≤ length own.old.body }
+    ensures full { IfOk result (λ n. n ≡ full_count up port (claims_in entries.now) (holding db.old own.old)) }
+    ensures heard { OnOk result (holding db.new own.new ≡ hear_entries_of up port (claims_in entries.now) (holding db.old own.old)) }
+    ensures err { OnErr result (HeardSome up port (claims_in entries.now) (holding db.old own.old) (holding db.new own.new)) }
+{
+    let mut full = 0;
+    for entry in entries {
+        full += count_entry(alloc, db, up, port, entry, own)?;
+    }
+    Ok(full)
+}
