@@ -3,3 +3,4 @@ pub mod Cuts
 pub mod Pages
 pub mod Places
 pub mod Heard
+pub mod Named

@@ -33,19 +33,26 @@ full_count up port (c ∷ claims) h = (if is_full_for_entry up port c h then 1 e
 abbrev pub HeardSome : PortSet → ℕ → List Claim → Holding → Holding → Type 0
 HeardSome up port claims old new = (k : ℕ) × (new ≡ hear_entries_of up port (take k claims) old)
 
--- whether claims name an id
-abbrev pub is_named : List Claim → LspId → Bool
-is_named claims id = list_any (λ c. is_eq (id_cmp c.id id)) claims
+-- the ids that claims name, and whether an id is among them
+abbrev pub ids_of : List Claim → List LspId
+ids_of claims = map (λ c. c.id) claims
 
--- whether the sender of a CSNP of a range lacks an LSP: its id lies in the range and isn't named, and it isn't absent
-abbrev pub is_missed : LspId → LspId → List Claim → LspId → Entry → Bool
-is_missed start end claims id e = is_between start end id && (not (is_named claims id) && not (is_absent e.version))
+abbrev pub is_among : List LspId → LspId → Bool
+is_among ids id = list_any (λ x. is_eq (id_cmp x id)) ids
 
--- what the sender of a CSNP lacks is to be sent at the port
-abbrev pub flag_missed : ℕ → LspId → LspId → List Claim → Lsps → Lsps
-flag_missed port start end claims db = each (λ id e. if is_missed start end claims id e then flagged port e else e) db
+-- whether the sender of a CSNP of a range, which names ids, lacks an LSP: its id lies in the range and isn't named, and it
+-- isn't absent
+abbrev pub is_missed : LspId → LspId → List LspId → LspId → Entry → Bool
+is_missed start end ids id e = is_between start end id && not (is_among ids id) && not (is_absent e.version)
+
+-- what it lacks is to be sent at the port
+abbrev pub flag_if : Bool → ℕ → Entry → Entry
+flag_if missed port e = if missed then flagged port e else e
+
+abbrev pub flag_missed : ℕ → LspId → LspId → List LspId → Lsps → Lsps
+flag_missed port start end ids db = each (λ id e. flag_if (is_missed start end ids id e) port e) db
 
 -- after a CSNP of a range heard at a port: its claims, and then what its sender lacks
 abbrev pub hear_csnp_of : PortSet → ℕ → LspId → LspId → List Claim → Holding → Holding
 hear_csnp_of up port start end claims h =
-    let heard = hear_entries_of up port claims h in record { db = flag_missed port start end claims heard.db; own = heard.own }
+    let heard = hear_entries_of up port claims h in record { db = flag_missed port start end (ids_of claims) heard.db; own = heard.own }

@@ -5,8 +5,9 @@ ghost use Rattle.lsdb.specs.Entry.{cleared};
 ghost use Rattle.lsdb.specs.Database.{changed};
 ghost use Rattle.flooding.specs.Hearing.{wanted, unless_absent, hear_entry_of, is_full_for_entry};
 ghost use Rattle.flooding.specs.Placing.{Puts, Hears, holding};
-ghost use Rattle.snp_sync.specs.Hearing.{claim_in, claims_in, hear_entries_of, full_count, HeardSome, hear_csnp_of, flag_missed};
+ghost use Rattle.snp_sync.specs.Hearing.{claim_in, claims_in, hear_entries_of, full_count, HeardSome, hear_csnp_of};
 
+use crate::missed::{flag_missed, sorted_ids};
 use flooding::{FloodError, Own, answer_claim, ask};
 use lsdb::{Database, Held, Relation, Version, compare};
 use spb_tlvs::SnpEntry;
@@ -103,5 +104,29 @@ pub fn hear_psnp(alloc: Global, db: &mut Database, up: PortSet, port: u8, entrie
     for entry in entries {
         full += count_entry(alloc, db, up, port, entry, own)?;
     }
+    Ok(full)
+}
+
+/// Hears a CSNP.
+pub fn hear_csnp(
+    alloc: Global,
+    db: &mut Database,
+    up: PortSet,
+    port: u8,
+    start: &LspId,
+    end: &LspId,
+    entries: &[SnpEntry],
+    own: &mut Own,
+) -> Result<u64, NoMemory>
+    requires low { 1 ≤ port }
+    requires high { port ≤ 32 }
+    requires body { 1 ≤ length own.old.body }
+    ensures full { IfOk result (λ n. n ≡ full_count up port (claims_in entries.now) (holding db.old own.old)) }
+    ensures heard { OnOk result (holding db.new own.new ≡ hear_csnp_of up port start.now end.now (claims_in entries.now) (holding db.old own.old)) }
+    ensures err { OnErr result (HeardSome up port (claims_in entries.now) (holding db.old own.old) (holding db.new own.new)) }
+{
+    let named = sorted_ids(alloc, entries)?;
+    let full = hear_psnp(alloc, db, up, port, entries, own)?;
+    flag_missed(db, port, start, end, &named);
     Ok(full)
 }

@@ -34,7 +34,8 @@ fn line_of(held: &Held) -> SnpEntry
     }
 }
 
-fn is_listed(held: &Held) -> bool
+/// Whether CSNPs list an LSP: all but the absent ones.
+pub fn is_listed(held: &Held) -> bool
     ensures { result ≡ lines.is_listed (entry_of held.now) }
 {
     match held.version {
