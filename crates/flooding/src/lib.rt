@@ -4,9 +4,8 @@
 //! A change finds its id in the database by binary search and copies at most one body. No call copies the database.
 #![tactic(auto)]
 
-pub use answer::answer as answer_claim;
 pub use error::FloodError;
-pub use hear::{ask, hear_lsp};
+pub use hear::hear_lsp;
 pub use origination::originate;
 pub use own::Own;
 pub use send::{lsp_of, to_send, write_held};
