@@ -1,5 +1,5 @@
 -- Changes of what is held under one id.
-use Rattle.std.specs.Prelude.{◌≡◌, Bool, true, false, not, Option, Some, None, if◌then◌else◌}
+use Rattle.std.specs.Prelude.{◌≡◌, false, not, Option, Some, None, if◌then◌else◌}
 use Rattle.std.proofs.Common.{refl, sym, ap, subst, ◌∙◌, ⊎_elim}
 use Rattle.std.specs.Option.{option_map}
 use Rattle.std.specs.FinMap.{get, insert, same_map}
@@ -8,9 +8,9 @@ use Rattle.lsdb.specs.declared.version.Version.{Version}
 use Rattle.lsdb.specs.declared.version.Version.TheVariants.{Absent, Live, Dead}
 use Rattle.lsdb.specs.Version.{is_absent}
 use Rattle.lsdb.specs.Entry.{Entry}
-use Rattle.lsdb.specs.Database.{Lsps, version_in, fits, placed, changed, changed_to}
+use Rattle.lsdb.specs.Database.{Lsps, version_in, placed, changed, changed_to}
 use Rattle.lsdb.proofs.Ids.{ids_total, ids_tied}
-use Rattle.lsdb.proofs.LookupLemmas.{get-insert_same, get-insert_other, same_or_not, changed_held, changed_missing, fits_held, placed_held}
+use Rattle.lsdb.proofs.LookupLemmas.{get-insert_same, get-insert_other, same_or_not, fits_held, placed_held}
 use Rattle.flooding.specs.Hearing.{unless_absent, lacks_place}
 
 -- what is held, put in again

@@ -2,3 +2,8 @@ pub mod Changed
 pub mod Heard
 pub mod Originated
 pub mod Sent
+pub mod Claimed
+pub mod Steps
+pub mod Owns
+pub mod AtMostHeld
+pub mod Flags

@@ -4,3 +4,5 @@ pub mod Hearing
 pub mod Origination
 pub mod Placing
 pub mod Sending
+pub mod Entries
+pub mod Laws

@@ -10,13 +10,13 @@ use Rattle.flooding.specs.declared.own.Own.{Own}
 use Rattle.flooding.specs.Own.{last_number, own_id, renewed}
 use Rattle.flooding.specs.Hearing.{Holding}
 
--- the own LSP dead at the last number, to be sent at every Up port, its SSN flags as they were
-abbrev pub spent_entry : PortSet → Option Entry → Entry
-spent_entry up held = made (Dead last_number) 0 [] up (ssn_in held)
+-- the own LSP dead at its number, to be sent at every Up port, its SSN flags as they were
+abbrev pub spent_entry : PortSet → ℕ → Option Entry → Entry
+spent_entry up seq held = made (Dead seq) 0 [] up (ssn_in held)
 
 -- the own LSP after an origination goes one number further; at the last one it is dead, and the system spent
 abbrev pub next_entry : PortSet → Own → ℕ → Option Entry → Entry
-next_entry up own seq held = if nat_lt seq last_number then renewed up own (seq + 1) else spent_entry up held
+next_entry up own seq held = if nat_lt seq last_number then renewed up own (seq + 1) else spent_entry up seq held
 
 abbrev pub next_own : Own → ℕ → Own
 next_own own seq = if nat_lt seq last_number then own else record own { spent = true }

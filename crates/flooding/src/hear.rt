@@ -1,14 +1,14 @@
 ghost use Rattle.std.specs.Prelude.{◌≡◌, ◌≤◌, length, IfOk};
 ghost use Rattle.isis_pdu.specs.Pdu.{lsp_of};
 ghost use Rattle.lsdb.specs.Version.{claimed};
-ghost use Rattle.lsdb.specs.Entry.{stored, acked, asked};
+ghost use Rattle.lsdb.specs.Entry.{stored, acked};
 ghost use Rattle.lsdb.specs.Database.{changed};
 ghost use Rattle.flooding.specs.Hearing as hearing;
 ghost use Rattle.flooding.specs.Hearing.{unless_absent, hear_lsp_of, is_full_for_lsp};
 ghost use Rattle.flooding.specs.Placing.{Puts, Hears, holding};
 
-use crate::answer::answer;
 use crate::put::put;
+use crate::rows::{acknowledge, ask};
 use crate::{FloodError, Own};
 use isis_pdu::Lsp;
 use lsdb::{Database, Held, Relation, Version, compare};
@@ -35,11 +35,11 @@ pub fn hear_lsp(alloc: Global, db: &mut Database, up: PortSet, port: u8, lsp: &L
 {
     let relation = compare(version_of(lsp), db.version_at(&lsp.id));
     if own.answers(&lsp.id, relation) {
-        return answer(alloc, db, up, &lsp.id, lsp.seq, own);
+        return own.answer(alloc, db, up, &lsp.id, lsp.seq);
     }
     match relation {
         Relation::Newer => return store(alloc, db, up, port, lsp),
-        Relation::Equal => acknowledge(db, port, &lsp.id),
+        Relation::Equal => acknowledge_held(db, port, &lsp.id),
         Relation::Older => ask(db, port, &lsp.id),
         Relation::Confused => db.bury(&lsp.id, lsp.seq, up),
     }
@@ -83,25 +83,14 @@ fn store(alloc: Global, db: &mut Database, up: PortSet, port: u8, lsp: &Lsp<'_>)
     )
 }
 
-/// The neighbour at a port has the LSP, and is told so. Nothing happens where it is absent.
-fn acknowledge(db: &mut Database, port: u8, id: &LspId)
+/// The neighbour at a port has the LSP that is held, and is told so. Nothing happens where it is absent.
+fn acknowledge_held(db: &mut Database, port: u8, id: &LspId)
     requires low { 1 ≤ port }
     requires high { port ≤ 32 }
     ensures { db.new ≡ changed (unless_absent (acked port)) db.old id.now }
 {
-    if let Version::Absent = db.version_at(id) {
-        return;
+    match db.version_at(id) {
+        Version::Absent => {}
+        _ => acknowledge(db, port, id),
     }
-    db.set_srm(id, port, false);
-    db.set_ssn(id, port, true);
-}
-
-/// The neighbour at a port has an older LSP, and gets the one that is held. Nothing happens where none is.
-pub fn ask(db: &mut Database, port: u8, id: &LspId)
-    requires low { 1 ≤ port }
-    requires high { port ≤ 32 }
-    ensures { db.new ≡ changed (asked port) db.old id.now }
-{
-    db.set_srm(id, port, true);
-    db.set_ssn(id, port, false);
 }

@@ -8,12 +8,14 @@ pub use error::FloodError;
 pub use hear::hear_lsp;
 pub use origination::originate;
 pub use own::Own;
+pub use rows::{acknowledge, ask};
 pub use send::{lsp_of, to_send, write_held};
 
-mod answer;
 mod error;
 mod hear;
+pub mod laws;
 mod origination;
 mod own;
 mod put;
+mod rows;
 mod send;

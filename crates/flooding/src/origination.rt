@@ -35,19 +35,19 @@ pub fn originate(alloc: Global, db: &mut Database, up: PortSet, own: &mut Own) -
             Err(_) => Err(NoMemory),
         };
     }
-    spend(db, up, &id);
+    spend(db, up, &id, seq);
     own.spent = true;
     Ok(())
 }
 
-/// Makes the LSP that is held under an id, and not as absent, dead at the last sequence number, to be sent at every Up
+/// Makes the LSP that is held under an id, and not as absent, dead at this sequence number, to be sent at every Up
 /// port; where it is to be acknowledged stays.
-fn spend(db: &mut Database, up: PortSet, id: &LspId)
+fn spend(db: &mut Database, up: PortSet, id: &LspId, seq: u32)
     requires { is_absent (version_at db.old id.now) ≡ false }
-    ensures { db.new ≡ placed db.old id.now (Some (spent_entry up (get db.old id.now))) }
+    ensures { db.new ≡ placed db.old id.now (Some (spent_entry up seq (get db.old id.now))) }
 {
     let ssn = ssn_at(db, id);
-    db.bury(id, u32::MAX, up);
+    db.bury(id, seq, up);
     db.set_flags(id, up, ssn);
 }
 

@@ -1,4 +1,4 @@
-use Rattle.std.proofs.Common.{◌≡◌, ℕ, Some, true, false, sym, ap, subst, ◌∙◌}
+use Rattle.std.proofs.Common.{◌≡◌, ℕ, Some, sym, ap, subst, ◌∙◌}
 use Rattle.std.specs.FinMap.{get}
 use Rattle.isis_pdu.specs.Pdu.{lsp_of}
 use Rattle.lsdb.specs.declared.version.Relation.{Relation}
@@ -23,7 +23,7 @@ returns-in-Equal c =
     let l = lsp_of c.args.lsp.now in
     let is : relation (claim_of l).version (version_in (get c.args.db.now l.id)) ≡ c.compare-relation.result = sym (c.compare-relation.ensures ∙ (λ i. relation (c.version_of.ensures i) (c.version_at.ensures i))) in
     let row_is = ap (λ (q : Relation). lsp_row c.args.up c.args.port l q (get c.args.db.now l.id)) c.in-Equal.is in
-    hears_change (lsp_row c.args.up c.args.port l) c.args.up (claim_of l) c.args.db.now c.args.own.now c.compare-relation.result (unless_absent (acked c.args.port)) c.acknowledge.new.db is (sym c.answers.ensures ∙ c.if-answers.false) row_is c.acknowledge.ensures
+    hears_change (lsp_row c.args.up c.args.port l) c.args.up (claim_of l) c.args.db.now c.args.own.now c.compare-relation.result (unless_absent (acked c.args.port)) c.acknowledge_held.new.db is (sym c.answers.ensures ∙ c.if-answers.false) row_is c.acknowledge_held.ensures
 
 pub returns-in-Older : goal.returns-in-Older
 returns-in-Older c =
@@ -37,8 +37,8 @@ returns-then-answers c =
     let l = lsp_of c.args.lsp.now in
     let is : relation (claim_of l).version (version_in (get c.args.db.now l.id)) ≡ c.compare-relation.result = sym (c.compare-relation.ensures ∙ (λ i. relation (c.version_of.ensures i) (c.version_at.ensures i))) in
     let h = holding c.args.db.now c.args.own.now in
-    let at : ℕ → Type 0 = λ n. Hears c.answer.result (lacks_place h.db l.id (Some (answered c.args.up h.own l.id n))) h (after_entry h l.id (Some (answered c.args.up h.own l.id n)) (answering h.own l.id n)) (holding c.answer.new.db c.answer.new.own) in
-    hears_answer (lsp_row c.args.up c.args.port l) c.args.up (claim_of l) h c.compare-relation.result c.answer.result (holding c.answer.new.db c.answer.new.own) is (sym c.answers.ensures ∙ c.if-answers.true)
+    let at : ℕ → Type 0 = λ n. Hears c.answer.result (lacks_place h.db l.id (Some (answered c.args.up h.own l.id n))) h (after_entry h l.id (Some (answered c.args.up h.own l.id n)) (answering h.own l.id n)) (holding c.answer.new.db c.answer.new.self) in
+    hears_answer (lsp_row c.args.up c.args.port l) c.args.up (claim_of l) h c.compare-relation.result c.answer.result (holding c.answer.new.db c.answer.new.self) is (sym c.answers.ensures ∙ c.if-answers.true)
     (subst at (sym (number-claimed l.seq l.lifetime l.sum)) c.answer.ensures)
 
 pub bury-requires : goal.bury-requires

@@ -28,6 +28,6 @@ pub returns-clause-ok : goal.returns-clause-ok
 returns-clause-ok c =
     let h = holding c.args.db.now c.args.own.now in
     let seq_is = c.number-seq.ensures ∙ ap number_of (c.version_at.ensures ∙ ap (λ (x : LspId). version_at c.args.db.now x) c.id-id.ensures) in
-    let put_in = c.spend.ensures ∙ ap (λ (x : LspId). placed c.args.db.now x (Some (spent_entry c.args.up (get c.args.db.now x)))) c.id-id.ensures in
+    let put_in = c.spend.ensures ∙ ap (λ (x : LspId). placed c.args.db.now x (Some (spent_entry c.args.up c.number-seq.result (get c.args.db.now x)))) c.id-id.ensures in
     ap (λ (d : Lsps). holding d (record c.args.own.now { spent = true })) put_in
     ∙ sym (originated_last c.args.up h c.number-seq.result c.if-own.false seq_is (le-ltb _ _ c.if-seq-lt4294967295.false))

@@ -1,7 +1,6 @@
 use Rattle.std.proofs.Common.{◌≤◌, ◌++◌, ◌∷◌, [], length, arith, sym, ap, ◌∙◌}
 use Rattle.std.proofs.lemmas.List.{take_all}
 use Rattle.std.specs.FinMap.{entries, len-entries}
-use Rattle.spb_types.specs.declared.address.LspId.{LspId}
 use Rattle.flooding.specs.Sending.{ids_among}
 use Rattle.flooding.proofs.Sent.{ids_sent, ids_kept, ids_past}
 use Rattle.flooding.proofs.send.to_send.Goals as goal
