@@ -4,18 +4,10 @@ use Rattle.std.specs.FinMap.{entries}
 use Rattle.spb_types.specs.declared.address.LspId.{LspId}
 use Rattle.spb_types.specs.Ports.{has}
 use Rattle.spb_tlvs.specs.declared.entries.SnpEntry.{SnpEntry}
-use Rattle.lsdb.specs.declared.version.Version.{Version}
-use Rattle.lsdb.specs.declared.version.Version.TheVariants.{Absent, Live, Dead}
-use Rattle.lsdb.specs.Version.{number_of, is_absent, claimed}
+use Rattle.lsdb.specs.Version.{number_of, is_absent}
 use Rattle.lsdb.specs.Entry.{Entry}
 use Rattle.lsdb.specs.Database.{Lsps}
-use Rattle.lsdb.specs.Certificate.{Claim}
-
--- the checksum of a version; only a live one has one
-abbrev pub sum_of : Version → ℕ
-sum_of Absent = 0
-sum_of (Live seq sum) = sum
-sum_of (Dead seq) = 0
+use Rattle.flooding.specs.Sending.{sum_of}
 
 -- the line of an LSP: its lifetime, its id, its sequence number and its checksum
 abbrev pub line_of : LspId → Entry → SnpEntry

@@ -8,7 +8,7 @@ ghost use Rattle.flooding.specs.Placing.{Puts, Hears, holding};
 ghost use Rattle.snp_sync.specs.Hearing.{claim_in, claims_in, hear_entries_of, full_count, HeardSome, hear_csnp_of};
 
 use crate::missed::{flag_missed, sorted_ids};
-use flooding::{FloodError, Own, answer_claim, ask};
+use flooding::{FloodError, Own, acknowledge, ask};
 use lsdb::{Database, Held, Relation, Version, compare};
 use spb_tlvs::SnpEntry;
 use spb_types::{LspId, NoMemory, PortSet, Seq};
@@ -27,8 +27,7 @@ fn want(alloc: Global, db: &mut Database, port: u8, id: &LspId) -> Result<(), Fl
     ensures { Puts result id.now (wanted port (get db.old id.now)) db.old db.new }
 {
     if db.find(id).is_some() {
-        db.set_srm(id, port, false);
-        db.set_ssn(id, port, true);
+        acknowledge(db, port, id);
         return Ok(());
     }
     db.put(Held {
@@ -64,7 +63,7 @@ fn hear_entry(alloc: Global, db: &mut Database, up: PortSet, port: u8, entry: &S
 {
     let relation = compare(version_of(entry), db.version_at(&entry.id));
     if own.answers(&entry.id, relation) {
-        return answer_claim(alloc, db, up, &entry.id, entry.seq, own);
+        return own.answer(alloc, db, up, &entry.id, entry.seq);
     }
     match relation {
         Relation::Newer => return want(alloc, db, port, &entry.id),

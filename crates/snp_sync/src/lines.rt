@@ -1,5 +1,6 @@
 ghost use Rattle.std.specs.Prelude.{◌≡◌, ◌≤◌, ◌+◌, ◌*◌, IfOk, length};
 ghost use Rattle.lsdb.specs.Entry.{entry_of};
+ghost use Rattle.flooding.specs.Sending.{sum_of};
 ghost use Rattle.snp_sync.specs.Line as lines;
 ghost use Rattle.snp_sync.specs.Line.{lines_where, is_owed};
 ghost use Rattle.snp_sync.specs.Parts.{line_tlvs};
@@ -13,7 +14,7 @@ use std::alloc::Global;
 const TLV_LINES: usize = 15;
 
 fn sum_of(version: Version) -> u16
-    ensures { result ≡ lines.sum_of version }
+    ensures { result ≡ sum_of version }
 {
     match version {
         Version::Absent => 0,
