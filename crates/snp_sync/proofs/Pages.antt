@@ -14,54 +14,57 @@ use Rattle.isis_pdu.specs.Header.{fixed_length}
 use Rattle.isis_pdu.specs.Spelling.{CanWrite, csnp_bytes, psnp_bytes}
 use Rattle.isis_pdu.specs.Tlvs.{is_whole}
 use Rattle.snp_sync.specs.Ids.{successor, first_id, last_id}
-use Rattle.snp_sync.specs.Parts.{parts, line_tlvs, pages, pages_or_one}
-use Rattle.snp_sync.specs.Sending.{bytes_in, csnp_with, psnp_with, end_of, csnps_from}
+use Rattle.snp_sync.specs.Parts.{parts, line_tlvs, parts_or_one}
+use Rattle.snp_sync.specs.Sending.{Page, bytes_in, csnp_for, psnp_for, end_of, pages_from}
 use Rattle.snp_sync.proofs.Cuts.{parts_first, parts_none, parts_cut, tlvs_whole}
 
 -- ---- the pages of CSNPs
 
--- there is always a page
-pub pages_some : (lines : List SnpEntry) → 1 ≤ length (pages_or_one lines)
-pages_some [] = lit≤ tt
-pages_some (line ∷ lines) = rw (parts_first 90 (line ∷ lines) (lit≤ tt) (omega arith)) (omega arith)
+-- there is always a part
+pub parts_some : (lines : List SnpEntry) → 1 ≤ length (parts_or_one 90 lines)
+parts_some [] = lit≤ tt
+parts_some (line ∷ lines) = rw (parts_first 90 (line ∷ lines) (lit≤ tt) (omega arith)) (omega arith)
 
-more_pages_at : (xs : List SnpEntry) → 1 ≤ length xs → pages_or_one xs ≡ pages xs
-more_pages_at [] some = absurd (omega arith)
-more_pages_at (x ∷ xs) some = refl
+full_parts : (xs : List SnpEntry) → 1 ≤ length xs → parts_or_one 90 xs ≡ parts 90 xs
+full_parts [] some = absurd (omega arith)
+full_parts (x ∷ xs) some = refl
 
-pub pages_more : (lines : List SnpEntry) → 90 < length lines → pages_or_one lines ≡ take 90 lines ∷ pages_or_one (drop 90 lines)
-pages_more lines many =
+pub parts_more : (lines : List SnpEntry) → 90 < length lines → parts_or_one 90 lines ≡ take 90 lines ∷ parts_or_one 90 (drop 90 lines)
+parts_more lines many =
     let left : 1 ≤ length (drop 90 lines) = omega (arith, length-drop 90 lines) in
-    more_pages_at lines (omega arith) ∙ parts_first 90 lines (lit≤ tt) (omega arith) ∙ ap (λ (ps : List (List SnpEntry)). take 90 lines ∷ ps) (sym (more_pages_at (drop 90 lines) left))
+    full_parts lines (omega arith) ∙ parts_first 90 lines (lit≤ tt) (omega arith) ∙ ap (λ (ps : List (List SnpEntry)). take 90 lines ∷ ps) (sym (full_parts (drop 90 lines) left))
 
-pub pages_last : (lines : List SnpEntry) → length lines ≤ 90 → pages_or_one lines ≡ lines ∷ []
-pages_last [] few = refl
-pages_last (x ∷ xs) few =
+pub parts_last : (lines : List SnpEntry) → length lines ≤ 90 → parts_or_one 90 lines ≡ lines ∷ []
+parts_last [] few = refl
+parts_last (x ∷ xs) few =
     let none : drop 90 (x ∷ xs) ≡ [] = nil_from_length (drop 90 (x ∷ xs)) (omega (arith, length-drop 90 (x ∷ xs))) in
     parts_first 90 (x ∷ xs) (lit≤ tt) (omega arith) ∙ ap (λ (ls : List SnpEntry). take 90 (x ∷ xs) ∷ parts 90 ls) none
     ∙ ap (λ (ps : List (List SnpEntry)). take 90 (x ∷ xs) ∷ ps) (parts_none 90) ∙ ap (λ (ls : List SnpEntry). ls ∷ []) (take_all 90 (x ∷ xs) few)
 
 -- the id of the last line stands at the last place
-end_at : (page : List SnpEntry) (other : LspId) (k : ℕ) (d : SnpEntry) → length page ≡ suc k → end_of other page ≡ (get_or page k d).id
+end_at : (lines : List SnpEntry) (other : LspId) (k : ℕ) (d : SnpEntry) → length lines ≡ suc k → end_of other lines ≡ (get_or lines k d).id
 end_at [] other k d len = absurd (omega arith)
 end_at (l ∷ []) other zero d len = refl
 end_at (l ∷ []) other (suc k) d len = absurd (omega arith)
-end_at (l ∷ m ∷ page) other zero d len = absurd (omega arith)
-end_at (l ∷ m ∷ page) other (suc k) d len = end_at (m ∷ page) l.id k d (omega arith)
+end_at (l ∷ m ∷ lines) other zero d len = absurd (omega arith)
+end_at (l ∷ m ∷ lines) other (suc k) d len = end_at (m ∷ lines) l.id k d (omega arith)
 
-csnps_next : (me : SystemId) (start : LspId) (page : List SnpEntry) (ps : List (List SnpEntry)) → 1 ≤ length ps
-    → csnps_from me start (page ∷ ps) ≡ csnp_with me start (end_of start page) page ∷ csnps_from me (successor (end_of start page)) ps
-csnps_next me start page [] some = absurd (omega arith)
-csnps_next me start page (p ∷ ps) some = refl
+abbrev pub page : LspId → LspId → List SnpEntry → Page
+page start end lines = record { start = start; end = end; lines = lines }
 
--- the CSNPs of lines of which more than 90 are left, and of the last
-pub csnps_more : (me : SystemId) (start : LspId) (lines : List SnpEntry) → 90 < length lines
-    → csnps_from me start (pages_or_one lines) ≡ csnp_with me start (end_of start (take 90 lines)) (take 90 lines) ∷ csnps_from me (successor (end_of start (take 90 lines))) (pages_or_one (drop 90 lines))
-csnps_more me start lines many =
-    ap (csnps_from me start) (pages_more lines many) ∙ csnps_next me start (take 90 lines) (pages_or_one (drop 90 lines)) (pages_some (drop 90 lines))
+pages_next : (start : LspId) (part : List SnpEntry) (ps : List (List SnpEntry)) → 1 ≤ length ps
+    → pages_from start (part ∷ ps) ≡ page start (end_of start part) part ∷ pages_from (successor (end_of start part)) ps
+pages_next start part [] some = absurd (omega arith)
+pages_next start part (p ∷ ps) some = refl
 
-pub csnps_last : (me : SystemId) (start : LspId) (lines : List SnpEntry) → length lines ≤ 90 → csnps_from me start (pages_or_one lines) ≡ csnp_with me start last_id lines ∷ []
-csnps_last me start lines few = ap (csnps_from me start) (pages_last lines few)
+-- the pages of lines of which more than 90 are left, and of the last
+pub pages_more : (start : LspId) (lines : List SnpEntry) → 90 < length lines
+    → pages_from start (parts_or_one 90 lines) ≡ page start (end_of start (take 90 lines)) (take 90 lines) ∷ pages_from (successor (end_of start (take 90 lines))) (parts_or_one 90 (drop 90 lines))
+pages_more start lines many =
+    ap (pages_from start) (parts_more lines many) ∙ pages_next start (take 90 lines) (parts_or_one 90 (drop 90 lines)) (parts_some (drop 90 lines))
+
+pub pages_last : (start : LspId) (lines : List SnpEntry) → length lines ≤ 90 → pages_from start (parts_or_one 90 lines) ≡ page start last_id lines ∷ []
+pages_last start lines few = ap (pages_from start) (parts_last lines few)
 
 -- ---- in the shape of the code
 
@@ -90,45 +93,49 @@ pushed_all : {A : Type 0} (f : A → List ℕ) (pdus : List (Vec ℕ)) (rest all
 pushed_all f pdus rest all so_far none = sym (append-nil (bytes_in pdus)) ∙ ap (λ xs. bytes_in pdus ++ map f xs) (sym none) ∙ so_far
 
 -- the PSNPs so far, of lines of which the rest is still to come
-abbrev page_bytes : SystemId → List SnpEntry → List ℕ
-page_bytes me page = psnp_bytes (psnp_with me page)
+abbrev psnp_page : SystemId → List SnpEntry → List ℕ
+psnp_page me lines = psnp_bytes (psnp_for me lines)
 
 pub record Paged (me : SystemId) (lines rest : List SnpEntry) (pdus : List (Vec ℕ)) : Type 0 where
-  bytes : bytes_in pdus ++ map (page_bytes me) (pages rest) ≡ map (page_bytes me) (pages lines)
+  bytes : bytes_in pdus ++ map (psnp_page me) (parts 90 rest) ≡ map (psnp_page me) (parts 90 lines)
 
 pub paged_none : (me : SystemId) (lines rest : List SnpEntry) (pdus : List (Vec ℕ)) → pdus ≡ [] → rest ≡ lines → Paged me lines rest pdus
 paged_none me lines rest pdus none is = record { bytes = rw (none, is) refl }
 
-pub paged_more : (me : SystemId) (lines old page rest : List SnpEntry) (pdus new : List (Vec ℕ)) (pdu : Vec ℕ) → Paged me lines old pdus → old ≡ page ++ rest → length page ≡ min 90 (length old) → 1 ≤ length old → pdu.items ≡ psnp_bytes (psnp_with me page) → new ≡ pdus ++ pdu ∷ [] → Paged me lines rest new
-paged_more me lines old page rest pdus new pdu so_far is size full bytes e = record {
-  bytes = pushed (page_bytes me) pdus new pdu page (pages old) (pages rest) (pages lines) so_far.bytes (parts_cut 90 old page rest (lit≤ tt) is size full) bytes e;
+pub paged_more : (me : SystemId) (lines old part rest : List SnpEntry) (pdus new : List (Vec ℕ)) (pdu : Vec ℕ) → Paged me lines old pdus → old ≡ part ++ rest → length part ≡ min 90 (length old) → 1 ≤ length old → pdu.items ≡ psnp_bytes (psnp_for me part) → new ≡ pdus ++ pdu ∷ [] → Paged me lines rest new
+paged_more me lines old part rest pdus new pdu so_far is size full bytes e = record {
+  bytes = pushed (psnp_page me) pdus new pdu part (parts 90 old) (parts 90 rest) (parts 90 lines) so_far.bytes (parts_cut 90 old part rest (lit≤ tt) is size full) bytes e;
 }
 
-pub paged_all : (me : SystemId) (lines rest : List SnpEntry) (pdus : List (Vec ℕ)) → Paged me lines rest pdus → length rest ≡ 0 → bytes_in pdus ≡ map psnp_bytes (map (psnp_with me) (pages lines))
+pub paged_all : (me : SystemId) (lines rest : List SnpEntry) (pdus : List (Vec ℕ)) → Paged me lines rest pdus → length rest ≡ 0 → bytes_in pdus ≡ map psnp_bytes (map (psnp_for me) (parts 90 lines))
 paged_all me lines rest pdus so_far none =
-    pushed_all (page_bytes me) pdus (pages rest) (pages lines) so_far.bytes (ap pages (nil_from_length rest none) ∙ parts_none 90) ∙ sym (map-map psnp_bytes (psnp_with me) (pages lines))
+    pushed_all (psnp_page me) pdus (parts 90 rest) (parts 90 lines) so_far.bytes (ap (parts 90) (nil_from_length rest none) ∙ parts_none 90) ∙ sym (map-map psnp_bytes (psnp_for me) (parts 90 lines))
 
 -- the CSNPs so far, of lines of which the rest is still to come, from a start on
+abbrev csnp_page : SystemId → Page → List ℕ
+csnp_page me p = csnp_bytes (csnp_for me p)
+
 pub record Ranged (me : SystemId) (lines : List SnpEntry) (start : LspId) (rest : List SnpEntry) (pdus : List (Vec ℕ)) : Type 0 where
-  bytes : bytes_in pdus ++ map csnp_bytes (csnps_from me start (pages_or_one rest)) ≡ map csnp_bytes (csnps_from me first_id (pages_or_one lines))
+  bytes : bytes_in pdus ++ map (csnp_page me) (pages_from start (parts_or_one 90 rest)) ≡ map (csnp_page me) (pages_from first_id (parts_or_one 90 lines))
 
 pub ranged_none : (me : SystemId) (lines : List SnpEntry) (start : LspId) (rest : List SnpEntry) (pdus : List (Vec ℕ)) → pdus ≡ [] → start ≡ first_id → rest ≡ lines → Ranged me lines start rest pdus
 ranged_none me lines start rest pdus none at is = record { bytes = rw (none, at, is) refl }
 
-pub ranged_more : (me : SystemId) (lines : List SnpEntry) (start next : LspId) (old page rest : List SnpEntry) (pdus new : List (Vec ℕ)) (pdu : Vec ℕ) (end : LspId) (d : SnpEntry)
-    → Ranged me lines start old pdus → 90 < length old → page ≡ take 90 old → rest ≡ drop 90 old → end ≡ (get_or page 89 d).id → next ≡ successor end
-    → pdu.items ≡ csnp_bytes (csnp_with me start end page) → new ≡ pdus ++ pdu ∷ [] → Ranged me lines next rest new
-ranged_more me lines start next old page rest pdus new pdu end d so_far many front back here at bytes e = record {
+pub ranged_more : (me : SystemId) (lines : List SnpEntry) (start next : LspId) (old part rest : List SnpEntry) (pdus new : List (Vec ℕ)) (pdu : Vec ℕ) (end : LspId) (d : SnpEntry)
+    → Ranged me lines start old pdus → 90 < length old → part ≡ take 90 old → rest ≡ drop 90 old → end ≡ (get_or part 89 d).id → next ≡ successor end
+    → pdu.items ≡ csnp_bytes (csnp_for me (page start end part)) → new ≡ pdus ++ pdu ∷ [] → Ranged me lines next rest new
+ranged_more me lines start next old part rest pdus new pdu end d so_far many front back here at bytes e = record {
   bytes =
-    let last : end_of start (take 90 old) ≡ end = ap (end_of start) (sym front) ∙ end_at page start 89 d (ap length front ∙ length-take-le 90 old (omega arith)) ∙ sym here in
-    let first : csnp_with me start (end_of start (take 90 old)) (take 90 old) ≡ csnp_with me start end page = λ j. csnp_with me start (last j) (sym front j) in
-    let others : csnps_from me (successor (end_of start (take 90 old))) (pages_or_one (drop 90 old)) ≡ csnps_from me next (pages_or_one rest) = λ j. csnps_from me ((ap successor last ∙ sym at) j) (pages_or_one (sym back j)) in
-    pushed csnp_bytes pdus new pdu (csnp_with me start end page) (csnps_from me start (pages_or_one old)) (csnps_from me next (pages_or_one rest)) (csnps_from me first_id (pages_or_one lines))
-    so_far.bytes (csnps_more me start old many ∙ λ j. first j ∷ others j) bytes e;
+    let last : end_of start (take 90 old) ≡ end = ap (end_of start) (sym front) ∙ end_at part start 89 d (ap length front ∙ length-take-le 90 old (omega arith)) ∙ sym here in
+    let first : page start (end_of start (take 90 old)) (take 90 old) ≡ page start end part = λ j. page start (last j) (sym front j) in
+    let others : pages_from (successor (end_of start (take 90 old))) (parts_or_one 90 (drop 90 old)) ≡ pages_from next (parts_or_one 90 rest) = λ j. pages_from ((ap successor last ∙ sym at) j) (parts_or_one 90 (sym back j)) in
+    pushed (csnp_page me) pdus new pdu (page start end part) (pages_from start (parts_or_one 90 old)) (pages_from next (parts_or_one 90 rest)) (pages_from first_id (parts_or_one 90 lines))
+    so_far.bytes (pages_more start old many ∙ λ j. first j ∷ others j) bytes e;
 }
 
 pub ranged_all : (me : SystemId) (lines : List SnpEntry) (start : LspId) (rest : List SnpEntry) (pdus new : List (Vec ℕ)) (pdu : Vec ℕ) → Ranged me lines start rest pdus → length rest ≤ 90
-    → pdu.items ≡ csnp_bytes (csnp_with me start last_id rest) → new ≡ pdus ++ pdu ∷ [] → bytes_in new ≡ map csnp_bytes (csnps_from me first_id (pages_or_one lines))
+    → pdu.items ≡ csnp_bytes (csnp_for me (page start last_id rest)) → new ≡ pdus ++ pdu ∷ [] → bytes_in new ≡ map csnp_bytes (map (csnp_for me) (pages_from first_id (parts_or_one 90 lines)))
 ranged_all me lines start rest pdus new pdu so_far few bytes e =
-    pushed_all csnp_bytes new [] (csnps_from me first_id (pages_or_one lines))
-    (pushed csnp_bytes pdus new pdu (csnp_with me start last_id rest) (csnps_from me start (pages_or_one rest)) [] (csnps_from me first_id (pages_or_one lines)) so_far.bytes (csnps_last me start rest few) bytes e) refl
+    pushed_all (csnp_page me) new [] (pages_from first_id (parts_or_one 90 lines))
+    (pushed (csnp_page me) pdus new pdu (page start last_id rest) (pages_from start (parts_or_one 90 rest)) [] (pages_from first_id (parts_or_one 90 lines)) so_far.bytes (pages_last start rest few) bytes e) refl
+    ∙ sym (map-map csnp_bytes (csnp_for me) (pages_from first_id (parts_or_one 90 lines)))

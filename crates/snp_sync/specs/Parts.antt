@@ -19,11 +19,7 @@ parts n xs = parts_within (length xs) n xs
 unfoldable pub line_tlvs : List SnpEntry → List ℕ
 line_tlvs lines = flat_map (λ part. tlv 9 (entries_value part)) (parts 15 lines)
 
--- the pages of lines: 90 on each, the last with the rest
-abbrev pub pages : List SnpEntry → List (List SnpEntry)
-pages lines = parts 90 lines
-
--- the same, of which there is always one
-abbrev pub pages_or_one : List SnpEntry → List (List SnpEntry)
-pages_or_one [] = [] ∷ []
-pages_or_one (line ∷ lines) = pages (line ∷ lines)
+-- the parts of a list; of the empty list one part, which is empty
+abbrev pub parts_or_one : {A : Type 0} → ℕ → List A → List (List A)
+parts_or_one n [] = [] ∷ []
+parts_or_one n (x ∷ xs) = parts n (x ∷ xs)

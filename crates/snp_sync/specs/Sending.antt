@@ -8,39 +8,52 @@ use Rattle.isis_pdu.specs.Pdu.{CsnpValue, PsnpValue}
 use Rattle.lsdb.specs.Entry.{Entry, with_ssn}
 use Rattle.lsdb.specs.Database.{Lsps, each}
 use Rattle.snp_sync.specs.Line.{lines_where, is_listed, is_owed}
-use Rattle.snp_sync.specs.Parts.{line_tlvs, pages, pages_or_one}
+use Rattle.snp_sync.specs.Parts.{line_tlvs, parts, parts_or_one}
 use Rattle.snp_sync.specs.Ids.{successor, first_id, last_id}
 
 -- the bytes of PDUs
 abbrev pub bytes_in : List (Vec ℕ) → List (List ℕ)
 bytes_in pdus = map (λ pdu. pdu.items) pdus
 
--- a CSNP of a range, and a PSNP, with these lines
-abbrev pub csnp_with : SystemId → LspId → LspId → List SnpEntry → CsnpValue
-csnp_with me start end lines = record { source = me; start = start; end = end; tlvs = line_tlvs lines }
+-- a page of the database: a range of ids, and the lines of the LSPs in it
+pub record Page : Type 0 where
+  pub start : LspId
+  pub end : LspId
+  pub lines : List SnpEntry
 
-abbrev pub psnp_with : SystemId → List SnpEntry → PsnpValue
-psnp_with me lines = record { source = me; tlvs = line_tlvs lines }
+-- the CSNP of a page, and the PSNP of lines
+abbrev pub csnp_for : SystemId → Page → CsnpValue
+csnp_for me page = record { source = me; start = page.start; end = page.end; tlvs = line_tlvs page.lines }
+
+abbrev pub psnp_for : SystemId → List SnpEntry → PsnpValue
+psnp_for me lines = record { source = me; tlvs = line_tlvs lines }
 
 -- the id of the last line, and another where there is no line
 abbrev pub end_of : LspId → List SnpEntry → LspId
 end_of other [] = other
 end_of other (line ∷ lines) = end_of line.id lines
 
--- the CSNPs of pages, of which the first starts at an id: each further one starts at the successor of the end of the one
+-- the pages of parts, of which the first starts at an id: each further one starts at the successor of the end of the one
 -- before; the last ends at 16 digits f, and each other one at its last line
-abbrev pub csnps_from : SystemId → LspId → List (List SnpEntry) → List CsnpValue
-csnps_from me start [] = []
-csnps_from me start (page ∷ []) = csnp_with me start last_id page ∷ []
-csnps_from me start (page ∷ next ∷ more) = let end = end_of start page in csnp_with me start end page ∷ csnps_from me (successor end) (next ∷ more)
+abbrev pub pages_from : LspId → List (List SnpEntry) → List Page
+pages_from start [] = []
+pages_from start (part ∷ []) = record { start = start; end = last_id; lines = part } ∷ []
+pages_from start (part ∷ next ∷ more) =
+    let end = end_of start part in record { start = start; end = end; lines = part } ∷ pages_from (successor end) (next ∷ more)
 
--- the CSNPs of the whole database
+-- the pages of the whole database, at most 90 lines on each, and a CSNP for each (ISO/IEC 10589, 7.3.15.3)
+abbrev pub csnp_pages : Lsps → List Page
+csnp_pages db = pages_from first_id (parts_or_one 90 (lines_where is_listed db))
+
 abbrev pub csnps_of : SystemId → Lsps → List CsnpValue
-csnps_of me db = csnps_from me first_id (pages_or_one (lines_where is_listed db))
+csnps_of me db = map (csnp_for me) (csnp_pages db)
 
--- the PSNPs of what is owed at a port
+-- what is owed at a port, at most 90 lines in each part, and a PSNP for each (ISO/IEC 10589, 7.3.15.4)
+abbrev pub psnp_parts : ℕ → Lsps → List (List SnpEntry)
+psnp_parts port db = parts 90 (lines_where (is_owed port) db)
+
 abbrev pub psnps_of : SystemId → ℕ → Lsps → List PsnpValue
-psnps_of me port db = map (psnp_with me) (pages (lines_where (is_owed port) db))
+psnps_of me port db = map (psnp_for me) (psnp_parts port db)
 
 -- nothing is owed at a port any longer
 abbrev pub settled : ℕ → Entry → Entry

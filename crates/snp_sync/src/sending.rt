@@ -1,8 +1,8 @@
 ghost use Rattle.std.specs.Prelude.{◌≡◌, ◌≤◌, ◌<◌, IfOk, OnOk, OnErr, map, length};
 ghost use Rattle.isis_pdu.specs.Spelling.{csnp_bytes, psnp_bytes};
-ghost use Rattle.snp_sync.specs.Parts.{pages};
+ghost use Rattle.snp_sync.specs.Parts.{parts};
 ghost use Rattle.snp_sync.specs.Sending as sending;
-ghost use Rattle.snp_sync.specs.Sending.{bytes_in, csnp_with, psnp_with, csnps_of, all_settled};
+ghost use Rattle.snp_sync.specs.Sending.{bytes_in, csnp_for, psnp_for, csnps_of, all_settled};
 
 use crate::ids::{FIRST, LAST, successor};
 use crate::lines::{listed, owed, tlvs_of};
@@ -17,7 +17,7 @@ const PDU_LINES: usize = 90;
 
 fn csnp(alloc: Global, me: SystemId, start: LspId, end: LspId, lines: &[SnpEntry]) -> Result<Vec<u8>, NoMemory>
     requires { length lines.now ≤ 90 }
-    ensures { IfOk result (λ v. v.items ≡ csnp_bytes (csnp_with me start end lines.now)) }
+    ensures { IfOk result (λ v. v.items ≡ csnp_bytes (csnp_for me (record { start = start; end = end; lines = lines.now }))) }
 {
     let tlvs = tlvs_of(alloc, lines)?;
     write_csnp(alloc, &Csnp { source: me, start, end, tlvs: &tlvs })
@@ -25,7 +25,7 @@ fn csnp(alloc: Global, me: SystemId, start: LspId, end: LspId, lines: &[SnpEntry
 
 fn psnp(alloc: Global, me: SystemId, lines: &[SnpEntry]) -> Result<Vec<u8>, NoMemory>
     requires { length lines.now ≤ 90 }
-    ensures { IfOk result (λ v. v.items ≡ psnp_bytes (psnp_with me lines.now)) }
+    ensures { IfOk result (λ v. v.items ≡ psnp_bytes (psnp_for me lines.now)) }
 {
     let tlvs = tlvs_of(alloc, lines)?;
     write_psnp(alloc, &Psnp { source: me, tlvs: &tlvs })
@@ -52,7 +52,7 @@ pub fn csnps(alloc: Global, db: &Database, me: SystemId) -> Result<Vec<Vec<u8>>,
 
 /// The PSNPs of lines.
 fn psnps_of(alloc: Global, lines: &[SnpEntry], me: SystemId) -> Result<Vec<Vec<u8>>, NoMemory>
-    ensures { IfOk result (λ pdus. bytes_in pdus.items ≡ map psnp_bytes (map (psnp_with me) (pages lines.now))) }
+    ensures { IfOk result (λ pdus. bytes_in pdus.items ≡ map psnp_bytes (map (psnp_for me) (parts 90 lines.now))) }
 {
     let mut pdus = Vec::new(alloc);
     for page in lines.chunks(PDU_LINES) {
