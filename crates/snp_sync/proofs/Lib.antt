@@ -4,3 +4,6 @@ pub mod Pages
 pub mod Places
 pub mod Heard
 pub mod Named
+pub mod IdNumbers
+pub mod Ranges
+pub mod Said

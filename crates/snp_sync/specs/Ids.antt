@@ -7,7 +7,7 @@ use Rattle.spb_tlvs.specs.Entry.{lsp_id_bytes, lsp_id_at}
 use Rattle.lsdb.specs.Database.{id_cmp}
 
 -- an id as a number, the greatest byte first
-abbrev pub id_number : LspId → ℕ
+unfoldable pub id_number : LspId → ℕ
 id_number id = from_be_bytes w64 (lsp_id_bytes id)
 
 -- the id of a number

@@ -22,7 +22,7 @@ pub(crate) const LAST: LspId = LspId {
 };
 
 /// The next LSP id, as a number of eight bytes; after the last comes the first.
-#[tactic(auto, unfolding(crate::specs::Ids::successor))]
+#[tactic(auto, unfolding(crate::specs::Ids::successor, crate::specs::Ids::id_number))]
 pub fn successor(id: LspId) -> LspId
     ensures { result ≡ ids.successor id }
 {

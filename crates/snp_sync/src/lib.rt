@@ -7,6 +7,7 @@ pub use sending::{csnps, psnps};
 
 mod hearing;
 mod ids;
+pub mod laws;
 mod lines;
 mod missed;
 mod sending;

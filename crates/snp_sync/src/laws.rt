@@ -1,0 +1,40 @@
+//! The laws of sequence numbers PDUs. Each is the contract of a function that does nothing.
+ghost use Rattle.snp_sync.specs.SendingLaws.{SuccessorIsNext, SuccessorIsId, LineClaimsWhatIsHeld, RangesCoverOnce, PagesListTheirRanges, PagesAreShort, PagesEndAtIds, PagesClaimWhatIsHeld, CsnpIsRead, LinesAreRead, PageLinesAreRead, PartsAreWhole, PartsAreShort, PartsClaimWhatIsHeld, PsnpIsRead, PartLinesAreRead, SettledOwesNothing, SettlingIsCertified};
+
+/// No LSP id lies between an id and its successor.
+pub fn the_successor_is_next()
+    ensures next { SuccessorIsNext }
+    ensures id { SuccessorIsId }
+{}
+
+/// Each LSP id lies in the range of just one CSNP, which lists the LSPs in its range but the absent ones.
+pub fn csnps_cover_each_id_once()
+    ensures once { RangesCoverOnce }
+    ensures lists { PagesListTheirRanges }
+    ensures short { PagesAreShort }
+    ensures ends { PagesEndAtIds }
+{}
+
+/// The PSNPs at a port have what is owed there, and afterwards nothing is.
+pub fn psnps_say_what_is_owed()
+    ensures whole { PartsAreWhole }
+    ensures short { PartsAreShort }
+    ensures settled { SettledOwesNothing }
+    ensures certified { SettlingIsCertified }
+{}
+
+/// An entry that is sent claims exactly what is held.
+pub fn what_is_said_is_what_is_held()
+    ensures line { LineClaimsWhatIsHeld }
+    ensures pages { PagesClaimWhatIsHeld }
+    ensures parts { PartsClaimWhatIsHeld }
+{}
+
+/// A PDU that is sent is read as it was written.
+pub fn what_is_written_is_read()
+    ensures csnp { CsnpIsRead }
+    ensures psnp { PsnpIsRead }
+    ensures lines { LinesAreRead }
+    ensures pages { PageLinesAreRead }
+    ensures parts { PartLinesAreRead }
+{}
