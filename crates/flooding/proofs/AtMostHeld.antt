@@ -1,19 +1,17 @@
 -- An LSP that was heard is at most what is held after it.
 use Rattle.std.specs.Prelude.{◌≡◌, ℕ, ◌+◌, ◌≤◌, Bool, true, false, ◌&&◌, Option, Some, None, nat_lt, if◌then◌else◌}
-use Rattle.std.proofs.Common.{refl, sym, ap, subst, ◌∙◌, arith}
+use Rattle.std.proofs.Common.{refl, sym, subst, ◌∙◌, arith}
 use Rattle.std.specs.Option.{option_map}
 use Rattle.std.specs.FinMap.{get}
 use Rattle.spb_types.specs.declared.ports.PortSet.{PortSet}
-use Rattle.spb_types.specs.declared.address.LspId.{LspId}
 use Rattle.isis_pdu.specs.Pdu.{LspValue}
 use Rattle.lsdb.specs.declared.version.Version.{Version}
-use Rattle.lsdb.specs.declared.version.Version.TheVariants.{Dead}
 use Rattle.lsdb.specs.declared.version.Relation.{Relation}
 use Rattle.lsdb.specs.declared.version.Relation.TheVariants.{Older, Equal, Newer, Confused}
 use Rattle.lsdb.specs.Version.{number_of, is_absent, relation, IsAtMost}
 use Rattle.lsdb.specs.Entry.{Entry, acked, asked}
 use Rattle.lsdb.specs.Database.{version_in}
-use Rattle.lsdb.proofs.Order.{itself, greater, newer_is, equal_is, older_is}
+use Rattle.lsdb.proofs.Order.{itself, greater, equal_is, older_is}
 use Rattle.flooding.specs.declared.own.Own.{Own}
 use Rattle.flooding.specs.Own.{last_number, is_originated, renewed, ended, answered}
 use Rattle.flooding.specs.Hearing.{claim_of, unless_absent, lsp_row, is_answered}

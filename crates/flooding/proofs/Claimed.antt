@@ -1,6 +1,6 @@
 -- What stands in the database after a claim.
 use Rattle.std.specs.Prelude.{◌≡◌, ◌≢◌, ℕ, Bool, true, false, not, Option, Some, None, if◌then◌else◌}
-use Rattle.std.proofs.Common.{refl, sym, ap, ◌∙◌}
+use Rattle.std.proofs.Common.{refl, ap, ◌∙◌}
 use Rattle.std.proofs.lemmas.Bool.{true≢false}
 use Rattle.std.specs.Option.{option_map}
 use Rattle.std.specs.FinMap.{get, insert}
@@ -16,7 +16,7 @@ use Rattle.lsdb.specs.Database.{Lsps, version_in, fits, placed}
 use Rattle.lsdb.specs.Certificate.{Claim}
 use Rattle.lsdb.proofs.LookupLemmas.{get-insert_same, get-insert_other}
 use Rattle.flooding.specs.declared.own.Own.{Own}
-use Rattle.flooding.specs.Own.{answered, answering}
+use Rattle.flooding.specs.Own.{answered}
 use Rattle.flooding.specs.Hearing.{Holding, is_answered, heard_by, own_after, lacks_place, after_entry, after_claim, is_full, lsp_row, snp_row}
 use Rattle.flooding.specs.Laws.{OthersStand, LspStands, EntryStands, FullStands, FittingIsNotFull}
 use Rattle.flooding.proofs.Heard.{Row}

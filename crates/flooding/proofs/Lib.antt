@@ -7,3 +7,7 @@ pub mod Steps
 pub mod Owns
 pub mod AtMostHeld
 pub mod Flags
+pub mod AllEntries
+pub mod SendableEntries
+pub mod FlagEntries
+pub mod Named

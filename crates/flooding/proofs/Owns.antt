@@ -1,5 +1,5 @@
 -- What hearing leaves of the own LSP, and what an origination makes of it.
-use Rattle.std.specs.Prelude.{◌≡◌, ◌≢◌, ℕ, ◌+◌, ◌<◌, Bool, true, false, ◌&&◌, not, Option, Some, None, nat_lt, if◌then◌else◌}
+use Rattle.std.specs.Prelude.{◌≡◌, ◌≢◌, ℕ, ◌+◌, ◌<◌, Bool, true, false, ◌&&◌, not, Option, Some, nat_lt, if◌then◌else◌}
 use Rattle.std.proofs.Common.{refl, sym, ap, subst, ◌∙◌}
 use Rattle.std.proofs.lemmas.Bool.{lt-ltb}
 use Rattle.std.proofs.lemmas.Slice.Eq.{bytes_eq-Decides}
@@ -18,9 +18,9 @@ use Rattle.lsdb.specs.Certificate.{Claim}
 use Rattle.lsdb.proofs.LookupLemmas.{fits_held}
 use Rattle.flooding.specs.declared.own.Own.{Own}
 use Rattle.flooding.specs.Own.{last_number, own_id, is_originated, renewed, ended, answered, answering}
-use Rattle.flooding.specs.Hearing.{Holding, claim_of, unless_absent, lsp_row, snp_row, is_beyond, is_answered, lacks_place, after_entry, own_after, after_claim, is_full}
-use Rattle.flooding.specs.Origination.{next_entry, next_own, originated_from, originated}
-use Rattle.flooding.specs.Laws.{OwnStands, OwnIsNotSpent, OwnEntry, is_kept, is_renewed, LspLeavesOwn, EntryLeavesOwn, OriginatedStands, OriginationLeavesOthers, OriginationIsNotSpent}
+use Rattle.flooding.specs.Hearing.{Holding, claim_of, lsp_row, snp_row, is_beyond, is_answered, lacks_place, after_entry, own_after, after_claim, is_full}
+use Rattle.flooding.specs.Origination.{next_entry, originated_from, originated}
+use Rattle.flooding.specs.Laws.{OwnStands, OwnIsNotSpent, OwnEntry, is_kept, is_renewed, LspLeavesOwn, EntryLeavesOwn, OriginatedStands, OriginationLeavesOthers, OriginationLeavesOwn, OriginationIsNotSpent}
 use Rattle.flooding.proofs.Heard.{Row}
 use Rattle.flooding.proofs.Claimed.{heard_of, get-placed_other, get-placed_fit, SaysOfHeld, lsp_row_says, snp_row_says, heard_stands, fitting_is_not_full}
 
@@ -149,6 +149,10 @@ entry_leaves_own up port c h old new mine below before after =
 
 -- ---- an origination
 
+next_own_by : (own : Own) (b : Bool) → SameOwn own (if b then own else record own { spent = true })
+next_own_by own true = (refl, refl)
+next_own_by own false = (refl, refl)
+
 pub originated_stands : OriginatedStands
 unfolding originated
 originated_stands up h fresh there =
@@ -166,6 +170,14 @@ others_by up h x false apart =
 pub origination_leaves_others : OriginationLeavesOthers
 unfolding originated
 origination_leaves_others up h x apart = others_by up h x h.own.spent apart
+
+still_by : (up : PortSet) (h : Holding) (b : Bool) → SameOwn h.own (if b then h else originated_from up (get h.db (own_id h.own.system)) h).own
+still_by up h true = (refl, refl)
+still_by up h false = next_own_by h.own (nat_lt (number_of (version_in (get h.db (own_id h.own.system)))) last_number)
+
+pub origination_leaves_own : OriginationLeavesOwn
+unfolding originated
+origination_leaves_own up h = still_by up h h.own.spent
 
 unspent_by : (up : PortSet) (h : Holding) (b : Bool) → number_of (version_at h.db (own_id h.own.system)) < last_number → (if b then h else originated_from up (get h.db (own_id h.own.system)) h).own ≡ h.own
 unspent_by up h true below = refl

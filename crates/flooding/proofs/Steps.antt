@@ -1,7 +1,7 @@
 -- What is heard, answered and originated is a certified step.
-use Rattle.std.specs.Prelude.{◌≡◌, ◌≢◌, ℕ, ◌+◌, ◌<◌, ◌≤◌, List, [], ◌∷◌, Bool, true, false, ◌&&◌, Option, Some, None, nat_lt, if◌then◌else◌}
+use Rattle.std.specs.Prelude.{◌≡◌, ℕ, ◌+◌, ◌≤◌, List, [], ◌∷◌, Bool, true, false, ◌&&◌, Option, Some, None, nat_lt, if◌then◌else◌}
 use Rattle.std.proofs.Common.{refl, sym, ap, subst, ◌∙◌, inl, arith}
-use Rattle.std.proofs.lemmas.Bool.{and_parts, true≢false, leb-true, le-leb}
+use Rattle.std.proofs.lemmas.Bool.{and_parts, le-leb}
 use Rattle.std.specs.Option.{option_map}
 use Rattle.std.specs.FinMap.{get}
 use Rattle.spb_types.specs.declared.address.LspId.{LspId}
@@ -38,7 +38,7 @@ at_most_dead (Live m s) n below = le-leb m n below
 at_most_dead (Dead m) n below = le-leb m n below
 
 -- what is beyond is not at most what is held
-beyond_is : (a h : Version) (r : Relation) → relation a h ≡ r → is_beyond r ≡ true → leq a h ≡ false
+pub beyond_is : (a h : Version) (r : Relation) → relation a h ≡ r → is_beyond r ≡ true → leq a h ≡ false
 beyond_is a h Older is beyond = absurd (cc)
 beyond_is a h Equal is beyond = absurd (cc)
 beyond_is a h Newer is beyond = (newer_is a h is).0

@@ -1,23 +1,25 @@
-use Rattle.std.specs.Prelude.{◌≡◌, ◌≢◌, ℕ, ◌+◌, ◌<◌, ◌≤◌, List, [], ◌∷◌, length, true, false, Bool, ◌&&◌, ◌||◌, not, ◌==◌, Option, Some, IsTrue}
+use Rattle.std.specs.Prelude.{◌≡◌, ◌≢◌, ℕ, ◌+◌, ◌<◌, ◌≤◌, List, [], ◌∷◌, length, map, true, false, Bool, ◌&&◌, ◌||◌, not, ◌==◌, Option, Some, Ok, IsTrue}
+use Rattle.std.specs.Option.{option_map}
 use Rattle.std.specs.FinMap.{get}
 use Rattle.spb_types.specs.declared.address.LspId.{LspId}
 use Rattle.spb_types.specs.declared.ports.PortSet.{PortSet}
 use Rattle.spb_types.specs.Ports.{has}
 use Rattle.isis_pdu.specs.declared.kind.Kind.TheVariants as kinds
-use Rattle.isis_pdu.specs.Pdu.{LspValue}
-use Rattle.isis_pdu.specs.Spelling.{CanWrite}
-use Rattle.isis_pdu.specs.Grammar.{is_sound_lsp}
+use Rattle.isis_pdu.specs.Pdu.{LspValue, lsp}
+use Rattle.isis_pdu.specs.Spelling.{CanWrite, lsp_bytes}
+use Rattle.isis_pdu.specs.Reading.{read}
+use Rattle.isis_pdu.specs.Grammar.{IsId, IsBytes, is_sound_lsp}
 use Rattle.lsdb.specs.declared.version.Version.{Version}
 use Rattle.lsdb.specs.declared.version.Relation.{Relation}
-use Rattle.lsdb.specs.Version.{number_of, IsAtMost, relation}
+use Rattle.lsdb.specs.Version.{number_of, IsAtMost, relation, claimed}
 use Rattle.lsdb.specs.Entry.{Entry, stored, flooded, entered, acked, cleared, asked, with_flags, aged}
-use Rattle.lsdb.specs.Database.{version_in, version_at, fits}
+use Rattle.lsdb.specs.Database.{Lsps, version_in, version_at, fits}
 use Rattle.lsdb.specs.Certificate.{Claim, Control, EntryCertificate, Certificate}
 use Rattle.flooding.specs.declared.own.Own.{Own}
 use Rattle.flooding.specs.Own.{last_number, own_id, tlvs_in, renewed, answered}
 use Rattle.flooding.specs.Hearing.{Holding, claim_of, lsp_row, snp_row, is_beyond, heard_by, after_claim, is_full, hear_lsp_of, is_full_for_lsp, hear_entry_of, is_full_for_entry}
 use Rattle.flooding.specs.Origination.{next_entry, originated}
-use Rattle.flooding.specs.Sending.{lsp_in}
+use Rattle.flooding.specs.Sending.{lsp_in, ids_to_send, lsps_to_send}
 use Rattle.flooding.specs.Entries.{IsNumbered, IsSendable, AreSendable, HaveFlagsAt}
 
 -- ---- steps
@@ -127,8 +129,8 @@ abbrev pub EntryLeavesOwn : Type 0
 EntryLeavesOwn = (up : PortSet) (port : ℕ) (c : Claim) (h : Holding) (old new : Entry) → c.id ≡ own_id h.own.system → number_of c.version < last_number
     → get h.db c.id ≡ Some old → get (hear_entry_of up port c h).db c.id ≡ Some new → OwnEntry up h.own c.version old new
 
--- after an origination the next entry stands under the own id, no other changes, and below the last number the own LSP is
--- renewed
+-- after an origination the next entry stands under the own id and no other changes. The system and its body stay, and below
+-- the last number it isn't spent
 abbrev pub OriginatedStands : Type 0
 OriginatedStands = (up : PortSet) (h : Holding) → h.own.spent ≡ false → fits h.db (own_id h.own.system) ≡ true
     → get (originated up h).db (own_id h.own.system)
@@ -136,6 +138,9 @@ OriginatedStands = (up : PortSet) (h : Holding) → h.own.spent ≡ false → fi
 
 abbrev pub OriginationLeavesOthers : Type 0
 OriginationLeavesOthers = (up : PortSet) (h : Holding) (x : LspId) → x ≢ own_id h.own.system → get (originated up h).db x ≡ get h.db x
+
+abbrev pub OriginationLeavesOwn : Type 0
+OriginationLeavesOwn = (up : PortSet) (h : Holding) → ((originated up h).own.system ≡ h.own.system) × ((originated up h).own.body ≡ h.own.body)
 
 abbrev pub OriginationIsNotSpent : Type 0
 OriginationIsNotSpent = (up : PortSet) (h : Holding) → number_of (version_at h.db (own_id h.own.system)) < last_number → (originated up h).own ≡ h.own
@@ -146,6 +151,14 @@ OriginationIsNotSpent = (up : PortSet) (h : Holding) → number_of (version_at h
 abbrev pub SentIsHeld : Type 0
 SentIsHeld = (id : LspId) (e : Entry) → IsSendable id e → claim_of (lsp_in id e) ≡ record { id = id; version = e.version }
 
+-- the ids that are to be sent name the LSPs that are
+abbrev pub IdsNameLsps : Type 0
+IdsNameLsps = (db : Lsps) (port : ℕ) → map (λ id. option_map (lsp_in id) (get db id)) (ids_to_send db port) ≡ map (λ l. Some l) (lsps_to_send db port)
+
+-- the bytes of an LSP that is sent are read as that LSP
+abbrev pub SentIsRead : Type 0
+SentIsRead = (id : LspId) (e : Entry) → IsId id.system → IsSendable id e → read (lsp_bytes (lsp_in id e)) ≡ Ok (lsp (lsp_in id e))
+
 -- an own LSP that can be written, and an LSP that can be written and whose checksum holds if it must
 abbrev pub HasBody : Own → Type 0
 HasBody own = (1 ≤ length own.body) × CanWrite kinds.Lsp (tlvs_in own.body)
@@ -153,6 +166,14 @@ HasBody own = (1 ≤ length own.body) × CanWrite kinds.Lsp (tlvs_in own.body)
 pub record IsWhole (l : LspValue) : Type 0 where
   pub written : CanWrite kinds.Lsp l.tlvs
   pub sound : IsTrue (is_sound_lsp l)
+
+-- an LSP that was read from at most 1,497 bytes is so
+abbrev pub ReadIsWhole : Type 0
+ReadIsWhole = (bytes : List ℕ) (l : LspValue) → IsBytes bytes → length bytes ≤ 1497 → read bytes ≡ Ok (lsp l) → IsWhole l
+
+-- what an LSP claims has a number, unless it is absent
+abbrev pub ClaimIsNumbered : Type 0
+ClaimIsNumbered = (seq lifetime sum : ℕ) → IsNumbered (claimed seq lifetime sum)
 
 -- what is held stays sendable
 abbrev pub LspKeepsSendable : Type 0

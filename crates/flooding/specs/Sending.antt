@@ -35,3 +35,7 @@ lsp_in id e = record {
   flags = flags_in e.body;
   tlvs = tlvs_in e.body;
 }
+
+-- the LSPs that are to be sent at a port, in order of id
+abbrev pub lsps_to_send : Lsps → ℕ → List LspValue
+lsps_to_send db port = map (λ e. lsp_in e.0 e.1) (filter (λ e. has e.1.srm port) (entries db))

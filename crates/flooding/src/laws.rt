@@ -1,5 +1,5 @@
 //! The laws of flooding. Each is the contract of a function that does nothing.
-ghost use Rattle.flooding.specs.Laws.{HearingLspIsCertified, HearingEntryIsCertified, AnsweringIsCertified, OriginationIsCertified, OthersStand, LspStands, EntryStands, FullStands, FittingIsNotFull, HeardIsAtMostHeld, StoredFlags, FloodedFlags, EnteredFlags, AckedFlags, ClearedFlags, AskedFlags, OwnStands, OwnIsNotSpent, LspLeavesOwn, EntryLeavesOwn, OriginatedStands, OriginationLeavesOthers, OriginationIsNotSpent, SentIsHeld, LspKeepsSendable, EntryKeepsSendable, OriginationKeepsSendable, AgeingKeepsSendable, FlagsKeepSendable, LspKeepsFlags, EntryKeepsFlags, OriginationKeepsFlags};
+ghost use Rattle.flooding.specs.Laws.{HearingLspIsCertified, HearingEntryIsCertified, AnsweringIsCertified, OriginationIsCertified, OthersStand, LspStands, EntryStands, FullStands, FittingIsNotFull, HeardIsAtMostHeld, StoredFlags, FloodedFlags, EnteredFlags, AckedFlags, ClearedFlags, AskedFlags, OwnStands, OwnIsNotSpent, LspLeavesOwn, EntryLeavesOwn, OriginatedStands, OriginationLeavesOthers, OriginationLeavesOwn, OriginationIsNotSpent, IdsNameLsps, SentIsHeld, SentIsRead, ReadIsWhole, ClaimIsNumbered, LspKeepsSendable, EntryKeepsSendable, OriginationKeepsSendable, AgeingKeepsSendable, FlagsKeepSendable, LspKeepsFlags, EntryKeepsFlags, OriginationKeepsFlags};
 
 /// What is heard at an Up port, answered and originated is a certified step.
 pub fn flooding_is_certified()
@@ -41,12 +41,23 @@ pub fn the_own_lsp_is_kept_or_renewed()
     ensures entry { EntryLeavesOwn }
     ensures originated { OriginatedStands }
     ensures others { OriginationLeavesOthers }
+    ensures still_own { OriginationLeavesOwn }
     ensures still_not_spent { OriginationIsNotSpent }
 {}
 
-/// The LSP of an entry claims what is held, and every entry stays one whose LSP can be written.
+/// What is to be sent at a port by its ids is what the database says; an LSP that is sent claims what is held, and its bytes
+/// are read as that LSP.
 pub fn what_is_sent_is_what_is_held()
+    ensures ids { IdsNameLsps }
     ensures claim { SentIsHeld }
+    ensures read { SentIsRead }
+{}
+
+/// Every entry stays one whose LSP can be written and is read again, where what is heard was read and the own LSP can be
+/// written.
+pub fn what_is_held_can_be_sent()
+    ensures read { ReadIsWhole }
+    ensures numbered { ClaimIsNumbered }
     ensures lsp { LspKeepsSendable }
     ensures entry { EntryKeepsSendable }
     ensures origination { OriginationKeepsSendable }

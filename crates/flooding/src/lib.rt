@@ -19,3 +19,5 @@ mod own;
 mod put;
 mod rows;
 mod send;
+#[cfg(test)]
+mod tests;
