@@ -17,7 +17,8 @@ use Rattle.spb_tlvs.specs.Entry.{lsp_id_bytes}
 use Rattle.spb_tlvs.proofs.Numbers.{six}
 use Rattle.lsdb.specs.Database.{id_cmp}
 use Rattle.snp_sync.specs.Ids.{id_number, id_of, successor, first_id, last_id, is_between}
-use Rattle.snp_sync.specs.SendingLaws.{IsLspId, SuccessorIsNext, SuccessorIsId}
+use Rattle.snp_sync.specs.Sized.{IsLspId}
+use Rattle.snp_sync.specs.SendingLaws.{SuccessorIsNext, SuccessorIsId}
 
 -- ---- bytes as a number, digit by digit
 

@@ -7,3 +7,5 @@ pub mod Named
 pub mod IdNumbers
 pub mod Ranges
 pub mod Said
+pub mod Served
+pub mod Stays

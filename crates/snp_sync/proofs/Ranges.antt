@@ -21,7 +21,8 @@ use Rattle.snp_sync.specs.Line.{lines_where, is_listed, is_owed}
 use Rattle.snp_sync.specs.Parts.{parts_within, parts, parts_or_one}
 use Rattle.snp_sync.specs.Ids.{id_number, successor, first_id, last_id, is_between}
 use Rattle.snp_sync.specs.Sending.{Page, end_of, pages_from, csnp_pages, psnp_parts}
-use Rattle.snp_sync.specs.SendingLaws.{IsLspId, RangesCoverOnce, PagesListTheirRanges, PagesAreShort, PagesEndAtIds, PartsAreWhole, PartsAreShort}
+use Rattle.snp_sync.specs.Sized.{IsLspId, HaveIds}
+use Rattle.snp_sync.specs.SendingLaws.{RangesCoverOnce, PagesListTheirRanges, PagesAreShort, PagesEndAtIds, PartsAreWhole, PartsAreShort}
 use Rattle.snp_sync.proofs.Gathered.{gathered}
 use Rattle.spb_tlvs.proofs.Numbers.{weaker}
 use Rattle.snp_sync.proofs.Pages.{parts_some}
@@ -283,7 +284,7 @@ rising_lines test lo (e ∷ es) sorted from =
     by_test true t skip take = rw t (from.0.0, from.0.1, take)
     by_test false t skip take = rw t skip
 
-pub rising_db : (test : Entry → Bool) (db : Lsps) → AllEntries (λ id e. IsLspId id) db → Rising 0 (lines_where test db)
+pub rising_db : (test : Entry → Bool) (db : Lsps) → HaveIds db → Rising 0 (lines_where test db)
 rising_db test db ids =
     rising_lines test 0 (entries db) (true_from_T _ (entries_sorted db))
     (weaker (λ (e : LspId × Entry). IsLspId e.0) (λ e. IsLspId e.0 × (0 ≤ id_number e.0)) (entries db) (λ e h. (h, omega arith)) (of_entries (λ id e. IsLspId id) db ids))
@@ -321,7 +322,7 @@ short_pages start (p ∷ q ∷ more) short = (short.0, short_pages (successor (e
 pub pages_are_short : PagesAreShort
 pages_are_short db = short_pages first_id (parts_or_one 90 (lines_where is_listed db)) (short_or_one (lines_where is_listed db))
 
-rising_listed : (db : Lsps) → AllEntries (λ id e. IsLspId id) db → Rising (id_number first_id) (joined (parts_or_one 90 (lines_where is_listed db)))
+rising_listed : (db : Lsps) → HaveIds db → Rising (id_number first_id) (joined (parts_or_one 90 (lines_where is_listed db)))
 rising_listed db ids =
     subst (λ n. Rising n (joined (parts_or_one 90 (lines_where is_listed db)))) (sym number-first)
     (subst (λ (ls : List SnpEntry). Rising 0 ls) (sym (joined_or_one (lines_where is_listed db))) (rising_db is_listed db ids))
@@ -332,7 +333,7 @@ ranges_cover_once db ids x ix =
     covered first_id (parts_or_one 90 lines) first_is_id (full_parts lines) (parts_some lines) (rising_listed db ids) x ix
     ∙ ap (λ b. if b then 1 else 0) (ap (λ n. nat_le n (id_number x)) number-first ∙ le-leb 0 (id_number x) (omega arith))
 
-db_pages : (db : Lsps) → AllEntries (λ id e. IsLspId id) db → AllByRecursion (IsPage (id_number first_id) (lines_where is_listed db)) (csnp_pages db)
+db_pages : (db : Lsps) → HaveIds db → AllByRecursion (IsPage (id_number first_id) (lines_where is_listed db)) (csnp_pages db)
 db_pages db ids =
     let lines = lines_where is_listed db in
     subst (λ (ls : List SnpEntry). AllByRecursion (IsPage (id_number first_id) ls) (csnp_pages db)) (joined_or_one lines)

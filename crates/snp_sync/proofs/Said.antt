@@ -29,7 +29,7 @@ use Rattle.lsdb.specs.Certificate.{Claim, Kept, is_flagged, is_as_before, EntryC
 use Rattle.lsdb.proofs.Order.{itself}
 use Rattle.lsdb.proofs.Certified.{changing_each}
 use Rattle.flooding.specs.Sending.{sum_of}
-use Rattle.flooding.specs.Entries.{IsNumbered, AllEntries}
+use Rattle.flooding.specs.Entries.{IsNumbered, AllEntries, AreSendable}
 use Rattle.flooding.proofs.Flags.{has-without}
 use Rattle.snp_sync.specs.Line.{line_of, lines_where, is_listed, is_owed}
 use Rattle.snp_sync.specs.Parts.{parts, parts_or_one, line_tlvs}
@@ -37,7 +37,7 @@ use Rattle.snp_sync.specs.Ids.{successor, first_id}
 use Rattle.snp_sync.specs.Sending.{Page, end_of, pages_from, csnp_for, psnp_for, csnp_pages, psnp_parts, settled}
 use Rattle.snp_sync.specs.Reading.{before_others, entries_in_all, entries_in}
 use Rattle.snp_sync.specs.Hearing.{claim_in}
-use Rattle.snp_sync.specs.SendingLaws.{IsSayable, LineClaimsWhatIsHeld, ClaimsWhatIsHeld, PagesClaimWhatIsHeld, CsnpIsRead, LinesAreRead, PageLinesAreRead, PartsClaimWhatIsHeld, PsnpIsRead, PartLinesAreRead, SettledOwesNothing, SettlingIsCertified}
+use Rattle.snp_sync.specs.SendingLaws.{LineClaimsWhatIsHeld, ClaimsWhatIsHeld, PagesClaimWhatIsHeld, CsnpIsRead, LinesAreRead, PageLinesAreRead, PartsClaimWhatIsHeld, PsnpIsRead, PartLinesAreRead, SettledOwesNothing, SettlingIsCertified}
 use Rattle.snp_sync.proofs.Gathered.{gathered}
 use Rattle.snp_sync.proofs.Cuts.{tlvs_whole}
 use Rattle.snp_sync.proofs.Ranges.{joined, joined_parts, joined_or_one, of_entries}
@@ -103,11 +103,11 @@ lines_are_read lines all =
 pub page_lines_are_read : PageLinesAreRead
 page_lines_are_read db all =
     weaker (λ (page : Page). AllByRecursion IsEntry page.lines) (λ page. entries_in (line_tlvs page.lines) ≡ Ok page.lines) (csnp_pages db) (λ page h. lines_are_read page.lines h)
-    (of_csnps IsEntry db (λ id e at. (all id e at).fields))
+    (of_csnps IsEntry db (λ id e at. (all id e at).line))
 
 pub part_lines_are_read : PartLinesAreRead
 part_lines_are_read port db all =
-    weaker (AllByRecursion IsEntry) (λ part. entries_in (line_tlvs part) ≡ Ok part) (psnp_parts port db) (λ part h. lines_are_read part h) (of_psnps IsEntry port db (λ id e at. (all id e at).fields))
+    weaker (AllByRecursion IsEntry) (λ part. entries_in (line_tlvs part) ≡ Ok part) (psnp_parts port db) (λ part h. lines_are_read part h) (of_psnps IsEntry port db (λ id e at. (all id e at).line))
 
 pub csnp_is_read : CsnpIsRead
 csnp_is_read me page mine start end =
@@ -131,7 +131,7 @@ claimed_again (Dead seq) lifetime body numbered kept =
 pub line_claims_what_is_held : LineClaimsWhatIsHeld
 line_claims_what_is_held id e numbered clean = ap (λ (v : Version). record { id = id; version = v }) (claimed_again e.version e.lifetime e.body numbered clean)
 
-claims_held : (db : Lsps) → AllEntries IsSayable db → AllEntries (λ id e. ClaimsWhatIsHeld db (line_of id e)) db
+claims_held : (db : Lsps) → AreSendable db → AllEntries (λ id e. ClaimsWhatIsHeld db (line_of id e)) db
 claims_held db all id e at =
     claimed_again e.version e.lifetime e.body (all id e at).numbered (all id e at).clean ∙ sym (ap version_in at)
 
@@ -164,7 +164,7 @@ settled_owes_nothing port e low high q =
     (cases_Bool (has e.ssn port))
 
 -- the version and SRM stand
-same_srm : (up : PortSet) (at : ℕ) (claims : List Claim) (id : LspId) (e n : Entry) → n.version ≡ e.version → n.srm ≡ e.srm → EntryCertificate at claims up up id (Some e) (Some n)
+pub same_srm : (up : PortSet) (at : ℕ) (claims : List Claim) (id : LspId) (e n : Entry) → n.version ≡ e.version → n.srm ≡ e.srm → EntryCertificate at claims up up id (Some e) (Some n)
 same_srm up at claims id e n v s = record {
   rises = subst (λ (a : Version). IsAtMost e.version a) (sym v) (itself e.version);
   kept = λ p u. ⊎_elim

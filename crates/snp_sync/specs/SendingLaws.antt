@@ -9,7 +9,7 @@ use Rattle.spb_types.specs.declared.address.LspId.{LspId}
 use Rattle.spb_types.specs.declared.ports.PortSet.{PortSet}
 use Rattle.spb_types.specs.Ports.{has}
 use Rattle.isis_pdu.specs.Pdu.{csnp, psnp}
-use Rattle.isis_pdu.specs.Grammar.{IsId, IsLspIdOfBytes}
+use Rattle.isis_pdu.specs.Grammar.{IsId}
 use Rattle.isis_pdu.specs.Reading.{read}
 use Rattle.isis_pdu.specs.Spelling.{csnp_bytes, psnp_bytes}
 use Rattle.spb_tlvs.specs.declared.entries.SnpEntry.{SnpEntry}
@@ -17,20 +17,16 @@ use Rattle.spb_tlvs.specs.RoundTrip.{IsEntry}
 use Rattle.lsdb.specs.Entry.{Entry, IsClean}
 use Rattle.lsdb.specs.Database.{Lsps, id_cmp, version_at}
 use Rattle.lsdb.specs.Certificate.{Claim, Control, EntryCertificate, Certificate}
-use Rattle.flooding.specs.Entries.{IsNumbered, AllEntries}
+use Rattle.flooding.specs.Entries.{IsNumbered, AreSendable}
 use Rattle.snp_sync.specs.Line.{line_of, lines_where, is_listed, is_owed}
 use Rattle.snp_sync.specs.Parts.{line_tlvs}
 use Rattle.snp_sync.specs.Ids.{successor, last_id, is_between}
 use Rattle.snp_sync.specs.Sending.{Page, csnp_for, psnp_for, csnp_pages, psnp_parts, settled, all_settled}
+use Rattle.snp_sync.specs.Sized.{IsLspId, HaveIds, AreSized}
 use Rattle.snp_sync.specs.Reading.{entries_in}
 use Rattle.snp_sync.specs.Hearing.{claim_in}
 
 -- ---- ids
-
--- an LSP id of eight bytes
-pub record IsLspId (id : LspId) : Type 0 where
-  pub system : IsId id.system
-  pub bytes : IsLspIdOfBytes id
 
 -- no id lies between an id and its successor
 abbrev pub SuccessorIsNext : Type 0
@@ -39,17 +35,9 @@ SuccessorIsNext = (x y : LspId) → IsLspId x → IsLspId y → id_cmp x last_id
 abbrev pub SuccessorIsId : Type 0
 SuccessorIsId = (x : LspId) → IsLspId (successor x)
 
--- ---- what is held, as it can be said
+-- ---- lines
 
--- an entry whose line can be written: its fields are numbers of their sizes, and its lifetime and number are those of its
--- version
-pub record IsSayable (id : LspId) (e : Entry) : Type 0 where
-  pub named : IsLspId id
-  pub fields : IsEntry (line_of id e)
-  pub numbered : IsNumbered e.version
-  pub clean : IsClean e
-
--- a line claims what is held
+-- the line of what is held claims it
 abbrev pub LineClaimsWhatIsHeld : Type 0
 LineClaimsWhatIsHeld = (id : LspId) (e : Entry) → IsNumbered e.version → IsClean e → claim_in (line_of id e) ≡ record { id = id; version = e.version }
 
@@ -60,12 +48,12 @@ ClaimsWhatIsHeld db line = (claim_in line).version ≡ version_at db line.id
 
 -- each id lies in the range of one CSNP, and of no other
 abbrev pub RangesCoverOnce : Type 0
-RangesCoverOnce = (db : Lsps) → AllEntries (λ id e. IsLspId id) db → (x : LspId) → IsLspId x
+RangesCoverOnce = (db : Lsps) → HaveIds db → (x : LspId) → IsLspId x
     → count_by (λ page. is_between page.start page.end x) (csnp_pages db) ≡ 1
 
 -- each CSNP lists those of the lines of all LSPs but the absent ones whose ids lie in its range
 abbrev pub PagesListTheirRanges : Type 0
-PagesListTheirRanges = (db : Lsps) → AllEntries (λ id e. IsLspId id) db
+PagesListTheirRanges = (db : Lsps) → HaveIds db
     → AllByRecursion (λ page. page.lines ≡ filter (λ line. is_between page.start page.end line.id) (lines_where is_listed db)) (csnp_pages db)
 
 -- and so at most 90
@@ -74,11 +62,11 @@ PagesAreShort = (db : Lsps) → AllByRecursion (λ page. length page.lines ≤ 9
 
 -- its ends are ids
 abbrev pub PagesEndAtIds : Type 0
-PagesEndAtIds = (db : Lsps) → AllEntries (λ id e. IsLspId id) db → AllByRecursion (λ page. IsLspId page.start × IsLspId page.end) (csnp_pages db)
+PagesEndAtIds = (db : Lsps) → HaveIds db → AllByRecursion (λ page. IsLspId page.start × IsLspId page.end) (csnp_pages db)
 
 -- what it claims is what is held
 abbrev pub PagesClaimWhatIsHeld : Type 0
-PagesClaimWhatIsHeld = (db : Lsps) → AllEntries IsSayable db → AllByRecursion (λ page. AllByRecursion (ClaimsWhatIsHeld db) page.lines) (csnp_pages db)
+PagesClaimWhatIsHeld = (db : Lsps) → AreSendable db → AllByRecursion (λ page. AllByRecursion (ClaimsWhatIsHeld db) page.lines) (csnp_pages db)
 
 -- it is read as it was written, and its entries are its lines
 abbrev pub CsnpIsRead : Type 0
@@ -88,7 +76,7 @@ abbrev pub LinesAreRead : Type 0
 LinesAreRead = (lines : List SnpEntry) → AllByRecursion IsEntry lines → entries_in (line_tlvs lines) ≡ Ok lines
 
 abbrev pub PageLinesAreRead : Type 0
-PageLinesAreRead = (db : Lsps) → AllEntries IsSayable db → AllByRecursion (λ page. entries_in (line_tlvs page.lines) ≡ Ok page.lines) (csnp_pages db)
+PageLinesAreRead = (db : Lsps) → AreSized db → AllByRecursion (λ page. entries_in (line_tlvs page.lines) ≡ Ok page.lines) (csnp_pages db)
 
 -- ---- PSNPs
 
@@ -100,13 +88,13 @@ abbrev pub PartsAreShort : Type 0
 PartsAreShort = (port : ℕ) (db : Lsps) → AllByRecursion (λ part. (1 ≤ length part) × (length part ≤ 90)) (psnp_parts port db)
 
 abbrev pub PartsClaimWhatIsHeld : Type 0
-PartsClaimWhatIsHeld = (port : ℕ) (db : Lsps) → AllEntries IsSayable db → AllByRecursion (λ part. AllByRecursion (ClaimsWhatIsHeld db) part) (psnp_parts port db)
+PartsClaimWhatIsHeld = (port : ℕ) (db : Lsps) → AreSendable db → AllByRecursion (λ part. AllByRecursion (ClaimsWhatIsHeld db) part) (psnp_parts port db)
 
 abbrev pub PsnpIsRead : Type 0
 PsnpIsRead = (me : SystemId) (part : List SnpEntry) → IsId me → read (psnp_bytes (psnp_for me part)) ≡ Ok (psnp (psnp_for me part))
 
 abbrev pub PartLinesAreRead : Type 0
-PartLinesAreRead = (port : ℕ) (db : Lsps) → AllEntries IsSayable db → AllByRecursion (λ part. entries_in (line_tlvs part) ≡ Ok part) (psnp_parts port db)
+PartLinesAreRead = (port : ℕ) (db : Lsps) → AreSized db → AllByRecursion (λ part. entries_in (line_tlvs part) ≡ Ok part) (psnp_parts port db)
 
 -- afterwards nothing is owed there, and all else stands
 abbrev pub SettledOwesNothing : Type 0

@@ -1,4 +1,5 @@
 //! The laws of sequence numbers PDUs. Each is the contract of a function that does nothing.
+ghost use Rattle.snp_sync.specs.HearingLaws.{EntriesAreCertified, CsnpIsCertified, UnnamedStands, LastClaimStands, EntryIsServed, CsnpStands, MissedIsSent, EntriesLeaveOwn, EntriesDontSpend, ClaimsAreNumbered, EntriesKeepSendable, CsnpKeepsSendable, EntriesKeepFlags, CsnpKeepsFlags};
 ghost use Rattle.snp_sync.specs.SendingLaws.{SuccessorIsNext, SuccessorIsId, LineClaimsWhatIsHeld, RangesCoverOnce, PagesListTheirRanges, PagesAreShort, PagesEndAtIds, PagesClaimWhatIsHeld, CsnpIsRead, LinesAreRead, PageLinesAreRead, PartsAreWhole, PartsAreShort, PartsClaimWhatIsHeld, PsnpIsRead, PartLinesAreRead, SettledOwesNothing, SettlingIsCertified};
 
 /// No LSP id lies between an id and its successor.
@@ -37,4 +38,34 @@ pub fn what_is_written_is_read()
     ensures lines { LinesAreRead }
     ensures pages { PageLinesAreRead }
     ensures parts { PartLinesAreRead }
+{}
+
+/// The entries of a PSNP, and a CSNP, heard at an Up port are a certified step.
+pub fn hearing_is_certified()
+    ensures entries { EntriesAreCertified }
+    ensures csnp { CsnpIsCertified }
+{}
+
+/// Under each id stands what the last claim of it made; the sender of a claim gets what it lacks and is asked for what it has.
+pub fn the_sender_is_served()
+    ensures unnamed { UnnamedStands }
+    ensures last { LastClaimStands }
+    ensures entry { EntryIsServed }
+    ensures csnp { CsnpStands }
+    ensures missed { MissedIsSent }
+{}
+
+/// What hearing leaves of the own LSP.
+pub fn hearing_leaves_the_own_lsp()
+    ensures stands { EntriesLeaveOwn }
+    ensures not_spent { EntriesDontSpend }
+{}
+
+/// What is so of every entry before entries are heard is so afterwards.
+pub fn entries_stay_sound()
+    ensures numbered { ClaimsAreNumbered }
+    ensures sendable { EntriesKeepSendable }
+    ensures csnp_sendable { CsnpKeepsSendable }
+    ensures flags { EntriesKeepFlags }
+    ensures csnp_flags { CsnpKeepsFlags }
 {}
