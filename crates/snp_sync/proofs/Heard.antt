@@ -1,5 +1,5 @@
 -- What hearing entries comes to.
-use Rattle.std.specs.Prelude.{◌≡◌, ℕ, zero, suc, ◌+◌, ◌≤◌, ◌<◌, Bool, true, false, List, [], ◌∷◌, ◌++◌, map, length, take, Option, Some, None, is_some, Result, Ok, Err, OnErr, nat_lt, not, ◌&&◌, if◌then◌else◌}
+use Rattle.std.specs.Prelude.{◌≡◌, ℕ, zero, suc, ◌+◌, ◌≤◌, ◌<◌, Bool, true, false, List, [], ◌∷◌, ◌++◌, map, length, take, Option, Some, None, is_some, Result, Ok, Err, OnErr, if◌then◌else◌}
 use Rattle.std.specs.Option.{option_map}
 use Rattle.std.proofs.Common.{refl, sym, ap, subst, ◌∙◌, arith, get_or, add-one}
 use Rattle.std.specs.FinMap.{get, insert}
@@ -7,16 +7,12 @@ use Rattle.std.proofs.lemmas.List.{take_all, length-map}
 use Rattle.spb_types.specs.declared.address.LspId.{LspId}
 use Rattle.spb_types.specs.declared.ports.PortSet.{PortSet}
 use Rattle.spb_tlvs.specs.declared.entries.SnpEntry.{SnpEntry}
-use Rattle.lsdb.specs.declared.version.Version.{Version}
-use Rattle.lsdb.specs.declared.version.Relation.{Relation}
-use Rattle.lsdb.specs.Version.{number_of, relation}
 use Rattle.lsdb.specs.Entry.{Entry, acked}
-use Rattle.lsdb.specs.Database.{Lsps, version_in, fits, placed, changed}
+use Rattle.lsdb.specs.Database.{Lsps, fits, changed}
 use Rattle.lsdb.specs.Certificate.{Claim}
 use Rattle.lsdb.proofs.LookupLemmas.{changed_held, fits_held}
-use Rattle.flooding.specs.declared.own.Own.{Own}
-use Rattle.flooding.specs.Own.{last_number, is_originated, answering}
-use Rattle.flooding.specs.Hearing.{Holding, wanted, snp_row, heard_by, is_answered, hear_entry_of, is_full_for_entry, own_after, after_entry, after_claim, is_full, lacks_place}
+use Rattle.flooding.specs.Hearing.{Holding, wanted, snp_row, hear_entry_of, is_full_for_entry}
+use Rattle.flooding.proofs.Owns.{own_stands}
 use Rattle.snp_sync.specs.Hearing.{claim_in, claims_in, hear_entries_of, full_count, HeardSome}
 
 -- an id that is held is asked for in place
@@ -28,44 +24,10 @@ pub some_mapped : {A B : Type 0} (f : A → B) (o : Option A) → is_some (optio
 some_mapped f None = refl
 some_mapped f (Some x) = refl
 
--- where there is no place, nothing changes
-pub full_stays : (up : PortSet) (port : ℕ) (c : Claim) (h : Holding) → is_full_for_entry up port c h ≡ true → hear_entry_of up port c h ≡ h
-unfolding after_claim is_full
-full_stays up port c h full =
-    let r = relation c.version (version_in (get h.db c.id)) in
-    let new = heard_by (snp_row up port c.version) up h.own c.id c.version r (get h.db c.id) in
-    ap (λ b. if b then h else record { db = placed h.db c.id new; own = own_after h.own c.id c.version r }) full
-
 -- hearing leaves the system's body
-answering_body : (own : Own) (id : LspId) (seq : ℕ) → (answering own id seq).body ≡ own.body
-answering_body own id seq = by_test (is_originated own.system id && not (nat_lt seq last_number))
-  where
-    by_test : (b : Bool) → (if b then record own { spent = true } else own).body ≡ own.body
-    by_test true = refl
-    by_test false = refl
-
-after_body : (own : Own) (id : LspId) (a : Version) (r : Relation) → (own_after own id a r).body ≡ own.body
-after_body own id a r = by_test (is_answered own id r)
-  where
-    by_test : (b : Bool) → (if b then answering own id (number_of a) else own).body ≡ own.body
-    by_test true = answering_body own id (number_of a)
-    by_test false = refl
-
-claim_body : (row : Relation → Option Entry → Option Entry) (up : PortSet) (c : Claim) (h : Holding) → (after_claim row up c h).own.body ≡ h.own.body
-unfolding after_claim
-claim_body row up c h =
-    let r = relation c.version (version_in (get h.db c.id)) in
-    by_test (heard_by row up h.own c.id c.version r (get h.db c.id)) (own_after h.own c.id c.version r) (after_body h.own c.id c.version r)
-  where
-    by_full : (b : Bool) (new : Option Entry) (own : Own) → own.body ≡ h.own.body → (if b then h else record { db = placed h.db c.id new; own = own }).own.body ≡ h.own.body
-    by_full true new own e = refl
-    by_full false new own e = e
-    by_test : (new : Option Entry) (own : Own) → own.body ≡ h.own.body → (after_entry h c.id new own).own.body ≡ h.own.body
-    by_test new own e = by_full (lacks_place h.db c.id new) new own e
-
 pub entries_body : (up : PortSet) (port : ℕ) (claims : List Claim) (h : Holding) → (hear_entries_of up port claims h).own.body ≡ h.own.body
 entries_body up port [] h = refl
-entries_body up port (c ∷ claims) h = entries_body up port claims (hear_entry_of up port c h) ∙ claim_body (snp_row up port c.version) up c h
+entries_body up port (c ∷ claims) h = entries_body up port claims (hear_entry_of up port c h) ∙ (own_stands (snp_row up port c.version) up c h).1
 
 -- one claim more
 hear_push : (up : PortSet) (port : ℕ) (claims : List Claim) (c : Claim) (h : Holding) → hear_entries_of up port (claims ++ c ∷ []) h ≡ hear_entry_of up port c (hear_entries_of up port claims h)

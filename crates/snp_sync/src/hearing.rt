@@ -90,7 +90,19 @@ fn count_entry(alloc: Global, db: &mut Database, up: PortSet, port: u8, entry: &
     }
 }
 
-/// Hears the entries of a PSNP.
+/// Hears the entries of a PSNP at a port, 1 to 32, one after another (ISO/IEC 10589, 7.3.15.2), where `up` are the Up ports:
+///
+/// - what is newer than what is held is asked for at the port, and needn't be sent there; an id that isn't held is entered
+///   as absent for that;
+/// - what is the same needn't be sent there;
+/// - of what is older the neighbour gets what is held;
+/// - one that is live with the number of the held one and another checksum makes the LSP dead at that number, to be sent
+///   at every Up port;
+/// - a newer or confused one of the system's own is answered instead.
+///
+/// `own.body` has at least one byte. The answer is the number of entries that needed a place while 2,048 ids were held; such
+/// an entry changes nothing, and the others are heard. After `NoMemory` some of the entries, from the first on, have been
+/// heard.
 pub fn hear_psnp(alloc: Global, db: &mut Database, up: PortSet, port: u8, entries: &[SnpEntry], own: &mut Own) -> Result<u64, NoMemory>
     requires low { 1 ≤ port }
     requires high { port ≤ 32 }
@@ -106,7 +118,11 @@ pub fn hear_psnp(alloc: Global, db: &mut Database, up: PortSet, port: u8, entrie
     Ok(full)
 }
 
-/// Hears a CSNP.
+/// Hears a CSNP of a range at a port, 1 to 32 (ISO/IEC 10589, 7.3.15.2): its entries as those of a PSNP, and then every LSP
+/// but the absent ones whose id lies in the range, its ends included, and isn't among the entries is to be sent at the port.
+///
+/// The answer is the number of entries that needed a place while 2,048 ids were held. After `NoMemory` some of the entries,
+/// from the first on, have been heard, and nothing else changed.
 pub fn hear_csnp(
     alloc: Global,
     db: &mut Database,

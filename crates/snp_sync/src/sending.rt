@@ -15,6 +15,7 @@ use std::alloc::Global;
 /// The most lines in a PDU.
 const PDU_LINES: usize = 90;
 
+/// The CSNP of a range, with at most 90 lines.
 fn csnp(alloc: Global, me: SystemId, start: LspId, end: LspId, lines: &[SnpEntry]) -> Result<Vec<u8>, NoMemory>
     requires { length lines.now ≤ 90 }
     ensures { IfOk result (λ v. v.items ≡ csnp_bytes (csnp_for me (record { start = start; end = end; lines = lines.now }))) }
@@ -23,6 +24,7 @@ fn csnp(alloc: Global, me: SystemId, start: LspId, end: LspId, lines: &[SnpEntry
     write_csnp(alloc, &Csnp { source: me, start, end, tlvs: &tlvs })
 }
 
+/// The PSNP of at most 90 lines.
 fn psnp(alloc: Global, me: SystemId, lines: &[SnpEntry]) -> Result<Vec<u8>, NoMemory>
     requires { length lines.now ≤ 90 }
     ensures { IfOk result (λ v. v.items ≡ psnp_bytes (psnp_for me lines.now)) }
@@ -31,7 +33,10 @@ fn psnp(alloc: Global, me: SystemId, lines: &[SnpEntry]) -> Result<Vec<u8>, NoMe
     write_psnp(alloc, &Psnp { source: me, tlvs: &tlvs })
 }
 
-/// The CSNPs of the whole database.
+/// The CSNPs of the whole database (ISO/IEC 10589, 7.3.15.3), the bytes of each: they list every LSP that is held but the
+/// absent ones, in order of id, at most 90 in each. The first starts at the least id, and each further one at the successor
+/// of the end of the one before. The last ends at the greatest id, and each other one at its last entry. Where nothing is
+/// listed there is one without entries.
 pub fn csnps(alloc: Global, db: &Database, me: SystemId) -> Result<Vec<Vec<u8>>, NoMemory>
     ensures { IfOk result (λ pdus. bytes_in pdus.items ≡ map csnp_bytes (csnps_of me db.now)) }
 {
@@ -61,6 +66,7 @@ fn psnps_of(alloc: Global, lines: &[SnpEntry], me: SystemId) -> Result<Vec<Vec<u
     Ok(pdus)
 }
 
+/// Nothing is to be acknowledged or asked for at a port any longer.
 fn settle(db: &mut Database, port: u8)
     requires low { 1 ≤ port }
     requires high { port ≤ 32 }
@@ -76,7 +82,9 @@ fn settle(db: &mut Database, port: u8)
     }
 }
 
-/// The PSNPs of what is owed at a port.
+/// The PSNPs at a port, 1 to 32 (ISO/IEC 10589, 7.3.15.4), the bytes of each: they list what is to be acknowledged or asked
+/// for there, in order of id, at most 90 in each. Where nothing is, there is none. Those flags are cleared there; after
+/// `NoMemory` nothing changed.
 pub fn psnps(alloc: Global, db: &mut Database, me: SystemId, port: u8) -> Result<Vec<Vec<u8>>, NoMemory>
     requires low { 1 ≤ port }
     requires high { port ≤ 32 }
