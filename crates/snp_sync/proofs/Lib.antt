@@ -9,3 +9,5 @@ pub mod Ranges
 pub mod Said
 pub mod Served
 pub mod Stays
+pub mod Fields
+pub mod Gleaned

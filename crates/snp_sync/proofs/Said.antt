@@ -37,7 +37,8 @@ use Rattle.snp_sync.specs.Ids.{successor, first_id}
 use Rattle.snp_sync.specs.Sending.{Page, end_of, pages_from, csnp_for, psnp_for, csnp_pages, psnp_parts, settled}
 use Rattle.snp_sync.specs.Reading.{before_others, entries_in_all, entries_in}
 use Rattle.snp_sync.specs.Hearing.{claim_in}
-use Rattle.snp_sync.specs.SendingLaws.{LineClaimsWhatIsHeld, ClaimsWhatIsHeld, PagesClaimWhatIsHeld, CsnpIsRead, LinesAreRead, PageLinesAreRead, PartsClaimWhatIsHeld, PsnpIsRead, PartLinesAreRead, SettledOwesNothing, SettlingIsCertified}
+use Rattle.snp_sync.specs.Sized.{IsSizedLine}
+use Rattle.snp_sync.specs.SendingLaws.{LineClaimsWhatIsHeld, ClaimsWhatIsHeld, PagesClaimWhatIsHeld, CsnpIsRead, LinesAreRead, PageLinesAreRead, PageLinesAreSized, PartsClaimWhatIsHeld, PsnpIsRead, PartLinesAreRead, PartLinesAreSized, SettledOwesNothing, SettlingIsCertified}
 use Rattle.snp_sync.proofs.Gathered.{gathered}
 use Rattle.snp_sync.proofs.Cuts.{tlvs_whole}
 use Rattle.snp_sync.proofs.Ranges.{joined, joined_parts, joined_or_one, of_entries}
@@ -108,6 +109,12 @@ page_lines_are_read db all =
 pub part_lines_are_read : PartLinesAreRead
 part_lines_are_read port db all =
     weaker (AllByRecursion IsEntry) (λ part. entries_in (line_tlvs part) ≡ Ok part) (psnp_parts port db) (λ part h. lines_are_read part h) (of_psnps IsEntry port db (λ id e at. (all id e at).line))
+
+pub page_lines_are_sized : PageLinesAreSized
+page_lines_are_sized db all = of_csnps IsSizedLine db (λ id e at. let sized = all id e at in record { named = sized.named; line = sized.line })
+
+pub part_lines_are_sized : PartLinesAreSized
+part_lines_are_sized port db all = of_psnps IsSizedLine port db (λ id e at. let sized = all id e at in record { named = sized.named; line = sized.line })
 
 pub csnp_is_read : CsnpIsRead
 csnp_is_read me page mine start end =

@@ -7,9 +7,8 @@ use Rattle.spb_types.specs.declared.address.LspId.{LspId}
 use Rattle.spb_types.specs.declared.ports.PortSet.{PortSet}
 use Rattle.spb_types.specs.Ports.{has}
 use Rattle.isis_pdu.specs.Pdu.{LspValue, lsp}
-use Rattle.isis_pdu.specs.Grammar.{HasFields}
+use Rattle.isis_pdu.specs.Grammar.{IsId, HasFields}
 use Rattle.spb_tlvs.specs.declared.entries.SnpEntry.{SnpEntry}
-use Rattle.spb_tlvs.specs.RoundTrip.{IsEntry}
 use Rattle.lsdb.specs.declared.version.Version.{Version}
 use Rattle.lsdb.specs.declared.version.Relation.TheVariants.{Older, Newer, Confused}
 use Rattle.lsdb.specs.Version.{number_of, relation}
@@ -21,8 +20,8 @@ use Rattle.flooding.specs.Hearing.{Holding, hear_lsp_of, hear_entry_of, is_full_
 use Rattle.flooding.specs.Origination.{originated}
 use Rattle.flooding.specs.Entries.{IsNumbered, AreSendable, HaveFlagsAt}
 use Rattle.flooding.specs.Laws.{control, HasBody}
-use Rattle.snp_sync.specs.Sized.{IsLspId, IsSized, AreSized}
-use Rattle.snp_sync.specs.Hearing.{claim_in, hear_entries_of, ids_of, is_among, is_missed, flag_if, hear_csnp_of}
+use Rattle.snp_sync.specs.Sized.{IsLspId, IsSized, AreSized, IsSizedLine}
+use Rattle.snp_sync.specs.Hearing.{claim_in, claims_in, hear_entries_of, ids_of, is_among, is_missed, flag_if, hear_csnp_of}
 
 -- ---- steps
 
@@ -102,3 +101,24 @@ EntriesKeepFlags = (up : PortSet) (port : ℕ) (claims : List Claim) (h : Holdin
 
 abbrev pub CsnpKeepsFlags : Type 0
 CsnpKeepsFlags = (up : PortSet) (port : ℕ) (start end : LspId) (claims : List Claim) (h : Holding) → has up port ≡ true → HaveFlagsAt up h.db → HaveFlagsAt up (hear_csnp_of up port start end claims h).db
+
+-- its line can be written: after what was heard, if that could be
+abbrev pub EntriesKeepSized : Type 0
+EntriesKeepSized = (up : PortSet) (port : ℕ) (es : List SnpEntry) (h : Holding) → AllByRecursion IsSizedLine es → AreSized h.db → AreSized (hear_entries_of up port (claims_in es) h).db
+
+abbrev pub CsnpKeepsSized : Type 0
+CsnpKeepsSized = (up : PortSet) (port : ℕ) (start end : LspId) (es : List SnpEntry) (h : Holding) → AllByRecursion IsSizedLine es
+    → AreSized h.db → AreSized (hear_csnp_of up port start end (claims_in es) h).db
+
+abbrev pub LspKeepsSized : Type 0
+LspKeepsSized = (up : PortSet) (port : ℕ) (l : LspValue) (h : Holding) → IsId l.id.system → HasFields (lsp l) → AreSized h.db → AreSized (hear_lsp_of up port l h).db
+
+-- after an origination and a second, and with other flags
+abbrev pub OriginationKeepsSized : Type 0
+OriginationKeepsSized = (up : PortSet) (h : Holding) → IsLspId (own_id h.own.system) → AreSized h.db → AreSized (originated up h).db
+
+abbrev pub AgeingKeepsSized : Type 0
+AgeingKeepsSized = (up : PortSet) (id : LspId) (e : Entry) → IsSized id e → IsSized id (aged up e)
+
+abbrev pub FlagsKeepSized : Type 0
+FlagsKeepSized = (srm ssn : PortSet) (id : LspId) (e : Entry) → IsSized id e → IsSized id (with_flags srm ssn e)

@@ -22,7 +22,7 @@ use Rattle.snp_sync.specs.Line.{line_of, lines_where, is_listed, is_owed}
 use Rattle.snp_sync.specs.Parts.{line_tlvs}
 use Rattle.snp_sync.specs.Ids.{successor, last_id, is_between}
 use Rattle.snp_sync.specs.Sending.{Page, csnp_for, psnp_for, csnp_pages, psnp_parts, settled, all_settled}
-use Rattle.snp_sync.specs.Sized.{IsLspId, HaveIds, AreSized}
+use Rattle.snp_sync.specs.Sized.{IsLspId, HaveIds, AreSized, IsSizedLine}
 use Rattle.snp_sync.specs.Reading.{entries_in}
 use Rattle.snp_sync.specs.Hearing.{claim_in}
 
@@ -68,6 +68,9 @@ PagesEndAtIds = (db : Lsps) → HaveIds db → AllByRecursion (λ page. IsLspId 
 abbrev pub PagesClaimWhatIsHeld : Type 0
 PagesClaimWhatIsHeld = (db : Lsps) → AreSendable db → AllByRecursion (λ page. AllByRecursion (ClaimsWhatIsHeld db) page.lines) (csnp_pages db)
 
+abbrev pub PageLinesAreSized : Type 0
+PageLinesAreSized = (db : Lsps) → AreSized db → AllByRecursion (λ page. AllByRecursion IsSizedLine page.lines) (csnp_pages db)
+
 -- it is read as it was written, and its entries are its lines
 abbrev pub CsnpIsRead : Type 0
 CsnpIsRead = (me : SystemId) (page : Page) → IsId me → IsLspId page.start → IsLspId page.end → read (csnp_bytes (csnp_for me page)) ≡ Ok (csnp (csnp_for me page))
@@ -89,6 +92,9 @@ PartsAreShort = (port : ℕ) (db : Lsps) → AllByRecursion (λ part. (1 ≤ len
 
 abbrev pub PartsClaimWhatIsHeld : Type 0
 PartsClaimWhatIsHeld = (port : ℕ) (db : Lsps) → AreSendable db → AllByRecursion (λ part. AllByRecursion (ClaimsWhatIsHeld db) part) (psnp_parts port db)
+
+abbrev pub PartLinesAreSized : Type 0
+PartLinesAreSized = (port : ℕ) (db : Lsps) → AreSized db → AllByRecursion (AllByRecursion IsSizedLine) (psnp_parts port db)
 
 abbrev pub PsnpIsRead : Type 0
 PsnpIsRead = (me : SystemId) (part : List SnpEntry) → IsId me → read (psnp_bytes (psnp_for me part)) ≡ Ok (psnp (psnp_for me part))

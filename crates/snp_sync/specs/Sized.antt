@@ -1,6 +1,7 @@
 -- What is held, as its fields in a PDU can say it.
 use Rattle.spb_types.specs.declared.address.LspId.{LspId}
 use Rattle.isis_pdu.specs.Grammar.{IsId, IsLspIdOfBytes}
+use Rattle.spb_tlvs.specs.declared.entries.SnpEntry.{SnpEntry}
 use Rattle.spb_tlvs.specs.RoundTrip.{IsEntry}
 use Rattle.lsdb.specs.Entry.{Entry}
 use Rattle.lsdb.specs.Database.{Lsps}
@@ -22,3 +23,8 @@ pub record IsSized (id : LspId) (e : Entry) : Type 0 where
 
 abbrev pub AreSized : Lsps → Type 0
 AreSized db = AllEntries IsSized db
+
+-- an entry of an SNP whose numbers fit its fields, of an id of eight bytes
+pub record IsSizedLine (e : SnpEntry) : Type 0 where
+  pub named : IsLspId e.id
+  pub line : IsEntry e

@@ -1,6 +1,6 @@
 //! The laws of sequence numbers PDUs. Each is the contract of a function that does nothing.
-ghost use Rattle.snp_sync.specs.HearingLaws.{EntriesAreCertified, CsnpIsCertified, UnnamedStands, LastClaimStands, EntryIsServed, CsnpStands, MissedIsSent, EntriesLeaveOwn, EntriesDontSpend, ClaimsAreNumbered, EntriesKeepSendable, CsnpKeepsSendable, EntriesKeepFlags, CsnpKeepsFlags};
-ghost use Rattle.snp_sync.specs.SendingLaws.{SuccessorIsNext, SuccessorIsId, LineClaimsWhatIsHeld, RangesCoverOnce, PagesListTheirRanges, PagesAreShort, PagesEndAtIds, PagesClaimWhatIsHeld, CsnpIsRead, LinesAreRead, PageLinesAreRead, PartsAreWhole, PartsAreShort, PartsClaimWhatIsHeld, PsnpIsRead, PartLinesAreRead, SettledOwesNothing, SettlingIsCertified};
+ghost use Rattle.snp_sync.specs.HearingLaws.{EntriesAreCertified, CsnpIsCertified, UnnamedStands, LastClaimStands, EntryIsServed, CsnpStands, MissedIsSent, EntriesLeaveOwn, EntriesDontSpend, ClaimsAreNumbered, EntriesKeepSendable, CsnpKeepsSendable, EntriesKeepFlags, CsnpKeepsFlags, EntriesKeepSized, CsnpKeepsSized, LspKeepsSized, OriginationKeepsSized, AgeingKeepsSized, FlagsKeepSized};
+ghost use Rattle.snp_sync.specs.SendingLaws.{SuccessorIsNext, SuccessorIsId, LineClaimsWhatIsHeld, RangesCoverOnce, PagesListTheirRanges, PagesAreShort, PagesEndAtIds, PagesClaimWhatIsHeld, CsnpIsRead, LinesAreRead, PageLinesAreRead, PageLinesAreSized, PartsAreWhole, PartsAreShort, PartsClaimWhatIsHeld, PsnpIsRead, PartLinesAreRead, PartLinesAreSized, SettledOwesNothing, SettlingIsCertified};
 
 /// No LSP id lies between an id and its successor.
 pub fn the_successor_is_next()
@@ -38,6 +38,8 @@ pub fn what_is_written_is_read()
     ensures lines { LinesAreRead }
     ensures pages { PageLinesAreRead }
     ensures parts { PartLinesAreRead }
+    ensures sized_pages { PageLinesAreSized }
+    ensures sized_parts { PartLinesAreSized }
 {}
 
 /// The entries of a PSNP, and a CSNP, heard at an Up port are a certified step.
@@ -68,4 +70,14 @@ pub fn entries_stay_sound()
     ensures csnp_sendable { CsnpKeepsSendable }
     ensures flags { EntriesKeepFlags }
     ensures csnp_flags { CsnpKeepsFlags }
+{}
+
+/// Every entry stays one whose line can be written, whatever is heard, originated or aged.
+pub fn lines_stay_sized()
+    ensures entries { EntriesKeepSized }
+    ensures csnp { CsnpKeepsSized }
+    ensures lsp { LspKeepsSized }
+    ensures origination { OriginationKeepsSized }
+    ensures ageing { AgeingKeepsSized }
+    ensures flags { FlagsKeepSized }
 {}

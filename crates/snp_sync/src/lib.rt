@@ -9,6 +9,7 @@
 
 pub use hearing::{hear_csnp, hear_psnp};
 pub use ids::successor;
+pub use reading::entries_of_snp;
 pub use sending::{csnps, psnps};
 
 mod hearing;
@@ -16,6 +17,7 @@ mod ids;
 pub mod laws;
 mod lines;
 mod missed;
+mod reading;
 mod sending;
 #[cfg(test)]
 mod tests;
