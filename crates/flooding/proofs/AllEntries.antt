@@ -23,8 +23,8 @@ module _ (P : LspId → Entry → Type 0) where
   inserted : (db : Lsps) (id : LspId) (e : Entry) → AllEntries P db → P id e → AllEntries P (insert db id e)
   inserted db id e all new x f is = ⊎_elim
       (λ here.
-        let same : e ≡ f = let found : Some e ≡ Some f = sym (get-insert_same db id e) ∙ ap (λ (y : LspId). get (insert db id e) y) (sym here) ∙ is in cc in
-        subst (λ (y : LspId). P y f) (sym here) (subst (λ (g : Entry). P id g) same new))
+      let same : e ≡ f = let found : Some e ≡ Some f = sym (get-insert_same db id e) ∙ ap (λ (y : LspId). get (insert db id e) y) (sym here) ∙ is in cc in
+      subst (λ (y : LspId). P y f) (sym here) (subst (λ (g : Entry). P id g) same new))
       (λ elsewhere. all x f (sym (get-insert_other db id e x elsewhere) ∙ is))
       (same_or_not x id)
 

@@ -115,8 +115,8 @@ own_entry_by : (row : Row) → KeepsHeld row → (up : PortSet) (own : Own) (id 
     → (if b then Some (answered up own id (number_of a)) else row r (Some old)) ≡ Some new → OwnEntry up own a old new
 own_entry_by row keeps up own id a r old new true beyond mine below is =
     let next : answered up own id (number_of a) ≡ renewed up own (number_of a + 1) =
-      ap (λ b. if b && nat_lt (number_of a) last_number then renewed up own (number_of a + 1) else ended up (number_of a)) mine
-      ∙ ap (λ b. if b then renewed up own (number_of a + 1) else ended up (number_of a)) (lt-ltb (number_of a) last_number below) in
+    ap (λ b. if b && nat_lt (number_of a) last_number then renewed up own (number_of a + 1) else ended up (number_of a)) mine
+    ∙ ap (λ b. if b then renewed up own (number_of a + 1) else ended up (number_of a)) (lt-ltb (number_of a) last_number below) in
     let same : new ≡ answered up own id (number_of a) = cc in
     is_renewed (same ∙ next)
 own_entry_by row keeps up own id a r old new false within mine below is = own_entry_of up own a old new (keeps r old new within is)
@@ -134,9 +134,9 @@ leaves_own row keeps says up c h old new mine below before after =
     let r = relation c.version (version_in (get h.db c.id)) in
     let there : is_full row up c h ≡ false = fitting_is_not_full row up c h (fits_held h.db c.id old before) in
     let heard : (if is_beyond r then Some (answered up h.own c.id (number_of c.version)) else row r (Some old)) ≡ Some new =
-      sym (ap (λ b. if b && is_beyond r then Some (answered up h.own c.id (number_of c.version)) else row r (Some old)) (system_mine h.own c.id mine))
-      ∙ sym (ap (λ (o : Option Entry). if is_answered h.own c.id r then Some (answered up h.own c.id (number_of c.version)) else row r o) before)
-      ∙ sym (heard_stands row says up c h there) ∙ after in
+    sym (ap (λ b. if b && is_beyond r then Some (answered up h.own c.id (number_of c.version)) else row r (Some old)) (system_mine h.own c.id mine))
+    ∙ sym (ap (λ (o : Option Entry). if is_answered h.own c.id r then Some (answered up h.own c.id (number_of c.version)) else row r o) before)
+    ∙ sym (heard_stands row says up c h there) ∙ after in
     own_entry_by row keeps up h.own c.id c.version r old new (is_beyond r) refl (mine_is h.own c.id mine) below heard
 
 pub lsp_leaves_own : LspLeavesOwn

@@ -26,7 +26,14 @@ use std::alloc::{AllocError, Global};
 ///
 /// `own.body` has at least one byte. `Full` only where the id needs a place and 2,048 ids are held. After an error nothing
 /// changed.
-pub fn hear_lsp(alloc: Global, db: &mut Database, up: PortSet, port: u8, lsp: &Lsp<'_>, own: &mut Own) -> Result<(), FloodError>
+pub fn hear_lsp(
+    alloc: Global,
+    db: &mut Database,
+    up: PortSet,
+    port: u8,
+    lsp: &Lsp<'_>,
+    own: &mut Own,
+) -> Result<(), FloodError>
     requires low { 1 ≤ port }
     requires high { port ≤ 32 }
     requires body { 1 ≤ length own.old.body }
@@ -63,7 +70,13 @@ fn body_of(alloc: Global, lsp: &Lsp<'_>) -> Result<Vec<u8>, AllocError>
 }
 
 /// Stores an LSP that is newer than what is held.
-fn store(alloc: Global, db: &mut Database, up: PortSet, port: u8, lsp: &Lsp<'_>) -> Result<(), FloodError>
+fn store(
+    alloc: Global,
+    db: &mut Database,
+    up: PortSet,
+    port: u8,
+    lsp: &Lsp<'_>,
+) -> Result<(), FloodError>
     requires low { 1 ≤ port }
     requires high { port ≤ 32 }
     ensures { Puts result lsp.now.id (stored up port (claimed lsp.now.seq lsp.now.lifetime lsp.now.sum) lsp.now.lifetime (hearing.body_of (lsp_of lsp.now)))

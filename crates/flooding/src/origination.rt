@@ -17,7 +17,12 @@ use std::alloc::Global;
 /// be sent at every Up port, and the system is spent. A spent system originates no more.
 ///
 /// The own id is held, or fewer than 2,048 ids are; the body has at least one byte. After an error nothing changed.
-pub fn originate(alloc: Global, db: &mut Database, up: PortSet, own: &mut Own) -> Result<(), NoMemory>
+pub fn originate(
+    alloc: Global,
+    db: &mut Database,
+    up: PortSet,
+    own: &mut Own,
+) -> Result<(), NoMemory>
     requires place { fits db.old (own_id own.old.system) ≡ true }
     requires body { 1 ≤ length own.old.body }
     ensures ok { OnOk result (holding db.new own.new ≡ originated up (holding db.old own.old)) }

@@ -53,7 +53,14 @@ impl Own {
     /// LSP is dead at the claim's number. Each goes to every Up port.
     ///
     /// `body` has at least one byte. `Full` only where the id isn't held and 2,048 ids are. After an error nothing changed.
-    pub fn answer(&mut self, alloc: Global, db: &mut Database, up: PortSet, id: &LspId, seq: u32) -> Result<(), FloodError>
+    pub fn answer(
+        &mut self,
+        alloc: Global,
+        db: &mut Database,
+        up: PortSet,
+        id: &LspId,
+        seq: u32,
+    ) -> Result<(), FloodError>
         requires { 1 ≤ length self.old.body }
         ensures { Hears result (lacks_place db.old id.now (Some (answered up self.old id.now seq)))
             (holding db.old self.old)

@@ -23,7 +23,13 @@ pub fn put(db: &mut Database, held: Held) -> Result<(), FloodError>
 }
 
 /// Puts a dead LSP in, to be sent at every Up port.
-pub fn put_dead(alloc: Global, db: &mut Database, up: PortSet, id: &LspId, seq: u32) -> Result<(), FloodError>
+pub fn put_dead(
+    alloc: Global,
+    db: &mut Database,
+    up: PortSet,
+    id: &LspId,
+    seq: u32,
+) -> Result<(), FloodError>
     ensures { Puts result id.now (own_specs.ended up seq) db.old db.new }
 {
     put(
@@ -40,7 +46,13 @@ pub fn put_dead(alloc: Global, db: &mut Database, up: PortSet, id: &LspId, seq: 
 }
 
 /// Puts the own LSP in at this number, with its present body, to be sent at every Up port.
-pub fn renew(alloc: Global, db: &mut Database, up: PortSet, own: &Own, seq: u32) -> Result<(), FloodError>
+pub fn renew(
+    alloc: Global,
+    db: &mut Database,
+    up: PortSet,
+    own: &Own,
+    seq: u32,
+) -> Result<(), FloodError>
     requires { 1 ≤ length own.now.body }
     ensures { Puts result (own_specs.own_id own.now.system) (own_specs.renewed up own.now seq) db.old db.new }
 {

@@ -88,9 +88,30 @@ fn held(alloc: Global, id: LspId, version: Version) -> Result<Held, AllocError>
     let (srm, ssn) = (ports(&[1, 2]), ports(&[2, 3]));
     let lifetime = 500;
     Ok(match version {
-        Version::Absent => Held { id, version: Version::Absent, lifetime, body, srm, ssn },
-        Version::Live { seq, sum } => Held { id, version: Version::Live { seq, sum }, lifetime, body, srm, ssn },
-        Version::Dead { seq } => Held { id, version: Version::Dead { seq }, lifetime, body, srm, ssn },
+        Version::Absent => Held {
+            id,
+            version: Version::Absent,
+            lifetime,
+            body,
+            srm,
+            ssn,
+        },
+        Version::Live { seq, sum } => Held {
+            id,
+            version: Version::Live { seq, sum },
+            lifetime,
+            body,
+            srm,
+            ssn,
+        },
+        Version::Dead { seq } => Held {
+            id,
+            version: Version::Dead { seq },
+            lifetime,
+            body,
+            srm,
+            ssn,
+        },
     })
 }
 
@@ -107,14 +128,24 @@ fn lsp(id: LspId, seq: u32, lifetime: u16, sum: u16) -> Lsp<'static> {
 
 /// What stands under the LSP's id after bridge 1 heard it at port 2, where this version was held if any: its version,
 /// lifetime, length of body and flags, and whether the bridge is spent.
-fn after(alloc: Global, before: Option<Version>, lsp: &Lsp<'_>) -> Result<(Option<(Version, u16, usize, u32, u32)>, bool), Fail> {
+fn after(
+    alloc: Global,
+    before: Option<Version>,
+    lsp: &Lsp<'_>,
+) -> Result<(Option<(Version, u16, usize, u32, u32)>, bool), Fail> {
     let mut db = Database::new(alloc);
     if let Some(version) = before {
         db.put(held(alloc, lsp.id, version)?)?;
     }
     let mut own = own(alloc, &[1, 9, 1, 7])?;
     hear_lsp(alloc, &mut db, ports(&[1, 2, 3]), 2, lsp, &mut own)?;
-    let row = db.find(&lsp.id).map(|h| (h.version, h.lifetime, h.body.len(), h.srm.bits, h.ssn.bits));
+    let row = db.find(&lsp.id).map(|h| (
+        h.version,
+        h.lifetime,
+        h.body.len(),
+        h.srm.bits,
+        h.ssn.bits,
+    ));
     Ok((row, own.spent))
 }
 
@@ -123,22 +154,74 @@ fn each_row_of_the_table_gives_its_version_and_flags(rt: HostRuntime) -> Result<
     let x = lsp_id(2, 0);
     for (before, claim, version, lifetime, body, srm, ssn) in [
         // Newer: stored, also where nothing is held and where it is dead.
-        (Some(live(7, 9)), lsp(x, 8, 30, 5), live(8, 5), 30, 3, 0b101, 0b010),
-        (Some(live(7, 9)), lsp(x, 7, 0, 0), dead(7), 0, 1, 0b101, 0b010),
-        (Some(Version::Absent), lsp(x, 1, 30, 5), live(1, 5), 30, 3, 0b101, 0b010),
+        (
+            Some(live(7, 9)),
+            lsp(x, 8, 30, 5),
+            live(8, 5),
+            30,
+            3,
+            0b101,
+            0b010,
+        ),
+        (
+            Some(live(7, 9)),
+            lsp(x, 7, 0, 0),
+            dead(7),
+            0,
+            1,
+            0b101,
+            0b010,
+        ),
+        (
+            Some(Version::Absent),
+            lsp(x, 1, 30, 5),
+            live(1, 5),
+            30,
+            3,
+            0b101,
+            0b010,
+        ),
         (None, lsp(x, 1, 0, 5), dead(1), 0, 1, 0b101, 0b010),
         // Equal: acknowledged, but not where nothing is held; lifetime and body aren't taken.
-        (Some(live(7, 9)), lsp(x, 7, 30, 9), live(7, 9), 500, 3, 0b001, 0b110),
+        (
+            Some(live(7, 9)),
+            lsp(x, 7, 30, 9),
+            live(7, 9),
+            500,
+            3,
+            0b001,
+            0b110,
+        ),
         (Some(dead(7)), lsp(x, 7, 0, 9), dead(7), 0, 1, 0b001, 0b110),
-        (Some(Version::Absent), lsp(x, 0, 30, 9), Version::Absent, 0, 0, 0b011, 0b110),
+        (
+            Some(Version::Absent),
+            lsp(x, 0, 30, 9),
+            Version::Absent,
+            0,
+            0,
+            0b011,
+            0b110,
+        ),
         // Older: the neighbour gets what is held.
-        (Some(live(7, 9)), lsp(x, 6, 30, 9), live(7, 9), 500, 3, 0b011, 0b100),
+        (
+            Some(live(7, 9)),
+            lsp(x, 6, 30, 9),
+            live(7, 9),
+            500,
+            3,
+            0b011,
+            0b100,
+        ),
         (Some(dead(7)), lsp(x, 7, 30, 9), dead(7), 0, 1, 0b011, 0b100),
         // Confused: dead, and sent to all.
         (Some(live(7, 9)), lsp(x, 7, 30, 5), dead(7), 0, 1, 0b111, 0),
     ] {
         let outcome = after(rt.alloc(), before, &claim)?;
-        assert_eq!(rt; outcome, (Some((version, lifetime, body, srm, ssn)), false), "{before:?} and {claim:?}");
+        assert_eq!(rt;
+            outcome,
+            (Some((version, lifetime, body, srm, ssn)), false),
+            "{before:?} and {claim:?}"
+        );
     }
     let outcome = after(rt.alloc(), None, &lsp(x, 0, 30, 9))?;
     assert_eq!(rt; outcome, (None, false));
@@ -151,21 +234,106 @@ fn claims_of_own_ids_are_answered(rt: HostRuntime) -> Result<(), Fail> {
     let last = u32::MAX;
     for (before, claim, version, lifetime, body, srm, ssn, spent) in [
         // The own LSP goes past the claim. Its checksums are those of body 01 09 01 07.
-        (Some(live(7, 9)), lsp(own, 9, 30, 5), live(10, 0xfbe4), 1200, 4, 0b111, 0, false),
-        (Some(live(7, 9)), lsp(own, 7, 30, 5), live(8, 0xffe2), 1200, 4, 0b111, 0, false),
-        (Some(live(7, 9)), lsp(own, 7, 0, 0), live(8, 0xffe2), 1200, 4, 0b111, 0, false),
-        (None, lsp(own, 3, 0, 0), live(4, 0x08de), 1200, 4, 0b111, 0, false),
+        (
+            Some(live(7, 9)),
+            lsp(own, 9, 30, 5),
+            live(10, 0xfbe4),
+            1200,
+            4,
+            0b111,
+            0,
+            false,
+        ),
+        (
+            Some(live(7, 9)),
+            lsp(own, 7, 30, 5),
+            live(8, 0xffe2),
+            1200,
+            4,
+            0b111,
+            0,
+            false,
+        ),
+        (
+            Some(live(7, 9)),
+            lsp(own, 7, 0, 0),
+            live(8, 0xffe2),
+            1200,
+            4,
+            0b111,
+            0,
+            false,
+        ),
+        (
+            None,
+            lsp(own, 3, 0, 0),
+            live(4, 0x08de),
+            1200,
+            4,
+            0b111,
+            0,
+            false,
+        ),
         // At the last number it is dead.
-        (Some(live(7, 9)), lsp(own, last, 30, 5), dead(last), 0, 1, 0b111, 0, true),
+        (
+            Some(live(7, 9)),
+            lsp(own, last, 30, 5),
+            dead(last),
+            0,
+            1,
+            0b111,
+            0,
+            true,
+        ),
         // Every other own id is dead at the claim's number.
-        (Some(live(7, 9)), lsp(other, 9, 30, 5), dead(9), 0, 1, 0b111, 0, false),
-        (None, lsp(other, last, 30, 5), dead(last), 0, 1, 0b111, 0, false),
+        (
+            Some(live(7, 9)),
+            lsp(other, 9, 30, 5),
+            dead(9),
+            0,
+            1,
+            0b111,
+            0,
+            false,
+        ),
+        (
+            None,
+            lsp(other, last, 30, 5),
+            dead(last),
+            0,
+            1,
+            0b111,
+            0,
+            false,
+        ),
         // An equal and an older claim are as of any id.
-        (Some(live(7, 9)), lsp(own, 7, 30, 9), live(7, 9), 500, 3, 0b001, 0b110, false),
-        (Some(live(7, 9)), lsp(own, 6, 30, 9), live(7, 9), 500, 3, 0b011, 0b100, false),
+        (
+            Some(live(7, 9)),
+            lsp(own, 7, 30, 9),
+            live(7, 9),
+            500,
+            3,
+            0b001,
+            0b110,
+            false,
+        ),
+        (
+            Some(live(7, 9)),
+            lsp(own, 6, 30, 9),
+            live(7, 9),
+            500,
+            3,
+            0b011,
+            0b100,
+            false,
+        ),
     ] {
         let outcome = after(rt.alloc(), before, &claim)?;
-        assert_eq!(rt; outcome, (Some((version, lifetime, body, srm, ssn)), spent), "{before:?} and {claim:?}");
+        assert_eq!(rt;
+            outcome,
+            (Some((version, lifetime, body, srm, ssn)), spent),
+            "{before:?} and {claim:?}"
+        );
     }
     Ok(())
 }
@@ -183,7 +351,10 @@ fn an_lsp_is_heard_and_sent_on(rt: HostRuntime) -> Result<(), Fail> {
     assert_eq!(rt; (held.version, held.lifetime), (live(1, 0x4fd7), 1200));
     assert_eq!(rt; held.body.as_slice(), &FIRST_LSP[26..]);
     assert_eq!(rt; lsp_of(held), lsp);
-    assert_eq!(rt; to_send(rt.alloc(), &db, 2)?.as_slice(), [lsp.id].as_slice());
+    assert_eq!(rt;
+        to_send(rt.alloc(), &db, 2)?.as_slice(),
+        [lsp.id].as_slice()
+    );
     assert!(rt; to_send(rt.alloc(), &db, 1)?.is_empty());
     Ok(())
 }
@@ -222,7 +393,9 @@ fn no_number_comes_after_the_last(rt: HostRuntime) -> Result<(), Fail> {
     let mut own = own(rt.alloc(), &[1])?;
     db.put(held(rt.alloc(), own.id(), live(u32::MAX, 9))?)?;
     originate_in(rt.alloc(), &mut db, ports(&[1, 2, 3]), &mut own)?;
-    let flags = db.find(&own.id()).map(|h| (h.version, h.srm.bits, h.ssn.bits));
+    let flags = db
+        .find(&own.id())
+        .map(|h| (h.version, h.srm.bits, h.ssn.bits));
     assert_eq!(rt; flags, Some((dead(u32::MAX), 0b111, 0b110)));
     assert!(rt; own.spent);
     originate_in(rt.alloc(), &mut db, PortSet::none(), &mut own)?;
@@ -245,9 +418,23 @@ fn a_full_database_takes_no_new_id(rt: HostRuntime) -> Result<(), Fail> {
     }
     let mut own = own(rt.alloc(), &[1])?;
     let up = ports(&[1, 2]);
-    let more = hear_lsp(rt.alloc(), &mut db, up, 1, &lsp(lsp_id(9, 0), 1, 30, 5), &mut own);
+    let more = hear_lsp(
+        rt.alloc(),
+        &mut db,
+        up,
+        1,
+        &lsp(lsp_id(9, 0), 1, 30, 5),
+        &mut own,
+    );
     assert_eq!(rt; more, Err(FloodError::Full));
-    let mine = hear_lsp(rt.alloc(), &mut db, up, 1, &lsp(own.id(), u32::MAX, 30, 5), &mut own);
+    let mine = hear_lsp(
+        rt.alloc(),
+        &mut db,
+        up,
+        1,
+        &lsp(own.id(), u32::MAX, 30, 5),
+        &mut own,
+    );
     assert_eq!(rt; mine, Err(FloodError::Full));
     assert_eq!(rt; (own.spent, db.len()), (false, 2048));
     let known = lsp_id(0, 1);
