@@ -1,26 +1,21 @@
 -- The line of every entry can be written, whatever was heard, originated or aged.
-use Rattle.std.specs.Prelude.{◌≡◌, ℕ, ◌+◌, ◌-◌, ◌≤◌, ◌<◌, ◌^◌, Bool, true, false, ◌&&◌, ◌==◌, List, [], ◌∷◌, Option, Some, None, nat_lt, nat_le, if◌then◌else◌}
-use Rattle.std.proofs.Common.{refl, sym, ap, subst, ◌∙◌, arith, lit<}
+use Rattle.std.specs.Prelude.{◌≡◌, ℕ, ◌+◌, ◌-◌, ◌<◌, ◌^◌, Bool, true, false, ◌&&◌, ◌==◌, List, [], ◌∷◌, Option, Some, None, nat_lt, nat_le, if◌then◌else◌}
+use Rattle.std.proofs.Common.{refl, sym, subst, arith, lit<}
 use Rattle.std.proofs.lemmas.Bool.{and_parts, ltb-true}
 use Rattle.std.specs.Option.{option_map}
-use Rattle.std.specs.List.{AllByRecursion}
 use Rattle.std.specs.FinMap.{get}
 use Rattle.spb_types.specs.declared.address.LspId.{LspId}
 use Rattle.spb_types.specs.declared.ports.PortSet.{PortSet}
-use Rattle.isis_pdu.specs.Pdu.{LspValue, lsp}
-use Rattle.isis_pdu.specs.Grammar.{IsId, HasFields}
-use Rattle.isis_pdu.specs.Checksum.{lsp_sum_of}
+use Rattle.isis_pdu.specs.Pdu.{LspValue}
 use Rattle.isis_pdu.proofs.Sums.{lsp_sum-bytes}
 use Rattle.spb_tlvs.specs.declared.entries.SnpEntry.{SnpEntry}
-use Rattle.spb_tlvs.specs.RoundTrip.{IsEntry}
 use Rattle.lsdb.specs.declared.version.Version.{Version}
 use Rattle.lsdb.specs.declared.version.Version.TheVariants.{Absent, Live, Dead}
 use Rattle.lsdb.specs.declared.version.Relation.{Relation}
 use Rattle.lsdb.specs.declared.version.Relation.TheVariants.{Older, Equal, Newer, Confused}
 use Rattle.lsdb.specs.Version.{number_of, is_absent, claimed}
-use Rattle.lsdb.specs.Entry.{Entry, made, lifetime_at, stored, entered, acked, cleared, asked, aged, aged_at}
+use Rattle.lsdb.specs.Entry.{Entry, made, stored, entered, acked, cleared, asked, aged_at}
 use Rattle.lsdb.specs.Database.{version_in}
-use Rattle.lsdb.specs.Certificate.{Claim}
 use Rattle.flooding.specs.declared.own.Own.{Own}
 use Rattle.flooding.specs.Own.{last_number, own_id, flags_in, tlvs_in, is_originated, renewed, ended, answered}
 use Rattle.flooding.specs.Hearing.{Holding, claim_of, body_of, unless_absent, wanted, lsp_row, snp_row, hear_entry_of}
@@ -145,16 +140,22 @@ lsp_keeps_sized up port l h system fields all =
 
 -- ---- what is originated, and aged
 
-next_sized : (up : PortSet) (own : Own) (seq : ℕ) (held : Option Entry) → IsLspId (own_id own.system) → IsSized (own_id own.system) (next_entry up own seq held)
-next_sized up own seq held named = by_test (nat_lt seq last_number) refl
+next_sized : (up : PortSet) (own : Own) (seq : ℕ) (held : Option Entry) → IsLspId (own_id own.system) → seq < 2 ^ 32 → IsSized (own_id own.system) (next_entry up own seq held)
+next_sized up own seq held named h = by_test (nat_lt seq last_number) refl
   where
-    by_test : (b : Bool) → nat_lt seq last_number ≡ b → IsSized (own_id own.system) (if b then renewed up own (seq + 1) else spent_entry up held)
+    by_test : (b : Bool) → nat_lt seq last_number ≡ b → IsSized (own_id own.system) (if b then renewed up own (seq + 1) else spent_entry up seq held)
     by_test true t = renewed_sized up own (own_id own.system) seq named (ltb-true seq last_number t)
-    by_test false t = dead_sized (own_id own.system) last_number up _ named (lit< tt)
+    by_test false t = dead_sized (own_id own.system) seq up _ named h
+
+number_sized : (id : LspId) (held : Option Entry) → ((e : Entry) → held ≡ Some e → IsSized id e) → number_of (version_in held) < 2 ^ 32
+number_sized id None all = lit< tt
+number_sized id (Some e) all = (all e refl).line.seq
 
 pub origination_keeps_sized : OriginationKeepsSized
 origination_keeps_sized up h named all =
-    all_originated IsSized up h all (next_sized up h.own (number_of (version_in (get h.db (own_id h.own.system)))) (get h.db (own_id h.own.system)) named)
+    let id = own_id h.own.system in
+    let held = get h.db id in
+    all_originated IsSized up h all (next_sized up h.own (number_of (version_in held)) held named (number_sized id held (λ e at. all id e at)))
 
 aged_by : (up : PortSet) (id : LspId) (e : Entry) (v : Version) → e.version ≡ v → IsSized id e → IsSized id (aged_at up e v)
 aged_by up id e Absent is s = s

@@ -1,6 +1,6 @@
 -- The entries of TLVs 9, read one TLV after another.
-use Rattle.std.specs.Prelude.{◌≡◌, ℕ, zero, suc, ◌+◌, ◌≤◌, List, [], ◌∷◌, ◌++◌, length, map, filter, drop, Option, Some, None, slice_get, Bool, true, false, ◌==◌, Result, Ok, Err, if◌then◌else◌}
-use Rattle.std.proofs.Common.{refl, sym, ap, subst, ◌∙◌, arith, add-one, append_assoc, append-nil}
+use Rattle.std.specs.Prelude.{◌≡◌, ℕ, zero, suc, ◌+◌, ◌≤◌, List, [], ◌∷◌, ◌++◌, length, filter, drop, Some, None, slice_get, Bool, true, false, ◌==◌, Result, Ok, Err, if◌then◌else◌}
+use Rattle.std.proofs.Common.{refl, sym, ap, ◌∙◌, arith, add-one, append_assoc, append-nil}
 use Rattle.std.proofs.Math.ListN.{drop_of_length-le}
 use Rattle.std.proofs.lemmas.List.{length-map}
 use Rattle.spb_tlvs.specs.declared.entries.SnpEntry.{SnpEntry}
@@ -45,11 +45,11 @@ past_values (v ∷ vs) (suc k) at = past_values vs k at
 pub gleaned_more : (tlvs : List ℕ) (k : ℕ) (entries more new : List SnpEntry) (value : List ℕ) → Gleaned tlvs k entries → Some value ≡ slice_get (values_with 9 tlvs) k → entries_of value ≡ Ok more → new ≡ entries ++ more → Gleaned tlvs (k + 1) new
 gleaned_more tlvs k entries more new value so_far at read e = record {
   so_far =
-    let rest = entries_in_all (drop (k + 1) (values_with 9 tlvs)) in
-    ap (λ (l : List SnpEntry). before_others (Ok l) rest) e ∙ more_before entries more rest
-    ∙ ap (λ r. before_others (Ok entries) (before_others r rest)) (sym read)
-    ∙ ap (λ (vs : List (List ℕ)). before_others (Ok entries) (entries_in_all vs)) (sym (next_value (values_with 9 tlvs) k value at))
-    ∙ so_far.so_far;
+      let rest = entries_in_all (drop (k + 1) (values_with 9 tlvs)) in
+      ap (λ (l : List SnpEntry). before_others (Ok l) rest) e ∙ more_before entries more rest
+      ∙ ap (λ r. before_others (Ok entries) (before_others r rest)) (sym read)
+      ∙ ap (λ (vs : List (List ℕ)). before_others (Ok entries) (entries_in_all vs)) (sym (next_value (values_with 9 tlvs) k value at))
+      ∙ so_far.so_far;
 }
 
 -- it is refused

@@ -1,12 +1,12 @@
 -- LSP ids are ordered as numbers of eight bytes.
-use Rattle.std.specs.Prelude.{◌≡◌, ℕ, zero, suc, ◌+◌, ◌-◌, ◌*◌, ◌/◌, ◌%◌, ◌^◌, ◌<◌, ◌≤◌, Bool, true, false, ◌&&◌, ◌==◌, cond, List, [], ◌∷◌, ◌++◌, length, nat_lt, nat_le}
-use Rattle.std.proofs.Common.{refl, sym, ap, subst, ◌∙◌, arith, lit<, inl, inr}
+use Rattle.std.specs.Prelude.{◌≡◌, ℕ, zero, suc, ◌+◌, ◌-◌, ◌*◌, ◌%◌, ◌^◌, ◌<◌, ◌&&◌, List, [], ◌∷◌, ◌++◌, length, nat_lt, nat_le}
+use Rattle.std.proofs.Common.{refl, sym, ap, ◌∙◌, arith, lit<, inl, inr}
 use Rattle.std.specs.declared.cmp.Ordering.{Ordering}
 use Rattle.std.specs.declared.cmp.Ordering.TheVariants.{Less, Equal, Greater}
 use Rattle.std.specs.Ordering.{nat_cmp, ordering_then, is_lt, is_le}
 use Rattle.std.specs.Cmp.{nat_cmp_is}
 use Rattle.std.specs.Cmp.Lexicographic.{slice_cmp}
-use Rattle.std.specs.Int.{w64, to_be_bytes, from_be_bytes}
+use Rattle.std.specs.Int.{w64, from_be_bytes}
 use Rattle.std.proofs.lemmas.Bool.{cases_order, le-leb, lt-leb, lt-ltb, le-ltb, ltb-true}
 use Rattle.std.proofs.lemmas.Bool.Decides.{nat_tests}
 use Rattle.std.proofs.lemmas.List.{length-append}
@@ -49,10 +49,10 @@ digit_cmp : (p q x y : ℕ) → x < 256 → y < 256 → nat_cmp (p * 256 + x) (q
 digit_cmp p q x y lx ly =
     elim (cases_order p q) [
       | inl same ↦ elim (cases_order x y) [
-          | inl tied ↦ cmp_equal (p * 256 + x) (q * 256 + y) (omega arith) ∙ sym (λ i. ordering_then (cmp_equal p q same i) (cmp_equal x y tied i))
-          | inr (inl less) ↦ cmp_less (p * 256 + x) (q * 256 + y) (omega arith) ∙ sym (λ i. ordering_then (cmp_equal p q same i) (cmp_less x y less i))
-          | inr (inr more) ↦ cmp_greater (p * 256 + x) (q * 256 + y) (omega arith) ∙ sym (λ i. ordering_then (cmp_equal p q same i) (cmp_greater x y more i))
-        ]
+        | inl tied ↦ cmp_equal (p * 256 + x) (q * 256 + y) (omega arith) ∙ sym (λ i. ordering_then (cmp_equal p q same i) (cmp_equal x y tied i))
+        | inr (inl less) ↦ cmp_less (p * 256 + x) (q * 256 + y) (omega arith) ∙ sym (λ i. ordering_then (cmp_equal p q same i) (cmp_less x y less i))
+        | inr (inr more) ↦ cmp_greater (p * 256 + x) (q * 256 + y) (omega arith) ∙ sym (λ i. ordering_then (cmp_equal p q same i) (cmp_greater x y more i))
+      ]
       | inr (inl less) ↦ cmp_less (p * 256 + x) (q * 256 + y) (omega arith) ∙ sym (ap (λ o. ordering_then o (nat_cmp x y)) (cmp_less p q less))
       | inr (inr more) ↦ cmp_greater (p * 256 + x) (q * 256 + y) (omega arith) ∙ sym (ap (λ o. ordering_then o (nat_cmp x y)) (cmp_greater p q more))
     ]

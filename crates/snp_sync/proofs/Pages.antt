@@ -7,7 +7,6 @@ use Rattle.std.proofs.lemmas.List.{length-drop, nil_from_length, map-append, tak
 use Rattle.spb_types.specs.declared.address.LspId.{LspId}
 use Rattle.spb_types.specs.declared.address.SystemId.{SystemId}
 use Rattle.spb_tlvs.specs.declared.entries.SnpEntry.{SnpEntry}
-use Rattle.isis_pdu.specs.Pdu.{CsnpValue}
 use Rattle.isis_pdu.specs.declared.kind.Kind.{Kind}
 use Rattle.isis_pdu.specs.declared.kind.Kind.TheVariants as kinds
 use Rattle.isis_pdu.specs.Header.{fixed_length}
@@ -126,11 +125,11 @@ pub ranged_more : (me : SystemId) (lines : List SnpEntry) (start next : LspId) (
     → pdu.items ≡ csnp_bytes (csnp_for me (page start end part)) → new ≡ pdus ++ pdu ∷ [] → Ranged me lines next rest new
 ranged_more me lines start next old part rest pdus new pdu end d so_far many front back here at bytes e = record {
   bytes =
-    let last : end_of start (take 90 old) ≡ end = ap (end_of start) (sym front) ∙ end_at part start 89 d (ap length front ∙ length-take-le 90 old (omega arith)) ∙ sym here in
-    let first : page start (end_of start (take 90 old)) (take 90 old) ≡ page start end part = λ j. page start (last j) (sym front j) in
-    let others : pages_from (successor (end_of start (take 90 old))) (parts_or_one 90 (drop 90 old)) ≡ pages_from next (parts_or_one 90 rest) = λ j. pages_from ((ap successor last ∙ sym at) j) (parts_or_one 90 (sym back j)) in
-    pushed (csnp_page me) pdus new pdu (page start end part) (pages_from start (parts_or_one 90 old)) (pages_from next (parts_or_one 90 rest)) (pages_from first_id (parts_or_one 90 lines))
-    so_far.bytes (pages_more start old many ∙ λ j. first j ∷ others j) bytes e;
+      let last : end_of start (take 90 old) ≡ end = ap (end_of start) (sym front) ∙ end_at part start 89 d (ap length front ∙ length-take-le 90 old (omega arith)) ∙ sym here in
+      let first : page start (end_of start (take 90 old)) (take 90 old) ≡ page start end part = λ j. page start (last j) (sym front j) in
+      let others : pages_from (successor (end_of start (take 90 old))) (parts_or_one 90 (drop 90 old)) ≡ pages_from next (parts_or_one 90 rest) = λ j. pages_from ((ap successor last ∙ sym at) j) (parts_or_one 90 (sym back j)) in
+      pushed (csnp_page me) pdus new pdu (page start end part) (pages_from start (parts_or_one 90 old)) (pages_from next (parts_or_one 90 rest)) (pages_from first_id (parts_or_one 90 lines))
+      so_far.bytes (pages_more start old many ∙ λ j. first j ∷ others j) bytes e;
 }
 
 pub ranged_all : (me : SystemId) (lines : List SnpEntry) (start : LspId) (rest : List SnpEntry) (pdus new : List (Vec ℕ)) (pdu : Vec ℕ) → Ranged me lines start rest pdus → length rest ≤ 90

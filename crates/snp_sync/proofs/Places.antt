@@ -1,9 +1,9 @@
 -- Every entry of a database changed, place by place.
-use Rattle.std.specs.Prelude.{◌≡◌, ℕ, zero, suc, ◌+◌, ◌<◌, ◌≤◌, Bool, true, false, cond, T, List, [], ◌∷◌, ◌++◌, map, length, take, drop, Option, Some, None, slice_get, if◌then◌else◌}
+use Rattle.std.specs.Prelude.{◌≡◌, ℕ, zero, suc, ◌+◌, ◌<◌, ◌≤◌, Bool, true, false, cond, T, List, [], ◌∷◌, ◌++◌, map, length, take, drop, Some, None, slice_get}
 use Rattle.std.proofs.Common.{refl, sym, ap, subst, ◌∙◌, arith, append-nil, set}
 use Rattle.std.specs.declared.cmp.Ordering.TheVariants.{Less}
 use Rattle.std.specs.Ordering.{is_lt, is_eq}
-use Rattle.std.specs.FinMap.{find, put, is_sorted, get, insert, entries, entries_sorted, from_sorted, len, len-entries, entries-from_sorted, entries-insert, same_entries_map, get-entries}
+use Rattle.std.specs.FinMap.{find, put, is_sorted, get, entries, entries_sorted, from_sorted, len, len-entries, entries-from_sorted, entries-insert, same_entries_map, get-entries}
 use Rattle.std.specs.FinMap.Entries.{below_all, by_order}
 use Rattle.std.proofs.lemmas.Bool.{and_parts}
 use Rattle.std.proofs.lemmas.List.{set-get_or, take_all, length-append, length-take, length-drop, length-map}

@@ -1,10 +1,9 @@
 -- The ranges of CSNPs cover each id once, and each lists its own.
-use Rattle.std.specs.Prelude.{◌≡◌, ℕ, zero, suc, ◌+◌, ◌-◌, ◌^◌, ◌<◌, ◌≤◌, Bool, true, false, ◌&&◌, not, List, [], ◌∷◌, ◌++◌, length, map, filter, count_by, take, drop, nat_le, Option, Some, None, slice_get, if◌then◌else◌, T}
+use Rattle.std.specs.Prelude.{◌≡◌, ℕ, zero, suc, ◌+◌, ◌-◌, ◌^◌, ◌<◌, ◌≤◌, Bool, true, false, ◌&&◌, List, [], ◌∷◌, ◌++◌, length, filter, count_by, take, drop, nat_le, Some, slice_get, if◌then◌else◌, T}
 use Rattle.std.proofs.Common.{refl, sym, ap, subst, ◌∙◌, arith, append-nil, add-zero, lit≤}
 use Rattle.std.specs.List.{AllByRecursion, flat_map}
 use Rattle.std.specs.Ordering.{is_lt}
-use Rattle.std.specs.declared.cmp.Ordering.TheVariants.{Less}
-use Rattle.std.specs.FinMap.{entries, entries_sorted, get, is_sorted}
+use Rattle.std.specs.FinMap.{entries, entries_sorted, is_sorted}
 use Rattle.std.specs.FinMap.Entries.{below_all}
 use Rattle.std.proofs.lemmas.Bool.{and_parts, le-leb}
 use Rattle.std.proofs.lemmas.Bool.Decides.{nat_tests}
@@ -20,7 +19,7 @@ use Rattle.flooding.specs.Entries.{AllEntries}
 use Rattle.snp_sync.specs.Line.{lines_where, is_listed, is_owed}
 use Rattle.snp_sync.specs.Parts.{parts_within, parts, parts_or_one}
 use Rattle.snp_sync.specs.Ids.{id_number, successor, first_id, last_id, is_between}
-use Rattle.snp_sync.specs.Sending.{Page, end_of, pages_from, csnp_pages, psnp_parts}
+use Rattle.snp_sync.specs.Sending.{Page, end_of, pages_from, csnp_pages}
 use Rattle.snp_sync.specs.Sized.{IsLspId, HaveIds}
 use Rattle.snp_sync.specs.SendingLaws.{RangesCoverOnce, PagesListTheirRanges, PagesAreShort, PagesEndAtIds, PartsAreWhole, PartsAreShort}
 use Rattle.snp_sync.proofs.Gathered.{gathered}
@@ -209,8 +208,7 @@ are_pages start (p ∷ q ∷ more) is full r =
     let rest = joined (q ∷ more) in
     let end = end_of start p in
     let t : Turn start p rest = turn start p rest full.0 (some_joined q more full.1) r in
-    let behind : Rising (id_number (successor end)) rest = subst (λ n. Rising n rest) (sym t.next) t.back in
-    (
+    let behind : Rising (id_number (successor end)) rest = subst (λ n. Rising n rest) (sym t.next) t.back in (
       record {
         start = is;
         end = t.end;
@@ -218,7 +216,7 @@ are_pages start (p ∷ q ∷ more) is full r =
         lines = sym (filter-append (in_range start end) p rest ∙ (λ i. filter_within start end is t.end (id_number start) p t.front (omega arith) (omega (arith, t.past)) i ++ filter_beyond start end is t.end (id_number end + 1) rest t.back (omega arith) i) ∙ append-nil p);
       },
       later_pages (id_number start) (id_number (successor end)) p rest (pages_from (successor end) (q ∷ more)) t.front (omega (arith, t.past, t.next)) (omega (arith, t.up, t.next))
-      (are_pages (successor end) (q ∷ more) (successor_is_id end) full.2 behind),
+          (are_pages (successor end) (q ∷ more) (successor_is_id end) full.2 behind),
     )
 
 -- ---- each id is in one range

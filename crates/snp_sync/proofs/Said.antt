@@ -1,31 +1,28 @@
 -- What is sent is read again, and claims what is held; and afterwards nothing is owed.
-use Rattle.std.specs.Prelude.{◌≡◌, ℕ, ◌≤◌, Bool, true, false, ◌&&◌, not, ◌==◌, List, [], ◌∷◌, ◌++◌, length, map, filter, Some, Option, Ok, Result, if◌then◌else◌}
-use Rattle.std.proofs.Common.{refl, sym, ap, subst, ◌∙◌, arith, lit≤, inl, inr, ⊎_elim}
+use Rattle.std.specs.Prelude.{◌≡◌, ℕ, ◌≤◌, Bool, true, false, ◌&&◌, not, ◌==◌, List, [], ◌∷◌, ◌++◌, map, Some, Ok, if◌then◌else◌}
+use Rattle.std.proofs.Common.{refl, sym, ap, subst, ◌∙◌, arith, lit≤, ⊎_elim}
 use Rattle.std.specs.List.{AllByRecursion, flat_map}
-use Rattle.std.specs.FinMap.{entries, get}
+use Rattle.std.specs.FinMap.{entries}
 use Rattle.std.proofs.lemmas.Bool.{cases_Bool, ne_eqb, eqb-true}
 use Rattle.spb_types.specs.declared.address.LspId.{LspId}
-use Rattle.spb_types.specs.declared.address.SystemId.{SystemId}
 use Rattle.spb_types.specs.declared.ports.PortSet.{PortSet}
 use Rattle.spb_types.specs.Ports.{has}
 use Rattle.isis_pdu.specs.Pdu.{csnp, psnp}
-use Rattle.isis_pdu.specs.Grammar.{IsPdu}
 use Rattle.isis_pdu.proofs.FormatLaws.{written_again}
 use Rattle.spb_tlvs.specs.declared.entries.SnpEntry.{SnpEntry}
-use Rattle.spb_tlvs.specs.declared.error.TlvError.{TlvError}
 use Rattle.spb_tlvs.specs.RoundTrip.{IsEntry}
 use Rattle.spb_tlvs.specs.Tlv.{tlv, values_with}
 use Rattle.spb_tlvs.specs.Piece.{pieces, pieces_within}
-use Rattle.spb_tlvs.specs.Entry.{entries_value, entries_of}
+use Rattle.spb_tlvs.specs.Entry.{entries_value}
 use Rattle.spb_tlvs.proofs.EntryLaws.{entries_again}
 use Rattle.spb_tlvs.proofs.TlvLaws.{tlv_here}
 use Rattle.spb_tlvs.proofs.Numbers.{weaker}
 use Rattle.lsdb.specs.declared.version.Version.{Version}
 use Rattle.lsdb.specs.declared.version.Version.TheVariants.{Absent, Live, Dead}
 use Rattle.lsdb.specs.Version.{IsAtMost, number_of, claimed}
-use Rattle.lsdb.specs.Entry.{Entry, IsClean, AreKept, with_ssn}
-use Rattle.lsdb.specs.Database.{Lsps, version_in, version_at}
-use Rattle.lsdb.specs.Certificate.{Claim, Kept, is_flagged, is_as_before, EntryCertificate}
+use Rattle.lsdb.specs.Entry.{Entry, AreKept, with_ssn}
+use Rattle.lsdb.specs.Database.{Lsps, version_in}
+use Rattle.lsdb.specs.Certificate.{Claim, is_flagged, is_as_before, EntryCertificate}
 use Rattle.lsdb.proofs.Order.{itself}
 use Rattle.lsdb.proofs.Certified.{changing_each}
 use Rattle.flooding.specs.Sending.{sum_of}
@@ -36,7 +33,6 @@ use Rattle.snp_sync.specs.Parts.{parts, parts_or_one, line_tlvs}
 use Rattle.snp_sync.specs.Ids.{successor, first_id}
 use Rattle.snp_sync.specs.Sending.{Page, end_of, pages_from, csnp_for, psnp_for, csnp_pages, psnp_parts, settled}
 use Rattle.snp_sync.specs.Reading.{before_others, entries_in_all, entries_in}
-use Rattle.snp_sync.specs.Hearing.{claim_in}
 use Rattle.snp_sync.specs.Sized.{IsSizedLine}
 use Rattle.snp_sync.specs.SendingLaws.{LineClaimsWhatIsHeld, ClaimsWhatIsHeld, PagesClaimWhatIsHeld, CsnpIsRead, LinesAreRead, PageLinesAreRead, PageLinesAreSized, PartsClaimWhatIsHeld, PsnpIsRead, PartLinesAreRead, PartLinesAreSized, SettledOwesNothing, SettlingIsCertified}
 use Rattle.snp_sync.proofs.Gathered.{gathered}
@@ -156,9 +152,11 @@ and_here port q set none = by_test (q == port) refl
     and_true : (b : Bool) → b ≡ (b && true)
     and_true true = refl
     and_true false = refl
+
     and_false : (b : Bool) → b ≡ false → b ≡ (b && false)
     and_false true e = e
     and_false false e = refl
+
     by_test : (b : Bool) → (q == port) ≡ b → has set q ≡ (has set q && not b)
     by_test true t = and_false (has set q) (ap (λ p. has set p) (eqb-true q port t) ∙ none)
     by_test false t = and_true (has set q)

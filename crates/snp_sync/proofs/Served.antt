@@ -1,22 +1,21 @@
 -- What hearing entries and CSNPs comes to: certified steps, and what stands under each id.
-use Rattle.std.specs.Prelude.{◌≡◌, ◌≢◌, ℕ, ◌+◌, ◌≤◌, Bool, true, false, ◌&&◌, ◌||◌, List, [], ◌∷◌, ◌++◌, map, Option, Some, None, nat_lt, if◌then◌else◌}
+use Rattle.std.specs.Prelude.{◌≡◌, ◌≢◌, ℕ, ◌+◌, Bool, true, false, ◌&&◌, ◌||◌, List, [], ◌∷◌, ◌++◌, Option, Some, None, nat_lt, if◌then◌else◌}
 use Rattle.std.proofs.Common.{refl, sym, ap, subst, ◌∙◌, arith, append-nil}
-use Rattle.std.proofs.lemmas.Bool.{and_parts, true≢false}
+use Rattle.std.proofs.lemmas.Bool.{true≢false}
 use Rattle.std.specs.Option.{option_map}
 use Rattle.std.specs.Ordering.{is_eq}
 use Rattle.std.specs.FinMap.{get}
 use Rattle.spb_types.specs.declared.address.LspId.{LspId}
 use Rattle.spb_types.specs.declared.ports.PortSet.{PortSet}
-use Rattle.spb_types.specs.Address.{same_system}
 use Rattle.spb_types.specs.Ports.{has, no_ports}
 use Rattle.spb_types.proofs.PortLemmas.{has_port, has-with_same}
 use Rattle.lsdb.specs.declared.version.Version.{Version}
-use Rattle.lsdb.specs.declared.version.Version.TheVariants.{Absent, Live, Dead}
+use Rattle.lsdb.specs.declared.version.Version.TheVariants.{Absent}
 use Rattle.lsdb.specs.declared.version.Relation.{Relation}
 use Rattle.lsdb.specs.declared.version.Relation.TheVariants.{Older, Equal, Newer, Confused}
-use Rattle.lsdb.specs.Version.{IsAtMost, number_of, is_absent, leq, relation}
+use Rattle.lsdb.specs.Version.{IsAtMost, number_of, is_absent, relation}
 use Rattle.lsdb.specs.Entry.{Entry, acked, cleared, asked, flagged, entered}
-use Rattle.lsdb.specs.Database.{Lsps, id_cmp, version_in, srm_in, ssn_in, each}
+use Rattle.lsdb.specs.Database.{id_cmp, version_in, srm_in, ssn_in}
 use Rattle.lsdb.specs.Certificate.{Claim, EntryCertificate, Certificate}
 use Rattle.lsdb.proofs.Ids.{tied_same}
 use Rattle.lsdb.proofs.Order.{least, greater, older_is, newer_is, confused_is}
@@ -24,11 +23,11 @@ use Rattle.lsdb.proofs.Certified.{standing, steps_compose, flagging, changing_ea
 use Rattle.lsdb.proofs.LookupLemmas.{get-each}
 use Rattle.flooding.specs.declared.own.Own.{Own}
 use Rattle.flooding.specs.Own.{last_number, is_originated, renewed, ended, answered}
-use Rattle.flooding.specs.Hearing.{Holding, unless_absent, snp_row, is_beyond, is_answered, hear_entry_of, is_full_for_entry}
+use Rattle.flooding.specs.Hearing.{Holding, unless_absent, snp_row, is_answered, hear_entry_of}
 use Rattle.flooding.specs.Laws.{control}
 use Rattle.flooding.proofs.Steps.{hearing_entry, at_most_dead}
 use Rattle.flooding.proofs.Claimed.{others_stand, entry_stands}
-use Rattle.snp_sync.specs.Hearing.{hear_entries_of, ids_of, is_among, is_missed, flag_if, flag_missed, hear_csnp_of}
+use Rattle.snp_sync.specs.Hearing.{hear_entries_of, ids_of, is_among, is_missed, flag_if, hear_csnp_of}
 use Rattle.snp_sync.specs.HearingLaws.{EntriesAreCertified, CsnpIsCertified, UnnamedStands, LastClaimStands, IsServed, EntryIsServed, CsnpStands, MissedIsSent}
 use Rattle.snp_sync.proofs.Said.{same_srm}
 
@@ -49,7 +48,7 @@ csnp_is_certified up port start end claims h is_up =
     let heard = hear_entries_of up port claims h in
     let after = hear_csnp_of up port start end claims h in
     let flags : Certificate port [] (control up heard) (control up after) =
-        changing_each port [] up up heard.db (λ id e. flag_if (is_missed start end (ids_of claims) id e) port e) (λ id e. flag_certified up port [] id e (is_missed start end (ids_of claims) id e) is_up)
+    changing_each port [] up up heard.db (λ id e. flag_if (is_missed start end (ids_of claims) id e) port e) (λ id e. flag_certified up port [] id e (is_missed start end (ids_of claims) id e) is_up)
     in
     subst (λ (cs : List Claim). Certificate port cs (control up h) (control up after)) (append-nil claims)
     (steps_compose port claims [] (control up h) (control up heard) (control up after) (entries_are_certified up port claims h is_up) flags)
@@ -142,8 +141,8 @@ csnp_stands up port start end claims h x =
 pub missed_is_sent : MissedIsSent
 missed_is_sent up port start end claims h x e is_up held missed =
     let now : get (hear_csnp_of up port start end claims h).db x ≡ Some (flagged port e) =
-        csnp_stands up port start end claims h x
-        ∙ ap (option_map (λ f. flag_if (is_missed start end (ids_of claims) x f) port f)) held
-        ∙ ap (λ b. Some (flag_if b port e)) missed
+    csnp_stands up port start end claims h x
+    ∙ ap (option_map (λ f. flag_if (is_missed start end (ids_of claims) x f) port f)) held
+    ∙ ap (λ b. Some (flag_if b port e)) missed
     in
     ap (λ (n : Option Entry). has (srm_in n) port) now ∙ has-with_same e.srm port (has_port up port is_up).0 (has_port up port is_up).1

@@ -1,9 +1,8 @@
 -- What is so before entries are heard is so afterwards.
-use Rattle.std.specs.Prelude.{◌≡◌, ℕ, ◌≤◌, ◌<◌, Bool, true, false, ◌&&◌, ◌||◌, not, ◌==◌, List, [], ◌∷◌, length, Option, Some, None, if◌then◌else◌}
-use Rattle.std.proofs.Common.{refl, sym, ap, subst, ◌∙◌, inl, inr, ⊎_elim}
+use Rattle.std.specs.Prelude.{◌≡◌, ℕ, ◌≤◌, Bool, true, false, ◌&&◌, not, List, [], ◌∷◌, length, Option, Some, None}
+use Rattle.std.proofs.Common.{refl, sym, ap, subst, ◌∙◌, ⊎_elim}
 use Rattle.std.proofs.lemmas.Bool.{and_parts, true≢false, cases_eq}
 use Rattle.std.specs.Option.{option_map}
-use Rattle.std.specs.List.{AllByRecursion}
 use Rattle.std.specs.FinMap.{get}
 use Rattle.spb_types.specs.declared.address.LspId.{LspId}
 use Rattle.spb_types.specs.declared.ports.PortSet.{PortSet}
@@ -11,18 +10,14 @@ use Rattle.spb_types.specs.Ports.{has, with_port}
 use Rattle.spb_types.proofs.PortLemmas.{has_port, has-with_other}
 use Rattle.isis_pdu.specs.declared.kind.Kind.TheVariants as kinds
 use Rattle.isis_pdu.specs.Spelling.{CanWrite}
-use Rattle.spb_tlvs.specs.declared.entries.SnpEntry.{SnpEntry}
 use Rattle.lsdb.specs.declared.version.Version.TheVariants.{Absent}
 use Rattle.lsdb.specs.Version.{is_absent}
-use Rattle.lsdb.specs.Entry.{Entry, flagged}
+use Rattle.lsdb.specs.Entry.{Entry}
 use Rattle.lsdb.specs.Database.{Lsps, each}
-use Rattle.lsdb.specs.Certificate.{Claim}
 use Rattle.lsdb.proofs.LookupLemmas.{get-each}
-use Rattle.flooding.specs.declared.own.Own.{Own}
 use Rattle.flooding.specs.Own.{tlvs_in}
-use Rattle.flooding.specs.Hearing.{Holding, snp_row, hear_entry_of}
+use Rattle.flooding.specs.Hearing.{snp_row, hear_entry_of}
 use Rattle.flooding.specs.Entries.{AllEntries, IsSendable, HasFlagsAt}
-use Rattle.flooding.specs.Laws.{HasBody}
 use Rattle.flooding.proofs.Owns.{own_stands, own_is_not_spent}
 use Rattle.flooding.proofs.SendableEntries.{claim_is_numbered, entry_keeps_sendable, flags_sendable}
 use Rattle.flooding.proofs.FlagEntries.{entry_keeps_flags}

@@ -1,5 +1,5 @@
 -- What hearing sequence numbers PDUs comes to.
-use Rattle.std.specs.Prelude.{◌≡◌, ◌≢◌, ℕ, ◌≤◌, ◌<◌, List, ◌∷◌, ◌++◌, true, false, Option, Some}
+use Rattle.std.specs.Prelude.{◌≡◌, ◌≢◌, ℕ, ◌<◌, List, ◌∷◌, ◌++◌, true, false, Option, Some}
 use Rattle.std.specs.Option.{option_map}
 use Rattle.std.specs.List.{AllByRecursion}
 use Rattle.std.specs.FinMap.{get}
@@ -13,7 +13,7 @@ use Rattle.lsdb.specs.declared.version.Version.{Version}
 use Rattle.lsdb.specs.declared.version.Relation.TheVariants.{Older, Newer, Confused}
 use Rattle.lsdb.specs.Version.{number_of, relation}
 use Rattle.lsdb.specs.Entry.{Entry, with_flags, aged}
-use Rattle.lsdb.specs.Database.{Lsps, version_in, srm_in, ssn_in}
+use Rattle.lsdb.specs.Database.{version_in, srm_in, ssn_in}
 use Rattle.lsdb.specs.Certificate.{Claim, Certificate}
 use Rattle.flooding.specs.Own.{last_number, own_id}
 use Rattle.flooding.specs.Hearing.{Holding, hear_lsp_of, hear_entry_of, is_full_for_entry}

@@ -1,9 +1,8 @@
 -- What the sequence numbers PDUs that a bridge sends say.
-use Rattle.std.specs.Prelude.{◌≡◌, ℕ, ◌≤◌, List, [], length, map, filter, count_by, Bool, true, false, ◌&&◌, not, ◌==◌, Ok}
+use Rattle.std.specs.Prelude.{◌≡◌, ℕ, ◌≤◌, List, length, filter, count_by, ◌&&◌, not, ◌==◌, Ok}
 use Rattle.std.specs.List.{AllByRecursion, flat_map}
 use Rattle.std.specs.Ordering.{is_lt, is_le}
 use Rattle.std.specs.declared.cmp.Ordering.TheVariants.{Less}
-use Rattle.std.specs.FinMap.{entries, get}
 use Rattle.spb_types.specs.declared.address.SystemId.{SystemId}
 use Rattle.spb_types.specs.declared.address.LspId.{LspId}
 use Rattle.spb_types.specs.declared.ports.PortSet.{PortSet}
@@ -16,7 +15,7 @@ use Rattle.spb_tlvs.specs.declared.entries.SnpEntry.{SnpEntry}
 use Rattle.spb_tlvs.specs.RoundTrip.{IsEntry}
 use Rattle.lsdb.specs.Entry.{Entry, IsClean}
 use Rattle.lsdb.specs.Database.{Lsps, id_cmp, version_at}
-use Rattle.lsdb.specs.Certificate.{Claim, Control, EntryCertificate, Certificate}
+use Rattle.lsdb.specs.Certificate.{Claim, Certificate}
 use Rattle.flooding.specs.Entries.{IsNumbered, AreSendable}
 use Rattle.snp_sync.specs.Line.{line_of, lines_where, is_listed, is_owed}
 use Rattle.snp_sync.specs.Parts.{line_tlvs}

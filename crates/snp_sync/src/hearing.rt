@@ -54,7 +54,14 @@ fn clear(db: &mut Database, port: u8, id: &LspId)
 }
 
 /// Hears an entry at a port.
-fn hear_entry(alloc: Global, db: &mut Database, up: PortSet, port: u8, entry: &SnpEntry, own: &mut Own) -> Result<(), FloodError>
+fn hear_entry(
+    alloc: Global,
+    db: &mut Database,
+    up: PortSet,
+    port: u8,
+    entry: &SnpEntry,
+    own: &mut Own,
+) -> Result<(), FloodError>
     requires low { 1 ≤ port }
     requires high { port ≤ 32 }
     requires body { 1 ≤ length own.old.body }
@@ -75,7 +82,14 @@ fn hear_entry(alloc: Global, db: &mut Database, up: PortSet, port: u8, entry: &S
 }
 
 /// Hears an entry at a port, and counts it where it needed a place that there wasn't.
-fn count_entry(alloc: Global, db: &mut Database, up: PortSet, port: u8, entry: &SnpEntry, own: &mut Own) -> Result<u64, NoMemory>
+fn count_entry(
+    alloc: Global,
+    db: &mut Database,
+    up: PortSet,
+    port: u8,
+    entry: &SnpEntry,
+    own: &mut Own,
+) -> Result<u64, NoMemory>
     requires low { 1 ≤ port }
     requires high { port ≤ 32 }
     requires body { 1 ≤ length own.old.body }
@@ -103,7 +117,14 @@ fn count_entry(alloc: Global, db: &mut Database, up: PortSet, port: u8, entry: &
 /// `own.body` has at least one byte. The answer is the number of entries that needed a place while 2,048 ids were held; such
 /// an entry changes nothing, and the others are heard. After `NoMemory` some of the entries, from the first on, have been
 /// heard.
-pub fn hear_psnp(alloc: Global, db: &mut Database, up: PortSet, port: u8, entries: &[SnpEntry], own: &mut Own) -> Result<u64, NoMemory>
+pub fn hear_psnp(
+    alloc: Global,
+    db: &mut Database,
+    up: PortSet,
+    port: u8,
+    entries: &[SnpEntry],
+    own: &mut Own,
+) -> Result<u64, NoMemory>
     requires low { 1 ≤ port }
     requires high { port ≤ 32 }
     requires body { 1 ≤ length own.old.body }

@@ -16,12 +16,26 @@ use std::alloc::Global;
 const PDU_LINES: usize = 90;
 
 /// The CSNP of a range, with at most 90 lines.
-fn csnp(alloc: Global, me: SystemId, start: LspId, end: LspId, lines: &[SnpEntry]) -> Result<Vec<u8>, NoMemory>
+fn csnp(
+    alloc: Global,
+    me: SystemId,
+    start: LspId,
+    end: LspId,
+    lines: &[SnpEntry],
+) -> Result<Vec<u8>, NoMemory>
     requires { length lines.now ≤ 90 }
     ensures { IfOk result (λ v. v.items ≡ csnp_bytes (csnp_for me (record { start = start; end = end; lines = lines.now }))) }
 {
     let tlvs = tlvs_of(alloc, lines)?;
-    write_csnp(alloc, &Csnp { source: me, start, end, tlvs: &tlvs })
+    write_csnp(
+        alloc,
+        &Csnp {
+            source: me,
+            start,
+            end,
+            tlvs: &tlvs,
+        },
+    )
 }
 
 /// The PSNP of at most 90 lines.
@@ -30,7 +44,13 @@ fn psnp(alloc: Global, me: SystemId, lines: &[SnpEntry]) -> Result<Vec<u8>, NoMe
     ensures { IfOk result (λ v. v.items ≡ psnp_bytes (psnp_for me lines.now)) }
 {
     let tlvs = tlvs_of(alloc, lines)?;
-    write_psnp(alloc, &Psnp { source: me, tlvs: &tlvs })
+    write_psnp(
+        alloc,
+        &Psnp {
+            source: me,
+            tlvs: &tlvs,
+        },
+    )
 }
 
 /// The CSNPs of the whole database (ISO/IEC 10589, 7.3.15.3), the bytes of each: they list every LSP that is held but the
@@ -85,7 +105,12 @@ fn settle(db: &mut Database, port: u8)
 /// The PSNPs at a port, 1 to 32 (ISO/IEC 10589, 7.3.15.4), the bytes of each: they list what is to be acknowledged or asked
 /// for there, in order of id, at most 90 in each. Where nothing is, there is none. Those flags are cleared there; after
 /// `NoMemory` nothing changed.
-pub fn psnps(alloc: Global, db: &mut Database, me: SystemId, port: u8) -> Result<Vec<Vec<u8>>, NoMemory>
+pub fn psnps(
+    alloc: Global,
+    db: &mut Database,
+    me: SystemId,
+    port: u8,
+) -> Result<Vec<Vec<u8>>, NoMemory>
     requires low { 1 ≤ port }
     requires high { port ≤ 32 }
     ensures ok { IfOk result (λ pdus. bytes_in pdus.items ≡ map psnp_bytes (sending.psnps_of me port db.old)) }

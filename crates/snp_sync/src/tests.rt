@@ -6,7 +6,7 @@ use super::*;
 use flooding::Own;
 use isis_pdu::{Csnp, Pdu, decode};
 use lsdb::{Database, Held, Version};
-use spb_tlvs::{SnpEntry, find_tlv, read_entries};
+use spb_tlvs::{SnpEntry, TlvError};
 use spb_types::{LspId, Mac, PortSet, Seq, SystemId};
 use std::alloc::{AllocError, Global};
 use std::test::Fail;
@@ -71,7 +71,13 @@ fn ports(numbers: &[u8]) -> PortSet {
     set
 }
 
-fn held(alloc: Global, id: LspId, version: Version, srm: &[u8], ssn: &[u8]) -> Result<Held, AllocError>
+fn held(
+    alloc: Global,
+    id: LspId,
+    version: Version,
+    srm: &[u8],
+    ssn: &[u8],
+) -> Result<Held, AllocError>
     ensures { IfOk result (λ h. CanBeHeld h.version h.lifetime h.body) }
 {
     let body = Seq::from_vec(Vec::from_slice(alloc, &[1, 9, 0])?);
@@ -127,9 +133,10 @@ fn after(
     }
     let mut own = own(alloc)?;
     hear_psnp(alloc, &mut db, ports(&[1, 2, 3]), 2, &[entry], &mut own)?;
-    Ok(db
-        .find(&entry.id)
-        .map(|h| (h.version, h.lifetime, h.srm.bits, h.ssn.bits)))
+    Ok(
+        db.find(&entry.id)
+            .map(|h| (h.version, h.lifetime, h.srm.bits, h.ssn.bits)),
+    )
 }
 
 #[test]
@@ -229,7 +236,13 @@ fn an_entry_of_an_own_id_is_answered(rt: HostRuntime) -> Result<(), Fail> {
 fn filled(alloc: Global, count: u16) -> Result<Database, Fail> {
     let mut db = Database::new(alloc);
     for system in 0..count {
-        db.put(held(alloc, lsp_id(system.wrapping_add(1), 0), live(5, 7), &[], &[])?)?;
+        db.put(held(
+            alloc,
+            lsp_id(system.wrapping_add(1), 0),
+            live(5, 7),
+            &[],
+            &[],
+        )?)?;
     }
     Ok(db)
 }
@@ -268,10 +281,7 @@ fn a_csnp_asks_for_what_its_sender_lacks(rt: HostRuntime) -> Result<(), Fail> {
         db.put(held(alloc, lsp_id(system, 0), version, &[], &[])?)?;
     }
     let mut own = own(alloc)?;
-    let entries = [
-        entry(lsp_id(9, 0), 0, 0, 0),
-        entry(lsp_id(4, 0), 5, 600, 7),
-    ];
+    let entries = [entry(lsp_id(9, 0), 0, 0, 0), entry(lsp_id(4, 0), 5, 600, 7)];
     let (start, end) = (lsp_id(2, 1), lsp_id(6, 0));
     let up = ports(&[1, 2, 3]);
     let full = hear_csnp(alloc, &mut db, up, 2, &start, &end, &entries, &mut own)?;
@@ -306,22 +316,20 @@ fn a_psnp_acknowledges_once(rt: HostRuntime) -> Result<(), Fail> {
 
 /// The source and the range of a CSNP, and how many entries its TLVs have.
 fn said(alloc: Global, pdu: &[u8]) -> Result<(SystemId, LspId, LspId, usize), Fail> {
-    let Ok(Pdu::Csnp(Csnp {
-        source,
-        start,
-        end,
-        tlvs,
-    })) = decode(pdu)
+    let Ok(
+        Pdu::Csnp(
+            Csnp {
+                source,
+                start,
+                end,
+                tlvs,
+            },
+        ),
+    ) = decode(pdu)
     else {
         return Err("no CSNP".into());
     };
-    let mut count: usize = 0;
-    for nth in 0..7 {
-        if let Some(value) = find_tlv(tlvs, 9, nth) {
-            count = count.wrapping_add(read_entries(alloc, value)?.len());
-        }
-    }
-    Ok((source, start, end, count))
+    Ok((source, start, end, entries_of_snp(alloc, tlvs)?.len()))
 }
 
 #[test]
@@ -364,6 +372,20 @@ fn an_absent_lsp_is_not_listed(rt: HostRuntime) -> Result<(), Fail> {
         assert_eq!(rt; said(alloc, pdu)?.3, 2);
     }
     assert_eq!(rt; psnps(alloc, &mut db, bridge(1), 2)?.len(), 1);
+    Ok(())
+}
+
+#[test]
+fn entries_are_read_of_each_tlv(rt: HostRuntime) -> Result<(), Fail> {
+    let alloc = rt.alloc();
+    let mut tlvs = Vec::from_slice(alloc, &PSNP[17..])?;
+    tlvs.extend_from_slice(&[137, 1, 7])?;
+    tlvs.extend_from_slice(&PSNP[17..])?;
+    let known = entry(lsp_id(2, 0), 2, 1198, 0xc2f3);
+    let entries = entries_of_snp(alloc, &tlvs)?;
+    assert_eq!(rt; entries.as_slice(), [known, known].as_slice());
+    tlvs.extend_from_slice(&[9, 1, 7])?;
+    assert_eq!(rt; entries_of_snp(alloc, &tlvs).err(), Some(TlvError::Cut));
     Ok(())
 }
 

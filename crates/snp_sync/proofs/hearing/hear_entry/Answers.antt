@@ -1,7 +1,6 @@
 use Rattle.std.proofs.Common.{◌≡◌, ℕ, Some, sym, ap, subst, ◌∙◌}
 use Rattle.std.specs.FinMap.{get}
 use Rattle.lsdb.specs.declared.version.Relation.{Relation}
-use Rattle.lsdb.specs.declared.version.Version.{Version}
 use Rattle.lsdb.specs.Version.{relation}
 use Rattle.lsdb.specs.Entry.{cleared, asked, buried}
 use Rattle.lsdb.specs.Database.{version_in}

@@ -1,4 +1,3 @@
-use Rattle.std.proofs.Common.{◌≤◌, length, arith}
 use Rattle.flooding.specs.Placing.{holding}
 use Rattle.snp_sync.proofs.Heard.{heard_none, heard_body, heard_more, heard_some, heard_all, on_err}
 use Rattle.snp_sync.proofs.hearing.hear_psnp.Goals as goal

@@ -1,4 +1,4 @@
-use Rattle.std.proofs.Common.{◌≤◌, List, ◌++◌, ◌∷◌, [], Vec, Global, ap, ◌∙◌, arith}
+use Rattle.std.proofs.Common.{◌≤◌, ◌++◌, ◌∷◌, [], Vec, Global, ap, ◌∙◌, arith}
 use Rattle.std.specs.FinMap.{entries, len}
 use Rattle.spb_tlvs.specs.declared.entries.SnpEntry.{SnpEntry}
 use Rattle.lsdb.specs.Database.{keyed}

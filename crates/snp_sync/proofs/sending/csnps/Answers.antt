@@ -1,4 +1,4 @@
-use Rattle.std.proofs.Common.{rules, refl, ◌∙◌}
+use Rattle.std.proofs.Common.{refl, ◌∙◌}
 use Rattle.snp_sync.proofs.Pages.{ranged_none, ranged_more, ranged_all}
 use Rattle.snp_sync.proofs.sending.csnps.Goals as goal
 
