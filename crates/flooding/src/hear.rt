@@ -79,7 +79,8 @@ fn store(
 ) -> Result<(), FloodError>
     requires low { 1 ≤ port }
     requires high { port ≤ 32 }
-    ensures { Puts result lsp.now.id (stored up port (claimed lsp.now.seq lsp.now.lifetime lsp.now.sum) lsp.now.lifetime (hearing.body_of (lsp_of lsp.now)))
+    ensures { Puts result lsp.now.id
+        (stored up port (claimed lsp.now.seq lsp.now.lifetime lsp.now.sum) lsp.now.lifetime (hearing.body_of (lsp_of lsp.now)))
         db.old db.new }
 {
     let body = body_of(alloc, lsp)?;

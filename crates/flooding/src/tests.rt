@@ -115,7 +115,15 @@ fn held(alloc: Global, id: LspId, version: Version) -> Result<Held, AllocError>
     })
 }
 
-fn lsp(id: LspId, seq: u32, lifetime: u16, sum: u16) -> Lsp<'static> {
+/// Version, lifetime, length of body, SRM and SSN of what stands under an id, if anything does.
+type Row = Option<(Version, u16, usize, u32, u32)>;
+
+fn row(version: Version, lifetime: u16, len: usize, srm: u32, ssn: u32) -> Row {
+    Some((version, lifetime, len, srm, ssn))
+}
+
+/// An LSP of this sequence number, lifetime and checksum, with a body of three bytes.
+fn lsp(id: LspId, (seq, lifetime, sum): (u32, u16, u16)) -> Lsp<'static> {
     Lsp {
         lifetime,
         id,
@@ -126,215 +134,88 @@ fn lsp(id: LspId, seq: u32, lifetime: u16, sum: u16) -> Lsp<'static> {
     }
 }
 
-/// What stands under the LSP's id after bridge 1 heard it at port 2, where this version was held if any: its version,
-/// lifetime, length of body and flags, and whether the bridge is spent.
-fn after(
-    alloc: Global,
-    before: Option<Version>,
-    lsp: &Lsp<'_>,
-) -> Result<(Option<(Version, u16, usize, u32, u32)>, bool), Fail> {
+/// What stands under the LSP's id after bridge 1 heard it at port 2, where this version was held, if any; and whether the
+/// bridge is spent.
+fn after(alloc: Global, before: Option<Version>, lsp: &Lsp<'_>) -> Result<(Row, bool), Fail> {
     let mut db = Database::new(alloc);
     if let Some(version) = before {
         db.put(held(alloc, lsp.id, version)?)?;
     }
     let mut own = own(alloc, &[1, 9, 1, 7])?;
     hear_lsp(alloc, &mut db, ports(&[1, 2, 3]), 2, lsp, &mut own)?;
-    let row = db.find(&lsp.id).map(|h| (
-        h.version,
-        h.lifetime,
-        h.body.len(),
-        h.srm.bits,
-        h.ssn.bits,
-    ));
-    Ok((row, own.spent))
+    let outcome = match db.find(&lsp.id) {
+        Some(h) => row(h.version, h.lifetime, h.body.len(), h.srm.bits, h.ssn.bits),
+        None => None,
+    };
+    Ok((outcome, own.spent))
 }
 
 #[test]
 fn each_row_of_the_table_gives_its_version_and_flags(rt: HostRuntime) -> Result<(), Fail> {
-    let x = lsp_id(2, 0);
-    for (before, claim, version, lifetime, body, srm, ssn) in [
+    let id = lsp_id(2, 0);
+    let (none, lived, died) = (Some(Version::Absent), Some(live(7, 9)), Some(dead(7)));
+    for (before, claim, outcome) in [
         // Newer: stored, also where nothing is held and where it is dead.
-        (
-            Some(live(7, 9)),
-            lsp(x, 8, 30, 5),
-            live(8, 5),
-            30,
-            3,
-            0b101,
-            0b010,
-        ),
-        (
-            Some(live(7, 9)),
-            lsp(x, 7, 0, 0),
-            dead(7),
-            0,
-            1,
-            0b101,
-            0b010,
-        ),
-        (
-            Some(Version::Absent),
-            lsp(x, 1, 30, 5),
-            live(1, 5),
-            30,
-            3,
-            0b101,
-            0b010,
-        ),
-        (None, lsp(x, 1, 0, 5), dead(1), 0, 1, 0b101, 0b010),
-        // Equal: acknowledged, but not where nothing is held; lifetime and body aren't taken.
-        (
-            Some(live(7, 9)),
-            lsp(x, 7, 30, 9),
-            live(7, 9),
-            500,
-            3,
-            0b001,
-            0b110,
-        ),
-        (Some(dead(7)), lsp(x, 7, 0, 9), dead(7), 0, 1, 0b001, 0b110),
-        (
-            Some(Version::Absent),
-            lsp(x, 0, 30, 9),
-            Version::Absent,
-            0,
-            0,
-            0b011,
-            0b110,
-        ),
+        (lived, (8, 30, 5), row(live(8, 5), 30, 3, 0b101, 0b010)),
+        (lived, (7, 0, 0), row(dead(7), 0, 1, 0b101, 0b010)),
+        (none, (1, 30, 5), row(live(1, 5), 30, 3, 0b101, 0b010)),
+        (None, (1, 0, 5), row(dead(1), 0, 1, 0b101, 0b010)),
+        // Equal: acknowledged, but not where it is absent; lifetime and body aren't taken.
+        (lived, (7, 30, 9), row(live(7, 9), 500, 3, 0b001, 0b110)),
+        (died, (7, 0, 9), row(dead(7), 0, 1, 0b001, 0b110)),
+        (none, (0, 30, 9), row(Version::Absent, 0, 0, 0b011, 0b110)),
+        (None, (0, 30, 9), None),
         // Older: the neighbour gets what is held.
-        (
-            Some(live(7, 9)),
-            lsp(x, 6, 30, 9),
-            live(7, 9),
-            500,
-            3,
-            0b011,
-            0b100,
-        ),
-        (Some(dead(7)), lsp(x, 7, 30, 9), dead(7), 0, 1, 0b011, 0b100),
+        (lived, (6, 30, 9), row(live(7, 9), 500, 3, 0b011, 0b100)),
+        (died, (7, 30, 9), row(dead(7), 0, 1, 0b011, 0b100)),
         // Confused: dead, and sent to all.
-        (Some(live(7, 9)), lsp(x, 7, 30, 5), dead(7), 0, 1, 0b111, 0),
+        (lived, (7, 30, 5), row(dead(7), 0, 1, 0b111, 0)),
     ] {
-        let outcome = after(rt.alloc(), before, &claim)?;
-        assert_eq!(rt;
-            outcome,
-            (Some((version, lifetime, body, srm, ssn)), false),
-            "{before:?} and {claim:?}"
-        );
+        let found = after(rt.alloc(), before, &lsp(id, claim))?;
+        assert_eq!(rt; found, (outcome, false), "{before:?} and {claim:?}");
     }
-    let outcome = after(rt.alloc(), None, &lsp(x, 0, 30, 9))?;
-    assert_eq!(rt; outcome, (None, false));
     Ok(())
+}
+
+/// The own LSP renewed, and a dead one, each sent to all. The body is 01 09 01 07.
+fn renewed(seq: u32, sum: u16) -> Row {
+    row(live(seq, sum), 1200, 4, 0b111, 0)
+}
+
+fn ended(seq: u32) -> Row {
+    row(dead(seq), 0, 1, 0b111, 0)
 }
 
 #[test]
 fn claims_of_own_ids_are_answered(rt: HostRuntime) -> Result<(), Fail> {
     let (own, other) = (lsp_id(1, 0), lsp_id(1, 5));
-    let last = u32::MAX;
-    for (before, claim, version, lifetime, body, srm, ssn, spent) in [
-        // The own LSP goes past the claim. Its checksums are those of body 01 09 01 07.
-        (
-            Some(live(7, 9)),
-            lsp(own, 9, 30, 5),
-            live(10, 0xfbe4),
-            1200,
-            4,
-            0b111,
-            0,
-            false,
-        ),
-        (
-            Some(live(7, 9)),
-            lsp(own, 7, 30, 5),
-            live(8, 0xffe2),
-            1200,
-            4,
-            0b111,
-            0,
-            false,
-        ),
-        (
-            Some(live(7, 9)),
-            lsp(own, 7, 0, 0),
-            live(8, 0xffe2),
-            1200,
-            4,
-            0b111,
-            0,
-            false,
-        ),
-        (
-            None,
-            lsp(own, 3, 0, 0),
-            live(4, 0x08de),
-            1200,
-            4,
-            0b111,
-            0,
-            false,
-        ),
+    let (lived, last) = (Some(live(7, 9)), u32::MAX);
+    for (before, id, claim, outcome, spent) in [
+        // The own LSP goes past the claim.
+        (lived, own, (9, 30, 5), renewed(10, 0xfbe4), false),
+        (lived, own, (7, 30, 5), renewed(8, 0xffe2), false),
+        (lived, own, (7, 0, 0), renewed(8, 0xffe2), false),
+        (None, own, (3, 0, 0), renewed(4, 0x08de), false),
         // At the last number it is dead.
-        (
-            Some(live(7, 9)),
-            lsp(own, last, 30, 5),
-            dead(last),
-            0,
-            1,
-            0b111,
-            0,
-            true,
-        ),
+        (lived, own, (last, 30, 5), ended(last), true),
         // Every other own id is dead at the claim's number.
-        (
-            Some(live(7, 9)),
-            lsp(other, 9, 30, 5),
-            dead(9),
-            0,
-            1,
-            0b111,
-            0,
-            false,
-        ),
-        (
-            None,
-            lsp(other, last, 30, 5),
-            dead(last),
-            0,
-            1,
-            0b111,
-            0,
-            false,
-        ),
-        // An equal and an older claim are as of any id.
-        (
-            Some(live(7, 9)),
-            lsp(own, 7, 30, 9),
-            live(7, 9),
-            500,
-            3,
-            0b001,
-            0b110,
-            false,
-        ),
-        (
-            Some(live(7, 9)),
-            lsp(own, 6, 30, 9),
-            live(7, 9),
-            500,
-            3,
-            0b011,
-            0b100,
-            false,
-        ),
+        (lived, other, (9, 30, 5), ended(9), false),
+        (None, other, (last, 30, 5), ended(last), false),
     ] {
-        let outcome = after(rt.alloc(), before, &claim)?;
-        assert_eq!(rt;
-            outcome,
-            (Some((version, lifetime, body, srm, ssn)), spent),
-            "{before:?} and {claim:?}"
-        );
+        let found = after(rt.alloc(), before, &lsp(id, claim))?;
+        assert_eq!(rt; found, (outcome, spent), "{before:?} and {claim:?}");
     }
+    // An equal and an older claim are as of any id.
+    let (equal, spent) = after(rt.alloc(), lived, &lsp(own, (7, 30, 9)))?;
+    assert_eq!(rt;
+        (equal, spent),
+        (row(live(7, 9), 500, 3, 0b001, 0b110), false)
+    );
+    let (older, spent) = after(rt.alloc(), lived, &lsp(own, (6, 30, 9)))?;
+    assert_eq!(rt;
+        (older, spent),
+        (row(live(7, 9), 500, 3, 0b011, 0b100), false)
+    );
     Ok(())
 }
 
@@ -423,7 +304,7 @@ fn a_full_database_takes_no_new_id(rt: HostRuntime) -> Result<(), Fail> {
         &mut db,
         up,
         1,
-        &lsp(lsp_id(9, 0), 1, 30, 5),
+        &lsp(lsp_id(9, 0), (1, 30, 5)),
         &mut own,
     );
     assert_eq!(rt; more, Err(FloodError::Full));
@@ -432,13 +313,20 @@ fn a_full_database_takes_no_new_id(rt: HostRuntime) -> Result<(), Fail> {
         &mut db,
         up,
         1,
-        &lsp(own.id(), u32::MAX, 30, 5),
+        &lsp(own.id(), (u32::MAX, 30, 5)),
         &mut own,
     );
     assert_eq!(rt; mine, Err(FloodError::Full));
     assert_eq!(rt; (own.spent, db.len()), (false, 2048));
     let known = lsp_id(0, 1);
-    hear_lsp(rt.alloc(), &mut db, up, 1, &lsp(known, 8, 30, 5), &mut own)?;
+    hear_lsp(
+        rt.alloc(),
+        &mut db,
+        up,
+        1,
+        &lsp(known, (8, 30, 5)),
+        &mut own,
+    )?;
     assert_eq!(rt; db.version_at(&known), live(8, 5));
     Ok(())
 }
