@@ -1,4 +1,4 @@
-ghost use Rattle.std.specs.Prelude.{◌≡◌, ◌≤◌, ◌++◌, length, map, take, IfOk, OnOk, OnErr};
+ghost use Rattle.std.specs.Prelude.{◌≡◌, ◌*◌, ◌≤◌, ◌++◌, length, map, take, IfOk, OnOk, OnErr};
 ghost use Rattle.spb_tlvs.specs.Tlv.{tlv};
 ghost use Rattle.spb_tlvs.specs.Reading.{Reads};
 ghost use Rattle.spb_tlvs.specs.Entry.{entries_of, entries_value, entry_at, entry_bytes};
@@ -61,6 +61,7 @@ fn entry_in(entry: &[u8; 16]) -> SnpEntry
 pub fn write_entries(out: &mut Vec<u8>, items: &[SnpEntry]) -> Result<(), NoMemory>
     requires { length items.now ≤ 15 }
     ensures ok { OnOk result (out.new.items ≡ out.old.items ++ tlv 9 (entries_value items.now)) }
+    ensures len { OnOk result (length (entries_value items.now) ≡ 16 * length items.now) }
     ensures err { OnErr result (out.new.items ≡ out.old.items) }
 {
     let before = out.len();
@@ -71,6 +72,7 @@ pub fn write_entries(out: &mut Vec<u8>, items: &[SnpEntry]) -> Result<(), NoMemo
 fn put_entries(out: &mut Vec<u8>, items: &[SnpEntry]) -> Result<(), NoMemory>
     requires { length items.now ≤ 15 }
     ensures ok { OnOk result (out.new.items ≡ out.old.items ++ tlv 9 (entries_value items.now)) }
+    ensures len { OnOk result (length (entries_value items.now) ≡ 16 * length items.now) }
     ensures err { OnErr result (take (length out.old.items) out.new.items ≡ out.old.items) }
 {
     put(out, &[LSP_ENTRIES, 16 * items.len() as u8])?;

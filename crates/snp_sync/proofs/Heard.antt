@@ -1,0 +1,91 @@
+-- What hearing entries comes to.
+use Rattle.std.specs.Prelude.{◌≡◌, ℕ, zero, suc, ◌+◌, ◌≤◌, ◌<◌, Bool, true, false, List, [], ◌∷◌, ◌++◌, length, take, Option, Some, None, is_some, Result, Ok, Err, OnErr, if◌then◌else◌}
+use Rattle.std.specs.Option.{option_map}
+use Rattle.std.proofs.Common.{refl, sym, ap, subst, ◌∙◌, arith, get_or, add-one}
+use Rattle.std.specs.FinMap.{get, insert}
+use Rattle.std.proofs.lemmas.List.{take_all, length-map}
+use Rattle.spb_types.specs.declared.address.LspId.{LspId}
+use Rattle.spb_types.specs.declared.ports.PortSet.{PortSet}
+use Rattle.spb_tlvs.specs.declared.entries.SnpEntry.{SnpEntry}
+use Rattle.lsdb.specs.Entry.{Entry, acked}
+use Rattle.lsdb.specs.Database.{Lsps, fits, changed}
+use Rattle.lsdb.specs.Certificate.{Claim}
+use Rattle.lsdb.proofs.LookupLemmas.{changed_held, fits_held}
+use Rattle.flooding.specs.Hearing.{Holding, wanted, snp_row, hear_entry_of, is_full_for_entry}
+use Rattle.flooding.proofs.Owns.{own_stands}
+use Rattle.snp_sync.specs.Hearing.{claim_in, claims_in, hear_entries_of, full_count, HeardSome}
+
+-- an id that is held is asked for in place
+pub wanted_held : (db new : Lsps) (id : LspId) (port : ℕ) (o : Option Entry) → o ≡ get db id → is_some o ≡ true → new ≡ changed (acked port) db id → (fits db id ≡ true) × (new ≡ insert db id (wanted port (get db id)))
+wanted_held db new id port None is held changed_is = absurd (cc)
+wanted_held db new id port (Some e) is held changed_is = (fits_held db id e (sym is), changed_is ∙ changed_held (acked port) db id e (sym is) ∙ ap (λ o. insert db id (wanted port o)) is)
+
+pub some_mapped : {A B : Type 0} (f : A → B) (o : Option A) → is_some (option_map f o) ≡ is_some o
+some_mapped f None = refl
+some_mapped f (Some x) = refl
+
+-- hearing leaves the system's body
+pub entries_body : (up : PortSet) (port : ℕ) (claims : List Claim) (h : Holding) → (hear_entries_of up port claims h).own.body ≡ h.own.body
+entries_body up port [] h = refl
+entries_body up port (c ∷ claims) h = entries_body up port claims (hear_entry_of up port c h) ∙ (own_stands (snp_row up port c.version) up c h).1
+
+-- one claim more
+hear_push : (up : PortSet) (port : ℕ) (claims : List Claim) (c : Claim) (h : Holding) → hear_entries_of up port (claims ++ c ∷ []) h ≡ hear_entry_of up port c (hear_entries_of up port claims h)
+hear_push up port [] c h = refl
+hear_push up port (d ∷ claims) c h = hear_push up port claims c (hear_entry_of up port d h)
+
+count_push : (up : PortSet) (port : ℕ) (claims : List Claim) (c : Claim) (h : Holding) → full_count up port (claims ++ c ∷ []) h ≡ full_count up port claims h + (if is_full_for_entry up port c (hear_entries_of up port claims h) then 1 else 0)
+count_push up port [] c h = omega arith
+count_push up port (d ∷ claims) c h = ap (λ n. (if is_full_for_entry up port d h then 1 else 0) + n) (count_push up port claims c (hear_entry_of up port d h)) ∙ omega arith
+
+next_claim_at : (es : List SnpEntry) (k : ℕ) (d : SnpEntry) → k < length es → take (suc k) (claims_in es) ≡ take k (claims_in es) ++ claim_in (get_or es k d) ∷ []
+next_claim_at [] k d within = absurd (omega arith)
+next_claim_at (e ∷ es) zero d within = refl
+next_claim_at (e ∷ es) (suc k) d within = ap (λ (cs : List Claim). claim_in e ∷ cs) (next_claim_at es k d (omega arith))
+
+next_claim : (es : List SnpEntry) (k : ℕ) (d : SnpEntry) → k < length es → take (k + 1) (claims_in es) ≡ take k (claims_in es) ++ claim_in (get_or es k d) ∷ []
+next_claim es k d within = ap (λ n. take n (claims_in es)) (add-one k) ∙ next_claim_at es k d within
+
+-- the first k claims were heard, and so many of them needed a place that there wasn't
+pub record HeardTo (up : PortSet) (port : ℕ) (es : List SnpEntry) (old : Holding) (k : ℕ) (new : Holding) (full : ℕ) : Type 0 where
+  heard : new ≡ hear_entries_of up port (take k (claims_in es)) old
+  counted : full ≡ full_count up port (take k (claims_in es)) old
+  pub few : full ≤ k
+
+pub heard_none : (up : PortSet) (port : ℕ) (es : List SnpEntry) (old : Holding) → HeardTo up port es old 0 old 0
+heard_none up port es old = record { heard = refl; counted = refl; few = omega arith }
+
+-- a system that has a body keeps it
+pub heard_body : (up : PortSet) (port : ℕ) (es : List SnpEntry) (old : Holding) (k : ℕ) (new : Holding) (full : ℕ) → HeardTo up port es old k new full → 1 ≤ length old.own.body → 1 ≤ length new.own.body
+heard_body up port es old k new full so_far has_body =
+    subst (λ (b : List ℕ). 1 ≤ length b) (sym (ap (λ (h : Holding). h.own.body) so_far.heard ∙ entries_body up port (take k (claims_in es)) old)) has_body
+
+test_le : (b : Bool) → (if b then 1 else 0) ≤ 1
+test_le true = omega arith
+test_le false = omega arith
+
+pub heard_more : (up : PortSet) (port : ℕ) (es : List SnpEntry) (old : Holding) (k : ℕ) (now new : Holding) (full more : ℕ) (d : SnpEntry) → HeardTo up port es old k now full → k < length es
+    → new ≡ hear_entry_of up port (claim_in (get_or es k d)) now → more ≡ (if is_full_for_entry up port (claim_in (get_or es k d)) now then 1 else 0) → HeardTo up port es old (k + 1) new (full + more)
+heard_more up port es old k now new full more d so_far within heard counted =
+    let c = claim_in (get_or es k d) in
+    let next = next_claim es k d within in
+    let here = so_far.heard in record {
+      heard = heard ∙ ap (hear_entry_of up port c) here ∙ sym (ap (λ (cs : List Claim). hear_entries_of up port cs old) next ∙ hear_push up port (take k (claims_in es)) c old);
+      counted = (λ i. so_far.counted i + (counted ∙ ap (λ (h : Holding). if is_full_for_entry up port c h then 1 else 0) here) i) ∙ sym (ap (λ (cs : List Claim). full_count up port cs old) next ∙ count_push up port (take k (claims_in es)) c old);
+      few = let one : more ≤ 1 = subst (λ n. n ≤ 1) (sym counted) (test_le (is_full_for_entry up port c now)) in omega (arith, so_far.few);
+    }
+
+-- some of the claims
+pub heard_some : (up : PortSet) (port : ℕ) (es : List SnpEntry) (old : Holding) (k : ℕ) (now new : Holding) (full : ℕ) → HeardTo up port es old k now full → new ≡ now → HeardSome up port (claims_in es) old new
+heard_some up port es old k now new full so_far same = (k, same ∙ so_far.heard)
+
+-- all of them
+pub heard_all : (up : PortSet) (port : ℕ) (es : List SnpEntry) (old : Holding) (k : ℕ) (new : Holding) (full : ℕ) → HeardTo up port es old k new full → length es ≤ k
+    → (full ≡ full_count up port (claims_in es) old) × (new ≡ hear_entries_of up port (claims_in es) old)
+heard_all up port es old k new full so_far past =
+    let all : take k (claims_in es) ≡ claims_in es = take_all k (claims_in es) (omega (arith, length-map es claim_in)) in
+    (so_far.counted ∙ ap (λ (cs : List Claim). full_count up port cs old) all, so_far.heard ∙ ap (λ (cs : List Claim). hear_entries_of up port cs old) all)
+
+pub on_err : {T E P : Type 0} (r : Result T E) → P → OnErr r P
+on_err (Ok x) p = tt
+on_err (Err e) p = p

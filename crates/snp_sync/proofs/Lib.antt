@@ -1,0 +1,13 @@
+pub mod Gathered
+pub mod Cuts
+pub mod Pages
+pub mod Places
+pub mod Heard
+pub mod Named
+pub mod IdNumbers
+pub mod Ranges
+pub mod Said
+pub mod Served
+pub mod Stays
+pub mod Fields
+pub mod Gleaned

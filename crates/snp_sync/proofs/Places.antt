@@ -1,0 +1,106 @@
+-- Every entry of a database changed, place by place.
+use Rattle.std.specs.Prelude.{◌≡◌, ℕ, zero, suc, ◌+◌, ◌<◌, ◌≤◌, Bool, true, false, cond, T, List, [], ◌∷◌, ◌++◌, map, length, take, drop, Some, None, slice_get}
+use Rattle.std.proofs.Common.{refl, sym, ap, subst, ◌∙◌, arith, append-nil, set}
+use Rattle.std.specs.declared.cmp.Ordering.TheVariants.{Less}
+use Rattle.std.specs.Ordering.{is_lt, is_eq}
+use Rattle.std.specs.FinMap.{find, put, is_sorted, get, entries, entries_sorted, from_sorted, len, len-entries, entries-from_sorted, entries-insert, same_entries_map, get-entries}
+use Rattle.std.specs.FinMap.Entries.{below_all, by_order}
+use Rattle.std.proofs.lemmas.Bool.{and_parts}
+use Rattle.std.proofs.lemmas.List.{set-get_or, take_all, length-append, length-take, length-drop, length-map}
+use Rattle.std.proofs.Math.ListN.{drop_of_length-le}
+use Rattle.std.proofs.lemmas.List.Edits.{map_over_more}
+use Rattle.std.proofs.lemmas.Option.{get_or_from_slice_get}
+use Rattle.spb_types.specs.declared.address.LspId.{LspId}
+use Rattle.lsdb.specs.Entry.{Entry}
+use Rattle.lsdb.specs.Database.{Lsps, id_cmp, changed, each}
+use Rattle.lsdb.proofs.Ids.{ids_total, tied_same, turned_less, less_is}
+use Rattle.lsdb.proofs.LookupLemmas.{changed_held}
+
+-- an entry with its id, changed
+abbrev pub changed_pair : (LspId → Entry → Entry) → LspId × Entry → LspId × Entry
+changed_pair f e = (e.0, f e.0 e.1)
+
+-- ---- the entry at a place is that under its id
+
+true_from_T : (b : Bool) → T b → b ≡ true
+true_from_T true h = refl
+true_from_T false h = absurd h
+
+below_at : (x : LspId) (es : List (LspId × Entry)) (k : ℕ) (e : LspId × Entry) → below_all id_cmp x es ≡ true → slice_get es k ≡ Some e → id_cmp x e.0 ≡ Less
+below_at x [] k e below at = absurd (cc)
+below_at x (f ∷ es) zero e below at =
+    let here : f ≡ e = cc in
+    subst (λ (g : LspId × Entry). id_cmp x g.0 ≡ Less) here (less_is _ (and_parts (is_lt (id_cmp x f.0)) _ below).0)
+below_at x (f ∷ es) (suc k) e below at = below_at x es k e (and_parts (is_lt (id_cmp x f.0)) _ below).1 at
+
+find_at : (es : List (LspId × Entry)) (k : ℕ) (e : LspId × Entry) → is_sorted id_cmp es ≡ true → slice_get es k ≡ Some e → find id_cmp e.0 es ≡ Some e.1
+find_at [] k e sorted at = absurd (cc)
+find_at (f ∷ es) zero e sorted at =
+    let here : f ≡ e = cc in
+    subst (λ (g : LspId × Entry). find id_cmp g.0 (f ∷ es) ≡ Some g.1) here (ap (λ r. cond (is_eq r) (Some f.1) (find id_cmp f.0 es)) (tied_same f.0 f.0 refl))
+find_at (f ∷ es) (suc k) e sorted at =
+    let parts = and_parts (below_all id_cmp f.0 es) (is_sorted id_cmp es) sorted in
+    ap (λ r. cond (is_eq r) (Some f.1) (find id_cmp e.0 es)) (turned_less f.0 e.0 (below_at f.0 es k e parts.0 at)) ∙ find_at es k e parts.1 at
+
+put_at : (es : List (LspId × Entry)) (k : ℕ) (e : LspId × Entry) (v : Entry) → is_sorted id_cmp es ≡ true → slice_get es k ≡ Some e → put id_cmp e.0 v es ≡ set es k (e.0, v)
+put_at [] k e v sorted at = absurd (cc)
+put_at (f ∷ es) zero e v sorted at =
+    let here : f ≡ e = cc in
+    subst (λ (g : LspId × Entry). put id_cmp g.0 v (f ∷ es) ≡ (g.0, v) ∷ es) here (ap (λ r. by_order r ((f.0, v) ∷ f ∷ es) ((f.0, v) ∷ es) (f ∷ put id_cmp f.0 v es)) (tied_same f.0 f.0 refl))
+put_at (f ∷ es) (suc k) e v sorted at =
+    let parts = and_parts (below_all id_cmp f.0 es) (is_sorted id_cmp es) sorted in
+    ap (λ r. by_order r ((e.0, v) ∷ f ∷ es) ((f.0, v) ∷ es) (f ∷ put id_cmp e.0 v es)) (turned_less f.0 e.0 (below_at f.0 es k e parts.0 at))
+    ∙ ap (λ (gs : List (LspId × Entry)). f ∷ gs) (put_at es k e v parts.1 at)
+
+pub get_place : (db : Lsps) (k : ℕ) (e : LspId × Entry) → slice_get (entries db) k ≡ Some e → get db e.0 ≡ Some e.1
+get_place db k e at = get-entries db e.0 ∙ find_at (entries db) k e (true_from_T _ (entries_sorted db)) at
+
+pub entries-changed : (f : Entry → Entry) (db : Lsps) (k : ℕ) (e : LspId × Entry) → slice_get (entries db) k ≡ Some e → entries (changed f db e.0) ≡ set (entries db) k (e.0, f e.1)
+entries-changed f db k e at =
+    ap entries (changed_held f db e.0 e.1 (get_place db k e at)) ∙ entries-insert ids_total db e.0 (f e.1) ∙ put_at (entries db) k e (f e.1) (true_from_T _ (entries_sorted db)) at
+
+-- ---- the entries before a place changed
+
+pub record ChangedTo (f : LspId → Entry → Entry) (old : Lsps) (k : ℕ) (new : Lsps) : Type 0 where
+  are : entries new ≡ map (changed_pair f) (take k (entries old)) ++ drop k (entries old)
+
+pub changed_none : (f : LspId → Entry → Entry) (db : Lsps) → ChangedTo f db 0 db
+changed_none f db = record { are = refl }
+
+changed_next : (f : LspId → Entry → Entry) (old now new : Lsps) (k : ℕ) (e : LspId × Entry) → ChangedTo f old k now → k < len old → slice_get (entries now) k ≡ Some e → entries new ≡ set (entries now) k (changed_pair f e) → ChangedTo f old (k + 1) new
+changed_next f old now new k e so_far within at is = record {
+  are = is ∙ map_over_more (changed_pair f) (entries old) (entries now) k e (subst (λ n. k < n) (len-entries old) within) so_far.are (sym (get_or_from_slice_get (entries now) k e e at));
+}
+
+-- the next entry is changed, or is as it is to be
+pub changed_more : (f : LspId → Entry → Entry) (g : Entry → Entry) (old now new : Lsps) (k : ℕ) (e : LspId × Entry) → ChangedTo f old k now → k < len old → Some e ≡ slice_get (entries now) k → f e.0 e.1 ≡ g e.1 → new ≡ changed g now e.0 → ChangedTo f old (k + 1) new
+changed_more f g old now new k e so_far within at same is =
+    changed_next f old now new k e so_far within (sym at)
+    (ap entries is ∙ entries-changed g now k e (sym at) ∙ ap (λ (v : Entry). set (entries now) k (e.0, v)) (sym same))
+
+pub changed_kept : (f : LspId → Entry → Entry) (old now new : Lsps) (k : ℕ) (e : LspId × Entry) → ChangedTo f old k now → k < len old → Some e ≡ slice_get (entries now) k → f e.0 e.1 ≡ e.1 → new ≡ now → ChangedTo f old (k + 1) new
+changed_kept f old now new k e so_far within at same is =
+    changed_next f old now new k e so_far within (sym at)
+    (ap entries is ∙ sym (set-get_or (entries now) k e) ∙ ap (λ (p : LspId × Entry). set (entries now) k p) (get_or_from_slice_get (entries now) k e e (sym at) ∙ λ i. (e.0, sym same i)))
+
+-- there is a next entry
+pub changed_some : (f : LspId → Entry → Entry) (old now : Lsps) (k : ℕ) → ChangedTo f old k now → k < len old → None ≡ slice_get (entries now) k → ⊥
+changed_some f old now k so_far within at =
+    let xs = entries old in
+    let n : len old ≡ length xs = len-entries old in
+    let all : length (entries now) ≡ length (take k xs) + length (drop k xs) = ap length so_far.are ∙ length-append (map (changed_pair f) (take k xs)) (drop k xs) ∙ ap (λ m. m + length (drop k xs)) (simp length-map) in
+    past_none (entries now) k (omega (arith, length-take k xs, length-drop k xs)) (sym at)
+  where
+    past_none : (es : List (LspId × Entry)) (j : ℕ) → j < length es → slice_get es j ≡ None → ⊥
+    past_none [] j inside none = absurd (omega arith)
+    past_none (e ∷ es) zero inside none = cc
+    past_none (e ∷ es) (suc j) inside none = past_none es j (omega arith) none
+
+-- every entry was changed
+pub changed_all : (f : LspId → Entry → Entry) (old new : Lsps) (k : ℕ) → ChangedTo f old k new → len old ≤ k → new ≡ each f old
+unfolding each
+changed_all f old new k so_far past =
+    let xs = entries old in
+    let n : length xs ≤ k = subst (λ m. m ≤ k) (len-entries old) past in
+    let all : entries new ≡ map (changed_pair f) xs = so_far.are ∙ (λ i. map (changed_pair f) (take_all k xs n i) ++ drop_of_length-le xs n i) ∙ append-nil (map (changed_pair f) xs) in
+    same_entries_map new (from_sorted (map (changed_pair f) xs)) (all ∙ sym (entries-from_sorted id_cmp (map (changed_pair f) xs) (subst (λ es. T (is_sorted id_cmp es)) all (entries_sorted new))))

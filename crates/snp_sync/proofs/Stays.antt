@@ -1,0 +1,98 @@
+-- What is so before entries are heard is so afterwards.
+use Rattle.std.specs.Prelude.{◌≡◌, ℕ, ◌≤◌, Bool, true, false, ◌&&◌, not, List, [], ◌∷◌, length, Option, Some, None}
+use Rattle.std.proofs.Common.{refl, sym, ap, subst, ◌∙◌, ⊎_elim}
+use Rattle.std.proofs.lemmas.Bool.{and_parts, true≢false, cases_eq}
+use Rattle.std.specs.Option.{option_map}
+use Rattle.std.specs.FinMap.{get}
+use Rattle.spb_types.specs.declared.address.LspId.{LspId}
+use Rattle.spb_types.specs.declared.ports.PortSet.{PortSet}
+use Rattle.spb_types.specs.Ports.{has, with_port}
+use Rattle.spb_types.proofs.PortLemmas.{has_port, has-with_other}
+use Rattle.isis_pdu.specs.declared.kind.Kind.TheVariants as kinds
+use Rattle.isis_pdu.specs.Spelling.{CanWrite}
+use Rattle.lsdb.specs.declared.version.Version.TheVariants.{Absent}
+use Rattle.lsdb.specs.Version.{is_absent}
+use Rattle.lsdb.specs.Entry.{Entry}
+use Rattle.lsdb.specs.Database.{Lsps, each}
+use Rattle.lsdb.proofs.LookupLemmas.{get-each}
+use Rattle.flooding.specs.Own.{tlvs_in}
+use Rattle.flooding.specs.Hearing.{snp_row, hear_entry_of}
+use Rattle.flooding.specs.Entries.{AllEntries, IsSendable, HasFlagsAt}
+use Rattle.flooding.proofs.Owns.{own_stands, own_is_not_spent}
+use Rattle.flooding.proofs.SendableEntries.{claim_is_numbered, entry_keeps_sendable, flags_sendable}
+use Rattle.flooding.proofs.FlagEntries.{entry_keeps_flags}
+use Rattle.snp_sync.specs.Ids.{is_between}
+use Rattle.snp_sync.specs.Hearing.{hear_entries_of, ids_of, is_among, is_missed, flag_if}
+use Rattle.snp_sync.specs.HearingLaws.{EntriesLeaveOwn, EntriesDontSpend, ClaimsAreNumbered, EntriesKeepSendable, CsnpKeepsSendable, EntriesKeepFlags, CsnpKeepsFlags}
+
+-- ---- the own LSP
+
+pub entries_leave_own : EntriesLeaveOwn
+entries_leave_own up port [] h = (refl, refl)
+entries_leave_own up port (c ∷ claims) h =
+    let first = own_stands (snp_row up port c.version) up c h in
+    let rest = entries_leave_own up port claims (hear_entry_of up port c h) in
+    (rest.0 ∙ first.0, rest.1 ∙ first.1)
+
+pub entries_dont_spend : EntriesDontSpend
+entries_dont_spend up port [] h low = refl
+entries_dont_spend up port (c ∷ claims) h low =
+    entries_dont_spend up port claims (hear_entry_of up port c h) low.1 ∙ own_is_not_spent (snp_row up port c.version) up c h low.0
+
+-- ---- every entry
+
+-- what is so of every entry, and of each as it is changed, is so of the database with each changed
+pub all_each : (P : LspId → Entry → Type 0) (f : LspId → Entry → Entry) (db : Lsps) → AllEntries P db → ((x : LspId) (e : Entry) → P x e → P x (f x e)) → AllEntries P (each f db)
+all_each P f db all keeps x n is = by_held (get db x) refl
+  where
+    by_held : (o : Option Entry) → get db x ≡ o → P x n
+    by_held None held = let no : None ≡ Some n = sym (get-each f db x ∙ ap (option_map (f x)) held) ∙ is in absurd (cc)
+    by_held (Some e) held =
+        let same : f x e ≡ n = let found : Some (f x e) ≡ Some n = sym (get-each f db x ∙ ap (option_map (f x)) held) ∙ is in cc in
+        subst (λ (g : Entry). P x g) same (keeps x e (all x e held))
+
+pub claims_are_numbered : ClaimsAreNumbered
+claims_are_numbered e = claim_is_numbered e.seq e.lifetime e.sum
+
+pub entries_keep_sendable : EntriesKeepSendable
+entries_keep_sendable up port [] h numbered has_body all = all
+entries_keep_sendable up port (c ∷ claims) h numbered has_body all =
+    let body = (own_stands (snp_row up port c.version) up c h).1 in
+    entries_keep_sendable up port claims (hear_entry_of up port c h) numbered.1
+    (subst (λ (b : List ℕ). (1 ≤ length b) × CanWrite kinds.Lsp (tlvs_in b)) (sym body) has_body) (entry_keeps_sendable up port c h numbered.0 has_body all)
+
+flag_sendable : (port : ℕ) (x : LspId) (e : Entry) (b : Bool) → IsSendable x e → IsSendable x (flag_if b port e)
+flag_sendable port x e true s = flags_sendable (with_port e.srm port) e.ssn x e s
+flag_sendable port x e false s = s
+
+pub csnp_keeps_sendable : CsnpKeepsSendable
+csnp_keeps_sendable up port start end claims h numbered has_body all =
+    all_each IsSendable (λ id e. flag_if (is_missed start end (ids_of claims) id e) port e) (hear_entries_of up port claims h).db
+    (entries_keep_sendable up port claims h numbered has_body all) (λ x e s. flag_sendable port x e (is_missed start end (ids_of claims) x e) s)
+
+pub entries_keep_flags : EntriesKeepFlags
+entries_keep_flags up port [] h is_up all = all
+entries_keep_flags up port (c ∷ claims) h is_up all = entries_keep_flags up port claims (hear_entry_of up port c h) is_up (entry_keeps_flags up port c h is_up all)
+
+-- a missed entry isn't absent
+missed_there : (start end : LspId) (ids : List LspId) (x : LspId) (e : Entry) → is_missed start end ids x e ≡ true → e.version ≡ Absent → ⊥
+missed_there start end ids x e missed none =
+    let there = (and_parts (is_between start end x && not (is_among ids x)) (not (is_absent e.version)) missed).1 in
+    true≢false (sym there ∙ ap (λ v. not (is_absent v)) none)
+
+flag_at : (up : PortSet) (port : ℕ) (e : Entry) (b : Bool) → has up port ≡ true → (b ≡ true → e.version ≡ Absent → ⊥) → HasFlagsAt up e → HasFlagsAt up (flag_if b port e)
+flag_at up port e true is_up there flags = record {
+  srm = λ p on. ⊎_elim
+      (λ here. ap (λ q. has up q) here ∙ is_up)
+      (λ elsewhere. flags.srm p (sym (has-with_other e.srm port p (has_port up port is_up).0 (has_port up port is_up).1 elsewhere) ∙ on))
+      (cases_eq p port);
+  ssn = flags.ssn;
+  absent = λ none. absurd (there refl none);
+}
+flag_at up port e false is_up there flags = flags
+
+pub csnp_keeps_flags : CsnpKeepsFlags
+csnp_keeps_flags up port start end claims h is_up all =
+    all_each (λ id e. HasFlagsAt up e) (λ id e. flag_if (is_missed start end (ids_of claims) id e) port e) (hear_entries_of up port claims h).db
+    (entries_keep_flags up port claims h is_up all)
+    (λ x e flags. flag_at up port e (is_missed start end (ids_of claims) x e) is_up (λ missed none. missed_there start end (ids_of claims) x e missed none) flags)

@@ -1,0 +1,5 @@
+use Rattle.snp_sync.proofs.Stays.{claims_are_numbered, entries_keep_sendable, csnp_keeps_sendable, entries_keep_flags, csnp_keeps_flags}
+use Rattle.snp_sync.proofs.laws.entries_stay_sound.Goals as goal
+
+pub returns : goal.returns
+returns c = record { numbered = claims_are_numbered; sendable = entries_keep_sendable; csnp_sendable = csnp_keeps_sendable; flags = entries_keep_flags; csnp_flags = csnp_keeps_flags }

@@ -1,0 +1,5 @@
+use Rattle.snp_sync.proofs.Stays.{entries_leave_own, entries_dont_spend}
+use Rattle.snp_sync.proofs.laws.hearing_leaves_the_own_lsp.Goals as goal
+
+pub returns : goal.returns
+returns c = record { stands = entries_leave_own; not_spent = entries_dont_spend }

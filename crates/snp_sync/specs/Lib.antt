@@ -1,0 +1,9 @@
+pub mod Line
+pub mod Parts
+pub mod Ids
+pub mod Sized
+pub mod Sending
+pub mod Reading
+pub mod Hearing
+pub mod SendingLaws
+pub mod HearingLaws

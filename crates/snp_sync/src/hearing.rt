@@ -1,0 +1,168 @@
+ghost use Rattle.std.specs.Prelude.{◌≡◌, ◌≤◌, length, if◌then◌else◌, IfOk, OnOk, OnErr};
+ghost use Rattle.std.specs.FinMap.{get};
+ghost use Rattle.lsdb.specs.Version.{claimed};
+ghost use Rattle.lsdb.specs.Entry.{cleared};
+ghost use Rattle.lsdb.specs.Database.{changed};
+ghost use Rattle.flooding.specs.Hearing.{wanted, unless_absent, hear_entry_of, is_full_for_entry};
+ghost use Rattle.flooding.specs.Placing.{Puts, Hears, holding};
+ghost use Rattle.snp_sync.specs.Hearing.{claim_in, claims_in, hear_entries_of, full_count, HeardSome, hear_csnp_of};
+
+use crate::missed::{flag_missed, sorted_ids};
+use flooding::{FloodError, Own, acknowledge, ask};
+use lsdb::{Database, Held, Relation, Version, compare};
+use spb_tlvs::SnpEntry;
+use spb_types::{LspId, NoMemory, PortSet, Seq};
+use std::alloc::Global;
+
+fn version_of(entry: &SnpEntry) -> Version
+    ensures { result ≡ claimed entry.now.seq entry.now.lifetime entry.now.sum }
+{
+    Version::claimed(entry.seq, entry.lifetime, entry.sum)
+}
+
+/// The neighbour at a port has a newer LSP, which is asked for. An id that isn't held is entered as absent.
+fn want(alloc: Global, db: &mut Database, port: u8, id: &LspId) -> Result<(), FloodError>
+    requires low { 1 ≤ port }
+    requires high { port ≤ 32 }
+    ensures { Puts result id.now (wanted port (get db.old id.now)) db.old db.new }
+{
+    if db.find(id).is_some() {
+        acknowledge(db, port, id);
+        return Ok(());
+    }
+    db.put(Held {
+        id: *id,
+        version: Version::Absent,
+        lifetime: 0,
+        body: Seq::new(alloc),
+        srm: PortSet::none(),
+        ssn: PortSet::none().with(port),
+    })?;
+    Ok(())
+}
+
+/// The neighbour at a port has the LSP. Nothing happens where it is absent.
+fn clear(db: &mut Database, port: u8, id: &LspId)
+    requires low { 1 ≤ port }
+    requires high { port ≤ 32 }
+    ensures { db.new ≡ changed (unless_absent (cleared port)) db.old id.now }
+{
+    if let Version::Absent = db.version_at(id) {
+        return;
+    }
+    db.set_srm(id, port, false);
+}
+
+/// Hears an entry at a port.
+fn hear_entry(
+    alloc: Global,
+    db: &mut Database,
+    up: PortSet,
+    port: u8,
+    entry: &SnpEntry,
+    own: &mut Own,
+) -> Result<(), FloodError>
+    requires low { 1 ≤ port }
+    requires high { port ≤ 32 }
+    requires body { 1 ≤ length own.old.body }
+    ensures { Hears result (is_full_for_entry up port (claim_in entry.now) (holding db.old own.old)) (holding db.old own.old)
+        (hear_entry_of up port (claim_in entry.now) (holding db.old own.old)) (holding db.new own.new) }
+{
+    let relation = compare(version_of(entry), db.version_at(&entry.id));
+    if own.answers(&entry.id, relation) {
+        return own.answer(alloc, db, up, &entry.id, entry.seq);
+    }
+    match relation {
+        Relation::Newer => return want(alloc, db, port, &entry.id),
+        Relation::Equal => clear(db, port, &entry.id),
+        Relation::Older => ask(db, port, &entry.id),
+        Relation::Confused => db.bury(&entry.id, entry.seq, up),
+    }
+    Ok(())
+}
+
+/// Hears an entry at a port, and counts it where it needed a place that there wasn't.
+fn count_entry(
+    alloc: Global,
+    db: &mut Database,
+    up: PortSet,
+    port: u8,
+    entry: &SnpEntry,
+    own: &mut Own,
+) -> Result<u64, NoMemory>
+    requires low { 1 ≤ port }
+    requires high { port ≤ 32 }
+    requires body { 1 ≤ length own.old.body }
+    ensures full { IfOk result (λ n. n ≡ (if is_full_for_entry up port (claim_in entry.now) (holding db.old own.old) then 1 else 0)) }
+    ensures heard { OnOk result (holding db.new own.new ≡ hear_entry_of up port (claim_in entry.now) (holding db.old own.old)) }
+    ensures err { OnErr result (holding db.new own.new ≡ holding db.old own.old) }
+{
+    match hear_entry(alloc, db, up, port, entry, own) {
+        Ok(()) => Ok(0),
+        Err(FloodError::Full) => Ok(1),
+        Err(FloodError::NoMemory) => Err(NoMemory),
+    }
+}
+
+/// Hears the entries of a PSNP at a port, 1 to 32, one after another (ISO/IEC 10589, 7.3.15.2), where `up` are the Up ports:
+///
+/// - what is newer than what is held is asked for at the port, and needn't be sent there; an id that isn't held is entered
+///   as absent for that;
+/// - what is the same needn't be sent there;
+/// - of what is older the neighbour gets what is held;
+/// - one that is live with the number of the held one and another checksum makes the LSP dead at that number, to be sent
+///   at every Up port;
+/// - a newer or confused one of the system's own is answered instead.
+///
+/// `own.body` has at least one byte. The answer is the number of entries that needed a place while 2,048 ids were held; such
+/// an entry changes nothing, and the others are heard. After `NoMemory` some of the entries, from the first on, have been
+/// heard.
+pub fn hear_psnp(
+    alloc: Global,
+    db: &mut Database,
+    up: PortSet,
+    port: u8,
+    entries: &[SnpEntry],
+    own: &mut Own,
+) -> Result<u64, NoMemory>
+    requires low { 1 ≤ port }
+    requires high { port ≤ 32 }
+    requires body { 1 ≤ length own.old.body }
+    ensures full { IfOk result (λ n. n ≡ full_count up port (claims_in entries.now) (holding db.old own.old)) }
+    ensures heard { OnOk result (holding db.new own.new ≡ hear_entries_of up port (claims_in entries.now) (holding db.old own.old)) }
+    ensures err { OnErr result (HeardSome up port (claims_in entries.now) (holding db.old own.old) (holding db.new own.new)) }
+{
+    let mut full = 0;
+    for entry in entries {
+        full += count_entry(alloc, db, up, port, entry, own)?;
+    }
+    Ok(full)
+}
+
+/// Hears a CSNP of a range at a port, 1 to 32 (ISO/IEC 10589, 7.3.15.2): its entries as those of a PSNP, and then every LSP
+/// but the absent ones whose id lies in the range, its ends included, and isn't among the entries is to be sent at the port.
+///
+/// The answer is the number of entries that needed a place while 2,048 ids were held. After `NoMemory` some of the entries,
+/// from the first on, have been heard, and nothing else changed.
+pub fn hear_csnp(
+    alloc: Global,
+    db: &mut Database,
+    up: PortSet,
+    port: u8,
+    start: &LspId,
+    end: &LspId,
+    entries: &[SnpEntry],
+    own: &mut Own,
+) -> Result<u64, NoMemory>
+    requires low { 1 ≤ port }
+    requires high { port ≤ 32 }
+    requires body { 1 ≤ length own.old.body }
+    ensures full { IfOk result (λ n. n ≡ full_count up port (claims_in entries.now) (holding db.old own.old)) }
+    ensures heard { OnOk result (holding db.new own.new ≡ hear_csnp_of up port start.now end.now (claims_in entries.now) (holding db.old own.old)) }
+    ensures err { OnErr result (HeardSome up port (claims_in entries.now) (holding db.old own.old) (holding db.new own.new)) }
+{
+    let named = sorted_ids(alloc, entries)?;
+    let full = hear_psnp(alloc, db, up, port, entries, own)?;
+    flag_missed(db, port, start, end, &named);
+    Ok(full)
+}

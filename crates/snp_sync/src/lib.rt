@@ -1,0 +1,23 @@
+//! The sequence numbers PDUs of a bridge (ISO/IEC 10589, 7.3.15.2 to 7.3.15.4): the CSNPs and PSNPs that it sends of its
+//! database, and what one that it hears changes there.
+//!
+//! A PDU has at most 90 entries, in TLVs of 15. Sending goes over the database once; after PSNPs, each flag that is cleared
+//! takes a binary search. Each entry that is heard takes one too. After the entries of a CSNP one pass over the database
+//! finds what its sender lacks, with a binary search among the ids that it named for each LSP in its range. Memory is taken
+//! for the PDUs that are made, for the sorted ids of a CSNP, and for ids that are entered or answered.
+#![tactic(auto)]
+
+pub use hearing::{hear_csnp, hear_psnp};
+pub use ids::successor;
+pub use reading::entries_of_snp;
+pub use sending::{csnps, psnps};
+
+mod hearing;
+mod ids;
+pub mod laws;
+mod lines;
+mod missed;
+mod reading;
+mod sending;
+#[cfg(test)]
+mod tests;
