@@ -1,0 +1,6 @@
+pub mod ListLemmas
+pub mod PlaceLemmas
+pub mod NameLemmas
+pub mod WorldLemmas
+pub mod RefusalLemmas
+pub mod ValidLemmas
