@@ -4,3 +4,4 @@ pub mod NameLemmas
 pub mod WorldLemmas
 pub mod RefusalLemmas
 pub mod ValidLemmas
+pub mod BoxLemmas

@@ -1,12 +1,24 @@
 //! The network of bridges and links that a script declares and plays.
 #![tactic(auto)]
 
+pub use answer::{Answer, Out};
 pub use declaration::{DeclaredBridge, DeclaredLink, LinkEnd};
+pub use kind_rule::KindRule;
+pub use lanes::Lanes;
+pub use network::{Network, NetworkOf};
 pub use reason::{ApplyError, Reason};
+pub use way::Way;
 pub use world::World;
 
+mod answer;
+mod boxes;
 mod check;
 mod declaration;
 mod graph;
+mod kind_rule;
+mod lanes;
+mod network;
 mod reason;
+mod way;
+mod wires;
 mod world;
