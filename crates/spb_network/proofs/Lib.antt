@@ -5,3 +5,5 @@ pub mod WorldLemmas
 pub mod RefusalLemmas
 pub mod ValidLemmas
 pub mod BoxLemmas
+pub mod WayLemmas
+pub mod SendLemmas

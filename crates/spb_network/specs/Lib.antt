@@ -5,3 +5,5 @@ pub mod Lanes
 pub mod State
 pub mod Events
 pub mod Network
+pub mod Refusing
+pub mod Play
