@@ -5,3 +5,4 @@ pub mod WorldLemmas
 pub mod RefusalLemmas
 pub mod ValidLemmas
 pub mod BoxLemmas
+pub mod FitsLemmas
