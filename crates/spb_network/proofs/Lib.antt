@@ -7,3 +7,4 @@ pub mod ValidLemmas
 pub mod BoxLemmas
 pub mod WayLemmas
 pub mod SendLemmas
+pub mod FitsLemmas
