@@ -8,3 +8,4 @@ pub mod BoxLemmas
 pub mod WayLemmas
 pub mod SendLemmas
 pub mod FitsLemmas
+pub mod RoundLemmas

@@ -20,6 +20,7 @@ mod kind_rule;
 mod lanes;
 mod network;
 mod reason;
+mod rounds;
 mod way;
 mod ways;
 mod wires;
