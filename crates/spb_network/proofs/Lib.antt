@@ -9,3 +9,4 @@ pub mod WayLemmas
 pub mod SendLemmas
 pub mod FitsLemmas
 pub mod RoundLemmas
+pub mod ConfigLemmas

@@ -7,3 +7,4 @@ pub mod Events
 pub mod Network
 pub mod Refusing
 pub mod Play
+pub mod Applying
