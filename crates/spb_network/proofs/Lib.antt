@@ -10,3 +10,4 @@ pub mod SendLemmas
 pub mod FitsLemmas
 pub mod RoundLemmas
 pub mod ConfigLemmas
+pub mod PortLemmas

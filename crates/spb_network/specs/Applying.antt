@@ -19,9 +19,15 @@ pub record Plays (old : State) (c : Command) (answer : Answer) (new : State) : T
   pub answer_is : answer ≡ answer_of old c
   pub state : new ≡ next_state old c
 
--- what an event of a command did, by why the command is refused
-abbrev pub Happens : Option Reason → State → Result (Unit {0}) ApplyError → State → Type 0
-Happens refusal next (Ok done) new = (refusal ≡ None) × (new ≡ next)
-Happens refusal next (Err (error.Refused reason)) new = refusal ≡ Some reason
-Happens refusal next (Err error.NoMemory) new = refusal ≡ None
-Happens refusal next (Err error.Halted) new = ⊥
+-- nothing was played: it is refused just for its reason, or no memory was found
+abbrev pub Declines : Option Reason → ApplyError → Type 0
+Declines refusal (error.Refused reason) = refusal ≡ Some reason
+Declines refusal error.NoMemory = refusal ≡ None
+Declines refusal error.Halted = ⊥
+
+-- what a command did, by why it is refused: after a refusal nothing is changed
+abbrev pub Happens : {N : Type 0} → Option Reason → State → N → Result (Unit {0}) ApplyError → N → State → Type 0
+Happens refusal next old (Ok done) now new = (refusal ≡ None) × (new ≡ next)
+Happens refusal next old (Err (error.Refused reason)) now new = (refusal ≡ Some reason) × (now ≡ old)
+Happens refusal next old (Err error.NoMemory) now new = refusal ≡ None
+Happens refusal next old (Err error.Halted) now new = ⊥

@@ -1,5 +1,5 @@
 -- What a network of boxes is the state of.
-use Rattle.std.specs.Prelude.{◌≡◌, ℕ, ◌≤◌, List, length, map, Bool, false, Option, Some, slice_get}
+use Rattle.std.specs.Prelude.{◌≡◌, ℕ, ◌≤◌, List, length, map, Bool, true, false, Option, Some, slice_get}
 use Rattle.std.specs.List.{AllByRecursion}
 use Rattle.bridge_api.specs.declared.kind.Kind.{Kind}
 use Rattle.bridge_api.specs.View.{BridgeView, IsPort}
@@ -49,3 +49,7 @@ IsPortAt views i port = (v : BridgeView) → slice_get views i ≡ Some v → Is
 pub record IsInOrder {B : Type 0} (kind_of : B → Kind) (blank : B → Bool) (view : B → BridgeView) (n : NetworkOf B) : Type 0 where
   pub made : AreMade blank n.boxes.items
   pub fits : Fits (state_of kind_of blank view n)
+
+-- the box at a place is blank
+abbrev pub IsBlankAt : {B : Type 0} → (B → Bool) → List B → ℕ → Type 0
+IsBlankAt {B} blank boxes place = (b : B) → slice_get boxes place ≡ Some b → blank b ≡ true

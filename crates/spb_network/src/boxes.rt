@@ -1,13 +1,16 @@
 //! What one box of a list does. A place past the last box is one where nothing happens.
-ghost use Rattle.std.specs.Prelude.{◌≡◌, [], map, slice_get, OnOk};
+ghost use Rattle.std.specs.Prelude.{◌≡◌, ◌≤◌, [], false, length, map, slice_get, OnOk, IfOk};
 ghost use Rattle.std.specs.Option.{option_map_or};
 ghost use Rattle.bridge_api.specs.Step as comes;
 ghost use Rattle.bridge_api.specs.Step.{sent, step, with_wire};
 ghost use Rattle.spb_network.specs.State.{changed_at};
+ghost use Rattle.spb_network.specs.Play as play;
 ghost use Rattle.spb_network.specs.Network.{AreMade, IsPortAt};
 
+use adjacency::Adjacency;
 use bridge_api::{Bridge, Outbox};
 use spb_types::NoMemory;
+use std::alloc::Global;
 
 /// A second of a bridge.
 pub fn tick<B: Bridge>(boxes: &mut Vec<B>, i: usize, outbox: &mut Outbox) -> Result<(), NoMemory>
@@ -56,4 +59,23 @@ pub fn carry<B: Bridge>(boxes: &mut Vec<B>, i: usize, port: u8, on: bool) -> Res
         None => Ok(()),
         Some(bridge) => bridge.carrier(port, on),
     }
+}
+
+/// The ports of a bridge that has so many, from port 1 on: the adjacency, and whether CSNPs are due.
+pub fn told_ports<B: Bridge>(
+    alloc: Global,
+    bridge: &B,
+    count: u8,
+) -> Result<Vec<(Adjacency, bool)>, NoMemory>
+    requires made { B.blank bridge.now ≡ false }
+    requires count { length (B.view bridge.now).ports ≡ count }
+    requires few { count ≤ 32 }
+    ensures { IfOk result (λ ports. ports.items ≡ play.told_ports (B.view bridge.now).ports) }
+{
+    let mut ports = Vec::new(alloc);
+    for place in 0..count {
+        let port = place + 1;
+        ports.push((bridge.adjacent(port), bridge.due(port)))?;
+    }
+    Ok(ports)
 }

@@ -19,6 +19,8 @@ mod graph;
 mod kind_rule;
 mod lanes;
 mod network;
+mod questions;
+mod rack;
 mod reason;
 mod rounds;
 mod way;

@@ -146,7 +146,8 @@ impl World {
 
     /// How many ports the bridge at a place has, 0 to 32; 0 past the last bridge.
     pub fn ports(&self, place: usize) -> u8
-        ensures { result ≡ state.ports_at self.now.bridges place }
+        ensures ports { result ≡ state.ports_at self.now.bridges place }
+        ensures few { result ≤ 32 }
     {
         check::ports_at(&self.bridges, place)
     }
