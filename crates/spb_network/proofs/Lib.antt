@@ -6,3 +6,4 @@ pub mod RefusalLemmas
 pub mod ValidLemmas
 pub mod BoxLemmas
 pub mod FitsLemmas
+pub mod SoundLaws

@@ -5,3 +5,4 @@ pub mod Lanes
 pub mod State
 pub mod Events
 pub mod Network
+pub mod Sound
