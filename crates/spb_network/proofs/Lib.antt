@@ -7,3 +7,4 @@ pub mod ValidLemmas
 pub mod BoxLemmas
 pub mod FitsLemmas
 pub mod SoundLaws
+pub mod SoundLane

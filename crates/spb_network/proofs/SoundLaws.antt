@@ -1,7 +1,8 @@
 -- What a step of one bridge keeps.
-use Rattle.std.proofs.Common.{◌≡◌, ◌≢◌, ◌⊎◌, inl, inr, ◌≤◌, ◌<◌, ◌+◌, ◌-◌, ℕ, zero, suc, Bool, true, false, List, [], ◌∷◌, length, refl, sym, ap, ◌∙◌, subst, Option, Some, None, arith}
+use Rattle.std.proofs.Common.{◌≡◌, ◌≢◌, ◌⊎◌, inl, inr, ◌≤◌, ◌<◌, ◌+◌, ◌-◌, ℕ, zero, suc, Bool, true, false, true≢false, List, [], ◌∷◌, length, refl, sym, ap, ◌∙◌, subst, Option, Some, None, arith}
 use Rattle.std.specs.Prelude.{slice_get, slice_set, nat_le, is_some, ◌==◌, if◌then◌else◌}
-use Rattle.std.specs.Option.{option_map}
+use Rattle.std.specs.Option.{option_map, option_and_then}
+use Rattle.std.specs.List.{AllByRecursion}
 use Rattle.std.proofs.lemmas.Bool.{le-leb, leb-true, cases_lt, cases_eq}
 use Rattle.std.proofs.lemmas.Option.{slice_get_within}
 use Rattle.spb_types.specs.declared.address.SystemId.{SystemId}
@@ -18,17 +19,18 @@ use Rattle.adjacency.specs.declared.state.Heard.TheVariants as did
 use Rattle.adjacency.specs.declared.port.Adjacency.{Adjacency}
 use Rattle.adjacency.specs.States.{next_state, state_numbered}
 use Rattle.adjacency.specs.Hearing.{is_discarded, sender}
-use Rattle.adjacency.specs.Adjacency.{down, led_to, state_towards, is_down, after_heard, after_hello, after_second, after_carrier, change_of, heard_of}
+use Rattle.adjacency.specs.Adjacency.{down, led_to, state_towards, is_down, is_up, kept_in, neighbour_of, SoundIn, after_heard, after_hello, after_second, after_carrier, change_of, heard_of}
 use Rattle.bridge_api.specs.declared.port.BridgePort.{BridgePort}
-use Rattle.bridge_api.specs.View.{BridgeView, IsPort, port_in, port_at, is_port_up, is_up_in, is_up_at, up_from, up_ports}
+use Rattle.bridge_api.specs.View.{BridgeView, IsPort, port_in, port_at, neighbour_at, is_port_up, is_up_in, is_up_at, up_from, up_ports}
 use Rattle.bridge_api.specs.Hearing.{with_adjacency, after_receive, carried_at, with_carrier}
 use Rattle.bridge_api.specs.Ports.{noted, greeted_port, carried_port}
 use Rattle.bridge_api.specs.Step.{Input, second, frame, carrier, step, sent}
-use Rattle.bridge_api.specs.Laws.{HellosAreHeard, IsSoundView, IsSent}
+use Rattle.bridge_api.specs.Laws.{HellosAreHeard, IsSoundPort, IsSoundView, IsSent}
 use Rattle.bridge_api.proofs.Places.{got_at}
 use Rattle.bridge_api.proofs.Changes.{found, one_port, Greeted, frame_step, greeted_ports, Carried, carrier_step, carried_ports, ticked, tick_port}
 use Rattle.bridge_api.proofs.Hellos.{hellos_are_heard}
 use Rattle.spb_network.specs.Sound.{carrier_in, carrier_at}
+use Rattle.spb_network.proofs.BoxLemmas.{All-get}
 
 pub hellos_heard : HellosAreHeard
 hellos_heard = hellos_are_heard control_again
@@ -195,3 +197,18 @@ carrier_beside v q on p apart =
             | inr same ↦ ap carrier_in same
           ]
     ]
+
+-- ---- a port without carrier
+
+dark_in : (s : AdjState) (a : Adjacency) → SoundIn s a → a.carrier ≡ false → (kept_in s (a.neighbour, a.circuit) ≡ None) × (is_up s ≡ false)
+dark_in Down a sound dark = (refl, refl)
+dark_in Initializing a sound dark = absurd (true≢false (sym sound.1 ∙ dark))
+dark_in Up a sound dark = absurd (true≢false (sym sound.1 ∙ dark))
+
+dark_at : (o : Option BridgePort) (v : BridgeView) (p : ℕ) → port_at v p ≡ o → AllByRecursion IsSoundPort v.ports → carrier_in o ≡ false → (option_and_then (λ port. neighbour_of port.adjacency) o ≡ None) × (is_up_in o ≡ false)
+dark_at None v p e sound dark = (refl, refl)
+dark_at (Some port) v p e sound dark = dark_in port.adjacency.state port.adjacency (All-get IsSoundPort v.ports (p - 1) port sound (found v.ports p port e).1).adjacency dark
+
+-- keeps no neighbour, and isn't Up
+pub dark : (v : BridgeView) (p : ℕ) → IsSoundView v → carrier_at v p ≡ false → (neighbour_at v p ≡ None) × (is_up_at v p ≡ false)
+dark v p sound none = dark_at (port_at v p) v p refl sound.ports none
