@@ -8,3 +8,4 @@ pub mod BoxLemmas
 pub mod FitsLemmas
 pub mod SoundLaws
 pub mod SoundLane
+pub mod SoundWays
