@@ -9,3 +9,4 @@ pub mod FitsLemmas
 pub mod SoundLaws
 pub mod SoundLane
 pub mod SoundWays
+pub mod SoundMoves
