@@ -10,3 +10,4 @@ pub mod SoundLaws
 pub mod SoundLane
 pub mod SoundWays
 pub mod SoundMoves
+pub mod SoundSteps
