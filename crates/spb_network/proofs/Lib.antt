@@ -11,3 +11,4 @@ pub mod SoundLane
 pub mod SoundWays
 pub mod SoundMoves
 pub mod SoundSteps
+pub mod SoundCarrier
