@@ -12,3 +12,4 @@ pub mod SoundWays
 pub mod SoundMoves
 pub mod SoundSteps
 pub mod SoundCarrier
+pub mod SoundEvents

@@ -45,12 +45,12 @@ in_drop f zero xs among = among
 in_drop f (suc n) [] among = among
 in_drop f (suc n) (x ∷ xs) among = inr (in_drop f n xs among)
 
-in_got : (f : Frame) (xs : List Frame) (i : ℕ) → slice_get xs i ≡ Some f → IsIn f xs
+pub in_got : (f : Frame) (xs : List Frame) (i : ℕ) → slice_get xs i ≡ Some f → IsIn f xs
 in_got f [] i at = absurd cc
 in_got f (x ∷ xs) zero at = inl cc
 in_got f (x ∷ xs) (suc i) at = inr (in_got f xs i at)
 
-in_rest : (f : Frame) (frames : List Frame) → IsIn f (rest frames) → IsIn f frames
+pub in_rest : (f : Frame) (frames : List Frame) → IsIn f (rest frames) → IsIn f frames
 in_rest f [] among = among
 in_rest f (x ∷ frames) among = inr among
 
