@@ -57,6 +57,11 @@ pub on_ok : {T E : Type 0} {P Q : Type 0} (r : Result T E) → (P → Q) → OnO
 on_ok (Ok x) f p = f p
 on_ok (Err e) f p = p
 
+-- and what holds where two things hold of it
+pub both : {T E : Type 0} {P Q R : Type 0} (r : Result T E) → (P → Q → R) → OnOk r P → OnOk r Q → OnOk r R
+both (Ok x) f p q = f p q
+both (Err e) f p q = p
+
 append-none : {X : Type 0} (xs : List X) → xs ++ [] ≡ xs
 append-none [] = refl
 append-none (x ∷ xs) = ap (λ l. x ∷ l) (append-none xs)

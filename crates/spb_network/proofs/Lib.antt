@@ -5,6 +5,8 @@ pub mod WorldLemmas
 pub mod RefusalLemmas
 pub mod ValidLemmas
 pub mod BoxLemmas
+pub mod WayLemmas
+pub mod SendLemmas
 pub mod FitsLemmas
 pub mod SoundLaws
 pub mod SoundLane
@@ -13,3 +15,4 @@ pub mod SoundMoves
 pub mod SoundSteps
 pub mod SoundCarrier
 pub mod SoundEvents
+pub mod RoundLemmas

@@ -42,3 +42,7 @@ things_of-push (y ∷ ys) name x = ap (λ l. y.1 ∷ l) (things_of-push ys name 
 pub length-push : {X : Type 0} (xs : List X) (x : X) → length (xs ++ x ∷ []) ≡ length xs + 1
 length-push [] x = refl
 length-push (y ∷ ys) x = grind (arith, length-push ys x)
+
+pub length-things : {T : Type 0} (xs : List (List ℕ × T)) → length (things_of xs) ≡ length xs
+length-things [] = refl
+length-things (x ∷ xs) = grind (arith, length-things xs)

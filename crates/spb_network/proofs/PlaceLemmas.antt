@@ -1,6 +1,6 @@
-use Rattle.std.proofs.Common.{◌≡◌, ℕ, zero, suc, [], ◌∷◌, slice_get, replicate, refl}
-use Rattle.std.specs.Option.{option_map_or}
-use Rattle.spb_network.specs.World.{Bridges, ports_at, system_at}
+use Rattle.std.proofs.Common.{List, ◌≡◌, ℕ, zero, suc, [], ◌∷◌, slice_get, replicate, refl}
+use Rattle.std.specs.Option.{option_map, option_map_or}
+use Rattle.spb_network.specs.World.{Bridges, things_of, ports_at, system_at}
 
 pub ports_at_entry : (bridges : Bridges) (place : ℕ) → ports_at bridges place ≡ option_map_or (λ b. b.1.ports) (slice_get bridges place) 0
 ports_at_entry [] place = refl
@@ -11,3 +11,8 @@ pub system_at_entry : (bridges : Bridges) (place : ℕ) → system_at bridges pl
 system_at_entry [] place = refl
 system_at_entry (b ∷ bs) zero = refl
 system_at_entry (b ∷ bs) (suc place) = system_at_entry bs place
+
+pub get_things : {T : Type 0} (es : List (List ℕ × T)) (i : ℕ) → slice_get (things_of es) i ≡ option_map (λ e. e.1) (slice_get es i)
+get_things [] i = refl
+get_things (e ∷ es) zero = refl
+get_things (e ∷ es) (suc i) = get_things es i

@@ -8,7 +8,7 @@ use Rattle.spb_network.specs.declared.declaration.DeclaredLink.{DeclaredLink}
 use Rattle.spb_network.specs.declared.reason.Reason.{Reason}
 use Rattle.spb_network.specs.Reason.{reason_unless, ◌or◌}
 use Rattle.spb_network.specs.World.{World, things_of, ports_at, is_between, is_at_port, AreApart}
-use Rattle.spb_network.specs.Declaring.{vid_refusal, bridge_refusal, link_refusal, is_vid_range, is_new_name, is_new_system, is_new_source, is_bridge_range, has_bridge_room, is_free_port, is_link_range, is_unlinked, bridge_of, link_of}
+use Rattle.spb_network.specs.Declaring.{vid_refusal, bridge_refusal, link_refusal, is_vid_range, is_new_name, is_new_system, is_new_source, is_bridge_range, is_bridge_address, has_bridge_room, is_free_port, is_link_range, is_unlinked, bridge_of, link_of}
 use Rattle.spb_network.proofs.ListLemmas.{All-none, and-left, and-right, not-true}
 use Rattle.spb_network.proofs.WorldLemmas.{IsNewBridge, IsNewLink, ports_at-within}
 
@@ -68,6 +68,8 @@ vid_refusal_none w vid ect h =
 pub record IsFreeBridge (w : World) (name : List ℕ) (priority : ℕ) (system : Mac) (source : SourceId) (ports : ℕ) : Type 0 where
   pub name_new : is_new_name name w.bridges ≡ true
   pub priority_high : priority ≤ 65535
+  pub address : is_bridge_address system ≡ true
+  pub source_high : source.value < 1048576
   pub ports_high : ports ≤ 32
   pub new : IsNewBridge w (bridge_of priority system source ports)
 
@@ -76,11 +78,13 @@ unfolding bridge_refusal is_bridge_range is_new_system
 bridge_refusal_none w name priority system source ports h =
     let named = or-first _ _ (or-first _ _ (or-first _ _ h)) in
     let id = reason_unless-none (is_new_system system w.bridges && is_new_source source w.bridges) _ (or-second _ _ (or-first _ _ (or-first _ _ h))) in
-    let range = reason_unless-none (is_bridge_range priority system ports) _ (or-second _ _ (or-first _ _ h)) in
+    let range = reason_unless-none (is_bridge_range priority system source ports) _ (or-second _ _ (or-first _ _ h)) in
     let room = reason_unless-none (has_bridge_room w) _ (or-second _ _ h) in
     record {
       name_new = reason_unless-none (is_new_name name w.bridges) _ named;
-      priority_high = le-true priority 65535 (and-left _ _ (and-left _ _ range));
+      priority_high = le-true priority 65535 (and-left _ _ (and-left _ _ (and-left _ _ range)));
+      address = and-right _ _ (and-left _ _ (and-left _ _ range));
+      source_high = lt-true source.value 1048576 (and-right _ _ (and-left _ _ range));
       ports_high = le-true ports 32 (and-right _ _ range);
       new = record {
         room = lt-true (length w.bridges) 96 room;

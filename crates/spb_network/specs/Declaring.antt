@@ -46,9 +46,9 @@ is_new_source source bridges = not (list_any (λ b. b.bridge.source.value == sou
 abbrev pub is_bridge_address : Mac → Bool
 is_bridge_address mac = (slice_index mac.bytes 0 % 2 == 0) && not (bytes_eq mac.bytes (replicate 6 0))
 
--- a priority, an address and a number of ports that a bridge can have
-unfoldable pub is_bridge_range : ℕ → Mac → ℕ → Bool
-is_bridge_range priority system ports = nat_le priority 65535 && is_bridge_address system && nat_le ports 32
+-- a priority, an address, a source of 20 bits and a number of ports that a bridge can have
+unfoldable pub is_bridge_range : ℕ → Mac → SourceId → ℕ → Bool
+is_bridge_range priority system source ports = nat_le priority 65535 && is_bridge_address system && nat_lt source.value 1048576 && nat_le ports 32
 
 -- one bridge more can be declared
 abbrev pub has_bridge_room : World → Bool
@@ -81,7 +81,7 @@ vid_refusal w vid ect = reason_unless (is_new_vid w.vids vid) NameTaken or reaso
 
 -- but for want of a box
 unfoldable pub bridge_refusal : World → List ℕ → ℕ → Mac → SourceId → ℕ → Option Reason
-bridge_refusal w name priority system source ports = reason_unless (is_new_name name w.bridges) NameTaken or reason_unless (is_new_system system w.bridges && is_new_source source w.bridges) IdTaken or reason_unless (is_bridge_range priority system ports) Range or reason_unless (has_bridge_room w) TooMany
+bridge_refusal w name priority system source ports = reason_unless (is_new_name name w.bridges) NameTaken or reason_unless (is_new_system system w.bridges && is_new_source source w.bridges) IdTaken or reason_unless (is_bridge_range priority system source ports) Range or reason_unless (has_bridge_room w) TooMany
 
 -- of a link between the bridges at two places
 unfoldable pub link_refusal : World → List ℕ → ℕ → ℕ → ℕ → ℕ → ℕ → Option Reason

@@ -1,6 +1,6 @@
 -- The events of a network. Each is what one bridge does, or what becomes of one lane or link.
-use Rattle.std.specs.Prelude.{ℕ, zero, suc, ◌+◌, ◌==◌, List, [], ◌∷◌, length, Bool, true, false, Option, Some, None, slice_get, if◌then◌else◌}
-use Rattle.std.specs.Option.{option_map, option_map_or}
+use Rattle.std.specs.Prelude.{ℕ, zero, suc, ◌+◌, List, [], ◌∷◌, length, nat_lt, Bool, true, false, Option, Some, None, slice_get, if◌then◌else◌}
+use Rattle.std.specs.Option.{option_map, option_map_or, option_and_then, option_or}
 use Rattle.link_model.specs.Lane.{Frame, pushed, after_lose, after_double}
 use Rattle.scenario.specs.declared.command.Dir.{Dir}
 use Rattle.scenario.specs.declared.command.Dir.TheVariants.{Ab, Ba}
@@ -88,26 +88,42 @@ delivered_times (suc n) k dir s = delivered_times n k dir (delivered s k dir)
 unfoldable pub lane_served : State → ℕ → Dir → State
 lane_served s k dir = delivered_times (length (lane_at s k dir)) k dir s
 
--- so many links are served, from place k on, lane ab before ba
+-- both lanes of a link are served, ab before ba
+abbrev pub link_served : State → ℕ → State
+link_served s k = lane_served (lane_served s k Ab) k Ba
+
+-- so many links are served, from place k on
 abbrev pub served_from : ℕ → ℕ → State → State
 served_from zero k s = s
-served_from (suc n) k s = served_from n (k + 1) (lane_served (lane_served s k Ab) k Ba)
+served_from (suc n) k s = served_from n (k + 1) (link_served s k)
 
--- a round: each bridge ticks, in order of declaration; then each link is served, in order of declaration
+-- every bridge ticks, in order of declaration
+abbrev pub all_ticked : State → State
+all_ticked s = ticked_from (length s.views) 0 s
+
+-- every link is served, in order of declaration
+abbrev pub all_served : State → State
+all_served s = served_from (length s.lanes) 0 s
+
+-- a round: each bridge ticks, and then each link is served
 unfoldable pub one_round : State → State
-one_round s = let t : State = ticked_from (length s.views) 0 s in served_from (length t.lanes) 0 t
+one_round s = all_served (all_ticked s)
 
 abbrev pub rounds : ℕ → State → State
 rounds zero s = s
 rounds (suc n) s = rounds n (one_round s)
 
--- the first lane that isn't empty, over the links from place k on, ab before ba
-abbrev pub full_in : ℕ → Lanes → Option Way → Option Way
-full_in k lanes others = if length lanes.ab == 0 then (if length lanes.ba == 0 then others else Some (record { link = k; dir = Ba })) else Some (record { link = k; dir = Ab })
+-- the lane of the link at place k that isn't empty, if there is one, ab before ba
+abbrev pub full_in : ℕ → Lanes → Option Way
+full_in k lanes = if nat_lt 0 (length lanes.ab) then Some (record { link = k; dir = Ab }) else (if nat_lt 0 (length lanes.ba) then Some (record { link = k; dir = Ba }) else None)
 
+abbrev pub full_at : List Lanes → ℕ → Option Way
+full_at lanes k = option_and_then (full_in k) (slice_get lanes k)
+
+-- the first lane that isn't empty, over the links from place k on
 abbrev pub first_full_from : ℕ → List Lanes → Option Way
 first_full_from k [] = None
-first_full_from k (lanes ∷ more) = full_in k lanes (first_full_from (k + 1) more)
+first_full_from k (lanes ∷ more) = option_or (full_in k lanes) (first_full_from (k + 1) more)
 
 abbrev pub delivered_over : State → Option Way → State
 delivered_over s None = s

@@ -6,3 +6,5 @@ pub mod State
 pub mod Events
 pub mod Network
 pub mod Sound
+pub mod Refusing
+pub mod Play

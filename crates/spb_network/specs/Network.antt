@@ -44,3 +44,8 @@ AreMade blank boxes = AllByRecursion (λ b. blank b ≡ false) boxes
 -- the bridge at place i has this port, if there is such a bridge
 abbrev pub IsPortAt : List BridgeView → ℕ → ℕ → Type 0
 IsPortAt views i port = (v : BridgeView) → slice_get views i ≡ Some v → IsPort v port
+
+-- the boxes are made, and the state has its shape
+pub record IsInOrder {B : Type 0} (kind_of : B → Kind) (blank : B → Bool) (view : B → BridgeView) (n : NetworkOf B) : Type 0 where
+  pub made : AreMade blank n.boxes.items
+  pub fits : Fits (state_of kind_of blank view n)

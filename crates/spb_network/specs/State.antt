@@ -66,14 +66,23 @@ is_at e i port = (e.bridge == i) && (e.port == port)
 abbrev pub direction : DeclaredLink → ℕ → ℕ → Option Dir
 direction l i port = if is_at l.a i port then Some Ab else (if is_at l.b i port then Some Ba else None)
 
+-- the way that the link at place k makes out of a port, if it ends there
+abbrev pub way_of : ℕ → DeclaredLink → ℕ → ℕ → Option Way
+way_of k l i port = option_map (λ dir. record { link = k; dir = dir }) (direction l i port)
+
 -- the way out of a port, over the links from place k on
 abbrev pub way_from : ℕ → List DeclaredLink → ℕ → ℕ → Option Way
 way_from k [] i port = None
-way_from k (l ∷ ls) i port = option_or (option_map (λ dir. record { link = k; dir = dir }) (direction l i port)) (way_from (k + 1) ls i port)
+way_from k (l ∷ ls) i port = option_or (way_of k l i port) (way_from (k + 1) ls i port)
 
 -- the way out of a port of the bridge at place i, if a link ends there
 unfoldable pub way_out : List DeclaredLink → ℕ → ℕ → Option Way
 way_out links i port = way_from 0 links i port
+
+-- and if that link is up
+abbrev pub live_way : List DeclaredLink → Option Way → Option Way
+live_way links None = None
+live_way links (Some way) = if is_live links way.link then Some way else None
 
 -- the frames that stand in a lane of the link at place k
 abbrev pub lane_at : State → ℕ → Dir → List Frame

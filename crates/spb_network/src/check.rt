@@ -74,12 +74,15 @@ fn is_bridge_address(mac: Mac) -> bool
     mac.bytes[0] % 2 == 0 && mac.bytes != [0; 6]
 }
 
-/// Whether a bridge can have this priority, address and number of ports.
+/// Whether a bridge can have this priority, address, source and number of ports.
 #[tactic(auto, unfolding(crate::specs::Declaring::is_bridge_range))]
-pub fn is_bridge_range(priority: u64, system: Mac, ports: u64) -> bool
-    ensures { result ≡ declare.is_bridge_range priority system ports }
+pub fn is_bridge_range(priority: u64, system: Mac, source: SourceId, ports: u64) -> bool
+    ensures { result ≡ declare.is_bridge_range priority system source ports }
 {
-    priority <= 65535 && is_bridge_address(system) && ports <= 32
+    priority <= 65535
+        && is_bridge_address(system)
+        && source.value < 1_048_576
+        && ports <= 32
 }
 
 /// Whether the link ends at this port of the bridge at a place.

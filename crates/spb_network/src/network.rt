@@ -8,16 +8,16 @@ use std::alloc::Global;
 /// A network of bridges in boxes of one type.
 #[derive(Drop)]
 pub struct NetworkOf<B> {
-    alloc: Global,
-    rule: KindRule,
-    rack: Vec<B>,
-    boxes: Vec<B>,
-    world: World,
-    lanes: Vec<Lanes>,
-    rounds: u32,
-    drained: u32,
-    accepted: u64,
-    halted: bool,
+    pub(crate) alloc: Global,
+    pub(crate) rule: KindRule,
+    pub(crate) rack: Vec<B>,
+    pub(crate) boxes: Vec<B>,
+    pub(crate) world: World,
+    pub(crate) lanes: Vec<Lanes>,
+    pub(crate) rounds: u32,
+    pub(crate) drained: u32,
+    pub(crate) accepted: u64,
+    pub(crate) halted: bool,
 }
 
 /// A network of bridges in boxes.

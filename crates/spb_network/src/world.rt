@@ -3,7 +3,7 @@ ghost use Rattle.spb_network.specs.Declaring.{is_new_name, switched};
 
 use crate::graph::{graph_bridges, graph_edges, system_at};
 use crate::reason::reason_unless;
-use crate::{DeclaredBridge, DeclaredLink, LinkEnd, Reason, check};
+use crate::{DeclaredBridge, DeclaredLink, LinkEnd, Reason, Way, check, ways};
 use fdb_build::tables_of;
 use indexmap::IndexMap;
 use spb_types::{
@@ -32,11 +32,11 @@ impl Model for World {
 }
 
 impl World {
-    ghost use Rattle.std.specs.Prelude.{◌≡◌, [], ℕ, None, length, IfOk, slice_get};
-    ghost use Rattle.std.specs.Option.{option_copied};
+    ghost use Rattle.std.specs.Prelude.{◌≡◌, [], ℕ, None, length, IfOk, IfSome, slice_get};
     ghost use Rattle.spb_network.specs.World as state;
     ghost use Rattle.spb_network.specs.World.{place_of, things_of};
     ghost use Rattle.spb_network.specs.Declaring as declare;
+    ghost use Rattle.spb_network.specs.State.{way_out, live_way, is_live};
 
     /// The world in which nothing is declared, which takes no memory.
     pub fn new(alloc: Global) -> Self
@@ -84,23 +84,30 @@ impl World {
         self.links.get_index_of(&name)
     }
 
-    /// The bridge at a place. None exactly where the place is past the last.
-    pub fn bridge_at(&self, place: usize) -> Option<&DeclaredBridge>
-        ensures { option_copied result ≡ slice_get (things_of self.now.bridges) place }
-    {
-        match self.bridges.get_index(place) {
-            None => None,
-            Some((_, bridge)) => Some(bridge),
-        }
-    }
-
-    /// The link at a place. None exactly where the place is past the last.
-    pub fn link_at(&self, place: usize) -> Option<&DeclaredLink>
-        ensures { option_copied result ≡ slice_get (things_of self.now.links) place }
+    /// The link at a place, whose ends are ports of declared bridges. None exactly where the place is past the last.
+    pub fn link(&self, place: usize) -> Option<DeclaredLink>
+        ensures link { result ≡ slice_get (things_of self.now.links) place }
+        ensures ends { IfSome result (λ l. state.IsLink self.now.bridges l) }
     {
         match self.links.get_index(place) {
             None => None,
-            Some((_, link)) => Some(link),
+            Some((_, link)) => Some(*link),
+        }
+    }
+
+    /// The way out of a port of the bridge at a place, over a link that is up. None exactly where there is none.
+    pub fn live_way(&self, bridge: usize, port: u8) -> Option<Way>
+        ensures { result ≡ live_way (things_of self.now.links) (way_out (things_of self.now.links) bridge port) }
+    {
+        match ways::way_out(&self.links, bridge, port) {
+            None => None,
+            Some(way) => {
+                if ways::is_live(&self.links, way.link) {
+                    Some(way)
+                } else {
+                    None
+                }
+            }
         }
     }
 
@@ -153,7 +160,7 @@ impl World {
     {
         let is_new_name = check::is_new_name(&self.bridges, name);
         let is_new_id = check::is_new_id(&self.bridges, system, source);
-        let is_range = check::is_bridge_range(priority, system, ports);
+        let is_range = check::is_bridge_range(priority, system, source, ports);
         reason_unless(is_new_name, Reason::NameTaken)
             .or(reason_unless(is_new_id, Reason::IdTaken))
             .or(reason_unless(is_range, Reason::Range))
