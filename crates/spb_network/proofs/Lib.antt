@@ -15,4 +15,5 @@ pub mod SoundMoves
 pub mod SoundSteps
 pub mod SoundCarrier
 pub mod SoundEvents
+pub mod SoundDeclaring
 pub mod RoundLemmas
