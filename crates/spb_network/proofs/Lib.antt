@@ -17,3 +17,4 @@ pub mod SoundCarrier
 pub mod SoundEvents
 pub mod SoundDeclaring
 pub mod RoundLemmas
+pub mod ConfigLemmas

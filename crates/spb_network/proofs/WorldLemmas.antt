@@ -9,6 +9,7 @@ use Rattle.spb_network.specs.declared.declaration.DeclaredBridge.{DeclaredBridge
 use Rattle.spb_network.specs.declared.declaration.DeclaredLink.{DeclaredLink}
 use Rattle.spb_network.specs.declared.declaration.LinkEnd.{LinkEnd}
 use Rattle.spb_types.specs.declared.service.VidPlan.{VidPlan}
+use Rattle.spb_tlvs.specs.Capability.{IsTree}
 use Rattle.spb_network.specs.Declaring.{with_vid, with_bridge, with_link, with_live, switched}
 use Rattle.indexmap.specs.Layout.{set_value_at}
 use Rattle.spb_network.specs.World.{World, Bridges, Links, things_of, graph_bridges, system_at, ports_at, IsEnd, IsLink, AreApart, AllApart, Sound}
@@ -71,6 +72,8 @@ Sound-with_bridge w name b sound new = record {
   links = All-map (IsLink w.bridges) (IsLink (w.bridges ++ (name, b) ∷ [])) (things_of w.links) (IsLink-push w.bridges (name, b)) sound.links;
   links_apart = sound.links_apart;
   plans = sound.plans;
+  few_vids = sound.few_vids;
+  each_vid = sound.each_vid;
 }
 
 -- what is asked of a link, so that it can be declared
@@ -87,17 +90,21 @@ Sound-with_link w name l sound new = record {
   links = rw things_of-push (All-push (IsLink w.bridges) (things_of w.links) l sound.links new.link);
   links_apart = rw things_of-push (AllApart-push (things_of w.links) l sound.links_apart new.apart);
   plans = sound.plans;
+  few_vids = sound.few_vids;
+  each_vid = sound.each_vid;
 }
 
-pub Sound-with_vid : (w : World) (p : VidPlan) → Sound w → w.vids ≡ [] → 1 ≤ p.ect → p.ect ≤ 16 → Sound (with_vid w p)
+pub Sound-with_vid : (w : World) (p : VidPlan) → Sound w → w.vids ≡ [] → IsTree p → Sound (with_vid w p)
 unfolding with_vid
-Sound-with_vid w p sound none low high = record {
+Sound-with_vid w p sound none tree = record {
   few = sound.few;
   ports = sound.ports;
   systems = sound.systems;
   links = sound.links;
   links_apart = sound.links_apart;
-  plans = rw none (record { ects = ((low, high), tt); apart = (tt, tt) });
+  plans = rw none (record { ects = ((tree.ect_low, tree.ect_high), tt); apart = (tt, tt) });
+  few_vids = rw none (omega arith);
+  each_vid = rw none (tree, tt);
 }
 
 pub ports_at-le : (bs : Bridges) (i : ℕ) → AllByRecursion (λ b. b.ports ≤ 32) (things_of bs) → ports_at bs i ≤ 32
@@ -130,6 +137,8 @@ Sound-with_live on w k sound = record {
   links = switched-links on w.bridges w.links k sound.links;
   links_apart = switched-apart on w.links k sound.links_apart;
   plans = sound.plans;
+  few_vids = sound.few_vids;
+  each_vid = sound.each_vid;
 }
 
 some-is : {X : Type 0} (x y : X) → Some x ≡ Some y → x ≡ y

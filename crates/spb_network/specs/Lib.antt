@@ -8,3 +8,4 @@ pub mod Network
 pub mod Sound
 pub mod Refusing
 pub mod Play
+pub mod Applying

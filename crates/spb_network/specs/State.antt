@@ -1,5 +1,5 @@
 -- The state of a network.
-use Rattle.std.specs.Prelude.{ℕ, zero, suc, ◌+◌, List, [], ◌∷◌, Bool, true, false, ◌&&◌, ◌==◌, ◌%◌, Option, Some, None, position, slice_get, if◌then◌else◌}
+use Rattle.std.specs.Prelude.{ℕ, zero, suc, ◌+◌, List, [], ◌∷◌, Bool, true, false, ◌&&◌, ◌==◌, ◌%◌, Option, Some, None, slice_get, if◌then◌else◌}
 use Rattle.std.specs.Option.{option_map, option_map_or, option_or}
 use Rattle.link_model.specs.Lane.{Frame}
 use Rattle.scenario.specs.declared.command.Dir.{Dir}
@@ -104,6 +104,15 @@ same_kind kind.Plain kind.Swift = false
 same_kind kind.Swift kind.Plain = false
 same_kind kind.Swift kind.Swift = true
 
+-- whether a box of the rack is a blank one of a kind
+abbrev pub serves : Kind → Spare → Bool
+serves wanted box = box.blank && same_kind box.kind wanted
+
+-- the first such box, over the rack from place k on
+abbrev pub box_from : ℕ → Kind → List Spare → Option ℕ
+box_from k wanted [] = None
+box_from k wanted (box ∷ boxes) = if serves wanted box then Some k else box_from (k + 1) wanted boxes
+
 -- the next blank box of a kind, by place in the rack
 unfoldable pub next_box : Kind → List Spare → Option ℕ
-next_box wanted rack = position (λ box. box.blank && same_kind box.kind wanted) rack
+next_box wanted rack = box_from 0 wanted rack

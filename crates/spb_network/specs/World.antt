@@ -7,6 +7,7 @@ use Rattle.spb_types.specs.declared.graph.Edge.{Edge}
 use Rattle.spb_types.specs.declared.graph.Graph.{Graph}
 use Rattle.spb_types.specs.declared.graph.GraphBridge.{GraphBridge}
 use Rattle.spb_types.specs.declared.service.VidPlan.{VidPlan}
+use Rattle.spb_tlvs.specs.Capability.{IsTree}
 use Rattle.spb_network.specs.declared.declaration.DeclaredBridge.{DeclaredBridge}
 use Rattle.spb_network.specs.declared.declaration.DeclaredLink.{DeclaredLink}
 use Rattle.spb_network.specs.declared.declaration.LinkEnd.{LinkEnd}
@@ -101,7 +102,7 @@ AllApart [] = ⊤
 AllApart (l ∷ ls) = AllByRecursion (AreApart l) ls × AllApart ls
 
 -- what every world keeps that declarations made: the system ids differ, each link has two ends at ports of different
--- bridges, no port has two links, no two bridges are linked twice, and the VIDs differ
+-- bridges, no port has two links, no two bridges are linked twice, and the VIDs differ and are in range
 pub record Sound (w : World) : Type 0 where
   pub few : length w.bridges ≤ 96
   pub ports : AllByRecursion (λ b. b.ports ≤ 32) (things_of w.bridges)
@@ -109,6 +110,8 @@ pub record Sound (w : World) : Type 0 where
   pub links : AllByRecursion (IsLink w.bridges) (things_of w.links)
   pub links_apart : AllApart (things_of w.links)
   pub plans : ArePlans w.vids
+  pub few_vids : length w.vids ≤ 16
+  pub each_vid : AllByRecursion IsTree w.vids
 
 -- the tables that the wiring gives the bridge at a place
 unfoldable pub wired_tables : World → ℕ → Tables

@@ -1,4 +1,4 @@
-ghost use Rattle.std.specs.Prelude.{◌≡◌, ◌&&◌, ◌==◌};
+ghost use Rattle.std.specs.Prelude.{◌≡◌, ◌&&◌, ◌==◌, length};
 ghost use Rattle.spb_network.specs.Declaring as declare;
 ghost use Rattle.spb_network.specs.World as state;
 
@@ -67,6 +67,14 @@ pub fn is_new_id(bridges: &IndexMap<Name, DeclaredBridge>, system: Mac, source: 
     is_new_system(bridges, system) && is_new_source(bridges, source)
 }
 
+/// How many bytes an address has: six.
+pub fn len(mac: Mac) -> usize
+    ensures six { result ≡ 6 }
+    ensures len { result ≡ length mac.bytes }
+{
+    mac.bytes.len()
+}
+
 /// Whether an address can be a bridge's own: its group bit is clear, and it isn't all zero.
 fn is_bridge_address(mac: Mac) -> bool
     ensures { result ≡ declare.is_bridge_address mac }
@@ -131,7 +139,7 @@ pub fn is_unlinked(links: &IndexMap<Name, DeclaredLink>, i: usize, j: usize) -> 
 
 /// The number of ports of the bridge at a place, or 0 past the last bridge.
 #[tactic(auto, using(crate::proofs::PlaceLemmas::ports_at_entry))]
-fn ports_at(bridges: &IndexMap<Name, DeclaredBridge>, place: usize) -> u8
+pub fn ports_at(bridges: &IndexMap<Name, DeclaredBridge>, place: usize) -> u8
     ensures { result ≡ state.ports_at bridges.now.entries place }
 {
     match bridges.get_index(place) {

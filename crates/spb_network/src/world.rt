@@ -4,6 +4,7 @@ ghost use Rattle.spb_network.specs.Declaring.{is_new_name, switched};
 use crate::graph::{graph_bridges, graph_edges, system_at};
 use crate::reason::reason_unless;
 use crate::{DeclaredBridge, DeclaredLink, LinkEnd, Reason, Way, check, ways};
+use bridge_api::BridgeConfig;
 use fdb_build::tables_of;
 use indexmap::IndexMap;
 use spb_types::{
@@ -32,11 +33,13 @@ impl Model for World {
 }
 
 impl World {
-    ghost use Rattle.std.specs.Prelude.{◌≡◌, [], ℕ, None, length, IfOk, IfSome, slice_get};
+    ghost use Rattle.std.specs.Prelude.{◌≡◌, ◌<◌, ◌≤◌, [], ℕ, true, None, length, IfOk, IfSome, slice_get};
     ghost use Rattle.spb_network.specs.World as state;
     ghost use Rattle.spb_network.specs.World.{place_of, things_of};
     ghost use Rattle.spb_network.specs.Declaring as declare;
     ghost use Rattle.spb_network.specs.State.{way_out, live_way, is_live};
+    ghost use Rattle.spb_network.specs.Play.{config_of};
+    ghost use Rattle.bridge_api.specs.Config.{IsWhole};
 
     /// The world in which nothing is declared, which takes no memory.
     pub fn new(alloc: Global) -> Self
@@ -132,6 +135,48 @@ impl World {
         let graph = self.graph(alloc)?;
         let me = system_at(&self.bridges, place);
         tables_of(alloc, &graph, me, self.vids.as_slice())
+    }
+
+    /// Whether the link at a place is up.
+    pub fn is_live(&self, place: usize) -> bool
+        ensures { result ≡ is_live (things_of self.now.links) place }
+    {
+        ways::is_live(&self.links, place)
+    }
+
+    /// How many ports the bridge at a place has, 0 to 32; 0 past the last bridge.
+    pub fn ports(&self, place: usize) -> u8
+        ensures { result ≡ state.ports_at self.now.bridges place }
+    {
+        check::ports_at(&self.bridges, place)
+    }
+
+    /// What a bridge that isn't refused is configured with.
+    pub fn config(
+        &self,
+        alloc: Global,
+        id: BridgeId,
+        source: SourceId,
+        ports: u8,
+    ) -> Result<BridgeConfig, NoMemory>
+        requires ports { ports ≤ 32 }
+        requires source { source.value < 1048576 }
+        requires address { declare.is_bridge_address id.system.mac ≡ true }
+        ensures config { IfOk result (λ config. config
+            ≡ config_of self.now (record { bridge = record { id = id; source = source }; ports = ports })) }
+        ensures whole { IfOk result IsWhole }
+    {
+        let _six = check::len(id.system.mac);
+        let vids = Vec::from_slice(alloc, self.vids.as_slice())?;
+        let metrics = vec![in alloc; 1; usize::from(ports)]?;
+        Ok(BridgeConfig {
+            id,
+            source,
+            ports,
+            vids: Seq::from_vec(vids),
+            metrics: Seq::from_vec(metrics),
+            attached: Seq::new(alloc),
+        })
     }
 
     /// Why a base VID can't be declared, if it can't.
