@@ -8,6 +8,14 @@ pub mod BoxLemmas
 pub mod WayLemmas
 pub mod SendLemmas
 pub mod FitsLemmas
+pub mod SoundLaws
+pub mod SoundLane
+pub mod SoundWays
+pub mod SoundMoves
+pub mod SoundSteps
+pub mod SoundCarrier
+pub mod SoundEvents
+pub mod SoundDeclaring
 pub mod RoundLemmas
 pub mod ConfigLemmas
 pub mod PortLemmas

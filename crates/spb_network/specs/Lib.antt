@@ -5,6 +5,7 @@ pub mod Lanes
 pub mod State
 pub mod Events
 pub mod Network
+pub mod Sound
 pub mod Refusing
 pub mod Play
 pub mod Applying
