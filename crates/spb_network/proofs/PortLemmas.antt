@@ -1,5 +1,6 @@
 -- The ports of a bridge as they are told, and the boxes of a rack.
-use Rattle.std.proofs.Common.{◌≡◌, ℕ, zero, suc, ◌+◌, ◌-◌, ◌<◌, ◌≤◌, Bool, true, false, List, [], ◌∷◌, ◌++◌, map, length, take, drop, Option, Some, None, if◌then◌else◌, slice_get, refl, sym, ap, ◌∙◌, subst, arith}
+use Rattle.std.proofs.Common.{◌≡◌, ℕ, zero, suc, ◌+◌, ◌-◌, ◌<◌, ◌≤◌, Bool, true, false, List, [], ◌∷◌, ◌++◌, map, length, take, drop, Option, Some, None, if◌then◌else◌, nat_le, slice_get, refl, sym, ap, ◌∙◌, subst, arith}
+use Rattle.std.proofs.lemmas.Bool.Decides.{nat_tests}
 use Rattle.std.specs.Option.{option_map, option_or}
 use Rattle.adjacency.specs.declared.port.Adjacency.{Adjacency}
 use Rattle.bridge_api.specs.declared.kind.Kind.{Kind}
@@ -17,8 +18,14 @@ some-is x y h = cc
 suc-is : (k : ℕ) → k + 1 ≡ suc k
 suc-is k = omega arith
 
+one-at-most : (p : ℕ) → nat_le 1 (p + 1) ≡ true
+one-at-most p = grind (arith, nat_tests)
+
+less-one : (p : ℕ) → p + 1 - 1 ≡ p
+less-one p = omega arith
+
 port-next : (ports : List BridgePort) (p : ℕ) → port_in ports (p + 1) ≡ slice_get ports p
-port-next ports p = ap (port_in ports) (suc-is p)
+port-next ports p = rw (one-at-most p, less-one p) refl
 
 told-at : (ports : List BridgePort) (p : ℕ) (a : Adjacency) (due : Bool) → Some a ≡ option_map (λ port. port.adjacency) (slice_get ports p) → due ≡ is_due_in (slice_get ports p) → take (suc p) (told_ports ports) ≡ take p (told_ports ports) ++ (a, due) ∷ []
 told-at [] p a due h e = cc

@@ -60,9 +60,20 @@ at_bridge event s name = at_place event s (place_of name s.world.bridges)
 unfoldable pub at_link : (State → ℕ → State) → State → List ℕ → State
 at_link event s name = at_place event s (place_of name s.world.links)
 
+-- a base VID more
+unfoldable pub with_vid_more : State → ℕ → ℕ → State
+with_vid_more s vid ect = record s { world = with_vid s.world (plan_of vid ect) }
+
+-- so many rounds, and at most so many deliveries
+unfoldable pub with_rounds : ℕ → State → State
+with_rounds n s = record (rounds n s) { rounds = s.rounds + n }
+
+unfoldable pub with_drain : ℕ → State → State
+with_drain n s = record (drained n s) { drained = s.drained + n }
+
 -- what a command makes
 abbrev pub played : State → Command → State
-played s (command.Vid vid ect) = record s { world = with_vid s.world (plan_of vid ect) }
+played s (command.Vid vid ect) = with_vid_more s vid ect
 played s (command.Bridge name priority system source ports) = declared s name (bridge_of priority system source ports)
 played s (command.Link name a port_a b port_b cost) = named_link s name a port_a b port_b cost
 played s (command.Down name) = at_link switched_off s name
@@ -71,8 +82,8 @@ played s (command.Tick name) = at_bridge ticked s name
 played s (command.Deliver name dir) = at_link (λ t k. delivered t k dir) s name
 played s (command.Lose name dir place) = at_link (λ t k. lost t k dir place) s name
 played s (command.Double name dir place) = at_link (λ t k. doubled t k dir place) s name
-played s (command.Round n) = record (rounds n s) { rounds = s.rounds + n }
-played s (command.Drain n) = record (drained n s) { drained = s.drained + n }
+played s (command.Round n) = with_rounds n s
+played s (command.Drain n) = with_drain n s
 played s _ = s
 
 -- the number of accepted commands stops at the greatest of 64 bits
@@ -105,16 +116,20 @@ placed_adj s name (Some i) = Adj name (adj_at s i)
 unfoldable pub adj_of : State → List ℕ → Answer
 adj_of s name = placed_adj s name (place_of name s.world.bridges)
 
+-- no customer frame leaves
+abbrev pub no_outs : Answer
+no_outs = Outs []
+
 -- the answer to an accepted command
 abbrev pub answer_of : State → Command → Answer
-answer_of s (command.Down name) = Outs []
-answer_of s (command.Up name) = Outs []
-answer_of s (command.Tick name) = Outs []
-answer_of s (command.Deliver name dir) = Outs []
-answer_of s (command.Lose name dir place) = Outs []
-answer_of s (command.Double name dir place) = Outs []
-answer_of s (command.Round n) = Outs []
-answer_of s (command.Drain n) = Outs []
+answer_of s (command.Down name) = no_outs
+answer_of s (command.Up name) = no_outs
+answer_of s (command.Tick name) = no_outs
+answer_of s (command.Deliver name dir) = no_outs
+answer_of s (command.Lose name dir place) = no_outs
+answer_of s (command.Double name dir place) = no_outs
+answer_of s (command.Round n) = no_outs
+answer_of s (command.Drain n) = no_outs
 answer_of s (command.Wiring name) = wiring_of s name
 answer_of s (command.Adj name) = adj_of s name
 answer_of s _ = Silent

@@ -19,6 +19,7 @@ mod graph;
 mod kind_rule;
 mod lanes;
 mod network;
+mod play;
 mod questions;
 mod rack;
 mod reason;
