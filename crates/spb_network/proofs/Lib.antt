@@ -16,5 +16,6 @@ pub mod SoundSteps
 pub mod SoundCarrier
 pub mod SoundEvents
 pub mod SoundDeclaring
+pub mod SoundPlay
 pub mod RoundLemmas
 pub mod ConfigLemmas
