@@ -17,5 +17,6 @@ pub mod SoundCarrier
 pub mod SoundEvents
 pub mod SoundDeclaring
 pub mod SoundPlay
+pub mod SoundWitness
 pub mod RoundLemmas
 pub mod ConfigLemmas
