@@ -17,11 +17,9 @@ use Rattle.spb_network.specs.Declaring.{switched}
 use Rattle.spb_network.specs.State.{changed_at, is_live, near_end, is_at, direction, way_from, way_out}
 use Rattle.spb_network.specs.Sound.{carrier_at, is_lit, AreLit}
 use Rattle.spb_network.proofs.SoundLaws.{is_carrier, carrier_kept, carrier_set, carrier_beside}
+use Rattle.spb_network.proofs.SoundLane.{some-is}
 use Rattle.spb_network.proofs.SoundWays.{at_itself, at_parts, away, way_of_end, LeadsFrom, way_leads}
 use Rattle.spb_network.proofs.SoundSteps.{live-switched}
-
-some-is : {X : Type 0} (x y : X) → Some x ≡ Some y → x ≡ y
-some-is x y h = cc
 
 -- ---- one item of a list was changed
 
@@ -124,7 +122,7 @@ live-here on [] k l at = absurd cc
 live-here on (h ∷ ls) zero l at = refl
 live-here on (h ∷ ls) (suc k) l at = live-here on ls k l at
 
-abbrev lit_by : List DeclaredLink → Option Way → Bool
+abbrev pub lit_by : List DeclaredLink → Option Way → Bool
 lit_by links way = option_map_or (λ w. is_live links w.link) way false
 
 -- the ends of a link that is switched, and every other port

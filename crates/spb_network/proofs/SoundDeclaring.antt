@@ -28,10 +28,9 @@ use Rattle.spb_network.proofs.ListLemmas.{All-push, things_of-push, length-push}
 use Rattle.spb_network.proofs.WorldLemmas.{IsNewBridge, Sound-with_bridge, IsNewLink, Sound-with_link}
 use Rattle.spb_network.proofs.FitsLemmas.{end_is_port, link_there}
 use Rattle.spb_network.proofs.SoundLaws.{dark}
+use Rattle.spb_network.proofs.SoundLane.{some-is}
 use Rattle.spb_network.proofs.SoundWays.{at_itself, way_of_end, LeadsFrom, way_leads}
-
-some-is : {X : Type 0} (x y : X) → Some x ≡ Some y → x ≡ y
-some-is x y h = cc
+use Rattle.spb_network.proofs.SoundCarrier.{lit_by}
 
 -- ---- the last item of a list
 
@@ -90,9 +89,6 @@ near_within s k Ba l sound fits at = omega (arith, (link_there s k l sound at).b
 far_within : (s : State) (k : ℕ) (dir : Dir) (l : DeclaredLink) → Sound s.world → Fits s → slice_get (links_of s) k ≡ Some l → (far_end dir l).bridge < length s.views
 far_within s k Ab l sound fits at = omega (arith, (link_there s k l sound at).b.bridge, fits.bridges)
 far_within s k Ba l sound fits at = omega (arith, (link_there s k l sound at).a.bridge, fits.bridges)
-
-abbrev lit_by : List DeclaredLink → Option Way → Bool
-lit_by links way = option_map_or (λ w. is_live links w.link) way false
 
 unlit : (s : State) (p : ℕ) (o : Option Way) → Sound s.world → Fits s → way_out (links_of s) (length s.views) p ≡ o → false ≡ lit_by (links_of s) o
 unlit s p None sound fits out = refl
@@ -264,7 +260,7 @@ none_within : {X : Type 0} (xs : List X) (i : ℕ) (x : X) → xs ≡ [] → sli
 none_within [] i x none at = cc
 none_within (y ∷ ys) i x none at = cc
 
-empty_from : {X : Type 0} (xs : List X) → length xs ≡ 0 → xs ≡ []
+pub empty_from : {X : Type 0} (xs : List X) → length xs ≡ 0 → xs ≡ []
 empty_from [] e = refl
 empty_from (x ∷ xs) e = absurd (omega arith)
 

@@ -37,6 +37,9 @@ pub All-from : (P : Frame → Type 0) (fs : List Frame) → ((f : Frame) → IsI
 All-from P [] each = tt
 All-from P (g ∷ gs) each = (each g (inl refl), All-from P gs (λ f among. each f (inr among)))
 
+pub some-is : {X : Type 0} (x y : X) → Some x ≡ Some y → x ≡ y
+some-is x y h = cc
+
 -- ---- a bridge to which something comes, or nothing
 
 abbrev pub moved : Option Input → BridgeView → BridgeView
@@ -75,9 +78,6 @@ pub record IsMove (v : BridgeView) (p : ℕ) (w : BridgeView) (q : ℕ) (x y : O
   pub towards : AllByRecursion (IsSaid w q v p) back
   pub heard : (f : Frame) → x ≡ Some (frame p f) → IsIn f back
   pub sends : (f : Frame) → IsIn f after → IsIn f lane ⊎ IsSent (sent_by x v) p f
-
-some-is : {X : Type 0} (x y : X) → Some x ≡ Some y → x ≡ y
-some-is x y h = cc
 
 -- a frame that was heard is a hello of the far end
 said_sender : (v : BridgeView) (p : ℕ) (w : BridgeView) (q : ℕ) (f : Frame) (n : End) → IsSaid w q v p f → greeter (judged f) ≡ Some n → n ≡ end_at w q

@@ -18,7 +18,7 @@ use Rattle.spb_network.specs.Network.{Fits}
 use Rattle.spb_network.specs.Sound.{IsShown, AreShown, IsSaid, Agrees, lane_of, AllAgree, AreIdle}
 use Rattle.spb_network.proofs.BoxLemmas.{All-get}
 use Rattle.spb_network.proofs.FitsLemmas.{IsAlike, Fits-alike, link_there, far_is_port}
-use Rattle.spb_network.proofs.SoundLane.{IsIn, moved, sent_by, moved_same, moved_sound, IsMove, agrees_moved}
+use Rattle.spb_network.proofs.SoundLane.{some-is, IsIn, moved, sent_by, moved_same, moved_sound, IsMove, agrees_moved}
 use Rattle.spb_network.proofs.SoundWays.{turned, way_of_end, LeadsFrom, way_leads}
 
 -- what is sound of a state, but for carrier, which comes and goes at one end of a link after the other
@@ -51,9 +51,6 @@ pub record Moves (links : List DeclaredLink) (o : ℕ → Option Input) (views v
   pub bridges : (i : ℕ) → slice_get views' i ≡ option_map (moved (o i)) (slice_get views i)
   pub heard : (i p : ℕ) (f : Frame) → o i ≡ Some (frame p f) → Comes links lanes i p f
   pub frames : (k : ℕ) (dir : Dir) (f : Frame) → IsIn f (lane_of lanes' k dir) → IsIn f (lane_of lanes k dir) ⊎ GoesOut links o views k dir f
-
-some-is : {X : Type 0} (x y : X) → Some x ≡ Some y → x ≡ y
-some-is x y h = cc
 
 pub All-each : {X : Type 0} (P : X → Type 0) (xs : List X) → ((i : ℕ) (x : X) → slice_get xs i ≡ Some x → P x) → AllByRecursion P xs
 All-each P [] each = tt

@@ -2,7 +2,7 @@
 use Rattle.std.proofs.Common.{◌≡◌, ℕ, zero, suc, ◌+◌, ◌-◌, ◌≤◌, ◌<◌, ◌==◌, Bool, true, false, List, [], ◌∷◌, ◌++◌, length, map, replicate, nat_le, refl, sym, ap, ◌∙◌, subst, Option, Some, None, slice_get, arith}
 use Rattle.std.specs.Prelude.{remove, if◌then◌else◌}
 use Rattle.std.specs.List.{AllByRecursion}
-use Rattle.std.proofs.lemmas.List.{length-map}
+use Rattle.std.proofs.lemmas.List.{length-map, length-replicate}
 use Rattle.std.proofs.lemmas.Bool.{eqb-true}
 use Rattle.spb_types.specs.declared.address.Mac.{Mac}
 use Rattle.spb_types.specs.declared.service.SourceId.{SourceId}
@@ -33,7 +33,7 @@ use Rattle.spb_network.proofs.ConfigLemmas.{whole-config}
 use Rattle.spb_network.proofs.WorldLemmas.{Sound-with_vid}
 use Rattle.spb_network.proofs.RefusalLemmas.{vid_refusal_none, IsFreeBridge, bridge_refusal_none, link_refusal_none}
 use Rattle.spb_network.proofs.SoundEvents.{Sound-ticked, Sound-delivered, Sound-lost, Sound-doubled, Sound-switched_off, Sound-switched_on, Sound-rounds, Sound-drained}
-use Rattle.spb_network.proofs.SoundDeclaring.{IsNewView, Sound-new_bridge, Sound-new_link, Sound-new_vid, Sound-nothing}
+use Rattle.spb_network.proofs.SoundDeclaring.{empty_from, IsNewView, Sound-new_bridge, Sound-new_link, Sound-new_vid, Sound-nothing}
 
 pub events_keep_sound : EventsKeepSound
 events_keep_sound = record {
@@ -79,10 +79,6 @@ unfolding reason_unless
 passes true r h = refl
 passes false r h = absurd cc
 
-empty_from : {X : Type 0} (xs : List X) → length xs ≡ 0 → xs ≡ []
-empty_from [] e = refl
-empty_from (x ∷ xs) e = absurd (omega arith)
-
 -- ---- a VID
 
 before_bridges : (w : World) (vid ect : ℕ) → vid_refusal w vid ect ≡ None → w.bridges ≡ []
@@ -96,10 +92,6 @@ vid_sound s vid ect sound none =
     (Sound-with_vid s.world (plan_of vid ect) sound.world new.first (record { vid_low = new.vid_low; vid_high = new.vid_high; ect_low = omega (arith, new.first_ect); ect_high = omega (arith, new.first_ect) }))
 
 -- ---- a bridge
-
-length-replicate : {X : Type 0} (n : ℕ) (x : X) → length (replicate n x) ≡ n
-length-replicate zero x = refl
-length-replicate (suc n) x = grind (arith, length-replicate n x)
 
 dark_in : (metrics : List ℕ) (i : ℕ) → carrier_in (slice_get (map dark metrics) i) ≡ false
 dark_in [] i = refl
