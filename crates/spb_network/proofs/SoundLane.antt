@@ -1,21 +1,17 @@
 -- One direction of a link, while both bridges may step.
-use Rattle.std.proofs.Common.{◌≡◌, ◌⊎◌, inl, inr, ◌≤◌, ◌<◌, ◌^◌, ℕ, Bool, true, false, true≢false, List, [], ◌∷◌, length, refl, sym, ap, ◌∙◌, subst, Option, Some, None, arith}
+use Rattle.std.proofs.Common.{◌≡◌, ◌⊎◌, inl, inr, ◌≤◌, ℕ, true, true≢false, List, [], ◌∷◌, length, refl, sym, ap, ◌∙◌, subst, Option, Some, None, arith}
 use Rattle.std.specs.List.{AllByRecursion}
-use Rattle.std.specs.FinMap.{get}
 use Rattle.spb_types.specs.declared.address.BridgeId.{BridgeId}
 use Rattle.spb_types.specs.declared.address.LspId.{LspId}
-use Rattle.spb_types.specs.declared.ports.PortSet.{PortSet}
-use Rattle.spb_types.specs.Ports.{has}
 use Rattle.link_model.specs.Lane.{Frame}
 use Rattle.spb_tlvs.specs.RoundTrip.{IsNamed}
 use Rattle.lsdb.specs.declared.version.Version.{Version}
 use Rattle.lsdb.specs.Version.{IsAtMost}
-use Rattle.lsdb.specs.Entry.{Entry}
-use Rattle.lsdb.specs.Database.{srm_in, version_in, version_at}
-use Rattle.lsdb.specs.Certificate.{Claim, IsClaimed, Kept, is_flagged, is_absent, is_as_before, is_claimed}
+use Rattle.lsdb.specs.Database.{version_at}
+use Rattle.lsdb.specs.Certificate.{IsClaimed, is_flagged, is_absent, is_as_before, is_claimed}
 use Rattle.lsdb.proofs.Order.{itself, through, least}
 use Rattle.adjacency.specs.Hearing.{End}
-use Rattle.bridge_api.specs.View.{BridgeView, neighbour_at, is_up_at, up_ports, control_of}
+use Rattle.bridge_api.specs.View.{BridgeView, neighbour_at, is_up_at}
 use Rattle.bridge_api.specs.Judging.{judged}
 use Rattle.bridge_api.specs.Step.{Input, second, frame, carrier, step, sent}
 use Rattle.bridge_api.specs.Laws.{IsSoundView, IsSameBridge, IsHeard, IsSent, IsHelloOf, greeter, port_of, claims_of}

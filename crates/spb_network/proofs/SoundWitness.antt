@@ -1,18 +1,16 @@
 -- A network with a frame on its way over a link that is up.
-use Rattle.std.proofs.Common.{◌≡◌, ℕ, Bool, true, false, List, [], ◌∷◌, length, refl, Option, Some, None}
+use Rattle.std.proofs.Common.{ℕ, true, List, [], ◌∷◌, refl}
 use Rattle.spb_types.specs.declared.address.Mac.{Mac}
 use Rattle.spb_types.specs.declared.service.SourceId.{SourceId}
 use Rattle.scenario.specs.declared.command.Command.{Command}
 use Rattle.scenario.specs.declared.command.Command.TheVariants as command
 use Rattle.bridge_api.specs.declared.kind.Kind.TheVariants as kind
-use Rattle.bridge_api.specs.Ticking.{hello_frame}
-use Rattle.lsdb.specs.Database.{each}
 use Rattle.spb_network.specs.declared.kind_rule.KindRule.TheVariants as rule
 use Rattle.spb_network.specs.Reason.{reason_unless}
 use Rattle.spb_network.specs.Declaring.{is_vid_range, is_new_name, is_new_system, is_new_source, is_bridge_range, is_free_port, is_link_range, is_unlinked, vid_refusal, bridge_refusal, link_refusal, with_vid, with_bridge, with_link, with_live}
-use Rattle.spb_network.specs.State.{State, Spare, next_box, way_out}
+use Rattle.spb_network.specs.State.{Spare, next_box, way_out}
 use Rattle.spb_network.specs.Events.{stepped, switched_on}
-use Rattle.spb_network.specs.Refusing.{declared_refusal, named_link_refusal, unnamed_refusal, refusal_of}
+use Rattle.spb_network.specs.Refusing.{declared_refusal, named_link_refusal, unnamed_refusal}
 use Rattle.spb_network.specs.Play.{declared, linked, named_link, at_bridge, next_state, played_all}
 use Rattle.spb_network.specs.Sound.{opening}
 use Rattle.spb_network.specs.SoundLaws.{AreAccepted, IsBusy, SomeNetworkIsBusy}
