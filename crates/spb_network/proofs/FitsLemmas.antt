@@ -50,8 +50,8 @@ Fits-alike s t alike fits = record {
   bridges = sym (length-map t.views (λ v. length v.ports)) ∙ (ap length alike.ports ∙ (length-map s.views (λ v. length v.ports) ∙ (fits.bridges ∙ ap length (sym alike.bridges))));
   lanes = alike.lanes ∙ (fits.lanes ∙ sym alike.links);
   ports = λ i v b at declared.
-    let was = got_through (λ v. length v.ports) s.views i (length v.ports) (subst (λ ports. slice_get ports i ≡ Some (length v.ports)) alike.ports (get-map (λ v. length v.ports) t.views i v at)) in
-    record { ports = sym was.2 ∙ (fits.ports i was.0 b was.1 (subst (λ bs. slice_get (things_of bs) i ≡ Some b) alike.bridges declared)).ports };
+      let was = got_through (λ v. length v.ports) s.views i (length v.ports) (subst (λ ports. slice_get ports i ≡ Some (length v.ports)) alike.ports (get-map (λ v. length v.ports) t.views i v at)) in
+      record { ports = sym was.2 ∙ (fits.ports i was.0 b was.1 (subst (λ bs. slice_get (things_of bs) i ≡ Some b) alike.bridges declared)).ports };
 }
 
 map-changed : {X Y : Type 0} (g : X → Y) (f : X → X) (xs : List X) (i : ℕ) → ((x : X) → g (f x) ≡ g x) → map g (changed_at f xs i) ≡ map g xs

@@ -16,6 +16,8 @@ pub mod SoundSteps
 pub mod SoundCarrier
 pub mod SoundEvents
 pub mod SoundDeclaring
+pub mod SoundPlay
+pub mod SoundWitness
 pub mod RoundLemmas
 pub mod ConfigLemmas
 pub mod PortLemmas

@@ -1,5 +1,5 @@
 -- Carrier stands at the ends of the links that are up.
-use Rattle.std.proofs.Common.{◌≡◌, ◌≢◌, ◌⊎◌, inl, inr, ◌≤◌, ◌<◌, ◌+◌, ℕ, zero, suc, Bool, true, false, true≢false, List, [], ◌∷◌, length, refl, sym, ap, ◌∙◌, subst, Option, Some, None, slice_get, arith}
+use Rattle.std.proofs.Common.{◌≡◌, ◌≢◌, ◌⊎◌, inl, inr, ◌≤◌, ◌+◌, ℕ, zero, suc, Bool, true, false, true≢false, List, [], ◌∷◌, refl, sym, ap, ◌∙◌, subst, Option, Some, None, slice_get, arith}
 use Rattle.std.specs.Prelude.{◌==◌, ◌&&◌, if◌then◌else◌}
 use Rattle.std.specs.Option.{option_map, option_map_or, option_or}
 use Rattle.std.proofs.lemmas.Bool.{cases_eq, ne_eqb}
@@ -7,7 +7,6 @@ use Rattle.scenario.specs.declared.command.Dir.{Dir}
 use Rattle.scenario.specs.declared.command.Dir.TheVariants.{Ab, Ba}
 use Rattle.bridge_api.specs.View.{BridgeView, IsPort}
 use Rattle.bridge_api.specs.Step.{Input, carrier, step}
-use Rattle.bridge_api.specs.Laws.{IsSameBridge}
 use Rattle.bridge_api.proofs.Certified.{steps_keep_bridge}
 use Rattle.spb_network.specs.declared.declaration.DeclaredLink.{DeclaredLink}
 use Rattle.spb_network.specs.declared.declaration.LinkEnd.{LinkEnd}
@@ -15,13 +14,11 @@ use Rattle.spb_network.specs.declared.way.Way.{Way}
 use Rattle.spb_network.specs.World.{Links, things_of, AllApart}
 use Rattle.spb_network.specs.Declaring.{switched}
 use Rattle.spb_network.specs.State.{changed_at, is_live, near_end, is_at, direction, way_from, way_out}
-use Rattle.spb_network.specs.Sound.{carrier_at, is_lit, AreLit}
+use Rattle.spb_network.specs.Sound.{carrier_at, is_lit}
 use Rattle.spb_network.proofs.SoundLaws.{is_carrier, carrier_kept, carrier_set, carrier_beside}
+use Rattle.spb_network.proofs.SoundLane.{some-is}
 use Rattle.spb_network.proofs.SoundWays.{at_itself, at_parts, away, way_of_end, LeadsFrom, way_leads}
 use Rattle.spb_network.proofs.SoundSteps.{live-switched}
-
-some-is : {X : Type 0} (x y : X) → Some x ≡ Some y → x ≡ y
-some-is x y h = cc
 
 -- ---- one item of a list was changed
 
@@ -124,7 +121,7 @@ live-here on [] k l at = absurd cc
 live-here on (h ∷ ls) zero l at = refl
 live-here on (h ∷ ls) (suc k) l at = live-here on ls k l at
 
-abbrev lit_by : List DeclaredLink → Option Way → Bool
+abbrev pub lit_by : List DeclaredLink → Option Way → Bool
 lit_by links way = option_map_or (λ w. is_live links w.link) way false
 
 -- the ends of a link that is switched, and every other port

@@ -1,37 +1,32 @@
 -- Declarations keep what is sound of a network.
-use Rattle.std.proofs.Common.{◌≡◌, ◌≢◌, ◌⊎◌, inl, inr, ◌≤◌, ◌<◌, ◌+◌, ℕ, zero, suc, Bool, true, false, true≢false, List, [], ◌∷◌, ◌++◌, length, refl, sym, ap, ◌∙◌, subst, Option, Some, None, slice_get, arith}
-use Rattle.std.specs.Prelude.{◌&&◌, ◌||◌, if◌then◌else◌}
-use Rattle.std.specs.Option.{option_map, option_map_or, option_or}
+use Rattle.std.proofs.Common.{◌≡◌, ◌⊎◌, inl, inr, ◌<◌, ◌+◌, ℕ, zero, suc, Bool, true, false, true≢false, List, [], ◌∷◌, ◌++◌, length, refl, sym, ap, ◌∙◌, subst, Option, Some, None, slice_get, arith}
+use Rattle.std.specs.Prelude.{◌||◌}
+use Rattle.std.specs.Option.{option_or}
 use Rattle.std.specs.List.{AllByRecursion}
 use Rattle.std.proofs.lemmas.List.{length-map}
-use Rattle.std.proofs.lemmas.Option.{slice_get_within}
 use Rattle.spb_types.specs.declared.service.VidPlan.{VidPlan}
-use Rattle.link_model.specs.Lane.{Frame}
 use Rattle.scenario.specs.declared.command.Dir.{Dir}
 use Rattle.scenario.specs.declared.command.Dir.TheVariants.{Ab, Ba}
-use Rattle.adjacency.specs.Hearing.{End}
 use Rattle.bridge_api.specs.View.{BridgeView, IsPort, neighbour_at, is_up_at}
 use Rattle.bridge_api.specs.Laws.{IsSoundView}
 use Rattle.spb_network.specs.declared.declaration.DeclaredBridge.{DeclaredBridge}
 use Rattle.spb_network.specs.declared.declaration.DeclaredLink.{DeclaredLink}
-use Rattle.spb_network.specs.declared.declaration.LinkEnd.{LinkEnd}
 use Rattle.spb_network.specs.declared.lanes.Lanes.{Lanes}
 use Rattle.spb_network.specs.declared.way.Way.{Way}
-use Rattle.spb_network.specs.World.{World, Bridges, Links, things_of, is_at_port, IsEnd, IsLink, AreApart, AllApart, Sound}
+use Rattle.spb_network.specs.World.{World, things_of, is_at_port, IsLink, AreApart, Sound}
 use Rattle.spb_network.specs.Lanes.{no_frames}
 use Rattle.spb_network.specs.Declaring.{with_vid, with_bridge, with_link}
-use Rattle.spb_network.specs.State.{State, Spare, links_of, is_live, near_end, far_end, is_at, direction, way_of, way_from, way_out}
+use Rattle.spb_network.specs.State.{State, Spare, links_of, is_live, near_end, far_end, is_at, way_of, way_from, way_out}
 use Rattle.spb_network.specs.Network.{HasPorts, Fits}
-use Rattle.spb_network.specs.Sound.{IsShown, AreShown, carrier_at, is_lit, AreLit, Agrees, lane_of, AllAgree, AreIdle, IsSoundState}
+use Rattle.spb_network.specs.Sound.{IsShown, AreShown, carrier_at, is_lit, AreLit, Agrees, lane_of, AllAgree, IsSoundState}
 use Rattle.spb_network.proofs.BoxLemmas.{All-get}
 use Rattle.spb_network.proofs.ListLemmas.{All-push, things_of-push, length-push}
 use Rattle.spb_network.proofs.WorldLemmas.{IsNewBridge, Sound-with_bridge, IsNewLink, Sound-with_link}
 use Rattle.spb_network.proofs.FitsLemmas.{end_is_port, link_there}
 use Rattle.spb_network.proofs.SoundLaws.{dark}
+use Rattle.spb_network.proofs.SoundLane.{some-is}
 use Rattle.spb_network.proofs.SoundWays.{at_itself, way_of_end, LeadsFrom, way_leads}
-
-some-is : {X : Type 0} (x y : X) → Some x ≡ Some y → x ≡ y
-some-is x y h = cc
+use Rattle.spb_network.proofs.SoundCarrier.{lit_by}
 
 -- ---- the last item of a list
 
@@ -90,9 +85,6 @@ near_within s k Ba l sound fits at = omega (arith, (link_there s k l sound at).b
 far_within : (s : State) (k : ℕ) (dir : Dir) (l : DeclaredLink) → Sound s.world → Fits s → slice_get (links_of s) k ≡ Some l → (far_end dir l).bridge < length s.views
 far_within s k Ab l sound fits at = omega (arith, (link_there s k l sound at).b.bridge, fits.bridges)
 far_within s k Ba l sound fits at = omega (arith, (link_there s k l sound at).a.bridge, fits.bridges)
-
-abbrev lit_by : List DeclaredLink → Option Way → Bool
-lit_by links way = option_map_or (λ w. is_live links w.link) way false
 
 unlit : (s : State) (p : ℕ) (o : Option Way) → Sound s.world → Fits s → way_out (links_of s) (length s.views) p ≡ o → false ≡ lit_by (links_of s) o
 unlit s p None sound fits out = refl
@@ -264,7 +256,7 @@ none_within : {X : Type 0} (xs : List X) (i : ℕ) (x : X) → xs ≡ [] → sli
 none_within [] i x none at = cc
 none_within (y ∷ ys) i x none at = cc
 
-empty_from : {X : Type 0} (xs : List X) → length xs ≡ 0 → xs ≡ []
+pub empty_from : {X : Type 0} (xs : List X) → length xs ≡ 0 → xs ≡ []
 empty_from [] e = refl
 empty_from (x ∷ xs) e = absurd (omega arith)
 

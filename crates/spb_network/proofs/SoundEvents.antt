@@ -1,5 +1,5 @@
 -- Every event keeps what is sound of a network.
-use Rattle.std.proofs.Common.{◌≡◌, ◌≢◌, ℕ, zero, suc, ◌+◌, Bool, true, false, List, [], ◌∷◌, length, refl, sym, ap, ◌∙◌, subst, Option, Some, None, slice_get}
+use Rattle.std.proofs.Common.{◌≡◌, ℕ, zero, suc, ◌+◌, Bool, true, false, List, [], length, refl, sym, ap, ◌∙◌, subst, Option, Some, None, slice_get}
 use Rattle.std.specs.Prelude.{if◌then◌else◌}
 use Rattle.std.specs.Option.{option_map_or}
 use Rattle.link_model.specs.Lane.{Frame, after_lose, after_double}
@@ -12,11 +12,11 @@ use Rattle.spb_network.specs.declared.declaration.DeclaredLink.{DeclaredLink}
 use Rattle.spb_network.specs.declared.declaration.LinkEnd.{LinkEnd}
 use Rattle.spb_network.specs.declared.lanes.Lanes.{Lanes}
 use Rattle.spb_network.specs.declared.way.Way.{Way}
-use Rattle.spb_network.specs.World.{World, Links, things_of, Sound}
+use Rattle.spb_network.specs.World.{World, things_of, Sound}
 use Rattle.spb_network.specs.Lanes.{changed_lane, rest, no_frames}
-use Rattle.spb_network.specs.Declaring.{switched, with_live}
-use Rattle.spb_network.specs.State.{State, changed_at, links_of, near_end, far_end, is_at, way_out, lane_at, with_frames}
-use Rattle.spb_network.specs.Events.{sent_all, stepped, ticked, heard_over, delivered_front, delivered, lost, doubled, carried, carried_over, flushed, switched_off, switched_on, ticked_from, delivered_times, lane_served, served_from, one_round, rounds, first_full_from, delivered_over, delivered_first, drained}
+use Rattle.spb_network.specs.Declaring.{with_live}
+use Rattle.spb_network.specs.State.{State, changed_at, links_of, far_end, is_at, way_out, lane_at, with_frames}
+use Rattle.spb_network.specs.Events.{stepped, ticked, heard_over, delivered_front, delivered, lost, doubled, carried, carried_over, flushed, switched_off, switched_on, ticked_from, delivered_times, lane_served, served_from, one_round, rounds, first_full_from, delivered_over, delivered_first, drained}
 use Rattle.spb_network.specs.Sound.{is_lit, AreLit, lane_of, IsSoundState}
 use Rattle.spb_network.proofs.WorldLemmas.{switched-none}
 use Rattle.spb_network.proofs.FitsLemmas.{IsAlike, alike_itself, alike_with_frames, alike_flushed, link_there}

@@ -1,21 +1,17 @@
 -- One direction of a link, while both bridges may step.
-use Rattle.std.proofs.Common.{◌≡◌, ◌⊎◌, inl, inr, ◌≤◌, ◌<◌, ◌^◌, ℕ, Bool, true, false, true≢false, List, [], ◌∷◌, length, refl, sym, ap, ◌∙◌, subst, Option, Some, None, arith}
+use Rattle.std.proofs.Common.{◌≡◌, ◌⊎◌, inl, inr, ◌≤◌, ℕ, true, true≢false, List, [], ◌∷◌, length, refl, sym, ap, ◌∙◌, subst, Option, Some, None, arith}
 use Rattle.std.specs.List.{AllByRecursion}
-use Rattle.std.specs.FinMap.{get}
 use Rattle.spb_types.specs.declared.address.BridgeId.{BridgeId}
 use Rattle.spb_types.specs.declared.address.LspId.{LspId}
-use Rattle.spb_types.specs.declared.ports.PortSet.{PortSet}
-use Rattle.spb_types.specs.Ports.{has}
 use Rattle.link_model.specs.Lane.{Frame}
 use Rattle.spb_tlvs.specs.RoundTrip.{IsNamed}
 use Rattle.lsdb.specs.declared.version.Version.{Version}
 use Rattle.lsdb.specs.Version.{IsAtMost}
-use Rattle.lsdb.specs.Entry.{Entry}
-use Rattle.lsdb.specs.Database.{srm_in, version_in, version_at}
-use Rattle.lsdb.specs.Certificate.{Claim, IsClaimed, Kept, is_flagged, is_absent, is_as_before, is_claimed}
+use Rattle.lsdb.specs.Database.{version_at}
+use Rattle.lsdb.specs.Certificate.{IsClaimed, is_flagged, is_absent, is_as_before, is_claimed}
 use Rattle.lsdb.proofs.Order.{itself, through, least}
 use Rattle.adjacency.specs.Hearing.{End}
-use Rattle.bridge_api.specs.View.{BridgeView, neighbour_at, is_up_at, up_ports, control_of}
+use Rattle.bridge_api.specs.View.{BridgeView, neighbour_at, is_up_at}
 use Rattle.bridge_api.specs.Judging.{judged}
 use Rattle.bridge_api.specs.Step.{Input, second, frame, carrier, step, sent}
 use Rattle.bridge_api.specs.Laws.{IsSoundView, IsSameBridge, IsHeard, IsSent, IsHelloOf, greeter, port_of, claims_of}
@@ -36,6 +32,9 @@ All-in P (g ∷ gs) f all (inr there) = All-in P gs f all.1 there
 pub All-from : (P : Frame → Type 0) (fs : List Frame) → ((f : Frame) → IsIn f fs → P f) → AllByRecursion P fs
 All-from P [] each = tt
 All-from P (g ∷ gs) each = (each g (inl refl), All-from P gs (λ f among. each f (inr among)))
+
+pub some-is : {X : Type 0} (x y : X) → Some x ≡ Some y → x ≡ y
+some-is x y h = cc
 
 -- ---- a bridge to which something comes, or nothing
 
@@ -75,9 +74,6 @@ pub record IsMove (v : BridgeView) (p : ℕ) (w : BridgeView) (q : ℕ) (x y : O
   pub towards : AllByRecursion (IsSaid w q v p) back
   pub heard : (f : Frame) → x ≡ Some (frame p f) → IsIn f back
   pub sends : (f : Frame) → IsIn f after → IsIn f lane ⊎ IsSent (sent_by x v) p f
-
-some-is : {X : Type 0} (x y : X) → Some x ≡ Some y → x ≡ y
-some-is x y h = cc
 
 -- a frame that was heard is a hello of the far end
 said_sender : (v : BridgeView) (p : ℕ) (w : BridgeView) (q : ℕ) (f : Frame) (n : End) → IsSaid w q v p f → greeter (judged f) ≡ Some n → n ≡ end_at w q

@@ -1,5 +1,5 @@
 -- What a step of one bridge keeps.
-use Rattle.std.proofs.Common.{◌≡◌, ◌≢◌, ◌⊎◌, inl, inr, ◌≤◌, ◌<◌, ◌+◌, ◌-◌, ℕ, zero, suc, Bool, true, false, true≢false, List, [], ◌∷◌, length, refl, sym, ap, ◌∙◌, subst, Option, Some, None, arith}
+use Rattle.std.proofs.Common.{◌≡◌, ◌≢◌, inl, inr, ◌≤◌, ◌<◌, ◌+◌, ◌-◌, ℕ, zero, suc, Bool, true, false, true≢false, List, [], ◌∷◌, length, refl, sym, ap, ◌∙◌, Option, Some, None, arith}
 use Rattle.std.specs.Prelude.{slice_get, slice_set, nat_le, is_some, ◌==◌, if◌then◌else◌}
 use Rattle.std.specs.Option.{option_map, option_and_then}
 use Rattle.std.specs.List.{AllByRecursion}
@@ -19,7 +19,7 @@ use Rattle.adjacency.specs.declared.state.Heard.TheVariants as did
 use Rattle.adjacency.specs.declared.port.Adjacency.{Adjacency}
 use Rattle.adjacency.specs.States.{next_state, state_numbered}
 use Rattle.adjacency.specs.Hearing.{is_discarded, sender}
-use Rattle.adjacency.specs.Adjacency.{down, led_to, state_towards, is_down, is_up, kept_in, neighbour_of, SoundIn, after_heard, after_hello, after_second, after_carrier, change_of, heard_of}
+use Rattle.adjacency.specs.Adjacency.{down, led_to, state_towards, is_down, is_up, kept_in, neighbour_of, SoundIn, after_hello, after_carrier, change_of, heard_of}
 use Rattle.bridge_api.specs.declared.port.BridgePort.{BridgePort}
 use Rattle.bridge_api.specs.View.{BridgeView, IsPort, port_in, port_at, neighbour_at, is_port_up, is_up_in, is_up_at, up_from, up_ports}
 use Rattle.bridge_api.specs.Hearing.{with_adjacency, after_receive, carried_at, with_carrier}
@@ -27,7 +27,7 @@ use Rattle.bridge_api.specs.Ports.{noted, greeted_port, carried_port}
 use Rattle.bridge_api.specs.Step.{Input, second, frame, carrier, step, sent}
 use Rattle.bridge_api.specs.Laws.{HellosAreHeard, IsSoundPort, IsSoundView, IsSent}
 use Rattle.bridge_api.proofs.Places.{got_at}
-use Rattle.bridge_api.proofs.Changes.{found, one_port, Greeted, frame_step, greeted_ports, Carried, carrier_step, carried_ports, ticked, tick_port}
+use Rattle.bridge_api.proofs.Changes.{found, one_port, frame_step, greeted_ports, carrier_step, carried_ports, ticked, tick_port}
 use Rattle.bridge_api.proofs.Hellos.{hellos_are_heard}
 use Rattle.spb_network.specs.Sound.{carrier_in, carrier_at}
 use Rattle.spb_network.proofs.BoxLemmas.{All-get}

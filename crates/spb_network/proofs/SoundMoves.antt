@@ -1,6 +1,6 @@
 -- A move of the whole network: something may come to each bridge, and frames may be lost or doubled.
-use Rattle.std.proofs.Common.{◌≡◌, ◌≢◌, ◌⊎◌, inl, inr, ◌≤◌, ◌<◌, ◌+◌, ℕ, zero, suc, Bool, true, false, true≢false, List, [], ◌∷◌, ◌++◌, length, refl, sym, ap, ◌∙◌, subst, Option, Some, None, slice_get, arith}
-use Rattle.std.specs.Option.{option_map, option_map_or}
+use Rattle.std.proofs.Common.{◌≡◌, ◌≢◌, ◌⊎◌, inl, inr, ℕ, zero, suc, true, true≢false, List, [], ◌∷◌, refl, sym, ap, ◌∙◌, subst, Option, Some, None, slice_get, arith}
+use Rattle.std.specs.Option.{option_map}
 use Rattle.std.specs.List.{AllByRecursion}
 use Rattle.link_model.specs.Lane.{Frame}
 use Rattle.scenario.specs.declared.command.Dir.{Dir}
@@ -8,17 +8,16 @@ use Rattle.scenario.specs.declared.command.Dir.TheVariants.{Ab, Ba}
 use Rattle.bridge_api.specs.View.{BridgeView, IsPort}
 use Rattle.bridge_api.specs.Step.{Input, frame}
 use Rattle.bridge_api.specs.Laws.{IsSoundView, IsSent}
-use Rattle.spb_network.specs.declared.declaration.DeclaredBridge.{DeclaredBridge}
 use Rattle.spb_network.specs.declared.declaration.DeclaredLink.{DeclaredLink}
 use Rattle.spb_network.specs.declared.lanes.Lanes.{Lanes}
 use Rattle.spb_network.specs.declared.way.Way.{Way}
-use Rattle.spb_network.specs.World.{World, things_of, IsLink, Sound}
+use Rattle.spb_network.specs.World.{World, things_of, Sound}
 use Rattle.spb_network.specs.State.{State, links_of, is_live, near_end, far_end, way_out}
 use Rattle.spb_network.specs.Network.{Fits}
 use Rattle.spb_network.specs.Sound.{IsShown, AreShown, IsSaid, Agrees, lane_of, AllAgree, AreIdle}
 use Rattle.spb_network.proofs.BoxLemmas.{All-get}
 use Rattle.spb_network.proofs.FitsLemmas.{IsAlike, Fits-alike, link_there, far_is_port}
-use Rattle.spb_network.proofs.SoundLane.{IsIn, moved, sent_by, moved_same, moved_sound, IsMove, agrees_moved}
+use Rattle.spb_network.proofs.SoundLane.{some-is, IsIn, moved, sent_by, moved_same, moved_sound, IsMove, agrees_moved}
 use Rattle.spb_network.proofs.SoundWays.{turned, way_of_end, LeadsFrom, way_leads}
 
 -- what is sound of a state, but for carrier, which comes and goes at one end of a link after the other
@@ -52,9 +51,6 @@ pub record Moves (links : List DeclaredLink) (o : ℕ → Option Input) (views v
   pub heard : (i p : ℕ) (f : Frame) → o i ≡ Some (frame p f) → Comes links lanes i p f
   pub frames : (k : ℕ) (dir : Dir) (f : Frame) → IsIn f (lane_of lanes' k dir) → IsIn f (lane_of lanes k dir) ⊎ GoesOut links o views k dir f
 
-some-is : {X : Type 0} (x y : X) → Some x ≡ Some y → x ≡ y
-some-is x y h = cc
-
 pub All-each : {X : Type 0} (P : X → Type 0) (xs : List X) → ((i : ℕ) (x : X) → slice_get xs i ≡ Some x → P x) → AllByRecursion P xs
 All-each P [] each = tt
 All-each P (x ∷ xs) each = (each zero x refl, All-each P xs (λ i y at. each (suc i) y at))
@@ -72,8 +68,8 @@ got_mapped f (Some x) y is = (x, refl, sym (some-is (f x) y is))
 moves_views : (links : List DeclaredLink) (o : ℕ → Option Input) (views views' : List BridgeView) (lanes lanes' : List Lanes) → Moves links o views views' lanes lanes' → AllByRecursion IsSoundView views → AllByRecursion IsSoundView views'
 moves_views links o views views' lanes lanes' move sound =
     All-each IsSoundView views' (λ i v at.
-      let was = got_mapped (moved (o i)) (slice_get views i) v (sym (move.bridges i) ∙ at) in
-      subst IsSoundView (sym was.2) (moved_sound (o i) was.0 (All-get IsSoundView views i was.0 sound was.1)))
+    let was = got_mapped (moved (o i)) (slice_get views i) v (sym (move.bridges i) ∙ at) in
+    subst IsSoundView (sym was.2) (moved_sound (o i) was.0 (All-get IsSoundView views i was.0 sound was.1)))
 
 moves_shown : (w : World) (links : List DeclaredLink) (o : ℕ → Option Input) (views views' : List BridgeView) (lanes lanes' : List Lanes) → Moves links o views views' lanes lanes' → AreShown w views → AreShown w views'
 moves_shown w links o views views' lanes lanes' move shown i v b at declared =
@@ -85,10 +81,10 @@ moves_shown w links o views views' lanes lanes' move shown i v b at declared =
 moves_idle : (links : List DeclaredLink) (o : ℕ → Option Input) (views views' : List BridgeView) (lanes lanes' : List Lanes) → Moves links o views views' lanes lanes' → AreIdle links lanes → AreIdle links lanes'
 moves_idle links o views views' lanes lanes' move idle k dir dead =
     nothing_in (lane_of lanes' k dir) (λ f among.
-      elim (move.frames k dir f among) [
-        | inl old ↦ subst (IsIn f) (idle k dir dead) old
-        | inr new ↦ true≢false (sym new.live ∙ dead)
-      ])
+    elim (move.frames k dir f among) [
+      | inl old ↦ subst (IsIn f) (idle k dir dead) old
+      | inr new ↦ true≢false (sym new.live ∙ dead)
+    ])
 
 -- the other direction of a link
 agree_back : (links : List DeclaredLink) (views : List BridgeView) (lanes : List Lanes) → AllAgree links views lanes → (k : ℕ) (dir : Dir) (l : DeclaredLink) (v w : BridgeView) → slice_get links k ≡ Some l → slice_get views (near_end dir l).bridge ≡ Some v → slice_get views (far_end dir l).bridge ≡ Some w → AllByRecursion (IsSaid w (far_end dir l).port v (near_end dir l).port) (lane_of lanes k (turned dir))

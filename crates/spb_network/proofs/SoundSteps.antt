@@ -1,5 +1,5 @@
 -- One bridge steps, frames go, or a link is switched: moves of the whole network.
-use Rattle.std.proofs.Common.{◌≡◌, ◌≢◌, ◌⊎◌, inl, inr, ◌≤◌, ◌<◌, ◌+◌, ℕ, zero, suc, Bool, true, false, true≢false, List, [], ◌∷◌, ◌++◌, length, take, drop, refl, sym, ap, ◌∙◌, subst, Option, Some, None, slice_get, arith}
+use Rattle.std.proofs.Common.{◌≡◌, ◌⊎◌, inl, inr, ◌+◌, ℕ, zero, suc, Bool, true, false, List, [], ◌∷◌, ◌++◌, length, take, drop, refl, sym, ap, ◌∙◌, subst, Option, Some, None, slice_get}
 use Rattle.std.specs.Prelude.{insert, remove, nat_lt, if◌then◌else◌}
 use Rattle.std.specs.Option.{option_map, option_map_or}
 use Rattle.link_model.specs.Lane.{Frame, has_room, pushed, after_lose, after_double}
@@ -16,12 +16,12 @@ use Rattle.spb_network.specs.World.{World, Links, things_of}
 use Rattle.spb_network.specs.Lanes.{lane_in, changed_lane, rest, no_frames}
 use Rattle.spb_network.specs.Declaring.{switched, with_live}
 use Rattle.spb_network.specs.State.{State, changed_at, links_of, is_live, near_end, far_end, way_out, with_frames}
-use Rattle.spb_network.specs.Events.{sent_over, sent_all, stepped, flushed}
+use Rattle.spb_network.specs.Events.{sent_over, sent_all, stepped}
 use Rattle.spb_network.specs.Sound.{Agrees, lane_of, AllAgree, AreIdle}
 use Rattle.spb_network.proofs.WorldLemmas.{Sound-with_live}
 use Rattle.spb_network.proofs.FitsLemmas.{IsAlike, alike_then, alike_stepped, Fits-with_live}
 use Rattle.spb_network.proofs.SoundLane.{IsIn, moved, sent_by}
-use Rattle.spb_network.proofs.SoundMoves.{IsCore, Comes, GoesOut, Moves, nothing_in, sound_moves}
+use Rattle.spb_network.proofs.SoundMoves.{IsCore, Comes, GoesOut, sound_moves}
 
 -- ---- what becomes of a lane
 

@@ -1,8 +1,7 @@
 -- Ways out of ports: the link and the direction that a port leads to, and the port that they lead from.
-use Rattle.std.proofs.Common.{◌≡◌, ◌≢◌, ◌≤◌, ◌<◌, ◌+◌, ℕ, zero, suc, Bool, true, false, true≢false, List, [], ◌∷◌, ◌++◌, length, refl, sym, ap, ◌∙◌, subst, Option, Some, None, slice_get, arith}
-use Rattle.std.specs.Prelude.{◌==◌, ◌&&◌, ◌||◌, if◌then◌else◌}
-use Rattle.std.specs.Option.{option_map, option_map_or, option_or}
-use Rattle.std.specs.List.{AllByRecursion}
+use Rattle.std.proofs.Common.{◌≡◌, ◌≢◌, ◌+◌, ℕ, zero, suc, Bool, true, false, true≢false, List, [], ◌∷◌, refl, ap, ◌∙◌, subst, Option, Some, None, slice_get, arith}
+use Rattle.std.specs.Prelude.{◌==◌, ◌||◌, if◌then◌else◌}
+use Rattle.std.specs.Option.{option_map, option_or}
 use Rattle.std.proofs.lemmas.Bool.{eq-eqb, ne_eqb, eqb-true, and_parts}
 use Rattle.scenario.specs.declared.command.Dir.{Dir}
 use Rattle.scenario.specs.declared.command.Dir.TheVariants.{Ab, Ba}
@@ -12,6 +11,7 @@ use Rattle.spb_network.specs.declared.way.Way.{Way}
 use Rattle.spb_network.specs.World.{is_at_port, AreApart, AllApart}
 use Rattle.spb_network.specs.State.{near_end, far_end, is_at, direction, way_from, way_out}
 use Rattle.spb_network.proofs.BoxLemmas.{All-get}
+use Rattle.spb_network.proofs.SoundLane.{some-is}
 
 -- the other direction
 abbrev pub turned : Dir → Dir
@@ -91,17 +91,14 @@ record LeadsAt (n : ℕ) (links : List DeclaredLink) (i p : ℕ) (way : Way) : T
   number : way.link ≡ n + place
   leads : LeadsFrom links i p place way.dir
 
-some-way : (v w : Way) → Some v ≡ Some w → v ≡ w
-some-way v w e = cc
-
 leads_at : (n : ℕ) (h : DeclaredLink) (links : List DeclaredLink) (i p : ℕ) (way : Way) (a b : Bool) → is_at h.a i p ≡ a → is_at h.b i p ≡ b → (way_from (n + 1) links i p ≡ Some way → LeadsAt (n + 1) links i p way) → option_or (way_at n (if a then Some Ab else (if b then Some Ba else None))) (way_from (n + 1) links i p) ≡ Some way → LeadsAt n (h ∷ links) i p way
 leads_at n h links i p way true b at_a at_b rest is =
     let at = at_parts h.a i p at_a in
-    let same : record { link = n; dir = Ab } ≡ way = some-way _ way is in
+    let same : record { link = n; dir = Ab } ≡ way = some-is _ way is in
     subst (λ (w : Way). LeadsAt n (h ∷ links) i p w) same (record { place = 0; number = omega arith; leads = record { link = h; there = refl; bridge = at.0; port = at.1 } })
 leads_at n h links i p way false true at_a at_b rest is =
     let at = at_parts h.b i p at_b in
-    let same : record { link = n; dir = Ba } ≡ way = some-way _ way is in
+    let same : record { link = n; dir = Ba } ≡ way = some-is _ way is in
     subst (λ (w : Way). LeadsAt n (h ∷ links) i p w) same (record { place = 0; number = omega arith; leads = record { link = h; there = refl; bridge = at.0; port = at.1 } })
 leads_at n h links i p way false false at_a at_b rest is =
     let after = rest is in

@@ -9,3 +9,4 @@ pub mod Sound
 pub mod Refusing
 pub mod Play
 pub mod Applying
+pub mod SoundLaws

@@ -22,10 +22,11 @@ use Rattle.bridge_api.specs.Step.{frame}
 use Rattle.bridge_api.specs.Laws.{IsSoundView, claims_of}
 use Rattle.spb_network.specs.declared.declaration.DeclaredBridge.{DeclaredBridge}
 use Rattle.spb_network.specs.declared.declaration.DeclaredLink.{DeclaredLink}
+use Rattle.spb_network.specs.declared.kind_rule.KindRule.{KindRule}
 use Rattle.spb_network.specs.declared.lanes.Lanes.{Lanes}
 use Rattle.spb_network.specs.World.{World, things_of, Sound}
 use Rattle.spb_network.specs.Lanes.{lane_in}
-use Rattle.spb_network.specs.State.{State, links_of, is_live, near_end, far_end, way_out}
+use Rattle.spb_network.specs.State.{State, Spare, links_of, is_live, near_end, far_end, way_out}
 use Rattle.spb_network.specs.Network.{Fits}
 
 -- ---- one bridge
@@ -115,3 +116,7 @@ pub record IsSoundState (s : State) : Type 0 where
   pub lit : AreLit (links_of s) s.views
   pub idle : AreIdle (links_of s) s.lanes
   pub agree : AllAgree (links_of s) s.views s.lanes
+
+-- a network of a rack of boxes, in which nothing is declared
+abbrev pub opening : KindRule → List Spare → State
+opening rule rack = record { rule = rule; rack = rack; world = record { vids = []; bridges = []; links = [] }; views = []; lanes = []; rounds = 0; drained = 0; accepted = 0 }
