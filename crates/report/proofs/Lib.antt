@@ -1,0 +1,6 @@
+pub mod HexText
+pub mod PortText
+pub mod PortLines
+pub mod PortsListed
+pub mod Newlines
+pub mod LineCounts

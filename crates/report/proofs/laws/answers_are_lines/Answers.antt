@@ -1,0 +1,23 @@
+use Rattle.report.proofs.LineCounts.{tables_have_lines, database_has_lines, adjacencies_have_lines, path_is_line, out_is_line, state_is_line, error_is_line}
+use Rattle.report.proofs.laws.answers_are_lines.Goals as goal
+
+pub returns-clause-tables : goal.returns-clause-tables
+returns-clause-tables c = tables_have_lines
+
+pub returns-clause-database : goal.returns-clause-database
+returns-clause-database c = database_has_lines
+
+pub returns-clause-adjacencies : goal.returns-clause-adjacencies
+returns-clause-adjacencies c = adjacencies_have_lines
+
+pub returns-clause-path : goal.returns-clause-path
+returns-clause-path c = path_is_line
+
+pub returns-clause-out : goal.returns-clause-out
+returns-clause-out c = out_is_line
+
+pub returns-clause-state : goal.returns-clause-state
+returns-clause-state c = state_is_line
+
+pub returns-clause-error : goal.returns-clause-error
+returns-clause-error c = error_is_line

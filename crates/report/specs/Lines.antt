@@ -1,0 +1,34 @@
+-- The answers of one line.
+use Rattle.std.specs.Prelude.{ℕ, List, [], ◌∷◌, ◌++◌, length, map, Option, Some, None, codes, decimal}
+use Rattle.hex.specs.Hex.{encode_lower}
+use Rattle.report.specs.Words.{line}
+
+-- a way: its cost, its hops, which are one less than its names, and its names; or `none` where there is no name
+abbrev pub way_words : ℕ → List (List ℕ) → List (List ℕ)
+way_words cost [] = codes "none" ∷ []
+way_words cost (name ∷ names) = decimal cost ∷ decimal (length names) ∷ name ∷ names
+
+-- a path between two bridges: `path FROM TO VID` and the way
+unfoldable pub path_text : List ℕ → List ℕ → ℕ → ℕ → List (List ℕ) → List ℕ
+path_text from to vid cost names = line (codes "path") (from ∷ to ∷ decimal vid ∷ way_words cost names)
+
+-- a customer frame that leaves a bridge: `out NAME PORT FRAME`
+unfoldable pub out_text : List ℕ → ℕ → List ℕ → List ℕ
+out_text name port frame = line (codes "out") (name ∷ decimal port ∷ encode_lower frame ∷ [])
+
+-- the state of a network: `quiet`, or `busy` and the conditions that fail
+abbrev pub state_words : List ℕ → List (List ℕ)
+state_words [] = codes "quiet" ∷ []
+state_words (q ∷ qs) = codes "busy" ∷ map (λ n. codes "q" ++ decimal n) (q ∷ qs)
+
+unfoldable pub state_text : List ℕ → List ℕ
+state_text failing = line (codes "state") (state_words failing)
+
+-- the column of a word that doesn't fit, where one is given
+abbrev pub column_words : Option ℕ → List (List ℕ)
+column_words None = []
+column_words (Some column) = decimal column ∷ []
+
+-- a refused line: `error LINE NUMBER NAME`, with the number and the name of the reason, and the column
+unfoldable pub error_text : ℕ → ℕ → List ℕ → Option ℕ → List ℕ
+error_text at number name column = line (codes "error") (decimal at ∷ decimal number ∷ name ∷ column_words column)

@@ -1,0 +1,18 @@
+//! The laws of the texts. Each is the contract of a function that does nothing.
+ghost use Rattle.report.specs.Laws.{PortsAreThoseOfTheSet, TablesHaveLines, DatabaseHasLines, AdjacenciesHaveLines, PathIsLine, OutIsLine, StateIsLine, ErrorIsLine};
+
+/// The ports that are written for a set are just those of the set, ascending.
+pub fn ports_are_those_of_the_set()
+    ensures { PortsAreThoseOfTheSet }
+{}
+
+/// An answer with rows is a line for each row and one before, and any other answer is one line.
+pub fn answers_are_lines()
+    ensures tables { TablesHaveLines }
+    ensures database { DatabaseHasLines }
+    ensures adjacencies { AdjacenciesHaveLines }
+    ensures path { PathIsLine }
+    ensures out { OutIsLine }
+    ensures state { StateIsLine }
+    ensures error { ErrorIsLine }
+{}

@@ -1,0 +1,97 @@
+ghost use Rattle.std.specs.Prelude.{◌≡◌, ◌++◌, OnOk, IfOk};
+ghost use Rattle.std.specs.List.{flat_map};
+ghost use Rattle.report.specs.Tables as texts;
+ghost use Rattle.report.specs.Words.{spaced};
+
+use crate::text::Text;
+use spb_types::{GroupRow, Name, NoMemory, Tables, UnicastRow};
+use std::alloc::Global;
+
+/// The answer that shows tables: a line of the word, the bridge's name, `quiet` or `busy` if that was asked, and the
+/// numbers of rows; then a line `u VID MAC PORT` for each unicast row, and a line `g VID MAC PORTS` for each group row.
+#[tactic(auto, unfolding(crate::specs::Tables::tables_text))]
+pub fn tables_text(
+    alloc: Global,
+    word: &str,
+    name: Name,
+    quiet: Option<bool>,
+    tables: &Tables,
+) -> Result<Vec<u8>, NoMemory>
+    ensures { IfOk result
+        (λ bytes. bytes.items ≡ texts.tables_text word.now name quiet tables.now) }
+{
+    let mut text = Text::new(alloc);
+    put_head(&mut text, word, name, quiet, tables)?;
+    put_unicast_rows(&mut text, tables.unicast.as_slice())?;
+    put_group_rows(&mut text, tables.group.as_slice())?;
+    Ok(text.into_bytes())
+}
+
+#[tactic(auto, unfolding(crate::specs::Tables::tables_head))]
+fn put_head(
+    text: &mut Text,
+    word: &str,
+    name: Name,
+    quiet: Option<bool>,
+    tables: &Tables,
+) -> Result<(), NoMemory>
+    ensures { OnOk result
+        (text.new ≡ text.old ++ texts.tables_head word.now name quiet tables.now) }
+{
+    text.push(word.as_bytes())?;
+    text.word(name.bytes())?;
+    put_quiet(text, quiet)?;
+    text.number(tables.unicast.len() as u64)?;
+    text.number(tables.group.len() as u64)?;
+    text.end()
+}
+
+fn put_quiet(text: &mut Text, quiet: Option<bool>) -> Result<(), NoMemory>
+    ensures { OnOk result (text.new ≡ text.old ++ flat_map spaced (texts.quiet_words quiet)) }
+{
+    match quiet {
+        None => Ok(()),
+        Some(true) => text.word(b"quiet"),
+        Some(false) => text.word(b"busy"),
+    }
+}
+
+fn put_unicast_rows(text: &mut Text, rows: &[UnicastRow]) -> Result<(), NoMemory>
+    ensures { OnOk result (text.new ≡ text.old ++ flat_map texts.unicast_line rows.now) }
+{
+    for row in rows {
+        put_unicast_row(text, row)?;
+    }
+    Ok(())
+}
+
+#[tactic(auto, unfolding(crate::specs::Tables::unicast_line))]
+fn put_unicast_row(text: &mut Text, row: &UnicastRow) -> Result<(), NoMemory>
+    ensures { OnOk result (text.new ≡ text.old ++ texts.unicast_line row.now) }
+{
+    text.push(b"u")?;
+    text.number(u64::from(row.vid.value))?;
+    text.hex(row.mac.bytes.as_slice())?;
+    text.number(u64::from(row.port))?;
+    text.end()
+}
+
+fn put_group_rows(text: &mut Text, rows: &[GroupRow]) -> Result<(), NoMemory>
+    ensures { OnOk result (text.new ≡ text.old ++ flat_map texts.group_line rows.now) }
+{
+    for row in rows {
+        put_group_row(text, row)?;
+    }
+    Ok(())
+}
+
+#[tactic(auto, unfolding(crate::specs::Tables::group_line))]
+fn put_group_row(text: &mut Text, row: &GroupRow) -> Result<(), NoMemory>
+    ensures { OnOk result (text.new ≡ text.old ++ texts.group_line row.now) }
+{
+    text.push(b"g")?;
+    text.number(u64::from(row.vid.value))?;
+    text.hex(row.mac.bytes.as_slice())?;
+    text.ports(row.ports)?;
+    text.end()
+}

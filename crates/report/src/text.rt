@@ -1,0 +1,141 @@
+ghost use Rattle.std.specs.Prelude.{◌≡◌, ◌++◌, ◌∷◌, [], ◌≤◌, codes, decimal, if◌then◌else◌, IfOk, OnOk};
+ghost use Rattle.spb_types.specs.Ports.{has};
+ghost use Rattle.hex.specs.Hex.{encode_lower};
+ghost use Rattle.report.specs.Words.{spaced};
+ghost use Rattle.report.specs.Ports.{ports_among, ports_text};
+ghost use Rattle.report.specs.Listing.{comma, separated, separator_after};
+
+use itoa::Buffer;
+use spb_types::{NoMemory, PortSet};
+use std::alloc::Global;
+use std::marker::Model;
+
+/// A text that grows word by word: each call that changes it writes behind what stands there. Contracts see its bytes.
+#[derive(Drop)]
+pub(crate) struct Text {
+    bytes: Vec<u8>,
+}
+
+impl Model for Text {
+    ghost use Rattle.std.specs.Prelude.{ℕ, List};
+
+    ghost Value = { List ℕ };
+
+    ghost view = { λ t. t.bytes.items };
+}
+
+impl Text {
+    /// The empty text, which takes no memory.
+    pub(crate) fn new(alloc: Global) -> Self
+        ensures { result ≡ [] }
+    {
+        Text {
+            bytes: Vec::new(alloc),
+        }
+    }
+
+    /// The bytes of the text.
+    pub(crate) fn into_bytes(self) -> Vec<u8>
+        ensures { result.items ≡ self }
+    {
+        self.bytes
+    }
+
+    /// Bytes as they are, as the first word of a line.
+    pub(crate) fn push(&mut self, bytes: &[u8]) -> Result<(), NoMemory>
+        ensures { OnOk result (self.new ≡ self.old ++ bytes.now) }
+    {
+        self.bytes.extend_from_slice(bytes)?;
+        Ok(())
+    }
+
+    /// The end of a line.
+    pub(crate) fn end(&mut self) -> Result<(), NoMemory>
+        ensures { OnOk result (self.new ≡ self.old ++ codes "\n") }
+    {
+        self.push(b"\n")
+    }
+
+    /// A space and a word.
+    pub(crate) fn word(&mut self, word: &[u8]) -> Result<(), NoMemory>
+        ensures { OnOk result (self.new ≡ self.old ++ spaced word.now) }
+    {
+        self.push(b" ")?;
+        self.push(word)
+    }
+
+    /// A number without leading zeros.
+    pub(crate) fn decimal(&mut self, number: u64) -> Result<(), NoMemory>
+        ensures { OnOk result (self.new ≡ self.old ++ decimal number) }
+    {
+        let mut buffer = Buffer::new();
+        self.push(buffer.format(number).as_bytes())
+    }
+
+    /// A space and a number.
+    pub(crate) fn number(&mut self, number: u64) -> Result<(), NoMemory>
+        ensures { OnOk result (self.new ≡ self.old ++ spaced (decimal number)) }
+    {
+        self.push(b" ")?;
+        self.decimal(number)
+    }
+
+    /// A space, and two hexadecimal digits for each byte.
+    pub(crate) fn hex(&mut self, bytes: &[u8]) -> Result<(), NoMemory>
+        ensures { OnOk result (self.new ≡ self.old ++ spaced (encode_lower bytes.now)) }
+    {
+        self.push(b" ")?;
+        for byte in bytes {
+            self.hex_byte(*byte)?;
+        }
+        Ok(())
+    }
+
+    fn hex_byte(&mut self, byte: u8) -> Result<(), NoMemory>
+        ensures { OnOk result (self.new ≡ self.old ++ encode_lower (byte ∷ [])) }
+    {
+        let mut digits = [0; 2];
+        hex::encode_to_slice([byte].as_slice(), &mut digits).unwrap();
+        self.push(&digits)
+    }
+
+    /// A space and the ports of a set, ascending with commas, or `-` where there is none.
+    #[tactic(auto, unfolding(crate::specs::Ports::ports_text))]
+    pub(crate) fn ports(&mut self, ports: PortSet) -> Result<(), NoMemory>
+        ensures { OnOk result (self.new ≡ self.old ++ spaced (ports_text ports)) }
+    {
+        if self.separated_ports(ports)? == b' ' {
+            self.word(b"-")?;
+        }
+        Ok(())
+    }
+
+    /// The ports of a set, ascending: a space before the first and a comma before each other. The answer is what would
+    /// stand before a further one.
+    fn separated_ports(&mut self, ports: PortSet) -> Result<u8, NoMemory>
+        ensures text { OnOk result (self.new ≡ self.old ++ separated (ports_among ports 32)) }
+        ensures next { IfOk result (λ next. next ≡ separator_after (ports_among ports 32)) }
+    {
+        let mut separator = b' ';
+        for port in 1..33 {
+            separator = self.port_if_there(separator, ports, port)?;
+        }
+        Ok(separator)
+    }
+
+    /// The separator and the port, if the set has it. The answer is the separator that comes next.
+    fn port_if_there(&mut self, separator: u8, ports: PortSet, port: u8) -> Result<u8, NoMemory>
+        requires low { 1 ≤ port }
+        requires high { port ≤ 32 }
+        ensures text { OnOk result
+            (self.new ≡ self.old ++ (if has ports port then separator ∷ decimal port else [])) }
+        ensures next { IfOk result (λ next. next ≡ (if has ports port then comma else separator)) }
+    {
+        if !ports.has(port) {
+            return Ok(separator);
+        }
+        self.push(&[separator])?;
+        self.decimal(u64::from(port))?;
+        Ok(b',')
+    }
+}
