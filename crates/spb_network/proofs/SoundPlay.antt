@@ -23,7 +23,7 @@ use Rattle.spb_network.specs.Declaring.{vid_refusal, link_refusal, plan_of, brid
 use Rattle.spb_network.specs.State.{State, Spare}
 use Rattle.spb_network.specs.Events.{ticked, delivered, lost, doubled, switched_off, switched_on, rounds, drained}
 use Rattle.spb_network.specs.Refusing.{box_for, declared_refusal, placed_link_refusal, named_link_refusal, refusal_of}
-use Rattle.spb_network.specs.Play.{config_of, boxed, declared, linked, placed_link, named_link, at_place, at_bridge, at_link, played, counted, next_state, played_all}
+use Rattle.spb_network.specs.Play.{with_vid_more, with_rounds, with_drain, config_of, boxed, declared, linked, placed_link, named_link, at_place, at_bridge, at_link, played, counted, next_state, played_all}
 use Rattle.spb_network.specs.Sound.{carrier_in, IsSoundState, opening}
 use Rattle.spb_network.specs.SoundLaws.{Keeps, EventsKeepSound, IsAddressed, CommandsKeepSound, AreAccepted, NetworksAreSound}
 use Rattle.spb_network.proofs.ConfigLemmas.{whole-config}
@@ -151,6 +151,7 @@ at_link_sound event s name keeps sound = place_sound event s (place_of name s.wo
 -- ---- the commands
 
 played_sound : (s : State) (c : Command) → IsSoundState s → IsAddressed c → refusal_of s c ≡ None → IsSoundState (played s c)
+unfolding with_vid_more with_rounds with_drain
 played_sound s (command.Vid vid ect) sound addressed none = vid_sound s vid ect sound none
 played_sound s (command.Bridge name priority system source ports) sound addressed none = bridge_sound s name priority system source ports sound addressed none
 played_sound s (command.Link name a port_a b port_b cost) sound addressed none = link_sound s name a b port_a port_b cost sound none
