@@ -1,5 +1,5 @@
 -- Accepted commands keep what is sound of a network.
-use Rattle.std.proofs.Common.{◌≡◌, ℕ, zero, suc, ◌-◌, ◌==◌, Bool, true, false, List, [], ◌∷◌, ◌++◌, length, map, replicate, nat_le, refl, sym, ◌∙◌, subst, Option, Some, None, slice_get, arith}
+use Rattle.std.proofs.Common.{◌≡◌, ℕ, zero, suc, ◌+◌, ◌-◌, ◌==◌, Bool, true, false, List, [], ◌∷◌, ◌++◌, length, map, replicate, nat_le, refl, sym, ◌∙◌, subst, Option, Some, None, slice_get, arith}
 use Rattle.std.specs.Prelude.{remove, if◌then◌else◌}
 use Rattle.std.specs.List.{AllByRecursion}
 use Rattle.std.proofs.lemmas.List.{length-map, length-replicate}
@@ -23,7 +23,7 @@ use Rattle.spb_network.specs.Declaring.{vid_refusal, link_refusal, plan_of, brid
 use Rattle.spb_network.specs.State.{State, Spare}
 use Rattle.spb_network.specs.Events.{ticked, delivered, lost, doubled, switched_off, switched_on, rounds, drained}
 use Rattle.spb_network.specs.Refusing.{box_for, declared_refusal, placed_link_refusal, named_link_refusal, refusal_of}
-use Rattle.spb_network.specs.Play.{with_vid_more, with_rounds, with_drain, config_of, boxed, declared, linked, placed_link, named_link, at_place, at_bridge, at_link, played, counted, next_state, played_all}
+use Rattle.spb_network.specs.Play.{config_of, boxed, declared, linked, placed_link, named_link, at_place, at_bridge, at_link, with_vid_more, with_rounds, with_drain, played, counted, next_state, played_all}
 use Rattle.spb_network.specs.Sound.{carrier_in, IsSoundState, opening}
 use Rattle.spb_network.specs.SoundLaws.{Keeps, EventsKeepSound, IsAddressed, CommandsKeepSound, AreAccepted, NetworksAreSound}
 use Rattle.spb_network.proofs.ConfigLemmas.{whole-config}
@@ -82,7 +82,8 @@ before_bridges : (w : World) (vid ect : ℕ) → vid_refusal w vid ect ≡ None 
 unfolding vid_refusal
 before_bridges w vid ect none = empty_from w.bridges (eqb-true (length w.bridges) 0 (passes (length w.bridges == 0) _ (last_none _ _ none)))
 
-vid_sound : (s : State) (vid ect : ℕ) → IsSoundState s → vid_refusal s.world vid ect ≡ None → IsSoundState (record s { world = with_vid s.world (plan_of vid ect) })
+vid_sound : (s : State) (vid ect : ℕ) → IsSoundState s → vid_refusal s.world vid ect ≡ None → IsSoundState (with_vid_more s vid ect)
+unfolding with_vid_more
 vid_sound s vid ect sound none =
     let new = vid_refusal_none s.world vid ect none in
     Sound-new_vid s (plan_of vid ect) sound (before_bridges s.world vid ect none)
@@ -150,8 +151,15 @@ at_link_sound event s name keeps sound = place_sound event s (place_of name s.wo
 
 -- ---- the commands
 
+rounds_sound : (n : ℕ) → Keeps (with_rounds n)
+unfolding with_rounds
+rounds_sound n s sound = sound_again (rounds n s) (record (rounds n s) { rounds = s.rounds + n }) refl refl refl (Sound-rounds n s sound)
+
+drain_sound : (n : ℕ) → Keeps (with_drain n)
+unfolding with_drain
+drain_sound n s sound = sound_again (drained n s) (record (drained n s) { drained = s.drained + n }) refl refl refl (Sound-drained n s sound)
+
 played_sound : (s : State) (c : Command) → IsSoundState s → IsAddressed c → refusal_of s c ≡ None → IsSoundState (played s c)
-unfolding with_vid_more with_rounds with_drain
 played_sound s (command.Vid vid ect) sound addressed none = vid_sound s vid ect sound none
 played_sound s (command.Bridge name priority system source ports) sound addressed none = bridge_sound s name priority system source ports sound addressed none
 played_sound s (command.Link name a port_a b port_b cost) sound addressed none = link_sound s name a b port_a port_b cost sound none
@@ -161,8 +169,8 @@ played_sound s (command.Tick name) sound addressed none = at_bridge_sound ticked
 played_sound s (command.Deliver name dir) sound addressed none = at_link_sound (λ t k. delivered t k dir) s name (λ k t. Sound-delivered t k dir) sound
 played_sound s (command.Lose name dir place) sound addressed none = at_link_sound (λ t k. lost t k dir place) s name (λ k t. Sound-lost t k dir place) sound
 played_sound s (command.Double name dir place) sound addressed none = at_link_sound (λ t k. doubled t k dir place) s name (λ k t. Sound-doubled t k dir place) sound
-played_sound s (command.Round n) sound addressed none = sound_again (rounds n s) (played s (command.Round n)) refl refl refl (Sound-rounds n s sound)
-played_sound s (command.Drain n) sound addressed none = sound_again (drained n s) (played s (command.Drain n)) refl refl refl (Sound-drained n s sound)
+played_sound s (command.Round n) sound addressed none = rounds_sound n s sound
+played_sound s (command.Drain n) sound addressed none = drain_sound n s sound
 played_sound s _ sound addressed none = sound
 
 pub commands_keep_sound : CommandsKeepSound

@@ -34,11 +34,11 @@ script =
     ∷ []
 
 accepted : AreAccepted (opening rule.Plain (box ∷ box ∷ [])) script
-unfolding next_state reason_unless vid_refusal bridge_refusal link_refusal is_vid_range is_new_name is_new_system is_new_source is_bridge_range is_free_port is_link_range is_unlinked with_vid with_bridge with_link with_live next_box way_out stepped switched_on declared_refusal named_link_refusal unnamed_refusal declared linked named_link at_bridge with_vid_more
+unfolding next_state reason_unless vid_refusal bridge_refusal link_refusal is_vid_range is_new_name is_new_system is_new_source is_bridge_range is_free_port is_link_range is_unlinked with_vid with_bridge with_link with_live next_box way_out stepped switched_on with_vid_more declared_refusal named_link_refusal unnamed_refusal declared linked named_link at_bridge
 accepted = (refl, (refl, (refl, (refl, (refl, tt)))))
 
 shown : IsBusy (played_all (opening rule.Plain (box ∷ box ∷ [])) script)
-unfolding next_state vid_refusal with_vid with_bridge with_link with_live next_box way_out stepped switched_on declared linked named_link at_bridge with_vid_more
+unfolding next_state vid_refusal with_vid with_bridge with_link with_live next_box way_out stepped switched_on with_vid_more declared linked named_link at_bridge
 shown = record { live = refl; waiting = refl }
 
 pub busy : SomeNetworkIsBusy
