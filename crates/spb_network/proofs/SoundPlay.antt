@@ -1,5 +1,5 @@
 -- Accepted commands keep what is sound of a network.
-use Rattle.std.proofs.Common.{◌≡◌, ℕ, zero, suc, ◌+◌, ◌-◌, ◌==◌, Bool, true, false, List, [], ◌∷◌, ◌++◌, length, map, replicate, nat_le, refl, sym, ◌∙◌, subst, Option, Some, None, slice_get, arith}
+use Rattle.std.proofs.Common.{◌≡◌, ℕ, zero, suc, ◌+◌, ◌-◌, ◌==◌, ◌≢◌, ◌&&◌, true≢false, is_some, ap, Bool, true, false, List, [], ◌∷◌, ◌++◌, length, map, replicate, nat_le, refl, sym, ◌∙◌, subst, Option, Some, None, slice_get, arith}
 use Rattle.std.specs.Prelude.{remove, if◌then◌else◌}
 use Rattle.std.specs.List.{AllByRecursion}
 use Rattle.std.proofs.lemmas.List.{length-map, length-replicate}
@@ -17,18 +17,19 @@ use Rattle.spb_network.specs.declared.kind_rule.KindRule.{KindRule}
 use Rattle.spb_network.specs.declared.lanes.Lanes.{Lanes}
 use Rattle.spb_network.specs.declared.reason.Reason.{Reason}
 use Rattle.spb_network.specs.Reason.{reason_unless, ◌or◌}
-use Rattle.spb_network.specs.World.{World, place_of, Sound}
+use Rattle.spb_network.specs.World.{World, names_of, things_of, place_of, Sound}
 use Rattle.spb_network.specs.Lanes.{no_frames}
-use Rattle.spb_network.specs.Declaring.{vid_refusal, link_refusal, plan_of, bridge_of, link_of, with_vid, with_link}
+use Rattle.spb_network.specs.Declaring.{bridge_refusal, with_bridge, vid_refusal, link_refusal, plan_of, bridge_of, link_of, with_vid, with_link}
 use Rattle.spb_network.specs.State.{State, Spare}
 use Rattle.spb_network.specs.Events.{ticked, delivered, lost, doubled, switched_off, switched_on, rounds, drained}
 use Rattle.spb_network.specs.Refusing.{box_for, declared_refusal, placed_link_refusal, named_link_refusal, refusal_of}
 use Rattle.spb_network.specs.Play.{config_of, boxed, declared, linked, placed_link, named_link, at_place, at_bridge, at_link, with_vid_more, with_rounds, with_drain, played, counted, next_state, played_all}
-use Rattle.spb_network.specs.Sound.{carrier_in, IsSoundState, opening}
+use Rattle.spb_network.specs.Sound.{AreDistinct, carrier_in, IsSoundState, opening}
 use Rattle.spb_network.specs.SoundLaws.{Keeps, EventsKeepSound, IsAddressed, CommandsKeepSound, AreAccepted, NetworksAreSound}
 use Rattle.spb_network.proofs.ConfigLemmas.{whole-config}
 use Rattle.spb_network.proofs.WorldLemmas.{Sound-with_vid}
 use Rattle.spb_network.proofs.RefusalLemmas.{vid_refusal_none, IsFreeBridge, bridge_refusal_none, link_refusal_none}
+use Rattle.spb_network.proofs.SoundNames.{first_none, last_none, passes, distinct_bridge, distinct_link}
 use Rattle.spb_network.proofs.SoundEvents.{Sound-ticked, Sound-delivered, Sound-lost, Sound-doubled, Sound-switched_off, Sound-switched_on, Sound-rounds, Sound-drained}
 use Rattle.spb_network.proofs.SoundDeclaring.{empty_from, IsNewView, Sound-new_bridge, Sound-new_link, Sound-new_vid, Sound-nothing}
 
@@ -53,28 +54,15 @@ sound_again s t world views lanes sound =
     (subst (λ (w : World). IsSoundState (record s { world = w })) (sym world) sound)) in
     record {
       world = same.world;
+      distinct = record { bridges = same.distinct.bridges; sources = same.distinct.sources; links = same.distinct.links };
       fits = record { bridges = same.fits.bridges; lanes = same.fits.lanes; ports = same.fits.ports };
       shown = same.shown;
       views = same.views;
       lit = same.lit;
+      short = same.short;
       idle = same.idle;
       agree = same.agree;
     }
-
--- ---- refusals
-
-first_none : (o p : Option Reason) → (o or p) ≡ None → o ≡ None
-first_none None p h = refl
-first_none (Some r) p h = absurd cc
-
-last_none : (o p : Option Reason) → (o or p) ≡ None → p ≡ None
-last_none None p h = h
-last_none (Some r) p h = absurd cc
-
-passes : (b : Bool) (r : Reason) → reason_unless b r ≡ None → b ≡ true
-unfolding reason_unless
-passes true r h = refl
-passes false r h = absurd cc
 
 -- ---- a VID
 
@@ -102,21 +90,22 @@ dark_if false o none = refl
 
 new_view : (w : World) (name : List ℕ) (priority : ℕ) (system : Mac) (source : SourceId) (ports : ℕ) → Sound w → length system.bytes ≡ 6 → IsFreeBridge w name priority system source ports → IsNewView w (bridge_of priority system source ports) (configured (config_of w (bridge_of priority system source ports)))
 new_view w name priority system source ports sound six new = record {
-  shown = record { id = refl; source = refl; vids = refl };
+  shown = record { id = refl; source = refl; vids = refl; attached = refl };
   ports = record { ports = length-map (replicate ports 1) dark ∙ length-replicate ports 1 };
   sound = configured_is_sound (config_of w (bridge_of priority system source ports)) (whole-config w (bridge_of priority system source ports) sound new.ports_high new.source_high six new.address);
   dark = λ p. dark_if (nat_le 1 p) (slice_get (map dark (replicate ports 1)) (p - 1)) (dark_in (replicate ports 1) (p - 1));
 }
 
-boxed_sound : (s : State) (name : List ℕ) (priority : ℕ) (system : Mac) (source : SourceId) (ports : ℕ) (o : Option ℕ) → IsSoundState s → length system.bytes ≡ 6 → IsFreeBridge s.world name priority system source ports → IsSoundState (boxed s name (bridge_of priority system source ports) o)
-boxed_sound s name priority system source ports None sound six new = sound
-boxed_sound s name priority system source ports (Some place) sound six new =
-    Sound-new_bridge s (remove s.rack place) name (bridge_of priority system source ports) (configured (config_of s.world (bridge_of priority system source ports))) sound new.new (new_view s.world name priority system source ports sound.world six new)
+boxed_sound : (s : State) (name : List ℕ) (priority : ℕ) (system : Mac) (source : SourceId) (ports : ℕ) (o : Option ℕ) → IsSoundState s → length system.bytes ≡ 6 → bridge_refusal s.world name priority system source ports ≡ None → IsSoundState (boxed s name (bridge_of priority system source ports) o)
+boxed_sound s name priority system source ports None sound six none = sound
+boxed_sound s name priority system source ports (Some place) sound six none =
+    let new = bridge_refusal_none s.world name priority system source ports none in
+    Sound-new_bridge s (remove s.rack place) name (bridge_of priority system source ports) (configured (config_of s.world (bridge_of priority system source ports))) sound new.new (distinct_bridge s.world name priority system source ports sound.distinct none) (new_view s.world name priority system source ports sound.world six new)
 
 bridge_sound : (s : State) (name : List ℕ) (priority : ℕ) (system : Mac) (source : SourceId) (ports : ℕ) → IsSoundState s → length system.bytes ≡ 6 → declared_refusal s name priority system source ports ≡ None → IsSoundState (declared s name (bridge_of priority system source ports))
 unfolding declared_refusal declared
 bridge_sound s name priority system source ports sound six none =
-    boxed_sound s name priority system source ports (box_for s) sound six (bridge_refusal_none s.world name priority system source ports (first_none _ _ none))
+    boxed_sound s name priority system source ports (box_for s) sound six (first_none _ _ none)
 
 -- ---- a link
 
@@ -124,7 +113,8 @@ linked_sound : (s : State) (name : List ℕ) (i port_a j port_b cost : ℕ) → 
 unfolding linked
 linked_sound s name i port_a j port_b cost sound none =
     let l : DeclaredLink = link_of i port_a j port_b cost in
-    Sound-switched_on (record s { world = with_link s.world name l; lanes = s.lanes ++ no_frames ∷ [] }) (length s.lanes) (Sound-new_link s name l sound (link_refusal_none s.world name i port_a j port_b cost none).new refl)
+    let new = link_refusal_none s.world name i port_a j port_b cost none in
+    Sound-switched_on (record s { world = with_link s.world name l; lanes = s.lanes ++ no_frames ∷ [] }) (length s.lanes) (Sound-new_link s name l sound new.new (distinct_link s.world name l sound.distinct new.name_new) refl)
 
 placed_sound : (s : State) (name : List ℕ) (a b : Option ℕ) (port_a port_b cost : ℕ) → IsSoundState s → placed_link_refusal s name a port_a b port_b cost ≡ None → IsSoundState (placed_link s name a port_a b port_b cost)
 placed_sound s name None b port_a port_b cost sound none = sound
