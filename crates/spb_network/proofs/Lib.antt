@@ -23,3 +23,4 @@ pub mod RoundLemmas
 pub mod ConfigLemmas
 pub mod PortLemmas
 pub mod CommandFits
+pub mod HintLemmas

@@ -6,7 +6,7 @@
 //! refused names the first reason in order of number and changes nothing. What holds of a network at every moment stands
 //! in `specs/Sound.antt`, and is a clause of each call.
 //!
-//! **Costs.** A frame that is sent looks for its link among the links; finding a name takes constant time on average. A
+//! **Costs.** A frame that is sent finds its link in constant time, and a name is found so on average. A
 //! round takes a call of each bridge and one for each frame that stands in a lane. A delivery of `drain` looks for the
 //! first lane that isn't empty. Frames are moved and not copied, and nothing grows with the number of rounds.
 #![tactic(auto)]
@@ -27,6 +27,7 @@ mod check;
 mod declaration;
 mod events;
 mod graph;
+mod hints;
 mod kind_rule;
 mod lanes;
 mod laws;

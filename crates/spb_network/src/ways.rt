@@ -29,6 +29,14 @@ fn direction(link: &DeclaredLink, bridge: usize, port: u8) -> Option<Dir>
     }
 }
 
+/// The way that a link, which stands at a place, makes out of a port. None exactly where it doesn't end there.
+pub fn way_of(place: usize, link: &DeclaredLink, bridge: usize, port: u8) -> Option<Way>
+    ensures { result ≡ state.way_of place link.now bridge port }
+{
+    let dir = direction(link, bridge, port)?;
+    Some(Way { link: place, dir })
+}
+
 /// The way that the link at a place makes out of a port. None exactly where it makes none.
 #[tactic(auto, using(crate::proofs::PlaceLemmas::get_things))]
 fn way_at(
@@ -40,8 +48,7 @@ fn way_at(
     ensures { result ≡ option_and_then (λ l. state.way_of place l bridge port) (slice_get (things_of links.now.entries) place) }
 {
     let (_, link) = links.get_index(place)?;
-    let dir = direction(link, bridge, port)?;
-    Some(Way { link: place, dir })
+    way_of(place, link, bridge, port)
 }
 
 /// The end of a link that a direction leads to.

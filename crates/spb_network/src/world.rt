@@ -2,6 +2,7 @@ ghost use Rattle.std.specs.Prelude.{◌≡◌, [], ◌∷◌, ◌++◌, true, No
 ghost use Rattle.spb_network.specs.Declaring.{is_new_name, switched};
 
 use crate::graph::{graph_bridges, graph_edges, system_at};
+use crate::hints::Hints;
 use crate::reason::reason_unless;
 use crate::{DeclaredBridge, DeclaredLink, LinkEnd, Reason, Way, check, ways};
 use bridge_api::BridgeConfig;
@@ -20,6 +21,7 @@ pub struct World {
     vids: Vec<VidPlan>,
     bridges: IndexMap<Name, DeclaredBridge>,
     links: IndexMap<Name, DeclaredLink>,
+    hints: Hints,
 }
 
 impl Model for World {
@@ -33,7 +35,7 @@ impl Model for World {
 }
 
 impl World {
-    ghost use Rattle.std.specs.Prelude.{◌≡◌, ◌<◌, ◌≤◌, [], ℕ, true, None, length, IfOk, IfSome, slice_get};
+    ghost use Rattle.std.specs.Prelude.{◌≡◌, ◌<◌, ◌≤◌, [], ℕ, true, None, Some, length, IfOk, IfSome, slice_get};
     ghost use Rattle.spb_network.specs.World as state;
     ghost use Rattle.spb_network.specs.World.{place_of, things_of};
     ghost use Rattle.spb_network.specs.Declaring as declare;
@@ -49,6 +51,7 @@ impl World {
             vids: Vec::new(alloc),
             bridges: IndexMap::new(alloc),
             links: IndexMap::new(alloc),
+            hints: Hints::new(alloc),
         }
     }
 
@@ -98,11 +101,26 @@ impl World {
         }
     }
 
+    /// The way that the hint of a port gives, where that link ends there.
+    fn hinted_way(&self, bridge: usize, port: u8) -> Option<Way>
+        ensures { IfSome result (λ way. way_out (things_of self.now.links) bridge port ≡ Some way) }
+    {
+        let place = self.hints.link_at(bridge, port);
+        match self.link(place) {
+            None => None,
+            Some(link) => ways::way_of(place, &link, bridge, port),
+        }
+    }
+
     /// The way out of a port of the bridge at a place, over a link that is up. None exactly where there is none.
     pub fn live_way(&self, bridge: usize, port: u8) -> Option<Way>
         ensures { result ≡ live_way (things_of self.now.links) (way_out (things_of self.now.links) bridge port) }
     {
-        match ways::way_out(&self.links, bridge, port) {
+        let way = match self.hinted_way(bridge, port) {
+            Some(way) => Some(way),
+            None => ways::way_out(&self.links, bridge, port),
+        };
+        match way {
             None => None,
             Some(way) => {
                 if ways::is_live(&self.links, way.link) {
@@ -271,6 +289,7 @@ impl World {
             bridge: GraphBridge { id, source },
             ports: ports as u8,
         };
+        self.hints.add_bridge()?;
         insert_new(&mut self.bridges, name, bridge)?;
         Ok(())
     }
@@ -306,7 +325,10 @@ impl World {
             },
             live: false,
         };
+        let place = self.links.len();
         insert_new(&mut self.links, name, link)?;
+        self.hints.note(link.a, place);
+        self.hints.note(link.b, place);
         Ok(())
     }
 
