@@ -17,7 +17,7 @@ use Rattle.spb_network.specs.World.{Bridges, Links, things_of, ports_at, IsEnd, 
 use Rattle.spb_network.specs.Lanes.{rest}
 use Rattle.spb_network.specs.Declaring.{switched, with_live}
 use Rattle.spb_network.specs.State.{State, changed_at, links_of, is_live, near_end, far_end, way_out, lane_at, with_frames}
-use Rattle.spb_network.specs.Events.{sent_over, sent_all, stepped, ticked, heard_over, delivered_front, delivered, lost, doubled, carried, carried_over, flushed, switched_off, switched_on, ticked_from, delivered_times, lane_served, served_from, one_round, rounds, first_full_from, delivered_over, delivered_first, drained}
+use Rattle.spb_network.specs.Events.{sent_over, sent_all, stepped, ticked, heard_over, delivered_front, delivered, lost, doubled, carried, carried_over, metered, flushed, switched_off, switched_on, ticked_from, delivered_times, lane_served, served_from, one_round, rounds, first_full_from, delivered_over, delivered_first, drained}
 use Rattle.spb_network.specs.Network.{Fits, IsPortAt}
 use Rattle.spb_network.proofs.BoxLemmas.{get-map, All-get}
 
@@ -136,6 +136,9 @@ alike_carried on s e = alike_stepped (comes.carrier e.port on) s e.bridge
 pub alike_carried_over : (on : Bool) (s : State) (o : Option DeclaredLink) → IsAlike s (carried_over on s o)
 alike_carried_over on s None = alike_itself s
 alike_carried_over on s (Some l) = alike_then s (carried on s l.a) (carried on (carried on s l.a) l.b) (alike_carried on s l.a) (alike_carried on (carried on s l.a) l.b)
+
+pub alike_metered : (s : State) (e : LinkEnd) → IsAlike s (metered s e)
+alike_metered s e = alike_stepped (comes.metric e.port e.metric) s e.bridge
 
 pub alike_switched_off : (s : State) (k : ℕ) → IsAlike s (switched_off s k)
 unfolding switched_off

@@ -14,8 +14,10 @@ pub mod SoundWays
 pub mod SoundMoves
 pub mod SoundSteps
 pub mod SoundCarrier
+pub mod SoundMetrics
 pub mod SoundEvents
 pub mod SoundDeclaring
+pub mod SoundLinks
 pub mod SoundNames
 pub mod SoundPlay
 pub mod SoundWitness

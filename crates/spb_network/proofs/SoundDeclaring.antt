@@ -28,6 +28,7 @@ use Rattle.spb_network.proofs.FitsLemmas.{end_is_port, link_there}
 use Rattle.spb_network.proofs.SoundLaws.{dark}
 use Rattle.spb_network.proofs.SoundLane.{some-is}
 use Rattle.spb_network.proofs.SoundWays.{at_itself, way_of_end, LeadsFrom, way_leads}
+use Rattle.spb_network.proofs.SoundMoves.{IsCore}
 use Rattle.spb_network.proofs.SoundCarrier.{lit_by}
 
 -- ---- the last item of a list
@@ -122,6 +123,7 @@ Sound-new_bridge s rack name b v sound declared distinct new = record {
   shown = shown_bridge s name b v sound.fits sound.shown new.shown;
   views = All-push IsSoundView s.views v sound.views new.sound;
   lit = lit_bridge s v sound.world sound.fits sound.lit new.dark;
+  metered = λ k dir l u at at_u. sound.metered k dir l u at (old_view s.views v (near_end dir l).bridge u (near_within s k dir l sound.world sound.fits at) at_u);
   short = sound.short;
   idle = sound.idle;
   agree = agree_bridge s v sound.world sound.fits sound.agree;
@@ -197,7 +199,7 @@ or-true : (b : Bool) → (b || true) ≡ true
 or-true true = refl
 or-true false = refl
 
-at_end : (dir : Dir) (m : DeclaredLink) (i p : ℕ) → (near_end dir m).bridge ≡ i → (near_end dir m).port ≡ p → is_at_port m i p ≡ true
+pub at_end : (dir : Dir) (m : DeclaredLink) (i p : ℕ) → (near_end dir m).bridge ≡ i → (near_end dir m).port ≡ p → is_at_port m i p ≡ true
 at_end Ab m i p bridge port = ap (λ (b : Bool). b || is_at m.b i p) (at_itself m.a i p bridge port)
 at_end Ba m i p bridge port = ap (λ (b : Bool). is_at m.a i p || b) (at_itself m.b i p bridge port) ∙ or-true (is_at m.a i p)
 
@@ -242,15 +244,19 @@ agree_link s l sound new k dir m v w at at_v at_w =
         subst (Agrees v (near_end dir m).port w (far_end dir m).port) (sym empty)
         (subst (λ (h : DeclaredLink). Agrees v (near_end dir h).port w (far_end dir h).port []) is.1 (new_agrees s dir l v w sound new at_near))
 
-pub Sound-new_link : (s : State) (name : List ℕ) (l : DeclaredLink) → IsSoundState s → IsNewLink s.world l → AreDistinct (with_link s.world name l) → l.live ≡ false → IsSoundState (record s { world = with_link s.world name l; lanes = s.lanes ++ no_frames ∷ [] })
+-- all that is sound, but that its ends have their metrics
+pub lit_new_link : (s : State) (name : List ℕ) (l : DeclaredLink) → IsSoundState s → l.live ≡ false → AreLit (things_of (with_link s.world name l).links) s.views
 unfolding with_link
-Sound-new_link s name l sound new distinct dead = record {
+lit_new_link s name l sound dead = subst (λ (links : List DeclaredLink). AreLit links s.views) (sym (things_of-push s.world.links name l)) (lit_link s l sound.world dead sound.lit)
+
+pub core_new_link : (s : State) (name : List ℕ) (l : DeclaredLink) → IsSoundState s → IsNewLink s.world l → AreDistinct (with_link s.world name l) → l.live ≡ false → IsCore (record s { world = with_link s.world name l; lanes = s.lanes ++ no_frames ∷ [] })
+unfolding with_link
+core_new_link s name l sound new distinct dead = record {
   world = Sound-with_link s.world name l sound.world new;
   distinct = distinct;
   fits = fits_link s name l sound.fits;
   shown = sound.shown;
   views = sound.views;
-  lit = subst (λ (links : List DeclaredLink). AreLit links s.views) (sym (things_of-push s.world.links name l)) (lit_link s l sound.world dead sound.lit);
   short = λ k dir. subst (λ (fs : List Frame). length fs ≤ 1024) (sym (lane-push s.lanes k dir)) (sound.short k dir);
   idle = λ k dir down. lane-push s.lanes k dir ∙ sound.idle k dir (sym (live-push (links_of s) l k dead) ∙ (ap (λ (links : List DeclaredLink). is_live links k) (sym (things_of-push s.world.links name l)) ∙ down));
   agree = subst (λ (links : List DeclaredLink). AllAgree links s.views (s.lanes ++ no_frames ∷ [])) (sym (things_of-push s.world.links name l)) (agree_link s l sound new);
@@ -277,6 +283,7 @@ Sound-new_vid s plan sound none world =
       shown = λ i v b at declared. absurd (none_within s.views i v no_views at);
       views = sound.views;
       lit = sound.lit;
+      metered = sound.metered;
       short = sound.short;
       idle = sound.idle;
       agree = sound.agree;
@@ -294,6 +301,7 @@ Sound-nothing s world bridges links views lanes =
       shown = λ i v b at declared. absurd (none_within s.views i v views at);
       views = subst (λ (vs : List BridgeView). AllByRecursion IsSoundView vs) (sym views) tt;
       lit = λ i v p at port. absurd (none_within s.views i v views at);
+      metered = λ k dir l v at at_v. absurd (none_within s.views (near_end dir l).bridge v views at_v);
       short = λ k dir. subst (λ (fs : List Frame). length fs ≤ 1024) (sym (no_lane k dir)) (omega arith);
       idle = λ k dir dead. no_lane k dir;
       agree = λ k dir l v w at at_v at_w. absurd (none_within s.views (near_end dir l).bridge v views at_v);

@@ -13,8 +13,8 @@ use Rattle.lsdb.proofs.Order.{itself, through, least}
 use Rattle.adjacency.specs.Hearing.{End}
 use Rattle.bridge_api.specs.View.{BridgeView, neighbour_at, is_up_at}
 use Rattle.bridge_api.specs.Judging.{judged}
-use Rattle.bridge_api.specs.Step.{Input, second, frame, carrier, step, sent}
-use Rattle.bridge_api.specs.Laws.{IsSoundView, IsSameBridge, IsHeard, IsSent, IsHelloOf, greeter, port_of, claims_of}
+use Rattle.bridge_api.specs.Step.{Input, second, frame, carrier, metric, step, sent}
+use Rattle.bridge_api.specs.Laws.{IsSoundView, IsHeard, IsSent, IsHelloOf, greeter, port_of, claims_of}
 use Rattle.bridge_api.proofs.Certified.{steps_keep_bridge, steps_keep_neighbours, steps_stay_sound, steps_carry_database}
 use Rattle.spb_network.specs.Sound.{end_at, IsHelloTo, IsSaid, IsReady, Agrees}
 use Rattle.spb_network.proofs.SoundLaws.{hellos_heard, sent_second, has-up_ports}
@@ -46,9 +46,16 @@ abbrev pub sent_by : Option Input → BridgeView → List (ℕ × List ℕ)
 sent_by None v = []
 sent_by (Some input) v = sent input v
 
-pub moved_same : (x : Option Input) (v : BridgeView) → IsSameBridge v (moved x v)
-moved_same None v = record { id = refl; source = refl; vids = refl; attached = refl; ports = refl; metrics = refl; failed = refl }
-moved_same (Some input) v = steps_keep_bridge input v
+-- what no input changes
+pub record IsStill (v w : BridgeView) : Type 0 where
+  pub id : w.id ≡ v.id
+  pub source : w.source ≡ v.source
+  pub vids : w.vids ≡ v.vids
+  pub attached : w.attached ≡ v.attached
+
+pub moved_same : (x : Option Input) (v : BridgeView) → IsStill v (moved x v)
+moved_same None v = record { id = refl; source = refl; vids = refl; attached = refl }
+moved_same (Some input) v = let same = steps_keep_bridge input v in record { id = same.id; source = same.source; vids = same.vids; attached = same.attached }
 
 pub moved_sound : (x : Option Input) (v : BridgeView) → IsSoundView v → IsSoundView (moved x v)
 moved_sound None v sound = sound
@@ -91,6 +98,7 @@ moved_keeps v p w q (Some input) y lane back after move n kept =
     by second from heard = absurd heard
     by (frame r f) from heard = said_sender v p w q f n (All-in (IsSaid w q v p) back f move.towards (from f (ap (λ (k : ℕ). frame k f) heard.0))) heard.1
     by (carrier r on) from heard = absurd heard
+    by (metric r m) from heard = absurd heard
 
 -- who is kept can be named
 named : (o : Option End) (w : BridgeView) (q : ℕ) → IsSoundView w → q ≤ 32 → ((n : End) → o ≡ Some n → n ≡ end_at w q) → IsNamed o
@@ -130,6 +138,7 @@ newly_said v p w q (Some input) y lane back after f move some = by input (sent_s
     }
     by (frame r g) e keeps some = absurd some
     by (carrier r on) e keeps some = absurd some
+    by (metric r m) e keeps some = absurd some
 
 -- whoever is no further behind stays so
 moved_ready : (v : BridgeView) (p : ℕ) (w : BridgeView) (q : ℕ) (x y : Option Input) (lane back after : List Frame) → IsMove v p w q x y lane back after → (id : LspId) → is_up_at (moved x v) p ≡ true → IsReady (moved x v) p (moved y w) id
@@ -161,6 +170,7 @@ moved_ready v p w q (Some input) y lane back after move id up =
         let same : frame r f ≡ frame p f = ap (λ (k : ℕ). frame k f) (sym here) in
         (All-in (IsSaid w q v p) back f move.towards (from f same)).claims id a (subst (λ (i : Input). IsClaimed (claims_of i) id a) same claimed)
     by (carrier r on) from here a claimed = absurd claimed
+    by (metric r m) from here a claimed = absurd claimed
 
 -- both bridges may have stepped, and the direction agrees
 pub agrees_moved : (v : BridgeView) (p : ℕ) (w : BridgeView) (q : ℕ) (x y : Option Input) (lane back after : List Frame) → IsMove v p w q x y lane back after → Agrees (moved x v) p (moved y w) q after

@@ -22,12 +22,12 @@ use Rattle.adjacency.specs.Hearing.{is_discarded, sender}
 use Rattle.adjacency.specs.Adjacency.{down, led_to, state_towards, is_down, is_up, kept_in, neighbour_of, SoundIn, after_hello, after_carrier, change_of, heard_of}
 use Rattle.bridge_api.specs.declared.port.BridgePort.{BridgePort}
 use Rattle.bridge_api.specs.View.{BridgeView, IsPort, port_in, port_at, neighbour_at, is_port_up, is_up_in, is_up_at, up_from, up_ports}
-use Rattle.bridge_api.specs.Hearing.{with_adjacency, after_receive, carried_at, with_carrier}
+use Rattle.bridge_api.specs.Hearing.{with_adjacency, after_receive, carried_at, with_carrier, metered, with_metric}
 use Rattle.bridge_api.specs.Ports.{noted, greeted_port, carried_port}
-use Rattle.bridge_api.specs.Step.{Input, second, frame, carrier, step, sent}
+use Rattle.bridge_api.specs.Step.{Input, second, frame, carrier, metric, step, sent}
 use Rattle.bridge_api.specs.Laws.{HellosAreHeard, IsSoundPort, IsSoundView, IsSent}
 use Rattle.bridge_api.proofs.Places.{got_at}
-use Rattle.bridge_api.proofs.Changes.{found, one_port, frame_step, greeted_ports, carrier_step, carried_ports, ticked, tick_port}
+use Rattle.bridge_api.proofs.Changes.{found, one_port, frame_step, greeted_ports, carrier_step, carried_ports, metric_step, ticked, tick_port}
 use Rattle.bridge_api.proofs.Hellos.{hellos_are_heard}
 use Rattle.spb_network.specs.Sound.{carrier_in, carrier_at}
 use Rattle.spb_network.proofs.BoxLemmas.{All-get}
@@ -40,6 +40,7 @@ pub sent_second : (input : Input) (v : BridgeView) (p : ℕ) (bytes : List ℕ) 
 sent_second second v p bytes some = refl
 sent_second (frame q heard) v p bytes some = absurd some
 sent_second (carrier q on) v p bytes some = absurd some
+sent_second (metric q m) v p bytes some = absurd some
 
 -- ---- which ports are Up
 
@@ -143,6 +144,7 @@ abbrev pub is_carrier : Input → Bool
 is_carrier second = false
 is_carrier (frame q bytes) = false
 is_carrier (carrier q on) = true
+is_carrier (metric q m) = false
 
 frame_carrier : (v : BridgeView) (q : ℕ) (bytes : List ℕ) (p : ℕ) → carrier_at (after_receive q bytes v) p ≡ carrier_at v p
 frame_carrier v q bytes p =
@@ -159,11 +161,25 @@ frame_carrier v q bytes p =
           ]
     ]
 
+metric_carrier : (v : BridgeView) (q m p : ℕ) → carrier_at (with_metric q m v) p ≡ carrier_at v p
+metric_carrier v q m p =
+    elim (metric_step v q m) [
+      | inl e ↦ ap (λ (u : BridgeView). carrier_at u p) e
+      | inr g ↦
+          let at = found v.ports q g.port g.there in
+          ap (λ (u : BridgeView). carrier_at u p) g.after
+          ∙ elim (one_port v.ports q g.port (metered m g.port) p at.0 at.1) [
+            | inl here ↦ ap carrier_in here.1 ∙ (sym (ap carrier_in g.there) ∙ ap (λ (k : ℕ). carrier_at v k) (sym here.0))
+            | inr same ↦ ap carrier_in same
+          ]
+    ]
+
 -- no other input changes the carrier of a port
 pub carrier_kept : (input : Input) (v : BridgeView) (p : ℕ) → is_carrier input ≡ false → carrier_at (step input v) p ≡ carrier_at v p
 carrier_kept second v p other = ap carrier_in (tick_port v p) ∙ tick_carrier_in (port_at v p)
 carrier_kept (frame q bytes) v p other = frame_carrier v q bytes p
 carrier_kept (carrier q on) v p other = absurd cc
+carrier_kept (metric q m) v p other = metric_carrier v q m p
 
 set_in : (o : Option BridgePort) (v : BridgeView) (q : ℕ) (on : Bool) → port_at v q ≡ o → is_some o ≡ true → carrier_in (port_in (carried_at q on o v).ports q) ≡ on
 set_in None v q on e some = absurd cc

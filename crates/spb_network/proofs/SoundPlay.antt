@@ -21,7 +21,7 @@ use Rattle.spb_network.specs.World.{World, names_of, things_of, place_of, Sound}
 use Rattle.spb_network.specs.Lanes.{no_frames}
 use Rattle.spb_network.specs.Declaring.{bridge_refusal, with_bridge, vid_refusal, link_refusal, plan_of, bridge_of, link_of, with_vid, with_link}
 use Rattle.spb_network.specs.State.{State, Spare}
-use Rattle.spb_network.specs.Events.{ticked, delivered, lost, doubled, switched_off, switched_on, rounds, drained}
+use Rattle.spb_network.specs.Events.{ticked, delivered, lost, doubled, metered_over, switched_off, switched_on, rounds, drained}
 use Rattle.spb_network.specs.Refusing.{box_for, declared_refusal, placed_link_refusal, named_link_refusal, refusal_of}
 use Rattle.spb_network.specs.Play.{config_of, boxed, declared, linked, placed_link, named_link, at_place, at_bridge, at_link, with_vid_more, with_rounds, with_drain, played, counted, next_state, played_all}
 use Rattle.spb_network.specs.Sound.{AreDistinct, carrier_in, IsSoundState, opening}
@@ -31,7 +31,8 @@ use Rattle.spb_network.proofs.WorldLemmas.{Sound-with_vid}
 use Rattle.spb_network.proofs.RefusalLemmas.{vid_refusal_none, IsFreeBridge, bridge_refusal_none, link_refusal_none}
 use Rattle.spb_network.proofs.SoundNames.{first_none, last_none, passes, distinct_bridge, distinct_link}
 use Rattle.spb_network.proofs.SoundEvents.{Sound-ticked, Sound-delivered, Sound-lost, Sound-doubled, Sound-switched_off, Sound-switched_on, Sound-rounds, Sound-drained}
-use Rattle.spb_network.proofs.SoundDeclaring.{empty_from, IsNewView, Sound-new_bridge, Sound-new_link, Sound-new_vid, Sound-nothing}
+use Rattle.spb_network.proofs.SoundDeclaring.{empty_from, IsNewView, Sound-new_bridge, Sound-new_vid, Sound-nothing}
+use Rattle.spb_network.proofs.SoundLinks.{Sound-new_link}
 
 pub events_keep_sound : EventsKeepSound
 events_keep_sound = record {
@@ -59,6 +60,7 @@ sound_again s t world views lanes sound =
       shown = same.shown;
       views = same.views;
       lit = same.lit;
+      metered = same.metered;
       short = same.short;
       idle = same.idle;
       agree = same.agree;
@@ -114,7 +116,7 @@ unfolding linked
 linked_sound s name i port_a j port_b cost sound none =
     let l : DeclaredLink = link_of i port_a j port_b cost in
     let new = link_refusal_none s.world name i port_a j port_b cost none in
-    Sound-switched_on (record s { world = with_link s.world name l; lanes = s.lanes ++ no_frames ∷ [] }) (length s.lanes) (Sound-new_link s name l sound new.new (distinct_link s.world name l sound.distinct new.name_new) refl)
+    Sound-switched_on (metered_over (record s { world = with_link s.world name l; lanes = s.lanes ++ no_frames ∷ [] }) l) (length s.lanes) (Sound-new_link s name l sound new.new (distinct_link s.world name l sound.distinct new.name_new) refl)
 
 placed_sound : (s : State) (name : List ℕ) (a b : Option ℕ) (port_a port_b cost : ℕ) → IsSoundState s → placed_link_refusal s name a port_a b port_b cost ≡ None → IsSoundState (placed_link s name a port_a b port_b cost)
 placed_sound s name None b port_a port_b cost sound none = sound

@@ -390,7 +390,7 @@ switched_link on (h ∷ ls) zero (suc j) l at = record { link = l; there = at; a
 switched_link on (h ∷ ls) (suc k) zero l at = record { link = h.1; there = refl; a = let is : h.1 ≡ l = cc in ap (λ (m : DeclaredLink). m.a) is; b = let is : h.1 ≡ l = cc in ap (λ (m : DeclaredLink). m.b) is }
 switched_link on (h ∷ ls) (suc k) (suc j) l at = let rest = switched_link on ls k j l at in record { link = rest.link; there = rest.there; a = rest.a; b = rest.b }
 
-same_near : (dir : Dir) (h l : DeclaredLink) → h.a ≡ l.a → h.b ≡ l.b → near_end dir h ≡ near_end dir l
+pub same_near : (dir : Dir) (h l : DeclaredLink) → h.a ≡ l.a → h.b ≡ l.b → near_end dir h ≡ near_end dir l
 same_near Ab h l a b = a
 same_near Ba h l a b = b
 

@@ -62,6 +62,14 @@ abbrev pub carried_over : Bool → State → Option DeclaredLink → State
 carried_over on s None = s
 carried_over on s (Some l) = carried on (carried on s l.a) l.b
 
+-- an end of a link gets its metric
+abbrev pub metered : State → LinkEnd → State
+metered s e = stepped (comes.metric e.port e.metric) s e.bridge
+
+-- and so do both, end a before end b
+abbrev pub metered_over : State → DeclaredLink → State
+metered_over s l = metered (metered s l.a) l.b
+
 -- both lanes of the link at place k lose their frames
 abbrev pub flushed : State → ℕ → State
 flushed s k = record s { lanes = changed_at (λ lanes. no_frames) s.lanes k }

@@ -20,7 +20,7 @@ use Rattle.spb_network.specs.World.{World, place_of, wired_tables}
 use Rattle.spb_network.specs.Declaring.{plan_of, bridge_of, link_of, with_vid, with_bridge, with_link}
 use Rattle.spb_network.specs.Lanes.{no_frames}
 use Rattle.spb_network.specs.State.{State}
-use Rattle.spb_network.specs.Events.{ticked, delivered, lost, doubled, switched_on, switched_off, rounds, drained}
+use Rattle.spb_network.specs.Events.{ticked, delivered, lost, doubled, metered_over, switched_on, switched_off, rounds, drained}
 use Rattle.spb_network.specs.Refusing.{box_for}
 
 -- what a declared bridge is configured with: no port has a link yet, and none is attached
@@ -35,9 +35,9 @@ boxed s name b (Some place) = record s { rack = remove s.rack place; world = wit
 unfoldable pub declared : State → List ℕ → DeclaredBridge → State
 declared s name b = boxed s name b (box_for s)
 
--- a link more, which comes up at once
+-- a link more: its ends get their metrics, and it comes up at once
 unfoldable pub linked : State → List ℕ → DeclaredLink → State
-linked s name l = switched_on (record s { world = with_link s.world name l; lanes = s.lanes ++ no_frames ∷ [] }) (length s.lanes)
+linked s name l = switched_on (metered_over (record s { world = with_link s.world name l; lanes = s.lanes ++ no_frames ∷ [] }) l) (length s.lanes)
 
 -- a link more between two bridges, by the places that were found for their names
 abbrev pub placed_link : State → List ℕ → Option ℕ → ℕ → Option ℕ → ℕ → ℕ → State

@@ -1,7 +1,7 @@
 -- What holds of a network at every moment, whatever came to its bridges and whatever became of the frames on their way.
 use Rattle.std.specs.Prelude.{◌≡◌, ◌≢◌, ◌⊎◌, ℕ, ◌≤◌, List, [], length, map, Bool, true, false, Option, Some, None, slice_get}
 use Rattle.std.specs.List.{AllByRecursion}
-use Rattle.std.specs.Option.{option_map_or}
+use Rattle.std.specs.Option.{option_map, option_map_or}
 use Rattle.std.specs.FinMap.{get}
 use Rattle.spb_types.specs.declared.address.LspId.{LspId}
 use Rattle.spb_types.specs.declared.service.VidPlan.{VidPlan}
@@ -67,6 +67,14 @@ is_lit links i p = option_map_or (λ way. is_live links way.link) (way_out links
 abbrev pub AreLit : List DeclaredLink → List BridgeView → Type 0
 AreLit links views = (i : ℕ) (v : BridgeView) (p : ℕ) → slice_get views i ≡ Some v → IsPort v p → carrier_at v p ≡ is_lit links i p
 
+-- the metric of the link at a port
+abbrev pub metric_at : BridgeView → ℕ → Option ℕ
+metric_at v p = option_map (λ port. port.metric) (port_at v p)
+
+-- the port at each end of a link has the metric of that end
+abbrev pub AreMetered : List DeclaredLink → List BridgeView → Type 0
+AreMetered links views = (k : ℕ) (dir : Dir) (l : DeclaredLink) (v : BridgeView) → slice_get links k ≡ Some l → slice_get views (near_end dir l).bridge ≡ Some v → metric_at v (near_end dir l).port ≡ Some (near_end dir l).metric
+
 -- ---- one direction of a link
 
 -- a port of a bridge, as its hellos name it
@@ -129,6 +137,7 @@ pub record IsSoundState (s : State) : Type 0 where
   pub shown : AreShown s.world s.views
   pub views : AllByRecursion IsSoundView s.views
   pub lit : AreLit (links_of s) s.views
+  pub metered : AreMetered (links_of s) s.views
   pub short : AreShort s.lanes
   pub idle : AreIdle (links_of s) s.lanes
   pub agree : AllAgree (links_of s) s.views s.lanes

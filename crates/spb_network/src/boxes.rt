@@ -1,6 +1,7 @@
 //! What one box of a list does. A place past the last box is one where nothing happens.
 ghost use Rattle.std.specs.Prelude.{◌≡◌, ◌≤◌, [], false, length, map, slice_get, OnOk, IfOk};
 ghost use Rattle.std.specs.Option.{option_map_or};
+ghost use Rattle.bridge_api.specs.Config.{IsMetric};
 ghost use Rattle.bridge_api.specs.Step as comes;
 ghost use Rattle.bridge_api.specs.Step.{sent, step, with_wire};
 ghost use Rattle.spb_network.specs.State.{changed_at};
@@ -58,6 +59,26 @@ pub fn carry<B: Bridge>(boxes: &mut Vec<B>, i: usize, port: u8, on: bool) -> Res
     match boxes.get_mut(i) {
         None => Ok(()),
         Some(bridge) => bridge.carrier(port, on),
+    }
+}
+
+/// Sets the metric of the link at a port of a bridge.
+pub fn set_metric<B: Bridge>(
+    boxes: &mut Vec<B>,
+    i: usize,
+    port: u8,
+    metric: u32,
+) -> Result<(), NoMemory>
+    requires made { AreMade B.blank boxes.old.items }
+    requires port { IsPortAt (map B.view boxes.old.items) i port }
+    requires metric { IsMetric metric }
+    ensures views { OnOk result (map B.view boxes.new.items
+        ≡ changed_at (step (comes.metric port metric)) (map B.view boxes.old.items) i) }
+    ensures made { OnOk result (AreMade B.blank boxes.new.items) }
+{
+    match boxes.get_mut(i) {
+        None => Ok(()),
+        Some(bridge) => bridge.set_metric(port, metric),
     }
 }
 

@@ -90,6 +90,30 @@ impl<B: Bridge> NetworkOf<B> {
         }
     }
 
+    /// An end of a link gets its metric.
+    fn meter(&mut self, end: LinkEnd) -> Result<(), NoMemory>
+        requires order { IsInOrder B.kind_of B.blank B.view self.old }
+        requires end { IsEnd self.old.world.bridges end }
+        ensures state { OnOk result (state_of B.kind_of B.blank B.view self.new
+            ≡ event.metered (state_of B.kind_of B.blank B.view self.old) end) }
+        ensures order { OnOk result (IsInOrder B.kind_of B.blank B.view self.new) }
+        ensures world { self.new.world ≡ self.old.world }
+    {
+        boxes::set_metric(&mut self.boxes, end.bridge, end.port, end.metric)
+    }
+
+    /// Both ends of a link get their metrics.
+    pub(crate) fn meter_over(&mut self, link: DeclaredLink) -> Result<(), NoMemory>
+        requires order { IsInOrder B.kind_of B.blank B.view self.old }
+        requires link { IsLink self.old.world.bridges link }
+        ensures state { OnOk result (state_of B.kind_of B.blank B.view self.new
+            ≡ event.metered_over (state_of B.kind_of B.blank B.view self.old) link) }
+        ensures order { OnOk result (IsInOrder B.kind_of B.blank B.view self.new) }
+    {
+        self.meter(link.a)?;
+        self.meter(link.b)
+    }
+
     /// The link at a place comes up.
     #[tactic(auto, unfolding(crate::specs::Events::switched_on))]
     pub(crate) fn switch_on(&mut self, place: usize) -> Result<(), NoMemory>

@@ -97,7 +97,8 @@ impl<B: Bridge> NetworkOf<B> {
         }
     }
 
-    /// Puts in a link between the bridges at two places that isn't refused, and switches it on.
+    /// Puts in a link between the bridges at two places that isn't refused, gives its ends their metrics, and switches
+    /// it on.
     #[tactic(auto, unfolding(crate::specs::Play::linked))]
     fn add_link(
         &mut self,
@@ -115,8 +116,11 @@ impl<B: Bridge> NetworkOf<B> {
         ensures made { OnOk result (AreMade B.blank self.new.boxes.items) }
     {
         let place = self.lanes.len();
-        self.world.declare_link(name, i, port_a, j, port_b, cost)?;
+        let link = self
+            .world
+            .declare_link(name, i, port_a, j, port_b, cost)?;
         self.lanes.push(Lanes::new(self.alloc))?;
+        self.meter_over(link)?;
         self.switch_on(place)
     }
 

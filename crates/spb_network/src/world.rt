@@ -294,8 +294,8 @@ impl World {
         Ok(())
     }
 
-    /// Declares a link between the bridges at two places, which isn't refused and isn't up yet. Its cost is the metric of
-    /// both ends. After NoMemory nothing changed.
+    /// Declares a link between the bridges at two places, which isn't refused and isn't up yet, and answers it. Its cost
+    /// is the metric of both ends. After NoMemory nothing changed.
     pub fn declare_link(
         &mut self,
         name: Name,
@@ -304,8 +304,9 @@ impl World {
         j: usize,
         port_b: u64,
         cost: u64,
-    ) -> Result<(), NoMemory>
+    ) -> Result<DeclaredLink, NoMemory>
         requires { declare.link_refusal self.old name i port_a j port_b cost ≡ None }
+        ensures link { IfOk result (λ link. link ≡ declare.link_of i port_a j port_b cost) }
         ensures ok { OnOk result (self.new
             ≡ declare.with_link self.old name (declare.link_of i port_a j port_b cost)) }
         ensures err { OnErr result (self.new ≡ self.old) }
@@ -329,7 +330,7 @@ impl World {
         insert_new(&mut self.links, name, link)?;
         self.hints.note(link.a, place);
         self.hints.note(link.b, place);
-        Ok(())
+        Ok(link)
     }
 
     /// The link at a place comes up, or goes down. Takes no memory.
