@@ -14,12 +14,12 @@ use Rattle.adjacency.specs.Hearing.{sender, is_discarded}
 use Rattle.adjacency.specs.Adjacency.{down, led_to, state_towards, after_hello, after_carrier, change_of, heard_of}
 use Rattle.bridge_api.specs.declared.port.BridgePort.{BridgePort}
 use Rattle.bridge_api.specs.View.{BridgeView, IsPort, port_in, port_at, has_carrier_in, has_carrier_at}
-use Rattle.bridge_api.specs.Hearing.{with_adjacency, after_receive, carried_at, with_carrier}
+use Rattle.bridge_api.specs.Hearing.{with_adjacency, after_receive, carried_at, with_carrier, metered, with_metric}
 use Rattle.bridge_api.specs.Ports.{greeted_port, carried_port}
-use Rattle.bridge_api.specs.Step.{second, frame, carrier}
+use Rattle.bridge_api.specs.Step.{second, frame, carrier, metric}
 use Rattle.bridge_api.specs.Laws.{StepsKeepCarrier}
 use Rattle.bridge_api.proofs.Places.{port_found, got_at}
-use Rattle.bridge_api.proofs.Changes.{found, one_port, frame_step, greeted_ports, carried_ports, ticked, tick_port}
+use Rattle.bridge_api.proofs.Changes.{found, one_port, frame_step, greeted_ports, carried_ports, metric_step, ticked, tick_port}
 use Rattle.bridge_api.proofs.Certified.{noted_keeps}
 use Rattle.bridge_api.proofs.Hellos.{later_carrier}
 
@@ -94,3 +94,14 @@ steps_keep_carrier (frame q bytes) v p is =
           ]
     ]
 steps_keep_carrier (carrier q on) v p is = told (port_at v q) v q on p is refl
+steps_keep_carrier (metric q m) v p is =
+    elim (metric_step v q m) [
+      | inl e ↦ ap (λ (u : BridgeView). has_carrier_in (port_at u p)) e
+      | inr g ↦
+          let at = found v.ports q g.port g.there in
+          ap (λ (u : BridgeView). has_carrier_in (port_at u p)) g.after
+          ∙ elim (one_port v.ports q g.port (metered m g.port) p at.0 at.1) [
+            | inl here ↦ ap has_carrier_in here.1 ∙ sym (ap (λ (k : ℕ). has_carrier_in (port_in v.ports k)) here.0 ∙ ap has_carrier_in g.there)
+            | inr same ↦ ap has_carrier_in same
+          ]
+    ]

@@ -6,6 +6,7 @@ use Rattle.std.specs.List.{AllByRecursion}
 use Rattle.std.specs.FinMap.{empty, get, get-empty}
 use Rattle.std.proofs.lemmas.List.{length-set, length-map}
 use Rattle.std.proofs.lemmas.Option.{slice_get-map}
+use Rattle.std.proofs.lemmas.Bool.{le-leb}
 use Rattle.spb_types.specs.declared.address.BridgeId.{BridgeId}
 use Rattle.spb_types.specs.declared.address.LspId.{LspId}
 use Rattle.isis_pdu.specs.Pdu.{HelloValue}
@@ -26,19 +27,19 @@ use Rattle.bridge_api.specs.declared.port.BridgePort.{BridgePort}
 use Rattle.bridge_api.specs.View.{BridgeView, IsPort, port_in, port_at, neighbour_at, is_port_up, is_up_in, is_up_at, is_due_at, is_due_in, has_carrier_in, has_carrier_at, metrics_of}
 use Rattle.bridge_api.specs.Config.{dark}
 use Rattle.bridge_api.specs.Judging.{judged}
-use Rattle.bridge_api.specs.Hearing.{with_due, with_adjacency, greeted, after_receive, carried_at, with_carrier}
+use Rattle.bridge_api.specs.Hearing.{with_due, with_adjacency, greeted, after_receive, carried_at, with_carrier, metered, metered_at, with_metric}
 use Rattle.bridge_api.specs.Ports.{noted, greeted_port, carried_port}
 use Rattle.bridge_api.specs.Ticking.{later, after_tick}
-use Rattle.bridge_api.specs.Step.{Input, second, frame, carrier, step}
-use Rattle.bridge_api.specs.Laws.{IsSoundPort, IsSoundView, ConfiguredIsSound, ConfiguredIsDark, StepsStaySound, IsSameBridge, StepsKeepBridge, StepsKeepNeighbours, IsFresh, EnteringUpIsWhole, StepsCarryDatabase, greeter}
+use Rattle.bridge_api.specs.Step.{Input, second, frame, carrier, metric, step}
+use Rattle.bridge_api.specs.Laws.{IsSoundPort, IsSoundView, ConfiguredIsSound, ConfiguredIsDark, StepsStaySound, metrics_after, IsSameBridge, StepsKeepBridge, StepsKeepNeighbours, IsFresh, EnteringUpIsWhole, StepsCarryDatabase, greeter}
 use Rattle.bridge_api.proofs.Places.{set_again, seen_set}
 use Rattle.bridge_api.proofs.Adjacent.{second_keeps, second_up, carrier_keeps, up_since, came_up, stayed_up, hello_sound, second_sound, carrier_sound, not_discarded}
-use Rattle.bridge_api.proofs.Changes.{found, one_port, Greeted, frame_step, greeted_ports, greeted_bridge, greeted_unheld, carrier_step, carried_ports, carried_bridge, carried_unheld, ticked, tick_port, tick_unheld}
+use Rattle.bridge_api.proofs.Changes.{found, one_port, Greeted, frame_step, greeted_ports, greeted_bridge, greeted_unheld, carrier_step, carried_ports, carried_bridge, carried_unheld, metric_step, ticked, tick_port, tick_unheld}
 
 -- ---- the bridge stays the same
 
-same_after : (v w : BridgeView) → w ≡ record v { ports = w.ports; database = w.database } → length w.ports ≡ length v.ports → metrics_of w.ports ≡ metrics_of v.ports → IsSameBridge v w
-same_after v w is ports metrics = record {
+same_after : (x : Input) (v w : BridgeView) → w ≡ record v { ports = w.ports; database = w.database } → length w.ports ≡ length v.ports → metrics_of w.ports ≡ metrics_after x (metrics_of v.ports) → IsSameBridge x v w
+same_after x v w is ports metrics = record {
   id = ap (λ (u : BridgeView). u.id) is;
   source = ap (λ (u : BridgeView). u.source) is;
   vids = ap (λ (u : BridgeView). u.vids) is;
@@ -48,17 +49,17 @@ same_after v w is ports metrics = record {
   failed = ap (λ (u : BridgeView). u.failed) is;
 }
 
-same_itself : (v w : BridgeView) → w ≡ v → IsSameBridge v w
-same_itself v w e = subst (λ (u : BridgeView). IsSameBridge v u) (sym e) (record { id = refl; source = refl; vids = refl; attached = refl; ports = refl; metrics = refl; failed = refl })
+same_itself : (x : Input) (v w : BridgeView) → w ≡ v → metrics_after x (metrics_of v.ports) ≡ metrics_of v.ports → IsSameBridge x v w
+same_itself x v w e kept = subst (λ (u : BridgeView). IsSameBridge x v u) (sym e) (record { id = refl; source = refl; vids = refl; attached = refl; ports = refl; metrics = sym kept; failed = refl })
 
 -- one port changed, and not its metric
-one_same : (v w : BridgeView) (q : ℕ) (from to : BridgePort) → port_at v q ≡ Some from → w ≡ record v { ports = w.ports; database = w.database } → w.ports ≡ slice_set v.ports (q - 1) to → to.metric ≡ from.metric → IsSameBridge v w
-one_same v w q from to there is ports metric =
+one_same : (x : Input) (v w : BridgeView) (q : ℕ) (from to : BridgePort) → port_at v q ≡ Some from → w ≡ record v { ports = w.ports; database = w.database } → w.ports ≡ slice_set v.ports (q - 1) to → to.metric ≡ from.metric → metrics_after x (metrics_of v.ports) ≡ metrics_of v.ports → IsSameBridge x v w
+one_same x v w q from to there is ports same kept =
     let metrics : metrics_of (slice_set v.ports (q - 1) to) ≡ metrics_of v.ports =
     seen_set (λ (port : BridgePort). port.metric) v.ports (q - 1) to
-    ∙ (ap (λ (m : ℕ). slice_set (metrics_of v.ports) (q - 1) m) metric
+    ∙ (ap (λ (m : ℕ). slice_set (metrics_of v.ports) (q - 1) m) same
     ∙ set_again (metrics_of v.ports) (q - 1) from.metric (slice_get-map (λ (port : BridgePort). port.metric) v.ports (q - 1) ∙ ap (option_map (λ (port : BridgePort). port.metric)) (found v.ports q from there).1)) in
-    same_after v w is (ap length ports ∙ length-set v.ports (q - 1) to) (ap metrics_of ports ∙ metrics)
+    same_after x v w is (ap length ports ∙ length-set v.ports (q - 1) to) (ap metrics_of ports ∙ (metrics ∙ sym kept))
 
 noted_metric : (heard : Heard) (port : BridgePort) → (noted heard port).metric ≡ port.metric
 noted_metric did.Kept port = refl
@@ -70,21 +71,34 @@ ticked_metrics : (ports : List BridgePort) → metrics_of (map (with_due false) 
 ticked_metrics [] = refl
 ticked_metrics (port ∷ ports) = ap (λ (ms : List ℕ). port.metric ∷ ms) (ticked_metrics ports)
 
+unset_at : (b : Bool) (ports : List BridgePort) (i m : ℕ) → (if b then slice_get ports i else None) ≡ None → metrics_of ports ≡ (if b then slice_set (metrics_of ports) i m else metrics_of ports)
+unset_at true [] i m none = refl
+unset_at true (port ∷ ports) zero m none = absurd cc
+unset_at true (port ∷ ports) (suc i) m none = ap (λ (ms : List ℕ). port.metric ∷ ms) (unset_at true ports i m none)
+unset_at false ports i m none = refl
+
+metric_same : (o : Option BridgePort) (v : BridgeView) (q m : ℕ) → port_at v q ≡ o → IsSameBridge (metric q m) v (metered_at q m o v)
+metric_same None v q m there = same_itself (metric q m) v v refl (sym (unset_at (nat_le 1 q) v.ports (q - 1) m there))
+metric_same (Some port) v q m there =
+    same_after (metric q m) v (metered_at q m (Some port) v) refl (length-set v.ports (q - 1) (metered m port))
+    (rw (le-leb 1 q (found v.ports q port there).0) (seen_set (λ (x : BridgePort). x.metric) v.ports (q - 1) (metered m port)))
+
 pub steps_keep_bridge : StepsKeepBridge
-unfolding after_tick
+unfolding after_tick with_metric
 steps_keep_bridge second v = record { id = refl; source = refl; vids = refl; attached = refl; ports = length-map (map later v.ports) (with_due false) ∙ length-map v.ports later; metrics = ticked_metrics v.ports; failed = refl }
 steps_keep_bridge (frame q bytes) v =
     elim (frame_step v q bytes) [
-      | inl e ↦ same_itself v (after_receive q bytes v) e
-      | inr g ↦ subst (λ (u : BridgeView). IsSameBridge v u) (sym g.after)
-          (one_same v (greeted g.hello g.way q g.port v) q g.port (greeted_port v.id.system q g.hello g.way g.port) g.there (greeted_bridge g.hello g.way q g.port v) (greeted_ports g.hello g.way q g.port v g.there) (noted_metric (heard_of v.id.system q g.hello g.way g.port.adjacency) (with_adjacency (after_hello v.id.system q g.hello g.way g.port.adjacency) g.port)))
+      | inl e ↦ same_itself (frame q bytes) v (after_receive q bytes v) e refl
+      | inr g ↦ subst (λ (u : BridgeView). IsSameBridge (frame q bytes) v u) (sym g.after)
+          (one_same (frame q bytes) v (greeted g.hello g.way q g.port v) q g.port (greeted_port v.id.system q g.hello g.way g.port) g.there (greeted_bridge g.hello g.way q g.port v) (greeted_ports g.hello g.way q g.port v g.there) (noted_metric (heard_of v.id.system q g.hello g.way g.port.adjacency) (with_adjacency (after_hello v.id.system q g.hello g.way g.port.adjacency) g.port)) refl)
     ]
 steps_keep_bridge (carrier q on) v =
     elim (carrier_step v q on) [
-      | inl e ↦ same_itself v (with_carrier q on v) e
-      | inr g ↦ subst (λ (u : BridgeView). IsSameBridge v u) (sym g.after)
-          (one_same v (carried_at q on (Some g.port) v) q g.port (carried_port on g.port) g.there (carried_bridge q on g.port v) (carried_ports q on g.port v g.there) (noted_metric (change_of g.port.adjacency (after_carrier on g.port.adjacency)) (with_adjacency (after_carrier on g.port.adjacency) g.port)))
+      | inl e ↦ same_itself (carrier q on) v (with_carrier q on v) e refl
+      | inr g ↦ subst (λ (u : BridgeView). IsSameBridge (carrier q on) v u) (sym g.after)
+          (one_same (carrier q on) v (carried_at q on (Some g.port) v) q g.port (carried_port on g.port) g.there (carried_bridge q on g.port v) (carried_ports q on g.port v g.there) (noted_metric (change_of g.port.adjacency (after_carrier on g.port.adjacency)) (with_adjacency (after_carrier on g.port.adjacency) g.port)) refl)
     ]
+steps_keep_bridge (metric q m) v = metric_same (port_at v q) v q m refl
 
 -- a step keeps the number of ports
 pub ports_after : (input : Input) (v w : BridgeView) → w ≡ step input v → length w.ports ≡ length v.ports
@@ -154,6 +168,11 @@ steps_keep_neighbours (carrier q on) v p n kept =
       | inl e ↦ inl (subst (λ (u : BridgeView). neighbour_at u p ≡ Some n) e kept)
       | inr g ↦ no_cause q p (one_keeps v (with_carrier q on v) q g.port (carried_port on g.port) p n ⊥ g.there (ap (λ (u : BridgeView). u.ports) g.after ∙ carried_ports q on g.port v g.there) (carried_keeps on g.port n) kept)
     ]
+steps_keep_neighbours (metric q m) v p n kept =
+    elim (metric_step v q m) [
+      | inl e ↦ inl (subst (λ (u : BridgeView). neighbour_at u p ≡ Some n) e kept)
+      | inr g ↦ no_cause q p (one_keeps v (with_metric q m v) q g.port (metered m g.port) p n ⊥ g.there (ap (λ (u : BridgeView). u.ports) g.after) (λ was. inl was) kept)
+    ]
 
 -- ---- what is sound
 
@@ -194,7 +213,7 @@ all_at (x ∷ ports) (suc i) port all is = all_at ports i port all.1 is
 
 all_dark : (metrics : List ℕ) → AllByRecursion IsSoundPort (map dark metrics)
 all_dark [] = tt
-all_dark (metric ∷ metrics) = (record { adjacency = refl; due = λ e. absurd cc }, all_dark metrics)
+all_dark (m ∷ ms) = (record { adjacency = refl; due = λ e. absurd cc }, all_dark ms)
 
 pub configured_is_sound : ConfiguredIsSound
 configured_is_sound c whole = record {
@@ -206,13 +225,13 @@ configured_is_sound c whole = record {
 
 dark_metrics : (metrics : List ℕ) → metrics_of (map dark metrics) ≡ metrics
 dark_metrics [] = refl
-dark_metrics (metric ∷ metrics) = ap (λ (ms : List ℕ). metric ∷ ms) (dark_metrics metrics)
+dark_metrics (m ∷ ms) = ap (λ (list : List ℕ). m ∷ list) (dark_metrics ms)
 
 -- a port that is found there is dark
 dark_found : {X : Type 0} (f : Option BridgePort → X) (x : X) → f None ≡ x → ((metric : ℕ) → f (Some (dark metric)) ≡ x) → (metrics : List ℕ) (i : ℕ) → f (slice_get (map dark metrics) i) ≡ x
 dark_found f x none some [] i = none
-dark_found f x none some (metric ∷ metrics) zero = some metric
-dark_found f x none some (metric ∷ metrics) (suc i) = dark_found f x none some metrics i
+dark_found f x none some (m ∷ ms) zero = some m
+dark_found f x none some (m ∷ ms) (suc i) = dark_found f x none some ms i
 
 dark_in : {X : Type 0} (f : Option BridgePort → X) (x : X) → f None ≡ x → ((metric : ℕ) → f (Some (dark metric)) ≡ x) → (low : Bool) (metrics : List ℕ) (i : ℕ) → f (if low then slice_get (map dark metrics) i else None) ≡ x
 dark_in f x none some true metrics i = dark_found f x none some metrics i
@@ -227,8 +246,8 @@ configured_is_dark c whole = record {
   neighbour = λ p. dark_in neighbour_in None refl (λ metric. refl) (nat_le 1 p) c.metrics (p - 1);
 }
 
-sound_after : (v w : BridgeView) → IsSoundView v → IsSameBridge v w → AllByRecursion IsSoundPort w.ports → w.database ≡ empty → IsSoundView w
-sound_after v w was same ports unheld = record {
+sound_after : (x : Input) (v w : BridgeView) → IsSoundView v → IsSameBridge x v w → AllByRecursion IsSoundPort w.ports → w.database ≡ empty → IsSoundView w
+sound_after x v w was same ports unheld = record {
   address = ap (λ (id : BridgeId). length id.system.mac.bytes) same.id ∙ was.address;
   few = omega (arith, same.ports, was.few);
   ports = ports;
@@ -237,14 +256,14 @@ sound_after v w was same ports unheld = record {
 
 pub steps_stay_sound : StepsStaySound
 unfolding after_tick
-steps_stay_sound second v was = sound_after v (after_tick v) was (steps_keep_bridge second v) (all_ticked v.ports was.ports) (tick_unheld v was.unheld)
+steps_stay_sound second v was = sound_after second v (after_tick v) was (steps_keep_bridge second v) (all_ticked v.ports was.ports) (tick_unheld v was.unheld)
 steps_stay_sound (frame q bytes) v was =
     elim (frame_step v q bytes) [
       | inl e ↦ subst IsSoundView (sym e) was
       | inr g ↦
           let at = found v.ports q g.port g.there in
           let sound = greeted_sound v q g.hello g.way g.port (all_at v.ports (q - 1) g.port was.ports at.1) in
-          sound_after v (after_receive q bytes v) was (steps_keep_bridge (frame q bytes) v)
+          sound_after (frame q bytes) v (after_receive q bytes v) was (steps_keep_bridge (frame q bytes) v)
           (subst (λ (ports : List BridgePort). AllByRecursion IsSoundPort ports) (sym (ap (λ (u : BridgeView). u.ports) g.after ∙ greeted_ports g.hello g.way q g.port v g.there)) (all_set v.ports (q - 1) _ was.ports sound))
           (ap (λ (u : BridgeView). u.database) g.after ∙ greeted_unheld g.hello g.way q g.port v was.unheld)
     ]
@@ -255,9 +274,19 @@ steps_stay_sound (carrier q on) v was =
           let at = found v.ports q g.port g.there in
           let port = all_at v.ports (q - 1) g.port was.ports at.1 in
           let sound = change_sound g.port (after_carrier on g.port.adjacency) port (carrier_sound on g.port.adjacency port.adjacency) in
-          sound_after v (with_carrier q on v) was (steps_keep_bridge (carrier q on) v)
+          sound_after (carrier q on) v (with_carrier q on v) was (steps_keep_bridge (carrier q on) v)
           (subst (λ (ports : List BridgePort). AllByRecursion IsSoundPort ports) (sym (ap (λ (u : BridgeView). u.ports) g.after ∙ carried_ports q on g.port v g.there)) (all_set v.ports (q - 1) _ was.ports sound))
           (ap (λ (u : BridgeView). u.database) g.after ∙ carried_unheld q on g.port v was.unheld)
+    ]
+steps_stay_sound (metric q m) v was =
+    elim (metric_step v q m) [
+      | inl e ↦ subst IsSoundView (sym e) was
+      | inr g ↦
+          let at = found v.ports q g.port g.there in
+          let port = all_at v.ports (q - 1) g.port was.ports at.1 in
+          sound_after (metric q m) v (with_metric q m v) was (steps_keep_bridge (metric q m) v)
+          (subst (λ (ports : List BridgePort). AllByRecursion IsSoundPort ports) (sym (ap (λ (u : BridgeView). u.ports) g.after)) (all_set v.ports (q - 1) (metered m g.port) was.ports (record { adjacency = port.adjacency; due = port.due })))
+          (ap (λ (u : BridgeView). u.database) g.after ∙ was.unheld)
     ]
 
 -- ---- entering Up, and the database
@@ -329,6 +358,12 @@ entering_up_is_whole (carrier q on) v p was up =
     (elim (carrier_step v q on) [
       | inl e ↦ inl (subst (λ (u : BridgeView). is_up_at u p ≡ true) e up, ap (λ (u : BridgeView). neighbour_at u p) e)
       | inr g ↦ one_enters v (with_carrier q on v) q g.port (carried_port on g.port) p g.there (ap (λ (u : BridgeView). u.ports) g.after ∙ carried_ports q on g.port v g.there) (change_enters g.port (after_carrier on g.port.adjacency)) up
+    ])
+entering_up_is_whole (metric q m) v p was up =
+    with_flags v (with_metric q m v) p (steps_stay_sound (metric q m) v was).unheld
+    (elim (metric_step v q m) [
+      | inl e ↦ inl (subst (λ (u : BridgeView). is_up_at u p ≡ true) e up, ap (λ (u : BridgeView). neighbour_at u p) e)
+      | inr g ↦ one_enters v (with_metric q m v) q g.port (metered m g.port) p g.there (ap (λ (u : BridgeView). u.ports) g.after) (λ is. inr (is, refl)) up
     ])
 
 absent_least : (version : Version) → IsAtMost Absent version

@@ -15,9 +15,9 @@ use Rattle.adjacency.specs.declared.state.Heard.TheVariants.{Kept, CameUp, LeftU
 use Rattle.adjacency.specs.declared.port.Adjacency.{Adjacency}
 use Rattle.adjacency.specs.Adjacency.{after_hello, heard_of, after_carrier, change_of}
 use Rattle.bridge_api.specs.declared.port.BridgePort.{BridgePort}
-use Rattle.bridge_api.specs.View.{BridgeView, port_in, port_at, is_port_up}
+use Rattle.bridge_api.specs.View.{BridgeView, port_in, port_at, with_port_at, is_port_up}
 use Rattle.bridge_api.specs.Judging.{Judged, useless, greeting, link_state, complete, partial, tenant, greeting_in, judged, entries_in}
-use Rattle.bridge_api.specs.Hearing.{with_due, with_adjacency, changed_at, with_complete, with_partial, heard_as, heard_at, greeted, after_receive, carried_at, with_carrier}
+use Rattle.bridge_api.specs.Hearing.{with_due, with_adjacency, changed_at, with_complete, with_partial, heard_as, heard_at, greeted, after_receive, carried_at, with_carrier, metered, metered_at, with_metric}
 use Rattle.bridge_api.specs.Ports.{noted, greeted_port, carried_port}
 use Rattle.bridge_api.specs.Ticking.{later, after_tick}
 use Rattle.bridge_api.proofs.Places.{each_none, port_found, set_again, got_at, got_beside}
@@ -157,6 +157,21 @@ carried_bridge q on port v = changed_bridge (change_of port.adjacency (after_car
 pub carried_unheld : (q : ℕ) (on : Bool) (port : BridgePort) (v : BridgeView) → v.database ≡ empty → (carried_at q on (Some port) v).database ≡ empty
 carried_unheld q on port v unheld = changed_unheld (change_of port.adjacency (after_carrier on port.adjacency)) q (with_adjacency (after_carrier on port.adjacency) port) v unheld
 
+-- ---- a metric
+
+pub record Metered (v : BridgeView) (q m : ℕ) (w : BridgeView) : Type 0 where
+  pub port : BridgePort
+  pub there : port_at v q ≡ Some port
+  pub after : w ≡ with_port_at q (metered m port) v
+
+metric_port : (o : Option BridgePort) (v : BridgeView) (q m : ℕ) → port_at v q ≡ o → (metered_at q m o v ≡ v) ⊎ Metered v q m (metered_at q m o v)
+metric_port None v q m e = inl refl
+metric_port (Some port) v q m e = inr (record { port = port; there = e; after = refl })
+
+pub metric_step : (v : BridgeView) (q m : ℕ) → (with_metric q m v ≡ v) ⊎ Metered v q m (with_metric q m v)
+unfolding with_metric
+metric_step v q m = metric_port (port_at v q) v q m refl
+
 -- ---- a second
 
 -- a port after a tick
@@ -229,6 +244,10 @@ unfolding with_carrier
 carried_is v q on port unheld low at =
     ap (λ (o : Option BridgePort). carried_at q on o v) (port_found v q low ∙ at)
     ∙ same_view v (carried_at q on (Some port) v) (slice_set v.ports (q - 1) (carried_port on port)) unheld (carried_bridge q on port v) (carried_ports q on port v (port_found v q low ∙ at)) (carried_unheld q on port v unheld)
+
+pub metered_is : (v : BridgeView) (q m : ℕ) (port : BridgePort) → 1 ≤ q → slice_get v.ports (q - 1) ≡ Some port → with_metric q m v ≡ with_ports (slice_set v.ports (q - 1) (metered m port)) v
+unfolding with_metric
+metered_is v q m port low at = ap (λ (o : Option BridgePort). metered_at q m o v) (port_found v q low ∙ at)
 
 pub tick_is : (v : BridgeView) → v.database ≡ empty → after_tick v ≡ with_ports (map (with_due false) (map later v.ports)) v
 unfolding after_tick

@@ -1,4 +1,4 @@
--- What hearing a frame, and a change of carrier, make of a bridge.
+-- What hearing a frame, a change of carrier, and setting a metric make of a bridge.
 use Rattle.std.specs.Prelude.{ℕ, List, Bool, true, false, Option, Some, None, Result, Ok, Err, if◌then◌else◌}
 use Rattle.spb_types.specs.declared.address.Mac.{Mac}
 use Rattle.spb_types.specs.declared.service.Vid.{Vid}
@@ -26,12 +26,15 @@ dropped reason v = v
 abbrev pub settled : BridgeView → BridgeView
 settled v = v
 
--- a port with another adjacency, and with CSNPs due or not
+-- a port with another adjacency, with CSNPs due or not, and with another metric
 abbrev pub with_adjacency : Adjacency → BridgePort → BridgePort
 with_adjacency adjacency port = record port { adjacency = adjacency }
 
 abbrev pub with_due : Bool → BridgePort → BridgePort
 with_due due port = record port { due = due }
+
+abbrev pub metered : ℕ → BridgePort → BridgePort
+metered m port = record port { metric = m }
 
 -- on leaving Up, the flags of the port are cleared
 abbrev pub left : ℕ → BridgePort → BridgeView → BridgeView
@@ -108,3 +111,11 @@ carried_at p on (Some port) v =
 
 unfoldable pub with_carrier : ℕ → Bool → BridgeView → BridgeView
 with_carrier p on v = carried_at p on (port_at v p) v
+
+-- a bridge after the metric of the link at its port number p was set
+abbrev pub metered_at : ℕ → ℕ → Option BridgePort → BridgeView → BridgeView
+metered_at p m None v = v
+metered_at p m (Some port) v = settled (with_port_at p (metered m port) v)
+
+unfoldable pub with_metric : ℕ → ℕ → BridgeView → BridgeView
+with_metric p m v = metered_at p m (port_at v p) v

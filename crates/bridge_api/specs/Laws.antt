@@ -1,5 +1,5 @@
 -- What every step of a bridge keeps, whatever comes to it: the facts that a network rests on.
-use Rattle.std.specs.Prelude.{◌≡◌, ◌≢◌, ◌⊎◌, ℕ, ◌≤◌, List, [], ◌∷◌, length, Bool, true, false, ◌==◌, if◌then◌else◌, Option, Some, None}
+use Rattle.std.specs.Prelude.{◌≡◌, ◌≢◌, ◌⊎◌, ℕ, ◌-◌, ◌≤◌, nat_le, List, [], ◌∷◌, length, slice_set, Bool, true, false, ◌==◌, if◌then◌else◌, Option, Some, None}
 use Rattle.std.specs.List.{AllByRecursion}
 use Rattle.std.specs.Option.{option_map}
 use Rattle.std.specs.FinMap.{empty, get}
@@ -19,7 +19,7 @@ use Rattle.bridge_api.specs.View.{BridgeView, IsPort, neighbour_at, is_up_at, ha
 use Rattle.bridge_api.specs.Config.{IsWhole, configured}
 use Rattle.bridge_api.specs.Judging.{Judged, greeting, greeting_in, judged}
 use Rattle.bridge_api.specs.Hearing.{with_carrier}
-use Rattle.bridge_api.specs.Step.{Input, second, frame, carrier, step, sent}
+use Rattle.bridge_api.specs.Step.{Input, second, frame, carrier, metric, step, sent}
 
 -- a port whose adjacency is sound, and where CSNPs are due only if it is Up
 pub record IsSoundPort (port : BridgePort) : Type 0 where
@@ -50,24 +50,32 @@ ConfiguredIsDark = (c : BridgeConfig) → IsWhole c → IsDark c (configured c)
 abbrev pub StepsStaySound : Type 0
 StepsStaySound = (input : Input) (v : BridgeView) → IsSoundView v → IsSoundView (step input v)
 
--- the same bridge: its ids, its VIDs, what is attached, the number of its ports and their metrics
-pub record IsSameBridge (v w : BridgeView) : Type 0 where
+-- the metric of the link at a port is set by an input that says so, and by nothing else
+abbrev pub metrics_after : Input → List ℕ → List ℕ
+metrics_after second metrics = metrics
+metrics_after (frame q bytes) metrics = metrics
+metrics_after (carrier q on) metrics = metrics
+metrics_after (metric q m) metrics = if nat_le 1 q then slice_set metrics (q - 1) m else metrics
+
+-- the same bridge: its ids, its VIDs, what is attached, the number of its ports, and their metrics but for one that is set
+pub record IsSameBridge (input : Input) (v w : BridgeView) : Type 0 where
   pub id : w.id ≡ v.id
   pub source : w.source ≡ v.source
   pub vids : w.vids ≡ v.vids
   pub attached : w.attached ≡ v.attached
   pub ports : length w.ports ≡ length v.ports
-  pub metrics : metrics_of w.ports ≡ metrics_of v.ports
+  pub metrics : metrics_of w.ports ≡ metrics_after input (metrics_of v.ports)
   pub failed : w.failed ≡ v.failed
 
 abbrev pub StepsKeepBridge : Type 0
-StepsKeepBridge = (input : Input) (v : BridgeView) → IsSameBridge v (step input v)
+StepsKeepBridge = (input : Input) (v : BridgeView) → IsSameBridge input v (step input v)
 
 -- carrier comes and goes at a port by a change of carrier there, and by nothing else
 abbrev pub carrier_after : Input → ℕ → Bool → Bool
 carrier_after second p was = was
 carrier_after (frame q bytes) p was = was
 carrier_after (carrier q on) p was = if p == q then on else was
+carrier_after (metric q m) p was = was
 
 abbrev pub StepsKeepCarrier : Type 0
 StepsKeepCarrier = (input : Input) (v : BridgeView) (p : ℕ) → IsPort v p → has_carrier_at (step input v) p ≡ carrier_after input p (has_carrier_at v p)
@@ -81,6 +89,7 @@ abbrev pub IsHeard : Input → ℕ → End → Type 0
 IsHeard second p n = ⊥
 IsHeard (frame q bytes) p n = (q ≡ p) × (greeter (judged bytes) ≡ Some n)
 IsHeard (carrier q on) p n = ⊥
+IsHeard (metric q m) p n = ⊥
 
 -- a neighbour that is kept was kept before, or is the end that was just heard
 abbrev pub StepsKeepNeighbours : Type 0
@@ -130,6 +139,7 @@ abbrev pub port_of : Input → ℕ
 port_of second = 0
 port_of (frame p bytes) = p
 port_of (carrier p on) = p
+port_of (metric p m) = p
 
 abbrev pub claims_of : Input → List Claim
 claims_of input = []

@@ -14,8 +14,8 @@ pub trait Bridge: Drop {
     ghost use Rattle.std.specs.Prelude.{◌≡◌, Bool, true, false, OnOk, OnErr, IsErr, Some};
     ghost use Rattle.bridge_api.specs.declared.kind.Kind.{Kind};
     ghost use Rattle.bridge_api.specs.View.{BridgeView, IsPort, port_at, is_due_at, adjacency_at};
-    ghost use Rattle.bridge_api.specs.Config.{IsWhole, configured};
-    ghost use Rattle.bridge_api.specs.Hearing.{after_receive, with_carrier};
+    ghost use Rattle.bridge_api.specs.Config.{IsWhole, IsMetric, configured};
+    ghost use Rattle.bridge_api.specs.Hearing.{after_receive, with_carrier, with_metric};
     ghost use Rattle.bridge_api.specs.Ticking.{after_tick, sent_in_tick};
     ghost use Rattle.bridge_api.specs.Step.{with_wire, Gains};
 
@@ -82,6 +82,17 @@ pub trait Bridge: Drop {
         ensures still_made { blank self.new ≡ false }
         ensures kind { kind_of self.new ≡ kind_of self.old };
 
+    /// Sets the metric of the link at a port, from 1 to 16,777,214 (ISO/IEC 10589, RFC 5305 section 3).
+    fn set_metric(&mut self, port: u8, metric: u32) -> Result<(), NoMemory>
+        requires made { blank self.old ≡ false }
+        requires port { IsPort (view self.old) port }
+        requires metric { IsMetric metric }
+        ensures view { OnOk result (view self.new ≡ with_metric port metric (view self.old)) }
+        ensures memory { OnErr result ((view self.new).failed ≡ true) }
+        ensures failed { (view self.old).failed ≡ true → IsErr result × (view self.new ≡ view self.old) }
+        ensures still_made { blank self.new ≡ false }
+        ensures kind { kind_of self.new ≡ kind_of self.old };
+
     /// The adjacency at a port.
     fn adjacent(&self, port: u8) -> Adjacency
         requires made { blank self.now ≡ false }
@@ -128,6 +139,10 @@ impl Bridge for Box<dyn Bridge> {
 
     fn carrier(&mut self, port: u8, on: bool) -> Result<(), NoMemory> {
         (**self).carrier(port, on)
+    }
+
+    fn set_metric(&mut self, port: u8, metric: u32) -> Result<(), NoMemory> {
+        (**self).set_metric(port, metric)
     }
 
     fn adjacent(&self, port: u8) -> Adjacency {

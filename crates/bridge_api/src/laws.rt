@@ -10,8 +10,8 @@ pub fn bridges_are_sound()
     ensures steps { StepsStaySound }
 {}
 
-/// A bridge keeps its ids, its VIDs, what is attached, and its ports with their metrics; and the carrier of a port
-/// changes by a change of carrier there alone.
+/// A bridge keeps its ids, its VIDs, what is attached, and its ports; and the metric and the carrier of a port change by
+/// setting the metric there, and by a change of carrier there, alone.
 pub fn steps_keep_the_bridge()
     ensures bridge { StepsKeepBridge }
     ensures carrier { StepsKeepCarrier }

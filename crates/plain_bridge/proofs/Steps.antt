@@ -7,11 +7,11 @@ use Rattle.spb_tlvs.specs.declared.three_way.ThreeWay.{ThreeWay}
 use Rattle.bridge_api.specs.declared.port.BridgePort.{BridgePort}
 use Rattle.bridge_api.specs.View.{IsPort, adjacency_at, is_due_at, is_due_in}
 use Rattle.bridge_api.specs.Judging.{greeting_in, judged}
-use Rattle.bridge_api.specs.Hearing.{with_due, after_receive, with_carrier}
+use Rattle.bridge_api.specs.Hearing.{with_due, after_receive, with_carrier, metered, with_metric}
 use Rattle.bridge_api.specs.Ports.{greeted_port, carried_port}
 use Rattle.bridge_api.specs.Ticking.{later, after_tick, sent_in_tick, sent_from}
 use Rattle.bridge_api.proofs.Places.{port_found}
-use Rattle.bridge_api.proofs.Changes.{tick_is, deaf_is, idle_is, greeted_is, carried_is}
+use Rattle.bridge_api.proofs.Changes.{tick_is, deaf_is, idle_is, greeted_is, carried_is, metered_is}
 use Rattle.plain_bridge.specs.Plain.{Plain, view_of}
 
 there : (ports : List BridgePort) (i : ℕ) (port : BridgePort) → i < length ports → port ≡ get_or ports i port → slice_get ports i ≡ Some port
@@ -64,12 +64,17 @@ greeted_plain b p k bytes seen port new h way is_seen is lit some made =
     (λ i. view_of (record b { ports = slice_set b.ports (place i) (made i) }))
     ∙ sym (greeted_is (view_of b) p bytes port h way refl is.low (read_at b p k port is) lit' (sym some))
 
--- ---- carrier, and the questions
+-- ---- carrier, a metric, and the questions
 
 pub carried_plain : (b : Plain) (p k : ℕ) (on : Bool) (port new : BridgePort) → IsRead b p k port → new ≡ carried_port on port → view_of (record b { ports = slice_set b.ports (k - 1) new }) ≡ with_carrier p on (view_of b)
 carried_plain b p k on port new is made =
     let place : k - 1 ≡ p - 1 = omega (arith, is.same) in
     (λ i. view_of (record b { ports = slice_set b.ports (place i) (made i) })) ∙ sym (carried_is (view_of b) p on port refl is.low (read_at b p k port is))
+
+pub metered_plain : (b : Plain) (p k m : ℕ) (port new : BridgePort) → IsRead b p k port → new ≡ metered m port → view_of (record b { ports = slice_set b.ports (k - 1) new }) ≡ with_metric p m (view_of b)
+metered_plain b p k m port new is made =
+    let place : k - 1 ≡ p - 1 = omega (arith, is.same) in
+    (λ i. view_of (record b { ports = slice_set b.ports (place i) (made i) })) ∙ sym (metered_is (view_of b) p m port is.low (read_at b p k port is))
 
 pub adjacent_plain : (b : Plain) (p k : ℕ) (port : BridgePort) → IsRead b p k port → Some port.adjacency ≡ adjacency_at (view_of b) p
 unfolding adjacency_at

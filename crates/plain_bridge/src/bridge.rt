@@ -1,13 +1,13 @@
 ghost use Rattle.std.specs.Prelude.{◌≡◌, true, false, ◌↔◌, OnOk, OnErr, IsErr};
 ghost use Rattle.bridge_api.specs.View.{IsPort};
 ghost use Rattle.bridge_api.specs.Config.{IsWhole, configured};
-ghost use Rattle.bridge_api.specs.Hearing.{after_receive, with_carrier};
+ghost use Rattle.bridge_api.specs.Hearing.{after_receive, with_carrier, with_metric};
 ghost use Rattle.bridge_api.specs.Ticking.{after_tick, sent_in_tick};
 ghost use Rattle.bridge_api.specs.Step.{with_wire, Gains};
 ghost use Rattle.plain_bridge.specs.Plain as plain;
 
 use crate::hello::{hello_in, send_hellos};
-use crate::ports::{carry, clear_due, count_down, dark_ports, greet};
+use crate::ports::{carry, clear_due, count_down, dark_ports, greet, meter};
 use adjacency::Adjacency;
 use bridge_api::{Bridge, BridgeConfig, BridgePort, Kind, Outbox};
 use spb_types::{Attachment, BridgeId, Mac, NoMemory, Seq, SourceId, SystemId, VidPlan};
@@ -132,6 +132,14 @@ impl PlainBridge {
     {
         carry(&mut self.ports[usize::from(port) - 1], on);
     }
+
+    fn put_metric(&mut self, port: u8, metric: u32)
+        requires { IsPort (plain.view_of self.old) port }
+        ensures view { plain.view_of self.new ≡ with_metric port metric (plain.view_of self.old) }
+        ensures blank { self.new.blank ≡ self.old.blank }
+    {
+        meter(&mut self.ports[usize::from(port) - 1], metric);
+    }
 }
 
 impl Bridge for PlainBridge {
@@ -177,6 +185,12 @@ impl Bridge for PlainBridge {
     fn carrier(&mut self, port: u8, on: bool) -> Result<(), NoMemory> {
         self.refuse_failed()?;
         self.set_carrier(port, on);
+        Ok(())
+    }
+
+    fn set_metric(&mut self, port: u8, metric: u32) -> Result<(), NoMemory> {
+        self.refuse_failed()?;
+        self.put_metric(port, metric);
         Ok(())
     }
 

@@ -85,6 +85,15 @@ pub(crate) fn carry(port: &mut BridgePort, on: bool)
     note(port, heard);
 }
 
+/// Sets the metric of the link at a port.
+pub(crate) fn meter(port: &mut BridgePort, metric: u32)
+    requires { IsSound port.old.adjacency }
+    ensures new { port.new ≡ api.metered metric port.old }
+    ensures sound { IsSound port.new.adjacency }
+{
+    port.metric = metric;
+}
+
 /// CSNPs are due at a port that came up, and none at one that left Up.
 fn note(port: &mut BridgePort, heard: Heard)
     ensures new { port.new ≡ noted heard port.old }

@@ -114,6 +114,7 @@ fn the_first_hello_names_nobody(rt: HostRuntime) -> Result<(), Fail> {
     let alloc = rt.alloc();
     let mut a: Box<dyn Bridge> = Box::new(alloc, PlainBridge::blank(alloc))?;
     make(alloc, &mut a, 1)?;
+    a.set_metric(1, 20)?;
     let mut outbox = Outbox::new(alloc);
     a.tick(&mut outbox)?;
     match outbox.wire.as_slice() {

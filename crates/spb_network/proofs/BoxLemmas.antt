@@ -1,0 +1,103 @@
+-- One item of a list is changed.
+use Rattle.std.proofs.Common.{Bor, MutBor, Result, Ok, Err, OnOk, ◌++◌, ◌≡◌, ℕ, zero, suc, ◌<◌, ◌≤◌, List, [], ◌∷◌, map, length, Option, Some, None, slice_get, refl, sym, subst, ap, ◌∙◌, arith}
+use Rattle.std.specs.List.{AllByRecursion, slice_index_or, slice_set, IsItemAtMut, ItemBy}
+use Rattle.std.specs.Option.{option_map_or}
+use Rattle.bridge_api.specs.declared.outbox.Outbox.{Outbox}
+use Rattle.bridge_api.specs.Step.{with_wire}
+use Rattle.spb_network.specs.State.{changed_at}
+
+some-is : {X : Type 0} (x y : X) → Some x ≡ Some y → x ≡ y
+some-is x y h = cc
+
+-- a write of the item at a place, seen through `v`
+pub map-set : {B V : Type 0} (v : B → V) (f : V → V) (bs : List B) (i : ℕ) (x y : B) → slice_get bs i ≡ Some x → v y ≡ f (v x) → map v (slice_set bs i y) ≡ changed_at f (map v bs) i
+map-set v f [] i x y h g = cc
+map-set v f (b ∷ bs) zero x y h g = ap (λ w. w ∷ map v bs) (g ∙ ap (λ c. f (v c)) (sym (some-is b x h)))
+map-set v f (b ∷ bs) (suc i) x y h g = ap (λ ws. v b ∷ ws) (map-set v f bs i x y h g)
+
+-- nothing changes past the last item
+pub changed-none : {B V : Type 0} (v : B → V) (f : V → V) (bs : List B) (i : ℕ) → slice_get bs i ≡ None → map v bs ≡ changed_at f (map v bs) i
+changed-none v f [] i h = refl
+changed-none v f (b ∷ bs) zero h = cc
+changed-none v f (b ∷ bs) (suc i) h = ap (λ ws. v b ∷ ws) (changed-none v f bs i h)
+
+pub get-map : {B V : Type 0} (v : B → V) (bs : List B) (i : ℕ) (x : B) → slice_get bs i ≡ Some x → slice_get (map v bs) i ≡ Some (v x)
+get-map v [] i x h = cc
+get-map v (b ∷ bs) zero x h = ap (λ c. Some (v c)) (some-is b x h)
+get-map v (b ∷ bs) (suc i) x h = get-map v bs i x h
+
+pub get-map-none : {B V : Type 0} (v : B → V) (bs : List B) (i : ℕ) → slice_get bs i ≡ None → slice_get (map v bs) i ≡ None
+get-map-none v [] i h = refl
+get-map-none v (b ∷ bs) zero h = cc
+get-map-none v (b ∷ bs) (suc i) h = get-map-none v bs i h
+
+pub All-get : {B : Type 0} (P : B → Type 0) (bs : List B) (i : ℕ) (x : B) → AllByRecursion P bs → slice_get bs i ≡ Some x → P x
+All-get P [] i x a h = cc
+All-get P (b ∷ bs) zero x a h = subst P (some-is b x h) a.0
+All-get P (b ∷ bs) (suc i) x a h = All-get P bs i x a.1 h
+
+pub All-set : {B : Type 0} (P : B → Type 0) (bs : List B) (i : ℕ) (y : B) → AllByRecursion P bs → P y → AllByRecursion P (slice_set bs i y)
+All-set P [] i y a p = a
+All-set P (b ∷ bs) zero y a p = (p, a.1)
+All-set P (b ∷ bs) (suc i) y a p = (a.0, All-set P bs i y a.1 p)
+
+-- the same, where the items are looked at themselves
+pub set-is : {X : Type 0} (f : X → X) (xs : List X) (i : ℕ) (x y : X) → slice_get xs i ≡ Some x → y ≡ f x → slice_set xs i y ≡ changed_at f xs i
+set-is f [] i x y h g = cc
+set-is f (z ∷ zs) zero x y h g = ap (λ w. w ∷ zs) (g ∙ ap f (sym (some-is z x h)))
+set-is f (z ∷ zs) (suc i) x y h g = ap (λ ws. z ∷ ws) (set-is f zs i x y h g)
+
+pub none-is : {X : Type 0} (f : X → X) (xs : List X) (i : ℕ) → slice_get xs i ≡ None → xs ≡ changed_at f xs i
+none-is f [] i h = refl
+none-is f (z ∷ zs) zero h = cc
+none-is f (z ∷ zs) (suc i) h = ap (λ ws. z ∷ ws) (none-is f zs i h)
+
+-- what holds where a call answered Ok
+pub on_ok : {T E : Type 0} {P Q : Type 0} (r : Result T E) → (P → Q) → OnOk r P → OnOk r Q
+on_ok (Ok x) f p = f p
+on_ok (Err e) f p = p
+
+-- and what holds where two things hold of it
+pub both : {T E : Type 0} {P Q R : Type 0} (r : Result T E) → (P → Q → R) → OnOk r P → OnOk r Q → OnOk r R
+both (Ok x) f p q = f p q
+both (Err e) f p q = p
+
+append-none : {X : Type 0} (xs : List X) → xs ++ [] ≡ xs
+append-none [] = refl
+append-none (x ∷ xs) = ap (λ l. x ∷ l) (append-none xs)
+
+-- nothing more in an outbox
+pub with_wire-none : (outbox : Outbox) → outbox ≡ with_wire [] outbox
+with_wire-none outbox = ap (λ w. record outbox { wire = w }) (sym (append-none outbox.wire))
+
+get-some : {X : Type 0} (xs : List X) (i : ℕ) (x : X) → i < length xs → x ≡ slice_index_or xs i x → slice_get xs i ≡ Some x
+get-some [] i x h e = absurd (omega arith)
+get-some (z ∷ zs) zero x h e = ap Some (sym e)
+get-some (z ∷ zs) (suc i) x h e = get-some zs i x (omega arith) e
+
+get-none : {X : Type 0} (xs : List X) (i : ℕ) → length xs ≤ i → slice_get xs i ≡ None
+get-none [] i h = refl
+get-none (z ∷ zs) zero h = absurd (omega arith)
+get-none (z ∷ zs) (suc i) h = get-none zs i (omega arith)
+
+-- the item that a list lends at a place
+pub lent : {X : Type 0} (xs : List X) (i : ℕ) (r : Option (MutBor X)) (x : MutBor X) → IsItemAtMut xs i r → r ≡ Some x → slice_get xs i ≡ Some x.now
+lent xs i (Some y) x h e = subst (λ z. slice_get xs i ≡ Some z.now) (some-is y x e) (get-some xs i y.now h.3.0 h.1)
+lent xs i None x h e = cc
+
+pub lent-none : {X : Type 0} (xs : List X) (i : ℕ) (r : Option (MutBor X)) → IsItemAtMut xs i r → r ≡ None → slice_get xs i ≡ None
+lent-none xs i (Some y) h e = cc
+lent-none xs i None h e = get-none xs i h.3
+
+-- the same of an item that is only read
+pub seen : {X : Type 0} (xs : List X) (i : ℕ) (r : Option (Bor X)) (x : Bor X) → ItemBy (λ (y : Bor X). y.now) xs i i r → r ≡ Some x → slice_get xs i ≡ Some x.now
+seen xs i (Some y) x h e = subst (λ z. slice_get xs i ≡ Some z.now) (some-is y x e) (get-some xs i y.now h.3.0 h.1)
+seen xs i None x h e = cc
+
+pub seen-none : {X : Type 0} (xs : List X) (i : ℕ) (r : Option (Bor X)) → ItemBy (λ (y : Bor X). y.now) xs i i r → r ≡ None → slice_get xs i ≡ None
+seen-none xs i (Some y) h e = cc
+seen-none xs i None h e = get-none xs i h.3
+
+-- an item that stands within
+pub got : {X : Type 0} (xs : List X) (i : ℕ) (x : X) → i < length xs → x ≡ slice_index_or xs i x → slice_get xs i ≡ Some x
+got xs i x h e = get-some xs i x h e

@@ -1,0 +1,158 @@
+-- Carrier stands at the ends of the links that are up.
+use Rattle.std.proofs.Common.{◌≡◌, ◌≢◌, ◌⊎◌, inl, inr, ◌≤◌, ◌+◌, ℕ, zero, suc, Bool, true, false, true≢false, List, [], ◌∷◌, refl, sym, ap, ◌∙◌, subst, Option, Some, None, slice_get, arith}
+use Rattle.std.specs.Prelude.{◌==◌, ◌&&◌, if◌then◌else◌}
+use Rattle.std.specs.Option.{option_map, option_map_or, option_or}
+use Rattle.std.proofs.lemmas.Bool.{cases_eq, ne_eqb}
+use Rattle.scenario.specs.declared.command.Dir.{Dir}
+use Rattle.scenario.specs.declared.command.Dir.TheVariants.{Ab, Ba}
+use Rattle.bridge_api.specs.View.{BridgeView, IsPort}
+use Rattle.bridge_api.specs.Step.{Input, carrier, step}
+use Rattle.bridge_api.proofs.Certified.{steps_keep_bridge}
+use Rattle.spb_network.specs.declared.declaration.DeclaredLink.{DeclaredLink}
+use Rattle.spb_network.specs.declared.declaration.LinkEnd.{LinkEnd}
+use Rattle.spb_network.specs.declared.way.Way.{Way}
+use Rattle.spb_network.specs.World.{Links, things_of, AllApart}
+use Rattle.spb_network.specs.Declaring.{switched}
+use Rattle.spb_network.specs.State.{changed_at, is_live, near_end, is_at, direction, way_from, way_out}
+use Rattle.spb_network.specs.Sound.{carrier_at, is_lit}
+use Rattle.spb_network.proofs.SoundLaws.{is_carrier, carrier_kept, carrier_set, carrier_beside}
+use Rattle.spb_network.proofs.SoundLane.{some-is}
+use Rattle.spb_network.proofs.SoundWays.{at_itself, at_parts, away, way_of_end, LeadsFrom, way_leads}
+use Rattle.spb_network.proofs.SoundSteps.{live-switched}
+
+-- ---- one item of a list was changed
+
+-- an item afterwards is that of the changed place, or one that stood there before
+pub record WasChanged {X : Type 0} (f : X → X) (xs : List X) (i j : ℕ) (y : X) : Type 0 where
+  pub was : X
+  pub there : slice_get xs j ≡ Some was
+  pub is : ((j ≡ i) × (y ≡ f was)) ⊎ ((j ≢ i) × (y ≡ was))
+
+pub got_changed : {X : Type 0} (f : X → X) (xs : List X) (i j : ℕ) (y : X) → slice_get (changed_at f xs i) j ≡ Some y → WasChanged f xs i j y
+got_changed f [] i j y at = absurd cc
+got_changed f (x ∷ xs) zero zero y at = record { was = x; there = refl; is = inl (refl, sym (some-is (f x) y at)) }
+got_changed f (x ∷ xs) zero (suc j) y at = record { was = y; there = at; is = inr ((λ e. absurd (omega (arith, e))), refl) }
+got_changed f (x ∷ xs) (suc i) zero y at = record { was = x; there = refl; is = inr ((λ e. absurd (omega (arith, e))), sym (some-is x y at)) }
+got_changed f (x ∷ xs) (suc i) (suc j) y at =
+    let rest = got_changed f xs i j y at in
+    record {
+      was = rest.was;
+      there = rest.there;
+      is = elim rest.is [
+        | inl here ↦ inl (ap suc here.0, here.1)
+        | inr other ↦ inr ((λ e. other.0 (omega (arith, e))), other.1)
+      ];
+    }
+
+-- ---- which ports have carrier
+
+-- each port has carrier as told
+abbrev pub HaveCarrier : List BridgeView → (ℕ → ℕ → Bool) → Type 0
+HaveCarrier views lit = (i : ℕ) (v : BridgeView) (p : ℕ) → slice_get views i ≡ Some v → IsPort v p → carrier_at v p ≡ lit i p
+
+port_before : (x : Input) (v : BridgeView) (p : ℕ) → IsPort (step x v) p → IsPort v p
+port_before x v p port = record { low = port.low; high = subst (λ (n : ℕ). p ≤ n) (steps_keep_bridge x v).ports port.high }
+
+-- only a change of carrier changes it
+pub lit_stepped : (x : Input) (views : List BridgeView) (i : ℕ) (lit : ℕ → ℕ → Bool) → is_carrier x ≡ false → HaveCarrier views lit → HaveCarrier (changed_at (step x) views i) lit
+lit_stepped x views i lit other have j v p at port =
+    let was = got_changed (step x) views i j v at in
+    elim was.is [
+      | inl here ↦
+          let before : IsPort was.was p = port_before x was.was p (subst (λ (u : BridgeView). IsPort u p) here.1 port) in
+          ap (λ (u : BridgeView). carrier_at u p) here.1 ∙ (carrier_kept x was.was p other ∙ have j was.was p was.there before)
+      | inr same ↦
+          ap (λ (u : BridgeView). carrier_at u p) same.1 ∙ have j was.was p was.there (subst (λ (u : BridgeView). IsPort u p) same.1 port)
+    ]
+
+and-false : (b : Bool) → (b && false) ≡ false
+and-false true = refl
+and-false false = refl
+
+away_port : (e : LinkEnd) (i p : ℕ) → e.port ≢ p → is_at e i p ≡ false
+away_port e i p apart = ap (λ (b : Bool). (e.bridge == i) && b) (ne_eqb e.port p apart) ∙ and-false (e.bridge == i)
+
+when_at : (b : Bool) (on other : Bool) → b ≡ true → on ≡ (if b then on else other)
+when_at true on other e = refl
+when_at false on other e = absurd cc
+
+when_away : (b : Bool) (on other : Bool) → b ≡ false → other ≡ (if b then on else other)
+when_away true on other e = absurd cc
+when_away false on other e = refl
+
+-- carrier comes to an end of a link, or goes
+pub lit_carried : (on : Bool) (views : List BridgeView) (e : LinkEnd) (lit : ℕ → ℕ → Bool) → HaveCarrier views lit → HaveCarrier (changed_at (step (carrier e.port on)) views e.bridge) (λ i p. if is_at e i p then on else lit i p)
+lit_carried on views e lit have j v p at port =
+    let was = got_changed (step (carrier e.port on)) views e.bridge j v at in
+    elim was.is [
+      | inl here ↦ ap (λ (u : BridgeView). carrier_at u p) here.1 ∙ changed was.was was.there here.0 (port_before (carrier e.port on) was.was p (subst (λ (u : BridgeView). IsPort u p) here.1 port))
+      | inr same ↦
+          ap (λ (u : BridgeView). carrier_at u p) same.1
+          ∙ (have j was.was p was.there (subst (λ (u : BridgeView). IsPort u p) same.1 port)
+          ∙ when_away (is_at e j p) on (lit j p) (away e j p (λ is. same.0 (sym is))))
+    ]
+  where
+    changed : (u : BridgeView) → slice_get views j ≡ Some u → j ≡ e.bridge → IsPort u p → carrier_at (step (carrier e.port on) u) p ≡ (if is_at e j p then on else lit j p)
+    changed u there place is =
+        elim (cases_eq p e.port) [
+          | inl here ↦
+              ap (λ (q : ℕ). carrier_at (step (carrier e.port on) u) q) here
+              ∙ (carrier_set u e.port on (subst (λ (q : ℕ). IsPort u q) here is)
+              ∙ when_at (is_at e j p) on (lit j p) (at_itself e j p (sym place) (sym here)))
+          | inr beside ↦
+              carrier_beside u e.port on p beside
+              ∙ (have j u p there is
+              ∙ when_away (is_at e j p) on (lit j p) (away_port e j p (λ same. beside (sym same))))
+        ]
+
+-- ---- which ports are ends of links that are up
+
+out-switched_from : (n : ℕ) (on : Bool) (ls : Links) (k i p : ℕ) → way_from n (things_of (switched on ls k)) i p ≡ way_from n (things_of ls) i p
+out-switched_from n on [] k i p = refl
+out-switched_from n on (l ∷ ls) zero i p = refl
+out-switched_from n on (l ∷ ls) (suc k) i p = ap (λ (o : Option Way). option_or (option_map (λ dir. record { link = n; dir = dir }) (direction l.1 i p)) o) (out-switched_from (n + 1) on ls k i p)
+
+out-switched : (on : Bool) (ls : Links) (k i p : ℕ) → way_out (things_of (switched on ls k)) i p ≡ way_out (things_of ls) i p
+unfolding way_out
+out-switched on ls k i p = out-switched_from 0 on ls k i p
+
+live-here : (on : Bool) (ls : Links) (k : ℕ) (l : DeclaredLink) → slice_get (things_of ls) k ≡ Some l → is_live (things_of (switched on ls k)) k ≡ on
+live-here on [] k l at = absurd cc
+live-here on (h ∷ ls) zero l at = refl
+live-here on (h ∷ ls) (suc k) l at = live-here on ls k l at
+
+abbrev pub lit_by : List DeclaredLink → Option Way → Bool
+lit_by links way = option_map_or (λ w. is_live links w.link) way false
+
+-- the ends of a link that is switched, and every other port
+pub lit-switched : (on : Bool) (ls : Links) (k : ℕ) (l : DeclaredLink) → AllApart (things_of ls) → l.a.bridge ≢ l.b.bridge → slice_get (things_of ls) k ≡ Some l → (i p : ℕ) → (if is_at l.b i p then on else (if is_at l.a i p then on else is_lit (things_of ls) i p)) ≡ is_lit (things_of (switched on ls k)) i p
+lit-switched on ls k l apart ends at i p =
+    by (is_at l.b i p) (is_at l.a i p) refl refl ∙ sym (ap (lit_by (things_of (switched on ls k))) (out-switched on ls k i p))
+  where
+    end : (dir : Dir) → is_at (near_end dir l) i p ≡ true → on ≡ lit_by (things_of (switched on ls k)) (way_out (things_of ls) i p)
+    end dir is =
+        let parts = at_parts (near_end dir l) i p is in
+        let out : way_out (things_of ls) i p ≡ Some (record { link = k; dir = dir }) =
+        sym (λ j. way_out (things_of ls) (parts.0 j) (parts.1 j)) ∙ way_of_end (things_of ls) k l dir apart ends at in
+        sym (ap (lit_by (things_of (switched on ls k))) out ∙ live-here on ls k l at)
+
+    not_here : (dir : Dir) → is_at l.a i p ≡ false → is_at l.b i p ≡ false → is_at (near_end dir l) i p ≡ false
+    not_here Ab a b = a
+    not_here Ba a b = b
+
+    other : (o : Option Way) → way_out (things_of ls) i p ≡ o → is_at l.a i p ≡ false → is_at l.b i p ≡ false → lit_by (things_of ls) o ≡ lit_by (things_of (switched on ls k)) o
+    other None out a b = refl
+    other (Some way) out a b =
+        elim (live-switched on ls k way.link) [
+          | inl here ↦
+              let leads : LeadsFrom (things_of ls) i p way.link way.dir = way_leads (things_of ls) i p way out in
+              let link : leads.link ≡ l = some-is leads.link l (sym leads.there ∙ (ap (slice_get (things_of ls)) here.0 ∙ at)) in
+              let is : is_at (near_end way.dir l) i p ≡ true = subst (λ (h : DeclaredLink). is_at (near_end way.dir h) i p ≡ true) link (at_itself (near_end way.dir leads.link) i p leads.bridge leads.port) in
+              absurd (true≢false (sym is ∙ not_here way.dir a b))
+          | inr same ↦ sym same
+        ]
+
+    by : (b a : Bool) → is_at l.b i p ≡ b → is_at l.a i p ≡ a → (if b then on else (if a then on else is_lit (things_of ls) i p)) ≡ lit_by (things_of (switched on ls k)) (way_out (things_of ls) i p)
+    by true a is_b is_a = end Ba is_b
+    by false true is_b is_a = end Ab is_a
+    by false false is_b is_a = other (way_out (things_of ls) i p) refl is_a is_b

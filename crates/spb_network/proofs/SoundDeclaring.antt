@@ -1,0 +1,308 @@
+-- Declarations keep what is sound of a network.
+use Rattle.std.proofs.Common.{◌≡◌, ◌≢◌, ◌≤◌, map, ◌⊎◌, inl, inr, ◌<◌, ◌+◌, ℕ, zero, suc, Bool, true, false, true≢false, List, [], ◌∷◌, ◌++◌, length, refl, sym, ap, ◌∙◌, subst, Option, Some, None, slice_get, arith}
+use Rattle.std.specs.Prelude.{◌||◌}
+use Rattle.std.specs.Option.{option_or}
+use Rattle.std.specs.List.{AllByRecursion}
+use Rattle.std.proofs.lemmas.List.{length-map}
+use Rattle.spb_types.specs.declared.service.VidPlan.{VidPlan}
+use Rattle.link_model.specs.Lane.{Frame}
+use Rattle.scenario.specs.declared.command.Dir.{Dir}
+use Rattle.scenario.specs.declared.command.Dir.TheVariants.{Ab, Ba}
+use Rattle.bridge_api.specs.View.{BridgeView, IsPort, neighbour_at, is_up_at}
+use Rattle.bridge_api.specs.Config.{ArePairwise}
+use Rattle.bridge_api.specs.Laws.{IsSoundView}
+use Rattle.spb_network.specs.declared.declaration.DeclaredBridge.{DeclaredBridge}
+use Rattle.spb_network.specs.declared.declaration.DeclaredLink.{DeclaredLink}
+use Rattle.spb_network.specs.declared.lanes.Lanes.{Lanes}
+use Rattle.spb_network.specs.declared.way.Way.{Way}
+use Rattle.spb_network.specs.World.{World, Bridges, Links, names_of, things_of, is_at_port, IsLink, AreApart, Sound}
+use Rattle.spb_network.specs.Lanes.{no_frames}
+use Rattle.spb_network.specs.Declaring.{with_vid, with_bridge, with_link}
+use Rattle.spb_network.specs.State.{State, Spare, links_of, is_live, near_end, far_end, is_at, way_of, way_from, way_out}
+use Rattle.spb_network.specs.Network.{HasPorts, Fits}
+use Rattle.spb_network.specs.Sound.{AreDistinct, IsShown, AreShown, carrier_at, is_lit, AreLit, Agrees, lane_of, AllAgree, IsSoundState}
+use Rattle.spb_network.proofs.BoxLemmas.{All-get}
+use Rattle.spb_network.proofs.ListLemmas.{All-push, things_of-push, length-push}
+use Rattle.spb_network.proofs.WorldLemmas.{IsNewBridge, Sound-with_bridge, IsNewLink, Sound-with_link}
+use Rattle.spb_network.proofs.FitsLemmas.{end_is_port, link_there}
+use Rattle.spb_network.proofs.SoundLaws.{dark}
+use Rattle.spb_network.proofs.SoundLane.{some-is}
+use Rattle.spb_network.proofs.SoundWays.{at_itself, way_of_end, LeadsFrom, way_leads}
+use Rattle.spb_network.proofs.SoundMoves.{IsCore}
+use Rattle.spb_network.proofs.SoundCarrier.{lit_by}
+
+-- ---- the last item of a list
+
+pub got_push : {X : Type 0} (xs : List X) (y : X) (i : ℕ) (z : X) → slice_get (xs ++ y ∷ []) i ≡ Some z → ((i < length xs) × (slice_get xs i ≡ Some z)) ⊎ ((i ≡ length xs) × (y ≡ z))
+got_push [] y zero z at = inr (refl, some-is y z at)
+got_push [] y (suc i) z at = absurd cc
+got_push (x ∷ xs) y zero z at = inl (omega arith, at)
+got_push (x ∷ xs) y (suc i) z at =
+    elim (got_push xs y i z at) [
+      | inl old ↦ inl (omega (arith, old.0), old.1)
+      | inr new ↦ inr (omega (arith, new.0), new.1)
+    ]
+
+length-things : {T : Type 0} (xs : List (List ℕ × T)) → length (things_of xs) ≡ length xs
+length-things xs = length-map xs (λ e. e.1)
+
+-- ---- a bridge more
+
+-- the bridge is the new one: sound by itself, as it was declared, and without carrier
+pub record IsNewView (w : World) (b : DeclaredBridge) (v : BridgeView) : Type 0 where
+  pub shown : IsShown w.vids b v
+  pub ports : HasPorts v b
+  pub sound : IsSoundView v
+  pub dark : (p : ℕ) → carrier_at v p ≡ false
+
+fits_bridge : (s : State) (rack : List Spare) (name : List ℕ) (b : DeclaredBridge) (v : BridgeView) → Fits s → HasPorts v b → Fits (record s { rack = rack; world = with_bridge s.world name b; views = s.views ++ v ∷ [] })
+unfolding with_bridge
+fits_bridge s rack name b v fits ports = record {
+  bridges = omega (arith, length-push s.views v, length-push s.world.bridges (name, b), fits.bridges);
+  lanes = fits.lanes;
+  ports = λ i u c at declared. each i u c (got_push s.views v i u at) (got_push (things_of s.world.bridges) b i c (sym (ap (λ bs. slice_get bs i) (things_of-push s.world.bridges name b)) ∙ declared));
+}
+  where
+    each : (i : ℕ) (u : BridgeView) (c : DeclaredBridge) → ((i < length s.views) × (slice_get s.views i ≡ Some u)) ⊎ ((i ≡ length s.views) × (v ≡ u)) → ((i < length (things_of s.world.bridges)) × (slice_get (things_of s.world.bridges) i ≡ Some c)) ⊎ ((i ≡ length (things_of s.world.bridges)) × (b ≡ c)) → HasPorts u c
+    each i u c (inl old) (inl was) = fits.ports i u c old.1 was.1
+    each i u c (inl old) (inr is) = absurd (omega (arith, old.0, is.0, length-things s.world.bridges, fits.bridges))
+    each i u c (inr new) (inl was) = absurd (omega (arith, new.0, was.0, length-things s.world.bridges, fits.bridges))
+    each i u c (inr new) (inr is) = subst (λ (d : DeclaredBridge). HasPorts u d) is.1 (subst (λ (x : BridgeView). HasPorts x b) new.1 ports)
+
+shown_bridge : (s : State) (name : List ℕ) (b : DeclaredBridge) (v : BridgeView) → Fits s → AreShown s.world s.views → IsShown s.world.vids b v → AreShown (with_bridge s.world name b) (s.views ++ v ∷ [])
+unfolding with_bridge
+shown_bridge s name b v fits shown new i u c at declared =
+    each (got_push s.views v i u at) (got_push (things_of s.world.bridges) b i c (sym (ap (λ bs. slice_get bs i) (things_of-push s.world.bridges name b)) ∙ declared))
+  where
+    each : ((i < length s.views) × (slice_get s.views i ≡ Some u)) ⊎ ((i ≡ length s.views) × (v ≡ u)) → ((i < length (things_of s.world.bridges)) × (slice_get (things_of s.world.bridges) i ≡ Some c)) ⊎ ((i ≡ length (things_of s.world.bridges)) × (b ≡ c)) → IsShown s.world.vids c u
+    each (inl old) (inl was) = shown i u c old.1 was.1
+    each (inl old) (inr is) = absurd (omega (arith, old.0, is.0, length-things s.world.bridges, fits.bridges))
+    each (inr fresh) (inl was) = absurd (omega (arith, fresh.0, was.0, length-things s.world.bridges, fits.bridges))
+    each (inr fresh) (inr is) = subst (λ (d : DeclaredBridge). IsShown s.world.vids d u) is.1 (subst (λ (x : BridgeView). IsShown s.world.vids b x) fresh.1 new)
+
+-- an end of a link lies at a bridge that is there
+near_within : (s : State) (k : ℕ) (dir : Dir) (l : DeclaredLink) → Sound s.world → Fits s → slice_get (links_of s) k ≡ Some l → (near_end dir l).bridge < length s.views
+near_within s k Ab l sound fits at = omega (arith, (link_there s k l sound at).a.bridge, fits.bridges)
+near_within s k Ba l sound fits at = omega (arith, (link_there s k l sound at).b.bridge, fits.bridges)
+
+far_within : (s : State) (k : ℕ) (dir : Dir) (l : DeclaredLink) → Sound s.world → Fits s → slice_get (links_of s) k ≡ Some l → (far_end dir l).bridge < length s.views
+far_within s k Ab l sound fits at = omega (arith, (link_there s k l sound at).b.bridge, fits.bridges)
+far_within s k Ba l sound fits at = omega (arith, (link_there s k l sound at).a.bridge, fits.bridges)
+
+unlit : (s : State) (p : ℕ) (o : Option Way) → Sound s.world → Fits s → way_out (links_of s) (length s.views) p ≡ o → false ≡ lit_by (links_of s) o
+unlit s p None sound fits out = refl
+unlit s p (Some way) sound fits out =
+    let leads : LeadsFrom (links_of s) (length s.views) p way.link way.dir = way_leads (links_of s) (length s.views) p way out in
+    absurd (omega (arith, near_within s way.link way.dir leads.link sound fits leads.there, leads.bridge))
+
+lit_bridge : (s : State) (v : BridgeView) → Sound s.world → Fits s → AreLit (links_of s) s.views → ((p : ℕ) → carrier_at v p ≡ false) → AreLit (links_of s) (s.views ++ v ∷ [])
+lit_bridge s v sound fits lit none i u p at port =
+    elim (got_push s.views v i u at) [
+      | inl old ↦ lit i u p old.1 port
+      | inr new ↦ ap (λ (x : BridgeView). carrier_at x p) (sym new.1) ∙ (none p ∙ (unlit s p (way_out (links_of s) (length s.views) p) sound fits refl ∙ ap (λ (j : ℕ). is_lit (links_of s) j p) (sym new.0)))
+    ]
+
+-- what is there within the old bridges
+old_view : (views : List BridgeView) (v : BridgeView) (i : ℕ) (u : BridgeView) → i < length views → slice_get (views ++ v ∷ []) i ≡ Some u → slice_get views i ≡ Some u
+old_view views v i u within at =
+    elim (got_push views v i u at) [
+      | inl old ↦ old.1
+      | inr new ↦ absurd (omega (arith, new.0))
+    ]
+
+agree_bridge : (s : State) (v : BridgeView) → Sound s.world → Fits s → AllAgree (links_of s) s.views s.lanes → AllAgree (links_of s) (s.views ++ v ∷ []) s.lanes
+agree_bridge s v sound fits agree k dir l u w at at_u at_w =
+    agree k dir l u w at (old_view s.views v (near_end dir l).bridge u (near_within s k dir l sound fits at) at_u) (old_view s.views v (far_end dir l).bridge w (far_within s k dir l sound fits at) at_w)
+
+pub Sound-new_bridge : (s : State) (rack : List Spare) (name : List ℕ) (b : DeclaredBridge) (v : BridgeView) → IsSoundState s → IsNewBridge s.world b → AreDistinct (with_bridge s.world name b) → IsNewView s.world b v → IsSoundState (record s { rack = rack; world = with_bridge s.world name b; views = s.views ++ v ∷ [] })
+unfolding with_bridge
+Sound-new_bridge s rack name b v sound declared distinct new = record {
+  world = Sound-with_bridge s.world name b sound.world declared;
+  distinct = distinct;
+  fits = fits_bridge s rack name b v sound.fits new.ports;
+  shown = shown_bridge s name b v sound.fits sound.shown new.shown;
+  views = All-push IsSoundView s.views v sound.views new.sound;
+  lit = lit_bridge s v sound.world sound.fits sound.lit new.dark;
+  metered = λ k dir l u at at_u. sound.metered k dir l u at (old_view s.views v (near_end dir l).bridge u (near_within s k dir l sound.world sound.fits at) at_u);
+  short = sound.short;
+  idle = sound.idle;
+  agree = agree_bridge s v sound.world sound.fits sound.agree;
+}
+
+-- ---- a link more, which isn't up
+
+live-push : (links : List DeclaredLink) (l : DeclaredLink) (k : ℕ) → l.live ≡ false → is_live (links ++ l ∷ []) k ≡ is_live links k
+live-push [] l zero dead = dead
+live-push [] l (suc k) dead = refl
+live-push (h ∷ links) l zero dead = refl
+live-push (h ∷ links) l (suc k) dead = live-push links l k dead
+
+no_lane : (dir : Dir) (k : ℕ) → lane_of (no_frames ∷ []) k dir ≡ []
+no_lane Ab zero = refl
+no_lane Ba zero = refl
+no_lane dir (suc k) = refl
+
+lane-push : (lanes : List Lanes) (k : ℕ) (dir : Dir) → lane_of (lanes ++ no_frames ∷ []) k dir ≡ lane_of lanes k dir
+lane-push [] k dir = no_lane dir k
+lane-push (x ∷ lanes) zero dir = refl
+lane-push (x ∷ lanes) (suc k) dir = lane-push lanes k dir
+
+fits_link : (s : State) (name : List ℕ) (l : DeclaredLink) → Fits s → Fits (record s { world = with_link s.world name l; lanes = s.lanes ++ no_frames ∷ [] })
+unfolding with_link
+fits_link s name l fits = record {
+  bridges = fits.bridges;
+  lanes = omega (arith, length-push s.lanes no_frames, length-push s.world.links (name, l), fits.lanes);
+  ports = fits.ports;
+}
+
+out-push_by : (o rest more : Option Way) (way : Way) → (rest ≡ Some way → more ≡ Some way) → option_or o rest ≡ Some way → option_or o more ≡ Some way
+out-push_by (Some w) rest more way later out = out
+out-push_by None rest more way later out = later out
+
+out-push_from : (n : ℕ) (links : List DeclaredLink) (l : DeclaredLink) (i p : ℕ) (way : Way) → way_from n links i p ≡ Some way → way_from n (links ++ l ∷ []) i p ≡ Some way
+out-push_from n [] l i p way out = absurd cc
+out-push_from n (h ∷ links) l i p way out = out-push_by (way_of n h i p) (way_from (n + 1) links i p) (way_from (n + 1) (links ++ l ∷ []) i p) way (out-push_from (n + 1) links l i p way) out
+
+out-push : (links : List DeclaredLink) (l : DeclaredLink) (i p : ℕ) (way : Way) → way_out links i p ≡ Some way → way_out (links ++ l ∷ []) i p ≡ Some way
+unfolding way_out
+out-push links l i p way out = out-push_from 0 links l i p way out
+
+past_dead : (links : List DeclaredLink) → is_live links (length links) ≡ false
+past_dead [] = refl
+past_dead (h ∷ links) = past_dead links
+
+-- a link that isn't up lights no port
+dark_way : (s : State) (l : DeclaredLink) (i p : ℕ) (o : Option Way) → Sound s.world → l.live ≡ false → way_out (links_of s) i p ≡ None → way_out (links_of s ++ l ∷ []) i p ≡ o → false ≡ lit_by (links_of s ++ l ∷ []) o
+dark_way s l i p None sound dead none out = refl
+dark_way s l i p (Some way) sound dead none out = by (got_push (links_of s) l way.link leads.link leads.there)
+  where
+    leads : LeadsFrom (links_of s ++ l ∷ []) i p way.link way.dir
+    leads = way_leads (links_of s ++ l ∷ []) i p way out
+
+    by : ((way.link < length (links_of s)) × (slice_get (links_of s) way.link ≡ Some leads.link)) ⊎ ((way.link ≡ length (links_of s)) × (l ≡ leads.link)) → false ≡ is_live (links_of s ++ l ∷ []) way.link
+    by (inl old) =
+        let there : way_out (links_of s) (near_end way.dir leads.link).bridge (near_end way.dir leads.link).port ≡ Some (record { link = way.link; dir = way.dir }) =
+        way_of_end (links_of s) way.link leads.link way.dir sound.links_apart (link_there s way.link leads.link sound old.1).apart old.1 in
+        let here : way_out (links_of s) i p ≡ Some (record { link = way.link; dir = way.dir }) = sym (λ j. way_out (links_of s) (leads.bridge j) (leads.port j)) ∙ there in
+        absurd cc
+    by (inr new) = sym (live-push (links_of s) l way.link dead ∙ (ap (is_live (links_of s)) new.0 ∙ past_dead (links_of s)))
+
+lit_link_by : (s : State) (l : DeclaredLink) (i p : ℕ) (o : Option Way) → Sound s.world → l.live ≡ false → way_out (links_of s) i p ≡ o → lit_by (links_of s) o ≡ is_lit (links_of s ++ l ∷ []) i p
+lit_link_by s l i p None sound dead out = dark_way s l i p (way_out (links_of s ++ l ∷ []) i p) sound dead out refl
+lit_link_by s l i p (Some way) sound dead out = sym (live-push (links_of s) l way.link dead) ∙ ap (lit_by (links_of s ++ l ∷ [])) (sym (out-push (links_of s) l i p way out))
+
+lit_link : (s : State) (l : DeclaredLink) → Sound s.world → l.live ≡ false → AreLit (links_of s) s.views → AreLit (links_of s ++ l ∷ []) s.views
+lit_link s l sound dead lit i v p at port = lit i v p at port ∙ lit_link_by s l i p (way_out (links_of s) i p) sound dead refl
+
+-- no link ends at an end of the new one
+or-true : (b : Bool) → (b || true) ≡ true
+or-true true = refl
+or-true false = refl
+
+pub at_end : (dir : Dir) (m : DeclaredLink) (i p : ℕ) → (near_end dir m).bridge ≡ i → (near_end dir m).port ≡ p → is_at_port m i p ≡ true
+at_end Ab m i p bridge port = ap (λ (b : Bool). b || is_at m.b i p) (at_itself m.a i p bridge port)
+at_end Ba m i p bridge port = ap (λ (b : Bool). is_at m.a i p || b) (at_itself m.b i p bridge port) ∙ or-true (is_at m.a i p)
+
+apart_end : (dir : Dir) (m l : DeclaredLink) → AreApart m l → is_at_port m (near_end dir l).bridge (near_end dir l).port ≡ false
+apart_end Ab m l apart = apart.port_a
+apart_end Ba m l apart = apart.port_b
+
+free_end : (links : List DeclaredLink) (dir : Dir) (l : DeclaredLink) (o : Option Way) → AllByRecursion (λ m. AreApart m l) links → way_out links (near_end dir l).bridge (near_end dir l).port ≡ o → lit_by links o ≡ false
+free_end links dir l None apart out = refl
+free_end links dir l (Some way) apart out =
+    let leads : LeadsFrom links (near_end dir l).bridge (near_end dir l).port way.link way.dir = way_leads links (near_end dir l).bridge (near_end dir l).port way out in
+    let two : AreApart leads.link l = All-get (λ m. AreApart m l) links way.link leads.link apart leads.there in
+    absurd (true≢false (sym (at_end way.dir leads.link (near_end dir l).bridge (near_end dir l).port leads.bridge leads.port) ∙ apart_end dir leads.link l two))
+
+near_port : (s : State) (dir : Dir) (l : DeclaredLink) (v : BridgeView) → Fits s → IsLink s.world.bridges l → slice_get s.views (near_end dir l).bridge ≡ Some v → IsPort v (near_end dir l).port
+near_port s Ab l v fits link at = end_is_port s l.a fits link.a v at
+near_port s Ba l v fits link at = end_is_port s l.b fits link.b v at
+
+-- the new link, over which nothing is on its way, between ports without carrier
+new_agrees : (s : State) (dir : Dir) (l : DeclaredLink) (v w : BridgeView) → IsSoundState s → IsNewLink s.world l → slice_get s.views (near_end dir l).bridge ≡ Some v → Agrees v (near_end dir l).port w (far_end dir l).port []
+new_agrees s dir l v w sound new at =
+    let none : carrier_at v (near_end dir l).port ≡ false =
+    sound.lit (near_end dir l).bridge v (near_end dir l).port at (near_port s dir l v sound.fits new.link at) ∙ free_end (links_of s) dir l (way_out (links_of s) (near_end dir l).bridge (near_end dir l).port) new.apart refl in
+    let is = dark v (near_end dir l).port (All-get IsSoundView s.views (near_end dir l).bridge v sound.views at) none in
+    let nobody : neighbour_at v (near_end dir l).port ≡ None = is.0 in
+    let not_up : is_up_at v (near_end dir l).port ≡ false = is.1 in
+    record {
+      said = tt;
+      keeps = λ n kept. absurd cc;
+      ready = λ id up. absurd (true≢false (sym up ∙ not_up));
+    }
+
+agree_link : (s : State) (l : DeclaredLink) → IsSoundState s → IsNewLink s.world l → AllAgree (links_of s ++ l ∷ []) s.views (s.lanes ++ no_frames ∷ [])
+agree_link s l sound new k dir m v w at at_v at_w =
+    subst (Agrees v (near_end dir m).port w (far_end dir m).port) (sym (lane-push s.lanes k dir)) (by (got_push (links_of s) l k m at))
+  where
+    by : ((k < length (links_of s)) × (slice_get (links_of s) k ≡ Some m)) ⊎ ((k ≡ length (links_of s)) × (l ≡ m)) → Agrees v (near_end dir m).port w (far_end dir m).port (lane_of s.lanes k dir)
+    by (inl old) = sound.agree k dir m v w old.1 at_v at_w
+    by (inr is) =
+        let empty : lane_of s.lanes k dir ≡ [] = sound.idle k dir (ap (is_live (links_of s)) is.0 ∙ past_dead (links_of s)) in
+        let at_near : slice_get s.views (near_end dir l).bridge ≡ Some v = ap (λ (h : DeclaredLink). slice_get s.views (near_end dir h).bridge) is.1 ∙ at_v in
+        subst (Agrees v (near_end dir m).port w (far_end dir m).port) (sym empty)
+        (subst (λ (h : DeclaredLink). Agrees v (near_end dir h).port w (far_end dir h).port []) is.1 (new_agrees s dir l v w sound new at_near))
+
+-- all that is sound, but that its ends have their metrics
+pub lit_new_link : (s : State) (name : List ℕ) (l : DeclaredLink) → IsSoundState s → l.live ≡ false → AreLit (things_of (with_link s.world name l).links) s.views
+unfolding with_link
+lit_new_link s name l sound dead = subst (λ (links : List DeclaredLink). AreLit links s.views) (sym (things_of-push s.world.links name l)) (lit_link s l sound.world dead sound.lit)
+
+pub core_new_link : (s : State) (name : List ℕ) (l : DeclaredLink) → IsSoundState s → IsNewLink s.world l → AreDistinct (with_link s.world name l) → l.live ≡ false → IsCore (record s { world = with_link s.world name l; lanes = s.lanes ++ no_frames ∷ [] })
+unfolding with_link
+core_new_link s name l sound new distinct dead = record {
+  world = Sound-with_link s.world name l sound.world new;
+  distinct = distinct;
+  fits = fits_link s name l sound.fits;
+  shown = sound.shown;
+  views = sound.views;
+  short = λ k dir. subst (λ (fs : List Frame). length fs ≤ 1024) (sym (lane-push s.lanes k dir)) (sound.short k dir);
+  idle = λ k dir down. lane-push s.lanes k dir ∙ sound.idle k dir (sym (live-push (links_of s) l k dead) ∙ (ap (λ (links : List DeclaredLink). is_live links k) (sym (things_of-push s.world.links name l)) ∙ down));
+  agree = subst (λ (links : List DeclaredLink). AllAgree links s.views (s.lanes ++ no_frames ∷ [])) (sym (things_of-push s.world.links name l)) (agree_link s l sound new);
+}
+
+-- ---- a VID more, before any bridge
+
+none_within : {X : Type 0} (xs : List X) (i : ℕ) (x : X) → xs ≡ [] → slice_get xs i ≡ Some x → ⊥
+none_within [] i x none at = cc
+none_within (y ∷ ys) i x none at = cc
+
+pub empty_from : {X : Type 0} (xs : List X) → length xs ≡ 0 → xs ≡ []
+empty_from [] e = refl
+empty_from (x ∷ xs) e = absurd (omega arith)
+
+pub Sound-new_vid : (s : State) (plan : VidPlan) → IsSoundState s → s.world.bridges ≡ [] → Sound (with_vid s.world plan) → IsSoundState (record s { world = with_vid s.world plan })
+unfolding with_vid
+Sound-new_vid s plan sound none world =
+    let no_views : s.views ≡ [] = empty_from s.views (sound.fits.bridges ∙ ap length none) in
+    record {
+      world = world;
+      distinct = record { bridges = sound.distinct.bridges; sources = sound.distinct.sources; links = sound.distinct.links };
+      fits = record { bridges = sound.fits.bridges; lanes = sound.fits.lanes; ports = sound.fits.ports };
+      shown = λ i v b at declared. absurd (none_within s.views i v no_views at);
+      views = sound.views;
+      lit = sound.lit;
+      metered = sound.metered;
+      short = sound.short;
+      idle = sound.idle;
+      agree = sound.agree;
+    }
+
+-- ---- nothing is declared yet
+
+pub Sound-nothing : (s : State) → Sound s.world → s.world.bridges ≡ [] → s.world.links ≡ [] → s.views ≡ [] → s.lanes ≡ [] → IsSoundState s
+Sound-nothing s world bridges links views lanes =
+    let no_lane : (k : ℕ) (dir : Dir) → lane_of s.lanes k dir ≡ [] = λ k dir. ap (λ (ls : List Lanes). lane_of ls k dir) lanes in
+    record {
+      world = world;
+      distinct = record { bridges = subst (λ (bs : Bridges). ArePairwise (λ x y. x ≢ y) (names_of bs)) (sym bridges) tt; sources = subst (λ (bs : Bridges). ArePairwise (λ x y. x ≢ y) (map (λ b. b.bridge.source.value) (things_of bs))) (sym bridges) tt; links = subst (λ (ls : Links). ArePairwise (λ x y. x ≢ y) (names_of ls)) (sym links) tt };
+      fits = record { bridges = ap length views ∙ sym (ap length bridges); lanes = ap length lanes ∙ sym (ap length links); ports = λ i v b at declared. absurd (none_within s.views i v views at) };
+      shown = λ i v b at declared. absurd (none_within s.views i v views at);
+      views = subst (λ (vs : List BridgeView). AllByRecursion IsSoundView vs) (sym views) tt;
+      lit = λ i v p at port. absurd (none_within s.views i v views at);
+      metered = λ k dir l v at at_v. absurd (none_within s.views (near_end dir l).bridge v views at_v);
+      short = λ k dir. subst (λ (fs : List Frame). length fs ≤ 1024) (sym (no_lane k dir)) (omega arith);
+      idle = λ k dir dead. no_lane k dir;
+      agree = λ k dir l v w at at_v at_w. absurd (none_within s.views (near_end dir l).bridge v views at_v);
+    }

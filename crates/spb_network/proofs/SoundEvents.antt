@@ -1,0 +1,209 @@
+-- Every event keeps what is sound of a network.
+use Rattle.std.proofs.Common.{◌≡◌, ℕ, zero, suc, ◌+◌, Bool, true, false, List, [], length, refl, sym, ap, ◌∙◌, subst, Option, Some, None, slice_get}
+use Rattle.std.specs.Prelude.{if◌then◌else◌}
+use Rattle.std.specs.Option.{option_map_or}
+use Rattle.link_model.specs.Lane.{Frame, after_lose, after_double}
+use Rattle.scenario.specs.declared.command.Dir.{Dir}
+use Rattle.scenario.specs.declared.command.Dir.TheVariants.{Ab, Ba}
+use Rattle.bridge_api.specs.View.{BridgeView}
+use Rattle.bridge_api.specs.Step as comes
+use Rattle.bridge_api.specs.Step.{Input, step, sent}
+use Rattle.spb_network.specs.declared.declaration.DeclaredLink.{DeclaredLink}
+use Rattle.spb_network.specs.declared.declaration.LinkEnd.{LinkEnd}
+use Rattle.spb_network.specs.declared.lanes.Lanes.{Lanes}
+use Rattle.spb_network.specs.declared.way.Way.{Way}
+use Rattle.spb_network.specs.World.{World, things_of, Sound}
+use Rattle.spb_network.specs.Lanes.{changed_lane, rest, no_frames}
+use Rattle.spb_network.specs.Declaring.{with_live}
+use Rattle.spb_network.specs.State.{State, changed_at, links_of, far_end, is_at, way_out, lane_at, with_frames}
+use Rattle.spb_network.specs.Events.{stepped, ticked, heard_over, delivered_front, delivered, lost, doubled, carried, carried_over, flushed, switched_off, switched_on, ticked_from, delivered_times, lane_served, served_from, one_round, rounds, first_full_from, delivered_over, delivered_first, drained}
+use Rattle.spb_network.specs.Sound.{AreShort, is_lit, AreLit, AreMetered, lane_of, IsSoundState}
+use Rattle.spb_network.proofs.WorldLemmas.{switched-none}
+use Rattle.spb_network.proofs.FitsLemmas.{IsAlike, alike_itself, alike_with_frames, alike_flushed, link_there}
+use Rattle.spb_network.proofs.SoundLaws.{is_carrier}
+use Rattle.spb_network.proofs.SoundLane.{IsIn}
+use Rattle.spb_network.proofs.SoundWays.{turned, near-turned, way_of_end}
+use Rattle.spb_network.proofs.SoundMoves.{IsCore, Comes}
+use Rattle.spb_network.proofs.SoundSteps.{short_rest, short_lost, short_doubled, short_flushed, in_got, in_rest, in_lost, in_doubled, in_changed, in_flushed, flushed_lane, world-sent_all, views-sent_all, core_stepped, core_fewer, core_with_live}
+use Rattle.spb_network.proofs.SoundCarrier.{HaveCarrier, lit_stepped, lit_carried, lit-switched}
+use Rattle.spb_network.proofs.SoundMetrics.{is_metric, metered_stepped, metered_switched}
+
+-- the parts of what is sound
+pub core_of : (s : State) → IsSoundState s → IsCore s
+core_of s sound = record { world = sound.world; distinct = sound.distinct; fits = sound.fits; shown = sound.shown; views = sound.views; short = sound.short; idle = sound.idle; agree = sound.agree }
+
+pub sound_from : (s : State) → IsCore s → AreLit (links_of s) s.views → AreMetered (links_of s) s.views → IsSoundState s
+sound_from s core lit metered = record { world = core.world; distinct = core.distinct; fits = core.fits; shown = core.shown; views = core.views; lit = lit; metered = metered; short = core.short; idle = core.idle; agree = core.agree }
+
+-- ---- one bridge steps
+
+pub stepped_world : (x : Input) (s : State) (i : ℕ) → (stepped x s i).world ≡ s.world
+unfolding stepped
+stepped_world x s i = world-sent_all (record s { views = changed_at (step x) s.views i }) i (option_map_or (sent x) (slice_get s.views i) [])
+
+pub stepped_views : (x : Input) (s : State) (i : ℕ) → (stepped x s i).views ≡ changed_at (step x) s.views i
+unfolding stepped
+stepped_views x s i = views-sent_all (record s { views = changed_at (step x) s.views i }) i (option_map_or (sent x) (slice_get s.views i) [])
+
+-- an input that doesn't change carrier, or set a metric
+pub stepped_lit : (x : Input) (s : State) (i : ℕ) → is_carrier x ≡ false → AreLit (links_of s) s.views → AreLit (links_of (stepped x s i)) (stepped x s i).views
+stepped_lit x s i other lit =
+    subst (λ (w : World). AreLit (things_of w.links) (stepped x s i).views) (sym (stepped_world x s i))
+    (subst (λ (views : List BridgeView). AreLit (links_of s) views) (sym (stepped_views x s i))
+    (lit_stepped x s.views i (is_lit (links_of s)) other lit))
+
+stepped_metered : (x : Input) (s : State) (i : ℕ) → is_metric x ≡ false → AreMetered (links_of s) s.views → AreMetered (links_of (stepped x s i)) (stepped x s i).views
+stepped_metered x s i other metered =
+    subst (λ (w : World). AreMetered (things_of w.links) (stepped x s i).views) (sym (stepped_world x s i))
+    (subst (λ (views : List BridgeView). AreMetered (links_of s) views) (sym (stepped_views x s i))
+    (metered_stepped x (links_of s) s.views i other metered))
+
+-- an input that changes neither, after frames were lost or taken from lanes
+stays_stepped : (x : Input) (s : State) (lanes : List Lanes) (i : ℕ) → is_carrier x ≡ false → is_metric x ≡ false → IsSoundState s → IsAlike s (record s { lanes = lanes }) → AreShort lanes → ((k : ℕ) (dir : Dir) (f : Frame) → IsIn f (lane_of lanes k dir) → IsIn f (lane_of s.lanes k dir)) → ((p : ℕ) (f : Frame) → x ≡ comes.frame p f → Comes (links_of s) s.lanes i p f) → IsSoundState (stepped x (record s { lanes = lanes }) i)
+stays_stepped x s lanes i same_carrier same_metric sound alike short fewer from =
+    sound_from (stepped x (record s { lanes = lanes }) i) (core_stepped x s lanes i (core_of s sound) alike short fewer from)
+    (stepped_lit x (record s { lanes = lanes }) i same_carrier sound.lit)
+    (stepped_metered x (record s { lanes = lanes }) i same_metric sound.metered)
+
+pub Sound-ticked : (s : State) (i : ℕ) → IsSoundState s → IsSoundState (ticked s i)
+Sound-ticked s i sound = stays_stepped comes.second s s.lanes i refl refl sound (alike_itself s) sound.short (λ k dir f among. among) (λ p f is. absurd cc)
+
+-- ---- a frame is delivered
+
+turned-turned : (dir : Dir) → turned (turned dir) ≡ dir
+turned-turned Ab = refl
+turned-turned Ba = refl
+
+-- the front of a lane comes to the far end of the link
+front_comes : (s : State) (k : ℕ) (dir : Dir) (l : DeclaredLink) (bytes : Frame) → IsCore s → slice_get (links_of s) k ≡ Some l → slice_get (lane_at s k dir) 0 ≡ Some bytes → (p : ℕ) (f : Frame) → comes.frame (far_end dir l).port bytes ≡ comes.frame p f → Comes (links_of s) s.lanes (far_end dir l).bridge p f
+front_comes s k dir l bytes core at front p f is =
+    let port : (far_end dir l).port ≡ p = cc in
+    let same : bytes ≡ f = cc in
+    let out : way_out (links_of s) (far_end dir l).bridge (far_end dir l).port ≡ Some (record { link = k; dir = turned dir }) =
+    subst (λ (e : LinkEnd). way_out (links_of s) e.bridge e.port ≡ Some (record { link = k; dir = turned dir })) (near-turned dir l) (way_of_end (links_of s) k l (turned dir) core.world.links_apart (link_there s k l core.world at).apart at) in
+    record {
+      way = record { link = k; dir = turned dir };
+      out = subst (λ (q : ℕ). way_out (links_of s) (far_end dir l).bridge q ≡ Some (record { link = k; dir = turned dir })) port out;
+      among = subst (λ (d : Dir). IsIn f (lane_of s.lanes k d)) (sym (turned-turned dir)) (subst (λ (g : Frame). IsIn g (lane_of s.lanes k dir)) same (in_got bytes (lane_of s.lanes k dir) 0 front));
+    }
+
+fewer_rest : (s : State) (j : ℕ) (d : Dir) (k : ℕ) (dir : Dir) (f : Frame) → IsIn f (lane_of (changed_at (changed_lane d rest) s.lanes j) k dir) → IsIn f (lane_of s.lanes k dir)
+fewer_rest s j d k dir f among = in_changed rest in_rest s.lanes j d k dir f among
+
+-- frames are lost, doubled or taken
+stays_fewer : (s : State) (lanes : List Lanes) → IsSoundState s → IsAlike s (record s { lanes = lanes }) → AreShort lanes → ((k : ℕ) (dir : Dir) (f : Frame) → IsIn f (lane_of lanes k dir) → IsIn f (lane_of s.lanes k dir)) → IsSoundState (record s { lanes = lanes })
+stays_fewer s lanes sound alike short fewer = sound_from (record s { lanes = lanes }) (core_fewer s lanes (core_of s sound) alike short fewer) sound.lit sound.metered
+
+heard_sound : (s : State) (k : ℕ) (dir : Dir) (bytes : Frame) (o : Option DeclaredLink) → slice_get (links_of s) k ≡ o → slice_get (lane_at s k dir) 0 ≡ Some bytes → IsSoundState s → IsSoundState (heard_over (with_frames rest s k dir) dir bytes o)
+heard_sound s k dir bytes None at front sound = stays_fewer s (changed_at (changed_lane dir rest) s.lanes k) sound (alike_with_frames rest s k dir) (short_rest s.lanes k dir sound.short) (fewer_rest s k dir)
+heard_sound s k dir bytes (Some l) at front sound =
+    stays_stepped (comes.frame (far_end dir l).port bytes) s (changed_at (changed_lane dir rest) s.lanes k) (far_end dir l).bridge refl refl sound (alike_with_frames rest s k dir) (short_rest s.lanes k dir sound.short) (fewer_rest s k dir) (front_comes s k dir l bytes (core_of s sound) at front)
+
+front_sound : (s : State) (k : ℕ) (dir : Dir) (o : Option Frame) → slice_get (lane_at s k dir) 0 ≡ o → IsSoundState s → IsSoundState (delivered_front s k dir o)
+front_sound s k dir None front sound = sound
+front_sound s k dir (Some bytes) front sound = heard_sound s k dir bytes (slice_get (links_of s) k) refl front sound
+
+pub Sound-delivered : (s : State) (k : ℕ) (dir : Dir) → IsSoundState s → IsSoundState (delivered s k dir)
+unfolding delivered
+Sound-delivered s k dir sound = front_sound s k dir (slice_get (lane_at s k dir) 0) refl sound
+
+-- ---- a frame is lost, or doubled
+
+pub Sound-lost : (s : State) (k : ℕ) (dir : Dir) (place : ℕ) → IsSoundState s → IsSoundState (lost s k dir place)
+Sound-lost s k dir place sound =
+    let g : List Frame → List Frame = λ frames. after_lose frames place in
+    stays_fewer s (changed_at (changed_lane dir g) s.lanes k) sound (alike_with_frames g s k dir) (short_lost place s.lanes k dir sound.short) (λ j d f among. in_changed g (λ h frames. in_lost h frames place) s.lanes k dir j d f among)
+
+pub Sound-doubled : (s : State) (k : ℕ) (dir : Dir) (place : ℕ) → IsSoundState s → IsSoundState (doubled s k dir place)
+Sound-doubled s k dir place sound =
+    let g : List Frame → List Frame = λ frames. after_double frames place (slice_get frames place) in
+    stays_fewer s (changed_at (changed_lane dir g) s.lanes k) sound (alike_with_frames g s k dir) (short_doubled place s.lanes k dir sound.short) (λ j d f among. in_changed g (λ h frames. in_doubled h frames place) s.lanes k dir j d f among)
+
+pub Sound-flushed : (s : State) (k : ℕ) → IsSoundState s → IsSoundState (flushed s k)
+Sound-flushed s k sound = stays_fewer s (changed_at (λ lanes. no_frames) s.lanes k) sound (alike_flushed s k) (λ j dir. short_flushed s.lanes k j dir (sound.short j dir)) (in_flushed s.lanes k)
+
+-- ---- a link is switched
+
+core_carried : (on : Bool) (s : State) (e : LinkEnd) → IsCore s → IsCore (carried on s e)
+core_carried on s e core = core_stepped (comes.carrier e.port on) s s.lanes e.bridge core (alike_itself s) core.short (λ k dir f among. among) (λ p f is. absurd cc)
+
+carried_world : (on : Bool) (s : State) (e : LinkEnd) → (carried on s e).world ≡ s.world
+carried_world on s e = stepped_world (comes.carrier e.port on) s e.bridge
+
+carried_lit : (on : Bool) (s : State) (e : LinkEnd) (lit : ℕ → ℕ → Bool) → HaveCarrier s.views lit → HaveCarrier (carried on s e).views (λ i p. if is_at e i p then on else lit i p)
+carried_lit on s e lit have = subst (λ (views : List BridgeView). HaveCarrier views (λ i p. if is_at e i p then on else lit i p)) (sym (stepped_views (comes.carrier e.port on) s e.bridge)) (lit_carried on s.views e lit have)
+
+-- the link at a place is switched, and both ends learn it
+switched_sound : (on : Bool) (s t : State) (k : ℕ) (o : Option DeclaredLink) → t.world ≡ with_live on s.world k → t.views ≡ s.views → IsCore t → AreLit (links_of s) s.views → AreMetered (links_of t) t.views → Sound s.world → slice_get (links_of s) k ≡ o → IsSoundState (carried_over on t o)
+unfolding with_live
+switched_sound on s t k None world views core lit metered sound at =
+    let same : things_of s.world.links ≡ things_of t.world.links = ap things_of (switched-none on s.world.links k at) ∙ sym (ap (λ (w : World). things_of w.links) world) in
+    sound_from t core (subst (λ (vs : List BridgeView). AreLit (links_of t) vs) (sym views) (subst (λ (ls : List DeclaredLink). AreLit ls s.views) same lit)) metered
+switched_sound on s t k (Some l) world views core lit metered sound at =
+    let u : State = carried on t l.a in
+    let x : State = carried on u l.b in
+    let link = link_there s k l sound at in
+    let first : HaveCarrier u.views (λ i p. if is_at l.a i p then on else is_lit (links_of s) i p) = carried_lit on t l.a (is_lit (links_of s)) (subst (λ (vs : List BridgeView). HaveCarrier vs (is_lit (links_of s))) (sym views) lit) in
+    let both : HaveCarrier x.views (λ i p. if is_at l.b i p then on else (if is_at l.a i p then on else is_lit (links_of s) i p)) = carried_lit on u l.b (λ i p. if is_at l.a i p then on else is_lit (links_of s) i p) first in
+    let there : x.world ≡ with_live on s.world k = carried_world on u l.b ∙ (carried_world on t l.a ∙ world) in
+    sound_from x (core_carried on u l.b (core_carried on t l.a core))
+    (subst (λ (w : World). AreLit (things_of w.links) x.views) (sym there)
+    (λ i v p at_v port. both i v p at_v port ∙ lit-switched on s.world.links k l sound.links_apart link.apart at i p))
+    (stepped_metered (comes.carrier l.b.port on) u l.b.bridge refl (stepped_metered (comes.carrier l.a.port on) t l.a.bridge refl metered))
+
+live_metered : (on : Bool) (s : State) (k : ℕ) → AreMetered (links_of s) s.views → AreMetered (things_of (with_live on s.world k).links) s.views
+unfolding with_live
+live_metered on s k metered = metered_switched on s.world.links k s.views metered
+
+pub Sound-switched_on : (s : State) (k : ℕ) → IsSoundState s → IsSoundState (switched_on s k)
+unfolding switched_on
+Sound-switched_on s k sound =
+    switched_sound true s (record s { world = with_live true s.world k }) k (slice_get (links_of s) k) refl refl (core_with_live true s k (core_of s sound) (λ is dir. absurd cc)) sound.lit (live_metered true s k sound.metered) sound.world refl
+
+pub Sound-switched_off : (s : State) (k : ℕ) → IsSoundState s → IsSoundState (switched_off s k)
+unfolding switched_off
+Sound-switched_off s k sound =
+    let t : State = flushed s k in
+    switched_sound false s (record t { world = with_live false t.world k }) k (slice_get (links_of s) k) refl refl (core_with_live false t k (core_of t (Sound-flushed s k sound)) (λ is dir. flushed_lane s.lanes k dir)) sound.lit (live_metered false t k sound.metered) sound.world refl
+
+-- ---- rounds and drains
+
+pub Sound-ticked_from : (n i : ℕ) (s : State) → IsSoundState s → IsSoundState (ticked_from n i s)
+Sound-ticked_from zero i s sound = sound
+Sound-ticked_from (suc n) i s sound = Sound-ticked_from n (i + 1) (ticked s i) (Sound-ticked s i sound)
+
+pub Sound-delivered_times : (n k : ℕ) (dir : Dir) (s : State) → IsSoundState s → IsSoundState (delivered_times n k dir s)
+Sound-delivered_times zero k dir s sound = sound
+Sound-delivered_times (suc n) k dir s sound = Sound-delivered_times n k dir (delivered s k dir) (Sound-delivered s k dir sound)
+
+pub Sound-lane_served : (s : State) (k : ℕ) (dir : Dir) → IsSoundState s → IsSoundState (lane_served s k dir)
+unfolding lane_served
+Sound-lane_served s k dir sound = Sound-delivered_times (length (lane_at s k dir)) k dir s sound
+
+pub Sound-served_from : (n k : ℕ) (s : State) → IsSoundState s → IsSoundState (served_from n k s)
+Sound-served_from zero k s sound = sound
+Sound-served_from (suc n) k s sound =
+    let t : State = lane_served s k Ab in
+    Sound-served_from n (k + 1) (lane_served t k Ba) (Sound-lane_served t k Ba (Sound-lane_served s k Ab sound))
+
+pub Sound-one_round : (s : State) → IsSoundState s → IsSoundState (one_round s)
+unfolding one_round
+Sound-one_round s sound =
+    let t : State = ticked_from (length s.views) 0 s in
+    Sound-served_from (length t.lanes) 0 t (Sound-ticked_from (length s.views) 0 s sound)
+
+pub Sound-rounds : (n : ℕ) (s : State) → IsSoundState s → IsSoundState (rounds n s)
+Sound-rounds zero s sound = sound
+Sound-rounds (suc n) s sound = Sound-rounds n (one_round s) (Sound-one_round s sound)
+
+delivered_over_sound : (s : State) (way : Option Way) → IsSoundState s → IsSoundState (delivered_over s way)
+delivered_over_sound s None sound = sound
+delivered_over_sound s (Some way) sound = Sound-delivered s way.link way.dir sound
+
+pub Sound-delivered_first : (s : State) → IsSoundState s → IsSoundState (delivered_first s)
+unfolding delivered_first
+Sound-delivered_first s sound = delivered_over_sound s (first_full_from 0 s.lanes) sound
+
+pub Sound-drained : (n : ℕ) (s : State) → IsSoundState s → IsSoundState (drained n s)
+Sound-drained zero s sound = sound
+Sound-drained (suc n) s sound = Sound-drained n (delivered_first s) (Sound-delivered_first s sound)

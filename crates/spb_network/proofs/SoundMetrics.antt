@@ -1,0 +1,130 @@
+-- The metric at each end of a link is that of the end.
+use Rattle.std.proofs.Common.{◌≡◌, ◌≢◌, inl, inr, ◌≤◌, ◌-◌, ℕ, Bool, true, false, true≢false, List, refl, sym, ap, ◌∙◌, subst, Option, Some, None, slice_get, arith}
+use Rattle.std.specs.Prelude.{nat_le, if◌then◌else◌}
+use Rattle.std.specs.Option.{option_map}
+use Rattle.std.proofs.lemmas.Bool.{le-leb}
+use Rattle.std.proofs.lemmas.List.{length-map}
+use Rattle.std.proofs.lemmas.Option.{slice_get-map}
+use Rattle.scenario.specs.declared.command.Dir.{Dir}
+use Rattle.bridge_api.specs.declared.port.BridgePort.{BridgePort}
+use Rattle.bridge_api.specs.View.{BridgeView, IsPort, metrics_of}
+use Rattle.bridge_api.specs.Hearing.{metered}
+use Rattle.bridge_api.specs.Step.{Input, second, frame, carrier, metric, step}
+use Rattle.bridge_api.specs.Laws.{metrics_after}
+use Rattle.bridge_api.proofs.Places.{got_at}
+use Rattle.bridge_api.proofs.Changes.{found, one_port, metric_step}
+use Rattle.bridge_api.proofs.Certified.{steps_keep_bridge}
+use Rattle.spb_network.specs.declared.declaration.DeclaredLink.{DeclaredLink}
+use Rattle.spb_network.specs.declared.declaration.LinkEnd.{LinkEnd}
+use Rattle.spb_network.specs.World.{Links, things_of}
+use Rattle.spb_network.specs.Declaring.{switched}
+use Rattle.spb_network.specs.State.{changed_at, near_end, is_at}
+use Rattle.spb_network.specs.Network.{IsPortAt}
+use Rattle.spb_network.specs.Sound.{metric_at, AreMetered}
+use Rattle.spb_network.proofs.SoundWays.{at_itself}
+use Rattle.spb_network.proofs.SoundSteps.{switched_link, same_near}
+use Rattle.spb_network.proofs.SoundCarrier.{got_changed}
+
+-- ---- one bridge
+
+-- the metric at a port, by the list of the metrics
+abbrev metric_of : List ℕ → ℕ → Option ℕ
+metric_of ms p = if nat_le 1 p then slice_get ms (p - 1) else None
+
+seen_if : (b : Bool) (ports : List BridgePort) (i : ℕ) → option_map (λ port. port.metric) (if b then slice_get ports i else None) ≡ (if b then slice_get (metrics_of ports) i else None)
+seen_if true ports i = sym (slice_get-map (λ (port : BridgePort). port.metric) ports i)
+seen_if false ports i = refl
+
+seen : (v : BridgeView) (p : ℕ) → metric_at v p ≡ metric_of (metrics_of v.ports) p
+seen v p = seen_if (nat_le 1 p) v.ports (p - 1)
+
+-- whether an input sets a metric
+abbrev pub is_metric : Input → Bool
+is_metric second = false
+is_metric (frame q bytes) = false
+is_metric (carrier q on) = false
+is_metric (metric q m) = true
+
+kept_metrics : (x : Input) (ms : List ℕ) → is_metric x ≡ false → metrics_after x ms ≡ ms
+kept_metrics second ms other = refl
+kept_metrics (frame q bytes) ms other = refl
+kept_metrics (carrier q on) ms other = refl
+kept_metrics (metric q m) ms other = absurd cc
+
+-- no other input changes a metric
+metric_kept : (x : Input) (v : BridgeView) (p : ℕ) → is_metric x ≡ false → metric_at (step x v) p ≡ metric_at v p
+metric_kept x v p other =
+    seen (step x v) p
+    ∙ (ap (λ (ms : List ℕ). metric_of ms p) ((steps_keep_bridge x v).metrics ∙ kept_metrics x (metrics_of v.ports) other)
+    ∙ sym (seen v p))
+
+-- it sets that of one port, and leaves the others
+metric_set : (v : BridgeView) (q m : ℕ) → IsPort v q → metric_at (step (metric q m) v) q ≡ Some m
+metric_set v q m is =
+    seen (step (metric q m) v) q
+    ∙ (ap (λ (ms : List ℕ). metric_of ms q) (steps_keep_bridge (metric q m) v).metrics
+    ∙ rw (le-leb 1 q is.low) (got_at (metrics_of v.ports) (q - 1) m (omega (arith, is.low, is.high, length-map v.ports (λ (port : BridgePort). port.metric)))))
+
+metric_beside : (v : BridgeView) (q m p : ℕ) → p ≢ q → metric_at (step (metric q m) v) p ≡ metric_at v p
+metric_beside v q m p apart =
+    elim (metric_step v q m) [
+      | inl e ↦ ap (λ (u : BridgeView). metric_at u p) e
+      | inr g ↦
+          let at = found v.ports q g.port g.there in
+          ap (λ (u : BridgeView). metric_at u p) g.after
+          ∙ elim (one_port v.ports q g.port (metered m g.port) p at.0 at.1) [
+            | inl here ↦ absurd (apart here.0)
+            | inr same ↦ ap (option_map (λ (port : BridgePort). port.metric)) same
+          ]
+    ]
+
+-- ---- the bridges of a network
+
+pub metered_stepped : (x : Input) (links : List DeclaredLink) (views : List BridgeView) (i : ℕ) → is_metric x ≡ false → AreMetered links views → AreMetered links (changed_at (step x) views i)
+metered_stepped x links views i other have k dir l v at at_v =
+    let p : ℕ = (near_end dir l).port in
+    let was = got_changed (step x) views i (near_end dir l).bridge v at_v in
+    elim was.is [
+      | inl here ↦ ap (λ (u : BridgeView). metric_at u p) here.1 ∙ (metric_kept x was.was p other ∙ have k dir l was.was at was.there)
+      | inr same ↦ ap (λ (u : BridgeView). metric_at u p) same.1 ∙ have k dir l was.was at was.there
+    ]
+
+pub metered_switched : (on : Bool) (ls : Links) (k : ℕ) (views : List BridgeView) → AreMetered (things_of ls) views → AreMetered (things_of (switched on ls k)) views
+metered_switched on ls k views have j dir l v at at_v =
+    let was = switched_link on ls k j l at in
+    let near : near_end dir was.link ≡ near_end dir l = same_near dir was.link l was.a was.b in
+    subst (λ (e : LinkEnd). metric_at v e.port ≡ Some e.metric) near
+    (have j dir was.link v was.there (ap (λ (e : LinkEnd). slice_get views e.bridge) near ∙ at_v))
+
+-- a bridge has its ports after a step
+pub port_stepped : (x : Input) (views : List BridgeView) (i j p : ℕ) → IsPortAt views j p → IsPortAt (changed_at (step x) views i) j p
+port_stepped x views i j p port v at =
+    let was = got_changed (step x) views i j v at in
+    let is : IsPort was.was p = port was.was was.there in
+    elim was.is [
+      | inl here ↦ subst (λ (u : BridgeView). IsPort u p) (sym here.1) (record { low = is.low; high = subst (λ (n : ℕ). p ≤ n) (sym (steps_keep_bridge x was.was).ports) is.high })
+      | inr same ↦ subst (λ (u : BridgeView). IsPort u p) (sym same.1) is
+    ]
+
+-- the end of a link that gets its metric has it, and every other port is as it was
+abbrev pub after_end : List BridgeView → LinkEnd → List BridgeView
+after_end views e = changed_at (step (metric e.port e.metric)) views e.bridge
+
+pub metered_end : (views : List BridgeView) (e : LinkEnd) (v : BridgeView) → IsPortAt views e.bridge e.port → slice_get (after_end views e) e.bridge ≡ Some v → metric_at v e.port ≡ Some e.metric
+metered_end views e v port at =
+    let was = got_changed (step (metric e.port e.metric)) views e.bridge e.bridge v at in
+    elim was.is [
+      | inl here ↦ ap (λ (u : BridgeView). metric_at u e.port) here.1 ∙ metric_set was.was e.port e.metric (port was.was was.there)
+      | inr other ↦ absurd (other.0 refl)
+    ]
+
+pub metered_away : (views : List BridgeView) (e : LinkEnd) (i p : ℕ) (v : BridgeView) (o : Option ℕ) → is_at e i p ≡ false → ((u : BridgeView) → slice_get views i ≡ Some u → metric_at u p ≡ o) → slice_get (after_end views e) i ≡ Some v → metric_at v p ≡ o
+metered_away views e i p v o apart have at =
+    let was = got_changed (step (metric e.port e.metric)) views e.bridge i v at in
+    elim was.is [
+      | inl here ↦
+          ap (λ (u : BridgeView). metric_at u p) here.1
+          ∙ (metric_beside was.was e.port e.metric p (λ same. true≢false (sym (at_itself e i p (sym here.0) (sym same)) ∙ apart))
+          ∙ have was.was was.there)
+      | inr other ↦ ap (λ (u : BridgeView). metric_at u p) other.1 ∙ have was.was was.there
+    ]

@@ -1,0 +1,193 @@
+-- Accepted commands keep what is sound of a network.
+use Rattle.std.proofs.Common.{◌≡◌, ℕ, zero, suc, ◌+◌, ◌-◌, ◌==◌, ◌≢◌, ◌&&◌, true≢false, is_some, ap, Bool, true, false, List, [], ◌∷◌, ◌++◌, length, map, replicate, nat_le, refl, sym, ◌∙◌, subst, Option, Some, None, slice_get, arith}
+use Rattle.std.specs.Prelude.{remove, if◌then◌else◌}
+use Rattle.std.specs.List.{AllByRecursion}
+use Rattle.std.proofs.lemmas.List.{length-map, length-replicate}
+use Rattle.std.proofs.lemmas.Bool.{eqb-true}
+use Rattle.spb_types.specs.declared.address.Mac.{Mac}
+use Rattle.spb_types.specs.declared.service.SourceId.{SourceId}
+use Rattle.scenario.specs.declared.command.Command.{Command}
+use Rattle.scenario.specs.declared.command.Command.TheVariants as command
+use Rattle.bridge_api.specs.declared.port.BridgePort.{BridgePort}
+use Rattle.bridge_api.specs.View.{BridgeView}
+use Rattle.bridge_api.specs.Config.{dark, configured}
+use Rattle.bridge_api.proofs.Certified.{configured_is_sound}
+use Rattle.spb_network.specs.declared.declaration.DeclaredLink.{DeclaredLink}
+use Rattle.spb_network.specs.declared.kind_rule.KindRule.{KindRule}
+use Rattle.spb_network.specs.declared.lanes.Lanes.{Lanes}
+use Rattle.spb_network.specs.declared.reason.Reason.{Reason}
+use Rattle.spb_network.specs.Reason.{reason_unless, ◌or◌}
+use Rattle.spb_network.specs.World.{World, names_of, things_of, place_of, Sound}
+use Rattle.spb_network.specs.Lanes.{no_frames}
+use Rattle.spb_network.specs.Declaring.{bridge_refusal, with_bridge, vid_refusal, link_refusal, plan_of, bridge_of, link_of, with_vid, with_link}
+use Rattle.spb_network.specs.State.{State, Spare}
+use Rattle.spb_network.specs.Events.{ticked, delivered, lost, doubled, metered_over, switched_off, switched_on, rounds, drained}
+use Rattle.spb_network.specs.Refusing.{box_for, declared_refusal, placed_link_refusal, named_link_refusal, refusal_of}
+use Rattle.spb_network.specs.Play.{config_of, boxed, declared, linked, placed_link, named_link, at_place, at_bridge, at_link, with_vid_more, with_rounds, with_drain, played, counted, next_state, played_all}
+use Rattle.spb_network.specs.Sound.{AreDistinct, carrier_in, IsSoundState, opening}
+use Rattle.spb_network.specs.SoundLaws.{Keeps, EventsKeepSound, IsAddressed, CommandsKeepSound, AreAccepted, NetworksAreSound}
+use Rattle.spb_network.proofs.ConfigLemmas.{whole-config}
+use Rattle.spb_network.proofs.WorldLemmas.{Sound-with_vid}
+use Rattle.spb_network.proofs.RefusalLemmas.{vid_refusal_none, IsFreeBridge, bridge_refusal_none, link_refusal_none}
+use Rattle.spb_network.proofs.SoundNames.{first_none, last_none, passes, distinct_bridge, distinct_link}
+use Rattle.spb_network.proofs.SoundEvents.{Sound-ticked, Sound-delivered, Sound-lost, Sound-doubled, Sound-switched_off, Sound-switched_on, Sound-rounds, Sound-drained}
+use Rattle.spb_network.proofs.SoundDeclaring.{empty_from, IsNewView, Sound-new_bridge, Sound-new_vid, Sound-nothing}
+use Rattle.spb_network.proofs.SoundLinks.{Sound-new_link}
+
+pub events_keep_sound : EventsKeepSound
+events_keep_sound = record {
+  tick = λ i s sound. Sound-ticked s i sound;
+  deliver = λ k dir s sound. Sound-delivered s k dir sound;
+  lose = λ k dir place s sound. Sound-lost s k dir place sound;
+  double = λ k dir place s sound. Sound-doubled s k dir place sound;
+  down = λ k s sound. Sound-switched_off s k sound;
+  up = λ k s sound. Sound-switched_on s k sound;
+  round = λ n s sound. Sound-rounds n s sound;
+  drain = λ n s sound. Sound-drained n s sound;
+}
+
+-- the rack, the rule and the counts don't matter
+pub sound_again : (s t : State) → t.world ≡ s.world → t.views ≡ s.views → t.lanes ≡ s.lanes → IsSoundState s → IsSoundState t
+sound_again s t world views lanes sound =
+    let same : IsSoundState (record s { world = t.world; views = t.views; lanes = t.lanes }) =
+    subst (λ (ls : List Lanes). IsSoundState (record s { world = t.world; views = t.views; lanes = ls })) (sym lanes)
+    (subst (λ (vs : List BridgeView). IsSoundState (record s { world = t.world; views = vs })) (sym views)
+    (subst (λ (w : World). IsSoundState (record s { world = w })) (sym world) sound)) in
+    record {
+      world = same.world;
+      distinct = record { bridges = same.distinct.bridges; sources = same.distinct.sources; links = same.distinct.links };
+      fits = record { bridges = same.fits.bridges; lanes = same.fits.lanes; ports = same.fits.ports };
+      shown = same.shown;
+      views = same.views;
+      lit = same.lit;
+      metered = same.metered;
+      short = same.short;
+      idle = same.idle;
+      agree = same.agree;
+    }
+
+-- ---- a VID
+
+before_bridges : (w : World) (vid ect : ℕ) → vid_refusal w vid ect ≡ None → w.bridges ≡ []
+unfolding vid_refusal
+before_bridges w vid ect none = empty_from w.bridges (eqb-true (length w.bridges) 0 (passes (length w.bridges == 0) _ (last_none _ _ none)))
+
+vid_sound : (s : State) (vid ect : ℕ) → IsSoundState s → vid_refusal s.world vid ect ≡ None → IsSoundState (with_vid_more s vid ect)
+unfolding with_vid_more
+vid_sound s vid ect sound none =
+    let new = vid_refusal_none s.world vid ect none in
+    Sound-new_vid s (plan_of vid ect) sound (before_bridges s.world vid ect none)
+    (Sound-with_vid s.world (plan_of vid ect) sound.world new.first (record { vid_low = new.vid_low; vid_high = new.vid_high; ect_low = omega (arith, new.first_ect); ect_high = omega (arith, new.first_ect) }))
+
+-- ---- a bridge
+
+dark_in : (metrics : List ℕ) (i : ℕ) → carrier_in (slice_get (map dark metrics) i) ≡ false
+dark_in [] i = refl
+dark_in (m ∷ metrics) zero = refl
+dark_in (m ∷ metrics) (suc i) = dark_in metrics i
+
+dark_if : (b : Bool) (o : Option BridgePort) → carrier_in o ≡ false → carrier_in (if b then o else None) ≡ false
+dark_if true o none = none
+dark_if false o none = refl
+
+new_view : (w : World) (name : List ℕ) (priority : ℕ) (system : Mac) (source : SourceId) (ports : ℕ) → Sound w → length system.bytes ≡ 6 → IsFreeBridge w name priority system source ports → IsNewView w (bridge_of priority system source ports) (configured (config_of w (bridge_of priority system source ports)))
+new_view w name priority system source ports sound six new = record {
+  shown = record { id = refl; source = refl; vids = refl; attached = refl };
+  ports = record { ports = length-map (replicate ports 1) dark ∙ length-replicate ports 1 };
+  sound = configured_is_sound (config_of w (bridge_of priority system source ports)) (whole-config w (bridge_of priority system source ports) sound new.ports_high new.source_high six new.address);
+  dark = λ p. dark_if (nat_le 1 p) (slice_get (map dark (replicate ports 1)) (p - 1)) (dark_in (replicate ports 1) (p - 1));
+}
+
+boxed_sound : (s : State) (name : List ℕ) (priority : ℕ) (system : Mac) (source : SourceId) (ports : ℕ) (o : Option ℕ) → IsSoundState s → length system.bytes ≡ 6 → bridge_refusal s.world name priority system source ports ≡ None → IsSoundState (boxed s name (bridge_of priority system source ports) o)
+boxed_sound s name priority system source ports None sound six none = sound
+boxed_sound s name priority system source ports (Some place) sound six none =
+    let new = bridge_refusal_none s.world name priority system source ports none in
+    Sound-new_bridge s (remove s.rack place) name (bridge_of priority system source ports) (configured (config_of s.world (bridge_of priority system source ports))) sound new.new (distinct_bridge s.world name priority system source ports sound.distinct none) (new_view s.world name priority system source ports sound.world six new)
+
+bridge_sound : (s : State) (name : List ℕ) (priority : ℕ) (system : Mac) (source : SourceId) (ports : ℕ) → IsSoundState s → length system.bytes ≡ 6 → declared_refusal s name priority system source ports ≡ None → IsSoundState (declared s name (bridge_of priority system source ports))
+unfolding declared_refusal declared
+bridge_sound s name priority system source ports sound six none =
+    boxed_sound s name priority system source ports (box_for s) sound six (first_none _ _ none)
+
+-- ---- a link
+
+linked_sound : (s : State) (name : List ℕ) (i port_a j port_b cost : ℕ) → IsSoundState s → link_refusal s.world name i port_a j port_b cost ≡ None → IsSoundState (linked s name (link_of i port_a j port_b cost))
+unfolding linked
+linked_sound s name i port_a j port_b cost sound none =
+    let l : DeclaredLink = link_of i port_a j port_b cost in
+    let new = link_refusal_none s.world name i port_a j port_b cost none in
+    Sound-switched_on (metered_over (record s { world = with_link s.world name l; lanes = s.lanes ++ no_frames ∷ [] }) l) (length s.lanes) (Sound-new_link s name l sound new.new (distinct_link s.world name l sound.distinct new.name_new) refl)
+
+placed_sound : (s : State) (name : List ℕ) (a b : Option ℕ) (port_a port_b cost : ℕ) → IsSoundState s → placed_link_refusal s name a port_a b port_b cost ≡ None → IsSoundState (placed_link s name a port_a b port_b cost)
+placed_sound s name None b port_a port_b cost sound none = sound
+placed_sound s name (Some i) None port_a port_b cost sound none = sound
+placed_sound s name (Some i) (Some j) port_a port_b cost sound none = linked_sound s name i port_a j port_b cost sound none
+
+link_sound : (s : State) (name a b : List ℕ) (port_a port_b cost : ℕ) → IsSoundState s → named_link_refusal s name a port_a b port_b cost ≡ None → IsSoundState (named_link s name a port_a b port_b cost)
+unfolding named_link_refusal named_link
+link_sound s name a b port_a port_b cost sound none = placed_sound s name (place_of a s.world.bridges) (place_of b s.world.bridges) port_a port_b cost sound none
+
+-- ---- what happens at a named place
+
+place_sound : (event : State → ℕ → State) (s : State) (o : Option ℕ) → ((k : ℕ) → Keeps (λ t. event t k)) → IsSoundState s → IsSoundState (at_place event s o)
+place_sound event s None keeps sound = sound
+place_sound event s (Some k) keeps sound = keeps k s sound
+
+at_bridge_sound : (event : State → ℕ → State) (s : State) (name : List ℕ) → ((k : ℕ) → Keeps (λ t. event t k)) → IsSoundState s → IsSoundState (at_bridge event s name)
+unfolding at_bridge
+at_bridge_sound event s name keeps sound = place_sound event s (place_of name s.world.bridges) keeps sound
+
+at_link_sound : (event : State → ℕ → State) (s : State) (name : List ℕ) → ((k : ℕ) → Keeps (λ t. event t k)) → IsSoundState s → IsSoundState (at_link event s name)
+unfolding at_link
+at_link_sound event s name keeps sound = place_sound event s (place_of name s.world.links) keeps sound
+
+-- ---- the commands
+
+rounds_sound : (n : ℕ) → Keeps (with_rounds n)
+unfolding with_rounds
+rounds_sound n s sound = sound_again (rounds n s) (record (rounds n s) { rounds = s.rounds + n }) refl refl refl (Sound-rounds n s sound)
+
+drain_sound : (n : ℕ) → Keeps (with_drain n)
+unfolding with_drain
+drain_sound n s sound = sound_again (drained n s) (record (drained n s) { drained = s.drained + n }) refl refl refl (Sound-drained n s sound)
+
+played_sound : (s : State) (c : Command) → IsSoundState s → IsAddressed c → refusal_of s c ≡ None → IsSoundState (played s c)
+played_sound s (command.Vid vid ect) sound addressed none = vid_sound s vid ect sound none
+played_sound s (command.Bridge name priority system source ports) sound addressed none = bridge_sound s name priority system source ports sound addressed none
+played_sound s (command.Link name a port_a b port_b cost) sound addressed none = link_sound s name a b port_a port_b cost sound none
+played_sound s (command.Down name) sound addressed none = at_link_sound switched_off s name (λ k t. Sound-switched_off t k) sound
+played_sound s (command.Up name) sound addressed none = at_link_sound switched_on s name (λ k t. Sound-switched_on t k) sound
+played_sound s (command.Tick name) sound addressed none = at_bridge_sound ticked s name (λ k t. Sound-ticked t k) sound
+played_sound s (command.Deliver name dir) sound addressed none = at_link_sound (λ t k. delivered t k dir) s name (λ k t. Sound-delivered t k dir) sound
+played_sound s (command.Lose name dir place) sound addressed none = at_link_sound (λ t k. lost t k dir place) s name (λ k t. Sound-lost t k dir place) sound
+played_sound s (command.Double name dir place) sound addressed none = at_link_sound (λ t k. doubled t k dir place) s name (λ k t. Sound-doubled t k dir place) sound
+played_sound s (command.Round n) sound addressed none = rounds_sound n s sound
+played_sound s (command.Drain n) sound addressed none = drain_sound n s sound
+played_sound s _ sound addressed none = sound
+
+pub commands_keep_sound : CommandsKeepSound
+unfolding next_state
+commands_keep_sound s c sound addressed none = sound_again (played s c) (counted (played s c)) refl refl refl (played_sound s c sound addressed none)
+
+all_sound : (s : State) (cs : List Command) → IsSoundState s → AllByRecursion IsAddressed cs → AreAccepted s cs → IsSoundState (played_all s cs)
+all_sound s [] sound addressed accepted = sound
+all_sound s (c ∷ cs) sound addressed accepted = all_sound (next_state s c) cs (commands_keep_sound s c sound addressed.0 accepted.0) addressed.1 accepted.1
+
+opening_world : Sound (record { vids = []; bridges = []; links = [] })
+opening_world = record {
+  few = omega arith;
+  ports = tt;
+  systems = tt;
+  links = tt;
+  links_apart = tt;
+  plans = record { ects = tt; apart = tt };
+  few_vids = omega arith;
+  each_vid = tt;
+}
+
+-- a network in which nothing is declared is sound
+pub opening_sound : (rule : KindRule) (rack : List Spare) → IsSoundState (opening rule rack)
+opening_sound rule rack = Sound-nothing (opening rule rack) opening_world refl refl refl refl
+
+pub networks_are_sound : NetworksAreSound
+networks_are_sound rule rack cs addressed accepted = all_sound (opening rule rack) cs (opening_sound rule rack) addressed accepted

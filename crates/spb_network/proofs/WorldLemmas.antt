@@ -1,0 +1,156 @@
+use Rattle.std.proofs.Common.{Bool, Option, Some, None, slice_get, ◌≡◌, ℕ, zero, suc, ◌<◌, ◌≤◌, false, true≢false, List, [], ◌∷◌, ◌++◌, length, refl, sym, ap, ◌∙◌, arith, ⊎_elim}
+use Rattle.std.specs.List.{AllByRecursion}
+use Rattle.std.specs.Str.{bytes_eq}
+use Rattle.spb_types.specs.Graph.{IsAmong, systems_of}
+use Rattle.spb_types.specs.Address.{same_system}
+use Rattle.spb_types.specs.declared.address.SystemId.{SystemId}
+use Rattle.ect_trees.proofs.Among.{same_self, distinct_snoc}
+use Rattle.spb_network.specs.declared.declaration.DeclaredBridge.{DeclaredBridge}
+use Rattle.spb_network.specs.declared.declaration.DeclaredLink.{DeclaredLink}
+use Rattle.spb_network.specs.declared.declaration.LinkEnd.{LinkEnd}
+use Rattle.spb_types.specs.declared.service.VidPlan.{VidPlan}
+use Rattle.spb_tlvs.specs.Capability.{IsTree}
+use Rattle.spb_network.specs.Declaring.{with_vid, with_bridge, with_link, with_live, switched}
+use Rattle.indexmap.specs.Layout.{set_value_at}
+use Rattle.spb_network.specs.World.{World, Bridges, Links, things_of, graph_bridges, system_at, ports_at, IsEnd, IsLink, AreApart, AllApart, Sound}
+use Rattle.spb_network.proofs.ListLemmas.{All-map, All-push, things_of-push, length-push}
+
+pub ports_at-push : (bs : Bridges) (b : List ℕ × DeclaredBridge) (i : ℕ) → i < length bs → ports_at (bs ++ b ∷ []) i ≡ ports_at bs i
+ports_at-push [] b i h = absurd (omega arith)
+ports_at-push (c ∷ cs) b zero h = refl
+ports_at-push (c ∷ cs) b (suc i) h = ports_at-push cs b i (omega arith)
+
+pub system_at-push : (bs : Bridges) (b : List ℕ × DeclaredBridge) (i : ℕ) → i < length bs → system_at (bs ++ b ∷ []) i ≡ system_at bs i
+system_at-push [] b i h = absurd (omega arith)
+system_at-push (c ∷ cs) b zero h = refl
+system_at-push (c ∷ cs) b (suc i) h = system_at-push cs b i (omega arith)
+
+pub ports_at-within : (bs : Bridges) (i : ℕ) → 1 ≤ ports_at bs i → i < length bs
+ports_at-within [] i h = absurd (omega arith)
+ports_at-within (b ∷ bs) zero h = omega arith
+ports_at-within (b ∷ bs) (suc i) h = omega (arith, ports_at-within bs i h)
+
+IsEnd-push : (bs : Bridges) (b : List ℕ × DeclaredBridge) (e : LinkEnd) → IsEnd bs e → IsEnd (bs ++ b ∷ []) e
+IsEnd-push bs b e h = record {
+  bridge = omega (arith, length-push bs b, h.bridge);
+  port_low = h.port_low;
+  port_high = rw (ports_at-push bs b e.bridge h.bridge) h.port_high;
+  metric_low = h.metric_low;
+  metric_high = h.metric_high;
+}
+
+pub IsLink-push : (bs : Bridges) (b : List ℕ × DeclaredBridge) (l : DeclaredLink) → IsLink bs l → IsLink (bs ++ b ∷ []) l
+IsLink-push bs b l h = record { a = IsEnd-push bs b l.a h.a; b = IsEnd-push bs b l.b h.b; apart = h.apart }
+
+-- a system id that no bridge has isn't among theirs
+new_among : (bs : Bridges) (x : SystemId) → AllByRecursion (λ b. bytes_eq b.bridge.id.system.mac.bytes x.mac.bytes ≡ false) (things_of bs) → IsAmong x (systems_of (graph_bridges bs)) → ⊥
+new_among [] x none among = among
+new_among (b ∷ bs) x none among =
+    let here : x ≡ b.1.bridge.id.system → ⊥ = λ e. true≢false (sym (same_self x) ∙ ap (λ y. same_system y x) e ∙ none.0) in
+    ⊎_elim here (new_among bs x none.1) among
+
+systems-push : (bs : Bridges) (name : List ℕ) (b : DeclaredBridge) → systems_of (graph_bridges (bs ++ (name, b) ∷ [])) ≡ systems_of (graph_bridges bs) ++ b.bridge.id.system ∷ []
+systems-push [] name b = refl
+systems-push (c ∷ cs) name b = ap (λ l. c.1.bridge.id.system ∷ l) (systems-push cs name b)
+
+AllApart-push : (ls : List DeclaredLink) (m : DeclaredLink) → AllApart ls → AllByRecursion (λ l. AreApart l m) ls → AllApart (ls ++ m ∷ [])
+AllApart-push [] m apart new = (tt, tt)
+AllApart-push (l ∷ ls) m apart new = (All-push (AreApart l) ls m apart.0 new.0, AllApart-push ls m apart.1 new.1)
+
+-- what is asked of a bridge, so that it can be declared
+pub record IsNewBridge (w : World) (b : DeclaredBridge) : Type 0 where
+  pub room : length w.bridges < 96
+  pub ports : b.ports ≤ 32
+  pub system : AllByRecursion (λ c. bytes_eq c.bridge.id.system.mac.bytes b.bridge.id.system.mac.bytes ≡ false) (things_of w.bridges)
+
+pub Sound-with_bridge : (w : World) (name : List ℕ) (b : DeclaredBridge) → Sound w → IsNewBridge w b → Sound (with_bridge w name b)
+unfolding with_bridge
+Sound-with_bridge w name b sound new = record {
+  few = omega (arith, length-push w.bridges (name, b), new.room);
+  ports = rw things_of-push (All-push (λ c. c.ports ≤ 32) (things_of w.bridges) b sound.ports new.ports);
+  systems = rw systems-push (distinct_snoc (systems_of (graph_bridges w.bridges)) b.bridge.id.system sound.systems (new_among w.bridges b.bridge.id.system new.system));
+  links = All-map (IsLink w.bridges) (IsLink (w.bridges ++ (name, b) ∷ [])) (things_of w.links) (IsLink-push w.bridges (name, b)) sound.links;
+  links_apart = sound.links_apart;
+  plans = sound.plans;
+  few_vids = sound.few_vids;
+  each_vid = sound.each_vid;
+}
+
+-- what is asked of a link, so that it can be declared
+pub record IsNewLink (w : World) (l : DeclaredLink) : Type 0 where
+  pub link : IsLink w.bridges l
+  pub apart : AllByRecursion (λ m. AreApart m l) (things_of w.links)
+
+pub Sound-with_link : (w : World) (name : List ℕ) (l : DeclaredLink) → Sound w → IsNewLink w l → Sound (with_link w name l)
+unfolding with_link
+Sound-with_link w name l sound new = record {
+  few = sound.few;
+  ports = sound.ports;
+  systems = sound.systems;
+  links = rw things_of-push (All-push (IsLink w.bridges) (things_of w.links) l sound.links new.link);
+  links_apart = rw things_of-push (AllApart-push (things_of w.links) l sound.links_apart new.apart);
+  plans = sound.plans;
+  few_vids = sound.few_vids;
+  each_vid = sound.each_vid;
+}
+
+pub Sound-with_vid : (w : World) (p : VidPlan) → Sound w → w.vids ≡ [] → IsTree p → Sound (with_vid w p)
+unfolding with_vid
+Sound-with_vid w p sound none tree = record {
+  few = sound.few;
+  ports = sound.ports;
+  systems = sound.systems;
+  links = sound.links;
+  links_apart = sound.links_apart;
+  plans = rw none (record { ects = ((tree.ect_low, tree.ect_high), tt); apart = (tt, tt) });
+  few_vids = rw none (omega arith);
+  each_vid = rw none (tree, tt);
+}
+
+pub ports_at-le : (bs : Bridges) (i : ℕ) → AllByRecursion (λ b. b.ports ≤ 32) (things_of bs) → ports_at bs i ≤ 32
+ports_at-le [] i h = omega arith
+ports_at-le (b ∷ bs) zero h = h.0
+ports_at-le (b ∷ bs) (suc i) h = ports_at-le bs i h.1
+
+-- a link that comes up or goes down is the same link otherwise
+switched-links : (on : Bool) (bs : Bridges) (ls : Links) (k : ℕ) → AllByRecursion (IsLink bs) (things_of ls) → AllByRecursion (IsLink bs) (things_of (switched on ls k))
+switched-links on bs [] k h = h
+switched-links on bs (l ∷ ls) zero h = (record { a = h.0.a; b = h.0.b; apart = h.0.apart }, h.1)
+switched-links on bs (l ∷ ls) (suc k) h = (h.0, switched-links on bs ls k h.1)
+
+switched-apart_from : (on : Bool) (m : DeclaredLink) (ls : Links) (k : ℕ) → AllByRecursion (AreApart m) (things_of ls) → AllByRecursion (AreApart m) (things_of (switched on ls k))
+switched-apart_from on m [] k h = h
+switched-apart_from on m (l ∷ ls) zero h = (record { bridges = h.0.bridges; port_a = h.0.port_a; port_b = h.0.port_b }, h.1)
+switched-apart_from on m (l ∷ ls) (suc k) h = (h.0, switched-apart_from on m ls k h.1)
+
+switched-apart : (on : Bool) (ls : Links) (k : ℕ) → AllApart (things_of ls) → AllApart (things_of (switched on ls k))
+switched-apart on [] k h = h
+switched-apart on (l ∷ ls) zero h = (All-map (AreApart l.1) (AreApart (record l.1 { live = on })) (things_of ls) (λ m a. record { bridges = a.bridges; port_a = a.port_a; port_b = a.port_b }) h.0, h.1)
+switched-apart on (l ∷ ls) (suc k) h = (switched-apart_from on l.1 ls k h.0, switched-apart on ls k h.1)
+
+pub Sound-with_live : (on : Bool) (w : World) (k : ℕ) → Sound w → Sound (with_live on w k)
+unfolding with_live
+Sound-with_live on w k sound = record {
+  few = sound.few;
+  ports = sound.ports;
+  systems = sound.systems;
+  links = switched-links on w.bridges w.links k sound.links;
+  links_apart = switched-apart on w.links k sound.links_apart;
+  plans = sound.plans;
+  few_vids = sound.few_vids;
+  each_vid = sound.each_vid;
+}
+
+some-is : {X : Type 0} (x y : X) → Some x ≡ Some y → x ≡ y
+some-is x y h = cc
+
+-- a write of the link at a place
+pub switched-set : (on : Bool) (ls : Links) (k : ℕ) (l : DeclaredLink) → slice_get (things_of ls) k ≡ Some l → set_value_at ls k (record l { live = on }) ≡ switched on ls k
+switched-set on [] k l h = cc
+switched-set on (m ∷ ls) zero l h = ap (λ x. (m.0, record x { live = on }) ∷ ls) (sym (some-is m.1 l h))
+switched-set on (m ∷ ls) (suc k) l h = ap (λ x. m ∷ x) (switched-set on ls k l h)
+
+pub switched-none : (on : Bool) (ls : Links) (k : ℕ) → slice_get (things_of ls) k ≡ None → ls ≡ switched on ls k
+switched-none on [] k h = refl
+switched-none on (m ∷ ls) zero h = cc
+switched-none on (m ∷ ls) (suc k) h = ap (λ x. m ∷ x) (switched-none on ls k h)

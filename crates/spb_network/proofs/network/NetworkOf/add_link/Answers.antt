@@ -1,0 +1,25 @@
+use Rattle.std.proofs.Common.{◌≡◌, ◌∷◌, [], ◌++◌, sym, ap, ◌∙◌, subst}
+use Rattle.spb_network.specs.declared.declaration.DeclaredLink.{DeclaredLink}
+use Rattle.spb_network.specs.declared.lanes.Lanes.{Lanes}
+use Rattle.spb_network.specs.World.{World, IsLink}
+use Rattle.spb_network.specs.State.{State}
+use Rattle.spb_network.specs.Declaring.{link_of, with_link}
+use Rattle.spb_network.specs.Network.{state_of, Fits}
+use Rattle.spb_network.proofs.CommandFits.{Fits-with_link}
+use Rattle.spb_network.proofs.RefusalLemmas.{link_refusal_none}
+use Rattle.spb_network.proofs.network.NetworkOf.add_link.Goals as goal
+
+pub meter_over-requires-clause-order : goal.meter_over-requires-clause-order
+meter_over-requires-clause-order g c =
+    let s : State = state_of g.B.Bridge.kind_of g.B.Bridge.blank g.B.Bridge.view c.args.self.now in
+    record {
+      made = c.requires.order.made;
+      fits = subst Fits (λ i. record s { world = sym c.in_ok-link.ensures.ok i; lanes = sym c.in_ok-push.ensures.items i }) (Fits-with_link s c.args.name (link_of c.args.i c.args.port_a c.args.j c.args.port_b c.args.cost) c.new.result c.requires.order.fits);
+    }
+
+pub meter_over-requires-clause-link : goal.meter_over-requires-clause-link
+unfolding with_link
+meter_over-requires-clause-link g c =
+    let new = link_refusal_none c.args.self.now.world c.args.name c.args.i c.args.port_a c.args.j c.args.port_b c.args.cost c.requires.accepted in
+    subst (λ (w : World). IsLink w.bridges c.in_ok-link.link) (sym c.in_ok-link.ensures.ok)
+    (subst (IsLink c.args.self.now.world.bridges) (sym c.in_ok-link.ensures.link) new.new.link)

@@ -1,0 +1,32 @@
+use Rattle.std.proofs.Common.{◌≡◌, ap, sym, subst, ◌∙◌, None, slice_get}
+use Rattle.std.specs.Option.{option_map}
+use Rattle.spb_network.specs.Lanes.{rest}
+use Rattle.spb_network.specs.State.{State, lane_at}
+use Rattle.spb_network.specs.Events.{delivered, delivered_front}
+use Rattle.spb_network.specs.Network.{state_of, Fits}
+use Rattle.spb_network.proofs.FitsLemmas.{Fits-with_frames}
+use Rattle.spb_network.proofs.SendLemmas.{rest-none}
+use Rattle.spb_network.proofs.network.NetworkOf.deliver.Goals as goal
+
+pub hear_over-requires : goal.hear_over-requires
+hear_over-requires g c =
+    let s : State = state_of g.B.Bridge.kind_of g.B.Bridge.blank g.B.Bridge.view c.args.self.now in
+    record {
+      made = c.requires.made;
+      fits = subst Fits (ap (λ l. record s { lanes = l }) (sym c.pop.ensures.rest)) (Fits-with_frames rest s c.args.way.link c.args.way.dir c.requires.fits);
+    }
+
+pub returns-in-None-clause-state : goal.returns-in-None-clause-state
+unfolding delivered
+returns-in-None-clause-state g c =
+    let s : State = state_of g.B.Bridge.kind_of g.B.Bridge.blank g.B.Bridge.view c.args.self.now in
+    let none : slice_get (lane_at s c.args.way.link c.args.way.dir) 0 ≡ None = sym c.pop.ensures.frame ∙ ap (option_map (λ frame. frame.items)) c.in-None.is in
+    ap (λ l. record s { lanes = l }) (c.pop.ensures.rest ∙ sym (rest-none c.args.way.dir s.lanes c.args.way.link none)) ∙ sym (ap (delivered_front s c.args.way.link c.args.way.dir) none)
+
+pub returns-in-None-clause-order : goal.returns-in-None-clause-order
+returns-in-None-clause-order g c =
+    let s : State = state_of g.B.Bridge.kind_of g.B.Bridge.blank g.B.Bridge.view c.args.self.now in
+    record {
+      made = c.requires.made;
+      fits = subst Fits (ap (λ l. record s { lanes = l }) (sym c.pop.ensures.rest)) (Fits-with_frames rest s c.args.way.link c.args.way.dir c.requires.fits);
+    }

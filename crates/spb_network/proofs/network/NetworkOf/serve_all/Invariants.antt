@@ -1,0 +1,10 @@
+use Rattle.std.proofs.Common.{◌≡◌, ◌-◌, ◌≤◌, length, drop}
+use Rattle.spb_network.specs.Events.{served_from, all_served}
+use Rattle.spb_network.specs.Network.{state_of, IsInOrder}
+use Rattle.spb_network.proofs.network.NetworkOf.serve_all.Given as goal
+
+abbrev pub invariant-loop-link : goal.invariant-loop-link
+invariant-loop-link g l =
+    (IsInOrder g.B.Bridge.kind_of g.B.Bridge.blank g.B.Bridge.view l.self) ×
+    (l.link ≤ l.link-end) ×
+    (served_from (l.link-end - l.link) l.link (state_of g.B.Bridge.kind_of g.B.Bridge.blank g.B.Bridge.view l.self) ≡ all_served (state_of g.B.Bridge.kind_of g.B.Bridge.blank g.B.Bridge.view l.fn.self))

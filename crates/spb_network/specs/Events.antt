@@ -1,0 +1,147 @@
+-- The events of a network. Each is what one bridge does, or what becomes of one lane or link.
+use Rattle.std.specs.Prelude.{ℕ, zero, suc, ◌+◌, List, [], ◌∷◌, length, nat_lt, Bool, true, false, Option, Some, None, slice_get, if◌then◌else◌}
+use Rattle.std.specs.Option.{option_map, option_map_or, option_and_then, option_or}
+use Rattle.link_model.specs.Lane.{Frame, pushed, after_lose, after_double}
+use Rattle.scenario.specs.declared.command.Dir.{Dir}
+use Rattle.scenario.specs.declared.command.Dir.TheVariants.{Ab, Ba}
+use Rattle.bridge_api.specs.Step as comes
+use Rattle.bridge_api.specs.Step.{Input, step, sent}
+use Rattle.spb_network.specs.declared.declaration.DeclaredLink.{DeclaredLink}
+use Rattle.spb_network.specs.declared.declaration.LinkEnd.{LinkEnd}
+use Rattle.spb_network.specs.declared.lanes.Lanes.{Lanes}
+use Rattle.spb_network.specs.declared.way.Way.{Way}
+use Rattle.spb_network.specs.World.{World}
+use Rattle.spb_network.specs.Lanes.{lane_in, rest, no_frames}
+use Rattle.spb_network.specs.Declaring.{with_live}
+use Rattle.spb_network.specs.State.{State, changed_at, links_of, is_live, far_end, way_out, lane_at, with_frames}
+
+-- a frame goes into the lane of a way whose link is up; it is lost where there is no such way, and where the lane is full
+abbrev pub sent_over : State → Option Way → Frame → State
+sent_over s None frame = s
+sent_over s (Some way) frame = if is_live (links_of s) way.link then with_frames (λ frames. pushed frames frame) s way.link way.dir else s
+
+-- the bridge at place i sends frames, each at a port
+abbrev pub sent_all : State → ℕ → List (ℕ × Frame) → State
+sent_all s i [] = s
+sent_all s i (f ∷ fs) = sent_all (sent_over s (way_out (links_of s) i f.0) f.1) i fs
+
+-- something comes to the bridge at place i, and what it sends is on its way at once
+unfoldable pub stepped : Input → State → ℕ → State
+stepped input s i = sent_all (record s { views = changed_at (step input) s.views i }) i (option_map_or (sent input) (slice_get s.views i) [])
+
+-- a second of the bridge at place i
+abbrev pub ticked : State → ℕ → State
+ticked s i = stepped comes.second s i
+
+-- a frame comes to the far end of a link
+abbrev pub heard_over : State → Dir → Frame → Option DeclaredLink → State
+heard_over s dir bytes None = s
+heard_over s dir bytes (Some l) = stepped (comes.frame (far_end dir l).port bytes) s (far_end dir l).bridge
+
+abbrev pub delivered_front : State → ℕ → Dir → Option Frame → State
+delivered_front s k dir None = s
+delivered_front s k dir (Some bytes) = heard_over (with_frames rest s k dir) dir bytes (slice_get (links_of s) k)
+
+-- the frame at the front of a lane of the link at place k is delivered; nothing happens where there is none
+unfoldable pub delivered : State → ℕ → Dir → State
+delivered s k dir = delivered_front s k dir (slice_get (lane_at s k dir) 0)
+
+-- the frame at a place of a lane is lost, or doubled
+abbrev pub lost : State → ℕ → Dir → ℕ → State
+lost s k dir place = with_frames (λ frames. after_lose frames place) s k dir
+
+abbrev pub doubled : State → ℕ → Dir → ℕ → State
+doubled s k dir place = with_frames (λ frames. after_double frames place (slice_get frames place)) s k dir
+
+-- carrier comes to an end of a link, or goes
+abbrev pub carried : Bool → State → LinkEnd → State
+carried on s e = stepped (comes.carrier e.port on) s e.bridge
+
+-- and so at end a, then at end b
+abbrev pub carried_over : Bool → State → Option DeclaredLink → State
+carried_over on s None = s
+carried_over on s (Some l) = carried on (carried on s l.a) l.b
+
+-- an end of a link gets its metric
+abbrev pub metered : State → LinkEnd → State
+metered s e = stepped (comes.metric e.port e.metric) s e.bridge
+
+-- and so do both, end a before end b
+abbrev pub metered_over : State → DeclaredLink → State
+metered_over s l = metered (metered s l.a) l.b
+
+-- both lanes of the link at place k lose their frames
+abbrev pub flushed : State → ℕ → State
+flushed s k = record s { lanes = changed_at (λ lanes. no_frames) s.lanes k }
+
+-- the link at place k goes down: its lanes are empty, and both ends lose carrier
+unfoldable pub switched_off : State → ℕ → State
+switched_off s k = let t : State = flushed s k in carried_over false (record t { world = with_live false t.world k }) (slice_get (links_of s) k)
+
+-- the link at place k comes up: both ends get carrier
+unfoldable pub switched_on : State → ℕ → State
+switched_on s k = carried_over true (record s { world = with_live true s.world k }) (slice_get (links_of s) k)
+
+-- so many bridges tick, from place i on
+abbrev pub ticked_from : ℕ → ℕ → State → State
+ticked_from zero i s = s
+ticked_from (suc n) i s = ticked_from n (i + 1) (ticked s i)
+
+-- so many frames of a lane are delivered
+abbrev pub delivered_times : ℕ → ℕ → Dir → State → State
+delivered_times zero k dir s = s
+delivered_times (suc n) k dir s = delivered_times n k dir (delivered s k dir)
+
+-- as many frames of a lane are delivered as it holds
+unfoldable pub lane_served : State → ℕ → Dir → State
+lane_served s k dir = delivered_times (length (lane_at s k dir)) k dir s
+
+-- both lanes of a link are served, ab before ba
+abbrev pub link_served : State → ℕ → State
+link_served s k = lane_served (lane_served s k Ab) k Ba
+
+-- so many links are served, from place k on
+abbrev pub served_from : ℕ → ℕ → State → State
+served_from zero k s = s
+served_from (suc n) k s = served_from n (k + 1) (link_served s k)
+
+-- every bridge ticks, in order of declaration
+abbrev pub all_ticked : State → State
+all_ticked s = ticked_from (length s.views) 0 s
+
+-- every link is served, in order of declaration
+abbrev pub all_served : State → State
+all_served s = served_from (length s.lanes) 0 s
+
+-- a round: each bridge ticks, and then each link is served
+unfoldable pub one_round : State → State
+one_round s = all_served (all_ticked s)
+
+abbrev pub rounds : ℕ → State → State
+rounds zero s = s
+rounds (suc n) s = rounds n (one_round s)
+
+-- the lane of the link at place k that isn't empty, if there is one, ab before ba
+abbrev pub full_in : ℕ → Lanes → Option Way
+full_in k lanes = if nat_lt 0 (length lanes.ab) then Some (record { link = k; dir = Ab }) else (if nat_lt 0 (length lanes.ba) then Some (record { link = k; dir = Ba }) else None)
+
+abbrev pub full_at : List Lanes → ℕ → Option Way
+full_at lanes k = option_and_then (full_in k) (slice_get lanes k)
+
+-- the first lane that isn't empty, over the links from place k on
+abbrev pub first_full_from : ℕ → List Lanes → Option Way
+first_full_from k [] = None
+first_full_from k (lanes ∷ more) = option_or (full_in k lanes) (first_full_from (k + 1) more)
+
+abbrev pub delivered_over : State → Option Way → State
+delivered_over s None = s
+delivered_over s (Some way) = delivered s way.link way.dir
+
+-- one delivery from the first lane that isn't empty
+unfoldable pub delivered_first : State → State
+delivered_first s = delivered_over s (first_full_from 0 s.lanes)
+
+-- at most so many deliveries, each from the first lane that isn't empty
+abbrev pub drained : ℕ → State → State
+drained zero s = s
+drained (suc n) s = drained n (delivered_first s)

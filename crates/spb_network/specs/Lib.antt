@@ -1,0 +1,12 @@
+pub mod World
+pub mod Reason
+pub mod Declaring
+pub mod Lanes
+pub mod State
+pub mod Events
+pub mod Network
+pub mod Sound
+pub mod Refusing
+pub mod Play
+pub mod Applying
+pub mod SoundLaws

@@ -1,0 +1,55 @@
+-- What a network of boxes is the state of.
+use Rattle.std.specs.Prelude.{◌≡◌, ℕ, ◌≤◌, List, length, map, Bool, true, false, Option, Some, slice_get}
+use Rattle.std.specs.List.{AllByRecursion}
+use Rattle.bridge_api.specs.declared.kind.Kind.{Kind}
+use Rattle.bridge_api.specs.View.{BridgeView, IsPort}
+use Rattle.spb_network.specs.declared.network.NetworkOf.{NetworkOf}
+use Rattle.spb_network.specs.declared.declaration.DeclaredBridge.{DeclaredBridge}
+use Rattle.spb_network.specs.declared.declaration.DeclaredLink.{DeclaredLink}
+use Rattle.spb_network.specs.World.{things_of}
+use Rattle.spb_network.specs.State.{Spare, State, links_of}
+
+module _ {B : Type 0} (kind_of : B → Kind) (blank : B → Bool) (view : B → BridgeView) where
+  -- the box as one of the rack
+  abbrev pub spare : B → Spare
+  spare b = record { kind = kind_of b; blank = blank b }
+
+  -- the state that a network is in: its boxes show the bridges
+  abbrev pub state_of : NetworkOf B → State
+  state_of n = record {
+    rule = n.rule;
+    rack = map spare n.rack.items;
+    world = n.world;
+    views = map view n.boxes.items;
+    lanes = n.lanes.items;
+    rounds = n.rounds;
+    drained = n.drained;
+    accepted = n.accepted;
+  }
+
+-- the bridges have the ports that were declared
+pub record HasPorts (v : BridgeView) (b : DeclaredBridge) : Type 0 where
+  pub ports : length v.ports ≡ b.ports
+
+-- there is a bridge for each that was declared, with its ports, and there are lanes for each link
+pub record Fits (s : State) : Type 0 where
+  pub bridges : length s.views ≡ length s.world.bridges
+  pub lanes : length s.lanes ≡ length s.world.links
+  pub ports : (i : ℕ) (v : BridgeView) (b : DeclaredBridge) → slice_get s.views i ≡ Some v → slice_get (things_of s.world.bridges) i ≡ Some b → HasPorts v b
+
+-- the network's boxes are no blanks
+abbrev pub AreMade : {B : Type 0} → (B → Bool) → List B → Type 0
+AreMade blank boxes = AllByRecursion (λ b. blank b ≡ false) boxes
+
+-- the bridge at place i has this port, if there is such a bridge
+abbrev pub IsPortAt : List BridgeView → ℕ → ℕ → Type 0
+IsPortAt views i port = (v : BridgeView) → slice_get views i ≡ Some v → IsPort v port
+
+-- the boxes are made, and the state has its shape
+pub record IsInOrder {B : Type 0} (kind_of : B → Kind) (blank : B → Bool) (view : B → BridgeView) (n : NetworkOf B) : Type 0 where
+  pub made : AreMade blank n.boxes.items
+  pub fits : Fits (state_of kind_of blank view n)
+
+-- the box at a place is blank
+abbrev pub IsBlankAt : {B : Type 0} → (B → Bool) → List B → ℕ → Type 0
+IsBlankAt {B} blank boxes place = (b : B) → slice_get boxes place ≡ Some b → blank b ≡ true

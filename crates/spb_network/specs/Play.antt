@@ -1,0 +1,144 @@
+-- What an accepted command makes of a network, and what it answers.
+use Rattle.std.specs.Prelude.{ℕ, ◌+◌, ◌-◌, List, [], ◌∷◌, ◌++◌, length, map, Bool, true, false, replicate, remove, Option, Some, None, slice_get, if◌then◌else◌, nat_lt}
+use Rattle.std.specs.Option.{option_map_or}
+use Rattle.spb_types.specs.declared.address.Mac.{Mac}
+use Rattle.spb_types.specs.declared.service.SourceId.{SourceId}
+use Rattle.spb_types.specs.declared.tables.Tables.{Tables}
+use Rattle.adjacency.specs.declared.port.Adjacency.{Adjacency}
+use Rattle.scenario.specs.declared.command.Command.{Command}
+use Rattle.scenario.specs.declared.command.Command.TheVariants as command
+use Rattle.scenario.specs.declared.command.Dir.{Dir}
+use Rattle.bridge_api.specs.declared.config.BridgeConfig.{BridgeConfig}
+use Rattle.bridge_api.specs.declared.port.BridgePort.{BridgePort}
+use Rattle.bridge_api.specs.View.{BridgeView}
+use Rattle.bridge_api.specs.Config.{configured}
+use Rattle.spb_network.specs.declared.answer.Answer.{Answer}
+use Rattle.spb_network.specs.declared.answer.Answer.TheVariants.{Silent, Outs, Wiring, Adj}
+use Rattle.spb_network.specs.declared.declaration.DeclaredBridge.{DeclaredBridge}
+use Rattle.spb_network.specs.declared.declaration.DeclaredLink.{DeclaredLink}
+use Rattle.spb_network.specs.World.{World, place_of, wired_tables}
+use Rattle.spb_network.specs.Declaring.{plan_of, bridge_of, link_of, with_vid, with_bridge, with_link}
+use Rattle.spb_network.specs.Lanes.{no_frames}
+use Rattle.spb_network.specs.State.{State}
+use Rattle.spb_network.specs.Events.{ticked, delivered, lost, doubled, metered_over, switched_on, switched_off, rounds, drained}
+use Rattle.spb_network.specs.Refusing.{box_for}
+
+-- what a declared bridge is configured with: no port has a link yet, and none is attached
+abbrev pub config_of : World → DeclaredBridge → BridgeConfig
+config_of w b = record { id = b.bridge.id; source = b.bridge.source; ports = b.ports; vids = w.vids; metrics = replicate b.ports 1; attached = [] }
+
+-- a bridge more, in the box at a place of the rack
+abbrev pub boxed : State → List ℕ → DeclaredBridge → Option ℕ → State
+boxed s name b None = s
+boxed s name b (Some place) = record s { rack = remove s.rack place; world = with_bridge s.world name b; views = s.views ++ configured (config_of s.world b) ∷ [] }
+
+unfoldable pub declared : State → List ℕ → DeclaredBridge → State
+declared s name b = boxed s name b (box_for s)
+
+-- a link more: its ends get their metrics, and it comes up at once
+unfoldable pub linked : State → List ℕ → DeclaredLink → State
+linked s name l = switched_on (metered_over (record s { world = with_link s.world name l; lanes = s.lanes ++ no_frames ∷ [] }) l) (length s.lanes)
+
+-- a link more between two bridges, by the places that were found for their names
+abbrev pub placed_link : State → List ℕ → Option ℕ → ℕ → Option ℕ → ℕ → ℕ → State
+placed_link s name None port_a b port_b cost = s
+placed_link s name (Some i) port_a None port_b cost = s
+placed_link s name (Some i) port_a (Some j) port_b cost = linked s name (link_of i port_a j port_b cost)
+
+unfoldable pub named_link : State → List ℕ → List ℕ → ℕ → List ℕ → ℕ → ℕ → State
+named_link s name a port_a b port_b cost = placed_link s name (place_of a s.world.bridges) port_a (place_of b s.world.bridges) port_b cost
+
+-- what becomes of a network at the place that was found for a name
+abbrev pub at_place : (State → ℕ → State) → State → Option ℕ → State
+at_place event s None = s
+at_place event s (Some k) = event s k
+
+-- what comes to a bridge, or to a link, of this name
+unfoldable pub at_bridge : (State → ℕ → State) → State → List ℕ → State
+at_bridge event s name = at_place event s (place_of name s.world.bridges)
+
+unfoldable pub at_link : (State → ℕ → State) → State → List ℕ → State
+at_link event s name = at_place event s (place_of name s.world.links)
+
+-- a base VID more
+unfoldable pub with_vid_more : State → ℕ → ℕ → State
+with_vid_more s vid ect = record s { world = with_vid s.world (plan_of vid ect) }
+
+-- so many rounds, and at most so many deliveries
+unfoldable pub with_rounds : ℕ → State → State
+with_rounds n s = record (rounds n s) { rounds = s.rounds + n }
+
+unfoldable pub with_drain : ℕ → State → State
+with_drain n s = record (drained n s) { drained = s.drained + n }
+
+-- what a command makes
+abbrev pub played : State → Command → State
+played s (command.Vid vid ect) = with_vid_more s vid ect
+played s (command.Bridge name priority system source ports) = declared s name (bridge_of priority system source ports)
+played s (command.Link name a port_a b port_b cost) = named_link s name a port_a b port_b cost
+played s (command.Down name) = at_link switched_off s name
+played s (command.Up name) = at_link switched_on s name
+played s (command.Tick name) = at_bridge ticked s name
+played s (command.Deliver name dir) = at_link (λ t k. delivered t k dir) s name
+played s (command.Lose name dir place) = at_link (λ t k. lost t k dir place) s name
+played s (command.Double name dir place) = at_link (λ t k. doubled t k dir place) s name
+played s (command.Round n) = with_rounds n s
+played s (command.Drain n) = with_drain n s
+played s _ = s
+
+-- one more, up to the greatest number of 64 bits
+abbrev pub next_count : ℕ → ℕ
+next_count n = if nat_lt n 18446744073709551615 then n + 1 else n
+
+-- one accepted command more
+abbrev pub counted : State → State
+counted s = record s { accepted = next_count s.accepted }
+
+-- the state after an accepted command
+unfoldable pub next_state : State → Command → State
+next_state s c = counted (played s c)
+
+-- the ports of a bridge as they are told: the adjacency, and whether CSNPs are due
+abbrev pub told_ports : List BridgePort → List (Adjacency × Bool)
+told_ports ports = map (λ port. (port.adjacency, port.due)) ports
+
+abbrev pub adj_at : State → ℕ → List (Adjacency × Bool)
+adj_at s i = option_map_or (λ v. told_ports v.ports) (slice_get s.views i) []
+
+-- the answer about the bridge of a name, by the place that was found for it
+abbrev pub placed_wiring : State → List ℕ → Option ℕ → Answer
+placed_wiring s name None = Silent
+placed_wiring s name (Some i) = Wiring name (wired_tables s.world i)
+
+unfoldable pub wiring_of : State → List ℕ → Answer
+wiring_of s name = placed_wiring s name (place_of name s.world.bridges)
+
+abbrev pub placed_adj : State → List ℕ → Option ℕ → Answer
+placed_adj s name None = Silent
+placed_adj s name (Some i) = Adj name (adj_at s i)
+
+unfoldable pub adj_of : State → List ℕ → Answer
+adj_of s name = placed_adj s name (place_of name s.world.bridges)
+
+-- no customer frame leaves
+abbrev pub no_outs : Answer
+no_outs = Outs []
+
+-- the answer to an accepted command
+abbrev pub answer_of : State → Command → Answer
+answer_of s (command.Down name) = no_outs
+answer_of s (command.Up name) = no_outs
+answer_of s (command.Tick name) = no_outs
+answer_of s (command.Deliver name dir) = no_outs
+answer_of s (command.Lose name dir place) = no_outs
+answer_of s (command.Double name dir place) = no_outs
+answer_of s (command.Round n) = no_outs
+answer_of s (command.Drain n) = no_outs
+answer_of s (command.Wiring name) = wiring_of s name
+answer_of s (command.Adj name) = adj_of s name
+answer_of s _ = Silent
+
+-- the state after commands, one after another
+abbrev pub played_all : State → List Command → State
+played_all s [] = s
+played_all s (c ∷ cs) = played_all (next_state s c) cs

@@ -1,0 +1,79 @@
+-- Why a command is refused: the first of its reasons, in order of number, whose test fails.
+use Rattle.std.specs.Prelude.{ℕ, ◌+◌, List, length, Bool, true, false, not, ◌&&◌, ◌==◌, nat_lt, nat_le, Option, Some, None, is_some, if◌then◌else◌}
+use Rattle.spb_types.specs.declared.address.Mac.{Mac}
+use Rattle.spb_types.specs.declared.service.SourceId.{SourceId}
+use Rattle.scenario.specs.declared.command.Command.{Command}
+use Rattle.scenario.specs.declared.command.Command.TheVariants as command
+use Rattle.scenario.specs.declared.command.Dir.{Dir}
+use Rattle.spb_network.specs.declared.reason.Reason.{Reason}
+use Rattle.spb_network.specs.declared.reason.Reason.TheVariants.{NoSuchName, Range, TooMany, AlreadyUp, AlreadyDown, NoFrame, RackSpent}
+use Rattle.spb_network.specs.Reason.{reason_unless, ◌or◌}
+use Rattle.spb_network.specs.World.{place_of}
+use Rattle.spb_network.specs.Declaring.{vid_refusal, bridge_refusal, link_refusal}
+use Rattle.spb_network.specs.State.{State, links_of, is_live, lane_at, kind_at, next_box}
+
+-- the box that the next declared bridge takes, by place in the rack
+abbrev pub box_for : State → Option ℕ
+box_for s = next_box (kind_at s.rule (length s.world.bridges)) s.rack
+
+-- of a bridge
+unfoldable pub declared_refusal : State → List ℕ → ℕ → Mac → SourceId → ℕ → Option Reason
+declared_refusal s name priority system source ports = bridge_refusal s.world name priority system source ports or reason_unless (is_some (box_for s)) RackSpent
+
+-- of a link between two bridges, by the places that were found for their names
+abbrev pub placed_link_refusal : State → List ℕ → Option ℕ → ℕ → Option ℕ → ℕ → ℕ → Option Reason
+placed_link_refusal s name None port_a b port_b cost = Some NoSuchName
+placed_link_refusal s name (Some i) port_a None port_b cost = Some NoSuchName
+placed_link_refusal s name (Some i) port_a (Some j) port_b cost = link_refusal s.world name i port_a j port_b cost
+
+unfoldable pub named_link_refusal : State → List ℕ → List ℕ → ℕ → List ℕ → ℕ → ℕ → Option Reason
+named_link_refusal s name a port_a b port_b cost = placed_link_refusal s name (place_of a s.world.bridges) port_a (place_of b s.world.bridges) port_b cost
+
+-- of what names a bridge
+unfoldable pub unnamed_refusal : State → List ℕ → Option Reason
+unnamed_refusal s name = reason_unless (is_some (place_of name s.world.bridges)) NoSuchName
+
+-- of what names a link, by the place that was found for its name
+abbrev pub placed_refusal : (ℕ → Option Reason) → Option ℕ → Option Reason
+placed_refusal refusal None = Some NoSuchName
+placed_refusal refusal (Some k) = refusal k
+
+abbrev pub linked_refusal : State → (ℕ → Option Reason) → List ℕ → Option Reason
+linked_refusal s refusal name = placed_refusal refusal (place_of name s.world.links)
+
+-- the link goes down
+unfoldable pub down_refusal : State → List ℕ → Option Reason
+down_refusal s name = linked_refusal s (λ k. reason_unless (is_live (links_of s) k) AlreadyDown) name
+
+-- the link comes up
+unfoldable pub up_refusal : State → List ℕ → Option Reason
+up_refusal s name = linked_refusal s (λ k. reason_unless (not (is_live (links_of s) k)) AlreadyUp) name
+
+-- a frame stands at this place of a lane
+unfoldable pub frame_refusal : State → List ℕ → Dir → ℕ → Option Reason
+frame_refusal s name dir place = linked_refusal s (λ k. reason_unless (nat_lt place (length (lane_at s k dir))) NoFrame) name
+
+-- so many rounds: 1 to 20,000, and together no more
+unfoldable pub round_refusal : State → ℕ → Option Reason
+round_refusal s n = reason_unless (nat_le 1 n && nat_le n 20000) Range or reason_unless (nat_le (s.rounds + n) 20000) TooMany
+
+-- so many deliveries: 1 to 1,000,000, and together at most 100,000,000
+unfoldable pub drain_refusal : State → ℕ → Option Reason
+drain_refusal s n = reason_unless (nat_le 1 n && nat_le n 1000000) Range or reason_unless (nat_le (s.drained + n) 100000000) TooMany
+
+-- of a command; those that aren't named here are never refused
+abbrev pub refusal_of : State → Command → Option Reason
+refusal_of s (command.Vid vid ect) = vid_refusal s.world vid ect
+refusal_of s (command.Bridge name priority system source ports) = declared_refusal s name priority system source ports
+refusal_of s (command.Link name a port_a b port_b cost) = named_link_refusal s name a port_a b port_b cost
+refusal_of s (command.Down name) = down_refusal s name
+refusal_of s (command.Up name) = up_refusal s name
+refusal_of s (command.Tick name) = unnamed_refusal s name
+refusal_of s (command.Deliver name dir) = frame_refusal s name dir 0
+refusal_of s (command.Lose name dir place) = frame_refusal s name dir place
+refusal_of s (command.Double name dir place) = frame_refusal s name dir place
+refusal_of s (command.Round n) = round_refusal s n
+refusal_of s (command.Drain n) = drain_refusal s n
+refusal_of s (command.Wiring name) = unnamed_refusal s name
+refusal_of s (command.Adj name) = unnamed_refusal s name
+refusal_of s _ = None

@@ -1,0 +1,64 @@
+-- The laws of a network: it is sound at every moment.
+use Rattle.std.specs.Prelude.{◌≡◌, ℕ, List, [], ◌∷◌, length, true, None, ⊤}
+use Rattle.std.specs.List.{AllByRecursion}
+use Rattle.scenario.specs.declared.command.Command.{Command}
+use Rattle.scenario.specs.declared.command.Command.TheVariants as command
+use Rattle.scenario.specs.declared.command.Dir.{Dir}
+use Rattle.scenario.specs.declared.command.Dir.TheVariants.{Ab}
+use Rattle.spb_network.specs.declared.kind_rule.KindRule.{KindRule}
+use Rattle.spb_network.specs.State.{State, Spare, links_of, is_live}
+use Rattle.spb_network.specs.Events.{ticked, delivered, lost, doubled, switched_off, switched_on, rounds, drained}
+use Rattle.spb_network.specs.Refusing.{refusal_of}
+use Rattle.spb_network.specs.Play.{next_state, played_all}
+use Rattle.spb_network.specs.Sound.{IsSoundState, lane_of, opening}
+
+-- ---- the events
+
+abbrev pub Keeps : (State → State) → Type 0
+Keeps event = (s : State) → IsSoundState s → IsSoundState (event s)
+
+-- a tick of any bridge, a delivery from any lane, a frame that is lost or doubled, a link that goes down or comes up,
+-- rounds and deliveries in any number
+pub record EventsKeepSound : Type 0 where
+  pub tick : (i : ℕ) → Keeps (λ s. ticked s i)
+  pub deliver : (k : ℕ) (dir : Dir) → Keeps (λ s. delivered s k dir)
+  pub lose : (k : ℕ) (dir : Dir) (place : ℕ) → Keeps (λ s. lost s k dir place)
+  pub double : (k : ℕ) (dir : Dir) (place : ℕ) → Keeps (λ s. doubled s k dir place)
+  pub down : (k : ℕ) → Keeps (λ s. switched_off s k)
+  pub up : (k : ℕ) → Keeps (λ s. switched_on s k)
+  pub round : (n : ℕ) → Keeps (rounds n)
+  pub drain : (n : ℕ) → Keeps (drained n)
+
+-- ---- the commands
+
+-- the system id that a command declares, if it does, has six bytes
+abbrev pub IsAddressed : Command → Type 0
+IsAddressed (command.Bridge name priority system source ports) = length system.bytes ≡ 6
+IsAddressed _ = ⊤
+
+-- a command that isn't refused leaves the network sound
+abbrev pub CommandsKeepSound : Type 0
+CommandsKeepSound = (s : State) (c : Command) → IsSoundState s → IsAddressed c → refusal_of s c ≡ None → IsSoundState (next_state s c)
+
+-- each of the commands is accepted, one after another
+abbrev pub AreAccepted : State → List Command → Type 0
+AreAccepted s [] = ⊤
+AreAccepted s (c ∷ cs) = (refusal_of s c ≡ None) × AreAccepted (next_state s c) cs
+
+-- whatever commands were accepted, the network is sound
+abbrev pub NetworksAreSound : Type 0
+NetworksAreSound = (rule : KindRule) (rack : List Spare) (cs : List Command) → AllByRecursion IsAddressed cs → AreAccepted (opening rule rack) cs → IsSoundState (played_all (opening rule rack) cs)
+
+-- a link is up, and a frame is on its way over it
+pub record IsBusy (s : State) : Type 0 where
+  pub live : is_live (links_of s) 0 ≡ true
+  pub waiting : length (lane_of s.lanes 0 Ab) ≡ 1
+
+-- some commands lead to such a network
+pub record SomeNetworkIsBusy : Type 0 where
+  pub rule : KindRule
+  pub rack : List Spare
+  pub commands : List Command
+  pub addressed : AllByRecursion IsAddressed commands
+  pub accepted : AreAccepted (opening rule rack) commands
+  pub busy : IsBusy (played_all (opening rule rack) commands)

@@ -1,0 +1,118 @@
+use Rattle.std.specs.Prelude.{◌≡◌, ◌≢◌, ℕ, zero, suc, ◌≤◌, ◌<◌, List, [], ◌∷◌, length, map, Bool, false, ◌&&◌, ◌||◌, ◌==◌, replicate, Option, Some, None, position, max, if◌then◌else◌, ⊤}
+use Rattle.std.specs.List.{AllByRecursion, filter_map}
+use Rattle.std.specs.Str.{bytes_eq}
+use Rattle.spb_types.specs.Graph.{IsDistinct, systems_of}
+use Rattle.spb_types.specs.declared.address.SystemId.{SystemId}
+use Rattle.spb_types.specs.declared.graph.Edge.{Edge}
+use Rattle.spb_types.specs.declared.graph.Graph.{Graph}
+use Rattle.spb_types.specs.declared.graph.GraphBridge.{GraphBridge}
+use Rattle.spb_types.specs.declared.service.VidPlan.{VidPlan}
+use Rattle.spb_tlvs.specs.Capability.{IsTree}
+use Rattle.spb_network.specs.declared.declaration.DeclaredBridge.{DeclaredBridge}
+use Rattle.spb_network.specs.declared.declaration.DeclaredLink.{DeclaredLink}
+use Rattle.spb_network.specs.declared.declaration.LinkEnd.{LinkEnd}
+use Rattle.spb_types.specs.declared.tables.Tables.{Tables}
+use Rattle.fdb_build.specs.Tables.{ArePlans, unicast_rows}
+
+-- the declared bridges, each with its name, in order of declaration
+abbrev pub Bridges : Type 0
+Bridges = List (List ℕ × DeclaredBridge)
+
+-- the declared links, each with its name, in order of declaration
+abbrev pub Links : Type 0
+Links = List (List ℕ × DeclaredLink)
+
+-- what is declared: the base VIDs, the bridges and the links
+pub record World : Type 0 where
+  pub vids : List VidPlan
+  pub bridges : Bridges
+  pub links : Links
+
+-- the names of what is declared, in order
+abbrev pub names_of : {T : Type 0} → List (List ℕ × T) → List (List ℕ)
+names_of entries = map (λ e. e.0) entries
+
+-- what is declared, without the names
+abbrev pub things_of : {T : Type 0} → List (List ℕ × T) → List T
+things_of entries = map (λ e. e.1) entries
+
+-- the place of the thing of this name in order of declaration, counted from 0
+abbrev pub place_of : {T : Type 0} → List ℕ → List (List ℕ × T) → Option ℕ
+place_of name entries = position (bytes_eq name) (names_of entries)
+
+-- the bridges of a graph, in order of declaration
+abbrev pub graph_bridges : Bridges → List GraphBridge
+graph_bridges bridges = map (λ b. b.bridge) (things_of bridges)
+
+-- the system id of the bridge at a place, and zeros past the last bridge
+abbrev pub system_at : Bridges → ℕ → SystemId
+system_at [] i = record { mac = record { bytes = replicate 6 0 } }
+system_at (b ∷ bs) zero = b.1.bridge.id.system
+system_at (b ∷ bs) (suc i) = system_at bs i
+
+-- the number of ports of the bridge at a place
+abbrev pub ports_at : Bridges → ℕ → ℕ
+ports_at [] i = 0
+ports_at (b ∷ bs) zero = b.1.ports
+ports_at (b ∷ bs) (suc i) = ports_at bs i
+
+-- the edge that a link makes: its cost is the greater of the metrics of its ends
+abbrev pub edge_of : Bridges → DeclaredLink → Edge
+edge_of bridges l = record { a = system_at bridges l.a.bridge; port_a = l.a.port; b = system_at bridges l.b.bridge; port_b = l.b.port; cost = max l.a.metric l.b.metric }
+
+-- the edge of a link that is up
+abbrev pub live_edge : Bridges → DeclaredLink → Option Edge
+live_edge bridges l = if l.live then Some (edge_of bridges l) else None
+
+-- the actual wiring: all bridges, and an edge for each link that is up
+abbrev pub world_graph : World → Graph
+world_graph w = record { bridges = graph_bridges w.bridges; edges = filter_map (live_edge w.bridges) (things_of w.links); members = [] }
+
+-- whether the link joins the bridges at two places, whichever of its ends is which
+abbrev pub is_between : DeclaredLink → ℕ → ℕ → Bool
+is_between l i j = (l.a.bridge == i && l.b.bridge == j) || (l.a.bridge == j && l.b.bridge == i)
+
+-- whether the link ends at this port of the bridge at a place
+abbrev pub is_at_port : DeclaredLink → ℕ → ℕ → Bool
+is_at_port l i port = (l.a.bridge == i && l.a.port == port) || (l.b.bridge == i && l.b.port == port)
+
+-- an end of a link lies at a port of a declared bridge, and has a metric that a link can have
+pub record IsEnd (bridges : Bridges) (e : LinkEnd) : Type 0 where
+  pub bridge : e.bridge < length bridges
+  pub port_low : 1 ≤ e.port
+  pub port_high : e.port ≤ ports_at bridges e.bridge
+  pub metric_low : 1 ≤ e.metric
+  pub metric_high : e.metric ≤ 16777214
+
+-- a link has two ends, at different bridges
+pub record IsLink (bridges : Bridges) (l : DeclaredLink) : Type 0 where
+  pub a : IsEnd bridges l.a
+  pub b : IsEnd bridges l.b
+  pub apart : l.a.bridge ≢ l.b.bridge
+
+-- the two links join different pairs of bridges, and end at different ports
+pub record AreApart (l m : DeclaredLink) : Type 0 where
+  pub bridges : is_between l m.a.bridge m.b.bridge ≡ false
+  pub port_a : is_at_port l m.a.bridge m.a.port ≡ false
+  pub port_b : is_at_port l m.b.bridge m.b.port ≡ false
+
+-- each two of the links are apart
+abbrev pub AllApart : List DeclaredLink → Type 0
+AllApart [] = ⊤
+AllApart (l ∷ ls) = AllByRecursion (AreApart l) ls × AllApart ls
+
+-- what every world keeps that declarations made: the system ids differ, each link has two ends at ports of different
+-- bridges, no port has two links, no two bridges are linked twice, and the VIDs differ and are in range
+pub record Sound (w : World) : Type 0 where
+  pub few : length w.bridges ≤ 96
+  pub ports : AllByRecursion (λ b. b.ports ≤ 32) (things_of w.bridges)
+  pub systems : IsDistinct (systems_of (graph_bridges w.bridges))
+  pub links : AllByRecursion (IsLink w.bridges) (things_of w.links)
+  pub links_apart : AllApart (things_of w.links)
+  pub plans : ArePlans w.vids
+  pub few_vids : length w.vids ≤ 16
+  pub each_vid : AllByRecursion IsTree w.vids
+
+-- the tables that the wiring gives the bridge at a place
+unfoldable pub wired_tables : World → ℕ → Tables
+wired_tables w i = record { unicast = unicast_rows (world_graph w) (system_at w.bridges i) w.vids; group = [] }

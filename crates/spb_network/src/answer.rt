@@ -1,0 +1,31 @@
+use adjacency::Adjacency;
+use spb_types::{Name, Seq, Tables};
+
+/// A customer frame that leaves at a customer port of a bridge.
+#[derive(Debug, Drop)]
+pub struct Out {
+    pub bridge: Name,
+    pub port: u16,
+    pub frame: Seq<u8>,
+}
+
+/// What an accepted command answers.
+#[derive(Debug, Drop)]
+pub enum Answer {
+    /// A declaration answers nothing.
+    Silent,
+    /// An event answers the customer frames that leave, in order.
+    Outs {
+        frames: Seq<Out>,
+    },
+    /// The tables that the wiring gives a bridge.
+    Wiring {
+        bridge: Name,
+        tables: Tables,
+    },
+    /// The ports of a bridge, from port 1 on: the adjacency, and whether CSNPs are due.
+    Adj {
+        bridge: Name,
+        ports: Seq<(Adjacency, bool)>,
+    },
+}

@@ -1,0 +1,102 @@
+//! What one box of a list does. A place past the last box is one where nothing happens.
+ghost use Rattle.std.specs.Prelude.{◌≡◌, ◌≤◌, [], false, length, map, slice_get, OnOk, IfOk};
+ghost use Rattle.std.specs.Option.{option_map_or};
+ghost use Rattle.bridge_api.specs.Config.{IsMetric};
+ghost use Rattle.bridge_api.specs.Step as comes;
+ghost use Rattle.bridge_api.specs.Step.{sent, step, with_wire};
+ghost use Rattle.spb_network.specs.State.{changed_at};
+ghost use Rattle.spb_network.specs.Play as play;
+ghost use Rattle.spb_network.specs.Network.{AreMade, IsPortAt};
+
+use adjacency::Adjacency;
+use bridge_api::{Bridge, Outbox};
+use spb_types::NoMemory;
+use std::alloc::Global;
+
+/// A second of a bridge.
+pub fn tick<B: Bridge>(boxes: &mut Vec<B>, i: usize, outbox: &mut Outbox) -> Result<(), NoMemory>
+    requires made { AreMade B.blank boxes.old.items }
+    ensures views { OnOk result (map B.view boxes.new.items ≡ changed_at (step comes.second) (map B.view boxes.old.items) i) }
+    ensures sent { OnOk result (outbox.new
+        ≡ with_wire (option_map_or (sent comes.second) (slice_get (map B.view boxes.old.items) i) []) outbox.old) }
+    ensures made { OnOk result (AreMade B.blank boxes.new.items) }
+{
+    match boxes.get_mut(i) {
+        None => Ok(()),
+        Some(bridge) => bridge.tick(outbox),
+    }
+}
+
+/// A frame comes to a port of a bridge.
+pub fn hear<B: Bridge>(
+    boxes: &mut Vec<B>,
+    i: usize,
+    port: u8,
+    frame: &[u8],
+    outbox: &mut Outbox,
+) -> Result<(), NoMemory>
+    requires made { AreMade B.blank boxes.old.items }
+    requires port { IsPortAt (map B.view boxes.old.items) i port }
+    ensures views { OnOk result (map B.view boxes.new.items
+        ≡ changed_at (step (comes.frame port frame.now)) (map B.view boxes.old.items) i) }
+    ensures sent { OnOk result (outbox.new ≡ outbox.old) }
+    ensures made { OnOk result (AreMade B.blank boxes.new.items) }
+{
+    match boxes.get_mut(i) {
+        None => Ok(()),
+        Some(bridge) => bridge.receive(port, frame, outbox),
+    }
+}
+
+/// Carrier comes to a port of a bridge, or goes.
+pub fn carry<B: Bridge>(boxes: &mut Vec<B>, i: usize, port: u8, on: bool) -> Result<(), NoMemory>
+    requires made { AreMade B.blank boxes.old.items }
+    requires port { IsPortAt (map B.view boxes.old.items) i port }
+    ensures views { OnOk result (map B.view boxes.new.items
+        ≡ changed_at (step (comes.carrier port on)) (map B.view boxes.old.items) i) }
+    ensures made { OnOk result (AreMade B.blank boxes.new.items) }
+{
+    match boxes.get_mut(i) {
+        None => Ok(()),
+        Some(bridge) => bridge.carrier(port, on),
+    }
+}
+
+/// Sets the metric of the link at a port of a bridge.
+pub fn set_metric<B: Bridge>(
+    boxes: &mut Vec<B>,
+    i: usize,
+    port: u8,
+    metric: u32,
+) -> Result<(), NoMemory>
+    requires made { AreMade B.blank boxes.old.items }
+    requires port { IsPortAt (map B.view boxes.old.items) i port }
+    requires metric { IsMetric metric }
+    ensures views { OnOk result (map B.view boxes.new.items
+        ≡ changed_at (step (comes.metric port metric)) (map B.view boxes.old.items) i) }
+    ensures made { OnOk result (AreMade B.blank boxes.new.items) }
+{
+    match boxes.get_mut(i) {
+        None => Ok(()),
+        Some(bridge) => bridge.set_metric(port, metric),
+    }
+}
+
+/// The ports of a bridge that has so many, from port 1 on: the adjacency, and whether CSNPs are due.
+pub fn told_ports<B: Bridge>(
+    alloc: Global,
+    bridge: &B,
+    count: u8,
+) -> Result<Vec<(Adjacency, bool)>, NoMemory>
+    requires made { B.blank bridge.now ≡ false }
+    requires count { length (B.view bridge.now).ports ≡ count }
+    requires few { count ≤ 32 }
+    ensures { IfOk result (λ ports. ports.items ≡ play.told_ports (B.view bridge.now).ports) }
+{
+    let mut ports = Vec::new(alloc);
+    for place in 0..count {
+        let port = place + 1;
+        ports.push((bridge.adjacent(port), bridge.due(port)))?;
+    }
+    Ok(ports)
+}

@@ -1,0 +1,64 @@
+ghost use Rattle.std.specs.Prelude.{◌≡◌, IfOk};
+ghost use Rattle.std.specs.List.{filter_map};
+ghost use Rattle.spb_network.specs.World as state;
+
+use crate::{DeclaredBridge, DeclaredLink};
+use indexmap::IndexMap;
+use spb_types::{Edge, GraphBridge, Mac, Name, NoMemory, SystemId};
+use std::alloc::Global;
+
+/// The system id of the bridge at a place, or zeros past the last bridge.
+#[tactic(auto, using(crate::proofs::PlaceLemmas::system_at_entry))]
+pub fn system_at(bridges: &IndexMap<Name, DeclaredBridge>, place: usize) -> SystemId
+    ensures { result ≡ state.system_at bridges.now.entries place }
+{
+    match bridges.get_index(place) {
+        None => SystemId {
+            mac: Mac { bytes: [0; 6] },
+        },
+        Some((_, bridge)) => bridge.bridge.id.system,
+    }
+}
+
+/// The edge that a link makes, if it is up.
+fn live_edge(bridges: &IndexMap<Name, DeclaredBridge>, link: &DeclaredLink) -> Option<Edge>
+    ensures { result ≡ state.live_edge bridges.now.entries link.now }
+{
+    if !link.live {
+        return None;
+    }
+    Some(Edge {
+        a: system_at(bridges, link.a.bridge),
+        port_a: u16::from(link.a.port),
+        b: system_at(bridges, link.b.bridge),
+        port_b: u16::from(link.b.port),
+        cost: link.a.metric.max(link.b.metric),
+    })
+}
+
+/// The bridges of the graph, in order of declaration.
+pub fn graph_bridges(
+    alloc: Global,
+    bridges: &IndexMap<Name, DeclaredBridge>,
+) -> Result<Vec<GraphBridge>, NoMemory>
+    ensures { IfOk result (λ list. list.items ≡ state.graph_bridges bridges.now.entries) }
+{
+    let list = bridges.values().map(|bridge| bridge.bridge).collect(alloc)?;
+    Ok(list)
+}
+
+/// The edges of the links that are up, in order of declaration.
+pub fn graph_edges(
+    alloc: Global,
+    bridges: &IndexMap<Name, DeclaredBridge>,
+    links: &IndexMap<Name, DeclaredLink>,
+) -> Result<Vec<Edge>, NoMemory>
+    ensures { IfOk result (λ list. list.items
+        ≡ filter_map (state.live_edge bridges.now.entries) (state.things_of links.now.entries)) }
+{
+    let list = links
+        .values()
+        .filter_map(|link| live_edge(bridges, link))
+        .collect(alloc)?;
+    Ok(list)
+}

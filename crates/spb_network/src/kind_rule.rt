@@ -1,0 +1,10 @@
+/// Which kind of box each declared bridge takes.
+#[derive(Clone, Copy, Debug, PartialEq, Eq, Hash)]
+pub enum KindRule {
+    /// All are plain.
+    Plain,
+    /// All are swift.
+    Swift,
+    /// The first, third and so on are plain, the others swift.
+    Mixed,
+}

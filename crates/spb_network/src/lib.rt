@@ -1,0 +1,43 @@
+//! The network of bridges and links that commands declare and play.
+//!
+//! A [`Network`] owns a box for each declared bridge and reaches it through the trait `Bridge` alone; it names no
+//! implementation. What is declared stands in a [`World`]; beside it stand the boxes and, by the same place as the links,
+//! the two lanes of each link. [`NetworkOf::apply`] is one step of play, as `specs/Play.antt` says: a command that is
+//! refused names the first reason in order of number and changes nothing. What holds of a network at every moment stands
+//! in `specs/Sound.antt`, and is a clause of each call.
+//!
+//! **Costs.** A frame that is sent finds its link in constant time, and a name is found so on average. A
+//! round takes a call of each bridge and one for each frame that stands in a lane. A delivery of `drain` looks for the
+//! first lane that isn't empty. Frames are moved and not copied, and nothing grows with the number of rounds.
+#![tactic(auto)]
+
+pub use answer::{Answer, Out};
+pub use declaration::{DeclaredBridge, DeclaredLink, LinkEnd};
+pub use kind_rule::KindRule;
+pub use lanes::Lanes;
+pub use laws::{events_keep_sound, networks_are_sound, some_network_is_busy};
+pub use network::{Network, NetworkOf};
+pub use reason::{ApplyError, Reason};
+pub use way::Way;
+pub use world::World;
+
+mod answer;
+mod boxes;
+mod check;
+mod declaration;
+mod events;
+mod graph;
+mod hints;
+mod kind_rule;
+mod lanes;
+mod laws;
+mod network;
+mod play;
+mod questions;
+mod rack;
+mod reason;
+mod rounds;
+mod way;
+mod ways;
+mod wires;
+mod world;

@@ -1,0 +1,112 @@
+ghost use Rattle.std.specs.Prelude.{◌≡◌, false, map};
+ghost use Rattle.spb_network.specs.declared.kind_rule.KindRule.TheVariants as rules;
+ghost use Rattle.spb_network.specs.Sound.{opening};
+ghost use Rattle.spb_network.specs.Play as play;
+ghost use Rattle.spb_network.specs.Network.{state_of, spare};
+ghost use Rattle.spb_network.specs.Applying.{Answers, Applies, IsReady};
+
+use crate::{Answer, ApplyError, KindRule, Lanes, World, check};
+use bridge_api::Bridge;
+use scenario::Command;
+use std::alloc::Global;
+
+/// A network of bridges in boxes of one type.
+///
+/// It owns one box for each declared bridge, takes it from the rack that it was given, and reaches it through the trait
+/// alone. A box of the rack that isn't blank is never taken.
+#[derive(Drop)]
+pub struct NetworkOf<B> {
+    pub(crate) alloc: Global,
+    pub(crate) rule: KindRule,
+    pub(crate) rack: Vec<B>,
+    pub(crate) boxes: Vec<B>,
+    pub(crate) world: World,
+    pub(crate) lanes: Vec<Lanes>,
+    pub(crate) rounds: u32,
+    pub(crate) drained: u32,
+    pub(crate) accepted: u64,
+    pub(crate) halted: bool,
+}
+
+/// A network of bridges in boxes.
+pub type Network = NetworkOf<Box<dyn Bridge>>;
+
+impl<B: Bridge> NetworkOf<B> {
+    /// The network of a rack of boxes, in which nothing is declared. Takes no memory.
+    pub fn new(alloc: Global, rack: Vec<B>) -> Self
+        ensures state { state_of B.kind_of B.blank B.view result
+            ≡ opening rules.Plain (map (spare B.kind_of B.blank B.view) rack.items) }
+        ensures halted { result.halted ≡ false }
+        ensures ready { IsReady B.kind_of B.blank B.view result }
+    {
+        NetworkOf {
+            alloc,
+            rule: KindRule::Plain,
+            rack,
+            boxes: Vec::new(alloc),
+            world: World::new(alloc),
+            lanes: Vec::new(alloc),
+            rounds: 0,
+            drained: 0,
+            accepted: 0,
+            halted: false,
+        }
+    }
+
+    /// Sets by which rule bridges take boxes, before the first command. Takes no memory.
+    pub fn set_rule(&mut self, rule: KindRule)
+        requires halted { self.old.halted ≡ false }
+        requires first { self.old.accepted ≡ 0 }
+        requires ready { IsReady B.kind_of B.blank B.view self.old }
+        ensures state { state_of B.kind_of B.blank B.view self.new
+            ≡ record (state_of B.kind_of B.blank B.view self.old) { rule = rule } }
+        ensures halted { self.new.halted ≡ false }
+        ensures ready { IsReady B.kind_of B.blank B.view self.new }
+    {
+        self.rule = rule;
+    }
+
+    /// The boxes of the declared bridges, in order of declaration. Takes no memory.
+    pub fn boxes(&self) -> &[B]
+        ensures { map B.view result.now ≡ (state_of B.kind_of B.blank B.view self.now).views }
+    {
+        self.boxes.as_slice()
+    }
+
+    /// Applies a command: one step of play from the present state.
+    ///
+    /// `Halted` exactly where an earlier command found no memory, and `Refused` with the first reason that holds exactly
+    /// where one does. After both nothing is changed, and no memory was taken. After `NoMemory` the network is halted,
+    /// and nothing is said of its boxes and lanes.
+    ///
+    /// A form that isn't played yet is accepted, changes nothing and answers `Silent`.
+    pub fn apply(&mut self, command: &Command) -> Result<Answer, ApplyError>
+        requires { IsReady B.kind_of B.blank B.view self.old }
+        ensures applies { Applies B.kind_of B.blank B.view self.old command.now result self.new }
+        ensures ready { IsReady B.kind_of B.blank B.view self.new }
+    {
+        if self.halted {
+            return Err(ApplyError::Halted);
+        }
+        check::addressed(command);
+        match self.play(command) {
+            Ok(answer) => {
+                self.accepted = next_count(self.accepted);
+                self.halted = false;
+                Ok(answer)
+            }
+            Err(ApplyError::NoMemory) => {
+                self.halted = true;
+                Err(ApplyError::NoMemory)
+            }
+            Err(error) => Err(error),
+        }
+    }
+}
+
+/// One more than a count, which stops at the greatest number of 64 bits.
+fn next_count(count: u64) -> u64
+    ensures { result ≡ play.next_count count }
+{
+    if count < u64::MAX { count + 1 } else { count }
+}

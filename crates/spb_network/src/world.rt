@@ -1,0 +1,362 @@
+ghost use Rattle.std.specs.Prelude.{◌≡◌, [], ◌∷◌, ◌++◌, true, None, OnOk, OnErr};
+ghost use Rattle.spb_network.specs.Declaring.{is_new_name, switched};
+
+use crate::graph::{graph_bridges, graph_edges, system_at};
+use crate::hints::Hints;
+use crate::reason::reason_unless;
+use crate::{DeclaredBridge, DeclaredLink, LinkEnd, Reason, Way, check, ways};
+use bridge_api::BridgeConfig;
+use fdb_build::tables_of;
+use indexmap::IndexMap;
+use spb_types::{
+    BridgeId, Graph, GraphBridge, Mac, Name, NoMemory, Seq, SourceId, SystemId, Tables, Vid,
+    VidPlan,
+};
+use std::alloc::Global;
+use std::marker::Model;
+
+/// What is declared: the base VIDs, the bridges and the links, each in order of declaration.
+#[derive(Drop)]
+pub struct World {
+    vids: Vec<VidPlan>,
+    bridges: IndexMap<Name, DeclaredBridge>,
+    links: IndexMap<Name, DeclaredLink>,
+    hints: Hints,
+}
+
+impl Model for World {
+    ghost use Rattle.spb_network.specs.World as state;
+
+    ghost Value = { state.World };
+
+    ghost view = { λ w. record { vids = w.vids.items; bridges = w.bridges.entries; links = w.links.entries } };
+
+    ghost invariant = { λ w. state.Sound (record { vids = w.vids.items; bridges = w.bridges.entries; links = w.links.entries }) };
+}
+
+impl World {
+    ghost use Rattle.std.specs.Prelude.{◌≡◌, ◌<◌, ◌≤◌, [], ℕ, true, None, Some, length, IfOk, IfSome, slice_get};
+    ghost use Rattle.spb_network.specs.World as state;
+    ghost use Rattle.spb_network.specs.World.{place_of, things_of};
+    ghost use Rattle.spb_network.specs.Declaring as declare;
+    ghost use Rattle.spb_network.specs.State.{way_out, live_way, is_live};
+    ghost use Rattle.spb_network.specs.Play.{config_of};
+    ghost use Rattle.bridge_api.specs.Config.{IsWhole};
+
+    /// The world in which nothing is declared, which takes no memory.
+    pub fn new(alloc: Global) -> Self
+        ensures { result ≡ record { vids = []; bridges = []; links = [] } }
+    {
+        World {
+            vids: Vec::new(alloc),
+            bridges: IndexMap::new(alloc),
+            links: IndexMap::new(alloc),
+            hints: Hints::new(alloc),
+        }
+    }
+
+    /// The base VIDs, in order of declaration.
+    pub fn vids(&self) -> &[VidPlan]
+        ensures { result.now ≡ self.now.vids }
+    {
+        self.vids.as_slice()
+    }
+
+    /// How many bridges are declared.
+    pub fn bridge_count(&self) -> usize
+        ensures { result ≡ length self.now.bridges }
+    {
+        self.bridges.len()
+    }
+
+    /// How many links are declared.
+    pub fn link_count(&self) -> usize
+        ensures { result ≡ length self.now.links }
+    {
+        self.links.len()
+    }
+
+    /// The place of the bridge of this name in order of declaration. None exactly where there is none.
+    pub fn bridge_place(&self, name: Name) -> Option<usize>
+        ensures { result ≡ place_of name self.now.bridges }
+    {
+        self.bridges.get_index_of(&name)
+    }
+
+    /// The place of the link of this name in order of declaration. None exactly where there is none.
+    pub fn link_place(&self, name: Name) -> Option<usize>
+        ensures { result ≡ place_of name self.now.links }
+    {
+        self.links.get_index_of(&name)
+    }
+
+    /// The link at a place, whose ends are ports of declared bridges. None exactly where the place is past the last.
+    pub fn link(&self, place: usize) -> Option<DeclaredLink>
+        ensures link { result ≡ slice_get (things_of self.now.links) place }
+        ensures ends { IfSome result (λ l. state.IsLink self.now.bridges l) }
+    {
+        match self.links.get_index(place) {
+            None => None,
+            Some((_, link)) => Some(*link),
+        }
+    }
+
+    /// The way that the hint of a port gives, where that link ends there.
+    fn hinted_way(&self, bridge: usize, port: u8) -> Option<Way>
+        ensures { IfSome result (λ way. way_out (things_of self.now.links) bridge port ≡ Some way) }
+    {
+        let place = self.hints.link_at(bridge, port);
+        match self.link(place) {
+            None => None,
+            Some(link) => ways::way_of(place, &link, bridge, port),
+        }
+    }
+
+    /// The way out of a port of the bridge at a place, over a link that is up. None exactly where there is none.
+    pub fn live_way(&self, bridge: usize, port: u8) -> Option<Way>
+        ensures { result ≡ live_way (things_of self.now.links) (way_out (things_of self.now.links) bridge port) }
+    {
+        let way = match self.hinted_way(bridge, port) {
+            Some(way) => Some(way),
+            None => ways::way_out(&self.links, bridge, port),
+        };
+        match way {
+            None => None,
+            Some(way) => {
+                if ways::is_live(&self.links, way.link) {
+                    Some(way)
+                } else {
+                    None
+                }
+            }
+        }
+    }
+
+    /// The actual wiring: all bridges, and an edge for each link that is up.
+    fn graph(&self, alloc: Global) -> Result<Graph, NoMemory>
+        ensures { IfOk result (λ graph. graph ≡ state.world_graph self.now) }
+    {
+        let bridges = graph_bridges(alloc, &self.bridges)?;
+        let edges = graph_edges(alloc, &self.bridges, &self.links)?;
+        Ok(Graph {
+            bridges: Seq::from_vec(bridges),
+            edges: Seq::from_vec(edges),
+            members: Seq::new(alloc),
+        })
+    }
+
+    /// The tables that the wiring gives the bridge at a place.
+    #[tactic(auto, unfolding(crate::specs::World::wired_tables))]
+    pub fn wired_tables(&self, alloc: Global, place: usize) -> Result<Tables, NoMemory>
+        ensures { IfOk result (λ tables. tables ≡ state.wired_tables self.now place) }
+    {
+        let graph = self.graph(alloc)?;
+        let me = system_at(&self.bridges, place);
+        tables_of(alloc, &graph, me, self.vids.as_slice())
+    }
+
+    /// Whether the link at a place is up.
+    pub fn is_live(&self, place: usize) -> bool
+        ensures { result ≡ is_live (things_of self.now.links) place }
+    {
+        ways::is_live(&self.links, place)
+    }
+
+    /// How many ports the bridge at a place has, 0 to 32; 0 past the last bridge.
+    pub fn ports(&self, place: usize) -> u8
+        ensures ports { result ≡ state.ports_at self.now.bridges place }
+        ensures few { result ≤ 32 }
+    {
+        check::ports_at(&self.bridges, place)
+    }
+
+    /// What a bridge that isn't refused is configured with.
+    pub fn config(
+        &self,
+        alloc: Global,
+        id: BridgeId,
+        source: SourceId,
+        ports: u8,
+    ) -> Result<BridgeConfig, NoMemory>
+        requires ports { ports ≤ 32 }
+        requires source { source.value < 1048576 }
+        requires address { declare.is_bridge_address id.system.mac ≡ true }
+        ensures config { IfOk result (λ config. config
+            ≡ config_of self.now (record { bridge = record { id = id; source = source }; ports = ports })) }
+        ensures whole { IfOk result IsWhole }
+    {
+        let _six = check::len(id.system.mac);
+        let vids = Vec::from_slice(alloc, self.vids.as_slice())?;
+        let metrics = vec![in alloc; 1; usize::from(ports)]?;
+        Ok(BridgeConfig {
+            id,
+            source,
+            ports,
+            vids: Seq::from_vec(vids),
+            metrics: Seq::from_vec(metrics),
+            attached: Seq::new(alloc),
+        })
+    }
+
+    /// Why a base VID can't be declared, if it can't.
+    #[tactic(auto, unfolding(crate::specs::Declaring::vid_refusal))]
+    pub fn vid_refusal(&self, vid: u64, ect: u64) -> Option<Reason>
+        ensures { result ≡ declare.vid_refusal self.now vid ect }
+    {
+        let is_new = check::is_new_vid(self.vids.as_slice(), vid);
+        let is_range = check::is_vid_range(self.vids.as_slice(), vid, ect);
+        reason_unless(is_new, Reason::NameTaken)
+            .or(reason_unless(is_range, Reason::Range))
+            .or(reason_unless(self.bridges.len() == 0, Reason::TooLate))
+    }
+
+    /// Why a bridge can't be declared, if it can't, but for want of a box.
+    #[tactic(auto, unfolding(crate::specs::Declaring::bridge_refusal))]
+    pub fn bridge_refusal(
+        &self,
+        name: Name,
+        priority: u64,
+        system: Mac,
+        source: SourceId,
+        ports: u64,
+    ) -> Option<Reason>
+        ensures { result ≡ declare.bridge_refusal self.now name priority system source ports }
+    {
+        let is_new_name = check::is_new_name(&self.bridges, name);
+        let is_new_id = check::is_new_id(&self.bridges, system, source);
+        let is_range = check::is_bridge_range(priority, system, source, ports);
+        reason_unless(is_new_name, Reason::NameTaken)
+            .or(reason_unless(is_new_id, Reason::IdTaken))
+            .or(reason_unless(is_range, Reason::Range))
+            .or(reason_unless(self.bridges.len() < 96, Reason::TooMany))
+    }
+
+    /// Why a link between the bridges at two places can't be declared, if it can't.
+    #[tactic(auto, unfolding(crate::specs::Declaring::link_refusal))]
+    pub fn link_refusal(
+        &self,
+        name: Name,
+        i: usize,
+        port_a: u64,
+        j: usize,
+        port_b: u64,
+        cost: u64,
+    ) -> Option<Reason>
+        ensures { result ≡ declare.link_refusal self.now name i port_a j port_b cost }
+    {
+        let is_new_name = check::is_new_name(&self.links, name);
+        let are_free = check::are_free_ports(&self.links, i, port_a, j, port_b);
+        let is_range = check::is_link_range(&self.bridges, i, port_a, j, port_b, cost);
+        reason_unless(is_new_name, Reason::NameTaken)
+            .or(reason_unless(are_free, Reason::PortUse))
+            .or(reason_unless(is_range, Reason::Range))
+            .or(reason_unless(self.links.len() < 400, Reason::TooMany))
+            .or(reason_unless(check::is_unlinked(&self.links, i, j), Reason::AlreadyLinked))
+    }
+
+    /// Declares a base VID with the number of its ECT algorithm, which isn't refused. After NoMemory nothing changed.
+    pub fn declare_vid(&mut self, vid: u64, ect: u64) -> Result<(), NoMemory>
+        requires { declare.vid_refusal self.old vid ect ≡ None }
+        ensures ok { OnOk result (self.new ≡ declare.with_vid self.old (declare.plan_of vid ect)) }
+        ensures err { OnErr result (self.new ≡ self.old) }
+    {
+        self.vids.push(VidPlan {
+            vid: Vid { value: vid as u16 },
+            ect: ect as u8,
+        })?;
+        Ok(())
+    }
+
+    /// Declares a bridge, which isn't refused. After NoMemory nothing changed.
+    pub fn declare_bridge(
+        &mut self,
+        name: Name,
+        priority: u64,
+        system: Mac,
+        source: SourceId,
+        ports: u64,
+    ) -> Result<(), NoMemory>
+        requires { declare.bridge_refusal self.old name priority system source ports ≡ None }
+        ensures ok { OnOk result (self.new
+            ≡ declare.with_bridge self.old name (declare.bridge_of priority system source ports)) }
+        ensures err { OnErr result (self.new ≡ self.old) }
+    {
+        let id = BridgeId {
+            priority: priority as u16,
+            system: SystemId { mac: system },
+        };
+        let bridge = DeclaredBridge {
+            bridge: GraphBridge { id, source },
+            ports: ports as u8,
+        };
+        self.hints.add_bridge()?;
+        insert_new(&mut self.bridges, name, bridge)?;
+        Ok(())
+    }
+
+    /// Declares a link between the bridges at two places, which isn't refused and isn't up yet, and answers it. Its cost
+    /// is the metric of both ends. After NoMemory nothing changed.
+    pub fn declare_link(
+        &mut self,
+        name: Name,
+        i: usize,
+        port_a: u64,
+        j: usize,
+        port_b: u64,
+        cost: u64,
+    ) -> Result<DeclaredLink, NoMemory>
+        requires { declare.link_refusal self.old name i port_a j port_b cost ≡ None }
+        ensures link { IfOk result (λ link. link ≡ declare.link_of i port_a j port_b cost) }
+        ensures ok { OnOk result (self.new
+            ≡ declare.with_link self.old name (declare.link_of i port_a j port_b cost)) }
+        ensures err { OnErr result (self.new ≡ self.old) }
+    {
+        let _ = &self.links;
+        let metric = cost as u32;
+        let link = DeclaredLink {
+            a: LinkEnd {
+                bridge: i,
+                port: port_a as u8,
+                metric,
+            },
+            b: LinkEnd {
+                bridge: j,
+                port: port_b as u8,
+                metric,
+            },
+            live: false,
+        };
+        let place = self.links.len();
+        insert_new(&mut self.links, name, link)?;
+        self.hints.note(link.a, place);
+        self.hints.note(link.b, place);
+        Ok(link)
+    }
+
+    /// The link at a place comes up, or goes down. Takes no memory.
+    pub fn set_live(&mut self, place: usize, on: bool)
+        ensures { self.new ≡ declare.with_live on self.old place }
+    {
+        switch(&mut self.links, place, on);
+    }
+}
+
+/// Puts a thing of a new name behind the others. After NoMemory nothing changed.
+fn insert_new<T: Drop>(things: &mut IndexMap<Name, T>, name: Name, thing: T) -> Result<(), NoMemory>
+    requires { is_new_name name things.old.entries ≡ true }
+    ensures ok { OnOk result (things.new.entries ≡ things.old.entries ++ (name, thing) ∷ []) }
+    ensures err { OnErr result (things.new.entries ≡ things.old.entries) }
+{
+    things.insert(name, thing)?;
+    Ok(())
+}
+
+/// The link at a place comes up, or goes down.
+fn switch(links: &mut IndexMap<Name, DeclaredLink>, place: usize, on: bool)
+    ensures { links.new.entries ≡ switched on links.old.entries place }
+{
+    match links.get_index_mut(place) {
+        None => {}
+        Some(link) => link.live = on,
+    }
+}
