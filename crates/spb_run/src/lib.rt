@@ -1,9 +1,7 @@
 //! The run of a script: which lines are refused, what is played on the network, and what is answered.
 #![tactic(auto)]
 
-pub use play::play_line;
 pub use refusal::Refusal;
-pub use reply::Reply;
 pub use runner::run;
 pub use status::Status;
 

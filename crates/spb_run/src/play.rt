@@ -10,7 +10,8 @@ ghost use Rattle.spb_run.specs.Replying.{Replies, IsAlive};
 ghost use Rattle.spb_run.specs.declared.refusal.Refusal.TheVariants as refusal;
 
 use crate::answer::answer_text;
-use crate::{Refusal, Reply};
+use crate::Refusal;
+use crate::reply::Reply;
 use bridge_api::Bridge;
 use report::error_text;
 use scenario::{Command, Keyword, LineError, head, parse_line};
@@ -117,7 +118,7 @@ fn play_parsed<B: Bridge>(
 /// Judges and plays the line of this number, counted from 1, given without its end. After NoMemory nothing is said of
 /// the network.
 #[tactic(auto, unfolding(crate::specs::Play::judged))]
-pub fn play_line<B: Bridge>(
+pub(crate) fn play_line<B: Bridge>(
     alloc: Global,
     network: &mut NetworkOf<B>,
     number: u32,
