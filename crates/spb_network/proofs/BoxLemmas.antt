@@ -1,6 +1,6 @@
 -- One item of a list is changed.
-use Rattle.std.proofs.Common.{MutBor, Result, Ok, Err, OnOk, ◌++◌, ◌≡◌, ℕ, zero, suc, ◌<◌, ◌≤◌, List, [], ◌∷◌, map, length, Option, Some, None, slice_get, refl, sym, subst, ap, ◌∙◌, arith}
-use Rattle.std.specs.List.{AllByRecursion, slice_index_or, slice_set, IsItemAtMut}
+use Rattle.std.proofs.Common.{Bor, MutBor, Result, Ok, Err, OnOk, ◌++◌, ◌≡◌, ℕ, zero, suc, ◌<◌, ◌≤◌, List, [], ◌∷◌, map, length, Option, Some, None, slice_get, refl, sym, subst, ap, ◌∙◌, arith}
+use Rattle.std.specs.List.{AllByRecursion, slice_index_or, slice_set, IsItemAtMut, ItemBy}
 use Rattle.std.specs.Option.{option_map_or}
 use Rattle.bridge_api.specs.declared.outbox.Outbox.{Outbox}
 use Rattle.bridge_api.specs.Step.{with_wire}
@@ -88,3 +88,16 @@ lent xs i None x h e = cc
 pub lent-none : {X : Type 0} (xs : List X) (i : ℕ) (r : Option (MutBor X)) → IsItemAtMut xs i r → r ≡ None → slice_get xs i ≡ None
 lent-none xs i (Some y) h e = cc
 lent-none xs i None h e = get-none xs i h.3
+
+-- the same of an item that is only read
+pub seen : {X : Type 0} (xs : List X) (i : ℕ) (r : Option (Bor X)) (x : Bor X) → ItemBy (λ (y : Bor X). y.now) xs i i r → r ≡ Some x → slice_get xs i ≡ Some x.now
+seen xs i (Some y) x h e = subst (λ z. slice_get xs i ≡ Some z.now) (some-is y x e) (get-some xs i y.now h.3.0 h.1)
+seen xs i None x h e = cc
+
+pub seen-none : {X : Type 0} (xs : List X) (i : ℕ) (r : Option (Bor X)) → ItemBy (λ (y : Bor X). y.now) xs i i r → r ≡ None → slice_get xs i ≡ None
+seen-none xs i (Some y) h e = cc
+seen-none xs i None h e = get-none xs i h.3
+
+-- an item that stands within
+pub got : {X : Type 0} (xs : List X) (i : ℕ) (x : X) → i < length xs → x ≡ slice_index_or xs i x → slice_get xs i ≡ Some x
+got xs i x h e = get-some xs i x h e

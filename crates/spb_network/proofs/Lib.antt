@@ -21,3 +21,4 @@ pub mod SoundWitness
 pub mod RoundLemmas
 pub mod ConfigLemmas
 pub mod PortLemmas
+pub mod CommandFits

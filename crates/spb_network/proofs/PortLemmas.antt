@@ -1,5 +1,5 @@
 -- The ports of a bridge as they are told, and the boxes of a rack.
-use Rattle.std.proofs.Common.{◌≡◌, ℕ, zero, suc, ◌+◌, ◌-◌, ◌<◌, ◌≤◌, Bool, true, false, List, [], ◌∷◌, ◌++◌, map, length, take, drop, Option, Some, None, if◌then◌else◌, nat_le, slice_get, refl, sym, ap, ◌∙◌, subst, arith}
+use Rattle.std.proofs.Common.{Result, Ok, Err, IfOk, ◌≡◌, ℕ, zero, suc, ◌+◌, ◌-◌, ◌<◌, ◌≤◌, Bool, true, false, List, [], ◌∷◌, ◌++◌, map, length, take, drop, Option, Some, None, if◌then◌else◌, nat_le, slice_get, refl, sym, ap, ◌∙◌, subst, arith}
 use Rattle.std.proofs.lemmas.Bool.Decides.{nat_tests}
 use Rattle.std.specs.Option.{option_map, option_or}
 use Rattle.adjacency.specs.declared.port.Adjacency.{Adjacency}
@@ -12,7 +12,7 @@ use Rattle.spb_network.specs.State.{State, Spare, serves, box_from}
 use Rattle.spb_network.specs.Network.{Fits}
 use Rattle.spb_network.specs.Play.{told_ports}
 
-some-is : {X : Type 0} (x y : X) → Some x ≡ Some y → x ≡ y
+pub some-is : {X : Type 0} (x y : X) → Some x ≡ Some y → x ≡ y
 some-is x y h = cc
 
 suc-is : (k : ℕ) → k + 1 ≡ suc k
@@ -86,3 +86,8 @@ drop-length (x ∷ xs) (suc n) h = drop-length xs n (omega arith)
 
 pub box-none : (wanted : Kind) (rack : List Spare) (k : ℕ) → length rack ≤ k → box_from k wanted (drop k rack) ≡ None
 box-none wanted rack k h = ap (box_from k wanted) (drop-length rack k h)
+
+-- what holds of an answer that is Ok
+pub told-ok : {T E : Type 0} {P Q : T → Type 0} (r : Result T E) → ((x : T) → P x → Q x) → IfOk r P → IfOk r Q
+told-ok (Ok x) f p = f x p
+told-ok (Err e) f p = p

@@ -1,0 +1,27 @@
+-- The shape of a state after a declaration, and the boxes of a rack.
+use Rattle.std.proofs.Common.{◌≡◌, ℕ, zero, suc, ◌+◌, ◌<◌, List, [], ◌∷◌, ◌++◌, map, length, Option, Some, None, slice_get, remove, refl, sym, ap, ◌∙◌, arith}
+use Rattle.std.specs.List.{slice_index_or}
+use Rattle.spb_network.specs.declared.declaration.DeclaredLink.{DeclaredLink}
+use Rattle.spb_network.specs.declared.lanes.Lanes.{Lanes}
+use Rattle.spb_network.specs.Declaring.{with_link}
+use Rattle.spb_network.specs.State.{State}
+use Rattle.spb_network.specs.Network.{Fits}
+use Rattle.spb_network.proofs.ListLemmas.{length-push}
+
+pub Fits-with_link : (s : State) (name : List ℕ) (l : DeclaredLink) (lanes : Lanes) → Fits s → Fits (record s { world = with_link s.world name l; lanes = s.lanes ++ lanes ∷ [] })
+unfolding with_link
+Fits-with_link s name l lanes fits = record {
+  bridges = fits.bridges;
+  lanes = omega (arith, length-push s.lanes lanes, length-push s.world.links (name, l), fits.lanes);
+  ports = fits.ports;
+}
+
+pub map-remove : {X Y : Type 0} (f : X → Y) (xs : List X) (i : ℕ) → map f (remove xs i) ≡ remove (map f xs) i
+map-remove f [] zero = refl
+map-remove f [] (suc i) = refl
+map-remove f (x ∷ xs) zero = refl
+map-remove f (x ∷ xs) (suc i) = ap (λ l. f x ∷ l) (map-remove f xs i)
+
+pub map-push : {X Y : Type 0} (f : X → Y) (xs : List X) (x : X) → map f (xs ++ x ∷ []) ≡ map f xs ++ f x ∷ []
+map-push f [] x = refl
+map-push f (y ∷ ys) x = ap (λ l. f y ∷ l) (map-push f ys x)
