@@ -1,10 +1,11 @@
 -- The laws of a step.
 use Rattle.std.proofs.Common.{◌≡◌, ◌⊎◌, inl, inr, ◌-◌, ℕ, zero, suc, Bool, true, false, List, [], ◌∷◌, length, map, refl, sym, ap, ◌∙◌, subst, Option, Some, None, arith}
-use Rattle.std.specs.Prelude.{slice_get, slice_set, if◌then◌else◌}
+use Rattle.std.specs.Prelude.{slice_get, slice_set, nat_le, if◌then◌else◌}
 use Rattle.std.specs.Option.{option_map, option_and_then}
 use Rattle.std.specs.List.{AllByRecursion}
 use Rattle.std.specs.FinMap.{empty, get, get-empty}
 use Rattle.std.proofs.lemmas.List.{length-set, length-map}
+use Rattle.std.proofs.lemmas.Option.{slice_get-map}
 use Rattle.spb_types.specs.declared.address.BridgeId.{BridgeId}
 use Rattle.spb_types.specs.declared.address.LspId.{LspId}
 use Rattle.isis_pdu.specs.Pdu.{HelloValue}
@@ -22,53 +23,82 @@ use Rattle.adjacency.specs.Adjacency.{IsSound, neighbour_of, is_up, after_hello,
 use Rattle.adjacency.specs.Hearing as hearing
 use Rattle.adjacency.proofs.Neighbours.{hello_keeps}
 use Rattle.bridge_api.specs.declared.port.BridgePort.{BridgePort}
-use Rattle.bridge_api.specs.View.{BridgeView, port_in, port_at, neighbour_at, is_port_up, is_up_in, is_up_at, is_due_at, is_due_in}
+use Rattle.bridge_api.specs.View.{BridgeView, IsPort, port_in, port_at, neighbour_at, is_port_up, is_up_in, is_up_at, is_due_at, is_due_in, has_carrier_in, has_carrier_at, metrics_of}
 use Rattle.bridge_api.specs.Config.{dark}
 use Rattle.bridge_api.specs.Judging.{judged}
 use Rattle.bridge_api.specs.Hearing.{with_due, with_adjacency, greeted, after_receive, carried_at, with_carrier}
 use Rattle.bridge_api.specs.Ports.{noted, greeted_port, carried_port}
 use Rattle.bridge_api.specs.Ticking.{later, after_tick}
-use Rattle.bridge_api.specs.Step.{second, frame, carrier, step}
-use Rattle.bridge_api.specs.Laws.{IsSoundPort, IsSoundView, ConfiguredIsSound, StepsStaySound, IsSameBridge, StepsKeepBridge, StepsKeepNeighbours, IsFresh, EnteringUpIsWhole, StepsCarryDatabase, greeter}
+use Rattle.bridge_api.specs.Step.{Input, second, frame, carrier, step}
+use Rattle.bridge_api.specs.Laws.{IsSoundPort, IsSoundView, ConfiguredIsSound, ConfiguredIsDark, StepsStaySound, IsSameBridge, StepsKeepBridge, StepsKeepNeighbours, IsFresh, EnteringUpIsWhole, StepsCarryDatabase, greeter}
+use Rattle.bridge_api.proofs.Places.{set_again, seen_set}
 use Rattle.bridge_api.proofs.Adjacent.{second_keeps, second_up, carrier_keeps, up_since, came_up, stayed_up, hello_sound, second_sound, carrier_sound, not_discarded}
 use Rattle.bridge_api.proofs.Changes.{found, one_port, Greeted, frame_step, greeted_ports, greeted_bridge, greeted_unheld, carrier_step, carried_ports, carried_bridge, carried_unheld, ticked, tick_port, tick_unheld}
 
 -- ---- the bridge stays the same
 
-same_after : (v w : BridgeView) → w ≡ record v { ports = w.ports; database = w.database } → length w.ports ≡ length v.ports → IsSameBridge v w
-same_after v w is ports = record {
+same_after : (v w : BridgeView) → w ≡ record v { ports = w.ports; database = w.database } → length w.ports ≡ length v.ports → metrics_of w.ports ≡ metrics_of v.ports → IsSameBridge v w
+same_after v w is ports metrics = record {
   id = ap (λ (u : BridgeView). u.id) is;
   source = ap (λ (u : BridgeView). u.source) is;
   vids = ap (λ (u : BridgeView). u.vids) is;
   attached = ap (λ (u : BridgeView). u.attached) is;
   ports = ports;
+  metrics = metrics;
   failed = ap (λ (u : BridgeView). u.failed) is;
 }
 
 same_itself : (v w : BridgeView) → w ≡ v → IsSameBridge v w
-same_itself v w e = subst (λ (u : BridgeView). IsSameBridge v u) (sym e) (record { id = refl; source = refl; vids = refl; attached = refl; ports = refl; failed = refl })
+same_itself v w e = subst (λ (u : BridgeView). IsSameBridge v u) (sym e) (record { id = refl; source = refl; vids = refl; attached = refl; ports = refl; metrics = refl; failed = refl })
+
+-- one port changed, and not its metric
+one_same : (v w : BridgeView) (q : ℕ) (from to : BridgePort) → port_at v q ≡ Some from → w ≡ record v { ports = w.ports; database = w.database } → w.ports ≡ slice_set v.ports (q - 1) to → to.metric ≡ from.metric → IsSameBridge v w
+one_same v w q from to there is ports metric =
+    let metrics : metrics_of (slice_set v.ports (q - 1) to) ≡ metrics_of v.ports =
+    seen_set (λ (port : BridgePort). port.metric) v.ports (q - 1) to
+    ∙ (ap (λ (m : ℕ). slice_set (metrics_of v.ports) (q - 1) m) metric
+    ∙ set_again (metrics_of v.ports) (q - 1) from.metric (slice_get-map (λ (port : BridgePort). port.metric) v.ports (q - 1) ∙ ap (option_map (λ (port : BridgePort). port.metric)) (found v.ports q from there).1)) in
+    same_after v w is (ap length ports ∙ length-set v.ports (q - 1) to) (ap metrics_of ports ∙ metrics)
+
+noted_metric : (heard : Heard) (port : BridgePort) → (noted heard port).metric ≡ port.metric
+noted_metric did.Kept port = refl
+noted_metric did.CameUp port = refl
+noted_metric did.LeftUp port = refl
+noted_metric did.Discarded port = refl
+
+ticked_metrics : (ports : List BridgePort) → metrics_of (map (with_due false) (map later ports)) ≡ metrics_of ports
+ticked_metrics [] = refl
+ticked_metrics (port ∷ ports) = ap (λ (ms : List ℕ). port.metric ∷ ms) (ticked_metrics ports)
 
 pub steps_keep_bridge : StepsKeepBridge
-steps_keep_bridge second v = record { id = refl; source = refl; vids = refl; attached = refl; ports = length-map (map later v.ports) (with_due false) ∙ length-map v.ports later; failed = refl }
+unfolding after_tick
+steps_keep_bridge second v = record { id = refl; source = refl; vids = refl; attached = refl; ports = length-map (map later v.ports) (with_due false) ∙ length-map v.ports later; metrics = ticked_metrics v.ports; failed = refl }
 steps_keep_bridge (frame q bytes) v =
     elim (frame_step v q bytes) [
       | inl e ↦ same_itself v (after_receive q bytes v) e
       | inr g ↦ subst (λ (u : BridgeView). IsSameBridge v u) (sym g.after)
-          (same_after v (greeted g.hello g.way q g.port v) (greeted_bridge g.hello g.way q g.port v) (ap length (greeted_ports g.hello g.way q g.port v g.there) ∙ length-set v.ports (q - 1) (greeted_port v.id.system q g.hello g.way g.port)))
+          (one_same v (greeted g.hello g.way q g.port v) q g.port (greeted_port v.id.system q g.hello g.way g.port) g.there (greeted_bridge g.hello g.way q g.port v) (greeted_ports g.hello g.way q g.port v g.there) (noted_metric (heard_of v.id.system q g.hello g.way g.port.adjacency) (with_adjacency (after_hello v.id.system q g.hello g.way g.port.adjacency) g.port)))
     ]
 steps_keep_bridge (carrier q on) v =
     elim (carrier_step v q on) [
       | inl e ↦ same_itself v (with_carrier q on v) e
       | inr g ↦ subst (λ (u : BridgeView). IsSameBridge v u) (sym g.after)
-          (same_after v (carried_at q on (Some g.port) v) (carried_bridge q on g.port v) (ap length (carried_ports q on g.port v g.there) ∙ length-set v.ports (q - 1) (carried_port on g.port)))
+          (one_same v (carried_at q on (Some g.port) v) q g.port (carried_port on g.port) g.there (carried_bridge q on g.port v) (carried_ports q on g.port v g.there) (noted_metric (change_of g.port.adjacency (after_carrier on g.port.adjacency)) (with_adjacency (after_carrier on g.port.adjacency) g.port)))
     ]
+
+-- a step keeps the number of ports
+pub ports_after : (input : Input) (v w : BridgeView) → w ≡ step input v → length w.ports ≡ length v.ports
+ports_after input v w is = ap (λ (u : BridgeView). length u.ports) is ∙ (steps_keep_bridge input v).ports
+
+pub port_after : (input : Input) (v w : BridgeView) (p : ℕ) → w ≡ step input v → IsPort v p → IsPort w p
+port_after input v w p is within = record { low = within.low; high = omega (arith, ports_after input v w is, within.high) }
 
 -- ---- who is kept
 
 abbrev neighbour_in : Option BridgePort → Option End
 neighbour_in o = option_and_then (λ port. neighbour_of port.adjacency) o
 
-noted_keeps : (heard : Heard) (port : BridgePort) → (noted heard port).adjacency ≡ port.adjacency
+pub noted_keeps : (heard : Heard) (port : BridgePort) → (noted heard port).adjacency ≡ port.adjacency
 noted_keeps did.Kept port = refl
 noted_keeps did.CameUp port = refl
 noted_keeps did.LeftUp port = refl
@@ -80,6 +110,7 @@ tick_keeps_in (Some port) n kept = second_keeps port.adjacency n kept
 
 -- one port changed: whoever is kept there was kept, or came by what the change was
 one_keeps : (v w : BridgeView) (q : ℕ) (from to : BridgePort) (p : ℕ) (n : End) (C : Type 0) → port_at v q ≡ Some from → w.ports ≡ slice_set v.ports (q - 1) to → (neighbour_of to.adjacency ≡ Some n → (neighbour_of from.adjacency ≡ Some n) ⊎ C) → neighbour_at w p ≡ Some n → (neighbour_at v p ≡ Some n) ⊎ ((q ≡ p) × C)
+unfolding neighbour_at
 one_keeps v w q from to p n C there is why kept =
     let at = found v.ports q from there in
     let kept' : neighbour_in (port_in (slice_set v.ports (q - 1) to) p) ≡ Some n = subst (λ (ports : List BridgePort). neighbour_in (port_in ports p) ≡ Some n) is kept in
@@ -111,6 +142,7 @@ no_cause q p (inl a) = inl a
 no_cause q p (inr c) = inr c.1
 
 pub steps_keep_neighbours : StepsKeepNeighbours
+unfolding neighbour_at
 steps_keep_neighbours second v p n kept = inl (tick_keeps_in (port_at v p) n (sym (ap neighbour_in (tick_port v p)) ∙ kept))
 steps_keep_neighbours (frame q bytes) v p n kept =
     elim (frame_step v q bytes) [
@@ -172,6 +204,29 @@ configured_is_sound c whole = record {
   unheld = refl;
 }
 
+dark_metrics : (metrics : List ℕ) → metrics_of (map dark metrics) ≡ metrics
+dark_metrics [] = refl
+dark_metrics (metric ∷ metrics) = ap (λ (ms : List ℕ). metric ∷ ms) (dark_metrics metrics)
+
+-- a port that is found there is dark
+dark_found : {X : Type 0} (f : Option BridgePort → X) (x : X) → f None ≡ x → ((metric : ℕ) → f (Some (dark metric)) ≡ x) → (metrics : List ℕ) (i : ℕ) → f (slice_get (map dark metrics) i) ≡ x
+dark_found f x none some [] i = none
+dark_found f x none some (metric ∷ metrics) zero = some metric
+dark_found f x none some (metric ∷ metrics) (suc i) = dark_found f x none some metrics i
+
+dark_in : {X : Type 0} (f : Option BridgePort → X) (x : X) → f None ≡ x → ((metric : ℕ) → f (Some (dark metric)) ≡ x) → (low : Bool) (metrics : List ℕ) (i : ℕ) → f (if low then slice_get (map dark metrics) i else None) ≡ x
+dark_in f x none some true metrics i = dark_found f x none some metrics i
+dark_in f x none some false metrics i = none
+
+pub configured_is_dark : ConfiguredIsDark
+unfolding has_carrier_at neighbour_at
+configured_is_dark c whole = record {
+  ports = length-map c.metrics dark ∙ whole.metrics;
+  metrics = dark_metrics c.metrics;
+  carrier = λ p. dark_in has_carrier_in false refl (λ metric. refl) (nat_le 1 p) c.metrics (p - 1);
+  neighbour = λ p. dark_in neighbour_in None refl (λ metric. refl) (nat_le 1 p) c.metrics (p - 1);
+}
+
 sound_after : (v w : BridgeView) → IsSoundView v → IsSameBridge v w → AllByRecursion IsSoundPort w.ports → w.database ≡ empty → IsSoundView w
 sound_after v w was same ports unheld = record {
   address = ap (λ (id : BridgeId). length id.system.mac.bytes) same.id ∙ was.address;
@@ -181,6 +236,7 @@ sound_after v w was same ports unheld = record {
 }
 
 pub steps_stay_sound : StepsStaySound
+unfolding after_tick
 steps_stay_sound second v was = sound_after v (after_tick v) was (steps_keep_bridge second v) (all_ticked v.ports was.ports) (tick_unheld v was.unheld)
 steps_stay_sound (frame q bytes) v was =
     elim (frame_step v q bytes) [
@@ -221,6 +277,7 @@ noted_due did.Discarded port e = absurd cc
 
 -- one port changed: where it is Up afterwards, CSNPs are due there, or it was Up before with the same neighbour
 one_enters : (v w : BridgeView) (q : ℕ) (from to : BridgePort) (p : ℕ) → port_at v q ≡ Some from → w.ports ≡ slice_set v.ports (q - 1) to → (is_port_up to ≡ true → (to.due ≡ true) ⊎ ((is_port_up from ≡ true) × (neighbour_of to.adjacency ≡ neighbour_of from.adjacency))) → is_up_at w p ≡ true → ((is_up_at v p ≡ true) × (neighbour_at w p ≡ neighbour_at v p)) ⊎ (is_due_at w p ≡ true)
+unfolding neighbour_at is_up_at is_due_at
 one_enters v w q from to p there is why up =
     let at = found v.ports q from there in
     let up' : is_up_in (port_in (slice_set v.ports (q - 1) to) p) ≡ true = subst (λ (ports : List BridgePort). is_up_in (port_in ports p) ≡ true) is up in
@@ -257,6 +314,7 @@ with_flags v w p unheld (inl was) = inl was
 with_flags v w p unheld (inr due) = inr (record { due = due; flagged = λ id. inr (nothing_at w.database id unheld) })
 
 pub entering_up_is_whole : EnteringUpIsWhole
+unfolding neighbour_at is_up_at
 entering_up_is_whole second v p was up =
     let before = tick_up_in (port_at v p) (sym (ap is_up_in (tick_port v p)) ∙ up) in
     inl (before.0, ap neighbour_in (tick_port v p) ∙ before.1)

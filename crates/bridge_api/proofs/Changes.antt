@@ -1,21 +1,23 @@
 -- What a step makes of the ports, one by one.
-use Rattle.std.proofs.Common.{◌≡◌, ◌≢◌, ◌⊎◌, inl, inr, ◌≤◌, ◌-◌, ℕ, Bool, true, false, List, map, refl, sym, ap, ◌∙◌, Option, Some, None, arith}
+use Rattle.std.proofs.Common.{◌≡◌, ◌≢◌, ◌⊎◌, inl, inr, ◌≤◌, ◌-◌, ℕ, Bool, true, false, List, map, refl, sym, ap, ◌∙◌, Option, Some, None, Result, Ok, Err, arith}
 use Rattle.std.specs.Prelude.{slice_get, slice_set, nat_le, if◌then◌else◌}
 use Rattle.std.specs.Option.{option_map}
 use Rattle.std.specs.FinMap.{empty}
 use Rattle.std.proofs.lemmas.List.{set-set}
 use Rattle.std.proofs.lemmas.Option.{slice_get-map, slice_get_within, some_pair_parts}
 use Rattle.std.proofs.lemmas.Bool.{le-leb, leb-true, cases_eq}
-use Rattle.isis_pdu.specs.Pdu.{HelloValue}
+use Rattle.isis_pdu.specs.Pdu.{HelloValue, CsnpValue, PsnpValue}
+use Rattle.spb_tlvs.specs.declared.error.TlvError.{TlvError}
+use Rattle.spb_tlvs.specs.declared.entries.SnpEntry.{SnpEntry}
 use Rattle.spb_tlvs.specs.declared.three_way.ThreeWay.{ThreeWay}
 use Rattle.adjacency.specs.declared.state.Heard.{Heard}
 use Rattle.adjacency.specs.declared.state.Heard.TheVariants.{Kept, CameUp, LeftUp, Discarded}
 use Rattle.adjacency.specs.declared.port.Adjacency.{Adjacency}
 use Rattle.adjacency.specs.Adjacency.{after_hello, heard_of, after_carrier, change_of}
 use Rattle.bridge_api.specs.declared.port.BridgePort.{BridgePort}
-use Rattle.bridge_api.specs.View.{BridgeView, port_in, port_at}
-use Rattle.bridge_api.specs.Judging.{Judged, useless, greeting, link_state, complete, partial, tenant, greeting_in, judged}
-use Rattle.bridge_api.specs.Hearing.{with_due, with_adjacency, changed_at, heard_as, heard_at, greeted, after_receive, carried_at, with_carrier}
+use Rattle.bridge_api.specs.View.{BridgeView, port_in, port_at, is_port_up}
+use Rattle.bridge_api.specs.Judging.{Judged, useless, greeting, link_state, complete, partial, tenant, greeting_in, judged, entries_in}
+use Rattle.bridge_api.specs.Hearing.{with_due, with_adjacency, changed_at, with_complete, with_partial, heard_as, heard_at, greeted, after_receive, carried_at, with_carrier}
 use Rattle.bridge_api.specs.Ports.{noted, greeted_port, carried_port}
 use Rattle.bridge_api.specs.Ticking.{later, after_tick}
 use Rattle.bridge_api.proofs.Places.{each_none, port_found, set_again, got_at, got_beside}
@@ -75,13 +77,35 @@ pub record Greeted (v : BridgeView) (q : ℕ) (bytes : List ℕ) (w : BridgeView
   pub is : greeting_in (judged bytes) ≡ Some (hello, way)
   pub after : w ≡ greeted hello way q port v
 
+-- at any port, one that isn't Up too
+if_heard : (up : Bool) (v w : BridgeView) → w ≡ v → (if up then w else v) ≡ v
+if_heard true v w e = e
+if_heard false v w e = refl
+
+complete_idle : (c : CsnpValue) (es : Result (List SnpEntry) TlvError) (q : ℕ) (v : BridgeView) → with_complete c es q v ≡ v
+complete_idle c (Ok es) q v = refl
+complete_idle c (Err e) q v = refl
+
+partial_idle : (s : PsnpValue) (es : Result (List SnpEntry) TlvError) (q : ℕ) (v : BridgeView) → with_partial s es q v ≡ v
+partial_idle s (Ok es) q v = refl
+partial_idle s (Err e) q v = refl
+
+-- a frame that isn't a hello changes nothing
+other_idle : (j : Judged) (q : ℕ) (port : BridgePort) (v : BridgeView) → greeting_in j ≡ None → heard_as j q port v ≡ v
+other_idle (useless reason) q port v e = refl
+other_idle (greeting h way) q port v e = absurd cc
+other_idle (link_state l) q port v e = if_heard (is_port_up port) v v refl
+other_idle (complete c) q port v e = if_heard (is_port_up port) v (with_complete c (entries_in c.tlvs) q v) (complete_idle c (entries_in c.tlvs) q v)
+other_idle (partial s) q port v e = if_heard (is_port_up port) v (with_partial s (entries_in s.tlvs) q v) (partial_idle s (entries_in s.tlvs) q v)
+other_idle (tenant da sa vid isid customer) q port v e = refl
+
 by_kind : (j : Judged) (v : BridgeView) (q : ℕ) (bytes : List ℕ) (port : BridgePort) → judged bytes ≡ j → port_at v q ≡ Some port → port.adjacency.carrier ≡ true → (heard_as j q port v ≡ v) ⊎ Greeted v q bytes (heard_as j q port v)
 by_kind (useless reason) v q bytes port e there lit = inl refl
 by_kind (greeting h way) v q bytes port e there lit = inr (record { port = port; hello = h; way = way; there = there; carrier = lit; is = ap greeting_in e; after = refl })
-by_kind (link_state l) v q bytes port e there lit = inl refl
-by_kind (complete c) v q bytes port e there lit = inl refl
-by_kind (partial s) v q bytes port e there lit = inl refl
-by_kind (tenant da sa vid isid customer) v q bytes port e there lit = inl refl
+by_kind (link_state l) v q bytes port e there lit = inl (other_idle (link_state l) q port v refl)
+by_kind (complete c) v q bytes port e there lit = inl (other_idle (complete c) q port v refl)
+by_kind (partial s) v q bytes port e there lit = inl (other_idle (partial s) q port v refl)
+by_kind (tenant da sa vid isid customer) v q bytes port e there lit = inl (other_idle (tenant da sa vid isid customer) q port v refl)
 
 by_carrier : (lit : Bool) (v : BridgeView) (q : ℕ) (bytes : List ℕ) (port : BridgePort) → port_at v q ≡ Some port → port.adjacency.carrier ≡ lit → ((if lit then heard_as (judged bytes) q port v else v) ≡ v) ⊎ Greeted v q bytes (if lit then heard_as (judged bytes) q port v else v)
 by_carrier true v q bytes port there lit = by_kind (judged bytes) v q bytes port refl there lit
@@ -93,6 +117,7 @@ by_port (Some port) v q bytes e = by_carrier port.adjacency.carrier v q bytes po
 
 -- a frame changes nothing, or is such a hello
 pub frame_step : (v : BridgeView) (q : ℕ) (bytes : List ℕ) → (after_receive q bytes v ≡ v) ⊎ Greeted v q bytes (after_receive q bytes v)
+unfolding after_receive
 frame_step v q bytes = by_port (port_at v q) v q bytes refl
 
 pub greeted_ports : (h : HelloValue) (way : ThreeWay) (q : ℕ) (port : BridgePort) (v : BridgeView) → port_at v q ≡ Some port → (greeted h way q port v).ports ≡ slice_set v.ports (q - 1) (greeted_port v.id.system q h way port)
@@ -118,6 +143,7 @@ carrier_port None v q on e = inl refl
 carrier_port (Some port) v q on e = inr (record { port = port; there = e; after = refl })
 
 pub carrier_step : (v : BridgeView) (q : ℕ) (on : Bool) → (with_carrier q on v ≡ v) ⊎ Carried v q on (with_carrier q on v)
+unfolding with_carrier
 carrier_step v q on = carrier_port (port_at v q) v q on refl
 
 pub carried_ports : (q : ℕ) (on : Bool) (port : BridgePort) (v : BridgeView) → port_at v q ≡ Some port → (carried_at q on (Some port) v).ports ≡ slice_set v.ports (q - 1) (carried_port on port)
@@ -146,9 +172,11 @@ tick_at true ports k = slice_get-map (with_due false) (map later ports) k ∙ (a
 tick_at false ports k = refl
 
 pub tick_port : (v : BridgeView) (p : ℕ) → port_at (after_tick v) p ≡ option_map ticked (port_at v p)
+unfolding after_tick
 tick_port v p = tick_at (nat_le 1 p) v.ports (p - 1)
 
 pub tick_unheld : (v : BridgeView) → v.database ≡ empty → (after_tick v).database ≡ empty
+unfolding after_tick
 tick_unheld v unheld = rw (unheld, each_none) (each_none _)
 
 -- ---- the whole view, of a bridge that holds no LSP
@@ -160,15 +188,16 @@ same_view : (v w : BridgeView) (ports : List BridgePort) → v.database ≡ empt
 same_view v w ports unheld is at none = is ∙ (λ i. record v { ports = at i; database = (none ∙ sym unheld) i })
 
 -- the branch that is taken
-when_true : {X : Type 0} (b : Bool) (x y : X) → b ≡ true → (if b then x else y) ≡ x
+pub when_true : {X : Type 0} (b : Bool) (x y : X) → b ≡ true → (if b then x else y) ≡ x
 when_true true x y e = refl
 when_true false x y e = absurd cc
 
-when_false : {X : Type 0} (b : Bool) (x y : X) → b ≡ false → (if b then x else y) ≡ y
+pub when_false : {X : Type 0} (b : Bool) (x y : X) → b ≡ false → (if b then x else y) ≡ y
 when_false true x y e = absurd cc
 when_false false x y e = refl
 
 heard_lit : (v : BridgeView) (q : ℕ) (bytes : List ℕ) (port : BridgePort) → 1 ≤ q → slice_get v.ports (q - 1) ≡ Some port → port.adjacency.carrier ≡ true → after_receive q bytes v ≡ heard_as (judged bytes) q port v
+unfolding after_receive
 heard_lit v q bytes port low at lit =
     ap (λ (o : Option BridgePort). heard_at q bytes o v) (port_found v q low ∙ at) ∙ when_true port.adjacency.carrier (heard_as (judged bytes) q port v) v lit
 
@@ -188,24 +217,19 @@ greeted_is v q bytes port h way unheld low at lit some =
     kind_is (tenant da sa vid isid customer) e = absurd cc
 
 pub deaf_is : (v : BridgeView) (q : ℕ) (bytes : List ℕ) (port : BridgePort) → 1 ≤ q → slice_get v.ports (q - 1) ≡ Some port → port.adjacency.carrier ≡ false → after_receive q bytes v ≡ v
+unfolding after_receive
 deaf_is v q bytes port low at dark =
     ap (λ (o : Option BridgePort). heard_at q bytes o v) (port_found v q low ∙ at) ∙ when_false port.adjacency.carrier (heard_as (judged bytes) q port v) v dark
 
 pub idle_is : (v : BridgeView) (q : ℕ) (bytes : List ℕ) (port : BridgePort) → 1 ≤ q → slice_get v.ports (q - 1) ≡ Some port → port.adjacency.carrier ≡ true → greeting_in (judged bytes) ≡ None → after_receive q bytes v ≡ v
-idle_is v q bytes port low at lit none = heard_lit v q bytes port low at lit ∙ kind_is (judged bytes) none
-  where
-    kind_is : (j : Judged) → greeting_in j ≡ None → heard_as j q port v ≡ v
-    kind_is (useless reason) e = refl
-    kind_is (greeting g w) e = absurd cc
-    kind_is (link_state l) e = refl
-    kind_is (complete c) e = refl
-    kind_is (partial s) e = refl
-    kind_is (tenant da sa vid isid customer) e = refl
+idle_is v q bytes port low at lit none = heard_lit v q bytes port low at lit ∙ other_idle (judged bytes) q port v none
 
 pub carried_is : (v : BridgeView) (q : ℕ) (on : Bool) (port : BridgePort) → v.database ≡ empty → 1 ≤ q → slice_get v.ports (q - 1) ≡ Some port → with_carrier q on v ≡ with_ports (slice_set v.ports (q - 1) (carried_port on port)) v
+unfolding with_carrier
 carried_is v q on port unheld low at =
     ap (λ (o : Option BridgePort). carried_at q on o v) (port_found v q low ∙ at)
     ∙ same_view v (carried_at q on (Some port) v) (slice_set v.ports (q - 1) (carried_port on port)) unheld (carried_bridge q on port v) (carried_ports q on port v (port_found v q low ∙ at)) (carried_unheld q on port v unheld)
 
 pub tick_is : (v : BridgeView) → v.database ≡ empty → after_tick v ≡ with_ports (map (with_due false) (map later v.ports)) v
+unfolding after_tick
 tick_is v unheld = same_view v (after_tick v) (map (with_due false) (map later v.ports)) unheld refl refl (tick_unheld v unheld)

@@ -3,3 +3,7 @@ pub mod Adjacent
 pub mod Changes
 pub mod Certified
 pub mod Hellos
+pub mod Listed
+pub mod Meeting
+pub mod Carriers
+pub mod UpPorts

@@ -1,4 +1,4 @@
-use Rattle.std.proofs.Common.{◌≡◌, ◌≢◌, ◌≤◌, ◌<◌, ◌-◌, ℕ, zero, suc, List, [], ◌∷◌, length, refl, sym, ap, ◌∙◌, Some, arith}
+use Rattle.std.proofs.Common.{◌≡◌, ◌≢◌, ◌≤◌, ◌<◌, ◌-◌, ℕ, zero, suc, List, [], ◌∷◌, length, map, refl, sym, ap, ◌∙◌, Some, arith}
 use Rattle.std.specs.Prelude.{slice_get, slice_set}
 use Rattle.std.specs.FinMap.{empty, entries, len-entries, len-empty, empty_of_len, entries-from_sorted}
 use Rattle.std.proofs.lemmas.List.{nil_from_length}
@@ -37,3 +37,9 @@ pub set_again : {X : Type 0} (xs : List X) (i : ℕ) (x : X) → slice_get xs i 
 set_again [] i x found = refl
 set_again (y ∷ ys) zero x found = let same : y ≡ x = cc in rw same refl
 set_again (y ∷ ys) (suc i) x found = ap (λ zs. y ∷ zs) (set_again ys i x found)
+
+-- a list with one item changed, seen
+pub seen_set : {X Y : Type 0} (f : X → Y) (xs : List X) (i : ℕ) (y : X) → map f (slice_set xs i y) ≡ slice_set (map f xs) i (f y)
+seen_set f [] i y = refl
+seen_set f (x ∷ xs) zero y = refl
+seen_set f (x ∷ xs) (suc i) y = ap (λ (ys : List _). f x ∷ ys) (seen_set f xs i y)

@@ -1,6 +1,11 @@
 -- What hearing a frame, and a change of carrier, make of a bridge.
-use Rattle.std.specs.Prelude.{ℕ, List, Bool, true, false, Option, Some, None, if◌then◌else◌}
-use Rattle.isis_pdu.specs.Pdu.{HelloValue}
+use Rattle.std.specs.Prelude.{ℕ, List, Bool, true, false, Option, Some, None, Result, Ok, Err, if◌then◌else◌}
+use Rattle.spb_types.specs.declared.address.Mac.{Mac}
+use Rattle.spb_types.specs.declared.service.Vid.{Vid}
+use Rattle.spb_types.specs.declared.service.Isid.{Isid}
+use Rattle.isis_pdu.specs.Pdu.{HelloValue, LspValue, CsnpValue, PsnpValue}
+use Rattle.spb_tlvs.specs.declared.error.TlvError.{TlvError}
+use Rattle.spb_tlvs.specs.declared.entries.SnpEntry.{SnpEntry}
 use Rattle.spb_tlvs.specs.declared.three_way.ThreeWay.{ThreeWay}
 use Rattle.lsdb.specs.Database.{each}
 use Rattle.lsdb.specs.Entry.{joined, parted}
@@ -9,8 +14,8 @@ use Rattle.adjacency.specs.declared.state.Heard.TheVariants as did
 use Rattle.adjacency.specs.declared.port.Adjacency.{Adjacency}
 use Rattle.adjacency.specs.Adjacency.{after_hello, heard_of, after_carrier, change_of}
 use Rattle.bridge_api.specs.declared.port.BridgePort.{BridgePort}
-use Rattle.bridge_api.specs.View.{BridgeView, port_at, with_port_at}
-use Rattle.bridge_api.specs.Judging.{Drop, Judged, useless, greeting, link_state, complete, partial, tenant, judged}
+use Rattle.bridge_api.specs.View.{BridgeView, port_at, with_port_at, is_port_up}
+use Rattle.bridge_api.specs.Judging.{Drop, Judged, useless, greeting, link_state, complete, partial, tenant, judged, entries_in}
 use Rattle.bridge_api.specs.Judging as drop
 
 -- a frame that is dropped changes nothing: the counts aren't kept yet
@@ -53,15 +58,38 @@ abbrev pub greeted : HelloValue → ThreeWay → ℕ → BridgePort → BridgeVi
 greeted h way p port v =
     changed_at (heard_of v.id.system p h way port.adjacency) p (with_adjacency (after_hello v.id.system p h way port.adjacency) port) v
 
--- a bridge after a frame of each kind at a port with carrier. LSPs, sequence numbers PDUs and customers' frames change
--- nothing yet
+-- a bridge that heard an LSP, or a complete or a partial sequence numbers PDU with these entries, at its port number p,
+-- or to which a customer's frame came there over the backbone. These change nothing yet
+abbrev pub flooded : LspValue → ℕ → BridgeView → BridgeView
+flooded l p v = v
+
+abbrev pub completed : CsnpValue → List SnpEntry → ℕ → BridgeView → BridgeView
+completed c entries p v = v
+
+abbrev pub requested : PsnpValue → List SnpEntry → ℕ → BridgeView → BridgeView
+requested s entries p v = v
+
+abbrev pub forwarded : Mac → Mac → Vid → Isid → List ℕ → ℕ → BridgeView → BridgeView
+forwarded da sa vid isid customer p v = v
+
+-- sequence numbers PDUs are dropped where their entries can't be read
+abbrev pub with_complete : CsnpValue → Result (List SnpEntry) TlvError → ℕ → BridgeView → BridgeView
+with_complete c (Err e) p v = dropped drop.Tlv v
+with_complete c (Ok entries) p v = settled (completed c entries p v)
+
+abbrev pub with_partial : PsnpValue → Result (List SnpEntry) TlvError → ℕ → BridgeView → BridgeView
+with_partial s (Err e) p v = dropped drop.Tlv v
+with_partial s (Ok entries) p v = settled (requested s entries p v)
+
+-- a bridge after a frame of each kind at a port with carrier. LSPs and sequence numbers PDUs are heard only at a port
+-- that is Up
 abbrev pub heard_as : Judged → ℕ → BridgePort → BridgeView → BridgeView
 heard_as (useless reason) p port v = dropped reason v
 heard_as (greeting h way) p port v = greeted h way p port v
-heard_as (link_state l) p port v = v
-heard_as (complete c) p port v = v
-heard_as (partial s) p port v = v
-heard_as (tenant da sa vid isid customer) p port v = v
+heard_as (link_state l) p port v = if is_port_up port then settled (flooded l p v) else dropped drop.NotAdjacent v
+heard_as (complete c) p port v = if is_port_up port then with_complete c (entries_in c.tlvs) p v else dropped drop.NotAdjacent v
+heard_as (partial s) p port v = if is_port_up port then with_partial s (entries_in s.tlvs) p v else dropped drop.NotAdjacent v
+heard_as (tenant da sa vid isid customer) p port v = forwarded da sa vid isid customer p v
 
 -- the first thing that is looked at is the carrier of the port
 abbrev pub heard_at : ℕ → List ℕ → Option BridgePort → BridgeView → BridgeView
@@ -69,7 +97,7 @@ heard_at p frame None v = v
 heard_at p frame (Some port) v = if port.adjacency.carrier then heard_as (judged frame) p port v else dropped drop.NotAdjacent v
 
 -- a bridge after a frame came in at its port number p
-abbrev pub after_receive : ℕ → List ℕ → BridgeView → BridgeView
+unfoldable pub after_receive : ℕ → List ℕ → BridgeView → BridgeView
 after_receive p frame v = heard_at p frame (port_at v p) v
 
 -- a bridge after carrier came or went at its port number p
@@ -78,5 +106,5 @@ carried_at p on None v = v
 carried_at p on (Some port) v =
     changed_at (change_of port.adjacency (after_carrier on port.adjacency)) p (with_adjacency (after_carrier on port.adjacency) port) v
 
-abbrev pub with_carrier : ℕ → Bool → BridgeView → BridgeView
+unfoldable pub with_carrier : ℕ → Bool → BridgeView → BridgeView
 with_carrier p on v = carried_at p on (port_at v p) v

@@ -1,5 +1,5 @@
 -- What a frame is taken for, before the bridge that hears it is looked at.
-use Rattle.std.specs.Prelude.{ℕ, List, Option, Some, None, Result, Ok, Err, slice_get}
+use Rattle.std.specs.Prelude.{ℕ, List, [], ◌∷◌, ◌++◌, Option, Some, None, Result, Ok, Err, slice_get}
 use Rattle.spb_types.specs.declared.address.Mac.{Mac}
 use Rattle.spb_types.specs.declared.service.Vid.{Vid}
 use Rattle.spb_types.specs.declared.service.Isid.{Isid}
@@ -7,8 +7,10 @@ use Rattle.isis_pdu.specs.declared.pdu.PduError.{PduError}
 use Rattle.isis_pdu.specs.Pdu.{HelloValue, LspValue, CsnpValue, PsnpValue, PduValue, hello, lsp, csnp, psnp}
 use Rattle.isis_pdu.specs.Reading.{read}
 use Rattle.spb_tlvs.specs.declared.error.TlvError.{TlvError}
+use Rattle.spb_tlvs.specs.declared.entries.SnpEntry.{SnpEntry}
 use Rattle.spb_tlvs.specs.declared.three_way.ThreeWay.{ThreeWay}
 use Rattle.spb_tlvs.specs.Tlv.{values_with}
+use Rattle.spb_tlvs.specs.Entry.{entries_of}
 use Rattle.spb_tlvs.specs.ThreeWay.{three_way_of}
 use Rattle.itag_frames.specs.declared.frame.FrameError.{FrameError}
 use Rattle.itag_frames.specs.Frame.{Content, content_in}
@@ -67,3 +69,17 @@ greeting_in (link_state l) = None
 greeting_in (complete c) = None
 greeting_in (partial s) = None
 greeting_in (tenant da sa vid isid customer) = None
+
+-- the entries of a sequence numbers PDU: those of each of its TLVs 9, in order. One that can't be read refuses all
+-- (ISO/IEC 10589, 9.10 and 9.12)
+abbrev pub before_others : Result (List SnpEntry) TlvError → Result (List SnpEntry) TlvError → Result (List SnpEntry) TlvError
+before_others (Err e) others = Err e
+before_others (Ok es) (Err e) = Err e
+before_others (Ok es) (Ok fs) = Ok (es ++ fs)
+
+abbrev pub entries_in_all : List (List ℕ) → Result (List SnpEntry) TlvError
+entries_in_all [] = Ok []
+entries_in_all (value ∷ values) = before_others (entries_of value) (entries_in_all values)
+
+abbrev pub entries_in : List ℕ → Result (List SnpEntry) TlvError
+entries_in tlvs = entries_in_all (values_with 9 tlvs)

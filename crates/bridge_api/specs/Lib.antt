@@ -5,4 +5,5 @@ pub mod Hearing
 pub mod Ports
 pub mod Ticking
 pub mod Step
+pub mod Among
 pub mod Laws

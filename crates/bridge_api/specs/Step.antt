@@ -1,5 +1,5 @@
 -- One call of a bridge: what comes to it, the bridge afterwards, and what it sends.
-use Rattle.std.specs.Prelude.{ℕ, List, [], ◌++◌, Bool}
+use Rattle.std.specs.Prelude.{◌≡◌, ℕ, List, [], ◌++◌, take, Bool}
 use Rattle.bridge_api.specs.declared.outbox.Outbox.{Outbox}
 use Rattle.bridge_api.specs.View.{BridgeView}
 use Rattle.bridge_api.specs.Hearing.{after_receive, with_carrier}
@@ -25,3 +25,8 @@ sent (carrier p on) v = []
 -- an outbox with these frames behind the others that go to the backbone
 abbrev pub with_wire : List (ℕ × List ℕ) → Outbox → Outbox
 with_wire frames outbox = record outbox { wire = outbox.wire ++ frames }
+
+-- an outbox that gained some of these frames, the first ones in order
+pub record Gains (frames : List (ℕ × List ℕ)) (old new : Outbox) : Type 0 where
+  pub count : ℕ
+  pub gained : new ≡ with_wire (take count frames) old

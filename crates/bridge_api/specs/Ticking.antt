@@ -73,8 +73,8 @@ abbrev pub told : BridgeView → BridgeView
 told v = record v { ports = map (with_due false) v.ports }
 
 -- a bridge a second later, and the frames that it sends in that second, each with the number of its port
-abbrev pub after_tick : BridgeView → BridgeView
+unfoldable pub after_tick : BridgeView → BridgeView
 after_tick v = told (readied v)
 
-abbrev pub sent_in_tick : BridgeView → List (ℕ × List ℕ)
+unfoldable pub sent_in_tick : BridgeView → List (ℕ × List ℕ)
 sent_in_tick v = sent_by (readied v)

@@ -1,5 +1,5 @@
 -- What a bridge is, seen from outside.
-use Rattle.std.specs.Prelude.{ℕ, ◌+◌, ◌-◌, List, [], ◌∷◌, length, Bool, false, ◌≤◌, nat_le, Option, Some, None, if◌then◌else◌, slice_get, slice_set}
+use Rattle.std.specs.Prelude.{ℕ, ◌+◌, ◌-◌, List, [], ◌∷◌, length, map, Bool, false, ◌≤◌, nat_le, Option, Some, None, if◌then◌else◌, slice_get, slice_set}
 use Rattle.std.specs.Option.{option_and_then, option_map}
 use Rattle.spb_types.specs.declared.address.Mac.{Mac}
 use Rattle.spb_types.specs.declared.address.BridgeId.{BridgeId}
@@ -52,15 +52,19 @@ port_at v p = port_in v.ports p
 abbrev pub with_port_at : ℕ → BridgePort → BridgeView → BridgeView
 with_port_at p port v = record v { ports = slice_set v.ports (p - 1) port }
 
+-- the metrics of the links at the ports, in order
+abbrev pub metrics_of : List BridgePort → List ℕ
+metrics_of ports = map (λ port. port.metric) ports
+
 -- the adjacency at a port
-abbrev pub adjacency_at : BridgeView → ℕ → Option Adjacency
+unfoldable pub adjacency_at : BridgeView → ℕ → Option Adjacency
 adjacency_at v p = option_map (λ port. port.adjacency) (port_at v p)
 
 -- the neighbour that is kept at a port
-abbrev pub neighbour_at : BridgeView → ℕ → Option End
+unfoldable pub neighbour_at : BridgeView → ℕ → Option End
 neighbour_at v p = option_and_then (λ port. neighbour_of port.adjacency) (port_at v p)
 
--- whether a port is Up, and whether a CSNP is due there
+-- whether a port is Up, whether there is carrier, and whether CSNPs are due there
 abbrev pub is_port_up : BridgePort → Bool
 is_port_up port = is_up port.adjacency.state
 
@@ -68,14 +72,21 @@ abbrev pub is_up_in : Option BridgePort → Bool
 is_up_in None = false
 is_up_in (Some port) = is_port_up port
 
-abbrev pub is_up_at : BridgeView → ℕ → Bool
+unfoldable pub is_up_at : BridgeView → ℕ → Bool
 is_up_at v p = is_up_in (port_at v p)
+
+abbrev pub has_carrier_in : Option BridgePort → Bool
+has_carrier_in None = false
+has_carrier_in (Some port) = port.adjacency.carrier
+
+unfoldable pub has_carrier_at : BridgeView → ℕ → Bool
+has_carrier_at v p = has_carrier_in (port_at v p)
 
 abbrev pub is_due_in : Option BridgePort → Bool
 is_due_in None = false
 is_due_in (Some port) = port.due
 
-abbrev pub is_due_at : BridgeView → ℕ → Bool
+unfoldable pub is_due_at : BridgeView → ℕ → Bool
 is_due_at v p = is_due_in (port_at v p)
 
 -- the ports that are Up, of those from number p on

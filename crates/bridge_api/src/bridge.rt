@@ -9,14 +9,7 @@ use spb_types::NoMemory;
 /// A bridge is blank until `configure` is called, and each call but `kind`, `is_blank`, `is_failed` and `configure`
 /// has the condition that it isn't blank. A call that finds no memory leaves the bridge failed: from then on each call
 /// that can answer `NoMemory` answers it and changes nothing. What else a failed bridge's view says isn't told, and
-/// the outbox may have gained some of that call's frames.
-///
-/// **An implementation** is a struct whose `view` says which bridge it is: it gives `kind_of`, `blank` and `view` as
-/// functions of its fields, and each call leaves the view, and sends the frames, that the clauses name. It may keep
-/// whatever else serves it, as long as the view says the same. One with a `Model` whose value holds the view has
-/// `view = λ b. b.view`, and keeps what its fields have to meet as the model's invariant. Do the work of a call in a
-/// private function of its own, which answers by `?`, and let the trait's call test `is_failed` first, and mark the
-/// bridge failed where that function found no memory.
+/// the outbox may have gained the first of that call's frames.
 pub trait Bridge: Drop {
     ghost use Rattle.std.specs.Prelude.{◌≡◌, Bool, true, false, OnOk, OnErr, IsErr, Some};
     ghost use Rattle.bridge_api.specs.declared.kind.Kind.{Kind};
@@ -24,13 +17,15 @@ pub trait Bridge: Drop {
     ghost use Rattle.bridge_api.specs.Config.{IsWhole, configured};
     ghost use Rattle.bridge_api.specs.Hearing.{after_receive, with_carrier};
     ghost use Rattle.bridge_api.specs.Ticking.{after_tick, sent_in_tick};
-    ghost use Rattle.bridge_api.specs.Step.{with_wire};
+    ghost use Rattle.bridge_api.specs.Step.{with_wire, Gains};
 
     /// The kind of the box, which never changes.
     ghost kind_of: { Self → Kind };
 
+    /// Whether the bridge wasn't configured yet.
     ghost blank: { Self → Bool };
 
+    /// The bridge as it is seen from outside. Of a blank one it says nothing but that it isn't failed.
     ghost view: { Self → BridgeView };
 
     /// The kind of this implementation.
@@ -41,9 +36,10 @@ pub trait Bridge: Drop {
     fn is_blank(&self) -> bool
         ensures { result ≡ blank self.now };
 
-    /// Whether a call answered `NoMemory`.
+    /// Whether a call answered `NoMemory`. A blank bridge isn't failed.
     fn is_failed(&self) -> bool
-        ensures { result ≡ (view self.now).failed };
+        ensures failed { result ≡ (view self.now).failed }
+        ensures made { result ≡ true → blank self.now ≡ false };
 
     /// Makes the blank bridge that of a whole configuration. There is no carrier afterwards.
     fn configure(&mut self, config: &BridgeConfig) -> Result<(), NoMemory>
@@ -60,6 +56,7 @@ pub trait Bridge: Drop {
         ensures view { OnOk result (view self.new ≡ after_tick (view self.old)) }
         ensures sent { OnOk result (outbox.new ≡ with_wire (sent_in_tick (view self.old)) outbox.old) }
         ensures memory { OnErr result ((view self.new).failed ≡ true) }
+        ensures gained { OnErr result (Gains (sent_in_tick (view self.old)) outbox.old outbox.new) }
         ensures failed { (view self.old).failed ≡ true → IsErr result × (view self.new ≡ view self.old) × (outbox.new ≡ outbox.old) }
         ensures made { blank self.new ≡ false }
         ensures kind { kind_of self.new ≡ kind_of self.old };
@@ -69,9 +66,9 @@ pub trait Bridge: Drop {
         requires made { blank self.old ≡ false }
         requires port { IsPort (view self.old) port }
         ensures view { OnOk result (view self.new ≡ after_receive port frame.now (view self.old)) }
-        ensures sent { OnOk result (outbox.new ≡ outbox.old) }
+        ensures sent { outbox.new ≡ outbox.old }
         ensures memory { OnErr result ((view self.new).failed ≡ true) }
-        ensures failed { (view self.old).failed ≡ true → IsErr result × (view self.new ≡ view self.old) × (outbox.new ≡ outbox.old) }
+        ensures failed { (view self.old).failed ≡ true → IsErr result × (view self.new ≡ view self.old) }
         ensures still_made { blank self.new ≡ false }
         ensures kind { kind_of self.new ≡ kind_of self.old };
 

@@ -2,15 +2,35 @@
 //! implementation of a bridge has.
 //!
 //! The trait says of each call which bridge it leaves and what it sends, as one step of the machine that `specs/`
-//! defines, so all implementations do the same. A network reaches its bridges through the trait alone.
+//! defines, so all implementations do the same. A network reaches its bridges through the trait alone. `Box<dyn Bridge>`
+//! is a `Bridge` too, so code over any `B: Bridge` serves boxes of mixed kinds. Its clauses speak of `B.view`; for a
+//! list of bridges `specs/Among.antt` has the words, and `proofs/Listed.antt` the lemmas.
+//!
+//! # Another implementation
+//!
+//! It needs this crate and the formats below it, and no other implementation.
+//!
+//! 1. Write a struct that keeps what it likes, and an `impl Model` for it. The model's value is a record of what the
+//!    fields say, and its invariant what the fields have to meet, such as that each port's adjacency is sound. A
+//!    constructor `blank` gives a bridge that is blank and not failed.
+//! 2. In `impl Bridge`, define `kind_of`, `blank` and `view` as functions of that value. `view` gives a `BridgeView`, in
+//!    which a part that isn't kept yet is as after `configure`.
+//! 3. Do the work of each call in a private function, which answers by `?`. Where it answers `Ok`, its contract names the
+//!    view afterwards, such as `after_tick`, and the frames, such as `sent_in_tick`. The trait's call tests first whether
+//!    the bridge is failed, then calls that function, and marks the bridge failed where no memory was found.
+//! 4. What a step makes of the list of ports is said port by port: `later` and `with_due` for a tick, `greeted_port` for a
+//!    hello and `carried_port` for carrier (`specs/Ports.antt`). The lemmas `tick_is`, `greeted_is`, `idle_is`, `deaf_is`
+//!    and `carried_is` of `proofs/Changes.antt` say that the steps of a view are these.
+//! 5. A test makes boxes of it as `Box<dyn Bridge>` and calls them through the trait, since no proof says that memory is
+//!    found.
 #![tactic(auto)]
 
 pub use bridge::Bridge;
 pub use config::BridgeConfig;
 pub use kind::Kind;
 pub use laws::{
-    bridges_are_sound, entering_up_is_whole, hellos_are_heard, steps_carry_the_database,
-    steps_keep_neighbours, steps_keep_the_bridge,
+    bridges_are_sound, entering_up_is_whole, hellos_are_heard, neighbours_come_up,
+    steps_carry_the_database, steps_keep_neighbours, steps_keep_the_bridge,
 };
 pub use outbox::Outbox;
 pub use port::BridgePort;

@@ -1,43 +1,14 @@
--- Lists that a loop changes one item after another.
-use Rattle.std.proofs.Common.{◌≡◌, ◌≤◌, ◌<◌, ◌+◌, ℕ, zero, suc, List, [], ◌∷◌, ◌++◌, map, length, take, drop, refl, sym, ap, ◌∙◌, arith, get_or, add-one}
+-- Lists of ports that a loop changes one after another.
+use Rattle.std.proofs.Common.{◌≡◌, ◌≤◌, ◌<◌, ◌+◌, ℕ, true, false, zero, suc, List, [], ◌∷◌, ◌++◌, map, length, take, drop, refl, sym, ap, ◌∙◌, subst, arith, get_or, add-one}
 use Rattle.std.specs.Prelude.{slice_set}
-use Rattle.std.specs.List.{AllByRecursion}
+use Rattle.std.proofs.lemmas.List.{length-map}
 use Rattle.bridge_api.specs.declared.port.BridgePort.{BridgePort}
 use Rattle.adjacency.specs.Adjacency.{IsSound}
 use Rattle.bridge_api.specs.Config.{dark}
-use Rattle.plain_bridge.specs.Plain.{AreSound}
-
--- the items before place i changed by f, and those from there on as they were
-abbrev pub changed_below : {X : Type 0} → (X → X) → ℕ → List X → List X
-changed_below f zero xs = xs
-changed_below f (suc i) [] = []
-changed_below f (suc i) (x ∷ xs) = f x ∷ changed_below f i xs
-
-pub changed_all : {X : Type 0} (f : X → X) (i : ℕ) (xs : List X) → length xs ≤ i → changed_below f i xs ≡ map f xs
-changed_all f zero [] past = refl
-changed_all f (suc i) [] past = refl
-changed_all f zero (x ∷ xs) past = absurd (omega arith)
-changed_all f (suc i) (x ∷ xs) past = ap (λ ys. f x ∷ ys) (changed_all f i xs (omega arith))
-
-pub length-changed_below : {X : Type 0} (f : X → X) (i : ℕ) (xs : List X) → length (changed_below f i xs) ≡ length xs
-length-changed_below f zero xs = refl
-length-changed_below f (suc i) [] = refl
-length-changed_below f (suc i) (x ∷ xs) = ap suc (length-changed_below f i xs)
-
--- the item at place i isn't changed yet
-pub get_or-changed_below : {X : Type 0} (f : X → X) (i : ℕ) (xs : List X) (d : X) → get_or (changed_below f i xs) i d ≡ get_or xs i d
-get_or-changed_below f zero xs d = refl
-get_or-changed_below f (suc i) [] d = refl
-get_or-changed_below f (suc i) (x ∷ xs) d = get_or-changed_below f i xs d
-
--- changing it takes the loop one item on
-pub changed_suc : {X : Type 0} (f : X → X) (i : ℕ) (xs : List X) (d : X) → i < length xs → slice_set (changed_below f i xs) i (f (get_or xs i d)) ≡ changed_below f (suc i) xs
-changed_suc f i [] d within = absurd (omega arith)
-changed_suc f zero (x ∷ xs) d within = refl
-changed_suc f (suc i) (x ∷ xs) d within = ap (λ ys. f x ∷ ys) (changed_suc f i xs d (omega arith))
-
-pub changed_more : {X : Type 0} (f : X → X) (i : ℕ) (xs : List X) (d : X) → i < length xs → slice_set (changed_below f i xs) i (f (get_or xs i d)) ≡ changed_below f (i + 1) xs
-changed_more f i xs d within = rw add-one (changed_suc f i xs d within)
+use Rattle.bridge_api.specs.Hearing.{with_due}
+use Rattle.bridge_api.specs.Ticking.{later}
+use Rattle.bridge_api.proofs.Adjacent.{second_sound}
+use Rattle.plain_bridge.specs.Plain.{Plain, AreSound, IsKept}
 
 -- sound ports, one of them changed to a sound one
 pub sound_set : (ports : List BridgePort) (i : ℕ) (port : BridgePort) → AreSound ports → IsSound port.adjacency → AreSound (slice_set ports i port)
@@ -45,11 +16,55 @@ sound_set [] i port all sound = all
 sound_set (x ∷ ports) zero port all sound = (sound, all.1)
 sound_set (x ∷ ports) (suc i) port all sound = (all.0, sound_set ports i port all.1 sound)
 
-pub sound_at : (ports : List BridgePort) (i : ℕ) (d : BridgePort) → AreSound ports → i < length ports → IsSound (get_or ports i d).adjacency
-sound_at [] i d all within = absurd (omega arith)
-sound_at (x ∷ ports) zero d all within = all.0
-sound_at (x ∷ ports) (suc i) d all within = sound_at ports i d all.1 (omega arith)
-
 pub sound_dark : (metrics : List ℕ) → AreSound (map dark metrics)
 sound_dark [] = tt
 sound_dark (metric ∷ metrics) = (refl, sound_dark metrics)
+
+pub sound_later : (ports : List BridgePort) → AreSound ports → AreSound (map later ports)
+sound_later [] all = tt
+sound_later (port ∷ ports) all = (second_sound port.adjacency all.0, sound_later ports all.1)
+
+pub sound_cleared : (ports : List BridgePort) → AreSound ports → AreSound (map (with_due false) ports)
+sound_cleared [] all = tt
+sound_cleared (port ∷ ports) all = (all.0, sound_cleared ports all.1)
+
+-- ---- what a bridge keeps
+
+pub kept_dark : (b : Plain) (metrics : List ℕ) → (b.blank ≡ true → b.failed ≡ false) → b.ports ≡ map dark metrics → length metrics ≤ 32 → IsKept b
+kept_dark b metrics unfailed made few = record {
+  few = omega (arith, ap length made, length-map metrics dark, few);
+  sound = subst AreSound (sym made) (sound_dark metrics);
+  unfailed = unfailed;
+}
+
+pub kept_later : (b : Plain) (once : List BridgePort) → IsKept b → once ≡ map later b.ports → IsKept (record b { ports = once })
+kept_later b once is counted = record {
+  few = omega (arith, ap length counted, length-map b.ports later, is.few);
+  sound = subst AreSound (sym counted) (sound_later b.ports is.sound);
+  unfailed = is.unfailed;
+}
+
+pub kept_cleared : (b : Plain) (twice : List BridgePort) → IsKept b → twice ≡ map (with_due false) b.ports → IsKept (record b { ports = twice })
+kept_cleared b twice is cleared = record {
+  few = omega (arith, ap length cleared, length-map b.ports (with_due false), is.few);
+  sound = subst AreSound (sym cleared) (sound_cleared b.ports is.sound);
+  unfailed = is.unfailed;
+}
+
+-- ---- loops
+
+-- the port that a loop comes to is still as it was
+pub sound_next : (f : BridgePort → BridgePort) (ports list : List BridgePort) (i : ℕ) (d : BridgePort) → AreSound ports → i < length ports → list ≡ map f (take i ports) ++ drop i ports → IsSound (get_or list i d).adjacency
+sound_next f [] list i d all within e = absurd (omega arith)
+sound_next f (x ∷ ports) list zero d all within e = subst (λ (l : List BridgePort). IsSound (get_or l 0 d).adjacency) (sym e) all.0
+sound_next f (x ∷ ports) list (suc i) d all within e = subst (λ (l : List BridgePort). IsSound (get_or l (suc i) d).adjacency) (sym e) (sound_next f ports (map f (take i ports) ++ drop i ports) i d all.1 (omega arith) refl)
+
+-- changing it takes the loop one port on
+changed_suc : (f : BridgePort → BridgePort) (ports list : List BridgePort) (i : ℕ) (d : BridgePort) → i < length ports → list ≡ map f (take i ports) ++ drop i ports → slice_set list i (f (get_or list i d)) ≡ map f (take (suc i) ports) ++ drop (suc i) ports
+changed_suc f [] list i d within e = absurd (omega arith)
+changed_suc f (x ∷ ports) list zero d within e = ap (λ (l : List BridgePort). slice_set l 0 (f (get_or l 0 d))) e
+changed_suc f (x ∷ ports) list (suc i) d within e =
+    ap (λ (l : List BridgePort). slice_set l (suc i) (f (get_or l (suc i) d))) e ∙ ap (λ (l : List BridgePort). f x ∷ l) (changed_suc f ports (map f (take i ports) ++ drop i ports) i d (omega arith) refl)
+
+pub changed_next : (f : BridgePort → BridgePort) (ports list : List BridgePort) (i : ℕ) (d : BridgePort) → i < length ports → list ≡ map f (take i ports) ++ drop i ports → slice_set list i (f (get_or list i d)) ≡ map f (take (i + 1) ports) ++ drop (i + 1) ports
+changed_next f ports list i d within e = rw add-one (changed_suc f ports list i d within e)

@@ -1,5 +1,5 @@
 -- The bridge that the fields say.
-use Rattle.std.specs.Prelude.{ℕ, ◌≤◌, List, [], length, Bool, false, replicate}
+use Rattle.std.specs.Prelude.{◌≡◌, ◌≤◌, List, [], length, Bool, true, false, replicate}
 use Rattle.std.specs.List.{AllByRecursion}
 use Rattle.std.specs.FinMap.{empty}
 use Rattle.spb_types.specs.declared.address.BridgeId.{BridgeId}
@@ -38,7 +38,8 @@ view_of b = record {
 abbrev pub AreSound : List BridgePort → Type 0
 AreSound ports = AllByRecursion (λ port. IsSound port.adjacency) ports
 
--- at most 32 ports are kept, each sound
-pub record IsKept (ports : List BridgePort) : Type 0 where
-  pub few : length ports ≤ 32
-  pub sound : AreSound ports
+-- at most 32 ports are kept, each sound, and a blank bridge isn't failed
+pub record IsKept (b : Plain) : Type 0 where
+  pub few : length b.ports ≤ 32
+  pub sound : AreSound b.ports
+  pub unfailed : b.blank ≡ true → b.failed ≡ false

@@ -1,9 +1,9 @@
-ghost use Rattle.std.specs.Prelude.{◌≡◌, Bool, true, false, ◌↔◌, OnOk, IsErr};
+ghost use Rattle.std.specs.Prelude.{◌≡◌, true, false, ◌↔◌, OnOk, OnErr, IsErr};
 ghost use Rattle.bridge_api.specs.View.{IsPort};
 ghost use Rattle.bridge_api.specs.Config.{IsWhole, configured};
 ghost use Rattle.bridge_api.specs.Hearing.{after_receive, with_carrier};
 ghost use Rattle.bridge_api.specs.Ticking.{after_tick, sent_in_tick};
-ghost use Rattle.bridge_api.specs.Step.{with_wire};
+ghost use Rattle.bridge_api.specs.Step.{with_wire, Gains};
 ghost use Rattle.plain_bridge.specs.Plain as plain;
 
 use crate::hello::{hello_in, send_hellos};
@@ -28,14 +28,13 @@ pub struct PlainBridge {
 }
 
 impl Model for PlainBridge {
-    ghost use Rattle.std.specs.Prelude.{◌≤◌, length};
-    ghost use Rattle.plain_bridge.specs.Plain.{Plain, AreSound, IsKept};
+    ghost use Rattle.plain_bridge.specs.Plain.{Plain, IsKept};
 
     ghost Value = { Plain };
 
     ghost view = { λ b. record { blank = b.blank; failed = b.failed; id = b.id; source = b.source; vids = b.vids; ports = b.ports.items; attached = b.attached } };
 
-    ghost invariant = { λ b. IsKept b.ports.items };
+    ghost invariant = { λ b. IsKept (record { blank = b.blank; failed = b.failed; id = b.id; source = b.source; vids = b.vids; ports = b.ports.items; attached = b.attached }) };
 }
 
 /// The id of a bridge that isn't configured.
@@ -71,9 +70,22 @@ impl PlainBridge {
         if self.failed { Err(NoMemory) } else { Ok(()) }
     }
 
+    /// Marks the bridge failed where a call found no memory.
+    fn mark_failed(&mut self, ended: Result<(), NoMemory>) -> Result<(), NoMemory>
+        requires { self.old.blank ≡ false }
+        ensures ended { result ≡ ended }
+        ensures ok { OnOk ended (self.new ≡ self.old) }
+        ensures err { OnErr ended (self.new ≡ record self.old { failed = true }) }
+    {
+        if ended.is_err() {
+            self.failed = true;
+        }
+        ended
+    }
+
     fn try_configure(&mut self, config: &BridgeConfig) -> Result<(), NoMemory>
         requires whole { IsWhole config.now }
-        requires failed { self.old.failed ≡ false }
+        requires blank { self.old.blank ≡ true }
         ensures { OnOk result (plain.view_of self.new ≡ configured config.now) }
     {
         let vids = Vec::from_slice(self.alloc, config.vids.as_slice())?;
@@ -89,6 +101,7 @@ impl PlainBridge {
     fn try_tick(&mut self, outbox: &mut Outbox) -> Result<(), NoMemory>
         ensures view { OnOk result (plain.view_of self.new ≡ after_tick (plain.view_of self.old)) }
         ensures sent { OnOk result (outbox.new ≡ with_wire (sent_in_tick (plain.view_of self.old)) outbox.old) }
+        ensures gained { OnErr result (Gains (sent_in_tick (plain.view_of self.old)) outbox.old outbox.new) }
         ensures blank { self.new.blank ≡ self.old.blank }
     {
         count_down(&mut self.ports);
@@ -144,18 +157,15 @@ impl Bridge for PlainBridge {
     }
 
     fn configure(&mut self, config: &BridgeConfig) -> Result<(), NoMemory> {
-        self.failed = false;
         let ended = self.try_configure(config);
         self.blank = false;
-        self.failed = ended.is_err();
-        ended
+        self.mark_failed(ended)
     }
 
     fn tick(&mut self, outbox: &mut Outbox) -> Result<(), NoMemory> {
         self.refuse_failed()?;
         let ended = self.try_tick(outbox);
-        self.failed = ended.is_err();
-        ended
+        self.mark_failed(ended)
     }
 
     fn receive(&mut self, port: u8, frame: &[u8], _outbox: &mut Outbox) -> Result<(), NoMemory> {

@@ -1,9 +1,12 @@
 //! The hellos of a bridge, written and read.
-ghost use Rattle.std.specs.Prelude.{◌≡◌, ◌+◌, ◌≤◌, ◌<◌, length, map, IfOk, OnOk, IfSome};
+ghost use Rattle.std.specs.Prelude.{◌≡◌, ◌+◌, ◌≤◌, ◌<◌, length, map, slice_get, IfOk, OnOk, OnErr, IfSome};
 ghost use Rattle.std.specs.Option.{option_map};
 ghost use Rattle.adjacency.specs.Adjacency.{said};
-ghost use Rattle.bridge_api.specs.Judging.{greeting_in, judged};
-ghost use Rattle.bridge_api.specs.Step.{with_wire};
+ghost use Rattle.isis_pdu.specs.Pdu.{hello_of};
+ghost use Rattle.isis_pdu.specs.Reading.{read};
+ghost use Rattle.spb_tlvs.specs.Tlv.{values_with};
+ghost use Rattle.bridge_api.specs.Judging.{greeting_in, judged, by_pdu, by_three_way};
+ghost use Rattle.bridge_api.specs.Step.{with_wire, Gains};
 ghost use Rattle.bridge_api.specs.Ticking as api;
 ghost use Rattle.plain_bridge.specs.Greeting.{greeting_of};
 
@@ -34,7 +37,8 @@ pub(crate) fn send_hellos(
     outbox: &mut Outbox,
 ) -> Result<(), NoMemory>
     requires { length ports.now ≤ 32 }
-    ensures { OnOk result (outbox.new ≡ with_wire (api.sent_from system 1 ports.now) outbox.old) }
+    ensures ok { OnOk result (outbox.new ≡ with_wire (api.sent_from system 1 ports.now) outbox.old) }
+    ensures err { OnErr result (Gains (api.sent_from system 1 ports.now) outbox.old outbox.new) }
 {
     'send: for (place, port) in ports.iter().enumerate() {
         send_hello(alloc, system, place as u8 + 1, port, outbox)?;
@@ -50,7 +54,8 @@ fn send_hello(
     port: &BridgePort,
     outbox: &mut Outbox,
 ) -> Result<(), NoMemory>
-    ensures { OnOk result (outbox.new ≡ with_wire (api.sent_at system number port.now) outbox.old) }
+    ensures ok { OnOk result (outbox.new ≡ with_wire (api.sent_at system number port.now) outbox.old) }
+    ensures err { OnErr result (outbox.new ≡ outbox.old) }
 {
     if !port.adjacency.carrier {
         return Ok(());
@@ -68,7 +73,7 @@ fn hello_frame(
 ) -> Result<Vec<u8>, NoMemory>
     ensures { IfOk result (λ frame. frame.items ≡ api.hello_frame system number port.now) }
 {
-    let tlvs = hello_tlvs(alloc, &port.adjacency.three_way(number))?;
+    let tlvs = hello_tlvs(alloc, port.adjacency.three_way(number))?;
     let hello = Hello {
         circuit_type: LEVEL_ONE,
         source: system,
@@ -80,29 +85,46 @@ fn hello_frame(
     control_frame(alloc, system.mac, pdu.as_slice())
 }
 
-fn hello_tlvs(alloc: Global, way: &ThreeWay) -> Result<Vec<u8>, NoMemory>
-    requires { way.now.state ≤ 2 }
-    ensures { IfOk result (λ tlvs. tlvs.items ≡ api.hello_tlvs way.now) }
+fn hello_tlvs(alloc: Global, way: ThreeWay) -> Result<Vec<u8>, NoMemory>
+    requires { way.state ≤ 2 }
+    ensures tlvs { IfOk result (λ tlvs. tlvs.items ≡ api.hello_tlvs way) }
+    ensures short { IfOk result (λ tlvs. length tlvs.items ≤ 26) }
 {
     let mut tlvs = Vec::from_slice(alloc, &FIRST_TLVS)?;
-    write_three_way(&mut tlvs, way)?;
+    write_three_way(&mut tlvs, &way)?;
     Ok(tlvs)
 }
 
 /// The hello and the three-way adjacency that a frame brings; None where it brings none that can be heard.
+#[tactic(auto, unfolding(bridge_api::specs::Judging::judged))]
 pub(crate) fn hello_in(frame: &[u8]) -> Option<(Hello<'_>, ThreeWay)>
     ensures hello { option_map greeting_of result ≡ greeting_in (judged frame.now) }
     ensures state { IfSome result (λ g. g.1.state ≤ 2) }
 {
-    let Ok(Frame::Control(bytes)) = classify(frame) else {
-        return None;
-    };
-    let Ok(Pdu::Hello(hello)) = decode(bytes) else {
-        return None;
-    };
+    match classify(frame) {
+        Ok(Frame::Control(pdu)) => hello_in_pdu(pdu),
+        Ok(Frame::Backbone(_)) | Err(_) => None,
+    }
+}
+
+fn hello_in_pdu(pdu: &[u8]) -> Option<(Hello<'_>, ThreeWay)>
+    ensures hello { option_map greeting_of result ≡ greeting_in (by_pdu (read pdu.now)) }
+    ensures state { IfSome result (λ g. g.1.state ≤ 2) }
+{
+    match decode(pdu) {
+        Ok(Pdu::Hello(hello)) => with_three_way(&hello),
+        Ok(Pdu::Lsp(_) | Pdu::Csnp(_) | Pdu::Psnp(_)) | Err(_) => None,
+    }
+}
+
+/// A hello with its three-way adjacency, where that can be read.
+fn with_three_way<'a>(hello: &Hello<'a>) -> Option<(Hello<'a>, ThreeWay)>
+    ensures hello { option_map greeting_of result ≡ greeting_in (by_three_way (hello_of hello.now) (slice_get (values_with 240 hello.now.tlvs.now) 0)) }
+    ensures state { IfSome result (λ g. g.1.state ≤ 2) }
+{
     let value = find_tlv(hello.tlvs, THREE_WAY, 0)?;
     match read_three_way(value) {
-        Ok(way) => Some((hello, way)),
+        Ok(way) => Some((*hello, way)),
         Err(_) => None,
     }
 }

@@ -9,3 +9,5 @@ pub use bridge::PlainBridge;
 mod bridge;
 mod hello;
 mod ports;
+#[cfg(test)]
+mod tests;

@@ -1,5 +1,5 @@
 //! Work on the ports of a bridge, each port by itself.
-ghost use Rattle.std.specs.Prelude.{◌≡◌, ◌≤◌, ◌<◌, true, length, map, IfOk};
+ghost use Rattle.std.specs.Prelude.{◌≡◌, ◌≤◌, true, false, map, IfOk};
 ghost use Rattle.isis_pdu.specs.Pdu.{hello_of};
 ghost use Rattle.adjacency.specs.Adjacency.{IsSound};
 ghost use Rattle.bridge_api.specs.Config.{dark};
@@ -39,18 +39,16 @@ fn dark_port(metric: u32) -> BridgePort
 /// A second passes at each port: the holding counts fall.
 pub(crate) fn count_down(ports: &mut Vec<BridgePort>)
     requires { AreSound ports.old.items }
-    ensures ports { ports.new.items ≡ map later ports.old.items }
-    ensures sound { AreSound ports.new.items }
+    ensures { ports.new.items ≡ map later ports.old.items }
 {
-    'count: for port in ports.iter_mut() {
+    for port in ports.iter_mut() {
         pass_second(port);
     }
 }
 
 fn pass_second(port: &mut BridgePort)
     requires { IsSound port.old.adjacency }
-    ensures new { port.new ≡ later port.old }
-    ensures sound { IsSound port.new.adjacency }
+    ensures { port.new ≡ later port.old }
 {
     let _ = port.adjacency.tick();
     port.due = port.due && port.adjacency.state == AdjState::Up;
@@ -58,11 +56,9 @@ fn pass_second(port: &mut BridgePort)
 
 /// Nothing is due any more.
 pub(crate) fn clear_due(ports: &mut Vec<BridgePort>)
-    requires { AreSound ports.old.items }
-    ensures ports { ports.new.items ≡ map (api.with_due false) ports.old.items }
-    ensures sound { AreSound ports.new.items }
+    ensures { ports.new.items ≡ map (api.with_due false) ports.old.items }
 {
-    'clear: for port in ports.iter_mut() {
+    for port in ports.iter_mut() {
         port.due = false;
     }
 }

@@ -16,6 +16,7 @@ pub mod SoundSteps
 pub mod SoundCarrier
 pub mod SoundEvents
 pub mod SoundDeclaring
+pub mod SoundNames
 pub mod SoundPlay
 pub mod SoundWitness
 pub mod RoundLemmas

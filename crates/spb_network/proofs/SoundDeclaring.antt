@@ -1,24 +1,26 @@
 -- Declarations keep what is sound of a network.
-use Rattle.std.proofs.Common.{◌≡◌, ◌⊎◌, inl, inr, ◌<◌, ◌+◌, ℕ, zero, suc, Bool, true, false, true≢false, List, [], ◌∷◌, ◌++◌, length, refl, sym, ap, ◌∙◌, subst, Option, Some, None, slice_get, arith}
+use Rattle.std.proofs.Common.{◌≡◌, ◌≢◌, ◌≤◌, map, ◌⊎◌, inl, inr, ◌<◌, ◌+◌, ℕ, zero, suc, Bool, true, false, true≢false, List, [], ◌∷◌, ◌++◌, length, refl, sym, ap, ◌∙◌, subst, Option, Some, None, slice_get, arith}
 use Rattle.std.specs.Prelude.{◌||◌}
 use Rattle.std.specs.Option.{option_or}
 use Rattle.std.specs.List.{AllByRecursion}
 use Rattle.std.proofs.lemmas.List.{length-map}
 use Rattle.spb_types.specs.declared.service.VidPlan.{VidPlan}
+use Rattle.link_model.specs.Lane.{Frame}
 use Rattle.scenario.specs.declared.command.Dir.{Dir}
 use Rattle.scenario.specs.declared.command.Dir.TheVariants.{Ab, Ba}
 use Rattle.bridge_api.specs.View.{BridgeView, IsPort, neighbour_at, is_up_at}
+use Rattle.bridge_api.specs.Config.{ArePairwise}
 use Rattle.bridge_api.specs.Laws.{IsSoundView}
 use Rattle.spb_network.specs.declared.declaration.DeclaredBridge.{DeclaredBridge}
 use Rattle.spb_network.specs.declared.declaration.DeclaredLink.{DeclaredLink}
 use Rattle.spb_network.specs.declared.lanes.Lanes.{Lanes}
 use Rattle.spb_network.specs.declared.way.Way.{Way}
-use Rattle.spb_network.specs.World.{World, things_of, is_at_port, IsLink, AreApart, Sound}
+use Rattle.spb_network.specs.World.{World, Bridges, Links, names_of, things_of, is_at_port, IsLink, AreApart, Sound}
 use Rattle.spb_network.specs.Lanes.{no_frames}
 use Rattle.spb_network.specs.Declaring.{with_vid, with_bridge, with_link}
 use Rattle.spb_network.specs.State.{State, Spare, links_of, is_live, near_end, far_end, is_at, way_of, way_from, way_out}
 use Rattle.spb_network.specs.Network.{HasPorts, Fits}
-use Rattle.spb_network.specs.Sound.{IsShown, AreShown, carrier_at, is_lit, AreLit, Agrees, lane_of, AllAgree, IsSoundState}
+use Rattle.spb_network.specs.Sound.{AreDistinct, IsShown, AreShown, carrier_at, is_lit, AreLit, Agrees, lane_of, AllAgree, IsSoundState}
 use Rattle.spb_network.proofs.BoxLemmas.{All-get}
 use Rattle.spb_network.proofs.ListLemmas.{All-push, things_of-push, length-push}
 use Rattle.spb_network.proofs.WorldLemmas.{IsNewBridge, Sound-with_bridge, IsNewLink, Sound-with_link}
@@ -111,14 +113,16 @@ agree_bridge : (s : State) (v : BridgeView) → Sound s.world → Fits s → All
 agree_bridge s v sound fits agree k dir l u w at at_u at_w =
     agree k dir l u w at (old_view s.views v (near_end dir l).bridge u (near_within s k dir l sound fits at) at_u) (old_view s.views v (far_end dir l).bridge w (far_within s k dir l sound fits at) at_w)
 
-pub Sound-new_bridge : (s : State) (rack : List Spare) (name : List ℕ) (b : DeclaredBridge) (v : BridgeView) → IsSoundState s → IsNewBridge s.world b → IsNewView s.world b v → IsSoundState (record s { rack = rack; world = with_bridge s.world name b; views = s.views ++ v ∷ [] })
+pub Sound-new_bridge : (s : State) (rack : List Spare) (name : List ℕ) (b : DeclaredBridge) (v : BridgeView) → IsSoundState s → IsNewBridge s.world b → AreDistinct (with_bridge s.world name b) → IsNewView s.world b v → IsSoundState (record s { rack = rack; world = with_bridge s.world name b; views = s.views ++ v ∷ [] })
 unfolding with_bridge
-Sound-new_bridge s rack name b v sound declared new = record {
+Sound-new_bridge s rack name b v sound declared distinct new = record {
   world = Sound-with_bridge s.world name b sound.world declared;
+  distinct = distinct;
   fits = fits_bridge s rack name b v sound.fits new.ports;
   shown = shown_bridge s name b v sound.fits sound.shown new.shown;
   views = All-push IsSoundView s.views v sound.views new.sound;
   lit = lit_bridge s v sound.world sound.fits sound.lit new.dark;
+  short = sound.short;
   idle = sound.idle;
   agree = agree_bridge s v sound.world sound.fits sound.agree;
 }
@@ -238,14 +242,16 @@ agree_link s l sound new k dir m v w at at_v at_w =
         subst (Agrees v (near_end dir m).port w (far_end dir m).port) (sym empty)
         (subst (λ (h : DeclaredLink). Agrees v (near_end dir h).port w (far_end dir h).port []) is.1 (new_agrees s dir l v w sound new at_near))
 
-pub Sound-new_link : (s : State) (name : List ℕ) (l : DeclaredLink) → IsSoundState s → IsNewLink s.world l → l.live ≡ false → IsSoundState (record s { world = with_link s.world name l; lanes = s.lanes ++ no_frames ∷ [] })
+pub Sound-new_link : (s : State) (name : List ℕ) (l : DeclaredLink) → IsSoundState s → IsNewLink s.world l → AreDistinct (with_link s.world name l) → l.live ≡ false → IsSoundState (record s { world = with_link s.world name l; lanes = s.lanes ++ no_frames ∷ [] })
 unfolding with_link
-Sound-new_link s name l sound new dead = record {
+Sound-new_link s name l sound new distinct dead = record {
   world = Sound-with_link s.world name l sound.world new;
+  distinct = distinct;
   fits = fits_link s name l sound.fits;
   shown = sound.shown;
   views = sound.views;
   lit = subst (λ (links : List DeclaredLink). AreLit links s.views) (sym (things_of-push s.world.links name l)) (lit_link s l sound.world dead sound.lit);
+  short = λ k dir. subst (λ (fs : List Frame). length fs ≤ 1024) (sym (lane-push s.lanes k dir)) (sound.short k dir);
   idle = λ k dir down. lane-push s.lanes k dir ∙ sound.idle k dir (sym (live-push (links_of s) l k dead) ∙ (ap (λ (links : List DeclaredLink). is_live links k) (sym (things_of-push s.world.links name l)) ∙ down));
   agree = subst (λ (links : List DeclaredLink). AllAgree links s.views (s.lanes ++ no_frames ∷ [])) (sym (things_of-push s.world.links name l)) (agree_link s l sound new);
 }
@@ -266,10 +272,12 @@ Sound-new_vid s plan sound none world =
     let no_views : s.views ≡ [] = empty_from s.views (sound.fits.bridges ∙ ap length none) in
     record {
       world = world;
+      distinct = record { bridges = sound.distinct.bridges; sources = sound.distinct.sources; links = sound.distinct.links };
       fits = record { bridges = sound.fits.bridges; lanes = sound.fits.lanes; ports = sound.fits.ports };
       shown = λ i v b at declared. absurd (none_within s.views i v no_views at);
       views = sound.views;
       lit = sound.lit;
+      short = sound.short;
       idle = sound.idle;
       agree = sound.agree;
     }
@@ -281,10 +289,12 @@ Sound-nothing s world bridges links views lanes =
     let no_lane : (k : ℕ) (dir : Dir) → lane_of s.lanes k dir ≡ [] = λ k dir. ap (λ (ls : List Lanes). lane_of ls k dir) lanes in
     record {
       world = world;
+      distinct = record { bridges = subst (λ (bs : Bridges). ArePairwise (λ x y. x ≢ y) (names_of bs)) (sym bridges) tt; sources = subst (λ (bs : Bridges). ArePairwise (λ x y. x ≢ y) (map (λ b. b.bridge.source.value) (things_of bs))) (sym bridges) tt; links = subst (λ (ls : Links). ArePairwise (λ x y. x ≢ y) (names_of ls)) (sym links) tt };
       fits = record { bridges = ap length views ∙ sym (ap length bridges); lanes = ap length lanes ∙ sym (ap length links); ports = λ i v b at declared. absurd (none_within s.views i v views at) };
       shown = λ i v b at declared. absurd (none_within s.views i v views at);
       views = subst (λ (vs : List BridgeView). AllByRecursion IsSoundView vs) (sym views) tt;
       lit = λ i v p at port. absurd (none_within s.views i v views at);
+      short = λ k dir. subst (λ (fs : List Frame). length fs ≤ 1024) (sym (no_lane k dir)) (omega arith);
       idle = λ k dir dead. no_lane k dir;
       agree = λ k dir l v w at at_v at_w. absurd (none_within s.views (near_end dir l).bridge v views at_v);
     }

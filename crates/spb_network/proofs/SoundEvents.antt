@@ -17,22 +17,22 @@ use Rattle.spb_network.specs.Lanes.{changed_lane, rest, no_frames}
 use Rattle.spb_network.specs.Declaring.{with_live}
 use Rattle.spb_network.specs.State.{State, changed_at, links_of, far_end, is_at, way_out, lane_at, with_frames}
 use Rattle.spb_network.specs.Events.{stepped, ticked, heard_over, delivered_front, delivered, lost, doubled, carried, carried_over, flushed, switched_off, switched_on, ticked_from, delivered_times, lane_served, served_from, one_round, rounds, first_full_from, delivered_over, delivered_first, drained}
-use Rattle.spb_network.specs.Sound.{is_lit, AreLit, lane_of, IsSoundState}
+use Rattle.spb_network.specs.Sound.{AreShort, is_lit, AreLit, lane_of, IsSoundState}
 use Rattle.spb_network.proofs.WorldLemmas.{switched-none}
 use Rattle.spb_network.proofs.FitsLemmas.{IsAlike, alike_itself, alike_with_frames, alike_flushed, link_there}
 use Rattle.spb_network.proofs.SoundLaws.{is_carrier}
 use Rattle.spb_network.proofs.SoundLane.{IsIn}
 use Rattle.spb_network.proofs.SoundWays.{turned, near-turned, way_of_end}
 use Rattle.spb_network.proofs.SoundMoves.{IsCore, Comes}
-use Rattle.spb_network.proofs.SoundSteps.{in_got, in_rest, in_lost, in_doubled, in_changed, in_flushed, flushed_lane, world-sent_all, views-sent_all, core_stepped, core_fewer, core_with_live}
+use Rattle.spb_network.proofs.SoundSteps.{short_rest, short_lost, short_doubled, short_flushed, in_got, in_rest, in_lost, in_doubled, in_changed, in_flushed, flushed_lane, world-sent_all, views-sent_all, core_stepped, core_fewer, core_with_live}
 use Rattle.spb_network.proofs.SoundCarrier.{HaveCarrier, lit_stepped, lit_carried, lit-switched}
 
 -- the two parts of what is sound
 pub core_of : (s : State) → IsSoundState s → IsCore s
-core_of s sound = record { world = sound.world; fits = sound.fits; shown = sound.shown; views = sound.views; idle = sound.idle; agree = sound.agree }
+core_of s sound = record { world = sound.world; distinct = sound.distinct; fits = sound.fits; shown = sound.shown; views = sound.views; short = sound.short; idle = sound.idle; agree = sound.agree }
 
 pub sound_from : (s : State) → IsCore s → AreLit (links_of s) s.views → IsSoundState s
-sound_from s core lit = record { world = core.world; fits = core.fits; shown = core.shown; views = core.views; lit = lit; idle = core.idle; agree = core.agree }
+sound_from s core lit = record { world = core.world; distinct = core.distinct; fits = core.fits; shown = core.shown; views = core.views; lit = lit; short = core.short; idle = core.idle; agree = core.agree }
 
 -- ---- one bridge steps
 
@@ -45,15 +45,15 @@ unfolding stepped
 stepped_views x s i = views-sent_all (record s { views = changed_at (step x) s.views i }) i (option_map_or (sent x) (slice_get s.views i) [])
 
 -- an input that doesn't change carrier, after frames were lost or taken from lanes
-stays_stepped : (x : Input) (s : State) (lanes : List Lanes) (i : ℕ) → is_carrier x ≡ false → IsSoundState s → IsAlike s (record s { lanes = lanes }) → ((k : ℕ) (dir : Dir) (f : Frame) → IsIn f (lane_of lanes k dir) → IsIn f (lane_of s.lanes k dir)) → ((p : ℕ) (f : Frame) → x ≡ comes.frame p f → Comes (links_of s) s.lanes i p f) → IsSoundState (stepped x (record s { lanes = lanes }) i)
-stays_stepped x s lanes i other sound alike fewer from =
-    sound_from (stepped x (record s { lanes = lanes }) i) (core_stepped x s lanes i (core_of s sound) alike fewer from)
+stays_stepped : (x : Input) (s : State) (lanes : List Lanes) (i : ℕ) → is_carrier x ≡ false → IsSoundState s → IsAlike s (record s { lanes = lanes }) → AreShort lanes → ((k : ℕ) (dir : Dir) (f : Frame) → IsIn f (lane_of lanes k dir) → IsIn f (lane_of s.lanes k dir)) → ((p : ℕ) (f : Frame) → x ≡ comes.frame p f → Comes (links_of s) s.lanes i p f) → IsSoundState (stepped x (record s { lanes = lanes }) i)
+stays_stepped x s lanes i other sound alike short fewer from =
+    sound_from (stepped x (record s { lanes = lanes }) i) (core_stepped x s lanes i (core_of s sound) alike short fewer from)
     (subst (λ (w : World). AreLit (things_of w.links) (stepped x (record s { lanes = lanes }) i).views) (sym (stepped_world x (record s { lanes = lanes }) i))
     (subst (λ (views : List BridgeView). AreLit (links_of s) views) (sym (stepped_views x (record s { lanes = lanes }) i))
     (lit_stepped x s.views i (is_lit (links_of s)) other sound.lit)))
 
 pub Sound-ticked : (s : State) (i : ℕ) → IsSoundState s → IsSoundState (ticked s i)
-Sound-ticked s i sound = stays_stepped comes.second s s.lanes i refl sound (alike_itself s) (λ k dir f among. among) (λ p f is. absurd cc)
+Sound-ticked s i sound = stays_stepped comes.second s s.lanes i refl sound (alike_itself s) sound.short (λ k dir f among. among) (λ p f is. absurd cc)
 
 -- ---- a frame is delivered
 
@@ -78,13 +78,13 @@ fewer_rest : (s : State) (j : ℕ) (d : Dir) (k : ℕ) (dir : Dir) (f : Frame) �
 fewer_rest s j d k dir f among = in_changed rest in_rest s.lanes j d k dir f among
 
 -- frames are lost, doubled or taken
-stays_fewer : (s : State) (lanes : List Lanes) → IsSoundState s → IsAlike s (record s { lanes = lanes }) → ((k : ℕ) (dir : Dir) (f : Frame) → IsIn f (lane_of lanes k dir) → IsIn f (lane_of s.lanes k dir)) → IsSoundState (record s { lanes = lanes })
-stays_fewer s lanes sound alike fewer = sound_from (record s { lanes = lanes }) (core_fewer s lanes (core_of s sound) alike fewer) sound.lit
+stays_fewer : (s : State) (lanes : List Lanes) → IsSoundState s → IsAlike s (record s { lanes = lanes }) → AreShort lanes → ((k : ℕ) (dir : Dir) (f : Frame) → IsIn f (lane_of lanes k dir) → IsIn f (lane_of s.lanes k dir)) → IsSoundState (record s { lanes = lanes })
+stays_fewer s lanes sound alike short fewer = sound_from (record s { lanes = lanes }) (core_fewer s lanes (core_of s sound) alike short fewer) sound.lit
 
 heard_sound : (s : State) (k : ℕ) (dir : Dir) (bytes : Frame) (o : Option DeclaredLink) → slice_get (links_of s) k ≡ o → slice_get (lane_at s k dir) 0 ≡ Some bytes → IsSoundState s → IsSoundState (heard_over (with_frames rest s k dir) dir bytes o)
-heard_sound s k dir bytes None at front sound = stays_fewer s (changed_at (changed_lane dir rest) s.lanes k) sound (alike_with_frames rest s k dir) (fewer_rest s k dir)
+heard_sound s k dir bytes None at front sound = stays_fewer s (changed_at (changed_lane dir rest) s.lanes k) sound (alike_with_frames rest s k dir) (short_rest s.lanes k dir sound.short) (fewer_rest s k dir)
 heard_sound s k dir bytes (Some l) at front sound =
-    stays_stepped (comes.frame (far_end dir l).port bytes) s (changed_at (changed_lane dir rest) s.lanes k) (far_end dir l).bridge refl sound (alike_with_frames rest s k dir) (fewer_rest s k dir) (front_comes s k dir l bytes (core_of s sound) at front)
+    stays_stepped (comes.frame (far_end dir l).port bytes) s (changed_at (changed_lane dir rest) s.lanes k) (far_end dir l).bridge refl sound (alike_with_frames rest s k dir) (short_rest s.lanes k dir sound.short) (fewer_rest s k dir) (front_comes s k dir l bytes (core_of s sound) at front)
 
 front_sound : (s : State) (k : ℕ) (dir : Dir) (o : Option Frame) → slice_get (lane_at s k dir) 0 ≡ o → IsSoundState s → IsSoundState (delivered_front s k dir o)
 front_sound s k dir None front sound = sound
@@ -99,20 +99,20 @@ Sound-delivered s k dir sound = front_sound s k dir (slice_get (lane_at s k dir)
 pub Sound-lost : (s : State) (k : ℕ) (dir : Dir) (place : ℕ) → IsSoundState s → IsSoundState (lost s k dir place)
 Sound-lost s k dir place sound =
     let g : List Frame → List Frame = λ frames. after_lose frames place in
-    stays_fewer s (changed_at (changed_lane dir g) s.lanes k) sound (alike_with_frames g s k dir) (λ j d f among. in_changed g (λ h frames. in_lost h frames place) s.lanes k dir j d f among)
+    stays_fewer s (changed_at (changed_lane dir g) s.lanes k) sound (alike_with_frames g s k dir) (short_lost place s.lanes k dir sound.short) (λ j d f among. in_changed g (λ h frames. in_lost h frames place) s.lanes k dir j d f among)
 
 pub Sound-doubled : (s : State) (k : ℕ) (dir : Dir) (place : ℕ) → IsSoundState s → IsSoundState (doubled s k dir place)
 Sound-doubled s k dir place sound =
     let g : List Frame → List Frame = λ frames. after_double frames place (slice_get frames place) in
-    stays_fewer s (changed_at (changed_lane dir g) s.lanes k) sound (alike_with_frames g s k dir) (λ j d f among. in_changed g (λ h frames. in_doubled h frames place) s.lanes k dir j d f among)
+    stays_fewer s (changed_at (changed_lane dir g) s.lanes k) sound (alike_with_frames g s k dir) (short_doubled place s.lanes k dir sound.short) (λ j d f among. in_changed g (λ h frames. in_doubled h frames place) s.lanes k dir j d f among)
 
 pub Sound-flushed : (s : State) (k : ℕ) → IsSoundState s → IsSoundState (flushed s k)
-Sound-flushed s k sound = stays_fewer s (changed_at (λ lanes. no_frames) s.lanes k) sound (alike_flushed s k) (in_flushed s.lanes k)
+Sound-flushed s k sound = stays_fewer s (changed_at (λ lanes. no_frames) s.lanes k) sound (alike_flushed s k) (λ j dir. short_flushed s.lanes k j dir (sound.short j dir)) (in_flushed s.lanes k)
 
 -- ---- a link is switched
 
 core_carried : (on : Bool) (s : State) (e : LinkEnd) → IsCore s → IsCore (carried on s e)
-core_carried on s e core = core_stepped (comes.carrier e.port on) s s.lanes e.bridge core (alike_itself s) (λ k dir f among. among) (λ p f is. absurd cc)
+core_carried on s e core = core_stepped (comes.carrier e.port on) s s.lanes e.bridge core (alike_itself s) core.short (λ k dir f among. among) (λ p f is. absurd cc)
 
 carried_world : (on : Bool) (s : State) (e : LinkEnd) → (carried on s e).world ≡ s.world
 carried_world on s e = stepped_world (comes.carrier e.port on) s e.bridge

@@ -47,7 +47,7 @@ sent_by None v = []
 sent_by (Some input) v = sent input v
 
 pub moved_same : (x : Option Input) (v : BridgeView) → IsSameBridge v (moved x v)
-moved_same None v = record { id = refl; source = refl; vids = refl; attached = refl; ports = refl; failed = refl }
+moved_same None v = record { id = refl; source = refl; vids = refl; attached = refl; ports = refl; metrics = refl; failed = refl }
 moved_same (Some input) v = steps_keep_bridge input v
 
 pub moved_sound : (x : Option Input) (v : BridgeView) → IsSoundView v → IsSoundView (moved x v)

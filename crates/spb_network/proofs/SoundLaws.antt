@@ -96,6 +96,7 @@ has-up_from n (port ∷ ports) p low high =
 
 -- the set of Up ports has the ports that are Up
 pub has-up_ports : (v : BridgeView) (p : ℕ) → length v.ports ≤ 32 → has (up_ports v) p ≡ is_up_at v p
+unfolding is_up_at
 has-up_ports v p few = has-up_from 1 v.ports p (omega arith) (omega arith)
 
 -- ---- carrier
@@ -182,6 +183,7 @@ port_there v q is = rw (le-leb 1 q is.low) (some_within v.ports (q - 1) (omega (
 
 -- a change of carrier sets it, and leaves the other ports
 pub carrier_set : (v : BridgeView) (q : ℕ) (on : Bool) → IsPort v q → carrier_at (step (carrier q on) v) q ≡ on
+unfolding with_carrier
 carrier_set v q on is = set_in (port_at v q) v q on refl (port_there v q is)
 
 pub carrier_beside : (v : BridgeView) (q : ℕ) (on : Bool) (p : ℕ) → p ≢ q → carrier_at (step (carrier q on) v) p ≡ carrier_at v p
@@ -211,4 +213,5 @@ dark_at (Some port) v p e sound dark = dark_in port.adjacency.state port.adjacen
 
 -- keeps no neighbour, and isn't Up
 pub dark : (v : BridgeView) (p : ℕ) → IsSoundView v → carrier_at v p ≡ false → (neighbour_at v p ≡ None) × (is_up_at v p ≡ false)
+unfolding neighbour_at is_up_at
 dark v p sound none = dark_at (port_at v p) v p refl sound.ports none

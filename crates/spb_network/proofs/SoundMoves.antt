@@ -14,7 +14,7 @@ use Rattle.spb_network.specs.declared.way.Way.{Way}
 use Rattle.spb_network.specs.World.{World, things_of, Sound}
 use Rattle.spb_network.specs.State.{State, links_of, is_live, near_end, far_end, way_out}
 use Rattle.spb_network.specs.Network.{Fits}
-use Rattle.spb_network.specs.Sound.{IsShown, AreShown, IsSaid, Agrees, lane_of, AllAgree, AreIdle}
+use Rattle.spb_network.specs.Sound.{AreDistinct, AreShort, IsShown, AreShown, IsSaid, Agrees, lane_of, AllAgree, AreIdle}
 use Rattle.spb_network.proofs.BoxLemmas.{All-get}
 use Rattle.spb_network.proofs.FitsLemmas.{IsAlike, Fits-alike, link_there, far_is_port}
 use Rattle.spb_network.proofs.SoundLane.{some-is, IsIn, moved, sent_by, moved_same, moved_sound, IsMove, agrees_moved}
@@ -23,9 +23,11 @@ use Rattle.spb_network.proofs.SoundWays.{turned, way_of_end, LeadsFrom, way_lead
 -- what is sound of a state, but for carrier, which comes and goes at one end of a link after the other
 pub record IsCore (s : State) : Type 0 where
   pub world : Sound s.world
+  pub distinct : AreDistinct s.world
   pub fits : Fits s
   pub shown : AreShown s.world s.views
   pub views : AllByRecursion IsSoundView s.views
+  pub short : AreShort s.lanes
   pub idle : AreIdle (links_of s) s.lanes
   pub agree : AllAgree (links_of s) s.views s.lanes
 
@@ -76,7 +78,7 @@ moves_shown w links o views views' lanes lanes' move shown i v b at declared =
     let was = got_mapped (moved (o i)) (slice_get views i) v (sym (move.bridges i) ∙ at) in
     let same = moved_same (o i) was.0 in
     let before : IsShown w.vids b was.0 = shown i was.0 b was.1 declared in
-    subst (IsShown w.vids b) (sym was.2) (record { id = same.id ∙ before.id; source = same.source ∙ before.source; vids = same.vids ∙ before.vids })
+    subst (IsShown w.vids b) (sym was.2) (record { id = same.id ∙ before.id; source = same.source ∙ before.source; vids = same.vids ∙ before.vids; attached = same.attached ∙ before.attached })
 
 moves_idle : (links : List DeclaredLink) (o : ℕ → Option Input) (views views' : List BridgeView) (lanes lanes' : List Lanes) → Moves links o views views' lanes lanes' → AreIdle links lanes → AreIdle links lanes'
 moves_idle links o views views' lanes lanes' move idle k dir dead =
@@ -138,12 +140,14 @@ moves_agree s o views' lanes' core move k dir l v' w' at at_v at_w =
     sends f v from (inr new) = inr (sent_there (links_of s) o s.views k dir l v f at from new)
 
 -- a move keeps all of it
-pub sound_moves : (s t : State) (o : ℕ → Option Input) → IsCore s → t.world ≡ s.world → IsAlike s t → Moves (links_of s) o s.views t.views s.lanes t.lanes → IsCore t
-sound_moves s t o core world alike move = record {
+pub sound_moves : (s t : State) (o : ℕ → Option Input) → IsCore s → t.world ≡ s.world → IsAlike s t → AreShort t.lanes → Moves (links_of s) o s.views t.views s.lanes t.lanes → IsCore t
+sound_moves s t o core world alike short move = record {
   world = subst Sound (sym world) core.world;
+  distinct = subst AreDistinct (sym world) core.distinct;
   fits = Fits-alike s t alike core.fits;
   shown = subst (λ (w : World). AreShown w t.views) (sym world) (moves_shown s.world (links_of s) o s.views t.views s.lanes t.lanes move core.shown);
   views = moves_views (links_of s) o s.views t.views s.lanes t.lanes move core.views;
+  short = short;
   idle = subst (λ (w : World). AreIdle (things_of w.links) t.lanes) (sym world) (moves_idle (links_of s) o s.views t.views s.lanes t.lanes move core.idle);
   agree = subst (λ (w : World). AllAgree (things_of w.links) t.views t.lanes) (sym world) (moves_agree s o t.views t.lanes core move);
 }

@@ -1,5 +1,5 @@
 -- Accepted commands keep what is sound of a network.
-use Rattle.std.proofs.Common.{◌≡◌, ℕ, zero, suc, ◌-◌, ◌==◌, Bool, true, false, List, [], ◌∷◌, ◌++◌, length, map, replicate, nat_le, refl, sym, ◌∙◌, subst, Option, Some, None, slice_get, arith}
+use Rattle.std.proofs.Common.{◌≡◌, ℕ, zero, suc, ◌+◌, ◌-◌, ◌==◌, ◌≢◌, ◌&&◌, true≢false, is_some, ap, Bool, true, false, List, [], ◌∷◌, ◌++◌, length, map, replicate, nat_le, refl, sym, ◌∙◌, subst, Option, Some, None, slice_get, arith}
 use Rattle.std.specs.Prelude.{remove, if◌then◌else◌}
 use Rattle.std.specs.List.{AllByRecursion}
 use Rattle.std.proofs.lemmas.List.{length-map, length-replicate}
@@ -17,18 +17,19 @@ use Rattle.spb_network.specs.declared.kind_rule.KindRule.{KindRule}
 use Rattle.spb_network.specs.declared.lanes.Lanes.{Lanes}
 use Rattle.spb_network.specs.declared.reason.Reason.{Reason}
 use Rattle.spb_network.specs.Reason.{reason_unless, ◌or◌}
-use Rattle.spb_network.specs.World.{World, place_of, Sound}
+use Rattle.spb_network.specs.World.{World, names_of, things_of, place_of, Sound}
 use Rattle.spb_network.specs.Lanes.{no_frames}
-use Rattle.spb_network.specs.Declaring.{vid_refusal, link_refusal, plan_of, bridge_of, link_of, with_vid, with_link}
+use Rattle.spb_network.specs.Declaring.{bridge_refusal, with_bridge, vid_refusal, link_refusal, plan_of, bridge_of, link_of, with_vid, with_link}
 use Rattle.spb_network.specs.State.{State, Spare}
 use Rattle.spb_network.specs.Events.{ticked, delivered, lost, doubled, switched_off, switched_on, rounds, drained}
 use Rattle.spb_network.specs.Refusing.{box_for, declared_refusal, placed_link_refusal, named_link_refusal, refusal_of}
-use Rattle.spb_network.specs.Play.{config_of, boxed, declared, linked, placed_link, named_link, at_place, at_bridge, at_link, played, counted, next_state, played_all}
-use Rattle.spb_network.specs.Sound.{carrier_in, IsSoundState, opening}
+use Rattle.spb_network.specs.Play.{config_of, boxed, declared, linked, placed_link, named_link, at_place, at_bridge, at_link, with_vid_more, with_rounds, with_drain, played, counted, next_state, played_all}
+use Rattle.spb_network.specs.Sound.{AreDistinct, carrier_in, IsSoundState, opening}
 use Rattle.spb_network.specs.SoundLaws.{Keeps, EventsKeepSound, IsAddressed, CommandsKeepSound, AreAccepted, NetworksAreSound}
 use Rattle.spb_network.proofs.ConfigLemmas.{whole-config}
 use Rattle.spb_network.proofs.WorldLemmas.{Sound-with_vid}
 use Rattle.spb_network.proofs.RefusalLemmas.{vid_refusal_none, IsFreeBridge, bridge_refusal_none, link_refusal_none}
+use Rattle.spb_network.proofs.SoundNames.{first_none, last_none, passes, distinct_bridge, distinct_link}
 use Rattle.spb_network.proofs.SoundEvents.{Sound-ticked, Sound-delivered, Sound-lost, Sound-doubled, Sound-switched_off, Sound-switched_on, Sound-rounds, Sound-drained}
 use Rattle.spb_network.proofs.SoundDeclaring.{empty_from, IsNewView, Sound-new_bridge, Sound-new_link, Sound-new_vid, Sound-nothing}
 
@@ -53,28 +54,15 @@ sound_again s t world views lanes sound =
     (subst (λ (w : World). IsSoundState (record s { world = w })) (sym world) sound)) in
     record {
       world = same.world;
+      distinct = record { bridges = same.distinct.bridges; sources = same.distinct.sources; links = same.distinct.links };
       fits = record { bridges = same.fits.bridges; lanes = same.fits.lanes; ports = same.fits.ports };
       shown = same.shown;
       views = same.views;
       lit = same.lit;
+      short = same.short;
       idle = same.idle;
       agree = same.agree;
     }
-
--- ---- refusals
-
-first_none : (o p : Option Reason) → (o or p) ≡ None → o ≡ None
-first_none None p h = refl
-first_none (Some r) p h = absurd cc
-
-last_none : (o p : Option Reason) → (o or p) ≡ None → p ≡ None
-last_none None p h = h
-last_none (Some r) p h = absurd cc
-
-passes : (b : Bool) (r : Reason) → reason_unless b r ≡ None → b ≡ true
-unfolding reason_unless
-passes true r h = refl
-passes false r h = absurd cc
 
 -- ---- a VID
 
@@ -82,7 +70,8 @@ before_bridges : (w : World) (vid ect : ℕ) → vid_refusal w vid ect ≡ None 
 unfolding vid_refusal
 before_bridges w vid ect none = empty_from w.bridges (eqb-true (length w.bridges) 0 (passes (length w.bridges == 0) _ (last_none _ _ none)))
 
-vid_sound : (s : State) (vid ect : ℕ) → IsSoundState s → vid_refusal s.world vid ect ≡ None → IsSoundState (record s { world = with_vid s.world (plan_of vid ect) })
+vid_sound : (s : State) (vid ect : ℕ) → IsSoundState s → vid_refusal s.world vid ect ≡ None → IsSoundState (with_vid_more s vid ect)
+unfolding with_vid_more
 vid_sound s vid ect sound none =
     let new = vid_refusal_none s.world vid ect none in
     Sound-new_vid s (plan_of vid ect) sound (before_bridges s.world vid ect none)
@@ -101,21 +90,22 @@ dark_if false o none = refl
 
 new_view : (w : World) (name : List ℕ) (priority : ℕ) (system : Mac) (source : SourceId) (ports : ℕ) → Sound w → length system.bytes ≡ 6 → IsFreeBridge w name priority system source ports → IsNewView w (bridge_of priority system source ports) (configured (config_of w (bridge_of priority system source ports)))
 new_view w name priority system source ports sound six new = record {
-  shown = record { id = refl; source = refl; vids = refl };
+  shown = record { id = refl; source = refl; vids = refl; attached = refl };
   ports = record { ports = length-map (replicate ports 1) dark ∙ length-replicate ports 1 };
   sound = configured_is_sound (config_of w (bridge_of priority system source ports)) (whole-config w (bridge_of priority system source ports) sound new.ports_high new.source_high six new.address);
   dark = λ p. dark_if (nat_le 1 p) (slice_get (map dark (replicate ports 1)) (p - 1)) (dark_in (replicate ports 1) (p - 1));
 }
 
-boxed_sound : (s : State) (name : List ℕ) (priority : ℕ) (system : Mac) (source : SourceId) (ports : ℕ) (o : Option ℕ) → IsSoundState s → length system.bytes ≡ 6 → IsFreeBridge s.world name priority system source ports → IsSoundState (boxed s name (bridge_of priority system source ports) o)
-boxed_sound s name priority system source ports None sound six new = sound
-boxed_sound s name priority system source ports (Some place) sound six new =
-    Sound-new_bridge s (remove s.rack place) name (bridge_of priority system source ports) (configured (config_of s.world (bridge_of priority system source ports))) sound new.new (new_view s.world name priority system source ports sound.world six new)
+boxed_sound : (s : State) (name : List ℕ) (priority : ℕ) (system : Mac) (source : SourceId) (ports : ℕ) (o : Option ℕ) → IsSoundState s → length system.bytes ≡ 6 → bridge_refusal s.world name priority system source ports ≡ None → IsSoundState (boxed s name (bridge_of priority system source ports) o)
+boxed_sound s name priority system source ports None sound six none = sound
+boxed_sound s name priority system source ports (Some place) sound six none =
+    let new = bridge_refusal_none s.world name priority system source ports none in
+    Sound-new_bridge s (remove s.rack place) name (bridge_of priority system source ports) (configured (config_of s.world (bridge_of priority system source ports))) sound new.new (distinct_bridge s.world name priority system source ports sound.distinct none) (new_view s.world name priority system source ports sound.world six new)
 
 bridge_sound : (s : State) (name : List ℕ) (priority : ℕ) (system : Mac) (source : SourceId) (ports : ℕ) → IsSoundState s → length system.bytes ≡ 6 → declared_refusal s name priority system source ports ≡ None → IsSoundState (declared s name (bridge_of priority system source ports))
 unfolding declared_refusal declared
 bridge_sound s name priority system source ports sound six none =
-    boxed_sound s name priority system source ports (box_for s) sound six (bridge_refusal_none s.world name priority system source ports (first_none _ _ none))
+    boxed_sound s name priority system source ports (box_for s) sound six (first_none _ _ none)
 
 -- ---- a link
 
@@ -123,7 +113,8 @@ linked_sound : (s : State) (name : List ℕ) (i port_a j port_b cost : ℕ) → 
 unfolding linked
 linked_sound s name i port_a j port_b cost sound none =
     let l : DeclaredLink = link_of i port_a j port_b cost in
-    Sound-switched_on (record s { world = with_link s.world name l; lanes = s.lanes ++ no_frames ∷ [] }) (length s.lanes) (Sound-new_link s name l sound (link_refusal_none s.world name i port_a j port_b cost none).new refl)
+    let new = link_refusal_none s.world name i port_a j port_b cost none in
+    Sound-switched_on (record s { world = with_link s.world name l; lanes = s.lanes ++ no_frames ∷ [] }) (length s.lanes) (Sound-new_link s name l sound new.new (distinct_link s.world name l sound.distinct new.name_new) refl)
 
 placed_sound : (s : State) (name : List ℕ) (a b : Option ℕ) (port_a port_b cost : ℕ) → IsSoundState s → placed_link_refusal s name a port_a b port_b cost ≡ None → IsSoundState (placed_link s name a port_a b port_b cost)
 placed_sound s name None b port_a port_b cost sound none = sound
@@ -150,6 +141,14 @@ at_link_sound event s name keeps sound = place_sound event s (place_of name s.wo
 
 -- ---- the commands
 
+rounds_sound : (n : ℕ) → Keeps (with_rounds n)
+unfolding with_rounds
+rounds_sound n s sound = sound_again (rounds n s) (record (rounds n s) { rounds = s.rounds + n }) refl refl refl (Sound-rounds n s sound)
+
+drain_sound : (n : ℕ) → Keeps (with_drain n)
+unfolding with_drain
+drain_sound n s sound = sound_again (drained n s) (record (drained n s) { drained = s.drained + n }) refl refl refl (Sound-drained n s sound)
+
 played_sound : (s : State) (c : Command) → IsSoundState s → IsAddressed c → refusal_of s c ≡ None → IsSoundState (played s c)
 played_sound s (command.Vid vid ect) sound addressed none = vid_sound s vid ect sound none
 played_sound s (command.Bridge name priority system source ports) sound addressed none = bridge_sound s name priority system source ports sound addressed none
@@ -160,8 +159,8 @@ played_sound s (command.Tick name) sound addressed none = at_bridge_sound ticked
 played_sound s (command.Deliver name dir) sound addressed none = at_link_sound (λ t k. delivered t k dir) s name (λ k t. Sound-delivered t k dir) sound
 played_sound s (command.Lose name dir place) sound addressed none = at_link_sound (λ t k. lost t k dir place) s name (λ k t. Sound-lost t k dir place) sound
 played_sound s (command.Double name dir place) sound addressed none = at_link_sound (λ t k. doubled t k dir place) s name (λ k t. Sound-doubled t k dir place) sound
-played_sound s (command.Round n) sound addressed none = sound_again (rounds n s) (played s (command.Round n)) refl refl refl (Sound-rounds n s sound)
-played_sound s (command.Drain n) sound addressed none = sound_again (drained n s) (played s (command.Drain n)) refl refl refl (Sound-drained n s sound)
+played_sound s (command.Round n) sound addressed none = rounds_sound n s sound
+played_sound s (command.Drain n) sound addressed none = drain_sound n s sound
 played_sound s _ sound addressed none = sound
 
 pub commands_keep_sound : CommandsKeepSound

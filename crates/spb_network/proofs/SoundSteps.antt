@@ -1,23 +1,28 @@
 -- One bridge steps, frames go, or a link is switched: moves of the whole network.
-use Rattle.std.proofs.Common.{◌≡◌, ◌⊎◌, inl, inr, ◌+◌, ℕ, zero, suc, Bool, true, false, List, [], ◌∷◌, ◌++◌, length, take, drop, refl, sym, ap, ◌∙◌, subst, Option, Some, None, slice_get}
+use Rattle.std.proofs.Common.{◌≡◌, ◌≢◌, ◌≤◌, ◌<◌, ◌⊎◌, inl, inr, ◌+◌, ℕ, zero, suc, Bool, true, false, List, [], ◌∷◌, ◌++◌, length, take, drop, refl, sym, ap, ◌∙◌, subst, Option, Some, None, slice_get, arith}
 use Rattle.std.specs.Prelude.{insert, remove, nat_lt, if◌then◌else◌}
 use Rattle.std.specs.Option.{option_map, option_map_or}
+use Rattle.std.proofs.lemmas.List.{length-append, length-take, length-drop}
+use Rattle.std.proofs.lemmas.Bool.{ltb-true}
+use Rattle.std.proofs.lemmas.Option.{slice_get_within}
 use Rattle.link_model.specs.Lane.{Frame, has_room, pushed, after_lose, after_double}
 use Rattle.scenario.specs.declared.command.Dir.{Dir}
 use Rattle.scenario.specs.declared.command.Dir.TheVariants.{Ab, Ba}
 use Rattle.bridge_api.specs.View.{BridgeView}
 use Rattle.bridge_api.specs.Step.{Input, frame, step, sent}
+use Rattle.bridge_api.specs.Config.{ArePairwise}
 use Rattle.bridge_api.specs.Laws.{IsSent}
 use Rattle.spb_network.specs.declared.declaration.DeclaredLink.{DeclaredLink}
 use Rattle.spb_network.specs.declared.declaration.LinkEnd.{LinkEnd}
 use Rattle.spb_network.specs.declared.lanes.Lanes.{Lanes}
 use Rattle.spb_network.specs.declared.way.Way.{Way}
-use Rattle.spb_network.specs.World.{World, Links, things_of}
+use Rattle.spb_network.specs.World.{World, Links, names_of, things_of}
 use Rattle.spb_network.specs.Lanes.{lane_in, changed_lane, rest, no_frames}
 use Rattle.spb_network.specs.Declaring.{switched, with_live}
 use Rattle.spb_network.specs.State.{State, changed_at, links_of, is_live, near_end, far_end, way_out, with_frames}
 use Rattle.spb_network.specs.Events.{sent_over, sent_all, stepped}
-use Rattle.spb_network.specs.Sound.{Agrees, lane_of, AllAgree, AreIdle}
+use Rattle.spb_network.specs.Sound.{AreShort, Agrees, lane_of, AllAgree, AreIdle}
+use Rattle.spb_network.proofs.ListLemmas.{length-push}
 use Rattle.spb_network.proofs.WorldLemmas.{Sound-with_live}
 use Rattle.spb_network.proofs.FitsLemmas.{IsAlike, alike_then, alike_stepped, Fits-with_live}
 use Rattle.spb_network.proofs.SoundLane.{IsIn, moved, sent_by}
@@ -139,6 +144,64 @@ in_flushed (x ∷ lanes) zero (suc k) dir f among = among
 in_flushed (x ∷ lanes) (suc j) zero dir f among = among
 in_flushed (x ∷ lanes) (suc j) (suc k) dir f among = in_flushed lanes j k dir f among
 
+-- ---- how many frames a lane holds
+
+short_changed : (g : List Frame → List Frame) → ((frames : List Frame) → length frames ≤ 1024 → length (g frames) ≤ 1024) → (lanes : List Lanes) (j : ℕ) (d : Dir) → AreShort lanes → AreShort (changed_at (changed_lane d g) lanes j)
+short_changed g keeps lanes j d short k dir =
+    elim (lane_changed g lanes j d k dir) [
+      | inl here ↦ subst (λ (fs : List Frame). length fs ≤ 1024) (sym here.2) (keeps (lane_of lanes k dir) (short k dir))
+      | inr same ↦ subst (λ (fs : List Frame). length fs ≤ 1024) (sym same) (short k dir)
+    ]
+
+pushed_at : (b : Bool) (x : Frame) (frames : List Frame) → nat_lt (length frames) 1024 ≡ b → length frames ≤ 1024 → length (if b then frames ++ x ∷ [] else frames) ≤ 1024
+pushed_at true x frames room short = omega (arith, length-push frames x, ltb-true (length frames) 1024 room)
+pushed_at false x frames room short = short
+
+pushed_short : (x : Frame) (frames : List Frame) → length frames ≤ 1024 → length (pushed frames x) ≤ 1024
+pushed_short x frames short = pushed_at (has_room frames) x frames refl short
+
+rest_short : (frames : List Frame) → length frames ≤ 1024 → length (rest frames) ≤ 1024
+rest_short [] short = short
+rest_short (x ∷ frames) short = omega (arith, short)
+
+lost_at : (b : Bool) (k : ℕ) (frames : List Frame) → nat_lt k (length frames) ≡ b → length frames ≤ 1024 → length (if b then remove frames k else frames) ≤ 1024
+lost_at true k frames within short = omega (arith, length-append (take k frames) (drop (suc k) frames), length-take k frames, length-drop (suc k) frames, ltb-true k (length frames) within)
+lost_at false k frames within short = short
+
+lost_short : (k : ℕ) (frames : List Frame) → length frames ≤ 1024 → length (after_lose frames k) ≤ 1024
+lost_short k frames short = lost_at (nat_lt k (length frames)) k frames refl short
+
+doubled_at : (b : Bool) (x : Frame) (k : ℕ) (frames : List Frame) → nat_lt (length frames) 1024 ≡ b → k < length frames → length frames ≤ 1024 → length (if b then insert frames (k + 1) x else frames) ≤ 1024
+doubled_at true x k frames room within short = omega (arith, length-append (take (k + 1) frames) (x ∷ drop (k + 1) frames), length-take (k + 1) frames, length-drop (k + 1) frames, ltb-true (length frames) 1024 room)
+doubled_at false x k frames room within short = short
+
+doubled_by : (o : Option Frame) (k : ℕ) (frames : List Frame) → slice_get frames k ≡ o → length frames ≤ 1024 → length (after_double frames k o) ≤ 1024
+doubled_by None k frames at short = short
+doubled_by (Some x) k frames at short = doubled_at (has_room frames) x k frames refl (slice_get_within frames k x at) short
+
+doubled_short : (k : ℕ) (frames : List Frame) → length frames ≤ 1024 → length (after_double frames k (slice_get frames k)) ≤ 1024
+doubled_short k frames short = doubled_by (slice_get frames k) k frames refl short
+
+pub short_rest : (lanes : List Lanes) (j : ℕ) (d : Dir) → AreShort lanes → AreShort (changed_at (changed_lane d rest) lanes j)
+short_rest lanes j d short = short_changed rest rest_short lanes j d short
+
+pub short_lost : (place : ℕ) (lanes : List Lanes) (j : ℕ) (d : Dir) → AreShort lanes → AreShort (changed_at (changed_lane d (λ frames. after_lose frames place)) lanes j)
+short_lost place lanes j d short = short_changed (λ frames. after_lose frames place) (lost_short place) lanes j d short
+
+pub short_doubled : (place : ℕ) (lanes : List Lanes) (j : ℕ) (d : Dir) → AreShort lanes → AreShort (changed_at (changed_lane d (λ frames. after_double frames place (slice_get frames place))) lanes j)
+short_doubled place lanes j d short = short_changed (λ frames. after_double frames place (slice_get frames place)) (doubled_short place) lanes j d short
+
+empty_lane : (dir : Dir) → length (lane_in dir no_frames) ≤ 1024
+empty_lane Ab = omega arith
+empty_lane Ba = omega arith
+
+pub short_flushed : (lanes : List Lanes) (j k : ℕ) (dir : Dir) → length (lane_of lanes k dir) ≤ 1024 → length (lane_of (changed_at (λ l. no_frames) lanes j) k dir) ≤ 1024
+short_flushed [] j k dir short = short
+short_flushed (x ∷ lanes) zero zero dir short = empty_lane dir
+short_flushed (x ∷ lanes) zero (suc k) dir short = short
+short_flushed (x ∷ lanes) (suc j) zero dir short = short
+short_flushed (x ∷ lanes) (suc j) (suc k) dir short = short_flushed lanes j k dir short
+
 -- ---- what is sent
 
 -- a frame of these is sent by the bridge at place i into a lane of a link that is up
@@ -187,6 +250,18 @@ world-sent_all s i (x ∷ fs) = world-sent_all (sent_over s (way_out (links_of s
 pub views-sent_all : (s : State) (i : ℕ) (fs : List (ℕ × List ℕ)) → (sent_all s i fs).views ≡ s.views
 views-sent_all s i [] = refl
 views-sent_all s i (x ∷ fs) = views-sent_all (sent_over s (way_out (links_of s) i x.0) x.1) i fs ∙ views-sent_over s (way_out (links_of s) i x.0) x.1
+
+short_sent_over : (s : State) (way : Option Way) (x : Frame) → AreShort s.lanes → AreShort (sent_over s way x).lanes
+short_sent_over s None x short = short
+short_sent_over s (Some way) x short = by (is_live (links_of s) way.link)
+  where
+    by : (live : Bool) → AreShort (if live then with_frames (λ frames. pushed frames x) s way.link way.dir else s).lanes
+    by true = short_changed (λ frames. pushed frames x) (pushed_short x) s.lanes way.link way.dir short
+    by false = short
+
+short_sent_all : (s : State) (i : ℕ) (fs : List (ℕ × List ℕ)) → AreShort s.lanes → AreShort (sent_all s i fs).lanes
+short_sent_all s i [] short = short
+short_sent_all s i (x ∷ fs) short = short_sent_all (sent_over s (way_out (links_of s) i x.0) x.1) i fs (short_sent_over s (way_out (links_of s) i x.0) x.1 short)
 
 in_sent_all : (s : State) (i : ℕ) (fs : List (ℕ × List ℕ)) (k : ℕ) (dir : Dir) (f : Frame) → IsIn f (lane_of (sent_all s i fs).lanes k dir) → IsIn f (lane_of s.lanes k dir) ⊎ IsSentOver (links_of s) i fs k dir f
 in_sent_all s i [] k dir f among = inl among
@@ -250,10 +325,10 @@ goes_out s x i (Some v) k dir f at over = record {
 }
 
 -- something comes to a bridge after frames were lost or taken from lanes; a frame that comes stood in the lane towards it
-pub core_stepped : (x : Input) (s : State) (lanes : List Lanes) (i : ℕ) → IsCore s → IsAlike s (record s { lanes = lanes }) → ((k : ℕ) (dir : Dir) (f : Frame) → IsIn f (lane_of lanes k dir) → IsIn f (lane_of s.lanes k dir)) → ((p : ℕ) (f : Frame) → x ≡ frame p f → Comes (links_of s) s.lanes i p f) → IsCore (stepped x (record s { lanes = lanes }) i)
+pub core_stepped : (x : Input) (s : State) (lanes : List Lanes) (i : ℕ) → IsCore s → IsAlike s (record s { lanes = lanes }) → AreShort lanes → ((k : ℕ) (dir : Dir) (f : Frame) → IsIn f (lane_of lanes k dir) → IsIn f (lane_of s.lanes k dir)) → ((p : ℕ) (f : Frame) → x ≡ frame p f → Comes (links_of s) s.lanes i p f) → IsCore (stepped x (record s { lanes = lanes }) i)
 unfolding stepped
-core_stepped x s lanes i core alike fewer comes =
-    sound_moves s t (only i x) core (world-sent_all next i fs) (alike_then s (record s { lanes = lanes }) t alike (alike_stepped x (record s { lanes = lanes }) i)) (record {
+core_stepped x s lanes i core alike short fewer comes =
+    sound_moves s t (only i x) core (world-sent_all next i fs) (alike_then s (record s { lanes = lanes }) t alike (alike_stepped x (record s { lanes = lanes }) i)) (short_sent_all next i fs short) (record {
       bridges = λ j. ap (λ (views : List BridgeView). slice_get views j) (views-sent_all next i fs) ∙ get-changed x s.views i j;
       heard = λ j p f is. heard j p f (only_is i x j (frame p f) is);
       frames = λ k dir f among. frames k dir f (in_sent_all next i fs k dir f among);
@@ -277,9 +352,9 @@ core_stepped x s lanes i core alike fewer comes =
 
 -- ---- frames go
 
-pub core_fewer : (s : State) (lanes : List Lanes) → IsCore s → IsAlike s (record s { lanes = lanes }) → ((k : ℕ) (dir : Dir) (f : Frame) → IsIn f (lane_of lanes k dir) → IsIn f (lane_of s.lanes k dir)) → IsCore (record s { lanes = lanes })
-core_fewer s lanes core alike fewer =
-    sound_moves s (record s { lanes = lanes }) (λ j. None) core refl alike (record {
+pub core_fewer : (s : State) (lanes : List Lanes) → IsCore s → IsAlike s (record s { lanes = lanes }) → AreShort lanes → ((k : ℕ) (dir : Dir) (f : Frame) → IsIn f (lane_of lanes k dir) → IsIn f (lane_of s.lanes k dir)) → IsCore (record s { lanes = lanes })
+core_fewer s lanes core alike short fewer =
+    sound_moves s (record s { lanes = lanes }) (λ j. None) core refl alike short (record {
       bridges = λ j. map-moved_none (slice_get s.views j);
       heard = λ j p f is. absurd cc;
       frames = λ k dir f among. inl (fewer k dir f among);
@@ -339,14 +414,21 @@ idle_switched on ls k lanes idle empty j dir dead =
       | inr same ↦ idle j dir (sym same ∙ dead)
     ]
 
+names-switched : (on : Bool) (ls : Links) (k : ℕ) → names_of (switched on ls k) ≡ names_of ls
+names-switched on [] k = refl
+names-switched on (l ∷ ls) zero = refl
+names-switched on (l ∷ ls) (suc k) = ap (λ names. l.0 ∷ names) (names-switched on ls k)
+
 -- a link that goes down has no frame on its way
 pub core_with_live : (on : Bool) (s : State) (k : ℕ) → IsCore s → (on ≡ false → (dir : Dir) → lane_of s.lanes k dir ≡ []) → IsCore (record s { world = with_live on s.world k })
 unfolding with_live
 core_with_live on s k core empty = record {
   world = Sound-with_live on s.world k core.world;
+  distinct = record { bridges = core.distinct.bridges; sources = core.distinct.sources; links = subst (ArePairwise (λ x y. x ≢ y)) (sym (names-switched on s.world.links k)) core.distinct.links };
   fits = Fits-with_live on s k core.fits;
   shown = core.shown;
   views = core.views;
+  short = core.short;
   idle = idle_switched on s.world.links k s.lanes core.idle empty;
   agree = agree_switched on s.world.links k s.views s.lanes core.agree;
 }

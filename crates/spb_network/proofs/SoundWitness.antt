@@ -11,7 +11,9 @@ use Rattle.spb_network.specs.Declaring.{is_vid_range, is_new_name, is_new_system
 use Rattle.spb_network.specs.State.{Spare, next_box, way_out}
 use Rattle.spb_network.specs.Events.{stepped, switched_on}
 use Rattle.spb_network.specs.Refusing.{declared_refusal, named_link_refusal, unnamed_refusal}
-use Rattle.spb_network.specs.Play.{declared, linked, named_link, at_bridge, next_state, played_all}
+use Rattle.bridge_api.specs.Ticking.{sent_in_tick}
+use Rattle.bridge_api.specs.Hearing.{with_carrier}
+use Rattle.spb_network.specs.Play.{with_vid_more, declared, linked, named_link, at_bridge, next_state, played_all}
 use Rattle.spb_network.specs.Sound.{opening}
 use Rattle.spb_network.specs.SoundLaws.{AreAccepted, IsBusy, SomeNetworkIsBusy}
 
@@ -34,11 +36,11 @@ script =
     ∷ []
 
 accepted : AreAccepted (opening rule.Plain (box ∷ box ∷ [])) script
-unfolding next_state reason_unless vid_refusal bridge_refusal link_refusal is_vid_range is_new_name is_new_system is_new_source is_bridge_range is_free_port is_link_range is_unlinked with_vid with_bridge with_link with_live next_box way_out stepped switched_on declared_refusal named_link_refusal unnamed_refusal declared linked named_link at_bridge
+unfolding next_state reason_unless vid_refusal bridge_refusal link_refusal is_vid_range is_new_name is_new_system is_new_source is_bridge_range is_free_port is_link_range is_unlinked with_vid with_bridge with_link with_live next_box way_out stepped switched_on with_vid_more declared_refusal named_link_refusal unnamed_refusal declared linked named_link at_bridge
 accepted = (refl, (refl, (refl, (refl, (refl, tt)))))
 
 shown : IsBusy (played_all (opening rule.Plain (box ∷ box ∷ [])) script)
-unfolding next_state vid_refusal with_vid with_bridge with_link with_live next_box way_out stepped switched_on declared linked named_link at_bridge
+unfolding next_state vid_refusal with_vid with_bridge with_link with_live next_box way_out stepped switched_on with_vid_more declared linked named_link at_bridge sent_in_tick with_carrier
 shown = record { live = refl; waiting = refl }
 
 pub busy : SomeNetworkIsBusy

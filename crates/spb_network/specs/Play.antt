@@ -86,9 +86,13 @@ played s (command.Round n) = with_rounds n s
 played s (command.Drain n) = with_drain n s
 played s _ = s
 
--- the number of accepted commands stops at the greatest of 64 bits
+-- one more, up to the greatest number of 64 bits
+abbrev pub next_count : ℕ → ℕ
+next_count n = if nat_lt n 18446744073709551615 then n + 1 else n
+
+-- one accepted command more
 abbrev pub counted : State → State
-counted s = record s { accepted = if nat_lt s.accepted 18446744073709551615 then s.accepted + 1 else s.accepted }
+counted s = record s { accepted = next_count s.accepted }
 
 -- the state after an accepted command
 unfoldable pub next_state : State → Command → State

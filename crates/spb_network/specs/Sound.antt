@@ -1,5 +1,5 @@
 -- What holds of a network at every moment, whatever came to its bridges and whatever became of the frames on their way.
-use Rattle.std.specs.Prelude.{◌≡◌, ◌⊎◌, ℕ, ◌≤◌, List, [], Bool, true, false, Option, Some, None, slice_get}
+use Rattle.std.specs.Prelude.{◌≡◌, ◌≢◌, ◌⊎◌, ℕ, ◌≤◌, List, [], length, map, Bool, true, false, Option, Some, None, slice_get}
 use Rattle.std.specs.List.{AllByRecursion}
 use Rattle.std.specs.Option.{option_map_or}
 use Rattle.std.specs.FinMap.{get}
@@ -17,6 +17,7 @@ use Rattle.adjacency.specs.Hearing.{End, sender}
 use Rattle.scenario.specs.declared.command.Dir.{Dir}
 use Rattle.bridge_api.specs.declared.port.BridgePort.{BridgePort}
 use Rattle.bridge_api.specs.View.{BridgeView, IsPort, port_at, neighbour_at, is_up_at}
+use Rattle.bridge_api.specs.Config.{ArePairwise}
 use Rattle.bridge_api.specs.Judging.{greeting, judged}
 use Rattle.bridge_api.specs.Step.{frame}
 use Rattle.bridge_api.specs.Laws.{IsSoundView, claims_of}
@@ -24,18 +25,27 @@ use Rattle.spb_network.specs.declared.declaration.DeclaredBridge.{DeclaredBridge
 use Rattle.spb_network.specs.declared.declaration.DeclaredLink.{DeclaredLink}
 use Rattle.spb_network.specs.declared.kind_rule.KindRule.{KindRule}
 use Rattle.spb_network.specs.declared.lanes.Lanes.{Lanes}
-use Rattle.spb_network.specs.World.{World, things_of, Sound}
+use Rattle.spb_network.specs.World.{World, names_of, things_of, Sound}
 use Rattle.spb_network.specs.Lanes.{lane_in}
 use Rattle.spb_network.specs.State.{State, Spare, links_of, is_live, near_end, far_end, way_out}
 use Rattle.spb_network.specs.Network.{Fits}
 
+-- ---- what is declared
+
+-- no two bridges have one name or one source, and no two links one name
+pub record AreDistinct (w : World) : Type 0 where
+  pub bridges : ArePairwise (λ x y. x ≢ y) (names_of w.bridges)
+  pub sources : ArePairwise (λ x y. x ≢ y) (map (λ b. b.bridge.source.value) (things_of w.bridges))
+  pub links : ArePairwise (λ x y. x ≢ y) (names_of w.links)
+
 -- ---- one bridge
 
--- the bridge is the declared one: its ids, and the VIDs of the network
+-- the bridge is the declared one: its ids, and the VIDs of the network. Nothing is attached yet
 pub record IsShown (plans : List VidPlan) (b : DeclaredBridge) (v : BridgeView) : Type 0 where
   pub id : v.id ≡ b.bridge.id
   pub source : v.source ≡ b.bridge.source
   pub vids : v.vids ≡ plans
+  pub attached : v.attached ≡ []
 
 -- each bridge is the one that was declared at its place
 abbrev pub AreShown : World → List BridgeView → Type 0
@@ -100,6 +110,10 @@ lane_of lanes k dir = option_map_or (lane_in dir) (slice_get lanes k) []
 abbrev pub AllAgree : List DeclaredLink → List BridgeView → List Lanes → Type 0
 AllAgree links views lanes = (k : ℕ) (dir : Dir) (l : DeclaredLink) (v w : BridgeView) → slice_get links k ≡ Some l → slice_get views (near_end dir l).bridge ≡ Some v → slice_get views (far_end dir l).bridge ≡ Some w → Agrees v (near_end dir l).port w (far_end dir l).port (lane_of lanes k dir)
 
+-- no lane has more frames than it has room for
+abbrev pub AreShort : List Lanes → Type 0
+AreShort lanes = (k : ℕ) (dir : Dir) → length (lane_of lanes k dir) ≤ 1024
+
 -- no frame is on its way over a link that is down
 abbrev pub AreIdle : List DeclaredLink → List Lanes → Type 0
 AreIdle links lanes = (k : ℕ) (dir : Dir) → is_live links k ≡ false → lane_of lanes k dir ≡ []
@@ -110,10 +124,12 @@ AreIdle links lanes = (k : ℕ) (dir : Dir) → is_live links k ≡ false → la
 -- so is what stands between each two that are linked
 pub record IsSoundState (s : State) : Type 0 where
   pub world : Sound s.world
+  pub distinct : AreDistinct s.world
   pub fits : Fits s
   pub shown : AreShown s.world s.views
   pub views : AllByRecursion IsSoundView s.views
   pub lit : AreLit (links_of s) s.views
+  pub short : AreShort s.lanes
   pub idle : AreIdle (links_of s) s.lanes
   pub agree : AllAgree (links_of s) s.views s.lanes
 

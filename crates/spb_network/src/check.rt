@@ -1,9 +1,11 @@
 ghost use Rattle.std.specs.Prelude.{◌≡◌, ◌&&◌, ◌==◌, length};
 ghost use Rattle.spb_network.specs.Declaring as declare;
 ghost use Rattle.spb_network.specs.World as state;
+ghost use Rattle.spb_network.specs.SoundLaws.{IsAddressed};
 
 use crate::{DeclaredBridge, DeclaredLink};
 use indexmap::IndexMap;
+use scenario::Command;
 use spb_types::{Mac, Name, SourceId, VidPlan};
 
 /// Whether nothing of this name is declared.
@@ -87,10 +89,7 @@ fn is_bridge_address(mac: Mac) -> bool
 pub fn is_bridge_range(priority: u64, system: Mac, source: SourceId, ports: u64) -> bool
     ensures { result ≡ declare.is_bridge_range priority system source ports }
 {
-    priority <= 65535
-        && is_bridge_address(system)
-        && source.value < 1_048_576
-        && ports <= 32
+    priority <= 65535 && is_bridge_address(system) && source.value < 1_048_576 && ports <= 32
 }
 
 /// Whether the link ends at this port of the bridge at a place.
@@ -171,4 +170,13 @@ pub fn is_link_range(
         && is_port(bridges, j, port_b)
         && 1 <= cost
         && cost <= 16_777_214
+}
+
+/// Says that the address that a command declares, if it does, has six bytes.
+pub fn addressed(command: &Command)
+    ensures { IsAddressed command.now }
+{
+    if let Command::Bridge { system, .. } = command {
+        let _six = len(*system);
+    }
 }

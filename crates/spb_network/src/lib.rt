@@ -1,4 +1,14 @@
-//! The network of bridges and links that a script declares and plays.
+//! The network of bridges and links that commands declare and play.
+//!
+//! A [`Network`] owns a box for each declared bridge and reaches it through the trait `Bridge` alone; it names no
+//! implementation. What is declared stands in a [`World`]; beside it stand the boxes and, by the same place as the links,
+//! the two lanes of each link. [`NetworkOf::apply`] is one step of play, as `specs/Play.antt` says: a command that is
+//! refused names the first reason in order of number and changes nothing. What holds of a network at every moment stands
+//! in `specs/Sound.antt`, and is a clause of each call.
+//!
+//! **Costs.** A frame that is sent looks for its link among the links; finding a name takes constant time on average. A
+//! round takes a call of each bridge and one for each frame that stands in a lane. A delivery of `drain` looks for the
+//! first lane that isn't empty. Frames are moved and not copied, and nothing grows with the number of rounds.
 #![tactic(auto)]
 
 pub use answer::{Answer, Out};

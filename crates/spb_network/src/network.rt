@@ -1,10 +1,11 @@
 ghost use Rattle.std.specs.Prelude.{◌≡◌, false, map};
 ghost use Rattle.spb_network.specs.declared.kind_rule.KindRule.TheVariants as rules;
 ghost use Rattle.spb_network.specs.Sound.{opening};
+ghost use Rattle.spb_network.specs.Play as play;
 ghost use Rattle.spb_network.specs.Network.{state_of, spare};
 ghost use Rattle.spb_network.specs.Applying.{Answers, Applies, IsReady};
 
-use crate::{Answer, ApplyError, KindRule, Lanes, World};
+use crate::{Answer, ApplyError, KindRule, Lanes, World, check};
 use bridge_api::Bridge;
 use scenario::Command;
 use std::alloc::Global;
@@ -87,11 +88,11 @@ impl<B: Bridge> NetworkOf<B> {
         if self.halted {
             return Err(ApplyError::Halted);
         }
+        check::addressed(command);
         match self.play(command) {
             Ok(answer) => {
-                if self.accepted < u64::MAX {
-                    self.accepted += 1;
-                }
+                self.accepted = next_count(self.accepted);
+                self.halted = false;
                 Ok(answer)
             }
             Err(ApplyError::NoMemory) => {
@@ -101,4 +102,11 @@ impl<B: Bridge> NetworkOf<B> {
             Err(error) => Err(error),
         }
     }
+}
+
+/// One more than a count, which stops at the greatest number of 64 bits.
+fn next_count(count: u64) -> u64
+    ensures { result ≡ play.next_count count }
+{
+    if count < u64::MAX { count + 1 } else { count }
 }

@@ -5,7 +5,7 @@ ghost use Rattle.spb_network.specs.Declaring as declare;
 ghost use Rattle.spb_network.specs.Refusing as refuse;
 ghost use Rattle.spb_network.specs.Play as play;
 ghost use Rattle.spb_network.specs.Events as event;
-ghost use Rattle.spb_network.specs.Network.{state_of, IsInOrder, IsBlankAt};
+ghost use Rattle.spb_network.specs.Network.{state_of, AreMade, IsInOrder, IsBlankAt};
 ghost use Rattle.spb_network.specs.Applying.{Answers, Happens, IsWayTo, answered};
 
 use crate::rack::{kind_at, next_box};
@@ -19,9 +19,11 @@ impl<B: Bridge> NetworkOf<B> {
     /// Declares a base VID.
     #[tactic(auto, unfolding(crate::specs::Play::with_vid_more))]
     fn play_vid(&mut self, vid: u64, ect: u64) -> Result<(), ApplyError>
-        ensures { Happens (declare.vid_refusal (state_of B.kind_of B.blank B.view self.old).world vid ect)
+        requires { IsInOrder B.kind_of B.blank B.view self.old }
+        ensures happens { Happens (declare.vid_refusal (state_of B.kind_of B.blank B.view self.old).world vid ect)
             (play.with_vid_more (state_of B.kind_of B.blank B.view self.old) vid ect)
             self.old result self.new (state_of B.kind_of B.blank B.view self.new) }
+        ensures made { OnOk result (AreMade B.blank self.new.boxes.items) }
     {
         match self.world.vid_refusal(vid, ect) {
             Some(reason) => Err(ApplyError::Refused(reason)),
@@ -44,10 +46,12 @@ impl<B: Bridge> NetworkOf<B> {
     ) -> Result<(), NoMemory>
         requires place { place < length self.old.rack.items }
         requires blank { IsBlankAt B.blank self.old.rack.items place }
+        requires made { AreMade B.blank self.old.boxes.items }
         requires accepted { declare.bridge_refusal self.old.world name priority system source ports ≡ None }
-        ensures { OnOk result (state_of B.kind_of B.blank B.view self.new
+        ensures state { OnOk result (state_of B.kind_of B.blank B.view self.new
             ≡ play.boxed (state_of B.kind_of B.blank B.view self.old) name
-                (declare.bridge_of priority system source ports) (Some place)) }
+            (declare.bridge_of priority system source ports) (Some place)) }
+        ensures made { OnOk result (AreMade B.blank self.new.boxes.items) }
     {
         let id = BridgeId {
             priority: priority as u16,
@@ -57,7 +61,8 @@ impl<B: Bridge> NetworkOf<B> {
         let mut bridge = self.rack.remove(place);
         bridge.configure(&config)?;
         self.boxes.push(bridge)?;
-        self.world.declare_bridge(name, priority, system, source, ports)
+        self.world
+            .declare_bridge(name, priority, system, source, ports)
     }
 
     /// Declares a bridge.
@@ -70,12 +75,17 @@ impl<B: Bridge> NetworkOf<B> {
         source: SourceId,
         ports: u64,
     ) -> Result<(), ApplyError>
-        ensures { Happens (refuse.declared_refusal (state_of B.kind_of B.blank B.view self.old) name priority system source ports)
+        requires { IsInOrder B.kind_of B.blank B.view self.old }
+        ensures happens { Happens (refuse.declared_refusal (state_of B.kind_of B.blank B.view self.old) name priority system source ports)
             (play.declared (state_of B.kind_of B.blank B.view self.old) name (declare.bridge_of priority system source ports))
             self.old result self.new (state_of B.kind_of B.blank B.view self.new) }
+        ensures made { OnOk result (AreMade B.blank self.new.boxes.items) }
     {
         let wanted = kind_at(self.rule, self.world.bridge_count());
-        if let Some(reason) = self.world.bridge_refusal(name, priority, system, source, ports) {
+        if let Some(reason) = self
+            .world
+            .bridge_refusal(name, priority, system, source, ports)
+        {
             return Err(ApplyError::Refused(reason));
         }
         match next_box(&self.rack, wanted) {
@@ -100,8 +110,9 @@ impl<B: Bridge> NetworkOf<B> {
     ) -> Result<(), NoMemory>
         requires order { IsInOrder B.kind_of B.blank B.view self.old }
         requires accepted { declare.link_refusal self.old.world name i port_a j port_b cost ≡ None }
-        ensures { OnOk result (state_of B.kind_of B.blank B.view self.new
+        ensures state { OnOk result (state_of B.kind_of B.blank B.view self.new
             ≡ play.linked (state_of B.kind_of B.blank B.view self.old) name (declare.link_of i port_a j port_b cost)) }
+        ensures made { OnOk result (AreMade B.blank self.new.boxes.items) }
     {
         let place = self.lanes.len();
         self.world.declare_link(name, i, port_a, j, port_b, cost)?;
@@ -121,9 +132,10 @@ impl<B: Bridge> NetworkOf<B> {
         cost: u64,
     ) -> Result<(), ApplyError>
         requires { IsInOrder B.kind_of B.blank B.view self.old }
-        ensures { Happens (refuse.named_link_refusal (state_of B.kind_of B.blank B.view self.old) name a port_a b port_b cost)
+        ensures happens { Happens (refuse.named_link_refusal (state_of B.kind_of B.blank B.view self.old) name a port_a b port_b cost)
             (play.named_link (state_of B.kind_of B.blank B.view self.old) name a port_a b port_b cost)
             self.old result self.new (state_of B.kind_of B.blank B.view self.new) }
+        ensures made { OnOk result (AreMade B.blank self.new.boxes.items) }
     {
         let Some(i) = self.world.bridge_place(a) else {
             return Err(ApplyError::Refused(Reason::NoSuchName));
@@ -144,9 +156,10 @@ impl<B: Bridge> NetworkOf<B> {
     #[tactic(auto, unfolding(crate::specs::Refusing::down_refusal, crate::specs::Play::at_link, crate::specs::Reason::reason_unless))]
     fn play_down(&mut self, name: Name) -> Result<(), ApplyError>
         requires { IsInOrder B.kind_of B.blank B.view self.old }
-        ensures { Happens (refuse.down_refusal (state_of B.kind_of B.blank B.view self.old) name)
+        ensures happens { Happens (refuse.down_refusal (state_of B.kind_of B.blank B.view self.old) name)
             (play.at_link event.switched_off (state_of B.kind_of B.blank B.view self.old) name)
             self.old result self.new (state_of B.kind_of B.blank B.view self.new) }
+        ensures made { OnOk result (AreMade B.blank self.new.boxes.items) }
     {
         let Some(link) = self.world.link_place(name) else {
             return Err(ApplyError::Refused(Reason::NoSuchName));
@@ -162,9 +175,10 @@ impl<B: Bridge> NetworkOf<B> {
     #[tactic(auto, unfolding(crate::specs::Refusing::up_refusal, crate::specs::Play::at_link, crate::specs::Reason::reason_unless))]
     fn play_up(&mut self, name: Name) -> Result<(), ApplyError>
         requires { IsInOrder B.kind_of B.blank B.view self.old }
-        ensures { Happens (refuse.up_refusal (state_of B.kind_of B.blank B.view self.old) name)
+        ensures happens { Happens (refuse.up_refusal (state_of B.kind_of B.blank B.view self.old) name)
             (play.at_link event.switched_on (state_of B.kind_of B.blank B.view self.old) name)
             self.old result self.new (state_of B.kind_of B.blank B.view self.new) }
+        ensures made { OnOk result (AreMade B.blank self.new.boxes.items) }
     {
         let Some(link) = self.world.link_place(name) else {
             return Err(ApplyError::Refused(Reason::NoSuchName));
@@ -180,9 +194,10 @@ impl<B: Bridge> NetworkOf<B> {
     #[tactic(auto, unfolding(crate::specs::Refusing::unnamed_refusal, crate::specs::Play::at_bridge, crate::specs::Reason::reason_unless))]
     fn play_tick(&mut self, name: Name) -> Result<(), ApplyError>
         requires { IsInOrder B.kind_of B.blank B.view self.old }
-        ensures { Happens (refuse.unnamed_refusal (state_of B.kind_of B.blank B.view self.old) name)
+        ensures happens { Happens (refuse.unnamed_refusal (state_of B.kind_of B.blank B.view self.old) name)
             (play.at_bridge event.ticked (state_of B.kind_of B.blank B.view self.old) name)
             self.old result self.new (state_of B.kind_of B.blank B.view self.new) }
+        ensures made { OnOk result (AreMade B.blank self.new.boxes.items) }
     {
         let Some(place) = self.world.bridge_place(name) else {
             return Err(ApplyError::Refused(Reason::NoSuchName));
@@ -211,9 +226,10 @@ impl<B: Bridge> NetworkOf<B> {
     #[tactic(auto, unfolding(crate::specs::Play::at_link))]
     fn play_deliver(&mut self, name: Name, dir: Dir) -> Result<(), ApplyError>
         requires { IsInOrder B.kind_of B.blank B.view self.old }
-        ensures { Happens (refuse.frame_refusal (state_of B.kind_of B.blank B.view self.old) name dir 0)
+        ensures happens { Happens (refuse.frame_refusal (state_of B.kind_of B.blank B.view self.old) name dir 0)
             (play.at_link (λ s k. event.delivered s k dir) (state_of B.kind_of B.blank B.view self.old) name)
             self.old result self.new (state_of B.kind_of B.blank B.view self.new) }
+        ensures made { OnOk result (AreMade B.blank self.new.boxes.items) }
     {
         match self.way_to(name, dir, 0) {
             Err(reason) => Err(ApplyError::Refused(reason)),
@@ -228,9 +244,10 @@ impl<B: Bridge> NetworkOf<B> {
     #[tactic(auto, unfolding(crate::specs::Play::at_link))]
     fn play_lose(&mut self, name: Name, dir: Dir, place: u64) -> Result<(), ApplyError>
         requires { IsInOrder B.kind_of B.blank B.view self.old }
-        ensures { Happens (refuse.frame_refusal (state_of B.kind_of B.blank B.view self.old) name dir place)
+        ensures happens { Happens (refuse.frame_refusal (state_of B.kind_of B.blank B.view self.old) name dir place)
             (play.at_link (λ s k. event.lost s k dir place) (state_of B.kind_of B.blank B.view self.old) name)
             self.old result self.new (state_of B.kind_of B.blank B.view self.new) }
+        ensures made { OnOk result (AreMade B.blank self.new.boxes.items) }
     {
         match self.way_to(name, dir, place) {
             Err(reason) => Err(ApplyError::Refused(reason)),
@@ -245,9 +262,10 @@ impl<B: Bridge> NetworkOf<B> {
     #[tactic(auto, unfolding(crate::specs::Play::at_link))]
     fn play_double(&mut self, name: Name, dir: Dir, place: u64) -> Result<(), ApplyError>
         requires { IsInOrder B.kind_of B.blank B.view self.old }
-        ensures { Happens (refuse.frame_refusal (state_of B.kind_of B.blank B.view self.old) name dir place)
+        ensures happens { Happens (refuse.frame_refusal (state_of B.kind_of B.blank B.view self.old) name dir place)
             (play.at_link (λ s k. event.doubled s k dir place) (state_of B.kind_of B.blank B.view self.old) name)
             self.old result self.new (state_of B.kind_of B.blank B.view self.new) }
+        ensures made { OnOk result (AreMade B.blank self.new.boxes.items) }
     {
         match self.way_to(name, dir, place) {
             Err(reason) => Err(ApplyError::Refused(reason)),
@@ -262,9 +280,10 @@ impl<B: Bridge> NetworkOf<B> {
     #[tactic(auto, unfolding(crate::specs::Refusing::round_refusal, crate::specs::Play::with_rounds, crate::specs::Reason::reason_unless))]
     fn play_round_command(&mut self, n: u64) -> Result<(), ApplyError>
         requires { IsInOrder B.kind_of B.blank B.view self.old }
-        ensures { Happens (refuse.round_refusal (state_of B.kind_of B.blank B.view self.old) n)
+        ensures happens { Happens (refuse.round_refusal (state_of B.kind_of B.blank B.view self.old) n)
             (play.with_rounds n (state_of B.kind_of B.blank B.view self.old))
             self.old result self.new (state_of B.kind_of B.blank B.view self.new) }
+        ensures made { OnOk result (AreMade B.blank self.new.boxes.items) }
     {
         if n < 1 || n > 20_000 {
             return Err(ApplyError::Refused(Reason::Range));
@@ -282,9 +301,10 @@ impl<B: Bridge> NetworkOf<B> {
     #[tactic(auto, unfolding(crate::specs::Refusing::drain_refusal, crate::specs::Play::with_drain, crate::specs::Reason::reason_unless))]
     fn play_drain_command(&mut self, n: u64) -> Result<(), ApplyError>
         requires { IsInOrder B.kind_of B.blank B.view self.old }
-        ensures { Happens (refuse.drain_refusal (state_of B.kind_of B.blank B.view self.old) n)
+        ensures happens { Happens (refuse.drain_refusal (state_of B.kind_of B.blank B.view self.old) n)
             (play.with_drain n (state_of B.kind_of B.blank B.view self.old))
             self.old result self.new (state_of B.kind_of B.blank B.view self.new) }
+        ensures made { OnOk result (AreMade B.blank self.new.boxes.items) }
     {
         if n < 1 || n > 1_000_000 {
             return Err(ApplyError::Refused(Reason::Range));
@@ -301,8 +321,9 @@ impl<B: Bridge> NetworkOf<B> {
     /// Plays a command at a network that hasn't halted.
     pub(crate) fn play(&mut self, command: &Command) -> Result<Answer, ApplyError>
         requires { IsInOrder B.kind_of B.blank B.view self.old }
-        ensures { Answers (state_of B.kind_of B.blank B.view self.old) command.now
+        ensures answers { Answers (state_of B.kind_of B.blank B.view self.old) command.now
             self.old result self.new (state_of B.kind_of B.blank B.view self.new) }
+        ensures made { OnOk result (AreMade B.blank self.new.boxes.items) }
     {
         match command {
             Command::Vid { vid, ect } => silent(self.play_vid(*vid, *ect)),

@@ -1,5 +1,8 @@
-use Rattle.bridge_api.proofs.Hellos.{hellos_are_heard}
+use Rattle.bridge_api.proofs.Hellos.{hellos_are_heard, sent_with_carrier}
 use Rattle.bridge_api.proofs.laws.hellos_are_heard.Goals as goal
 
-pub returns : goal.returns
-returns c = hellos_are_heard c.control_again.ensures
+pub returns-clause-heard : goal.returns-clause-heard
+returns-clause-heard c = hellos_are_heard c.control_again.ensures
+
+pub returns-clause-carrier : goal.returns-clause-carrier
+returns-clause-carrier c = sent_with_carrier

@@ -1,10 +1,8 @@
-use Rattle.std.proofs.Common.{◌≡◌, ◌+◌, ◌++◌, drop}
+use Rattle.std.proofs.Common.{◌≡◌, take}
 use Rattle.bridge_api.specs.Ticking.{sent_from}
+use Rattle.bridge_api.specs.Step.{with_wire}
 use Rattle.plain_bridge.proofs.hello.send_hellos.Given as goal
 
--- what was sent, and what is to be sent from here on, is what is to be sent from the start
+-- the hellos of the ports so far were sent
 abbrev pub invariant-send : goal.invariant-send
-invariant-send l = record {
-  wire : l.outbox.wire ++ sent_from l.system (l.place + 1) (drop l.place l.ports) ≡ l.initial.outbox.wire ++ sent_from l.system 1 l.ports;
-  left : l.outbox.left ≡ l.initial.outbox.left;
-}
+invariant-send l = l.outbox ≡ with_wire (sent_from l.system 1 (take l.place l.ports)) l.initial.outbox

@@ -1,8 +1,6 @@
-use Rattle.std.proofs.Common.{◌≡◌}
+use Rattle.std.proofs.Common.{◌≡◌, ◌++◌, map, take, drop}
 use Rattle.bridge_api.specs.Ticking.{later}
-use Rattle.plain_bridge.specs.Plain.{AreSound}
-use Rattle.plain_bridge.proofs.Loops.{changed_below}
 use Rattle.plain_bridge.proofs.ports.count_down.Given as goal
 
-abbrev pub invariant-count : goal.invariant-count
-invariant-count l = record { changed : l.ports.items ≡ changed_below later l.port-index l.initial.ports.items; sound : AreSound l.ports.items }
+abbrev pub invariant-loop-port : goal.invariant-loop-port
+invariant-loop-port l = l.port-items ≡ map later (take l.port-index l.fn.ports.items) ++ drop l.port-index l.fn.ports.items

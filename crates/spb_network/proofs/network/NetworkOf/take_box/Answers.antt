@@ -1,9 +1,10 @@
-use Rattle.std.proofs.Common.{◌≡◌, ◌∷◌, [], ◌++◌, map, sym, ap, ◌∙◌, arith}
+use Rattle.std.proofs.Common.{◌≡◌, ◌∷◌, [], ◌++◌, map, false, subst, sym, ap, ◌∙◌, arith}
 use Rattle.bridge_api.specs.Config.{configured}
 use Rattle.spb_network.specs.State.{State}
-use Rattle.spb_network.specs.Network.{state_of, spare}
+use Rattle.spb_network.specs.Network.{state_of, spare, AreMade}
 use Rattle.spb_network.proofs.BoxLemmas.{on_ok, got}
 use Rattle.spb_network.proofs.CommandFits.{map-remove, map-push}
+use Rattle.spb_network.proofs.ListLemmas.{All-push}
 use Rattle.spb_network.proofs.RefusalLemmas.{bridge_refusal_none}
 use Rattle.spb_network.proofs.network.NetworkOf.take_box.Goals as goal
 
@@ -29,11 +30,15 @@ config-requires-clause-address g c = (bridge_refusal_none _ _ _ _ _ _ c.requires
 pub configure-requires-clause-blank : goal.configure-requires-clause-blank
 configure-requires-clause-blank g c = c.requires.blank c.remove-bridge.result (got c.args.self.now.rack.items c.args.place c.remove-bridge.result c.requires.place c.remove-bridge.ensures.value)
 
-pub returns : goal.returns
-returns g c =
+pub returns-clause-state : goal.returns-clause-state
+returns-clause-state g c =
     let s : State = state_of g.B.Bridge.kind_of g.B.Bridge.blank g.B.Bridge.view c.args.self.now in
     on_ok c.declare_bridge.result (λ e. λ i. record s {
       rack = (ap (map (spare g.B.Bridge.kind_of g.B.Bridge.blank g.B.Bridge.view)) c.remove-bridge.ensures.items ∙ map-remove (spare g.B.Bridge.kind_of g.B.Bridge.blank g.B.Bridge.view) c.args.self.now.rack.items c.args.place) i;
       world = e i;
       views = (ap (map g.B.Bridge.view) c.in_ok-push.ensures.items ∙ map-push g.B.Bridge.view c.args.self.now.boxes.items c.configure.new.self ∙ ap (λ v. s.views ++ v ∷ []) (c.in_ok-configure.ensures.view ∙ ap configured c.in_ok-config.ensures.config)) i;
     }) c.declare_bridge.ensures.ok
+
+pub returns-clause-made : goal.returns-clause-made
+returns-clause-made g c =
+    on_ok c.declare_bridge.result (λ e. subst (AreMade g.B.Bridge.blank) (sym c.in_ok-push.ensures.items) (All-push (λ b. g.B.Bridge.blank b ≡ false) c.args.self.now.boxes.items c.configure.new.self c.requires.made c.in_ok-configure.ensures.made)) c.declare_bridge.ensures.ok

@@ -1,0 +1,73 @@
+-- What is so of every entry stays so after a claim, where it is so of what is heard.
+use Rattle.std.specs.Prelude.{◌≡◌, Bool, true, false, Option, Some, None, if◌then◌else◌}
+use Rattle.std.proofs.Common.{refl, sym, ap, subst, ◌∙◌, ⊎_elim}
+use Rattle.std.proofs.lemmas.Bool.{and_parts}
+use Rattle.std.specs.FinMap.{get, insert}
+use Rattle.spb_types.specs.declared.address.LspId.{LspId}
+use Rattle.spb_types.specs.declared.ports.PortSet.{PortSet}
+use Rattle.spb_types.specs.Address.{same_system}
+use Rattle.lsdb.specs.declared.version.Relation.{Relation}
+use Rattle.lsdb.specs.Version.{number_of, relation}
+use Rattle.lsdb.specs.Entry.{Entry}
+use Rattle.lsdb.specs.Database.{Lsps, version_in, fits, placed}
+use Rattle.lsdb.specs.Certificate.{Claim}
+use Rattle.lsdb.proofs.LookupLemmas.{get-insert_same, get-insert_other, same_or_not}
+use Rattle.flooding.specs.Own.{own_id, answered}
+use Rattle.flooding.specs.Hearing.{Holding, is_beyond, is_answered, after_claim}
+use Rattle.flooding.specs.Origination.{next_entry, originated_from, originated}
+use Rattle.flooding.specs.Entries.{AllEntries}
+use Rattle.flooding.proofs.Heard.{Row}
+use Rattle.flooding.proofs.Claimed.{heard_of, db_after}
+
+module _ (P : LspId → Entry → Type 0) where
+  inserted : (db : Lsps) (id : LspId) (e : Entry) → AllEntries P db → P id e → AllEntries P (insert db id e)
+  inserted db id e all new x f is = ⊎_elim
+      (λ here.
+      let same : e ≡ f = let found : Some e ≡ Some f = sym (get-insert_same db id e) ∙ ap (λ (y : LspId). get (insert db id e) y) (sym here) ∙ is in cc in
+      subst (λ (y : LspId). P y f) (sym here) (subst (λ (g : Entry). P id g) same new))
+      (λ elsewhere. all x f (sym (get-insert_other db id e x elsewhere) ∙ is))
+      (same_or_not x id)
+
+  placed_by : (db : Lsps) (id : LspId) (e : Entry) (b : Bool) → AllEntries P db → P id e → AllEntries P (if b then insert db id e else db)
+  placed_by db id e true all new = inserted db id e all new
+  placed_by db id e false all new = all
+
+  pub all_placed : (db : Lsps) (id : LspId) (new : Option Entry) → AllEntries P db → ((e : Entry) → new ≡ Some e → P id e) → AllEntries P (placed db id new)
+  all_placed db id None all each = all
+  all_placed db id (Some e) all each = placed_by db id e (fits db id) all (each e refl)
+
+  heard_by_test : (row : Row) (up : PortSet) (c : Claim) (h : Holding) (r : Relation) (b : Bool) → relation c.version (version_in (get h.db c.id)) ≡ r
+      → (b ≡ true → is_beyond r ≡ true)
+      → (is_beyond (relation c.version (version_in (get h.db c.id))) ≡ true → P c.id (answered up h.own c.id (number_of c.version)))
+      → ((e : Entry) → row r (get h.db c.id) ≡ Some e → P c.id e)
+      → (e : Entry) → (if b then Some (answered up h.own c.id (number_of c.version)) else row r (get h.db c.id)) ≡ Some e → P c.id e
+  heard_by_test row up c h r true is beyond answer rows e found =
+      let same : answered up h.own c.id (number_of c.version) ≡ e = cc in
+      subst (λ (g : Entry). P c.id g) same (answer (ap is_beyond is ∙ beyond refl))
+  heard_by_test row up c h r false is beyond answer rows e found = rows e found
+
+  -- after a claim, from what answers it and what its row says
+  pub all_after_claim : (row : Row) (up : PortSet) (c : Claim) (h : Holding) → AllEntries P h.db
+      → (is_beyond (relation c.version (version_in (get h.db c.id))) ≡ true → P c.id (answered up h.own c.id (number_of c.version)))
+      → ((e : Entry) → row (relation c.version (version_in (get h.db c.id))) (get h.db c.id) ≡ Some e → P c.id e)
+      → AllEntries P (after_claim row up c h).db
+  all_after_claim row up c h all answer rows =
+      let r = relation c.version (version_in (get h.db c.id)) in
+      subst (λ (db : Lsps). AllEntries P db) (sym (db_after row up c h))
+      (all_placed h.db c.id (heard_of row up c h) all
+      (heard_by_test row up c h r (is_answered h.own c.id r) refl (λ b. (and_parts (same_system c.id.system h.own.system) (is_beyond r) b).1) answer rows))
+
+  originated_by : (up : PortSet) (h : Holding) (b : Bool) → AllEntries P h.db
+      → P (own_id h.own.system) (next_entry up h.own (number_of (version_in (get h.db (own_id h.own.system)))) (get h.db (own_id h.own.system)))
+      → AllEntries P (if b then h else originated_from up (get h.db (own_id h.own.system)) h).db
+  originated_by up h true all next = all
+  originated_by up h false all next =
+      all_placed h.db (own_id h.own.system) (Some (next_entry up h.own (number_of (version_in (get h.db (own_id h.own.system)))) (get h.db (own_id h.own.system)))) all
+      (λ e is. let same : next_entry up h.own (number_of (version_in (get h.db (own_id h.own.system)))) (get h.db (own_id h.own.system)) ≡ e = cc in subst (λ (g : Entry). P (own_id h.own.system) g) same next)
+
+  -- after an origination, from the next entry
+  pub all_originated : (up : PortSet) (h : Holding) → AllEntries P h.db
+      → P (own_id h.own.system) (next_entry up h.own (number_of (version_in (get h.db (own_id h.own.system)))) (get h.db (own_id h.own.system)))
+      → AllEntries P (originated up h).db
+  unfolding originated
+  all_originated up h all next = originated_by up h h.own.spent all next

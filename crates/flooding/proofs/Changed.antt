@@ -1,0 +1,64 @@
+-- Changes of what is held under one id.
+use Rattle.std.specs.Prelude.{◌≡◌, false, not, Option, Some, None, if◌then◌else◌}
+use Rattle.std.proofs.Common.{refl, sym, ap, subst, ◌∙◌, ⊎_elim}
+use Rattle.std.specs.Option.{option_map}
+use Rattle.std.specs.FinMap.{get, insert, same_map}
+use Rattle.spb_types.specs.declared.address.LspId.{LspId}
+use Rattle.lsdb.specs.declared.version.Version.{Version}
+use Rattle.lsdb.specs.declared.version.Version.TheVariants.{Absent, Live, Dead}
+use Rattle.lsdb.specs.Version.{is_absent}
+use Rattle.lsdb.specs.Entry.{Entry}
+use Rattle.lsdb.specs.Database.{Lsps, version_in, placed, changed, changed_to}
+use Rattle.lsdb.proofs.Ids.{ids_total, ids_tied}
+use Rattle.lsdb.proofs.LookupLemmas.{get-insert_same, get-insert_other, same_or_not, fits_held, placed_held}
+use Rattle.flooding.specs.Hearing.{unless_absent, lacks_place}
+
+-- what is held, put in again
+pub insert_held : (db : Lsps) (id : LspId) (e : Entry) → get db id ≡ Some e → insert db id e ≡ db
+insert_held db id e is = same_map ids_total ids_tied (insert db id e) db (λ x. ⊎_elim
+    (λ here. subst (λ (y : LspId). get (insert db id e) y ≡ get db y) (sym here) (get-insert_same db id e ∙ sym is))
+    (λ elsewhere. get-insert_other db id e x elsewhere)
+    (same_or_not x id))
+
+-- a change that leaves what is held
+still_at : (f : Entry → Entry) (db : Lsps) (id : LspId) (o : Option Entry) → get db id ≡ o → option_map f o ≡ o → changed_to db id (option_map f o) ≡ db
+still_at f db id None is same = refl
+still_at f db id (Some e) is same = ap (changed_to db id) same ∙ insert_held db id e is
+
+pub changed_still : (f : Entry → Entry) (db : Lsps) (id : LspId) → option_map f (get db id) ≡ get db id → changed f db id ≡ db
+changed_still f db id same = still_at f db id (get db id) refl same
+
+-- a change of what is held is its placing, which needs no place
+placed_at : (f : Entry → Entry) (db : Lsps) (id : LspId) (o : Option Entry) → get db id ≡ o → placed db id (option_map f o) ≡ changed_to db id (option_map f o)
+placed_at f db id None is = refl
+placed_at f db id (Some e) is = placed_held db id e (f e) is
+
+pub placed_changed : (f : Entry → Entry) (db : Lsps) (id : LspId) → placed db id (option_map f (get db id)) ≡ changed f db id
+placed_changed f db id = placed_at f db id (get db id) refl
+
+placeless_at : (f : Entry → Entry) (db : Lsps) (id : LspId) (o : Option Entry) → get db id ≡ o → lacks_place db id (option_map f o) ≡ false
+placeless_at f db id None is = refl
+placeless_at f db id (Some e) is = ap not (fits_held db id e is)
+
+pub change_has_place : (f : Entry → Entry) (db : Lsps) (id : LspId) → lacks_place db id (option_map f (get db id)) ≡ false
+change_has_place f db id = placeless_at f db id (get db id) refl
+
+-- a change that spares an absent entry
+pub spared : (f : Entry → Entry) (o : Option Entry) → version_in o ≡ Absent → option_map (unless_absent f) o ≡ o
+spared f None is = refl
+spared f (Some e) is = ap (λ a. Some (if is_absent a then e else f e)) is
+
+pub unspared : (f : Entry → Entry) (o : Option Entry) → is_absent (version_in o) ≡ false → option_map (unless_absent f) o ≡ option_map f o
+unspared f None is = refl
+unspared f (Some e) is = ap (λ b. Some (if b then e else f e)) is
+
+pub changed_spared : (f : Entry → Entry) (db : Lsps) (id : LspId) → version_in (get db id) ≡ Absent → changed (unless_absent f) db id ≡ db
+changed_spared f db id is = changed_still (unless_absent f) db id (spared f (get db id) is)
+
+pub changed_unspared : (f : Entry → Entry) (db : Lsps) (id : LspId) → is_absent (version_in (get db id)) ≡ false → changed (unless_absent f) db id ≡ changed f db id
+changed_unspared f db id is = ap (changed_to db id) (unspared f (get db id) is)
+
+pub not_absent : (a : Version) → (a ≡ Absent → ⊥) → is_absent a ≡ false
+not_absent Absent other = absurd (other refl)
+not_absent (Live seq sum) other = refl
+not_absent (Dead seq) other = refl

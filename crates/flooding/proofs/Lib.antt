@@ -1,0 +1,13 @@
+pub mod Changed
+pub mod Heard
+pub mod Originated
+pub mod Sent
+pub mod Claimed
+pub mod Steps
+pub mod Owns
+pub mod AtMostHeld
+pub mod Flags
+pub mod AllEntries
+pub mod SendableEntries
+pub mod FlagEntries
+pub mod Named

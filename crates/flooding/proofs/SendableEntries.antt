@@ -1,0 +1,240 @@
+-- The LSP of every entry can be written and is read again, whatever was heard, originated or aged.
+use Rattle.std.specs.Prelude.{◌≡◌, ℕ, ◌+◌, ◌-◌, ◌≤◌, [], Bool, true, false, ◌&&◌, ◌||◌, Option, Some, None, Ok, Err, ◌==◌, nat_lt, nat_le, if◌then◌else◌, IsTrue}
+use Rattle.std.proofs.Common.{refl, sym, ap, subst, arith, ◌∙◌}
+use Rattle.std.proofs.lemmas.Bool.{and_parts, true≢false, eqb-true, eqb-false, leb-false, ltb-false, ne_eqb}
+use Rattle.std.proofs.lemmas.Slice.Eq.{bytes_eq-Decides}
+use Rattle.std.proofs.Math.Nat.{pos_of_ne-zero}
+use Rattle.std.specs.Option.{option_map}
+use Rattle.std.specs.FinMap.{get}
+use Rattle.spb_types.specs.declared.address.SystemId.{SystemId}
+use Rattle.spb_types.specs.declared.address.LspId.{LspId}
+use Rattle.spb_types.specs.declared.ports.PortSet.{PortSet}
+use Rattle.spb_types.specs.Address.{same_system}
+use Rattle.isis_pdu.specs.declared.kind.Kind.TheVariants as kinds
+use Rattle.isis_pdu.specs.declared.pdu.PduError.TheVariants.{Sum}
+use Rattle.isis_pdu.specs.Pdu.{LspValue, lsp}
+use Rattle.isis_pdu.specs.Spelling.{CanWrite}
+use Rattle.isis_pdu.specs.Grammar.{is_sound_lsp}
+use Rattle.isis_pdu.specs.Tlvs.{is_whole_after}
+use Rattle.isis_pdu.proofs.FormatLaws.{made_is_sound, written_again}
+use Rattle.isis_pdu.proofs.Read.{read_is_spelled}
+use Rattle.lsdb.specs.declared.version.Version.{Version}
+use Rattle.lsdb.specs.declared.version.Version.TheVariants.{Absent, Live, Dead}
+use Rattle.lsdb.specs.declared.version.Relation.{Relation}
+use Rattle.lsdb.specs.declared.version.Relation.TheVariants.{Older, Equal, Newer, Confused}
+use Rattle.lsdb.specs.Version.{number_of, is_absent, leq, relation}
+use Rattle.lsdb.specs.Entry.{Entry, made, stored, acked, cleared, asked, aged_at, AreKept}
+use Rattle.lsdb.specs.Database.{version_in}
+use Rattle.flooding.specs.declared.own.Own.{Own}
+use Rattle.flooding.specs.Own.{last_number, own_id, is_originated, renewed, ended, answered}
+use Rattle.flooding.specs.Hearing.{claim_of, body_of, unless_absent, wanted, lsp_row, snp_row, is_beyond}
+use Rattle.flooding.specs.Origination.{spent_entry}
+use Rattle.flooding.specs.Sending.{lsp_in}
+use Rattle.flooding.specs.Entries.{IsNumbered, IsSendable}
+use Rattle.flooding.specs.Laws.{HasBody, IsWhole, SentIsRead, ReadIsWhole, ClaimIsNumbered, LspKeepsSendable, EntryKeepsSendable, OriginationKeepsSendable, AgeingKeepsSendable, FlagsKeepSendable}
+use Rattle.flooding.proofs.Heard.{number-claimed}
+use Rattle.flooding.proofs.Steps.{beyond_is}
+use Rattle.flooding.proofs.AllEntries.{all_after_claim, all_originated}
+
+-- ---- bodies without TLVs
+
+-- no TLVs at all can be written
+can_write_none : CanWrite kinds.Lsp []
+unfolding is_whole_after
+can_write_none = record { whole = refl; short = omega arith }
+
+-- an LSP without a lifetime has no checksum to hold
+sound_dead : (id : LspId) (seq sum flags : ℕ) → IsTrue (is_sound_lsp (record { lifetime = 0; id = id; seq = seq; sum = sum; flags = flags; tlvs = [] }))
+unfolding is_sound_lsp
+sound_dead id seq sum flags = refl
+
+dead_sendable : (id : LspId) (seq : ℕ) (srm ssn : PortSet) → 1 ≤ seq → IsSendable id (made (Dead seq) 0 [] srm ssn)
+dead_sendable id seq srm ssn numbered = record { numbered = numbered; clean = (refl, refl); written = can_write_none; sound = sound_dead id seq 0 1 }
+
+absent_sendable : (id : LspId) (srm ssn : PortSet) → IsSendable id (made Absent 0 [] srm ssn)
+absent_sendable id srm ssn = record { numbered = tt; clean = (refl, refl); written = can_write_none; sound = sound_dead id 0 0 1 }
+
+-- ---- numbers
+
+beyond_numbered : (a h : Version) → IsNumbered a → leq a h ≡ false → 1 ≤ number_of a
+unfolding leq
+beyond_numbered Absent h numbered beyond = absurd (true≢false beyond)
+beyond_numbered (Live seq sum) h numbered beyond = numbered
+beyond_numbered (Dead seq) h numbered beyond = numbered
+
+numbered_by : (seq lifetime sum : ℕ) (b d : Bool) → (seq == 0) ≡ b → IsNumbered (if b then Absent else (if d then Dead seq else Live seq sum))
+numbered_by seq lifetime sum true d is = tt
+numbered_by seq lifetime sum false true is = pos_of_ne-zero (eqb-false seq 0 is)
+numbered_by seq lifetime sum false false is = pos_of_ne-zero (eqb-false seq 0 is)
+
+pub claim_is_numbered : ClaimIsNumbered
+claim_is_numbered seq lifetime sum = numbered_by seq lifetime sum (seq == 0) (lifetime == 0) refl
+
+claimed_numbered : (l : LspValue) → IsNumbered (claim_of l).version
+claimed_numbered l = claim_is_numbered l.seq l.lifetime l.sum
+
+-- ---- the own LSP
+
+renewed_sendable : (up : PortSet) (own : Own) (seq : ℕ) → HasBody own → IsSendable (own_id own.system) (renewed up own (seq + 1))
+renewed_sendable up own seq has_body = record {
+  numbered = omega arith;
+  clean = (omega arith, has_body.0);
+  written = has_body.1;
+  sound = made_is_sound (lsp_in (own_id own.system) (renewed up own (seq + 1))) refl;
+}
+
+-- the id that passes the test is the own one
+own_is : (system : SystemId) (id : LspId) → is_originated system id ≡ true → own_id system ≡ id
+own_is system id is =
+    let both = and_parts (same_system id.system system) ((id.pseudonode == 0) && (id.number == 0)) is in
+    let last = and_parts (id.pseudonode == 0) (id.number == 0) both.1 in
+    let bytes : system.mac.bytes ≡ id.system.mac.bytes = sym ((bytes_eq-Decides _ _).0 both.0) in
+    let pseudonode : 0 ≡ id.pseudonode = sym (eqb-true id.pseudonode 0 last.0) in
+    let number : 0 ≡ id.number = sym (eqb-true id.number 0 last.1) in
+    λ i. record { system = record { mac = record { bytes = bytes i } }; pseudonode = pseudonode i; number = number i }
+
+answered_by : (up : PortSet) (own : Own) (id : LspId) (seq : ℕ) (b d : Bool) → is_originated own.system id ≡ b → HasBody own → 1 ≤ seq
+    → IsSendable id (if b && d then renewed up own (seq + 1) else ended up seq)
+answered_by up own id seq true true mine has_body numbered =
+    subst (λ (x : LspId). IsSendable x (renewed up own (seq + 1))) (own_is own.system id mine) (renewed_sendable up own seq has_body)
+answered_by up own id seq true false mine has_body numbered = dead_sendable id seq up _ numbered
+answered_by up own id seq false d mine has_body numbered = dead_sendable id seq up _ numbered
+
+answered_sendable : (up : PortSet) (own : Own) (id : LspId) (a h : Version) → HasBody own → IsNumbered a → is_beyond (relation a h) ≡ true → IsSendable id (answered up own id (number_of a))
+answered_sendable up own id a h has_body numbered beyond =
+    answered_by up own id (number_of a) (is_originated own.system id) (nat_lt (number_of a) last_number) refl has_body (beyond_numbered a h numbered (beyond_is a h (relation a h) refl beyond))
+
+-- ---- rows
+
+spared : (f : Entry → Entry) (id : LspId) (e : Entry) (b : Bool) → IsSendable id e → IsSendable id (f e) → IsSendable id (if b then e else f e)
+spared f id e true same changed = same
+spared f id e false same changed = changed
+
+-- other flags
+pub flags_sendable : FlagsKeepSendable
+flags_sendable srm ssn id e s = record { numbered = s.numbered; clean = s.clean; written = s.written; sound = s.sound }
+
+-- what a row makes of what is held, by changes that leave all but the flags
+mapped_sendable : (f : Entry → Entry) (id : LspId) (held : Option Entry) → ((e : Entry) → held ≡ Some e → IsSendable id e) → ((e : Entry) → IsSendable id e → IsSendable id (f e))
+    → (g : Entry) → option_map f held ≡ Some g → IsSendable id g
+mapped_sendable f id None all keeps g is = absurd (cc)
+mapped_sendable f id (Some e) all keeps g is = let same : f e ≡ g = cc in subst (λ (x : Entry). IsSendable id x) same (keeps e (all e refl))
+
+asked_sendable : (port : ℕ) (id : LspId) (e : Entry) → IsSendable id e → IsSendable id (asked port e)
+asked_sendable port id e s = flags_sendable _ _ id e s
+
+acked_sendable : (port : ℕ) (id : LspId) (e : Entry) → IsSendable id e → IsSendable id (unless_absent (acked port) e)
+acked_sendable port id e s = spared (acked port) id e (is_absent e.version) s (flags_sendable _ _ id e s)
+
+cleared_sendable : (port : ℕ) (id : LspId) (e : Entry) → IsSendable id e → IsSendable id (unless_absent (cleared port) e)
+cleared_sendable port id e s = spared (cleared port) id e (is_absent e.version) s (flags_sendable _ _ id e s)
+
+wanted_sendable : (port : ℕ) (id : LspId) (held : Option Entry) → ((e : Entry) → held ≡ Some e → IsSendable id e) → IsSendable id (wanted port held)
+wanted_sendable port id None all = absent_sendable id _ _
+wanted_sendable port id (Some e) all = flags_sendable _ _ id e (all e refl)
+
+ended_sendable : (up : PortSet) (id : LspId) (seq : ℕ) (g : Entry) → 1 ≤ seq → Some (ended up seq) ≡ Some g → IsSendable id g
+ended_sendable up id seq g numbered is = let same : ended up seq ≡ g = cc in subst (λ (x : Entry). IsSendable id x) same (dead_sendable id seq up _ numbered)
+
+snp_row_sendable : (up : PortSet) (port : ℕ) (id : LspId) (a : Version) (r : Relation) (held : Option Entry) → IsNumbered a → relation a (version_in held) ≡ r
+    → ((e : Entry) → held ≡ Some e → IsSendable id e) → (g : Entry) → snp_row up port a r held ≡ Some g → IsSendable id g
+snp_row_sendable up port id a Older held numbered is all g found = mapped_sendable (asked port) id held all (asked_sendable port id) g found
+snp_row_sendable up port id a Equal held numbered is all g found = mapped_sendable (unless_absent (cleared port)) id held all (cleared_sendable port id) g found
+snp_row_sendable up port id a Newer held numbered is all g found = let same : wanted port held ≡ g = cc in subst (λ (x : Entry). IsSendable id x) same (wanted_sendable port id held all)
+snp_row_sendable up port id a Confused held numbered is all g found =
+    ended_sendable up id (number_of a) g (beyond_numbered a (version_in held) numbered (beyond_is a (version_in held) Confused is refl)) found
+
+-- a stored LSP
+stored_by : (up : PortSet) (port : ℕ) (l : LspValue) (b d : Bool) → (l.seq == 0) ≡ b → (l.lifetime == 0) ≡ d → IsWhole l
+    → IsSendable l.id (stored up port (if b then Absent else (if d then Dead l.seq else Live l.seq l.sum)) l.lifetime (body_of l))
+stored_by up port l true d number life whole = absent_sendable l.id _ _
+stored_by up port l false true number life whole = dead_sendable l.id l.seq _ _ (pos_of_ne-zero (eqb-false l.seq 0 number))
+stored_by up port l false false number life whole = record {
+  numbered = pos_of_ne-zero (eqb-false l.seq 0 number);
+  clean = (pos_of_ne-zero (eqb-false l.lifetime 0 life), omega arith);
+  written = whole.written;
+  sound = whole.sound;
+}
+
+lsp_row_sendable : (up : PortSet) (port : ℕ) (l : LspValue) (r : Relation) (held : Option Entry) → IsWhole l → relation (claim_of l).version (version_in held) ≡ r
+    → ((e : Entry) → held ≡ Some e → IsSendable l.id e) → (g : Entry) → lsp_row up port l r held ≡ Some g → IsSendable l.id g
+lsp_row_sendable up port l Older held whole is all g found = mapped_sendable (asked port) l.id held all (asked_sendable port l.id) g found
+lsp_row_sendable up port l Equal held whole is all g found = mapped_sendable (unless_absent (acked port)) l.id held all (acked_sendable port l.id) g found
+lsp_row_sendable up port l Newer held whole is all g found =
+    let same : stored up port (claim_of l).version l.lifetime (body_of l) ≡ g = cc in
+    subst (λ (x : Entry). IsSendable l.id x) same (stored_by up port l (l.seq == 0) (l.lifetime == 0) refl refl whole)
+lsp_row_sendable up port l Confused held whole is all g found =
+    ended_sendable up l.id l.seq g
+    (subst (λ n. 1 ≤ n) (number-claimed l.seq l.lifetime l.sum) (beyond_numbered (claim_of l).version (version_in held) (claimed_numbered l) (beyond_is (claim_of l).version (version_in held) Confused is refl)))
+    found
+
+-- ---- the laws
+
+pub lsp_keeps_sendable : LspKeepsSendable
+lsp_keeps_sendable up port l h whole has_body all =
+    all_after_claim IsSendable (lsp_row up port l) up (claim_of l) h all
+    (answered_sendable up h.own l.id (claim_of l).version (version_in (get h.db l.id)) has_body (claimed_numbered l))
+    (lsp_row_sendable up port l _ (get h.db l.id) whole refl (all l.id))
+
+pub entry_keeps_sendable : EntryKeepsSendable
+entry_keeps_sendable up port c h numbered has_body all =
+    all_after_claim IsSendable (snp_row up port c.version) up c h all
+    (answered_sendable up h.own c.id c.version (version_in (get h.db c.id)) has_body numbered)
+    (snp_row_sendable up port c.id c.version _ (get h.db c.id) numbered refl (all c.id))
+
+next_by : (up : PortSet) (own : Own) (seq : ℕ) (held : Option Entry) (b : Bool) → nat_lt seq last_number ≡ b → HasBody own
+    → IsSendable (own_id own.system) (if b then renewed up own (seq + 1) else spent_entry up seq held)
+next_by up own seq held true is has_body = renewed_sendable up own seq has_body
+next_by up own seq held false is has_body = let past = ltb-false seq last_number is in dead_sendable (own_id own.system) seq up _ (omega arith)
+
+pub origination_keeps_sendable : OriginationKeepsSendable
+origination_keeps_sendable up h has_body all =
+    let held = get h.db (own_id h.own.system) in
+    let seq = number_of (version_in held) in
+    all_originated IsSendable up h all (next_by up h.own seq held (nat_lt seq last_number) refl has_body)
+
+-- ---- reading and writing
+
+pub sent_is_read : SentIsRead
+sent_is_read id e six s =
+    written_again (lsp (lsp_in id e)) (record { ids = six; whole = s.written.whole })
+    ∙ ap (λ b. if b then Ok (lsp (lsp_in id e)) else Err Sum) s.sound
+
+pub read_is_whole : ReadIsWhole
+read_is_whole bytes l fit few is =
+    let from = read_is_spelled bytes (lsp l) fit is in
+    let within = from.within in
+    record { written = record { whole = from.pdu.whole; short = omega arith }; sound = from.sound }
+
+-- ---- a second
+
+shorter_by : (zero_now zero_then unnumbered holds : Bool) → zero_now ≡ false → ((zero_now || unnumbered) || holds) ≡ true → ((zero_then || unnumbered) || holds) ≡ true
+shorter_by false true unnumbered holds lives sound = refl
+shorter_by false false unnumbered holds lives sound = sound
+shorter_by true zero_then unnumbered holds lives sound = absurd (true≢false lives)
+
+-- a checksum that holds doesn't depend on the lifetime that is left
+sound_shorter : (l : LspValue) (lifetime : ℕ) → 1 ≤ l.lifetime → IsTrue (is_sound_lsp l) → IsTrue (is_sound_lsp (record l { lifetime = lifetime }))
+unfolding is_sound_lsp
+sound_shorter l lifetime lives sound = shorter_by (l.lifetime == 0) (lifetime == 0) (l.seq == 0) _ (ne_eqb l.lifetime 0 (omega arith)) sound
+
+aged_live : (up : PortSet) (id : LspId) (e : Entry) (seq sum : ℕ) (b : Bool) → e.version ≡ Live seq sum → nat_le e.lifetime 1 ≡ b → IsSendable id e
+    → IsSendable id (if b then made (Dead seq) 0 [] up e.ssn else record e { lifetime = e.lifetime - 1 })
+aged_live up id e seq sum true is last s = dead_sendable id seq up e.ssn (subst IsNumbered is s.numbered)
+aged_live up id e seq sum false is last s =
+    let more = leb-false e.lifetime 1 last in
+    let kept = subst (λ (v : Version). AreKept v e.lifetime e.body) is s.clean in
+    record {
+      numbered = s.numbered;
+      clean = subst (λ (v : Version). AreKept v (e.lifetime - 1) e.body) (sym is) (omega arith, kept.1);
+      written = s.written;
+      sound = sound_shorter (lsp_in id e) (e.lifetime - 1) (omega arith) s.sound;
+    }
+
+aged_by : (up : PortSet) (id : LspId) (e : Entry) (a : Version) → e.version ≡ a → IsSendable id e → IsSendable id (aged_at up e a)
+aged_by up id e Absent is s = s
+aged_by up id e (Live seq sum) is s = aged_live up id e seq sum (nat_le e.lifetime 1) is refl s
+aged_by up id e (Dead seq) is s = s
+
+pub ageing_keeps_sendable : AgeingKeepsSendable
+ageing_keeps_sendable up id e s = aged_by up id e e.version refl s

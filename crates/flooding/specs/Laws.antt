@@ -1,0 +1,202 @@
+use Rattle.std.specs.Prelude.{◌≡◌, ◌≢◌, ℕ, ◌+◌, ◌<◌, ◌≤◌, List, [], ◌∷◌, length, map, true, false, Bool, ◌&&◌, ◌||◌, not, ◌==◌, Option, Some, Ok, IsTrue}
+use Rattle.std.specs.Option.{option_map}
+use Rattle.std.specs.FinMap.{get}
+use Rattle.spb_types.specs.declared.address.LspId.{LspId}
+use Rattle.spb_types.specs.declared.ports.PortSet.{PortSet}
+use Rattle.spb_types.specs.Ports.{has}
+use Rattle.isis_pdu.specs.declared.kind.Kind.TheVariants as kinds
+use Rattle.isis_pdu.specs.Pdu.{LspValue, lsp}
+use Rattle.isis_pdu.specs.Spelling.{CanWrite, lsp_bytes}
+use Rattle.isis_pdu.specs.Reading.{read}
+use Rattle.isis_pdu.specs.Grammar.{IsId, IsBytes, is_sound_lsp}
+use Rattle.lsdb.specs.declared.version.Version.{Version}
+use Rattle.lsdb.specs.declared.version.Relation.{Relation}
+use Rattle.lsdb.specs.Version.{number_of, IsAtMost, relation, claimed}
+use Rattle.lsdb.specs.Entry.{Entry, stored, flooded, entered, acked, cleared, asked, with_flags, aged}
+use Rattle.lsdb.specs.Database.{Lsps, version_in, version_at, fits}
+use Rattle.lsdb.specs.Certificate.{Claim, Control, EntryCertificate, Certificate}
+use Rattle.flooding.specs.declared.own.Own.{Own}
+use Rattle.flooding.specs.Own.{last_number, own_id, tlvs_in, renewed, answered}
+use Rattle.flooding.specs.Hearing.{Holding, claim_of, lsp_row, snp_row, is_beyond, heard_by, after_claim, is_full, hear_lsp_of, is_full_for_lsp, hear_entry_of, is_full_for_entry}
+use Rattle.flooding.specs.Origination.{next_entry, originated}
+use Rattle.flooding.specs.Sending.{lsp_in, ids_to_send, lsps_to_send}
+use Rattle.flooding.specs.Entries.{IsNumbered, IsSendable, AreSendable, HaveFlagsAt}
+
+-- ---- steps
+
+-- the part of a bridge that flooding rests on, with these Up ports
+abbrev pub control : PortSet → Holding → Control
+control up h = record { up = up; db = h.db }
+
+-- an LSP, or an entry of an SNP, heard at an Up port is a certified step in which its claim was heard
+abbrev pub HearingLspIsCertified : Type 0
+HearingLspIsCertified = (up : PortSet) (port : ℕ) (l : LspValue) (h : Holding) → has up port ≡ true
+    → Certificate port (claim_of l ∷ []) (control up h) (control up (hear_lsp_of up port l h))
+
+abbrev pub HearingEntryIsCertified : Type 0
+HearingEntryIsCertified = (up : PortSet) (port : ℕ) (c : Claim) (h : Holding) → has up port ≡ true
+    → Certificate port (c ∷ []) (control up h) (control up (hear_entry_of up port c h))
+
+-- the answer to a claim that is newer or confused
+abbrev pub AnsweringIsCertified : Type 0
+AnsweringIsCertified = (up : PortSet) (port : ℕ) (claims : List Claim) (own : Own) (id : LspId) (a : Version) (held : Option Entry)
+    → is_beyond (relation a (version_in held)) ≡ true → EntryCertificate port claims up up id held (Some (answered up own id (number_of a)))
+
+-- an origination is a certified step
+abbrev pub OriginationIsCertified : Type 0
+OriginationIsCertified = (up : PortSet) (port : ℕ) (claims : List Claim) (h : Holding) → Certificate port claims (control up h) (control up (originated up h))
+
+-- ---- what a claim changes
+
+-- no other id
+abbrev pub OthersStand : Type 0
+OthersStand = (row : Relation → Option Entry → Option Entry) (up : PortSet) (c : Claim) (h : Holding) (x : LspId) → x ≢ c.id
+    → get (after_claim row up c h).db x ≡ get h.db x
+
+-- its id, where there is a place if it needs one: what was heard stands under it
+abbrev pub LspStands : Type 0
+LspStands = (up : PortSet) (port : ℕ) (l : LspValue) (h : Holding) → is_full_for_lsp up port l h ≡ false
+    → get (hear_lsp_of up port l h).db l.id
+    ≡ heard_by (lsp_row up port l) up h.own l.id (claim_of l).version (relation (claim_of l).version (version_at h.db l.id)) (get h.db l.id)
+
+abbrev pub EntryStands : Type 0
+EntryStands = (up : PortSet) (port : ℕ) (c : Claim) (h : Holding) → is_full_for_entry up port c h ≡ false
+    → get (hear_entry_of up port c h).db c.id
+    ≡ heard_by (snp_row up port c.version) up h.own c.id c.version (relation c.version (version_at h.db c.id)) (get h.db c.id)
+
+-- where there is none, nothing
+abbrev pub FullStands : Type 0
+FullStands = (row : Relation → Option Entry → Option Entry) (up : PortSet) (c : Claim) (h : Holding) → is_full row up c h ≡ true → after_claim row up c h ≡ h
+
+-- there is a place for an id that is held, or while fewer than 2,048 ids are
+abbrev pub FittingIsNotFull : Type 0
+FittingIsNotFull = (row : Relation → Option Entry → Option Entry) (up : PortSet) (c : Claim) (h : Holding) → fits h.db c.id ≡ true → is_full row up c h ≡ false
+
+-- an LSP that was heard is at most what is held after it
+abbrev pub HeardIsAtMostHeld : Type 0
+HeardIsAtMostHeld = (up : PortSet) (port : ℕ) (l : LspValue) (h : Holding) → is_full_for_lsp up port l h ≡ false
+    → IsAtMost (claim_of l).version (version_at (hear_lsp_of up port l h).db l.id)
+
+-- ---- the flags at each port
+
+-- the flags of an entry, read port by port
+pub record HasFlags (e : Entry) (srm ssn : ℕ → Bool) : Type 0 where
+  pub srm_at : (p : ℕ) → has e.srm p ≡ srm p
+  pub ssn_at : (p : ℕ) → has e.ssn p ≡ ssn p
+
+-- stored: to be sent at the other Up ports, and acknowledged at this one
+abbrev pub StoredFlags : Type 0
+StoredFlags = (up : PortSet) (port : ℕ) (a : Version) (lifetime : ℕ) (body : List ℕ) → 1 ≤ port → port ≤ 32
+    → HasFlags (stored up port a lifetime body) (λ p. has up p && not (p == port)) (λ p. p == port)
+
+abbrev pub FloodedFlags : Type 0
+FloodedFlags = (up : PortSet) (a : Version) (lifetime : ℕ) (body : List ℕ) → HasFlags (flooded up a lifetime body) (λ p. has up p) (λ p. false)
+
+abbrev pub EnteredFlags : Type 0
+EnteredFlags = (port : ℕ) → 1 ≤ port → port ≤ 32 → HasFlags (entered port) (λ p. false) (λ p. p == port)
+
+abbrev pub AckedFlags : Type 0
+AckedFlags = (port : ℕ) (e : Entry) → 1 ≤ port → port ≤ 32 → HasFlags (acked port e) (λ p. has e.srm p && not (p == port)) (λ p. has e.ssn p || (p == port))
+
+abbrev pub ClearedFlags : Type 0
+ClearedFlags = (port : ℕ) (e : Entry) → 1 ≤ port → port ≤ 32 → HasFlags (cleared port e) (λ p. has e.srm p && not (p == port)) (λ p. has e.ssn p)
+
+abbrev pub AskedFlags : Type 0
+AskedFlags = (port : ℕ) (e : Entry) → 1 ≤ port → port ≤ 32 → HasFlags (asked port e) (λ p. has e.srm p || (p == port)) (λ p. has e.ssn p && not (p == port))
+
+-- ---- the own LSP
+
+-- hearing changes of the own LSP at most that the system is spent, and that only at the last number
+abbrev pub OwnStands : Type 0
+OwnStands = (row : Relation → Option Entry → Option Entry) (up : PortSet) (c : Claim) (h : Holding)
+    → ((after_claim row up c h).own.system ≡ h.own.system) × ((after_claim row up c h).own.body ≡ h.own.body)
+
+abbrev pub OwnIsNotSpent : Type 0
+OwnIsNotSpent = (row : Relation → Option Entry → Option Entry) (up : PortSet) (c : Claim) (h : Holding) → number_of c.version < last_number
+    → (after_claim row up c h).own ≡ h.own
+
+-- what a claim makes of the own LSP that is held, below the last number: it has the version, lifetime and body that it had,
+-- or the present body at the number after the claim's
+pub data OwnEntry (up : PortSet) (own : Own) (a : Version) (old new : Entry) : Type 0 where
+  is_kept : new.version ≡ old.version → new.lifetime ≡ old.lifetime → new.body ≡ old.body → OwnEntry up own a old new
+  is_renewed : new ≡ renewed up own (number_of a + 1) → OwnEntry up own a old new
+
+abbrev pub LspLeavesOwn : Type 0
+LspLeavesOwn = (up : PortSet) (port : ℕ) (l : LspValue) (h : Holding) (old new : Entry) → l.id ≡ own_id h.own.system → number_of (claim_of l).version < last_number
+    → get h.db l.id ≡ Some old → get (hear_lsp_of up port l h).db l.id ≡ Some new → OwnEntry up h.own (claim_of l).version old new
+
+abbrev pub EntryLeavesOwn : Type 0
+EntryLeavesOwn = (up : PortSet) (port : ℕ) (c : Claim) (h : Holding) (old new : Entry) → c.id ≡ own_id h.own.system → number_of c.version < last_number
+    → get h.db c.id ≡ Some old → get (hear_entry_of up port c h).db c.id ≡ Some new → OwnEntry up h.own c.version old new
+
+-- after an origination the next entry stands under the own id and no other changes. The system and its body stay, and below
+-- the last number it isn't spent
+abbrev pub OriginatedStands : Type 0
+OriginatedStands = (up : PortSet) (h : Holding) → h.own.spent ≡ false → fits h.db (own_id h.own.system) ≡ true
+    → get (originated up h).db (own_id h.own.system)
+    ≡ Some (next_entry up h.own (number_of (version_at h.db (own_id h.own.system))) (get h.db (own_id h.own.system)))
+
+abbrev pub OriginationLeavesOthers : Type 0
+OriginationLeavesOthers = (up : PortSet) (h : Holding) (x : LspId) → x ≢ own_id h.own.system → get (originated up h).db x ≡ get h.db x
+
+abbrev pub OriginationLeavesOwn : Type 0
+OriginationLeavesOwn = (up : PortSet) (h : Holding) → ((originated up h).own.system ≡ h.own.system) × ((originated up h).own.body ≡ h.own.body)
+
+abbrev pub OriginationIsNotSpent : Type 0
+OriginationIsNotSpent = (up : PortSet) (h : Holding) → number_of (version_at h.db (own_id h.own.system)) < last_number → (originated up h).own ≡ h.own
+
+-- ---- what is sent
+
+-- an LSP that is sent claims exactly what is held
+abbrev pub SentIsHeld : Type 0
+SentIsHeld = (id : LspId) (e : Entry) → IsSendable id e → claim_of (lsp_in id e) ≡ record { id = id; version = e.version }
+
+-- the ids that are to be sent name the LSPs that are
+abbrev pub IdsNameLsps : Type 0
+IdsNameLsps = (db : Lsps) (port : ℕ) → map (λ id. option_map (lsp_in id) (get db id)) (ids_to_send db port) ≡ map (λ l. Some l) (lsps_to_send db port)
+
+-- the bytes of an LSP that is sent are read as that LSP
+abbrev pub SentIsRead : Type 0
+SentIsRead = (id : LspId) (e : Entry) → IsId id.system → IsSendable id e → read (lsp_bytes (lsp_in id e)) ≡ Ok (lsp (lsp_in id e))
+
+-- an own LSP that can be written, and an LSP that can be written and whose checksum holds if it must
+abbrev pub HasBody : Own → Type 0
+HasBody own = (1 ≤ length own.body) × CanWrite kinds.Lsp (tlvs_in own.body)
+
+pub record IsWhole (l : LspValue) : Type 0 where
+  pub written : CanWrite kinds.Lsp l.tlvs
+  pub sound : IsTrue (is_sound_lsp l)
+
+-- an LSP that was read from at most 1,497 bytes is so
+abbrev pub ReadIsWhole : Type 0
+ReadIsWhole = (bytes : List ℕ) (l : LspValue) → IsBytes bytes → length bytes ≤ 1497 → read bytes ≡ Ok (lsp l) → IsWhole l
+
+-- what an LSP claims has a number, unless it is absent
+abbrev pub ClaimIsNumbered : Type 0
+ClaimIsNumbered = (seq lifetime sum : ℕ) → IsNumbered (claimed seq lifetime sum)
+
+-- what is held stays sendable
+abbrev pub LspKeepsSendable : Type 0
+LspKeepsSendable = (up : PortSet) (port : ℕ) (l : LspValue) (h : Holding) → IsWhole l → HasBody h.own → AreSendable h.db → AreSendable (hear_lsp_of up port l h).db
+
+abbrev pub EntryKeepsSendable : Type 0
+EntryKeepsSendable = (up : PortSet) (port : ℕ) (c : Claim) (h : Holding) → IsNumbered c.version → HasBody h.own → AreSendable h.db → AreSendable (hear_entry_of up port c h).db
+
+abbrev pub OriginationKeepsSendable : Type 0
+OriginationKeepsSendable = (up : PortSet) (h : Holding) → HasBody h.own → AreSendable h.db → AreSendable (originated up h).db
+
+abbrev pub AgeingKeepsSendable : Type 0
+AgeingKeepsSendable = (up : PortSet) (id : LspId) (e : Entry) → IsSendable id e → IsSendable id (aged up e)
+
+abbrev pub FlagsKeepSendable : Type 0
+FlagsKeepSendable = (srm ssn : PortSet) (id : LspId) (e : Entry) → IsSendable id e → IsSendable id (with_flags srm ssn e)
+
+-- flags stay at Up ports
+abbrev pub LspKeepsFlags : Type 0
+LspKeepsFlags = (up : PortSet) (port : ℕ) (l : LspValue) (h : Holding) → has up port ≡ true → HaveFlagsAt up h.db → HaveFlagsAt up (hear_lsp_of up port l h).db
+
+abbrev pub EntryKeepsFlags : Type 0
+EntryKeepsFlags = (up : PortSet) (port : ℕ) (c : Claim) (h : Holding) → has up port ≡ true → HaveFlagsAt up h.db → HaveFlagsAt up (hear_entry_of up port c h).db
+
+abbrev pub OriginationKeepsFlags : Type 0
+OriginationKeepsFlags = (up : PortSet) (h : Holding) → HaveFlagsAt up h.db → HaveFlagsAt up (originated up h).db

@@ -1,0 +1,50 @@
+-- The own LSP of a system: what the system originates, and how it answers a claim of one of its ids.
+use Rattle.std.specs.Prelude.{ℕ, ◌+◌, List, [], ◌∷◌, Bool, true, ◌&&◌, not, ◌==◌, nat_lt, if◌then◌else◌}
+use Rattle.spb_types.specs.declared.address.SystemId.{SystemId}
+use Rattle.spb_types.specs.declared.address.LspId.{LspId}
+use Rattle.spb_types.specs.declared.ports.PortSet.{PortSet}
+use Rattle.spb_types.specs.Address.{same_system}
+use Rattle.isis_pdu.specs.Checksum.{lsp_sum_of}
+use Rattle.lsdb.specs.declared.version.Version.TheVariants.{Live, Dead}
+use Rattle.lsdb.specs.Entry.{Entry, flooded}
+use Rattle.flooding.specs.declared.own.Own.{Own}
+
+-- the greatest sequence number (ISO/IEC 10589, 7.3.16.1)
+abbrev pub last_number : ℕ
+last_number = 4294967295
+
+-- the id that a system originates: its pseudonode and its number are 0
+abbrev pub own_id : SystemId → LspId
+own_id system = record { system = system; pseudonode = 0; number = 0 }
+
+-- whether an id is the one that a system originates
+abbrev pub is_originated : SystemId → LspId → Bool
+is_originated system id = same_system id.system system && ((id.pseudonode == 0) && (id.number == 0))
+
+-- a body is the flags octet and then the TLVs; the flags of level 1 stand for a missing octet
+abbrev pub flags_in : List ℕ → ℕ
+flags_in [] = 1
+flags_in (flags ∷ tlvs) = flags
+
+abbrev pub tlvs_in : List ℕ → List ℕ
+tlvs_in [] = []
+tlvs_in (flags ∷ tlvs) = tlvs
+
+-- the own LSP at a number: live with the present body for 1,200 seconds, to be sent at every Up port
+abbrev pub renewed : PortSet → Own → ℕ → Entry
+renewed up own seq =
+    flooded up (Live seq (lsp_sum_of (own_id own.system) seq (flags_in own.body) (tlvs_in own.body))) 1200 own.body
+
+-- an LSP that is dead at a number, to be sent at every Up port
+abbrev pub ended : PortSet → ℕ → Entry
+ended up seq = flooded up (Dead seq) 0 []
+
+-- the entry that answers a claim of an own id at a number: the originated LSP goes one number further, and at the last
+-- number it is dead; every other is dead at the claim's number (ISO/IEC 10589, 7.3.16.1)
+abbrev pub answered : PortSet → Own → LspId → ℕ → Entry
+answered up own id seq =
+    if is_originated own.system id && nat_lt seq last_number then renewed up own (seq + 1) else ended up seq
+
+-- a system whose originated LSP had to go past the last number is spent
+abbrev pub answering : Own → LspId → ℕ → Own
+answering own id seq = if is_originated own.system id && not (nat_lt seq last_number) then record own { spent = true } else own

@@ -1,0 +1,56 @@
+ghost use Rattle.std.specs.Prelude.{◌≡◌};
+ghost use Rattle.flooding.specs.declared.error.FloodError.TheVariants as errors;
+
+use lsdb::PutError;
+use std::alloc::{AllocError, AllocFailed};
+use std::error::Error;
+use std::fmt;
+
+/// Why nothing was heard.
+#[derive(Clone, Copy, Debug, PartialEq, Eq, Hash)]
+pub enum FloodError {
+    /// The id needs a place in the database, and 2,048 ids are held.
+    Full,
+    /// No memory was found.
+    NoMemory,
+}
+
+impl fmt::Display for FloodError {
+    fn fmt<W: fmt::Write>(&self, f: &mut fmt::Formatter<W>) -> fmt::Result {
+        f.write_str(match self {
+            FloodError::Full => "the database is full",
+            FloodError::NoMemory => "out of memory",
+        })
+    }
+}
+
+impl Error for FloodError {}
+
+impl From<AllocError> for FloodError {
+    ghost from_gives = { λ _ e. e ≡ errors.NoMemory };
+
+    fn from(_refused: AllocError) -> Self {
+        FloodError::NoMemory
+    }
+}
+
+impl<T: Drop> From<AllocFailed<T>> for FloodError {
+    ghost from_gives = { λ _ e. e ≡ errors.NoMemory };
+
+    fn from(_refused: AllocFailed<T>) -> Self {
+        FloodError::NoMemory
+    }
+}
+
+impl From<PutError> for FloodError {
+    ghost use Rattle.flooding.specs.Refusal.{flood_error};
+
+    ghost from_gives = { λ refused e. e ≡ flood_error refused };
+
+    fn from(refused: PutError) -> Self {
+        match refused {
+            PutError::Full => FloodError::Full,
+            PutError::NoMemory => FloodError::NoMemory,
+        }
+    }
+}

@@ -1,0 +1,110 @@
+ghost use Rattle.std.specs.Prelude.{◌≡◌, ◌≤◌, length, IfOk};
+ghost use Rattle.isis_pdu.specs.Pdu.{lsp_of};
+ghost use Rattle.lsdb.specs.Version.{claimed};
+ghost use Rattle.lsdb.specs.Entry.{stored, acked};
+ghost use Rattle.lsdb.specs.Database.{changed};
+ghost use Rattle.flooding.specs.Hearing as hearing;
+ghost use Rattle.flooding.specs.Hearing.{unless_absent, hear_lsp_of, is_full_for_lsp};
+ghost use Rattle.flooding.specs.Placing.{Puts, Hears, holding};
+
+use crate::put::put;
+use crate::rows::{acknowledge, ask};
+use crate::{FloodError, Own};
+use isis_pdu::Lsp;
+use lsdb::{Database, Held, Relation, Version, compare};
+use spb_types::{LspId, PortSet, Seq};
+use std::alloc::{AllocError, Global};
+
+/// Hears an LSP at a port, 1 to 32 (ISO/IEC 10589, 7.3.15.1 and 7.3.16), where `up` are the Up ports:
+///
+/// - a newer one is stored, to be sent at the other Up ports and acknowledged at this one;
+/// - the same one is acknowledged at this port, and needn't be sent there;
+/// - of an older one the neighbour gets what is held;
+/// - one that is live with the number of the held one and another checksum makes the LSP dead at that number, to be sent
+///   at every Up port;
+/// - a newer or confused one of the system's own is answered instead.
+///
+/// `own.body` has at least one byte. `Full` only where the id needs a place and 2,048 ids are held. After an error nothing
+/// changed.
+pub fn hear_lsp(
+    alloc: Global,
+    db: &mut Database,
+    up: PortSet,
+    port: u8,
+    lsp: &Lsp<'_>,
+    own: &mut Own,
+) -> Result<(), FloodError>
+    requires low { 1 ≤ port }
+    requires high { port ≤ 32 }
+    requires body { 1 ≤ length own.old.body }
+    ensures { Hears result (is_full_for_lsp up port (lsp_of lsp.now) (holding db.old own.old)) (holding db.old own.old)
+        (hear_lsp_of up port (lsp_of lsp.now) (holding db.old own.old)) (holding db.new own.new) }
+{
+    let relation = compare(version_of(lsp), db.version_at(&lsp.id));
+    if own.answers(&lsp.id, relation) {
+        return own.answer(alloc, db, up, &lsp.id, lsp.seq);
+    }
+    match relation {
+        Relation::Newer => return store(alloc, db, up, port, lsp),
+        Relation::Equal => acknowledge_held(db, port, &lsp.id),
+        Relation::Older => ask(db, port, &lsp.id),
+        Relation::Confused => db.bury(&lsp.id, lsp.seq, up),
+    }
+    Ok(())
+}
+
+fn version_of(lsp: &Lsp<'_>) -> Version
+    ensures { result ≡ claimed lsp.now.seq lsp.now.lifetime lsp.now.sum }
+{
+    Version::claimed(lsp.seq, lsp.lifetime, lsp.sum)
+}
+
+/// The body of an LSP: its flags octet and then its TLVs.
+fn body_of(alloc: Global, lsp: &Lsp<'_>) -> Result<Vec<u8>, AllocError>
+    ensures { IfOk result (λ body. body.items ≡ hearing.body_of (lsp_of lsp.now)) }
+{
+    let mut body = Vec::with_capacity(alloc, 1 + lsp.tlvs.len())?;
+    body.push(lsp.flags)?;
+    body.extend_from_slice(lsp.tlvs)?;
+    Ok(body)
+}
+
+/// Stores an LSP that is newer than what is held.
+fn store(
+    alloc: Global,
+    db: &mut Database,
+    up: PortSet,
+    port: u8,
+    lsp: &Lsp<'_>,
+) -> Result<(), FloodError>
+    requires low { 1 ≤ port }
+    requires high { port ≤ 32 }
+    ensures { Puts result lsp.now.id
+        (stored up port (claimed lsp.now.seq lsp.now.lifetime lsp.now.sum) lsp.now.lifetime (hearing.body_of (lsp_of lsp.now)))
+        db.old db.new }
+{
+    let body = body_of(alloc, lsp)?;
+    put(
+        db,
+        Held {
+            id: lsp.id,
+            version: version_of(lsp),
+            lifetime: lsp.lifetime,
+            body: Seq::from_vec(body),
+            srm: up.without(port),
+            ssn: PortSet::none().with(port),
+        },
+    )
+}
+
+/// The neighbour at a port has the LSP that is held, and is told so. Nothing happens where it is absent.
+fn acknowledge_held(db: &mut Database, port: u8, id: &LspId)
+    requires low { 1 ≤ port }
+    requires high { port ≤ 32 }
+    ensures { db.new ≡ changed (unless_absent (acked port)) db.old id.now }
+{
+    match db.version_at(id) {
+        Version::Absent => {}
+        _ => acknowledge(db, port, id),
+    }
+}

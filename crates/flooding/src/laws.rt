@@ -1,0 +1,73 @@
+//! The laws of flooding. Each is the contract of a function that does nothing.
+ghost use Rattle.flooding.specs.Laws.{HearingLspIsCertified, HearingEntryIsCertified, AnsweringIsCertified, OriginationIsCertified, OthersStand, LspStands, EntryStands, FullStands, FittingIsNotFull, HeardIsAtMostHeld, StoredFlags, FloodedFlags, EnteredFlags, AckedFlags, ClearedFlags, AskedFlags, OwnStands, OwnIsNotSpent, LspLeavesOwn, EntryLeavesOwn, OriginatedStands, OriginationLeavesOthers, OriginationLeavesOwn, OriginationIsNotSpent, IdsNameLsps, SentIsHeld, SentIsRead, ReadIsWhole, ClaimIsNumbered, LspKeepsSendable, EntryKeepsSendable, OriginationKeepsSendable, AgeingKeepsSendable, FlagsKeepSendable, LspKeepsFlags, EntryKeepsFlags, OriginationKeepsFlags};
+
+/// What is heard at an Up port, answered and originated is a certified step.
+pub fn flooding_is_certified()
+    ensures lsp { HearingLspIsCertified }
+    ensures entry { HearingEntryIsCertified }
+    ensures answer { AnsweringIsCertified }
+    ensures origination { OriginationIsCertified }
+{}
+
+/// A claim changes what is held under its id, and nothing else; and nothing where it finds no place.
+pub fn a_claim_changes_its_id_alone()
+    ensures others { OthersStand }
+    ensures lsp { LspStands }
+    ensures entry { EntryStands }
+    ensures full { FullStands }
+    ensures fitting { FittingIsNotFull }
+{}
+
+/// After an LSP is heard, what is held is no older.
+pub fn what_is_held_is_no_older_than_what_was_heard()
+    ensures { HeardIsAtMostHeld }
+{}
+
+/// Where an LSP is to be sent and acknowledged after each change, port by port.
+pub fn flags_are_read_port_by_port()
+    ensures stored { StoredFlags }
+    ensures flooded { FloodedFlags }
+    ensures entered { EnteredFlags }
+    ensures acked { AckedFlags }
+    ensures cleared { ClearedFlags }
+    ensures asked { AskedFlags }
+{}
+
+/// What hearing leaves of the own LSP, and what an origination makes of it.
+pub fn the_own_lsp_is_kept_or_renewed()
+    ensures own { OwnStands }
+    ensures not_spent { OwnIsNotSpent }
+    ensures lsp { LspLeavesOwn }
+    ensures entry { EntryLeavesOwn }
+    ensures originated { OriginatedStands }
+    ensures others { OriginationLeavesOthers }
+    ensures still_own { OriginationLeavesOwn }
+    ensures still_not_spent { OriginationIsNotSpent }
+{}
+
+/// What is to be sent at a port by its ids is what the database says; an LSP that is sent claims what is held, and its bytes
+/// are read as that LSP.
+pub fn what_is_sent_is_what_is_held()
+    ensures ids { IdsNameLsps }
+    ensures claim { SentIsHeld }
+    ensures read { SentIsRead }
+{}
+
+/// Every entry stays one whose LSP can be written and is read again, where what is heard was read and the own LSP can be
+/// written.
+pub fn what_is_held_can_be_sent()
+    ensures read { ReadIsWhole }
+    ensures numbered { ClaimIsNumbered }
+    ensures lsp { LspKeepsSendable }
+    ensures entry { EntryKeepsSendable }
+    ensures origination { OriginationKeepsSendable }
+    ensures ageing { AgeingKeepsSendable }
+    ensures flags { FlagsKeepSendable }
+{}
+
+/// Flags stay at Up ports.
+pub fn flags_stand_at_up_ports()
+    ensures lsp { LspKeepsFlags }
+    ensures entry { EntryKeepsFlags }
+    ensures origination { OriginationKeepsFlags }
+{}

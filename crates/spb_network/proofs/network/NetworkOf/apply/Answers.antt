@@ -1,0 +1,31 @@
+use Rattle.std.proofs.Common.{◌≡◌, sym, ap, ◌∙◌, subst, refl, true≢false, inr, ⊎_elim}
+use Rattle.spb_network.specs.State.{State}
+use Rattle.spb_network.specs.Play.{counted, played, next_state}
+use Rattle.spb_network.specs.Sound.{IsSoundState}
+use Rattle.spb_network.specs.Network.{state_of}
+use Rattle.spb_network.proofs.SoundPlay.{commands_keep_sound}
+use Rattle.spb_network.proofs.network.NetworkOf.apply.Goals as goal
+
+pub returns-in-Ok-clause-applies : goal.returns-in-Ok-clause-applies
+unfolding next_state
+returns-in-Ok-clause-applies g c =
+    let made : State = state_of g.B.Bridge.kind_of g.B.Bridge.blank g.B.Bridge.view c.play.new.self in (
+      c.if-self.false,
+      record {
+        accepted = c.in-Ok.ensures.answers.0;
+        answer_is = c.in-Ok.ensures.answers.1;
+        state = (λ i. record made { accepted = c.next_count-self.ensures i }) ∙ ap counted c.in-Ok.ensures.answers.2;
+      },
+      refl,
+    )
+
+pub returns-in-Ok-clause-ready : goal.returns-in-Ok-clause-ready
+unfolding next_state
+returns-in-Ok-clause-ready g c =
+    let old : State = state_of g.B.Bridge.kind_of g.B.Bridge.blank g.B.Bridge.view c.args.self.now in
+    let made : State = state_of g.B.Bridge.kind_of g.B.Bridge.blank g.B.Bridge.view c.play.new.self in
+    let sound : IsSoundState old = ⊎_elim (λ h. absurd (true≢false (sym h ∙ c.if-self.false))) (λ n. n.state) c.requires in
+    inr (record {
+      made = c.in-Ok.ensures.made;
+      state = subst IsSoundState (sym ((λ i. record made { accepted = c.next_count-self.ensures i }) ∙ ap counted c.in-Ok.ensures.answers.2)) (commands_keep_sound old c.args.command.now sound c.addressed.ensures c.in-Ok.ensures.answers.0);
+    })
