@@ -1,4 +1,4 @@
-use Rattle.std.proofs.Common.{◌≡◌, ℕ, ◌+◌, ◌≤◌, Bool, List, [], ◌∷◌, ◌++◌, Option, Some, None, IsTrue, refl, sym, ap, subst, append-nil}
+use Rattle.std.proofs.Common.{◌≡◌, ℕ, ◌+◌, ◌≤◌, Bool, List, [], ◌∷◌, ◌++◌, Option, Some, None, IsTrue, refl, sym, ap, ◌∙◌, subst, append-nil}
 use Rattle.std.specs.Io.KnownBytes.{Appends}
 use Rattle.spb_network.specs.State.{State}
 use Rattle.spb_run.specs.declared.refusal.Refusal.{Refusal}
@@ -29,12 +29,12 @@ module _ {K : Type 0} (holds : K → Option (List ℕ)) (faults : K → ℕ) (is
     here = subst (λ ls. Playing holds faults is_reliable a b whole (play w n ls)) is_first playing
 
     -- the next line was accepted, and its text is written
-    pub Playing-more : (v : State) (m : ℕ) → (judged w n line).refused ≡ None → v ≡ (judged w n line).state → m ≡ n + 1
+    pub Playing-more : (v : State) (m : ℕ) (r : Option Refusal) → r ≡ (judged w n line).refused → r ≡ None → v ≡ (judged w n line).state → m ≡ n + 1
         → Appends (holds b) (holds c) (judged w n line).text → faults b ≤ faults c → (IsTrue (is_reliable b) → IsTrue (is_reliable c))
         → Playing holds faults is_reliable a c whole (play v m more)
-    Playing-more v m accepted state number text count reliable =
+    Playing-more v m r same accepted state number text count reliable =
         let p : Playing holds faults is_reliable a b whole (joined n (judged w n line) None (play (judged w n line).state (n + 1) more)) =
-        subst (Playing holds faults is_reliable a b whole) (play_accepted w n line more accepted) here in
+        subst (Playing holds faults is_reliable a b whole) (play_accepted w n line more (sym same ∙ accepted)) here in
         subst (λ (u : State). Playing holds faults is_reliable a c whole (play u m more)) (sym state)
         (subst (λ (k : ℕ). Playing holds faults is_reliable a c whole (play (judged w n line).state k more)) (sym number)
         (record {
