@@ -1,15 +1,4 @@
-pub mod TextLemmas
-pub mod PlaceLemmas
-pub mod ListLemmas
-pub mod NameLemmas
-pub mod WorldLemmas
-pub mod RefusalLemmas
-pub mod ValidLemmas
 pub mod LinesOf
 pub mod Playing
 pub mod Reading
 pub mod Writing
-pub mod PlacedLemmas
-pub mod RowLemmas
-pub mod AscendLemmas
-pub mod TableLemmas

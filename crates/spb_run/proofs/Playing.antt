@@ -1,7 +1,7 @@
-use Rattle.std.proofs.Common.{◌≡◌, ℕ, ◌+◌, ◌≤◌, Bool, List, [], ◌∷◌, ◌++◌, Option, Some, None, IsTrue, refl, sym, ap, subst, append-nil}
+use Rattle.std.proofs.Common.{◌≡◌, ℕ, ◌+◌, ◌≤◌, Bool, List, [], ◌∷◌, ◌++◌, Option, Some, None, IsTrue, refl, sym, ap, ◌∙◌, subst, append-nil}
 use Rattle.std.specs.Io.KnownBytes.{Appends}
-use Rattle.spb_run.specs.declared.reason.Refusal.{Refusal}
-use Rattle.spb_run.specs.World.{World}
+use Rattle.spb_network.specs.State.{State}
+use Rattle.spb_run.specs.declared.refusal.Refusal.{Refusal}
 use Rattle.spb_run.specs.Output.{AppendsFront}
 use Rattle.spb_run.specs.Play.{Judged, judged}
 use Rattle.spb_run.specs.Text.{Played, joined, play}
@@ -11,10 +11,10 @@ use Rattle.spb_run.proofs.Writing.{Writes, Writing, Writing-more, AppendsFront-m
 pub record Playing {K : Type 0} (holds : K → Option (List ℕ)) (faults : K → ℕ) (is_reliable : K → Bool) (old new : K) (whole left : Played) : Type 0 where
   pub writing : Writing holds faults is_reliable old new whole.text left.text
   pub refused : whole.refused ≡ left.refused
-  pub world : whole.world ≡ left.world
+  pub state : whole.state ≡ left.state
 
 -- behind a line that is accepted the others are played
-play_accepted : (w : World) (n : ℕ) (line : List ℕ) (more : List (List ℕ)) → (judged w n line).refused ≡ None
+play_accepted : (w : State) (n : ℕ) (line : List ℕ) (more : List (List ℕ)) → (judged w n line).refused ≡ None
     → play w n (line ∷ more) ≡ joined n (judged w n line) None (play (judged w n line).state (n + 1) more)
 play_accepted w n line more e = ap (λ r. joined n (judged w n line) r (play (judged w n line).state (n + 1) more)) e
 
@@ -23,24 +23,24 @@ joined_text : (n : ℕ) (j : Judged) (r : Option Refusal) (p : Played) → (rest
 joined_text n j None p = (p.text, refl)
 joined_text n j (Some why) p = ([], sym (append-nil j.text))
 
-module _ {K : Type 0} (holds : K → Option (List ℕ)) (faults : K → ℕ) (is_reliable : K → Bool) (a b c : K) (whole : Played) (w : World) (n : ℕ) (all : List (List ℕ)) (playing : Playing holds faults is_reliable a b whole (play w n all)) where
+module _ {K : Type 0} (holds : K → Option (List ℕ)) (faults : K → ℕ) (is_reliable : K → Bool) (a b c : K) (whole : Played) (w : State) (n : ℕ) (all : List (List ℕ)) (playing : Playing holds faults is_reliable a b whole (play w n all)) where
   module _ (line : List ℕ) (more : List (List ℕ)) (is_first : all ≡ line ∷ more) where
     here : Playing holds faults is_reliable a b whole (play w n (line ∷ more))
     here = subst (λ ls. Playing holds faults is_reliable a b whole (play w n ls)) is_first playing
 
     -- the next line was accepted, and its text is written
-    pub Playing-more : (v : World) (m : ℕ) → (judged w n line).refused ≡ None → v ≡ (judged w n line).state → m ≡ n + 1
+    pub Playing-more : (v : State) (m : ℕ) (r : Option Refusal) → r ≡ (judged w n line).refused → r ≡ None → v ≡ (judged w n line).state → m ≡ n + 1
         → Appends (holds b) (holds c) (judged w n line).text → faults b ≤ faults c → (IsTrue (is_reliable b) → IsTrue (is_reliable c))
         → Playing holds faults is_reliable a c whole (play v m more)
-    Playing-more v m accepted state number text count reliable =
+    Playing-more v m r same accepted state number text count reliable =
         let p : Playing holds faults is_reliable a b whole (joined n (judged w n line) None (play (judged w n line).state (n + 1) more)) =
-        subst (Playing holds faults is_reliable a b whole) (play_accepted w n line more accepted) here in
-        subst (λ (u : World). Playing holds faults is_reliable a c whole (play u m more)) (sym state)
+        subst (Playing holds faults is_reliable a b whole) (play_accepted w n line more (sym same ∙ accepted)) here in
+        subst (λ (u : State). Playing holds faults is_reliable a c whole (play u m more)) (sym state)
         (subst (λ (k : ℕ). Playing holds faults is_reliable a c whole (play (judged w n line).state k more)) (sym number)
         (record {
           writing = Writing-more holds faults is_reliable a b c whole.text (judged w n line).text (play (judged w n line).state (n + 1) more).text p.writing text count reliable;
           refused = p.refused;
-          world = p.world;
+          state = p.state;
         }))
 
     -- a front of the next line's text was written

@@ -1,10 +1,6 @@
-pub mod Reason
-pub mod World
-pub mod Tables
-pub mod Report
-pub mod Listing
+pub mod Answer
 pub mod Play
-pub mod Declaring
+pub mod Replying
 pub mod Text
 pub mod Output
 pub mod Run

@@ -19,7 +19,7 @@ status_number ReadFault = 4
 status_number WriteFault = 5
 status_number TooLong = 6
 
--- whether the script was played as far as it goes
+-- whether all that the script writes is written
 abbrev pub is_played : Status → Bool
 is_played Done = true
 is_played (Refused line why) = true
@@ -28,6 +28,16 @@ is_played NoMemory = false
 is_played ReadFault = false
 is_played WriteFault = false
 is_played TooLong = true
+
+-- whether the script was played to its end, or to the first line that is refused
+abbrev pub is_ended : Status → Bool
+is_ended Done = true
+is_ended (Refused line why) = true
+is_ended Usage = false
+is_ended NoMemory = false
+is_ended ReadFault = false
+is_ended WriteFault = false
+is_ended TooLong = false
 
 -- whether the run was cut short while it wrote, or by want of memory
 abbrev pub is_cut : Status → Bool

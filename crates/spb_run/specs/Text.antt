@@ -1,36 +1,32 @@
 use Rattle.std.specs.Prelude.{ℕ, ◌+◌, List, [], ◌∷◌, ◌++◌, length, nat_lt, Bool, Option, Some, None, if◌then◌else◌}
 use Rattle.std.specs.Str.Lines.{lines}
-use Rattle.spb_run.specs.declared.reason.Refusal.{Refusal}
+use Rattle.spb_network.specs.State.{State}
+use Rattle.spb_run.specs.declared.refusal.Refusal.{Refusal}
 use Rattle.spb_run.specs.declared.status.Status.{Status}
 use Rattle.spb_run.specs.declared.status.Status.TheVariants.{Done, Refused, TooLong}
-use Rattle.spb_run.specs.World.{World}
 use Rattle.spb_run.specs.Play.{Judged, judged}
 
 -- what some lines do: the bytes that they write, the first that is refused with its number and the reason, and the
--- world after those that are accepted
+-- network's state after those that are accepted
 pub record Played : Type 0 where
   pub text : List ℕ
   pub refused : Option (ℕ × Refusal)
-  pub world : World
+  pub state : State
 
 -- a judged line, and the lines behind it, of which none is played where it is refused
 abbrev pub joined : ℕ → Judged → Option Refusal → Played → Played
-joined number line None rest = record { text = line.text ++ rest.text; refused = rest.refused; world = rest.world }
-joined number line (Some why) rest = record { text = line.text; refused = Some (number, why); world = line.state }
+joined number line None rest = record { text = line.text ++ rest.text; refused = rest.refused; state = rest.state }
+joined number line (Some why) rest = record { text = line.text; refused = Some (number, why); state = line.state }
 
--- lines from a world on, the first of which has this number
-abbrev pub play : World → ℕ → List (List ℕ) → Played
-play w number [] = record { text = []; refused = None; world = w }
-play w number (line ∷ rest) =
-    joined number (judged w number line) (judged w number line).refused (play (judged w number line).state (number + 1) rest)
-
--- the world in which nothing is declared
-abbrev pub opening : World
-opening = record { vids = []; bridges = []; links = [] }
+-- lines from a state on, the first of which has this number
+abbrev pub play : State → ℕ → List (List ℕ) → Played
+play s number [] = record { text = []; refused = None; state = s }
+play s number (line ∷ rest) =
+    joined number (judged s number line) (judged s number line).refused (play (judged s number line).state (number + 1) rest)
 
 -- the lines of a script. A line ends with LF, and a CR right before that is passed over. The last may lack its LF
-abbrev pub played : List ℕ → Played
-played script = play opening 1 (lines script)
+abbrev pub played : State → List ℕ → Played
+played s script = play s 1 (lines script)
 
 -- how many bytes a script may have
 abbrev pub most_bytes : ℕ
@@ -45,13 +41,13 @@ status_of None = Done
 status_of (Some stop) = Refused stop.0 stop.1
 
 -- the bytes that a script writes
-abbrev pub text_of : List ℕ → List ℕ
-text_of script = if is_too_long script then [] else (played script).text
+abbrev pub text_of : State → List ℕ → List ℕ
+text_of s script = if is_too_long script then [] else (played s script).text
 
 -- the status of a script, faults and want of memory aside
-abbrev pub fate_of : List ℕ → Status
-fate_of script = if is_too_long script then TooLong else status_of (played script).refused
+abbrev pub fate_of : State → List ℕ → Status
+fate_of s script = if is_too_long script then TooLong else status_of (played s script).refused
 
--- the world after the accepted lines of a script
-abbrev pub end_of : List ℕ → World
-end_of script = (played script).world
+-- the state after the accepted lines of a script
+abbrev pub end_of : State → List ℕ → State
+end_of s script = (played s script).state

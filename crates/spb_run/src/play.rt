@@ -1,14 +1,22 @@
-ghost use Rattle.std.specs.Prelude.{◌≡◌, Some, None, codes, IfOk, OnErr, MatchResult};
-ghost use Rattle.spb_run.specs.Play as play;
+ghost use Rattle.std.specs.Prelude.{◌≡◌, Some, None, codes, IfOk, OnOk};
+ghost use Rattle.report.specs.Lines as texts;
 ghost use Rattle.scenario.specs.Grammar.{line_of};
-ghost use Rattle.spb_run.specs.Report as texts;
-ghost use Rattle.spb_run.specs.declared.reason.Refusal.TheVariants as refusal;
-ghost use Rattle.spb_run.specs.Declaring.{Declines, Declares, Answers, Replies};
+ghost use Rattle.spb_network.specs.Applying.{IsReady};
+ghost use Rattle.spb_network.specs.Network.{state_of};
+ghost use Rattle.spb_network.specs.Reason as reasons;
+ghost use Rattle.spb_network.specs.Refusing as refuse;
+ghost use Rattle.spb_run.specs.Play as play;
+ghost use Rattle.spb_run.specs.Replying.{Replies, IsAlive};
+ghost use Rattle.spb_run.specs.declared.refusal.Refusal.TheVariants as refusal;
 
-use crate::report::{error_text, tables_text};
-use crate::{PlayError, Reason, Refusal, Reply, World};
+use crate::answer::answer_text;
+use crate::Refusal;
+use crate::reply::Reply;
+use bridge_api::Bridge;
+use report::error_text;
 use scenario::{Command, Keyword, LineError, head, parse_line};
-use spb_types::{Name, NoMemory};
+use spb_network::{ApplyError, NetworkOf, Reason};
+use spb_types::NoMemory;
 use std::alloc::Global;
 
 /// Whether a line's first word begins a line that is played.
@@ -17,87 +25,22 @@ fn is_played(word: Option<Keyword>) -> bool
 {
     matches!(
         word,
-        Some(Keyword::Vid | Keyword::Bridge | Keyword::Link | Keyword::Wiring)
+        Some(
+            Keyword::Vid
+                | Keyword::Bridge
+                | Keyword::Link
+                | Keyword::Down
+                | Keyword::Up
+                | Keyword::Tick
+                | Keyword::Deliver
+                | Keyword::Lose
+                | Keyword::Double
+                | Keyword::Round
+                | Keyword::Drain
+                | Keyword::Wiring
+                | Keyword::Adj
+        )
     )
-}
-
-impl World {
-    /// Declares a link between two bridges by their names.
-    #[tactic(auto, unfolding(crate::specs::Play::named_link_refusal, crate::specs::Play::with_named_link))]
-    fn declare_named_link(
-        &mut self,
-        name: Name,
-        a: Name,
-        port_a: u64,
-        b: Name,
-        port_b: u64,
-        cost: u64,
-    ) -> Result<(), PlayError>
-        ensures { Declares (play.named_link_refusal self.old name a port_a b port_b cost) self.old
-            (play.with_named_link self.old name a port_a b port_b cost) result self.new }
-    {
-        let Some(i) = self.bridge_place(a) else {
-            return Err(PlayError::Refused(Reason::NoSuchName));
-        };
-        let Some(j) = self.bridge_place(b) else {
-            return Err(PlayError::Refused(Reason::NoSuchName));
-        };
-        self.declare_link(name, i, port_a, j, port_b, cost)
-    }
-
-    /// The answer that shows the tables which the wiring gives a bridge.
-    #[tactic(auto, unfolding(crate::specs::Play::wiring_refusal, crate::specs::Play::wiring_text))]
-    fn wiring(&self, alloc: Global, name: Name) -> Result<Vec<u8>, PlayError>
-        ensures { MatchResult result
-            (λ text. (play.wiring_refusal self.now name ≡ None) × (text.items ≡ play.wiring_text self.now name))
-            (λ error. Declines (play.wiring_refusal self.now name) self.now error self.now) }
-    {
-        match self.bridge_place(name) {
-            None => Err(PlayError::Refused(Reason::NoSuchName)),
-            Some(place) => {
-                let tables = self.wired_tables(alloc, place)?;
-                Ok(tables_text(alloc, "wiring", name, None, &tables)?)
-            }
-        }
-    }
-
-    /// Plays a command and gives its answer. `Refused` exactly where it is refused, with its reason. After an error
-    /// nothing changed.
-    pub fn play(&mut self, alloc: Global, command: &Command) -> Result<Vec<u8>, PlayError>
-        ensures { MatchResult result
-            (λ text. Answers self.old command.now text.items self.new)
-            (λ error. Declines (play.refusal_of self.old command.now) self.old error self.new) }
-    {
-        match command {
-            Command::Vid { vid, ect } => {
-                self.declare_vid(*vid, *ect)?;
-                Ok(Vec::new(alloc))
-            }
-            Command::Bridge {
-                name,
-                priority,
-                system,
-                source,
-                ports,
-            } => {
-                self.declare_bridge(*name, *priority, *system, *source, *ports)?;
-                Ok(Vec::new(alloc))
-            }
-            Command::Link {
-                name,
-                a,
-                port_a,
-                b,
-                port_b,
-                cost,
-            } => {
-                self.declare_named_link(*name, *a, *port_a, *b, *port_b, *cost)?;
-                Ok(Vec::new(alloc))
-            }
-            Command::Wiring(name) => self.wiring(alloc, *name),
-            _ => Ok(Vec::new(alloc)),
-        }
-    }
 }
 
 /// The reply to a line that is outside the grammar from a column on.
@@ -111,44 +54,58 @@ fn misspelled(alloc: Global, number: u32, column: usize) -> Result<Reply, NoMemo
     })
 }
 
+/// The reply to a command that is refused.
+fn refused(alloc: Global, number: u32, reason: Reason) -> Result<Reply, NoMemory>
+    ensures { IfOk result (λ reply. (reply.text.items ≡ texts.error_text number (reasons.number_of reason) (reasons.name_of reason) None)
+        × (reply.refused ≡ Some (refusal.Command reason))) }
+{
+    Ok(Reply {
+        text: error_text(alloc, number, reason.number(), reason.name(), None)?,
+        refused: Some(Refusal::Command(reason)),
+    })
+}
+
 /// Plays a command that a line gave.
-fn play_command(
+fn play_command<B: Bridge>(
     alloc: Global,
-    world: &mut World,
+    network: &mut NetworkOf<B>,
     number: u32,
     command: &Command,
 ) -> Result<Reply, NoMemory>
+    requires { IsAlive B.kind_of B.blank B.view network.old }
     ensures ok { IfOk result (λ reply. Replies
-        (play.judged_by world.old number command.now (play.refusal_of world.old command.now))
-        reply world.new) }
-    ensures err { OnErr result (world.new ≡ world.old) }
+        (play.judged_by (state_of B.kind_of B.blank B.view network.old) number command.now
+            (refuse.refusal_of (state_of B.kind_of B.blank B.view network.old) command.now))
+        reply (state_of B.kind_of B.blank B.view network.new)) }
+    ensures alive { OnOk result (IsAlive B.kind_of B.blank B.view network.new) }
+    ensures ready { IsReady B.kind_of B.blank B.view network.new }
 {
-    match world.play(alloc, command) {
-        Ok(text) => Ok(Reply {
-            text,
+    match network.apply(command) {
+        Ok(answer) => Ok(Reply {
+            text: answer_text(alloc, &answer)?,
             refused: None,
         }),
-        Err(PlayError::Refused(reason)) => Ok(Reply {
-            text: error_text(alloc, number, reason.number(), reason.name(), None)?,
-            refused: Some(Refusal::Command(reason)),
-        }),
-        Err(PlayError::NoMemory) => Err(NoMemory),
+        Err(ApplyError::Refused(reason)) => refused(alloc, number, reason),
+        Err(ApplyError::Halted | ApplyError::NoMemory) => Err(NoMemory),
     }
 }
 
 /// Plays a line by what it gives.
-fn play_parsed(
+fn play_parsed<B: Bridge>(
     alloc: Global,
-    world: &mut World,
+    network: &mut NetworkOf<B>,
     number: u32,
     line: &[u8],
 ) -> Result<Reply, NoMemory>
+    requires { IsAlive B.kind_of B.blank B.view network.old }
     ensures ok { IfOk result (λ reply. Replies
-        (play.judged_as world.old number (line_of line.now)) reply world.new) }
-    ensures err { OnErr result (world.new ≡ world.old) }
+        (play.judged_as (state_of B.kind_of B.blank B.view network.old) number (line_of line.now))
+        reply (state_of B.kind_of B.blank B.view network.new)) }
+    ensures alive { OnOk result (IsAlive B.kind_of B.blank B.view network.new) }
+    ensures ready { IsReady B.kind_of B.blank B.view network.new }
 {
     match parse_line(alloc, line) {
-        Ok(Some(command)) => play_command(alloc, world, number, &command),
+        Ok(Some(command)) => play_command(alloc, network, number, &command),
         Ok(None) => Ok(Reply {
             text: Vec::new(alloc),
             refused: None,
@@ -158,22 +115,27 @@ fn play_parsed(
     }
 }
 
-/// Judges and plays the line of this number, counted from 1, given without its end. After NoMemory nothing changed.
+/// Judges and plays the line of this number, counted from 1, given without its end. After NoMemory nothing is said of
+/// the network.
 #[tactic(auto, unfolding(crate::specs::Play::judged))]
-pub fn play_line(
+pub(crate) fn play_line<B: Bridge>(
     alloc: Global,
-    world: &mut World,
+    network: &mut NetworkOf<B>,
     number: u32,
     line: &[u8],
 ) -> Result<Reply, NoMemory>
-    ensures ok { IfOk result (λ reply. Replies (play.judged world.old number line.now) reply world.new) }
-    ensures err { OnErr result (world.new ≡ world.old) }
+    requires { IsAlive B.kind_of B.blank B.view network.old }
+    ensures ok { IfOk result (λ reply. Replies
+        (play.judged (state_of B.kind_of B.blank B.view network.old) number line.now)
+        reply (state_of B.kind_of B.blank B.view network.new)) }
+    ensures alive { OnOk result (IsAlive B.kind_of B.blank B.view network.new) }
+    ensures ready { IsReady B.kind_of B.blank B.view network.new }
 {
     match head(line) {
-        None => play_parsed(alloc, world, number, line),
+        None => play_parsed(alloc, network, number, line),
         Some(first) => {
             if is_played(first.keyword) {
-                play_parsed(alloc, world, number, line)
+                play_parsed(alloc, network, number, line)
             } else {
                 misspelled(alloc, number, first.column)
             }

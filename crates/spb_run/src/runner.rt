@@ -1,62 +1,81 @@
-ghost use Rattle.std.specs.Prelude.{◌≡◌, ◌≢◌, ◌≤◌, ◌<◌, ◌+◌, ◌↔◌, ◌⊎◌, Err, List, ℕ, length, false, map, string_bytes, codes, IsErrOf, IsTrue, OnOk, IfOk, OnErr, IfSome, List, ℕ};
+ghost use Rattle.std.specs.Prelude.{◌≡◌, ◌≢◌, ◌≤◌, ◌<◌, ◌+◌, ◌↔◌, ◌⊎◌, Err, List, ℕ, length, false, map, string_bytes, codes, IsErrOf, IsTrue, OnOk, IfOk, OnErr, IfSome};
 ghost use Rattle.std.specs.Io.KnownBytes.{Appends, Consumes, IsAtEnd};
 ghost use Rattle.std.specs.Str.Lines.{lines};
+ghost use Rattle.spb_network.specs.Applying.{IsReady};
+ghost use Rattle.spb_network.specs.Network.{state_of};
+ghost use Rattle.spb_network.specs.Sound.{IsSoundState};
 ghost use Rattle.spb_outside.specs.Faults.{Rose};
 ghost use Rattle.spb_run.specs.Output.{AppendsFront};
 ghost use Rattle.spb_run.specs.Play.{judged};
-ghost use Rattle.spb_run.specs.Text.{most_bytes, played, opening, text_of, fate_of, end_of};
+ghost use Rattle.spb_run.specs.Replying.{IsAlive, IsNew};
+ghost use Rattle.spb_run.specs.Text.{most_bytes, played, text_of, fate_of, end_of};
 ghost use Rattle.spb_run.specs.Run as forms;
 
 use crate::output::write_all;
 use crate::play::play_line;
 use crate::script::{ReadError, next_line, read_script};
-use crate::{Refusal, Status, World};
+use crate::{Refusal, Status};
+use bridge_api::Bridge;
+use spb_network::NetworkOf;
 use spb_outside::{Sink, Source, WriteError};
 use std::alloc::Global;
 
 /// Plays a line and writes its answer.
-fn answer_line<K: Sink>(
+fn answer_line<B: Bridge, K: Sink>(
     alloc: Global,
-    world: &mut World,
+    network: &mut NetworkOf<B>,
     number: u32,
     line: &[u8],
     sink: &mut K,
 ) -> Result<Option<Refusal>, WriteError>
-    ensures text { OnOk result (Appends (K.holds sink.old) (K.holds sink.new) (judged world.old number line.now).text) }
-    ensures refused { IfOk result (λ refused. refused ≡ (judged world.old number line.now).refused) }
-    ensures state { OnOk result (world.new ≡ (judged world.old number line.now).state) }
-    ensures front { OnErr result (AppendsFront (K.holds sink.old) (K.holds sink.new) (judged world.old number line.now).text) }
+    requires { IsAlive B.kind_of B.blank B.view network.old }
+    ensures text { OnOk result (Appends (K.holds sink.old) (K.holds sink.new)
+        (judged (state_of B.kind_of B.blank B.view network.old) number line.now).text) }
+    ensures refused { IfOk result (λ refused.
+        refused ≡ (judged (state_of B.kind_of B.blank B.view network.old) number line.now).refused) }
+    ensures state { OnOk result (state_of B.kind_of B.blank B.view network.new
+        ≡ (judged (state_of B.kind_of B.blank B.view network.old) number line.now).state) }
+    ensures alive { OnOk result (IsAlive B.kind_of B.blank B.view network.new) }
+    ensures ready { IsReady B.kind_of B.blank B.view network.new }
+    ensures front { OnErr result (AppendsFront (K.holds sink.old) (K.holds sink.new)
+        (judged (state_of B.kind_of B.blank B.view network.old) number line.now).text) }
     ensures count { K.faults sink.old ≤ K.faults sink.new }
     ensures failed { IsErrOf result WriteError.Failed → Rose (K.faults sink.old) (K.faults sink.new) }
     ensures reliable { IsTrue (K.is_reliable sink.old) →
         (result ≢ Err WriteError.Failed) × IsTrue (K.is_reliable sink.new) }
 {
-    let reply = play_line(alloc, world, number, line)?;
+    let reply = play_line(alloc, network, number, line)?;
     write_all(sink, &reply.text)?;
     Ok(reply.refused)
 }
 
-/// Plays the lines of a script in the opening world, and writes the answers to each before the next is played. It ends
-/// with the first line that is refused.
-fn play_script<K: Sink>(
+/// Plays the lines of a script, and writes the answers to each before the next is played. It ends with the first line
+/// that is refused.
+fn play_script<B: Bridge, K: Sink>(
     alloc: Global,
-    world: &mut World,
+    network: &mut NetworkOf<B>,
     script: &[u8],
     sink: &mut K,
 ) -> Result<Option<(u32, Refusal)>, WriteError>
-    requires opening { world.old ≡ opening }
+    requires alive { IsAlive B.kind_of B.blank B.view network.old }
     requires short { length script.now ≤ most_bytes }
-    ensures text { OnOk result (Appends (K.holds sink.old) (K.holds sink.new) (played script.now).text) }
-    ensures refused { IfOk result (λ refused. refused ≡ (played script.now).refused) }
-    ensures world { OnOk result (world.new ≡ end_of script.now) }
-    ensures front { OnErr result (AppendsFront (K.holds sink.old) (K.holds sink.new) (played script.now).text) }
+    ensures text { OnOk result (Appends (K.holds sink.old) (K.holds sink.new)
+        (played (state_of B.kind_of B.blank B.view network.old) script.now).text) }
+    ensures refused { IfOk result (λ refused.
+        refused ≡ (played (state_of B.kind_of B.blank B.view network.old) script.now).refused) }
+    ensures state { OnOk result (state_of B.kind_of B.blank B.view network.new
+        ≡ end_of (state_of B.kind_of B.blank B.view network.old) script.now) }
+    ensures alive { OnOk result (IsAlive B.kind_of B.blank B.view network.new) }
+    ensures ready { IsReady B.kind_of B.blank B.view network.new }
+    ensures front { OnErr result (AppendsFront (K.holds sink.old) (K.holds sink.new)
+        (played (state_of B.kind_of B.blank B.view network.old) script.now).text) }
     ensures failed { IsErrOf result WriteError.Failed → Rose (K.faults sink.old) (K.faults sink.new) }
     ensures reliable { IsTrue (K.is_reliable sink.old) → result ≢ Err WriteError.Failed }
 {
     let mut rest = script;
     let mut number = 1;
     while let Some((line, behind)) = next_line(rest) {
-        if let Some(why) = answer_line(alloc, world, number, line, sink)? {
+        if let Some(why) = answer_line(alloc, network, number, line, sink)? {
             return Ok(Some((number, why)));
         }
         rest = behind;
@@ -76,17 +95,29 @@ fn is_run(words: &[String]) -> bool
 }
 
 /// Plays a script that was read, and gives the status.
-fn status_of_script<K: Sink>(alloc: Global, script: &[u8], sink: &mut K) -> Status
-    requires { length script.now ≤ most_bytes }
-    ensures fate { IsTrue (forms.is_played result) → result ≡ fate_of script.now }
-    ensures text { IsTrue (forms.is_played result) → Appends (K.holds sink.old) (K.holds sink.new) (text_of script.now) }
-    ensures front { IsTrue (forms.is_cut result) → AppendsFront (K.holds sink.old) (K.holds sink.new) (text_of script.now) }
+fn status_of_script<B: Bridge, K: Sink>(
+    alloc: Global,
+    network: &mut NetworkOf<B>,
+    script: &[u8],
+    sink: &mut K,
+) -> Status
+    requires alive { IsAlive B.kind_of B.blank B.view network.old }
+    requires short { length script.now ≤ most_bytes }
+    ensures fate { IsTrue (forms.is_played result) →
+        result ≡ fate_of (state_of B.kind_of B.blank B.view network.old) script.now }
+    ensures text { IsTrue (forms.is_played result) → Appends (K.holds sink.old) (K.holds sink.new)
+        (text_of (state_of B.kind_of B.blank B.view network.old) script.now) }
+    ensures state { IsTrue (forms.is_ended result) → state_of B.kind_of B.blank B.view network.new
+        ≡ end_of (state_of B.kind_of B.blank B.view network.old) script.now }
+    ensures alive { IsTrue (forms.is_ended result) → IsAlive B.kind_of B.blank B.view network.new }
+    ensures ready { IsReady B.kind_of B.blank B.view network.new }
+    ensures front { IsTrue (forms.is_cut result) → AppendsFront (K.holds sink.old) (K.holds sink.new)
+        (text_of (state_of B.kind_of B.blank B.view network.old) script.now) }
     ensures other { IsTrue (forms.is_silent result) → ⊥ }
     ensures failed { result ≡ Status.WriteFault → Rose (K.faults sink.old) (K.faults sink.new) }
     ensures reliable { IsTrue (K.is_reliable sink.old) → result ≢ Status.WriteFault }
 {
-    let mut world = World::new(alloc);
-    match play_script(alloc, &mut world, script, sink) {
+    match play_script(alloc, network, script, sink) {
         Ok(None) => Status::Done,
         Ok(Some((number, why))) => Status::Refused(number, why),
         Err(WriteError::Failed) => Status::WriteFault,
@@ -96,28 +127,45 @@ fn status_of_script<K: Sink>(alloc: Global, script: &[u8], sink: &mut K) -> Stat
 
 /// Runs the program with these words, which don't have its own name among them.
 ///
-/// For the words `run` it plays the script that the source gives and writes the answers to the sink. The script is
-/// read whole before its first line is judged, and the answers to each line are written before the next is played.
-pub fn run<S: Source, K: Sink>(
+/// For the words `run` it plays the script that the source gives, on a network that was just made, and writes the
+/// answers to the sink. The script is read whole before its first line is judged, and the answers to each line are
+/// written before the next is played.
+pub fn run<B: Bridge, S: Source, K: Sink>(
     alloc: Global,
     words: &[String],
+    network: &mut NetworkOf<B>,
     source: &mut S,
     sink: &mut K,
 ) -> Status
-    // Usage comes exactly for other words, and then nothing is read or written.
+    requires { IsNew B.kind_of B.blank B.view network.old }
+
+    // Usage comes exactly for other words, and then nothing is read, played or written.
     ensures usage { (result ≡ Status.Usage) ↔ (forms.is_run (map string_bytes words.now) ≡ false) }
     ensures idle { result ≡ Status.Usage → source.new ≡ source.old }
+    ensures unplayed { result ≡ Status.Usage → network.new ≡ network.old }
     ensures silent { IsTrue (forms.is_silent result) → sink.new ≡ sink.old }
 
     // The status is the script's fate and all of its text is written, unless the run was cut short.
-    ensures fate { IsTrue (forms.is_played result) → IfSome (S.left source.old) (λ script. result ≡ fate_of script) }
+    ensures fate { IsTrue (forms.is_played result) → IfSome (S.left source.old) (λ script.
+        result ≡ fate_of (state_of B.kind_of B.blank B.view network.old) script) }
     ensures text { IsTrue (forms.is_played result) → IfSome (S.left source.old) (λ script.
-        Appends (K.holds sink.old) (K.holds sink.new) (text_of script)) }
+        Appends (K.holds sink.old) (K.holds sink.new)
+            (text_of (state_of B.kind_of B.blank B.view network.old) script)) }
     ensures ended { result ≡ Status.Done → IsAtEnd (S.left source.new) }
+
+    // A run that ended by itself leaves the network as the accepted lines make it.
+    ensures state { IsTrue (forms.is_ended result) → IfSome (S.left source.old) (λ script.
+        state_of B.kind_of B.blank B.view network.new
+            ≡ end_of (state_of B.kind_of B.blank B.view network.old) script) }
+
+    // The network is sound then, and after every run it can be asked to apply commands.
+    ensures sound { IsTrue (forms.is_ended result) → IsSoundState (state_of B.kind_of B.blank B.view network.new) }
+    ensures ready { IsReady B.kind_of B.blank B.view network.new }
 
     // A run that was cut short wrote a front of the text.
     ensures front { IsTrue (forms.is_cut result) → IfSome (S.left source.old) (λ script.
-        AppendsFront (K.holds sink.old) (K.holds sink.new) (text_of script)) }
+        AppendsFront (K.holds sink.old) (K.holds sink.new)
+            (text_of (state_of B.kind_of B.blank B.view network.old) script)) }
 
     // A fault comes only where the source or the sink failed in this call.
     ensures read_fault { result ≡ Status.ReadFault → Rose (S.faults source.old) (S.faults source.new) }
@@ -127,7 +175,8 @@ pub fn run<S: Source, K: Sink>(
 
     // So over a source and a sink that don't fail, only memory can be wanting.
     ensures complete { IsTrue (forms.is_run (map string_bytes words.now)) → IsTrue (S.is_reliable source.old) →
-        IsTrue (K.is_reliable sink.old) → IfSome (S.left source.old) (λ script. (result ≡ fate_of script) ⊎ (result ≡ Status.NoMemory)) }
+        IsTrue (K.is_reliable sink.old) → IfSome (S.left source.old) (λ script.
+            (result ≡ fate_of (state_of B.kind_of B.blank B.view network.old) script) ⊎ (result ≡ Status.NoMemory)) }
 
     // At most one byte more is read than a script may have.
     ensures few { (read : List ℕ) × Consumes (S.left source.old) (S.left source.new) read × (length read ≤ most_bytes + 1) }
@@ -136,7 +185,7 @@ pub fn run<S: Source, K: Sink>(
         return Status::Usage;
     }
     match read_script(alloc, source) {
-        Ok(script) => status_of_script(alloc, &script, sink),
+        Ok(script) => status_of_script(alloc, network, &script, sink),
         Err(ReadError::Failed) => Status::ReadFault,
         Err(ReadError::TooLong) => Status::TooLong,
         Err(ReadError::NoMemory) => Status::NoMemory,

@@ -1,14 +1,20 @@
 //! `spbsim run` plays a script of a shortest path backbone from standard input, and writes the answers to standard
 //! output. Its exit status is the number of the run's status, 0 to 6.
 //!
-//! All of it is done by `spb_run::run`, over the standard streams: here stand the words and the messages alone.
+//! All of it is done by `spb_run::run`, over the standard streams: here stand the words, the rack of boxes that bridges
+//! are taken from, and the messages alone.
 #![tactic(auto)]
 
 ghost use Rattle.std.specs.Prelude.{◌≡◌, is_some, nat_le};
 ghost use Rattle.spb_run.specs.Run.{status_number};
 
-use spb_outside::{StdSink, StdSource};
+use bridge_api::Bridge;
+use plain_bridge::PlainBridge;
+use spb_network::Network;
+use spb_outside::{Sink, Source, StdSink, StdSource};
 use spb_run::{Status, run};
+use spb_types::NoMemory;
+use std::alloc::Global;
 use std::env;
 use std::io::ErrorKind;
 use std::process::ExitCode;
@@ -16,6 +22,9 @@ use std::rt::{Env, HostRuntime};
 
 #[cfg(test)]
 mod tests;
+
+/// How many blank boxes the rack has.
+const BOXES: usize = 256;
 
 /// The program's words, without its name. A word that isn't text is none of the program's, so there is no form for it.
 fn words(rt: &(impl Env + AllocGlobal)) -> Result<Vec<String>, Status> {
@@ -43,11 +52,28 @@ fn message(status: Status) -> Option<&'static str>
     }
 }
 
+/// Makes a rack of blank boxes and the network of it, and runs the program with these words.
+fn play<S: Source, K: Sink>(
+    alloc: Global,
+    words: &[String],
+    source: &mut S,
+    sink: &mut K,
+) -> Result<Status, NoMemory> {
+    let mut rack: Vec<Box<dyn Bridge>> = Vec::new(alloc);
+    for _ in 0..BOXES {
+        rack.push(Box::new(alloc, PlainBridge::blank(alloc))?)?;
+    }
+    let mut network = Network::new(alloc, rack);
+    Ok(run(alloc, words, &mut network, source, sink))
+}
+
 fn main(rt: HostRuntime) -> ExitCode {
     let mut source = StdSource::new(rt.stdin());
     let mut sink = StdSink::new(rt.stdout());
     let status = match words(&rt) {
-        Ok(words) => run(rt.alloc(), &words, &mut source, &mut sink),
+        Ok(words) => {
+            play(rt.alloc(), &words, &mut source, &mut sink).unwrap_or(Status::NoMemory)
+        }
         Err(status) => status,
     };
     if let Some(text) = message(status) {

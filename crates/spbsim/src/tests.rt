@@ -1,18 +1,37 @@
-use crate::{Status, run};
+ghost use Rattle.std.specs.Prelude.{IfOk};
+ghost use Rattle.bridge_api.specs.Config.{IsWhole};
+
+use crate::{Status, play, run};
+use bridge_api::{Bridge, BridgeConfig};
+use plain_bridge::PlainBridge;
+use spb_network::{NetworkOf, Reason};
 use spb_outside::{MemorySink, MemorySource, Sink, Source};
-use spb_run::{Reason, Refusal};
+use spb_run::Refusal;
+use spb_types::{BridgeId, Mac, NoMemory, Seq, SourceId, SystemId};
 use std::alloc::Global;
 use std::process::Abort;
 use std::test::Fail;
 
-/// Two bridges with a link between them, and a question.
-const TWO: &[u8] = b"vid 10 1\n\
+/// Two bridges with a link between them.
+const TWO: &str = "bridge A 32768 020000000001 00001 1
+bridge B 32768 020000000002 00002 1
+link L1 A 1 B 1 10
+";
+
+/// Two bridges with a link between them, and ports that have none.
+const SPARE: &str = "bridge A 32768 020000000001 00001 2
+bridge B 32768 020000000002 00002 2
+link L1 A 1 B 1 10
+";
+
+/// A question about two bridges with a link between them.
+const ASKED: &[u8] = b"vid 10 1\n\
     bridge A 32768 020000000001 00001 1\n\
     bridge B 32768 020000000002 00002 1\n\
     link L1 A 1 B 1 10\n\
     wiring A\n";
 
-const TWO_ANSWER: &[u8] = b"wiring A 1 0\nu 10 020000000002 1\n";
+const ASKED_ANSWER: &[u8] = b"wiring A 1 0\nu 10 020000000002 1\n";
 
 /// Of two paths of one cost from A to D the one over X has fewer hops.
 const FIVE: &[u8] = b"vid 10 1\n\
@@ -34,6 +53,58 @@ const FIVE_ANSWER: &[u8] = b"wiring A 4 0\n\
     u 10 020000000004 2\n\
     u 10 020000000009 2\n";
 
+/// The hello of A comes to B, then that of B to A, then again that of A to B.
+const HELLOS: &str = "tick A
+deliver L1 ab
+adj B
+tick B
+deliver L1 ba
+adj A
+tick A
+deliver L1 ab
+adj B
+";
+
+const HELLOS_ANSWER: &str = "adj B 1
+p 1 init 020000000001 1 3 -
+adj A 1
+p 1 up 020000000002 1 3 due
+adj B 1
+p 1 up 020000000001 1 3 due
+";
+
+/// Three hellos of A are lost, and B gives A up; then A hears of it.
+const LOST: &str = "round 5
+tick A
+lose L1 ab 0
+tick B
+deliver L1 ba
+tick A
+lose L1 ab 0
+tick B
+deliver L1 ba
+tick A
+lose L1 ab 0
+tick B
+adj A
+adj B
+tick A
+deliver L1 ab
+adj B
+deliver L1 ba
+adj A
+";
+
+const LOST_ANSWER: &str = "adj A 1
+p 1 up 020000000002 1 2 -
+adj B 1
+p 1 down
+adj B 1
+p 1 down
+adj A 1
+p 1 init 020000000002 1 3 -
+";
+
 /// Runs the program with one word over a script, in pieces of `step` bytes, and asserts how it ends and what it writes.
 fn check(
     rt: &impl Abort,
@@ -47,11 +118,42 @@ fn check(
     let words = vec![in alloc; String::from_str(alloc, "run")?]?;
     let mut source = MemorySource::new(Vec::from_slice(alloc, script)?, Vec::new(alloc), step);
     let mut sink = MemorySink::new(alloc, Vec::new(alloc), step);
-    assert_eq!(rt; run(alloc, &words, &mut source, &mut sink), status);
+    assert_eq!(rt; play(alloc, &words, &mut source, &mut sink), Ok(status));
     assert_eq!(rt; sink.bytes(), text);
     assert_eq!(rt; source.faults(), 0);
     assert_eq!(rt; sink.faults(), 0);
     Ok(())
+}
+
+/// Asserts that a line behind a script is refused for a reason, as its fourth line.
+fn check_refused(
+    rt: &impl Abort,
+    alloc: Global,
+    before: &str,
+    line: &str,
+    why: Refusal,
+    end: &str,
+) -> Result<(), Fail> {
+    let script = format!(in alloc; "{before}{line}\nwiring A\n")?;
+    let text = format!(in alloc; "error 4 {end}\n")?;
+    check(
+        rt,
+        alloc,
+        script.as_bytes(),
+        100,
+        Status::Refused(4, why),
+        text.as_bytes(),
+    )
+}
+
+/// Runs the program with one word over a script, on the network of a rack, and gives the status.
+fn played_on<B: Bridge>(alloc: Global, rack: Vec<B>, script: &str) -> Result<Status, NoMemory> {
+    let words = vec![in alloc; String::from_str(alloc, "run")?]?;
+    let mut network = NetworkOf::new(alloc, rack);
+    let bytes = Vec::from_slice(alloc, script.as_bytes())?;
+    let mut source = MemorySource::new(bytes, Vec::new(alloc), 100);
+    let mut sink = MemorySink::new(alloc, Vec::new(alloc), 100);
+    Ok(run(alloc, &words, &mut network, &mut source, &mut sink))
 }
 
 #[test]
@@ -59,10 +161,62 @@ fn scripts_are_answered_in_pieces_of_any_size(rt: HostRuntime) -> Result<(), Fai
     let alloc = rt.alloc();
     for step in [1, 7, 4096, 100_000] {
         check(&rt, alloc, b"", step, Status::Done, b"")?;
-        check(&rt, alloc, TWO, step, Status::Done, TWO_ANSWER)?;
+        check(&rt, alloc, ASKED, step, Status::Done, ASKED_ANSWER)?;
         check(&rt, alloc, FIVE, step, Status::Done, FIVE_ANSWER)?;
     }
     Ok(())
+}
+
+#[test]
+fn hellos_bring_two_bridges_up(rt: HostRuntime) -> Result<(), Fail> {
+    let alloc = rt.alloc();
+    let script = format!(in alloc; "{TWO}{HELLOS}")?;
+    check(
+        &rt,
+        alloc,
+        script.as_bytes(),
+        50,
+        Status::Done,
+        HELLOS_ANSWER.as_bytes(),
+    )
+}
+
+#[test]
+fn lost_hellos_take_a_bridge_down(rt: HostRuntime) -> Result<(), Fail> {
+    let alloc = rt.alloc();
+    let script = format!(in alloc; "{TWO}{LOST}")?;
+    check(
+        &rt,
+        alloc,
+        script.as_bytes(),
+        50,
+        Status::Done,
+        LOST_ANSWER.as_bytes(),
+    )
+}
+
+#[test]
+fn a_link_goes_down_and_up_and_its_hellos_are_doubled(rt: HostRuntime) -> Result<(), Fail> {
+    let alloc = rt.alloc();
+    let script = format!(in alloc; "{TWO}round 3
+down L1
+adj A
+up L1
+adj A
+tick B
+double L1 ba 0
+drain 1
+deliver L1 ba
+adj A
+")?;
+    check(
+        &rt,
+        alloc,
+        script.as_bytes(),
+        50,
+        Status::Done,
+        b"adj A 1\np 1 off\nadj A 1\np 1 down\nadj A 1\np 1 init 020000000002 1 3 -\n",
+    )
 }
 
 #[test]
@@ -80,7 +234,7 @@ fn the_first_refused_line_ends_the_run(rt: HostRuntime) -> Result<(), Fail> {
     check(
         &rt,
         alloc,
-        b"# a comment\r\n\n \t\ntick\n",
+        b"# a comment\r\n\n \t\nrestart\n",
         9,
         words(4, 1),
         b"error 4 1 Words 1\n",
@@ -97,11 +251,123 @@ fn the_first_refused_line_ends_the_run(rt: HostRuntime) -> Result<(), Fail> {
     check(
         &rt,
         alloc,
-        b"wiring A\n",
+        b"tick A\n",
         9,
         unknown,
         b"error 1 2 NoSuchName\n",
     )
+}
+
+#[test]
+fn lines_outside_the_grammar_have_a_column(rt: HostRuntime) -> Result<(), Fail> {
+    let alloc = rt.alloc();
+    for (line, column, end) in [
+        ("tick", 5, "1 Words 5"),
+        ("tick A B", 8, "1 Words 8"),
+        ("deliver L1 xy", 12, "1 Words 12"),
+        ("round", 6, "1 Words 6"),
+        ("metric L1 a 0", 1, "1 Words 1"),
+        (" frame A 1 00", 2, "1 Words 2"),
+        ("state", 1, "1 Words 1"),
+    ] {
+        check_refused(&rt, alloc, SPARE, line, Refusal::Words(column), end)?;
+    }
+    Ok(())
+}
+
+#[test]
+fn refused_declarations_have_a_reason(rt: HostRuntime) -> Result<(), Fail> {
+    let alloc = rt.alloc();
+    for (line, why, end) in [
+        ("link L2 A 2 C 1 10", Reason::NoSuchName, "2 NoSuchName"),
+        (
+            "bridge A 0 020000000003 00003 1",
+            Reason::NameTaken,
+            "3 NameTaken",
+        ),
+        (
+            "bridge C 0 020000000001 00003 1",
+            Reason::IdTaken,
+            "4 IdTaken",
+        ),
+        ("link L2 A 1 B 2 10", Reason::PortUse, "5 PortUse"),
+        (
+            "bridge C 0 030000000003 00003 1",
+            Reason::Range,
+            "6 Range",
+        ),
+        ("link L2 A 3 B 2 10", Reason::Range, "6 Range"),
+        (
+            "link L2 A 2 B 2 10",
+            Reason::AlreadyLinked,
+            "8 AlreadyLinked",
+        ),
+        ("vid 10 1", Reason::TooLate, "13 TooLate"),
+    ] {
+        check_refused(&rt, alloc, SPARE, line, Refusal::Command(why), end)?;
+    }
+    Ok(())
+}
+
+#[test]
+fn refused_events_have_a_reason(rt: HostRuntime) -> Result<(), Fail> {
+    let alloc = rt.alloc();
+    for (line, why, end) in [
+        ("adj C", Reason::NoSuchName, "2 NoSuchName"),
+        ("round 0", Reason::Range, "6 Range"),
+        ("drain 1000001", Reason::Range, "6 Range"),
+        ("up L1", Reason::AlreadyUp, "9 AlreadyUp"),
+        ("lose L1 ab 0", Reason::NoFrame, "11 NoFrame"),
+        ("double L1 ba 0", Reason::NoFrame, "11 NoFrame"),
+        ("deliver L1 ab", Reason::NoFrame, "11 NoFrame"),
+    ] {
+        check_refused(&rt, alloc, SPARE, line, Refusal::Command(why), end)?;
+    }
+    Ok(())
+}
+
+#[test]
+fn each_bridge_takes_a_box(rt: HostRuntime) -> Result<(), Fail> {
+    let alloc = rt.alloc();
+    let mut rack: Vec<Box<dyn Bridge>> = Vec::new(alloc);
+    rack.push(Box::new(alloc, PlainBridge::blank(alloc))?)?;
+    let spent = Status::Refused(2, Refusal::Command(Reason::RackSpent));
+    assert_eq!(rt; played_on(alloc, rack, TWO), Ok(spent));
+    Ok(())
+}
+
+/// What a bridge without ports is configured with.
+fn portless(alloc: Global) -> BridgeConfig
+    ensures { IsWhole result }
+{
+    BridgeConfig {
+        id: BridgeId {
+            priority: 32768,
+            system: SystemId {
+                mac: Mac {
+                    bytes: [2, 0, 0, 0, 0, 9],
+                },
+            },
+        },
+        source: SourceId { value: 9 },
+        ports: 0,
+        vids: Seq::new(alloc),
+        metrics: Seq::new(alloc),
+        attached: Seq::new(alloc),
+    }
+}
+
+#[test]
+fn a_box_that_is_not_blank_is_never_taken(rt: HostRuntime) -> Result<(), Fail> {
+    let alloc = rt.alloc();
+    let mut used = PlainBridge::blank(alloc);
+    used.configure(&portless(alloc))?;
+    let mut rack: Vec<Box<dyn Bridge>> = Vec::new(alloc);
+    rack.push(Box::new(alloc, PlainBridge::blank(alloc))?)?;
+    rack.push(Box::new(alloc, used)?)?;
+    let spent = Status::Refused(2, Refusal::Command(Reason::RackSpent));
+    assert_eq!(rt; played_on(alloc, rack, TWO), Ok(spent));
+    Ok(())
 }
 
 #[test]
@@ -121,9 +387,12 @@ fn other_words_are_refused_and_nothing_is_read_or_written(rt: HostRuntime) -> Re
         for word in std::str::from_utf8(words)?.split(' ') {
             list.push(String::from_str(alloc, word)?)?;
         }
-        let mut source = MemorySource::new(Vec::from_slice(alloc, TWO)?, Vec::new(alloc), 9);
+        let mut source = MemorySource::new(Vec::from_slice(alloc, ASKED)?, Vec::new(alloc), 9);
         let mut sink = MemorySink::new(alloc, Vec::new(alloc), 9);
-        assert_eq!(rt; run(alloc, &list, &mut source, &mut sink), Status::Usage);
+        assert_eq!(rt;
+            play(alloc, &list, &mut source, &mut sink),
+            Ok(Status::Usage)
+        );
         assert_eq!(rt; sink.bytes(), b"".as_slice());
         let mut into = [0; 3];
         assert_eq!(rt; source.read(&mut into), Ok(3));
@@ -137,12 +406,12 @@ fn a_failed_read_leaves_nothing_written(rt: HostRuntime) -> Result<(), Fail> {
     let alloc = rt.alloc();
     let words = vec![in alloc; String::from_str(alloc, "run")?]?;
     for failing in [1, 3] {
-        let script = Vec::from_slice(alloc, TWO)?;
+        let script = Vec::from_slice(alloc, ASKED)?;
         let mut source = MemorySource::new(script, vec![in alloc; failing]?, 40);
         let mut sink = MemorySink::new(alloc, Vec::new(alloc), 9);
         assert_eq!(rt;
-            run(alloc, &words, &mut source, &mut sink),
-            Status::ReadFault
+            play(alloc, &words, &mut source, &mut sink),
+            Ok(Status::ReadFault)
         );
         assert_eq!(rt; sink.bytes(), b"".as_slice());
     }
@@ -154,12 +423,12 @@ fn a_failed_write_leaves_a_front_of_the_answers(rt: HostRuntime) -> Result<(), F
     let alloc = rt.alloc();
     let words = vec![in alloc; String::from_str(alloc, "run")?]?;
     for (failing, front) in [(1, b"".as_slice()), (3, b"wiring A 1 0\nu 1")] {
-        let script = Vec::from_slice(alloc, TWO)?;
+        let script = Vec::from_slice(alloc, ASKED)?;
         let mut source = MemorySource::new(script, Vec::new(alloc), 40);
         let mut sink = MemorySink::new(alloc, vec![in alloc; failing]?, 8);
         assert_eq!(rt;
-            run(alloc, &words, &mut source, &mut sink),
-            Status::WriteFault
+            play(alloc, &words, &mut source, &mut sink),
+            Ok(Status::WriteFault)
         );
         assert_eq!(rt; sink.bytes(), front);
     }

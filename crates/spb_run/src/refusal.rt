@@ -1,0 +1,10 @@
+use spb_network::Reason;
+
+/// Why a line is refused.
+#[derive(Clone, Copy, Debug, PartialEq, Eq, Hash)]
+pub enum Refusal {
+    /// The line isn't in the grammar: the column, from 1, of the first word that doesn't fit.
+    Words(usize),
+    /// The line is a command that is refused.
+    Command(Reason),
+}
