@@ -116,9 +116,7 @@ impl<B: Bridge> NetworkOf<B> {
         ensures made { OnOk result (AreMade B.blank self.new.boxes.items) }
     {
         let place = self.lanes.len();
-        let link = self
-            .world
-            .declare_link(name, i, port_a, j, port_b, cost)?;
+        let link = self.world.declare_link(name, i, port_a, j, port_b, cost)?;
         self.lanes.push(Lanes::new(self.alloc))?;
         self.meter_over(link)?;
         self.switch_on(place)

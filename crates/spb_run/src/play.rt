@@ -9,8 +9,8 @@ ghost use Rattle.spb_run.specs.Play as play;
 ghost use Rattle.spb_run.specs.Replying.{Replies, IsAlive};
 ghost use Rattle.spb_run.specs.declared.refusal.Refusal.TheVariants as refusal;
 
-use crate::answer::answer_text;
 use crate::Refusal;
+use crate::answer::answer_text;
 use crate::reply::Reply;
 use bridge_api::Bridge;
 use report::error_text;
@@ -75,7 +75,7 @@ fn play_command<B: Bridge>(
     requires { IsAlive B.kind_of B.blank B.view network.old }
     ensures ok { IfOk result (λ reply. Replies
         (play.judged_by (state_of B.kind_of B.blank B.view network.old) number command.now
-            (refuse.refusal_of (state_of B.kind_of B.blank B.view network.old) command.now))
+        (refuse.refusal_of (state_of B.kind_of B.blank B.view network.old) command.now))
         reply (state_of B.kind_of B.blank B.view network.new)) }
     ensures alive { OnOk result (IsAlive B.kind_of B.blank B.view network.new) }
     ensures ready { IsReady B.kind_of B.blank B.view network.new }

@@ -150,13 +150,13 @@ pub fn run<B: Bridge, S: Source, K: Sink>(
         result ≡ fate_of (state_of B.kind_of B.blank B.view network.old) script) }
     ensures text { IsTrue (forms.is_played result) → IfSome (S.left source.old) (λ script.
         Appends (K.holds sink.old) (K.holds sink.new)
-            (text_of (state_of B.kind_of B.blank B.view network.old) script)) }
+        (text_of (state_of B.kind_of B.blank B.view network.old) script)) }
     ensures ended { result ≡ Status.Done → IsAtEnd (S.left source.new) }
 
     // A run that ended by itself leaves the network as the accepted lines make it.
     ensures state { IsTrue (forms.is_ended result) → IfSome (S.left source.old) (λ script.
         state_of B.kind_of B.blank B.view network.new
-            ≡ end_of (state_of B.kind_of B.blank B.view network.old) script) }
+        ≡ end_of (state_of B.kind_of B.blank B.view network.old) script) }
 
     // The network is sound then, and after every run it can be asked to apply commands.
     ensures sound { IsTrue (forms.is_ended result) → IsSoundState (state_of B.kind_of B.blank B.view network.new) }
@@ -165,7 +165,7 @@ pub fn run<B: Bridge, S: Source, K: Sink>(
     // A run that was cut short wrote a front of the text.
     ensures front { IsTrue (forms.is_cut result) → IfSome (S.left source.old) (λ script.
         AppendsFront (K.holds sink.old) (K.holds sink.new)
-            (text_of (state_of B.kind_of B.blank B.view network.old) script)) }
+        (text_of (state_of B.kind_of B.blank B.view network.old) script)) }
 
     // A fault comes only where the source or the sink failed in this call.
     ensures read_fault { result ≡ Status.ReadFault → Rose (S.faults source.old) (S.faults source.new) }
@@ -176,7 +176,7 @@ pub fn run<B: Bridge, S: Source, K: Sink>(
     // So over a source and a sink that don't fail, only memory can be wanting.
     ensures complete { IsTrue (forms.is_run (map string_bytes words.now)) → IsTrue (S.is_reliable source.old) →
         IsTrue (K.is_reliable sink.old) → IfSome (S.left source.old) (λ script.
-            (result ≡ fate_of (state_of B.kind_of B.blank B.view network.old) script) ⊎ (result ≡ Status.NoMemory)) }
+        (result ≡ fate_of (state_of B.kind_of B.blank B.view network.old) script) ⊎ (result ≡ Status.NoMemory)) }
 
     // At most one byte more is read than a script may have.
     ensures few { (read : List ℕ) × Consumes (S.left source.old) (S.left source.new) read × (length read ≤ most_bytes + 1) }

@@ -198,7 +198,8 @@ fn lost_hellos_take_a_bridge_down(rt: HostRuntime) -> Result<(), Fail> {
 #[test]
 fn a_link_goes_down_and_up_and_its_hellos_are_doubled(rt: HostRuntime) -> Result<(), Fail> {
     let alloc = rt.alloc();
-    let script = format!(in alloc; "{TWO}round 3
+    let script = format!(in alloc;
+        "{TWO}round 3
 down L1
 adj A
 up L1
@@ -208,7 +209,8 @@ double L1 ba 0
 drain 1
 deliver L1 ba
 adj A
-")?;
+"
+    )?;
     check(
         &rt,
         alloc,
@@ -291,11 +293,7 @@ fn refused_declarations_have_a_reason(rt: HostRuntime) -> Result<(), Fail> {
             "4 IdTaken",
         ),
         ("link L2 A 1 B 2 10", Reason::PortUse, "5 PortUse"),
-        (
-            "bridge C 0 030000000003 00003 1",
-            Reason::Range,
-            "6 Range",
-        ),
+        ("bridge C 0 030000000003 00003 1", Reason::Range, "6 Range"),
         ("link L2 A 3 B 2 10", Reason::Range, "6 Range"),
         (
             "link L2 A 2 B 2 10",
