@@ -15,9 +15,14 @@ pub enum Answer {
     /// A declaration answers nothing.
     Silent,
     /// An event answers the customer frames that leave, in order.
-    Outs { frames: Seq<Out> },
+    Outs {
+        frames: Seq<Out>,
+    },
     /// The tables that the wiring gives a bridge.
-    Wiring { bridge: Name, tables: Tables },
+    Wiring {
+        bridge: Name,
+        tables: Tables,
+    },
     /// The ports of a bridge, from port 1 on: the adjacency, and whether CSNPs are due.
     Adj {
         bridge: Name,

@@ -89,10 +89,7 @@ fn is_bridge_address(mac: Mac) -> bool
 pub fn is_bridge_range(priority: u64, system: Mac, source: SourceId, ports: u64) -> bool
     ensures { result ≡ declare.is_bridge_range priority system source ports }
 {
-    priority <= 65535
-        && is_bridge_address(system)
-        && source.value < 1_048_576
-        && ports <= 32
+    priority <= 65535 && is_bridge_address(system) && source.value < 1_048_576 && ports <= 32
 }
 
 /// Whether the link ends at this port of the bridge at a place.

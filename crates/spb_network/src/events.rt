@@ -15,7 +15,7 @@ impl<B: Bridge> NetworkOf<B> {
     fn send_over(&mut self, i: usize, port: u8, frame: Vec<u8>) -> Result<(), NoMemory>
         ensures state { OnOk result (state_of B.kind_of B.blank B.view self.new
             ≡ event.sent_over (state_of B.kind_of B.blank B.view self.old)
-                (way_out (links_of (state_of B.kind_of B.blank B.view self.old)) i port) frame.items) }
+            (way_out (links_of (state_of B.kind_of B.blank B.view self.old)) i port) frame.items) }
         ensures boxes { self.new.boxes ≡ self.old.boxes }
     {
         match self.world.live_way(i, port) {
@@ -160,7 +160,7 @@ impl<B: Bridge> NetworkOf<B> {
         requires { IsInOrder B.kind_of B.blank B.view self.old }
         ensures state { OnOk result (state_of B.kind_of B.blank B.view self.new
             ≡ event.heard_over (state_of B.kind_of B.blank B.view self.old) way.dir frame.now
-                (slice_get (links_of (state_of B.kind_of B.blank B.view self.old)) way.link)) }
+            (slice_get (links_of (state_of B.kind_of B.blank B.view self.old)) way.link)) }
         ensures order { OnOk result (IsInOrder B.kind_of B.blank B.view self.new) }
     {
         match self.world.link(way.link) {

@@ -50,7 +50,7 @@ impl<B: Bridge> NetworkOf<B> {
         requires accepted { declare.bridge_refusal self.old.world name priority system source ports ≡ None }
         ensures state { OnOk result (state_of B.kind_of B.blank B.view self.new
             ≡ play.boxed (state_of B.kind_of B.blank B.view self.old) name
-                (declare.bridge_of priority system source ports) (Some place)) }
+            (declare.bridge_of priority system source ports) (Some place)) }
         ensures made { OnOk result (AreMade B.blank self.new.boxes.items) }
     {
         let id = BridgeId {
@@ -61,7 +61,8 @@ impl<B: Bridge> NetworkOf<B> {
         let mut bridge = self.rack.remove(place);
         bridge.configure(&config)?;
         self.boxes.push(bridge)?;
-        self.world.declare_bridge(name, priority, system, source, ports)
+        self.world
+            .declare_bridge(name, priority, system, source, ports)
     }
 
     /// Declares a bridge.
@@ -81,7 +82,10 @@ impl<B: Bridge> NetworkOf<B> {
         ensures made { OnOk result (AreMade B.blank self.new.boxes.items) }
     {
         let wanted = kind_at(self.rule, self.world.bridge_count());
-        if let Some(reason) = self.world.bridge_refusal(name, priority, system, source, ports) {
+        if let Some(reason) = self
+            .world
+            .bridge_refusal(name, priority, system, source, ports)
+        {
             return Err(ApplyError::Refused(reason));
         }
         match next_box(&self.rack, wanted) {
@@ -112,9 +116,7 @@ impl<B: Bridge> NetworkOf<B> {
         ensures made { OnOk result (AreMade B.blank self.new.boxes.items) }
     {
         let place = self.lanes.len();
-        let link = self
-            .world
-            .declare_link(name, i, port_a, j, port_b, cost)?;
+        let link = self.world.declare_link(name, i, port_a, j, port_b, cost)?;
         self.lanes.push(Lanes::new(self.alloc))?;
         self.meter_over(link)?;
         self.switch_on(place)

@@ -16,7 +16,7 @@ impl<B: Bridge> NetworkOf<B> {
     pub(crate) fn wiring(&self, name: Name) -> Result<Answer, ApplyError>
         ensures { MatchResult result
             (λ answer. (unnamed_refusal (state_of B.kind_of B.blank B.view self.now) name ≡ None)
-                × (answer ≡ play.wiring_of (state_of B.kind_of B.blank B.view self.now) name))
+            × (answer ≡ play.wiring_of (state_of B.kind_of B.blank B.view self.now) name))
             (Declines (unnamed_refusal (state_of B.kind_of B.blank B.view self.now) name)) }
     {
         match self.world.bridge_place(name) {
@@ -37,7 +37,7 @@ impl<B: Bridge> NetworkOf<B> {
         requires { IsInOrder B.kind_of B.blank B.view self.now }
         ensures { MatchResult result
             (λ answer. (unnamed_refusal (state_of B.kind_of B.blank B.view self.now) name ≡ None)
-                × (answer ≡ play.adj_of (state_of B.kind_of B.blank B.view self.now) name))
+            × (answer ≡ play.adj_of (state_of B.kind_of B.blank B.view self.now) name))
             (Declines (unnamed_refusal (state_of B.kind_of B.blank B.view self.now) name)) }
     {
         match self.world.bridge_place(name) {

@@ -233,10 +233,7 @@ impl World {
             .or(reason_unless(are_free, Reason::PortUse))
             .or(reason_unless(is_range, Reason::Range))
             .or(reason_unless(self.links.len() < 400, Reason::TooMany))
-            .or(reason_unless(
-                check::is_unlinked(&self.links, i, j),
-                Reason::AlreadyLinked,
-            ))
+            .or(reason_unless(check::is_unlinked(&self.links, i, j), Reason::AlreadyLinked))
     }
 
     /// Declares a base VID with the number of its ECT algorithm, which isn't refused. After NoMemory nothing changed.

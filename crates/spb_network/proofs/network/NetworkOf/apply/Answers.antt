@@ -1,6 +1,6 @@
-use Rattle.std.proofs.Common.{◌≡◌, sym, ap, ◌∙◌, subst, refl, true≢false, inr, ⊎_elim}
+use Rattle.std.proofs.Common.{sym, ap, ◌∙◌, subst, refl, true≢false, inr, ⊎_elim}
 use Rattle.spb_network.specs.State.{State}
-use Rattle.spb_network.specs.Play.{counted, played, next_state}
+use Rattle.spb_network.specs.Play.{counted, next_state}
 use Rattle.spb_network.specs.Sound.{IsSoundState}
 use Rattle.spb_network.specs.Network.{state_of}
 use Rattle.spb_network.proofs.SoundPlay.{commands_keep_sound}
@@ -9,12 +9,15 @@ use Rattle.spb_network.proofs.network.NetworkOf.apply.Goals as goal
 pub returns-in-Ok-clause-applies : goal.returns-in-Ok-clause-applies
 unfolding next_state
 returns-in-Ok-clause-applies g c =
-    let made : State = state_of g.B.Bridge.kind_of g.B.Bridge.blank g.B.Bridge.view c.play.new.self in
-    (c.if-self.false, record {
-      accepted = c.in-Ok.ensures.answers.0;
-      answer_is = c.in-Ok.ensures.answers.1;
-      state = (λ i. record made { accepted = c.next_count-self.ensures i }) ∙ ap counted c.in-Ok.ensures.answers.2;
-    }, refl)
+    let made : State = state_of g.B.Bridge.kind_of g.B.Bridge.blank g.B.Bridge.view c.play.new.self in (
+      c.if-self.false,
+      record {
+        accepted = c.in-Ok.ensures.answers.0;
+        answer_is = c.in-Ok.ensures.answers.1;
+        state = (λ i. record made { accepted = c.next_count-self.ensures i }) ∙ ap counted c.in-Ok.ensures.answers.2;
+      },
+      refl,
+    )
 
 pub returns-in-Ok-clause-ready : goal.returns-in-Ok-clause-ready
 unfolding next_state
