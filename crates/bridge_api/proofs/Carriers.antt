@@ -14,7 +14,7 @@ use Rattle.adjacency.specs.Hearing.{sender, is_discarded}
 use Rattle.adjacency.specs.Adjacency.{down, led_to, state_towards, after_hello, after_carrier, change_of, heard_of}
 use Rattle.bridge_api.specs.declared.port.BridgePort.{BridgePort}
 use Rattle.bridge_api.specs.View.{BridgeView, IsPort, port_in, port_at, has_carrier_in, has_carrier_at}
-use Rattle.bridge_api.specs.Hearing.{with_adjacency, after_receive, carried_at, with_carrier, metered, with_metric}
+use Rattle.bridge_api.specs.Hearing.{with_adjacency, after_receive, carried_at, with_carrier, metered}
 use Rattle.bridge_api.specs.Ports.{greeted_port, carried_port}
 use Rattle.bridge_api.specs.Step.{second, frame, carrier, metric}
 use Rattle.bridge_api.specs.Laws.{StepsKeepCarrier}

@@ -1,7 +1,6 @@
 -- One item of a list is changed.
 use Rattle.std.proofs.Common.{Bor, MutBor, Result, Ok, Err, OnOk, ◌++◌, ◌≡◌, ℕ, zero, suc, ◌<◌, ◌≤◌, List, [], ◌∷◌, map, length, Option, Some, None, slice_get, refl, sym, subst, ap, ◌∙◌, arith}
 use Rattle.std.specs.List.{AllByRecursion, slice_index_or, slice_set, IsItemAtMut, ItemBy}
-use Rattle.std.specs.Option.{option_map_or}
 use Rattle.bridge_api.specs.declared.outbox.Outbox.{Outbox}
 use Rattle.bridge_api.specs.Step.{with_wire}
 use Rattle.spb_network.specs.State.{changed_at}

@@ -1,5 +1,5 @@
 -- Frames on their way.
-use Rattle.std.proofs.Common.{zero, suc, slice_get, ◌≡◌, ℕ, Bool, true, false, List, [], ◌∷◌, Option, Some, None, if◌then◌else◌, refl, sym, ap, ◌∙◌}
+use Rattle.std.proofs.Common.{zero, suc, slice_get, ◌≡◌, ℕ, Bool, true, false, List, [], ◌∷◌, Option, Some, None, if◌then◌else◌, refl, ap}
 use Rattle.link_model.specs.Lane.{Frame, pushed}
 use Rattle.std.specs.Option.{option_map_or}
 use Rattle.scenario.specs.declared.command.Dir.{Dir}

@@ -11,7 +11,7 @@ use Rattle.spb_network.specs.declared.declaration.LinkEnd.{LinkEnd}
 use Rattle.spb_network.specs.World.{World, things_of, is_at_port, AreApart}
 use Rattle.spb_network.specs.Lanes.{no_frames}
 use Rattle.spb_network.specs.Declaring.{with_link}
-use Rattle.spb_network.specs.State.{State, changed_at, links_of, near_end, is_at}
+use Rattle.spb_network.specs.State.{State, links_of, near_end, is_at}
 use Rattle.spb_network.specs.Events.{metered, metered_over}
 use Rattle.spb_network.specs.Network.{IsPortAt}
 use Rattle.spb_network.specs.Sound.{AreDistinct, metric_at, AreMetered, IsSoundState}

@@ -1,5 +1,5 @@
 -- Accepted commands keep what is sound of a network.
-use Rattle.std.proofs.Common.{◌≡◌, ℕ, zero, suc, ◌+◌, ◌-◌, ◌==◌, ◌≢◌, ◌&&◌, true≢false, is_some, ap, Bool, true, false, List, [], ◌∷◌, ◌++◌, length, map, replicate, nat_le, refl, sym, ◌∙◌, subst, Option, Some, None, slice_get, arith}
+use Rattle.std.proofs.Common.{◌≡◌, ℕ, zero, suc, ◌+◌, ◌-◌, ◌==◌, Bool, true, false, List, [], ◌∷◌, ◌++◌, length, map, replicate, nat_le, refl, sym, ◌∙◌, subst, Option, Some, None, slice_get, arith}
 use Rattle.std.specs.Prelude.{remove, if◌then◌else◌}
 use Rattle.std.specs.List.{AllByRecursion}
 use Rattle.std.proofs.lemmas.List.{length-map, length-replicate}
@@ -15,16 +15,14 @@ use Rattle.bridge_api.proofs.Certified.{configured_is_sound}
 use Rattle.spb_network.specs.declared.declaration.DeclaredLink.{DeclaredLink}
 use Rattle.spb_network.specs.declared.kind_rule.KindRule.{KindRule}
 use Rattle.spb_network.specs.declared.lanes.Lanes.{Lanes}
-use Rattle.spb_network.specs.declared.reason.Reason.{Reason}
-use Rattle.spb_network.specs.Reason.{reason_unless, ◌or◌}
-use Rattle.spb_network.specs.World.{World, names_of, things_of, place_of, Sound}
+use Rattle.spb_network.specs.World.{World, place_of, Sound}
 use Rattle.spb_network.specs.Lanes.{no_frames}
-use Rattle.spb_network.specs.Declaring.{bridge_refusal, with_bridge, vid_refusal, link_refusal, plan_of, bridge_of, link_of, with_vid, with_link}
+use Rattle.spb_network.specs.Declaring.{bridge_refusal, vid_refusal, link_refusal, plan_of, bridge_of, link_of, with_link}
 use Rattle.spb_network.specs.State.{State, Spare}
 use Rattle.spb_network.specs.Events.{ticked, delivered, lost, doubled, metered_over, switched_off, switched_on, rounds, drained}
 use Rattle.spb_network.specs.Refusing.{box_for, declared_refusal, placed_link_refusal, named_link_refusal, refusal_of}
 use Rattle.spb_network.specs.Play.{config_of, boxed, declared, linked, placed_link, named_link, at_place, at_bridge, at_link, with_vid_more, with_rounds, with_drain, played, counted, next_state, played_all}
-use Rattle.spb_network.specs.Sound.{AreDistinct, carrier_in, IsSoundState, opening}
+use Rattle.spb_network.specs.Sound.{carrier_in, IsSoundState, opening}
 use Rattle.spb_network.specs.SoundLaws.{Keeps, EventsKeepSound, IsAddressed, CommandsKeepSound, AreAccepted, NetworksAreSound}
 use Rattle.spb_network.proofs.ConfigLemmas.{whole-config}
 use Rattle.spb_network.proofs.WorldLemmas.{Sound-with_vid}

@@ -1,4 +1,4 @@
-use Rattle.std.proofs.Common.{Bool, Option, Some, None, slice_get, ◌≡◌, ℕ, zero, suc, ◌<◌, ◌≤◌, false, true≢false, List, [], ◌∷◌, ◌++◌, length, refl, sym, ap, ◌∙◌, arith, ⊎_elim}
+use Rattle.std.proofs.Common.{Bool, Some, None, slice_get, ◌≡◌, ℕ, zero, suc, ◌<◌, ◌≤◌, false, true≢false, List, [], ◌∷◌, ◌++◌, length, refl, sym, ap, ◌∙◌, arith, ⊎_elim}
 use Rattle.std.specs.List.{AllByRecursion}
 use Rattle.std.specs.Str.{bytes_eq}
 use Rattle.spb_types.specs.Graph.{IsAmong, systems_of}

@@ -1,5 +1,5 @@
 -- Declarations: why one is refused, and what it makes of what is declared.
-use Rattle.std.specs.Prelude.{ℕ, zero, suc, List, [], ◌∷◌, ◌++◌, length, Bool, true, false, not, ◌&&◌, ◌==◌, nat_lt, nat_le, Option, Some, None, is_none, if◌then◌else◌, slice_index, replicate, ◌%◌}
+use Rattle.std.specs.Prelude.{ℕ, zero, suc, List, [], ◌∷◌, ◌++◌, length, Bool, false, not, ◌&&◌, ◌==◌, nat_lt, nat_le, Option, is_none, slice_index, replicate, ◌%◌}
 use Rattle.std.specs.List.{list_any}
 use Rattle.std.specs.Str.{bytes_eq}
 use Rattle.spb_types.specs.declared.address.Mac.{Mac}

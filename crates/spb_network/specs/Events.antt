@@ -1,6 +1,6 @@
 -- The events of a network. Each is what one bridge does, or what becomes of one lane or link.
 use Rattle.std.specs.Prelude.{ℕ, zero, suc, ◌+◌, List, [], ◌∷◌, length, nat_lt, Bool, true, false, Option, Some, None, slice_get, if◌then◌else◌}
-use Rattle.std.specs.Option.{option_map, option_map_or, option_and_then, option_or}
+use Rattle.std.specs.Option.{option_map_or, option_and_then, option_or}
 use Rattle.link_model.specs.Lane.{Frame, pushed, after_lose, after_double}
 use Rattle.scenario.specs.declared.command.Dir.{Dir}
 use Rattle.scenario.specs.declared.command.Dir.TheVariants.{Ab, Ba}
@@ -10,8 +10,7 @@ use Rattle.spb_network.specs.declared.declaration.DeclaredLink.{DeclaredLink}
 use Rattle.spb_network.specs.declared.declaration.LinkEnd.{LinkEnd}
 use Rattle.spb_network.specs.declared.lanes.Lanes.{Lanes}
 use Rattle.spb_network.specs.declared.way.Way.{Way}
-use Rattle.spb_network.specs.World.{World}
-use Rattle.spb_network.specs.Lanes.{lane_in, rest, no_frames}
+use Rattle.spb_network.specs.Lanes.{rest, no_frames}
 use Rattle.spb_network.specs.Declaring.{with_live}
 use Rattle.spb_network.specs.State.{State, changed_at, links_of, is_live, far_end, way_out, lane_at, with_frames}
 

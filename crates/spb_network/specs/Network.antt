@@ -1,13 +1,12 @@
 -- What a network of boxes is the state of.
-use Rattle.std.specs.Prelude.{◌≡◌, ℕ, ◌≤◌, List, length, map, Bool, true, false, Option, Some, slice_get}
+use Rattle.std.specs.Prelude.{◌≡◌, ℕ, List, length, map, Bool, true, false, Some, slice_get}
 use Rattle.std.specs.List.{AllByRecursion}
 use Rattle.bridge_api.specs.declared.kind.Kind.{Kind}
 use Rattle.bridge_api.specs.View.{BridgeView, IsPort}
 use Rattle.spb_network.specs.declared.network.NetworkOf.{NetworkOf}
 use Rattle.spb_network.specs.declared.declaration.DeclaredBridge.{DeclaredBridge}
-use Rattle.spb_network.specs.declared.declaration.DeclaredLink.{DeclaredLink}
 use Rattle.spb_network.specs.World.{things_of}
-use Rattle.spb_network.specs.State.{Spare, State, links_of}
+use Rattle.spb_network.specs.State.{Spare, State}
 
 module _ {B : Type 0} (kind_of : B → Kind) (blank : B → Bool) (view : B → BridgeView) where
   -- the box as one of the rack

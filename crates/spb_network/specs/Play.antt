@@ -1,16 +1,11 @@
 -- What an accepted command makes of a network, and what it answers.
-use Rattle.std.specs.Prelude.{ℕ, ◌+◌, ◌-◌, List, [], ◌∷◌, ◌++◌, length, map, Bool, true, false, replicate, remove, Option, Some, None, slice_get, if◌then◌else◌, nat_lt}
+use Rattle.std.specs.Prelude.{ℕ, ◌+◌, List, [], ◌∷◌, ◌++◌, length, map, Bool, replicate, remove, Option, Some, None, slice_get, if◌then◌else◌, nat_lt}
 use Rattle.std.specs.Option.{option_map_or}
-use Rattle.spb_types.specs.declared.address.Mac.{Mac}
-use Rattle.spb_types.specs.declared.service.SourceId.{SourceId}
-use Rattle.spb_types.specs.declared.tables.Tables.{Tables}
 use Rattle.adjacency.specs.declared.port.Adjacency.{Adjacency}
 use Rattle.scenario.specs.declared.command.Command.{Command}
 use Rattle.scenario.specs.declared.command.Command.TheVariants as command
-use Rattle.scenario.specs.declared.command.Dir.{Dir}
 use Rattle.bridge_api.specs.declared.config.BridgeConfig.{BridgeConfig}
 use Rattle.bridge_api.specs.declared.port.BridgePort.{BridgePort}
-use Rattle.bridge_api.specs.View.{BridgeView}
 use Rattle.bridge_api.specs.Config.{configured}
 use Rattle.spb_network.specs.declared.answer.Answer.{Answer}
 use Rattle.spb_network.specs.declared.answer.Answer.TheVariants.{Silent, Outs, Wiring, Adj}

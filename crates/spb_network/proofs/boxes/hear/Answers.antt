@@ -1,5 +1,3 @@
-use Rattle.std.proofs.Common.{ap, sym, ◌∙◌, []}
-use Rattle.std.specs.Option.{option_copied_mut, option_map_or}
 use Rattle.bridge_api.specs.Step as comes
 use Rattle.bridge_api.specs.Step.{sent, step, with_wire}
 use Rattle.spb_network.proofs.BoxLemmas.{map-set, changed-none, get-map, on_ok, lent, lent-none}

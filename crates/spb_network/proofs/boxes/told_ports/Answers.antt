@@ -1,6 +1,6 @@
-use Rattle.std.proofs.Common.{◌≡◌, ◌∷◌, [], ◌++◌, sym, ap, ◌∙◌, arith}
+use Rattle.std.proofs.Common.{◌∷◌, [], ◌++◌, sym, ap, ◌∙◌, arith}
 use Rattle.bridge_api.specs.View.{adjacency_at, is_due_at}
-use Rattle.spb_network.proofs.PortLemmas.{told-more, told-all}
+use Rattle.spb_network.proofs.PortLemmas.{told-more}
 use Rattle.spb_network.proofs.boxes.told_ports.Goals as goal
 
 pub loop-place-preserved : goal.loop-place-preserved

@@ -1,5 +1,5 @@
-use Rattle.std.proofs.Common.{◌≡◌, map, length, sym, ap, ◌∙◌, subst, arith, true, false, ◌&&◌, Some, slice_get}
-use Rattle.spb_network.specs.State.{next_box, serves}
+use Rattle.std.proofs.Common.{◌≡◌, map, sym, ◌∙◌, subst, arith, true}
+use Rattle.spb_network.specs.State.{next_box}
 use Rattle.spb_network.specs.Network.{spare}
 use Rattle.spb_network.proofs.BoxLemmas.{get-map, got}
 use Rattle.spb_network.proofs.ListLemmas.{and-left}

@@ -1,4 +1,4 @@
-use Rattle.std.proofs.Common.{sym, ◌∙◌, length, arith, ◌≡◌}
+use Rattle.std.proofs.Common.{sym, ◌∙◌, arith}
 use Rattle.spb_network.proofs.RoundLemmas.{full-found, full-passed}
 use Rattle.spb_network.proofs.rounds.first_full.Goals as goal
 

@@ -1,4 +1,4 @@
-use Rattle.std.proofs.Common.{sym, ◌∙◌, length, arith, ◌≡◌}
+use Rattle.std.proofs.Common.{sym, ◌∙◌, arith}
 use Rattle.spb_network.specs.World.{things_of}
 use Rattle.spb_network.specs.State.{way_out}
 use Rattle.spb_network.proofs.ListLemmas.{length-things}

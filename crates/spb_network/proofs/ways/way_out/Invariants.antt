@@ -1,4 +1,4 @@
-use Rattle.std.proofs.Common.{◌≡◌, ℕ, ◌+◌, ◌-◌, ◌*◌, ◌<◌, ◌≤◌, length, drop}
+use Rattle.std.proofs.Common.{◌≡◌, ◌≤◌, length, drop}
 use Rattle.spb_network.specs.World.{things_of}
 use Rattle.spb_network.specs.State.{way_from}
 use Rattle.spb_network.proofs.ways.way_out.Given as goal

@@ -1,8 +1,7 @@
-use Rattle.std.proofs.Common.{ap, sym, ◌∙◌, refl, slice_get}
-use Rattle.std.specs.Option.{option_copied_mut, option_map_or}
-use Rattle.link_model.specs.Lane.{pushed, after_lose, after_double}
-use Rattle.spb_network.specs.Lanes.{changed_lane, rest, no_frames}
-use Rattle.spb_network.proofs.BoxLemmas.{set-is, none-is, on_ok, lent, lent-none}
+use Rattle.std.proofs.Common.{slice_get}
+use Rattle.link_model.specs.Lane.{after_double}
+use Rattle.spb_network.specs.Lanes.{changed_lane}
+use Rattle.spb_network.proofs.BoxLemmas.{set-is, none-is, lent, lent-none}
 use Rattle.spb_network.proofs.wires.double.Goals as goal
 
 pub returns-in-None : goal.returns-in-None

@@ -1,6 +1,4 @@
-use Rattle.std.proofs.Common.{◌≡◌, ◌∷◌, [], ◌++◌, sym, ap, ◌∙◌, subst}
-use Rattle.spb_network.specs.declared.declaration.DeclaredLink.{DeclaredLink}
-use Rattle.spb_network.specs.declared.lanes.Lanes.{Lanes}
+use Rattle.std.proofs.Common.{sym, subst}
 use Rattle.spb_network.specs.World.{World, IsLink}
 use Rattle.spb_network.specs.State.{State}
 use Rattle.spb_network.specs.Declaring.{link_of, with_link}

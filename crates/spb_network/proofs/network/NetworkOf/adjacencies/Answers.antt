@@ -1,5 +1,4 @@
 use Rattle.std.proofs.Common.{◌≡◌, map, slice_get, Some, None, sym, ap, ◌∙◌, [], subst}
-use Rattle.std.specs.List.{ItemBy}
 use Rattle.std.specs.Option.{option_map_or}
 use Rattle.spb_network.specs.State.{State}
 use Rattle.spb_network.specs.Play.{told_ports}

@@ -1,6 +1,6 @@
-use Rattle.std.proofs.Common.{◌≡◌, sym, ap, ◌∙◌, subst, refl, true≢false, inr, ⊎_elim}
+use Rattle.std.proofs.Common.{sym, ap, ◌∙◌, subst, refl, true≢false, inr, ⊎_elim}
 use Rattle.spb_network.specs.State.{State}
-use Rattle.spb_network.specs.Play.{counted, played, next_state}
+use Rattle.spb_network.specs.Play.{counted, next_state}
 use Rattle.spb_network.specs.Sound.{IsSoundState}
 use Rattle.spb_network.specs.Network.{state_of}
 use Rattle.spb_network.proofs.SoundPlay.{commands_keep_sound}

@@ -1,14 +1,9 @@
-use Rattle.std.proofs.Common.{◌≡◌, ℕ, List, [], ◌++◌, sym, ap, ◌∙◌, subst, OnOk}
-use Rattle.link_model.specs.Lane.{Frame, after_lose, after_double}
-use Rattle.std.specs.Option.{option_map_or}
+use Rattle.std.proofs.Common.{sym, ap, subst}
+use Rattle.link_model.specs.Lane.{after_double}
 use Rattle.std.specs.Prelude.{slice_get}
-use Rattle.bridge_api.specs.Step as comes
-use Rattle.spb_network.specs.State.{State, links_of}
-use Rattle.spb_network.specs.Events.{ticked, stepped, carried, lost, doubled}
-use Rattle.spb_network.specs.Network.{state_of, AreMade, Fits, IsInOrder}
+use Rattle.spb_network.specs.Network.{state_of, Fits}
 use Rattle.spb_network.proofs.BoxLemmas.{on_ok}
-use Rattle.spb_network.proofs.SendLemmas.{stepped-is, frames-none}
-use Rattle.spb_network.proofs.FitsLemmas.{Fits-stepped, Fits-with_frames, end_is_port}
+use Rattle.spb_network.proofs.FitsLemmas.{Fits-with_frames}
 use Rattle.spb_network.proofs.network.NetworkOf.double.Goals as goal
 
 pub returns-clause-order : goal.returns-clause-order

@@ -1,4 +1,4 @@
-use Rattle.std.proofs.Common.{◌≡◌, ◌+◌, ◌-◌, sym, ap, ◌∙◌, arith}
+use Rattle.std.proofs.Common.{◌+◌, ◌-◌, sym, ap, ◌∙◌, arith}
 use Rattle.spb_network.specs.Events.{drained, first_full_from}
 use Rattle.spb_network.specs.Network.{state_of}
 use Rattle.spb_network.proofs.RoundLemmas.{drained-found, drained-idle}

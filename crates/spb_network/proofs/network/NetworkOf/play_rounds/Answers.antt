@@ -1,7 +1,7 @@
-use Rattle.std.proofs.Common.{◌≡◌, ◌+◌, ◌-◌, sym, ap, ◌∙◌, arith}
-use Rattle.spb_network.specs.Events.{ticked_from, delivered_times, served_from, rounds, drained}
+use Rattle.std.proofs.Common.{◌+◌, ◌-◌, sym, ap, ◌∙◌, arith}
+use Rattle.spb_network.specs.Events.{rounds}
 use Rattle.spb_network.specs.Network.{state_of}
-use Rattle.spb_network.proofs.RoundLemmas.{ticked-step, delivered-step, served-step, rounds-step}
+use Rattle.spb_network.proofs.RoundLemmas.{rounds-step}
 use Rattle.spb_network.proofs.network.NetworkOf.play_rounds.Goals as goal
 
 pub loop-preserved : goal.loop-preserved

@@ -1,4 +1,4 @@
-use Rattle.std.proofs.Common.{◌≡◌, sym, ap, ◌∙◌}
+use Rattle.std.proofs.Common.{sym, ap, ◌∙◌}
 use Rattle.spb_network.specs.State.{State, links_of, way_out}
 use Rattle.spb_network.specs.Network.{state_of}
 use Rattle.spb_network.proofs.BoxLemmas.{on_ok}

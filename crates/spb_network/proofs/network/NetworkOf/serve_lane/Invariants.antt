@@ -1,4 +1,4 @@
-use Rattle.std.proofs.Common.{◌≡◌, ◌-◌, ◌≤◌, length, drop}
+use Rattle.std.proofs.Common.{◌≡◌, ◌-◌, ◌≤◌}
 use Rattle.spb_network.specs.Events.{delivered_times, lane_served}
 use Rattle.spb_network.specs.Network.{state_of, IsInOrder}
 use Rattle.spb_network.proofs.network.NetworkOf.serve_lane.Given as goal

@@ -1,4 +1,4 @@
-use Rattle.std.proofs.Common.{ap, sym, subst, false, IfSome, ◌∙◌}
+use Rattle.std.proofs.Common.{sym, subst, false, IfSome}
 use Rattle.spb_network.specs.World.{IsLink}
 use Rattle.spb_network.specs.Declaring.{with_live}
 use Rattle.spb_network.specs.State.{State}

@@ -1,14 +1,11 @@
-use Rattle.std.proofs.Common.{◌≡◌, ℕ, List, [], ◌++◌, sym, ap, ◌∙◌, subst, OnOk}
-use Rattle.link_model.specs.Lane.{Frame}
+use Rattle.std.proofs.Common.{[], ◌++◌, sym, ap, ◌∙◌, subst}
 use Rattle.std.specs.Option.{option_map_or}
 use Rattle.std.specs.Prelude.{slice_get}
 use Rattle.bridge_api.specs.Step as comes
-use Rattle.spb_network.specs.State.{State, links_of}
-use Rattle.spb_network.specs.Events.{ticked, stepped, carried, lost, doubled}
-use Rattle.spb_network.specs.Network.{state_of, AreMade, Fits, IsInOrder}
+use Rattle.spb_network.specs.Network.{state_of, AreMade, Fits}
 use Rattle.spb_network.proofs.BoxLemmas.{on_ok}
-use Rattle.spb_network.proofs.SendLemmas.{stepped-is, frames-none}
-use Rattle.spb_network.proofs.FitsLemmas.{Fits-stepped, Fits-with_frames, end_is_port}
+use Rattle.spb_network.proofs.SendLemmas.{stepped-is}
+use Rattle.spb_network.proofs.FitsLemmas.{Fits-stepped}
 use Rattle.spb_network.proofs.network.NetworkOf.tick.Goals as goal
 
 pub returns-clause-state : goal.returns-clause-state

@@ -1,4 +1,4 @@
-use Rattle.std.proofs.Common.{◌≡◌, ◌-◌, ◌≤◌, length, drop}
+use Rattle.std.proofs.Common.{◌≡◌, ◌-◌, ◌≤◌}
 use Rattle.spb_network.specs.Events.{ticked_from, all_ticked}
 use Rattle.spb_network.specs.Network.{state_of, IsInOrder}
 use Rattle.spb_network.proofs.network.NetworkOf.tick_all.Given as goal

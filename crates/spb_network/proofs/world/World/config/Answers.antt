@@ -1,4 +1,4 @@
-use Rattle.std.proofs.Common.{◌≡◌, sym, ap, ◌∙◌, subst, replicate, rules}
+use Rattle.std.proofs.Common.{◌≡◌, sym, ◌∙◌, subst, replicate, rules}
 use Rattle.bridge_api.specs.Config.{IsWhole}
 use Rattle.spb_network.specs.declared.declaration.DeclaredBridge.{DeclaredBridge}
 use Rattle.spb_network.specs.World.{World}

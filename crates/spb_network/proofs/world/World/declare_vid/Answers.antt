@@ -1,4 +1,4 @@
-use Rattle.std.proofs.Common.{ap, sym, ◌∙◌, arith}
+use Rattle.std.proofs.Common.{ap, ◌∙◌, arith}
 use Rattle.spb_network.specs.World.{World}
 use Rattle.spb_network.specs.Declaring.{vid_refusal, with_vid, plan_of}
 use Rattle.spb_network.proofs.WorldLemmas.{Sound-with_vid}

@@ -1,4 +1,4 @@
-use Rattle.std.proofs.Common.{◌≤◌, ◌∙◌, arith, ◌≡◌}
+use Rattle.std.proofs.Common.{arith}
 use Rattle.spb_network.proofs.WorldLemmas.{ports_at-le}
 use Rattle.spb_network.proofs.world.World.ports.Goals as goal
 
