@@ -1,0 +1,11 @@
+pub mod Members
+pub mod Ascended
+pub mod Sorted
+pub mod Tlvs
+pub mod Kept
+pub mod Written
+pub mod Capabilities
+pub mod Again
+pub mod Lengths
+pub mod Groups
+pub mod AnyOrder
