@@ -1,0 +1,99 @@
+-- Parts of the own content.
+use Rattle.std.proofs.Common.{◌≡◌, ℕ, zero, suc, ◌+◌, ◌-◌, ◌*◌, ◌/◌, ◌≤◌, ◌<◌, inl, inr, List, [], ◌∷◌, ◌++◌, length, take, drop, min, map, flat_map, refl, sym, ap, ◌∙◌, subst, arith}
+use Rattle.std.specs.List.{AllByRecursion}
+use Rattle.std.specs.Simd.{first_chunks}
+use Rattle.std.proofs.lemmas.List.{length-drop, length-map, append_assoc, take_all, drop_all}
+use Rattle.std.proofs.lemmas.List.Elements.{All-from_recursion}
+use Rattle.std.proofs.lemmas.Bool.{cases_lt}
+use Rattle.spb_types.specs.declared.service.SourceId.{SourceId}
+use Rattle.spb_types.specs.declared.service.VidPlan.{VidPlan}
+use Rattle.spb_types.specs.declared.service.Isid.{Isid}
+use Rattle.spb_types.specs.declared.service.Vid.{Vid}
+use Rattle.spb_types.specs.declared.graph.Member.{Member}
+use Rattle.spb_tlvs.specs.declared.neighbours.Neighbour.{Neighbour}
+use Rattle.spb_tlvs.specs.Tlv.{tlv}
+use Rattle.spb_tlvs.specs.Neighbour.{neighbours_value}
+use Rattle.spb_tlvs.specs.Capability.{IsInst, IsTree, IsService, IsServices}
+use Rattle.spb_tlvs.specs.declared.capability.Service.{Service}
+use Rattle.spb_content.specs.Ascending.{ascending}
+use Rattle.spb_content.specs.Local.{neighbour_tlvs, plan_number, vid_number, isid_number, vids_in, isids_in, in_vid, services_in, service_with, IsAttached}
+use Rattle.spb_content.proofs.Members.{Has, all_has, has_all, has_map, map_has, filter_has}
+use Rattle.spb_content.proofs.Ascended.{ascending_ascends, has_ascending, numbered_ascending, Numbered}
+use Rattle.spb_content.proofs.Kept.{all_ascending, length-ascending, length-within, apart_ascends}
+
+-- how many TLVs neighbours take: one for the first 13, and those of the others
+count_more : (n : ℕ) → 0 < n → (n + 12) / 13 ≡ suc ((n - 13 + 12) / 13)
+count_more n h = omega arith
+
+pub neighbour_tlvs-cut : (ns : List Neighbour) → 0 < length ns → neighbour_tlvs ns ≡ tlv 22 (neighbours_value (take 13 ns)) ++ neighbour_tlvs (drop 13 ns)
+neighbour_tlvs-cut ns h = rw (count_more (length ns) h, length-drop) refl
+
+pub is_inst : (source : SourceId) (plans : List VidPlan) → source.value < 1048576 → length plans ≤ 16 → AllByRecursion IsTree plans → IsInst source (ascending plan_number plans)
+is_inst source plans high few each = record {
+  source_high = high;
+  few = omega (arith, length-ascending plan_number plans, few);
+  each = All-from_recursion IsTree _ (all_ascending IsTree plan_number plans each);
+}
+
+-- the first 13 at most, as they are cut off
+pub cut_front : (k : ℕ) (ns : List Neighbour) → k ≡ min (length ns) 13 → (take k ns ≡ take 13 ns) × (drop k ns ≡ drop 13 ns)
+cut_front k ns e =
+    elim (cases_lt (length ns) 13) [
+      | inl short ↦ (take_all k ns (omega (arith, e)) ∙ sym (take_all 13 ns (omega (arith, short))), drop_all k ns (omega (arith, e)) ∙ sym (drop_all 13 ns (omega (arith, short))))
+      | inr long ↦ let is : k ≡ 13 = omega (arith, e, long) in (ap (λ n. take n ns) is, ap (λ n. drop n ns) is)
+    ]
+
+pub tlvs_more : (before out new : List ℕ) (whole few rest : List Neighbour) (ns : List Neighbour) (k : ℕ) → 0 < length ns → k ≡ min (length ns) 13 → few ≡ take k ns → rest ≡ drop k ns → out ++ neighbour_tlvs ns ≡ before ++ neighbour_tlvs whole → new ≡ out ++ tlv 22 (neighbours_value few) → new ++ neighbour_tlvs rest ≡ before ++ neighbour_tlvs whole
+tlvs_more before out new whole few rest ns k some is front back so_far more =
+    let cut = cut_front k ns is in
+    let step : neighbour_tlvs ns ≡ tlv 22 (neighbours_value few) ++ neighbour_tlvs rest = neighbour_tlvs-cut ns some ∙ ap (λ xs. tlv 22 (neighbours_value xs) ++ neighbour_tlvs (drop 13 ns)) (sym (front ∙ cut.0)) ∙ ap (λ xs. tlv 22 (neighbours_value few) ++ neighbour_tlvs xs) (sym (back ∙ cut.1)) in
+    ap (λ xs. xs ++ neighbour_tlvs rest) more ∙ append_assoc out _ _ ∙ ap (λ xs. out ++ xs) (sym step) ∙ so_far
+
+pub all_drop : {A : Type 0} (P : A → Type 0) (k : ℕ) (xs : List A) → AllByRecursion P xs → AllByRecursion P (drop k xs)
+all_drop P zero xs all = all
+all_drop P (suc k) [] all = tt
+all_drop P (suc k) (x ∷ xs) all = all_drop P k xs all.1
+
+-- ---- services
+
+-- a base VID that has an attached I-SID is the VID of an attached port
+attached_in : (vid : Vid) (attached : List Member) → Has vid (vids_in attached) → (m : Member) × Has m attached × (vid ≡ m.vid)
+attached_in vid attached h = map_has (λ m. m.vid) vid attached (has_ascending vid_number vid (map (λ m. m.vid) attached) h)
+
+-- each I-SID of `isids_in` is that of an attached port, and the other way
+pub isid_attached : (isid : Isid) (attached : List Member) → Has isid (isids_in attached) → (m : Member) × Has m attached × (isid ≡ m.isid)
+isid_attached isid attached h = map_has (λ m. m.isid) isid attached (has_ascending isid_number isid (map (λ m. m.isid) attached) h)
+
+pub attached_isid : (m : Member) (attached : List Member) → Has m attached → Numbered isid_number m.isid.value (isids_in attached)
+attached_isid m attached h =
+    numbered_ascending isid_number m.isid.value (map (λ n. n.isid) attached) (record { item = m.isid; has = has_map (λ n. n.isid) m attached h; is = refl })
+
+-- there are no more I-SIDs in one base VID than in all
+isids_within : (vid : Vid) (attached : List Member) → length (isids_in (in_vid vid attached)) ≤ length (isids_in attached)
+isids_within vid attached =
+    length-within isid_number isid_number (isids_in (in_vid vid attached)) (isids_in attached)
+    (apart_ascends isid_number _ (ascending_ascends isid_number (map (λ m. m.isid) (in_vid vid attached))))
+    (λ isid h. let s = isid_attached isid (in_vid vid attached) h in
+        subst (λ n. Numbered isid_number n (isids_in attached)) (ap isid_number (sym s.2)) (attached_isid s.0 attached (filter_has _ s.0 attached s.1).0))
+
+pub is_services : (vid : Vid) (attached : List Member) → AllByRecursion IsAttached attached → length (isids_in attached) ≤ 60 → Has vid (vids_in attached) → IsServices vid (services_in vid attached)
+is_services vid attached each few h =
+    let a = attached_in vid attached h in
+    let at : IsAttached a.0 = all_has IsAttached a.0 attached each a.1 in
+    record {
+      low = subst (λ (v : Vid). 1 ≤ v.value) (sym a.2) at.vid_low;
+      high = subst (λ (v : Vid). v.value ≤ 4094) (sym a.2) at.vid_high;
+      few = omega (arith, few, isids_within vid attached, length-map (isids_in (in_vid vid attached)) service_with);
+      each = All-from_recursion IsService _ (has_all IsService (services_in vid attached) one);
+    }
+  where
+    isid_is : (isid : Isid) → Has isid (isids_in (in_vid vid attached)) → (1 ≤ isid.value) × (isid.value ≤ 16777215)
+    isid_is isid i =
+        let s = isid_attached isid (in_vid vid attached) i in
+        let at : IsAttached s.0 = all_has IsAttached s.0 attached each (filter_has _ s.0 attached s.1).0 in
+        (subst (λ (j : Isid). 1 ≤ j.value) (sym s.2) at.isid_low, subst (λ (j : Isid). j.value ≤ 16777215) (sym s.2) at.isid_high)
+    one : (s : Service) → Has s (services_in vid attached) → IsService s
+    one s i =
+        let o = map_has service_with s (isids_in (in_vid vid attached)) i in
+        let is = isid_is o.0 o.1 in
+        subst (λ (t : Service). IsService t) (sym o.2) (record { low = is.0; high = is.1 })
