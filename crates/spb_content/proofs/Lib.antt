@@ -5,3 +5,7 @@ pub mod Tlvs
 pub mod Kept
 pub mod Written
 pub mod Capabilities
+pub mod Again
+pub mod Lengths
+pub mod Groups
+pub mod AnyOrder

@@ -74,3 +74,16 @@ filter_has p x (z ∷ xs) h = at (p z) refl h (filter_has p x xs)
     at true f (inl i) r = (inl i, ap p i ∙ f)
     at true f (inr i) r = let s = r i in (inr s.0, s.1)
     at false f i r = let s = r i in (inr s.0, s.1)
+
+pub has_flat_map : {X Y : Type 0} (f : X → List Y) (x : X) (y : Y) (xs : List X) → Has x xs → Has y (f x) → Has y (flat_map f xs)
+has_flat_map f x y [] h k = absurd h
+has_flat_map f x y (z ∷ xs) (inl e) k = has_left y (f z) (flat_map f xs) (subst (λ t. Has y (f t)) e k)
+has_flat_map f x y (z ∷ xs) (inr h) k = has_right y (f z) (flat_map f xs) (has_flat_map f x y xs h k)
+
+pub flat_map_has : {X Y : Type 0} (f : X → List Y) (y : Y) (xs : List X) → Has y (flat_map f xs) → (x : X) × Has x xs × Has y (f x)
+flat_map_has f y [] h = absurd h
+flat_map_has f y (x ∷ xs) h =
+    elim (has_parts y (f x) (flat_map f xs) h) [
+      | inl i ↦ (x, inl refl, i)
+      | inr i ↦ let r = flat_map_has f y xs i in (r.0, inr r.1, r.2)
+    ]

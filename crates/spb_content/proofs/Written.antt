@@ -57,7 +57,7 @@ all_drop P (suc k) (x ∷ xs) all = all_drop P k xs all.1
 -- ---- services
 
 -- a base VID that has an attached I-SID is the VID of an attached port
-attached_in : (vid : Vid) (attached : List Member) → Has vid (vids_in attached) → (m : Member) × Has m attached × (vid ≡ m.vid)
+pub attached_in : (vid : Vid) (attached : List Member) → Has vid (vids_in attached) → (m : Member) × Has m attached × (vid ≡ m.vid)
 attached_in vid attached h = map_has (λ m. m.vid) vid attached (has_ascending vid_number vid (map (λ m. m.vid) attached) h)
 
 -- each I-SID of `isids_in` is that of an attached port, and the other way
@@ -97,3 +97,8 @@ is_services vid attached each few h =
         let o = map_has service_with s (isids_in (in_vid vid attached)) i in
         let is = isid_is o.0 o.1 in
         subst (λ (t : Service). IsService t) (sym o.2) (record { low = is.0; high = is.1 })
+
+pub all_take : {A : Type 0} (P : A → Type 0) (k : ℕ) (xs : List A) → AllByRecursion P xs → AllByRecursion P (take k xs)
+all_take P zero xs all = tt
+all_take P (suc k) [] all = tt
+all_take P (suc k) (x ∷ xs) all = (all.0, all_take P k xs all.1)

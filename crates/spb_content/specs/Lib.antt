@@ -1,3 +1,4 @@
 pub mod Ascending
 pub mod Local
 pub mod Content
+pub mod Laws

@@ -9,4 +9,5 @@ pub use content::{Content, Inst, read_content};
 pub use local::{BridgeConfigFacts, Local, content_of};
 
 mod content;
+pub mod laws;
 mod local;

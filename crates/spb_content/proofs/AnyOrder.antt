@@ -1,0 +1,90 @@
+-- What is said doesn't depend on the order of VIDs and attached ports.
+use Rattle.std.proofs.Common.{◌≡◌, ℕ, List, [], ◌∷◌, ◌++◌, map, filter, flat_map, Some, refl, sym, ap, ◌∙◌, subst}
+use Rattle.std.specs.Prelude.{◌==◌, ◌↔◌, Contains}
+use Rattle.spb_types.specs.declared.address.Mac.{Mac}
+use Rattle.spb_types.specs.declared.graph.Member.{Member}
+use Rattle.spb_types.specs.declared.service.Isid.{Isid}
+use Rattle.spb_types.specs.declared.service.Vid.{Vid}
+use Rattle.spb_types.specs.declared.service.VidPlan.{VidPlan}
+use Rattle.spb_tlvs.specs.declared.capability.Service.{Service}
+use Rattle.spb_content.specs.declared.local.Local.{Local}
+use Rattle.spb_content.specs.Ascending.{ascending}
+use Rattle.spb_content.specs.Local.{own_mac, trees_of, vids_in, isids_in, in_vid, services_in, service_with, plan_number, vid_number, isid_number, said_by, IsLocal, AreVidsApart}
+use Rattle.spb_content.specs.Laws.{IsLike, OrderSaysNothing}
+use Rattle.spb_content.proofs.Members.{Has, has_map, has_filter, filter_has, has_from_contains, contains_from_has}
+use Rattle.spb_content.proofs.Ascended.{ascending_ascends, has_ascending, numbered_ascending, ascends_once}
+use Rattle.spb_content.proofs.Sorted.{one_plan}
+use Rattle.spb_content.proofs.Written.{attached_in, isid_attached, attached_isid}
+
+-- the members of one list are members of the other
+abbrev Within : {A : Type 0} → List A → List A → Type 0
+Within {A} xs ys = (x : A) → Has x xs → Has x ys
+
+within : {A : Type 0} (xs ys : List A) → ((x : A) → Contains xs x → Contains ys x) → Within xs ys
+within xs ys f x h = has_from_contains x ys (f x (contains_from_has x xs h))
+
+trees_within : (ps qs : List VidPlan) → AreVidsApart qs → Within ps qs → Within (ascending plan_number ps) (ascending plan_number qs)
+trees_within ps qs apart f p h =
+    let i = f p (has_ascending plan_number p ps h) in
+    let n = numbered_ascending plan_number p.vid.value qs (record { item = p; has = i; is = refl }) in
+    subst (λ q. Has q (ascending plan_number qs)) (one_plan n.item p qs apart (has_ascending plan_number n.item qs n.has) i n.is) n.has
+
+vids_within : (ms ns : List Member) → Within ms ns → Within (vids_in ms) (vids_in ns)
+vids_within ms ns f v h =
+    let a = attached_in v ms h in
+    let n = numbered_ascending vid_number a.0.vid.value (map (λ m. m.vid) ns) (record { item = a.0.vid; has = has_map (λ m. m.vid) a.0 ns (f a.0 a.1); is = refl }) in
+    let same : n.item ≡ v = ap (λ k. record { value = k }) (n.is ∙ ap vid_number (sym a.2)) in
+    subst (λ w. Has w (vids_in ns)) same n.has
+
+isids_within : (ms ns : List Member) → Within ms ns → Within (isids_in ms) (isids_in ns)
+isids_within ms ns f i h =
+    let a = isid_attached i ms h in
+    let n = attached_isid a.0 ns (f a.0 a.1) in
+    let same : n.item ≡ i = ap (λ k. record { value = k }) (n.is ∙ ap isid_number (sym a.2)) in
+    subst (λ j. Has j (isids_in ns)) same n.has
+
+in_vid_within : (v : Vid) (ms ns : List Member) → Within ms ns → Within (in_vid v ms) (in_vid v ns)
+in_vid_within v ms ns f m h =
+    let k = filter_has (λ n. n.vid.value == v.value) m ms h in
+    has_filter (λ n. n.vid.value == v.value) m ns (f m k.0) k.1
+
+services_same : (v : Vid) (ms ns : List Member) → Within ms ns → Within ns ms → services_in v ms ≡ services_in v ns
+services_same v ms ns f g =
+    ap (λ is. map service_with is) (ascends_once isid_number (isids_in (in_vid v ms)) (isids_in (in_vid v ns))
+        (ascending_ascends isid_number (map (λ m. m.isid) (in_vid v ms))) (ascending_ascends isid_number (map (λ m. m.isid) (in_vid v ns)))
+        (isids_within (in_vid v ms) (in_vid v ns) (in_vid_within v ms ns f)) (isids_within (in_vid v ns) (in_vid v ms) (in_vid_within v ns ms g)))
+
+vids_same : (ms ns : List Member) → Within ms ns → Within ns ms → vids_in ms ≡ vids_in ns
+vids_same ms ns f g =
+    ascends_once vid_number (vids_in ms) (vids_in ns) (ascending_ascends vid_number (map (λ m. m.vid) ms)) (ascending_ascends vid_number (map (λ m. m.vid) ns)) (vids_within ms ns f) (vids_within ns ms g)
+
+flat_map_agree : {X Y : Type 0} (f g : X → List Y) (xs : List X) → ((x : X) → f x ≡ g x) → flat_map f xs ≡ flat_map g xs
+flat_map_agree f g [] e = refl
+flat_map_agree f g (x ∷ xs) e = ap (λ ys. ys ++ flat_map f xs) (e x) ∙ ap (λ ys. g x ++ ys) (flat_map_agree f g xs e)
+
+abbrev listed : Mac → Vid → List Service → List (Mac × Vid × Service)
+listed mac v ss = map (λ s. (mac, v, s)) ss
+
+abbrev services_of : Local → Vid → List (Mac × Vid × Service)
+services_of l v = listed (own_mac l) v (services_in v l.attached)
+
+pub order_says_nothing : OrderSaysNothing
+order_says_nothing l m h k like =
+    let to : Within l.attached m.attached = within l.attached m.attached (λ a. (like.attached a).0) in
+    let from : Within m.attached l.attached = within m.attached l.attached (λ a. (like.attached a).1) in
+    let plans_to : Within l.config.vids m.config.vids = within l.config.vids m.config.vids (λ p. (like.vids p).0) in
+    let plans_from : Within m.config.vids l.config.vids = within m.config.vids l.config.vids (λ p. (like.vids p).1) in
+    let trees : trees_of l ≡ trees_of m =
+        ascends_once plan_number (trees_of l) (trees_of m) (ascending_ascends plan_number l.config.vids) (ascending_ascends plan_number m.config.vids)
+        (trees_within l.config.vids m.config.vids k.vids_apart plans_to) (trees_within m.config.vids l.config.vids h.vids_apart plans_from) in
+    let mac : own_mac l ≡ own_mac m = ap (λ i. i.system.mac) like.id in
+    let services : (said_by l).services ≡ (said_by m).services =
+        flat_map_agree (services_of l) (services_of m) (vids_in l.attached)
+            (λ v. ap (λ ss. listed (own_mac l) v ss) (services_same v l.attached m.attached to from) ∙ ap (λ c. listed c v (services_in v m.attached)) mac)
+        ∙ ap (λ vs. flat_map (services_of m) vs) (vids_same l.attached m.attached to from) in
+    let priority = ap (λ i. i.priority) like.id in
+    λ i. record {
+      inst = Some (record { priority = priority i; source = like.source i; trees = trees i });
+      neighbours = like.neighbours i;
+      services = services i;
+    }

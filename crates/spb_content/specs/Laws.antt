@@ -1,0 +1,55 @@
+-- The laws of what is written and read.
+use Rattle.std.specs.Prelude.{◌≡◌, ◌↔◌, ℕ, ◌+◌, ◌≤◌, ◌<◌, ◌^◌, List, length, Contains, IsTrue}
+use Rattle.std.specs.List.{AllByRecursion}
+use Rattle.spb_types.specs.declared.graph.Member.{Member}
+use Rattle.spb_types.specs.declared.service.VidPlan.{VidPlan}
+use Rattle.isis_pdu.specs.declared.kind.Kind.TheVariants as kinds
+use Rattle.isis_pdu.specs.Header.{fixed_length}
+use Rattle.isis_pdu.specs.Tlvs.{is_whole}
+use Rattle.spb_tlvs.specs.RoundTrip.{IsMac, IsNeighbour}
+use Rattle.spb_content.specs.declared.local.Local.{Local}
+use Rattle.spb_content.specs.Local.{IsLocal, own_mac, said_by, content_bytes}
+use Rattle.spb_content.specs.Content.{content_in}
+
+-- what the fields of the types hold
+pub record HasFields (l : Local) : Type 0 where
+  pub priority : l.config.id.priority < 2 ^ 16
+  pub mac : IsMac (own_mac l)
+  pub neighbours : AllByRecursion IsNeighbour l.neighbours
+
+-- what is written is read as what is said: the neighbours in order, the SPB-Inst, and each service once
+abbrev pub ReadAgain : Type 0
+ReadAgain = (l : Local) → IsLocal l → HasFields l → content_in (content_bytes l) ≡ said_by l
+
+-- bridges that say the same write the same, and only those do
+abbrev pub SameIsWritten : Type 0
+SameIsWritten = (l m : Local) → said_by l ≡ said_by m → content_bytes l ≡ content_bytes m
+
+abbrev pub WrittenIsSame : Type 0
+WrittenIsSame = (l m : Local) → IsLocal l → HasFields l → IsLocal m → HasFields m → content_bytes l ≡ content_bytes m → said_by l ≡ said_by m
+
+-- two bridges have the same configuration and neighbours, and the same ports attached, but for the order of the VIDs
+-- and of the ports, and for how many ports are attached alike
+pub record IsLike (l m : Local) : Type 0 where
+  pub id : l.config.id ≡ m.config.id
+  pub source : l.config.source ≡ m.config.source
+  pub vids : (p : VidPlan) → Contains l.config.vids p ↔ Contains m.config.vids p
+  pub neighbours : l.neighbours ≡ m.neighbours
+  pub attached : (a : Member) → Contains l.attached a ↔ Contains m.attached a
+
+-- they say the same
+abbrev pub OrderSaysNothing : Type 0
+OrderSaysNothing = (l m : Local) → IsLocal l → IsLocal m → IsLike l m → said_by l ≡ said_by m
+
+-- each attached base VID is a configured one
+abbrev pub AreConfigured : Local → Type 0
+AreConfigured l = AllByRecursion (λ a. (p : VidPlan) × Contains l.config.vids p × (p.vid ≡ a.vid)) l.attached
+
+-- TLVs are whole, and their LSP has so many bytes at most
+pub record Fits (bytes : List ℕ) : Type 0 where
+  pub whole : IsTrue (is_whole bytes)
+  pub short : fixed_length kinds.Lsp + length bytes ≤ 1267
+
+-- with at most 32 ports, the LSP of a bridge has at most 1,267 bytes
+abbrev pub OwnFits : Type 0
+OwnFits = (l : Local) → IsLocal l → HasFields l → AreConfigured l → length l.neighbours ≤ 32 → Fits (content_bytes l)

@@ -1,0 +1,23 @@
+//! The laws of what is written and read. Each is the contract of a function that does nothing.
+ghost use Rattle.spb_content.specs.Laws.{ReadAgain, SameIsWritten, WrittenIsSame, OrderSaysNothing, OwnFits};
+
+/// What is written is read as what the bridge says.
+pub fn content_again()
+    ensures { ReadAgain }
+{}
+
+/// Bridges that say the same write the same, and only those do.
+pub fn same_content_is_written_alike()
+    ensures written { SameIsWritten }
+    ensures said { WrittenIsSame }
+{}
+
+/// What a bridge says doesn't depend on the order of its VIDs and attached ports.
+pub fn order_says_nothing()
+    ensures { OrderSaysNothing }
+{}
+
+/// What a bridge of at most 32 ports writes fits into one LSP.
+pub fn content_fits()
+    ensures { OwnFits }
+{}
