@@ -9,3 +9,6 @@ pub mod Again
 pub mod Lengths
 pub mod Groups
 pub mod AnyOrder
+pub mod Places
+pub mod Links
+pub mod Walked

@@ -8,6 +8,8 @@
 pub use content::{Content, Inst, read_content};
 pub use local::{BridgeConfigFacts, Local, content_of};
 
+mod backbone;
 mod content;
 pub mod laws;
 mod local;
+mod walk;
