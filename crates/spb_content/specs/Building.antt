@@ -1,6 +1,7 @@
 -- How the graph of contents is built: where each bridge stands, which are reached, and each edge once.
 use Rattle.std.specs.Prelude.{◌≡◌, ◌↔◌, ℕ, ◌+◌, ◌≤◌, ◌<◌, List, [], ◌∷◌, ◌++◌, length, map, flat_map, take, max, Bool, true, false, not, ◌&&◌, Option, Some, None, is_some, IsSome, option_map, if◌then◌else◌, Contains, count_by, slice_set}
-use Rattle.std.specs.List.{AllByRecursion, slice_index_or}
+use Rattle.std.specs.List.{AllByRecursion, filter_map, list_any, slice_index_or}
+use Rattle.std.specs.Option.{option_to_list}
 use Rattle.std.specs.declared.cmp.Ordering.{Ordering}
 use Rattle.std.specs.Ordering.{nat_cmp, is_lt}
 use Rattle.std.specs.Cmp.Lexicographic.{slice_cmp}
@@ -27,64 +28,3 @@ place_from i (c ∷ cs) x = if is_some c.1.inst && same_system c.0 x then Some i
 -- the bridge x stands at place p
 abbrev pub IsAt : Contents → ℕ → SystemId → Type 0
 IsAt list p x = place_from 0 list x ≡ Some p
-
--- the map has the place of each bridge
-abbrev pub IsIndexed : Backbone → Type 0
-IsIndexed b = (x : SystemId) → get system_cmp b.places x ≡ place_from 0 b.list.now x
-
--- ---- the walk
-
--- the place of y, where there is a link from x
-abbrev pub place_beyond : Contents → SystemId → SystemId → Option ℕ
-place_beyond list x y = if is_some (link_said list x y) then place_from 0 list y else None
-
-abbrev pub mark_at : List Bool → ℕ → Bool
-mark_at marks p = slice_index_or marks p false
-
-abbrev pub IsMarked : Walk → ℕ → Type 0
-IsMarked w p = mark_at w.marks.items p ≡ true
-
--- a bridge that the source reaches stands at this place
-abbrev pub IsFound : Contents → Walk → ℕ → Type 0
-IsFound list w p = (x : SystemId) × IsAt list p x × IsReached list w.source x
-
--- the marked places are those in the queue, each once, and the bridges there are reached
-pub record IsWalk (list : Contents) (w : Walk) : Type 0 where
-  pub places : length w.marks.items ≡ length list
-  pub queued : (p : ℕ) → IsMarked w p → Contains w.queue.items p
-  pub marked : AllByRecursion (IsMarked w) w.queue.items
-  pub found : AllByRecursion (IsFound list w) w.queue.items
-  pub left : count_by not w.marks.items + length w.queue.items ≡ length list
-
--- what lies beyond a link from the bridge at this place is marked
-abbrev pub IsClosed : Contents → Walk → ℕ → Type 0
-IsClosed list w p = (x y : SystemId) (q : ℕ) → IsAt list p x → place_beyond list x y ≡ Some q → IsMarked w q
-
--- marks stay, and what was in the queue stays at its place
-pub record Grows (w v : Walk) : Type 0 where
-  pub source : v.source ≡ w.source
-  pub marks : (p : ℕ) → IsMarked w p → IsMarked v p
-  pub queue : (more : List ℕ) × (v.queue.items ≡ w.queue.items ++ more)
-
--- what marking a place does
-pub record Marks (p : ℕ) (w v : Walk) : Type 0 where
-  pub source : v.source ≡ w.source
-  pub marks : v.marks.items ≡ slice_set w.marks.items p true
-  pub queue : v.queue.items ≡ (if mark_at w.marks.items p then w.queue.items else w.queue.items ++ p ∷ [])
-
--- a walk that has reached its source, if that is a bridge
-pub record Starts (list : Contents) (me : SystemId) (w : Walk) : Type 0 where
-  pub walk : IsWalk list w
-  pub source : w.source ≡ me
-  pub start : (p : ℕ) → IsAt list p me → IsMarked w p
-
--- what visiting a bridge does
-pub record Visits (list : Contents) (p : ℕ) (w v : Walk) : Type 0 where
-  pub walk : IsWalk list v
-  pub grows : Grows w v
-  pub closed : IsClosed list v p
-
--- the marked bridges are those that the source reaches
-pub record Reaches (list : Contents) (me : SystemId) (w : Walk) : Type 0 where
-  pub places : length w.marks.items ≡ length list
-  pub marks : (p : ℕ) (x : SystemId) → IsAt list p x → IsMarked w p ↔ IsReached list me x

@@ -18,6 +18,9 @@ use Rattle.spb_content.specs.declared.content.Content.{Content}
 abbrev pub Contents : Type 0
 Contents = List (SystemId × Content)
 
+abbrev pub systems_in : Contents → List SystemId
+systems_in list = map (λ c. c.0) list
+
 -- ---- bridges
 
 -- what a system says, if it is a bridge: one that has an SPB-Inst
