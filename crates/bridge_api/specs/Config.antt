@@ -6,15 +6,18 @@ use Rattle.std.specs.FinMap.{empty}
 use Rattle.spb_types.specs.declared.address.Mac.{Mac}
 use Rattle.spb_types.specs.declared.service.Attachment.{Attachment}
 use Rattle.spb_types.specs.declared.service.VidPlan.{VidPlan}
+use Rattle.isis_pdu.specs.Grammar.{IsBytes}
 use Rattle.spb_tlvs.specs.Capability.{IsTree}
 use Rattle.adjacency.specs.Adjacency.{down}
 use Rattle.bridge_api.specs.declared.port.BridgePort.{BridgePort}
 use Rattle.bridge_api.specs.declared.config.BridgeConfig.{BridgeConfig}
 use Rattle.bridge_api.specs.View.{BridgeView}
+use Rattle.bridge_api.specs.Own.{originating}
 
 -- the address of a bridge: six bytes, not all zero, with the group bit clear
 pub record IsOwnMac (mac : Mac) : Type 0 where
   pub bytes : length mac.bytes ≡ 6
+  pub octets : IsBytes mac.bytes
   pub individual : slice_index mac.bytes 0 % 2 ≡ 0
   pub some : bytes_eq mac.bytes (replicate 6 0) ≡ false
 
@@ -56,6 +59,7 @@ pub record IsWhole (c : BridgeConfig) : Type 0 where
   pub few_vids : length c.vids ≤ 16
   pub each_vid : AllByRecursion IsTree c.vids
   pub vids_apart : ArePairwise (λ x y. x ≢ y) (vids_of c.vids)
+  pub priority : c.id.priority < 65536
   pub system : IsOwnMac c.id.system.mac
   pub source : c.source.value < 1048576
   pub each_attachment : AllByRecursion (IsAttachment (vids_of c.vids)) c.attached
@@ -66,9 +70,9 @@ pub record IsWhole (c : BridgeConfig) : Type 0 where
 abbrev pub dark : ℕ → BridgePort
 dark metric = record { adjacency = down false; due = false; metric = metric }
 
--- the bridge right after its configuration: no carrier, no neighbour, nothing held or learned, and no frame dropped
-abbrev pub configured : BridgeConfig → BridgeView
-configured c = record {
+-- a bridge of this configuration with no carrier, no neighbour, nothing held or learned, and no frame dropped
+abbrev pub bare : BridgeConfig → BridgeView
+bare c = record {
   id = c.id;
   source = c.source;
   vids = c.vids;
@@ -80,3 +84,7 @@ configured c = record {
   failed = false;
   drops = replicate 9 0;
 }
+
+-- the bridge right after its configuration: it has originated its own LSP, at number 1
+unfoldable pub configured : BridgeConfig → BridgeView
+configured c = originating (bare c)

@@ -3,28 +3,28 @@ use Rattle.std.specs.Prelude.{ℕ, List, Bool, true, false, Option, Some, None, 
 use Rattle.spb_types.specs.declared.address.Mac.{Mac}
 use Rattle.spb_types.specs.declared.service.Vid.{Vid}
 use Rattle.spb_types.specs.declared.service.Isid.{Isid}
-use Rattle.isis_pdu.specs.Pdu.{HelloValue, LspValue, CsnpValue, PsnpValue}
+use Rattle.isis_pdu.specs.Pdu.{HelloValue, LspValue, CsnpValue}
 use Rattle.spb_tlvs.specs.declared.error.TlvError.{TlvError}
 use Rattle.spb_tlvs.specs.declared.entries.SnpEntry.{SnpEntry}
 use Rattle.spb_tlvs.specs.declared.three_way.ThreeWay.{ThreeWay}
 use Rattle.lsdb.specs.Database.{each}
 use Rattle.lsdb.specs.Entry.{joined, parted}
+use Rattle.flooding.specs.Hearing.{hear_lsp_of}
+use Rattle.snp_sync.specs.Reading.{entries_in}
+use Rattle.snp_sync.specs.Hearing.{claims_in, hear_entries_of, hear_csnp_of}
 use Rattle.adjacency.specs.declared.state.Heard.{Heard}
 use Rattle.adjacency.specs.declared.state.Heard.TheVariants as did
 use Rattle.adjacency.specs.declared.port.Adjacency.{Adjacency}
 use Rattle.adjacency.specs.Adjacency.{after_hello, heard_of, after_carrier, change_of}
 use Rattle.bridge_api.specs.declared.port.BridgePort.{BridgePort}
-use Rattle.bridge_api.specs.View.{BridgeView, port_at, with_port_at, is_port_up}
-use Rattle.bridge_api.specs.Judging.{Drop, Judged, useless, greeting, link_state, complete, partial, tenant, judged, entries_in}
+use Rattle.bridge_api.specs.View.{BridgeView, port_at, with_port_at, is_port_up, up_ports}
+use Rattle.bridge_api.specs.Own.{holding_of, with_holding, settled}
+use Rattle.bridge_api.specs.Judging.{Drop, Judged, useless, greeting, link_state, complete, partial, tenant, judged}
 use Rattle.bridge_api.specs.Judging as drop
 
 -- a frame that is dropped changes nothing: the counts aren't kept yet
 abbrev pub dropped : Drop → BridgeView → BridgeView
 dropped reason v = v
-
--- a bridge after its own LSP was brought up to its content: it originates none yet
-abbrev pub settled : BridgeView → BridgeView
-settled v = v
 
 -- a port with another adjacency, with CSNPs due or not, and with another metric
 abbrev pub with_adjacency : Adjacency → BridgePort → BridgePort
@@ -61,17 +61,18 @@ abbrev pub greeted : HelloValue → ThreeWay → ℕ → BridgePort → BridgeVi
 greeted h way p port v =
     changed_at (heard_of v.id.system p h way port.adjacency) p (with_adjacency (after_hello v.id.system p h way port.adjacency) port) v
 
--- a bridge that heard an LSP, or a complete or a partial sequence numbers PDU with these entries, at its port number p,
--- or to which a customer's frame came there over the backbone. These change nothing yet
+-- a bridge that heard an LSP, or a complete or a partial sequence numbers PDU with these entries, at its port number p
+-- (ISO/IEC 10589, 7.3.15.1 and 7.3.15.2)
 abbrev pub flooded : LspValue → ℕ → BridgeView → BridgeView
-flooded l p v = v
+flooded l p v = with_holding (hear_lsp_of (up_ports v) p l (holding_of v)) v
 
 abbrev pub completed : CsnpValue → List SnpEntry → ℕ → BridgeView → BridgeView
-completed c entries p v = v
+completed c entries p v = with_holding (hear_csnp_of (up_ports v) p c.start c.end (claims_in entries) (holding_of v)) v
 
-abbrev pub requested : PsnpValue → List SnpEntry → ℕ → BridgeView → BridgeView
-requested s entries p v = v
+abbrev pub requested : List SnpEntry → ℕ → BridgeView → BridgeView
+requested entries p v = with_holding (hear_entries_of (up_ports v) p (claims_in entries) (holding_of v)) v
 
+-- a bridge to which a customer's frame came over the backbone, at its port number p. This changes nothing yet
 abbrev pub forwarded : Mac → Mac → Vid → Isid → List ℕ → ℕ → BridgeView → BridgeView
 forwarded da sa vid isid customer p v = v
 
@@ -80,9 +81,9 @@ abbrev pub with_complete : CsnpValue → Result (List SnpEntry) TlvError → ℕ
 with_complete c (Err e) p v = dropped drop.Tlv v
 with_complete c (Ok entries) p v = settled (completed c entries p v)
 
-abbrev pub with_partial : PsnpValue → Result (List SnpEntry) TlvError → ℕ → BridgeView → BridgeView
-with_partial s (Err e) p v = dropped drop.Tlv v
-with_partial s (Ok entries) p v = settled (requested s entries p v)
+abbrev pub with_partial : Result (List SnpEntry) TlvError → ℕ → BridgeView → BridgeView
+with_partial (Err e) p v = dropped drop.Tlv v
+with_partial (Ok entries) p v = settled (requested entries p v)
 
 -- a bridge after a frame of each kind at a port with carrier. LSPs and sequence numbers PDUs are heard only at a port
 -- that is Up
@@ -91,7 +92,7 @@ heard_as (useless reason) p port v = dropped reason v
 heard_as (greeting h way) p port v = greeted h way p port v
 heard_as (link_state l) p port v = if is_port_up port then settled (flooded l p v) else dropped drop.NotAdjacent v
 heard_as (complete c) p port v = if is_port_up port then with_complete c (entries_in c.tlvs) p v else dropped drop.NotAdjacent v
-heard_as (partial s) p port v = if is_port_up port then with_partial s (entries_in s.tlvs) p v else dropped drop.NotAdjacent v
+heard_as (partial s) p port v = if is_port_up port then with_partial (entries_in s.tlvs) p v else dropped drop.NotAdjacent v
 heard_as (tenant da sa vid isid customer) p port v = forwarded da sa vid isid customer p v
 
 -- the first thing that is looked at is the carrier of the port

@@ -1,5 +1,6 @@
 -- What a frame is taken for, before the bridge that hears it is looked at.
-use Rattle.std.specs.Prelude.{ℕ, List, [], ◌∷◌, ◌++◌, Option, Some, None, Result, Ok, Err, slice_get}
+use Rattle.std.specs.Prelude.{ℕ, List, [], ◌∷◌, Bool, true, false, Option, Some, None, Result, Ok, Err, slice_get, nat_lt, if◌then◌else◌}
+use Rattle.std.specs.List.{list_all}
 use Rattle.spb_types.specs.declared.address.Mac.{Mac}
 use Rattle.spb_types.specs.declared.service.Vid.{Vid}
 use Rattle.spb_types.specs.declared.service.Isid.{Isid}
@@ -7,10 +8,8 @@ use Rattle.isis_pdu.specs.declared.pdu.PduError.{PduError}
 use Rattle.isis_pdu.specs.Pdu.{HelloValue, LspValue, CsnpValue, PsnpValue, PduValue, hello, lsp, csnp, psnp}
 use Rattle.isis_pdu.specs.Reading.{read}
 use Rattle.spb_tlvs.specs.declared.error.TlvError.{TlvError}
-use Rattle.spb_tlvs.specs.declared.entries.SnpEntry.{SnpEntry}
 use Rattle.spb_tlvs.specs.declared.three_way.ThreeWay.{ThreeWay}
 use Rattle.spb_tlvs.specs.Tlv.{values_with}
-use Rattle.spb_tlvs.specs.Entry.{entries_of}
 use Rattle.spb_tlvs.specs.ThreeWay.{three_way_of}
 use Rattle.itag_frames.specs.declared.frame.FrameError.{FrameError}
 use Rattle.itag_frames.specs.Frame.{Content, content_in}
@@ -58,8 +57,12 @@ by_content (Err e) = useless Frame
 by_content (Ok (frames.Pdu pdu)) = by_pdu (read pdu)
 by_content (Ok (frames.Customer da sa vid isid customer)) = tenant da sa vid isid customer
 
+-- a frame is a list of octets; no other list of numbers is one
+abbrev pub is_octets : List ℕ → Bool
+is_octets frame = list_all (λ b. nat_lt b 256) frame
+
 unfoldable pub judged : List ℕ → Judged
-judged frame = by_content (content_in frame)
+judged frame = if is_octets frame then by_content (content_in frame) else useless Frame
 
 -- the hello that a frame was taken for, with its three-way adjacency
 abbrev pub greeting_in : Judged → Option (HelloValue × ThreeWay)
@@ -69,17 +72,3 @@ greeting_in (link_state l) = None
 greeting_in (complete c) = None
 greeting_in (partial s) = None
 greeting_in (tenant da sa vid isid customer) = None
-
--- the entries of a sequence numbers PDU: those of each of its TLVs 9, in order. One that can't be read refuses all
--- (ISO/IEC 10589, 9.10 and 9.12)
-abbrev pub before_others : Result (List SnpEntry) TlvError → Result (List SnpEntry) TlvError → Result (List SnpEntry) TlvError
-before_others (Err e) others = Err e
-before_others (Ok es) (Err e) = Err e
-before_others (Ok es) (Ok fs) = Ok (es ++ fs)
-
-abbrev pub entries_in_all : List (List ℕ) → Result (List SnpEntry) TlvError
-entries_in_all [] = Ok []
-entries_in_all (value ∷ values) = before_others (entries_of value) (entries_in_all values)
-
-abbrev pub entries_in : List ℕ → Result (List SnpEntry) TlvError
-entries_in tlvs = entries_in_all (values_with 9 tlvs)

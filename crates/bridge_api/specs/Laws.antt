@@ -1,37 +1,85 @@
 -- What every step of a bridge keeps, whatever comes to it: the facts that a network rests on.
-use Rattle.std.specs.Prelude.{◌≡◌, ◌≢◌, ◌⊎◌, ℕ, ◌-◌, ◌≤◌, nat_le, List, [], ◌∷◌, length, slice_set, Bool, true, false, ◌==◌, if◌then◌else◌, Option, Some, None}
+use Rattle.std.specs.Prelude.{◌≡◌, ◌≢◌, ◌⊎◌, ℕ, ◌-◌, ◌≤◌, ◌<◌, nat_le, List, [], ◌∷◌, length, map, slice_set, Bool, true, false, ◌==◌, if◌then◌else◌, Option, Some, None, Result, Ok, Err, ⊤}
 use Rattle.std.specs.List.{AllByRecursion}
 use Rattle.std.specs.Option.{option_map}
-use Rattle.std.specs.FinMap.{empty, get}
+use Rattle.std.specs.FinMap.{get}
 use Rattle.spb_types.specs.declared.address.LspId.{LspId}
-use Rattle.spb_types.specs.Ports.{has}
+use Rattle.spb_types.specs.Ports.{has, no_ports}
 use Rattle.isis_pdu.specs.Pdu.{HelloValue}
+use Rattle.isis_pdu.specs.Grammar.{IsBytes}
+use Rattle.spb_tlvs.specs.declared.entries.SnpEntry.{SnpEntry}
+use Rattle.spb_tlvs.specs.declared.error.TlvError.{TlvError}
 use Rattle.spb_tlvs.specs.declared.three_way.ThreeWay.{ThreeWay}
+use Rattle.spb_tlvs.specs.Capability.{IsTree}
 use Rattle.spb_tlvs.specs.RoundTrip.{IsNamed}
+use Rattle.lsdb.specs.declared.version.Version.{Version}
 use Rattle.lsdb.specs.declared.version.Version.TheVariants.{Absent}
-use Rattle.lsdb.specs.Database.{version_in, srm_in}
-use Rattle.lsdb.specs.Certificate.{Claim, Certificate}
+use Rattle.lsdb.specs.Version.{IsAtMost, is_absent}
+use Rattle.lsdb.specs.Database.{version_in, srm_in, version_at}
+use Rattle.lsdb.specs.Certificate.{Claim, IsClaimed, Certificate}
+use Rattle.flooding.specs.Own.{own_id, renewed}
+use Rattle.flooding.specs.Hearing.{claim_of}
+use Rattle.flooding.specs.Entries.{AreSendable, HaveFlagsAt}
+use Rattle.flooding.specs.Laws.{HasBody}
+use Rattle.snp_sync.specs.Sized.{AreSized}
+use Rattle.snp_sync.specs.Reading.{entries_in}
+use Rattle.snp_sync.specs.Hearing.{claims_in}
+use Rattle.spb_content.specs.Local.{IsLocal}
+use Rattle.spb_content.specs.Laws.{HasFields}
 use Rattle.adjacency.specs.Hearing.{End, sender}
 use Rattle.adjacency.specs.Adjacency.{IsSound}
 use Rattle.bridge_api.specs.declared.port.BridgePort.{BridgePort}
 use Rattle.bridge_api.specs.declared.config.BridgeConfig.{BridgeConfig}
 use Rattle.bridge_api.specs.View.{BridgeView, IsPort, neighbour_at, is_up_at, has_carrier_at, is_due_at, is_port_up, metrics_of, up_ports, control_of}
-use Rattle.bridge_api.specs.Config.{IsWhole, configured}
-use Rattle.bridge_api.specs.Judging.{Judged, greeting, greeting_in, judged}
+use Rattle.bridge_api.specs.Own.{local_of, own_of, own_entry}
+use Rattle.bridge_api.specs.Config.{IsWhole, IsOwnMac, IsMetric, IsAttachment, AgreesWith, ArePairwise, different, vids_of, bare, configured}
+use Rattle.bridge_api.specs.Judging.{Judged, useless, greeting, link_state, complete, partial, tenant, greeting_in, judged}
 use Rattle.bridge_api.specs.Hearing.{with_carrier}
 use Rattle.bridge_api.specs.Step.{Input, second, frame, carrier, metric, step, sent}
 
--- a port whose adjacency is sound, and where CSNPs are due only if it is Up
+-- a port whose adjacency is sound, with a neighbour of six bytes if it keeps one, where CSNPs are due only if it is Up, and
+-- whose link has a metric
 pub record IsSoundPort (port : BridgePort) : Type 0 where
   pub adjacency : IsSound port.adjacency
+  pub neighbour : length port.adjacency.neighbour.mac.bytes ≡ 6
   pub due : port.due ≡ true → is_port_up port ≡ true
+  pub metric : IsMetric port.metric
 
--- a bridge with an address of six bytes and at most 32 ports, each sound, which holds no LSP yet
+-- what a whole configuration gives a bridge, and no step changes
+pub record HasConfig (v : BridgeView) : Type 0 where
+  pub priority : v.id.priority < 65536
+  pub system : IsOwnMac v.id.system.mac
+  pub source : v.source.value < 1048576
+  pub few_vids : length v.vids ≤ 16
+  pub each_vid : AllByRecursion IsTree v.vids
+  pub vids_apart : ArePairwise (λ x y. x ≢ y) (vids_of v.vids)
+  pub each_attachment : AllByRecursion (IsAttachment (vids_of v.vids)) v.attached
+  pub attachments_apart : ArePairwise AgreesWith v.attached
+  pub few_isids : length (different (map (λ a. a.isid.value) v.attached)) ≤ 60
+
+-- the database: each LSP that is held can be written, and is read again as what is held; what an SNP says of it can be
+-- written; flags stand at Up ports alone; and the own id is held
+pub record HasDatabase (v : BridgeView) : Type 0 where
+  pub sendable : AreSendable v.database
+  pub sized : AreSized v.database
+  pub flags : HaveFlagsAt (up_ports v) v.database
+  pub own : is_absent (version_at v.database (own_id v.id.system)) ≡ false
+
+-- a configured bridge with at most 32 ports, each sound, and a sound database
 pub record IsSoundView (v : BridgeView) : Type 0 where
-  pub address : length v.id.system.mac.bytes ≡ 6
+  pub config : HasConfig v
   pub few : length v.ports ≤ 32
   pub ports : AllByRecursion IsSoundPort v.ports
-  pub unheld : v.database ≡ empty
+  pub database : HasDatabase v
+
+-- so what it says of itself can be written, and fits one LSP
+pub record CanSay (v : BridgeView) : Type 0 where
+  pub local : IsLocal (local_of v)
+  pub fields : HasFields (local_of v)
+  pub body : HasBody (own_of v)
+
+abbrev pub SoundCanSay : Type 0
+SoundCanSay = (v : BridgeView) → IsSoundView v → CanSay v
 
 -- the configured bridge is sound, and stays so
 abbrev pub ConfiguredIsSound : Type 0
@@ -47,8 +95,23 @@ pub record IsDark (c : BridgeConfig) (v : BridgeView) : Type 0 where
 abbrev pub ConfiguredIsDark : Type 0
 ConfiguredIsDark = (c : BridgeConfig) → IsWhole c → IsDark c (configured c)
 
+-- its own LSP, alone, is live at number 1 for 1,200 seconds with what it says, and no flag stands
+pub record HoldsOwnAlone (c : BridgeConfig) (v : BridgeView) : Type 0 where
+  pub own : own_entry v ≡ Some (renewed no_ports (own_of (bare c)) 1)
+  pub alone : (id : LspId) → id ≢ own_id c.id.system → get v.database id ≡ None
+
+abbrev pub ConfiguredHoldsOwn : Type 0
+ConfiguredHoldsOwn = (c : BridgeConfig) → HoldsOwnAlone c (configured c)
+
+-- a metric that comes is one of a link
+abbrev pub IsInput : Input → Type 0
+IsInput second = ⊤
+IsInput (frame q bytes) = ⊤
+IsInput (carrier q on) = ⊤
+IsInput (metric q m) = IsMetric m
+
 abbrev pub StepsStaySound : Type 0
-StepsStaySound = (input : Input) (v : BridgeView) → IsSoundView v → IsSoundView (step input v)
+StepsStaySound = (input : Input) (v : BridgeView) → IsInput input → IsSoundView v → IsSoundView (step input v)
 
 -- the metric of the link at a port is set by an input that says so, and by nothing else
 abbrev pub metrics_after : Input → List ℕ → List ℕ
@@ -100,22 +163,53 @@ abbrev pub IsSent : List (ℕ × List ℕ) → ℕ → List ℕ → Type 0
 IsSent [] p bytes = ⊥
 IsSent (s ∷ ss) p bytes = ((s.0 ≡ p) × (s.1 ≡ bytes)) ⊎ IsSent ss p bytes
 
--- a frame is heard as the hello of this bridge at the port: of level 1, to be held for three seconds, naming the port,
--- and as its neighbour the one that is kept there, if one is
-pub record IsHelloOf (v : BridgeView) (p : ℕ) (bytes : List ℕ) : Type 0 where
-  pub hello : HelloValue
-  pub way : ThreeWay
-  pub heard : judged bytes ≡ greeting hello way
+-- a hello of this bridge at the port: of level 1, to be held for three seconds, naming the port, and as its neighbour the
+-- one that is kept there, if one is
+pub record IsHelloOf (v : BridgeView) (p : ℕ) (hello : HelloValue) (way : ThreeWay) : Type 0 where
   pub sender : sender hello way ≡ (v.id.system, p)
   pub level : hello.circuit_type ≡ 1
   pub holding : hello.holding ≡ 3
   pub state : way.state ≤ 2
   pub neighbour : way.neighbour ≡ neighbour_at v p
 
--- each frame that a bridge sends is such a hello, where the neighbour can be named: a system id of six bytes, and a
--- circuit id of four
+-- the claims of a frame: that of an LSP, and those of the entries of a sequence numbers PDU that can be read
+abbrev pub claims_or_none : Result (List SnpEntry) TlvError → List Claim
+claims_or_none (Ok entries) = claims_in entries
+claims_or_none (Err e) = []
+
+abbrev pub claims_said : Judged → List Claim
+claims_said (useless reason) = []
+claims_said (greeting h way) = []
+claims_said (link_state l) = claim_of l ∷ []
+claims_said (complete c) = claims_or_none (entries_in c.tlvs)
+claims_said (partial s) = claims_or_none (entries_in s.tlvs)
+claims_said (tenant da sa vid isid customer) = []
+
+-- a frame of this bridge at the port: if it is heard as a hello, as one of this bridge; and what it claims is at most what
+-- the bridge holds
+pub record IsFrameOf (v : BridgeView) (p : ℕ) (bytes : List ℕ) : Type 0 where
+  pub hello : (h : HelloValue) (way : ThreeWay) → judged bytes ≡ greeting h way → IsHelloOf v p h way
+  pub claims : (id : LspId) (a : Version) → IsClaimed (claims_said (judged bytes)) id a → IsAtMost a (version_at v.database id)
+
+-- each frame that a bridge sends is such a one, where the neighbour can be named: a circuit id of four bytes
+abbrev pub FramesAreSound : Type 0
+FramesAreSound = (v : BridgeView) (p : ℕ) (bytes : List ℕ) → IsSoundView v → IsNamed (neighbour_at (step second v) p) → IsSent (sent second v) p bytes → IsFrameOf (step second v) p bytes
+
+-- and at a port with carrier and a neighbour of octets, if it keeps one, a hello is sent that is heard
+pub record IsGreeted (v : BridgeView) (p : ℕ) : Type 0 where
+  pub bytes : List ℕ
+  pub sent : IsSent (sent second v) p bytes
+  pub hello : HelloValue
+  pub way : ThreeWay
+  pub heard : judged bytes ≡ greeting hello way
+  pub own : IsHelloOf (step second v) p hello way
+
+abbrev pub AreOctets : Option End → Type 0
+AreOctets None = ⊤
+AreOctets (Some n) = IsBytes n.0.mac.bytes
+
 abbrev pub HellosAreHeard : Type 0
-HellosAreHeard = (v : BridgeView) (p : ℕ) (bytes : List ℕ) → IsSoundView v → IsNamed (neighbour_at (step second v) p) → IsSent (sent second v) p bytes → IsHelloOf (step second v) p bytes
+HellosAreHeard = (v : BridgeView) (p : ℕ) → IsSoundView v → has_carrier_at v p ≡ true → IsNamed (neighbour_at (step second v) p) → AreOctets (neighbour_at (step second v) p) → IsGreeted v p
 
 -- and it is sent at a port with carrier
 abbrev pub SentWithCarrier : Type 0
@@ -134,7 +228,7 @@ EnteringUpIsWhole = (input : Input) (v : BridgeView) (p : ℕ) → IsSoundView v
 abbrev pub UpPortsAreUp : Type 0
 UpPortsAreUp = (v : BridgeView) (p : ℕ) → IsSoundView v → has (up_ports v) p ≡ is_up_at v p
 
--- the port at which something came in, and the claims that were heard: LSPs and sequence numbers aren't heard yet
+-- the port at which something came in, and what was claimed in it
 abbrev pub port_of : Input → ℕ
 port_of second = 0
 port_of (frame p bytes) = p
@@ -142,7 +236,10 @@ port_of (carrier p on) = p
 port_of (metric p m) = p
 
 abbrev pub claims_of : Input → List Claim
-claims_of input = []
+claims_of second = []
+claims_of (frame p bytes) = claims_said (judged bytes)
+claims_of (carrier p on) = []
+claims_of (metric p m) = []
 
 -- no version falls, and the neighbour at each Up port is no further behind
 abbrev pub StepsCarryDatabase : Type 0

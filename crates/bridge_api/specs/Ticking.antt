@@ -1,18 +1,21 @@
 -- A second of a bridge, and what it sends then.
-use Rattle.std.specs.Prelude.{ℕ, ◌+◌, List, [], ◌∷◌, ◌++◌, map, Bool, false, ◌&&◌, not, if◌then◌else◌}
+use Rattle.std.specs.Prelude.{ℕ, ◌+◌, List, [], ◌∷◌, ◌++◌, map, Bool, false, ◌&&◌, ◌||◌, not, nat_le, Option, Some, None, if◌then◌else◌}
 use Rattle.spb_types.specs.declared.address.SystemId.{SystemId}
-use Rattle.isis_pdu.specs.Pdu.{HelloValue}
-use Rattle.isis_pdu.specs.Spelling.{hello_bytes}
+use Rattle.isis_pdu.specs.Pdu.{HelloValue, LspValue, CsnpValue, PsnpValue}
+use Rattle.isis_pdu.specs.Spelling.{hello_bytes, lsp_bytes, csnp_bytes, psnp_bytes}
 use Rattle.spb_tlvs.specs.declared.three_way.ThreeWay.{ThreeWay}
 use Rattle.spb_tlvs.specs.Tlv.{tlv}
 use Rattle.spb_tlvs.specs.ThreeWay.{three_way_value}
 use Rattle.itag_frames.specs.Frame.{control_bytes}
 use Rattle.adjacency.specs.Adjacency.{after_second, said}
-use Rattle.lsdb.specs.Database.{each}
+use Rattle.lsdb.specs.Database.{Lsps, each}
 use Rattle.lsdb.specs.Entry.{Entry, parted, aged}
+use Rattle.flooding.specs.Sending.{lsps_to_send}
+use Rattle.snp_sync.specs.Sending.{csnps_of, psnps_of, all_settled}
 use Rattle.bridge_api.specs.declared.port.BridgePort.{BridgePort}
 use Rattle.bridge_api.specs.View.{BridgeView, is_port_up, up_ports}
-use Rattle.bridge_api.specs.Hearing.{settled, with_adjacency, with_due}
+use Rattle.bridge_api.specs.Own.{own_entry, is_said, originating}
+use Rattle.bridge_api.specs.Hearing.{with_adjacency, with_due}
 
 -- a port a second later: the holding count falls, and where the neighbour is lost nothing is due any more
 abbrev pub later : BridgePort → BridgePort
@@ -40,9 +43,19 @@ counted v = record v { ports = map later v.ports; database = each (λ id e. part
 abbrev pub expired : BridgeView → BridgeView
 expired v = record v { database = each (λ id e. aged (up_ports v) e) v.database }
 
--- the bridge that sends: 3. where its content changed, it has originated
+-- whether the own LSP has to be originated anew: its lifetime is 300 or less
+abbrev pub is_old : Option Entry → Bool
+is_old None = false
+is_old (Some e) = nat_le e.lifetime 300
+
+-- 3. the bridge originates where its content changed or where its LSP is old, once for both reasons
+-- (ISO/IEC 10589, 7.3.7 and 7.3.16)
+unfoldable pub refreshed : BridgeView → BridgeView
+refreshed v = if v.spent || (is_said v && not (is_old (own_entry v))) then v else originating v
+
+-- the bridge that sends
 abbrev pub readied : BridgeView → BridgeView
-readied v = settled (expired (counted v))
+readied v = refreshed (expired (counted v))
 
 -- the TLVs of a hello: one area address, the protocols supported, and the three-way adjacency
 -- (ISO/IEC 10589, 9.7; RFC 1195, 5.3.4; RFC 5303, 3)
@@ -56,21 +69,57 @@ hello_at system p port = record { circuit_type = 1; source = system; holding = 3
 unfoldable pub hello_frame : SystemId → ℕ → BridgePort → List ℕ
 hello_frame system p port = control_bytes system.mac (hello_bytes (hello_at system p port))
 
--- 4. what is sent at a port of this number: with carrier a hello, and else nothing
-abbrev pub sent_at : SystemId → ℕ → BridgePort → List (ℕ × List ℕ)
-sent_at system p port = if port.adjacency.carrier then (p, hello_frame system p port) ∷ [] else []
+-- the LSPs, CSNPs and PSNPs of a system, as frames
+unfoldable pub lsp_frame : SystemId → LspValue → List ℕ
+lsp_frame system l = control_bytes system.mac (lsp_bytes l)
+
+unfoldable pub csnp_frame : SystemId → CsnpValue → List ℕ
+csnp_frame system c = control_bytes system.mac (csnp_bytes c)
+
+unfoldable pub psnp_frame : SystemId → PsnpValue → List ℕ
+psnp_frame system s = control_bytes system.mac (psnp_bytes s)
+
+-- 4. what is sent at a port of this number: with carrier a hello
+abbrev pub greetings_at : SystemId → ℕ → BridgePort → List (ℕ × List ℕ)
+greetings_at system p port = if port.adjacency.carrier then (p, hello_frame system p port) ∷ [] else []
+
+-- where they are due, the CSNPs of the whole database; every LSP that is to be sent there, and then PSNPs of all that is
+-- owed there, each in order of id (ISO/IEC 10589, 7.3.15.3 to 7.3.15.5)
+abbrev pub summaries_at : SystemId → ℕ → BridgePort → Lsps → List (ℕ × List ℕ)
+summaries_at system p port db = if port.due then map (λ c. (p, csnp_frame system c)) (csnps_of system db) else []
+
+abbrev pub lsps_at : SystemId → ℕ → Lsps → List (ℕ × List ℕ)
+lsps_at system p db = map (λ l. (p, lsp_frame system l)) (lsps_to_send db p)
+
+abbrev pub requests_at : SystemId → ℕ → Lsps → List (ℕ × List ℕ)
+requests_at system p db = map (λ s. (p, psnp_frame system s)) (psnps_of system p db)
+
+-- these at a port that is Up
+abbrev pub synced_at : SystemId → ℕ → BridgePort → Lsps → List (ℕ × List ℕ)
+synced_at system p port db = if is_port_up port then summaries_at system p port db ++ lsps_at system p db ++ requests_at system p db else []
+
+abbrev pub sent_at : SystemId → ℕ → BridgePort → Lsps → List (ℕ × List ℕ)
+sent_at system p port db = greetings_at system p port ++ synced_at system p port db
+
+-- after it, nothing is owed there
+abbrev pub told_at : ℕ → BridgePort → Lsps → Lsps
+told_at p port db = if is_port_up port then all_settled p db else db
 
 -- and at these ports, from number p on, in order
-abbrev pub sent_from : SystemId → ℕ → List BridgePort → List (ℕ × List ℕ)
-sent_from system p [] = []
-sent_from system p (port ∷ ports) = sent_at system p port ++ sent_from system (p + 1) ports
+abbrev pub sent_from : SystemId → ℕ → List BridgePort → Lsps → List (ℕ × List ℕ)
+sent_from system p [] db = []
+sent_from system p (port ∷ ports) db = sent_at system p port db ++ sent_from system (p + 1) ports (told_at p port db)
+
+abbrev pub told_from : ℕ → List BridgePort → Lsps → Lsps
+told_from p [] db = db
+told_from p (port ∷ ports) db = told_from (p + 1) ports (told_at p port db)
 
 abbrev pub sent_by : BridgeView → List (ℕ × List ℕ)
-sent_by v = sent_from v.id.system 1 v.ports
+sent_by v = sent_from v.id.system 1 v.ports v.database
 
--- after it was sent, nothing is due
+-- after all was sent, nothing is due or owed
 abbrev pub told : BridgeView → BridgeView
-told v = record v { ports = map (with_due false) v.ports }
+told v = record v { ports = map (with_due false) v.ports; database = told_from 1 v.ports v.database }
 
 -- a bridge a second later, and the frames that it sends in that second, each with the number of its port
 unfoldable pub after_tick : BridgeView → BridgeView

@@ -1,15 +1,19 @@
 -- What a bridge is, seen from outside.
-use Rattle.std.specs.Prelude.{ℕ, ◌+◌, ◌-◌, List, [], ◌∷◌, length, map, Bool, false, ◌≤◌, nat_le, Option, Some, None, if◌then◌else◌, slice_get, slice_set}
+use Rattle.std.specs.Prelude.{ℕ, ◌+◌, ◌-◌, List, [], ◌∷◌, length, map, Bool, false, ◌||◌, ◌≤◌, nat_le, Option, Some, None, if◌then◌else◌, slice_get, slice_set}
 use Rattle.std.specs.Option.{option_and_then, option_map}
+use Rattle.std.specs.List.{list_any}
+use Rattle.std.specs.FinMap.{entries}
 use Rattle.spb_types.specs.declared.address.Mac.{Mac}
 use Rattle.spb_types.specs.declared.address.BridgeId.{BridgeId}
+use Rattle.spb_types.specs.declared.address.LspId.{LspId}
 use Rattle.spb_types.specs.declared.service.SourceId.{SourceId}
 use Rattle.spb_types.specs.declared.service.VidPlan.{VidPlan}
 use Rattle.spb_types.specs.declared.service.Isid.{Isid}
 use Rattle.spb_types.specs.declared.service.Attachment.{Attachment}
 use Rattle.spb_types.specs.declared.ports.PortSet.{PortSet}
 use Rattle.spb_types.specs.Ports.{no_ports, with_port}
-use Rattle.lsdb.specs.Database.{Lsps}
+use Rattle.lsdb.specs.Entry.{Entry}
+use Rattle.lsdb.specs.Database.{Lsps, any_flags}
 use Rattle.lsdb.specs.Certificate.{Control}
 use Rattle.adjacency.specs.declared.port.Adjacency.{Adjacency}
 use Rattle.adjacency.specs.Hearing.{End}
@@ -96,6 +100,14 @@ up_from p (port ∷ ports) = if is_port_up port then with_port (up_from (p + 1) 
 
 abbrev pub up_ports : BridgeView → PortSet
 up_ports v = up_from 1 v.ports
+
+-- whether anything is to be sent, acknowledged or asked for at any port, or CSNPs are due at one
+unfoldable pub has_flags : BridgeView → Bool
+has_flags v = any_flags v.database || list_any (λ port. port.due) v.ports
+
+-- what is held at a place, in order of id
+abbrev pub entry_at : BridgeView → ℕ → Option (LspId × Entry)
+entry_at v place = slice_get (entries v.database) place
 
 -- what flooding rests on
 abbrev pub control_of : BridgeView → Control

@@ -2,6 +2,7 @@ use crate::config::BridgeConfig;
 use crate::kind::Kind;
 use crate::outbox::Outbox;
 use adjacency::Adjacency;
+use lsdb::Held;
 use spb_types::NoMemory;
 
 /// A bridge of the backbone, with its IS-IS control.
@@ -13,7 +14,9 @@ use spb_types::NoMemory;
 pub trait Bridge: Drop {
     ghost use Rattle.std.specs.Prelude.{◌≡◌, Bool, true, false, OnOk, OnErr, IsErr, Some};
     ghost use Rattle.bridge_api.specs.declared.kind.Kind.{Kind};
-    ghost use Rattle.bridge_api.specs.View.{BridgeView, IsPort, port_at, is_due_at, adjacency_at};
+    ghost use Rattle.std.specs.Option.{option_map, option_copied};
+    ghost use Rattle.lsdb.specs.Database.{keyed};
+    ghost use Rattle.bridge_api.specs.View.{BridgeView, IsPort, port_at, is_due_at, adjacency_at, has_flags, entry_at};
     ghost use Rattle.bridge_api.specs.Config.{IsWhole, IsMetric, configured};
     ghost use Rattle.bridge_api.specs.Hearing.{after_receive, with_carrier, with_metric};
     ghost use Rattle.bridge_api.specs.Ticking.{after_tick, sent_in_tick};
@@ -50,7 +53,11 @@ pub trait Bridge: Drop {
         ensures made { blank self.new ≡ false }
         ensures kind { kind_of self.new ≡ kind_of self.old };
 
-    /// A second passes: the holding counts fall, and a hello goes out at each port with carrier, in ascending order.
+    /// A second passes, in four steps (ISO/IEC 10589, 7.3.15 and 7.3.16). The holding counts fall, and at 0 a port goes
+    /// Down. The lifetimes of what is held fall, and at 0 an LSP is dead and is sent at every Up port. The bridge originates
+    /// where its content changed or where its own lifetime is 300 or less, once for both. Then it sends at each port with
+    /// carrier, in ascending order, a hello, and at an Up one the CSNPs if they are due, the LSPs with SRM there, and PSNPs
+    /// of those with SSN there.
     fn tick(&mut self, outbox: &mut Outbox) -> Result<(), NoMemory>
         requires { blank self.old ≡ false }
         ensures view { OnOk result (view self.new ≡ after_tick (view self.old)) }
@@ -61,7 +68,8 @@ pub trait Bridge: Drop {
         ensures made { blank self.new ≡ false }
         ensures kind { kind_of self.new ≡ kind_of self.old };
 
-    /// Hears a frame, which may be any bytes, at a port. A frame of no use is dropped and changes nothing.
+    /// Hears a frame, which may be any bytes, at a port. A frame of no use is dropped and changes nothing; LSPs and
+    /// sequence numbers PDUs are heard only at a port that is Up (ISO/IEC 10589, 7.3.15).
     fn receive(&mut self, port: u8, frame: &[u8], outbox: &mut Outbox) -> Result<(), NoMemory>
         requires made { blank self.old ≡ false }
         requires port { IsPort (view self.old) port }
@@ -104,6 +112,16 @@ pub trait Bridge: Drop {
         requires made { blank self.now ≡ false }
         requires port { IsPort (view self.now) port }
         ensures { result ≡ is_due_at (view self.now) port };
+
+    /// Whether an LSP is to be sent, acknowledged or asked for at any port (SRM and SSN), or CSNPs are due at one.
+    fn has_flag(&self) -> bool
+        requires { blank self.now ≡ false }
+        ensures { result ≡ has_flags (view self.now) };
+
+    /// What is held at a place, counted from 0, in order of LSP id; None exactly past the last.
+    fn entry(&self, place: usize) -> Option<&Held>
+        requires { blank self.now ≡ false }
+        ensures { option_map keyed (option_copied result) ≡ entry_at (view self.now) place };
 }
 
 impl Bridge for Box<dyn Bridge> {
@@ -151,5 +169,13 @@ impl Bridge for Box<dyn Bridge> {
 
     fn due(&self, port: u8) -> bool {
         (**self).due(port)
+    }
+
+    fn has_flag(&self) -> bool {
+        (**self).has_flag()
+    }
+
+    fn entry(&self, place: usize) -> Option<&Held> {
+        (**self).entry(place)
     }
 }

@@ -1,12 +1,15 @@
 //! What every step of a bridge keeps, whatever comes to it. Each is the contract of a function that does nothing.
-ghost use Rattle.bridge_api.specs.Laws.{ConfiguredIsSound, ConfiguredIsDark, StepsStaySound, StepsKeepBridge, StepsKeepCarrier, StepsKeepNeighbours, HellosAreHeard, SentWithCarrier, EnteringUpIsWhole, UpPortsAreUp, StepsCarryDatabase, NeighboursComeUp, SomeBridge};
+ghost use Rattle.bridge_api.specs.Laws.{ConfiguredIsSound, ConfiguredIsDark, ConfiguredHoldsOwn, SoundCanSay, StepsStaySound, StepsKeepBridge, StepsKeepCarrier, StepsKeepNeighbours, FramesAreSound, HellosAreHeard, SentWithCarrier, EnteringUpIsWhole, UpPortsAreUp, StepsCarryDatabase, NeighboursComeUp, SomeBridge};
 
 use itag_frames::control_again;
 
-/// A configured bridge is sound, and stays so. It has the ports of its configuration, and no carrier yet.
+/// A configured bridge is sound, and stays so. It has the ports of its configuration and no carrier yet, and holds its own
+/// LSP alone. What a sound bridge says of itself can be written, and fits one LSP.
 pub fn bridges_are_sound()
     ensures configured { ConfiguredIsSound }
     ensures dark { ConfiguredIsDark }
+    ensures own { ConfiguredHoldsOwn }
+    ensures says { SoundCanSay }
     ensures steps { StepsStaySound }
 {}
 
@@ -22,9 +25,10 @@ pub fn steps_keep_neighbours()
     ensures { StepsKeepNeighbours }
 {}
 
-/// Each hello that is sent is heard as one of its sender and port, and names nobody but the neighbour that is kept. It
-/// is sent at a port with carrier.
-pub fn hellos_are_heard()
+/// Each frame that is sent and heard as a hello names its sender and port, and nobody but the neighbour that is kept; and
+/// what a frame claims is at most what its sender holds. A hello is sent at each port with carrier, and nothing at others.
+pub fn frames_are_heard()
+    ensures sound { FramesAreSound }
     ensures heard { HellosAreHeard }
     ensures carrier { SentWithCarrier }
 {

@@ -30,7 +30,7 @@ pub use bridge::Bridge;
 pub use config::BridgeConfig;
 pub use kind::Kind;
 pub use laws::{
-    bridges_are_sound, entering_up_is_whole, hellos_are_heard, neighbours_come_up,
+    bridges_are_sound, entering_up_is_whole, frames_are_heard, neighbours_come_up,
     steps_carry_the_database, steps_keep_neighbours, steps_keep_the_bridge,
 };
 pub use outbox::Outbox;

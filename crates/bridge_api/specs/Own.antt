@@ -1,0 +1,77 @@
+-- What a bridge says of itself, and its own LSP (RFC 6329, 13 to 16; ISO/IEC 10589, 7.3.7).
+use Rattle.std.specs.Prelude.{ℕ, ◌+◌, List, [], ◌∷◌, map, Bool, ◌||◌, Option, Some, None, if◌then◌else◌}
+use Rattle.std.specs.Str.{bytes_eq}
+use Rattle.std.specs.FinMap.{get}
+use Rattle.spb_types.specs.declared.address.SystemId.{SystemId}
+use Rattle.spb_types.specs.declared.graph.Member.{Member}
+use Rattle.spb_types.specs.declared.service.Attachment.{Attachment}
+use Rattle.spb_tlvs.specs.declared.neighbours.Neighbour.{Neighbour}
+use Rattle.lsdb.specs.Entry.{Entry}
+use Rattle.flooding.specs.declared.own.Own.{Own}
+use Rattle.flooding.specs.Own.{own_id}
+use Rattle.flooding.specs.Hearing.{Holding}
+use Rattle.flooding.specs.Origination.{originated}
+use Rattle.spb_content.specs.declared.local.Local.{Local}
+use Rattle.spb_content.specs.Local.{content_bytes}
+use Rattle.bridge_api.specs.declared.port.BridgePort.{BridgePort}
+use Rattle.bridge_api.specs.View.{BridgeView, is_port_up, up_ports}
+
+-- ---- what it says
+
+-- the neighbour at a port of this number, with the metric of the link there
+abbrev pub neighbour_in : ℕ → BridgePort → Neighbour
+neighbour_in p port = record { system = port.adjacency.neighbour; metric = port.metric; port = p }
+
+-- the neighbours at the ports that are Up, of those from number p on
+abbrev pub neighbours_from : ℕ → List BridgePort → List Neighbour
+neighbours_from p [] = []
+neighbours_from p (port ∷ ports) = if is_port_up port then neighbour_in p port ∷ neighbours_from (p + 1) ports else neighbours_from (p + 1) ports
+
+-- an attached customer port makes the bridge a member of its service
+abbrev pub member_of : SystemId → Attachment → Member
+member_of system a = record { system = system; isid = a.isid; vid = a.vid }
+
+-- what a bridge knows of itself: its configuration, its neighbours and what is attached
+abbrev pub local_of : BridgeView → Local
+local_of v = record {
+  config = record { id = v.id; source = v.source; vids = v.vids };
+  neighbours = neighbours_from 1 v.ports;
+  attached = map (member_of v.id.system) v.attached;
+}
+
+-- the body of its own LSP: the flags octet of level 1, and then what it says (ISO/IEC 10589, 9.8)
+unfoldable pub body_of : BridgeView → List ℕ
+body_of v = 1 ∷ content_bytes (local_of v)
+
+-- ---- its own LSP
+
+abbrev pub own_of : BridgeView → Own
+own_of v = record { system = v.id.system; body = body_of v; spent = v.spent }
+
+-- the part of a bridge that flooding changes, and the bridge with that part changed
+abbrev pub holding_of : BridgeView → Holding
+holding_of v = record { db = v.database; own = own_of v }
+
+abbrev pub with_holding : Holding → BridgeView → BridgeView
+with_holding h v = record v { database = h.db; spent = h.own.spent }
+
+-- what is held under the own id, and its body
+abbrev pub own_entry : BridgeView → Option Entry
+own_entry v = get v.database (own_id v.id.system)
+
+abbrev pub body_in : Option Entry → List ℕ
+body_in None = []
+body_in (Some e) = e.body
+
+-- whether the own LSP that is held says what the bridge has to say
+unfoldable pub is_said : BridgeView → Bool
+is_said v = bytes_eq (body_in (own_entry v)) (body_of v)
+
+-- after an origination
+abbrev pub originating : BridgeView → BridgeView
+originating v = with_holding (originated (up_ports v) (holding_of v)) v
+
+-- a bridge after its own LSP was brought up to its content: it originates where its LSP says something else. One whose
+-- sequence numbers are spent originates no more
+unfoldable pub settled : BridgeView → BridgeView
+settled v = if v.spent || is_said v then v else originating v
