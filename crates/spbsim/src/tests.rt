@@ -105,6 +105,62 @@ adj A 1
 p 1 init 020000000002 1 3 -
 ";
 
+/// Two bridges synchronize their databases. Then A's metric changes; its LSP comes to B twice, and B's acknowledgement is
+/// lost once.
+const SYNCED: &str = "round 3
+db A
+round 2
+metric L1 a 15
+tick A
+double L1 ab 1
+drain 10
+db B
+tick B
+lose L1 ba 1
+drain 10
+db A
+tick A
+drain 10
+tick B
+drain 10
+db A
+db B
+";
+
+const SYNCED_ANSWER: &str = "db A 2
+l 0200000000010000 live 1199 2 a512 srm 1 ssn -
+l 0200000000020000 live 1199 2 c2f3 srm - ssn 1
+db B 2
+l 0200000000010000 live 1199 3 9e0e srm - ssn 1
+l 0200000000020000 live 1197 2 c2f3 srm - ssn -
+db A 2
+l 0200000000010000 live 1199 3 9e0e srm 1 ssn -
+l 0200000000020000 live 1196 2 c2f3 srm - ssn -
+db A 2
+l 0200000000010000 live 1198 3 9e0e srm - ssn -
+l 0200000000020000 live 1195 2 c2f3 srm - ssn -
+db B 2
+l 0200000000010000 live 1197 3 9e0e srm - ssn -
+l 0200000000020000 live 1195 2 c2f3 srm - ssn -
+";
+
+/// A neighbour that is cut off: its LSP runs out in the last second of its lifetime, and A's own was originated twice more.
+const CUT_OFF: &str = "round 5
+down L1
+round 1196
+db A
+round 1
+db A
+";
+
+const CUT_OFF_ANSWER: &str = "db A 2
+l 0200000000010000 live 904 4 49da srm - ssn -
+l 0200000000020000 live 1 2 c2f3 srm - ssn -
+db A 2
+l 0200000000010000 live 903 4 49da srm - ssn -
+l 0200000000020000 dead 2 srm - ssn -
+";
+
 /// Runs the program with one word over a script, in pieces of `step` bytes, and asserts how it ends and what it writes.
 fn check(
     rt: &impl Abort,
@@ -196,6 +252,34 @@ fn lost_hellos_take_a_bridge_down(rt: HostRuntime) -> Result<(), Fail> {
 }
 
 #[test]
+fn databases_are_equal_whatever_is_lost_or_doubled(rt: HostRuntime) -> Result<(), Fail> {
+    let alloc = rt.alloc();
+    let script = format!(in alloc; "{TWO}{SYNCED}")?;
+    check(
+        &rt,
+        alloc,
+        script.as_bytes(),
+        50,
+        Status::Done,
+        SYNCED_ANSWER.as_bytes(),
+    )
+}
+
+#[test]
+fn the_lsp_of_a_cut_off_neighbour_runs_out(rt: HostRuntime) -> Result<(), Fail> {
+    let alloc = rt.alloc();
+    let script = format!(in alloc; "{TWO}{CUT_OFF}")?;
+    check(
+        &rt,
+        alloc,
+        script.as_bytes(),
+        50,
+        Status::Done,
+        CUT_OFF_ANSWER.as_bytes(),
+    )
+}
+
+#[test]
 fn a_link_goes_down_and_up_and_its_hellos_are_doubled(rt: HostRuntime) -> Result<(), Fail> {
     let alloc = rt.alloc();
     let script = format!(in alloc;
@@ -268,7 +352,7 @@ fn lines_outside_the_grammar_have_a_column(rt: HostRuntime) -> Result<(), Fail> 
         ("tick A B", 8, "1 Words 8"),
         ("deliver L1 xy", 12, "1 Words 12"),
         ("round", 6, "1 Words 6"),
-        ("metric L1 a 0", 1, "1 Words 1"),
+        ("isid 100 10", 1, "1 Words 1"),
         (" frame A 1 00", 2, "1 Words 2"),
         ("state", 1, "1 Words 1"),
     ] {
@@ -312,6 +396,10 @@ fn refused_events_have_a_reason(rt: HostRuntime) -> Result<(), Fail> {
     let alloc = rt.alloc();
     for (line, why, end) in [
         ("adj C", Reason::NoSuchName, "2 NoSuchName"),
+        ("db C", Reason::NoSuchName, "2 NoSuchName"),
+        ("metric L2 a 5", Reason::NoSuchName, "2 NoSuchName"),
+        ("metric L1 a 0", Reason::Range, "6 Range"),
+        ("metric L1 a 16777215", Reason::Range, "6 Range"),
         ("round 0", Reason::Range, "6 Range"),
         ("drain 1000001", Reason::Range, "6 Range"),
         ("up L1", Reason::AlreadyUp, "9 AlreadyUp"),
