@@ -3,6 +3,7 @@ use Rattle.std.specs.declared.cmp.Ordering.{Ordering}
 use Rattle.std.specs.Ordering.{nat_cmp, ordering_then}
 use Rattle.std.specs.Cmp.Lexicographic.{slice_cmp}
 use Rattle.std.specs.Option.{option_map}
+use Rattle.std.specs.List.{list_any}
 use Rattle.std.specs.FinMap.{FinMap, get, insert, entries, from_sorted, contains_key, len}
 use Rattle.spb_types.specs.declared.address.LspId.{LspId}
 use Rattle.spb_types.specs.declared.ports.PortSet.{PortSet}
@@ -10,7 +11,7 @@ use Rattle.spb_types.specs.Ports.{no_ports}
 use Rattle.lsdb.specs.declared.version.Version.{Version}
 use Rattle.lsdb.specs.declared.version.Version.TheVariants.{Absent}
 use Rattle.lsdb.specs.declared.held.Held.{Held}
-use Rattle.lsdb.specs.Entry.{Entry, entry_of}
+use Rattle.lsdb.specs.Entry.{Entry, entry_of, has_flags}
 
 -- the order of LSP ids: that of their eight bytes (ISO/IEC 10589, 9.8)
 abbrev pub id_cmp : LspId → LspId → Ordering
@@ -65,3 +66,7 @@ changed f db id = changed_to db id (option_map f (get db id))
 -- every entry changed
 unfoldable pub each : (LspId → Entry → Entry) → Lsps → Lsps
 each f db = from_sorted (map (λ e. (e.0, f e.0 e.1)) (entries db))
+
+-- whether an SRM or SSN flag stands anywhere: some LSP is to be sent, or to be acknowledged or asked for, at some port
+abbrev pub any_flags : Lsps → Bool
+any_flags db = list_any (λ e. has_flags e.1) (entries db)

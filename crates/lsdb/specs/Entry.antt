@@ -1,4 +1,4 @@
-use Rattle.std.specs.Prelude.{◌≡◌, ℕ, ◌-◌, ◌≤◌, Bool, List, [], ◌∷◌, length, nat_le, if◌then◌else◌}
+use Rattle.std.specs.Prelude.{◌≡◌, ℕ, ◌-◌, ◌%◌, ◌^◌, ◌≤◌, Bool, not, ◌||◌, ◌==◌, List, [], ◌∷◌, length, nat_le, if◌then◌else◌}
 use Rattle.spb_types.specs.declared.ports.PortSet.{PortSet}
 use Rattle.spb_types.specs.Ports.{no_ports, with_port, without_port}
 use Rattle.lsdb.specs.declared.version.Version.{Version}
@@ -59,6 +59,14 @@ cleaned e = made e.version e.lifetime e.body e.srm e.ssn
 -- all of a held LSP but its body
 abbrev pub row_of : Held → DbRow
 row_of h = record { id = h.id; version = h.version; lifetime = h.lifetime; srm = h.srm; ssn = h.ssn }
+
+-- whether some port is in the set: one of its 32 bits is 1
+unfoldable pub has_ports : PortSet → Bool
+has_ports set = not (set.bits % 2 ^ 32 == 0)
+
+-- whether the LSP is to be sent, or to be acknowledged or asked for, at some port
+abbrev pub has_flags : Entry → Bool
+has_flags e = has_ports e.srm || has_ports e.ssn
 
 -- a set of ports with this port put in or taken out
 abbrev pub switched : Bool → PortSet → ℕ → PortSet
