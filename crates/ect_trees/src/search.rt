@@ -89,6 +89,7 @@ fn is_better(key: &PathKey, old: &Option<Label>) -> bool
 }
 
 impl<'a> Search<'a> {
+    /// The search from this source, with the keys that this mask gives.
     pub fn new(
         alloc: Global,
         graph: &'a Graph,

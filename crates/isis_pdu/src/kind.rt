@@ -24,6 +24,7 @@ impl Kind {
         }
     }
 
+    /// The number of the PDU type.
     pub fn number(self) -> u8
         ensures { result ≡ number_of self }
     {
