@@ -52,13 +52,20 @@ def wired(count, pairs):
         yield f"link l{number} {ends[0]} {ends[1]} {10 + number % 7}"
 
 
+# after so many rounds each bridge of these networks holds the LSP of every other, and nothing is to be sent any more
+FULL = 10
+
+
 def workloads():
-    """Name, script and number of deliveries of each workload."""
-    pairs = mesh(96, 400)
-    fabric = list(wired(96, pairs))
-    for rounds in (1000, 20000):
-        yield f"96 bridges, 400 links, round {rounds}", fabric + [f"round {rounds}"], rounds * 2 * len(pairs)
-    yield "the same, wiring of each", fabric + [f"wiring b{k}" for k in range(1, 97)], 0
+    """Name, script and number of hellos of each workload."""
+    for count, links in ((24, 100), (48, 200), (96, 400)):
+        pairs = mesh(count, links)
+        fabric = list(wired(count, pairs)) + [f"round {FULL}"]
+        yield f"{count} bridges, {links} links, to full databases", fabric, FULL * 2 * links
+        yield "  and round 2000 after it", fabric + ["round 2000"], (FULL + 2000) * 2 * links
+    yield "  and round 19990 after it", fabric + ["round 19990"], (FULL + 19990) * 2 * links
+    yield "  and db of each", fabric + [f"db b{k}" for k in range(1, count + 1)], FULL * 2 * links
+    yield "  and wiring of each", fabric + [f"wiring b{k}" for k in range(1, count + 1)], FULL * 2 * links
     chain = [(k, k + 1) for k in range(1, 96)]
     yield "96 bridges in a line, round 1000", list(wired(96, chain)) + ["round 1000"], 1000 * 2 * len(chain)
     # as many of the shortest lines as a script may have
@@ -75,15 +82,15 @@ def measure(program, path):
 
 def main():
     programs = [BUILT] + sys.argv[1:]
-    print(f"{'workload':40} {'program':24} {'cpu s':>8} {'peak MB':>8} {'deliveries/s':>13}")
-    for name, lines, deliveries in workloads():
+    print(f"{'workload':44} {'program':24} {'cpu s':>8} {'peak MB':>8} {'hellos/s':>13}")
+    for name, lines, hellos in workloads():
         with tempfile.NamedTemporaryFile("w", suffix=".spb", delete=False) as script:
             script.write("\n".join(lines) + "\n")
         for program in programs:
             seconds, memory, status = measure(program, script.name)
-            rate = f"{deliveries / seconds:,.0f}" if deliveries and seconds else "-"
+            rate = f"{hellos / seconds:,.0f}" if hellos and seconds else "-"
             note = "" if status == 0 else f"  status {status}"
-            print(f"{name:40} {os.path.basename(program):24} {seconds:8.2f} {memory:8.1f} {rate:>13}{note}")
+            print(f"{name:44} {os.path.basename(program):24} {seconds:8.2f} {memory:8.1f} {rate:>13}{note}")
         os.unlink(script.name)
 
 
