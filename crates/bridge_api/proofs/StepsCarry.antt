@@ -1,5 +1,5 @@
 -- No version that is held falls in a step, and the neighbour at each Up port is no further behind.
-use Rattle.std.proofs.Common.{◌≡◌, ◌≢◌, ◌⊎◌, inl, inr, ◌≤◌, ◌+◌, ◌-◌, ℕ, suc, Bool, true, false, List, [], ◌∷◌, ◌++◌, length, map, refl, sym, ap, ◌∙◌, subst, Option, Some, None, Result, Ok, Err, arith, ⊎_elim}
+use Rattle.std.proofs.Common.{◌≡◌, ◌≢◌, ◌⊎◌, inl, inr, ◌≤◌, ◌+◌, ◌-◌, ℕ, suc, Bool, true, false, List, [], ◌∷◌, length, map, refl, sym, ap, ◌∙◌, subst, Option, Some, None, Result, Ok, Err, arith, ⊎_elim}
 use Rattle.std.specs.Prelude.{⊤, ◌&&◌, ◌||◌, not, nat_le, slice_get, slice_set, if◌then◌else◌}
 use Rattle.std.specs.Option.{option_map}
 use Rattle.std.specs.FinMap.{get}
@@ -10,15 +10,15 @@ use Rattle.spb_types.specs.declared.address.LspId.{LspId}
 use Rattle.spb_types.specs.declared.ports.PortSet.{PortSet}
 use Rattle.spb_types.specs.Ports.{has, with_port, without_port}
 use Rattle.spb_types.proofs.PortLemmas.{has-with_same, has-with_other, has-without_same, has-without_other}
-use Rattle.isis_pdu.specs.Pdu.{HelloValue, LspValue, CsnpValue, PsnpValue}
+use Rattle.isis_pdu.specs.Pdu.{HelloValue, LspValue, CsnpValue}
 use Rattle.spb_tlvs.specs.declared.error.TlvError.{TlvError}
 use Rattle.spb_tlvs.specs.declared.entries.SnpEntry.{SnpEntry}
 use Rattle.spb_tlvs.specs.declared.three_way.ThreeWay.{ThreeWay}
 use Rattle.lsdb.specs.declared.version.Version.{Version}
 use Rattle.lsdb.specs.Version.{IsAtMost}
 use Rattle.lsdb.specs.Entry.{Entry, parted, joined, aged}
-use Rattle.lsdb.specs.Database.{Lsps, each}
-use Rattle.lsdb.specs.Certificate.{Claim, Kept, is_flagged, is_absent, is_as_before, is_claimed, EntryCertificate, Control, Certificate}
+use Rattle.lsdb.specs.Database.{Lsps}
+use Rattle.lsdb.specs.Certificate.{Claim, Kept, is_flagged, is_absent, is_as_before, is_claimed, Control, Certificate}
 use Rattle.lsdb.proofs.Order.{itself}
 use Rattle.lsdb.proofs.Certified.{standing, steps_compose, silence_serves_all, parting, joining, ageing, changing_each}
 use Rattle.flooding.specs.Hearing.{claim_of}
@@ -41,7 +41,7 @@ use Rattle.bridge_api.specs.Ticking.{later, leaves, leaving_from, parted_all, co
 use Rattle.bridge_api.specs.Step.{second, frame, carrier, metric}
 use Rattle.bridge_api.specs.Laws.{claims_or_none, claims_said, StepsCarryDatabase}
 use Rattle.bridge_api.proofs.Adjacent.{second_up, up_since}
-use Rattle.bridge_api.proofs.Places.{got_at, got_beside}
+use Rattle.bridge_api.proofs.Places.{got_at}
 use Rattle.bridge_api.proofs.Changes.{found, one_port, settled_ports}
 use Rattle.bridge_api.proofs.UpPorts.{up_ports_from}
 
@@ -119,13 +119,13 @@ up_after ports q from to p few low is up =
 -- ---- something came to pass at a port
 
 -- the port of number q was this one, of at most 32
-record Stood (v : BridgeView) (q : ℕ) (port : BridgePort) : Type 0 where
-  few : length v.ports ≤ 32
-  low : 1 ≤ q
-  high : q ≤ 32
-  is : slice_get v.ports (q - 1) ≡ Some port
+pub record Stood (v : BridgeView) (q : ℕ) (port : BridgePort) : Type 0 where
+  pub few : length v.ports ≤ 32
+  pub low : 1 ≤ q
+  pub high : q ≤ 32
+  pub is : slice_get v.ports (q - 1) ≡ Some port
 
-stood : (v : BridgeView) (q : ℕ) (port : BridgePort) → length v.ports ≤ 32 → port_at v q ≡ Some port → Stood v q port
+pub stood : (v : BridgeView) (q : ℕ) (port : BridgePort) → length v.ports ≤ 32 → port_at v q ≡ Some port → Stood v q port
 stood v q port few there =
     let at = found v.ports q port there in
     let within = slice_get_within v.ports (q - 1) port at.1 in
