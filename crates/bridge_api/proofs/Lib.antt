@@ -9,3 +9,5 @@ pub mod Carriers
 pub mod UpPorts
 pub mod StepsCarry
 pub mod Entering
+pub mod Spelled
+pub mod Frames
