@@ -7,3 +7,4 @@ pub mod Listed
 pub mod Meeting
 pub mod Carriers
 pub mod UpPorts
+pub mod Saying
