@@ -8,3 +8,4 @@ pub mod Meeting
 pub mod Carriers
 pub mod UpPorts
 pub mod Saying
+pub mod Data
