@@ -9,3 +9,4 @@ pub mod Carriers
 pub mod UpPorts
 pub mod Saying
 pub mod Data
+pub mod Reading
