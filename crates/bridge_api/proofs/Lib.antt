@@ -2,6 +2,9 @@ pub mod Places
 pub mod Adjacent
 pub mod Changes
 pub mod Certified
+pub mod Octets
+pub mod Heard
+pub mod SoundPorts
 pub mod Hellos
 pub mod Listed
 pub mod Meeting
