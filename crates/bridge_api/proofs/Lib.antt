@@ -13,3 +13,4 @@ pub mod UpPorts
 pub mod Saying
 pub mod Data
 pub mod Reading
+pub mod DataSteps

@@ -36,7 +36,7 @@ led_six Down h way six = refl
 led_six Initializing h way six = six
 led_six Up h way six = six
 
-heard_six : (ended : Bool) (s : AdjState) (h : HelloValue) (way : ThreeWay) → IsId h.source → IsId (if ended then down true else led_to s h way).neighbour
+pub heard_six : (ended : Bool) (s : AdjState) (h : HelloValue) (way : ThreeWay) → IsId h.source → IsId (if ended then down true else led_to s h way).neighbour
 heard_six true s h way six = refl
 heard_six false s h way six = led_six s h way six
 
@@ -45,7 +45,7 @@ second_six true ended a six = six
 second_six false true a six = refl
 second_six false false a six = six
 
-carrier_six : (on : Bool) (a : Adjacency) → IsId a.neighbour → IsId (after_carrier on a).neighbour
+pub carrier_six : (on : Bool) (a : Adjacency) → IsId a.neighbour → IsId (after_carrier on a).neighbour
 carrier_six true a six = six
 carrier_six false a six = refl
 
@@ -104,7 +104,7 @@ pub all_undue : (ports : List BridgePort) → AreSoundPorts ports → AreSoundPo
 all_undue [] all = all
 all_undue (port ∷ ports) all = (undue_sound port all.0, all_undue ports all.1)
 
-all_set : (ports : List BridgePort) (i : ℕ) (port : BridgePort) → AreSoundPorts ports → IsSoundPort port → AreSoundPorts (slice_set ports i port)
+pub all_set : (ports : List BridgePort) (i : ℕ) (port : BridgePort) → AreSoundPorts ports → IsSoundPort port → AreSoundPorts (slice_set ports i port)
 all_set [] i port all sound = all
 all_set (x ∷ ports) zero port all sound = (sound, all.1)
 all_set (x ∷ ports) (suc i) port all sound = (all.0, all_set ports i port all.1 sound)
@@ -176,7 +176,7 @@ configured_config c whole =
       few_isids = whole.few_isids;
     })
 
-all_dark : (metrics : List ℕ) → AllByRecursion IsMetric metrics → AreSoundPorts (map dark metrics)
+pub all_dark : (metrics : List ℕ) → AllByRecursion IsMetric metrics → AreSoundPorts (map dark metrics)
 all_dark [] each = tt
 all_dark (m ∷ ms) each = (record { adjacency = refl; neighbour = refl; due = λ e. absurd cc; metric = each.0 }, all_dark ms each.1)
 
