@@ -10,3 +10,6 @@ pub mod Listed
 pub mod Meeting
 pub mod Carriers
 pub mod UpPorts
+pub mod Saying
+pub mod Data
+pub mod Reading
