@@ -13,3 +13,5 @@ pub mod UpPorts
 pub mod Saying
 pub mod Data
 pub mod Reading
+pub mod StepsCarry
+pub mod Entering
