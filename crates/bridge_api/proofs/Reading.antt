@@ -1,87 +1,37 @@
--- What a frame that is heard was read from: octets, so that each field is of the right size.
-use Rattle.std.proofs.Common.{◌≡◌, inl, inr, ◌≤◌, ◌<◌, ◌+◌, ◌-◌, ◌*◌, ◌/◌, ◌%◌, ℕ, zero, suc, Bool, true, false, List, [], ◌∷◌, ◌++◌, length, map, take, drop, cond, eqb, refl, sym, ap, ◌∙◌, subst, Option, Some, None, Result, Ok, Err, arith}
+-- What is read from a frame of octets has the size that its fields can say.
+use Rattle.std.proofs.Common.{◌≡◌, ◌≤◌, ◌+◌, ◌-◌, ◌*◌, ◌/◌, ◌%◌, ℕ, zero, suc, Bool, true, false, List, [], ◌∷◌, ◌++◌, length, map, take, drop, refl, sym, ap, ◌∙◌, subst, Result, Ok, Err, arith}
+use Rattle.std.specs.Prelude.{min, nat_le, nat_lt, ◌&&◌, ◌==◌, if◌then◌else◌}
 use Rattle.std.specs.Str.{bytes_eq}
-use Rattle.std.specs.Prelude.{min, nat_le, nat_lt, ◌&&◌, ◌==◌, slice_get, slice_index, if◌then◌else◌}
-use Rattle.std.specs.List.{AllByRecursion, list_all, filter}
+use Rattle.std.specs.List.{AllByRecursion, filter}
 use Rattle.std.specs.Simd.{first_chunks}
-use Rattle.std.proofs.lemmas.Bool.{and_parts, leb-true, ltb-true, eqb-true, cases_lt}
-use Rattle.std.proofs.lemmas.List.{length-take, length-drop, length-take-le, get_or-drop, get_or-take, get_or_past}
-use Rattle.isis_pdu.specs.declared.pdu.PduError.{PduError}
-use Rattle.isis_pdu.specs.Pdu.{HelloValue, LspValue, CsnpValue, PsnpValue, PduValue, hello, lsp, csnp, psnp}
-use Rattle.isis_pdu.specs.Reading.{read}
-use Rattle.isis_pdu.specs.Grammar.{IsBytes, IsReadFrom}
-use Rattle.isis_pdu.proofs.Read.{read_is_spelled}
+use Rattle.std.proofs.lemmas.Bool.{and_parts, leb-true, eqb-true}
+use Rattle.std.proofs.lemmas.List.{length-take, length-drop, length-take-le}
+use Rattle.isis_pdu.specs.Pdu.{LspValue, CsnpValue, PsnpValue, lsp, csnp, psnp}
+use Rattle.isis_pdu.specs.Grammar.{IsId, IsBytes, HasFields}
 use Rattle.spb_tlvs.specs.declared.error.TlvError.{TlvError}
 use Rattle.spb_tlvs.specs.declared.error.TlvError.TheVariants.{Cut}
 use Rattle.spb_tlvs.specs.declared.entries.SnpEntry.{SnpEntry}
-use Rattle.spb_tlvs.specs.declared.three_way.ThreeWay.{ThreeWay}
 use Rattle.spb_tlvs.specs.Piece.{starts_whole, first_piece, after_first, piece_len, pieces, pieces_within}
 use Rattle.spb_tlvs.specs.Tlv.{Tlv, tlv_of, values_with}
-use Rattle.spb_tlvs.specs.ThreeWay.{three_way_of}
 use Rattle.spb_tlvs.specs.Entry.{entry_at, entries_of}
-use Rattle.itag_frames.specs.declared.frame.FrameError.{FrameError}
 use Rattle.itag_frames.specs.declared.frame.FrameError.TheVariants.{Short, NotBackbone}
-use Rattle.itag_frames.specs.Frame.{Content, content_in, is_control, control_address, llc, length_of, pdu_of}
+use Rattle.itag_frames.specs.Frame.{content_in, is_control, control_address, llc, length_of, pdu_of}
 use Rattle.itag_frames.specs.Frame as frames
+use Rattle.flooding.specs.Laws.{IsWhole}
+use Rattle.flooding.proofs.SendableEntries.{read_is_whole}
 use Rattle.snp_sync.specs.Sized.{IsSizedLine}
 use Rattle.snp_sync.specs.Reading.{before_others, entries_in_all, entries_in}
-use Rattle.bridge_api.specs.Judging.{Judged, Frame, useless, greeting, link_state, complete, partial, tenant, by_reading, by_three_way, by_pdu, by_content, is_octets, judged}
-
--- ---- octets
+use Rattle.bridge_api.specs.Judging.{link_state, complete, partial, judged}
+use Rattle.bridge_api.proofs.Octets.{bytes_small, small_bytes, small_take, small_drop}
+use Rattle.bridge_api.proofs.Heard.{pdu_in, IsHeardPdu, heard_pdu}
 
 octets_drop : (n : ℕ) (bytes : List ℕ) → IsBytes bytes → IsBytes (drop n bytes)
-octets_drop n bytes octets i = rw get_or-drop (octets (n + i))
+octets_drop n bytes octets = small_bytes (drop n bytes) (small_drop n bytes (bytes_small bytes octets))
 
 octets_take : (n : ℕ) (bytes : List ℕ) → IsBytes bytes → IsBytes (take n bytes)
-octets_take n bytes octets i =
-    elim (cases_lt i n) [
-      | inl below ↦ rw (get_or-take n bytes i 0 below) (octets i)
-      | inr above ↦ rw (get_or_past (take n bytes) i 0 (omega (arith, length-take n bytes))) (omega arith)
-    ]
+octets_take n bytes octets = small_bytes (take n bytes) (small_take n bytes (bytes_small bytes octets))
 
-pub are_octets : (bytes : List ℕ) → is_octets bytes ≡ true → IsBytes bytes
-are_octets [] all i = omega arith
-are_octets (b ∷ bytes) all zero = ltb-true b 256 (and_parts (nat_lt b 256) (is_octets bytes) all).0
-are_octets (b ∷ bytes) all (suc i) = are_octets bytes (and_parts (nat_lt b 256) (is_octets bytes) all).1 i
-
--- ---- the PDU of a frame
-
--- the PDU that a frame was taken for
-abbrev pub pdu_in : Judged → Option PduValue
-pdu_in (useless reason) = None
-pdu_in (greeting h way) = Some (hello h)
-pdu_in (link_state l) = Some (lsp l)
-pdu_in (complete c) = Some (csnp c)
-pdu_in (partial s) = Some (psnp s)
-pdu_in (tenant da sa vid isid customer) = None
-
--- it was read from so many octets at most
-pub record WasRead (p : PduValue) : Type 0 where
-  pub bytes : List ℕ
-  pub octets : IsBytes bytes
-  pub short : length bytes ≤ 1497
-  pub is : read bytes ≡ Ok p
-
-abbrev some_pdu : PduValue → Option PduValue
-some_pdu p = Some p
-
-same_pdu : (p q : PduValue) → some_pdu p ≡ some_pdu q → p ≡ q
-same_pdu p q e = cc
-
-reading_pdu : (h : HelloValue) (r : Result ThreeWay TlvError) (p : PduValue) → pdu_in (by_reading h r) ≡ Some p → hello h ≡ p
-reading_pdu h (Ok way) p e = same_pdu (hello h) p e
-reading_pdu h (Err t) p e = absurd cc
-
-three_way_pdu : (h : HelloValue) (o : Option (List ℕ)) (p : PduValue) → pdu_in (by_three_way h o) ≡ Some p → hello h ≡ p
-three_way_pdu h None p e = absurd cc
-three_way_pdu h (Some value) p e = reading_pdu h (three_way_of value) p e
-
-pdu_read : (r : Result PduValue PduError) (p : PduValue) → pdu_in (by_pdu r) ≡ Some p → r ≡ Ok p
-pdu_read (Err t) p e = absurd cc
-pdu_read (Ok (hello h)) p e = ap (λ (q : PduValue). Ok q) (three_way_pdu h (slice_get (values_with 240 h.tlvs) 0) p e)
-pdu_read (Ok (lsp l)) p e = ap (λ (q : PduValue). Ok q) (same_pdu (lsp l) p e)
-pdu_read (Ok (csnp c)) p e = ap (λ (q : PduValue). Ok q) (same_pdu (csnp c) p e)
-pdu_read (Ok (psnp s)) p e = ap (λ (q : PduValue). Ok q) (same_pdu (psnp s) p e)
+-- ---- an LSP
 
 -- a control frame has a PDU of at most 1,497 bytes
 short_pdu : (frame : List ℕ) → is_control frame ≡ true → length (pdu_of frame) ≤ 1497
@@ -95,29 +45,28 @@ short_pdu frame control =
     let taken : length (pdu_of frame) ≡ min (length_of frame - 3) (length (drop 17 frame)) = length-take (length_of frame - 3) (drop 17 frame) in
     omega (arith, few, taken)
 
-control_read : (frame : List ℕ) (control : Bool) (p : PduValue) → IsBytes frame → is_control frame ≡ control → pdu_in (by_content (if control then Ok (frames.Pdu (pdu_of frame)) else Err NotBackbone)) ≡ Some p → WasRead p
-control_read frame true p octets is e = record {
-  bytes = pdu_of frame;
-  octets = octets_take (length_of frame - 3) (drop 17 frame) (octets_drop 17 frame octets);
-  short = short_pdu frame is;
-  is = pdu_read (read (pdu_of frame)) p e;
-}
-control_read frame false p octets is e = absurd cc
+short_at : (short control : Bool) (frame pdu : List ℕ) → is_control frame ≡ control → (if short then Err Short else (if control then Ok (frames.Pdu (pdu_of frame)) else Err NotBackbone)) ≡ Ok (frames.Pdu pdu) → length pdu ≤ 1497
+short_at true control frame pdu is e = absurd cc
+short_at false true frame pdu is e = let same : pdu_of frame ≡ pdu = cc in subst (λ (p : List ℕ). length p ≤ 1497) same (short_pdu frame is)
+short_at false false frame pdu is e = absurd cc
 
-content_read : (frame : List ℕ) (short : Bool) (p : PduValue) → IsBytes frame → pdu_in (by_content (if short then Err Short else (if is_control frame then Ok (frames.Pdu (pdu_of frame)) else Err NotBackbone))) ≡ Some p → WasRead p
-content_read frame true p octets e = absurd cc
-content_read frame false p octets e = control_read frame (is_control frame) p octets refl e
+pub pdu_is_short : (frame pdu : List ℕ) → content_in frame ≡ Ok (frames.Pdu pdu) → length pdu ≤ 1497
+pdu_is_short frame pdu e = short_at (nat_lt (length frame) 17) (is_control frame) frame pdu refl e
 
-frame_read : (frame : List ℕ) (all : Bool) (p : PduValue) → is_octets frame ≡ all → pdu_in (if all then by_content (content_in frame) else useless Frame) ≡ Some p → WasRead p
-frame_read frame true p is e = content_read frame (nat_lt (length frame) 17) p (are_octets frame is) e
-frame_read frame false p is e = absurd cc
+-- so an LSP that is heard can be written again, and its fields are of the right size
+pub record IsHeardLsp (l : LspValue) : Type 0 where
+  pub whole : IsWhole l
+  pub id : IsId l.id.system
+  pub fields : HasFields (lsp l)
 
-pub was_read : (frame : List ℕ) (p : PduValue) → pdu_in (judged frame) ≡ Some p → WasRead p
-unfolding judged
-was_read frame p e = frame_read frame (is_octets frame) p refl e
-
-pub read_from : (p : PduValue) (was : WasRead p) → IsReadFrom was.bytes p
-read_from p was = read_is_spelled was.bytes p was.octets was.is
+pub heard_lsp : (frame : List ℕ) (l : LspValue) → judged frame ≡ link_state l → IsHeardLsp l
+heard_lsp frame l is =
+    let heard : IsHeardPdu frame (lsp l) = heard_pdu frame (lsp l) (ap pdu_in is) in
+    record {
+      whole = read_is_whole heard.pdu l heard.octets (pdu_is_short frame heard.pdu heard.is) heard.read_as;
+      id = heard.from.pdu.ids;
+      fields = heard.from.fields;
+    }
 
 -- ---- the entries of a sequence numbers PDU
 
@@ -194,3 +143,9 @@ values_octets code bytes octets = chosen_octets code (pieces_within (length byte
 
 pub entries_sized : (tlvs : List ℕ) (es : List SnpEntry) → IsBytes tlvs → entries_in tlvs ≡ Ok es → AllByRecursion IsSizedLine es
 entries_sized tlvs es octets e = values_sized (values_with 9 tlvs) es (values_octets 9 tlvs octets) e
+
+pub heard_csnp : (frame : List ℕ) (c : CsnpValue) (es : List SnpEntry) → judged frame ≡ complete c → entries_in c.tlvs ≡ Ok es → AllByRecursion IsSizedLine es
+heard_csnp frame c es is e = entries_sized c.tlvs es (heard_pdu frame (csnp c) (ap pdu_in is)).from.fields.3 e
+
+pub heard_psnp : (frame : List ℕ) (s : PsnpValue) (es : List SnpEntry) → judged frame ≡ partial s → entries_in s.tlvs ≡ Ok es → AllByRecursion IsSizedLine es
+heard_psnp frame s es is e = entries_sized s.tlvs es (heard_pdu frame (psnp s) (ap pdu_in is)).from.fields.1 e
