@@ -14,3 +14,5 @@ pub mod Saying
 pub mod Data
 pub mod Reading
 pub mod DataSteps
+pub mod StepsCarry
+pub mod Entering
