@@ -1,5 +1,5 @@
 use Rattle.bridge_api.proofs.Hellos.{hellos_are_heard, sent_with_carrier}
-use Rattle.bridge_api.proofs.laws.hellos_are_heard.Goals as goal
+use Rattle.bridge_api.proofs.laws.frames_are_heard.Goals as goal
 
 pub returns-clause-heard : goal.returns-clause-heard
 returns-clause-heard c = hellos_are_heard c.control_again.ensures
