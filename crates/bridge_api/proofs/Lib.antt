@@ -14,5 +14,6 @@ pub mod Saying
 pub mod Data
 pub mod Reading
 pub mod DataSteps
+pub mod Sound
 pub mod StepsCarry
 pub mod Entering
