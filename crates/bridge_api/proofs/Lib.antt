@@ -17,3 +17,5 @@ pub mod DataSteps
 pub mod Sound
 pub mod StepsCarry
 pub mod Entering
+pub mod Spelled
+pub mod Frames
