@@ -1,5 +1,5 @@
 -- Each frame that a bridge sends is one of its hellos, or claims what the bridge holds.
-use Rattle.std.proofs.Common.{◌≡◌, ◌⊎◌, inl, inr, ◌≤◌, ◌+◌, ◌-◌, ℕ, zero, suc, Bool, true, false, List, [], ◌∷◌, ◌++◌, length, map, filter, refl, sym, ap, ◌∙◌, subst, Option, Some, None, Result, Ok, Err, arith}
+use Rattle.std.proofs.Common.{◌≡◌, inl, inr, ◌≤◌, ◌+◌, ◌-◌, ℕ, suc, Bool, true, false, List, [], ◌∷◌, ◌++◌, length, map, filter, refl, sym, ap, ◌∙◌, subst, Option, Some, None, Result, Ok, arith}
 use Rattle.std.specs.Prelude.{slice_get, nat_le, if◌then◌else◌}
 use Rattle.std.specs.Option.{option_map, option_and_then}
 use Rattle.std.specs.List.{AllByRecursion}
@@ -8,7 +8,6 @@ use Rattle.std.proofs.lemmas.List.{length-map}
 use Rattle.std.proofs.lemmas.Option.{slice_get-map, slice_get_within}
 use Rattle.std.proofs.lemmas.Bool.{le-leb}
 use Rattle.spb_types.specs.declared.address.SystemId.{SystemId}
-use Rattle.spb_types.specs.declared.address.BridgeId.{BridgeId}
 use Rattle.spb_types.specs.declared.address.LspId.{LspId}
 use Rattle.spb_types.specs.declared.ports.PortSet.{PortSet}
 use Rattle.spb_types.specs.Ports.{has}
@@ -29,13 +28,13 @@ use Rattle.lsdb.proofs.Order.{itself}
 use Rattle.lsdb.proofs.LookupLemmas.{get-each}
 use Rattle.flooding.specs.Hearing.{claim_of}
 use Rattle.flooding.specs.Sending.{lsp_in, lsps_to_send}
-use Rattle.flooding.specs.Entries.{IsSendable, AllEntries, AreSendable}
+use Rattle.flooding.specs.Entries.{IsSendable, AllEntries}
 use Rattle.snp_sync.specs.Line.{is_owed}
 use Rattle.snp_sync.specs.Parts.{line_tlvs}
 use Rattle.snp_sync.specs.Reading.{entries_in}
-use Rattle.snp_sync.specs.Sized.{IsLspId, AreSized, IsSizedLine}
+use Rattle.snp_sync.specs.Sized.{IsLspId, IsSizedLine}
 use Rattle.snp_sync.specs.Sending.{Page, csnp_for, psnp_for, csnp_pages, csnps_of, psnp_parts, psnps_of, settled, all_settled}
-use Rattle.snp_sync.specs.Hearing.{claim_in, claims_in}
+use Rattle.snp_sync.specs.Hearing.{claims_in}
 use Rattle.snp_sync.specs.SendingLaws.{ClaimsWhatIsHeld}
 use Rattle.snp_sync.proofs.Ranges.{of_entries, pages_are_short, pages_end_at_ids, parts_are_short}
 use Rattle.snp_sync.proofs.Said.{line_claims_what_is_held, page_lines_are_read, page_lines_are_sized, pages_claim_what_is_held, part_lines_are_read, part_lines_are_sized, parts_claim_what_is_held}
@@ -44,16 +43,17 @@ use Rattle.adjacency.specs.declared.state.AdjState.TheVariants.{Down, Initializi
 use Rattle.adjacency.specs.States.{number_of}
 use Rattle.adjacency.specs.Adjacency.{neighbour_of, said}
 use Rattle.bridge_api.specs.declared.port.BridgePort.{BridgePort}
-use Rattle.bridge_api.specs.View.{BridgeView, port_in, port_at, neighbour_at, is_port_up, up_ports}
+use Rattle.bridge_api.specs.View.{BridgeView, port_in, neighbour_at, is_port_up, up_ports}
 use Rattle.bridge_api.specs.Judging.{Judged, useless, greeting, link_state, complete, partial, judged, is_octets, by_content, greeting_in}
 use Rattle.bridge_api.specs.Judging as drop
 use Rattle.bridge_api.specs.Hearing.{with_due}
 use Rattle.bridge_api.specs.Ticking.{later, readied, hello_at, hello_frame, lsp_frame, csnp_frame, psnp_frame, greetings_at, summaries_at, lsps_at, requests_at, synced_at, sent_at, told_at, sent_from, told_from, told, after_tick, sent_in_tick}
-use Rattle.bridge_api.specs.Step.{second}
-use Rattle.bridge_api.specs.Laws.{IsSoundView, HasDatabase, IsSent, IsHelloOf, IsFrameOf, claims_or_none, claims_said, FramesAreSound}
+use Rattle.bridge_api.specs.Laws.{IsSent, IsHelloOf, IsFrameOf, claims_or_none, claims_said, FramesAreSound}
 use Rattle.bridge_api.proofs.Changes.{readied_ports, readied_rest}
 use Rattle.bridge_api.proofs.Spelled.{lsp_taken, csnp_taken, psnp_taken}
 use Rattle.bridge_api.proofs.Data.{IsSoundData, lsps_of, told_at_keeps}
+use Rattle.bridge_api.proofs.DataSteps.{readied_holds}
+use Rattle.bridge_api.proofs.Hellos.{hello_content, sent_either}
 
 -- ---- lists
 
@@ -150,15 +150,6 @@ psnp_says again w p db system part mine same few sized read held =
     })
 
 -- ---- which frames are sent at a port
-
-sent_either : (first rest : List (ℕ × List ℕ)) (p : ℕ) (bytes : List ℕ) → IsSent (first ++ rest) p bytes → IsSent first p bytes ⊎ IsSent rest p bytes
-sent_either [] rest p bytes some = inr some
-sent_either (s ∷ first) rest p bytes (inl here) = inl (inl here)
-sent_either (s ∷ first) rest p bytes (inr there) =
-    elim (sent_either first rest p bytes there) [
-      | inl before ↦ inl (inr before)
-      | inr after ↦ inr after
-    ]
 
 -- what is so of each frame is so of one that is sent
 sent_one : {X : Type 0} (P : List ℕ → Type 0) (f : X → List ℕ) (k : ℕ) (xs : List X) (p : ℕ) (bytes : List ℕ) → AllByRecursion (λ x. P (f x)) xs → IsSent (map (λ x. (k, f x)) xs) p bytes → P bytes
@@ -274,22 +265,18 @@ sent_says again w p bytes k (port ∷ ports) db can hellos some =
           ]
     ]
 
--- a hello is taken for what it is
-abbrev HelloIsTaken : Type 0
-HelloIsTaken = (system : SystemId) (p : ℕ) (port : BridgePort) → length system.mac.bytes ≡ 6 → p ≤ 32 → IsNamed (neighbour_of port.adjacency)
-    → by_content (content_in (hello_frame system p port)) ≡ greeting (hello_at system p port) (said p port.adjacency)
-
+-- a hello is one of the bridge
 state_low : (s : AdjState) → number_of s ≤ 2
 state_low Down = omega arith
 state_low Initializing = omega arith
 state_low Up = omega arith
 
-hello_says : HelloIsTaken → (w : BridgeView) (p : ℕ) (port : BridgePort) → IsId w.id.system → p ≤ 32 → IsNamed (neighbour_at w p) → neighbour_at w p ≡ neighbour_of port.adjacency → IsFrameOf w p (hello_frame w.id.system p port)
-hello_says taken w p port mine low named kept =
+hello_says : ControlAgain → (w : BridgeView) (p : ℕ) (port : BridgePort) → IsId w.id.system → p ≤ 32 → IsNamed (neighbour_at w p) → neighbour_at w p ≡ neighbour_of port.adjacency → IsFrameOf w p (hello_frame w.id.system p port)
+hello_says again w p port mine low named kept =
     let h : HelloValue = hello_at w.id.system p port in
     let way : ThreeWay = said p port.adjacency in
     let own : IsHelloOf w p h way = record { sender = refl; level = refl; holding = refl; state = state_low port.adjacency.state; neighbour = sym kept } in
-    frame_of w p (hello_frame w.id.system p port) (greeting h way) (taken w.id.system p port mine low (subst IsNamed kept named)) (record {
+    frame_of w p (hello_frame w.id.system p port) (greeting h way) (hello_content again w.id.system p port mine low (subst IsNamed kept named)) (record {
       hello = λ other name e.
           let same_hello : h ≡ other = cc in
           let same_name : way ≡ name = cc in
@@ -306,16 +293,16 @@ kept_told r p i port is same =
     let there : port_in (map (with_due false) r.ports) p ≡ Some (with_due false port) = rw (low, place) (slice_get-map (with_due false) r.ports i ∙ ap (λ (o : Option BridgePort). option_map (with_due false) o) is) in
     ap (λ (o : Option BridgePort). option_and_then (λ (x : BridgePort). neighbour_of x.adjacency) o) there
 
-pub frames_are_sound : ControlAgain → HelloIsTaken → ((v : BridgeView) → IsSoundView v → HasDatabase (readied v)) → FramesAreSound
+pub frames_are_sound : ControlAgain → FramesAreSound
 unfolding after_tick sent_in_tick
-frames_are_sound again taken readied_keeps v p bytes was named some =
+frames_are_sound again v p bytes was named some =
     let r : BridgeView = readied v in
     let w : BridgeView = told r in
     let mine : IsId r.id.system = ap (λ (u : BridgeView). length u.id.system.mac.bytes) (readied_rest v) ∙ was.config.system.bytes in
     let many : length r.ports ≡ length v.ports = ap length (readied_ports v) ∙ length-map v.ports later in
-    let can : CanTell w r.database = record { up = up_ports r; sound = lsps_of r (readied_keeps v was); same = λ id. sym (told_version 1 r.ports r.database id); mine = mine } in
+    let can : CanTell w r.database = record { up = up_ports r; sound = lsps_of r (readied_holds v was); same = λ id. sym (told_version 1 r.ports r.database id); mine = mine } in
     sent_says again w p bytes 1 r.ports r.database can
     (λ i port is same.
     let within = slice_get_within r.ports i port is in
-    hello_says taken w p port mine (omega (arith, within, many, was.few, same)) named (kept_told r p i port is same))
+    hello_says again w p port mine (omega (arith, within, many, was.few, same)) named (kept_told r p i port is same))
     some

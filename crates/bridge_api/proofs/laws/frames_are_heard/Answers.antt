@@ -1,10 +1,9 @@
-use Rattle.bridge_api.proofs.DataSteps.{readied_holds}
 use Rattle.bridge_api.proofs.Frames.{frames_are_sound}
-use Rattle.bridge_api.proofs.Hellos.{hello_content, hellos_are_heard, sent_with_carrier}
+use Rattle.bridge_api.proofs.Hellos.{hellos_are_heard, sent_with_carrier}
 use Rattle.bridge_api.proofs.laws.frames_are_heard.Goals as goal
 
 pub returns-clause-sound : goal.returns-clause-sound
-returns-clause-sound c = frames_are_sound c.control_again.ensures (hello_content c.control_again.ensures) readied_holds
+returns-clause-sound c = frames_are_sound c.control_again.ensures
 
 pub returns-clause-heard : goal.returns-clause-heard
 returns-clause-heard c = hellos_are_heard c.control_again.ensures
