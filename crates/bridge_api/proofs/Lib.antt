@@ -14,5 +14,8 @@ pub mod Saying
 pub mod Data
 pub mod Reading
 pub mod DataSteps
+pub mod Sound
 pub mod StepsCarry
 pub mod Entering
+pub mod Spelled
+pub mod Frames
