@@ -1,17 +1,17 @@
 -- The database of a bridge stays sound in each part of a step.
 use Rattle.std.proofs.Common.{◌≡◌, ◌≢◌, ◌⊎◌, inl, inr, ◌≤◌, ◌+◌, ◌-◌, ℕ, zero, suc, Bool, true, false, List, [], ◌∷◌, length, map, refl, sym, ap, ◌∙◌, subst, Option, Some, None, arith, ⊎_elim}
-use Rattle.std.specs.Prelude.{nat_le, ◌||◌, ◌&&◌, not, ◌==◌, slice_get, slice_set, if◌then◌else◌}
+use Rattle.std.specs.Prelude.{nat_le, ◌||◌, ◌&&◌, not, slice_get, slice_set, if◌then◌else◌}
 use Rattle.std.specs.Option.{option_map}
 use Rattle.std.specs.List.{AllByRecursion}
 use Rattle.std.specs.FinMap.{get}
-use Rattle.std.proofs.lemmas.Bool.{and_parts, true≢false, false≢true, cases_eq, le-leb}
+use Rattle.std.proofs.lemmas.Bool.{true≢false, false≢true, cases_eq, le-leb}
 use Rattle.std.proofs.lemmas.List.{length-map, length-set}
 use Rattle.std.proofs.lemmas.Option.{slice_get_within, slice_get-map}
 use Rattle.spb_types.specs.declared.address.SystemId.{SystemId}
 use Rattle.spb_types.specs.declared.address.LspId.{LspId}
 use Rattle.spb_types.specs.declared.ports.PortSet.{PortSet}
 use Rattle.spb_types.specs.Ports.{has, with_port, without_port}
-use Rattle.spb_types.proofs.PortLemmas.{has_port, has-with_same, has-with_other, has-without_same, has-without_other}
+use Rattle.spb_types.proofs.PortLemmas.{has_port, has-with_other, has-without_same, has-without_other}
 use Rattle.isis_pdu.specs.Pdu.{LspValue, CsnpValue, lsp}
 use Rattle.isis_pdu.specs.Grammar.{IsId, HasFields}
 use Rattle.spb_tlvs.specs.declared.entries.SnpEntry.{SnpEntry}
@@ -33,11 +33,11 @@ use Rattle.flooding.proofs.Steps.{hearing_lsp, origination}
 use Rattle.snp_sync.specs.Line.{is_owed}
 use Rattle.snp_sync.specs.Sending.{settled as told_entry, all_settled}
 use Rattle.snp_sync.specs.Sized.{IsLspId, IsSized, IsSizedLine, AreSized}
-use Rattle.snp_sync.specs.Hearing.{claim_in, claims_in, hear_entries_of, hear_csnp_of}
+use Rattle.snp_sync.specs.Hearing.{claims_in, hear_entries_of, hear_csnp_of}
 use Rattle.snp_sync.proofs.Fields.{flags_keep_sized, entries_keep_sized, csnp_keeps_sized, lsp_keeps_sized, origination_keeps_sized, ageing_keeps_sized}
 use Rattle.snp_sync.proofs.Stays.{claims_are_numbered, entries_keep_sendable, csnp_keeps_sendable, entries_keep_flags, csnp_keeps_flags}
 use Rattle.snp_sync.proofs.Served.{entries_are_certified, csnp_is_certified}
-use Rattle.spb_content.proofs.Members.{Has, all_has}
+use Rattle.spb_content.proofs.Members.{Has}
 use Rattle.bridge_api.specs.declared.port.BridgePort.{BridgePort}
 use Rattle.bridge_api.specs.View.{BridgeView, port_in, port_at, with_port_at, is_port_up, is_up_in, up_from, up_ports}
 use Rattle.bridge_api.specs.Own.{own_of, own_entry, holding_of, is_said, originating, settled}
@@ -366,9 +366,9 @@ all_parted_flags (p ∷ ps) up next e range stay flags =
     let mid : PortSet = without_port up p in
     let parts : HasFlagsAt mid (parted p e) = parted_flags up mid p low high (λ q apart on. has-without_other up p q low high apart ∙ on) e flags in
     all_parted_flags ps mid next (parted p e) range.1 (λ q on. ⊎_elim
-      (λ here. absurd (true≢false (sym on ∙ (ap (has mid) here ∙ has-without_same up p low high))))
-      (λ apart. elim (stay q (sym (has-without_other up p q low high apart) ∙ on)) [ inl h ↦ elim h [ inl here ↦ absurd (apart here) | inr among ↦ inl among ] | inr up ↦ inr up ])
-      (cases_eq q p)) parts
+    (λ here. absurd (true≢false (sym on ∙ (ap (has mid) here ∙ has-without_same up p low high))))
+    (λ apart. elim (stay q (sym (has-without_other up p q low high apart) ∙ on)) [ inl h ↦ elim h [ inl here ↦ absurd (apart here) | inr among ↦ inl among ] | inr up ↦ inr up ])
+    (cases_eq q p)) parts
 
 all_parted_sendable : (ps : List ℕ) (x : LspId) (e : Entry) → IsSendable x e → IsSendable x (parted_all ps e)
 all_parted_sendable [] x e s = s

@@ -1,8 +1,8 @@
 -- The database of a bridge stays sound in every step.
-use Rattle.std.proofs.Common.{◌≡◌, ◌≢◌, inl, inr, ◌≤◌, ◌+◌, ◌-◌, ℕ, zero, suc, Bool, true, false, List, [], ◌∷◌, length, map, refl, sym, ap, ◌∙◌, subst, Option, Some, None, arith}
-use Rattle.std.specs.Prelude.{is_some, nat_lt, ◌==◌, ◌||◌, slice_get, slice_set, if◌then◌else◌}
-use Rattle.std.specs.FinMap.{get, empty, get-empty, len, len-empty, contains_key}
-use Rattle.std.proofs.lemmas.Bool.{le-leb, false≢true}
+use Rattle.std.proofs.Common.{◌≡◌, ◌≢◌, inl, inr, ◌≤◌, ◌+◌, ◌-◌, ℕ, Bool, true, false, List, [], ◌∷◌, length, map, refl, sym, ap, ◌∙◌, subst, Option, Some, None, arith}
+use Rattle.std.specs.Prelude.{is_some, nat_lt, ◌==◌, ◌||◌, slice_set, if◌then◌else◌}
+use Rattle.std.specs.FinMap.{get, empty, get-empty, len, len-empty}
+use Rattle.std.proofs.lemmas.Bool.{le-leb}
 use Rattle.std.proofs.lemmas.List.{length-map, length-set}
 use Rattle.std.proofs.lemmas.Option.{slice_get_within}
 use Rattle.spb_types.specs.declared.address.LspId.{LspId}
@@ -13,11 +13,10 @@ use Rattle.isis_pdu.specs.Grammar.{IsId}
 use Rattle.spb_tlvs.specs.declared.three_way.ThreeWay.{ThreeWay}
 use Rattle.lsdb.specs.Version.{number_of, is_absent}
 use Rattle.lsdb.specs.Entry.{Entry}
-use Rattle.lsdb.specs.Database.{Lsps, id_cmp, version_in, version_at, fits}
-use Rattle.flooding.specs.declared.own.Own.{Own}
+use Rattle.lsdb.specs.Database.{id_cmp, version_in, fits}
 use Rattle.flooding.specs.Own.{own_id, renewed}
 use Rattle.flooding.specs.Hearing.{Holding}
-use Rattle.flooding.specs.Origination.{next_entry, originated}
+use Rattle.flooding.specs.Origination.{next_entry}
 use Rattle.flooding.specs.Entries.{AllEntries}
 use Rattle.flooding.specs.Laws.{HasBody}
 use Rattle.flooding.proofs.Owns.{originated_stands, origination_leaves_others}
@@ -29,7 +28,7 @@ use Rattle.adjacency.specs.declared.state.Heard.TheVariants.{Kept, CameUp, LeftU
 use Rattle.adjacency.specs.declared.port.Adjacency.{Adjacency}
 use Rattle.adjacency.specs.Hearing.{is_discarded, sender}
 use Rattle.adjacency.specs.States.{next_state, state_numbered}
-use Rattle.adjacency.specs.Adjacency.{IsSound, state_towards, after_hello, after_heard, after_carrier, change_of, heard_of}
+use Rattle.adjacency.specs.Adjacency.{IsSound, state_towards, after_heard, after_carrier, change_of}
 use Rattle.bridge_api.specs.declared.port.BridgePort.{BridgePort}
 use Rattle.bridge_api.specs.declared.config.BridgeConfig.{BridgeConfig}
 use Rattle.bridge_api.specs.View.{BridgeView, port_in, port_at, with_port_at, is_port_up, is_up_in, up_from, up_ports}
@@ -38,11 +37,11 @@ use Rattle.bridge_api.specs.Config.{IsWhole, IsMetric, dark, bare, configured}
 use Rattle.bridge_api.specs.Hearing.{with_due, with_adjacency, left, joined_at, changed_at, flooded, completed, requested, greeted, after_receive, carried_at, with_carrier, metered, with_metric}
 use Rattle.bridge_api.specs.Ticking.{later, counted, expired, readied, after_tick}
 use Rattle.bridge_api.specs.Step.{Input, second, frame, carrier, metric, step}
-use Rattle.bridge_api.specs.Laws.{IsSoundPort, HasConfig, HasDatabase, IsSoundView, IsInput, HoldsOwnAlone, ConfiguredHoldsOwn}
+use Rattle.bridge_api.specs.Laws.{IsSoundPort, HasConfig, HasDatabase, IsSoundView, IsInput, ConfiguredHoldsOwn}
 use Rattle.bridge_api.proofs.Places.{got_at}
-use Rattle.bridge_api.proofs.Adjacent.{came_up, stayed_up, hello_sound, carrier_sound, not_discarded}
-use Rattle.bridge_api.proofs.Changes.{KeepsRest, found, Flooded, Completed, Requested, Greeted, frame_step, idle, by_hello, by_lsp, by_csnp, by_psnp, carrier_step, metric_step, settled_ports, configured_is, tick_is}
-use Rattle.bridge_api.proofs.SoundPorts.{AreSoundPorts, all_set, heard_six, carrier_six, metered_sound, undue_sound, sound_at, source_six, all_later, all_dark, config_kept, configured_config}
+use Rattle.bridge_api.proofs.Adjacent.{came_up, stayed_up, hello_sound, carrier_sound}
+use Rattle.bridge_api.proofs.Changes.{KeepsRest, found, Flooded, Completed, Requested, frame_step, idle, by_hello, by_lsp, by_csnp, by_psnp, carrier_step, metric_step, settled_ports, tick_is}
+use Rattle.bridge_api.proofs.SoundPorts.{AreSoundPorts, all_set, heard_six, carrier_six, metered_sound, sound_at, source_six, all_later, all_dark, config_kept}
 use Rattle.bridge_api.proofs.Saying.{has_body}
 use Rattle.bridge_api.proofs.Data.{CanOriginate, own_named, up_at, settled_keeps, refreshed_keeps, lsp_keeps, csnp_keeps, psnp_keeps, moved_keeps, left_keeps, joined_at_keeps, counted_keeps, expired_keeps, told_keeps}
 use Rattle.bridge_api.proofs.Reading.{heard_lsp, heard_csnp, heard_psnp}

@@ -1,5 +1,5 @@
 -- What is read from a frame of octets has the size that its fields can say.
-use Rattle.std.proofs.Common.{◌≡◌, ◌≤◌, ◌+◌, ◌-◌, ◌*◌, ◌/◌, ◌%◌, ℕ, zero, suc, Bool, true, false, List, [], ◌∷◌, ◌++◌, length, map, take, drop, refl, sym, ap, ◌∙◌, subst, Result, Ok, Err, arith}
+use Rattle.std.proofs.Common.{◌≡◌, ◌≤◌, ◌+◌, ◌-◌, ◌*◌, ◌/◌, ◌%◌, ℕ, zero, suc, Bool, true, false, List, [], ◌∷◌, ◌++◌, length, map, take, drop, refl, ap, subst, Result, Ok, Err, arith}
 use Rattle.std.specs.Prelude.{min, nat_le, nat_lt, ◌&&◌, ◌==◌, if◌then◌else◌}
 use Rattle.std.specs.Str.{bytes_eq}
 use Rattle.std.specs.List.{AllByRecursion, filter}
@@ -12,7 +12,7 @@ use Rattle.spb_tlvs.specs.declared.error.TlvError.{TlvError}
 use Rattle.spb_tlvs.specs.declared.error.TlvError.TheVariants.{Cut}
 use Rattle.spb_tlvs.specs.declared.entries.SnpEntry.{SnpEntry}
 use Rattle.spb_tlvs.specs.Piece.{starts_whole, first_piece, after_first, piece_len, pieces, pieces_within}
-use Rattle.spb_tlvs.specs.Tlv.{Tlv, tlv_of, values_with}
+use Rattle.spb_tlvs.specs.Tlv.{tlv_of, values_with}
 use Rattle.spb_tlvs.specs.Entry.{entry_at, entries_of}
 use Rattle.itag_frames.specs.declared.frame.FrameError.TheVariants.{Short, NotBackbone}
 use Rattle.itag_frames.specs.Frame.{content_in, is_control, control_address, llc, length_of, pdu_of}
@@ -85,9 +85,10 @@ entry_sized bytes whole octets =
 
 chunks_sized : (k : ℕ) (bytes : List ℕ) → length bytes ≡ 16 * k → IsBytes bytes → AllByRecursion IsSizedLine (map entry_at (first_chunks 16 k bytes))
 chunks_sized zero bytes whole octets = tt
-chunks_sized (suc k) bytes whole octets =
-    (entry_sized (take 16 bytes) (length-take-le 16 bytes (omega (arith, whole))) (octets_take 16 bytes octets),
-      chunks_sized k (drop 16 bytes) (omega (arith, whole, length-drop 16 bytes)) (octets_drop 16 bytes octets))
+chunks_sized (suc k) bytes whole octets = (
+  entry_sized (take 16 bytes) (length-take-le 16 bytes (omega (arith, whole))) (octets_take 16 bytes octets),
+  chunks_sized k (drop 16 bytes) (omega (arith, whole, length-drop 16 bytes)) (octets_drop 16 bytes octets),
+)
 
 abbrev done : List SnpEntry → Result (List SnpEntry) TlvError
 done es = Ok es

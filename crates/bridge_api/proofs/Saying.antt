@@ -11,7 +11,6 @@ use Rattle.spb_types.specs.declared.service.Attachment.{Attachment}
 use Rattle.spb_tlvs.specs.Capability.{IsTree}
 use Rattle.spb_tlvs.specs.RoundTrip.{IsNeighbour}
 use Rattle.flooding.specs.Laws.{HasBody}
-use Rattle.spb_content.specs.declared.local.Local.{Local}
 use Rattle.spb_content.specs.Local.{IsLocal, IsAttached, AreVidsApart, AreInOneVid, isid_number, isids_in, content_bytes}
 use Rattle.spb_content.specs.Laws.{HasFields, AreConfigured, Fits}
 use Rattle.spb_content.proofs.Members.{Has, all_has, weaker, has_map, map_has, contains_from_has}
