@@ -43,7 +43,7 @@ use Rattle.bridge_api.specs.Laws.{claims_or_none, claims_said, StepsCarryDatabas
 use Rattle.bridge_api.proofs.Adjacent.{second_up, up_since}
 use Rattle.bridge_api.proofs.Places.{got_at}
 use Rattle.bridge_api.proofs.Changes.{found, one_port, settled_ports}
-use Rattle.bridge_api.proofs.UpPorts.{up_ports_from}
+use Rattle.bridge_api.proofs.Data.{up_at, port_range, undue_up}
 
 -- ---- certificates
 
@@ -85,11 +85,8 @@ then_settled port claims v u step = and_then port claims (control_of v) (control
 
 -- ---- one port changed
 
-pub up_is : (ports : List BridgePort) (p : ℕ) → length ports ≤ 32 → has (up_from 1 ports) p ≡ is_up_in (port_in ports p)
-up_is ports p few = up_ports_from 1 ports p (omega arith) (omega (arith, few))
-
 up_set : (ports : List BridgePort) (q : ℕ) (to : BridgePort) (p : ℕ) → length ports ≤ 32 → has (up_from 1 (slice_set ports (q - 1) to)) p ≡ is_up_in (port_in (slice_set ports (q - 1) to) p)
-up_set ports q to p few = up_is (slice_set ports (q - 1) to) p (omega (arith, length-set ports (q - 1) to, few))
+up_set ports q to p few = up_at (slice_set ports (q - 1) to) p (omega (arith, length-set ports (q - 1) to, few))
 
 -- where the port of number q changed, any other port is Up if it was
 up_beside : (ports : List BridgePort) (q : ℕ) (from to : BridgePort) (p : ℕ) → length ports ≤ 32 → 1 ≤ q → slice_get ports (q - 1) ≡ Some from → p ≢ q → has (up_from 1 (slice_set ports (q - 1) to)) p ≡ has (up_from 1 ports) p
@@ -99,7 +96,7 @@ up_beside ports q from to p few low is apart =
       | inl here ↦ absurd (apart here.0)
       | inr same ↦ ap is_up_in same
     ]
-    ∙ sym (up_is ports p few))
+    ∙ sym (up_at ports p few))
 
 -- and that one by what it became
 up_here : (ports : List BridgePort) (q : ℕ) (from to : BridgePort) → length ports ≤ 32 → 1 ≤ q → slice_get ports (q - 1) ≡ Some from → has (up_from 1 (slice_set ports (q - 1) to)) q ≡ is_port_up to
@@ -127,16 +124,15 @@ pub record Stood (v : BridgeView) (q : ℕ) (port : BridgePort) : Type 0 where
 
 pub stood : (v : BridgeView) (q : ℕ) (port : BridgePort) → length v.ports ≤ 32 → port_at v q ≡ Some port → Stood v q port
 stood v q port few there =
-    let at = found v.ports q port there in
-    let within = slice_get_within v.ports (q - 1) port at.1 in
-    record { few = few; low = at.0; high = omega (arith, within, few); is = at.1 }
+    let range = port_range v.ports q port few there in
+    record { few = few; low = range.0; high = range.1; is = (found v.ports q port there).1 }
 
 -- the port stays as it was, Up or not, or is Up no longer
 kept_carries : (q : ℕ) (old new : BridgePort) (v : BridgeView) → Stood v q old → (is_port_up new ≡ true → is_port_up old ≡ true) → Certificate 0 [] (control_of v) (control_of (with_port_at q new v))
 kept_carries q old new v at kept =
     narrowed 0 [] (up_ports v) (up_ports v) (up_ports v) (up_ports (with_port_at q new v)) v.database v.database
     (λ p up. elim (up_after v.ports q old new p at.few at.low at.is up) [
-      | inl here ↦ up_is v.ports p at.few ∙ (ap (λ (k : ℕ). is_up_in (port_in v.ports k)) here.0 ∙ (rw (le-leb 1 q at.low) (ap is_up_in at.is) ∙ kept here.1))
+      | inl here ↦ up_at v.ports p at.few ∙ (ap (λ (k : ℕ). is_up_in (port_in v.ports k)) here.0 ∙ (rw (le-leb 1 q at.low) (ap is_up_in at.is) ∙ kept here.1))
       | inr other ↦ other.1
     ])
     (λ p up was. was) (standing 0 [] (control_of v))
@@ -276,7 +272,7 @@ where_up true q claims v w step = step refl
 where_up false q claims v w step = standing q claims (control_of v)
 
 port_is_up : (q : ℕ) (port : BridgePort) (v : BridgeView) → length v.ports ≤ 32 → port_at v q ≡ Some port → is_port_up port ≡ true → has (up_ports v) q ≡ true
-port_is_up q port v few there up = up_is v.ports q few ∙ (ap is_up_in there ∙ up)
+port_is_up q port v few there up = up_at v.ports q few ∙ (ap is_up_in there ∙ up)
 
 kind_carries : (j : Judged) (q : ℕ) (port : BridgePort) (v : BridgeView) → length v.ports ≤ 32 → port_at v q ≡ Some port → Certificate q (claims_said j) (control_of v) (control_of (heard_as j q port v))
 kind_carries (useless reason) q port v few there = standing q [] (control_of v)
@@ -343,13 +339,13 @@ later_stays ports p up i port is same =
 counted_carries : (v : BridgeView) → length v.ports ≤ 32 → Certificate 0 [] (control_of v) (control_of (counted v))
 counted_carries v few =
     let gone : List ℕ = leaving_from 1 v.ports in
-    let up_then : (p : ℕ) → has (up_ports (counted v)) p ≡ true → is_up_in (port_in (map later v.ports) p) ≡ true = λ p up. sym (up_is (map later v.ports) p (omega (arith, length-map v.ports later, few))) ∙ up in
+    let up_then : (p : ℕ) → has (up_ports (counted v)) p ≡ true → is_up_in (port_in (map later v.ports) p) ≡ true = λ p up. sym (up_at (map later v.ports) p (omega (arith, length-map v.ports later, few))) ∙ up in
     changing_each 0 [] (up_ports v) (up_ports (counted v)) v.database (λ id e. parted_all gone e)
     (λ id e. record {
       rises = subst (λ (a : Version). IsAtMost e.version a) (sym (parted_version gone e)) (itself e.version);
       kept = λ p up.
           let still = up_then p up in
-          let was : has (up_ports v) p ≡ true = up_is v.ports p few ∙ later_in (nat_le 1 p) v.ports (p - 1) still in
+          let was : has (up_ports v) p ≡ true = up_at v.ports p few ∙ later_in (nat_le 1 p) v.ports (p - 1) still in
           let same : has (parted_all gone e).srm p ≡ has e.srm p = parted_beside gone e p (avoids 1 v.ports p (omega arith) (omega (arith, few)) (later_stays v.ports p still)) in
           ⊎_elim (λ t. is_flagged t) (λ f. is_as_before was (sym same ∙ f) (parted_version gone e)) (cases_Bool (has (parted_all gone e).srm p));
     })
@@ -367,14 +363,9 @@ told_from_carries up p (port ∷ ports) db =
     steps_compose 0 [] [] (record { up = up; db = db }) (record { up = up; db = told_at p port db }) (record { up = up; db = told_from p (port ∷ ports) db })
     (told_once (is_port_up port) up p port db refl) (told_from_carries up (p + 1) ports (told_at p port db))
 
--- CSNPs that are due or not change no set of Up ports
-up_due : (p : ℕ) (ports : List BridgePort) → up_from p (map (with_due false) ports) ≡ up_from p ports
-up_due p [] = refl
-up_due p (port ∷ ports) = ap (λ (set : PortSet). if is_port_up port then with_port set p else set) (up_due (p + 1) ports)
-
 told_carries : (v : BridgeView) → Certificate 0 [] (control_of v) (control_of (told v))
 told_carries v =
-    subst (λ (up : PortSet). Certificate 0 [] (control_of v) (record { up = up; db = (told v).database })) (sym (up_due 1 v.ports)) (told_from_carries (up_ports v) 1 v.ports v.database)
+    subst (λ (up : PortSet). Certificate 0 [] (control_of v) (record { up = up; db = (told v).database })) (sym (undue_up 1 v.ports)) (told_from_carries (up_ports v) 1 v.ports v.database)
 
 readied_carries : (v : BridgeView) → length v.ports ≤ 32 → Certificate 0 [] (control_of v) (control_of (readied v))
 readied_carries v few =
