@@ -1,8 +1,9 @@
 -- The ports of a bridge and its configuration stay sound.
 use Rattle.std.proofs.Common.{◌≡◌, inl, inr, ◌-◌, ℕ, zero, suc, Bool, true, false, List, [], ◌∷◌, map, refl, sym, ap, ◌∙◌, subst, Option, Some, None}
-use Rattle.std.specs.Prelude.{slice_get, slice_set, nat_le, ◌==◌, ◌&&◌, if◌then◌else◌}
+use Rattle.std.specs.Prelude.{slice_get, slice_set, nat_le, ◌==◌, if◌then◌else◌}
 use Rattle.std.specs.List.{AllByRecursion}
 use Rattle.std.proofs.lemmas.List.{length-map}
+use Rattle.std.proofs.lemmas.Bool.{and_parts}
 use Rattle.isis_pdu.specs.Pdu.{HelloValue, hello}
 use Rattle.isis_pdu.specs.Grammar.{IsId}
 use Rattle.spb_tlvs.specs.declared.three_way.ThreeWay.{ThreeWay}
@@ -76,15 +77,11 @@ carried_sound on port was = change_sound port (after_carrier on port.adjacency) 
 pub metered_sound : (m : ℕ) (port : BridgePort) → IsMetric m → IsSoundPort port → IsSoundPort (metered m port)
 metered_sound m port is was = record { adjacency = was.adjacency; neighbour = was.neighbour; due = was.due; metric = is }
 
-both_true : (a b : Bool) → (a && b) ≡ true → b ≡ true
-both_true true b e = e
-both_true false b e = absurd cc
-
 pub later_sound : (port : BridgePort) → IsSoundPort port → IsSoundPort (later port)
 later_sound port was = record {
   adjacency = second_sound port.adjacency was.adjacency;
   neighbour = second_six (is_down port.adjacency.state) (port.adjacency.hold == 1) port.adjacency was.neighbour;
-  due = λ e. both_true port.due (is_port_up (with_adjacency (after_second port.adjacency) port)) e;
+  due = λ e. (and_parts port.due (is_port_up (with_adjacency (after_second port.adjacency) port)) e).1;
   metric = was.metric;
 }
 
