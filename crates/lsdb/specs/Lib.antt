@@ -5,3 +5,4 @@ pub mod Place
 pub mod Certificate
 pub mod CertificateLaws
 pub mod Laws
+pub mod Errors

@@ -50,11 +50,15 @@ pub enum PutError {
 }
 
 impl fmt::Display for PutError {
+    ghost use Rattle.lsdb.specs.Errors.{put_error_text};
+
+    ghost output = { λ e. Some (put_error_text e) };
+
     fn fmt<W: fmt::Write>(&self, f: &mut fmt::Formatter<W>) -> fmt::Result {
-        f.write_str(match self {
-            PutError::Full => "the database is full",
-            PutError::NoMemory => "out of memory",
-        })
+        match self {
+            PutError::Full => f.write_str("the database is full"),
+            PutError::NoMemory => f.write_str("out of memory"),
+        }
     }
 }
 
