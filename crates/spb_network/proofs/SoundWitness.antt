@@ -1,5 +1,5 @@
 -- A network with a frame on its way over a link that is up.
-use Rattle.std.proofs.Common.{ℕ, zero, suc, ◌<◌, true, List, [], ◌∷◌, refl, sym, subst, arith}
+use Rattle.std.proofs.Common.{ℕ, zero, suc, ◌<◌, true, List, [], ◌∷◌, ◌++◌, refl, sym, subst, arith}
 use Rattle.spb_types.specs.declared.address.Mac.{Mac}
 use Rattle.spb_types.specs.declared.service.SourceId.{SourceId}
 use Rattle.isis_pdu.specs.Grammar.{IsBytes}
@@ -40,14 +40,9 @@ declarations =
     ∷ command.Link (108 ∷ []) (97 ∷ []) 1 (98 ∷ []) 1 10
     ∷ []
 
+-- and then a second of the first bridge
 abbrev script : List Command
-script =
-    command.Vid 100 1
-    ∷ command.Bridge (97 ∷ []) 32768 (system 1) (source 1) 1
-    ∷ command.Bridge (98 ∷ []) 32768 (system 2) (source 2) 1
-    ∷ command.Link (108 ∷ []) (97 ∷ []) 1 (98 ∷ []) 1 10
-    ∷ command.Tick (97 ∷ [])
-    ∷ []
+script = declarations ++ command.Tick (97 ∷ []) ∷ []
 
 accepted : AreAccepted start script
 unfolding next_state reason_unless vid_refusal bridge_refusal link_refusal is_vid_range is_new_name is_new_system is_new_source is_bridge_range is_free_port is_link_range is_unlinked with_vid with_bridge with_link with_live next_box way_out stepped switched_on with_vid_more declared_refusal named_link_refusal unnamed_refusal declared linked named_link at_bridge

@@ -118,7 +118,12 @@ impl<B: Bridge> NetworkOf<B> {
 
     /// An end of the link at a place gets another metric, which its bridge is told.
     #[tactic(auto, unfolding(crate::specs::Events::remetered))]
-    pub(crate) fn set_metric(&mut self, place: usize, side: Side, metric: u32) -> Result<(), NoMemory>
+    pub(crate) fn set_metric(
+        &mut self,
+        place: usize,
+        side: Side,
+        metric: u32,
+    ) -> Result<(), NoMemory>
         requires order { IsInOrder B.kind_of B.blank B.view self.old }
         requires metric { IsMetric metric }
         ensures state { OnOk result (state_of B.kind_of B.blank B.view self.new

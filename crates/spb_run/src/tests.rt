@@ -120,8 +120,9 @@ l 0200000000020000 live 1199 1 69bb srm - ssn -
 #[test]
 fn a_database_is_told_in_order_of_id(rt: HostRuntime) -> Result<(), Fail> {
     let alloc = rt.alloc();
-    let script =
-        format!(in alloc; "{UP_AT_A}tick A\ndeliver L1 ab\ndeliver L1 ab\ndeliver L1 ab\ndb B\n")?;
+    let script = format!(in alloc;
+        "{UP_AT_A}tick A\ndeliver L1 ab\ndeliver L1 ab\ndeliver L1 ab\ndb B\n"
+    )?;
     check(
         &rt,
         alloc,

@@ -1,7 +1,6 @@
-use Rattle.std.proofs.Common.{◌≡◌, ◌∷◌, [], ◌++◌, length, take, slice_get, Some, None, ℕ, suc, List, sym, ap, ◌∙◌, arith}
+use Rattle.std.proofs.Common.{◌≡◌, ◌∷◌, [], ◌++◌, length, take, slice_get, Some, None, ℕ, suc, sym, ap, ◌∙◌, arith}
 use Rattle.std.specs.Option.{option_map, option_copied}
 use Rattle.std.specs.FinMap.{entries}
-use Rattle.lsdb.specs.declared.held.DbRow.{DbRow}
 use Rattle.lsdb.specs.Database.{Lsps, keyed}
 use Rattle.spb_network.specs.Play.{row_of, rows_of}
 use Rattle.spb_network.proofs.ListLemmas.{length-push}
