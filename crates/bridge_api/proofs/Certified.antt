@@ -176,4 +176,3 @@ steps_keep_neighbours (metric q m) v p n kept =
       | inl e ↦ inl (subst (λ (u : BridgeView). neighbour_at u p ≡ Some n) e kept)
       | inr g ↦ no_cause q p (one_keeps v (with_metric q m v) q g.port (metered m g.port) p n ⊥ g.there (ap (λ (u : BridgeView). u.ports) g.after ∙ metered_ports q m g.port v) (λ was. inl was) kept)
     ]
-

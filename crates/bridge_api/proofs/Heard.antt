@@ -1,8 +1,8 @@
 -- What a frame that is heard was read from.
-use Rattle.std.proofs.Common.{◌≡◌, ℕ, ◌-◌, Bool, true, false, List, length, take, drop, refl, sym, ap, ◌∙◌, subst, Option, Some, None, Result, Ok, Err}
+use Rattle.std.proofs.Common.{◌≡◌, ℕ, ◌-◌, Bool, true, false, List, length, drop, refl, ap, subst, Option, Some, None, Result, Ok, Err}
 use Rattle.std.specs.Prelude.{if◌then◌else◌, nat_lt, slice_get}
 use Rattle.isis_pdu.specs.declared.pdu.PduError.{PduError}
-use Rattle.isis_pdu.specs.Pdu.{HelloValue, LspValue, CsnpValue, PsnpValue, PduValue, hello, lsp, csnp, psnp}
+use Rattle.isis_pdu.specs.Pdu.{HelloValue, PduValue, hello, lsp, csnp, psnp}
 use Rattle.isis_pdu.specs.Reading.{read}
 use Rattle.isis_pdu.specs.Grammar.{IsBytes, IsReadFrom}
 use Rattle.isis_pdu.proofs.Read.{read_is_spelled}
@@ -34,7 +34,6 @@ pub record IsHeardPdu (bytes : List ℕ) (p : PduValue) : Type 0 where
   pub octets : IsBytes pdu
   pub read_as : read pdu ≡ Ok p
   pub from : IsReadFrom pdu p
-
 
 -- its octets are those of the frame
 pdu_is_at : (short control : Bool) (bytes pdu : List ℕ) → (if short then Err refusals.Short else (if control then Ok (frames.Pdu (pdu_of bytes)) else Err refusals.NotBackbone)) ≡ Ok (frames.Pdu pdu) → pdu_of bytes ≡ pdu

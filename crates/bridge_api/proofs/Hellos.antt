@@ -1,15 +1,15 @@
 -- The hellos that are sent are heard as such.
-use Rattle.std.proofs.Common.{◌≡◌, ◌⊎◌, inl, inr, ◌≤◌, ◌<◌, ◌+◌, ◌-◌, ◌/◌, ◌%◌, ℕ, zero, suc, Bool, true, false, List, [], ◌∷◌, ◌++◌, length, map, refl, sym, ap, ◌∙◌, subst, Option, Some, None, Ok, arith, length-append}
+use Rattle.std.proofs.Common.{◌≡◌, ◌⊎◌, inl, inr, ◌≤◌, ◌<◌, ◌+◌, ◌-◌, ℕ, zero, suc, Bool, true, false, List, [], ◌∷◌, ◌++◌, length, map, refl, sym, ap, ◌∙◌, subst, Option, Some, None, Ok, arith, length-append}
 use Rattle.std.specs.Prelude.{slice_get, nat_le, IsTrue, if◌then◌else◌}
 use Rattle.std.specs.Int.{w16, to_be_bytes}
 use Rattle.std.specs.Option.{option_map, option_and_then}
-use Rattle.std.proofs.lemmas.List.{append-nil, append_assoc, length-map}
+use Rattle.std.proofs.lemmas.List.{append-nil, append_assoc}
 use Rattle.std.proofs.lemmas.Option.{slice_get-map, slice_get_within}
 use Rattle.std.proofs.lemmas.Bool.{le-leb}
 use Rattle.spb_types.specs.declared.address.Mac.{Mac}
 use Rattle.spb_types.specs.declared.address.SystemId.{SystemId}
 use Rattle.spb_types.specs.declared.address.BridgeId.{BridgeId}
-use Rattle.isis_pdu.specs.Pdu.{HelloValue, CsnpValue, PsnpValue, LspValue, hello}
+use Rattle.isis_pdu.specs.Pdu.{HelloValue, CsnpValue, hello}
 use Rattle.isis_pdu.specs.Tlvs.{is_whole, is_whole_after}
 use Rattle.isis_pdu.specs.Bytes.{u16_bytes}
 use Rattle.isis_pdu.specs.Spelling.{hello_bytes}
@@ -43,7 +43,7 @@ use Rattle.bridge_api.specs.Laws.{IsSoundPort, IsSent, AreOctets, HellosAreHeard
 use Rattle.bridge_api.proofs.Changes.{found, readied_ports, readied_rest, ticked, tick_port, when_true}
 use Rattle.bridge_api.proofs.Carriers.{later_carrier}
 use Rattle.bridge_api.proofs.Octets.{AreSmall, octets_small, bytes_small, small_both}
-use Rattle.bridge_api.proofs.SoundPorts.{AreSoundPorts, all_later, all_at}
+use Rattle.bridge_api.proofs.SoundPorts.{all_later, all_at}
 
 -- ---- the TLVs of a hello
 

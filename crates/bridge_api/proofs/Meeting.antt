@@ -1,8 +1,7 @@
 -- Two bridges that hear each other come up.
-use Rattle.std.proofs.Common.{◌≡◌, ◌≢◌, ◌≤◌, ◌<◌, ℕ, Bool, true, false, List, [], ◌∷◌, ◌++◌, length, map, refl, sym, ap, ◌∙◌, subst, Some, None, arith}
+use Rattle.std.proofs.Common.{◌≡◌, ◌≢◌, ◌≤◌, ◌<◌, ℕ, Bool, true, false, List, [], ◌∷◌, ◌++◌, length, map, refl, sym, ap, ◌∙◌, subst, Some, arith}
 use Rattle.std.specs.Prelude.{◌==◌, slice_get, slice_set, slice_index, if◌then◌else◌}
 use Rattle.std.proofs.lemmas.Slice.Eq.{bytes_eq-Decides}
-use Rattle.spb_types.specs.declared.address.BridgeId.{BridgeId}
 use Rattle.spb_types.specs.declared.address.SystemId.{SystemId}
 use Rattle.spb_types.specs.Address.{same_system}
 use Rattle.isis_pdu.specs.Pdu.{HelloValue}
@@ -19,9 +18,9 @@ use Rattle.adjacency.specs.Adjacency.{down, keeping, led_to, no_system, neighbou
 use Rattle.bridge_api.specs.declared.port.BridgePort.{BridgePort}
 use Rattle.bridge_api.specs.declared.config.BridgeConfig.{BridgeConfig}
 use Rattle.bridge_api.specs.View.{BridgeView, port_in, is_up_in, is_up_at}
-use Rattle.bridge_api.specs.Config.{IsWhole, dark, bare, configured}
+use Rattle.bridge_api.specs.Config.{IsWhole, dark, configured}
 use Rattle.bridge_api.specs.Judging.{Judged, judged, greeting}
-use Rattle.bridge_api.specs.Hearing.{with_adjacency, heard_as, greeted, after_receive, carried_at, with_carrier}
+use Rattle.bridge_api.specs.Hearing.{with_adjacency, heard_as, greeted, carried_at}
 use Rattle.bridge_api.specs.Ports.{greeted_port, carried_port}
 use Rattle.bridge_api.specs.Ticking.{later, readied, hello_tlvs, hello_at, hello_frame, synced_at, sent_from, told_at, sent_in_tick}
 use Rattle.bridge_api.specs.Step.{second, frame, carrier, sent, step}
@@ -115,8 +114,8 @@ hears again me other a b v w sv sw lit_v lit_w six from named octets =
       id = ap (λ (u : BridgeView). u.id.system) (made ∙ greeted_rest h way 1 sv.port v) ∙ sv.id;
       is = ap (λ (u : BridgeView). u.ports) made ∙ (greeted_ports h way 1 sv.port v there ∙ ap (λ (list : List BridgePort). slice_set list 0 (greeted_port v.id.system 1 h way sv.port)) sv.is);
       adjacency =
-        noted_keeps (heard_of v.id.system 1 h way sv.port.adjacency) (with_adjacency (after_hello v.id.system 1 h way sv.port.adjacency) sv.port)
-        ∙ (λ i. after_hello (sv.id i) 1 h way (sv.adjacency i));
+          noted_keeps (heard_of v.id.system 1 h way sv.port.adjacency) (with_adjacency (after_hello v.id.system 1 h way sv.port.adjacency) sv.port)
+          ∙ (λ i. after_hello (sv.id i) 1 h way (sv.adjacency i));
     }
 
 up_first : (v : BridgeView) (system : SystemId) (a : Adjacency) → Starts system a v → is_up a.state ≡ true → is_up_at v 1 ≡ true

@@ -1,9 +1,7 @@
 -- Lists of octets.
-use Rattle.std.proofs.Common.{◌≡◌, ℕ, zero, suc, ◌≤◌, ◌<◌, ◌+◌, ◌*◌, ◌/◌, ◌%◌, Bool, true, false, List, [], ◌∷◌, ◌++◌, length, take, drop, refl, sym, ap, ◌∙◌, arith}
-use Rattle.std.specs.Prelude.{◌&&◌, nat_lt}
-use Rattle.std.specs.List.{list_all}
-use Rattle.std.specs.Int.{w16, to_be_bytes}
-use Rattle.std.proofs.lemmas.Bool.{ltb-true, lt-ltb}
+use Rattle.std.proofs.Common.{◌≡◌, ℕ, zero, suc, ◌<◌, true, List, [], ◌∷◌, ◌++◌, take, drop, refl, arith}
+use Rattle.std.specs.Prelude.{nat_lt}
+use Rattle.std.proofs.lemmas.Bool.{and_parts, ltb-true, lt-ltb}
 use Rattle.isis_pdu.specs.Grammar.{IsBytes}
 use Rattle.bridge_api.specs.Judging.{is_octets}
 
@@ -12,13 +10,9 @@ abbrev pub AreSmall : List ℕ → Type 0
 AreSmall [] = Unit {0}
 AreSmall (b ∷ bs) = (b < 256) × AreSmall bs
 
-both_true : (a b : Bool) → (a && b) ≡ true → (a ≡ true) × (b ≡ true)
-both_true true b e = (refl, e)
-both_true false b e = absurd cc
-
 pub small_octets : (bs : List ℕ) → is_octets bs ≡ true → AreSmall bs
 small_octets [] all = tt
-small_octets (b ∷ bs) all = let parts = both_true (nat_lt b 256) (is_octets bs) all in (ltb-true b 256 parts.0, small_octets bs parts.1)
+small_octets (b ∷ bs) all = let parts = and_parts (nat_lt b 256) (is_octets bs) all in (ltb-true b 256 parts.0, small_octets bs parts.1)
 
 pub octets_small : (bs : List ℕ) → AreSmall bs → is_octets bs ≡ true
 octets_small [] small = refl

@@ -1,6 +1,5 @@
 -- A configured bridge is sound, and stays so.
-use Rattle.std.proofs.Common.{length, arith}
-use Rattle.bridge_api.specs.View.{BridgeView}
+use Rattle.std.proofs.Common.{arith}
 use Rattle.bridge_api.specs.Step.{step}
 use Rattle.bridge_api.specs.Laws.{ConfiguredIsSound, StepsStaySound}
 use Rattle.bridge_api.proofs.Certified.{steps_keep_bridge, step_rest}

@@ -1,8 +1,9 @@
 -- The ports of a bridge and its configuration stay sound.
-use Rattle.std.proofs.Common.{◌≡◌, inl, inr, ◌≤◌, ◌-◌, ℕ, zero, suc, Bool, true, false, List, [], ◌∷◌, length, map, refl, sym, ap, ◌∙◌, subst, Option, Some, None, arith}
-use Rattle.std.specs.Prelude.{slice_get, slice_set, nat_le, ◌==◌, ◌&&◌, if◌then◌else◌}
+use Rattle.std.proofs.Common.{◌≡◌, inl, inr, ◌-◌, ℕ, zero, suc, Bool, true, false, List, [], ◌∷◌, map, refl, sym, ap, ◌∙◌, subst, Option, Some, None}
+use Rattle.std.specs.Prelude.{slice_get, slice_set, nat_le, ◌==◌, if◌then◌else◌}
 use Rattle.std.specs.List.{AllByRecursion}
 use Rattle.std.proofs.lemmas.List.{length-map}
+use Rattle.std.proofs.lemmas.Bool.{and_parts}
 use Rattle.isis_pdu.specs.Pdu.{HelloValue, hello}
 use Rattle.isis_pdu.specs.Grammar.{IsId}
 use Rattle.spb_tlvs.specs.declared.three_way.ThreeWay.{ThreeWay}
@@ -13,19 +14,19 @@ use Rattle.adjacency.specs.declared.state.Heard.TheVariants as did
 use Rattle.adjacency.specs.declared.port.Adjacency.{Adjacency}
 use Rattle.adjacency.specs.States.{next_state, state_numbered}
 use Rattle.adjacency.specs.Hearing.{is_discarded, sender}
-use Rattle.adjacency.specs.Adjacency.{IsSound, down, led_to, state_towards, is_down, after_hello, after_heard, after_second, after_carrier, change_of}
+use Rattle.adjacency.specs.Adjacency.{IsSound, down, led_to, state_towards, is_down, after_heard, after_second, after_carrier, change_of}
 use Rattle.bridge_api.specs.declared.port.BridgePort.{BridgePort}
 use Rattle.bridge_api.specs.declared.config.BridgeConfig.{BridgeConfig}
 use Rattle.bridge_api.specs.View.{BridgeView, port_at, neighbour_at, is_port_up, has_carrier_in, has_carrier_at, metrics_of}
-use Rattle.bridge_api.specs.Config.{IsWhole, IsMetric, dark, bare, configured}
+use Rattle.bridge_api.specs.Config.{IsWhole, IsMetric, dark, configured}
 use Rattle.bridge_api.specs.Judging.{judged, greeting}
 use Rattle.bridge_api.specs.Hearing.{with_due, with_adjacency, after_receive, with_carrier, metered, with_metric}
 use Rattle.bridge_api.specs.Ports.{noted, greeted_port, carried_port}
-use Rattle.bridge_api.specs.Ticking.{later, after_tick}
+use Rattle.bridge_api.specs.Ticking.{later}
 use Rattle.bridge_api.specs.Step.{Input, second, frame, carrier, metric, step}
 use Rattle.bridge_api.specs.Laws.{IsSoundPort, HasConfig, IsInput, ConfiguredIsDark}
 use Rattle.bridge_api.proofs.Adjacent.{came_up, stayed_up, hello_sound, second_sound, carrier_sound, not_discarded}
-use Rattle.bridge_api.proofs.Changes.{KeepsRest, with_parts, with_lsps, found, Greeted, frame_ports, greeted_ports, carrier_step, carried_ports, metric_step, metered_ports, ticked, tick_ports, configured_is, configured_ports}
+use Rattle.bridge_api.proofs.Changes.{KeepsRest, found, frame_ports, greeted_ports, carrier_step, carried_ports, metric_step, metered_ports, tick_ports, configured_is, configured_ports}
 use Rattle.bridge_api.proofs.Certified.{end_in}
 use Rattle.bridge_api.proofs.Heard.{pdu_in, heard_pdu}
 
@@ -76,15 +77,11 @@ carried_sound on port was = change_sound port (after_carrier on port.adjacency) 
 pub metered_sound : (m : ℕ) (port : BridgePort) → IsMetric m → IsSoundPort port → IsSoundPort (metered m port)
 metered_sound m port is was = record { adjacency = was.adjacency; neighbour = was.neighbour; due = was.due; metric = is }
 
-both_true : (a b : Bool) → (a && b) ≡ true → b ≡ true
-both_true true b e = e
-both_true false b e = absurd cc
-
 pub later_sound : (port : BridgePort) → IsSoundPort port → IsSoundPort (later port)
 later_sound port was = record {
   adjacency = second_sound port.adjacency was.adjacency;
   neighbour = second_six (is_down port.adjacency.state) (port.adjacency.hold == 1) port.adjacency was.neighbour;
-  due = λ e. both_true port.due (is_port_up (with_adjacency (after_second port.adjacency) port)) e;
+  due = λ e. (and_parts port.due (is_port_up (with_adjacency (after_second port.adjacency) port)) e).1;
   metric = was.metric;
 }
 
