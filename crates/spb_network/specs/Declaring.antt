@@ -141,5 +141,6 @@ links_metered on m [] k = []
 links_metered on m (l ∷ ls) zero = (l.0, link_metered on m l.1) ∷ ls
 links_metered on m (l ∷ ls) (suc k) = l ∷ links_metered on m ls k
 
+-- so has one in what is declared
 unfoldable pub with_end_metric : Side → ℕ → World → ℕ → World
 with_end_metric on m w k = record w { links = links_metered on m w.links k }

@@ -70,11 +70,12 @@ metered s e = stepped (comes.metric e.port e.metric) s e.bridge
 abbrev pub metered_over : State → DeclaredLink → State
 metered_over s l = metered (metered s l.a) l.b
 
--- an end of a link has another metric, and its bridge is told it
+-- the bridge at an end of a link is told the metric there
 abbrev pub metered_on : Side → State → Option DeclaredLink → State
 metered_on side s None = s
 metered_on side s (Some l) = metered s (end_on side l)
 
+-- an end of the link at place k gets this metric, and its bridge is told it
 unfoldable pub remetered : State → ℕ → Side → ℕ → State
 remetered s k side m = let t : State = record s { world = with_end_metric side m s.world k } in metered_on side t (slice_get (links_of t) k)
 

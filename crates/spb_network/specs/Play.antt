@@ -122,6 +122,7 @@ row_of e = record { id = e.0; version = e.1.version; lifetime = e.1.lifetime; sr
 abbrev pub rows_of : Lsps → List DbRow
 rows_of db = map row_of (entries db)
 
+-- those of the bridge at place i
 abbrev pub db_at : State → ℕ → List DbRow
 db_at s i = option_map_or (λ v. rows_of v.database) (slice_get s.views i) []
 
