@@ -10,6 +10,7 @@ use Rattle.spb_network.specs.declared.declaration.DeclaredBridge.{DeclaredBridge
 use Rattle.spb_network.specs.World.{World, Sound}
 use Rattle.spb_network.specs.Declaring.{is_bridge_address}
 use Rattle.spb_network.specs.Play.{config_of}
+use Rattle.spb_network.specs.SoundLaws.{IsAddress}
 use Rattle.spb_network.proofs.ListLemmas.{and-left, and-right, not-true}
 
 length-replicate : {X : Type 0} (n : ℕ) (x : X) → length (replicate n x) ≡ n
@@ -31,17 +32,18 @@ vids-apart (p ∷ ps) h = (other-vids p ps h.0, vids-apart ps h.1)
 eq-zero : (n : ℕ) → (n == 0) ≡ true → n ≡ 0
 eq-zero n h = grind (arith, nat_tests)
 
-own-mac : (mac : Mac) → length mac.bytes ≡ 6 → is_bridge_address mac ≡ true → IsOwnMac mac
-own-mac mac six h = record { bytes = six; individual = eq-zero _ (and-left _ _ h); some = not-true _ (and-right _ _ h) }
+own-mac : (mac : Mac) → IsAddress mac → is_bridge_address mac ≡ true → IsOwnMac mac
+own-mac mac six h = record { bytes = six.bytes; octets = six.octets; individual = eq-zero _ (and-left _ _ h); some = not-true _ (and-right _ _ h) }
 
-pub whole-config : (w : World) (b : DeclaredBridge) → Sound w → b.ports ≤ 32 → b.bridge.source.value < 1048576 → length b.bridge.id.system.mac.bytes ≡ 6 → is_bridge_address b.bridge.id.system.mac ≡ true → IsWhole (config_of w b)
-whole-config w b sound ports source six address = record {
+pub whole-config : (w : World) (b : DeclaredBridge) → Sound w → b.ports ≤ 32 → b.bridge.id.priority < 65536 → b.bridge.source.value < 1048576 → IsAddress b.bridge.id.system.mac → is_bridge_address b.bridge.id.system.mac ≡ true → IsWhole (config_of w b)
+whole-config w b sound ports priority source six address = record {
   ports = ports;
   metrics = length-replicate b.ports 1;
   each_metric = ones b.ports;
   few_vids = sound.few_vids;
   each_vid = sound.each_vid;
   vids_apart = vids-apart w.vids sound.plans.apart;
+  priority = priority;
   system = own-mac b.bridge.id.system.mac six address;
   source = source;
   each_attachment = tt;

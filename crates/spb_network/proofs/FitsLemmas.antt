@@ -8,14 +8,15 @@ use Rattle.scenario.specs.declared.command.Dir.{Dir}
 use Rattle.scenario.specs.declared.command.Dir.TheVariants.{Ab, Ba}
 use Rattle.bridge_api.specs.Step as comes
 use Rattle.bridge_api.specs.Step.{Input, step, sent}
-use Rattle.bridge_api.proofs.Certified.{steps_keep_bridge}
+use Rattle.spb_network.proofs.BridgeLaws.{steps_keep_bridge}
 use Rattle.spb_network.specs.declared.declaration.DeclaredBridge.{DeclaredBridge}
 use Rattle.spb_network.specs.declared.declaration.DeclaredLink.{DeclaredLink}
 use Rattle.spb_network.specs.declared.declaration.LinkEnd.{LinkEnd}
 use Rattle.spb_network.specs.declared.way.Way.{Way}
 use Rattle.spb_network.specs.World.{Bridges, Links, things_of, ports_at, IsEnd, IsLink, Sound}
 use Rattle.spb_network.specs.Lanes.{rest}
-use Rattle.spb_network.specs.Declaring.{switched, with_live}
+use Rattle.scenario.specs.declared.command.Side.{Side}
+use Rattle.spb_network.specs.Declaring.{switched, with_live, links_metered, with_end_metric}
 use Rattle.spb_network.specs.State.{State, changed_at, links_of, is_live, near_end, far_end, way_out, lane_at, with_frames}
 use Rattle.spb_network.specs.Events.{sent_over, sent_all, stepped, ticked, heard_over, delivered_front, delivered, lost, doubled, carried, carried_over, metered, flushed, switched_off, switched_on, ticked_from, delivered_times, lane_served, served_from, one_round, rounds, first_full_from, delivered_over, delivered_first, drained}
 use Rattle.spb_network.specs.Network.{Fits, IsPortAt}
@@ -101,6 +102,15 @@ alike_stepped input s i =
 pub alike_with_live : (on : Bool) (s : State) (k : ℕ) → IsAlike s (record s { world = with_live on s.world k })
 unfolding with_live
 alike_with_live on s k = record { bridges = refl; links = length-switched on s.world.links k; ports = refl; lanes = refl }
+
+length-metered : (on : Side) (m : ℕ) (ls : Links) (k : ℕ) → length (links_metered on m ls k) ≡ length ls
+length-metered on m [] k = refl
+length-metered on m (l ∷ ls) zero = refl
+length-metered on m (l ∷ ls) (suc k) = grind (arith, length-metered on m ls k)
+
+pub Fits-with_end_metric : (on : Side) (m : ℕ) (s : State) (k : ℕ) → Fits s → Fits (record s { world = with_end_metric on m s.world k })
+unfolding with_end_metric
+Fits-with_end_metric on m s k fits = record { bridges = fits.bridges; lanes = fits.lanes ∙ sym (length-metered on m s.world.links k); ports = fits.ports }
 
 pub alike_flushed : (s : State) (k : ℕ) → IsAlike s (flushed s k)
 alike_flushed s k = record { bridges = refl; links = refl; ports = refl; lanes = length-changed _ s.lanes k }

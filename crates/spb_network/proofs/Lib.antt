@@ -7,6 +7,7 @@ pub mod ValidLemmas
 pub mod BoxLemmas
 pub mod WayLemmas
 pub mod SendLemmas
+pub mod BridgeLaws
 pub mod FitsLemmas
 pub mod SoundLaws
 pub mod SoundLane
@@ -18,11 +19,14 @@ pub mod SoundMetrics
 pub mod SoundEvents
 pub mod SoundDeclaring
 pub mod SoundLinks
+pub mod SoundMetering
+pub mod SoundConfigured
 pub mod SoundNames
 pub mod SoundPlay
 pub mod SoundWitness
 pub mod RoundLemmas
 pub mod ConfigLemmas
 pub mod PortLemmas
+pub mod RowLemmas
 pub mod CommandFits
 pub mod HintLemmas

@@ -1,4 +1,4 @@
-use Rattle.std.proofs.Common.{◌≡◌, ◌≢◌, ℕ, ◌<◌, ◌≤◌, ◌==◌, Bool, true, false, ◌&&◌, List, [], ◌∷◌, length, Option, Some, None, nat_lt, nat_le, refl, arith}
+use Rattle.std.proofs.Common.{◌≡◌, ◌≢◌, ℕ, ◌<◌, ◌≤◌, ◌==◌, Bool, true, false, ◌&&◌, List, [], ◌∷◌, length, Option, Some, None, nat_lt, nat_le, refl, sym, ap, ◌∙◌, arith}
 use Rattle.std.proofs.lemmas.Bool.Decides.{nat_tests}
 use Rattle.std.specs.List.{AllByRecursion}
 use Rattle.std.specs.Str.{bytes_eq}
@@ -6,8 +6,12 @@ use Rattle.spb_types.specs.declared.address.Mac.{Mac}
 use Rattle.spb_types.specs.declared.service.SourceId.{SourceId}
 use Rattle.spb_network.specs.declared.declaration.DeclaredLink.{DeclaredLink}
 use Rattle.spb_network.specs.declared.reason.Reason.{Reason}
+use Rattle.spb_network.specs.declared.reason.Reason.TheVariants.{Range}
+use Rattle.bridge_api.specs.Config.{IsMetric}
 use Rattle.spb_network.specs.Reason.{reason_unless, ◌or◌}
-use Rattle.spb_network.specs.World.{World, things_of, ports_at, is_between, is_at_port, AreApart}
+use Rattle.spb_network.specs.Refusing.{placed_refusal, metric_refusal}
+use Rattle.spb_network.specs.State.{State}
+use Rattle.spb_network.specs.World.{World, things_of, place_of, ports_at, is_between, is_at_port, AreApart}
 use Rattle.spb_network.specs.Declaring.{vid_refusal, bridge_refusal, link_refusal, is_vid_range, is_new_name, is_new_system, is_new_source, is_bridge_range, is_bridge_address, has_bridge_room, is_free_port, is_link_range, is_unlinked, bridge_of, link_of}
 use Rattle.spb_network.proofs.ListLemmas.{All-none, and-left, and-right, not-true}
 use Rattle.spb_network.proofs.WorldLemmas.{IsNewBridge, IsNewLink, ports_at-within}
@@ -43,6 +47,13 @@ empty_from (x ∷ xs) h = absurd (omega arith)
 
 empty_list : {X : Type 0} (xs : List X) → (length xs == 0) ≡ true → xs ≡ []
 empty_list xs h = empty_from xs (eq-true (length xs) 0 h)
+
+-- what the test of a metric says
+pub metric_refusal_none : (s : State) (name : List ℕ) (m k : ℕ) → place_of name s.world.links ≡ Some k → metric_refusal s name m ≡ None → IsMetric m
+unfolding metric_refusal
+metric_refusal_none s name m k at none =
+    let range = reason_unless-none (nat_le 1 m && nat_le m 16777214) _ (ap (placed_refusal (λ j. reason_unless (nat_le 1 m && nat_le m 16777214) Range)) (sym at) ∙ none) in
+    record { low = le-true 1 m (and-left _ _ range); high = le-true m 16777214 (and-right _ _ range) }
 
 -- what the tests of a VID say
 pub record IsNewVid (w : World) (vid ect : ℕ) : Type 0 where

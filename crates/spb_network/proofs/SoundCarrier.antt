@@ -5,16 +5,16 @@ use Rattle.std.specs.Option.{option_map, option_map_or, option_or}
 use Rattle.std.proofs.lemmas.Bool.{cases_eq, ne_eqb}
 use Rattle.scenario.specs.declared.command.Dir.{Dir}
 use Rattle.scenario.specs.declared.command.Dir.TheVariants.{Ab, Ba}
-use Rattle.bridge_api.specs.View.{BridgeView, IsPort}
+use Rattle.bridge_api.specs.View.{BridgeView, IsPort, has_carrier_at}
 use Rattle.bridge_api.specs.Step.{Input, carrier, step}
-use Rattle.bridge_api.proofs.Certified.{steps_keep_bridge}
 use Rattle.spb_network.specs.declared.declaration.DeclaredLink.{DeclaredLink}
 use Rattle.spb_network.specs.declared.declaration.LinkEnd.{LinkEnd}
 use Rattle.spb_network.specs.declared.way.Way.{Way}
 use Rattle.spb_network.specs.World.{Links, things_of, AllApart}
 use Rattle.spb_network.specs.Declaring.{switched}
 use Rattle.spb_network.specs.State.{changed_at, is_live, near_end, is_at, direction, way_from, way_out}
-use Rattle.spb_network.specs.Sound.{carrier_at, is_lit}
+use Rattle.spb_network.specs.Sound.{is_lit}
+use Rattle.spb_network.proofs.BridgeLaws.{steps_keep_bridge}
 use Rattle.spb_network.proofs.SoundLaws.{is_carrier, carrier_kept, carrier_set, carrier_beside}
 use Rattle.spb_network.proofs.SoundLane.{some-is}
 use Rattle.spb_network.proofs.SoundWays.{at_itself, at_parts, away, way_of_end, LeadsFrom, way_leads}
@@ -48,7 +48,7 @@ got_changed f (x ∷ xs) (suc i) (suc j) y at =
 
 -- each port has carrier as told
 abbrev pub HaveCarrier : List BridgeView → (ℕ → ℕ → Bool) → Type 0
-HaveCarrier views lit = (i : ℕ) (v : BridgeView) (p : ℕ) → slice_get views i ≡ Some v → IsPort v p → carrier_at v p ≡ lit i p
+HaveCarrier views lit = (i : ℕ) (v : BridgeView) (p : ℕ) → slice_get views i ≡ Some v → IsPort v p → has_carrier_at v p ≡ lit i p
 
 port_before : (x : Input) (v : BridgeView) (p : ℕ) → IsPort (step x v) p → IsPort v p
 port_before x v p port = record { low = port.low; high = subst (λ (n : ℕ). p ≤ n) (steps_keep_bridge x v).ports port.high }
@@ -60,9 +60,9 @@ lit_stepped x views i lit other have j v p at port =
     elim was.is [
       | inl here ↦
           let before : IsPort was.was p = port_before x was.was p (subst (λ (u : BridgeView). IsPort u p) here.1 port) in
-          ap (λ (u : BridgeView). carrier_at u p) here.1 ∙ (carrier_kept x was.was p other ∙ have j was.was p was.there before)
+          ap (λ (u : BridgeView). has_carrier_at u p) here.1 ∙ (carrier_kept x was.was p before other ∙ have j was.was p was.there before)
       | inr same ↦
-          ap (λ (u : BridgeView). carrier_at u p) same.1 ∙ have j was.was p was.there (subst (λ (u : BridgeView). IsPort u p) same.1 port)
+          ap (λ (u : BridgeView). has_carrier_at u p) same.1 ∙ have j was.was p was.there (subst (λ (u : BridgeView). IsPort u p) same.1 port)
     ]
 
 and-false : (b : Bool) → (b && false) ≡ false
@@ -85,22 +85,22 @@ pub lit_carried : (on : Bool) (views : List BridgeView) (e : LinkEnd) (lit : ℕ
 lit_carried on views e lit have j v p at port =
     let was = got_changed (step (carrier e.port on)) views e.bridge j v at in
     elim was.is [
-      | inl here ↦ ap (λ (u : BridgeView). carrier_at u p) here.1 ∙ changed was.was was.there here.0 (port_before (carrier e.port on) was.was p (subst (λ (u : BridgeView). IsPort u p) here.1 port))
+      | inl here ↦ ap (λ (u : BridgeView). has_carrier_at u p) here.1 ∙ changed was.was was.there here.0 (port_before (carrier e.port on) was.was p (subst (λ (u : BridgeView). IsPort u p) here.1 port))
       | inr same ↦
-          ap (λ (u : BridgeView). carrier_at u p) same.1
+          ap (λ (u : BridgeView). has_carrier_at u p) same.1
           ∙ (have j was.was p was.there (subst (λ (u : BridgeView). IsPort u p) same.1 port)
           ∙ when_away (is_at e j p) on (lit j p) (away e j p (λ is. same.0 (sym is))))
     ]
   where
-    changed : (u : BridgeView) → slice_get views j ≡ Some u → j ≡ e.bridge → IsPort u p → carrier_at (step (carrier e.port on) u) p ≡ (if is_at e j p then on else lit j p)
+    changed : (u : BridgeView) → slice_get views j ≡ Some u → j ≡ e.bridge → IsPort u p → has_carrier_at (step (carrier e.port on) u) p ≡ (if is_at e j p then on else lit j p)
     changed u there place is =
         elim (cases_eq p e.port) [
           | inl here ↦
-              ap (λ (q : ℕ). carrier_at (step (carrier e.port on) u) q) here
+              ap (λ (q : ℕ). has_carrier_at (step (carrier e.port on) u) q) here
               ∙ (carrier_set u e.port on (subst (λ (q : ℕ). IsPort u q) here is)
               ∙ when_at (is_at e j p) on (lit j p) (at_itself e j p (sym place) (sym here)))
           | inr beside ↦
-              carrier_beside u e.port on p beside
+              carrier_beside u e.port on p is beside
               ∙ (have j u p there is
               ∙ when_away (is_at e j p) on (lit j p) (away_port e j p (λ same. beside (sym same))))
         ]

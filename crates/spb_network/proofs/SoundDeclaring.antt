@@ -8,7 +8,7 @@ use Rattle.spb_types.specs.declared.service.VidPlan.{VidPlan}
 use Rattle.link_model.specs.Lane.{Frame}
 use Rattle.scenario.specs.declared.command.Dir.{Dir}
 use Rattle.scenario.specs.declared.command.Dir.TheVariants.{Ab, Ba}
-use Rattle.bridge_api.specs.View.{BridgeView, IsPort, neighbour_at, is_up_at}
+use Rattle.bridge_api.specs.View.{BridgeView, IsPort, neighbour_at, is_up_at, has_carrier_at}
 use Rattle.bridge_api.specs.Config.{ArePairwise}
 use Rattle.bridge_api.specs.Laws.{IsSoundView}
 use Rattle.spb_network.specs.declared.declaration.DeclaredBridge.{DeclaredBridge}
@@ -20,7 +20,7 @@ use Rattle.spb_network.specs.Lanes.{no_frames}
 use Rattle.spb_network.specs.Declaring.{with_vid, with_bridge, with_link}
 use Rattle.spb_network.specs.State.{State, Spare, links_of, is_live, near_end, far_end, is_at, way_of, way_from, way_out}
 use Rattle.spb_network.specs.Network.{HasPorts, Fits}
-use Rattle.spb_network.specs.Sound.{AreDistinct, IsShown, AreShown, carrier_at, is_lit, AreLit, Agrees, lane_of, AllAgree, IsSoundState}
+use Rattle.spb_network.specs.Sound.{AreDistinct, IsShown, AreShown, is_lit, AreLit, Agrees, lane_of, AllAgree, IsSoundState}
 use Rattle.spb_network.proofs.BoxLemmas.{All-get}
 use Rattle.spb_network.proofs.ListLemmas.{All-push, things_of-push, length-push}
 use Rattle.spb_network.proofs.WorldLemmas.{IsNewBridge, Sound-with_bridge, IsNewLink, Sound-with_link}
@@ -53,7 +53,7 @@ pub record IsNewView (w : World) (b : DeclaredBridge) (v : BridgeView) : Type 0 
   pub shown : IsShown w.vids b v
   pub ports : HasPorts v b
   pub sound : IsSoundView v
-  pub dark : (p : ℕ) → carrier_at v p ≡ false
+  pub dark : (p : ℕ) → has_carrier_at v p ≡ false
 
 fits_bridge : (s : State) (rack : List Spare) (name : List ℕ) (b : DeclaredBridge) (v : BridgeView) → Fits s → HasPorts v b → Fits (record s { rack = rack; world = with_bridge s.world name b; views = s.views ++ v ∷ [] })
 unfolding with_bridge
@@ -95,11 +95,11 @@ unlit s p (Some way) sound fits out =
     let leads : LeadsFrom (links_of s) (length s.views) p way.link way.dir = way_leads (links_of s) (length s.views) p way out in
     absurd (omega (arith, near_within s way.link way.dir leads.link sound fits leads.there, leads.bridge))
 
-lit_bridge : (s : State) (v : BridgeView) → Sound s.world → Fits s → AreLit (links_of s) s.views → ((p : ℕ) → carrier_at v p ≡ false) → AreLit (links_of s) (s.views ++ v ∷ [])
+lit_bridge : (s : State) (v : BridgeView) → Sound s.world → Fits s → AreLit (links_of s) s.views → ((p : ℕ) → has_carrier_at v p ≡ false) → AreLit (links_of s) (s.views ++ v ∷ [])
 lit_bridge s v sound fits lit none i u p at port =
     elim (got_push s.views v i u at) [
       | inl old ↦ lit i u p old.1 port
-      | inr new ↦ ap (λ (x : BridgeView). carrier_at x p) (sym new.1) ∙ (none p ∙ (unlit s p (way_out (links_of s) (length s.views) p) sound fits refl ∙ ap (λ (j : ℕ). is_lit (links_of s) j p) (sym new.0)))
+      | inr new ↦ ap (λ (x : BridgeView). has_carrier_at x p) (sym new.1) ∙ (none p ∙ (unlit s p (way_out (links_of s) (length s.views) p) sound fits refl ∙ ap (λ (j : ℕ). is_lit (links_of s) j p) (sym new.0)))
     ]
 
 -- what is there within the old bridges
@@ -221,7 +221,7 @@ near_port s Ba l v fits link at = end_is_port s l.b fits link.b v at
 -- the new link, over which nothing is on its way, between ports without carrier
 new_agrees : (s : State) (dir : Dir) (l : DeclaredLink) (v w : BridgeView) → IsSoundState s → IsNewLink s.world l → slice_get s.views (near_end dir l).bridge ≡ Some v → Agrees v (near_end dir l).port w (far_end dir l).port []
 new_agrees s dir l v w sound new at =
-    let none : carrier_at v (near_end dir l).port ≡ false =
+    let none : has_carrier_at v (near_end dir l).port ≡ false =
     sound.lit (near_end dir l).bridge v (near_end dir l).port at (near_port s dir l v sound.fits new.link at) ∙ free_end (links_of s) dir l (way_out (links_of s) (near_end dir l).bridge (near_end dir l).port) new.apart refl in
     let is = dark v (near_end dir l).port (All-get IsSoundView s.views (near_end dir l).bridge v sound.views at) none in
     let nobody : neighbour_at v (near_end dir l).port ≡ None = is.0 in

@@ -1,9 +1,11 @@
 -- One direction of a link, while both bridges may step.
-use Rattle.std.proofs.Common.{◌≡◌, ◌⊎◌, inl, inr, ◌≤◌, ℕ, true, true≢false, List, [], ◌∷◌, length, refl, sym, ap, ◌∙◌, subst, Option, Some, None, arith}
+use Rattle.std.proofs.Common.{◌≡◌, ◌⊎◌, inl, inr, ◌≤◌, ℕ, true, true≢false, List, [], ◌∷◌, refl, sym, ap, ◌∙◌, subst, Option, Some, None, arith}
 use Rattle.std.specs.List.{AllByRecursion}
 use Rattle.spb_types.specs.declared.address.BridgeId.{BridgeId}
 use Rattle.spb_types.specs.declared.address.LspId.{LspId}
 use Rattle.link_model.specs.Lane.{Frame}
+use Rattle.isis_pdu.specs.Pdu.{HelloValue}
+use Rattle.spb_tlvs.specs.declared.three_way.ThreeWay.{ThreeWay}
 use Rattle.spb_tlvs.specs.RoundTrip.{IsNamed}
 use Rattle.lsdb.specs.declared.version.Version.{Version}
 use Rattle.lsdb.specs.Version.{IsAtMost}
@@ -12,12 +14,12 @@ use Rattle.lsdb.specs.Certificate.{IsClaimed, is_flagged, is_absent, is_as_befor
 use Rattle.lsdb.proofs.Order.{itself, through, least}
 use Rattle.adjacency.specs.Hearing.{End}
 use Rattle.bridge_api.specs.View.{BridgeView, neighbour_at, is_up_at}
-use Rattle.bridge_api.specs.Judging.{judged}
+use Rattle.bridge_api.specs.Judging.{Judged, useless, greeting, link_state, complete, partial, tenant, judged}
 use Rattle.bridge_api.specs.Step.{Input, second, frame, carrier, metric, step, sent}
-use Rattle.bridge_api.specs.Laws.{IsSoundView, IsHeard, IsSent, IsHelloOf, greeter, port_of, claims_of}
-use Rattle.bridge_api.proofs.Certified.{steps_keep_bridge, steps_keep_neighbours, steps_stay_sound, steps_carry_database}
+use Rattle.bridge_api.specs.Laws.{IsInput, IsSoundView, IsHeard, IsSent, IsHelloOf, IsFrameOf, greeter, port_of, claims_of}
 use Rattle.spb_network.specs.Sound.{end_at, IsHelloTo, IsSaid, IsReady, Agrees}
-use Rattle.spb_network.proofs.SoundLaws.{hellos_heard, sent_second, has-up_ports}
+use Rattle.spb_network.proofs.BridgeLaws.{steps_keep_bridge, steps_keep_neighbours, steps_stay_sound, frames_are_sound, up_ports_are_up, steps_carry_database}
+use Rattle.spb_network.proofs.SoundLaws.{sent_second}
 
 -- a frame is one of a lane's
 abbrev pub IsIn : Frame → List Frame → Type 0
@@ -57,9 +59,14 @@ pub moved_same : (x : Option Input) (v : BridgeView) → IsStill v (moved x v)
 moved_same None v = record { id = refl; source = refl; vids = refl; attached = refl }
 moved_same (Some input) v = let same = steps_keep_bridge input v in record { id = same.id; source = same.source; vids = same.vids; attached = same.attached }
 
-pub moved_sound : (x : Option Input) (v : BridgeView) → IsSoundView v → IsSoundView (moved x v)
-moved_sound None v sound = sound
-moved_sound (Some input) v sound = steps_stay_sound input v sound
+-- what comes, if something does, is an input
+abbrev pub AreInputs : Option Input → Type 0
+AreInputs None = Unit {0}
+AreInputs (Some input) = IsInput input
+
+pub moved_sound : (x : Option Input) (v : BridgeView) → AreInputs x → IsSoundView v → IsSoundView (moved x v)
+moved_sound None v is sound = sound
+moved_sound (Some input) v is sound = steps_stay_sound input v is sound
 
 pub moved_end : (x : Option Input) (v : BridgeView) (p : ℕ) → end_at (moved x v) p ≡ end_at v p
 moved_end x v p = ap (λ (id : BridgeId). (id.system, p)) (moved_same x v).id
@@ -74,6 +81,7 @@ moved_rises (Some input) v id sound = (steps_carry_database input v sound).rises
 -- what comes to bridge v is x, and to bridge w is y. Whatever v hears at its port p was on its way there, and what is on
 -- its way from v afterwards was so before, or is sent now
 pub record IsMove (v : BridgeView) (p : ℕ) (w : BridgeView) (q : ℕ) (x y : Option Input) (lane back after : List Frame) : Type 0 where
+  pub input : AreInputs x
   pub first : IsSoundView v
   pub second : IsSoundView w
   pub port : q ≤ 32
@@ -82,9 +90,17 @@ pub record IsMove (v : BridgeView) (p : ℕ) (w : BridgeView) (q : ℕ) (x y : O
   pub heard : (f : Frame) → x ≡ Some (frame p f) → IsIn f back
   pub sends : (f : Frame) → IsIn f after → IsIn f lane ⊎ IsSent (sent_by x v) p f
 
--- a frame that was heard is a hello of the far end
+-- a frame that was heard as a hello is one of the far end
+said_by : (j : Judged) (from to : End) (n : End) → ((h : HelloValue) (way : ThreeWay) → j ≡ greeting h way → IsHelloTo from to h way) → greeter j ≡ Some n → n ≡ from
+said_by (useless reason) from to n said is = absurd cc
+said_by (greeting h way) from to n said is = sym (some-is _ _ is) ∙ (said h way refl).sender
+said_by (link_state l) from to n said is = absurd cc
+said_by (complete c) from to n said is = absurd cc
+said_by (partial s) from to n said is = absurd cc
+said_by (tenant da sa vid isid customer) from to n said is = absurd cc
+
 said_sender : (v : BridgeView) (p : ℕ) (w : BridgeView) (q : ℕ) (f : Frame) (n : End) → IsSaid w q v p f → greeter (judged f) ≡ Some n → n ≡ end_at w q
-said_sender v p w q f n said is = sym (some-is _ _ (sym (ap greeter said.hello.heard) ∙ is)) ∙ said.hello.sender
+said_sender v p w q f n said is = said_by (judged f) (end_at w q) (end_at v p) n said.hello is
 
 moved_keeps : (v : BridgeView) (p : ℕ) (w : BridgeView) (q : ℕ) (x y : Option Input) (lane back after : List Frame) → IsMove v p w q x y lane back after → (n : End) → neighbour_at (moved x v) p ≡ Some n → n ≡ end_at w q
 moved_keeps v p w q None y lane back after move n kept = move.there.keeps n kept
@@ -103,14 +119,11 @@ moved_keeps v p w q (Some input) y lane back after move n kept =
 -- who is kept can be named
 named : (o : Option End) (w : BridgeView) (q : ℕ) → IsSoundView w → q ≤ 32 → ((n : End) → o ≡ Some n → n ≡ end_at w q) → IsNamed o
 named None w q sound small is = tt
-named (Some n) w q sound small is = subst (λ (m : End). IsNamed (Some m)) (sym (is n refl)) (sound.address, omega arith)
+named (Some n) w q sound small is = subst (λ (m : End). IsNamed (Some m)) (sym (is n refl)) (sound.config.system.bytes, omega arith)
 
 -- a hello that is sent is one to the far end
-hello_to : (v : BridgeView) (p : ℕ) (to : End) (f : Frame) → IsHelloOf v p f → ((n : End) → neighbour_at v p ≡ Some n → n ≡ to) → IsHelloTo (end_at v p) to f
-hello_to v p to f is keeps = record {
-  hello = is.hello;
-  way = is.way;
-  heard = is.heard;
+hello_to : (v : BridgeView) (p : ℕ) (to : End) (h : HelloValue) (way : ThreeWay) → IsHelloOf v p h way → ((n : End) → neighbour_at v p ≡ Some n → n ≡ to) → IsHelloTo (end_at v p) to h way
+hello_to v p to h way is keeps = record {
   sender = is.sender;
   level = is.level;
   holding = is.holding;
@@ -121,7 +134,7 @@ hello_to v p to f is keeps = record {
 -- what was on its way is still said
 still_said : (v : BridgeView) (p : ℕ) (w : BridgeView) (q : ℕ) (x y : Option Input) (f : Frame) → IsSoundView v → IsSaid v p w q f → IsSaid (moved x v) p (moved y w) q f
 still_said v p w q x y f sound was = record {
-  hello = subst (λ (to : End). IsHelloTo (end_at (moved x v) p) to f) (sym (moved_end y w q)) (subst (λ (from : End). IsHelloTo from (end_at w q) f) (sym (moved_end x v p)) was.hello);
+  hello = λ h way heard. subst (λ (to : End). IsHelloTo (end_at (moved x v) p) to h way) (sym (moved_end y w q)) (subst (λ (from : End). IsHelloTo from (end_at w q) h way) (sym (moved_end x v p)) (was.hello h way heard));
   claims = λ id a claimed. through a (version_at v.database id) (version_at (moved x v).database id) (was.claims id a claimed) (moved_rises x v id sound);
 }
 
@@ -131,11 +144,12 @@ newly_said v p w q None y lane back after f move some = absurd some
 newly_said v p w q (Some input) y lane back after f move some = by input (sent_second input v p f some) (moved_keeps v p w q (Some input) y lane back after move) some
   where
     by : (i : Input) → i ≡ second → ((n : End) → neighbour_at (step i v) p ≡ Some n → n ≡ end_at w q) → IsSent (sent i v) p f → IsSaid (step i v) p (moved y w) q f
-    by second e keeps some = record {
-      hello = subst (λ (to : End). IsHelloTo (end_at (step second v) p) to f) (sym (moved_end y w q))
-          (hello_to (step second v) p (end_at w q) f (hellos_heard v p f move.first (named (neighbour_at (step second v) p) w q move.second move.port keeps) some) keeps);
-      claims = λ id a claimed. absurd claimed;
-    }
+    by second e keeps some =
+        let own : IsFrameOf (step second v) p f = frames_are_sound v p f move.first (named (neighbour_at (step second v) p) w q move.second move.port keeps) some in
+        record {
+          hello = λ h way heard. subst (λ (to : End). IsHelloTo (end_at (step second v) p) to h way) (sym (moved_end y w q)) (hello_to (step second v) p (end_at w q) h way (own.hello h way heard) keeps);
+          claims = own.claims;
+        }
     by (frame r g) e keeps some = absurd some
     by (carrier r on) e keeps some = absurd some
     by (metric r m) e keeps some = absurd some
@@ -148,14 +162,13 @@ moved_ready v p w q None y lane back after move id up =
       | inr behind ↦ inr (through (version_at v.database id) (version_at w.database id) (version_at (moved y w).database id) behind (moved_rises y w id move.second))
     ]
 moved_ready v p w q (Some input) y lane back after move id up =
-    let few : length v.ports ≤ 32 = move.first.few in
-    let few' : length (step input v).ports ≤ 32 = (steps_stay_sound input v move.first).few in
+    let after_sound : IsSoundView (step input v) = steps_stay_sound input v move.input move.first in
     let rises : IsAtMost (version_at w.database id) (version_at (moved y w).database id) = moved_rises y w id move.second in
-    elim ((steps_carry_database input v move.first).kept id p (has-up_ports (step input v) p few' ∙ up)) [
+    elim ((steps_carry_database input v move.first).kept id p (up_ports_are_up (step input v) p after_sound ∙ up)) [
       | is_flagged flagged ↦ inl flagged
       | is_absent none ↦ inr (subst (λ (a : Version). IsAtMost a (version_at (moved y w).database id)) (sym none) (least (version_at (moved y w).database id)))
       | is_as_before was_up unflagged same ↦
-          elim (move.there.ready id (sym (has-up_ports v p few) ∙ was_up)) [
+          elim (move.there.ready id (sym (up_ports_are_up v p move.first) ∙ was_up)) [
             | inl flagged ↦ absurd (true≢false (sym flagged ∙ unflagged))
             | inr behind ↦ inr (subst (λ (a : Version). IsAtMost a (version_at (moved y w).database id)) (sym same) (through (version_at v.database id) (version_at w.database id) (version_at (moved y w).database id) behind rises))
           ]

@@ -4,11 +4,12 @@ use Rattle.std.specs.List.{AllByRecursion}
 use Rattle.scenario.specs.declared.command.Dir.{Dir}
 use Rattle.scenario.specs.declared.command.Dir.TheVariants.{Ab, Ba}
 use Rattle.bridge_api.specs.View.{BridgeView}
+use Rattle.bridge_api.specs.Config.{IsMetric}
 use Rattle.bridge_api.specs.Step as comes
 use Rattle.bridge_api.specs.Step.{step}
 use Rattle.spb_network.specs.declared.declaration.DeclaredLink.{DeclaredLink}
 use Rattle.spb_network.specs.declared.declaration.LinkEnd.{LinkEnd}
-use Rattle.spb_network.specs.World.{World, things_of, is_at_port, AreApart}
+use Rattle.spb_network.specs.World.{World, Bridges, IsEnd, things_of, is_at_port, AreApart}
 use Rattle.spb_network.specs.Lanes.{no_frames}
 use Rattle.spb_network.specs.Declaring.{with_link}
 use Rattle.spb_network.specs.State.{State, links_of, near_end, is_at}
@@ -63,12 +64,15 @@ metered_new_link s name l sound new =
     subst (λ (ls : List DeclaredLink). AreMetered ls (after_end (after_end s.views l.a) l.b)) (sym (things_of-push s.world.links name l))
     (both_metered (links_of s) s.views l sound.metered new.apart new.link.apart (end_is_port s l.a sound.fits new.link.a) (end_is_port s l.b sound.fits new.link.b))
 
-core_metered : (s : State) (e : LinkEnd) → IsCore s → IsCore (metered s e)
-core_metered s e core = core_stepped (comes.metric e.port e.metric) s s.lanes e.bridge core (alike_itself s) core.short (λ k dir f among. among) (λ p f is. absurd cc)
+pub end_metric : (bridges : Bridges) (e : LinkEnd) → IsEnd bridges e → IsMetric e.metric
+end_metric bridges e is = record { low = is.metric_low; high = is.metric_high }
+
+pub core_metered : (s : State) (e : LinkEnd) → IsMetric e.metric → IsCore s → IsCore (metered s e)
+core_metered s e is core = core_stepped (comes.metric e.port e.metric) s s.lanes e.bridge is core (alike_itself s) core.short (λ k dir f among. among) (λ p f is. absurd cc)
 
 pub Sound-new_link : (s : State) (name : List ℕ) (l : DeclaredLink) → IsSoundState s → IsNewLink s.world l → AreDistinct (with_link s.world name l) → l.live ≡ false → IsSoundState (metered_over (record s { world = with_link s.world name l; lanes = s.lanes ++ no_frames ∷ [] }) l)
 Sound-new_link s name l sound new distinct dead =
-    sound_from x (core_metered u l.b (core_metered t l.a (core_new_link s name l sound new distinct dead)))
+    sound_from x (core_metered u l.b (end_metric s.world.bridges l.b new.link.b) (core_metered t l.a (end_metric s.world.bridges l.a new.link.a) (core_new_link s name l sound new distinct dead)))
     (stepped_lit (comes.metric l.b.port l.b.metric) u l.b.bridge refl (stepped_lit (comes.metric l.a.port l.a.metric) t l.a.bridge refl (lit_new_link s name l sound dead)))
     (subst (λ (w : World). AreMetered (things_of w.links) x.views) (sym world)
     (subst (λ (vs : List BridgeView). AreMetered (links_of t) vs) (sym views) (metered_new_link s name l sound new)))

@@ -1,18 +1,15 @@
 -- The metric at each end of a link is that of the end.
 use Rattle.std.proofs.Common.{◌≡◌, ◌≢◌, inl, inr, ◌≤◌, ◌-◌, ℕ, Bool, true, false, true≢false, List, refl, sym, ap, ◌∙◌, subst, Option, Some, None, slice_get, arith}
-use Rattle.std.specs.Prelude.{nat_le, if◌then◌else◌}
+use Rattle.std.specs.Prelude.{nat_le, slice_set, if◌then◌else◌}
 use Rattle.std.specs.Option.{option_map}
-use Rattle.std.proofs.lemmas.Bool.{le-leb}
+use Rattle.std.proofs.lemmas.Bool.{le-leb, leb-true}
 use Rattle.std.proofs.lemmas.List.{length-map}
 use Rattle.std.proofs.lemmas.Option.{slice_get-map}
 use Rattle.bridge_api.specs.declared.port.BridgePort.{BridgePort}
 use Rattle.bridge_api.specs.View.{BridgeView, IsPort, metrics_of}
-use Rattle.bridge_api.specs.Hearing.{metered}
 use Rattle.bridge_api.specs.Step.{Input, second, frame, carrier, metric, step}
 use Rattle.bridge_api.specs.Laws.{metrics_after}
-use Rattle.bridge_api.proofs.Places.{got_at}
-use Rattle.bridge_api.proofs.Changes.{found, one_port, metric_step}
-use Rattle.bridge_api.proofs.Certified.{steps_keep_bridge}
+use Rattle.bridge_api.proofs.Places.{got_at, got_beside}
 use Rattle.spb_network.specs.declared.declaration.DeclaredLink.{DeclaredLink}
 use Rattle.spb_network.specs.declared.declaration.LinkEnd.{LinkEnd}
 use Rattle.spb_network.specs.World.{Links, things_of}
@@ -20,6 +17,7 @@ use Rattle.spb_network.specs.Declaring.{switched}
 use Rattle.spb_network.specs.State.{changed_at, near_end, is_at}
 use Rattle.spb_network.specs.Network.{IsPortAt}
 use Rattle.spb_network.specs.Sound.{metric_at, AreMetered}
+use Rattle.spb_network.proofs.BridgeLaws.{steps_keep_bridge}
 use Rattle.spb_network.proofs.SoundWays.{at_itself}
 use Rattle.spb_network.proofs.SoundSteps.{switched_link, same_near}
 use Rattle.spb_network.proofs.SoundCarrier.{got_changed}
@@ -64,18 +62,17 @@ metric_set v q m is =
     ∙ (ap (λ (ms : List ℕ). metric_of ms q) (steps_keep_bridge (metric q m) v).metrics
     ∙ rw (le-leb 1 q is.low) (got_at (metrics_of v.ports) (q - 1) m (omega (arith, is.low, is.high, length-map v.ports (λ (port : BridgePort). port.metric)))))
 
+beside_at : (a b : Bool) (ms : List ℕ) (q m p : ℕ) → nat_le 1 q ≡ a → nat_le 1 p ≡ b → p ≢ q → (if b then slice_get (if a then slice_set ms (q - 1) m else ms) (p - 1) else None) ≡ (if b then slice_get ms (p - 1) else None)
+beside_at a false ms q m p low_q low_p apart = refl
+beside_at false true ms q m p low_q low_p apart = refl
+beside_at true true ms q m p low_q low_p apart = got_beside ms (q - 1) (p - 1) m (λ e. apart (omega (arith, leb-true 1 q low_q, leb-true 1 p low_p)))
+
 metric_beside : (v : BridgeView) (q m p : ℕ) → p ≢ q → metric_at (step (metric q m) v) p ≡ metric_at v p
 metric_beside v q m p apart =
-    elim (metric_step v q m) [
-      | inl e ↦ ap (λ (u : BridgeView). metric_at u p) e
-      | inr g ↦
-          let at = found v.ports q g.port g.there in
-          ap (λ (u : BridgeView). metric_at u p) g.after
-          ∙ elim (one_port v.ports q g.port (metered m g.port) p at.0 at.1) [
-            | inl here ↦ absurd (apart here.0)
-            | inr same ↦ ap (option_map (λ (port : BridgePort). port.metric)) same
-          ]
-    ]
+    seen (step (metric q m) v) p
+    ∙ (ap (λ (ms : List ℕ). metric_of ms p) (steps_keep_bridge (metric q m) v).metrics
+    ∙ (beside_at (nat_le 1 q) (nat_le 1 p) (metrics_of v.ports) q m p refl refl apart
+    ∙ sym (seen v p)))
 
 -- ---- the bridges of a network
 

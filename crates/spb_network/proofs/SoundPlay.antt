@@ -1,17 +1,16 @@
 -- Accepted commands keep what is sound of a network.
-use Rattle.std.proofs.Common.{◌≡◌, ℕ, zero, suc, ◌+◌, ◌-◌, ◌==◌, Bool, true, false, List, [], ◌∷◌, ◌++◌, length, map, replicate, nat_le, refl, sym, ◌∙◌, subst, Option, Some, None, slice_get, arith}
-use Rattle.std.specs.Prelude.{remove, if◌then◌else◌}
+use Rattle.std.proofs.Common.{◌≡◌, ℕ, ◌+◌, ◌==◌, List, [], ◌∷◌, ◌++◌, length, refl, sym, subst, Option, Some, None, arith}
+use Rattle.std.specs.Prelude.{remove}
 use Rattle.std.specs.List.{AllByRecursion}
-use Rattle.std.proofs.lemmas.List.{length-map, length-replicate}
 use Rattle.std.proofs.lemmas.Bool.{eqb-true}
 use Rattle.spb_types.specs.declared.address.Mac.{Mac}
 use Rattle.spb_types.specs.declared.service.SourceId.{SourceId}
 use Rattle.scenario.specs.declared.command.Command.{Command}
 use Rattle.scenario.specs.declared.command.Command.TheVariants as command
-use Rattle.bridge_api.specs.declared.port.BridgePort.{BridgePort}
+use Rattle.scenario.specs.declared.command.Side.{Side}
+use Rattle.bridge_api.specs.declared.config.BridgeConfig.{BridgeConfig}
 use Rattle.bridge_api.specs.View.{BridgeView}
-use Rattle.bridge_api.specs.Config.{dark, configured}
-use Rattle.bridge_api.proofs.Certified.{configured_is_sound}
+use Rattle.bridge_api.specs.Config.{IsWhole, bare, configured}
 use Rattle.spb_network.specs.declared.declaration.DeclaredLink.{DeclaredLink}
 use Rattle.spb_network.specs.declared.kind_rule.KindRule.{KindRule}
 use Rattle.spb_network.specs.declared.lanes.Lanes.{Lanes}
@@ -19,18 +18,22 @@ use Rattle.spb_network.specs.World.{World, place_of, Sound}
 use Rattle.spb_network.specs.Lanes.{no_frames}
 use Rattle.spb_network.specs.Declaring.{bridge_refusal, vid_refusal, link_refusal, plan_of, bridge_of, link_of, with_link}
 use Rattle.spb_network.specs.State.{State, Spare}
-use Rattle.spb_network.specs.Events.{ticked, delivered, lost, doubled, metered_over, switched_off, switched_on, rounds, drained}
-use Rattle.spb_network.specs.Refusing.{box_for, declared_refusal, placed_link_refusal, named_link_refusal, refusal_of}
+use Rattle.spb_network.specs.Events.{ticked, delivered, lost, doubled, metered_over, remetered, switched_off, switched_on, rounds, drained}
+use Rattle.spb_network.specs.Refusing.{box_for, declared_refusal, placed_link_refusal, named_link_refusal, metric_refusal, refusal_of}
 use Rattle.spb_network.specs.Play.{config_of, boxed, declared, linked, placed_link, named_link, at_place, at_bridge, at_link, with_vid_more, with_rounds, with_drain, played, counted, next_state, played_all}
-use Rattle.spb_network.specs.Sound.{carrier_in, IsSoundState, opening}
-use Rattle.spb_network.specs.SoundLaws.{Keeps, EventsKeepSound, IsAddressed, CommandsKeepSound, AreAccepted, NetworksAreSound}
+use Rattle.spb_network.specs.Sound.{IsSoundState, opening}
+use Rattle.spb_network.specs.SoundLaws.{Keeps, EventsKeepSound, IsAddress, IsAddressed, CommandsKeepSound, AreAccepted, NetworksAreSound}
+use Rattle.spb_network.proofs.BridgeLaws.{configured_is_sound, configured_is_dark}
 use Rattle.spb_network.proofs.ConfigLemmas.{whole-config}
 use Rattle.spb_network.proofs.WorldLemmas.{Sound-with_vid}
-use Rattle.spb_network.proofs.RefusalLemmas.{vid_refusal_none, IsFreeBridge, bridge_refusal_none, link_refusal_none}
+use Rattle.spb_network.proofs.RefusalLemmas.{metric_refusal_none, vid_refusal_none, IsFreeBridge, bridge_refusal_none, link_refusal_none}
 use Rattle.spb_network.proofs.SoundNames.{first_none, last_none, passes, distinct_bridge, distinct_link}
 use Rattle.spb_network.proofs.SoundEvents.{Sound-ticked, Sound-delivered, Sound-lost, Sound-doubled, Sound-switched_off, Sound-switched_on, Sound-rounds, Sound-drained}
 use Rattle.spb_network.proofs.SoundDeclaring.{empty_from, IsNewView, Sound-new_bridge, Sound-new_vid, Sound-nothing}
 use Rattle.spb_network.proofs.SoundLinks.{Sound-new_link}
+use Rattle.spb_network.proofs.SoundMetering.{Sound-remetered}
+use Rattle.spb_network.proofs.SoundLane.{IsStill}
+use Rattle.spb_network.proofs.SoundConfigured.{configured_still}
 
 pub events_keep_sound : EventsKeepSound
 events_keep_sound = record {
@@ -38,6 +41,7 @@ events_keep_sound = record {
   deliver = λ k dir s sound. Sound-delivered s k dir sound;
   lose = λ k dir place s sound. Sound-lost s k dir place sound;
   double = λ k dir place s sound. Sound-doubled s k dir place sound;
+  metric = λ k side m is s sound. Sound-remetered s k side m is sound;
   down = λ k s sound. Sound-switched_off s k sound;
   up = λ k s sound. Sound-switched_on s k sound;
   round = λ n s sound. Sound-rounds n s sound;
@@ -79,30 +83,30 @@ vid_sound s vid ect sound none =
 
 -- ---- a bridge
 
-dark_in : (metrics : List ℕ) (i : ℕ) → carrier_in (slice_get (map dark metrics) i) ≡ false
-dark_in [] i = refl
-dark_in (m ∷ metrics) zero = refl
-dark_in (m ∷ metrics) (suc i) = dark_in metrics i
-
-dark_if : (b : Bool) (o : Option BridgePort) → carrier_in o ≡ false → carrier_in (if b then o else None) ≡ false
-dark_if true o none = none
-dark_if false o none = refl
-
-new_view : (w : World) (name : List ℕ) (priority : ℕ) (system : Mac) (source : SourceId) (ports : ℕ) → Sound w → length system.bytes ≡ 6 → IsFreeBridge w name priority system source ports → IsNewView w (bridge_of priority system source ports) (configured (config_of w (bridge_of priority system source ports)))
+new_view : (w : World) (name : List ℕ) (priority : ℕ) (system : Mac) (source : SourceId) (ports : ℕ) → Sound w → IsAddress system → IsFreeBridge w name priority system source ports → IsNewView w (bridge_of priority system source ports) (configured (config_of w (bridge_of priority system source ports)))
 new_view w name priority system source ports sound six new = record {
-  shown = record { id = refl; source = refl; vids = refl; attached = refl };
-  ports = record { ports = length-map (replicate ports 1) dark ∙ length-replicate ports 1 };
-  sound = configured_is_sound (config_of w (bridge_of priority system source ports)) (whole-config w (bridge_of priority system source ports) sound new.ports_high new.source_high six new.address);
-  dark = λ p. dark_if (nat_le 1 p) (slice_get (map dark (replicate ports 1)) (p - 1)) (dark_in (replicate ports 1) (p - 1));
+  shown = record { id = still.id; source = still.source; vids = still.vids; attached = still.attached };
+  ports = record { ports = (configured_is_dark c whole).ports };
+  sound = configured_is_sound c whole;
+  dark = (configured_is_dark c whole).carrier;
 }
+  where
+    c : BridgeConfig
+    c = config_of w (bridge_of priority system source ports)
 
-boxed_sound : (s : State) (name : List ℕ) (priority : ℕ) (system : Mac) (source : SourceId) (ports : ℕ) (o : Option ℕ) → IsSoundState s → length system.bytes ≡ 6 → bridge_refusal s.world name priority system source ports ≡ None → IsSoundState (boxed s name (bridge_of priority system source ports) o)
+    whole : IsWhole c
+    whole = whole-config w (bridge_of priority system source ports) sound new.ports_high (omega (arith, new.priority_high)) new.source_high six new.address
+
+    still : IsStill (bare c) (configured c)
+    still = configured_still c
+
+boxed_sound : (s : State) (name : List ℕ) (priority : ℕ) (system : Mac) (source : SourceId) (ports : ℕ) (o : Option ℕ) → IsSoundState s → IsAddress system → bridge_refusal s.world name priority system source ports ≡ None → IsSoundState (boxed s name (bridge_of priority system source ports) o)
 boxed_sound s name priority system source ports None sound six none = sound
 boxed_sound s name priority system source ports (Some place) sound six none =
     let new = bridge_refusal_none s.world name priority system source ports none in
     Sound-new_bridge s (remove s.rack place) name (bridge_of priority system source ports) (configured (config_of s.world (bridge_of priority system source ports))) sound new.new (distinct_bridge s.world name priority system source ports sound.distinct none) (new_view s.world name priority system source ports sound.world six new)
 
-bridge_sound : (s : State) (name : List ℕ) (priority : ℕ) (system : Mac) (source : SourceId) (ports : ℕ) → IsSoundState s → length system.bytes ≡ 6 → declared_refusal s name priority system source ports ≡ None → IsSoundState (declared s name (bridge_of priority system source ports))
+bridge_sound : (s : State) (name : List ℕ) (priority : ℕ) (system : Mac) (source : SourceId) (ports : ℕ) → IsSoundState s → IsAddress system → declared_refusal s name priority system source ports ≡ None → IsSoundState (declared s name (bridge_of priority system source ports))
 unfolding declared_refusal declared
 bridge_sound s name priority system source ports sound six none =
     boxed_sound s name priority system source ports (box_for s) sound six (first_none _ _ none)
@@ -139,6 +143,16 @@ at_link_sound : (event : State → ℕ → State) (s : State) (name : List ℕ) 
 unfolding at_link
 at_link_sound event s name keeps sound = place_sound event s (place_of name s.world.links) keeps sound
 
+-- ---- a metric
+
+placed_metric_sound : (s : State) (name : List ℕ) (side : Side) (m : ℕ) (o : Option ℕ) → place_of name s.world.links ≡ o → IsSoundState s → metric_refusal s name m ≡ None → IsSoundState (at_place (λ t k. remetered t k side m) s o)
+placed_metric_sound s name side m None at sound none = sound
+placed_metric_sound s name side m (Some k) at sound none = Sound-remetered s k side m (metric_refusal_none s name m k at none) sound
+
+metric_sound : (s : State) (name : List ℕ) (side : Side) (m : ℕ) → IsSoundState s → metric_refusal s name m ≡ None → IsSoundState (at_link (λ t k. remetered t k side m) s name)
+unfolding at_link
+metric_sound s name side m sound none = placed_metric_sound s name side m (place_of name s.world.links) refl sound none
+
 -- ---- the commands
 
 rounds_sound : (n : ℕ) → Keeps (with_rounds n)
@@ -153,6 +167,7 @@ played_sound : (s : State) (c : Command) → IsSoundState s → IsAddressed c �
 played_sound s (command.Vid vid ect) sound addressed none = vid_sound s vid ect sound none
 played_sound s (command.Bridge name priority system source ports) sound addressed none = bridge_sound s name priority system source ports sound addressed none
 played_sound s (command.Link name a port_a b port_b cost) sound addressed none = link_sound s name a b port_a port_b cost sound none
+played_sound s (command.Metric name side m) sound addressed none = metric_sound s name side m sound none
 played_sound s (command.Down name) sound addressed none = at_link_sound switched_off s name (λ k t. Sound-switched_off t k) sound
 played_sound s (command.Up name) sound addressed none = at_link_sound switched_on s name (λ k t. Sound-switched_on t k) sound
 played_sound s (command.Tick name) sound addressed none = at_bridge_sound ticked s name (λ k t. Sound-ticked t k) sound

@@ -11,7 +11,7 @@ use Rattle.scenario.specs.declared.command.Dir.TheVariants.{Ab, Ba}
 use Rattle.bridge_api.specs.View.{BridgeView}
 use Rattle.bridge_api.specs.Step.{Input, frame, step, sent}
 use Rattle.bridge_api.specs.Config.{ArePairwise}
-use Rattle.bridge_api.specs.Laws.{IsSent}
+use Rattle.bridge_api.specs.Laws.{IsInput, IsSent}
 use Rattle.spb_network.specs.declared.declaration.DeclaredLink.{DeclaredLink}
 use Rattle.spb_network.specs.declared.declaration.LinkEnd.{LinkEnd}
 use Rattle.spb_network.specs.declared.lanes.Lanes.{Lanes}
@@ -25,7 +25,7 @@ use Rattle.spb_network.specs.Sound.{AreShort, Agrees, lane_of, AllAgree, AreIdle
 use Rattle.spb_network.proofs.ListLemmas.{length-push}
 use Rattle.spb_network.proofs.WorldLemmas.{Sound-with_live}
 use Rattle.spb_network.proofs.FitsLemmas.{IsAlike, alike_then, alike_stepped, Fits-with_live}
-use Rattle.spb_network.proofs.SoundLane.{IsIn, moved, sent_by}
+use Rattle.spb_network.proofs.SoundLane.{IsIn, moved, sent_by, AreInputs}
 use Rattle.spb_network.proofs.SoundMoves.{IsCore, Comes, GoesOut, sound_moves}
 
 -- ---- what becomes of a lane
@@ -300,6 +300,13 @@ only_is zero x (suc j) y is = absurd cc
 only_is (suc i) x zero y is = absurd cc
 only_is (suc i) x (suc j) y is = let rest = only_is i x j y is in (ap suc rest.0, rest.1)
 
+only_input : (i : ℕ) (x : Input) (j : ℕ) → IsInput x → AreInputs (only i x j)
+unfolding only
+only_input zero x zero is = is
+only_input zero x (suc j) is = tt
+only_input (suc i) x zero is = tt
+only_input (suc i) x (suc j) is = only_input i x j is
+
 map-moved_none : (o : Option BridgeView) → o ≡ option_map (moved None) o
 map-moved_none None = refl
 map-moved_none (Some v) = refl
@@ -325,11 +332,12 @@ goes_out s x i (Some v) k dir f at over = record {
 }
 
 -- something comes to a bridge after frames were lost or taken from lanes; a frame that comes stood in the lane towards it
-pub core_stepped : (x : Input) (s : State) (lanes : List Lanes) (i : ℕ) → IsCore s → IsAlike s (record s { lanes = lanes }) → AreShort lanes → ((k : ℕ) (dir : Dir) (f : Frame) → IsIn f (lane_of lanes k dir) → IsIn f (lane_of s.lanes k dir)) → ((p : ℕ) (f : Frame) → x ≡ frame p f → Comes (links_of s) s.lanes i p f) → IsCore (stepped x (record s { lanes = lanes }) i)
+pub core_stepped : (x : Input) (s : State) (lanes : List Lanes) (i : ℕ) → IsInput x → IsCore s → IsAlike s (record s { lanes = lanes }) → AreShort lanes → ((k : ℕ) (dir : Dir) (f : Frame) → IsIn f (lane_of lanes k dir) → IsIn f (lane_of s.lanes k dir)) → ((p : ℕ) (f : Frame) → x ≡ frame p f → Comes (links_of s) s.lanes i p f) → IsCore (stepped x (record s { lanes = lanes }) i)
 unfolding stepped
-core_stepped x s lanes i core alike short fewer comes =
+core_stepped x s lanes i is_input core alike short fewer comes =
     sound_moves s t (only i x) core (world-sent_all next i fs) (alike_then s (record s { lanes = lanes }) t alike (alike_stepped x (record s { lanes = lanes }) i)) (short_sent_all next i fs short) (record {
       bridges = λ j. ap (λ (views : List BridgeView). slice_get views j) (views-sent_all next i fs) ∙ get-changed x s.views i j;
+      inputs = λ j. only_input i x j is_input;
       heard = λ j p f is. heard j p f (only_is i x j (frame p f) is);
       frames = λ k dir f among. frames k dir f (in_sent_all next i fs k dir f among);
     })
@@ -356,6 +364,7 @@ pub core_fewer : (s : State) (lanes : List Lanes) → IsCore s → IsAlike s (re
 core_fewer s lanes core alike short fewer =
     sound_moves s (record s { lanes = lanes }) (λ j. None) core refl alike short (record {
       bridges = λ j. map-moved_none (slice_get s.views j);
+      inputs = λ j. tt;
       heard = λ j p f is. absurd cc;
       frames = λ k dir f among. inl (fewer k dir f among);
     })

@@ -1,21 +1,23 @@
 -- A network with a frame on its way over a link that is up.
-use Rattle.std.proofs.Common.{ℕ, true, List, [], ◌∷◌, refl}
+use Rattle.std.proofs.Common.{ℕ, zero, suc, ◌<◌, true, List, [], ◌∷◌, ◌++◌, refl, sym, subst, arith}
 use Rattle.spb_types.specs.declared.address.Mac.{Mac}
 use Rattle.spb_types.specs.declared.service.SourceId.{SourceId}
+use Rattle.isis_pdu.specs.Grammar.{IsBytes}
 use Rattle.scenario.specs.declared.command.Command.{Command}
 use Rattle.scenario.specs.declared.command.Command.TheVariants as command
+use Rattle.bridge_api.specs.declared.config.BridgeConfig.{BridgeConfig}
 use Rattle.bridge_api.specs.declared.kind.Kind.TheVariants as kind
+use Rattle.bridge_api.specs.Step.{second, step}
 use Rattle.spb_network.specs.declared.kind_rule.KindRule.TheVariants as rule
 use Rattle.spb_network.specs.Reason.{reason_unless}
-use Rattle.spb_network.specs.Declaring.{is_vid_range, is_new_name, is_new_system, is_new_source, is_bridge_range, is_free_port, is_link_range, is_unlinked, vid_refusal, bridge_refusal, link_refusal, with_vid, with_bridge, with_link, with_live}
-use Rattle.spb_network.specs.State.{Spare, next_box, way_out}
-use Rattle.spb_network.specs.Events.{stepped, switched_on}
+use Rattle.spb_network.specs.Declaring.{is_vid_range, is_new_name, is_new_system, is_new_source, is_bridge_range, is_free_port, is_link_range, is_unlinked, vid_refusal, bridge_refusal, link_refusal, plan_of, bridge_of, with_vid, with_bridge, with_link, with_live}
+use Rattle.spb_network.specs.State.{State, Spare, changed_at, next_box, way_out}
+use Rattle.spb_network.specs.Events.{sent_all, stepped, switched_on}
 use Rattle.spb_network.specs.Refusing.{declared_refusal, named_link_refusal, unnamed_refusal}
-use Rattle.bridge_api.specs.Ticking.{sent_in_tick}
-use Rattle.bridge_api.specs.Hearing.{with_carrier, with_metric}
-use Rattle.spb_network.specs.Play.{with_vid_more, declared, linked, named_link, at_bridge, next_state, played_all}
+use Rattle.spb_network.specs.Play.{config_of, with_vid_more, declared, linked, named_link, at_bridge, counted, next_state, played_all}
 use Rattle.spb_network.specs.Sound.{opening}
-use Rattle.spb_network.specs.SoundLaws.{AreAccepted, IsBusy, SomeNetworkIsBusy}
+use Rattle.spb_network.specs.SoundLaws.{IsAddress, AreAccepted, IsBusy, SomeNetworkIsBusy}
+use Rattle.spb_network.proofs.SoundConfigured.{first_hello}
 
 abbrev system : ℕ → Mac
 system n = record { bytes = 2 ∷ 0 ∷ 0 ∷ 0 ∷ 0 ∷ n ∷ [] }
@@ -26,22 +28,55 @@ source n = record { value = n }
 abbrev box : Spare
 box = record { kind = kind.Plain; blank = true }
 
-abbrev script : List Command
-script =
+abbrev start : State
+start = opening rule.Plain (box ∷ box ∷ [])
+
+-- a VID, two bridges of one port each, and a link between them
+abbrev declarations : List Command
+declarations =
     command.Vid 100 1
     ∷ command.Bridge (97 ∷ []) 32768 (system 1) (source 1) 1
     ∷ command.Bridge (98 ∷ []) 32768 (system 2) (source 2) 1
     ∷ command.Link (108 ∷ []) (97 ∷ []) 1 (98 ∷ []) 1 10
-    ∷ command.Tick (97 ∷ [])
     ∷ []
 
-accepted : AreAccepted (opening rule.Plain (box ∷ box ∷ [])) script
+-- and then a second of the first bridge
+abbrev script : List Command
+script = declarations ++ command.Tick (97 ∷ []) ∷ []
+
+accepted : AreAccepted start script
 unfolding next_state reason_unless vid_refusal bridge_refusal link_refusal is_vid_range is_new_name is_new_system is_new_source is_bridge_range is_free_port is_link_range is_unlinked with_vid with_bridge with_link with_live next_box way_out stepped switched_on with_vid_more declared_refusal named_link_refusal unnamed_refusal declared linked named_link at_bridge
 accepted = (refl, (refl, (refl, (refl, (refl, tt)))))
 
-shown : IsBusy (played_all (opening rule.Plain (box ∷ box ∷ [])) script)
-unfolding next_state vid_refusal with_vid with_bridge with_link with_live next_box way_out stepped switched_on with_vid_more declared linked named_link at_bridge sent_in_tick with_carrier with_metric
-shown = record { live = refl; waiting = refl }
+-- what the first bridge is configured with
+abbrev first : BridgeConfig
+first = config_of (record { vids = plan_of 100 1 ∷ []; bridges = []; links = [] }) (bridge_of 32768 (system 1) (source 1) 1)
+
+-- the network after the bridge's second, in which it sent these frames
+abbrev sending : List (ℕ × List ℕ) → State
+sending fs = let s : State = played_all start declarations in counted (sent_all (record s { views = changed_at (step second) s.views 0 }) 0 fs)
+
+one_frame : (bytes : List ℕ) → IsBusy (sending ((1, bytes) ∷ []))
+unfolding next_state vid_refusal with_vid with_bridge with_link with_live next_box way_out stepped switched_on with_vid_more declared linked named_link
+one_frame bytes = record { live = refl; waiting = refl }
+
+shown : IsBusy (played_all start script)
+unfolding next_state vid_refusal with_vid with_bridge with_link with_live next_box way_out stepped switched_on with_vid_more declared linked named_link at_bridge
+shown =
+    let hello = first_hello first 1 10 refl in
+    subst (λ (fs : List (ℕ × List ℕ)). IsBusy (sending fs)) (sym hello.1) (one_frame hello.0)
+
+address : (n : ℕ) → n < 256 → IsAddress (system n)
+address n low = record { bytes = refl; octets = octets }
+  where
+    octets : IsBytes (2 ∷ 0 ∷ 0 ∷ 0 ∷ 0 ∷ n ∷ [])
+    octets zero = omega arith
+    octets (suc zero) = omega arith
+    octets (suc (suc zero)) = omega arith
+    octets (suc (suc (suc zero))) = omega arith
+    octets (suc (suc (suc (suc zero)))) = omega arith
+    octets (suc (suc (suc (suc (suc zero))))) = low
+    octets (suc (suc (suc (suc (suc (suc i)))))) = omega arith
 
 pub busy : SomeNetworkIsBusy
-busy = record { rule = rule.Plain; rack = box ∷ box ∷ []; commands = script; addressed = (tt, (refl, (refl, (tt, (tt, tt))))); accepted = accepted; busy = shown }
+busy = record { rule = rule.Plain; rack = box ∷ box ∷ []; commands = script; addressed = (tt, (address 1 (omega arith), (address 2 (omega arith), (tt, (tt, tt))))); accepted = accepted; busy = shown }

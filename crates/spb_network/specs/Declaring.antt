@@ -5,8 +5,11 @@ use Rattle.std.specs.Str.{bytes_eq}
 use Rattle.spb_types.specs.declared.address.Mac.{Mac}
 use Rattle.spb_types.specs.declared.service.SourceId.{SourceId}
 use Rattle.spb_types.specs.declared.service.VidPlan.{VidPlan}
+use Rattle.scenario.specs.declared.command.Side.{Side}
+use Rattle.scenario.specs.declared.command.Side.TheVariants as side
 use Rattle.spb_network.specs.declared.declaration.DeclaredBridge.{DeclaredBridge}
 use Rattle.spb_network.specs.declared.declaration.DeclaredLink.{DeclaredLink}
+use Rattle.spb_network.specs.declared.declaration.LinkEnd.{LinkEnd}
 use Rattle.spb_network.specs.declared.reason.Reason.{Reason}
 use Rattle.spb_network.specs.declared.reason.Reason.TheVariants.{NameTaken, IdTaken, PortUse, Range, TooMany, AlreadyLinked, TooLate}
 use Rattle.spb_network.specs.Reason.{reason_unless, ◌or◌}
@@ -121,3 +124,23 @@ switched on (l ∷ ls) (suc k) = l ∷ switched on ls k
 
 unfoldable pub with_live : Bool → World → ℕ → World
 with_live on w k = record w { links = switched on w.links k }
+
+-- the end of a link that its line names first, or second
+abbrev pub end_on : Side → DeclaredLink → LinkEnd
+end_on side.A l = l.a
+end_on side.B l = l.b
+
+-- the link whose end on this side has this metric
+abbrev pub link_metered : Side → ℕ → DeclaredLink → DeclaredLink
+link_metered side.A m l = record l { a = record l.a { metric = m } }
+link_metered side.B m l = record l { b = record l.b { metric = m } }
+
+-- an end of the link at a place has this metric
+abbrev pub links_metered : Side → ℕ → Links → ℕ → Links
+links_metered on m [] k = []
+links_metered on m (l ∷ ls) zero = (l.0, link_metered on m l.1) ∷ ls
+links_metered on m (l ∷ ls) (suc k) = l ∷ links_metered on m ls k
+
+-- so has one in what is declared
+unfoldable pub with_end_metric : Side → ℕ → World → ℕ → World
+with_end_metric on m w k = record w { links = links_metered on m w.links k }

@@ -4,6 +4,7 @@ use Rattle.std.specs.Option.{option_map_or, option_and_then, option_or}
 use Rattle.link_model.specs.Lane.{Frame, pushed, after_lose, after_double}
 use Rattle.scenario.specs.declared.command.Dir.{Dir}
 use Rattle.scenario.specs.declared.command.Dir.TheVariants.{Ab, Ba}
+use Rattle.scenario.specs.declared.command.Side.{Side}
 use Rattle.bridge_api.specs.Step as comes
 use Rattle.bridge_api.specs.Step.{Input, step, sent}
 use Rattle.spb_network.specs.declared.declaration.DeclaredLink.{DeclaredLink}
@@ -11,7 +12,7 @@ use Rattle.spb_network.specs.declared.declaration.LinkEnd.{LinkEnd}
 use Rattle.spb_network.specs.declared.lanes.Lanes.{Lanes}
 use Rattle.spb_network.specs.declared.way.Way.{Way}
 use Rattle.spb_network.specs.Lanes.{rest, no_frames}
-use Rattle.spb_network.specs.Declaring.{with_live}
+use Rattle.spb_network.specs.Declaring.{end_on, with_live, with_end_metric}
 use Rattle.spb_network.specs.State.{State, changed_at, links_of, is_live, far_end, way_out, lane_at, with_frames}
 
 -- a frame goes into the lane of a way whose link is up; it is lost where there is no such way, and where the lane is full
@@ -68,6 +69,15 @@ metered s e = stepped (comes.metric e.port e.metric) s e.bridge
 -- and so do both, end a before end b
 abbrev pub metered_over : State → DeclaredLink → State
 metered_over s l = metered (metered s l.a) l.b
+
+-- the bridge at an end of a link is told the metric there
+abbrev pub metered_on : Side → State → Option DeclaredLink → State
+metered_on side s None = s
+metered_on side s (Some l) = metered s (end_on side l)
+
+-- an end of the link at place k gets this metric, and its bridge is told it
+unfoldable pub remetered : State → ℕ → Side → ℕ → State
+remetered s k side m = let t : State = record s { world = with_end_metric side m s.world k } in metered_on side t (slice_get (links_of t) k)
 
 -- both lanes of the link at place k lose their frames
 abbrev pub flushed : State → ℕ → State

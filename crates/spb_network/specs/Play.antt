@@ -1,6 +1,11 @@
 -- What an accepted command makes of a network, and what it answers.
 use Rattle.std.specs.Prelude.{ℕ, ◌+◌, List, [], ◌∷◌, ◌++◌, length, map, Bool, replicate, remove, Option, Some, None, slice_get, if◌then◌else◌, nat_lt}
 use Rattle.std.specs.Option.{option_map_or}
+use Rattle.std.specs.FinMap.{entries}
+use Rattle.spb_types.specs.declared.address.LspId.{LspId}
+use Rattle.lsdb.specs.declared.held.DbRow.{DbRow}
+use Rattle.lsdb.specs.Entry.{Entry}
+use Rattle.lsdb.specs.Database.{Lsps}
 use Rattle.adjacency.specs.declared.port.Adjacency.{Adjacency}
 use Rattle.scenario.specs.declared.command.Command.{Command}
 use Rattle.scenario.specs.declared.command.Command.TheVariants as command
@@ -8,14 +13,14 @@ use Rattle.bridge_api.specs.declared.config.BridgeConfig.{BridgeConfig}
 use Rattle.bridge_api.specs.declared.port.BridgePort.{BridgePort}
 use Rattle.bridge_api.specs.Config.{configured}
 use Rattle.spb_network.specs.declared.answer.Answer.{Answer}
-use Rattle.spb_network.specs.declared.answer.Answer.TheVariants.{Silent, Outs, Wiring, Adj}
+use Rattle.spb_network.specs.declared.answer.Answer.TheVariants.{Silent, Outs, Wiring, Db, Adj}
 use Rattle.spb_network.specs.declared.declaration.DeclaredBridge.{DeclaredBridge}
 use Rattle.spb_network.specs.declared.declaration.DeclaredLink.{DeclaredLink}
 use Rattle.spb_network.specs.World.{World, place_of, wired_tables}
 use Rattle.spb_network.specs.Declaring.{plan_of, bridge_of, link_of, with_vid, with_bridge, with_link}
 use Rattle.spb_network.specs.Lanes.{no_frames}
 use Rattle.spb_network.specs.State.{State}
-use Rattle.spb_network.specs.Events.{ticked, delivered, lost, doubled, metered_over, switched_on, switched_off, rounds, drained}
+use Rattle.spb_network.specs.Events.{ticked, delivered, lost, doubled, metered_over, remetered, switched_on, switched_off, rounds, drained}
 use Rattle.spb_network.specs.Refusing.{box_for}
 
 -- what a declared bridge is configured with: no port has a link yet, and none is attached
@@ -71,6 +76,7 @@ abbrev pub played : State → Command → State
 played s (command.Vid vid ect) = with_vid_more s vid ect
 played s (command.Bridge name priority system source ports) = declared s name (bridge_of priority system source ports)
 played s (command.Link name a port_a b port_b cost) = named_link s name a port_a b port_b cost
+played s (command.Metric name side m) = at_link (λ t k. remetered t k side m) s name
 played s (command.Down name) = at_link switched_off s name
 played s (command.Up name) = at_link switched_on s name
 played s (command.Tick name) = at_bridge ticked s name
@@ -108,6 +114,25 @@ placed_wiring s name (Some i) = Wiring name (wired_tables s.world i)
 unfoldable pub wiring_of : State → List ℕ → Answer
 wiring_of s name = placed_wiring s name (place_of name s.world.bridges)
 
+-- a row of a database: what is held under an id, but for the body
+abbrev pub row_of : LspId × Entry → DbRow
+row_of e = record { id = e.0; version = e.1.version; lifetime = e.1.lifetime; srm = e.1.srm; ssn = e.1.ssn }
+
+-- a row for each id that is held, in order of id
+abbrev pub rows_of : Lsps → List DbRow
+rows_of db = map row_of (entries db)
+
+-- those of the bridge at place i
+abbrev pub db_at : State → ℕ → List DbRow
+db_at s i = option_map_or (λ v. rows_of v.database) (slice_get s.views i) []
+
+abbrev pub placed_db : State → List ℕ → Option ℕ → Answer
+placed_db s name None = Silent
+placed_db s name (Some i) = Db name (db_at s i)
+
+unfoldable pub db_of : State → List ℕ → Answer
+db_of s name = placed_db s name (place_of name s.world.bridges)
+
 abbrev pub placed_adj : State → List ℕ → Option ℕ → Answer
 placed_adj s name None = Silent
 placed_adj s name (Some i) = Adj name (adj_at s i)
@@ -121,6 +146,7 @@ no_outs = Outs []
 
 -- the answer to an accepted command
 abbrev pub answer_of : State → Command → Answer
+answer_of s (command.Metric name side m) = no_outs
 answer_of s (command.Down name) = no_outs
 answer_of s (command.Up name) = no_outs
 answer_of s (command.Tick name) = no_outs
@@ -130,6 +156,7 @@ answer_of s (command.Double name dir place) = no_outs
 answer_of s (command.Round n) = no_outs
 answer_of s (command.Drain n) = no_outs
 answer_of s (command.Wiring name) = wiring_of s name
+answer_of s (command.Db name) = db_of s name
 answer_of s (command.Adj name) = adj_of s name
 answer_of s _ = Silent
 

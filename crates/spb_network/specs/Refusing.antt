@@ -49,6 +49,10 @@ down_refusal s name = linked_refusal s (λ k. reason_unless (is_live (links_of s
 unfoldable pub up_refusal : State → List ℕ → Option Reason
 up_refusal s name = linked_refusal s (λ k. reason_unless (not (is_live (links_of s) k)) AlreadyUp) name
 
+-- an end of the link gets this metric
+unfoldable pub metric_refusal : State → List ℕ → ℕ → Option Reason
+metric_refusal s name m = linked_refusal s (λ k. reason_unless (nat_le 1 m && nat_le m 16777214) Range) name
+
 -- a frame stands at this place of a lane
 unfoldable pub frame_refusal : State → List ℕ → Dir → ℕ → Option Reason
 frame_refusal s name dir place = linked_refusal s (λ k. reason_unless (nat_lt place (length (lane_at s k dir))) NoFrame) name
@@ -66,6 +70,7 @@ abbrev pub refusal_of : State → Command → Option Reason
 refusal_of s (command.Vid vid ect) = vid_refusal s.world vid ect
 refusal_of s (command.Bridge name priority system source ports) = declared_refusal s name priority system source ports
 refusal_of s (command.Link name a port_a b port_b cost) = named_link_refusal s name a port_a b port_b cost
+refusal_of s (command.Metric name side m) = metric_refusal s name m
 refusal_of s (command.Down name) = down_refusal s name
 refusal_of s (command.Up name) = up_refusal s name
 refusal_of s (command.Tick name) = unnamed_refusal s name
@@ -75,5 +80,6 @@ refusal_of s (command.Double name dir place) = frame_refusal s name dir place
 refusal_of s (command.Round n) = round_refusal s n
 refusal_of s (command.Drain n) = drain_refusal s n
 refusal_of s (command.Wiring name) = unnamed_refusal s name
+refusal_of s (command.Db name) = unnamed_refusal s name
 refusal_of s (command.Adj name) = unnamed_refusal s name
 refusal_of s _ = None

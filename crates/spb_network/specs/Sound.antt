@@ -1,5 +1,5 @@
 -- What holds of a network at every moment, whatever came to its bridges and whatever became of the frames on their way.
-use Rattle.std.specs.Prelude.{◌≡◌, ◌≢◌, ◌⊎◌, ℕ, ◌≤◌, List, [], length, map, Bool, true, false, Option, Some, None, slice_get}
+use Rattle.std.specs.Prelude.{◌≡◌, ◌≢◌, ◌⊎◌, ℕ, ◌≤◌, List, [], length, map, Bool, true, false, Option, Some, slice_get}
 use Rattle.std.specs.List.{AllByRecursion}
 use Rattle.std.specs.Option.{option_map, option_map_or}
 use Rattle.std.specs.FinMap.{get}
@@ -15,12 +15,10 @@ use Rattle.lsdb.specs.Database.{srm_in, version_at}
 use Rattle.lsdb.specs.Certificate.{IsClaimed}
 use Rattle.adjacency.specs.Hearing.{End, sender}
 use Rattle.scenario.specs.declared.command.Dir.{Dir}
-use Rattle.bridge_api.specs.declared.port.BridgePort.{BridgePort}
-use Rattle.bridge_api.specs.View.{BridgeView, IsPort, port_at, neighbour_at, is_up_at}
+use Rattle.bridge_api.specs.View.{BridgeView, IsPort, port_at, neighbour_at, is_up_at, has_carrier_at}
 use Rattle.bridge_api.specs.Config.{ArePairwise}
 use Rattle.bridge_api.specs.Judging.{greeting, judged}
-use Rattle.bridge_api.specs.Step.{frame}
-use Rattle.bridge_api.specs.Laws.{IsSoundView, claims_of}
+use Rattle.bridge_api.specs.Laws.{IsSoundView, claims_said}
 use Rattle.spb_network.specs.declared.declaration.DeclaredBridge.{DeclaredBridge}
 use Rattle.spb_network.specs.declared.declaration.DeclaredLink.{DeclaredLink}
 use Rattle.spb_network.specs.declared.kind_rule.KindRule.{KindRule}
@@ -51,21 +49,13 @@ pub record IsShown (plans : List VidPlan) (b : DeclaredBridge) (v : BridgeView) 
 abbrev pub AreShown : World → List BridgeView → Type 0
 AreShown w views = (i : ℕ) (v : BridgeView) (b : DeclaredBridge) → slice_get views i ≡ Some v → slice_get (things_of w.bridges) i ≡ Some b → IsShown w.vids b v
 
--- whether a port has carrier
-abbrev pub carrier_in : Option BridgePort → Bool
-carrier_in None = false
-carrier_in (Some port) = port.adjacency.carrier
-
-abbrev pub carrier_at : BridgeView → ℕ → Bool
-carrier_at v p = carrier_in (port_at v p)
-
 -- whether a link that is up ends at a port of the bridge at place i
 abbrev pub is_lit : List DeclaredLink → ℕ → ℕ → Bool
 is_lit links i p = option_map_or (λ way. is_live links way.link) (way_out links i p) false
 
 -- each port has carrier exactly where a link that is up ends there
 abbrev pub AreLit : List DeclaredLink → List BridgeView → Type 0
-AreLit links views = (i : ℕ) (v : BridgeView) (p : ℕ) → slice_get views i ≡ Some v → IsPort v p → carrier_at v p ≡ is_lit links i p
+AreLit links views = (i : ℕ) (v : BridgeView) (p : ℕ) → slice_get views i ≡ Some v → IsPort v p → has_carrier_at v p ≡ is_lit links i p
 
 -- the metric of the link at a port
 abbrev pub metric_at : BridgeView → ℕ → Option ℕ
@@ -81,23 +71,20 @@ AreMetered links views = (k : ℕ) (dir : Dir) (l : DeclaredLink) (v : BridgeVie
 abbrev pub end_at : BridgeView → ℕ → End
 end_at v p = (v.id.system, p)
 
--- a frame is heard as a hello from one end of a link: of level 1, to be held for three seconds, in a state that there is,
--- and where it names a neighbour, this is the other end
-pub record IsHelloTo (from to : End) (bytes : Frame) : Type 0 where
-  pub hello : HelloValue
-  pub way : ThreeWay
-  pub heard : judged bytes ≡ greeting hello way
+-- a hello of one end of a link: of level 1, to be held for three seconds, in a state that there is, and where it names a
+-- neighbour, this is the other end
+pub record IsHelloTo (from to : End) (hello : HelloValue) (way : ThreeWay) : Type 0 where
   pub sender : sender hello way ≡ from
   pub level : hello.circuit_type ≡ 1
   pub holding : hello.holding ≡ 3
   pub state : way.state ≤ 2
   pub neighbour : (n : End) → way.neighbour ≡ Some n → n ≡ to
 
--- a frame that is on its way from port p of a bridge v to port q of a bridge w: a hello of this sender to this receiver,
--- and whatever is claimed in it is at most what the sender holds now
+-- a frame that is on its way from port p of a bridge v to port q of a bridge w: if it is heard as a hello, it is one of
+-- this sender to this receiver; and whatever is claimed in it is at most what the sender holds now
 pub record IsSaid (v : BridgeView) (p : ℕ) (w : BridgeView) (q : ℕ) (bytes : Frame) : Type 0 where
-  pub hello : IsHelloTo (end_at v p) (end_at w q) bytes
-  pub claims : (id : LspId) (a : Version) → IsClaimed (claims_of (frame q bytes)) id a → IsAtMost a (version_at v.database id)
+  pub hello : (h : HelloValue) (way : ThreeWay) → judged bytes ≡ greeting h way → IsHelloTo (end_at v p) (end_at w q) h way
+  pub claims : (id : LspId) (a : Version) → IsClaimed (claims_said (judged bytes)) id a → IsAtMost a (version_at v.database id)
 
 -- the LSP under an id is to be sent at port p of v, or w holds it at least at the version of v
 abbrev pub IsReady : BridgeView → ℕ → BridgeView → LspId → Type 0

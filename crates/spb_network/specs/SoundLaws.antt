@@ -1,13 +1,17 @@
 -- The laws of a network: it is sound at every moment.
 use Rattle.std.specs.Prelude.{◌≡◌, ℕ, List, [], ◌∷◌, length, true, None, ⊤}
 use Rattle.std.specs.List.{AllByRecursion}
+use Rattle.spb_types.specs.declared.address.Mac.{Mac}
+use Rattle.isis_pdu.specs.Grammar.{IsBytes}
 use Rattle.scenario.specs.declared.command.Command.{Command}
 use Rattle.scenario.specs.declared.command.Command.TheVariants as command
 use Rattle.scenario.specs.declared.command.Dir.{Dir}
 use Rattle.scenario.specs.declared.command.Dir.TheVariants.{Ab}
+use Rattle.scenario.specs.declared.command.Side.{Side}
+use Rattle.bridge_api.specs.Config.{IsMetric}
 use Rattle.spb_network.specs.declared.kind_rule.KindRule.{KindRule}
 use Rattle.spb_network.specs.State.{State, Spare, links_of, is_live}
-use Rattle.spb_network.specs.Events.{ticked, delivered, lost, doubled, switched_off, switched_on, rounds, drained}
+use Rattle.spb_network.specs.Events.{ticked, delivered, lost, doubled, remetered, switched_off, switched_on, rounds, drained}
 use Rattle.spb_network.specs.Refusing.{refusal_of}
 use Rattle.spb_network.specs.Play.{next_state, played_all}
 use Rattle.spb_network.specs.Sound.{IsSoundState, lane_of, opening}
@@ -17,13 +21,14 @@ use Rattle.spb_network.specs.Sound.{IsSoundState, lane_of, opening}
 abbrev pub Keeps : (State → State) → Type 0
 Keeps event = (s : State) → IsSoundState s → IsSoundState (event s)
 
--- a tick of any bridge, a delivery from any lane, a frame that is lost or doubled, a link that goes down or comes up,
--- rounds and deliveries in any number
+-- a tick of any bridge, a delivery from any lane, a frame that is lost or doubled, an end of a link that gets another
+-- metric, a link that goes down or comes up, rounds and deliveries in any number
 pub record EventsKeepSound : Type 0 where
   pub tick : (i : ℕ) → Keeps (λ s. ticked s i)
   pub deliver : (k : ℕ) (dir : Dir) → Keeps (λ s. delivered s k dir)
   pub lose : (k : ℕ) (dir : Dir) (place : ℕ) → Keeps (λ s. lost s k dir place)
   pub double : (k : ℕ) (dir : Dir) (place : ℕ) → Keeps (λ s. doubled s k dir place)
+  pub metric : (k : ℕ) (side : Side) (m : ℕ) → IsMetric m → Keeps (λ s. remetered s k side m)
   pub down : (k : ℕ) → Keeps (λ s. switched_off s k)
   pub up : (k : ℕ) → Keeps (λ s. switched_on s k)
   pub round : (n : ℕ) → Keeps (rounds n)
@@ -31,9 +36,14 @@ pub record EventsKeepSound : Type 0 where
 
 -- ---- the commands
 
--- the system id that a command declares, if it does, has six bytes
+-- six octets
+pub record IsAddress (mac : Mac) : Type 0 where
+  pub bytes : length mac.bytes ≡ 6
+  pub octets : IsBytes mac.bytes
+
+-- the system id that a command declares, if it does, is an address
 abbrev pub IsAddressed : Command → Type 0
-IsAddressed (command.Bridge name priority system source ports) = length system.bytes ≡ 6
+IsAddressed (command.Bridge name priority system source ports) = IsAddress system
 IsAddressed _ = ⊤
 
 -- a command that isn't refused leaves the network sound

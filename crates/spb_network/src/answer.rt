@@ -1,4 +1,5 @@
 use adjacency::Adjacency;
+use lsdb::DbRow;
 use spb_types::{Name, Seq, Tables};
 
 /// A customer frame that leaves at a customer port of a bridge.
@@ -22,6 +23,11 @@ pub enum Answer {
     Wiring {
         bridge: Name,
         tables: Tables,
+    },
+    /// What a bridge holds: a row for each LSP id, in order of id.
+    Db {
+        bridge: Name,
+        rows: Seq<DbRow>,
     },
     /// The ports of a bridge, from port 1 on: the adjacency, and whether CSNPs are due.
     Adj {

@@ -10,6 +10,7 @@ ghost use Rattle.spb_network.specs.Network.{AreMade, IsPortAt};
 
 use adjacency::Adjacency;
 use bridge_api::{Bridge, Outbox};
+use lsdb::DbRow;
 use spb_types::NoMemory;
 use std::alloc::Global;
 
@@ -99,4 +100,16 @@ pub fn told_ports<B: Bridge>(
         ports.push((bridge.adjacent(port), bridge.due(port)))?;
     }
     Ok(ports)
+}
+
+/// A row for each LSP id that a bridge holds, in order of id.
+pub fn held_rows<B: Bridge>(alloc: Global, bridge: &B) -> Result<Vec<DbRow>, NoMemory>
+    requires { B.blank bridge.now ≡ false }
+    ensures { IfOk result (λ rows. rows.items ≡ play.rows_of (B.view bridge.now).database) }
+{
+    let mut rows = Vec::new(alloc);
+    while let Some(held) = bridge.entry(rows.len()) {
+        rows.push(held.row())?;
+    }
+    Ok(rows)
 }

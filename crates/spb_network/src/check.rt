@@ -1,7 +1,7 @@
 ghost use Rattle.std.specs.Prelude.{◌≡◌, ◌&&◌, ◌==◌, length};
 ghost use Rattle.spb_network.specs.Declaring as declare;
 ghost use Rattle.spb_network.specs.World as state;
-ghost use Rattle.spb_network.specs.SoundLaws.{IsAddressed};
+ghost use Rattle.spb_network.specs.SoundLaws.{IsAddress, IsAddressed};
 
 use crate::{DeclaredBridge, DeclaredLink};
 use indexmap::IndexMap;
@@ -69,12 +69,11 @@ pub fn is_new_id(bridges: &IndexMap<Name, DeclaredBridge>, system: Mac, source: 
     is_new_system(bridges, system) && is_new_source(bridges, source)
 }
 
-/// How many bytes an address has: six.
-pub fn len(mac: Mac) -> usize
-    ensures six { result ≡ 6 }
-    ensures len { result ≡ length mac.bytes }
+/// Says that an address has six octets.
+pub fn address(mac: Mac)
+    ensures { IsAddress mac }
 {
-    mac.bytes.len()
+    let [_a, _b, _c, _d, _e, _f] = mac.bytes;
 }
 
 /// Whether an address can be a bridge's own: its group bit is clear, and it isn't all zero.
@@ -172,11 +171,11 @@ pub fn is_link_range(
         && cost <= 16_777_214
 }
 
-/// Says that the address that a command declares, if it does, has six bytes.
+/// Says that the address that a command declares, if it does, has six octets.
 pub fn addressed(command: &Command)
     ensures { IsAddressed command.now }
 {
     if let Command::Bridge { system, .. } = command {
-        let _six = len(*system);
+        address(*system);
     }
 }

@@ -1,5 +1,6 @@
 //! The events of a network: what comes to one bridge, and what becomes of the frames that it sends.
 ghost use Rattle.std.specs.Prelude.{◌≡◌, slice_get, OnOk, IfSome};
+ghost use Rattle.bridge_api.specs.Config.{IsMetric};
 ghost use Rattle.bridge_api.specs.Step as comes;
 ghost use Rattle.spb_network.specs.World.{IsEnd, IsLink};
 ghost use Rattle.spb_network.specs.State.{links_of, way_out};
@@ -8,6 +9,7 @@ ghost use Rattle.spb_network.specs.Network.{state_of, IsInOrder};
 
 use crate::{DeclaredLink, LinkEnd, NetworkOf, Way, boxes, ways, wires};
 use bridge_api::{Bridge, Outbox};
+use scenario::Side;
 use spb_types::{NoMemory, Seq};
 
 impl<B: Bridge> NetworkOf<B> {
@@ -112,6 +114,27 @@ impl<B: Bridge> NetworkOf<B> {
     {
         self.meter(link.a)?;
         self.meter(link.b)
+    }
+
+    /// An end of the link at a place gets another metric, which its bridge is told.
+    #[tactic(auto, unfolding(crate::specs::Events::remetered))]
+    pub(crate) fn set_metric(
+        &mut self,
+        place: usize,
+        side: Side,
+        metric: u32,
+    ) -> Result<(), NoMemory>
+        requires order { IsInOrder B.kind_of B.blank B.view self.old }
+        requires metric { IsMetric metric }
+        ensures state { OnOk result (state_of B.kind_of B.blank B.view self.new
+            ≡ event.remetered (state_of B.kind_of B.blank B.view self.old) place side metric) }
+        ensures order { OnOk result (IsInOrder B.kind_of B.blank B.view self.new) }
+    {
+        self.world.set_metric(place, side, metric);
+        match self.world.link(place) {
+            None => Ok(()),
+            Some(link) => self.meter(ways::end_on(&link, side)),
+        }
     }
 
     /// The link at a place comes up.

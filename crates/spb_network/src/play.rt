@@ -11,7 +11,7 @@ ghost use Rattle.spb_network.specs.Applying.{Answers, Happens, IsWayTo, answered
 use crate::rack::{kind_at, next_box};
 use crate::{Answer, ApplyError, Lanes, NetworkOf, Reason, Way, wires};
 use bridge_api::Bridge;
-use scenario::{Command, Dir};
+use scenario::{Command, Dir, Side};
 use spb_types::{BridgeId, Mac, Name, NoMemory, Seq, SourceId, SystemId};
 use std::alloc::Global;
 
@@ -152,6 +152,25 @@ impl<B: Bridge> NetworkOf<B> {
                 Ok(())
             }
         }
+    }
+
+    /// An end of a link gets another metric.
+    #[tactic(auto, unfolding(crate::specs::Refusing::metric_refusal, crate::specs::Play::at_link, crate::specs::Reason::reason_unless))]
+    fn play_metric(&mut self, name: Name, side: Side, metric: u64) -> Result<(), ApplyError>
+        requires { IsInOrder B.kind_of B.blank B.view self.old }
+        ensures happens { Happens (refuse.metric_refusal (state_of B.kind_of B.blank B.view self.old) name metric)
+            (play.at_link (λ s k. event.remetered s k side metric) (state_of B.kind_of B.blank B.view self.old) name)
+            self.old result self.new (state_of B.kind_of B.blank B.view self.new) }
+        ensures made { OnOk result (AreMade B.blank self.new.boxes.items) }
+    {
+        let Some(link) = self.world.link_place(name) else {
+            return Err(ApplyError::Refused(Reason::NoSuchName));
+        };
+        if metric < 1 || metric > 16_777_214 {
+            return Err(ApplyError::Refused(Reason::Range));
+        }
+        self.set_metric(link, side, metric as u32)?;
+        Ok(())
     }
 
     /// A link goes down.
@@ -345,7 +364,11 @@ impl<B: Bridge> NetworkOf<B> {
                 cost,
             } => silent(self.play_link(*name, *a, *port_a, *b, *port_b, *cost)),
             Command::Wiring(name) => self.wiring(*name),
+            Command::Db(name) => self.db(*name),
             Command::Adj(name) => self.adj(*name),
+            Command::Metric { link, side, metric } => {
+                outs(self.alloc, self.play_metric(*link, *side, *metric))
+            }
             Command::Down(name) => outs(self.alloc, self.play_down(*name)),
             Command::Up(name) => outs(self.alloc, self.play_up(*name)),
             Command::Tick(name) => outs(self.alloc, self.play_tick(*name)),

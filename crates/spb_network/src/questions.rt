@@ -8,6 +8,7 @@ ghost use Rattle.spb_network.specs.Applying.{Declines};
 use crate::{Answer, ApplyError, NetworkOf, Reason, boxes};
 use adjacency::Adjacency;
 use bridge_api::Bridge;
+use lsdb::DbRow;
 use spb_types::{Name, NoMemory, Seq};
 
 impl<B: Bridge> NetworkOf<B> {
@@ -28,6 +29,38 @@ impl<B: Bridge> NetworkOf<B> {
                     tables,
                 })
             }
+        }
+    }
+
+    /// The database of a bridge.
+    #[tactic(auto, unfolding(crate::specs::Refusing::unnamed_refusal, crate::specs::Play::db_of, crate::specs::Reason::reason_unless))]
+    pub(crate) fn db(&self, name: Name) -> Result<Answer, ApplyError>
+        requires { IsInOrder B.kind_of B.blank B.view self.now }
+        ensures { MatchResult result
+            (λ answer. (unnamed_refusal (state_of B.kind_of B.blank B.view self.now) name ≡ None)
+            × (answer ≡ play.db_of (state_of B.kind_of B.blank B.view self.now) name))
+            (Declines (unnamed_refusal (state_of B.kind_of B.blank B.view self.now) name)) }
+    {
+        match self.world.bridge_place(name) {
+            None => Err(ApplyError::Refused(Reason::NoSuchName)),
+            Some(place) => {
+                let rows = self.rows(place)?;
+                Ok(Answer::Db {
+                    bridge: name,
+                    rows: Seq::from_vec(rows),
+                })
+            }
+        }
+    }
+
+    /// What the bridge at a place holds: a row for each LSP id, in order of id.
+    fn rows(&self, place: usize) -> Result<Vec<DbRow>, NoMemory>
+        requires { IsInOrder B.kind_of B.blank B.view self.now }
+        ensures { IfOk result (λ rows. rows.items ≡ play.db_at (state_of B.kind_of B.blank B.view self.now) place) }
+    {
+        match self.boxes.get(place) {
+            None => Ok(Vec::new(self.alloc)),
+            Some(bridge) => boxes::held_rows(self.alloc, bridge),
         }
     }
 

@@ -2,11 +2,12 @@
 ghost use Rattle.std.specs.Prelude.{◌≡◌, slice_get};
 ghost use Rattle.std.specs.Option.{option_and_then};
 ghost use Rattle.spb_network.specs.World.{things_of};
+ghost use Rattle.spb_network.specs.Declaring as declare;
 ghost use Rattle.spb_network.specs.State as state;
 
 use crate::{DeclaredLink, LinkEnd, Way};
 use indexmap::IndexMap;
-use scenario::Dir;
+use scenario::{Dir, Side};
 use spb_types::Name;
 
 /// Whether this is the port of a link's end.
@@ -81,5 +82,25 @@ pub fn is_live(links: &IndexMap<Name, DeclaredLink>, place: usize) -> bool
     match links.get_index(place) {
         None => false,
         Some((_, link)) => link.live,
+    }
+}
+
+/// The end of a link that its line names first, or second.
+pub fn end_on(link: &DeclaredLink, side: Side) -> LinkEnd
+    ensures { result ≡ declare.end_on side link.now }
+{
+    match side {
+        Side::A => link.a,
+        Side::B => link.b,
+    }
+}
+
+/// The end of a link on a side gets this metric.
+pub fn set_metric(link: &mut DeclaredLink, side: Side, metric: u32)
+    ensures { link.new ≡ declare.link_metered side metric link.old }
+{
+    match side {
+        Side::A => link.a.metric = metric,
+        Side::B => link.b.metric = metric,
     }
 }

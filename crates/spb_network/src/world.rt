@@ -1,5 +1,5 @@
 ghost use Rattle.std.specs.Prelude.{◌≡◌, [], ◌∷◌, ◌++◌, true, None, OnOk, OnErr};
-ghost use Rattle.spb_network.specs.Declaring.{is_new_name, switched};
+ghost use Rattle.spb_network.specs.Declaring.{is_new_name, switched, links_metered};
 
 use crate::graph::{graph_bridges, graph_edges, system_at};
 use crate::hints::Hints;
@@ -8,6 +8,7 @@ use crate::{DeclaredBridge, DeclaredLink, LinkEnd, Reason, Way, check, ways};
 use bridge_api::BridgeConfig;
 use fdb_build::tables_of;
 use indexmap::IndexMap;
+use scenario::Side;
 use spb_types::{
     BridgeId, Graph, GraphBridge, Mac, Name, NoMemory, Seq, SourceId, SystemId, Tables, Vid,
     VidPlan,
@@ -41,7 +42,7 @@ impl World {
     ghost use Rattle.spb_network.specs.Declaring as declare;
     ghost use Rattle.spb_network.specs.State.{way_out, live_way, is_live};
     ghost use Rattle.spb_network.specs.Play.{config_of};
-    ghost use Rattle.bridge_api.specs.Config.{IsWhole};
+    ghost use Rattle.bridge_api.specs.Config.{IsWhole, IsMetric};
 
     /// The world in which nothing is declared, which takes no memory.
     pub fn new(alloc: Global) -> Self
@@ -185,7 +186,7 @@ impl World {
             ≡ config_of self.now (record { bridge = record { id = id; source = source }; ports = ports })) }
         ensures whole { IfOk result IsWhole }
     {
-        let _six = check::len(id.system.mac);
+        check::address(id.system.mac);
         let vids = Vec::from_slice(alloc, self.vids.as_slice())?;
         let metrics = vec![in alloc; 1; usize::from(ports)]?;
         Ok(BridgeConfig {
@@ -339,6 +340,14 @@ impl World {
     {
         switch(&mut self.links, place, on);
     }
+
+    /// An end of the link at a place gets this metric. Takes no memory.
+    pub fn set_metric(&mut self, place: usize, side: Side, metric: u32)
+        requires { IsMetric metric }
+        ensures { self.new ≡ declare.with_end_metric side metric self.old place }
+    {
+        meter(&mut self.links, place, side, metric);
+    }
 }
 
 /// Puts a thing of a new name behind the others. After NoMemory nothing changed.
@@ -358,5 +367,15 @@ fn switch(links: &mut IndexMap<Name, DeclaredLink>, place: usize, on: bool)
     match links.get_index_mut(place) {
         None => {}
         Some(link) => link.live = on,
+    }
+}
+
+/// An end of the link at a place gets this metric.
+fn meter(links: &mut IndexMap<Name, DeclaredLink>, place: usize, side: Side, metric: u32)
+    ensures { links.new.entries ≡ links_metered side metric links.old.entries place }
+{
+    match links.get_index_mut(place) {
+        None => {}
+        Some(link) => ways::set_metric(link, side, metric),
     }
 }

@@ -20,6 +20,7 @@ abbrev pub is_played : Keyword → Bool
 is_played keyword.Vid = true
 is_played keyword.Bridge = true
 is_played keyword.Link = true
+is_played keyword.Metric = true
 is_played keyword.Down = true
 is_played keyword.Up = true
 is_played keyword.Tick = true
@@ -29,6 +30,7 @@ is_played keyword.Double = true
 is_played keyword.Round = true
 is_played keyword.Drain = true
 is_played keyword.Wiring = true
+is_played keyword.Db = true
 is_played keyword.Adj = true
 is_played _ = false
 

@@ -29,6 +29,7 @@ fn is_played(word: Option<Keyword>) -> bool
             Keyword::Vid
                 | Keyword::Bridge
                 | Keyword::Link
+                | Keyword::Metric
                 | Keyword::Down
                 | Keyword::Up
                 | Keyword::Tick
@@ -38,6 +39,7 @@ fn is_played(word: Option<Keyword>) -> bool
                 | Keyword::Round
                 | Keyword::Drain
                 | Keyword::Wiring
+                | Keyword::Db
                 | Keyword::Adj
         )
     )

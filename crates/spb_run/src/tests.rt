@@ -75,6 +75,73 @@ fn a_hello_is_heard_over_the_link(rt: HostRuntime) -> Result<(), Fail> {
     )
 }
 
+/// Two bridges of one port each, and a link between them over which the first has come up.
+const UP_AT_A: &str = "bridge A 32768 020000000001 00001 1
+bridge B 32768 020000000002 00002 1
+link L1 A 1 B 1 10
+tick A
+deliver L1 ab
+tick B
+deliver L1 ba
+";
+
+#[test]
+fn a_bridge_holds_its_own_lsp(rt: HostRuntime) -> Result<(), Fail> {
+    let alloc = rt.alloc();
+    let script = format!(in alloc; "{TWO}db A\n")?;
+    check(
+        &rt,
+        alloc,
+        script.as_str(),
+        Status::Done,
+        "db A 1\nl 0200000000010000 live 1200 1 4fd7 srm - ssn -\n",
+    )
+}
+
+#[test]
+fn a_metric_is_said_by_the_bridge_of_that_end(rt: HostRuntime) -> Result<(), Fail> {
+    let alloc = rt.alloc();
+    let script = format!(in alloc; "{UP_AT_A}db A\nmetric L1 b 20\nmetric L1 a 15\ndb A\ndb B\n")?;
+    check(
+        &rt,
+        alloc,
+        script.as_str(),
+        Status::Done,
+        "db A 1
+l 0200000000010000 live 1200 2 a512 srm 1 ssn -
+db A 1
+l 0200000000010000 live 1200 3 9e0e srm 1 ssn -
+db B 1
+l 0200000000020000 live 1199 1 69bb srm - ssn -
+",
+    )
+}
+
+#[test]
+fn a_database_is_told_in_order_of_id(rt: HostRuntime) -> Result<(), Fail> {
+    let alloc = rt.alloc();
+    let script = format!(in alloc;
+        "{UP_AT_A}tick A\ndeliver L1 ab\ndeliver L1 ab\ndeliver L1 ab\ndb B\n"
+    )?;
+    check(
+        &rt,
+        alloc,
+        script.as_str(),
+        Status::Done,
+        "db B 2
+l 0200000000010000 live 1199 2 a512 srm - ssn 1
+l 0200000000020000 live 1200 2 c2f3 srm 1 ssn -
+",
+    )
+}
+
+#[test]
+fn a_link_that_is_down_keeps_its_metric(rt: HostRuntime) -> Result<(), Fail> {
+    let alloc = rt.alloc();
+    let script = format!(in alloc; "{TWO}down L1\nmetric L1 a 16777214\nup L1\n")?;
+    check(&rt, alloc, script.as_str(), Status::Done, "")
+}
+
 #[test]
 fn refused_lines(rt: HostRuntime) -> Result<(), Fail> {
     let alloc = rt.alloc();
@@ -92,6 +159,11 @@ fn refused_lines(rt: HostRuntime) -> Result<(), Fail> {
         ),
         ("up L1", command(Reason::AlreadyUp), "9 AlreadyUp"),
         ("deliver L1 ba", command(Reason::NoFrame), "11 NoFrame"),
+        ("metric L2 a 0", command(Reason::NoSuchName), "2 NoSuchName"),
+        ("metric L1 a 0", command(Reason::Range), "6 Range"),
+        ("metric L1 a 16777215", command(Reason::Range), "6 Range"),
+        ("metric L1 c 1", words(11), "1 Words 11"),
+        ("db C", command(Reason::NoSuchName), "2 NoSuchName"),
     ] {
         let script = format!(in alloc; "{TWO}{line}")?;
         let text = format!(in alloc; "error 4 {end}\n")?;

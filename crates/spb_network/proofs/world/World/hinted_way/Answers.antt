@@ -1,4 +1,4 @@
-use Rattle.std.proofs.Common.{◌≡◌, sym, ◌∙◌}
+use Rattle.std.proofs.Common.{sym, ◌∙◌}
 use Rattle.spb_network.specs.World.{things_of}
 use Rattle.spb_network.proofs.HintLemmas.{hint-gives}
 use Rattle.spb_network.proofs.world.World.hinted_way.Goals as goal
