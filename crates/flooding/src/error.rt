@@ -3,28 +3,18 @@ ghost use Rattle.flooding.specs.declared.error.FloodError.TheVariants as errors;
 
 use lsdb::PutError;
 use std::alloc::{AllocError, AllocFailed};
-use std::error::Error;
-use std::fmt;
+use thiserror::Error;
 
 /// Why nothing was heard.
-#[derive(Clone, Copy, Debug, PartialEq, Eq, Hash)]
+#[derive(Clone, Copy, Debug, PartialEq, Eq, Hash, Error)]
 pub enum FloodError {
     /// The id needs a place in the database, and 2,048 ids are held.
+    #[error("the database is full")]
     Full,
     /// No memory was found.
+    #[error("out of memory")]
     NoMemory,
 }
-
-impl fmt::Display for FloodError {
-    fn fmt<W: fmt::Write>(&self, f: &mut fmt::Formatter<W>) -> fmt::Result {
-        f.write_str(match self {
-            FloodError::Full => "the database is full",
-            FloodError::NoMemory => "out of memory",
-        })
-    }
-}
-
-impl Error for FloodError {}
 
 impl From<AllocError> for FloodError {
     ghost from_gives = { λ _ e. e ≡ errors.NoMemory };

@@ -1,6 +1,5 @@
 use spb_types::{LspId, SystemId};
-use std::error::Error;
-use std::fmt;
+use thiserror::Error;
 
 /// A point-to-point IS to IS hello (ISO/IEC 10589, 9.7).
 #[derive(Clone, Copy, Debug, PartialEq, Eq)]
@@ -61,33 +60,24 @@ pub enum Pdu<'a> {
 }
 
 /// Why bytes are no PDU: the first of these rules, in this order, that they break.
-#[derive(Clone, Copy, Debug, PartialEq, Eq, PartialOrd, Ord, Hash)]
+#[derive(Clone, Copy, Debug, PartialEq, Eq, PartialOrd, Ord, Hash, Error)]
 pub enum PduError {
     /// There are fewer than 8 bytes.
+    #[error("fewer bytes than the common header")]
     Short,
     /// The discriminator, a version, the id length or the number of areas isn't one that is read.
+    #[error("no IS-IS PDU")]
     NotIsis,
     /// The type isn't one of the four that are read, or the header length isn't that of the type.
+    #[error("an unknown type or a wrong header length")]
     Kind,
     /// There are fewer bytes than the header, or the PDU length is less than the header or more than the bytes.
+    #[error("a wrong PDU length")]
     Length,
     /// The TLVs don't end exactly at the PDU length.
+    #[error("a TLV passes the end")]
     TlvCut,
     /// A live LSP has the checksum 0, or one that doesn't hold.
+    #[error("a wrong checksum")]
     Sum,
 }
-
-impl fmt::Display for PduError {
-    fn fmt<W: fmt::Write>(&self, f: &mut fmt::Formatter<W>) -> fmt::Result {
-        f.write_str(match self {
-            PduError::Short => "fewer bytes than the common header",
-            PduError::NotIsis => "no IS-IS PDU",
-            PduError::Kind => "an unknown type or a wrong header length",
-            PduError::Length => "a wrong PDU length",
-            PduError::TlvCut => "a TLV passes the end",
-            PduError::Sum => "a wrong checksum",
-        })
-    }
-}
-
-impl Error for PduError {}

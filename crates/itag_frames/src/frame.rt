@@ -2,8 +2,7 @@ ghost use Rattle.std.specs.Prelude.{◌≡◌, ◌≤◌, length};
 ghost use Rattle.itag_frames.specs.Frame as spec;
 
 use spb_types::{Isid, Mac, Vid, take_u16};
-use std::error::Error;
-use std::fmt;
+use thiserror::Error;
 
 /// A frame of the backbone.
 #[derive(Clone, Copy, Debug, PartialEq, Eq)]
@@ -30,27 +29,18 @@ pub struct Backbone<'a> {
 }
 
 /// Why bytes are no frame of the backbone.
-#[derive(Clone, Copy, Debug, PartialEq, Eq, Hash)]
+#[derive(Clone, Copy, Debug, PartialEq, Eq, Hash, Error)]
 pub enum FrameError {
     /// Too few bytes.
+    #[error("a frame is too short")]
     Short,
     /// Neither a control frame nor a frame with a B-TAG.
+    #[error("a frame is no backbone frame")]
     NotBackbone,
     /// A frame with a B-TAG and no I-TAG.
+    #[error("a frame has no I-TAG")]
     NoItag,
 }
-
-impl fmt::Display for FrameError {
-    fn fmt<W: fmt::Write>(&self, f: &mut fmt::Formatter<W>) -> fmt::Result {
-        match self {
-            FrameError::Short => f.write_str("a frame is too short"),
-            FrameError::NotBackbone => f.write_str("a frame is no backbone frame"),
-            FrameError::NoItag => f.write_str("a frame has no I-TAG"),
-        }
-    }
-}
-
-impl Error for FrameError {}
 
 /// The group address of control frames (ISO/IEC 10589, 8.4.8).
 pub(crate) const CONTROL_ADDRESS: [u8; 6] = [0x01, 0x80, 0xc2, 0x00, 0x00, 0x14];

@@ -7,9 +7,8 @@ ghost use Rattle.link_model.specs.Lane.{pushed, doubled, has_room, after_double,
 use spb_types::NoMemory;
 use std::alloc::{AllocError, AllocFailed, Global};
 use std::collections::VecDeque;
-use std::error::Error;
-use std::fmt;
 use std::marker::Model;
+use thiserror::Error;
 
 /// The most frames that a lane holds.
 const MOST: usize = 1024;
@@ -42,36 +41,20 @@ pub enum Pushed {
 }
 
 /// The lane has no frame at that place.
-#[derive(Clone, Copy, Debug, PartialEq, Eq, Hash)]
+#[derive(Clone, Copy, Debug, PartialEq, Eq, Hash, Error)]
+#[error("no frame at that place")]
 pub struct NoFrame;
 
-impl fmt::Display for NoFrame {
-    fn fmt<W: fmt::Write>(&self, f: &mut fmt::Formatter<W>) -> fmt::Result {
-        f.write_str("no frame at that place")
-    }
-}
-
-impl Error for NoFrame {}
-
 /// Why a frame wasn't doubled.
-#[derive(Clone, Copy, Debug, PartialEq, Eq, Hash)]
+#[derive(Clone, Copy, Debug, PartialEq, Eq, Hash, Error)]
 pub enum DoubleError {
     /// The lane has no frame at that place.
+    #[error("no frame at that place")]
     NoFrame,
     /// No memory was found for the copy.
+    #[error("out of memory")]
     NoMemory,
 }
-
-impl fmt::Display for DoubleError {
-    fn fmt<W: fmt::Write>(&self, f: &mut fmt::Formatter<W>) -> fmt::Result {
-        f.write_str(match self {
-            DoubleError::NoFrame => "no frame at that place",
-            DoubleError::NoMemory => "out of memory",
-        })
-    }
-}
-
-impl Error for DoubleError {}
 
 impl From<AllocError> for DoubleError {
     ghost from_gives = { λ _ e. e ≡ double_errors.NoMemory };

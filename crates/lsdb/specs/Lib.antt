@@ -5,4 +5,3 @@ pub mod Place
 pub mod Certificate
 pub mod CertificateLaws
 pub mod Laws
-pub mod Errors

@@ -10,9 +10,8 @@ ghost use Rattle.lsdb.specs.Place.{AreSorted, IsAt, IsGap, with_entry};
 use crate::{Held, Relation, Version, item};
 use spb_types::{LspId, PortSet};
 use std::alloc::{AllocFailed, Global};
-use std::error::Error;
-use std::fmt;
 use std::marker::Model;
+use thiserror::Error;
 
 /// The most LSPs that a database holds.
 const MOST: usize = 2048;
@@ -41,28 +40,15 @@ impl Model for Database {
 }
 
 /// Why an LSP wasn't put in.
-#[derive(Clone, Copy, Debug, PartialEq, Eq, Hash)]
+#[derive(Clone, Copy, Debug, PartialEq, Eq, Hash, Error)]
 pub enum PutError {
     /// The id is new, and 2,048 ids are held.
+    #[error("the database is full")]
     Full,
     /// No memory was found for a place.
+    #[error("out of memory")]
     NoMemory,
 }
-
-impl fmt::Display for PutError {
-    ghost use Rattle.lsdb.specs.Errors.{put_error_text};
-
-    ghost output = { λ e. Some (put_error_text e) };
-
-    fn fmt<W: fmt::Write>(&self, f: &mut fmt::Formatter<W>) -> fmt::Result {
-        match self {
-            PutError::Full => f.write_str("the database is full"),
-            PutError::NoMemory => f.write_str("out of memory"),
-        }
-    }
-}
-
-impl Error for PutError {}
 
 impl<T: Drop> From<AllocFailed<T>> for PutError {
     ghost use Rattle.lsdb.specs.declared.database.PutError.TheVariants.{NoMemory};

@@ -207,3 +207,15 @@ fn flags_are_set_and_cleared(rt: HostRuntime) -> Result<(), Fail> {
     assert_eq!(rt; db.version_at(&own), Version::Dead { seq: 7 });
     Ok(())
 }
+
+#[test]
+fn errors_say_what_was_missing(rt: HostRuntime) -> Result<(), Fail> {
+    for (error, expected) in [
+        (PutError::Full, "the database is full"),
+        (PutError::NoMemory, "out of memory"),
+    ] {
+        let text = format!(in rt.alloc(); "{error}")?;
+        assert_eq!(rt; text.as_str(), expected);
+    }
+    Ok(())
+}

@@ -309,3 +309,15 @@ fn a_keyword_is_read_from_its_text(rt: HostRuntime) {
         assert_eq!(rt; Keyword::read(keyword.text()), Some(keyword));
     }
 }
+
+#[test]
+fn errors_name_the_column(rt: HostRuntime) -> Result<(), Fail> {
+    for (error, expected) in [
+        (LineError::Words(17), "no such line, from column 17 on"),
+        (LineError::NoMemory, "out of memory"),
+    ] {
+        let text = format!(in rt.alloc(); "{error}")?;
+        assert_eq!(rt; text.as_str(), expected);
+    }
+    Ok(())
+}

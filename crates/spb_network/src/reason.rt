@@ -3,11 +3,11 @@ ghost use Rattle.spb_network.specs.Reason as reasons;
 
 use spb_types::NoMemory;
 use std::alloc::AllocFailed;
-use std::error::Error;
-use std::fmt;
+use thiserror::Error;
 
 /// Why a command is refused. Reasons are tested in order of number, and the first that holds is given.
-#[derive(Clone, Copy, Debug, PartialEq, Eq, Hash)]
+#[derive(Clone, Copy, Debug, PartialEq, Eq, Hash, Error)]
+#[error("{}", self.name())]
 pub enum Reason {
     /// A bridge, link, VID or I-SID isn't declared.
     NoSuchName,
@@ -83,12 +83,6 @@ impl Reason {
     }
 }
 
-impl fmt::Display for Reason {
-    fn fmt<W: fmt::Write>(&self, f: &mut fmt::Formatter<W>) -> fmt::Result {
-        f.write_str(self.name())
-    }
-}
-
 /// The reason, where the test fails.
 #[tactic(auto, unfolding(crate::specs::Reason::reason_unless))]
 pub fn reason_unless(test: bool, reason: Reason) -> Option<Reason>
@@ -98,27 +92,18 @@ pub fn reason_unless(test: bool, reason: Reason) -> Option<Reason>
 }
 
 /// Why a command wasn't applied.
-#[derive(Clone, Copy, Debug, PartialEq, Eq, Hash)]
+#[derive(Clone, Copy, Debug, PartialEq, Eq, Hash, Error)]
 pub enum ApplyError {
     /// An earlier command found no memory. Nothing changed.
+    #[error("an earlier command found no memory")]
     Halted,
     /// The command is refused. Nothing changed.
+    #[error(transparent)]
     Refused(Reason),
     /// No memory was found. What boxes and lanes are afterwards isn't told.
+    #[error("out of memory")]
     NoMemory,
 }
-
-impl fmt::Display for ApplyError {
-    fn fmt<W: fmt::Write>(&self, f: &mut fmt::Formatter<W>) -> fmt::Result {
-        f.write_str(match self {
-            ApplyError::Halted => "an earlier command found no memory",
-            ApplyError::Refused(reason) => reason.name(),
-            ApplyError::NoMemory => "out of memory",
-        })
-    }
-}
-
-impl Error for ApplyError {}
 
 impl From<NoMemory> for ApplyError {
     ghost use Rattle.spb_network.specs.declared.reason.ApplyError.TheVariants as errors;

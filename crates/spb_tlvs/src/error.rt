@@ -3,31 +3,21 @@ ghost use Rattle.spb_tlvs.specs.declared.error.TlvError.TheVariants as errors;
 
 use spb_types::NoMemory;
 use std::alloc::{AllocError, AllocFailed};
-use std::error::Error;
-use std::fmt;
+use thiserror::Error;
 
 /// Why a TLV's value could not be read.
-#[derive(Clone, Copy, Debug, PartialEq, Eq, Hash)]
+#[derive(Clone, Copy, Debug, PartialEq, Eq, Hash, Error)]
 pub enum TlvError {
     /// The value, or a part of it, has too few bytes or bytes that belong to no part.
+    #[error("a TLV is cut")]
     Cut,
     /// A field has a number that it can't have.
+    #[error("a field of a TLV is out of range")]
     Range,
     /// No memory was found.
+    #[error("out of memory")]
     NoMemory,
 }
-
-impl fmt::Display for TlvError {
-    fn fmt<W: fmt::Write>(&self, f: &mut fmt::Formatter<W>) -> fmt::Result {
-        match self {
-            TlvError::Cut => f.write_str("a TLV is cut"),
-            TlvError::Range => f.write_str("a field of a TLV is out of range"),
-            TlvError::NoMemory => f.write_str("out of memory"),
-        }
-    }
-}
-
-impl Error for TlvError {}
 
 impl From<NoMemory> for TlvError {
     ghost from_gives = { λ _ e. e ≡ errors.NoMemory };

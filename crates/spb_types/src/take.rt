@@ -2,20 +2,12 @@ ghost use Rattle.std.specs.Prelude.{◌≡◌, ◌+◌, ◌≤◌, ◌<◌, leng
 ghost use Rattle.std.specs.Result.{OkIff};
 ghost use Rattle.spb_types.specs.Bytes.{u8_at, u16_at, u24_at, u32_at};
 
-use std::error::Error;
-use std::fmt;
+use thiserror::Error;
 
 /// Too few bytes stand at the place where a number was to be read.
-#[derive(Clone, Copy, Debug, PartialEq, Eq, Hash)]
+#[derive(Clone, Copy, Debug, PartialEq, Eq, Hash, Error)]
+#[error("too few bytes")]
 pub struct Short;
-
-impl fmt::Display for Short {
-    fn fmt<W: fmt::Write>(&self, f: &mut fmt::Formatter<W>) -> fmt::Result {
-        f.write_str("too few bytes")
-    }
-}
-
-impl Error for Short {}
 
 /// The byte at place `at`, counted from 0. `Short` exactly where no byte stands there.
 pub fn take_u8(input: &[u8], at: usize) -> Result<u8, Short>
