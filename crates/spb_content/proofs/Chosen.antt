@@ -138,7 +138,7 @@ said_has (d ∷ ds) x c h = at (test d x) refl h (λ k. said_has ds x c k)
   where
     at : (b : Bool) → test d x ≡ b → cond b (Some d.1) (said_of ds x) ≡ Some c → (said_of ds x ≡ Some c → Has (x, c) ds) → Has (x, c) (d ∷ ds)
     at true t e r =
-        let first : x ≡ d.0 = sym (same_is d.0 x (and_parts _ _ t).1) in
         let second : c ≡ d.1 = cc in
+        let first : x ≡ d.0 = sym (same_is d.0 x (and_parts _ _ t).1) in
         inl (λ i. (first i, second i))
     at false t e r = inr (r e)

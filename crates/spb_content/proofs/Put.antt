@@ -71,12 +71,17 @@ graph_more list marks p d now then all lt same marked put before =
     let next = kept_next list marks p d lt same ∙ ap (λ b. cond b (get_or list p d ∷ rest) rest) marked in
     ap (λ g. joined g (graph_among list rest)) put ∙ sym (graph_next list (get_or list p d) rest now) ∙ ap (λ ks. joined now (graph_among list ks)) (sym next) ∙ before
 
-pub graph_past : (list : Contents) (marks : List Bool) (p : ℕ) (d : SystemId × Content) (now all : Graph) → p < length list → length marks ≡ length list → mark_at marks p ≡ false
+past_with : (list : Contents) (marks : List Bool) (p : ℕ) (d : SystemId × Content) (now all : Graph) → p < length list → length marks ≡ length list → mark_at marks p ≡ false
     → joined now (graph_among list (kept (drop p list) (drop p marks))) ≡ all → joined now (graph_among list (kept (drop (p + 1) list) (drop (p + 1) marks))) ≡ all
-graph_past list marks p d now all lt same marked before =
+past_with list marks p d now all lt same marked before =
     let rest = kept (drop (p + 1) list) (drop (p + 1) marks) in
     let next = kept_next list marks p d lt same ∙ ap (λ b. cond b (get_or list p d ∷ rest) rest) marked in
     ap (λ ks. joined now (graph_among list ks)) (sym next) ∙ before
+
+pub graph_past : (list : Contents) (marks : List Bool) (p : ℕ) (now all : Graph) → p < length list → length marks ≡ length list → mark_at marks p ≡ false
+    → joined now (graph_among list (kept (drop p list) (drop p marks))) ≡ all → joined now (graph_among list (kept (drop (p + 1) list) (drop (p + 1) marks))) ≡ all
+graph_past [] marks p now all lt same marked before = absurd (omega (arith, lt))
+graph_past (c ∷ cs) marks p now all lt same marked before = past_with (c ∷ cs) marks p c now all lt same marked before
 
 pub graph_end : (list : Contents) (marks : List Bool) (p : ℕ) (now all : Graph) → length list ≤ p → joined now (graph_among list (kept (drop p list) (drop p marks))) ≡ all → now ≡ all
 graph_end list marks p now all over h =
