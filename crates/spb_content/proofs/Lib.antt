@@ -15,3 +15,5 @@ pub mod Walked
 pub mod Chosen
 pub mod Made
 pub mod Put
+pub mod Joined
+pub mod Whole

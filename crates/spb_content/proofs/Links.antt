@@ -59,7 +59,7 @@ link_turned list x y l h =
     let e = entries_of list x y l h in
     link_from list y x l.1 l.0 (apart_is y x (λ q. apart_from x y e.apart (sym q))) e.back e.there
 
-some_is : {A : Type 0} (o : Option A) → IsSome o → (a : A) × (o ≡ Some a)
+pub some_is : {A : Type 0} (o : Option A) → IsSome o → (a : A) × (o ≡ Some a)
 some_is None h = absurd (true≢false (sym h))
 some_is (Some a) h = (a, refl)
 
@@ -137,7 +137,7 @@ entry_is y c n h = at (find (λ m. same_system m.system y) c.neighbours) refl h
         let t = and_parts _ _ u.1 in
         subst (λ r. Entry y c r) u.0 (record { first = e; listed = f.0; system = same_is m.system y f.1; low = leb-true _ _ t.0; high = leb-true _ _ t.1 })
 
-some_same : {A : Type 0} (a b : A) → Some a ≡ Some b → a ≡ b
+pub some_same : {A : Type 0} (a b : A) → Some a ≡ Some b → a ≡ b
 some_same a b e = cc
 
 pub listed_in : (list : Contents) (x y : SystemId) (c : Content) → said_of list x ≡ Some c → IsSome (link_said list x y) → (n : Neighbour) × Has n c.neighbours × (n.system ≡ y)
