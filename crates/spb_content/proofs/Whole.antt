@@ -1,6 +1,6 @@
 -- The graph is that of the contents, and it is valid.
 use Rattle.std.proofs.Common.{◌≡◌, ◌≢◌, ℕ, ◌≤◌, Bool, true, false, true≢false, cond, ◌&&◌, ◌||◌, ◌⊎◌, inl, inr, List, [], ◌∷◌, length, max, flat_map, Option, Some, None, is_some, refl, sym, ap, ◌∙◌, subst, arith}
-use Rattle.std.specs.Prelude.{IsSome, option_map, Contains}
+use Rattle.std.specs.Prelude.{IsSome, option_map, Contains, Result, Ok, Err, IfOk}
 use Rattle.std.specs.List.{AllByRecursion, filter_map, cons_option}
 use Rattle.std.proofs.lemmas.Bool.{and_parts}
 use Rattle.spb_types.specs.Address.{same_system}
@@ -285,3 +285,7 @@ graph_valid list me marks apart few h = valid_reached list me (kept list marks) 
 
 pub graph_valid_for : (list : Contents) (me : SystemId) (marks : List Bool) → IsDistinct (systems_in list) → length list ≤ 65535 → Reaches list me marks → HasOwnPorts list me → IsValidFor (graph_among list (kept list marks)) me
 graph_valid_for list me marks apart few h own = valid_for_reached list me (kept list marks) few (are_reached list me marks apart h) own
+
+pub ok_is : {E : Type 0} (P : Graph → Type 0) (g : Graph) (r : Result Graph E) → IfOk r (λ h. h ≡ g) → P g → IfOk r P
+ok_is P g (Ok h) e p = subst P (sym e) p
+ok_is P g (Err e) h p = h
