@@ -277,15 +277,28 @@ valid_for_reached list me ks few h own =
 
 -- ---- what was built
 
-pub graph_is : (list : Contents) (me : SystemId) (marks : List Bool) → IsDistinct (systems_in list) → Reaches list me marks → IsGraphOf me list (graph_among list (kept list marks))
-graph_is list me marks apart h = graph_of_reached list me (kept list marks) (are_reached list me marks apart h)
+-- an answer is the graph of the places that a walk marked
+pub record Built {E : Type 0} (list : Contents) (me : SystemId) (r : Result Graph E) : Type 0 where
+  pub marks : List Bool
+  pub walked : Reaches list me marks
+  pub is : IfOk r (λ g. g ≡ graph_among list (kept list marks))
 
-pub graph_valid : (list : Contents) (me : SystemId) (marks : List Bool) → IsDistinct (systems_in list) → length list ≤ 65535 → Reaches list me marks → IsValid (graph_among list (kept list marks))
-graph_valid list me marks apart few h = valid_reached list me (kept list marks) few (are_reached list me marks apart h)
+pub built : {E : Type 0} (list kept_list : Contents) (me : SystemId) (marks slice : List Bool) (r : Result Graph E) → kept_list ≡ list → slice ≡ marks → Reaches kept_list me marks → IfOk r (λ g. g ≡ graph_among kept_list (kept kept_list slice)) → Built list me r
+built list kept_list me marks slice r same all walked is = record {
+  marks = marks;
+  walked = subst (λ l. Reaches l me marks) same walked;
+  is = subst (λ l. IfOk r (λ g. g ≡ graph_among l (kept l marks))) same (subst (λ ms. IfOk r (λ g. g ≡ graph_among kept_list (kept kept_list ms))) all is);
+}
 
-pub graph_valid_for : (list : Contents) (me : SystemId) (marks : List Bool) → IsDistinct (systems_in list) → length list ≤ 65535 → Reaches list me marks → HasOwnPorts list me → IsValidFor (graph_among list (kept list marks)) me
-graph_valid_for list me marks apart few h own = valid_for_reached list me (kept list marks) few (are_reached list me marks apart h) own
-
-pub ok_is : {E : Type 0} (P : Graph → Type 0) (g : Graph) (r : Result Graph E) → IfOk r (λ h. h ≡ g) → P g → IfOk r P
+ok_is : {E : Type 0} (P : Graph → Type 0) (g : Graph) (r : Result Graph E) → IfOk r (λ h. h ≡ g) → P g → IfOk r P
 ok_is P g (Ok h) e p = subst P (sym e) p
 ok_is P g (Err e) h p = h
+
+pub graph_is : {E : Type 0} (list : Contents) (me : SystemId) (r : Result Graph E) → IsDistinct (systems_in list) → Built list me r → IfOk r (IsGraphOf me list)
+graph_is list me r apart b = ok_is (IsGraphOf me list) _ r b.is (graph_of_reached list me (kept list b.marks) (are_reached list me b.marks apart b.walked))
+
+pub graph_valid : {E : Type 0} (list : Contents) (me : SystemId) (r : Result Graph E) → IsDistinct (systems_in list) → length list ≤ 65535 → Built list me r → IfOk r IsValid
+graph_valid list me r apart few b = ok_is IsValid _ r b.is (valid_reached list me (kept list b.marks) few (are_reached list me b.marks apart b.walked))
+
+pub graph_valid_for : {E : Type 0} (list : Contents) (me : SystemId) (r : Result Graph E) → IsDistinct (systems_in list) → length list ≤ 65535 → Built list me r → HasOwnPorts list me → IfOk r (λ g. IsValidFor g me)
+graph_valid_for list me r apart few b own = ok_is (λ g. IsValidFor g me) _ r b.is (valid_for_reached list me (kept list b.marks) few (are_reached list me b.marks apart b.walked) own)

@@ -13,12 +13,16 @@ use std::collections::BTreeMap;
 /// What some systems say, and the places of those that are bridges.
 #[derive(Drop)]
 pub struct Backbone<'a> {
+    /// The systems with what they say.
     pub list: &'a [(SystemId, Content)],
+    /// The place in the list of each bridge.
     pub places: BTreeMap<SystemId, usize>,
 }
 
-/// The least and the greatest metric that a link can have.
+/// The least metric that a link can have.
 const LEAST: u32 = 1;
+
+/// The greatest metric that a link can have.
 const GREATEST: u32 = 16_777_214;
 
 /// The entry, if its metric is one that a link can have.
@@ -32,6 +36,7 @@ fn usable(neighbour: &Neighbour) -> Option<Neighbour>
     }
 }
 
+/// The first entry for a neighbour.
 fn first_entry(content: &Content, to: SystemId) -> Option<&Neighbour>
     ensures { option_copied result ≡ find (λ n. same_system n.system to) content.now.neighbours }
 {

@@ -12,6 +12,7 @@ use spb_tlvs::{Neighbour, Service};
 use spb_types::{BridgeId, Edge, Graph, GraphBridge, Mac, Member, NoMemory, Seq, SystemId, Vid};
 use std::alloc::Global;
 
+/// Puts an item behind the others, if there is one.
 fn push_some<T: Drop>(items: &mut Seq<T>, item: Option<T>) -> Result<(), NoMemory>
     ensures { OnOk result (items.new ≡ items.old ++ option_to_list item) }
 {
@@ -54,6 +55,7 @@ fn member_of(system: SystemId, service: &(Mac, Vid, Service)) -> Option<Member>
     }
 }
 
+/// Puts the members that the services of a system make it behind the others.
 fn put_members(members: &mut Seq<Member>, said: &(SystemId, Content)) -> Result<(), NoMemory>
     ensures { OnOk result (members.new ≡ members.old ++ spec.members_of said.now) }
 {
@@ -82,6 +84,7 @@ fn edge(backbone: &Backbone<'_>, from: SystemId, to: SystemId) -> Option<Edge>
     })
 }
 
+/// Whether one of the entries is for the system.
 fn is_listed(neighbours: &[Neighbour], system: SystemId) -> bool
     ensures { result ≡ building.is_listed neighbours.now system }
 {
@@ -106,6 +109,7 @@ fn put_edge(
     push_some(edges, edge(backbone, from, to))
 }
 
+/// Puts the edges that are made at a system behind the others.
 fn put_edges(
     backbone: &Backbone<'_>,
     edges: &mut Seq<Edge>,
@@ -166,7 +170,8 @@ fn graph_among(alloc: Global, backbone: &Backbone<'_>, marks: &[bool]) -> Result
 /// The system ids differ, and there are at most 65,535. The graph is valid, and it is valid for `me` where the ports that
 /// `me` lists differ and are 1 to 32.
 ///
-/// It takes a look-up for each entry, a search of both bridges' entries for each link, and sorts nothing.
+/// It puts each bridge into a map, and for each entry of a reached bridge looks up both ends there and searches the entries
+/// of both.
 pub fn graph_of(
     alloc: Global,
     me: SystemId,

@@ -3,9 +3,11 @@
 //! [`content_of`] writes the TLVs of the own LSP, [`read_content`] reads those of any LSP, and [`graph_of`] makes the
 //! graph of what the systems of a backbone say.
 //!
-//! The first two take time in proportion to the bytes, but for sorting the VIDs and I-SIDs of the own content. The graph
-//! takes, for each entry that a reached bridge lists, two look-ups of a system in a sorted map and a search of both
-//! bridges' entries, so with n systems of at most k entries O(n (k + s)) for its s services, and O(n k (k + log n)) for links.
+//! The first two take time in proportion to the bytes, but for sorting the VIDs and I-SIDs of the own content.
+//!
+//! The graph of n systems takes O(n log n) for a map of the bridges; then O(k + log n) for each entry of a reached bridge,
+//! where k is how many neighbours it and the one that it lists have, as both ends of a link are searched and an entry is
+//! compared with the earlier ones; and O(1) for each of its services.
 #![tactic(auto)]
 
 pub use content::{Content, Inst, read_content};

@@ -10,8 +10,11 @@ use std::alloc::Global;
 /// order in which they were reached.
 #[derive(Drop)]
 pub struct Walk {
+    /// The bridge at which the walk begins.
     pub source: SystemId,
+    /// For each place whether it was reached.
     pub marks: Vec<bool>,
+    /// The places that were reached, in that order.
     pub queue: Vec<usize>,
 }
 
