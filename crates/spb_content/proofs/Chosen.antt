@@ -1,5 +1,5 @@
 -- The contents of the bridges that are reached.
-use Rattle.std.proofs.Common.{◌≡◌, ℕ, zero, suc, ◌<◌, ◌≤◌, Bool, true, false, true≢false, cond, inl, inr, List, [], ◌∷◌, length, get_or, Option, Some, is_some, refl, sym, ap, ◌∙◌, subst, arith}
+use Rattle.std.proofs.Common.{◌≡◌, ℕ, zero, suc, ◌<◌, ◌≤◌, Bool, true, false, true≢false, cond, inl, inr, List, [], ◌∷◌, length, get_or, Some, refl, sym, ap, ◌∙◌, subst, arith}
 use Rattle.std.specs.Prelude.{IsSome}
 use Rattle.std.proofs.lemmas.Bool.{and_parts}
 use Rattle.std.proofs.lemmas.List.Elements.{Contains-get_or}
@@ -43,6 +43,7 @@ kept_has (d ∷ ds) (m ∷ ms) c h = at m refl h (λ k. kept_has ds ms c k)
   where
     later : Place ds ms c → Place (d ∷ ds) (m ∷ ms) c
     later p = record { place = suc p.place; high = omega (arith, p.high); here = p.here; marked = p.marked }
+
     at : (b : Bool) → m ≡ b → Has c (cond b (d ∷ kept ds ms) (kept ds ms)) → (Has c (kept ds ms) → Place ds ms c) → Place (d ∷ ds) (m ∷ ms) c
     at true e (inl i) r = record { place = zero; high = omega arith; here = sym i; marked = e }
     at true e (inr i) r = later (r i)

@@ -1,18 +1,17 @@
 -- The edges of the graph say what the contents do.
-use Rattle.std.proofs.Common.{◌≡◌, ℕ, ◌≤◌, Bool, true, false, true≢false, cond, ◌&&◌, ◌||◌, ◌⊎◌, inl, inr, List, [], ◌∷◌, max, flat_map, Option, Some, None, refl, sym, ap, ◌∙◌, subst, arith}
+use Rattle.std.proofs.Common.{◌≡◌, ℕ, Bool, true, false, true≢false, cond, ◌&&◌, ◌||◌, ◌⊎◌, inl, inr, List, [], ◌∷◌, max, flat_map, Option, Some, None, refl, sym, ap, ◌∙◌, subst, arith}
 use Rattle.std.specs.Prelude.{IsSome, option_map}
 use Rattle.std.specs.Ordering.{is_lt}
 use Rattle.std.proofs.lemmas.Bool.{and_parts}
 use Rattle.spb_types.specs.Address.{same_system}
-use Rattle.spb_types.specs.Graph.{IsDistinct, OneEdge, joins, port_at, cost_among, port_among}
+use Rattle.spb_types.specs.Graph.{OneEdge, joins, port_at, cost_among, port_among}
 use Rattle.spb_types.specs.declared.address.SystemId.{SystemId}
 use Rattle.spb_types.specs.declared.graph.Edge.{Edge}
 use Rattle.spb_tlvs.specs.declared.neighbours.Neighbour.{Neighbour}
-use Rattle.spb_content.specs.declared.content.Content.{Content}
 use Rattle.spb_content.specs.Graph.{Contents, said_of, link_said, cost_said, port_said, IsReached}
 use Rattle.spb_content.specs.Building.{system_cmp, edge_with, edges_from}
 use Rattle.spb_content.proofs.Members.{Has, has_flat_map, flat_map_has}
-use Rattle.spb_content.proofs.Links.{same_is, same_self, same_from, apart_is, entries_of, link_turned, link_of, ends_said, reached_more, listed_in, some_is}
+use Rattle.spb_content.proofs.Links.{same_is, same_self, apart_is, entries_of, link_turned, link_of, ends_said, reached_more, listed_in, some_is}
 use Rattle.spb_content.proofs.Chosen.{AreReached, said_has}
 use Rattle.spb_content.proofs.Made.{Made, one_below, edge_of_link, from_made, from_at, from_has, made_apart, all_one}
 

@@ -1,5 +1,5 @@
 -- Links, and walks over them.
-use Rattle.std.proofs.Common.{◌≡◌, ◌≢◌, ℕ, ◌≤◌, ◌⊎◌, inl, inr, Bool, true, false, true≢false, cond, ◌&&◌, List, [], ◌∷◌, ◌++◌, Option, Some, None, is_some, find, max, refl, sym, ap, ◌∙◌, subst}
+use Rattle.std.proofs.Common.{◌≡◌, ◌≢◌, ◌≤◌, inl, inr, Bool, true, false, true≢false, cond, ◌&&◌, List, [], ◌∷◌, ◌++◌, Option, Some, None, find, refl, sym, ap, ◌∙◌, subst}
 use Rattle.std.specs.Prelude.{IsSome, option_and_then, nat_le}
 use Rattle.std.proofs.lemmas.Bool.{and_parts, leb-true}
 use Rattle.std.proofs.lemmas.Slice.Eq.{bytes_eq-Decides}
@@ -46,6 +46,7 @@ entries_of list x y l h = at (same_system x y) refl h
     both_are None n e = absurd cc
     both_are (Some m) None e = absurd cc
     both_are (Some m) (Some n) e = let same : (m, n) ≡ l = cc in (ap (λ (k : Neighbour × Neighbour). Some k.0) same, ap (λ (k : Neighbour × Neighbour). Some k.1) same)
+
     at : (b : Bool) → same_system x y ≡ b → cond b None (both (entry_said list x y) (entry_said list y x)) ≡ Some l → Entries list x y l
     at true t e = absurd cc
     at false t e = let p = both_are (entry_said list x y) (entry_said list y x) e in record { apart = t; there = p.0; back = p.1 }
@@ -129,6 +130,7 @@ entry_is y c n h = at (find (λ m. same_system m.system y) c.neighbours) refl h
     used : (m : Neighbour) (b : Bool) → (nat_le 1 m.metric && nat_le m.metric 16777214) ≡ b → cond b (Some m) None ≡ Some n → (m ≡ n) × ((nat_le 1 m.metric && nat_le m.metric 16777214) ≡ true)
     used m true e k = (cc, e)
     used m false e k = absurd cc
+
     at : (o : Option Neighbour) → find (λ m. same_system m.system y) c.neighbours ≡ o → option_and_then usable o ≡ Some n → Entry y c n
     at None e k = absurd cc
     at (Some m) e k =

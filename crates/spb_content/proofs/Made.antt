@@ -1,7 +1,6 @@
 -- The edges that are made at bridges: each link once.
 use Rattle.std.proofs.Common.{◌≡◌, ◌≢◌, Bool, true, false, true≢false, cond, ◌&&◌, ◌||◌, ◌⊎◌, inl, inr, List, [], ◌∷◌, ◌++◌, max, flat_map, Option, Some, None, refl, sym, ap, ◌∙◌, subst, Ordering, Less, Equal, Greater}
 use Rattle.std.specs.Prelude.{option_map, option_to_list}
-use Rattle.std.specs.List.{AllByRecursion}
 use Rattle.std.specs.Ordering.{is_lt, is_eq, ordering_reverse}
 use Rattle.std.proofs.lemmas.Bool.{or_parts}
 use Rattle.std.proofs.lemmas.Cmp.{nat_list_cmp_total}
@@ -16,7 +15,7 @@ use Rattle.spb_content.specs.declared.content.Content.{Content}
 use Rattle.spb_content.specs.Graph.{Contents, systems_in, link_said}
 use Rattle.spb_content.specs.Building.{system_cmp, edge_with, edge_said, is_listed, edge_for, edges_after, edges_from}
 use Rattle.spb_content.proofs.Members.{Has, all_has, has_all, has_left, has_right, has_parts, flat_map_has}
-use Rattle.spb_content.proofs.Links.{same_is, same_self, same_from, apart_is}
+use Rattle.spb_content.proofs.Links.{same_is, same_from, apart_is}
 use Rattle.spb_content.proofs.Chosen.{among_has}
 
 -- ---- the order of system ids
@@ -128,6 +127,7 @@ after_has list x y e earlier (m ∷ ms) n h for new said = at (same_system m.sys
   where
     here : edge_for list x earlier y ≡ Some e
     here = rw new said
+
     at : (b : Bool) → same_system m.system y ≡ b → Has n (m ∷ ms) → (Has n ms → is_listed (earlier ++ m ∷ []) y ≡ false → Has e (edges_after list x (earlier ++ m ∷ []) ms)) → Has e (edges_after list x earlier (m ∷ ms))
     at true t k r =
         let first : edge_for list x earlier m.system ≡ Some e = ap (λ z. edge_for list x earlier z) (same_is m.system y t) ∙ here in
@@ -158,14 +158,18 @@ after_one list x earlier (n ∷ ns) = at (edge_for list x earlier n.system) refl
   where
     rest : List Edge
     rest = edges_after list x (earlier ++ n ∷ []) ns
+
     at : (o : Option Edge) → edge_for list x earlier n.system ≡ o → OneEdge rest → OneEdge (option_to_list o ++ rest)
     at None k one = one
-    at (Some e) k one = (has_all (λ f. joins e f.a f.b ≡ false) rest (λ f h. (
-        let r = after_new list x (earlier ++ n ∷ []) ns f h in
-        let m = for_new list x earlier n.system e k in
-        ends_apart e f
-        (ap (λ z. same_system z f.b) (for_end list x earlier n.system e k) ∙ (not_listed earlier n f.b r.new).last)
-        (ap (λ z. same_system z f.b) (m.from ∙ sym r.from) ∙ apart_is f.a f.b (made_apart list f r.made)))), one)
+    at (Some e) k one = (
+      has_all (λ f. joins e f.a f.b ≡ false) rest (λ f h. (
+          let r = after_new list x (earlier ++ n ∷ []) ns f h in
+          let m = for_new list x earlier n.system e k in
+          ends_apart e f
+          (ap (λ z. same_system z f.b) (for_end list x earlier n.system e k) ∙ (not_listed earlier n f.b r.new).last)
+          (ap (λ z. same_system z f.b) (m.from ∙ sym r.from) ∙ apart_is f.a f.b (made_apart list f r.made)))),
+      one,
+    )
 
 neither : (p q r s : Bool) → p ≡ false → (r ≡ true → s ≡ true → ⊥) → ((p && q) || (r && s)) ≡ false
 neither p q true true h k = absurd (k refl refl)
@@ -182,8 +186,9 @@ bridges_apart list e f m n ne = neither (same_system e.a f.a) (same_system e.b f
 one_append : (es fs : List Edge) → OneEdge es → OneEdge fs → ((e f : Edge) → Has e es → Has f fs → joins e f.a f.b ≡ false) → OneEdge (es ++ fs)
 one_append [] fs h k cross = k
 one_append (e ∷ es) fs h k cross = (
-    has_all (λ f. joins e f.a f.b ≡ false) (es ++ fs) (λ f i. elim (has_parts f es fs i) [ inl j ↦ all_has (λ g. joins e g.a g.b ≡ false) f es h.0 j | inr j ↦ cross e f (inl refl) j ]),
-    one_append es fs h.1 k (λ g f i j. cross g f (inr i) j))
+  has_all (λ f. joins e f.a f.b ≡ false) (es ++ fs) (λ f i. elim (has_parts f es fs i) [ inl j ↦ all_has (λ g. joins e g.a g.b ≡ false) f es h.0 j | inr j ↦ cross e f (inl refl) j ]),
+  one_append es fs h.1 k (λ g f i j. cross g f (inr i) j),
+)
 
 pub all_one : (list : Contents) (ks : Contents) → IsDistinct (systems_in ks) → OneEdge (flat_map (edges_from list) ks)
 all_one list [] apart = tt

@@ -1,8 +1,7 @@
 -- The places of bridges among contents.
-use Rattle.std.proofs.Common.{◌≡◌, ℕ, suc, ◌+◌, ◌-◌, ◌≤◌, ◌<◌, Bool, true, false, true≢false, cond, ◌&&◌, List, [], ◌∷◌, length, drop, get_or, Option, Some, None, is_some, refl, sym, ap, ◌∙◌, subst, arith, add-one}
+use Rattle.std.proofs.Common.{◌≡◌, ℕ, suc, ◌+◌, ◌-◌, ◌≤◌, ◌<◌, Bool, true, false, true≢false, cond, ◌&&◌, [], ◌∷◌, length, drop, get_or, Option, Some, None, is_some, refl, sym, ap, ◌∙◌, subst, arith, add-one}
 use Rattle.std.specs.Prelude.{IfSome, IsSome}
-use Rattle.std.specs.Ordering.{nat_cmp, is_eq}
-use Rattle.std.specs.Cmp.Lexicographic.{slice_cmp}
+use Rattle.std.specs.Ordering.{is_eq}
 use Rattle.std.proofs.Math.Seq.{drop-cons}
 use Rattle.std.proofs.lemmas.Map.Text.{is_eq-slice_cmp}
 use Rattle.spb_types.specs.Address.{same_system}
@@ -53,7 +52,7 @@ put_place list left x c got old low high is some now before =
     let next : left - 1 + 1 ≡ left = omega arith in
     let tied : is_eq (system_cmp c.0 x) ≡ test c x = is_eq-slice_cmp c.0.mac.bytes x.mac.bytes ∙ ap (λ b. b && same_system c.0 x) (sym some) in
     let step : place_from (left - 1) (drop (left - 1) list) x ≡ cond (test c x) (Some (left - 1)) (place_from left (drop left list) x) =
-        place_more list (left - 1) x c (omega arith) ∙ ap (λ e. cond (test e x) (Some (left - 1)) (place_from (left - 1 + 1) (drop (left - 1 + 1) list) x)) (sym is) ∙ ap (λ n. cond (test c x) (Some (left - 1)) (place_from n (drop n list) x)) next in
+    place_more list (left - 1) x c (omega arith) ∙ ap (λ e. cond (test e x) (Some (left - 1)) (place_from (left - 1 + 1) (drop (left - 1 + 1) list) x)) (sym is) ∙ ap (λ n. cond (test c x) (Some (left - 1)) (place_from n (drop n list) x)) next in
     now ∙ ap (λ b. cond b (Some (left - 1)) old) tied ∙ ap (λ o. cond (test c x) (Some (left - 1)) o) before ∙ sym step
 
 -- the same, counted from 0

@@ -1,7 +1,7 @@
 -- Lists and graphs that grow by what comes next.
-use Rattle.std.proofs.Common.{◌≡◌, ℕ, suc, ◌+◌, ◌≤◌, ◌<◌, Bool, true, false, cond, List, [], ◌∷◌, ◌++◌, length, take, drop, get_or, Option, Some, None, flat_map, refl, sym, ap, ◌∙◌, subst, arith, add-one, append_assoc}
+use Rattle.std.proofs.Common.{◌≡◌, ℕ, ◌+◌, ◌≤◌, ◌<◌, Bool, true, false, cond, List, [], ◌∷◌, ◌++◌, length, take, drop, get_or, Option, Some, None, refl, sym, ap, ◌∙◌, arith, add-one, append_assoc}
 use Rattle.std.specs.Prelude.{option_to_list}
-use Rattle.std.specs.List.{filter_map, cons_option, slice_index_or}
+use Rattle.std.specs.List.{filter_map, cons_option}
 use Rattle.std.proofs.Math.Seq.{drop-cons}
 use Rattle.std.proofs.lemmas.List.{append-nil, take_more, drop_all}
 use Rattle.spb_types.specs.declared.address.SystemId.{SystemId}
@@ -36,7 +36,7 @@ edges_more list x ns i d now then all lt put before =
     let n = get_or ns i d in
     let rest = edges_after list x (take (i + 1) ns) (drop (i + 1) ns) in
     let next : edges_after list x (take i ns) (drop i ns) ≡ option_to_list (edge_for list x (take i ns) n.system) ++ rest =
-        ap (edges_after list x (take i ns)) (next_item ns i d lt) ∙ ap (λ ms. option_to_list (edge_for list x (take i ns) n.system) ++ edges_after list x ms (drop (i + 1) ns)) (sym (take_more ns i d lt)) in
+    ap (edges_after list x (take i ns)) (next_item ns i d lt) ∙ ap (λ ms. option_to_list (edge_for list x (take i ns) n.system) ++ edges_after list x ms (drop (i + 1) ns)) (sym (take_more ns i d lt)) in
     ap (λ es. es ++ rest) put ∙ append_assoc now (option_to_list (edge_for list x (take i ns) n.system)) rest ∙ ap (λ es. now ++ es) (sym next) ∙ before
 
 pub edges_end : (list : Contents) (x : SystemId) (ns : List Neighbour) (i : ℕ) (now all : List Edge) → length ns ≤ i → now ++ edges_after list x (take i ns) (drop i ns) ≡ all → now ≡ all

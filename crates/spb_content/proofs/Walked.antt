@@ -1,20 +1,19 @@
 -- A walk, step by step.
-use Rattle.std.proofs.Common.{◌≡◌, ◌≢◌, ℕ, zero, suc, ◌+◌, ◌-◌, ◌≤◌, ◌<◌, ◌⊎◌, inl, inr, Bool, true, false, true≢false, not, cond, ◌&&◌, List, [], ◌∷◌, ◌++◌, length, take, get_or, set, replicate, Option, Some, None, is_some, sum_by, count_by, refl, sym, ap, ◌∙◌, subst, arith, length-append, append_assoc, get_or-set_same, get_or-set_other}
+use Rattle.std.proofs.Common.{◌≡◌, ◌≢◌, ℕ, zero, suc, ◌+◌, ◌≤◌, ◌<◌, inl, inr, Bool, true, false, true≢false, not, cond, List, [], ◌∷◌, ◌++◌, length, take, get_or, set, replicate, Some, None, is_some, sum_by, refl, sym, ap, ◌∙◌, subst, arith, length-append, append_assoc, get_or-set_same, get_or-set_other}
 use Rattle.std.specs.Prelude.{IsSome, Contains}
-use Rattle.std.specs.List.{AllByRecursion, slice_index_or}
+use Rattle.std.specs.List.{AllByRecursion}
 use Rattle.std.proofs.lemmas.Bool.{cases_eq, and_parts}
 use Rattle.std.proofs.lemmas.List.{length-set, append-nil, length-replicate, take-append-le, take_more, take_all}
 use Rattle.std.proofs.lemmas.List.Elements.{Contains-push, Contains-append_left}
 use Rattle.std.proofs.lemmas.List.Folds.{sum_by-replicate}
 use Rattle.std.proofs.lemmas.List.Sums.{sum_by-set}
-use Rattle.spb_types.specs.Address.{same_system}
 use Rattle.spb_types.specs.declared.address.SystemId.{SystemId}
 use Rattle.spb_tlvs.specs.declared.neighbours.Neighbour.{Neighbour}
 use Rattle.spb_content.specs.declared.content.Content.{Content}
 use Rattle.spb_content.specs.declared.walk.Walk.{Walk}
 use Rattle.spb_content.specs.Graph.{Contents, said_of, link_said, Leads, IsReached}
 use Rattle.spb_content.specs.Building.{place_from, place_beyond, mark_at, IsAt, IsMarked, IsFound, IsWalk, IsClosed, Grows, Marks, Starts, Visits, Reaches}
-use Rattle.spb_content.proofs.Members.{Has, all_has, has_all, weaker, has_from_contains, all_append}
+use Rattle.spb_content.proofs.Members.{all_has, weaker, has_from_contains, all_append}
 use Rattle.spb_content.proofs.Places.{found_at, place_high, place_said, place_for}
 use Rattle.spb_content.proofs.Links.{same_is, reached_more, listed_in, ends_said}
 
@@ -55,12 +54,16 @@ marks_walk list w v p x h within here reached m = at (mark_at w.marks.items p) r
   where
     lt : p < length w.marks.items
     lt = omega (arith, within, h.places)
+
     places : length v.marks.items ≡ length list
     places = ap length m.marks ∙ (length-set w.marks.items p true ∙ h.places)
+
     count : sum_by unmarked (set w.marks.items p true) + unmarked (get_or w.marks.items p false) ≡ sum_by unmarked w.marks.items + 0
     count = sum_by-set unmarked w.marks.items p true false lt
+
     still : (q : ℕ) → IsMarked w q → IsMarked v q
     still q k = marked_still w v p q lt m k
+
     at : (b : Bool) → mark_at w.marks.items p ≡ b → v.queue.items ≡ cond b w.queue.items (w.queue.items ++ p ∷ []) → IsWalk list v
     at true e q = record {
       places = places;
@@ -167,8 +170,8 @@ visiting_mark list x u w v ns more n q is h reached there m =
       walk = marks_walk list w v q n.system h.walk high b.here (reached_more list w.source x n.system (subst (λ s. IsReached list s x) (sym h.grows.source) reached) b.link) m;
       grows = marks_grow u w v q lt h.grows m;
       passed = subst (λ ms. AllByRecursion (IsPassed list v x) ms) (sym is)
-        (all_append (IsPassed list v x) ns (n ∷ []) (passed_still list w v x ns (λ p k. marked_still w v q p lt m k) h.passed)
-        ((λ p k. subst (λ r. IsMarked v r) (same_place q p (sym there ∙ k)) (marked_there w v q lt m)), tt));
+          (all_append (IsPassed list v x) ns (n ∷ []) (passed_still list w v x ns (λ p k. marked_still w v q p lt m k) h.passed)
+          ((λ p k. subst (λ r. IsMarked v r) (same_place q p (sym there ∙ k)) (marked_there w v q lt m)), tt));
     }
   where
     same_place : (a b : ℕ) → Some a ≡ Some b → a ≡ b
@@ -224,14 +227,14 @@ pub walking_more : (list : Contents) (me : SystemId) (w v : Walk) (next p : ℕ)
 walking_more list me w v next p h lt is done =
     let longer : length v.queue.items ≡ length w.queue.items + length done.grows.queue.0 = ap length done.grows.queue.1 ∙ length-append w.queue.items done.grows.queue.0 in
     let front : take (next + 1) v.queue.items ≡ take next w.queue.items ++ p ∷ [] =
-        ap (λ xs. take (next + 1) xs) done.grows.queue.1 ∙ take-append-le (next + 1) w.queue.items done.grows.queue.0 (omega (arith, lt)) ∙ take_more w.queue.items next p lt ∙ ap (λ q. take next w.queue.items ++ q ∷ []) (sym is) in
+    ap (λ xs. take (next + 1) xs) done.grows.queue.1 ∙ take-append-le (next + 1) w.queue.items done.grows.queue.0 (omega (arith, lt)) ∙ take_more w.queue.items next p lt ∙ ap (λ q. take next w.queue.items ++ q ∷ []) (sym is) in
     record {
       walk = done.walk;
       source = done.grows.source ∙ h.source;
       start = λ q k. done.grows.marks q (h.start q k);
       within = omega (arith, lt, longer);
       closed = subst (λ ps. AllByRecursion (IsClosed list v) ps) (sym front)
-        (all_append (IsClosed list v) (take next w.queue.items) (p ∷ []) (closed_still list w v (take next w.queue.items) done.grows.marks h.closed) (done.closed, tt));
+          (all_append (IsClosed list v) (take next w.queue.items) (p ∷ []) (closed_still list w v (take next w.queue.items) done.grows.marks h.closed) (done.closed, tt));
     }
 
 -- there are no more bridges in the queue than systems
@@ -255,8 +258,10 @@ reaches list me w next h over = record {
   where
     all : AllByRecursion (IsClosed list w) w.queue.items
     all = subst (λ ps. AllByRecursion (IsClosed list w) ps) (take_all next w.queue.items over) h.closed
+
     closed : (p : ℕ) → IsMarked w p → IsClosed list w p
     closed p k = all_has (IsClosed list w) p w.queue.items all (has_from_contains p w.queue.items (h.walk.queued p k))
+
     at : (p : ℕ) → IsMarked w p → IsFound list w p
     at p k = all_has (IsFound list w) p w.queue.items h.walk.found (has_from_contains p w.queue.items (h.walk.queued p k))
 

@@ -1,10 +1,9 @@
 -- The graph is that of the contents, and it is valid.
-use Rattle.std.proofs.Common.{◌≡◌, ◌≢◌, ℕ, ◌≤◌, Bool, true, false, true≢false, cond, ◌&&◌, ◌||◌, ◌⊎◌, inl, inr, List, [], ◌∷◌, length, max, flat_map, Option, Some, None, is_some, refl, sym, ap, ◌∙◌, subst, arith}
+use Rattle.std.proofs.Common.{◌≡◌, ◌≢◌, ◌≤◌, Bool, true, false, true≢false, cond, ◌&&◌, ◌||◌, ◌⊎◌, inl, inr, List, [], ◌∷◌, length, flat_map, Option, Some, None, refl, sym, ap, ◌∙◌, subst, arith}
 use Rattle.std.specs.Prelude.{IsSome, option_map, Contains, Result, Ok, Err, IfOk}
-use Rattle.std.specs.List.{AllByRecursion, filter_map, cons_option}
-use Rattle.std.proofs.lemmas.Bool.{and_parts}
+use Rattle.std.specs.List.{filter_map, cons_option}
 use Rattle.spb_types.specs.Address.{same_system}
-use Rattle.spb_types.specs.Graph.{IsAmong, IsDistinct, IsBridge, OneEdge, IsEdgeOf, IsValid, IsValidFor, ArePorts, joins, port_at, edges_at, systems_of}
+use Rattle.spb_types.specs.Graph.{IsAmong, IsDistinct, IsBridge, OneEdge, IsEdgeOf, IsValid, IsValidFor, joins, port_at, edges_at, systems_of}
 use Rattle.spb_types.specs.Graph.{ArePortsApart as AreEndsApart}
 use Rattle.spb_types.specs.declared.address.SystemId.{SystemId}
 use Rattle.spb_types.specs.declared.graph.Edge.{Edge}
@@ -14,13 +13,13 @@ use Rattle.spb_types.specs.declared.graph.Member.{Member}
 use Rattle.spb_tlvs.specs.declared.neighbours.Neighbour.{Neighbour}
 use Rattle.spb_content.specs.declared.content.Content.{Content}
 use Rattle.spb_content.specs.declared.content.Inst.{Inst}
-use Rattle.spb_content.specs.Graph.{Contents, systems_in, said_of, link_said, bridge_of, member_of, members_of, IsReached, IsGraphOf, ArePortsApart, HasPorts, HasOwnPorts}
+use Rattle.spb_content.specs.Graph.{Contents, systems_in, said_of, bridge_of, member_of, members_of, IsReached, IsGraphOf, ArePortsApart, HasOwnPorts}
 use Rattle.spb_content.specs.Building.{Reaches, kept, edges_from, graph_among}
 use Rattle.spb_content.proofs.Members.{Has, has_from_contains, contains_from_has, all_has, has_all, has_flat_map, flat_map_has}
 use Rattle.spb_content.proofs.Links.{same_is, same_self, entries_of, said_for, entry_is, some_is, some_same, reached_said}
 use Rattle.spb_content.proofs.Chosen.{AreReached, are_reached, said_has}
-use Rattle.spb_content.proofs.Made.{Made, made_apart}
-use Rattle.spb_content.proofs.Joined.{AreEdges, are_edges, between, costs, ports, within, reached_far}
+use Rattle.spb_content.proofs.Made.{Made}
+use Rattle.spb_content.proofs.Joined.{are_edges, between, costs, ports, within, reached_far}
 
 -- ---- what is there of each content
 
@@ -111,6 +110,7 @@ member_system c m h = at (filter_map_has (member_of c.0) m c.1.services h)
     of_test : (x : SystemId) (b : Bool) (n : Member) → n.system ≡ x → cond b (Some n) None ≡ Some m → m.system ≡ x
     of_test x true n e k = ap (λ (t : Member). t.system) (sym (some_same n m k)) ∙ e
     of_test x false n e k = absurd cc
+
     at : (s : _) × Has s c.1.services × (member_of c.0 s ≡ Some m) → m.system ≡ c.0
     at (s, k, e) = of_test c.0 (_) (record { system = c.0; isid = s.2.isid; vid = s.1 }) refl e
 
@@ -201,9 +201,9 @@ far_apart : (e f : Edge) (x : SystemId) → is_at e x ≡ true → is_at f x ≡
 far_apart e f x h k apart same =
     let ends : Ends e x (far f x) = subst (λ y. Ends e x y) same (far_ends e x h) in
     let joined : joins e f.a f.b ≡ true = elim (far_ends f x k) [
-        | inl p ↦ subst (λ z. joins e z f.b ≡ true) (sym p.0) (subst (λ z. joins e x z ≡ true) (sym p.1) (ends_join e x (far f x) ends))
-        | inr p ↦ subst (λ z. joins e z f.b ≡ true) (sym p.0) (subst (λ z. joins e (far f x) z ≡ true) (sym p.1) (ends_join e (far f x) x (turn e x (far f x) ends)))
-      ] in
+      | inl p ↦ subst (λ z. joins e z f.b ≡ true) (sym p.0) (subst (λ z. joins e x z ≡ true) (sym p.1) (ends_join e x (far f x) ends))
+      | inr p ↦ subst (λ z. joins e z f.b ≡ true) (sym p.0) (subst (λ z. joins e (far f x) z ≡ true) (sym p.1) (ends_join e (far f x) x (turn e x (far f x) ends)))
+    ] in
     true≢false (sym joined ∙ apart)
 
 -- the entry of a bridge that made the edge
@@ -261,9 +261,12 @@ own_apart list x [] own made one = tt
 own_apart list x (e ∷ es) own made one = at (is_at e x) refl (own_apart list x es own (λ f h. made f (inr h)) one.1)
   where
     at : (b : Bool) → is_at e x ≡ b → AreEndsApart (edges_at es x) x → AreEndsApart (cond b (e ∷ edges_at es x) (edges_at es x)) x
-    at true t r = (has_all (λ f. port_at e x ≢ port_at f x) (edges_at es x) (λ f h. (
-        let k = at_has es x f h in
-        own_differ list x e f own (made e (inl refl)) (made f (inr k.0)) t k.1 (all_has (λ g. joins e g.a g.b ≡ false) f es one.0 k.0))), r)
+    at true t r = (
+      has_all (λ f. port_at e x ≢ port_at f x) (edges_at es x) (λ f h. (
+          let k = at_has es x f h in
+          own_differ list x e f own (made e (inl refl)) (made f (inr k.0)) t k.1 (all_has (λ g. joins e g.a g.b ≡ false) f es one.0 k.0))),
+      r,
+    )
     at false t r = r
 
 valid_for_reached : (list : Contents) (me : SystemId) (ks : Contents) → length list ≤ 65535 → AreReached list me ks → HasOwnPorts list me → IsValidFor (graph_among list ks) me

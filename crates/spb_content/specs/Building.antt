@@ -1,5 +1,5 @@
 -- How the graph of contents is built: where each bridge stands, which are reached, and each edge once.
-use Rattle.std.specs.Prelude.{◌≡◌, ℕ, ◌+◌, List, [], ◌∷◌, ◌++◌, length, flat_map, max, Bool, true, false, not, ◌&&◌, Option, Some, None, is_some, IsSome, option_map, if◌then◌else◌, Contains, count_by, slice_set}
+use Rattle.std.specs.Prelude.{◌≡◌, ℕ, ◌+◌, List, [], ◌∷◌, ◌++◌, length, flat_map, max, Bool, true, false, not, ◌&&◌, Option, Some, None, is_some, option_map, if◌then◌else◌, Contains, count_by, slice_set}
 use Rattle.std.specs.List.{AllByRecursion, filter_map, list_any, slice_index_or}
 use Rattle.std.specs.Option.{option_to_list}
 use Rattle.std.specs.declared.cmp.Ordering.{Ordering}
@@ -14,7 +14,7 @@ use Rattle.spb_tlvs.specs.declared.neighbours.Neighbour.{Neighbour}
 use Rattle.spb_content.specs.declared.content.Content.{Content}
 use Rattle.spb_content.specs.declared.backbone.Backbone.{Backbone}
 use Rattle.spb_content.specs.declared.walk.Walk.{Walk}
-use Rattle.spb_content.specs.Graph.{Contents, said_of, link_said, bridge_of, members_of, IsReached}
+use Rattle.spb_content.specs.Graph.{Contents, link_said, bridge_of, members_of, IsReached}
 
 -- system ids compare as their bytes
 abbrev pub system_cmp : SystemId → SystemId → Ordering

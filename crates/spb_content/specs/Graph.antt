@@ -1,5 +1,5 @@
 -- The graph that the LSPs of a backbone make (RFC 6329, 15 and 16; IEEE 802.1aq, 28).
-use Rattle.std.specs.Prelude.{◌≡◌, ◌≢◌, ◌↔◌, ℕ, ◌≤◌, List, [], ◌∷◌, map, flat_map, find, max, Bool, ◌&&◌, nat_le, Option, Some, None, is_some, IsSome, option_and_then, option_map, if◌then◌else◌, Contains, ⊤}
+use Rattle.std.specs.Prelude.{◌≡◌, ◌≢◌, ◌↔◌, ℕ, ◌≤◌, List, [], ◌∷◌, map, flat_map, find, max, ◌&&◌, nat_le, Option, Some, None, is_some, IsSome, option_and_then, option_map, if◌then◌else◌, Contains, ⊤}
 use Rattle.std.specs.List.{AllByRecursion, filter_map}
 use Rattle.std.specs.Str.{bytes_eq}
 use Rattle.spb_types.specs.Address.{same_system}

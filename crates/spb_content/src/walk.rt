@@ -75,11 +75,7 @@ fn visit(backbone: &Backbone<'_>, walk: &mut Walk, place: usize) -> Result<(), N
 }
 
 /// The walk that has reached its source, if that is a bridge.
-fn walk_at(
-    alloc: Global,
-    backbone: &Backbone<'_>,
-    source: SystemId,
-) -> Result<Walk, NoMemory>
+fn walk_at(alloc: Global, backbone: &Backbone<'_>, source: SystemId) -> Result<Walk, NoMemory>
     requires { building.IsIndexed backbone.now }
     ensures { IfOk result (building.Starts backbone.now.list.now source) }
 {
@@ -94,11 +90,7 @@ fn walk_at(
 }
 
 /// Marks the bridges that a bridge reaches over links, itself among them.
-pub fn walk_from(
-    alloc: Global,
-    backbone: &Backbone<'_>,
-    source: SystemId,
-) -> Result<Walk, NoMemory>
+pub fn walk_from(alloc: Global, backbone: &Backbone<'_>, source: SystemId) -> Result<Walk, NoMemory>
     requires { building.IsIndexed backbone.now }
     ensures { IfOk result (λ w. building.Reaches backbone.now.list.now source w.marks.items) }
 {

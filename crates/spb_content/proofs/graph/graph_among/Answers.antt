@@ -1,6 +1,5 @@
-use Rattle.std.proofs.Common.{◌≡◌, ◌<◌, length, arith, ap, sym, ◌∙◌}
-use Rattle.spb_content.specs.Building.{kept, graph_among}
-use Rattle.spb_content.proofs.Put.{joined, graph_more, graph_past}
+use Rattle.std.proofs.Common.{◌<◌, length, arith, ◌∙◌}
+use Rattle.spb_content.proofs.Put.{graph_more, graph_past}
 use Rattle.spb_content.proofs.graph.graph_among.Goals as goal
 use Rattle.spb_content.proofs.graph.graph_among.Goals.{then-marks-place+in_ok-put, else-marks-place}
 

@@ -1,4 +1,4 @@
-use Rattle.std.proofs.Common.{ℕ, ◌-◌, length}
+use Rattle.std.proofs.Common.{◌-◌, length}
 use Rattle.spb_content.proofs.Walked.{Walking}
 use Rattle.spb_content.proofs.walk.walk_from.Given as goal
 

@@ -1,4 +1,4 @@
-use Rattle.std.proofs.Common.{sym, ◌∙◌}
+use Rattle.std.proofs.Common.{sym}
 use Rattle.spb_content.proofs.Places.{found_at, unfound}
 use Rattle.spb_content.proofs.backbone.Backbone.said_of.Goals as goal
 
