@@ -23,7 +23,7 @@ systems_in list = map (λ c. c.0) list
 
 -- ---- bridges
 
--- what a system says, if it is a bridge: one that has an SPB-Inst
+-- what a system says, if it is a bridge: one that has an SPB-Inst (RFC 6329, 14.1)
 abbrev pub said_of : Contents → SystemId → Option Content
 said_of [] x = None
 said_of (c ∷ cs) x = if is_some c.1.inst && same_system c.0 x then Some c.1 else said_of cs x
@@ -34,11 +34,11 @@ bridge_of c = option_map (λ i. record { id = record { priority = i.priority; sy
 
 -- ---- edges
 
--- a metric that a link can have
+-- an entry with a metric that a link can have: of 24 bits, and neither 0 nor the greatest (RFC 6329, 15.1)
 abbrev pub usable : Neighbour → Option Neighbour
 usable n = if nat_le 1 n.metric && nat_le n.metric 16777214 then Some n else None
 
--- the entry for a neighbour: the first counts, and only with such a metric
+-- the entry for a neighbour: the first counts, and only with such a metric; where the first has another, none does
 abbrev pub entry_for : SystemId → Content → Option Neighbour
 entry_for y c = option_and_then usable (find (λ n. same_system n.system y) c.neighbours)
 
@@ -46,6 +46,7 @@ entry_for y c = option_and_then usable (find (λ n. same_system n.system y) c.ne
 abbrev pub entry_said : Contents → SystemId → SystemId → Option Neighbour
 entry_said list x y = option_and_then (entry_for y) (said_of list x)
 
+-- two entries, where both are there
 abbrev pub both : Option Neighbour → Option Neighbour → Option (Neighbour × Neighbour)
 both None n = None
 both (Some m) None = None
@@ -65,13 +66,14 @@ port_said list x y = option_map (λ l. l.0.port) (link_said list x y)
 
 -- ---- members
 
--- a service makes its system a member where it stands at the system's own B-MAC, and frames are sent and taken
+-- a service makes its system a member where it stands at the system's own B-MAC, with T and R both set (RFC 6329, 16.1)
 abbrev pub member_of : SystemId → Mac × Vid × Service → Option Member
 member_of x s =
     if bytes_eq s.0.bytes x.mac.bytes && (s.2.transmit && s.2.receive)
     then Some (record { system = x; isid = s.2.isid; vid = s.1 })
     else None
 
+-- the members that the services of a system make it
 abbrev pub members_of : SystemId × Content → List Member
 members_of c = filter_map (member_of c.0) c.1.services
 
@@ -82,13 +84,14 @@ abbrev pub Leads : Contents → SystemId → List SystemId → SystemId → Type
 Leads list a [] b = IsSome (said_of list a) × (a ≡ b)
 Leads list a (x ∷ xs) b = IsSome (link_said list a x) × Leads list x xs b
 
+-- x is reached from `me` over links; `me` itself is, where it is a bridge
 abbrev pub IsReached : Contents → SystemId → SystemId → Type 0
 IsReached list me x = (walk : List SystemId) × Leads list me walk x
 
 -- ---- the graph
 
--- the graph of `me`: the bridges that `me` reaches, their links and their members. The order of its lists, and which
--- end of an edge is which, are left open
+-- the graph of `me`: the bridges that `me` reaches, their links and their members; nothing where `me` is no bridge. The
+-- order of its lists, and which end of an edge is which, are left open
 pub record IsGraphOf (me : SystemId) (list : Contents) (g : Graph) : Type 0 where
   pub bridges : (b : GraphBridge) → Contains g.bridges b ↔ (Contains (filter_map bridge_of list) b × IsReached list me b.id.system)
   pub costs : (x y : SystemId) → IsReached list me x → cost_between g x y ≡ cost_said list x y
@@ -98,6 +101,7 @@ pub record IsGraphOf (me : SystemId) (list : Contents) (g : Graph) : Type 0 wher
 
 -- ---- the ports of one bridge
 
+-- no two entries have the same port
 abbrev pub ArePortsApart : List Neighbour → Type 0
 ArePortsApart [] = ⊤
 ArePortsApart (n ∷ ns) = AllByRecursion (λ m. n.port ≢ m.port) ns × ArePortsApart ns
@@ -107,5 +111,6 @@ pub record HasPorts (c : Content) : Type 0 where
   pub each : AllByRecursion (λ n. (1 ≤ n.port) × (n.port ≤ 32)) c.neighbours
   pub apart : ArePortsApart c.neighbours
 
+-- what `me` says, if it is a bridge, is so
 abbrev pub HasOwnPorts : Contents → SystemId → Type 0
 HasOwnPorts list me = (c : Content) → said_of list me ≡ Some c → HasPorts c
