@@ -1,30 +1,26 @@
 -- What is written is read again.
-use Rattle.std.proofs.Common.{◌≡◌, ◌≢◌, ℕ, zero, suc, ◌+◌, ◌*◌, ◌/◌, ◌≤◌, ◌<◌, List, [], ◌∷◌, ◌++◌, length, take, drop, map, flat_map, Some, Result, Ok, Err, refl, sym, ap, ◌∙◌, arith, append_assoc}
+use Rattle.std.proofs.Common.{◌≡◌, ◌≢◌, ℕ, zero, suc, ◌+◌, ◌*◌, ◌/◌, ◌≤◌, List, [], ◌∷◌, ◌++◌, length, take, drop, map, flat_map, Result, Ok, refl, sym, ap, ◌∙◌, arith, append_assoc}
 use Rattle.std.specs.List.{AllByRecursion}
 use Rattle.std.specs.Simd.{first_chunks}
 use Rattle.std.proofs.lemmas.List.{append-nil, length-drop, take-append-drop, nil_from_length}
-use Rattle.std.proofs.lemmas.List.Elements.{recursion_from_All}
-use Rattle.spb_types.specs.declared.address.Mac.{Mac}
-use Rattle.spb_types.specs.declared.graph.Member.{Member}
 use Rattle.spb_types.specs.declared.service.Vid.{Vid}
 use Rattle.spb_tlvs.specs.declared.error.TlvError.{TlvError}
 use Rattle.spb_tlvs.specs.declared.capability.Capability.{Capability}
 use Rattle.spb_tlvs.specs.declared.capability.Capability.TheVariants.{Inst, Services}
-use Rattle.spb_tlvs.specs.declared.capability.Service.{Service}
 use Rattle.spb_tlvs.specs.declared.neighbours.Neighbour.{Neighbour}
 use Rattle.spb_tlvs.specs.Tlv.{tlv, values_with}
 use Rattle.spb_tlvs.specs.Neighbour.{neighbours_value, neighbours_of}
-use Rattle.spb_tlvs.specs.Capability.{capability_value, capabilities_of, IsServices, IsInst}
+use Rattle.spb_tlvs.specs.Capability.{capability_value, capabilities_of, IsServices}
 use Rattle.spb_tlvs.specs.RoundTrip.{IsMac, IsNeighbour}
 use Rattle.spb_tlvs.proofs.TlvLaws.{tlv_here, tlv_elsewhere}
 use Rattle.spb_tlvs.proofs.TlvSteps.{values_none}
 use Rattle.spb_tlvs.proofs.NeighbourLaws.{neighbours_again}
 use Rattle.spb_tlvs.proofs.CapabilityLaws.{capability_again}
 use Rattle.spb_content.specs.declared.local.Local.{Local}
-use Rattle.spb_content.specs.Local.{areas, protocols, neighbour_tlvs, inst_tlv, service_tlvs, content_bytes, capability_tlv, own_mac, trees_of, vids_in, isids_in, services_in, said_by, IsLocal, IsAttached}
-use Rattle.spb_content.specs.Content.{or_nothing, neighbours_in, capabilities_in, first_inst, services_of, content_in}
+use Rattle.spb_content.specs.Local.{areas, protocols, neighbour_tlvs, inst_tlv, service_tlvs, content_bytes, own_mac, trees_of, vids_in, services_in, IsLocal}
+use Rattle.spb_content.specs.Content.{or_nothing, neighbours_in, capabilities_in, services_of, content_in}
 use Rattle.spb_content.specs.Laws.{HasFields, ReadAgain}
-use Rattle.spb_content.proofs.Members.{Has, has_all}
+use Rattle.spb_content.proofs.Members.{has_all}
 use Rattle.spb_content.proofs.Written.{is_inst, is_services, all_drop, all_take}
 
 -- ---- TLVs of one code, one after another

@@ -1,5 +1,5 @@
 -- Services by base VID: the list of them all tells the groups.
-use Rattle.std.proofs.Common.{◌≡◌, ◌≢◌, ℕ, Bool, true, false, not, cond, eqb, ◌⊎◌, inl, inr, List, [], ◌∷◌, ◌++◌, map, filter, flat_map, Option, Some, None, refl, sym, ap, ◌∙◌, subst, arith}
+use Rattle.std.proofs.Common.{◌≡◌, ◌≢◌, ℕ, Bool, not, List, [], ◌∷◌, ◌++◌, map, filter, flat_map, Option, Some, None, refl, sym, ap, ◌∙◌, subst}
 use Rattle.std.specs.Prelude.{◌==◌}
 use Rattle.std.specs.List.{AllByRecursion}
 use Rattle.std.proofs.lemmas.Bool.{eq-eqb, ne_eqb}
@@ -16,7 +16,7 @@ use Rattle.spb_content.specs.Local.{capability_tlv, own_mac, vids_in, services_i
 use Rattle.spb_content.specs.Content.{content_in}
 use Rattle.spb_content.specs.Laws.{SameIsWritten, WrittenIsSame}
 use Rattle.spb_content.proofs.Members.{Has, has_all, has_map, map_has, has_filter}
-use Rattle.spb_content.proofs.Ascended.{ascending_ascends, Numbered}
+use Rattle.spb_content.proofs.Ascended.{ascending_ascends}
 use Rattle.spb_content.proofs.Kept.{Apart, apart_ascends}
 use Rattle.spb_content.proofs.Written.{attached_in, attached_isid}
 use Rattle.spb_content.proofs.Again.{read_again}

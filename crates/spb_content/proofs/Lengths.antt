@@ -1,15 +1,14 @@
 -- How long the own content is, and that its TLVs are whole.
-use Rattle.std.proofs.Common.{◌≡◌, ◌≢◌, ℕ, zero, suc, ◌+◌, ◌-◌, ◌*◌, ◌/◌, ◌≤◌, ◌<◌, ◌⊎◌, inl, inr, eqb, List, [], ◌∷◌, ◌++◌, length, take, drop, map, flat_map, refl, sym, ap, ◌∙◌, subst, arith, append_assoc, length-append}
-use Rattle.std.specs.Prelude.{IsTrue, Contains}
+use Rattle.std.proofs.Common.{◌≡◌, ◌≢◌, ℕ, zero, suc, ◌+◌, ◌*◌, ◌/◌, ◌≤◌, ◌⊎◌, inl, inr, eqb, List, [], ◌∷◌, ◌++◌, length, take, drop, map, flat_map, refl, sym, ap, ◌∙◌, subst, arith, append_assoc, length-append}
+use Rattle.std.specs.Prelude.{IsTrue}
 use Rattle.std.specs.List.{AllByRecursion}
 use Rattle.std.specs.Simd.{first_chunks}
 use Rattle.std.proofs.lemmas.Bool.{eqb-true}
-use Rattle.std.proofs.lemmas.List.{append-nil, length-drop, length-map, take-append-drop}
+use Rattle.std.proofs.lemmas.List.{append-nil, length-map, take-append-drop}
 use Rattle.spb_types.specs.declared.address.Mac.{Mac}
 use Rattle.spb_types.specs.declared.graph.Member.{Member}
 use Rattle.spb_types.specs.declared.service.Isid.{Isid}
 use Rattle.spb_types.specs.declared.service.Vid.{Vid}
-use Rattle.spb_types.specs.declared.service.VidPlan.{VidPlan}
 use Rattle.spb_tlvs.specs.declared.capability.Service.{Service}
 use Rattle.spb_tlvs.specs.declared.capability.Capability.TheVariants.{Services}
 use Rattle.spb_tlvs.specs.declared.neighbours.Neighbour.{Neighbour}
@@ -21,10 +20,9 @@ use Rattle.spb_tlvs.proofs.Written.{trees_len, services_len}
 use Rattle.isis_pdu.specs.Tlvs.{is_whole, is_whole_after}
 use Rattle.isis_pdu.proofs.FormatLaws.{whole_one, whole_both}
 use Rattle.spb_content.specs.declared.local.Local.{Local}
-use Rattle.spb_content.specs.Local.{areas, protocols, neighbour_tlvs, inst_tlv, service_tlvs, content_bytes, capability_tlv, own_mac, trees_of, vids_in, isids_in, in_vid, services_in, service_with, vid_number, isid_number, plan_number, IsLocal, AreInOneVid}
-use Rattle.spb_content.specs.Ascending.{ascending}
-use Rattle.spb_content.specs.Laws.{HasFields, AreConfigured, Fits, OwnFits}
-use Rattle.spb_content.proofs.Members.{Has, all_has, has_all, has_left, has_right, has_parts, has_from_contains, filter_has, flat_map_has}
+use Rattle.spb_content.specs.Local.{areas, protocols, neighbour_tlvs, inst_tlv, service_tlvs, content_bytes, capability_tlv, own_mac, trees_of, vids_in, isids_in, in_vid, services_in, service_with, vid_number, isid_number, plan_number, AreInOneVid}
+use Rattle.spb_content.specs.Laws.{AreConfigured, OwnFits}
+use Rattle.spb_content.proofs.Members.{Has, all_has, has_all, has_parts, has_from_contains, filter_has, flat_map_has}
 use Rattle.spb_content.proofs.Ascended.{ascending_ascends, Numbered}
 use Rattle.spb_content.proofs.Kept.{Apart, apart_ascends, length-within, length-ascending}
 use Rattle.spb_content.proofs.Written.{all_drop, all_take, isid_attached, attached_isid, attached_in}

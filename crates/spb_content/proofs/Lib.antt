@@ -9,3 +9,11 @@ pub mod Again
 pub mod Lengths
 pub mod Groups
 pub mod AnyOrder
+pub mod Places
+pub mod Links
+pub mod Walked
+pub mod Chosen
+pub mod Made
+pub mod Put
+pub mod Joined
+pub mod Whole

@@ -1,4 +1,6 @@
 pub mod Ascending
 pub mod Local
 pub mod Content
+pub mod Graph
+pub mod Building
 pub mod Laws

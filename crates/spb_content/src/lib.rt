@@ -1,15 +1,24 @@
 //! What a bridge says of itself in its LSP, and the graph that the LSPs of a backbone make (RFC 6329, 13 to 16).
 //!
-//! [`content_of`] writes the TLVs of the own LSP, [`read_content`] reads those of any LSP.
+//! [`content_of`] writes the TLVs of the own LSP, [`read_content`] reads those of any LSP, and [`graph_of`] makes the
+//! graph of what the systems of a backbone say.
 //!
-//! Each takes time in proportion to the bytes, but for sorting the VIDs and I-SIDs of the own content.
+//! The first two take time in proportion to the bytes, but for sorting the VIDs and I-SIDs of the own content.
+//!
+//! The graph of n systems takes O(n log n) for a map of the bridges; then O(k + log n) for each entry of a reached bridge,
+//! where k is how many neighbours it and the one that it lists have, as both ends of a link are searched and an entry is
+//! compared with the earlier ones; and O(1) for each of its services.
 #![tactic(auto)]
 
 pub use content::{Content, Inst, read_content};
+pub use graph::graph_of;
 pub use local::{BridgeConfigFacts, Local, content_of};
 
+mod backbone;
 mod content;
+mod graph;
 pub mod laws;
 mod local;
 #[cfg(test)]
 mod tests;
+mod walk;
