@@ -13,7 +13,7 @@ use Rattle.lsdb.specs.Entry.{Entry}
 use Rattle.lsdb.specs.Database.{Lsps, id_cmp, fits, placed, changed, changed_to, each}
 use Rattle.lsdb.proofs.Ids.{ids_total, ids_tied, tied_same}
 
-tied_is : (x y : LspId) → is_eq (id_cmp x y) ≡ true → x ≡ y
+pub tied_is : (x y : LspId) → is_eq (id_cmp x y) ≡ true → x ≡ y
 tied_is x y e = ids_tied x y (equal_from (id_cmp x y) e)
   where
     equal_from : (o : Ordering) → is_eq o ≡ true → o ≡ Equal

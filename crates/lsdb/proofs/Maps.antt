@@ -24,7 +24,7 @@ use Rattle.lsdb.specs.Place.{AreSorted, IsSound, IsAt, IsGap, with_entry}
 use Rattle.lsdb.proofs.Ids.{ids_total, ids_tied, tied_same, turned_less, turned_greater}
 use Rattle.lsdb.proofs.Searched.{ids_rise}
 
-true_from_T : (b : Bool) → T b → b ≡ true
+pub true_from_T : (b : Bool) → T b → b ≡ true
 true_from_T true h = refl
 true_from_T false h = absurd h
 

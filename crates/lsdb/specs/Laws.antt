@@ -1,8 +1,12 @@
 use Rattle.std.specs.Prelude.{◌≡◌, ◌≢◌, ℕ, ◌<◌, ◌≤◌, ◌⊎◌, ◌↔◌, false}
+use Rattle.std.specs.FinMap.{get}
+use Rattle.spb_types.specs.declared.address.LspId.{LspId}
+use Rattle.spb_types.specs.Ports.{has}
 use Rattle.lsdb.specs.declared.version.Version.{Version}
 use Rattle.lsdb.specs.declared.version.Version.TheVariants.{Absent, Live, Dead}
 use Rattle.lsdb.specs.declared.version.Relation.TheVariants.{Older, Equal, Newer, Confused}
 use Rattle.lsdb.specs.Version.{number_of, leq, IsAtMost, relation, join_of}
+use Rattle.lsdb.specs.Database.{Lsps, srm_in, ssn_in, any_flags}
 
 -- a version is at most itself
 abbrev pub AtMostItself : Type 0
@@ -72,3 +76,11 @@ AtOneNumber = (a h : Version) → number_of a ≡ number_of h → a ≢ Absent �
 -- a version that isn't at most another has no lower number, and isn't the other
 abbrev pub NotAtMost : Type 0
 NotAtMost = (a h : Version) → leq a h ≡ false → (number_of h ≤ number_of a) × (a ≢ h)
+
+-- where no flags stand, no LSP is to be sent, acknowledged or asked for at any port
+abbrev pub WithoutFlagsNoneIsDue : Type 0
+WithoutFlagsNoneIsDue = (db : Lsps) → any_flags db ≡ false → (id : LspId) (p : ℕ) → (has (srm_in (get db id)) p ≡ false) × (has (ssn_in (get db id)) p ≡ false)
+
+-- and where none is, no flags stand
+abbrev pub WhereNoneIsDueNoFlags : Type 0
+WhereNoneIsDueNoFlags = (db : Lsps) → ((id : LspId) (p : ℕ) → (has (srm_in (get db id)) p ≡ false) × (has (ssn_in (get db id)) p ≡ false)) → any_flags db ≡ false

@@ -1,10 +1,10 @@
 ghost use Rattle.std.specs.Prelude.{◌≡◌, ◌≤◌, ◌↔◌, ℕ, Some, None, false, IfOk, IfErr, IfSome, OnOk, OnErr, IsErrOf, IsNone, nat_eq, slice_get, map};
 ghost use Rattle.std.specs.Option.{option_map, option_copied};
 ghost use Rattle.std.specs.FinMap as finite;
-ghost use Rattle.std.specs.List.{AllByRecursion};
+ghost use Rattle.std.specs.List.{AllByRecursion, list_any};
 ghost use Rattle.lsdb.specs.Version.{relation, is_absent};
-ghost use Rattle.lsdb.specs.Entry.{entry_of, CanBeHeld, IsClean, cleaned, with_flags, with_srm, with_ssn, raised, buried, parted, aged};
-ghost use Rattle.lsdb.specs.Database.{keyed, fits, version_at, changed, each};
+ghost use Rattle.lsdb.specs.Entry.{entry_of, CanBeHeld, IsClean, cleaned, with_flags, with_srm, with_ssn, raised, buried, parted, aged, has_flags};
+ghost use Rattle.lsdb.specs.Database.{keyed, fits, version_at, changed, each, any_flags};
 ghost use Rattle.lsdb.specs.Place.{AreSorted, IsAt, IsGap, with_entry};
 
 use crate::{Held, Relation, Version, item};
@@ -79,14 +79,18 @@ pub enum Raised {
     NotHeld,
 }
 
-// Changes every LSP by `item::age`.
-fn age_all(held: &mut Vec<Held>, up: PortSet)
+// Changes every LSP by `item::age`, and tells whether one then has flags.
+fn age_all(held: &mut Vec<Held>, up: PortSet) -> bool
     requires { AllByRecursion (λ h. IsClean (entry_of h)) held.old.items }
-    ensures { held.new.items ≡ map (with_entry (aged up)) held.old.items }
+    ensures items { held.new.items ≡ map (with_entry (aged up)) held.old.items }
+    ensures flags { result ≡ list_any (λ h. has_flags (entry_of h)) held.new.items }
 {
+    let mut flags = false;
     for h in held.iter_mut() {
         item::age(h, up);
+        flags |= item::has_flags(h);
     }
+    flags
 }
 
 // Changes every LSP by `item::part`.
@@ -271,10 +275,19 @@ impl Database {
     }
 
     /// A second passes: each live lifetime falls by one. At 0 the LSP is dead at its number, with lifetime 0 and the body
-    /// 01, and is to be sent at every Up port; where it is to be acknowledged stays. Takes no memory.
-    pub fn age_one(&mut self, up: PortSet)
-        ensures { self.new ≡ each (λ id e. aged up e) self.old }
+    /// 01, and is to be sent at every Up port; where it is to be acknowledged stays. Tells, as `has_flags`, whether any
+    /// flag stands afterwards, in the same walk. Takes no memory.
+    pub fn age_one(&mut self, up: PortSet) -> bool
+        ensures aged { self.new ≡ each (λ id e. aged up e) self.old }
+        ensures flags { result ≡ any_flags self.new }
     {
-        age_all(&mut self.held, up);
+        age_all(&mut self.held, up)
+    }
+
+    /// Whether any LSP is to be sent, or to be acknowledged or asked for, at some port.
+    pub fn has_flags(&self) -> bool
+        ensures { result ≡ any_flags self.now }
+    {
+        self.held.iter().any(|h| item::has_flags(h))
     }
 }

@@ -1,7 +1,7 @@
 //! Changes of one held LSP. None takes memory.
 ghost use Rattle.std.specs.Prelude.{◌≡◌, ◌≤◌, ◌∷◌, [], ℕ, length};
 ghost use Rattle.lsdb.specs.Entry as entry;
-ghost use Rattle.lsdb.specs.Entry.{entry_of, CanBeHeld, IsClean, cleaned, raised, with_flags, buried, with_srm, with_ssn, parted, aged};
+ghost use Rattle.lsdb.specs.Entry.{entry_of, CanBeHeld, IsClean, cleaned, raised, with_flags, buried, with_srm, with_ssn, parted, aged, has_flags};
 ghost use Rattle.lsdb.specs.Place.{with_entry};
 
 use crate::{Held, Version};
@@ -117,4 +117,19 @@ pub fn age(held: &mut Held, up: PortSet)
             held.lifetime -= 1;
         }
     }
+}
+
+// Whether some port is in the set.
+#[tactic(auto, using(crate::proofs::Flags::below_has_ports))]
+fn has_ports(set: PortSet) -> bool
+    ensures { result ≡ entry.has_ports set }
+{
+    set.bits != 0
+}
+
+/// Whether the LSP is to be sent, or to be acknowledged or asked for, at some port.
+pub fn has_flags(held: &Held) -> bool
+    ensures { result ≡ has_flags (entry_of held.now) }
+{
+    has_ports(held.srm) || has_ports(held.ssn)
 }

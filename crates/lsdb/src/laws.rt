@@ -1,6 +1,6 @@
-//! The laws of versions. Each is the contract of a function that does nothing.
+//! The laws of versions and of databases. Each is the contract of a function that does nothing.
 ghost use Rattle.lsdb.specs.CertificateLaws.{StandingIsCertified, StepsCompose, SilenceServesAll, StoringIsCertified, AckingIsCertified, ClearingIsCertified, EnteringIsCertified, AskingIsCertified, FlaggingIsCertified, FloodingIsCertified, AgeingIsCertified, PartingIsCertified, JoiningIsCertified, EntryStepsCompose, PlacingIsCertified, ChangingIsCertified, ChangingEachIsCertified};
-ghost use Rattle.lsdb.specs.Laws.{AtMostItself, SameBothWays, AtMostThrough, AbsentIsLeast, JoinIsAbove, JoinIsLeast, OlderIsBelow, NewerIsAbove, EqualIsSame, ConfusedIsNeither, ConfusedAreLive, ConfusedJoinIsDead, NumbersFollow, GreaterNumberIsAbove, AtOneNumber, NotAtMost};
+ghost use Rattle.lsdb.specs.Laws.{AtMostItself, SameBothWays, AtMostThrough, AbsentIsLeast, JoinIsAbove, JoinIsLeast, OlderIsBelow, NewerIsAbove, EqualIsSame, ConfusedIsNeither, ConfusedAreLive, ConfusedJoinIsDead, NumbersFollow, GreaterNumberIsAbove, AtOneNumber, NotAtMost, WithoutFlagsNoneIsDue, WhereNoneIsDueNoFlags};
 
 /// Versions are ordered, and absent is the least of them.
 pub fn versions_are_ordered()
@@ -61,4 +61,10 @@ pub fn changes_of_a_database_are_certified()
     ensures placing { PlacingIsCertified }
     ensures changing { ChangingIsCertified }
     ensures each { ChangingEachIsCertified }
+{}
+
+/// No flags stand exactly where no LSP is to be sent, acknowledged or asked for at any port.
+pub fn flags_are_at_ports()
+    ensures none { WithoutFlagsNoneIsDue }
+    ensures all { WhereNoneIsDueNoFlags }
 {}

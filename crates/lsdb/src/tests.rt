@@ -109,7 +109,7 @@ fn the_last_second_makes_an_lsp_dead(rt: HostRuntime) -> Result<(), Fail> {
     let mut db = Database::new(rt.alloc());
     db.put(live(rt.alloc(), id(1, 0), 2)?)?;
     let up = PortSet::none().with(1).with(4);
-    db.age_one(up);
+    assert!(rt; db.age_one(up));
     match db.find(&id(1, 0)) {
         None => assert!(rt; false),
         Some(held) => {
@@ -121,8 +121,8 @@ fn the_last_second_makes_an_lsp_dead(rt: HostRuntime) -> Result<(), Fail> {
             );
         }
     }
-    db.age_one(up);
-    db.age_one(PortSet::none());
+    assert!(rt; db.age_one(up));
+    assert!(rt; db.age_one(PortSet::none()));
     match db.find(&id(1, 0)) {
         None => assert!(rt; false),
         Some(held) => {
@@ -135,6 +135,30 @@ fn the_last_second_makes_an_lsp_dead(rt: HostRuntime) -> Result<(), Fail> {
             assert_eq!(rt; held.body.as_slice(), [1].as_slice());
         }
     }
+    Ok(())
+}
+
+#[test]
+fn flags_are_told_with_ageing(rt: HostRuntime) -> Result<(), Fail> {
+    let mut db = Database::new(rt.alloc());
+    let up = PortSet::none().with(4);
+    assert_eq!(rt; (db.has_flags(), db.age_one(up)), (false, false));
+    db.put(absent(rt.alloc(), id(2, 0)))?;
+    db.put(live(rt.alloc(), id(1, 0), 9)?)?;
+    assert_eq!(rt; (db.has_flags(), db.age_one(up)), (true, true));
+    db.set_flags(&id(1, 0), PortSet::none(), PortSet::none().with(32));
+    assert_eq!(rt; (db.has_flags(), db.age_one(up)), (true, true));
+    db.set_ssn(&id(1, 0), 32, false);
+    assert_eq!(rt; (db.has_flags(), db.age_one(up)), (false, false));
+    db.set_srm(&id(2, 0), 1, true);
+    assert_eq!(rt; (db.has_flags(), db.age_one(up)), (true, true));
+    db.clear_port(1);
+    for _ in 0..4 {
+        assert!(rt; !db.age_one(up));
+    }
+    assert!(rt; !db.has_flags());
+    assert!(rt; db.age_one(up));
+    assert!(rt; db.has_flags());
     Ok(())
 }
 
