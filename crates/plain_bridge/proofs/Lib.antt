@@ -1,3 +1,3 @@
-pub mod Steps
 pub mod Loops
-pub mod Sending
+pub mod Picked
+pub mod Wire

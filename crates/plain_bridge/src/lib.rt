@@ -7,7 +7,10 @@
 pub use bridge::PlainBridge;
 
 mod bridge;
+mod hearing;
 mod hello;
+mod judging;
+mod machine;
 mod ports;
-#[cfg(test)]
-mod tests;
+mod sending;
+mod ticking;
