@@ -11,17 +11,26 @@ use Rattle.adjacency.specs.declared.state.AdjState.TheVariants.{Down, Initializi
 use Rattle.adjacency.specs.declared.port.Adjacency.{Adjacency}
 use Rattle.adjacency.specs.States.{next_state, state_numbered}
 use Rattle.adjacency.specs.Hearing.{sender, is_discarded}
-use Rattle.adjacency.specs.Adjacency.{down, led_to, state_towards, after_hello, after_carrier, change_of, heard_of}
+use Rattle.adjacency.specs.Adjacency.{down, is_down, led_to, state_towards, after_hello, after_carrier, change_of, heard_of}
 use Rattle.bridge_api.specs.declared.port.BridgePort.{BridgePort}
 use Rattle.bridge_api.specs.View.{BridgeView, IsPort, port_in, port_at, has_carrier_in, has_carrier_at}
 use Rattle.bridge_api.specs.Hearing.{with_adjacency, after_receive, carried_at, with_carrier, metered}
 use Rattle.bridge_api.specs.Ports.{greeted_port, carried_port}
+use Rattle.bridge_api.specs.Ticking.{later}
 use Rattle.bridge_api.specs.Step.{second, frame, carrier, metric}
 use Rattle.bridge_api.specs.Laws.{StepsKeepCarrier}
 use Rattle.bridge_api.proofs.Places.{port_found, got_at}
-use Rattle.bridge_api.proofs.Changes.{found, one_port, frame_step, greeted_ports, carried_ports, metric_step, ticked, tick_port}
+use Rattle.bridge_api.proofs.Changes.{found, one_port, frame_ports, greeted_ports, carried_ports, metric_step, metered_ports, ticked, tick_port}
 use Rattle.bridge_api.proofs.Certified.{noted_keeps}
-use Rattle.bridge_api.proofs.Hellos.{later_carrier}
+
+later_carrier_at : (idle ended : Bool) (a : Adjacency) → (if idle then a else (if ended then down a.carrier else record a { hold = a.hold - 1 })).carrier ≡ a.carrier
+later_carrier_at true ended a = refl
+later_carrier_at false true a = refl
+later_carrier_at false false a = refl
+
+-- a second changes no carrier
+pub later_carrier : (port : BridgePort) → (later port).adjacency.carrier ≡ port.adjacency.carrier
+later_carrier port = later_carrier_at (is_down port.adjacency.state) (port.adjacency.hold == 1) port.adjacency
 
 -- after a hello there is carrier, as before
 led_lit : (s : AdjState) (h : HelloValue) (way : ThreeWay) → (led_to s h way).carrier ≡ true
@@ -82,8 +91,8 @@ pub steps_keep_carrier : StepsKeepCarrier
 unfolding has_carrier_at with_carrier
 steps_keep_carrier second v p is = ap has_carrier_in (tick_port v p) ∙ ticked_lit (port_at v p)
 steps_keep_carrier (frame q bytes) v p is =
-    elim (frame_step v q bytes) [
-      | inl e ↦ ap (λ (u : BridgeView). has_carrier_in (port_at u p)) e
+    elim (frame_ports v q bytes) [
+      | inl e ↦ ap (λ (list : List BridgePort). has_carrier_in (port_in list p)) e
       | inr g ↦
           let at = found v.ports q g.port g.there in
           let ports : (after_receive q bytes v).ports ≡ slice_set v.ports (q - 1) (greeted_port v.id.system q g.hello g.way g.port) = ap (λ (u : BridgeView). u.ports) g.after ∙ greeted_ports g.hello g.way q g.port v g.there in
@@ -99,7 +108,7 @@ steps_keep_carrier (metric q m) v p is =
       | inl e ↦ ap (λ (u : BridgeView). has_carrier_in (port_at u p)) e
       | inr g ↦
           let at = found v.ports q g.port g.there in
-          ap (λ (u : BridgeView). has_carrier_in (port_at u p)) g.after
+          ap (λ (list : List BridgePort). has_carrier_in (port_in list p)) (ap (λ (u : BridgeView). u.ports) g.after ∙ metered_ports q m g.port v)
           ∙ elim (one_port v.ports q g.port (metered m g.port) p at.0 at.1) [
             | inl here ↦ ap has_carrier_in here.1 ∙ sym (ap (λ (k : ℕ). has_carrier_in (port_in v.ports k)) here.0 ∙ ap has_carrier_in g.there)
             | inr same ↦ ap has_carrier_in same

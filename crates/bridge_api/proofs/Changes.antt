@@ -1,27 +1,86 @@
--- What a step makes of the ports, one by one.
-use Rattle.std.proofs.Common.{◌≡◌, ◌≢◌, ◌⊎◌, inl, inr, ◌≤◌, ◌-◌, ℕ, Bool, true, false, List, map, refl, sym, ap, ◌∙◌, Option, Some, None, Result, Ok, Err, arith}
-use Rattle.std.specs.Prelude.{slice_get, slice_set, nat_le, if◌then◌else◌}
+-- What a step makes of the ports, one by one, and what it leaves as it was.
+use Rattle.std.proofs.Common.{◌≡◌, ◌≢◌, ◌⊎◌, inl, inr, ◌≤◌, ◌-◌, ℕ, Bool, true, false, List, map, refl, sym, ap, ◌∙◌, subst, Option, Some, None, Result, Ok, Err, arith}
+use Rattle.std.specs.Prelude.{slice_get, slice_set, nat_le, ◌||◌, ◌&&◌, not, if◌then◌else◌}
 use Rattle.std.specs.Option.{option_map}
-use Rattle.std.specs.FinMap.{empty}
 use Rattle.std.proofs.lemmas.List.{set-set}
-use Rattle.std.proofs.lemmas.Option.{slice_get-map, slice_get_within, some_pair_parts}
+use Rattle.std.proofs.lemmas.Option.{slice_get-map, slice_get_within}
 use Rattle.std.proofs.lemmas.Bool.{le-leb, leb-true, cases_eq}
-use Rattle.isis_pdu.specs.Pdu.{HelloValue, CsnpValue, PsnpValue}
+use Rattle.isis_pdu.specs.Pdu.{HelloValue, LspValue, CsnpValue, PsnpValue}
 use Rattle.spb_tlvs.specs.declared.error.TlvError.{TlvError}
 use Rattle.spb_tlvs.specs.declared.entries.SnpEntry.{SnpEntry}
 use Rattle.spb_tlvs.specs.declared.three_way.ThreeWay.{ThreeWay}
+use Rattle.lsdb.specs.Database.{Lsps}
+use Rattle.snp_sync.specs.Reading.{entries_in}
 use Rattle.adjacency.specs.declared.state.Heard.{Heard}
 use Rattle.adjacency.specs.declared.state.Heard.TheVariants.{Kept, CameUp, LeftUp, Discarded}
 use Rattle.adjacency.specs.declared.port.Adjacency.{Adjacency}
 use Rattle.adjacency.specs.Adjacency.{after_hello, heard_of, after_carrier, change_of}
 use Rattle.bridge_api.specs.declared.port.BridgePort.{BridgePort}
+use Rattle.bridge_api.specs.declared.config.BridgeConfig.{BridgeConfig}
 use Rattle.bridge_api.specs.View.{BridgeView, port_in, port_at, with_port_at, is_port_up}
-use Rattle.bridge_api.specs.Judging.{Judged, useless, greeting, link_state, complete, partial, tenant, greeting_in, judged, entries_in}
-use Rattle.bridge_api.specs.Hearing.{with_due, with_adjacency, changed_at, with_complete, with_partial, heard_as, heard_at, greeted, after_receive, carried_at, with_carrier, metered, metered_at, with_metric}
+use Rattle.bridge_api.specs.Own.{own_entry, is_said, originating, settled}
+use Rattle.bridge_api.specs.Config.{bare, configured}
+use Rattle.bridge_api.specs.Judging.{Judged, useless, greeting, link_state, complete, partial, tenant, judged}
+use Rattle.bridge_api.specs.Hearing.{with_due, with_adjacency, left, changed_at, joined_at, flooded, completed, requested, with_complete, with_partial, heard_as, heard_at, greeted, after_receive, carried_at, with_carrier, metered, metered_at, with_metric}
 use Rattle.bridge_api.specs.Ports.{noted, greeted_port, carried_port}
-use Rattle.bridge_api.specs.Ticking.{later, after_tick}
-use Rattle.bridge_api.proofs.Places.{each_none, port_found, set_again, got_at, got_beside}
+use Rattle.bridge_api.specs.Ticking.{later, counted, expired, is_old, refreshed, readied, told, after_tick}
+use Rattle.bridge_api.proofs.Places.{port_found, set_again, got_at, got_beside}
 use Rattle.bridge_api.proofs.Adjacent.{kept_whole, not_discarded}
+
+-- ---- what flooding leaves as it was
+
+-- the bridge with other LSPs, and spent or not
+abbrev pub with_lsps : Lsps → Bool → BridgeView → BridgeView
+with_lsps db spent v = record v { database = db; spent = spent }
+
+-- and with other ports
+abbrev pub with_parts : List BridgePort → Lsps → Bool → BridgeView → BridgeView
+with_parts ports db spent v = record v { ports = ports; database = db; spent = spent }
+
+-- nothing else changed
+abbrev pub KeepsRest : BridgeView → BridgeView → Type 0
+KeepsRest v w = w ≡ with_parts w.ports w.database w.spent v
+
+-- what is nothing but a bridge that keeps the rest keeps it
+pub rest_of : (v w u : BridgeView) → w ≡ u → KeepsRest v u → KeepsRest v w
+rest_of v w u e rest = subst (KeepsRest v) (sym e) rest
+
+settled_at : (b : Bool) (v : BridgeView) → (if b then v else originating v) ≡ with_lsps (if b then v else originating v).database (if b then v else originating v).spent v
+settled_at true v = refl
+settled_at false v = refl
+
+pub settled_is : (v : BridgeView) → settled v ≡ with_lsps (settled v).database (settled v).spent v
+unfolding settled
+settled_is v = settled_at (v.spent || is_said v) v
+
+pub settled_ports : (v : BridgeView) → (settled v).ports ≡ v.ports
+settled_ports v = ap (λ (u : BridgeView). u.ports) (settled_is v)
+
+pub settled_rest : (v u : BridgeView) → KeepsRest v u → KeepsRest v (settled u)
+settled_rest v u rest =
+    settled_is u
+    ∙ (ap (λ (x : BridgeView). with_lsps (settled u).database (settled u).spent x) rest
+    ∙ ap (λ (ports : List BridgePort). with_parts ports (settled u).database (settled u).spent v) (sym (settled_ports u)))
+
+pub refreshed_is : (v : BridgeView) → refreshed v ≡ with_lsps (refreshed v).database (refreshed v).spent v
+unfolding refreshed
+refreshed_is v = settled_at (v.spent || (is_said v && not (is_old (own_entry v)))) v
+
+pub refreshed_ports : (v : BridgeView) → (refreshed v).ports ≡ v.ports
+refreshed_ports v = ap (λ (u : BridgeView). u.ports) (refreshed_is v)
+
+pub refreshed_rest : (v u : BridgeView) → KeepsRest v u → KeepsRest v (refreshed u)
+refreshed_rest v u rest =
+    refreshed_is u
+    ∙ (ap (λ (x : BridgeView). with_lsps (refreshed u).database (refreshed u).spent x) rest
+    ∙ ap (λ (ports : List BridgePort). with_parts ports (refreshed u).database (refreshed u).spent v) (sym (refreshed_ports u)))
+
+pub configured_is : (c : BridgeConfig) → configured c ≡ with_lsps (configured c).database (configured c).spent (bare c)
+unfolding configured
+configured_is c = refl
+
+pub configured_ports : (c : BridgeConfig) → (configured c).ports ≡ (bare c).ports
+configured_ports c = ap (λ (u : BridgeView). u.ports) (configured_is c)
 
 -- ---- one port changed
 
@@ -49,23 +108,21 @@ one_port ports q from to p low is =
 
 pub changed_ports : (heard : Heard) (p : ℕ) (old new : BridgePort) (v : BridgeView) → slice_get v.ports (p - 1) ≡ Some old → (heard ≡ Discarded → new ≡ old) → (changed_at heard p new v).ports ≡ slice_set v.ports (p - 1) (noted heard new)
 changed_ports Discarded p old new v is whole = rw (whole refl) (sym (set_again v.ports (p - 1) old is))
-changed_ports Kept p old new v is whole = refl
-changed_ports LeftUp p old new v is whole = refl
-changed_ports CameUp p old new v is whole = set-set v.ports (p - 1) (with_due false new) (with_due true new)
+changed_ports Kept p old new v is whole = settled_ports (with_port_at p new v)
+changed_ports LeftUp p old new v is whole = settled_ports (left p new v)
+changed_ports CameUp p old new v is whole =
+    ap (λ (ports : List BridgePort). slice_set ports (p - 1) (with_due true new)) (settled_ports (left p new v)) ∙ set-set v.ports (p - 1) (with_due false new) (with_due true new)
 
-pub changed_unheld : (heard : Heard) (p : ℕ) (new : BridgePort) (v : BridgeView) → v.database ≡ empty → (changed_at heard p new v).database ≡ empty
-changed_unheld Discarded p new v unheld = unheld
-changed_unheld Kept p new v unheld = unheld
-changed_unheld LeftUp p new v unheld = rw unheld (each_none _)
-changed_unheld CameUp p new v unheld = rw (unheld, each_none) (each_none _)
+pub changed_rest : (heard : Heard) (p : ℕ) (new : BridgePort) (v : BridgeView) → KeepsRest v (changed_at heard p new v)
+changed_rest Discarded p new v = refl
+changed_rest Kept p new v = settled_rest v (with_port_at p new v) refl
+changed_rest LeftUp p new v = settled_rest v (left p new v) refl
+changed_rest CameUp p new v =
+    let u : BridgeView = settled (left p new v) in
+    let w : BridgeView = joined_at p new u in
+    ap (λ (x : BridgeView). record x { ports = w.ports; database = w.database }) (settled_rest v (left p new v) refl)
 
-pub changed_bridge : (heard : Heard) (p : ℕ) (new : BridgePort) (v : BridgeView) → changed_at heard p new v ≡ record v { ports = (changed_at heard p new v).ports; database = (changed_at heard p new v).database }
-changed_bridge Discarded p new v = refl
-changed_bridge Kept p new v = refl
-changed_bridge LeftUp p new v = refl
-changed_bridge CameUp p new v = refl
-
--- ---- a hello
+-- ---- a frame
 
 -- a frame was the hello of a neighbour, heard at a port with carrier
 pub record Greeted (v : BridgeView) (q : ℕ) (bytes : List ℕ) (w : BridgeView) : Type 0 where
@@ -74,49 +131,80 @@ pub record Greeted (v : BridgeView) (q : ℕ) (bytes : List ℕ) (w : BridgeView
   pub way : ThreeWay
   pub there : port_at v q ≡ Some port
   pub carrier : port.adjacency.carrier ≡ true
-  pub is : greeting_in (judged bytes) ≡ Some (hello, way)
+  pub is : judged bytes ≡ greeting hello way
   pub after : w ≡ greeted hello way q port v
 
--- at any port, one that isn't Up too
-if_heard : (up : Bool) (v w : BridgeView) → w ≡ v → (if up then w else v) ≡ v
-if_heard true v w e = e
-if_heard false v w e = refl
+-- or an LSP, a CSNP or a PSNP, heard at a port that is Up, with the entries that were read in an SNP
+pub record Flooded (v : BridgeView) (q : ℕ) (bytes : List ℕ) (w : BridgeView) : Type 0 where
+  pub port : BridgePort
+  pub lsp : LspValue
+  pub there : port_at v q ≡ Some port
+  pub carrier : port.adjacency.carrier ≡ true
+  pub up : is_port_up port ≡ true
+  pub is : judged bytes ≡ link_state lsp
+  pub after : w ≡ settled (flooded lsp q v)
 
-complete_idle : (c : CsnpValue) (es : Result (List SnpEntry) TlvError) (q : ℕ) (v : BridgeView) → with_complete c es q v ≡ v
-complete_idle c (Ok es) q v = refl
-complete_idle c (Err e) q v = refl
+pub record Completed (v : BridgeView) (q : ℕ) (bytes : List ℕ) (w : BridgeView) : Type 0 where
+  pub port : BridgePort
+  pub csnp : CsnpValue
+  pub entries : List SnpEntry
+  pub there : port_at v q ≡ Some port
+  pub carrier : port.adjacency.carrier ≡ true
+  pub up : is_port_up port ≡ true
+  pub is : judged bytes ≡ complete csnp
+  pub read : entries_in csnp.tlvs ≡ Ok entries
+  pub after : w ≡ settled (completed csnp entries q v)
 
-partial_idle : (s : PsnpValue) (es : Result (List SnpEntry) TlvError) (q : ℕ) (v : BridgeView) → with_partial s es q v ≡ v
-partial_idle s (Ok es) q v = refl
-partial_idle s (Err e) q v = refl
+pub record Requested (v : BridgeView) (q : ℕ) (bytes : List ℕ) (w : BridgeView) : Type 0 where
+  pub port : BridgePort
+  pub psnp : PsnpValue
+  pub entries : List SnpEntry
+  pub there : port_at v q ≡ Some port
+  pub carrier : port.adjacency.carrier ≡ true
+  pub up : is_port_up port ≡ true
+  pub is : judged bytes ≡ partial psnp
+  pub read : entries_in psnp.tlvs ≡ Ok entries
+  pub after : w ≡ settled (requested entries q v)
 
--- a frame that isn't a hello changes nothing
-other_idle : (j : Judged) (q : ℕ) (port : BridgePort) (v : BridgeView) → greeting_in j ≡ None → heard_as j q port v ≡ v
-other_idle (useless reason) q port v e = refl
-other_idle (greeting h way) q port v e = absurd cc
-other_idle (link_state l) q port v e = if_heard (is_port_up port) v v refl
-other_idle (complete c) q port v e = if_heard (is_port_up port) v (with_complete c (entries_in c.tlvs) q v) (complete_idle c (entries_in c.tlvs) q v)
-other_idle (partial s) q port v e = if_heard (is_port_up port) v (with_partial s (entries_in s.tlvs) q v) (partial_idle s (entries_in s.tlvs) q v)
-other_idle (tenant da sa vid isid customer) q port v e = refl
+-- what a frame did: nothing, or one of these
+pub data FrameStep (v : BridgeView) (q : ℕ) (bytes : List ℕ) (w : BridgeView) : Type 0 where
+  idle : w ≡ v → FrameStep v q bytes w
+  by_hello : Greeted v q bytes w → FrameStep v q bytes w
+  by_lsp : Flooded v q bytes w → FrameStep v q bytes w
+  by_csnp : Completed v q bytes w → FrameStep v q bytes w
+  by_psnp : Requested v q bytes w → FrameStep v q bytes w
 
-by_kind : (j : Judged) (v : BridgeView) (q : ℕ) (bytes : List ℕ) (port : BridgePort) → judged bytes ≡ j → port_at v q ≡ Some port → port.adjacency.carrier ≡ true → (heard_as j q port v ≡ v) ⊎ Greeted v q bytes (heard_as j q port v)
-by_kind (useless reason) v q bytes port e there lit = inl refl
-by_kind (greeting h way) v q bytes port e there lit = inr (record { port = port; hello = h; way = way; there = there; carrier = lit; is = ap greeting_in e; after = refl })
-by_kind (link_state l) v q bytes port e there lit = inl (other_idle (link_state l) q port v refl)
-by_kind (complete c) v q bytes port e there lit = inl (other_idle (complete c) q port v refl)
-by_kind (partial s) v q bytes port e there lit = inl (other_idle (partial s) q port v refl)
-by_kind (tenant da sa vid isid customer) v q bytes port e there lit = inl (other_idle (tenant da sa vid isid customer) q port v refl)
+-- at a port that is Up, or not
+if_up : (b : Bool) (v w : BridgeView) (q : ℕ) (bytes : List ℕ) → (b ≡ true → FrameStep v q bytes w) → FrameStep v q bytes (if b then w else v)
+if_up true v w q bytes up = up refl
+if_up false v w q bytes up = idle refl
 
-by_carrier : (lit : Bool) (v : BridgeView) (q : ℕ) (bytes : List ℕ) (port : BridgePort) → port_at v q ≡ Some port → port.adjacency.carrier ≡ lit → ((if lit then heard_as (judged bytes) q port v else v) ≡ v) ⊎ Greeted v q bytes (if lit then heard_as (judged bytes) q port v else v)
+complete_read : (es : Result (List SnpEntry) TlvError) (c : CsnpValue) (v : BridgeView) (q : ℕ) (bytes : List ℕ) (port : BridgePort) → entries_in c.tlvs ≡ es → judged bytes ≡ complete c → port_at v q ≡ Some port → port.adjacency.carrier ≡ true → is_port_up port ≡ true → FrameStep v q bytes (with_complete c es q v)
+complete_read (Ok es) c v q bytes port read is there lit up = by_csnp (record { port = port; csnp = c; entries = es; there = there; carrier = lit; up = up; is = is; read = read; after = refl })
+complete_read (Err e) c v q bytes port read is there lit up = idle refl
+
+partial_read : (es : Result (List SnpEntry) TlvError) (s : PsnpValue) (v : BridgeView) (q : ℕ) (bytes : List ℕ) (port : BridgePort) → entries_in s.tlvs ≡ es → judged bytes ≡ partial s → port_at v q ≡ Some port → port.adjacency.carrier ≡ true → is_port_up port ≡ true → FrameStep v q bytes (with_partial es q v)
+partial_read (Ok es) s v q bytes port read is there lit up = by_psnp (record { port = port; psnp = s; entries = es; there = there; carrier = lit; up = up; is = is; read = read; after = refl })
+partial_read (Err e) s v q bytes port read is there lit up = idle refl
+
+by_kind : (j : Judged) (v : BridgeView) (q : ℕ) (bytes : List ℕ) (port : BridgePort) → judged bytes ≡ j → port_at v q ≡ Some port → port.adjacency.carrier ≡ true → FrameStep v q bytes (heard_as j q port v)
+by_kind (useless reason) v q bytes port e there lit = idle refl
+by_kind (greeting h way) v q bytes port e there lit = by_hello (record { port = port; hello = h; way = way; there = there; carrier = lit; is = e; after = refl })
+by_kind (link_state l) v q bytes port e there lit =
+    if_up (is_port_up port) v (settled (flooded l q v)) q bytes (λ up. by_lsp (record { port = port; lsp = l; there = there; carrier = lit; up = up; is = e; after = refl }))
+by_kind (complete c) v q bytes port e there lit = if_up (is_port_up port) v (with_complete c (entries_in c.tlvs) q v) q bytes (complete_read (entries_in c.tlvs) c v q bytes port refl e there lit)
+by_kind (partial s) v q bytes port e there lit = if_up (is_port_up port) v (with_partial (entries_in s.tlvs) q v) q bytes (partial_read (entries_in s.tlvs) s v q bytes port refl e there lit)
+by_kind (tenant da sa vid isid customer) v q bytes port e there lit = idle refl
+
+by_carrier : (lit : Bool) (v : BridgeView) (q : ℕ) (bytes : List ℕ) (port : BridgePort) → port_at v q ≡ Some port → port.adjacency.carrier ≡ lit → FrameStep v q bytes (if lit then heard_as (judged bytes) q port v else v)
 by_carrier true v q bytes port there lit = by_kind (judged bytes) v q bytes port refl there lit
-by_carrier false v q bytes port there lit = inl refl
+by_carrier false v q bytes port there lit = idle refl
 
-by_port : (o : Option BridgePort) (v : BridgeView) (q : ℕ) (bytes : List ℕ) → port_at v q ≡ o → (heard_at q bytes o v ≡ v) ⊎ Greeted v q bytes (heard_at q bytes o v)
-by_port None v q bytes e = inl refl
+by_port : (o : Option BridgePort) (v : BridgeView) (q : ℕ) (bytes : List ℕ) → port_at v q ≡ o → FrameStep v q bytes (heard_at q bytes o v)
+by_port None v q bytes e = idle refl
 by_port (Some port) v q bytes e = by_carrier port.adjacency.carrier v q bytes port e refl
 
--- a frame changes nothing, or is such a hello
-pub frame_step : (v : BridgeView) (q : ℕ) (bytes : List ℕ) → (after_receive q bytes v ≡ v) ⊎ Greeted v q bytes (after_receive q bytes v)
+pub frame_step : (v : BridgeView) (q : ℕ) (bytes : List ℕ) → FrameStep v q bytes (after_receive q bytes v)
 unfolding after_receive
 frame_step v q bytes = by_port (port_at v q) v q bytes refl
 
@@ -125,11 +213,29 @@ greeted_ports h way q port v there =
     changed_ports (heard_of v.id.system q h way port.adjacency) q port (with_adjacency (after_hello v.id.system q h way port.adjacency) port) v (found v.ports q port there).1
     (λ e. ap (λ (a : Adjacency). with_adjacency a port) (kept_whole v.id.system q h way port.adjacency e))
 
-pub greeted_bridge : (h : HelloValue) (way : ThreeWay) (q : ℕ) (port : BridgePort) (v : BridgeView) → greeted h way q port v ≡ record v { ports = (greeted h way q port v).ports; database = (greeted h way q port v).database }
-greeted_bridge h way q port v = changed_bridge (heard_of v.id.system q h way port.adjacency) q (with_adjacency (after_hello v.id.system q h way port.adjacency) port) v
+pub greeted_rest : (h : HelloValue) (way : ThreeWay) (q : ℕ) (port : BridgePort) (v : BridgeView) → KeepsRest v (greeted h way q port v)
+greeted_rest h way q port v = changed_rest (heard_of v.id.system q h way port.adjacency) q (with_adjacency (after_hello v.id.system q h way port.adjacency) port) v
 
-pub greeted_unheld : (h : HelloValue) (way : ThreeWay) (q : ℕ) (port : BridgePort) (v : BridgeView) → v.database ≡ empty → (greeted h way q port v).database ≡ empty
-greeted_unheld h way q port v unheld = changed_unheld (heard_of v.id.system q h way port.adjacency) q (with_adjacency (after_hello v.id.system q h way port.adjacency) port) v unheld
+-- what a frame did to the ports: nothing, or it was a hello, heard at one
+pub frame_ports : (v : BridgeView) (q : ℕ) (bytes : List ℕ) → ((after_receive q bytes v).ports ≡ v.ports) ⊎ Greeted v q bytes (after_receive q bytes v)
+frame_ports v q bytes =
+    elim (frame_step v q bytes) [
+      | idle e ↦ inl (ap (λ (u : BridgeView). u.ports) e)
+      | by_hello g ↦ inr g
+      | by_lsp g ↦ inl (ap (λ (u : BridgeView). u.ports) g.after ∙ settled_ports (flooded g.lsp q v))
+      | by_csnp g ↦ inl (ap (λ (u : BridgeView). u.ports) g.after ∙ settled_ports (completed g.csnp g.entries q v))
+      | by_psnp g ↦ inl (ap (λ (u : BridgeView). u.ports) g.after ∙ settled_ports (requested g.entries q v))
+    ]
+
+pub frame_rest : (v : BridgeView) (q : ℕ) (bytes : List ℕ) → KeepsRest v (after_receive q bytes v)
+frame_rest v q bytes =
+    elim (frame_step v q bytes) [
+      | idle e ↦ rest_of v (after_receive q bytes v) v e refl
+      | by_hello g ↦ rest_of v (after_receive q bytes v) (greeted g.hello g.way q g.port v) g.after (greeted_rest g.hello g.way q g.port v)
+      | by_lsp g ↦ rest_of v (after_receive q bytes v) (settled (flooded g.lsp q v)) g.after (settled_rest v (flooded g.lsp q v) refl)
+      | by_csnp g ↦ rest_of v (after_receive q bytes v) (settled (completed g.csnp g.entries q v)) g.after (settled_rest v (completed g.csnp g.entries q v) refl)
+      | by_psnp g ↦ rest_of v (after_receive q bytes v) (settled (requested g.entries q v)) g.after (settled_rest v (requested g.entries q v) refl)
+    ]
 
 -- ---- carrier
 
@@ -151,18 +257,15 @@ carried_ports q on port v there =
     changed_ports (change_of port.adjacency (after_carrier on port.adjacency)) q port (with_adjacency (after_carrier on port.adjacency) port) v (found v.ports q port there).1
     (λ e. absurd (not_discarded port.adjacency (after_carrier on port.adjacency) e))
 
-pub carried_bridge : (q : ℕ) (on : Bool) (port : BridgePort) (v : BridgeView) → carried_at q on (Some port) v ≡ record v { ports = (carried_at q on (Some port) v).ports; database = (carried_at q on (Some port) v).database }
-carried_bridge q on port v = changed_bridge (change_of port.adjacency (after_carrier on port.adjacency)) q (with_adjacency (after_carrier on port.adjacency) port) v
-
-pub carried_unheld : (q : ℕ) (on : Bool) (port : BridgePort) (v : BridgeView) → v.database ≡ empty → (carried_at q on (Some port) v).database ≡ empty
-carried_unheld q on port v unheld = changed_unheld (change_of port.adjacency (after_carrier on port.adjacency)) q (with_adjacency (after_carrier on port.adjacency) port) v unheld
+pub carried_rest : (q : ℕ) (on : Bool) (port : BridgePort) (v : BridgeView) → KeepsRest v (carried_at q on (Some port) v)
+carried_rest q on port v = changed_rest (change_of port.adjacency (after_carrier on port.adjacency)) q (with_adjacency (after_carrier on port.adjacency) port) v
 
 -- ---- a metric
 
 pub record Metered (v : BridgeView) (q m : ℕ) (w : BridgeView) : Type 0 where
   pub port : BridgePort
   pub there : port_at v q ≡ Some port
-  pub after : w ≡ with_port_at q (metered m port) v
+  pub after : w ≡ settled (with_port_at q (metered m port) v)
 
 metric_port : (o : Option BridgePort) (v : BridgeView) (q m : ℕ) → port_at v q ≡ o → (metered_at q m o v ≡ v) ⊎ Metered v q m (metered_at q m o v)
 metric_port None v q m e = inl refl
@@ -172,7 +275,34 @@ pub metric_step : (v : BridgeView) (q m : ℕ) → (with_metric q m v ≡ v) ⊎
 unfolding with_metric
 metric_step v q m = metric_port (port_at v q) v q m refl
 
+pub metered_ports : (q m : ℕ) (port : BridgePort) (v : BridgeView) → (settled (with_port_at q (metered m port) v)).ports ≡ slice_set v.ports (q - 1) (metered m port)
+metered_ports q m port v = settled_ports (with_port_at q (metered m port) v)
+
+pub metered_rest : (q m : ℕ) (port : BridgePort) (v : BridgeView) → KeepsRest v (settled (with_port_at q (metered m port) v))
+metered_rest q m port v = settled_rest v (with_port_at q (metered m port) v) refl
+
 -- ---- a second
+
+-- the bridge that sends has the ports a second later
+pub readied_ports : (v : BridgeView) → (readied v).ports ≡ map later v.ports
+readied_ports v = refreshed_ports (expired (counted v))
+
+pub readied_rest : (v : BridgeView) → KeepsRest v (readied v)
+readied_rest v = refreshed_rest v (expired (counted v)) refl
+
+pub tick_is : (v : BridgeView) → after_tick v ≡ told (readied v)
+unfolding after_tick
+tick_is v = refl
+
+pub tick_ports : (v : BridgeView) → (after_tick v).ports ≡ map (with_due false) (map later v.ports)
+unfolding after_tick
+tick_ports v = ap (map (with_due false)) (readied_ports v)
+
+pub tick_rest : (v : BridgeView) → KeepsRest v (after_tick v)
+unfolding after_tick
+tick_rest v =
+    let w : BridgeView = told (readied v) in
+    ap (λ (x : BridgeView). record x { ports = w.ports; database = w.database }) (readied_rest v)
 
 -- a port after a tick
 abbrev pub ticked : BridgePort → BridgePort
@@ -187,20 +317,9 @@ tick_at true ports k = slice_get-map (with_due false) (map later ports) k ∙ (a
 tick_at false ports k = refl
 
 pub tick_port : (v : BridgeView) (p : ℕ) → port_at (after_tick v) p ≡ option_map ticked (port_at v p)
-unfolding after_tick
-tick_port v p = tick_at (nat_le 1 p) v.ports (p - 1)
+tick_port v p = ap (λ (ports : List BridgePort). port_in ports p) (tick_ports v) ∙ tick_at (nat_le 1 p) v.ports (p - 1)
 
-pub tick_unheld : (v : BridgeView) → v.database ≡ empty → (after_tick v).database ≡ empty
-unfolding after_tick
-tick_unheld v unheld = rw (unheld, each_none) (each_none _)
-
--- ---- the whole view, of a bridge that holds no LSP
-
-abbrev pub with_ports : List BridgePort → BridgeView → BridgeView
-with_ports ports v = record v { ports = ports }
-
-same_view : (v w : BridgeView) (ports : List BridgePort) → v.database ≡ empty → w ≡ record v { ports = w.ports; database = w.database } → w.ports ≡ ports → w.database ≡ empty → w ≡ with_ports ports v
-same_view v w ports unheld is at none = is ∙ (λ i. record v { ports = at i; database = (none ∙ sym unheld) i })
+-- ---- what a call of a bridge makes of it, at a port that it has
 
 -- the branch that is taken
 pub when_true : {X : Type 0} (b : Bool) (x y : X) → b ≡ true → (if b then x else y) ≡ x
@@ -211,44 +330,21 @@ pub when_false : {X : Type 0} (b : Bool) (x y : X) → b ≡ false → (if b the
 when_false true x y e = absurd cc
 when_false false x y e = refl
 
-heard_lit : (v : BridgeView) (q : ℕ) (bytes : List ℕ) (port : BridgePort) → 1 ≤ q → slice_get v.ports (q - 1) ≡ Some port → port.adjacency.carrier ≡ true → after_receive q bytes v ≡ heard_as (judged bytes) q port v
+-- at a port with carrier a frame is heard by its kind, and at one without it isn't heard
+pub heard_is : (v : BridgeView) (q : ℕ) (bytes : List ℕ) (port : BridgePort) → 1 ≤ q → slice_get v.ports (q - 1) ≡ Some port → port.adjacency.carrier ≡ true → after_receive q bytes v ≡ heard_as (judged bytes) q port v
 unfolding after_receive
-heard_lit v q bytes port low at lit =
+heard_is v q bytes port low at lit =
     ap (λ (o : Option BridgePort). heard_at q bytes o v) (port_found v q low ∙ at) ∙ when_true port.adjacency.carrier (heard_as (judged bytes) q port v) v lit
-
-pub greeted_is : (v : BridgeView) (q : ℕ) (bytes : List ℕ) (port : BridgePort) (h : HelloValue) (way : ThreeWay) → v.database ≡ empty → 1 ≤ q → slice_get v.ports (q - 1) ≡ Some port → port.adjacency.carrier ≡ true → greeting_in (judged bytes) ≡ Some (h, way) → after_receive q bytes v ≡ with_ports (slice_set v.ports (q - 1) (greeted_port v.id.system q h way port)) v
-greeted_is v q bytes port h way unheld low at lit some =
-    heard_lit v q bytes port low at lit ∙ kind_is (judged bytes) some
-  where
-    kind_is : (j : Judged) → greeting_in j ≡ Some (h, way) → heard_as j q port v ≡ with_ports (slice_set v.ports (q - 1) (greeted_port v.id.system q h way port)) v
-    kind_is (useless reason) e = absurd cc
-    kind_is (greeting g w) e =
-        let parts : (g ≡ h) × (w ≡ way) = some_pair_parts g h w way e in
-        rw (parts.0, parts.1)
-        (same_view v (greeted h way q port v) (slice_set v.ports (q - 1) (greeted_port v.id.system q h way port)) unheld (greeted_bridge h way q port v) (greeted_ports h way q port v (port_found v q low ∙ at)) (greeted_unheld h way q port v unheld))
-    kind_is (link_state l) e = absurd cc
-    kind_is (complete c) e = absurd cc
-    kind_is (partial s) e = absurd cc
-    kind_is (tenant da sa vid isid customer) e = absurd cc
 
 pub deaf_is : (v : BridgeView) (q : ℕ) (bytes : List ℕ) (port : BridgePort) → 1 ≤ q → slice_get v.ports (q - 1) ≡ Some port → port.adjacency.carrier ≡ false → after_receive q bytes v ≡ v
 unfolding after_receive
 deaf_is v q bytes port low at dark =
     ap (λ (o : Option BridgePort). heard_at q bytes o v) (port_found v q low ∙ at) ∙ when_false port.adjacency.carrier (heard_as (judged bytes) q port v) v dark
 
-pub idle_is : (v : BridgeView) (q : ℕ) (bytes : List ℕ) (port : BridgePort) → 1 ≤ q → slice_get v.ports (q - 1) ≡ Some port → port.adjacency.carrier ≡ true → greeting_in (judged bytes) ≡ None → after_receive q bytes v ≡ v
-idle_is v q bytes port low at lit none = heard_lit v q bytes port low at lit ∙ other_idle (judged bytes) q port v none
-
-pub carried_is : (v : BridgeView) (q : ℕ) (on : Bool) (port : BridgePort) → v.database ≡ empty → 1 ≤ q → slice_get v.ports (q - 1) ≡ Some port → with_carrier q on v ≡ with_ports (slice_set v.ports (q - 1) (carried_port on port)) v
+pub carried_is : (v : BridgeView) (q : ℕ) (on : Bool) (port : BridgePort) → 1 ≤ q → slice_get v.ports (q - 1) ≡ Some port → with_carrier q on v ≡ carried_at q on (Some port) v
 unfolding with_carrier
-carried_is v q on port unheld low at =
-    ap (λ (o : Option BridgePort). carried_at q on o v) (port_found v q low ∙ at)
-    ∙ same_view v (carried_at q on (Some port) v) (slice_set v.ports (q - 1) (carried_port on port)) unheld (carried_bridge q on port v) (carried_ports q on port v (port_found v q low ∙ at)) (carried_unheld q on port v unheld)
+carried_is v q on port low at = ap (λ (o : Option BridgePort). carried_at q on o v) (port_found v q low ∙ at)
 
-pub metered_is : (v : BridgeView) (q m : ℕ) (port : BridgePort) → 1 ≤ q → slice_get v.ports (q - 1) ≡ Some port → with_metric q m v ≡ with_ports (slice_set v.ports (q - 1) (metered m port)) v
+pub metered_is : (v : BridgeView) (q m : ℕ) (port : BridgePort) → 1 ≤ q → slice_get v.ports (q - 1) ≡ Some port → with_metric q m v ≡ settled (with_port_at q (metered m port) v)
 unfolding with_metric
 metered_is v q m port low at = ap (λ (o : Option BridgePort). metered_at q m o v) (port_found v q low ∙ at)
-
-pub tick_is : (v : BridgeView) → v.database ≡ empty → after_tick v ≡ with_ports (map (with_due false) (map later v.ports)) v
-unfolding after_tick
-tick_is v unheld = same_view v (after_tick v) (map (with_due false) (map later v.ports)) unheld refl refl (tick_unheld v unheld)

@@ -1,40 +1,49 @@
 -- The hellos that are sent are heard as such.
-use Rattle.std.proofs.Common.{◌≡◌, ◌⊎◌, inl, inr, ◌≤◌, ◌<◌, ◌+◌, ◌-◌, ℕ, suc, Bool, true, false, List, [], ◌∷◌, ◌++◌, length, map, refl, sym, ap, ◌∙◌, subst, Option, Some, None, Ok, arith, length-append}
-use Rattle.std.specs.Prelude.{slice_get, nat_le, ◌==◌, IsTrue, if◌then◌else◌}
+use Rattle.std.proofs.Common.{◌≡◌, ◌⊎◌, inl, inr, ◌≤◌, ◌<◌, ◌+◌, ◌-◌, ℕ, zero, suc, Bool, true, false, List, [], ◌∷◌, ◌++◌, length, map, refl, sym, ap, ◌∙◌, subst, Option, Some, None, Ok, arith, length-append}
+use Rattle.std.specs.Prelude.{slice_get, nat_le, IsTrue, if◌then◌else◌}
+use Rattle.std.specs.Int.{w16, to_be_bytes}
 use Rattle.std.specs.Option.{option_map, option_and_then}
-use Rattle.std.proofs.lemmas.List.{append-nil, append_assoc, length-map}
+use Rattle.std.proofs.lemmas.List.{append-nil, append_assoc}
 use Rattle.std.proofs.lemmas.Option.{slice_get-map, slice_get_within}
 use Rattle.std.proofs.lemmas.Bool.{le-leb}
+use Rattle.spb_types.specs.declared.address.Mac.{Mac}
 use Rattle.spb_types.specs.declared.address.SystemId.{SystemId}
 use Rattle.spb_types.specs.declared.address.BridgeId.{BridgeId}
-use Rattle.isis_pdu.specs.Pdu.{HelloValue, hello}
+use Rattle.isis_pdu.specs.Pdu.{HelloValue, CsnpValue, hello}
 use Rattle.isis_pdu.specs.Tlvs.{is_whole, is_whole_after}
+use Rattle.isis_pdu.specs.Bytes.{u16_bytes}
 use Rattle.isis_pdu.specs.Spelling.{hello_bytes}
-use Rattle.isis_pdu.specs.Grammar.{IsPdu}
+use Rattle.isis_pdu.specs.Grammar.{IsPdu, IsBytes}
 use Rattle.isis_pdu.proofs.FormatLaws.{written_again, whole_one}
 use Rattle.spb_tlvs.specs.declared.three_way.ThreeWay.{ThreeWay}
+use Rattle.spb_tlvs.specs.Number.{four}
 use Rattle.spb_tlvs.specs.Piece.{pieces, pieces_within}
 use Rattle.spb_tlvs.specs.Tlv.{tlv, values_with}
 use Rattle.spb_tlvs.specs.ThreeWay.{three_way_value, neighbour_bytes, three_way_of}
 use Rattle.spb_tlvs.specs.RoundTrip.{IsNamed}
 use Rattle.spb_tlvs.proofs.ThreeWayLaws.{three_way_again}
 use Rattle.spb_tlvs.proofs.TlvLaws.{tlv_here, tlv_elsewhere}
-use Rattle.itag_frames.specs.Frame.{content_in, control_bytes, ControlAgain}
+use Rattle.itag_frames.specs.Frame.{content_in, control_bytes, llc, ControlAgain}
 use Rattle.itag_frames.specs.Frame as frames
+use Rattle.lsdb.specs.Database.{Lsps}
+use Rattle.flooding.specs.Sending.{lsps_to_send}
+use Rattle.snp_sync.specs.Sending.{csnps_of, psnps_of}
 use Rattle.adjacency.specs.declared.state.AdjState.{AdjState}
 use Rattle.adjacency.specs.declared.state.AdjState.TheVariants.{Down, Initializing, Up}
 use Rattle.adjacency.specs.States.{number_of}
 use Rattle.adjacency.specs.Hearing.{End}
 use Rattle.adjacency.specs.declared.port.Adjacency.{Adjacency}
-use Rattle.adjacency.specs.Adjacency.{neighbour_of, said, down, is_down}
+use Rattle.adjacency.specs.Adjacency.{SoundIn, is_up, neighbour_of, said}
 use Rattle.bridge_api.specs.declared.port.BridgePort.{BridgePort}
-use Rattle.bridge_api.specs.View.{BridgeView, port_at, neighbour_at, has_carrier_in, has_carrier_at}
-use Rattle.bridge_api.specs.Judging.{judged, greeting, by_content, by_pdu, by_three_way, by_reading}
-use Rattle.bridge_api.specs.Ticking.{later, hello_tlvs, hello_at, hello_frame, sent_from, sent_in_tick, after_tick}
-use Rattle.bridge_api.specs.Step.{second}
-use Rattle.bridge_api.specs.Laws.{IsSent, HellosAreHeard, SentWithCarrier}
-use Rattle.bridge_api.proofs.Changes.{ticked, tick_port}
-use Rattle.bridge_api.proofs.Certified.{steps_keep_bridge}
+use Rattle.bridge_api.specs.View.{BridgeView, port_at, neighbour_at, is_port_up, has_carrier_in, has_carrier_at}
+use Rattle.bridge_api.specs.Judging.{Judged, useless, judged, greeting, is_octets, by_content, by_pdu, by_three_way, by_reading}
+use Rattle.bridge_api.specs.Judging as drop
+use Rattle.bridge_api.specs.Ticking.{later, readied, hello_tlvs, hello_at, hello_frame, lsp_frame, csnp_frame, psnp_frame, greetings_at, summaries_at, lsps_at, requests_at, synced_at, sent_at, told_at, sent_from, sent_in_tick, after_tick}
+use Rattle.bridge_api.specs.Laws.{IsSoundPort, IsSent, AreOctets, HellosAreHeard, SentWithCarrier}
+use Rattle.bridge_api.proofs.Changes.{found, readied_ports, readied_rest, ticked, tick_port, when_true}
+use Rattle.bridge_api.proofs.Carriers.{later_carrier}
+use Rattle.bridge_api.proofs.Octets.{AreSmall, octets_small, bytes_small, small_both}
+use Rattle.bridge_api.proofs.SoundPorts.{all_later, all_at}
 
 -- ---- the TLVs of a hello
 
@@ -72,9 +81,10 @@ said_state Down = omega arith
 said_state Initializing = omega arith
 said_state Up = omega arith
 
-pub hello_heard : ControlAgain → (system : SystemId) (p : ℕ) (port : BridgePort) → length system.mac.bytes ≡ 6 → p ≤ 32 → IsNamed (neighbour_of port.adjacency) → judged (hello_frame system p port) ≡ greeting (hello_at system p port) (said p port.adjacency)
-unfolding judged hello_frame
-hello_heard control_again system p port six low named =
+-- the hello that is read again, by one who looks at no octet
+pub hello_content : ControlAgain → (system : SystemId) (p : ℕ) (port : BridgePort) → length system.mac.bytes ≡ 6 → p ≤ 32 → IsNamed (neighbour_of port.adjacency) → by_content (content_in (hello_frame system p port)) ≡ greeting (hello_at system p port) (said p port.adjacency)
+unfolding hello_frame
+hello_content control_again system p port six low named =
     let h : HelloValue = hello_at system p port in
     let way : ThreeWay = said p port.adjacency in
     let short : length (hello_bytes h) ≤ 1497 = omega (arith, hello_short h six, tlvs_short way named) in
@@ -87,47 +97,150 @@ hello_heard control_again system p port six low named =
     ∙ (ap (λ (vs : List (List ℕ)). by_three_way h (slice_get vs 0)) (way_found way)
     ∙ ap (by_reading h) again))
 
+-- ---- its octets
+
+four_small : (n : ℕ) → AreSmall (four n)
+four_small n = (omega arith, (omega arith, (omega arith, (omega arith, tt))))
+
+neighbour_small : (n : Option End) → AreOctets n → AreSmall (neighbour_bytes n)
+neighbour_small None octets = tt
+neighbour_small (Some n) octets = small_both n.0.mac.bytes (four n.1) (bytes_small n.0.mac.bytes octets) (four_small n.1)
+
+way_small : (way : ThreeWay) → way.state ≤ 2 → AreOctets way.neighbour → AreSmall (three_way_value way)
+way_small way state octets = (omega (arith, state), small_both (four way.circuit) (neighbour_bytes way.neighbour) (four_small way.circuit) (neighbour_small way.neighbour octets))
+
+value_short : (way : ThreeWay) → IsNamed way.neighbour → length (three_way_value way) ≤ 15
+value_short way named = omega (arith, named_short way.neighbour named)
+
+tlvs_small : (way : ThreeWay) → way.state ≤ 2 → IsNamed way.neighbour → AreOctets way.neighbour → AreSmall (hello_tlvs way)
+tlvs_small way state named octets =
+    small_both (tlv 1 (0x03 ∷ 0x49 ∷ 0x00 ∷ 0x01 ∷ []) ++ tlv 129 (0xc1 ∷ [])) (tlv 240 (three_way_value way))
+    (omega arith, (omega arith, (omega arith, (omega arith, (omega arith, (omega arith, (omega arith, (omega arith, (omega arith, tt)))))))))
+    (omega arith, (omega (arith, value_short way named), way_small way state octets))
+
+-- the bytes of a PDU in a frame
+pub control_small : (sa : Mac) (pdu : List ℕ) → AreSmall sa.bytes → AreSmall pdu → AreSmall (control_bytes sa pdu)
+control_small sa pdu from small =
+    let bound : List ℕ = to_be_bytes w16 (3 + length pdu) in
+    let before : AreSmall (sa.bytes ++ bound) = small_both sa.bytes bound from (omega arith, (omega arith, tt)) in
+    let headed : AreSmall (sa.bytes ++ bound ++ llc) = small_both (sa.bytes ++ bound) llc before (omega arith, (omega arith, (omega arith, tt))) in
+    (omega arith, (omega arith, (omega arith, (omega arith, (omega arith, (omega arith, small_both (sa.bytes ++ bound ++ llc) pdu headed small))))))
+
+pub hello_small : (system : SystemId) (p : ℕ) (port : BridgePort) → IsBytes system.mac.bytes → p ≤ 32 → IsNamed (neighbour_of port.adjacency) → AreOctets (neighbour_of port.adjacency) → AreSmall (hello_frame system p port)
+unfolding hello_frame hello_bytes
+hello_small system p port from low named octets =
+    let way : ThreeWay = said p port.adjacency in
+    let small : AreSmall (hello_tlvs way) = tlvs_small way (said_state port.adjacency.state) named octets in
+    let own : AreSmall system.mac.bytes = bytes_small system.mac.bytes from in
+    let source : List ℕ = system.mac.bytes in
+    let held : AreSmall (source ++ u16_bytes 3) = small_both source (u16_bytes 3) own (omega arith, (omega arith, tt)) in
+    let bounded : AreSmall (source ++ u16_bytes 3 ++ u16_bytes (20 + length (hello_tlvs way))) =
+    small_both (source ++ u16_bytes 3) (u16_bytes (20 + length (hello_tlvs way))) held (omega (arith, tlvs_short way named), (omega (arith, tlvs_short way named), tt)) in
+    let circuit : AreSmall (source ++ u16_bytes 3 ++ u16_bytes (20 + length (hello_tlvs way)) ++ p ∷ []) =
+    small_both (source ++ u16_bytes 3 ++ u16_bytes (20 + length (hello_tlvs way))) (p ∷ []) bounded (omega (arith, low), tt) in
+    let whole = small_both (source ++ u16_bytes 3 ++ u16_bytes (20 + length (hello_tlvs way)) ++ p ∷ []) (hello_tlvs way) circuit small in
+    control_small system.mac (hello_bytes (hello_at system p port)) own
+    (omega arith, (omega arith, (omega arith, (omega arith, (omega arith, (omega arith, (omega arith, (omega arith, (omega arith, whole)))))))))
+
+pub hello_heard : ControlAgain → (system : SystemId) (p : ℕ) (port : BridgePort) → length system.mac.bytes ≡ 6 → IsBytes system.mac.bytes → p ≤ 32 → IsNamed (neighbour_of port.adjacency) → AreOctets (neighbour_of port.adjacency) → judged (hello_frame system p port) ≡ greeting (hello_at system p port) (said p port.adjacency)
+unfolding judged
+hello_heard control_again system p port six from low named octets =
+    when_true (is_octets (hello_frame system p port)) (by_content (content_in (hello_frame system p port))) (useless drop.Frame) (octets_small (hello_frame system p port) (hello_small system p port from low named octets))
+    ∙ hello_content control_again system p port six low named
+
 -- ---- which frames are sent
 
--- a frame sent from a list of ports, of which the first has number q
-record SentAt (system : SystemId) (q : ℕ) (ports : List BridgePort) (p : ℕ) (bytes : List ℕ) : Type 0 where
+-- of two lists of frames
+pub sent_left : (xs ys : List (ℕ × List ℕ)) (p : ℕ) (bytes : List ℕ) → IsSent xs p bytes → IsSent (xs ++ ys) p bytes
+sent_left [] ys p bytes none = absurd none
+sent_left (x ∷ xs) ys p bytes (inl here) = inl here
+sent_left (x ∷ xs) ys p bytes (inr after) = inr (sent_left xs ys p bytes after)
+
+pub sent_right : (xs ys : List (ℕ × List ℕ)) (p : ℕ) (bytes : List ℕ) → IsSent ys p bytes → IsSent (xs ++ ys) p bytes
+sent_right [] ys p bytes some = some
+sent_right (x ∷ xs) ys p bytes some = inr (sent_right xs ys p bytes some)
+
+pub sent_either : (xs ys : List (ℕ × List ℕ)) (p : ℕ) (bytes : List ℕ) → IsSent (xs ++ ys) p bytes → IsSent xs p bytes ⊎ IsSent ys p bytes
+sent_either [] ys p bytes some = inr some
+sent_either (x ∷ xs) ys p bytes (inl here) = inl (inl here)
+sent_either (x ∷ xs) ys p bytes (inr after) =
+    elim (sent_either xs ys p bytes after) [
+      | inl some ↦ inl (inr some)
+      | inr some ↦ inr some
+    ]
+
+-- all of them at one port
+numbered : {X : Type 0} (q : ℕ) (f : X → List ℕ) (xs : List X) (p : ℕ) (bytes : List ℕ) → IsSent (map (λ (x : X). (q, f x)) xs) p bytes → q ≡ p
+numbered q f [] p bytes none = absurd none
+numbered q f (x ∷ xs) p bytes (inl here) = here.0
+numbered q f (x ∷ xs) p bytes (inr after) = numbered q f xs p bytes after
+
+greeted_at : (lit : Bool) (system : SystemId) (q : ℕ) (port : BridgePort) (p : ℕ) (bytes : List ℕ) → IsSent (if lit then (q, hello_frame system q port) ∷ [] else []) p bytes → (q ≡ p) × (lit ≡ true)
+greeted_at true system q port p bytes (inl here) = (here.0, refl)
+greeted_at true system q port p bytes (inr none) = absurd none
+greeted_at false system q port p bytes none = absurd none
+
+summed_at : (due : Bool) (system : SystemId) (q : ℕ) (db : Lsps) (p : ℕ) (bytes : List ℕ) → IsSent (if due then map (λ (c : CsnpValue). (q, csnp_frame system c)) (csnps_of system db) else []) p bytes → q ≡ p
+summed_at true system q db p bytes some = numbered q (csnp_frame system) (csnps_of system db) p bytes some
+summed_at false system q db p bytes none = absurd none
+
+synced_where : (up : Bool) (system : SystemId) (q : ℕ) (port : BridgePort) (db : Lsps) (p : ℕ) (bytes : List ℕ) → IsSent (if up then summaries_at system q port db ++ lsps_at system q db ++ requests_at system q db else []) p bytes → (q ≡ p) × (up ≡ true)
+synced_where false system q port db p bytes none = absurd none
+synced_where true system q port db p bytes some =
+    elim (sent_either (summaries_at system q port db ++ lsps_at system q db) (requests_at system q db) p bytes some) [
+      | inl first ↦
+          elim (sent_either (summaries_at system q port db) (lsps_at system q db) p bytes first) [
+            | inl summary ↦ (summed_at port.due system q db p bytes summary, refl)
+            | inr lsp ↦ (numbered q (lsp_frame system) (lsps_to_send db q) p bytes lsp, refl)
+          ]
+      | inr request ↦ (numbered q (psnp_frame system) (psnps_of system q db) p bytes request, refl)
+    ]
+
+-- a frame is sent at a port with carrier, or at one that is Up
+at_port : (system : SystemId) (q : ℕ) (port : BridgePort) (db : Lsps) (p : ℕ) (bytes : List ℕ) → IsSent (sent_at system q port db) p bytes → (q ≡ p) × ((port.adjacency.carrier ≡ true) ⊎ (is_port_up port ≡ true))
+at_port system q port db p bytes some =
+    elim (sent_either (greetings_at system q port) (synced_at system q port db) p bytes some) [
+      | inl first ↦ let at = greeted_at port.adjacency.carrier system q port p bytes first in (at.0, inl at.1)
+      | inr synced ↦ let at = synced_where (is_port_up port) system q port db p bytes synced in (at.0, inr at.1)
+    ]
+
+-- the port at which a frame was sent, from a list of ports of which the first has number q
+record SentAt (q : ℕ) (ports : List BridgePort) (p : ℕ) : Type 0 where
   port : BridgePort
   place : ℕ
   number : p ≡ q + place
   found : slice_get ports place ≡ Some port
-  is : bytes ≡ hello_frame system p port
-  lit : port.adjacency.carrier ≡ true
+  lit : (port.adjacency.carrier ≡ true) ⊎ (is_port_up port ≡ true)
 
-sent_first : (lit : Bool) (system : SystemId) (q : ℕ) (port : BridgePort) (rest : List (ℕ × List ℕ)) (p : ℕ) (bytes : List ℕ) → IsSent ((if lit then (q, hello_frame system q port) ∷ [] else []) ++ rest) p bytes → ((q ≡ p) × (hello_frame system q port ≡ bytes) × (lit ≡ true)) ⊎ IsSent rest p bytes
-sent_first true system q port rest p bytes (inl here) = inl (here.0, here.1, refl)
-sent_first true system q port rest p bytes (inr there) = inr there
-sent_first false system q port rest p bytes there = inr there
-
-sent_where : (system : SystemId) (q : ℕ) (ports : List BridgePort) (p : ℕ) (bytes : List ℕ) → IsSent (sent_from system q ports) p bytes → SentAt system q ports p bytes
-sent_where system q [] p bytes none = absurd none
-sent_where system q (port ∷ ports) p bytes some =
-    elim (sent_first port.adjacency.carrier system q port (sent_from system (q + 1) ports) p bytes some) [
-      | inl here ↦ record { port = port; place = 0; number = omega (arith, here.0); found = refl; is = sym here.1 ∙ ap (λ (k : ℕ). hello_frame system k port) here.0; lit = here.2 }
+sent_where : (system : SystemId) (q : ℕ) (ports : List BridgePort) (db : Lsps) (p : ℕ) (bytes : List ℕ) → IsSent (sent_from system q ports db) p bytes → SentAt q ports p
+sent_where system q [] db p bytes none = absurd none
+sent_where system q (port ∷ ports) db p bytes some =
+    elim (sent_either (sent_at system q port db) (sent_from system (q + 1) ports (told_at q port db)) p bytes some) [
+      | inl here ↦ let at = at_port system q port db p bytes here in record { port = port; place = 0; number = omega (arith, at.0); found = refl; lit = at.1 }
       | inr after ↦
-          let at = sent_where system (q + 1) ports p bytes after in
-          record { port = at.port; place = suc at.place; number = omega (arith, at.number); found = at.found; is = at.is; lit = at.lit }
+          let at = sent_where system (q + 1) ports (told_at q port db) p bytes after in
+          record { port = at.port; place = suc at.place; number = omega (arith, at.number); found = at.found; lit = at.lit }
     ]
 
--- the port that sends is that of its number, a second later
-sent_port : (v : BridgeView) (p : ℕ) (bytes : List ℕ) (at : SentAt v.id.system 1 (map later v.ports) p bytes) → option_map later (port_at v p) ≡ Some at.port
-sent_port v p bytes at =
-    let place : p - 1 ≡ at.place = omega (arith, at.number) in
-    let low : nat_le 1 p ≡ true = le-leb 1 p (omega (arith, at.number)) in
-    rw (low, place) (sym (slice_get-map later v.ports at.place) ∙ at.found)
+-- Up is a port with carrier alone
+up_lit_in : (s : AdjState) (a : Adjacency) → SoundIn s a → is_up s ≡ true → a.carrier ≡ true
+up_lit_in Down a sound up = absurd cc
+up_lit_in Initializing a sound up = absurd cc
+up_lit_in Up a sound up = sound.1
 
-later_carrier_at : (idle ended : Bool) (a : Adjacency) → (if idle then a else (if ended then down a.carrier else record a { hold = a.hold - 1 })).carrier ≡ a.carrier
-later_carrier_at true ended a = refl
-later_carrier_at false true a = refl
-later_carrier_at false false a = refl
+pub up_lit : (port : BridgePort) → IsSoundPort port → is_port_up port ≡ true → port.adjacency.carrier ≡ true
+up_lit port sound up = up_lit_in port.adjacency.state port.adjacency sound.adjacency up
 
--- a second changes no carrier
-pub later_carrier : (port : BridgePort) → (later port).adjacency.carrier ≡ port.adjacency.carrier
-later_carrier port = later_carrier_at (is_down port.adjacency.state) (port.adjacency.hold == 1) port.adjacency
+either_lit : (port : BridgePort) → IsSoundPort port → (port.adjacency.carrier ≡ true) ⊎ (is_port_up port ≡ true) → port.adjacency.carrier ≡ true
+either_lit port sound (inl lit) = lit
+either_lit port sound (inr up) = up_lit port sound up
+
+-- the port of this number, a second later
+later_port : (v : BridgeView) (p place : ℕ) (port : BridgePort) → p ≡ 1 + place → slice_get (map later v.ports) place ≡ Some port → option_map later (port_at v p) ≡ Some port
+later_port v p place port number at =
+    let before : p - 1 ≡ place = omega (arith, number) in
+    let low : nat_le 1 p ≡ true = le-leb 1 p (omega (arith, number)) in
+    rw (low, before) (sym (slice_get-map later v.ports place) ∙ at)
 
 lit_before : (o : Option BridgePort) (port : BridgePort) → option_map later o ≡ Some port → port.adjacency.carrier ≡ true → has_carrier_in o ≡ true
 lit_before None port e lit = absurd cc
@@ -135,31 +248,64 @@ lit_before (Some x) port e lit = let same : later x ≡ port = cc in sym (later_
 
 pub sent_with_carrier : SentWithCarrier
 unfolding sent_in_tick has_carrier_at
-sent_with_carrier v p bytes some =
-    let at = sent_where v.id.system 1 (map later v.ports) p bytes some in
-    lit_before (port_at v p) at.port (sent_port v p bytes at) at.lit
+sent_with_carrier v p bytes was some =
+    let w : BridgeView = readied v in
+    let at = sent_where w.id.system 1 w.ports w.database p bytes some in
+    let there : slice_get (map later v.ports) at.place ≡ Some at.port = subst (λ (ports : List BridgePort). slice_get ports at.place ≡ Some at.port) (readied_ports v) at.found in
+    let sound : IsSoundPort at.port = all_at (map later v.ports) at.place at.port (all_later v.ports was.ports) there in
+    lit_before (port_at v p) at.port (later_port v p at.place at.port at.number there) (either_lit at.port sound at.lit)
 
--- ---- and each is heard
+-- ---- and a hello is sent, and heard
 
-sent_neighbour : (o : Option BridgePort) (port : BridgePort) → option_map later o ≡ Some port → option_and_then (λ (x : BridgePort). neighbour_of x.adjacency) (option_map ticked o) ≡ neighbour_of port.adjacency
-sent_neighbour None port e = absurd cc
-sent_neighbour (Some x) port e = let same : later x ≡ port = cc in ap (λ (y : BridgePort). neighbour_of y.adjacency) same
+greeting_sent : (lit : Bool) (system : SystemId) (q : ℕ) (port : BridgePort) → lit ≡ true → IsSent (if lit then (q, hello_frame system q port) ∷ [] else []) q (hello_frame system q port)
+greeting_sent true system q port e = inl (refl, refl)
+greeting_sent false system q port e = absurd cc
+
+hello_sent : (system : SystemId) (q : ℕ) (ports : List BridgePort) (db : Lsps) (place p : ℕ) (port : BridgePort) → p ≡ q + place → slice_get ports place ≡ Some port → port.adjacency.carrier ≡ true → IsSent (sent_from system q ports db) p (hello_frame system p port)
+hello_sent system q [] db place p port number at lit = absurd cc
+hello_sent system q (x ∷ ports) db zero p port number at lit =
+    let same : x ≡ port = cc in
+    let first : p ≡ q = omega (arith, number) in
+    let here : IsSent (greetings_at system q port) q (hello_frame system q port) = greeting_sent port.adjacency.carrier system q port lit in
+    rw (same, first) (sent_left (sent_at system q port db) (sent_from system (q + 1) ports (told_at q port db)) q (hello_frame system q port) (sent_left (greetings_at system q port) (synced_at system q port db) q (hello_frame system q port) here))
+hello_sent system q (x ∷ ports) db (suc place) p port number at lit =
+    sent_right (sent_at system q x db) (sent_from system (q + 1) ports (told_at q x db)) p (hello_frame system p port) (hello_sent system (q + 1) ports (told_at q x db) place p port (omega (arith, number)) at lit)
+
+-- the port with carrier
+record LitPort (v : BridgeView) (p : ℕ) : Type 0 where
+  port : BridgePort
+  there : port_at v p ≡ Some port
+  lit : port.adjacency.carrier ≡ true
+
+lit_port : (o : Option BridgePort) (v : BridgeView) (p : ℕ) → port_at v p ≡ o → has_carrier_in o ≡ true → LitPort v p
+lit_port None v p there lit = absurd cc
+lit_port (Some port) v p there lit = record { port = port; there = there; lit = lit }
 
 pub hellos_are_heard : ControlAgain → HellosAreHeard
-unfolding sent_in_tick neighbour_at
-hellos_are_heard control_again v p bytes was named some =
-    let at = sent_where v.id.system 1 (map later v.ports) p bytes some in
-    let within : at.place < length v.ports = subst (λ (n : ℕ). at.place < n) (length-map v.ports later) (slice_get_within (map later v.ports) at.place at.port at.found) in
-    let port : option_map later (port_at v p) ≡ Some at.port = sent_port v p bytes at in
-    let kept : neighbour_at (after_tick v) p ≡ neighbour_of at.port.adjacency = ap (option_and_then (λ (x : BridgePort). neighbour_of x.adjacency)) (tick_port v p) ∙ sent_neighbour (port_at v p) at.port port in
-    let heard = hello_heard control_again v.id.system p at.port was.address (omega (arith, at.number, within, was.few)) (subst IsNamed kept named) in
+unfolding sent_in_tick after_tick neighbour_at has_carrier_at
+hellos_are_heard control_again v p was carrier named octets =
+    let w : BridgeView = readied v in
+    let g = lit_port (port_at v p) v p refl carrier in
+    let at = found v.ports p g.port g.there in
+    let port : BridgePort = later g.port in
+    let there : slice_get w.ports (p - 1) ≡ Some port =
+    ap (λ (ports : List BridgePort). slice_get ports (p - 1)) (readied_ports v) ∙ (slice_get-map later v.ports (p - 1) ∙ ap (option_map later) at.1) in
+    let kept : neighbour_at (after_tick v) p ≡ neighbour_of port.adjacency = ap (option_and_then (λ (x : BridgePort). neighbour_of x.adjacency)) (tick_port v p ∙ ap (option_map ticked) g.there) in
+    let same : w.id ≡ v.id = ap (λ (u : BridgeView). u.id) (readied_rest v) in
+    let within : p - 1 < length v.ports = slice_get_within v.ports (p - 1) g.port at.1 in
+    let six : length w.id.system.mac.bytes ≡ 6 = ap (λ (id : BridgeId). length id.system.mac.bytes) same ∙ was.config.system.bytes in
+    let from : IsBytes w.id.system.mac.bytes = subst (λ (id : BridgeId). IsBytes id.system.mac.bytes) (sym same) was.config.system.octets in
     record {
-      hello = hello_at v.id.system p at.port;
-      way = said p at.port.adjacency;
-      heard = ap judged at.is ∙ heard;
-      sender = ap (λ (id : BridgeId). (id.system, p)) (sym (steps_keep_bridge second v).id);
-      level = refl;
-      holding = refl;
-      state = said_state at.port.adjacency.state;
-      neighbour = sym kept;
+      bytes = hello_frame w.id.system p port;
+      sent = hello_sent w.id.system 1 w.ports w.database (p - 1) p port (omega (arith, at.0)) there (later_carrier g.port ∙ g.lit);
+      hello = hello_at w.id.system p port;
+      way = said p port.adjacency;
+      heard = hello_heard control_again w.id.system p port six from (omega (arith, at.0, within, was.few)) (subst IsNamed kept named) (subst AreOctets kept octets);
+      own = record {
+        sender = refl;
+        level = refl;
+        holding = refl;
+        state = said_state port.adjacency.state;
+        neighbour = sym kept;
+      };
     }

@@ -1,31 +1,35 @@
 -- Two bridges that hear each other come up.
-use Rattle.std.proofs.Common.{◌≡◌, ◌≢◌, ◌≤◌, ◌<◌, ℕ, Bool, true, false, List, [], ◌∷◌, length, map, refl, sym, ap, ◌∙◌, arith}
-use Rattle.std.specs.Prelude.{◌==◌, slice_index, if◌then◌else◌}
+use Rattle.std.proofs.Common.{◌≡◌, ◌≢◌, ◌≤◌, ◌<◌, ℕ, Bool, true, false, List, [], ◌∷◌, ◌++◌, length, map, refl, sym, ap, ◌∙◌, subst, Some, arith}
+use Rattle.std.specs.Prelude.{◌==◌, slice_get, slice_set, slice_index, if◌then◌else◌}
 use Rattle.std.proofs.lemmas.Slice.Eq.{bytes_eq-Decides}
 use Rattle.spb_types.specs.declared.address.SystemId.{SystemId}
 use Rattle.spb_types.specs.Address.{same_system}
 use Rattle.isis_pdu.specs.Pdu.{HelloValue}
+use Rattle.isis_pdu.specs.Grammar.{IsBytes}
 use Rattle.spb_tlvs.specs.declared.three_way.ThreeWay.{ThreeWay}
+use Rattle.spb_tlvs.specs.RoundTrip.{IsNamed}
 use Rattle.itag_frames.specs.Frame.{ControlAgain}
 use Rattle.adjacency.specs.declared.state.AdjState.{AdjState}
 use Rattle.adjacency.specs.declared.state.AdjState.TheVariants.{Down, Initializing, Up}
-use Rattle.adjacency.specs.declared.state.Heard.TheVariants as did
 use Rattle.adjacency.specs.declared.port.Adjacency.{Adjacency}
 use Rattle.adjacency.specs.States.{state_numbered, next_state}
 use Rattle.adjacency.specs.Hearing.{is_discarded, sender, same_end}
-use Rattle.adjacency.specs.Adjacency.{down, keeping, led_to, no_system, after_heard, change_of, said}
+use Rattle.adjacency.specs.Adjacency.{down, keeping, led_to, no_system, neighbour_of, is_up, after_second, after_heard, after_hello, heard_of, said}
 use Rattle.bridge_api.specs.declared.port.BridgePort.{BridgePort}
 use Rattle.bridge_api.specs.declared.config.BridgeConfig.{BridgeConfig}
-use Rattle.bridge_api.specs.View.{BridgeView, is_up_at}
+use Rattle.bridge_api.specs.View.{BridgeView, port_in, is_up_in, is_up_at}
 use Rattle.bridge_api.specs.Config.{IsWhole, dark, configured}
 use Rattle.bridge_api.specs.Judging.{Judged, judged, greeting}
-use Rattle.bridge_api.specs.Hearing.{changed_at, heard_as, after_receive, with_carrier}
-use Rattle.bridge_api.specs.Ticking.{hello_at, hello_frame, sent_in_tick}
-use Rattle.bridge_api.specs.Step.{frame, carrier}
-use Rattle.bridge_api.specs.Laws.{IsSoundView, lit, hearing_from, NeighboursComeUp, SomeBridge}
-use Rattle.bridge_api.proofs.Certified.{configured_is_sound, steps_stay_sound}
-use Rattle.bridge_api.proofs.Changes.{when_false}
+use Rattle.bridge_api.specs.Hearing.{with_adjacency, heard_as, greeted, carried_at}
+use Rattle.bridge_api.specs.Ports.{greeted_port, carried_port}
+use Rattle.bridge_api.specs.Ticking.{later, readied, hello_tlvs, hello_at, hello_frame, synced_at, sent_from, told_at, sent_in_tick}
+use Rattle.bridge_api.specs.Step.{second, frame, carrier, sent, step}
+use Rattle.bridge_api.specs.Laws.{IsSoundView, AreOctets, lit, first_of, hearing_from, NeighboursComeUp, SomeBridge}
+use Rattle.bridge_api.proofs.Octets.{small_bytes}
+use Rattle.bridge_api.proofs.Changes.{when_false, heard_is, carried_is, carried_ports, carried_rest, greeted_ports, greeted_rest, readied_ports, readied_rest, configured_is, configured_ports}
+use Rattle.bridge_api.proofs.Certified.{noted_keeps}
 use Rattle.bridge_api.proofs.Hellos.{hello_heard}
+use Rattle.bridge_api.proofs.Sound.{configured_is_sound, steps_stay_sound}
 
 -- ---- a hello at a port that is Down
 
@@ -40,44 +44,102 @@ led h way s held next =
     ∙ (ap (λ (t : AdjState). led_to (next_state t (state_numbered way.state)) h way) (either (same_end (no_system, 0) (sender h way)) Down)
     ∙ ap (λ (t : AdjState). led_to t h way) next)
 
--- ---- the bridges
+heard_down : (me : SystemId) (h : HelloValue) (way : ThreeWay) (s : AdjState) → is_discarded me 1 h way ≡ false → (h.holding == 0) ≡ false → next_state Down (state_numbered way.state) ≡ s → after_hello me 1 h way (down true) ≡ led_to s h way
+heard_down me h way s heard held next = when_false (is_discarded me 1 h way) (down true) (after_heard h way (down true)) heard ∙ led h way s held next
 
--- a port with carrier and this adjacency
-abbrev port_with : Adjacency → ℕ → BridgePort
-port_with a metric = record { adjacency = a; due = false; metric = metric }
+-- ---- a bridge, seen at its first port
 
--- a bridge just configured, but for its first port
-abbrev first : BridgeConfig → BridgePort → List ℕ → BridgeView
-first c port metrics = record (configured c) { ports = port ∷ map dark metrics }
+record Starts (system : SystemId) (a : Adjacency) (v : BridgeView) : Type 0 where
+  port : BridgePort
+  rest : List BridgePort
+  id : v.id.system ≡ system
+  is : v.ports ≡ port ∷ rest
+  adjacency : port.adjacency ≡ a
 
--- it hears a hello at that port, which is Down
-heard_down : (v : BridgeView) (m : ℕ) (h : HelloValue) (way : ThreeWay) (s : AdjState) → is_discarded v.id.system 1 h way ≡ false → (h.holding == 0) ≡ false → next_state Down (state_numbered way.state) ≡ s → heard_as (greeting h way) 1 (port_with (down true) m) v ≡ changed_at (change_of (down true) (led_to s h way)) 1 (port_with (led_to s h way) m) v
-heard_down v m h way s heard held next =
-    let is = led h way s held next in
-    let came = when_false (is_discarded v.id.system 1 h way) did.Discarded (change_of (down true) (after_heard h way (down true))) heard ∙ ap (λ (a : Adjacency). change_of (down true) a) is in
-    let after = when_false (is_discarded v.id.system 1 h way) (down true) (after_heard h way (down true)) heard ∙ is in
-    λ i. changed_at (came i) 1 (port_with (after i) m) v
+lit_at : (c : BridgeConfig) (metrics : List ℕ) → (configured c).ports ≡ map dark metrics → 1 ≤ length metrics → Starts c.id.system (down true) (lit c)
+lit_at c [] ports some = absurd (omega arith)
+lit_at c (m ∷ ms) ports some =
+    let v : BridgeView = configured c in
+    let there : slice_get v.ports 0 ≡ Some (dark m) = ap (λ (list : List BridgePort). slice_get list 0) ports in
+    let made : lit c ≡ carried_at 1 true (Some (dark m)) v = carried_is v 1 true (dark m) (omega arith) there in
+    record {
+      port = carried_port true (dark m);
+      rest = map dark ms;
+      id = ap (λ (u : BridgeView). u.id.system) (made ∙ carried_rest 1 true (dark m) v) ∙ ap (λ (u : BridgeView). u.id.system) (configured_is c);
+      is = ap (λ (u : BridgeView). u.ports) made ∙ (carried_ports 1 true (dark m) v there ∙ ap (λ (list : List BridgePort). slice_set list 0 (carried_port true (dark m))) ports);
+      adjacency = refl;
+    }
+
+lit_starts : (c : BridgeConfig) → 1 ≤ length c.metrics → Starts c.id.system (down true) (lit c)
+lit_starts c some = lit_at c c.metrics (configured_ports c) some
+
+-- what it sends first is its hello at that port
+first_is : (b : Bool) (s : ℕ × List ℕ) (xs ys : List (ℕ × List ℕ)) → b ≡ true → first_of ((if b then s ∷ [] else []) ++ xs ++ ys) ≡ s.1
+first_is true s xs ys e = refl
+first_is false s xs ys e = absurd cc
+
+greets_first : (v : BridgeView) (ports : List BridgePort) (port : BridgePort) (rest : List BridgePort) → (readied v).ports ≡ ports → ports ≡ later port ∷ rest → (later port).adjacency.carrier ≡ true → first_of (sent second v) ≡ hello_frame (readied v).id.system 1 (later port)
+unfolding sent_in_tick
+greets_first v ports port rest is first lit =
+    let w : BridgeView = readied v in
+    ap (λ (list : List BridgePort). first_of (sent_from w.id.system 1 list w.database)) (is ∙ first)
+    ∙ first_is (later port).adjacency.carrier (1, hello_frame w.id.system 1 (later port)) (synced_at w.id.system 1 (later port) w.database) (sent_from w.id.system 2 rest (told_at 1 (later port) w.database)) lit
+
+-- the hello of a system, by its adjacency
+abbrev greets : SystemId → Adjacency → HelloValue
+greets system a = record { circuit_type = 1; source = system; holding = 3; circuit = 1; tlvs = hello_tlvs (said 1 a) }
+
+-- it hears what another sends first
+hears : ControlAgain → (me other : SystemId) (a b : Adjacency) (v w : BridgeView) → Starts me a v → Starts other b w → a.carrier ≡ true → (after_second b).carrier ≡ true → length other.mac.bytes ≡ 6 → IsBytes other.mac.bytes → IsNamed (neighbour_of (after_second b)) → AreOctets (neighbour_of (after_second b)) → Starts me (after_hello me 1 (greets other (after_second b)) (said 1 (after_second b)) a) (hearing_from w v)
+hears again me other a b v w sv sw lit_v lit_w six from named octets =
+    let next : (later sw.port).adjacency ≡ after_second b = ap after_second sw.adjacency in
+    let sender_is : (readied w).id.system ≡ other = ap (λ (u : BridgeView). u.id.system) (readied_rest w) ∙ sw.id in
+    let port : BridgePort = later sw.port in
+    let bytes : List ℕ = hello_frame other 1 port in
+    let sends : first_of (sent second w) ≡ bytes =
+    greets_first w (map later w.ports) sw.port (map later sw.rest) (readied_ports w) (ap (map later) sw.is) (ap (λ (x : Adjacency). x.carrier) next ∙ lit_w) ∙ ap (λ (s : SystemId). hello_frame s 1 port) sender_is in
+    let said_so : judged bytes ≡ greeting (hello_at other 1 port) (said 1 port.adjacency) =
+    hello_heard again other 1 port six from (omega arith) (subst (λ (x : Adjacency). IsNamed (neighbour_of x)) (sym next) named) (subst (λ (x : Adjacency). AreOctets (neighbour_of x)) (sym next) octets) in
+    let told : judged bytes ≡ greeting (greets other (after_second b)) (said 1 (after_second b)) = said_so ∙ ap (λ (x : Adjacency). greeting (greets other x) (said 1 x)) next in
+    let h : HelloValue = greets other (after_second b) in
+    let way : ThreeWay = said 1 (after_second b) in
+    let there : slice_get v.ports 0 ≡ Some sv.port = ap (λ (list : List BridgePort). slice_get list 0) sv.is in
+    let made : hearing_from w v ≡ greeted h way 1 sv.port v =
+    ap (λ (s : List ℕ). step (frame 1 s) v) sends
+    ∙ (heard_is v 1 bytes sv.port (omega arith) there (ap (λ (x : Adjacency). x.carrier) sv.adjacency ∙ lit_v)
+    ∙ ap (λ (j : Judged). heard_as j 1 sv.port v) told) in
+    record {
+      port = greeted_port v.id.system 1 h way sv.port;
+      rest = sv.rest;
+      id = ap (λ (u : BridgeView). u.id.system) (made ∙ greeted_rest h way 1 sv.port v) ∙ sv.id;
+      is = ap (λ (u : BridgeView). u.ports) made ∙ (greeted_ports h way 1 sv.port v there ∙ ap (λ (list : List BridgePort). slice_set list 0 (greeted_port v.id.system 1 h way sv.port)) sv.is);
+      adjacency =
+          noted_keeps (heard_of v.id.system 1 h way sv.port.adjacency) (with_adjacency (after_hello v.id.system 1 h way sv.port.adjacency) sv.port)
+          ∙ (λ i. after_hello (sv.id i) 1 h way (sv.adjacency i));
+    }
+
+up_first : (v : BridgeView) (system : SystemId) (a : Adjacency) → Starts system a v → is_up a.state ≡ true → is_up_at v 1 ≡ true
+unfolding is_up_at
+up_first v system a s up = ap (λ (list : List BridgePort). is_up_in (port_in list 1)) s.is ∙ (ap (λ (x : Adjacency). is_up x.state) s.adjacency ∙ up)
 
 -- the neighbour hears the first hello, and then its own answer is heard
-neighbours : ControlAgain → (c d : BridgeConfig) (m n : ℕ) (ms ns : List ℕ) → length c.id.system.mac.bytes ≡ 6 → length d.id.system.mac.bytes ≡ 6 → same_system c.id.system d.id.system ≡ false → same_system d.id.system c.id.system ≡ false → same_system c.id.system c.id.system ≡ true → is_up_at (hearing_from (hearing_from (lit (record c { metrics = m ∷ ms })) (lit (record d { metrics = n ∷ ns }))) (lit (record c { metrics = m ∷ ms }))) 1 ≡ true
-unfolding after_receive with_carrier sent_in_tick is_up_at
-neighbours again c d m n ms ns six_c six_d apart apart' same =
-    let v : BridgeView = first c (port_with (down true) m) ms in
-    let w : BridgeView = first d (port_with (down true) n) ns in
-    let asks : BridgePort = port_with (down true) m in
-    let answers : BridgePort = port_with (keeping Initializing (c.id.system, 1) 2) n in
-    let asked : judged (hello_frame c.id.system 1 asks) ≡ greeting (hello_at c.id.system 1 asks) (said 1 asks.adjacency) = hello_heard again c.id.system 1 asks six_c (omega arith) tt in
-    let answered : judged (hello_frame d.id.system 1 answers) ≡ greeting (hello_at d.id.system 1 answers) (said 1 answers.adjacency) = hello_heard again d.id.system 1 answers six_d (omega arith) (six_c, omega arith) in
-    let once : hearing_from v w ≡ first d (port_with (keeping Initializing (c.id.system, 1) 3) n) ns =
-    ap (λ (j : Judged). heard_as j 1 (port_with (down true) n) w) asked ∙ heard_down w n (hello_at c.id.system 1 asks) (said 1 asks.adjacency) Initializing (rw apart refl) refl refl in
-    let twice : heard_as (judged (hello_frame d.id.system 1 answers)) 1 (port_with (down true) m) v ≡ changed_at did.CameUp 1 (port_with (keeping Up (d.id.system, 1) 3) m) v =
-    ap (λ (j : Judged). heard_as j 1 (port_with (down true) m) v) answered ∙ heard_down v m (hello_at d.id.system 1 answers) (said 1 answers.adjacency) Up (rw (apart', same) refl) refl refl in
-    ap (λ (u : BridgeView). is_up_at (hearing_from u v) 1) once ∙ ap (λ (u : BridgeView). is_up_at u 1) twice
-
-with_metrics : ControlAgain → (c d : BridgeConfig) (ms ns : List ℕ) → 1 ≤ length ms → 1 ≤ length ns → length c.id.system.mac.bytes ≡ 6 → length d.id.system.mac.bytes ≡ 6 → same_system c.id.system d.id.system ≡ false → same_system d.id.system c.id.system ≡ false → same_system c.id.system c.id.system ≡ true → is_up_at (hearing_from (hearing_from (lit (record c { metrics = ms })) (lit (record d { metrics = ns }))) (lit (record c { metrics = ms }))) 1 ≡ true
-with_metrics again c d [] ns some_c some_d six_c six_d apart apart' same = absurd (omega arith)
-with_metrics again c d (m ∷ ms) [] some_c some_d six_c six_d apart apart' same = absurd (omega arith)
-with_metrics again c d (m ∷ ms) (n ∷ ns) some_c some_d six_c six_d apart apart' same = neighbours again c d m n ms ns six_c six_d apart apart' same
+neighbours : ControlAgain → (c d : BridgeConfig) → IsWhole c → IsWhole d → 1 ≤ length c.metrics → 1 ≤ length d.metrics → same_system c.id.system d.id.system ≡ false → same_system d.id.system c.id.system ≡ false → same_system c.id.system c.id.system ≡ true → is_up_at (hearing_from (hearing_from (lit c) (lit d)) (lit c)) 1 ≡ true
+neighbours again c d whole_c whole_d some_c some_d apart apart' same =
+    let me : SystemId = c.id.system in
+    let other : SystemId = d.id.system in
+    let asks : Starts me (down true) (lit c) = lit_starts c some_c in
+    let asked : after_hello other 1 (greets me (down true)) (said 1 (down true)) (down true) ≡ keeping Initializing (me, 1) 3 =
+    heard_down other (greets me (down true)) (said 1 (down true)) Initializing (rw apart refl) refl refl in
+    let answers : Starts other (keeping Initializing (me, 1) 3) (hearing_from (lit c) (lit d)) =
+    subst (λ (a : Adjacency). Starts other a (hearing_from (lit c) (lit d))) asked
+    (hears again other me (down true) (down true) (lit d) (lit c) (lit_starts d some_d) asks refl refl whole_c.system.bytes whole_c.system.octets tt tt) in
+    let waits : Adjacency = keeping Initializing (me, 1) 2 in
+    let answered : after_hello me 1 (greets other waits) (said 1 waits) (down true) ≡ keeping Up (other, 1) 3 =
+    heard_down me (greets other waits) (said 1 waits) Up (rw (apart', same) refl) refl refl in
+    up_first (hearing_from (hearing_from (lit c) (lit d)) (lit c)) me (keeping Up (other, 1) 3)
+    (subst (λ (a : Adjacency). Starts me a (hearing_from (hearing_from (lit c) (lit d)) (lit c))) answered
+    (hears again me other (down true) (keeping Initializing (me, 1) 3) (lit c) (hearing_from (lit c) (lit d)) asks answers refl refl whole_d.system.bytes whole_d.system.octets (whole_c.system.bytes, omega arith) whole_c.system.octets))
+    refl
 
 not_true : (b : Bool) → (b ≡ true → ⊥) → b ≡ false
 not_true true never = absurd (never refl)
@@ -89,7 +151,7 @@ other_system x y apart =
 
 pub neighbours_come_up : ControlAgain → NeighboursComeUp
 neighbours_come_up again c d whole_c whole_d ports_c ports_d apart =
-    with_metrics again c d c.metrics d.metrics (omega (arith, whole_c.metrics)) (omega (arith, whole_d.metrics)) whole_c.system.bytes whole_d.system.bytes (other_system c.id.system d.id.system apart) (other_system d.id.system c.id.system (λ e. apart (sym e))) ((bytes_eq-Decides c.id.system.mac.bytes c.id.system.mac.bytes).1 refl)
+    neighbours again c d whole_c whole_d (omega (arith, whole_c.metrics)) (omega (arith, whole_d.metrics)) (other_system c.id.system d.id.system apart) (other_system d.id.system c.id.system (λ e. apart (sym e))) ((bytes_eq-Decides c.id.system.mac.bytes c.id.system.mac.bytes).1 refl)
 
 -- ---- two bridges
 
@@ -104,7 +166,7 @@ small n = record {
   attached = [];
 }
 
-small_whole : (n : ℕ) → n < 1048576 → IsWhole (small n)
+small_whole : (n : ℕ) → n < 256 → IsWhole (small n)
 small_whole n low = record {
   ports = omega arith;
   metrics = refl;
@@ -112,8 +174,14 @@ small_whole n low = record {
   few_vids = omega arith;
   each_vid = tt;
   vids_apart = tt;
-  system = record { bytes = refl; individual = refl; some = refl };
-  source = low;
+  priority = omega arith;
+  system = record {
+    bytes = refl;
+    octets = small_bytes (2 ∷ 0 ∷ 0 ∷ 0 ∷ 0 ∷ n ∷ []) (omega arith, (omega arith, (omega arith, (omega arith, (omega arith, (low, tt))))));
+    individual = refl;
+    some = refl;
+  };
+  source = omega (arith, low);
   each_attachment = tt;
   attachments_apart = tt;
   few_isids = omega arith;
@@ -123,12 +191,12 @@ pub some_bridge : ControlAgain → SomeBridge
 some_bridge again =
     let whole : IsWhole (small 1) = small_whole 1 (omega arith) in
     let other_whole : IsWhole (small 2) = small_whole 2 (omega arith) in
-    let lit_sound : IsSoundView (lit (small 1)) = steps_stay_sound (carrier 1 true) (configured (small 1)) (configured_is_sound (small 1) whole) in
+    let lit_sound : IsSoundView (lit (small 1)) = steps_stay_sound (carrier 1 true) (configured (small 1)) tt (configured_is_sound (small 1) whole) in
     record {
       config = small 1;
       other = small 2;
       whole = whole;
       other_whole = other_whole;
-      sound = steps_stay_sound (frame 1 _) (lit (small 1)) lit_sound;
+      sound = steps_stay_sound (frame 1 _) (lit (small 1)) tt lit_sound;
       up = neighbours_come_up again (small 1) (small 2) whole other_whole (omega arith) (omega arith) (λ e. let last : 1 ≡ 2 = ap (λ (s : SystemId). slice_index s.mac.bytes 5) e in absurd (omega arith));
     }

@@ -1,19 +1,8 @@
-use Rattle.std.proofs.Common.{◌≡◌, ◌≢◌, ◌≤◌, ◌<◌, ◌-◌, ℕ, zero, suc, List, [], ◌∷◌, length, map, refl, sym, ap, ◌∙◌, Some, arith}
+-- Items by their places in a list, and ports by their numbers.
+use Rattle.std.proofs.Common.{◌≡◌, ◌≢◌, ◌≤◌, ◌<◌, ◌-◌, ℕ, zero, suc, List, [], ◌∷◌, length, map, refl, ap, Some, arith}
 use Rattle.std.specs.Prelude.{slice_get, slice_set}
-use Rattle.std.specs.FinMap.{empty, entries, len-entries, len-empty, empty_of_len, entries-from_sorted}
-use Rattle.std.proofs.lemmas.List.{nil_from_length}
 use Rattle.std.proofs.lemmas.Bool.{le-leb}
-use Rattle.spb_types.specs.declared.address.LspId.{LspId}
-use Rattle.lsdb.specs.Entry.{Entry}
-use Rattle.lsdb.specs.Database.{each, id_cmp}
 use Rattle.bridge_api.specs.View.{BridgeView, port_at}
-
--- a change of every entry changes nothing where there is none
-pub each_none : (f : LspId → Entry → Entry) → each f empty ≡ empty
-unfolding each
-each_none f =
-    let nothing : entries (empty {X = Entry} {R = id_cmp}) ≡ [] = nil_from_length _ (sym (len-entries (empty {X = Entry} {R = id_cmp})) ∙ len-empty id_cmp Entry) in
-    rw nothing (empty_of_len _ (len-entries _ ∙ ap length (entries-from_sorted id_cmp [] tt)))
 
 -- a port of the bridge is found by its number
 pub port_found : (v : BridgeView) (p : ℕ) → 1 ≤ p → port_at v p ≡ slice_get v.ports (p - 1)

@@ -213,7 +213,7 @@ HellosAreHeard = (v : BridgeView) (p : ℕ) → IsSoundView v → has_carrier_at
 
 -- and it is sent at a port with carrier
 abbrev pub SentWithCarrier : Type 0
-SentWithCarrier = (v : BridgeView) (p : ℕ) (bytes : List ℕ) → IsSent (sent second v) p bytes → has_carrier_at v p ≡ true
+SentWithCarrier = (v : BridgeView) (p : ℕ) (bytes : List ℕ) → IsSoundView v → IsSent (sent second v) p bytes → has_carrier_at v p ≡ true
 
 -- a port that has just come up: CSNPs are due there, and each LSP that is held is to be sent there
 pub record IsFresh (v : BridgeView) (p : ℕ) : Type 0 where

@@ -19,9 +19,12 @@
 //!    view afterwards, such as `after_tick`, and the frames, such as `sent_in_tick`. The trait's call tests first whether
 //!    the bridge is failed, then calls that function, and marks the bridge failed where no memory was found.
 //! 4. What a step makes of the list of ports is said port by port: `later` and `with_due` for a tick, `greeted_port` for a
-//!    hello, `carried_port` for carrier (`specs/Ports.antt`) and `metered` for a metric. The lemmas `tick_is`,
-//!    `greeted_is`, `idle_is`, `deaf_is`, `carried_is` and `metered_is` of `proofs/Changes.antt` say that the steps of a
-//!    view are these.
+//!    hello, `carried_port` for carrier (`specs/Ports.antt`) and `metered` for a metric. What it makes of the LSPs that are
+//!    held is said part by part: `counted`, `expired`, `refreshed` and `told` for a tick (`specs/Ticking.antt`), `changed_at`
+//!    where something came to pass at a port, and `flooded`, `completed` and `requested` for what is heard of other LSPs
+//!    (`specs/Hearing.antt`), each with `settled` after it (`specs/Own.antt`). The lemmas `tick_is`, `heard_is`, `deaf_is`,
+//!    `carried_is` and `metered_is` of `proofs/Changes.antt` say that the steps of a view are these, and `changed_ports`,
+//!    `greeted_ports`, `carried_ports`, `metered_ports` and `tick_ports` what becomes of the ports.
 //! 5. A test makes boxes of it as `Box<dyn Bridge>` and calls them through the trait, since no proof says that memory is
 //!    found.
 #![tactic(auto)]

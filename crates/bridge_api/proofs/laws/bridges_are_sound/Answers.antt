@@ -1,4 +1,7 @@
-use Rattle.bridge_api.proofs.Certified.{configured_is_sound, configured_is_dark, steps_stay_sound}
+use Rattle.bridge_api.proofs.DataSteps.{configured_holds_own}
+use Rattle.bridge_api.proofs.Saying.{sound_can_say}
+use Rattle.bridge_api.proofs.Sound.{configured_is_sound, steps_stay_sound}
+use Rattle.bridge_api.proofs.SoundPorts.{configured_is_dark}
 use Rattle.bridge_api.proofs.laws.bridges_are_sound.Goals as goal
 
 pub returns-clause-configured : goal.returns-clause-configured
@@ -6,6 +9,12 @@ returns-clause-configured c = configured_is_sound
 
 pub returns-clause-dark : goal.returns-clause-dark
 returns-clause-dark c = configured_is_dark
+
+pub returns-clause-own : goal.returns-clause-own
+returns-clause-own c = configured_holds_own
+
+pub returns-clause-says : goal.returns-clause-says
+returns-clause-says c = sound_can_say
 
 pub returns-clause-steps : goal.returns-clause-steps
 returns-clause-steps c = steps_stay_sound

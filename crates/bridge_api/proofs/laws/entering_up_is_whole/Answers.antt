@@ -1,4 +1,4 @@
-use Rattle.bridge_api.proofs.Certified.{entering_up_is_whole}
+use Rattle.bridge_api.proofs.Entering.{entering_up_is_whole}
 use Rattle.bridge_api.proofs.laws.entering_up_is_whole.Goals as goal
 
 pub returns : goal.returns

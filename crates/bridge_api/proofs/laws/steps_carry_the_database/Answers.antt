@@ -1,4 +1,4 @@
-use Rattle.bridge_api.proofs.Certified.{steps_carry_database}
+use Rattle.bridge_api.proofs.StepsCarry.{steps_carry_database}
 use Rattle.bridge_api.proofs.UpPorts.{up_ports_are_up}
 use Rattle.bridge_api.proofs.laws.steps_carry_the_database.Goals as goal
 

@@ -1,0 +1,501 @@
+-- The database of a bridge stays sound in each part of a step.
+use Rattle.std.proofs.Common.{◌≡◌, ◌≢◌, ◌⊎◌, inl, inr, ◌≤◌, ◌+◌, ◌-◌, ℕ, zero, suc, Bool, true, false, List, [], ◌∷◌, length, map, refl, sym, ap, ◌∙◌, subst, Option, Some, None, arith, ⊎_elim}
+use Rattle.std.specs.Prelude.{nat_le, ◌||◌, ◌&&◌, not, slice_get, slice_set, if◌then◌else◌}
+use Rattle.std.specs.Option.{option_map}
+use Rattle.std.specs.List.{AllByRecursion}
+use Rattle.std.specs.FinMap.{get}
+use Rattle.std.proofs.lemmas.Bool.{true≢false, false≢true, cases_eq, le-leb}
+use Rattle.std.proofs.lemmas.List.{length-map, length-set}
+use Rattle.std.proofs.lemmas.Option.{slice_get_within, slice_get-map}
+use Rattle.spb_types.specs.declared.address.SystemId.{SystemId}
+use Rattle.spb_types.specs.declared.address.LspId.{LspId}
+use Rattle.spb_types.specs.declared.ports.PortSet.{PortSet}
+use Rattle.spb_types.specs.Ports.{has, with_port, without_port}
+use Rattle.spb_types.proofs.PortLemmas.{has_port, has-with_other, has-without_same, has-without_other}
+use Rattle.isis_pdu.specs.Pdu.{LspValue, CsnpValue, lsp}
+use Rattle.isis_pdu.specs.Grammar.{IsId, HasFields}
+use Rattle.spb_tlvs.specs.declared.entries.SnpEntry.{SnpEntry}
+use Rattle.lsdb.specs.declared.version.Version.{Version}
+use Rattle.lsdb.specs.declared.version.Version.TheVariants.{Absent, Live, Dead}
+use Rattle.lsdb.specs.Version.{IsAtMost, is_absent, leq}
+use Rattle.lsdb.specs.Entry.{Entry, made, joined, parted, aged, aged_at}
+use Rattle.lsdb.specs.Database.{Lsps, version_in, version_at, fits, each}
+use Rattle.lsdb.specs.Certificate.{Certificate}
+use Rattle.lsdb.proofs.LookupLemmas.{get-each, fits_held}
+use Rattle.flooding.specs.Own.{own_id}
+use Rattle.flooding.specs.Hearing.{Holding, claim_of, hear_lsp_of}
+use Rattle.flooding.specs.Origination.{originated}
+use Rattle.flooding.specs.Entries.{AllEntries, IsNumbered, IsSendable, HasFlagsAt, AreSendable, HaveFlagsAt}
+use Rattle.flooding.specs.Laws.{HasBody, IsWhole, control}
+use Rattle.flooding.proofs.SendableEntries.{flags_sendable, lsp_keeps_sendable, origination_keeps_sendable, ageing_keeps_sendable}
+use Rattle.flooding.proofs.FlagEntries.{lsp_keeps_flags, origination_keeps_flags}
+use Rattle.flooding.proofs.Steps.{hearing_lsp, origination}
+use Rattle.snp_sync.specs.Line.{is_owed}
+use Rattle.snp_sync.specs.Sending.{settled as told_entry, all_settled}
+use Rattle.snp_sync.specs.Sized.{IsLspId, IsSized, IsSizedLine, AreSized}
+use Rattle.snp_sync.specs.Hearing.{claims_in, hear_entries_of, hear_csnp_of}
+use Rattle.snp_sync.proofs.Fields.{flags_keep_sized, entries_keep_sized, csnp_keeps_sized, lsp_keeps_sized, origination_keeps_sized, ageing_keeps_sized}
+use Rattle.snp_sync.proofs.Stays.{claims_are_numbered, entries_keep_sendable, csnp_keeps_sendable, entries_keep_flags, csnp_keeps_flags}
+use Rattle.snp_sync.proofs.Served.{entries_are_certified, csnp_is_certified}
+use Rattle.spb_content.proofs.Members.{Has}
+use Rattle.bridge_api.specs.declared.port.BridgePort.{BridgePort}
+use Rattle.bridge_api.specs.View.{BridgeView, port_in, port_at, with_port_at, is_port_up, is_up_in, up_from, up_ports}
+use Rattle.bridge_api.specs.Own.{own_of, own_entry, holding_of, is_said, originating, settled}
+use Rattle.bridge_api.specs.Config.{IsOwnMac}
+use Rattle.bridge_api.specs.Hearing.{with_due, left, joined_at, flooded, completed, requested}
+use Rattle.bridge_api.specs.Ticking.{later, leaves, leaving_from, parted_all, counted, expired, is_old, refreshed, told_at, told_from, told}
+use Rattle.bridge_api.specs.Laws.{HasDatabase}
+use Rattle.bridge_api.proofs.Places.{got_at}
+use Rattle.bridge_api.proofs.UpPorts.{up_ports_from}
+use Rattle.bridge_api.proofs.Changes.{found, one_port}
+
+-- ---- a sound database
+
+-- of a system with this id, with these Up ports
+pub record IsSoundData (up : PortSet) (system : SystemId) (db : Lsps) : Type 0 where
+  pub sendable : AreSendable db
+  pub sized : AreSized db
+  pub flags : HaveFlagsAt up db
+  pub own : is_absent (version_at db (own_id system)) ≡ false
+
+pub lsps_of : (v : BridgeView) → HasDatabase v → IsSoundData (up_ports v) v.id.system v.database
+lsps_of v held = record { sendable = held.sendable; sized = held.sized; flags = held.flags; own = held.own }
+
+pub has_lsps : (v : BridgeView) → IsSoundData (up_ports v) v.id.system v.database → HasDatabase v
+has_lsps v held = record { sendable = held.sendable; sized = held.sized; flags = held.flags; own = held.own }
+
+-- the own id, of six octets
+pub own_named : (system : SystemId) → IsOwnMac system.mac → IsLspId (own_id system)
+own_named system mac = record { system = mac.bytes; bytes = (mac.octets, omega arith, omega arith) }
+
+-- a version that isn't absent doesn't fall to an absent one
+pub risen : (a h : Version) → IsAtMost a h → is_absent a ≡ false → is_absent h ≡ false
+unfolding leq
+risen Absent h rises there = absurd cc
+risen (Live n s) Absent rises there = absurd (false≢true rises)
+risen (Live n s) (Live m t) rises there = refl
+risen (Live n s) (Dead m) rises there = refl
+risen (Dead n) Absent rises there = absurd (false≢true rises)
+risen (Dead n) (Live m t) rises there = refl
+risen (Dead n) (Dead m) rises there = refl
+
+-- the own id has a place, since it is held
+fits_at : (db : Lsps) (id : LspId) (o : Option Entry) → get db id ≡ o → is_absent (version_in o) ≡ false → fits db id ≡ true
+fits_at db id None is there = absurd (true≢false there)
+fits_at db id (Some e) is there = fits_held db id e is
+
+pub fits_own : (v : BridgeView) → is_absent (version_at v.database (own_id v.id.system)) ≡ false → fits v.database (own_id v.id.system) ≡ true
+fits_own v there = fits_at v.database (own_id v.id.system) (own_entry v) refl there
+
+-- ---- the own LSP
+
+pub originated_keeps : (up : PortSet) (h : Holding) → HasBody h.own → IsLspId (own_id h.own.system) → IsSoundData up h.own.system h.db → IsSoundData up h.own.system (originated up h).db
+originated_keeps up h body named held =
+    let steps : Certificate 0 [] (control up h) (control up (originated up h)) = origination up 0 [] h in
+    record {
+      sendable = origination_keeps_sendable up h body held.sendable;
+      sized = origination_keeps_sized up h named held.sized;
+      flags = origination_keeps_flags up h held.flags;
+      own = risen _ _ (steps.rises (own_id h.own.system)) held.own;
+    }
+
+-- a bridge that can write what it says, and whose id is six octets
+pub record CanOriginate (v : BridgeView) : Type 0 where
+  pub body : HasBody (own_of v)
+  pub named : IsLspId (own_id v.id.system)
+
+pub originating_keeps : (v : BridgeView) → CanOriginate v → HasDatabase v → HasDatabase (originating v)
+originating_keeps v can held = has_lsps (originating v) (originated_keeps (up_ports v) (holding_of v) can.body can.named (lsps_of v held))
+
+stands_or : (b : Bool) (v : BridgeView) → CanOriginate v → HasDatabase v → HasDatabase (if b then v else originating v)
+stands_or true v can held = held
+stands_or false v can held = originating_keeps v can held
+
+pub settled_keeps : (v : BridgeView) → CanOriginate v → HasDatabase v → HasDatabase (settled v)
+unfolding settled
+settled_keeps v can held = stands_or (v.spent || is_said v) v can held
+
+pub refreshed_keeps : (v : BridgeView) → CanOriginate v → HasDatabase v → HasDatabase (refreshed v)
+unfolding refreshed
+refreshed_keeps v can held = stands_or (v.spent || (is_said v && not (is_old (own_entry v)))) v can held
+
+-- ---- what is heard at an Up port
+
+pub lsp_keeps : (l : LspValue) (p : ℕ) (v : BridgeView) → has (up_ports v) p ≡ true → IsWhole l → IsId l.id.system → HasFields (lsp l) → HasBody (own_of v) → HasDatabase v → HasDatabase (flooded l p v)
+lsp_keeps l p v up whole id fields body held =
+    let h : Holding = holding_of v in
+    let steps : Certificate p (claim_of l ∷ []) (control (up_ports v) h) (control (up_ports v) (hear_lsp_of (up_ports v) p l h)) = hearing_lsp (up_ports v) p l h up in
+    record {
+      sendable = lsp_keeps_sendable (up_ports v) p l h whole body held.sendable;
+      sized = lsp_keeps_sized (up_ports v) p l h id fields held.sized;
+      flags = lsp_keeps_flags (up_ports v) p l h up held.flags;
+      own = risen _ _ (steps.rises (own_id v.id.system)) held.own;
+    }
+
+all_numbered : (entries : List SnpEntry) → AllByRecursion (λ c. IsNumbered c.version) (claims_in entries)
+all_numbered [] = tt
+all_numbered (e ∷ entries) = (claims_are_numbered e, all_numbered entries)
+
+pub csnp_keeps : (c : CsnpValue) (entries : List SnpEntry) (p : ℕ) (v : BridgeView) → has (up_ports v) p ≡ true → AllByRecursion IsSizedLine entries → HasBody (own_of v) → HasDatabase v → HasDatabase (completed c entries p v)
+csnp_keeps c entries p v up lines body held =
+    let h : Holding = holding_of v in
+    let steps : Certificate p (claims_in entries) (control (up_ports v) h) (control (up_ports v) (hear_csnp_of (up_ports v) p c.start c.end (claims_in entries) h)) =
+    csnp_is_certified (up_ports v) p c.start c.end (claims_in entries) h up in
+    record {
+      sendable = csnp_keeps_sendable (up_ports v) p c.start c.end (claims_in entries) h (all_numbered entries) body held.sendable;
+      sized = csnp_keeps_sized (up_ports v) p c.start c.end entries h lines held.sized;
+      flags = csnp_keeps_flags (up_ports v) p c.start c.end (claims_in entries) h up held.flags;
+      own = risen _ _ (steps.rises (own_id v.id.system)) held.own;
+    }
+
+pub psnp_keeps : (entries : List SnpEntry) (p : ℕ) (v : BridgeView) → has (up_ports v) p ≡ true → AllByRecursion IsSizedLine entries → HasBody (own_of v) → HasDatabase v → HasDatabase (requested entries p v)
+psnp_keeps entries p v up lines body held =
+    let h : Holding = holding_of v in
+    let steps : Certificate p (claims_in entries) (control (up_ports v) h) (control (up_ports v) (hear_entries_of (up_ports v) p (claims_in entries) h)) =
+    entries_are_certified (up_ports v) p (claims_in entries) h up in
+    record {
+      sendable = entries_keep_sendable (up_ports v) p (claims_in entries) h (all_numbered entries) body held.sendable;
+      sized = entries_keep_sized (up_ports v) p entries h lines held.sized;
+      flags = entries_keep_flags (up_ports v) p (claims_in entries) h up held.flags;
+      own = risen _ _ (steps.rises (own_id v.id.system)) held.own;
+    }
+
+-- ---- every entry changed
+
+each_from : (P Q : LspId → Entry → Type 0) (f : LspId → Entry → Entry) (db : Lsps) → AllEntries P db → ((x : LspId) (e : Entry) → P x e → Q x (f x e)) → AllEntries Q (each f db)
+each_from P Q f db all keeps x n is = by_held (get db x) refl
+  where
+    by_held : (o : Option Entry) → get db x ≡ o → Q x n
+    by_held None held = let no : None ≡ Some n = sym (get-each f db x ∙ ap (option_map (f x)) held) ∙ is in absurd (cc)
+    by_held (Some e) held =
+        let same : f x e ≡ n = let found : Some (f x e) ≡ Some n = sym (get-each f db x ∙ ap (option_map (f x)) held) ∙ is in cc in
+        subst (λ (g : Entry). Q x g) same (keeps x e (all x e held))
+
+-- an entry changed so that it is sound again, its flags at other Up ports, and not absent if it wasn't
+pub record KeepsEntry (up next : PortSet) (f : LspId → Entry → Entry) : Type 0 where
+  pub sendable : (x : LspId) (e : Entry) → IsSendable x e → IsSendable x (f x e)
+  pub sized : (x : LspId) (e : Entry) → IsSized x e → IsSized x (f x e)
+  pub flags : (x : LspId) (e : Entry) → HasFlagsAt up e → HasFlagsAt next (f x e)
+  pub there : (x : LspId) (e : Entry) → is_absent e.version ≡ false → is_absent (f x e).version ≡ false
+
+there_at : (f : Entry → Entry) (o : Option Entry) → ((e : Entry) → is_absent e.version ≡ false → is_absent (f e).version ≡ false) → is_absent (version_in o) ≡ false → is_absent (version_in (option_map f o)) ≡ false
+there_at f None keeps there = there
+there_at f (Some e) keeps there = keeps e there
+
+pub each_keeps : (up next : PortSet) (system : SystemId) (f : LspId → Entry → Entry) (db : Lsps) → KeepsEntry up next f → IsSoundData up system db → IsSoundData next system (each f db)
+each_keeps up next system f db keeps held = record {
+  sendable = each_from IsSendable IsSendable f db held.sendable keeps.sendable;
+  sized = each_from IsSized IsSized f db held.sized keeps.sized;
+  flags = each_from (λ id e. HasFlagsAt up e) (λ id e. HasFlagsAt next e) f db held.flags keeps.flags;
+  own =
+      ap (λ o. is_absent (version_in o)) (get-each f db (own_id system))
+      ∙ there_at (f (own_id system)) (get db (own_id system)) (keeps.there (own_id system)) held.own;
+}
+
+-- ---- flags at other Up ports
+
+-- each port that is up is up again
+abbrev pub StayUp : PortSet → PortSet → Type 0
+StayUp up next = (q : ℕ) → has up q ≡ true → has next q ≡ true
+
+wider : (up next : PortSet) (e : Entry) → StayUp up next → HasFlagsAt up e → HasFlagsAt next e
+wider up next e stay flags = record { srm = λ q on. stay q (flags.srm q on); ssn = λ q on. stay q (flags.ssn q on); absent = flags.absent }
+
+pub wider_keeps : (up next : PortSet) (system : SystemId) (db : Lsps) → StayUp up next → IsSoundData up system db → IsSoundData next system db
+wider_keeps up next system db stay held = record { sendable = held.sendable; sized = held.sized; flags = λ x e is. wider up next e stay (held.flags x e is); own = held.own }
+
+module _ (up next : PortSet) (p : ℕ) (low : 1 ≤ p) (high : p ≤ 32) where
+  module _ (stay : (q : ℕ) → q ≢ p → has up q ≡ true → has next q ≡ true) where
+    -- flags without those of a port
+    without_up : (set : PortSet) → StayUp set up → StayUp (without_port set p) next
+    without_up set within q on = ⊎_elim
+        (λ here. absurd (true≢false (sym on ∙ (ap (has (without_port set p)) here ∙ has-without_same set p low high))))
+        (λ apart. stay q apart (within q (sym (has-without_other set p q low high apart) ∙ on)))
+        (cases_eq q p)
+
+    without_none : (set : PortSet) (q : ℕ) → has set q ≡ false → has (without_port set p) q ≡ false
+    without_none set q none = ⊎_elim
+        (λ here. ap (has (without_port set p)) here ∙ has-without_same set p low high)
+        (λ apart. has-without_other set p q low high apart ∙ none)
+        (cases_eq q p)
+
+    parted_flags : (e : Entry) → HasFlagsAt up e → HasFlagsAt next (parted p e)
+    parted_flags e flags = record { srm = without_up e.srm flags.srm; ssn = without_up e.ssn flags.ssn; absent = λ gone q. without_none e.srm q (flags.absent gone q) }
+
+    parted_keeps : KeepsEntry up next (λ id e. parted p e)
+    parted_keeps = record {
+      sendable = λ x e s. flags_sendable (without_port e.srm p) (without_port e.ssn p) x e s;
+      sized = λ x e s. flags_keep_sized (without_port e.srm p) (without_port e.ssn p) x e s;
+      flags = λ x e flags. parted_flags e flags;
+      there = λ x e there. there;
+    }
+
+  module _ (stay : StayUp up next) (up_here : has next p ≡ true) where
+    with_here : (set : PortSet) → StayUp set up → StayUp (with_port set p) next
+    with_here set within q on = ⊎_elim
+        (λ here. ap (has next) here ∙ up_here)
+        (λ apart. stay q (within q (sym (has-with_other set p q low high apart) ∙ on)))
+        (cases_eq q p)
+
+    joined_flags : (e : Entry) (b : Bool) → is_absent e.version ≡ b → HasFlagsAt up e → HasFlagsAt next (if b then e else record e { srm = with_port e.srm p })
+    joined_flags e true gone flags = wider up next e stay flags
+    joined_flags e false there flags = record { srm = with_here e.srm flags.srm; ssn = λ q on. stay q (flags.ssn q on); absent = λ gone q. absurd (true≢false (sym (ap is_absent gone) ∙ there)) }
+
+    joined_sendable : (x : LspId) (e : Entry) (b : Bool) → IsSendable x e → IsSendable x (if b then e else record e { srm = with_port e.srm p })
+    joined_sendable x e true s = s
+    joined_sendable x e false s = flags_sendable (with_port e.srm p) e.ssn x e s
+
+    joined_sized : (x : LspId) (e : Entry) (b : Bool) → IsSized x e → IsSized x (if b then e else record e { srm = with_port e.srm p })
+    joined_sized x e true s = s
+    joined_sized x e false s = flags_keep_sized (with_port e.srm p) e.ssn x e s
+
+    joined_there : (e : Entry) (b : Bool) → is_absent e.version ≡ false → is_absent (if b then e else record e { srm = with_port e.srm p }).version ≡ false
+    joined_there e true there = there
+    joined_there e false there = there
+
+    joined_keeps : KeepsEntry up next (λ id e. joined p e)
+    joined_keeps = record {
+      sendable = λ x e s. joined_sendable x e (is_absent e.version) s;
+      sized = λ x e s. joined_sized x e (is_absent e.version) s;
+      flags = λ x e flags. joined_flags e (is_absent e.version) refl flags;
+      there = λ x e there. joined_there e (is_absent e.version) there;
+    }
+
+-- ---- the Up ports, where one port changes
+
+pub up_at : (ports : List BridgePort) (p : ℕ) → length ports ≤ 32 → has (up_from 1 ports) p ≡ is_up_in (port_in ports p)
+up_at ports p few = up_ports_from 1 ports p (omega arith) (omega (arith, few))
+
+-- a port of a bridge with at most 32 ports has a number up to 32
+pub port_range : (ports : List BridgePort) (p : ℕ) (port : BridgePort) → length ports ≤ 32 → port_in ports p ≡ Some port → (1 ≤ p) × (p ≤ 32)
+port_range ports p port few there =
+    let at = found ports p port there in
+    let within = slice_get_within ports (p - 1) port at.1 in
+    (at.0, omega (arith, within, few, at.0))
+
+module _ (v : BridgeView) (p : ℕ) (old new : BridgePort) (few : length v.ports ≤ 32) (there : port_at v p ≡ Some old) where
+  few_after : length (slice_set v.ports (p - 1) new) ≤ 32
+  few_after = omega (arith, few, length-set v.ports (p - 1) new)
+
+  others_stay : (q : ℕ) → q ≢ p → has (up_ports v) q ≡ true → has (up_ports (with_port_at p new v)) q ≡ true
+  others_stay q apart up =
+      let at = found v.ports p old there in
+      up_at (slice_set v.ports (p - 1) new) q few_after
+      ∙ elim (one_port v.ports p old new q at.0 at.1) [
+        | inl here ↦ absurd (apart here.0)
+        | inr same ↦ ap is_up_in same ∙ (sym (up_at v.ports q few) ∙ up)
+      ]
+
+  up_after : is_port_up new ≡ true → has (up_ports (with_port_at p new v)) p ≡ true
+  up_after up =
+      let at = found v.ports p old there in
+      let got : port_in (slice_set v.ports (p - 1) new) p ≡ Some new = rw (le-leb 1 p at.0) (got_at v.ports (p - 1) new (slice_get_within v.ports (p - 1) old at.1)) in
+      up_at (slice_set v.ports (p - 1) new) p few_after ∙ (ap is_up_in got ∙ up)
+
+  all_stay : (is_port_up old ≡ true → is_port_up new ≡ true) → StayUp (up_ports v) (up_ports (with_port_at p new v))
+  all_stay stays q up = ⊎_elim
+      (λ here.
+      let was : is_port_up old ≡ true = sym (ap is_up_in there) ∙ (sym (up_at v.ports p few) ∙ subst (λ k. has (up_ports v) k ≡ true) here up) in
+      ap (has (up_ports (with_port_at p new v))) here ∙ up_after (stays was))
+      (λ apart. others_stay q apart up)
+      (cases_eq q p)
+
+-- ---- a port changes
+
+pub moved_keeps : (v : BridgeView) (p : ℕ) (old new : BridgePort) → length v.ports ≤ 32 → port_at v p ≡ Some old → (is_port_up old ≡ true → is_port_up new ≡ true) → HasDatabase v → HasDatabase (with_port_at p new v)
+moved_keeps v p old new few there stays held =
+    let w : BridgeView = with_port_at p new v in
+    has_lsps w (wider_keeps (up_ports v) (up_ports w) v.id.system v.database (all_stay v p old new few there stays) (lsps_of v held))
+
+pub left_keeps : (v : BridgeView) (p : ℕ) (old new : BridgePort) → length v.ports ≤ 32 → port_at v p ≡ Some old → HasDatabase v → HasDatabase (left p new v)
+left_keeps v p old new few there held =
+    let w : BridgeView = left p new v in
+    let range = port_range v.ports p old few there in
+    has_lsps w
+    (each_keeps (up_ports v) (up_ports w) v.id.system (λ id e. parted p e) v.database
+    (parted_keeps (up_ports v) (up_ports w) p range.0 range.1 (others_stay v p old (with_due false new) few there)) (lsps_of v held))
+
+pub joined_at_keeps : (v : BridgeView) (p : ℕ) (old new : BridgePort) → length v.ports ≤ 32 → port_at v p ≡ Some old → is_port_up new ≡ true → HasDatabase v → HasDatabase (joined_at p new v)
+joined_at_keeps v p old new few there up held =
+    let w : BridgeView = joined_at p new v in
+    let range = port_range v.ports p old few there in
+    has_lsps w
+    (each_keeps (up_ports v) (up_ports w) v.id.system (λ id e. joined p e) v.database
+    (joined_keeps (up_ports v) (up_ports w) p range.0 range.1 (all_stay v p old (with_due true new) few there (λ was. up)) (up_after v p old (with_due true new) few there up)) (lsps_of v held))
+
+-- ---- a second passes
+
+-- the lifetimes fall
+aged_flags : (up : PortSet) (e : Entry) (a : Version) → e.version ≡ a → HasFlagsAt up e → HasFlagsAt up (aged_at up e a)
+aged_flags up e Absent is flags = flags
+aged_flags up e (Live seq sum) is flags = by_test (nat_le e.lifetime 1)
+  where
+    by_test : (b : Bool) → HasFlagsAt up (if b then made (Dead seq) 0 [] up e.ssn else record e { lifetime = e.lifetime - 1 })
+    by_test true = record { srm = λ q on. on; ssn = flags.ssn; absent = λ gone q. absurd cc }
+    by_test false = record { srm = flags.srm; ssn = flags.ssn; absent = flags.absent }
+aged_flags up e (Dead seq) is flags = flags
+
+aged_there : (up : PortSet) (e : Entry) (a : Version) → e.version ≡ a → is_absent e.version ≡ false → is_absent (aged_at up e a).version ≡ false
+aged_there up e Absent is there = there
+aged_there up e (Live seq sum) is there = by_test (nat_le e.lifetime 1)
+  where
+    by_test : (b : Bool) → is_absent (if b then made (Dead seq) 0 [] up e.ssn else record e { lifetime = e.lifetime - 1 }).version ≡ false
+    by_test true = refl
+    by_test false = there
+aged_there up e (Dead seq) is there = there
+
+pub expired_keeps : (v : BridgeView) → HasDatabase v → HasDatabase (expired v)
+expired_keeps v held =
+    let keeps : KeepsEntry (up_ports v) (up_ports v) (λ id e. aged (up_ports v) e) = record {
+      sendable = ageing_keeps_sendable (up_ports v);
+      sized = ageing_keeps_sized (up_ports v);
+      flags = λ x e flags. aged_flags (up_ports v) e e.version refl flags;
+      there = λ x e there. aged_there (up_ports v) e e.version refl there;
+    } in
+    has_lsps (expired v) (each_keeps (up_ports v) (up_ports v) v.id.system (λ id e. aged (up_ports v) e) v.database keeps (lsps_of v held))
+
+-- the neighbours at some ports are lost
+abbrev IsPortNumber : ℕ → Type 0
+IsPortNumber p = (1 ≤ p) × (p ≤ 32)
+
+all_parted_flags : (ps : List ℕ) (up next : PortSet) (e : Entry) → AllByRecursion IsPortNumber ps → ((q : ℕ) → has up q ≡ true → Has q ps ⊎ (has next q ≡ true)) → HasFlagsAt up e → HasFlagsAt next (parted_all ps e)
+all_parted_flags [] up next e range stay flags = wider up next e (λ q on. elim (stay q on) [ inl h ↦ absurd h | inr up ↦ up ]) flags
+all_parted_flags (p ∷ ps) up next e range stay flags =
+    let low = range.0.0 in
+    let high = range.0.1 in
+    let mid : PortSet = without_port up p in
+    let parts : HasFlagsAt mid (parted p e) = parted_flags up mid p low high (λ q apart on. has-without_other up p q low high apart ∙ on) e flags in
+    all_parted_flags ps mid next (parted p e) range.1 (λ q on. ⊎_elim
+    (λ here. absurd (true≢false (sym on ∙ (ap (has mid) here ∙ has-without_same up p low high))))
+    (λ apart. elim (stay q (sym (has-without_other up p q low high apart) ∙ on)) [ inl h ↦ elim h [ inl here ↦ absurd (apart here) | inr among ↦ inl among ] | inr up ↦ inr up ])
+    (cases_eq q p)) parts
+
+all_parted_sendable : (ps : List ℕ) (x : LspId) (e : Entry) → IsSendable x e → IsSendable x (parted_all ps e)
+all_parted_sendable [] x e s = s
+all_parted_sendable (p ∷ ps) x e s = all_parted_sendable ps x (parted p e) (flags_sendable (without_port e.srm p) (without_port e.ssn p) x e s)
+
+all_parted_sized : (ps : List ℕ) (x : LspId) (e : Entry) → IsSized x e → IsSized x (parted_all ps e)
+all_parted_sized [] x e s = s
+all_parted_sized (p ∷ ps) x e s = all_parted_sized ps x (parted p e) (flags_keep_sized (without_port e.srm p) (without_port e.ssn p) x e s)
+
+all_parted_there : (ps : List ℕ) (e : Entry) → is_absent e.version ≡ false → is_absent (parted_all ps e).version ≡ false
+all_parted_there [] e there = there
+all_parted_there (p ∷ ps) e there = all_parted_there ps (parted p e) there
+
+-- a port where the neighbour is lost is among those
+later_has : (b : Bool) (q p : ℕ) (ports : List BridgePort) → Has q (leaving_from (p + 1) ports) → Has q (if b then p ∷ leaving_from (p + 1) ports else leaving_from (p + 1) ports)
+later_has true q p ports h = inr h
+later_has false q p ports h = h
+
+first_has : (b : Bool) (p : ℕ) (ports : List BridgePort) → b ≡ true → Has p (if b then p ∷ leaving_from (p + 1) ports else leaving_from (p + 1) ports)
+first_has true p ports is = inl refl
+first_has false p ports is = absurd cc
+
+pub has_leaving : (p k : ℕ) (ports : List BridgePort) (port : BridgePort) → slice_get ports k ≡ Some port → leaves port ≡ true → Has (p + k) (leaving_from p ports)
+has_leaving p k [] port at lost = absurd cc
+has_leaving p zero (x ∷ ports) port at lost =
+    let same : x ≡ port = cc in
+    let here : p + 0 ≡ p = omega arith in
+    subst (λ q. Has q (leaving_from p (x ∷ ports))) (sym here) (first_has (leaves x) p ports (ap leaves same ∙ lost))
+has_leaving p (suc k) (x ∷ ports) port at lost =
+    let next : p + suc k ≡ p + 1 + k = omega arith in
+    subst (λ q. Has q (leaving_from p (x ∷ ports))) (sym next) (later_has (leaves x) (p + 1 + k) p ports (has_leaving (p + 1) k ports port at lost))
+
+leaving_more : (b : Bool) (p : ℕ) (ports : List BridgePort) → IsPortNumber p → AllByRecursion IsPortNumber (leaving_from (p + 1) ports) → AllByRecursion IsPortNumber (if b then p ∷ leaving_from (p + 1) ports else leaving_from (p + 1) ports)
+leaving_more true p ports here rest = (here, rest)
+leaving_more false p ports here rest = rest
+
+pub leaving_range : (p : ℕ) (ports : List BridgePort) → 1 ≤ p → p + length ports ≤ 33 → AllByRecursion IsPortNumber (leaving_from p ports)
+leaving_range p [] low few = tt
+leaving_range p (port ∷ ports) low few = leaving_more (leaves port) p ports (low, omega (arith, few)) (leaving_range (p + 1) ports (omega (arith, low)) (omega (arith, few)))
+
+-- a port that is Up loses its neighbour or is Up a second later
+lost_or_up : (b : Bool) (port : BridgePort) → is_port_up port ≡ true → is_port_up (later port) ≡ b → (leaves port ≡ true) ⊎ (b ≡ true)
+lost_or_up true port up is = inr refl
+lost_or_up false port up is = inl ((λ i. up i && not (is i)))
+
+stay_or_leave : (ports : List BridgePort) (q : ℕ) (o : Option BridgePort) → length ports ≤ 32 → port_in ports q ≡ o → is_up_in o ≡ true → Has q (leaving_from 1 ports) ⊎ (has (up_from 1 (map later ports)) q ≡ true)
+stay_or_leave ports q None few there up = absurd (false≢true up)
+stay_or_leave ports q (Some port) few there up =
+    let at = found ports q port there in
+    let number : 1 + (q - 1) ≡ q = omega (arith, at.0) in
+    let next : port_in (map later ports) q ≡ Some (later port) = rw (le-leb 1 q at.0) (slice_get-map later ports (q - 1) ∙ ap (option_map later) at.1) in
+    elim (lost_or_up (is_port_up (later port)) port up refl) [
+      | inl lost ↦ inl (subst (λ k. Has k (leaving_from 1 ports)) number (has_leaving 1 (q - 1) ports port at.1 lost))
+      | inr stays ↦ inr (up_at (map later ports) q (omega (arith, few, length-map ports later)) ∙ (ap is_up_in next ∙ stays))
+    ]
+
+pub counted_keeps : (v : BridgeView) → length v.ports ≤ 32 → HasDatabase v → HasDatabase (counted v)
+counted_keeps v few held =
+    let ps : List ℕ = leaving_from 1 v.ports in
+    let w : BridgeView = counted v in
+    let keeps : KeepsEntry (up_ports v) (up_ports w) (λ id e. parted_all ps e) = record {
+      sendable = all_parted_sendable ps;
+      sized = all_parted_sized ps;
+      flags = λ x e flags. all_parted_flags ps (up_ports v) (up_ports w) e (leaving_range 1 v.ports (omega arith) (omega (arith, few)))
+          (λ q up. stay_or_leave v.ports q (port_in v.ports q) few refl (sym (up_at v.ports q few) ∙ up)) flags;
+      there = λ x e there. all_parted_there ps e there;
+    } in
+    has_lsps w (each_keeps (up_ports v) (up_ports w) v.id.system (λ id e. parted_all ps e) v.database keeps (lsps_of v held))
+
+-- ---- what was owed was sent
+
+owed_flags : (up : PortSet) (p : ℕ) (e : Entry) (b : Bool) → is_owed p e ≡ b → HasFlagsAt up e → HasFlagsAt up (if b then record e { ssn = without_port e.ssn p } else e)
+owed_flags up p e true owed flags =
+    let range = has_port e.ssn p owed in
+    record {
+      srm = flags.srm;
+      ssn = λ q on. ⊎_elim
+          (λ here. absurd (true≢false (sym on ∙ (ap (has (without_port e.ssn p)) here ∙ has-without_same e.ssn p range.0 range.1))))
+          (λ apart. flags.ssn q (sym (has-without_other e.ssn p q range.0 range.1 apart) ∙ on))
+          (cases_eq q p);
+      absent = flags.absent;
+    }
+owed_flags up p e false owed flags = flags
+
+owed_sendable : (x : LspId) (p : ℕ) (e : Entry) (b : Bool) → IsSendable x e → IsSendable x (if b then record e { ssn = without_port e.ssn p } else e)
+owed_sendable x p e true s = flags_sendable e.srm (without_port e.ssn p) x e s
+owed_sendable x p e false s = s
+
+owed_sized : (x : LspId) (p : ℕ) (e : Entry) (b : Bool) → IsSized x e → IsSized x (if b then record e { ssn = without_port e.ssn p } else e)
+owed_sized x p e true s = flags_keep_sized e.srm (without_port e.ssn p) x e s
+owed_sized x p e false s = s
+
+owed_there : (p : ℕ) (e : Entry) (b : Bool) → is_absent e.version ≡ false → is_absent (if b then record e { ssn = without_port e.ssn p } else e).version ≡ false
+owed_there p e true there = there
+owed_there p e false there = there
+
+pub all_settled_keeps : (up : PortSet) (system : SystemId) (p : ℕ) (db : Lsps) → IsSoundData up system db → IsSoundData up system (all_settled p db)
+all_settled_keeps up system p db held =
+    let keeps : KeepsEntry up up (λ id e. told_entry p e) = record {
+      sendable = λ x e s. owed_sendable x p e (is_owed p e) s;
+      sized = λ x e s. owed_sized x p e (is_owed p e) s;
+      flags = λ x e flags. owed_flags up p e (is_owed p e) refl flags;
+      there = λ x e there. owed_there p e (is_owed p e) there;
+    } in
+    each_keeps up up system (λ id e. told_entry p e) db keeps held
+
+told_by : (b : Bool) (up : PortSet) (system : SystemId) (p : ℕ) (db : Lsps) → IsSoundData up system db → IsSoundData up system (if b then all_settled p db else db)
+told_by true up system p db held = all_settled_keeps up system p db held
+told_by false up system p db held = held
+
+pub told_at_keeps : (up : PortSet) (system : SystemId) (p : ℕ) (port : BridgePort) (db : Lsps) → IsSoundData up system db → IsSoundData up system (told_at p port db)
+told_at_keeps up system p port db held = told_by (is_port_up port) up system p db held
+
+pub told_from_keeps : (up : PortSet) (system : SystemId) (p : ℕ) (ports : List BridgePort) (db : Lsps) → IsSoundData up system db → IsSoundData up system (told_from p ports db)
+told_from_keeps up system p [] db held = held
+told_from_keeps up system p (port ∷ ports) db held = told_from_keeps up system (p + 1) ports (told_at p port db) (told_at_keeps up system p port db held)
+
+-- CSNPs aren't due any more, and the Up ports are as before
+same_up_at : (b : Bool) (s t : PortSet) (p : ℕ) → s ≡ t → (if b then with_port s p else s) ≡ (if b then with_port t p else t)
+same_up_at b s t p e = ap (λ set. if b then with_port set p else set) e
+
+pub undue_up : (p : ℕ) (ports : List BridgePort) → up_from p (map (with_due false) ports) ≡ up_from p ports
+undue_up p [] = refl
+undue_up p (port ∷ ports) = same_up_at (is_port_up port) _ _ p (undue_up (p + 1) ports)
+
+pub told_keeps : (v : BridgeView) → HasDatabase v → HasDatabase (told v)
+told_keeps v held =
+    has_lsps (told v)
+    (subst (λ (up : PortSet). IsSoundData up v.id.system (told_from 1 v.ports v.database)) (sym (undue_up 1 v.ports))
+    (told_from_keeps (up_ports v) v.id.system 1 v.ports v.database (lsps_of v held)))

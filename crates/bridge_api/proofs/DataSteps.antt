@@ -1,0 +1,251 @@
+-- The database of a bridge stays sound in every step.
+use Rattle.std.proofs.Common.{◌≡◌, ◌≢◌, inl, inr, ◌≤◌, ◌+◌, ◌-◌, ℕ, Bool, true, false, List, [], ◌∷◌, length, map, refl, sym, ap, ◌∙◌, subst, Option, Some, None, arith}
+use Rattle.std.specs.Prelude.{is_some, nat_lt, ◌==◌, ◌||◌, slice_set, if◌then◌else◌}
+use Rattle.std.specs.FinMap.{get, empty, get-empty, len, len-empty}
+use Rattle.std.proofs.lemmas.Bool.{le-leb}
+use Rattle.std.proofs.lemmas.List.{length-map, length-set}
+use Rattle.std.proofs.lemmas.Option.{slice_get_within}
+use Rattle.spb_types.specs.declared.address.LspId.{LspId}
+use Rattle.spb_types.specs.declared.ports.PortSet.{PortSet}
+use Rattle.spb_types.specs.Ports.{has, no_ports}
+use Rattle.isis_pdu.specs.Pdu.{HelloValue}
+use Rattle.isis_pdu.specs.Grammar.{IsId}
+use Rattle.spb_tlvs.specs.declared.three_way.ThreeWay.{ThreeWay}
+use Rattle.lsdb.specs.Version.{number_of, is_absent}
+use Rattle.lsdb.specs.Entry.{Entry}
+use Rattle.lsdb.specs.Database.{id_cmp, version_in, fits}
+use Rattle.flooding.specs.Own.{own_id, renewed}
+use Rattle.flooding.specs.Hearing.{Holding}
+use Rattle.flooding.specs.Origination.{next_entry}
+use Rattle.flooding.specs.Entries.{AllEntries}
+use Rattle.flooding.specs.Laws.{HasBody}
+use Rattle.flooding.proofs.Owns.{originated_stands, origination_leaves_others}
+use Rattle.flooding.proofs.SendableEntries.{origination_keeps_sendable}
+use Rattle.flooding.proofs.FlagEntries.{origination_keeps_flags}
+use Rattle.snp_sync.proofs.Fields.{origination_keeps_sized}
+use Rattle.adjacency.specs.declared.state.Heard.{Heard}
+use Rattle.adjacency.specs.declared.state.Heard.TheVariants.{Kept, CameUp, LeftUp, Discarded}
+use Rattle.adjacency.specs.declared.port.Adjacency.{Adjacency}
+use Rattle.adjacency.specs.Hearing.{is_discarded, sender}
+use Rattle.adjacency.specs.States.{next_state, state_numbered}
+use Rattle.adjacency.specs.Adjacency.{IsSound, state_towards, after_heard, after_carrier, change_of}
+use Rattle.bridge_api.specs.declared.port.BridgePort.{BridgePort}
+use Rattle.bridge_api.specs.declared.config.BridgeConfig.{BridgeConfig}
+use Rattle.bridge_api.specs.View.{BridgeView, port_in, port_at, with_port_at, is_port_up, is_up_in, up_from, up_ports}
+use Rattle.bridge_api.specs.Own.{own_of, own_entry, holding_of, settled}
+use Rattle.bridge_api.specs.Config.{IsWhole, IsMetric, dark, bare, configured}
+use Rattle.bridge_api.specs.Hearing.{with_due, with_adjacency, left, joined_at, changed_at, flooded, completed, requested, greeted, after_receive, carried_at, with_carrier, metered, with_metric}
+use Rattle.bridge_api.specs.Ticking.{later, counted, expired, readied, after_tick}
+use Rattle.bridge_api.specs.Step.{Input, second, frame, carrier, metric, step}
+use Rattle.bridge_api.specs.Laws.{IsSoundPort, HasConfig, HasDatabase, IsSoundView, IsInput, ConfiguredHoldsOwn}
+use Rattle.bridge_api.proofs.Places.{got_at}
+use Rattle.bridge_api.proofs.Adjacent.{came_up, stayed_up, hello_sound, carrier_sound}
+use Rattle.bridge_api.proofs.Changes.{KeepsRest, found, Flooded, Completed, Requested, frame_step, idle, by_hello, by_lsp, by_csnp, by_psnp, carrier_step, metric_step, settled_ports, tick_is}
+use Rattle.bridge_api.proofs.SoundPorts.{AreSoundPorts, all_set, heard_six, carrier_six, metered_sound, sound_at, source_six, all_later, all_dark, config_kept}
+use Rattle.bridge_api.proofs.Saying.{has_body}
+use Rattle.bridge_api.proofs.Data.{CanOriginate, own_named, up_at, settled_keeps, refreshed_keeps, lsp_keeps, csnp_keeps, psnp_keeps, moved_keeps, left_keeps, joined_at_keeps, counted_keeps, expired_keeps, told_keeps}
+use Rattle.bridge_api.proofs.Reading.{heard_lsp, heard_csnp, heard_psnp}
+
+-- a configured bridge with sound ports can originate
+pub can_originate : (v : BridgeView) → HasConfig v → length v.ports ≤ 32 → AreSoundPorts v.ports → CanOriginate v
+can_originate v config few ports = record { body = has_body v config few ports; named = own_named v.id.system config.system }
+
+-- ---- something came to pass at a port of a sound bridge
+
+module _ (v : BridgeView) (was : IsSoundView v) where
+  -- a bridge that differs in what a step changes
+  can_after : (w : BridgeView) → KeepsRest v w → length w.ports ≤ 32 → AreSoundPorts w.ports → CanOriginate w
+  can_after w rest few ports = can_originate w (config_kept v w rest was.config) few ports
+
+  module _ (p : ℕ) (old : BridgePort) (there : port_at v p ≡ Some old) where
+    few_set : (to : BridgePort) → length (slice_set v.ports (p - 1) to) ≤ 32
+    few_set to = omega (arith, length-set v.ports (p - 1) to, was.few)
+
+    can_set : (w : BridgeView) (to : BridgePort) → KeepsRest v w → w.ports ≡ slice_set v.ports (p - 1) to → IsSoundPort to → CanOriginate w
+    can_set w to rest is sound =
+        can_after w rest (subst (λ (ports : List BridgePort). length ports ≤ 32) (sym is) (few_set to)) (subst AreSoundPorts (sym is) (all_set v.ports (p - 1) to was.ports sound))
+
+    module _ (a : Adjacency) (sound : IsSound a) (six : IsId a.neighbour) where
+      kept_sound : change_of old.adjacency a ≡ Kept → IsSoundPort (with_adjacency a old)
+      kept_sound e =
+          let before : IsSoundPort old = sound_at v p old was.ports there in
+          record { adjacency = sound; neighbour = six; due = λ due. stayed_up old.adjacency a e (before.due due); metric = before.metric }
+
+      left_sound : IsSoundPort (with_due false (with_adjacency a old))
+      left_sound = let before : IsSoundPort old = sound_at v p old was.ports there in record { adjacency = sound; neighbour = six; due = λ e. absurd cc; metric = before.metric }
+
+      left_holds : HasDatabase (settled (left p (with_adjacency a old) v))
+      left_holds =
+          let w : BridgeView = left p (with_adjacency a old) v in
+          settled_keeps w (can_set w (with_due false (with_adjacency a old)) refl refl left_sound) (left_keeps v p old (with_adjacency a old) was.few there was.database)
+
+      came_holds : is_port_up (with_adjacency a old) ≡ true → HasDatabase (joined_at p (with_adjacency a old) (settled (left p (with_adjacency a old) v)))
+      came_holds up =
+          let w : BridgeView = left p (with_adjacency a old) v in
+          let u : BridgeView = settled w in
+          let at = found v.ports p old there in
+          let undue : BridgePort = with_due false (with_adjacency a old) in
+          let few : length u.ports ≤ 32 = subst (λ (ports : List BridgePort). length ports ≤ 32) (sym (settled_ports w)) (few_set undue) in
+          let got : port_in (slice_set v.ports (p - 1) undue) p ≡ Some undue = rw (le-leb 1 p at.0) (got_at v.ports (p - 1) undue (slice_get_within v.ports (p - 1) old at.1)) in
+          let now : port_at u p ≡ Some undue = ap (λ (ports : List BridgePort). port_in ports p) (settled_ports w) ∙ got in
+          joined_at_keeps u p undue (with_adjacency a old) few now up left_holds
+
+      changed_holds : (heard : Heard) → change_of old.adjacency a ≡ heard → HasDatabase (changed_at heard p (with_adjacency a old) v)
+      changed_holds Discarded e = was.database
+      changed_holds Kept e =
+          let w : BridgeView = with_port_at p (with_adjacency a old) v in
+          settled_keeps w (can_set w (with_adjacency a old) refl refl (kept_sound e)) (moved_keeps v p old (with_adjacency a old) was.few there (stayed_up old.adjacency a e) was.database)
+      changed_holds LeftUp e = left_holds
+      changed_holds CameUp e = came_holds (came_up old.adjacency a e)
+
+    -- a hello
+    hello_holds : (discarded : Bool) (h : HelloValue) (way : ThreeWay) → IsId h.source → IsSound (if discarded then old.adjacency else after_heard h way old.adjacency)
+        → HasDatabase (changed_at (if discarded then Discarded else change_of old.adjacency (after_heard h way old.adjacency)) p (with_adjacency (if discarded then old.adjacency else after_heard h way old.adjacency) old) v)
+    hello_holds true h way six sound = was.database
+    hello_holds false h way six sound =
+        let a : Adjacency = after_heard h way old.adjacency in
+        changed_holds a sound (heard_six (h.holding == 0) (next_state (state_towards (sender h way) old.adjacency) (state_numbered way.state)) h way six) (change_of old.adjacency a) refl
+
+    greeted_holds : (h : HelloValue) (way : ThreeWay) → IsId h.source → HasDatabase (greeted h way p old v)
+    greeted_holds h way six =
+        let before : IsSoundPort old = sound_at v p old was.ports there in
+        hello_holds (is_discarded v.id.system p h way) h way six (hello_sound v.id.system p h way old.adjacency before.adjacency)
+
+    carried_holds : (on : Bool) → HasDatabase (carried_at p on (Some old) v)
+    carried_holds on =
+        let before : IsSoundPort old = sound_at v p old was.ports there in
+        let a : Adjacency = after_carrier on old.adjacency in
+        changed_holds a (carrier_sound on old.adjacency before.adjacency) (carrier_six on old.adjacency before.neighbour) (change_of old.adjacency a) refl
+
+    metered_holds : (m : ℕ) → IsMetric m → HasDatabase (settled (with_port_at p (metered m old) v))
+    metered_holds m is =
+        let w : BridgeView = with_port_at p (metered m old) v in
+        settled_keeps w (can_set w (metered m old) refl refl (metered_sound m old is (sound_at v p old was.ports there))) (moved_keeps v p old (metered m old) was.few there (λ up. up) was.database)
+
+    -- the port is among the Up ones
+    among_up : is_port_up old ≡ true → has (up_ports v) p ≡ true
+    among_up up = up_at v.ports p was.few ∙ (ap is_up_in there ∙ up)
+
+  body : HasBody (own_of v)
+  body = has_body v was.config was.few was.ports
+
+  flooded_holds : (q : ℕ) (bytes : List ℕ) (w : BridgeView) → Flooded v q bytes w → HasDatabase w
+  flooded_holds q bytes w g =
+      let l = heard_lsp bytes g.lsp g.is in
+      let u : BridgeView = flooded g.lsp q v in
+      subst HasDatabase (sym g.after)
+      (settled_keeps u (can_after u refl was.few was.ports) (lsp_keeps g.lsp q v (among_up q g.port g.there g.up) l.whole l.id l.fields body was.database))
+
+  completed_holds : (q : ℕ) (bytes : List ℕ) (w : BridgeView) → Completed v q bytes w → HasDatabase w
+  completed_holds q bytes w g =
+      let u : BridgeView = completed g.csnp g.entries q v in
+      subst HasDatabase (sym g.after)
+      (settled_keeps u (can_after u refl was.few was.ports) (csnp_keeps g.csnp g.entries q v (among_up q g.port g.there g.up) (heard_csnp bytes g.csnp g.entries g.is g.read) body was.database))
+
+  requested_holds : (q : ℕ) (bytes : List ℕ) (w : BridgeView) → Requested v q bytes w → HasDatabase w
+  requested_holds q bytes w g =
+      let u : BridgeView = requested g.entries q v in
+      subst HasDatabase (sym g.after)
+      (settled_keeps u (can_after u refl was.few was.ports) (psnp_keeps g.entries q v (among_up q g.port g.there g.up) (heard_psnp bytes g.psnp g.entries g.is g.read) body was.database))
+
+  pub frame_holds : (q : ℕ) (bytes : List ℕ) → HasDatabase (after_receive q bytes v)
+  frame_holds q bytes =
+      elim (frame_step v q bytes) [
+        | idle e ↦ subst HasDatabase (sym e) was.database
+        | by_hello g ↦ subst HasDatabase (sym g.after) (greeted_holds q g.port g.there g.hello g.way (source_six bytes g.hello g.way g.is))
+        | by_lsp g ↦ flooded_holds q bytes (after_receive q bytes v) g
+        | by_csnp g ↦ completed_holds q bytes (after_receive q bytes v) g
+        | by_psnp g ↦ requested_holds q bytes (after_receive q bytes v) g
+      ]
+
+  pub carrier_holds : (q : ℕ) (on : Bool) → HasDatabase (with_carrier q on v)
+  carrier_holds q on =
+      elim (carrier_step v q on) [
+        | inl e ↦ subst HasDatabase (sym e) was.database
+        | inr g ↦ subst HasDatabase (sym g.after) (carried_holds q g.port g.there on)
+      ]
+
+  pub metric_holds : (q m : ℕ) → IsMetric m → HasDatabase (with_metric q m v)
+  metric_holds q m is =
+      elim (metric_step v q m) [
+        | inl e ↦ subst HasDatabase (sym e) was.database
+        | inr g ↦ subst HasDatabase (sym g.after) (metered_holds q g.port g.there m is)
+      ]
+
+  -- a second
+  pub readied_holds : HasDatabase (readied v)
+  readied_holds =
+      let u : BridgeView = counted v in
+      let w : BridgeView = expired u in
+      refreshed_keeps w (can_after w refl (omega (arith, length-map v.ports later, was.few)) (all_later v.ports was.ports)) (expired_keeps u (counted_keeps v was.few was.database))
+
+  pub tick_holds : HasDatabase (after_tick v)
+  tick_holds = subst HasDatabase (sym (tick_is v)) (told_keeps (readied v) readied_holds)
+
+pub step_holds : (input : Input) (v : BridgeView) → IsInput input → IsSoundView v → HasDatabase (step input v)
+step_holds second v is was = tick_holds v was
+step_holds (frame q bytes) v is was = frame_holds v was q bytes
+step_holds (carrier q on) v is was = carrier_holds v was q on
+step_holds (metric q m) v is was = metric_holds v was q m is
+
+-- ---- the configured bridge
+
+-- no port is Up
+none_up : (p : ℕ) (metrics : List ℕ) → up_from p (map dark metrics) ≡ no_ports
+none_up p [] = refl
+none_up p (m ∷ metrics) = none_up (p + 1) metrics
+
+none_held : (id : LspId) → get (empty {X = Entry} {R = id_cmp}) id ≡ None
+none_held id = get-empty id_cmp id
+
+all_of_none : (P : LspId → Entry → Type 0) → AllEntries P empty
+all_of_none P id e is = absurd (let no : None ≡ Some e = sym (none_held id) ∙ is in cc)
+
+fits_empty : (id : LspId) → fits empty id ≡ true
+fits_empty id =
+    ap (λ (o : Option Entry). is_some o || nat_lt (len (empty {X = Entry} {R = id_cmp})) 2048) (none_held id)
+    ∙ ap (λ n. nat_lt n 2048) (len-empty id_cmp Entry)
+
+configured_own : (c : BridgeConfig) → own_entry (configured c) ≡ Some (renewed no_ports (own_of (bare c)) 1)
+unfolding configured
+configured_own c =
+    let v : BridgeView = bare c in
+    let h : Holding = holding_of v in
+    let id : LspId = own_id c.id.system in
+    originated_stands (up_ports v) h refl (fits_empty id)
+    ∙ (ap (λ (o : Option Entry). Some (next_entry (up_ports v) h.own (number_of (version_in o)) o)) (none_held id)
+    ∙ ap (λ (up : PortSet). Some (renewed up (own_of v) 1)) (none_up 1 c.metrics))
+
+configured_alone : (c : BridgeConfig) (id : LspId) → id ≢ own_id c.id.system → get (configured c).database id ≡ None
+unfolding configured
+configured_alone c id apart = origination_leaves_others (up_ports (bare c)) (holding_of (bare c)) id apart ∙ none_held id
+
+pub configured_holds_own : ConfiguredHoldsOwn
+configured_holds_own c = record { own = configured_own c; alone = configured_alone c }
+
+bare_config : (c : BridgeConfig) → IsWhole c → HasConfig (bare c)
+bare_config c whole = record {
+  priority = whole.priority;
+  system = whole.system;
+  source = whole.source;
+  few_vids = whole.few_vids;
+  each_vid = whole.each_vid;
+  vids_apart = whole.vids_apart;
+  each_attachment = whole.each_attachment;
+  attachments_apart = whole.attachments_apart;
+  few_isids = whole.few_isids;
+}
+
+pub configured_holds : (c : BridgeConfig) → IsWhole c → HasDatabase (configured c)
+unfolding configured
+configured_holds c whole =
+    let v : BridgeView = bare c in
+    let h : Holding = holding_of v in
+    let up : PortSet = up_ports v in
+    let can : CanOriginate v = can_originate v (bare_config c whole) (omega (arith, length-map c.metrics dark, whole.metrics, whole.ports)) (all_dark c.metrics whole.each_metric) in
+    record {
+      sendable = origination_keeps_sendable up h can.body (all_of_none _);
+      sized = origination_keeps_sized up h can.named (all_of_none _);
+      flags = origination_keeps_flags up h (all_of_none _);
+      own = ap (λ (o : Option Entry). is_absent (version_in o)) (configured_own c);
+    }

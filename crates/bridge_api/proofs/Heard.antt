@@ -1,0 +1,78 @@
+-- What a frame that is heard was read from.
+use Rattle.std.proofs.Common.{◌≡◌, ℕ, ◌-◌, Bool, true, false, List, length, drop, refl, ap, subst, Option, Some, None, Result, Ok, Err}
+use Rattle.std.specs.Prelude.{if◌then◌else◌, nat_lt, slice_get}
+use Rattle.isis_pdu.specs.declared.pdu.PduError.{PduError}
+use Rattle.isis_pdu.specs.Pdu.{HelloValue, PduValue, hello, lsp, csnp, psnp}
+use Rattle.isis_pdu.specs.Reading.{read}
+use Rattle.isis_pdu.specs.Grammar.{IsBytes, IsReadFrom}
+use Rattle.isis_pdu.proofs.Read.{read_is_spelled}
+use Rattle.spb_tlvs.specs.declared.error.TlvError.{TlvError}
+use Rattle.spb_tlvs.specs.declared.three_way.ThreeWay.{ThreeWay}
+use Rattle.spb_tlvs.specs.Tlv.{values_with}
+use Rattle.spb_tlvs.specs.ThreeWay.{three_way_of}
+use Rattle.itag_frames.specs.declared.frame.FrameError.{FrameError}
+use Rattle.itag_frames.specs.declared.frame.FrameError.TheVariants as refusals
+use Rattle.itag_frames.specs.Frame.{Content, content_in, is_control, pdu_of}
+use Rattle.itag_frames.specs.Frame as frames
+use Rattle.bridge_api.specs.Judging.{Judged, Drop, useless, greeting, link_state, complete, partial, tenant, is_octets, judged, by_content, by_pdu, by_three_way, by_reading}
+use Rattle.bridge_api.specs.Judging as drop
+use Rattle.bridge_api.proofs.Octets.{AreSmall, small_octets, small_bytes, small_take, small_drop}
+
+-- the PDU that a frame was taken for
+abbrev pub pdu_in : Judged → Option PduValue
+pdu_in (useless reason) = None
+pdu_in (greeting h way) = Some (hello h)
+pdu_in (link_state l) = Some (lsp l)
+pdu_in (complete c) = Some (csnp c)
+pdu_in (partial s) = Some (psnp s)
+pdu_in (tenant da sa vid isid customer) = None
+
+-- the bytes of which it was read, which are octets
+pub record IsHeardPdu (bytes : List ℕ) (p : PduValue) : Type 0 where
+  pub pdu : List ℕ
+  pub is : content_in bytes ≡ Ok (frames.Pdu pdu)
+  pub octets : IsBytes pdu
+  pub read_as : read pdu ≡ Ok p
+  pub from : IsReadFrom pdu p
+
+-- its octets are those of the frame
+pdu_is_at : (short control : Bool) (bytes pdu : List ℕ) → (if short then Err refusals.Short else (if control then Ok (frames.Pdu (pdu_of bytes)) else Err refusals.NotBackbone)) ≡ Ok (frames.Pdu pdu) → pdu_of bytes ≡ pdu
+pdu_is_at true control bytes pdu e = absurd cc
+pdu_is_at false true bytes pdu e = cc
+pdu_is_at false false bytes pdu e = absurd cc
+
+pdu_octets : (bytes pdu : List ℕ) → content_in bytes ≡ Ok (frames.Pdu pdu) → is_octets bytes ≡ true → IsBytes pdu
+pdu_octets bytes pdu is octets =
+    let small : AreSmall (pdu_of bytes) = small_take (frames.length_of bytes - 3) (drop 17 bytes) (small_drop 17 bytes (small_octets bytes octets)) in
+    subst IsBytes (pdu_is_at (nat_lt (length bytes) 17) (is_control bytes) bytes pdu is) (small_bytes (pdu_of bytes) small)
+
+by_way : (r : Result ThreeWay TlvError) (h : HelloValue) (p : PduValue) → pdu_in (by_reading h r) ≡ Some p → hello h ≡ p
+by_way (Ok way) h p e = cc
+by_way (Err r) h p e = absurd cc
+
+by_value : (o : Option (List ℕ)) (h : HelloValue) (p : PduValue) → pdu_in (by_three_way h o) ≡ Some p → hello h ≡ p
+by_value None h p e = absurd cc
+by_value (Some value) h p e = by_way (three_way_of value) h p e
+
+by_read : (r : Result PduValue PduError) (p : PduValue) → pdu_in (by_pdu r) ≡ Some p → r ≡ Ok p
+by_read (Err r) p e = absurd cc
+by_read (Ok (hello h)) p e = ap (λ (q : PduValue). Ok q) (by_value (slice_get (values_with 240 h.tlvs) 0) h p e)
+by_read (Ok (lsp l)) p e = cc
+by_read (Ok (csnp c)) p e = cc
+by_read (Ok (psnp s)) p e = cc
+
+in_content : (r : Result Content FrameError) (bytes : List ℕ) (p : PduValue) → content_in bytes ≡ r → is_octets bytes ≡ true → pdu_in (by_content r) ≡ Some p → IsHeardPdu bytes p
+in_content (Err r) bytes p is octets e = absurd cc
+in_content (Ok (frames.Customer da sa vid isid customer)) bytes p is octets e = absurd cc
+in_content (Ok (frames.Pdu pdu)) bytes p is octets e =
+    let small : IsBytes pdu = pdu_octets bytes pdu is octets in
+    let read_as : read pdu ≡ Ok p = by_read (read pdu) p e in
+    record { pdu = pdu; is = is; octets = small; read_as = read_as; from = read_is_spelled pdu p small read_as }
+
+in_octets : (b : Bool) (bytes : List ℕ) (p : PduValue) → is_octets bytes ≡ b → pdu_in (if b then by_content (content_in bytes) else useless drop.Frame) ≡ Some p → IsHeardPdu bytes p
+in_octets true bytes p octets e = in_content (content_in bytes) bytes p refl octets e
+in_octets false bytes p octets e = absurd cc
+
+pub heard_pdu : (bytes : List ℕ) (p : PduValue) → pdu_in (judged bytes) ≡ Some p → IsHeardPdu bytes p
+unfolding judged
+heard_pdu bytes p e = in_octets (is_octets bytes) bytes p refl e

@@ -1,0 +1,204 @@
+-- The ports of a bridge and its configuration stay sound.
+use Rattle.std.proofs.Common.{◌≡◌, inl, inr, ◌-◌, ℕ, zero, suc, Bool, true, false, List, [], ◌∷◌, map, refl, sym, ap, ◌∙◌, subst, Option, Some, None}
+use Rattle.std.specs.Prelude.{slice_get, slice_set, nat_le, ◌==◌, if◌then◌else◌}
+use Rattle.std.specs.List.{AllByRecursion}
+use Rattle.std.proofs.lemmas.List.{length-map}
+use Rattle.std.proofs.lemmas.Bool.{and_parts}
+use Rattle.isis_pdu.specs.Pdu.{HelloValue, hello}
+use Rattle.isis_pdu.specs.Grammar.{IsId}
+use Rattle.spb_tlvs.specs.declared.three_way.ThreeWay.{ThreeWay}
+use Rattle.adjacency.specs.declared.state.AdjState.{AdjState}
+use Rattle.adjacency.specs.declared.state.AdjState.TheVariants.{Down, Initializing, Up}
+use Rattle.adjacency.specs.declared.state.Heard.{Heard}
+use Rattle.adjacency.specs.declared.state.Heard.TheVariants as did
+use Rattle.adjacency.specs.declared.port.Adjacency.{Adjacency}
+use Rattle.adjacency.specs.States.{next_state, state_numbered}
+use Rattle.adjacency.specs.Hearing.{is_discarded, sender}
+use Rattle.adjacency.specs.Adjacency.{IsSound, down, led_to, state_towards, is_down, after_heard, after_second, after_carrier, change_of}
+use Rattle.bridge_api.specs.declared.port.BridgePort.{BridgePort}
+use Rattle.bridge_api.specs.declared.config.BridgeConfig.{BridgeConfig}
+use Rattle.bridge_api.specs.View.{BridgeView, port_at, neighbour_at, is_port_up, has_carrier_in, has_carrier_at, metrics_of}
+use Rattle.bridge_api.specs.Config.{IsWhole, IsMetric, dark, configured}
+use Rattle.bridge_api.specs.Judging.{judged, greeting}
+use Rattle.bridge_api.specs.Hearing.{with_due, with_adjacency, after_receive, with_carrier, metered, with_metric}
+use Rattle.bridge_api.specs.Ports.{noted, greeted_port, carried_port}
+use Rattle.bridge_api.specs.Ticking.{later}
+use Rattle.bridge_api.specs.Step.{Input, second, frame, carrier, metric, step}
+use Rattle.bridge_api.specs.Laws.{IsSoundPort, HasConfig, IsInput, ConfiguredIsDark}
+use Rattle.bridge_api.proofs.Adjacent.{came_up, stayed_up, hello_sound, second_sound, carrier_sound, not_discarded}
+use Rattle.bridge_api.proofs.Changes.{KeepsRest, found, frame_ports, greeted_ports, carrier_step, carried_ports, metric_step, metered_ports, tick_ports, configured_is, configured_ports}
+use Rattle.bridge_api.proofs.Certified.{end_in}
+use Rattle.bridge_api.proofs.Heard.{pdu_in, heard_pdu}
+
+-- ---- the neighbour has six bytes
+
+led_six : (s : AdjState) (h : HelloValue) (way : ThreeWay) → IsId h.source → IsId (led_to s h way).neighbour
+led_six Down h way six = refl
+led_six Initializing h way six = six
+led_six Up h way six = six
+
+pub heard_six : (ended : Bool) (s : AdjState) (h : HelloValue) (way : ThreeWay) → IsId h.source → IsId (if ended then down true else led_to s h way).neighbour
+heard_six true s h way six = refl
+heard_six false s h way six = led_six s h way six
+
+second_six : (idle ended : Bool) (a : Adjacency) → IsId a.neighbour → IsId (if idle then a else (if ended then down a.carrier else record a { hold = a.hold - 1 })).neighbour
+second_six true ended a six = six
+second_six false true a six = refl
+second_six false false a six = six
+
+pub carrier_six : (on : Bool) (a : Adjacency) → IsId a.neighbour → IsId (after_carrier on a).neighbour
+carrier_six true a six = six
+carrier_six false a six = refl
+
+-- ---- one port
+
+noted_sound : (heard : Heard) (port : BridgePort) → IsSound port.adjacency → IsId port.adjacency.neighbour → IsMetric port.metric → (heard ≡ did.CameUp → is_port_up port ≡ true) → (heard ≡ did.Kept → port.due ≡ true → is_port_up port ≡ true) → (heard ≡ did.Discarded → port.due ≡ true → is_port_up port ≡ true) → IsSoundPort (noted heard port)
+noted_sound did.Kept port sound six link came kept whole = record { adjacency = sound; neighbour = six; due = kept refl; metric = link }
+noted_sound did.CameUp port sound six link came kept whole = record { adjacency = sound; neighbour = six; due = λ e. came refl; metric = link }
+noted_sound did.LeftUp port sound six link came kept whole = record { adjacency = sound; neighbour = six; due = λ e. absurd cc; metric = link }
+noted_sound did.Discarded port sound six link came kept whole = record { adjacency = sound; neighbour = six; due = whole refl; metric = link }
+
+-- a port that another adjacency is noted at, by what the change from the old one was
+change_sound : (port : BridgePort) (new : Adjacency) → IsSoundPort port → IsSound new → IsId new.neighbour → IsSoundPort (noted (change_of port.adjacency new) (with_adjacency new port))
+change_sound port new was sound six =
+    noted_sound (change_of port.adjacency new) (with_adjacency new port) sound six was.metric (came_up port.adjacency new) (λ e due. stayed_up port.adjacency new e (was.due due)) (λ e. absurd (not_discarded port.adjacency new e))
+
+hello_port_at : (discarded : Bool) (h : HelloValue) (way : ThreeWay) (port : BridgePort) → IsSoundPort port → IsId h.source → IsSound (if discarded then port.adjacency else after_heard h way port.adjacency) → IsSoundPort (noted (if discarded then did.Discarded else change_of port.adjacency (after_heard h way port.adjacency)) (with_adjacency (if discarded then port.adjacency else after_heard h way port.adjacency) port))
+hello_port_at true h way port was six sound = was
+hello_port_at false h way port was six sound =
+    change_sound port (after_heard h way port.adjacency) was sound (heard_six (h.holding == 0) (next_state (state_towards (sender h way) port.adjacency) (state_numbered way.state)) h way six)
+
+pub greeted_sound : (v : BridgeView) (q : ℕ) (h : HelloValue) (way : ThreeWay) (port : BridgePort) → IsSoundPort port → IsId h.source → IsSoundPort (greeted_port v.id.system q h way port)
+greeted_sound v q h way port was six = hello_port_at (is_discarded v.id.system q h way) h way port was six (hello_sound v.id.system q h way port.adjacency was.adjacency)
+
+pub carried_sound : (on : Bool) (port : BridgePort) → IsSoundPort port → IsSoundPort (carried_port on port)
+carried_sound on port was = change_sound port (after_carrier on port.adjacency) was (carrier_sound on port.adjacency was.adjacency) (carrier_six on port.adjacency was.neighbour)
+
+pub metered_sound : (m : ℕ) (port : BridgePort) → IsMetric m → IsSoundPort port → IsSoundPort (metered m port)
+metered_sound m port is was = record { adjacency = was.adjacency; neighbour = was.neighbour; due = was.due; metric = is }
+
+pub later_sound : (port : BridgePort) → IsSoundPort port → IsSoundPort (later port)
+later_sound port was = record {
+  adjacency = second_sound port.adjacency was.adjacency;
+  neighbour = second_six (is_down port.adjacency.state) (port.adjacency.hold == 1) port.adjacency was.neighbour;
+  due = λ e. (and_parts port.due (is_port_up (with_adjacency (after_second port.adjacency) port)) e).1;
+  metric = was.metric;
+}
+
+pub undue_sound : (port : BridgePort) → IsSoundPort port → IsSoundPort (with_due false port)
+undue_sound port was = record { adjacency = was.adjacency; neighbour = was.neighbour; due = λ e. absurd cc; metric = was.metric }
+
+-- ---- all ports
+
+abbrev pub AreSoundPorts : List BridgePort → Type 0
+AreSoundPorts ports = AllByRecursion IsSoundPort ports
+
+pub all_later : (ports : List BridgePort) → AreSoundPorts ports → AreSoundPorts (map later ports)
+all_later [] all = all
+all_later (port ∷ ports) all = (later_sound port all.0, all_later ports all.1)
+
+pub all_undue : (ports : List BridgePort) → AreSoundPorts ports → AreSoundPorts (map (with_due false) ports)
+all_undue [] all = all
+all_undue (port ∷ ports) all = (undue_sound port all.0, all_undue ports all.1)
+
+pub all_set : (ports : List BridgePort) (i : ℕ) (port : BridgePort) → AreSoundPorts ports → IsSoundPort port → AreSoundPorts (slice_set ports i port)
+all_set [] i port all sound = all
+all_set (x ∷ ports) zero port all sound = (sound, all.1)
+all_set (x ∷ ports) (suc i) port all sound = (all.0, all_set ports i port all.1 sound)
+
+pub all_at : (ports : List BridgePort) (i : ℕ) (port : BridgePort) → AreSoundPorts ports → slice_get ports i ≡ Some port → IsSoundPort port
+all_at [] i port all is = absurd cc
+all_at (x ∷ ports) zero port all is = let same : x ≡ port = cc in subst IsSoundPort same all.0
+all_at (x ∷ ports) (suc i) port all is = all_at ports i port all.1 is
+
+pub sound_at : (v : BridgeView) (q : ℕ) (port : BridgePort) → AreSoundPorts v.ports → port_at v q ≡ Some port → IsSoundPort port
+sound_at v q port all there = all_at v.ports (q - 1) port all (found v.ports q port there).1
+
+-- the source of a hello that was heard
+pub source_six : (bytes : List ℕ) (h : HelloValue) (way : ThreeWay) → judged bytes ≡ greeting h way → IsId h.source
+source_six bytes h way is = (heard_pdu bytes (hello h) (ap pdu_in is)).from.pdu.ids
+
+-- one port is sound afterwards, and no other changed
+one_sound : (v w : BridgeView) (q : ℕ) (to : BridgePort) → AreSoundPorts v.ports → IsSoundPort to → w.ports ≡ slice_set v.ports (q - 1) to → AreSoundPorts w.ports
+one_sound v w q to all sound is = subst AreSoundPorts (sym is) (all_set v.ports (q - 1) to all sound)
+
+pub ports_stay_sound : (input : Input) (v : BridgeView) → IsInput input → AreSoundPorts v.ports → AreSoundPorts (step input v).ports
+ports_stay_sound second v is was = subst AreSoundPorts (sym (tick_ports v)) (all_undue (map later v.ports) (all_later v.ports was))
+ports_stay_sound (frame q bytes) v is was =
+    elim (frame_ports v q bytes) [
+      | inl same ↦ subst AreSoundPorts (sym same) was
+      | inr g ↦
+          one_sound v (after_receive q bytes v) q (greeted_port v.id.system q g.hello g.way g.port) was
+          (greeted_sound v q g.hello g.way g.port (sound_at v q g.port was g.there) (source_six bytes g.hello g.way g.is))
+          (ap (λ (u : BridgeView). u.ports) g.after ∙ greeted_ports g.hello g.way q g.port v g.there)
+    ]
+ports_stay_sound (carrier q on) v is was =
+    elim (carrier_step v q on) [
+      | inl e ↦ subst (λ (u : BridgeView). AreSoundPorts u.ports) (sym e) was
+      | inr g ↦ one_sound v (with_carrier q on v) q (carried_port on g.port) was (carried_sound on g.port (sound_at v q g.port was g.there)) (ap (λ (u : BridgeView). u.ports) g.after ∙ carried_ports q on g.port v g.there)
+    ]
+ports_stay_sound (metric q m) v is was =
+    elim (metric_step v q m) [
+      | inl e ↦ subst (λ (u : BridgeView). AreSoundPorts u.ports) (sym e) was
+      | inr g ↦ one_sound v (with_metric q m v) q (metered m g.port) was (metered_sound m g.port is (sound_at v q g.port was g.there)) (ap (λ (u : BridgeView). u.ports) g.after ∙ metered_ports q m g.port v)
+    ]
+
+-- ---- the configuration
+
+pub config_kept : (v w : BridgeView) → KeepsRest v w → HasConfig v → HasConfig w
+config_kept v w rest was =
+    subst HasConfig (sym rest) (record {
+      priority = was.priority;
+      system = was.system;
+      source = was.source;
+      few_vids = was.few_vids;
+      each_vid = was.each_vid;
+      vids_apart = was.vids_apart;
+      each_attachment = was.each_attachment;
+      attachments_apart = was.attachments_apart;
+      few_isids = was.few_isids;
+    })
+
+pub configured_config : (c : BridgeConfig) → IsWhole c → HasConfig (configured c)
+configured_config c whole =
+    subst HasConfig (sym (configured_is c)) (record {
+      priority = whole.priority;
+      system = whole.system;
+      source = whole.source;
+      few_vids = whole.few_vids;
+      each_vid = whole.each_vid;
+      vids_apart = whole.vids_apart;
+      each_attachment = whole.each_attachment;
+      attachments_apart = whole.attachments_apart;
+      few_isids = whole.few_isids;
+    })
+
+pub all_dark : (metrics : List ℕ) → AllByRecursion IsMetric metrics → AreSoundPorts (map dark metrics)
+all_dark [] each = tt
+all_dark (m ∷ ms) each = (record { adjacency = refl; neighbour = refl; due = λ e. absurd cc; metric = each.0 }, all_dark ms each.1)
+
+pub configured_sound : (c : BridgeConfig) → IsWhole c → AreSoundPorts (configured c).ports
+configured_sound c whole = subst AreSoundPorts (sym (configured_ports c)) (all_dark c.metrics whole.each_metric)
+
+dark_metrics : (metrics : List ℕ) → metrics_of (map dark metrics) ≡ metrics
+dark_metrics [] = refl
+dark_metrics (m ∷ ms) = ap (λ (list : List ℕ). m ∷ list) (dark_metrics ms)
+
+-- a port that is found there is dark
+dark_found : {X : Type 0} (f : Option BridgePort → X) (x : X) → f None ≡ x → ((m : ℕ) → f (Some (dark m)) ≡ x) → (metrics : List ℕ) (i : ℕ) → f (slice_get (map dark metrics) i) ≡ x
+dark_found f x none some [] i = none
+dark_found f x none some (m ∷ ms) zero = some m
+dark_found f x none some (m ∷ ms) (suc i) = dark_found f x none some ms i
+
+dark_in : {X : Type 0} (f : Option BridgePort → X) (x : X) → f None ≡ x → ((m : ℕ) → f (Some (dark m)) ≡ x) → (low : Bool) (metrics : List ℕ) (i : ℕ) → f (if low then slice_get (map dark metrics) i else None) ≡ x
+dark_in f x none some true metrics i = dark_found f x none some metrics i
+dark_in f x none some false metrics i = none
+
+pub configured_is_dark : ConfiguredIsDark
+unfolding configured has_carrier_at neighbour_at
+configured_is_dark c whole = record {
+  ports = length-map c.metrics dark ∙ whole.metrics;
+  metrics = dark_metrics c.metrics;
+  carrier = λ p. dark_in has_carrier_in false refl (λ m. refl) (nat_le 1 p) c.metrics (p - 1);
+  neighbour = λ p. dark_in end_in None refl (λ m. refl) (nat_le 1 p) c.metrics (p - 1);
+}
