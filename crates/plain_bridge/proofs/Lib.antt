@@ -1,3 +1,5 @@
 pub mod Loops
 pub mod Picked
 pub mod Wire
+pub mod Owning
+pub mod Configuring

@@ -121,6 +121,7 @@ impl Machine {
     }
 
     /// The body of the own LSP: the flags octet and then what the bridge says of itself.
+    #[tactic(auto, unfolding(bridge_api::specs::Own::body_of))]
     fn body(&self) -> Result<Vec<u8>, NoMemory>
         requires few { length self.now.ports.items ≤ 32 }
         requires local { IsLocal (api.local_of (view_of self.now)) }
