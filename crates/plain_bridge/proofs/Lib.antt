@@ -3,3 +3,4 @@ pub mod Picked
 pub mod Wire
 pub mod Owning
 pub mod Configuring
+pub mod Sends
