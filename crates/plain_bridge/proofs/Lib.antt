@@ -4,3 +4,4 @@ pub mod Wire
 pub mod Owning
 pub mod Configuring
 pub mod Sends
+pub mod Seconds
