@@ -5,3 +5,5 @@ pub mod Owning
 pub mod Configuring
 pub mod Sends
 pub mod Seconds
+pub mod Flooded
+pub mod Changing
