@@ -7,3 +7,4 @@ pub mod Sends
 pub mod Seconds
 pub mod Flooded
 pub mod Changing
+pub mod Keeping
