@@ -1,19 +1,16 @@
 -- A port of a machine that comes into another state.
-use Rattle.std.proofs.Common.{◌≡◌, ◌≤◌, ◌<◌, ◌-◌, ◌+◌, ℕ, zero, suc, Bool, true, false, List, [], ◌∷◌, map, length, refl, sym, ap, ◌∙◌, subst, Option, Some, None, inl, inr, arith}
-use Rattle.std.specs.Prelude.{slice_get, slice_set, not, ◌&&◌, ◌==◌, if◌then◌else◌, ⊤}
-use Rattle.std.specs.List.{AllByRecursion}
+use Rattle.std.proofs.Common.{◌≡◌, ◌≤◌, ◌<◌, ◌-◌, ◌+◌, ℕ, zero, suc, Bool, true, false, List, [], ◌∷◌, length, refl, sym, ap, ◌∙◌, subst, Option, Some, None, inl, inr, arith}
+use Rattle.std.specs.Prelude.{slice_get, slice_set, not, ◌==◌, if◌then◌else◌}
 use Rattle.std.specs.FinMap.{get}
 use Rattle.std.specs.Option.{option_map}
 use Rattle.std.specs.Global.{Vec}
 use Rattle.std.proofs.lemmas.List.{length-set}
-use Rattle.std.proofs.lemmas.Option.{slice_get_within}
 use Rattle.spb_types.specs.declared.address.SystemId.{SystemId}
 use Rattle.spb_types.specs.declared.address.LspId.{LspId}
 use Rattle.isis_pdu.specs.Grammar.{IsId}
 use Rattle.isis_pdu.specs.Pdu.{HelloValue}
 use Rattle.spb_tlvs.specs.declared.neighbours.Neighbour.{Neighbour}
 use Rattle.spb_tlvs.specs.declared.three_way.ThreeWay.{ThreeWay}
-use Rattle.lsdb.specs.declared.version.Version.{Version}
 use Rattle.lsdb.specs.Version.{is_absent}
 use Rattle.lsdb.specs.Entry.{Entry, joined, parted}
 use Rattle.lsdb.specs.Database.{Lsps, each, version_in, version_at}
@@ -21,28 +18,28 @@ use Rattle.lsdb.proofs.LookupLemmas.{get-each}
 use Rattle.flooding.specs.Own.{own_id}
 use Rattle.spb_content.specs.Local.{IsLocal}
 use Rattle.adjacency.specs.declared.state.Heard.{Heard}
-use Rattle.adjacency.specs.declared.state.Heard.TheVariants.{Kept, CameUp, LeftUp, Discarded}
+use Rattle.adjacency.specs.declared.state.Heard.TheVariants.{Kept, CameUp, Discarded}
 use Rattle.adjacency.specs.declared.port.Adjacency.{Adjacency}
 use Rattle.adjacency.specs.Hearing.{is_discarded, sender}
 use Rattle.adjacency.specs.States.{next_state, state_numbered}
 use Rattle.adjacency.specs.Adjacency.{IsSound, is_up, neighbour_of, state_towards, after_heard, after_hello, heard_of, after_carrier, change_of}
 use Rattle.bridge_api.specs.declared.port.BridgePort.{BridgePort}
-use Rattle.bridge_api.specs.View.{BridgeView, IsPort, port_in, port_at, with_port_at, is_port_up, has_carrier_in, has_carrier_at}
+use Rattle.bridge_api.specs.View.{BridgeView, IsPort, port_at, with_port_at, is_port_up, has_carrier_in, has_carrier_at}
 use Rattle.bridge_api.specs.Own.{neighbour_in, neighbours_from, local_of, own_of, body_of, settled}
 use Rattle.bridge_api.specs.Config.{IsMetric}
 use Rattle.bridge_api.specs.Judging.{Judged, useless, greeting, link_state, complete, partial, tenant, judged}
-use Rattle.bridge_api.specs.Hearing.{with_due, with_adjacency, metered, left, joined_at, entered, changed_at, greeted, heard_as, after_receive, carried_at, with_carrier, with_metric}
-use Rattle.bridge_api.specs.Laws.{IsSoundPort, IsSoundView}
+use Rattle.bridge_api.specs.Hearing.{with_due, with_adjacency, metered, left, joined_at, entered, changed_at, heard_as, after_receive, with_carrier, with_metric}
+use Rattle.bridge_api.specs.Laws.{IsSoundPort}
 use Rattle.bridge_api.proofs.Places.{got_at}
 use Rattle.bridge_api.proofs.Adjacent.{stayed_up, up_since, hello_sound, carrier_sound}
 use Rattle.bridge_api.proofs.Changes.{found, settled_ports, heard_is, deaf_is, carried_is, metered_is}
-use Rattle.bridge_api.proofs.SoundPorts.{AreSoundPorts, all_set, sound_at, heard_six, carrier_six, metered_sound, config_kept, source_six}
+use Rattle.bridge_api.proofs.SoundPorts.{all_set, sound_at, heard_six, carrier_six, metered_sound, config_kept}
 use Rattle.bridge_api.proofs.Saying.{is_local}
 use Rattle.bridge_api.proofs.Data.{fits_own}
 use Rattle.plain_bridge.specs.declared.machine.Machine.{Machine}
 use Rattle.plain_bridge.specs.Machine.{view_of, IsCurrent, IsReady, CanOriginate, IsAfter, CanPut, SaysTheSame, hears}
 use Rattle.plain_bridge.specs.Message.{IsIdle}
-use Rattle.plain_bridge.proofs.Owning.{said_alike, current_with, after_same}
+use Rattle.plain_bridge.proofs.Owning.{said_alike, current_with}
 use Rattle.plain_bridge.proofs.Seconds.{same_neighbour}
 use Rattle.plain_bridge.proofs.Flooded.{hears_at}
 

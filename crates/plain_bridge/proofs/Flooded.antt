@@ -1,5 +1,5 @@
 -- What a machine hears of other bridges' LSPs.
-use Rattle.std.proofs.Common.{◌≡◌, ◌≤◌, ◌-◌, ℕ, Bool, true, false, List, [], ◌∷◌, map, length, refl, sym, ap, ◌∙◌, subst, Option, Some, None, Result, Ok, Err}
+use Rattle.std.proofs.Common.{◌≡◌, ℕ, Bool, true, false, List, refl, sym, ap, ◌∙◌, subst, Option, Some, Result}
 use Rattle.std.specs.Prelude.{if◌then◌else◌}
 use Rattle.spb_types.specs.declared.ports.PortSet.{PortSet}
 use Rattle.spb_types.specs.Ports.{has}
@@ -19,8 +19,8 @@ use Rattle.snp_sync.specs.Hearing.{claims_in, hear_entries_of, hear_csnp_of}
 use Rattle.snp_sync.proofs.Stays.{entries_leave_own}
 use Rattle.snp_sync.proofs.Served.{entries_are_certified, csnp_is_certified}
 use Rattle.bridge_api.specs.declared.port.BridgePort.{BridgePort}
-use Rattle.bridge_api.specs.View.{BridgeView, port_in, port_at, is_port_up, is_up_in, is_up_at, up_from, up_ports}
-use Rattle.bridge_api.specs.Own.{own_of, holding_of, with_holding, settled}
+use Rattle.bridge_api.specs.View.{BridgeView, port_in, port_at, is_port_up, is_up_in, is_up_at, up_from}
+use Rattle.bridge_api.specs.Own.{with_holding, settled}
 use Rattle.bridge_api.specs.Judging.{Judged, link_state, complete, partial}
 use Rattle.bridge_api.specs.Hearing.{flooded, completed, requested, with_complete, with_partial, heard_as}
 use Rattle.bridge_api.proofs.UpPorts.{up_ports_are_up}

@@ -1,4 +1,4 @@
-use Rattle.std.proofs.Common.{◌≡◌, sym, ap, ◌∙◌}
+use Rattle.std.proofs.Common.{sym, ap, ◌∙◌}
 use Rattle.std.proofs.lemmas.Result.{on_ok_weaker}
 use Rattle.isis_pdu.specs.Pdu.{hello_of}
 use Rattle.adjacency.specs.declared.port.Adjacency.{Adjacency}

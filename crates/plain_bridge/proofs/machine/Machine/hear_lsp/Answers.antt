@@ -1,7 +1,7 @@
-use Rattle.std.proofs.Common.{◌≡◌, Some, true, false, sym, ap, ◌∙◌}
+use Rattle.std.proofs.Common.{sym, ap, ◌∙◌}
 use Rattle.std.proofs.lemmas.Result.{on_ok_weaker}
 use Rattle.isis_pdu.specs.Pdu.{lsp_of}
-use Rattle.bridge_api.specs.View.{port_at, up_from}
+use Rattle.bridge_api.specs.View.{up_from}
 use Rattle.bridge_api.specs.Own.{settled}
 use Rattle.bridge_api.specs.Hearing.{flooded}
 use Rattle.plain_bridge.specs.declared.machine.Machine.{Machine}

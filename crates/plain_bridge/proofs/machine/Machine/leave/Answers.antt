@@ -1,4 +1,4 @@
-use Rattle.std.proofs.Common.{◌-◌, List, sym, subst}
+use Rattle.std.proofs.Common.{List, sym, subst}
 use Rattle.spb_content.specs.Local.{IsLocal}
 use Rattle.bridge_api.specs.declared.port.BridgePort.{BridgePort}
 use Rattle.bridge_api.specs.Own.{local_of}

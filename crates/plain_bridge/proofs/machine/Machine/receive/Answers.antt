@@ -1,4 +1,3 @@
-use Rattle.std.proofs.Common.{◌≡◌, sym, ap, ◌∙◌}
 use Rattle.std.proofs.lemmas.Result.{on_ok_weaker}
 use Rattle.isis_pdu.specs.Pdu.{hello_of, lsp_of, csnp_of, psnp_of}
 use Rattle.bridge_api.specs.Judging.{greeting, link_state, complete, partial}

@@ -1,7 +1,6 @@
-use Rattle.std.proofs.Common.{◌≡◌, ◌-◌, sym, ap, ◌∙◌}
+use Rattle.std.proofs.Common.{sym, ◌∙◌}
 use Rattle.std.proofs.lemmas.Result.{on_ok_weaker}
 use Rattle.bridge_api.specs.View.{with_port_at}
-use Rattle.bridge_api.specs.Own.{own_of, settled}
 use Rattle.bridge_api.specs.Hearing.{metered}
 use Rattle.plain_bridge.specs.declared.machine.Machine.{Machine}
 use Rattle.plain_bridge.specs.Machine.{view_of}
