@@ -1,3 +1,10 @@
-pub mod Steps
 pub mod Loops
-pub mod Sending
+pub mod Picked
+pub mod Wire
+pub mod Owning
+pub mod Configuring
+pub mod Sends
+pub mod Seconds
+pub mod Flooded
+pub mod Changing
+pub mod Keeping

@@ -1,55 +1,9 @@
 -- Lists of ports that a loop changes one after another.
-use Rattle.std.proofs.Common.{◌≡◌, ◌≤◌, ◌<◌, ◌+◌, ℕ, true, false, zero, suc, List, [], ◌∷◌, ◌++◌, map, length, take, drop, refl, sym, ap, ◌∙◌, subst, arith, get_or, add-one}
+use Rattle.std.proofs.Common.{◌≡◌, ◌<◌, ◌+◌, ℕ, zero, suc, List, [], ◌∷◌, ◌++◌, map, length, take, drop, refl, sym, ap, ◌∙◌, subst, arith, get_or, add-one}
 use Rattle.std.specs.Prelude.{slice_set}
-use Rattle.std.proofs.lemmas.List.{length-map}
 use Rattle.bridge_api.specs.declared.port.BridgePort.{BridgePort}
 use Rattle.adjacency.specs.Adjacency.{IsSound}
-use Rattle.bridge_api.specs.Config.{dark}
-use Rattle.bridge_api.specs.Hearing.{with_due}
-use Rattle.bridge_api.specs.Ticking.{later}
-use Rattle.bridge_api.proofs.Adjacent.{second_sound}
-use Rattle.plain_bridge.specs.Plain.{Plain, AreSound, IsKept}
-
--- sound ports, one of them changed to a sound one
-pub sound_set : (ports : List BridgePort) (i : ℕ) (port : BridgePort) → AreSound ports → IsSound port.adjacency → AreSound (slice_set ports i port)
-sound_set [] i port all sound = all
-sound_set (x ∷ ports) zero port all sound = (sound, all.1)
-sound_set (x ∷ ports) (suc i) port all sound = (all.0, sound_set ports i port all.1 sound)
-
-pub sound_dark : (metrics : List ℕ) → AreSound (map dark metrics)
-sound_dark [] = tt
-sound_dark (metric ∷ metrics) = (refl, sound_dark metrics)
-
-pub sound_later : (ports : List BridgePort) → AreSound ports → AreSound (map later ports)
-sound_later [] all = tt
-sound_later (port ∷ ports) all = (second_sound port.adjacency all.0, sound_later ports all.1)
-
-pub sound_cleared : (ports : List BridgePort) → AreSound ports → AreSound (map (with_due false) ports)
-sound_cleared [] all = tt
-sound_cleared (port ∷ ports) all = (all.0, sound_cleared ports all.1)
-
--- ---- what a bridge keeps
-
-pub kept_dark : (b : Plain) (metrics : List ℕ) → (b.blank ≡ true → b.failed ≡ false) → b.ports ≡ map dark metrics → length metrics ≤ 32 → IsKept b
-kept_dark b metrics unfailed made few = record {
-  few = omega (arith, ap length made, length-map metrics dark, few);
-  sound = subst AreSound (sym made) (sound_dark metrics);
-  unfailed = unfailed;
-}
-
-pub kept_later : (b : Plain) (once : List BridgePort) → IsKept b → once ≡ map later b.ports → IsKept (record b { ports = once })
-kept_later b once is counted = record {
-  few = omega (arith, ap length counted, length-map b.ports later, is.few);
-  sound = subst AreSound (sym counted) (sound_later b.ports is.sound);
-  unfailed = is.unfailed;
-}
-
-pub kept_cleared : (b : Plain) (twice : List BridgePort) → IsKept b → twice ≡ map (with_due false) b.ports → IsKept (record b { ports = twice })
-kept_cleared b twice is cleared = record {
-  few = omega (arith, ap length cleared, length-map b.ports (with_due false), is.few);
-  sound = subst AreSound (sym cleared) (sound_cleared b.ports is.sound);
-  unfailed = is.unfailed;
-}
+use Rattle.plain_bridge.specs.Ports.{AreSound}
 
 -- ---- loops
 

@@ -1,2 +1,5 @@
-pub mod Greeting
+pub mod Ports
+pub mod Machine
+pub mod Message
+pub mod Frames
 pub mod Plain

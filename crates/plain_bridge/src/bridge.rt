@@ -1,49 +1,35 @@
-ghost use Rattle.std.specs.Prelude.{◌≡◌, true, false, ◌↔◌, OnOk, OnErr, IsErr};
-ghost use Rattle.bridge_api.specs.View.{IsPort};
-ghost use Rattle.bridge_api.specs.Config.{IsWhole, configured};
-ghost use Rattle.bridge_api.specs.Hearing.{after_receive, with_carrier, with_metric};
-ghost use Rattle.bridge_api.specs.Ticking.{after_tick, sent_in_tick};
-ghost use Rattle.bridge_api.specs.Step.{with_wire, Gains};
-ghost use Rattle.plain_bridge.specs.Plain as plain;
+ghost use Rattle.std.specs.Prelude.{◌≡◌, true, false, ◌↔◌, IsErr};
 
-use crate::hello::{hello_in, send_hellos};
-use crate::ports::{carry, clear_due, count_down, dark_ports, greet, meter};
+use crate::machine::Machine;
+use crate::ports::port_at;
 use adjacency::Adjacency;
-use bridge_api::{Bridge, BridgeConfig, BridgePort, Kind, Outbox};
-use spb_types::{Attachment, BridgeId, Mac, NoMemory, Seq, SourceId, SystemId, VidPlan};
+use bridge_api::{Bridge, BridgeConfig, Kind, Outbox};
+use lsdb::Held;
+use spb_types::NoMemory;
 use std::alloc::Global;
 use std::marker::Model;
 
 /// A bridge of the kind [`Kind::Plain`].
 #[derive(Debug, Drop)]
 pub struct PlainBridge {
-    alloc: Global,
     blank: bool,
     failed: bool,
-    id: BridgeId,
-    source: SourceId,
-    vids: Seq<VidPlan>,
-    ports: Vec<BridgePort>,
-    attached: Seq<Attachment>,
+    machine: Machine,
 }
 
 impl Model for PlainBridge {
+    ghost use Rattle.std.specs.Coded.{codes};
+    ghost use Rattle.lsdb.specs.contracts.database.Database as database;
     ghost use Rattle.plain_bridge.specs.Plain.{Plain, IsKept};
 
     ghost Value = { Plain };
 
-    ghost view = { λ b. record { blank = b.blank; failed = b.failed; id = b.id; source = b.source; vids = b.vids; ports = b.ports.items; attached = b.attached } };
+    ghost coded = { Prim.hlevel (codes, database.the_row.coded) };
 
-    ghost invariant = { λ b. IsKept (record { blank = b.blank; failed = b.failed; id = b.id; source = b.source; vids = b.vids; ports = b.ports.items; attached = b.attached }) };
+    ghost view = { λ b. record { blank = b.blank; failed = b.failed; machine = b.machine } };
+
+    ghost invariant = { λ b. IsKept (record { blank = b.blank; failed = b.failed; machine = b.machine }) };
 }
-
-/// The id of a bridge that isn't configured.
-const NO_ID: BridgeId = BridgeId {
-    priority: 0,
-    system: SystemId {
-        mac: Mac { bytes: [0; 6] },
-    },
-};
 
 impl PlainBridge {
     /// A bridge that isn't configured. It keeps the allocator, and takes no memory.
@@ -52,14 +38,9 @@ impl PlainBridge {
         ensures failed { result.failed ≡ false }
     {
         PlainBridge {
-            alloc,
             blank: true,
             failed: false,
-            id: NO_ID,
-            source: SourceId { value: 0 },
-            vids: Seq::new(alloc),
-            ports: Vec::new(alloc),
-            attached: Seq::new(alloc),
+            machine: Machine::idle(alloc),
         }
     }
 
@@ -69,88 +50,17 @@ impl PlainBridge {
     {
         if self.failed { Err(NoMemory) } else { Ok(()) }
     }
-
-    /// Marks the bridge failed where a call found no memory.
-    fn mark_failed(&mut self, ended: Result<(), NoMemory>) -> Result<(), NoMemory>
-        requires { self.old.blank ≡ false }
-        ensures ended { result ≡ ended }
-        ensures ok { OnOk ended (self.new ≡ self.old) }
-        ensures err { OnErr ended (self.new ≡ record self.old { failed = true }) }
-    {
-        if ended.is_err() {
-            self.failed = true;
-        }
-        ended
-    }
-
-    fn try_configure(&mut self, config: &BridgeConfig) -> Result<(), NoMemory>
-        requires whole { IsWhole config.now }
-        requires blank { self.old.blank ≡ true }
-        ensures { OnOk result (plain.view_of self.new ≡ configured config.now) }
-    {
-        let vids = Vec::from_slice(self.alloc, config.vids.as_slice())?;
-        let attached = Vec::from_slice(self.alloc, config.attached.as_slice())?;
-        self.ports = dark_ports(self.alloc, config.metrics.as_slice())?;
-        self.id = config.id;
-        self.source = config.source;
-        self.vids = Seq::from_vec(vids);
-        self.attached = Seq::from_vec(attached);
-        Ok(())
-    }
-
-    fn try_tick(&mut self, outbox: &mut Outbox) -> Result<(), NoMemory>
-        ensures view { OnOk result (plain.view_of self.new ≡ after_tick (plain.view_of self.old)) }
-        ensures sent { OnOk result (outbox.new ≡ with_wire (sent_in_tick (plain.view_of self.old)) outbox.old) }
-        ensures gained { OnErr result (Gains (sent_in_tick (plain.view_of self.old)) outbox.old outbox.new) }
-        ensures blank { self.new.blank ≡ self.old.blank }
-    {
-        count_down(&mut self.ports);
-        send_hellos(self.alloc, self.id.system, self.ports.as_slice(), outbox)?;
-        clear_due(&mut self.ports);
-        Ok(())
-    }
-
-    fn hear(&mut self, port: u8, frame: &[u8])
-        requires { IsPort (plain.view_of self.old) port }
-        ensures view { plain.view_of self.new ≡ after_receive port frame.now (plain.view_of self.old) }
-        ensures blank { self.new.blank ≡ self.old.blank }
-    {
-        let me = self.id.system;
-        let place = usize::from(port) - 1;
-        if !self.ports[place].adjacency.carrier {
-            return;
-        }
-        if let Some((hello, way)) = hello_in(frame) {
-            greet(&mut self.ports[place], me, port, &hello, &way);
-        }
-    }
-
-    fn set_carrier(&mut self, port: u8, on: bool)
-        requires { IsPort (plain.view_of self.old) port }
-        ensures view { plain.view_of self.new ≡ with_carrier port on (plain.view_of self.old) }
-        ensures blank { self.new.blank ≡ self.old.blank }
-    {
-        carry(&mut self.ports[usize::from(port) - 1], on);
-    }
-
-    fn put_metric(&mut self, port: u8, metric: u32)
-        requires { IsPort (plain.view_of self.old) port }
-        ensures view { plain.view_of self.new ≡ with_metric port metric (plain.view_of self.old) }
-        ensures blank { self.new.blank ≡ self.old.blank }
-    {
-        meter(&mut self.ports[usize::from(port) - 1], metric);
-    }
 }
 
 impl Bridge for PlainBridge {
     ghost use Rattle.bridge_api.specs.declared.kind.Kind.TheVariants.{Plain};
-    ghost use Rattle.plain_bridge.specs.Plain.{view_of};
+    ghost use Rattle.plain_bridge.specs.Plain.{seen};
 
     ghost kind_of = { λ _. Plain };
 
     ghost blank = { λ b. b.blank };
 
-    ghost view = { λ b. view_of b };
+    ghost view = { λ b. seen b };
 
     fn kind(&self) -> Kind {
         Kind::Plain
@@ -165,40 +75,60 @@ impl Bridge for PlainBridge {
     }
 
     fn configure(&mut self, config: &BridgeConfig) -> Result<(), NoMemory> {
-        let ended = self.try_configure(config);
         self.blank = false;
-        self.mark_failed(ended)
+        match Machine::configured(self.machine.alloc, config) {
+            Ok(machine) => {
+                self.machine = machine;
+                Ok(())
+            }
+            Err(refused) => {
+                self.failed = true;
+                Err(refused)
+            }
+        }
     }
 
     fn tick(&mut self, outbox: &mut Outbox) -> Result<(), NoMemory> {
         self.refuse_failed()?;
-        let ended = self.try_tick(outbox);
-        self.mark_failed(ended)
+        let ended = self.machine.tick(outbox);
+        self.failed = ended.is_err();
+        ended
     }
 
     fn receive(&mut self, port: u8, frame: &[u8], _outbox: &mut Outbox) -> Result<(), NoMemory> {
         self.refuse_failed()?;
-        self.hear(port, frame);
-        Ok(())
+        let ended = self.machine.receive(port, frame);
+        self.failed = ended.is_err();
+        ended
     }
 
     fn carrier(&mut self, port: u8, on: bool) -> Result<(), NoMemory> {
         self.refuse_failed()?;
-        self.set_carrier(port, on);
-        Ok(())
+        let ended = self.machine.carrier(port, on);
+        self.failed = ended.is_err();
+        ended
     }
 
     fn set_metric(&mut self, port: u8, metric: u32) -> Result<(), NoMemory> {
         self.refuse_failed()?;
-        self.put_metric(port, metric);
-        Ok(())
+        let ended = self.machine.set_metric(port, metric);
+        self.failed = ended.is_err();
+        ended
     }
 
     fn adjacent(&self, port: u8) -> Adjacency {
-        self.ports[usize::from(port) - 1].adjacency
+        port_at(self.machine.ports.as_slice(), port).adjacency
     }
 
     fn due(&self, port: u8) -> bool {
-        self.ports[usize::from(port) - 1].due
+        port_at(self.machine.ports.as_slice(), port).due
+    }
+
+    fn has_flag(&self) -> bool {
+        self.machine.db.has_flags() || self.machine.ports.iter().any(|port| port.due)
+    }
+
+    fn entry(&self, place: usize) -> Option<&Held> {
+        self.machine.db.at(place)
     }
 }

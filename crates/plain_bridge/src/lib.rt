@@ -7,7 +7,12 @@
 pub use bridge::PlainBridge;
 
 mod bridge;
+mod hearing;
 mod hello;
+mod judging;
+mod machine;
 mod ports;
+mod sending;
+mod ticking;
 #[cfg(test)]
 mod tests;

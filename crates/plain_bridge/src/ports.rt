@@ -1,18 +1,22 @@
-//! Work on the ports of a bridge, each port by itself.
-ghost use Rattle.std.specs.Prelude.{◌≡◌, ◌≤◌, true, false, map, IfOk};
-ghost use Rattle.isis_pdu.specs.Pdu.{hello_of};
+//! Work on the ports of a bridge.
+ghost use Rattle.std.specs.Prelude.{◌≡◌, ◌-◌, ◌≤◌, Bool, true, false, length, map, Some, IfOk, slice_get, slice_set};
+ghost use Rattle.std.specs.List.{AllByRecursion};
+ghost use Rattle.lsdb.specs.Entry.{joined};
+ghost use Rattle.lsdb.specs.Version as lsdb_version;
+ghost use Rattle.lsdb.specs.Database.{each};
 ghost use Rattle.adjacency.specs.Adjacency.{IsSound};
+ghost use Rattle.bridge_api.specs.View.{is_port_up, up_from, port_in};
 ghost use Rattle.bridge_api.specs.Config.{dark};
+ghost use Rattle.bridge_api.specs.Own as own;
 ghost use Rattle.bridge_api.specs.Hearing as api;
-ghost use Rattle.bridge_api.specs.Ticking.{later};
-ghost use Rattle.bridge_api.specs.Ports.{noted, greeted_port, carried_port};
-ghost use Rattle.plain_bridge.specs.Plain.{AreSound};
+ghost use Rattle.bridge_api.specs.Ticking as ticking;
+ghost use Rattle.plain_bridge.specs.Ports.{AreSound, has_leaving};
 
-use adjacency::{AdjState, Adjacency, Heard};
+use adjacency::{AdjState, Adjacency};
 use bridge_api::BridgePort;
-use isis_pdu::Hello;
-use spb_tlvs::ThreeWay;
-use spb_types::{NoMemory, SystemId};
+use lsdb::{Database, Held, Version};
+use spb_tlvs::Neighbour;
+use spb_types::{Attachment, Member, NoMemory, PortSet, SystemId};
 use std::alloc::Global;
 
 /// Ports without carrier, with these metrics.
@@ -36,10 +40,100 @@ fn dark_port(metric: u32) -> BridgePort
     }
 }
 
+/// The port of a number.
+pub(crate) fn port_at(ports: &[BridgePort], port: u8) -> BridgePort
+    requires low { 1 ≤ port }
+    requires high { port ≤ length ports.now }
+    ensures { port_in ports.now port ≡ Some result }
+{
+    ports[usize::from(port) - 1]
+}
+
+/// Gives the port of a number another state.
+pub(crate) fn put_port(ports: &mut Vec<BridgePort>, port: u8, new: BridgePort)
+    requires low { 1 ≤ port }
+    requires high { port ≤ length ports.old.items }
+    ensures { ports.new.items ≡ slice_set ports.old.items (port - 1) new }
+{
+    ports[usize::from(port) - 1] = new;
+}
+
+pub(crate) fn is_up(port: &BridgePort) -> bool
+    ensures { result ≡ is_port_up port.now }
+{
+    port.adjacency.state == AdjState::Up
+}
+
+/// The ports that are Up.
+pub(crate) fn up_ports(ports: &[BridgePort]) -> PortSet
+    requires { length ports.now ≤ 32 }
+    ensures { result ≡ up_from 1 ports.now }
+{
+    let mut up = PortSet::none();
+    'up: for place in (0..ports.len()).rev() {
+        if is_up(&ports[place]) {
+            up = up.with(place as u8 + 1);
+        }
+    }
+    up
+}
+
+/// The neighbours at the ports that are Up, in order, each with the metric of the link there.
+pub(crate) fn neighbours_at(
+    alloc: Global,
+    ports: &[BridgePort],
+) -> Result<Vec<Neighbour>, NoMemory>
+    requires { length ports.now ≤ 32 }
+    ensures { IfOk result (λ v. v.items ≡ own.neighbours_from 1 ports.now) }
+{
+    let mut neighbours = Vec::new(alloc);
+    'find: for (place, port) in ports.iter().enumerate() {
+        if is_up(port) {
+            neighbours.push(neighbour_at(place as u16 + 1, port))?;
+        }
+    }
+    Ok(neighbours)
+}
+
+fn neighbour_at(number: u16, port: &BridgePort) -> Neighbour
+    ensures { result ≡ own.neighbour_in number port.now }
+{
+    Neighbour {
+        system: port.adjacency.neighbour,
+        metric: port.metric,
+        port: number,
+    }
+}
+
+/// The services of which attached customer ports make a system a member.
+pub(crate) fn attached_members(
+    alloc: Global,
+    system: SystemId,
+    attached: &[Attachment],
+) -> Result<Vec<Member>, NoMemory>
+    ensures { IfOk result (λ v. v.items ≡ map (own.member_of system) attached.now) }
+{
+    let members = attached
+        .iter()
+        .map(|a| member_of(system, a))
+        .collect(alloc)?;
+    Ok(members)
+}
+
+fn member_of(system: SystemId, a: &Attachment) -> Member
+    ensures { result ≡ own.member_of system a.now }
+{
+    Member {
+        system,
+        isid: a.isid,
+        vid: a.vid,
+    }
+}
+
 /// A second passes at each port: the holding counts fall.
 pub(crate) fn count_down(ports: &mut Vec<BridgePort>)
     requires { AreSound ports.old.items }
-    ensures { ports.new.items ≡ map later ports.old.items }
+    ensures { ports.new.items ≡ map ticking.later ports.old.items }
 {
     for port in ports.iter_mut() {
         pass_second(port);
@@ -48,10 +142,37 @@ pub(crate) fn count_down(ports: &mut Vec<BridgePort>)
 
 fn pass_second(port: &mut BridgePort)
     requires { IsSound port.old.adjacency }
-    ensures { port.new ≡ later port.old }
+    ensures { port.new ≡ ticking.later port.old }
 {
     let _ = port.adjacency.tick();
     port.due = port.due && port.adjacency.state == AdjState::Up;
+}
+
+/// Whether the neighbour at an Up port is lost in this second.
+fn leaves(port: &BridgePort) -> bool
+    requires { IsSound port.now.adjacency }
+    ensures { result ≡ ticking.leaves port.now }
+{
+    let mut next = *port;
+    pass_second(&mut next);
+    is_up(port) && !is_up(&next)
+}
+
+/// Clears the flags of the ports at which the neighbour is lost in this second, and tells whether there is one.
+pub(crate) fn clear_leaving(ports: &[BridgePort], db: &mut Database) -> bool
+    requires few { length ports.now ≤ 32 }
+    requires sound { AreSound ports.now }
+    ensures db { db.new ≡ each (λ id e. ticking.parted_all (ticking.leaving_from 1 ports.now) e) db.old }
+    ensures some { result ≡ has_leaving ports.now }
+{
+    let mut some = false;
+    'clear: for (place, port) in ports.iter().enumerate() {
+        if leaves(port) {
+            db.clear_port(place as u8 + 1);
+            some = true;
+        }
+    }
+    some
 }
 
 /// Nothing is due any more.
@@ -63,45 +184,27 @@ pub(crate) fn clear_due(ports: &mut Vec<BridgePort>)
     }
 }
 
-/// Hears a hello at a port with carrier, of this number at this system.
-pub(crate) fn greet(port: &mut BridgePort, me: SystemId, number: u8, hello: &Hello, way: &ThreeWay)
-    requires carrier { port.old.adjacency.carrier ≡ true }
-    requires state { way.now.state ≤ 2 }
-    requires sound { IsSound port.old.adjacency }
-    ensures new { port.new ≡ greeted_port me number (hello_of hello.now) way.now port.old }
-    ensures still_sound { IsSound port.new.adjacency }
+/// Each LSP that is held is to be sent at a port that has come up.
+pub(crate) fn join_all(db: &mut Database, port: u8)
+    requires low { 1 ≤ port }
+    requires high { port ≤ 32 }
+    ensures { db.new ≡ each (λ id e. joined port e) db.old }
 {
-    let heard = port.adjacency.hear(me, number, hello, way);
-    note(port, heard);
+    for place in 0..db.len() {
+        if let Some(held) = db.at(place) {
+            if !is_absent(held) {
+                let id = held.id;
+                db.set_srm(&id, port, true);
+            }
+        }
+    }
 }
 
-/// Carrier comes or goes at a port.
-pub(crate) fn carry(port: &mut BridgePort, on: bool)
-    requires { IsSound port.old.adjacency }
-    ensures new { port.new ≡ carried_port on port.old }
-    ensures sound { IsSound port.new.adjacency }
+fn is_absent(held: &Held) -> bool
+    ensures { result ≡ lsdb_version.is_absent held.now.version }
 {
-    let heard = port.adjacency.set_carrier(on);
-    note(port, heard);
-}
-
-/// Sets the metric of the link at a port.
-pub(crate) fn meter(port: &mut BridgePort, metric: u32)
-    requires { IsSound port.old.adjacency }
-    ensures new { port.new ≡ api.metered metric port.old }
-    ensures sound { IsSound port.new.adjacency }
-{
-    port.metric = metric;
-}
-
-/// CSNPs are due at a port that came up, and none at one that left Up.
-fn note(port: &mut BridgePort, heard: Heard)
-    ensures new { port.new ≡ noted heard port.old }
-    ensures adjacency { port.new.adjacency ≡ port.old.adjacency }
-{
-    match heard {
-        Heard::Kept | Heard::Discarded => {}
-        Heard::CameUp => port.due = true,
-        Heard::LeftUp => port.due = false,
+    match held.version {
+        Version::Absent => true,
+        Version::Live { seq: _, sum: _ } | Version::Dead { seq: _ } => false,
     }
 }

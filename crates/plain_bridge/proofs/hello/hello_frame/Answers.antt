@@ -7,7 +7,7 @@ use Rattle.itag_frames.specs.Frame.{control_bytes}
 use Rattle.adjacency.specs.Adjacency.{said}
 use Rattle.bridge_api.specs.Ticking.{hello_tlvs, hello_at, hello_frame}
 use Rattle.bridge_api.proofs.Hellos.{tlvs_whole}
-use Rattle.plain_bridge.proofs.Sending.{pdu_short}
+use Rattle.plain_bridge.proofs.Wire.{pdu_short}
 use Rattle.plain_bridge.proofs.hello.hello_frame.Goals as goal
 
 pub write_hello-requires : goal.write_hello-requires

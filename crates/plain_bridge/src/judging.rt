@@ -1,0 +1,72 @@
+//! What a frame brings, before the bridge that hears it is looked at.
+ghost use Rattle.std.specs.Prelude.{◌≡◌, slice_get};
+ghost use Rattle.isis_pdu.specs.Pdu.{hello_of};
+ghost use Rattle.isis_pdu.specs.Reading.{read};
+ghost use Rattle.spb_tlvs.specs.Tlv.{values_with};
+ghost use Rattle.bridge_api.specs.Judging as api;
+ghost use Rattle.plain_bridge.specs.Message.{Says};
+
+use isis_pdu::{Csnp, Hello, Lsp, Pdu, Psnp, decode};
+use itag_frames::{Frame, classify};
+use spb_tlvs::{ThreeWay, find_tlv, read_three_way};
+
+/// The code of the three-way adjacency (RFC 5303, 3).
+const THREE_WAY: u8 = 240;
+
+/// What a frame brings to a bridge.
+#[derive(Clone, Copy, Debug)]
+pub(crate) enum Message<'a> {
+    /// Nothing that is heard.
+    Nothing,
+    /// A hello and its three-way adjacency.
+    Greeting(Hello<'a>, ThreeWay),
+    LinkState(Lsp<'a>),
+    Complete(Csnp<'a>),
+    Partial(Psnp<'a>),
+}
+
+/// What a frame brings. It may be any bytes.
+#[tactic(auto, unfolding(bridge_api::specs::Judging::judged))]
+pub(crate) fn judge(frame: &[u8]) -> Message<'_>
+    ensures { Says result (api.judged frame.now) }
+{
+    if !is_octets(frame) {
+        return Message::Nothing;
+    }
+    match classify(frame) {
+        Ok(Frame::Control(pdu)) => judge_pdu(pdu),
+        Ok(Frame::Backbone(_)) | Err(_) => Message::Nothing,
+    }
+}
+
+/// Whether the bytes are octets, as all bytes are.
+fn is_octets(frame: &[u8]) -> bool
+    ensures { result ≡ api.is_octets frame.now }
+{
+    frame.iter().all(|b| u16::from(*b) < 256)
+}
+
+fn judge_pdu(pdu: &[u8]) -> Message<'_>
+    ensures { Says result (api.by_pdu (read pdu.now)) }
+{
+    match decode(pdu) {
+        Ok(Pdu::Hello(hello)) => judge_hello(&hello),
+        Ok(Pdu::Lsp(lsp)) => Message::LinkState(lsp),
+        Ok(Pdu::Csnp(csnp)) => Message::Complete(csnp),
+        Ok(Pdu::Psnp(psnp)) => Message::Partial(psnp),
+        Err(_) => Message::Nothing,
+    }
+}
+
+/// A hello is heard by its three-way adjacency, where that can be read.
+fn judge_hello<'a>(hello: &Hello<'a>) -> Message<'a>
+    ensures { Says result (api.by_three_way (hello_of hello.now) (slice_get (values_with 240 hello.now.tlvs.now) 0)) }
+{
+    let Some(value) = find_tlv(hello.tlvs, THREE_WAY, 0) else {
+        return Message::Nothing;
+    };
+    match read_three_way(value) {
+        Ok(way) => Message::Greeting(*hello, way),
+        Err(_) => Message::Nothing,
+    }
+}
