@@ -148,30 +148,81 @@ fn after(alloc: Global, before: Before, entry: SnpEntry) -> Result<Row, Fail> {
 }
 
 #[test]
-fn an_entry_is_heard_by_its_row(rt: HostRuntime) -> Result<(), Fail> {
-    let none = Version::Absent;
-    let (lived, dead_5) = ((5, 600, 7), (5, 0, 0));
+fn a_newer_entry_is_asked_for(rt: HostRuntime) -> Result<(), Fail> {
+    let (lived, died) = ((5, 600, 7), (5, 0, 0));
+    let asked = row(Version::Absent, 0, 0, 0b010);
     for (before, claim, outcome) in [
-        // Newer: asked for.
-        (was(live(4, 9), &[1, 2], &[3]), lived, row(live(4, 9), 1198, 0b001, 0b110)),
-        (None, lived, row(none, 0, 0, 0b010)),
-        (None, dead_5, row(none, 0, 0, 0b010)),
-        (was(none, &[], &[]), lived, row(none, 0, 0, 0b010)),
-        (was(live(5, 9), &[1, 2], &[3]), dead_5, row(live(5, 9), 1198, 0b001, 0b110)),
-        // Equal: needn't be sent.
-        (was(live(5, 7), &[1, 2], &[2, 3]), lived, row(live(5, 7), 1198, 0b001, 0b110)),
-        (was(dead(5), &[1, 2], &[3]), dead_5, row(dead(5), 0, 0b001, 0b100)),
-        (was(none, &[], &[3]), (0, 0, 0), row(none, 0, 0, 0b100)),
-        (None, (0, 600, 7), None),
-        // Older: what is held goes out.
-        (was(live(6, 7), &[1], &[2, 3]), lived, row(live(6, 7), 1198, 0b011, 0b100)),
-        (was(dead(5), &[], &[2]), (0, 0, 0), row(dead(5), 0, 0b010, 0)),
-        // Confused: dead everywhere.
-        (was(live(5, 7), &[], &[2]), (5, 600, 8), row(dead(5), 0, 0b111, 0)),
+        (
+            was(live(4, 9), &[1, 2], &[3]),
+            lived,
+            row(live(4, 9), 1198, 0b001, 0b110),
+        ),
+        (None, lived, asked),
+        (None, died, asked),
+        (was(Version::Absent, &[], &[]), lived, asked),
+        (
+            was(live(5, 9), &[1, 2], &[3]),
+            died,
+            row(live(5, 9), 1198, 0b001, 0b110),
+        ),
     ] {
         let found = after(rt.alloc(), before, entry(lsp_id(2, 0), claim))?;
         assert_eq!(rt; found, outcome, "{before:?} and {claim:?}");
     }
+    Ok(())
+}
+
+#[test]
+fn an_equal_entry_needs_no_sending(rt: HostRuntime) -> Result<(), Fail> {
+    for (before, claim, outcome) in [
+        (
+            was(live(5, 7), &[1, 2], &[2, 3]),
+            (5, 600, 7),
+            row(live(5, 7), 1198, 0b001, 0b110),
+        ),
+        (
+            was(dead(5), &[1, 2], &[3]),
+            (5, 0, 0),
+            row(dead(5), 0, 0b001, 0b100),
+        ),
+        (
+            was(Version::Absent, &[], &[3]),
+            (0, 0, 0),
+            row(Version::Absent, 0, 0, 0b100),
+        ),
+        (None, (0, 600, 7), None),
+    ] {
+        let found = after(rt.alloc(), before, entry(lsp_id(2, 0), claim))?;
+        assert_eq!(rt; found, outcome, "{before:?} and {claim:?}");
+    }
+    Ok(())
+}
+
+#[test]
+fn an_older_entry_gets_what_is_held(rt: HostRuntime) -> Result<(), Fail> {
+    for (before, claim, outcome) in [
+        (
+            was(live(6, 7), &[1], &[2, 3]),
+            (5, 600, 7),
+            row(live(6, 7), 1198, 0b011, 0b100),
+        ),
+        (
+            was(dead(5), &[], &[2]),
+            (0, 0, 0),
+            row(dead(5), 0, 0b010, 0),
+        ),
+    ] {
+        let found = after(rt.alloc(), before, entry(lsp_id(2, 0), claim))?;
+        assert_eq!(rt; found, outcome, "{before:?} and {claim:?}");
+    }
+    Ok(())
+}
+
+#[test]
+fn a_confused_entry_ends_the_lsp(rt: HostRuntime) -> Result<(), Fail> {
+    let before = was(live(5, 7), &[], &[2]);
+    let found = after(rt.alloc(), before, entry(lsp_id(2, 0), (5, 600, 8)))?;
+    assert_eq!(rt; found, row(dead(5), 0, 0b111, 0));
     Ok(())
 }
 
@@ -242,7 +293,10 @@ fn a_csnp_asks_for_what_its_sender_lacks(rt: HostRuntime) -> Result<(), Fail> {
         db.put(held(alloc, lsp_id(system, 0), version, &[], &[])?)?;
     }
     let mut own = own(alloc)?;
-    let entries = [entry(lsp_id(9, 0), (0, 0, 0)), entry(lsp_id(4, 0), (5, 600, 7))];
+    let entries = [
+        entry(lsp_id(9, 0), (0, 0, 0)),
+        entry(lsp_id(4, 0), (5, 600, 7)),
+    ];
     let (start, end) = (lsp_id(2, 1), lsp_id(6, 0));
     let up = ports(&[1, 2, 3]);
     let full = hear_csnp(alloc, &mut db, up, 2, &start, &end, &entries, &mut own)?;
