@@ -1,8 +1,7 @@
 -- The frames in which LSPs and sequence numbers PDUs are sent are taken for what they are.
-use Rattle.std.proofs.Common.{◌≡◌, inl, inr, ◌≤◌, ◌+◌, ◌-◌, ◌*◌, ℕ, zero, suc, List, [], ◌∷◌, ◌++◌, length, min, take, drop, refl, sym, ap, ◌∙◌, subst, Ok, arith, length-append}
+use Rattle.std.proofs.Common.{◌≡◌, ◌≤◌, ◌+◌, ℕ, List, [], length, sym, ap, ◌∙◌, Ok, arith, length-append}
 use Rattle.std.specs.List.{AllByRecursion}
-use Rattle.std.proofs.lemmas.List.{append-nil, take-append-drop, length-take, length-drop, nil_from_length}
-use Rattle.std.proofs.lemmas.Bool.{cases_lt}
+use Rattle.std.proofs.lemmas.List.{append-nil}
 use Rattle.spb_types.specs.declared.address.Mac.{Mac}
 use Rattle.spb_types.specs.declared.address.SystemId.{SystemId}
 use Rattle.spb_types.specs.declared.address.LspId.{LspId}
@@ -11,10 +10,7 @@ use Rattle.isis_pdu.specs.Grammar.{IsId}
 use Rattle.isis_pdu.specs.Spelling.{lsp_bytes, csnp_bytes, psnp_bytes}
 use Rattle.spb_tlvs.specs.declared.entries.SnpEntry.{SnpEntry}
 use Rattle.spb_tlvs.specs.RoundTrip.{IsEntry}
-use Rattle.spb_tlvs.specs.Entry.{entry_bytes, entries_value}
-use Rattle.spb_tlvs.specs.Number.{two, four}
-use Rattle.spb_tlvs.specs.Tlv.{tlv}
-use Rattle.spb_tlvs.proofs.Numbers.{six, length_of_joined, weaker}
+use Rattle.spb_tlvs.proofs.Numbers.{six}
 use Rattle.itag_frames.specs.Frame.{content_in, control_bytes, ControlAgain}
 use Rattle.itag_frames.specs.Frame as frames
 use Rattle.lsdb.specs.Entry.{Entry}

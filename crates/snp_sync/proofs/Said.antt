@@ -1,9 +1,9 @@
 -- What is sent is read again, and claims what is held; and afterwards nothing is owed.
 use Rattle.std.specs.Prelude.{◌≡◌, ℕ, ◌≤◌, Bool, true, false, ◌&&◌, not, ◌==◌, List, [], ◌∷◌, ◌++◌, map, Some, Ok, if◌then◌else◌}
-use Rattle.std.proofs.Common.{refl, sym, ap, subst, ◌∙◌, arith, lit≤, ⊎_elim}
+use Rattle.std.proofs.Common.{refl, sym, ap, subst, ◌∙◌, lit≤, ⊎_elim}
 use Rattle.std.specs.List.{AllByRecursion, flat_map}
 use Rattle.std.specs.FinMap.{entries}
-use Rattle.std.proofs.lemmas.Bool.{cases_Bool, ne_eqb, eqb-true}
+use Rattle.std.proofs.lemmas.Bool.{cases_Bool, eqb-true}
 use Rattle.spb_types.specs.declared.address.LspId.{LspId}
 use Rattle.spb_types.specs.declared.ports.PortSet.{PortSet}
 use Rattle.spb_types.specs.Ports.{has}
@@ -18,15 +18,13 @@ use Rattle.spb_tlvs.proofs.EntryLaws.{entries_again}
 use Rattle.spb_tlvs.proofs.TlvLaws.{tlv_here}
 use Rattle.spb_tlvs.proofs.Numbers.{weaker}
 use Rattle.lsdb.specs.declared.version.Version.{Version}
-use Rattle.lsdb.specs.declared.version.Version.TheVariants.{Absent, Live, Dead}
-use Rattle.lsdb.specs.Version.{IsAtMost, number_of, claimed}
-use Rattle.lsdb.specs.Entry.{Entry, AreKept, with_ssn}
+use Rattle.lsdb.specs.Version.{IsAtMost}
+use Rattle.lsdb.specs.Entry.{Entry, with_ssn}
 use Rattle.lsdb.specs.Database.{Lsps, version_in}
 use Rattle.lsdb.specs.Certificate.{Claim, is_flagged, is_as_before, EntryCertificate}
 use Rattle.lsdb.proofs.Order.{itself}
 use Rattle.lsdb.proofs.Certified.{changing_each}
-use Rattle.flooding.specs.Sending.{sum_of}
-use Rattle.flooding.specs.Entries.{IsNumbered, AllEntries, AreSendable}
+use Rattle.flooding.specs.Entries.{AllEntries, AreSendable}
 use Rattle.flooding.proofs.Flags.{has-without}
 use Rattle.flooding.proofs.SendableEntries.{claimed_again}
 use Rattle.snp_sync.specs.Line.{line_of, lines_where, is_listed, is_owed}
