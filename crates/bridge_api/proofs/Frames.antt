@@ -29,6 +29,7 @@ use Rattle.lsdb.proofs.LookupLemmas.{get-each}
 use Rattle.flooding.specs.Hearing.{claim_of}
 use Rattle.flooding.specs.Sending.{lsp_in, lsps_to_send}
 use Rattle.flooding.specs.Entries.{IsSendable, AllEntries}
+use Rattle.flooding.proofs.SendableEntries.{sent_is_held}
 use Rattle.snp_sync.specs.Line.{is_owed}
 use Rattle.snp_sync.specs.Parts.{line_tlvs}
 use Rattle.snp_sync.specs.Reading.{entries_in}
@@ -37,7 +38,7 @@ use Rattle.snp_sync.specs.Sending.{Page, csnp_for, psnp_for, csnp_pages, csnps_o
 use Rattle.snp_sync.specs.Hearing.{claims_in}
 use Rattle.snp_sync.specs.SendingLaws.{ClaimsWhatIsHeld}
 use Rattle.snp_sync.proofs.Ranges.{of_entries, pages_are_short, pages_end_at_ids, parts_are_short}
-use Rattle.snp_sync.proofs.Said.{line_claims_what_is_held, page_lines_are_read, page_lines_are_sized, pages_claim_what_is_held, part_lines_are_read, part_lines_are_sized, parts_claim_what_is_held}
+use Rattle.snp_sync.proofs.Said.{page_lines_are_read, page_lines_are_sized, pages_claim_what_is_held, part_lines_are_read, part_lines_are_sized, parts_claim_what_is_held}
 use Rattle.adjacency.specs.declared.state.AdjState.{AdjState}
 use Rattle.adjacency.specs.declared.state.AdjState.TheVariants.{Down, Initializing, Up}
 use Rattle.adjacency.specs.States.{number_of}
@@ -118,7 +119,7 @@ claims_of_lines w db lines read same all is id a claimed =
 lsp_says : ControlAgain → (w : BridgeView) (p : ℕ) (system : SystemId) (id : LspId) (e : Entry) → IsId system → IsId id.system → IsSendable id e → e.version ≡ version_at w.database id
     → IsFrameOf w p (lsp_frame system (lsp_in id e))
 lsp_says again w p system id e mine named s held =
-    let is : claim_of (lsp_in id e) ≡ record { id = id; version = e.version } = line_claims_what_is_held id e s.numbered s.clean in
+    let is : claim_of (lsp_in id e) ≡ record { id = id; version = e.version } = sent_is_held id e s in
     frame_of w p (lsp_frame system (lsp_in id e)) (link_state (lsp_in id e)) (lsp_taken again system id e mine named s) (record {
       hello = λ h way no. absurd cc;
       claims = λ x a claimed. elim claimed [

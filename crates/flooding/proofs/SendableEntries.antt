@@ -1,5 +1,5 @@
 -- The LSP of every entry can be written and is read again, whatever was heard, originated or aged.
-use Rattle.std.specs.Prelude.{◌≡◌, ℕ, ◌+◌, ◌-◌, ◌≤◌, [], Bool, true, false, ◌&&◌, ◌||◌, Option, Some, None, Ok, Err, ◌==◌, nat_lt, nat_le, if◌then◌else◌, IsTrue}
+use Rattle.std.specs.Prelude.{◌≡◌, ℕ, ◌+◌, ◌-◌, ◌≤◌, List, [], Bool, true, false, ◌&&◌, ◌||◌, Option, Some, None, Ok, Err, ◌==◌, nat_lt, nat_le, if◌then◌else◌, IsTrue}
 use Rattle.std.proofs.Common.{refl, sym, ap, subst, arith, ◌∙◌}
 use Rattle.std.proofs.lemmas.Bool.{and_parts, true≢false, eqb-true, eqb-false, leb-false, ltb-false, ne_eqb}
 use Rattle.std.proofs.lemmas.Slice.Eq.{bytes_eq-Decides}
@@ -22,16 +22,16 @@ use Rattle.lsdb.specs.declared.version.Version.{Version}
 use Rattle.lsdb.specs.declared.version.Version.TheVariants.{Absent, Live, Dead}
 use Rattle.lsdb.specs.declared.version.Relation.{Relation}
 use Rattle.lsdb.specs.declared.version.Relation.TheVariants.{Older, Equal, Newer, Confused}
-use Rattle.lsdb.specs.Version.{number_of, is_absent, leq, relation}
+use Rattle.lsdb.specs.Version.{number_of, is_absent, leq, relation, claimed}
 use Rattle.lsdb.specs.Entry.{Entry, made, stored, acked, cleared, asked, aged_at, AreKept}
 use Rattle.lsdb.specs.Database.{version_in}
 use Rattle.flooding.specs.declared.own.Own.{Own}
 use Rattle.flooding.specs.Own.{last_number, own_id, is_originated, renewed, ended, answered}
 use Rattle.flooding.specs.Hearing.{claim_of, body_of, unless_absent, wanted, lsp_row, snp_row, is_beyond}
 use Rattle.flooding.specs.Origination.{spent_entry}
-use Rattle.flooding.specs.Sending.{lsp_in}
+use Rattle.flooding.specs.Sending.{sum_of, lsp_in}
 use Rattle.flooding.specs.Entries.{IsNumbered, IsSendable}
-use Rattle.flooding.specs.Laws.{HasBody, IsWhole, SentIsRead, ReadIsWhole, ClaimIsNumbered, LspKeepsSendable, EntryKeepsSendable, OriginationKeepsSendable, AgeingKeepsSendable, FlagsKeepSendable}
+use Rattle.flooding.specs.Laws.{HasBody, IsWhole, SentIsHeld, SentIsRead, ReadIsWhole, ClaimIsNumbered, LspKeepsSendable, EntryKeepsSendable, OriginationKeepsSendable, AgeingKeepsSendable, FlagsKeepSendable}
 use Rattle.flooding.proofs.Heard.{number-claimed}
 use Rattle.flooding.proofs.Steps.{beyond_is}
 use Rattle.flooding.proofs.AllEntries.{all_after_claim, all_originated}
@@ -192,6 +192,22 @@ origination_keeps_sendable up h has_body all =
     let held = get h.db (own_id h.own.system) in
     let seq = number_of (version_in held) in
     all_originated IsSendable up h all (next_by up h.own seq held (nat_lt seq last_number) refl has_body)
+
+-- ---- what is sent
+
+above_zero : (n : ℕ) → 1 ≤ n → (n == 0) ≡ false
+above_zero n h = ne_eqb n 0 (λ e. absurd (omega arith))
+
+-- the number, lifetime and checksum with which a version is sent claim it
+pub claimed_again : (v : Version) (lifetime : ℕ) (body : List ℕ) → IsNumbered v → AreKept v lifetime body → claimed (number_of v) lifetime (sum_of v) ≡ v
+claimed_again Absent lifetime body numbered kept = refl
+claimed_again (Live seq sum) lifetime body numbered kept =
+    λ i. if above_zero seq numbered i then Absent else (if above_zero lifetime kept.0 i then Dead seq else Live seq sum)
+claimed_again (Dead seq) lifetime body numbered kept =
+    λ i. if above_zero seq numbered i then Absent else (if ap (λ n. n == 0) kept.0 i then Dead seq else Live seq 0)
+
+pub sent_is_held : SentIsHeld
+sent_is_held id e s = ap (λ (v : Version). record { id = id; version = v }) (claimed_again e.version e.lifetime e.body s.numbered s.clean)
 
 -- ---- reading and writing
 

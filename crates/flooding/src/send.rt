@@ -32,7 +32,8 @@ pub fn to_send(alloc: Global, db: &Database, port: u8) -> Result<Vec<LspId>, NoM
     Ok(ids)
 }
 
-fn sum_of(version: Version) -> u16
+/// The checksum of an LSP with a lifetime left; that of a dead one, and of none, is 0.
+pub fn sum_of(version: Version) -> u16
     ensures { result ≡ sending.sum_of version }
 {
     match version {

@@ -285,9 +285,9 @@ fn no_number_comes_after_the_last(rt: HostRuntime) -> Result<(), Fail> {
     Ok(())
 }
 
-#[test]
-fn a_full_database_takes_no_new_id(rt: HostRuntime) -> Result<(), Fail> {
-    let mut db = Database::new(rt.alloc());
+/// A database without a place: 2,048 live LSPs.
+fn full(alloc: Global) -> Result<Database, Fail> {
+    let mut db = Database::new(alloc);
     for place in 0..2048_u16 {
         let [high, low] = place.to_be_bytes();
         let id = LspId {
@@ -295,39 +295,27 @@ fn a_full_database_takes_no_new_id(rt: HostRuntime) -> Result<(), Fail> {
             pseudonode: low,
             number: 1,
         };
-        db.put(held(rt.alloc(), id, live(7, 9))?)?;
+        db.put(held(alloc, id, live(7, 9))?)?;
     }
-    let mut own = own(rt.alloc(), &[1])?;
+    Ok(db)
+}
+
+#[test]
+fn a_full_database_takes_no_new_id(rt: HostRuntime) -> Result<(), Fail> {
+    let alloc = rt.alloc();
+    let mut db = full(alloc)?;
+    let mut own = own(alloc, &[1])?;
     let up = ports(&[1, 2]);
-    let more = hear_lsp(
-        rt.alloc(),
-        &mut db,
-        up,
-        1,
-        &lsp(lsp_id(9, 0), (1, 30, 5)),
-        &mut own,
-    );
-    assert_eq!(rt; more, Err(FloodError::Full));
-    let mine = hear_lsp(
-        rt.alloc(),
-        &mut db,
-        up,
-        1,
-        &lsp(own.id(), (u32::MAX, 30, 5)),
-        &mut own,
-    );
-    assert_eq!(rt; mine, Err(FloodError::Full));
+    let more = lsp(lsp_id(9, 0), (1, 30, 5));
+    let heard = hear_lsp(alloc, &mut db, up, 1, &more, &mut own);
+    assert_eq!(rt; heard, Err(FloodError::Full));
+    let mine = lsp(own.id(), (u32::MAX, 30, 5));
+    let heard = hear_lsp(alloc, &mut db, up, 1, &mine, &mut own);
+    assert_eq!(rt; heard, Err(FloodError::Full));
     assert_eq!(rt; (own.spent, db.len()), (false, 2048));
-    let known = lsp_id(0, 1);
-    hear_lsp(
-        rt.alloc(),
-        &mut db,
-        up,
-        1,
-        &lsp(known, (8, 30, 5)),
-        &mut own,
-    )?;
-    assert_eq!(rt; db.version_at(&known), live(8, 5));
+    let known = lsp(lsp_id(0, 1), (8, 30, 5));
+    hear_lsp(alloc, &mut db, up, 1, &known, &mut own)?;
+    assert_eq!(rt; db.version_at(&known.id), live(8, 5));
     Ok(())
 }
 

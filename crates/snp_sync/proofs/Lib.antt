@@ -7,6 +7,7 @@ pub mod Named
 pub mod IdNumbers
 pub mod Ranges
 pub mod Said
+pub mod Lengths
 pub mod Served
 pub mod Stays
 pub mod Fields

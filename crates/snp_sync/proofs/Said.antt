@@ -1,9 +1,9 @@
 -- What is sent is read again, and claims what is held; and afterwards nothing is owed.
 use Rattle.std.specs.Prelude.{◌≡◌, ℕ, ◌≤◌, Bool, true, false, ◌&&◌, not, ◌==◌, List, [], ◌∷◌, ◌++◌, map, Some, Ok, if◌then◌else◌}
-use Rattle.std.proofs.Common.{refl, sym, ap, subst, ◌∙◌, arith, lit≤, ⊎_elim}
+use Rattle.std.proofs.Common.{refl, sym, ap, subst, ◌∙◌, lit≤, ⊎_elim}
 use Rattle.std.specs.List.{AllByRecursion, flat_map}
 use Rattle.std.specs.FinMap.{entries}
-use Rattle.std.proofs.lemmas.Bool.{cases_Bool, ne_eqb, eqb-true}
+use Rattle.std.proofs.lemmas.Bool.{cases_Bool, eqb-true}
 use Rattle.spb_types.specs.declared.address.LspId.{LspId}
 use Rattle.spb_types.specs.declared.ports.PortSet.{PortSet}
 use Rattle.spb_types.specs.Ports.{has}
@@ -18,16 +18,15 @@ use Rattle.spb_tlvs.proofs.EntryLaws.{entries_again}
 use Rattle.spb_tlvs.proofs.TlvLaws.{tlv_here}
 use Rattle.spb_tlvs.proofs.Numbers.{weaker}
 use Rattle.lsdb.specs.declared.version.Version.{Version}
-use Rattle.lsdb.specs.declared.version.Version.TheVariants.{Absent, Live, Dead}
-use Rattle.lsdb.specs.Version.{IsAtMost, number_of, claimed}
-use Rattle.lsdb.specs.Entry.{Entry, AreKept, with_ssn}
+use Rattle.lsdb.specs.Version.{IsAtMost}
+use Rattle.lsdb.specs.Entry.{Entry, with_ssn}
 use Rattle.lsdb.specs.Database.{Lsps, version_in}
 use Rattle.lsdb.specs.Certificate.{Claim, is_flagged, is_as_before, EntryCertificate}
 use Rattle.lsdb.proofs.Order.{itself}
 use Rattle.lsdb.proofs.Certified.{changing_each}
-use Rattle.flooding.specs.Sending.{sum_of}
-use Rattle.flooding.specs.Entries.{IsNumbered, AllEntries, AreSendable}
+use Rattle.flooding.specs.Entries.{AllEntries, AreSendable}
 use Rattle.flooding.proofs.Flags.{has-without}
+use Rattle.flooding.proofs.SendableEntries.{claimed_again}
 use Rattle.snp_sync.specs.Line.{line_of, lines_where, is_listed, is_owed}
 use Rattle.snp_sync.specs.Parts.{parts, parts_or_one, line_tlvs}
 use Rattle.snp_sync.specs.Ids.{successor, first_id}
@@ -41,7 +40,7 @@ use Rattle.snp_sync.proofs.Ranges.{joined, joined_parts, joined_or_one, of_entri
 
 -- ---- what is so of all lines is so of those of each part
 
-all_both : (P : SnpEntry → Type 0) (xs ys : List SnpEntry) → AllByRecursion P (xs ++ ys) → AllByRecursion P xs × AllByRecursion P ys
+pub all_both : {A : Type 0} (P : A → Type 0) (xs ys : List A) → AllByRecursion P (xs ++ ys) → AllByRecursion P xs × AllByRecursion P ys
 all_both P [] ys all = (tt, all)
 all_both P (x ∷ xs) ys all = let rest = all_both P xs ys all.1 in ((all.0, rest.0), rest.1)
 
@@ -120,16 +119,6 @@ pub psnp_is_read : PsnpIsRead
 psnp_is_read me part mine = written_again (psnp (psnp_for me part)) (record { ids = mine; whole = tlvs_whole part })
 
 -- ---- a line claims what is held
-
-above_zero : (n : ℕ) → 1 ≤ n → (n == 0) ≡ false
-above_zero n h = ne_eqb n 0 (λ e. absurd (omega arith))
-
-claimed_again : (v : Version) (lifetime : ℕ) (body : List ℕ) → IsNumbered v → AreKept v lifetime body → claimed (number_of v) lifetime (sum_of v) ≡ v
-claimed_again Absent lifetime body numbered kept = refl
-claimed_again (Live seq sum) lifetime body numbered kept =
-    λ i. if above_zero seq numbered i then Absent else (if above_zero lifetime kept.0 i then Dead seq else Live seq sum)
-claimed_again (Dead seq) lifetime body numbered kept =
-    λ i. if above_zero seq numbered i then Absent else (if ap (λ n. n == 0) kept.0 i then Dead seq else Live seq 0)
 
 pub line_claims_what_is_held : LineClaimsWhatIsHeld
 line_claims_what_is_held id e numbered clean = ap (λ (v : Version). record { id = id; version = v }) (claimed_again e.version e.lifetime e.body numbered clean)

@@ -1,10 +1,10 @@
 ghost use Rattle.std.specs.Prelude.{◌≡◌, ◌≤◌, ◌+◌, ◌*◌, IfOk, length};
 ghost use Rattle.lsdb.specs.Entry.{entry_of};
-ghost use Rattle.flooding.specs.Sending.{sum_of};
 ghost use Rattle.snp_sync.specs.Line as lines;
 ghost use Rattle.snp_sync.specs.Line.{lines_where, is_owed};
 ghost use Rattle.snp_sync.specs.Parts.{line_tlvs};
 
+use flooding::sum_of;
 use lsdb::{Database, Held, Version};
 use spb_tlvs::{SnpEntry, write_entries};
 use spb_types::NoMemory;
@@ -12,16 +12,6 @@ use std::alloc::Global;
 
 /// The most lines in a TLV.
 const TLV_LINES: usize = 15;
-
-fn sum_of(version: Version) -> u16
-    ensures { result ≡ sum_of version }
-{
-    match version {
-        Version::Absent => 0,
-        Version::Live { seq: _, sum } => sum,
-        Version::Dead { seq: _ } => 0,
-    }
-}
 
 /// What an SNP says of an LSP.
 fn line_of(held: &Held) -> SnpEntry

@@ -111,7 +111,8 @@ fn held(
     })
 }
 
-fn entry(id: LspId, seq: u32, lifetime: u16, sum: u16) -> SnpEntry {
+/// An entry of this sequence number, lifetime and checksum.
+fn entry(id: LspId, (seq, lifetime, sum): (u32, u16, u16)) -> SnpEntry {
     SnpEntry {
         lifetime,
         id,
@@ -120,114 +121,125 @@ fn entry(id: LspId, seq: u32, lifetime: u16, sum: u16) -> SnpEntry {
     }
 }
 
-/// What stands under the entry's id after bridge 1 heard it at port 2, where this version was held with these flags, if
-/// any: its version and lifetime, and where it is to be sent and acknowledged.
-fn after(
-    alloc: Global,
-    before: Option<(Version, &[u8], &[u8])>,
-    entry: SnpEntry,
-) -> Result<Option<(Version, u16, u32, u32)>, Fail> {
+/// What is held under an id, if anything: its version, and where it is to be sent and acknowledged.
+type Before = Option<(Version, &'static [u8], &'static [u8])>;
+
+fn was(version: Version, srm: &'static [u8], ssn: &'static [u8]) -> Before {
+    Some((version, srm, ssn))
+}
+
+/// Version, lifetime, SRM and SSN of what stands under an id, if anything does.
+type Row = Option<(Version, u16, u32, u32)>;
+
+fn row(version: Version, lifetime: u16, srm: u32, ssn: u32) -> Row {
+    Some((version, lifetime, srm, ssn))
+}
+
+/// What stands under the entry's id after bridge 1 heard it at port 2.
+fn after(alloc: Global, before: Before, entry: SnpEntry) -> Result<Row, Fail> {
     let mut db = Database::new(alloc);
     if let Some((version, srm, ssn)) = before {
         db.put(held(alloc, entry.id, version, srm, ssn)?)?;
     }
     let mut own = own(alloc)?;
     hear_psnp(alloc, &mut db, ports(&[1, 2, 3]), 2, &[entry], &mut own)?;
-    Ok(
-        db.find(&entry.id)
-            .map(|h| (h.version, h.lifetime, h.srm.bits, h.ssn.bits)),
-    )
+    let found = db.find(&entry.id);
+    Ok(found.map(|h| (h.version, h.lifetime, h.srm.bits, h.ssn.bits)))
 }
 
 #[test]
-fn an_entry_is_heard_by_its_row(rt: HostRuntime) -> Result<(), Fail> {
-    let alloc = rt.alloc();
-    let id = lsp_id(2, 0);
-    let asked = Some((Version::Absent, 0, 0, 0b010));
-    for (before, heard, want) in [
-        // Newer: asked for.
+fn a_newer_entry_is_asked_for(rt: HostRuntime) -> Result<(), Fail> {
+    let (lived, died) = ((5, 600, 7), (5, 0, 0));
+    let asked = row(Version::Absent, 0, 0, 0b010);
+    for (before, claim, outcome) in [
         (
-            Some((live(4, 9), [1, 2].as_slice(), [3].as_slice())),
-            entry(id, 5, 600, 7),
-            Some((live(4, 9), 1198, 0b001, 0b110)),
+            was(live(4, 9), &[1, 2], &[3]),
+            lived,
+            row(live(4, 9), 1198, 0b001, 0b110),
         ),
-        (None, entry(id, 5, 600, 7), asked),
-        (None, entry(id, 5, 0, 0), asked),
+        (None, lived, asked),
+        (None, died, asked),
+        (was(Version::Absent, &[], &[]), lived, asked),
         (
-            Some((Version::Absent, [].as_slice(), [].as_slice())),
-            entry(id, 5, 600, 7),
-            asked,
-        ),
-        (
-            Some((live(5, 9), [1, 2].as_slice(), [3].as_slice())),
-            entry(id, 5, 0, 0),
-            Some((live(5, 9), 1198, 0b001, 0b110)),
-        ),
-        // Equal: needn't be sent.
-        (
-            Some((live(5, 7), [1, 2].as_slice(), [2, 3].as_slice())),
-            entry(id, 5, 600, 7),
-            Some((live(5, 7), 1198, 0b001, 0b110)),
-        ),
-        (
-            Some((dead(5), [1, 2].as_slice(), [3].as_slice())),
-            entry(id, 5, 0, 0),
-            Some((dead(5), 0, 0b001, 0b100)),
-        ),
-        (
-            Some((Version::Absent, [].as_slice(), [3].as_slice())),
-            entry(id, 0, 0, 0),
-            Some((Version::Absent, 0, 0, 0b100)),
-        ),
-        (None, entry(id, 0, 600, 7), None),
-        // Older: what is held goes out.
-        (
-            Some((live(6, 7), [1].as_slice(), [2, 3].as_slice())),
-            entry(id, 5, 600, 7),
-            Some((live(6, 7), 1198, 0b011, 0b100)),
-        ),
-        (
-            Some((dead(5), [].as_slice(), [2].as_slice())),
-            entry(id, 0, 0, 0),
-            Some((dead(5), 0, 0b010, 0)),
-        ),
-        // Confused: dead everywhere.
-        (
-            Some((live(5, 7), [].as_slice(), [2].as_slice())),
-            entry(id, 5, 600, 8),
-            Some((dead(5), 0, 0b111, 0)),
+            was(live(5, 9), &[1, 2], &[3]),
+            died,
+            row(live(5, 9), 1198, 0b001, 0b110),
         ),
     ] {
-        assert_eq!(rt; after(alloc, before, heard)?, want, "{heard:?}");
+        let found = after(rt.alloc(), before, entry(lsp_id(2, 0), claim))?;
+        assert_eq!(rt; found, outcome, "{before:?} and {claim:?}");
     }
     Ok(())
 }
 
 #[test]
-fn an_entry_of_an_own_id_is_answered(rt: HostRuntime) -> Result<(), Fail> {
-    let alloc = rt.alloc();
-    let (mine, other) = (lsp_id(1, 0), lsp_id(1, 3));
-    let held = Some((live(4, 9), [1].as_slice(), [3].as_slice()));
-    for (heard, want) in [
+fn an_equal_entry_needs_no_sending(rt: HostRuntime) -> Result<(), Fail> {
+    for (before, claim, outcome) in [
         (
-            entry(mine, 9, 600, 7),
-            Some((live(10, 0x951a), 1200, 0b111, 0)),
+            was(live(5, 7), &[1, 2], &[2, 3]),
+            (5, 600, 7),
+            row(live(5, 7), 1198, 0b001, 0b110),
         ),
         (
-            entry(mine, 4, 600, 7),
-            Some((live(5, 0x9f15), 1200, 0b111, 0)),
+            was(dead(5), &[1, 2], &[3]),
+            (5, 0, 0),
+            row(dead(5), 0, 0b001, 0b100),
         ),
         (
-            entry(mine, u32::MAX, 600, 7),
-            Some((dead(u32::MAX), 0, 0b111, 0)),
+            was(Version::Absent, &[], &[3]),
+            (0, 0, 0),
+            row(Version::Absent, 0, 0, 0b100),
         ),
-        (entry(other, 9, 600, 7), Some((dead(9), 0, 0b111, 0))),
+        (None, (0, 600, 7), None),
+    ] {
+        let found = after(rt.alloc(), before, entry(lsp_id(2, 0), claim))?;
+        assert_eq!(rt; found, outcome, "{before:?} and {claim:?}");
+    }
+    Ok(())
+}
+
+#[test]
+fn an_older_entry_gets_what_is_held(rt: HostRuntime) -> Result<(), Fail> {
+    for (before, claim, outcome) in [
         (
-            entry(mine, 3, 600, 7),
-            Some((live(4, 9), 1198, 0b011, 0b100)),
+            was(live(6, 7), &[1], &[2, 3]),
+            (5, 600, 7),
+            row(live(6, 7), 1198, 0b011, 0b100),
+        ),
+        (
+            was(dead(5), &[], &[2]),
+            (0, 0, 0),
+            row(dead(5), 0, 0b010, 0),
         ),
     ] {
-        assert_eq!(rt; after(alloc, held, heard)?, want, "{heard:?}");
+        let found = after(rt.alloc(), before, entry(lsp_id(2, 0), claim))?;
+        assert_eq!(rt; found, outcome, "{before:?} and {claim:?}");
+    }
+    Ok(())
+}
+
+#[test]
+fn a_confused_entry_ends_the_lsp(rt: HostRuntime) -> Result<(), Fail> {
+    let before = was(live(5, 7), &[], &[2]);
+    let found = after(rt.alloc(), before, entry(lsp_id(2, 0), (5, 600, 8)))?;
+    assert_eq!(rt; found, row(dead(5), 0, 0b111, 0));
+    Ok(())
+}
+
+#[test]
+fn an_entry_of_an_own_id_is_answered(rt: HostRuntime) -> Result<(), Fail> {
+    let (mine, other) = (lsp_id(1, 0), lsp_id(1, 3));
+    let last = u32::MAX;
+    for (id, claim, outcome) in [
+        (mine, (9, 600, 7), row(live(10, 0x951a), 1200, 0b111, 0)),
+        (mine, (4, 600, 7), row(live(5, 0x9f15), 1200, 0b111, 0)),
+        (mine, (last, 600, 7), row(dead(last), 0, 0b111, 0)),
+        (other, (9, 600, 7), row(dead(9), 0, 0b111, 0)),
+        (mine, (3, 600, 7), row(live(4, 9), 1198, 0b011, 0b100)),
+    ] {
+        let before = was(live(4, 9), &[1], &[3]);
+        let found = after(rt.alloc(), before, entry(id, claim))?;
+        assert_eq!(rt; found, outcome, "{claim:?}");
     }
     Ok(())
 }
@@ -253,10 +265,10 @@ fn entries_without_a_place_are_counted(rt: HostRuntime) -> Result<(), Fail> {
     let mut db = filled(alloc, 2048)?;
     let mut own = own(alloc)?;
     let entries = [
-        entry(lsp_id(3000, 0), 1, 600, 7),
-        entry(lsp_id(7, 0), 4, 600, 7),
-        entry(lsp_id(3001, 0), 0, 0, 0),
-        entry(lsp_id(3002, 0), 1, 600, 7),
+        entry(lsp_id(3000, 0), (1, 600, 7)),
+        entry(lsp_id(7, 0), (4, 600, 7)),
+        entry(lsp_id(3001, 0), (0, 0, 0)),
+        entry(lsp_id(3002, 0), (1, 600, 7)),
     ];
     let up = ports(&[1, 2, 3]);
     let full = hear_psnp(alloc, &mut db, up, 2, &entries, &mut own)?;
@@ -281,7 +293,10 @@ fn a_csnp_asks_for_what_its_sender_lacks(rt: HostRuntime) -> Result<(), Fail> {
         db.put(held(alloc, lsp_id(system, 0), version, &[], &[])?)?;
     }
     let mut own = own(alloc)?;
-    let entries = [entry(lsp_id(9, 0), 0, 0, 0), entry(lsp_id(4, 0), 5, 600, 7)];
+    let entries = [
+        entry(lsp_id(9, 0), (0, 0, 0)),
+        entry(lsp_id(4, 0), (5, 600, 7)),
+    ];
     let (start, end) = (lsp_id(2, 1), lsp_id(6, 0));
     let up = ports(&[1, 2, 3]);
     let full = hear_csnp(alloc, &mut db, up, 2, &start, &end, &entries, &mut own)?;
@@ -381,7 +396,7 @@ fn entries_are_read_of_each_tlv(rt: HostRuntime) -> Result<(), Fail> {
     let mut tlvs = Vec::from_slice(alloc, &PSNP[17..])?;
     tlvs.extend_from_slice(&[137, 1, 7])?;
     tlvs.extend_from_slice(&PSNP[17..])?;
-    let known = entry(lsp_id(2, 0), 2, 1198, 0xc2f3);
+    let known = entry(lsp_id(2, 0), (2, 1198, 0xc2f3));
     let entries = entries_of_snp(alloc, &tlvs)?;
     assert_eq!(rt; entries.as_slice(), [known, known].as_slice());
     tlvs.extend_from_slice(&[9, 1, 7])?;
