@@ -3,3 +3,5 @@ pub mod Picked
 pub mod Wire
 pub mod Owning
 pub mod Configuring
+pub mod Putting
+pub mod Heeding
