@@ -1,6 +1,6 @@
 -- The machine after an LSP or a sequence numbers PDU was heard.
 use Rattle.std.proofs.Common.{◌≡◌, ◌≢◌, ◌≤◌, ℕ, Bool, true, false, List, [], ◌∷◌, refl, sym, ap, ◌∙◌, subst, Option, Some, None, ⊎_elim}
-use Rattle.std.specs.Prelude.{is_some, nat_lt, ◌||◌, if◌then◌else◌}
+use Rattle.std.specs.Prelude.{is_some, nat_lt, not, ◌||◌, if◌then◌else◌}
 use Rattle.std.specs.Option.{option_map}
 use Rattle.std.specs.FinMap.{get, insert, len}
 use Rattle.spb_types.specs.declared.address.LspId.{LspId}
@@ -20,15 +20,16 @@ use Rattle.flooding.proofs.Owns.{own_stands}
 use Rattle.snp_sync.specs.Hearing.{hear_entries_of, ids_of, is_missed, flag_if, hear_csnp_of}
 use Rattle.snp_sync.proofs.Stays.{entries_leave_own}
 use Rattle.bridge_api.specs.declared.port.BridgePort.{BridgePort}
-use Rattle.bridge_api.specs.View.{BridgeView, port_at, is_port_up}
-use Rattle.bridge_api.specs.Own.{settled}
-use Rattle.bridge_api.specs.Judging.{Judged, useless, greeting, link_state, complete, partial, tenant}
-use Rattle.bridge_api.specs.Hearing.{heard_as, flooded}
-use Rattle.bridge_api.proofs.Changes.{when_true}
+use Rattle.bridge_api.specs.View.{BridgeView, IsPort, port_at, is_port_up, up_from, up_ports}
+use Rattle.bridge_api.specs.Own.{holding_of, with_holding, settled}
+use Rattle.bridge_api.specs.Judging.{Judged, useless, greeting, link_state, complete, partial, tenant, judged}
+use Rattle.bridge_api.specs.Hearing.{heard_as, flooded, after_receive}
+use Rattle.bridge_api.proofs.Changes.{when_true, heard_is, deaf_is}
 use Rattle.plain_bridge.specs.declared.machine.Machine.{Machine}
 use Rattle.plain_bridge.specs.Machine.{view_of, IsCurrent, IsReady, CanOriginate, IsAfter, heard_by as heard_in, hears}
 use Rattle.plain_bridge.specs.Message.{IsIdle}
 use Rattle.plain_bridge.proofs.Owning.{current_with}
+use Rattle.plain_bridge.proofs.Putting.{got}
 
 -- ---- what is held stays held
 
@@ -129,6 +130,29 @@ hears_is j p v port there = ap (λ (o : Option BridgePort). heard_in j p o v) th
 pub hears_lsp : (l : LspValue) (p : ℕ) (v : BridgeView) (port : BridgePort) → port_at v p ≡ Some port → is_port_up port ≡ true → hears (link_state l) p v ≡ settled (flooded l p v)
 hears_lsp l p v port there up = hears_is (link_state l) p v port there ∙ when_true (is_port_up port) (settled (flooded l p v)) v up
 
+-- the machine that heard an LSP at an Up port
+pub flooded_path : (m : Machine) (up : PortSet) (p : ℕ) (l : LspValue) (db : Lsps) (own : Own) (port : BridgePort) → IsReady m → up ≡ up_from 1 m.ports.items → holding db own ≡ hear_lsp_of up p l (holding m.db m.own) → port_at (view_of m) p ≡ Some port → is_port_up port ≡ true → settled (view_of (record m { db = db; own = own })) ≡ hears (link_state l) p (view_of m)
+flooded_path m up p l db own port ready is_up is there lit =
+    let v : BridgeView = view_of m in
+    let whole : holding db own ≡ hear_lsp_of (up_ports v) p l (holding_of v) = is ∙ (λ i. hear_lsp_of (is_up i) p l (holding m.db (ready.current i))) in
+    ap (λ (h : Holding). settled (with_holding h v)) whole ∙ sym (hears_lsp l p v port there lit)
+
+-- a frame is heard at a port with carrier as what it is taken for
+pub received_path : (v : BridgeView) (p : ℕ) (bytes : List ℕ) (j : Judged) (port : BridgePort) → IsPort v p → port_at v p ≡ Some port → port.adjacency.carrier ≡ true → judged bytes ≡ j → hears j p v ≡ after_receive p bytes v
+received_path v p bytes j port is there lit said =
+    hears_is j p v port there ∙ (ap (λ (k : Judged). heard_as k p port v) (sym said) ∙ sym (heard_is v p bytes port is.low (got v p port is there) lit))
+
+pub deaf_after : (m : Machine) (p : ℕ) (bytes : List ℕ) (port : BridgePort) → IsReady m → IsPort (view_of m) p → port_at (view_of m) p ≡ Some port → port.adjacency.carrier ≡ false → IsAfter (after_receive p bytes (view_of m)) m
+deaf_after m p bytes port ready is there dark = record { view = sym (deaf_is (view_of m) p bytes port is.low (got (view_of m) p port is there) dark); current = ready.current }
+
+pub not_true : (b : Bool) → not b ≡ true → b ≡ false
+not_true true e = absurd cc
+not_true false e = refl
+
+pub not_false : (b : Bool) → not b ≡ false → b ≡ true
+not_false true e = refl
+not_false false e = absurd cc
+
 -- what is of no use changes nothing
 pub idle_is : (j : Judged) (p : ℕ) (port : BridgePort) (v : BridgeView) → IsIdle j → heard_as j p port v ≡ v
 idle_is (useless reason) p port v idle = refl
@@ -137,3 +161,8 @@ idle_is (link_state l) p port v idle = absurd idle
 idle_is (complete c) p port v idle = absurd idle
 idle_is (partial s) p port v idle = absurd idle
 idle_is (tenant da sa vid isid customer) p port v idle = refl
+
+pub idle_after : (m : Machine) (p : ℕ) (bytes : List ℕ) (port : BridgePort) → IsReady m → IsPort (view_of m) p → port_at (view_of m) p ≡ Some port → port.adjacency.carrier ≡ true → IsIdle (judged bytes) → IsAfter (after_receive p bytes (view_of m)) m
+idle_after m p bytes port ready is there lit idle =
+    let v : BridgeView = view_of m in
+    record { view = sym (heard_is v p bytes port is.low (got v p port is there) lit ∙ idle_is (judged bytes) p port v idle); current = ready.current }

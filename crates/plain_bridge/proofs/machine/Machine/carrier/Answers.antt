@@ -1,7 +1,6 @@
-use Rattle.std.proofs.Common.{sym, ◌∙◌, ap}
+use Rattle.std.proofs.Common.{sym, ◌∙◌}
 use Rattle.std.proofs.lemmas.Result.{on_ok_weaker}
 use Rattle.adjacency.specs.declared.port.Adjacency.{Adjacency}
-use Rattle.adjacency.specs.Adjacency.{after_carrier, change_of}
 use Rattle.plain_bridge.specs.Machine.{view_of}
 use Rattle.plain_bridge.proofs.Owning.{after_same}
 use Rattle.plain_bridge.proofs.Putting.{there_at, can_change, kept_alike, kept_says, carried_path}

@@ -1,6 +1,5 @@
 use Rattle.std.proofs.Common.{sym, ◌∙◌}
 use Rattle.isis_pdu.specs.Pdu.{hello_of}
-use Rattle.adjacency.specs.declared.port.Adjacency.{Adjacency}
 use Rattle.adjacency.specs.Adjacency.{after_hello}
 use Rattle.plain_bridge.specs.Machine.{view_of}
 use Rattle.plain_bridge.proofs.Putting.{there_at, carrier_there, sound_there, can_change, hello_kept, kept_says}

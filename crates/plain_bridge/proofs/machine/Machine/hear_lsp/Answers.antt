@@ -1,12 +1,12 @@
-use Rattle.std.proofs.Common.{sym, ◌∙◌}
+use Rattle.std.proofs.Common.{sym, ap, ◌∙◌}
 use Rattle.std.proofs.lemmas.Result.{on_ok_weaker}
 use Rattle.isis_pdu.specs.Pdu.{lsp_of}
 use Rattle.flooding.specs.Hearing.{hear_lsp_of}
 use Rattle.flooding.specs.Placing.{holding}
-use Rattle.plain_bridge.specs.Machine.{view_of}
+use Rattle.bridge_api.specs.View.{up_from}
 use Rattle.plain_bridge.proofs.Owning.{some_body, after_same}
 use Rattle.plain_bridge.proofs.Putting.{there_at}
-use Rattle.plain_bridge.proofs.Heeding.{lsp_heard, heard_can, heard_current, hears_lsp}
+use Rattle.plain_bridge.proofs.Heeding.{lsp_heard, heard_can, heard_current, flooded_path}
 use Rattle.plain_bridge.proofs.machine.Machine.hear_lsp.Goals as goal
 
 pub flood-requires-clause-body : goal.flood-requires-clause-body
@@ -27,4 +27,9 @@ settle-requires-clause-current c =
     heard_current m (hear_lsp_of up c.args.port l (holding m.db m.own)) c.flood.new.db c.flood.new.own c.requires.ready (lsp_heard m up c.args.port l c.requires.ready) c.in_ok-flood.ensures
 
 pub returns : goal.returns
-returns c = ?
+returns c =
+    let m = c.args.self.now in
+    let there = there_at m c.as_slice.result.now c.args.port c.port_at.result c.as_slice.ensures.value c.port_at.ensures in
+    on_ok_weaker c.settle.result
+    (after_same _ _ c.settle.new.self (flooded_path m c.up_ports-up.result c.args.port (lsp_of c.args.lsp.now) c.flood.new.db c.flood.new.own c.port_at.result c.requires.ready (c.up_ports-up.ensures ∙ ap (up_from 1) c.as_slice-2.ensures.value) c.in_ok-flood.ensures there (sym c.is_up.ensures ∙ c.if-not-is_up.false)))
+    c.settle.ensures
