@@ -5,3 +5,4 @@ pub mod Owning
 pub mod Configuring
 pub mod Putting
 pub mod Heeding
+pub mod Keeping
