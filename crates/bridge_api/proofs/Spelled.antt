@@ -31,15 +31,15 @@ use Rattle.bridge_api.specs.Ticking.{lsp_frame, csnp_frame, psnp_frame}
 
 -- ---- how long the PDUs are
 
-lsp_short : (l : LspValue) → IsId l.id.system → length (lsp_bytes l) ≡ 27 + length l.tlvs
+pub lsp_short : (l : LspValue) → IsId l.id.system → length (lsp_bytes l) ≡ 27 + length l.tlvs
 unfolding lsp_bytes
 lsp_short l six = simp length-append (omega (arith, six))
 
-csnp_short : (c : CsnpValue) → IsId c.source → IsId c.start.system → IsId c.end.system → length (csnp_bytes c) ≡ 33 + length c.tlvs
+pub csnp_short : (c : CsnpValue) → IsId c.source → IsId c.start.system → IsId c.end.system → length (csnp_bytes c) ≡ 33 + length c.tlvs
 unfolding csnp_bytes
 csnp_short c source start end = simp length-append (omega (arith, source, start, end))
 
-psnp_short : (s : PsnpValue) → IsId s.source → length (psnp_bytes s) ≡ 17 + length s.tlvs
+pub psnp_short : (s : PsnpValue) → IsId s.source → length (psnp_bytes s) ≡ 17 + length s.tlvs
 unfolding psnp_bytes
 psnp_short s source = simp length-append (omega (arith, source))
 
@@ -79,7 +79,7 @@ lines_within (suc n) (x ∷ xs) few all =
           omega (arith, first, taken, left, bytes, further, more)
     ]
 
-page_short : (lines : List SnpEntry) → AllByRecursion IsEntry lines → length lines ≤ 90 → 33 + length (line_tlvs lines) ≤ 1497
+pub page_short : (lines : List SnpEntry) → AllByRecursion IsEntry lines → length lines ≤ 90 → 33 + length (line_tlvs lines) ≤ 1497
 page_short lines all few = let size = lines_within (length lines) lines (omega arith) all in omega (arith, size, few)
 
 -- ---- what the frames are taken for

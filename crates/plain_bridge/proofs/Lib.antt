@@ -6,3 +6,5 @@ pub mod Configuring
 pub mod Putting
 pub mod Heeding
 pub mod Keeping
+pub mod Sends
+pub mod Seconds

@@ -3,7 +3,6 @@ use Rattle.std.specs.Prelude.{◌≡◌, ℕ, ◌≤◌, List, [], length, Bool,
 use Rattle.flooding.specs.Own.{own_id}
 use Rattle.lsdb.specs.Database.{fits}
 use Rattle.spb_content.specs.Local.{IsLocal}
-use Rattle.adjacency.specs.declared.state.Heard.{Heard}
 use Rattle.bridge_api.specs.declared.port.BridgePort.{BridgePort}
 use Rattle.bridge_api.specs.View.{BridgeView, IsPort, port_at, with_port_at}
 use Rattle.bridge_api.specs.Own.{local_of, own_of, body_of}

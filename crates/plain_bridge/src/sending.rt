@@ -130,6 +130,7 @@ fn send_lsps(
     requires low { 1 ≤ number }
     requires high { number ≤ 32 }
     requires sendable { AreSendable db.now }
+    requires sized { AreSized db.now }
     ensures sent { OnOk result (outbox.new ≡ with_wire (api.lsps_at system number db.now) outbox.old) }
     ensures gained { OnErr result (Gains (api.lsps_at system number db.now) outbox.old outbox.new) }
 {
@@ -149,7 +150,8 @@ fn send_lsp(
     id: &LspId,
     outbox: &mut Outbox,
 ) -> Result<(), NoMemory>
-    requires { AreSendable db.now }
+    requires sendable { AreSendable db.now }
+    requires sized { AreSized db.now }
     ensures sent { OnOk result (outbox.new ≡ with_wire (lsp_frames system number id.now (get db.now id.now)) outbox.old) }
     ensures kept { OnErr result (outbox.new ≡ outbox.old) }
 {

@@ -1,0 +1,16 @@
+use Rattle.std.proofs.Common.{◌≡◌, subst, ap, ◌∙◌, false}
+use Rattle.lsdb.specs.Database.{Lsps, any_flags}
+use Rattle.flooding.specs.Entries.{AreSendable}
+use Rattle.snp_sync.specs.Sized.{AreSized}
+use Rattle.plain_bridge.proofs.Wire.{ports_next, told_next, ports_some, on_err}
+use Rattle.plain_bridge.proofs.Sends.{told_sendable, told_sized, told_idle, sending_next}
+use Rattle.plain_bridge.proofs.sending.send_all.Goals as goal
+
+pub returns-in_err-send_at-clause-gained : goal.returns-in_err-send_at-clause-gained
+returns-in_err-send_at-clause-gained c =
+    on_err c.from_residual.result
+    (ports_some c.args.system c.args.ports.now c.args.db.now c.send.db c.send.place _ c.args.outbox.now c.send.outbox c.send_at.new.outbox c.send-test.true c.send.invariant.sent c.send.invariant.told c.in_err-send_at.ensures.gained)
+
+pub send-preserved : goal.send-preserved
+send-preserved c =
+    sending_next c.args.system c.args.ports.now c.args.db.now c.args.outbox.now c.send.place _ c.args.busy c.send.db c.send_at.new.db c.send.outbox c.send_at.new.outbox c.send-test.true c.send.invariant c.in_ok-send_at.ensures.sent c.in_ok-send_at.ensures.told
