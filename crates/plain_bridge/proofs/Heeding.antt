@@ -1,20 +1,20 @@
 -- The machine after an LSP or a sequence numbers PDU was heard.
-use Rattle.std.proofs.Common.{◌≡◌, ◌≢◌, ◌≤◌, ℕ, Bool, true, false, List, [], ◌∷◌, refl, sym, ap, ◌∙◌, subst, Option, Some, None, ⊎_elim}
+use Rattle.std.proofs.Common.{◌≡◌, ℕ, Bool, true, false, List, [], ◌∷◌, refl, sym, ap, ◌∙◌, subst, Option, Some, None, ⊎_elim}
 use Rattle.std.specs.Prelude.{is_some, nat_lt, not, ◌||◌, if◌then◌else◌}
 use Rattle.std.specs.Option.{option_map}
 use Rattle.std.specs.FinMap.{get, insert, len}
 use Rattle.spb_types.specs.declared.address.LspId.{LspId}
 use Rattle.spb_types.specs.declared.ports.PortSet.{PortSet}
-use Rattle.isis_pdu.specs.Pdu.{LspValue, CsnpValue, PsnpValue}
+use Rattle.isis_pdu.specs.Pdu.{LspValue}
 use Rattle.lsdb.specs.declared.version.Relation.{Relation}
 use Rattle.lsdb.specs.Version.{is_absent, relation}
 use Rattle.lsdb.specs.Entry.{Entry}
-use Rattle.lsdb.specs.Database.{Lsps, version_in, version_at, fits, placed, each}
+use Rattle.lsdb.specs.Database.{Lsps, version_in, fits, placed, each}
 use Rattle.lsdb.specs.Certificate.{Claim}
 use Rattle.lsdb.proofs.LookupLemmas.{get-insert_same, get-insert_other, same_or_not, get-each}
 use Rattle.flooding.specs.declared.own.Own.{Own}
 use Rattle.flooding.specs.Own.{own_id}
-use Rattle.flooding.specs.Hearing.{Holding, lsp_row, snp_row, claim_of, heard_by, own_after, lacks_place, after_entry, after_claim, hear_lsp_of, hear_entry_of}
+use Rattle.flooding.specs.Hearing.{Holding, lsp_row, snp_row, claim_of, heard_by, own_after, lacks_place, after_claim, hear_lsp_of, hear_entry_of}
 use Rattle.flooding.specs.Placing.{holding}
 use Rattle.flooding.proofs.Owns.{own_stands}
 use Rattle.snp_sync.specs.Hearing.{hear_entries_of, ids_of, is_missed, flag_if, hear_csnp_of}

@@ -1,5 +1,5 @@
 -- A bridge between two calls.
-use Rattle.std.proofs.Common.{◌≡◌, ◌-◌, ℕ, Bool, true, false, List, refl, sym, ap, ◌∙◌, subst, Some, Result, Ok, Err}
+use Rattle.std.proofs.Common.{◌≡◌, ℕ, Bool, true, false, List, refl, sym, ap, ◌∙◌, subst, Some, Result, Ok, Err}
 use Rattle.std.specs.Prelude.{OnOk, is_err, ◌||◌}
 use Rattle.std.specs.List.{list_any}
 use Rattle.std.specs.Option.{option_map}

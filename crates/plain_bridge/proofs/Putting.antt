@@ -24,10 +24,10 @@ use Rattle.adjacency.specs.declared.state.Heard.{Heard}
 use Rattle.adjacency.specs.declared.state.Heard.TheVariants.{Kept, CameUp, LeftUp, Discarded}
 use Rattle.adjacency.specs.declared.port.Adjacency.{Adjacency}
 use Rattle.adjacency.specs.Hearing.{End, same_end, is_discarded}
-use Rattle.adjacency.specs.Adjacency.{is_up, after_heard, after_hello, after_carrier, is_new_up, change_of, heard_of}
+use Rattle.adjacency.specs.Adjacency.{is_up, after_heard, after_hello, after_carrier, change_of, heard_of}
 use Rattle.bridge_api.specs.declared.port.BridgePort.{BridgePort}
 use Rattle.bridge_api.specs.View.{BridgeView, IsPort, port_in, port_at, with_port_at, is_port_up, has_carrier_in, has_carrier_at}
-use Rattle.bridge_api.specs.Own.{neighbour_in, neighbours_from, local_of, body_of, own_of, settled}
+use Rattle.bridge_api.specs.Own.{neighbour_in, neighbours_from, local_of, settled}
 use Rattle.bridge_api.specs.Config.{IsMetric}
 use Rattle.bridge_api.specs.Hearing.{with_adjacency, with_due, left, joined_at, entered, changed_at, with_carrier, metered, with_metric}
 use Rattle.bridge_api.specs.Laws.{IsSoundPort}
@@ -37,8 +37,8 @@ use Rattle.bridge_api.proofs.Places.{set_again}
 use Rattle.bridge_api.proofs.Saying.{is_local}
 use Rattle.bridge_api.proofs.SoundPorts.{AreSoundPorts, sound_at}
 use Rattle.plain_bridge.specs.declared.machine.Machine.{Machine}
-use Rattle.plain_bridge.specs.Machine.{view_of, IsCurrent, IsReady, CanOriginate, IsAfter, CanPut, SaysTheSame}
-use Rattle.plain_bridge.proofs.Owning.{said_alike, current_with, ready_can, after_same}
+use Rattle.plain_bridge.specs.Machine.{view_of, IsReady, CanOriginate, IsAfter, CanPut, SaysTheSame}
+use Rattle.plain_bridge.proofs.Owning.{said_alike, current_with, ready_can}
 
 -- ---- two ports of which the same is said
 
