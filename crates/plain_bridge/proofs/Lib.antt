@@ -3,8 +3,8 @@ pub mod Picked
 pub mod Wire
 pub mod Owning
 pub mod Configuring
+pub mod Sends
+pub mod Seconds
 pub mod Putting
 pub mod Heeding
 pub mod Keeping
-pub mod Sends
-pub mod Seconds

@@ -14,3 +14,5 @@ mod machine;
 mod ports;
 mod sending;
 mod ticking;
+#[cfg(test)]
+mod tests;

@@ -1,8 +1,11 @@
+use Rattle.std.proofs.Common.{◌≡◌, false, rules}
 use Rattle.bridge_api.specs.Step.{carrier}
-use Rattle.plain_bridge.proofs.Keeping.{step_kept}
+use Rattle.plain_bridge.specs.Machine.{IsReady}
+use Rattle.plain_bridge.proofs.Keeping.{kept_step}
 use Rattle.plain_bridge.proofs.bridge.PlainBridgeBridge.carrier.Goals as goal
 
 pub invariant_of-self : goal.invariant_of-self
 invariant_of-self c =
-    step_kept (carrier c.args.port c.args.on) c.carrier-ended.result c.is_err-self-inside.result (record { blank = c.self.inside.blank; failed = c.self.inside.failed; machine = c.self.inside.machine }) c.args.self.now c.carrier-ended.new.self
-    c.self.view_is c.self.invariant tt c.requires.made c.in_ok-refuse_failed.ensures.1 c.is_err-self-inside.ensures.value c.carrier-ended.ensures
+    let made : c.self.inside.blank ≡ false = search rules in
+    let ready : IsReady c.self.inside.machine = search rules in
+    kept_step c.carrier-ended.result (carrier c.args.port c.args.on) c.self.inside.blank c.is_err-self-inside.result c.self.inside.machine c.carrier-ended.new.self made ready tt c.is_err-self-inside.ensures.value c.carrier-ended.ensures

@@ -1,5 +1,5 @@
-use Rattle.plain_bridge.proofs.Keeping.{configured_kept}
+use Rattle.plain_bridge.proofs.Keeping.{kept_configured}
 use Rattle.plain_bridge.proofs.bridge.PlainBridgeBridge.configure.Goals as goal
 
 pub invariant_of-self : goal.invariant_of-self
-invariant_of-self c = configured_kept c.args.config.now c.self.inside.failed c.in-Ok.machine c.requires.whole c.in-Ok.ensures
+invariant_of-self c = kept_configured c.args.config.now c.self.inside.failed c.in-Ok.machine c.requires.whole c.in-Ok.ensures

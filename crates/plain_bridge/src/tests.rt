@@ -1,0 +1,208 @@
+//! Bridges in boxes, called through the trait alone: A and B, each with one port, at the two ends of a link.
+ghost use Rattle.std.specs.Prelude.{◌≡◌, ◌≤◌, ◌<◌, true, false, length, map, vec_len, All, IfOk, OnOk};
+ghost use Rattle.bridge_api.specs.Config.{IsWhole};
+ghost use Rattle.bridge_api.specs.Step.{second, with_wire};
+ghost use Rattle.bridge_api.specs.Among.{stepped_at, sent_from_place};
+
+use crate::PlainBridge;
+use adjacency::AdjState;
+use bridge_api::{Bridge, BridgeConfig, Kind, Outbox};
+use spb_types::{BridgeId, Mac, NoMemory, Seq, SourceId, SystemId};
+use std::alloc::Global;
+use std::test::Fail;
+
+// A's first hello, as the whole control frame.
+const FIRST_HELLO: [u8; 53] = [
+    0x01, 0x80, 0xc2, 0x00, 0x00, 0x14, 2, 0, 0, 0, 0, 1, 0x00, 0x27, 0xfe, 0xfe, 0x03, 0x83, 0x14,
+    1, 0, 0x11, 1, 0, 0, 1, 2, 0, 0, 0, 0, 1, 0, 3, 0, 0x24, 1, 1, 4, 3, 0x49, 0, 1, 0x81, 1, 0xc1,
+    0xf0, 5, 2, 0, 0, 0, 1,
+];
+
+// A's hello when it has heard B's circuit 1: it names that neighbour, in state Initializing.
+const INITIALIZING_HELLO: [u8; 63] = [
+    0x01, 0x80, 0xc2, 0x00, 0x00, 0x14, 2, 0, 0, 0, 0, 1, 0x00, 0x31, 0xfe, 0xfe, 0x03, 0x83, 0x14,
+    1, 0, 0x11, 1, 0, 0, 1, 2, 0, 0, 0, 0, 1, 0, 3, 0, 0x2e, 1, 1, 4, 3, 0x49, 0, 1, 0x81, 1, 0xc1,
+    0xf0, 0x0f, 1, 0, 0, 0, 1, 2, 0, 0, 0, 0, 2, 0, 0, 0, 1,
+];
+
+/// The configuration of a bridge with one port and no VID; its address ends in this number, which is its source too.
+fn config(alloc: Global, last: u8) -> Result<BridgeConfig, NoMemory>
+    ensures whole { IfOk result IsWhole }
+    ensures port { IfOk result (λ c. c.ports ≡ 1) }
+{
+    let mut metrics = Seq::new(alloc);
+    metrics.push(10)?;
+    Ok(BridgeConfig {
+        id: BridgeId {
+            priority: 32768,
+            system: SystemId {
+                mac: Mac {
+                    bytes: [2, 0, 0, 0, 0, last],
+                },
+            },
+        },
+        source: SourceId {
+            value: u32::from(last),
+        },
+        ports: 1,
+        vids: Seq::new(alloc),
+        metrics,
+        attached: Seq::new(alloc),
+    })
+}
+
+/// Makes a blank bridge that of the configuration, with carrier at its port.
+fn make<B: Bridge>(alloc: Global, bridge: &mut B, last: u8) -> Result<(), NoMemory>
+    requires { B.blank bridge.old ≡ true }
+    ensures made { OnOk result (B.blank bridge.new ≡ false) }
+    ensures port { OnOk result (1 ≤ length (B.view bridge.new).ports) }
+{
+    let config = config(alloc, last)?;
+    bridge.configure(&config)?;
+    bridge.carrier(1, true)
+}
+
+/// A second passes at `from`, and what it sends comes to the port 1 of `to`.
+fn greet<B: Bridge>(alloc: Global, from: &mut B, to: &mut B) -> Result<(), NoMemory>
+    requires from { B.blank from.old ≡ false }
+    requires to { B.blank to.old ≡ false }
+    requires port { 1 ≤ length (B.view to.old).ports }
+    ensures from { B.blank from.new ≡ false }
+    ensures from_port { OnOk result (length (B.view from.new).ports ≡ length (B.view from.old).ports) }
+    ensures to { B.blank to.new ≡ false }
+    ensures to_port { OnOk result (length (B.view to.new).ports ≡ length (B.view to.old).ports) }
+{
+    let mut outbox = Outbox::new(alloc);
+    from.tick(&mut outbox)?;
+    match outbox.wire.as_slice() {
+        [sent] => to.receive(1, sent.1.as_slice(), &mut Outbox::new(alloc)),
+        _ => Ok(()),
+    }
+}
+
+/// Ticks one of several bridges. The others stay as they were.
+fn tick_at<B: Bridge>(
+    bridges: &mut Vec<B>,
+    place: usize,
+    outbox: &mut Outbox,
+) -> Result<(), NoMemory>
+    requires place { place < vec_len bridges.old }
+    requires made { All (λ b. B.blank b ≡ false) bridges.old.items }
+    ensures views { OnOk result (map B.view bridges.new.items ≡ stepped_at second place (map B.view bridges.old.items)) }
+    ensures sent { OnOk result (outbox.new ≡ with_wire (sent_from_place second place (map B.view bridges.old.items)) outbox.old) }
+    ensures still_made { All (λ b. B.blank b ≡ false) bridges.new.items }
+{
+    bridges[place].tick(outbox)
+}
+
+/// Whether a frame that comes to the port 1 changes nothing there, and nothing is sent.
+fn is_dropped<B: Bridge>(alloc: Global, bridge: &mut B, frame: &[u8]) -> Result<bool, NoMemory>
+    requires made { B.blank bridge.old ≡ false }
+    requires port { 1 ≤ length (B.view bridge.old).ports }
+    ensures still_made { B.blank bridge.new ≡ false }
+    ensures still_port { OnOk result (length (B.view bridge.new).ports ≡ length (B.view bridge.old).ports) }
+{
+    let before = (bridge.adjacent(1), bridge.due(1));
+    let mut outbox = Outbox::new(alloc);
+    bridge.receive(1, frame, &mut outbox)?;
+    let after = (bridge.adjacent(1), bridge.due(1));
+    Ok(outbox.wire.is_empty() && after == before)
+}
+
+#[test]
+fn the_first_hello_names_nobody(rt: HostRuntime) -> Result<(), Fail> {
+    let alloc = rt.alloc();
+    let mut a: Box<dyn Bridge> = Box::new(alloc, PlainBridge::blank(alloc))?;
+    make(alloc, &mut a, 1)?;
+    a.set_metric(1, 20)?;
+    let mut outbox = Outbox::new(alloc);
+    a.tick(&mut outbox)?;
+    match outbox.wire.as_slice() {
+        [sent] => {
+            assert_eq!(rt; sent.0, 1);
+            assert_eq!(rt; sent.1.as_slice(), FIRST_HELLO.as_slice());
+        }
+        _ => panic!(rt; "not one frame"),
+    }
+    Ok(())
+}
+
+#[test]
+fn the_next_hello_names_the_neighbour_that_was_heard(rt: HostRuntime) -> Result<(), Fail> {
+    let alloc = rt.alloc();
+    let mut a = PlainBridge::blank(alloc);
+    let mut b = PlainBridge::blank(alloc);
+    make(alloc, &mut a, 1)?;
+    make(alloc, &mut b, 2)?;
+    greet(alloc, &mut b, &mut a)?;
+    let mut outbox = Outbox::new(alloc);
+    a.tick(&mut outbox)?;
+    match outbox.wire.as_slice() {
+        [sent] => assert_eq!(rt; sent.1.as_slice(), INITIALIZING_HELLO.as_slice()),
+        _ => panic!(rt; "not one frame"),
+    }
+    Ok(())
+}
+
+#[test]
+fn two_boxes_come_up_with_each_other(rt: HostRuntime) -> Result<(), Fail> {
+    let alloc = rt.alloc();
+    let mut a: Box<dyn Bridge> = Box::new(alloc, PlainBridge::blank(alloc))?;
+    let mut b: Box<dyn Bridge> = Box::new(alloc, PlainBridge::blank(alloc))?;
+    assert_eq!(rt;
+        (a.kind(), a.is_blank(), a.is_failed()),
+        (Kind::Plain, true, false)
+    );
+    make(alloc, &mut a, 1)?;
+    make(alloc, &mut b, 2)?;
+    assert_eq!(rt; (a.is_blank(), a.is_failed()), (false, false));
+    assert_eq!(rt; a.adjacent(1).state, AdjState::Down);
+    greet(alloc, &mut a, &mut b)?;
+    assert_eq!(rt;
+        (b.adjacent(1).state, b.due(1)),
+        (AdjState::Initializing, false)
+    );
+    greet(alloc, &mut b, &mut a)?;
+    assert_eq!(rt; (a.adjacent(1).state, a.due(1)), (AdjState::Up, true));
+    greet(alloc, &mut a, &mut b)?;
+    assert_eq!(rt; (b.adjacent(1).state, b.due(1)), (AdjState::Up, true));
+    Ok(())
+}
+
+#[test]
+fn a_box_drops_garbage_and_stays_as_it_was(rt: HostRuntime) -> Result<(), Fail> {
+    let alloc = rt.alloc();
+    let mut a: Box<dyn Bridge> = Box::new(alloc, PlainBridge::blank(alloc))?;
+    let mut b: Box<dyn Bridge> = Box::new(alloc, PlainBridge::blank(alloc))?;
+    make(alloc, &mut a, 1)?;
+    make(alloc, &mut b, 2)?;
+    greet(alloc, &mut a, &mut b)?;
+    greet(alloc, &mut b, &mut a)?;
+    assert!(rt; is_dropped(alloc, &mut a, &[])?);
+    assert!(rt; is_dropped(alloc, &mut a, b"no frame of the backbone")?);
+    assert!(rt; is_dropped(alloc, &mut a, &FIRST_HELLO[..52])?);
+    // Its own hello.
+    assert!(rt; is_dropped(alloc, &mut a, &FIRST_HELLO)?);
+    let mut other_protocol = FIRST_HELLO;
+    other_protocol[17] = 0x82;
+    assert!(rt; is_dropped(alloc, &mut b, &other_protocol)?);
+    assert!(rt; !is_dropped(alloc, &mut b, &FIRST_HELLO)?);
+    Ok(())
+}
+
+#[test]
+fn one_box_of_several_ticks(rt: HostRuntime) -> Result<(), Fail> {
+    let alloc = rt.alloc();
+    let mut a: Box<dyn Bridge> = Box::new(alloc, PlainBridge::blank(alloc))?;
+    let mut b: Box<dyn Bridge> = Box::new(alloc, PlainBridge::blank(alloc))?;
+    make(alloc, &mut a, 2)?;
+    make(alloc, &mut b, 1)?;
+    let mut boxes = vec![in alloc; a, b]?;
+    let mut outbox = Outbox::new(alloc);
+    tick_at(&mut boxes, 1, &mut outbox)?;
+    match outbox.wire.as_slice() {
+        [sent] => assert_eq!(rt; sent.1.as_slice(), FIRST_HELLO.as_slice()),
+        _ => panic!(rt; "not one frame"),
+    }
+    Ok(())
+}
