@@ -1,7 +1,6 @@
 -- The machine after an LSP or a sequence numbers PDU was heard.
 use Rattle.std.proofs.Common.{◌≡◌, ℕ, Bool, true, false, List, [], ◌∷◌, refl, sym, ap, ◌∙◌, subst, Option, Some, None, ⊎_elim}
 use Rattle.std.specs.Prelude.{is_some, nat_lt, not, ◌||◌, if◌then◌else◌}
-use Rattle.std.specs.Option.{option_map}
 use Rattle.std.specs.FinMap.{get, insert, len}
 use Rattle.spb_types.specs.declared.address.LspId.{LspId}
 use Rattle.spb_types.specs.declared.ports.PortSet.{PortSet}
@@ -29,7 +28,7 @@ use Rattle.plain_bridge.specs.declared.machine.Machine.{Machine}
 use Rattle.plain_bridge.specs.Machine.{view_of, IsCurrent, IsReady, CanOriginate, IsAfter, heard_by as heard_in, hears}
 use Rattle.plain_bridge.specs.Message.{IsIdle}
 use Rattle.plain_bridge.proofs.Owning.{current_with}
-use Rattle.plain_bridge.proofs.Putting.{got}
+use Rattle.plain_bridge.proofs.Putting.{got, some_mapped}
 
 -- ---- what is held stays held
 
@@ -64,10 +63,6 @@ claim_held row up c h x held =
 entries_held : (up : PortSet) (p : ℕ) (claims : List Claim) (h : Holding) (x : LspId) → IsHeld h.db x → IsHeld (hear_entries_of up p claims h).db x
 entries_held up p [] h x held = held
 entries_held up p (c ∷ claims) h x held = entries_held up p claims (hear_entry_of up p c h) x (claim_held (snp_row up p c.version) up c h x held)
-
-some_mapped : {X Y : Type 0} (f : X → Y) (o : Option X) → is_some (option_map f o) ≡ is_some o
-some_mapped f None = refl
-some_mapped f (Some x) = refl
 
 each_held : (f : LspId → Entry → Entry) (db : Lsps) (x : LspId) → IsHeld db x → IsHeld (each f db) x
 each_held f db x held = ap is_some (get-each f db x) ∙ (some_mapped (f x) (get db x) ∙ held)

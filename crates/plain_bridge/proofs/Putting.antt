@@ -144,7 +144,7 @@ len_each f db =
     ∙ (ap length (entries-from_sorted id_cmp (map (λ (e : LspId × Entry). (e.0, f e.0 e.1)) es) (subst T (sym (sorted_each f es)) (entries_sorted db)))
     ∙ (length-map es (λ (e : LspId × Entry). (e.0, f e.0 e.1)) ∙ sym (len-entries db)))
 
-some_mapped : {X Y : Type 0} (f : X → Y) (o : Option X) → is_some (option_map f o) ≡ is_some o
+pub some_mapped : {X Y : Type 0} (f : X → Y) (o : Option X) → is_some (option_map f o) ≡ is_some o
 some_mapped f None = refl
 some_mapped f (Some x) = refl
 
