@@ -1,7 +1,7 @@
 -- The machine of a configuration.
-use Rattle.std.proofs.Common.{◌≡◌, ◌≤◌, ℕ, Bool, true, false, List, length, map, refl, sym, ap, ◌∙◌, subst, arith}
+use Rattle.std.proofs.Common.{◌≡◌, ◌≤◌, ℕ, Bool, true, false, length, refl, sym, ap, ◌∙◌, subst, arith}
 use Rattle.std.specs.Prelude.{◌||◌, nat_lt}
-use Rattle.std.specs.FinMap.{empty, len, len-empty, contains_key}
+use Rattle.std.specs.FinMap.{empty, len-empty, contains_key}
 use Rattle.std.proofs.lemmas.List.{length-map}
 use Rattle.spb_types.specs.declared.address.LspId.{LspId}
 use Rattle.lsdb.specs.Entry.{Entry}

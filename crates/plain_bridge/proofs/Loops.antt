@@ -1,13 +1,8 @@
 -- Lists of ports that a loop changes one after another.
-use Rattle.std.proofs.Common.{◌≡◌, ◌≤◌, ◌<◌, ◌+◌, ℕ, true, false, zero, suc, List, [], ◌∷◌, ◌++◌, map, length, take, drop, refl, sym, ap, ◌∙◌, subst, arith, get_or, add-one}
+use Rattle.std.proofs.Common.{◌≡◌, ◌<◌, ◌+◌, ℕ, zero, suc, List, [], ◌∷◌, ◌++◌, map, length, take, drop, refl, sym, ap, ◌∙◌, subst, arith, get_or, add-one}
 use Rattle.std.specs.Prelude.{slice_set}
-use Rattle.std.proofs.lemmas.List.{length-map}
 use Rattle.bridge_api.specs.declared.port.BridgePort.{BridgePort}
 use Rattle.adjacency.specs.Adjacency.{IsSound}
-use Rattle.bridge_api.specs.Config.{dark}
-use Rattle.bridge_api.specs.Hearing.{with_due}
-use Rattle.bridge_api.specs.Ticking.{later}
-use Rattle.bridge_api.proofs.Adjacent.{second_sound}
 use Rattle.plain_bridge.specs.Ports.{AreSound}
 
 -- ---- loops

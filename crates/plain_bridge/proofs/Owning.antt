@@ -1,11 +1,10 @@
 -- What a machine says of itself, and what originating makes of it.
-use Rattle.std.proofs.Common.{◌≡◌, ◌≤◌, ◌-◌, ◌+◌, ℕ, zero, suc, Bool, true, false, List, [], ◌∷◌, map, length, refl, sym, ap, ◌∙◌, subst, Option, Some, None, arith}
-use Rattle.std.specs.Prelude.{slice_get, slice_set, not, ◌||◌, ◌&&◌, if◌then◌else◌}
+use Rattle.std.proofs.Common.{◌≡◌, ◌≤◌, Bool, true, false, List, ◌∷◌, map, length, refl, sym, ap, ◌∙◌, arith}
+use Rattle.std.specs.Prelude.{not, ◌||◌, ◌&&◌, if◌then◌else◌}
 use Rattle.std.specs.Str.{bytes_eq}
 use Rattle.std.specs.FinMap.{get}
 use Rattle.std.specs.Global.{Vec}
 use Rattle.spb_types.specs.declared.ports.PortSet.{PortSet}
-use Rattle.spb_tlvs.specs.declared.neighbours.Neighbour.{Neighbour}
 use Rattle.lsdb.specs.Database.{Lsps}
 use Rattle.flooding.specs.declared.own.Own.{Own}
 use Rattle.flooding.specs.Own.{own_id}
@@ -16,7 +15,7 @@ use Rattle.flooding.proofs.Owns.{origination_leaves_own}
 use Rattle.spb_content.specs.Local.{content_bytes}
 use Rattle.bridge_api.specs.declared.port.BridgePort.{BridgePort}
 use Rattle.bridge_api.specs.View.{BridgeView, up_from, up_ports}
-use Rattle.bridge_api.specs.Own.{neighbours_from, member_of, local_of, body_of, own_of, holding_of, with_holding, body_in, own_entry, is_said, originating, settled}
+use Rattle.bridge_api.specs.Own.{neighbours_from, member_of, body_of, holding_of, with_holding, body_in, own_entry, is_said, originating, settled}
 use Rattle.bridge_api.specs.Ticking.{is_old, refreshed}
 use Rattle.bridge_api.proofs.Data.{fits_own}
 use Rattle.plain_bridge.specs.declared.machine.Machine.{Machine}

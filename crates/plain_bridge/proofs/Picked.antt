@@ -1,5 +1,5 @@
 -- What is picked of the ports, one after another.
-use Rattle.std.proofs.Common.{◌≡◌, ◌<◌, ◌+◌, ℕ, zero, suc, Bool, true, false, List, [], ◌∷◌, ◌++◌, length, take, drop, get_or, refl, sym, ap, ◌∙◌, Option, Some, None, arith, add-one, add-zero, append_assoc}
+use Rattle.std.proofs.Common.{◌≡◌, ◌<◌, ◌+◌, ℕ, zero, suc, Bool, true, false, List, [], ◌∷◌, ◌++◌, length, take, get_or, refl, sym, ap, ◌∙◌, Option, Some, None, arith, add-one, add-zero}
 use Rattle.std.specs.Prelude.{◌||◌, if◌then◌else◌}
 use Rattle.std.specs.Option.{option_map}
 use Rattle.std.specs.List.{list_any}
@@ -7,14 +7,12 @@ use Rattle.std.specs.FinMap.{get, same_map}
 use Rattle.std.proofs.lemmas.List.{append-nil}
 use Rattle.std.proofs.lemmas.List.Folds.{list_any_more}
 use Rattle.spb_types.specs.declared.address.LspId.{LspId}
-use Rattle.spb_types.specs.declared.ports.PortSet.{PortSet}
-use Rattle.spb_types.specs.Ports.{with_port}
 use Rattle.lsdb.specs.Entry.{Entry, parted}
 use Rattle.lsdb.specs.Database.{Lsps, each}
 use Rattle.lsdb.proofs.Ids.{ids_total, ids_tied}
 use Rattle.lsdb.proofs.LookupLemmas.{get-each}
 use Rattle.bridge_api.specs.declared.port.BridgePort.{BridgePort}
-use Rattle.bridge_api.specs.View.{is_port_up, up_from}
+use Rattle.bridge_api.specs.View.{is_port_up}
 use Rattle.bridge_api.specs.Own.{neighbour_in, neighbours_from}
 use Rattle.bridge_api.specs.Ticking.{leaves, leaving_from, parted_all}
 use Rattle.spb_tlvs.specs.declared.neighbours.Neighbour.{Neighbour}

@@ -1,7 +1,7 @@
 -- A second of a machine.
-use Rattle.std.proofs.Common.{◌≡◌, ◌≤◌, ◌+◌, ℕ, zero, suc, Bool, true, false, List, [], ◌∷◌, map, length, refl, sym, ap, ◌∙◌, subst, Option, Some, None, arith}
+use Rattle.std.proofs.Common.{◌≡◌, ◌≤◌, ◌+◌, ℕ, Bool, true, false, List, [], ◌∷◌, map, length, refl, sym, ap, ◌∙◌, subst, Option, Some, None, arith}
 use Rattle.std.specs.Prelude.{not, ◌&&◌, ◌||◌, if◌then◌else◌}
-use Rattle.std.specs.List.{AllByRecursion, list_any}
+use Rattle.std.specs.List.{AllByRecursion}
 use Rattle.std.specs.Global.{Vec}
 use Rattle.std.proofs.lemmas.List.{length-map}
 use Rattle.spb_types.specs.declared.address.SystemId.{SystemId}
@@ -19,16 +19,14 @@ use Rattle.adjacency.specs.Adjacency.{is_up, kept_in, neighbour_of, after_second
 use Rattle.flooding.specs.Entries.{AreSendable}
 use Rattle.snp_sync.specs.Sized.{AreSized}
 use Rattle.bridge_api.specs.declared.port.BridgePort.{BridgePort}
-use Rattle.bridge_api.specs.declared.outbox.Outbox.{Outbox}
 use Rattle.bridge_api.specs.View.{BridgeView, is_port_up, up_from}
 use Rattle.bridge_api.specs.Own.{neighbour_in, neighbours_from, local_of}
 use Rattle.bridge_api.specs.Hearing.{with_due}
-use Rattle.bridge_api.specs.Ticking.{later, leaves, leaving_from, parted_all, counted, expired, refreshed, readied, told, told_from, sent_from, after_tick, sent_in_tick}
-use Rattle.bridge_api.specs.Step.{with_wire, Gains}
-use Rattle.bridge_api.specs.Laws.{IsSoundPort, HasConfig, HasDatabase, IsSoundView}
+use Rattle.bridge_api.specs.Ticking.{later, leaves, leaving_from, parted_all, counted, expired, readied, told, told_from, sent_from, after_tick, sent_in_tick}
+use Rattle.bridge_api.specs.Laws.{IsSoundPort, HasDatabase, IsSoundView}
 use Rattle.bridge_api.proofs.Adjacent.{second_up}
 use Rattle.bridge_api.proofs.Changes.{tick_is, readied_ports}
-use Rattle.bridge_api.proofs.SoundPorts.{AreSoundPorts, all_later, config_kept}
+use Rattle.bridge_api.proofs.SoundPorts.{all_later, config_kept}
 use Rattle.bridge_api.proofs.Saying.{is_local}
 use Rattle.bridge_api.proofs.Data.{fits_own, counted_keeps, expired_keeps, refreshed_keeps}
 use Rattle.bridge_api.proofs.DataSteps.{can_originate}
@@ -36,7 +34,6 @@ use Rattle.plain_bridge.specs.declared.machine.Machine.{Machine}
 use Rattle.plain_bridge.specs.Machine.{view_of, IsCurrent, IsReady, CanOriginate, IsAfter}
 use Rattle.plain_bridge.specs.Ports.{AreSound, has_leaving}
 use Rattle.plain_bridge.proofs.Owning.{current_with}
-use Rattle.plain_bridge.proofs.Wire.{gained_as}
 
 pub sound_ports : (ports : List BridgePort) → AllByRecursion IsSoundPort ports → AreSound ports
 sound_ports [] all = tt

@@ -1,8 +1,7 @@
 -- What is sent at a port.
-use Rattle.std.proofs.Common.{◌≡◌, ◌≤◌, ◌<◌, ◌+◌, ◌*◌, ℕ, zero, suc, Bool, true, false, List, [], ◌∷◌, ◌++◌, map, filter, length, take, get_or, refl, sym, ap, ◌∙◌, subst, Option, Some, None, arith, append_assoc}
+use Rattle.std.proofs.Common.{◌≡◌, ◌≤◌, ◌<◌, ◌+◌, ℕ, zero, suc, Bool, true, false, List, [], ◌∷◌, ◌++◌, map, length, take, get_or, refl, sym, ap, ◌∙◌, subst, Option, arith, append_assoc}
 use Rattle.std.specs.Prelude.{if◌then◌else◌}
 use Rattle.std.specs.List.{AllByRecursion}
-use Rattle.std.specs.FinMap.{get, entries}
 use Rattle.std.specs.Global.{Vec}
 use Rattle.std.proofs.lemmas.List.{append-nil}
 use Rattle.spb_types.specs.declared.address.SystemId.{SystemId}
@@ -15,13 +14,13 @@ use Rattle.spb_tlvs.specs.declared.entries.SnpEntry.{SnpEntry}
 use Rattle.spb_tlvs.specs.RoundTrip.{IsEntry}
 use Rattle.itag_frames.specs.Frame.{control_bytes}
 use Rattle.lsdb.specs.Entry.{Entry, with_ssn}
-use Rattle.lsdb.specs.Database.{Lsps, any_flags, each, ssn_in}
+use Rattle.lsdb.specs.Database.{Lsps, any_flags, ssn_in}
 use Rattle.lsdb.proofs.Flags.{without_flags, none_to_send, none_to_ack}
 use Rattle.flooding.specs.Entries.{IsSendable, AreSendable}
 use Rattle.flooding.specs.Sending.{lsp_in}
 use Rattle.flooding.proofs.SendableEntries.{flags_sendable}
-use Rattle.snp_sync.specs.Line.{line_of, is_owed}
-use Rattle.snp_sync.specs.Parts.{parts, line_tlvs}
+use Rattle.snp_sync.specs.Line.{line_of}
+use Rattle.snp_sync.specs.Parts.{parts}
 use Rattle.snp_sync.specs.Sized.{IsSized, AreSized, HaveIds, IsLspId, IsSizedLine}
 use Rattle.snp_sync.specs.Sending.{Page, bytes_in, csnp_for, psnp_for, csnp_pages, csnps_of, psnp_parts, psnps_of, settled, all_settled}
 use Rattle.snp_sync.proofs.Cuts.{parts_none}

@@ -7,6 +7,7 @@ ghost use Rattle.bridge_api.specs.Among.{stepped_at, sent_from_place};
 use crate::PlainBridge;
 use adjacency::AdjState;
 use bridge_api::{Bridge, BridgeConfig, Kind, Outbox};
+use lsdb::Version;
 use spb_types::{BridgeId, Mac, NoMemory, Seq, SourceId, SystemId};
 use std::alloc::Global;
 use std::test::Fail;
@@ -23,6 +24,12 @@ const INITIALIZING_HELLO: [u8; 63] = [
     0x01, 0x80, 0xc2, 0x00, 0x00, 0x14, 2, 0, 0, 0, 0, 1, 0x00, 0x31, 0xfe, 0xfe, 0x03, 0x83, 0x14,
     1, 0, 0x11, 1, 0, 0, 1, 2, 0, 0, 0, 0, 1, 0, 3, 0, 0x2e, 1, 1, 4, 3, 0x49, 0, 1, 0x81, 1, 0xc1,
     0xf0, 0x0f, 1, 0, 0, 0, 1, 2, 0, 0, 0, 0, 2, 0, 0, 0, 1,
+];
+
+// An LSP of A at number 9 that says nothing, as a frame from B.
+const OLD_LSP: [u8; 44] = [
+    0x01, 0x80, 0xc2, 0x00, 0x00, 0x14, 2, 0, 0, 0, 0, 2, 0x00, 0x1e, 0xfe, 0xfe, 0x03, 0x83, 0x1b,
+    1, 0, 0x12, 1, 0, 0, 0, 0x1b, 3, 0xe8, 2, 0, 0, 0, 0, 1, 0, 0, 0, 0, 0, 9, 0xcc, 0x26, 1,
 ];
 
 /// The configuration of a bridge with one port and no VID; its address ends in this number, which is its source too.
@@ -62,7 +69,7 @@ fn make<B: Bridge>(alloc: Global, bridge: &mut B, last: u8) -> Result<(), NoMemo
     bridge.carrier(1, true)
 }
 
-/// A second passes at `from`, and what it sends comes to the port 1 of `to`.
+/// A second passes at `from`, and all that it sends comes to the port 1 of `to`.
 fn greet<B: Bridge>(alloc: Global, from: &mut B, to: &mut B) -> Result<(), NoMemory>
     requires from { B.blank from.old ≡ false }
     requires to { B.blank to.old ≡ false }
@@ -74,9 +81,30 @@ fn greet<B: Bridge>(alloc: Global, from: &mut B, to: &mut B) -> Result<(), NoMem
 {
     let mut outbox = Outbox::new(alloc);
     from.tick(&mut outbox)?;
-    match outbox.wire.as_slice() {
-        [sent] => to.receive(1, sent.1.as_slice(), &mut Outbox::new(alloc)),
-        _ => Ok(()),
+    'hear: for sent in outbox.wire.as_slice() {
+        to.receive(1, sent.1.as_slice(), &mut Outbox::new(alloc))?;
+    }
+    Ok(())
+}
+
+/// Seconds pass at a bridge, and what it sends is lost.
+fn pass<B: Bridge>(alloc: Global, bridge: &mut B, seconds: u16) -> Result<(), NoMemory>
+    requires { B.blank bridge.old ≡ false }
+    ensures { B.blank bridge.new ≡ false }
+{
+    'pass: for _ in 0..seconds {
+        bridge.tick(&mut Outbox::new(alloc))?;
+    }
+    Ok(())
+}
+
+/// The version and the lifetime that a bridge holds at a place.
+fn held_at<B: Bridge>(bridge: &B, place: usize) -> (Version, u16)
+    requires { B.blank bridge.now ≡ false }
+{
+    match bridge.entry(place) {
+        Some(held) => (held.version, held.lifetime),
+        None => (Version::Absent, 0),
     }
 }
 
@@ -156,7 +184,7 @@ fn two_boxes_come_up_with_each_other(rt: HostRuntime) -> Result<(), Fail> {
     make(alloc, &mut a, 1)?;
     make(alloc, &mut b, 2)?;
     assert_eq!(rt; (a.is_blank(), a.is_failed()), (false, false));
-    assert_eq!(rt; a.adjacent(1).state, AdjState::Down);
+    assert_eq!(rt; (a.adjacent(1).state, a.has_flag()), (AdjState::Down, false));
     greet(alloc, &mut a, &mut b)?;
     assert_eq!(rt;
         (b.adjacent(1).state, b.due(1)),
@@ -166,6 +194,61 @@ fn two_boxes_come_up_with_each_other(rt: HostRuntime) -> Result<(), Fail> {
     assert_eq!(rt; (a.adjacent(1).state, a.due(1)), (AdjState::Up, true));
     greet(alloc, &mut a, &mut b)?;
     assert_eq!(rt; (b.adjacent(1).state, b.due(1)), (AdjState::Up, true));
+    Ok(())
+}
+
+#[test]
+fn two_boxes_come_to_hold_the_same(rt: HostRuntime) -> Result<(), Fail> {
+    let alloc = rt.alloc();
+    let mut a: Box<dyn Bridge> = Box::new(alloc, PlainBridge::blank(alloc))?;
+    let mut b: Box<dyn Bridge> = Box::new(alloc, PlainBridge::blank(alloc))?;
+    make(alloc, &mut a, 1)?;
+    make(alloc, &mut b, 2)?;
+    let alone = Version::Live { seq: 1, sum: 0x4fd7 };
+    assert_eq!(rt; held_at(&a, 0), (alone, 1200));
+    greet(alloc, &mut a, &mut b)?;
+    greet(alloc, &mut b, &mut a)?;
+    assert!(rt; a.has_flag());
+    greet(alloc, &mut a, &mut b)?;
+    greet(alloc, &mut b, &mut a)?;
+    greet(alloc, &mut a, &mut b)?;
+    assert_eq!(rt; (a.has_flag(), b.has_flag()), (false, false));
+    let of_a = Version::Live { seq: 2, sum: 0xa512 };
+    let of_b = Version::Live { seq: 2, sum: 0xc2f3 };
+    assert_eq!(rt; (held_at(&a, 0).0, held_at(&b, 0).0), (of_a, of_a));
+    assert_eq!(rt; (held_at(&a, 1).0, held_at(&b, 1).0), (of_b, of_b));
+    assert!(rt; a.entry(2).is_none());
+    Ok(())
+}
+
+#[test]
+fn a_greater_number_of_an_own_lsp_is_answered(rt: HostRuntime) -> Result<(), Fail> {
+    let alloc = rt.alloc();
+    let mut a: Box<dyn Bridge> = Box::new(alloc, PlainBridge::blank(alloc))?;
+    let mut b: Box<dyn Bridge> = Box::new(alloc, PlainBridge::blank(alloc))?;
+    make(alloc, &mut a, 1)?;
+    make(alloc, &mut b, 2)?;
+    // It isn't Up yet.
+    assert!(rt; is_dropped(alloc, &mut a, &OLD_LSP)?);
+    assert_eq!(rt; held_at(&a, 0).0.number(), 1);
+    greet(alloc, &mut a, &mut b)?;
+    greet(alloc, &mut b, &mut a)?;
+    a.receive(1, &OLD_LSP, &mut Outbox::new(alloc))?;
+    assert_eq!(rt; held_at(&a, 0).0.number(), 10);
+    Ok(())
+}
+
+#[test]
+fn an_own_lsp_of_lifetime_300_is_originated_anew(rt: HostRuntime) -> Result<(), Fail> {
+    let alloc = rt.alloc();
+    let mut a: Box<dyn Bridge> = Box::new(alloc, PlainBridge::blank(alloc))?;
+    make(alloc, &mut a, 1)?;
+    pass(alloc, &mut a, 899)?;
+    let before = held_at(&a, 0);
+    assert_eq!(rt; (before.0.number(), before.1), (1, 301));
+    pass(alloc, &mut a, 1)?;
+    let after = held_at(&a, 0);
+    assert_eq!(rt; (after.0.number(), after.1), (2, 1200));
     Ok(())
 }
 

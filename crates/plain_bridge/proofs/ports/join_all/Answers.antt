@@ -1,4 +1,4 @@
-use Rattle.std.proofs.Common.{◌≤◌, ◌<◌, true, false, not, if◌then◌else◌, arith, sym, ap, ◌∙◌}
+use Rattle.std.proofs.Common.{◌≤◌, ◌<◌, true, if◌then◌else◌, arith, sym, ap, ◌∙◌}
 use Rattle.std.specs.FinMap.{len}
 use Rattle.spb_types.specs.declared.address.LspId.{LspId}
 use Rattle.lsdb.specs.Entry.{Entry, entry_of, with_srm, flagged, joined}

@@ -1,9 +1,5 @@
-use Rattle.std.proofs.Common.{◌≡◌, subst, ap, ◌∙◌, false}
-use Rattle.lsdb.specs.Database.{Lsps, any_flags}
-use Rattle.flooding.specs.Entries.{AreSendable}
-use Rattle.snp_sync.specs.Sized.{AreSized}
-use Rattle.plain_bridge.proofs.Wire.{ports_next, told_next, ports_some, on_err}
-use Rattle.plain_bridge.proofs.Sends.{told_sendable, told_sized, told_idle, sending_next}
+use Rattle.plain_bridge.proofs.Wire.{ports_some, on_err}
+use Rattle.plain_bridge.proofs.Sends.{sending_next}
 use Rattle.plain_bridge.proofs.sending.send_all.Goals as goal
 
 pub returns-in_err-send_at-clause-gained : goal.returns-in_err-send_at-clause-gained

@@ -1,7 +1,7 @@
-use Rattle.std.proofs.Common.{◌≡◌, ◌++◌, [], true, false, refl, sym, ap, ◌∙◌, append_assoc}
+use Rattle.std.proofs.Common.{◌++◌, [], sym, ap, ◌∙◌, append_assoc}
 use Rattle.std.proofs.lemmas.Result.{on_ok_weaker, on_err_weaker}
 use Rattle.std.proofs.lemmas.List.{append-nil}
-use Rattle.bridge_api.specs.Ticking.{greetings_at, summaries_at, lsps_at, requests_at, synced_at}
+use Rattle.bridge_api.specs.Ticking.{greetings_at, summaries_at}
 use Rattle.plain_bridge.specs.Frames.{flagged_at}
 use Rattle.plain_bridge.proofs.Wire.{sent_as, sent_both, gained_none, gained_further, on_err}
 use Rattle.plain_bridge.proofs.Sends.{sent_down, sent_up, told_up, told_down}

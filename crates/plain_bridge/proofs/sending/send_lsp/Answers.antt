@@ -1,8 +1,6 @@
-use Rattle.std.proofs.Common.{◌≡◌, ◌≤◌, ◌∷◌, [], ℕ, List, length, sym, ap, ◌∙◌, subst, Option, Some, arith, rules}
+use Rattle.std.proofs.Common.{◌≡◌, ◌∷◌, [], ℕ, List, length, sym, ap, ◌∙◌, Option, arith}
 use Rattle.std.proofs.lemmas.Result.{on_ok_weaker}
-use Rattle.std.specs.FinMap.{get}
 use Rattle.spb_types.specs.declared.address.LspId.{LspId}
-use Rattle.isis_pdu.specs.Grammar.{IsId}
 use Rattle.isis_pdu.specs.Spelling.{lsp_bytes}
 use Rattle.itag_frames.specs.Frame.{control_bytes}
 use Rattle.lsdb.specs.Entry.{Entry, entry_of}

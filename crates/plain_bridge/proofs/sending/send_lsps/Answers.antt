@@ -1,7 +1,6 @@
-use Rattle.std.proofs.Common.{◌≡◌, ◌≤◌, List, length, take, sym, ap, ◌∙◌, subst, arith}
+use Rattle.std.proofs.Common.{List, take, ap, ◌∙◌}
 use Rattle.std.proofs.lemmas.List.{take_all}
 use Rattle.spb_types.specs.declared.address.LspId.{LspId}
-use Rattle.flooding.specs.Sending.{ids_to_send}
 use Rattle.plain_bridge.proofs.Wire.{frames_under, under_next, under_some, under_sent, sent_as, on_err}
 use Rattle.plain_bridge.proofs.sending.send_lsps.Goals as goal
 

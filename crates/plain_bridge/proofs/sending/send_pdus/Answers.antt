@@ -1,5 +1,4 @@
-use Rattle.std.proofs.Common.{◌∙◌, ap, subst, List, ℕ}
-use Rattle.itag_frames.specs.Frame.{control_bytes}
+use Rattle.std.proofs.Common.{◌∙◌}
 use Rattle.plain_bridge.proofs.Wire.{frames_some, on_err}
 use Rattle.plain_bridge.proofs.sending.send_pdus.Goals as goal
 

@@ -1,4 +1,4 @@
-use Rattle.std.proofs.Common.{◌≡◌, [], true, false, length, refl, sym, ap, ◌∙◌, rules}
+use Rattle.std.proofs.Common.{◌≡◌, [], length, rules}
 use Rattle.std.proofs.lemmas.Result.{on_ok_weaker, on_err_weaker}
 use Rattle.plain_bridge.proofs.Wire.{sent_none, sent_as, gained_as}
 use Rattle.plain_bridge.proofs.Sends.{fitting_csnps, summaries_are, no_summaries}

@@ -1,11 +1,9 @@
-use Rattle.std.proofs.Common.{◌≡◌, ◌≤◌, true, List, length, map, sym, ap, ◌∙◌, subst, refl, arith}
-use Rattle.std.proofs.lemmas.List.{length-map}
+use Rattle.std.proofs.Common.{sym, subst}
 use Rattle.spb_content.specs.Local.{IsLocal}
 use Rattle.bridge_api.specs.View.{BridgeView}
-use Rattle.bridge_api.specs.Own.{local_of, own_of}
-use Rattle.bridge_api.specs.Config.{bare, configured, dark}
+use Rattle.bridge_api.specs.Own.{local_of}
 use Rattle.plain_bridge.specs.declared.machine.Machine.{Machine}
-use Rattle.plain_bridge.specs.Machine.{view_of, CanOriginate, IsAfter}
+use Rattle.plain_bridge.specs.Machine.{CanOriginate}
 use Rattle.plain_bridge.proofs.Configuring.{bare_local, bare_can, configured_after}
 use Rattle.plain_bridge.proofs.machine.Machine.configured.Goals as goal
 

@@ -1,7 +1,5 @@
-use Rattle.std.proofs.Common.{◌≡◌, List, sym, ap, ◌∙◌}
+use Rattle.std.proofs.Common.{List, sym, ap, ◌∙◌}
 use Rattle.std.proofs.lemmas.Result.{on_ok_weaker}
-use Rattle.lsdb.specs.Entry.{Entry}
-use Rattle.spb_types.specs.declared.address.LspId.{LspId}
 use Rattle.lsdb.specs.Database.{each}
 use Rattle.bridge_api.specs.declared.port.BridgePort.{BridgePort}
 use Rattle.bridge_api.specs.Ticking.{leaving_from, parted_all, counted}

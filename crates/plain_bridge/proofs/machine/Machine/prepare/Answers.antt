@@ -1,10 +1,8 @@
-use Rattle.std.proofs.Common.{◌≡◌, false, sym, ap, ◌∙◌}
+use Rattle.std.proofs.Common.{ap, ◌∙◌}
 use Rattle.bridge_api.specs.View.{up_from}
-use Rattle.bridge_api.specs.Ticking.{counted, expired, refreshed, readied}
-use Rattle.plain_bridge.specs.declared.machine.Machine.{Machine}
+use Rattle.bridge_api.specs.Ticking.{counted}
 use Rattle.plain_bridge.specs.Machine.{view_of}
-use Rattle.plain_bridge.proofs.Owning.{after_same}
-use Rattle.plain_bridge.proofs.Seconds.{counted_after_few, expired_after, expired_can, idle_by}
+use Rattle.plain_bridge.proofs.Seconds.{expired_after, expired_can}
 use Rattle.plain_bridge.proofs.machine.Machine.prepare.Goals as goal
 
 pub refresh-requires-clause-can : goal.refresh-requires-clause-can

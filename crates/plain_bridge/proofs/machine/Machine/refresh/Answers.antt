@@ -1,4 +1,4 @@
-use Rattle.std.proofs.Common.{◌≡◌, Bool, true, false, not, sym, ap, ◌∙◌}
+use Rattle.std.proofs.Common.{◌≡◌, true, not, ◌∙◌}
 use Rattle.std.specs.Prelude.{◌&&◌}
 use Rattle.bridge_api.specs.Own.{is_said, own_entry}
 use Rattle.bridge_api.specs.Ticking.{is_old}
