@@ -5,6 +5,6 @@ pub mod Owning
 pub mod Configuring
 pub mod Sends
 pub mod Seconds
-pub mod Flooded
-pub mod Changing
+pub mod Putting
+pub mod Heeding
 pub mod Keeping

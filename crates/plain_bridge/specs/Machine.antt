@@ -1,14 +1,13 @@
 -- The bridge that a machine's fields say.
 use Rattle.std.specs.Prelude.{◌≡◌, ℕ, ◌≤◌, [], length, true, false, replicate, Option, Some, None}
 use Rattle.flooding.specs.Own.{own_id}
-use Rattle.lsdb.specs.Version.{is_absent}
-use Rattle.lsdb.specs.Database.{fits, version_at}
+use Rattle.lsdb.specs.Database.{fits}
 use Rattle.spb_content.specs.Local.{IsLocal}
 use Rattle.bridge_api.specs.declared.port.BridgePort.{BridgePort}
 use Rattle.bridge_api.specs.View.{BridgeView, IsPort, port_at, with_port_at}
 use Rattle.bridge_api.specs.Own.{local_of, own_of, body_of}
 use Rattle.bridge_api.specs.Judging.{Judged}
-use Rattle.bridge_api.specs.Hearing.{with_due, heard_as}
+use Rattle.bridge_api.specs.Hearing.{heard_as}
 use Rattle.bridge_api.specs.Laws.{IsSoundView}
 use Rattle.plain_bridge.specs.declared.machine.Machine.{Machine}
 
@@ -49,10 +48,9 @@ pub record IsAfter (v : BridgeView) (m : Machine) : Type 0 where
 -- a port of this number can come into a new state
 pub record CanPut (p : ℕ) (new : BridgePort) (m : Machine) : Type 0 where
   pub port : IsPort (view_of m) p
-  pub few : length m.ports.items ≤ 32
-  pub held : is_absent (version_at m.db (own_id m.id.system)) ≡ false
+  pub can : CanOriginate m
   pub current : IsCurrent m
-  pub local : IsLocal (local_of (with_port_at p (with_due false new) (view_of m)))
+  pub local : IsLocal (local_of (with_port_at p new (view_of m)))
 
 -- the bridge says the same of itself with a port of this number in a new state
 abbrev pub SaysTheSame : ℕ → BridgePort → Machine → Type 0

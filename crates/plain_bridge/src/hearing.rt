@@ -1,11 +1,10 @@
 //! Hearing a frame, a change of carrier and a metric.
 ghost use Rattle.std.specs.Prelude.{◌≡◌, ◌≤◌, true, Some, OnOk, length};
-ghost use Rattle.isis_pdu.specs.Grammar.{IsId};
 ghost use Rattle.isis_pdu.specs.Pdu.{hello_of, lsp_of, csnp_of, psnp_of};
 ghost use Rattle.adjacency.specs.declared.state.Heard.TheVariants as did;
 ghost use Rattle.flooding.specs.Hearing.{hear_lsp_of};
 ghost use Rattle.flooding.specs.Placing.{holding};
-ghost use Rattle.bridge_api.specs.View.{IsPort, is_up_at, has_carrier_at};
+ghost use Rattle.bridge_api.specs.View.{IsPort, has_carrier_at};
 ghost use Rattle.bridge_api.specs.Config.{IsMetric};
 ghost use Rattle.bridge_api.specs.Own.{settled};
 ghost use Rattle.bridge_api.specs.Judging.{greeting, link_state, complete, partial};
@@ -50,7 +49,6 @@ impl Machine {
         requires port { IsPort (view_of self.old) port }
         requires carrier { has_carrier_at (view_of self.old) port ≡ true }
         requires state { way.now.state ≤ 2 }
-        requires source { IsId hello.now.source }
         ensures { OnOk result (IsAfter (hears (greeting (hello_of hello.now) way.now) port (view_of self.old)) self.new) }
     {
         let mut new = port_at(self.ports.as_slice(), port);
@@ -172,7 +170,6 @@ impl Machine {
     ) -> Result<(), NoMemory>
         requires ready { IsReady self.old }
         requires port { IsPort (view_of self.old) port }
-        requires up { is_up_at (view_of self.old) port ≡ true }
         ensures { OnOk result (IsAfter (settled (api.completed (csnp_of csnp.now) entries.now port (view_of self.old))) self.new) }
     {
         let up = up_ports(self.ports.as_slice());
@@ -209,7 +206,6 @@ impl Machine {
     fn hear_requests(&mut self, port: u8, entries: &[SnpEntry]) -> Result<(), NoMemory>
         requires ready { IsReady self.old }
         requires port { IsPort (view_of self.old) port }
-        requires up { is_up_at (view_of self.old) port ≡ true }
         ensures { OnOk result (IsAfter (settled (api.requested entries.now port (view_of self.old))) self.new) }
     {
         let up = up_ports(self.ports.as_slice());

@@ -1,12 +1,8 @@
-use Rattle.std.proofs.Common.{ap, ◌∙◌}
-use Rattle.std.proofs.lemmas.Result.{on_ok_weaker}
 use Rattle.isis_pdu.specs.Pdu.{csnp_of}
-use Rattle.bridge_api.specs.View.{up_from}
-use Rattle.bridge_api.specs.Hearing.{completed}
-use Rattle.plain_bridge.specs.declared.machine.Machine.{Machine}
-use Rattle.plain_bridge.specs.Machine.{view_of}
+use Rattle.flooding.specs.Placing.{holding}
+use Rattle.snp_sync.specs.Hearing.{claims_in, hear_csnp_of}
 use Rattle.plain_bridge.proofs.Owning.{some_body}
-use Rattle.plain_bridge.proofs.Flooded.{csnp_can, csnp_after, settled_after}
+use Rattle.plain_bridge.proofs.Heeding.{csnp_heard, heard_can, heard_current}
 use Rattle.plain_bridge.proofs.machine.Machine.hear_listed.Goals as goal
 
 pub hear_csnp-requires-clause-body : goal.hear_csnp-requires-clause-body
@@ -14,15 +10,16 @@ hear_csnp-requires-clause-body c = some_body c.args.self.now c.requires.ready.cu
 
 pub settle-requires-clause-can : goal.settle-requires-clause-can
 settle-requires-clause-can c =
-    csnp_can c.args.self.now c.args.port c.up_ports-up.result (csnp_of c.args.csnp.now) c.args.entries.now c.hear_csnp.new.db c.hear_csnp.new.own c.requires.ready (c.up_ports-up.ensures ∙ ap (up_from 1) c.as_slice.ensures.value) c.requires.up c.in_ok-hear_csnp.ensures.heard
+    let m = c.args.self.now in
+    let up = c.up_ports-up.result in
+    let csnp = csnp_of c.args.csnp.now in
+    let claims = claims_in c.args.entries.now in
+    heard_can m (hear_csnp_of up c.args.port csnp.start csnp.end claims (holding m.db m.own)) c.hear_csnp.new.db c.hear_csnp.new.own c.requires.ready (csnp_heard m up c.args.port csnp.start csnp.end claims c.requires.ready) c.in_ok-hear_csnp.ensures.heard
 
 pub settle-requires-clause-current : goal.settle-requires-clause-current
 settle-requires-clause-current c =
-    (csnp_after c.args.self.now c.args.port c.up_ports-up.result (csnp_of c.args.csnp.now) c.args.entries.now c.hear_csnp.new.db c.hear_csnp.new.own c.requires.ready (c.up_ports-up.ensures ∙ ap (up_from 1) c.as_slice.ensures.value) c.in_ok-hear_csnp.ensures.heard).current
-
-pub returns : goal.returns
-returns c =
-    let m : Machine = c.args.self.now in
-    let n : Machine = record m { db = c.hear_csnp.new.db; own = c.hear_csnp.new.own } in
-    let is = csnp_after m c.args.port c.up_ports-up.result (csnp_of c.args.csnp.now) c.args.entries.now c.hear_csnp.new.db c.hear_csnp.new.own c.requires.ready (c.up_ports-up.ensures ∙ ap (up_from 1) c.as_slice.ensures.value) c.in_ok-hear_csnp.ensures.heard in
-    on_ok_weaker c.settle.result (settled_after (completed (csnp_of c.args.csnp.now) c.args.entries.now c.args.port (view_of m)) n c.settle.new.self is) c.settle.ensures
+    let m = c.args.self.now in
+    let up = c.up_ports-up.result in
+    let csnp = csnp_of c.args.csnp.now in
+    let claims = claims_in c.args.entries.now in
+    heard_current m (hear_csnp_of up c.args.port csnp.start csnp.end claims (holding m.db m.own)) c.hear_csnp.new.db c.hear_csnp.new.own c.requires.ready (csnp_heard m up c.args.port csnp.start csnp.end claims c.requires.ready) c.in_ok-hear_csnp.ensures.heard

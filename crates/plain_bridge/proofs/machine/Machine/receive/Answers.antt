@@ -1,54 +1,59 @@
+use Rattle.std.proofs.Common.{◌∙◌}
 use Rattle.std.proofs.lemmas.Result.{on_ok_weaker}
 use Rattle.isis_pdu.specs.Pdu.{hello_of, lsp_of, csnp_of, psnp_of}
 use Rattle.bridge_api.specs.Judging.{greeting, link_state, complete, partial}
-use Rattle.bridge_api.proofs.SoundPorts.{source_six}
 use Rattle.plain_bridge.specs.Machine.{view_of}
 use Rattle.plain_bridge.proofs.Owning.{after_same}
-use Rattle.plain_bridge.proofs.Flooded.{port_here, ready_after}
-use Rattle.plain_bridge.proofs.Changing.{lit_here, deaf, heard_here, idle_here, turned_true, turned_false}
+use Rattle.plain_bridge.proofs.Putting.{there_at, carrier_there}
+use Rattle.plain_bridge.proofs.Heeding.{received_path, deaf_after, idle_after, not_true, not_false}
 use Rattle.plain_bridge.proofs.machine.Machine.receive.Goals as goal
 
 pub returns-then-not-port_at : goal.returns-then-not-port_at
 returns-then-not-port_at c =
-    let m = c.args.self.now in
-    let there = port_here m c.args.port c.as_slice.result.now c.port_at.result c.as_slice.ensures.value c.port_at.ensures in
-    ready_after m _ c.requires.ready (deaf m c.args.port c.args.frame.now c.port_at.result there (turned_true _ c.if-not-port_at.true))
-
-pub returns-in-Nothing : goal.returns-in-Nothing
-returns-in-Nothing c =
-    let m = c.args.self.now in
-    let there = port_here m c.args.port c.as_slice.result.now c.port_at.result c.as_slice.ensures.value c.port_at.ensures in
-    ready_after m _ c.requires.ready (idle_here m c.args.port c.args.frame.now c.port_at.result there (turned_false _ c.if-not-port_at.false) c.in-Nothing.ensures)
+    let port = c.port_at.result in
+    let there = there_at c.args.self.now c.as_slice.result.now c.args.port port c.as_slice.ensures.value c.port_at.ensures in
+    deaf_after c.args.self.now c.args.port c.args.frame.now port c.requires.ready c.requires.port there (not_true port.adjacency.carrier c.if-not-port_at.true)
 
 pub greet-requires-clause-carrier : goal.greet-requires-clause-carrier
 greet-requires-clause-carrier c =
-    let m = c.args.self.now in
-    let there = port_here m c.args.port c.as_slice.result.now c.port_at.result c.as_slice.ensures.value c.port_at.ensures in
-    lit_here (view_of m) c.args.port c.port_at.result there (turned_false _ c.if-not-port_at.false)
+    let port = c.port_at.result in
+    let there = there_at c.args.self.now c.as_slice.result.now c.args.port port c.as_slice.ensures.value c.port_at.ensures in
+    carrier_there (view_of c.args.self.now) c.args.port port there ∙ not_false port.adjacency.carrier c.if-not-port_at.false
 
-pub greet-requires-clause-source : goal.greet-requires-clause-source
-greet-requires-clause-source c = source_six c.args.frame.now (hello_of c.in-Greeting.hello) c.in-Greeting.way c.in-Greeting.ensures.0
+pub returns-in-Nothing : goal.returns-in-Nothing
+returns-in-Nothing c =
+    let port = c.port_at.result in
+    let there = there_at c.args.self.now c.as_slice.result.now c.args.port port c.as_slice.ensures.value c.port_at.ensures in
+    idle_after c.args.self.now c.args.port c.args.frame.now port c.requires.ready c.requires.port there (not_false port.adjacency.carrier c.if-not-port_at.false) c.in-Nothing.ensures
 
 pub returns-in-Greeting : goal.returns-in-Greeting
 returns-in-Greeting c =
     let m = c.args.self.now in
-    let there = port_here m c.args.port c.as_slice.result.now c.port_at.result c.as_slice.ensures.value c.port_at.ensures in
-    on_ok_weaker c.greet.result (after_same _ _ c.greet.new.self (heard_here m c.args.port c.args.frame.now c.port_at.result (greeting (hello_of c.in-Greeting.hello) c.in-Greeting.way) there (turned_false _ c.if-not-port_at.false) c.in-Greeting.ensures.0)) c.greet.ensures
+    let port = c.port_at.result in
+    let there = there_at m c.as_slice.result.now c.args.port port c.as_slice.ensures.value c.port_at.ensures in
+    let lit = not_false port.adjacency.carrier c.if-not-port_at.false in
+    on_ok_weaker c.greet.result (after_same _ _ c.greet.new.self (received_path (view_of m) c.args.port c.args.frame.now (greeting (hello_of c.in-Greeting.hello) c.in-Greeting.way) port c.requires.port there lit c.in-Greeting.ensures.0)) c.greet.ensures
 
 pub returns-in-LinkState : goal.returns-in-LinkState
 returns-in-LinkState c =
     let m = c.args.self.now in
-    let there = port_here m c.args.port c.as_slice.result.now c.port_at.result c.as_slice.ensures.value c.port_at.ensures in
-    on_ok_weaker c.hear_lsp.result (after_same _ _ c.hear_lsp.new.self (heard_here m c.args.port c.args.frame.now c.port_at.result (link_state (lsp_of c.in-LinkState.lsp)) there (turned_false _ c.if-not-port_at.false) c.in-LinkState.ensures)) c.hear_lsp.ensures
+    let port = c.port_at.result in
+    let there = there_at m c.as_slice.result.now c.args.port port c.as_slice.ensures.value c.port_at.ensures in
+    let lit = not_false port.adjacency.carrier c.if-not-port_at.false in
+    on_ok_weaker c.hear_lsp.result (after_same _ _ c.hear_lsp.new.self (received_path (view_of m) c.args.port c.args.frame.now (link_state (lsp_of c.in-LinkState.lsp)) port c.requires.port there lit c.in-LinkState.ensures)) c.hear_lsp.ensures
 
 pub returns-in-Complete : goal.returns-in-Complete
 returns-in-Complete c =
     let m = c.args.self.now in
-    let there = port_here m c.args.port c.as_slice.result.now c.port_at.result c.as_slice.ensures.value c.port_at.ensures in
-    on_ok_weaker c.hear_csnp.result (after_same _ _ c.hear_csnp.new.self (heard_here m c.args.port c.args.frame.now c.port_at.result (complete (csnp_of c.in-Complete.csnp)) there (turned_false _ c.if-not-port_at.false) c.in-Complete.ensures)) c.hear_csnp.ensures
+    let port = c.port_at.result in
+    let there = there_at m c.as_slice.result.now c.args.port port c.as_slice.ensures.value c.port_at.ensures in
+    let lit = not_false port.adjacency.carrier c.if-not-port_at.false in
+    on_ok_weaker c.hear_csnp.result (after_same _ _ c.hear_csnp.new.self (received_path (view_of m) c.args.port c.args.frame.now (complete (csnp_of c.in-Complete.csnp)) port c.requires.port there lit c.in-Complete.ensures)) c.hear_csnp.ensures
 
 pub returns-in-Partial : goal.returns-in-Partial
 returns-in-Partial c =
     let m = c.args.self.now in
-    let there = port_here m c.args.port c.as_slice.result.now c.port_at.result c.as_slice.ensures.value c.port_at.ensures in
-    on_ok_weaker c.hear_psnp.result (after_same _ _ c.hear_psnp.new.self (heard_here m c.args.port c.args.frame.now c.port_at.result (partial (psnp_of c.in-Partial.psnp)) there (turned_false _ c.if-not-port_at.false) c.in-Partial.ensures)) c.hear_psnp.ensures
+    let port = c.port_at.result in
+    let there = there_at m c.as_slice.result.now c.args.port port c.as_slice.ensures.value c.port_at.ensures in
+    let lit = not_false port.adjacency.carrier c.if-not-port_at.false in
+    on_ok_weaker c.hear_psnp.result (after_same _ _ c.hear_psnp.new.self (received_path (view_of m) c.args.port c.args.frame.now (partial (psnp_of c.in-Partial.psnp)) port c.requires.port there lit c.in-Partial.ensures)) c.hear_psnp.ensures
