@@ -86,6 +86,7 @@ kept_alike old a kept = record {
   where
     since : is_up a.state ≡ true → is_port_up old ≡ true
     since up = elim (up_since old.adjacency a up) [ inl came ↦ absurd (let no : CameUp ≡ Kept = sym came ∙ kept in cc) | inr was ↦ was.0 ]
+
     same : is_up a.state ≡ true → neighbour_of a ≡ neighbour_of old.adjacency
     same up = elim (up_since old.adjacency a up) [ inl came ↦ absurd (let no : CameUp ≡ Kept = sym came ∙ kept in cc) | inr was ↦ was.1 ]
 

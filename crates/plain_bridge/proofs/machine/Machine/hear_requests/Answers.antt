@@ -1,6 +1,5 @@
 use Rattle.std.proofs.Common.{ap, ◌∙◌}
 use Rattle.std.proofs.lemmas.Result.{on_ok_weaker}
-
 use Rattle.bridge_api.specs.View.{up_from}
 use Rattle.bridge_api.specs.Hearing.{requested}
 use Rattle.plain_bridge.specs.declared.machine.Machine.{Machine}
