@@ -77,10 +77,12 @@ left_none false b e = (refl, e)
 -- a port that doesn't leave Up keeps its neighbour
 later_same : (q : ℕ) (port : BridgePort) → leaves port ≡ false → (is_port_up (later port) ≡ is_port_up port) × (is_port_up port ≡ true → neighbour_in q (later port) ≡ neighbour_in q port)
 later_same q port stays =
-    let same : is_port_up (later port) ≡ is_port_up port = stays_up (is_port_up port) (is_port_up (later port)) stays (λ up. (second_up port.adjacency up).0) in
-    (same, λ up.
-      let still : is_port_up (later port) ≡ true = same ∙ up in
-      λ i. record { system = same_neighbour port.adjacency (after_second port.adjacency) up still (second_up port.adjacency still).1 i; metric = port.metric; port = q })
+    let same : is_port_up (later port) ≡ is_port_up port = stays_up (is_port_up port) (is_port_up (later port)) stays (λ up. (second_up port.adjacency up).0) in (
+      same,
+      λ up.
+          let still : is_port_up (later port) ≡ true = same ∙ up in
+          λ i. record { system = same_neighbour port.adjacency (after_second port.adjacency) up still (second_up port.adjacency still).1 i; metric = port.metric; port = q },
+    )
 
 neighbours_later : (q : ℕ) (ports : List BridgePort) → has_leaving ports ≡ false → neighbours_from q (map later ports) ≡ neighbours_from q ports
 neighbours_later q [] none = refl

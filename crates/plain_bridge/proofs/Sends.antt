@@ -121,8 +121,8 @@ nothing_flagged me p db none = sym (λ i. no_lsps me p db none i ++ no_requests 
 pub settled_idle : (p : ℕ) (db : Lsps) → any_flags db ≡ false → db ≡ all_settled p db
 settled_idle p db none =
     sym (each_same (λ id e. settled p e) db (λ id e held.
-      let off : has e.ssn p ≡ false = ap (λ (o : Option Entry). has (ssn_in o) p) (sym held) ∙ (without_flags db none id p).1 in
-      ap (λ (b : Bool). if b then with_ssn p false e else e) off))
+    let off : has e.ssn p ≡ false = ap (λ (o : Option Entry). has (ssn_in o) p) (sym held) ∙ (without_flags db none id p).1 in
+    ap (λ (b : Bool). if b then with_ssn p false e else e) off))
 
 -- ---- a port
 

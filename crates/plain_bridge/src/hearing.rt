@@ -209,14 +209,7 @@ impl Machine {
         ensures { OnOk result (IsAfter (settled (api.requested entries.now port (view_of self.old))) self.new) }
     {
         let up = up_ports(self.ports.as_slice());
-        hear_psnp(
-            self.alloc,
-            &mut self.db,
-            up,
-            port,
-            entries,
-            &mut self.own,
-        )?;
+        hear_psnp(self.alloc, &mut self.db, up, port, entries, &mut self.own)?;
         self.settle()
     }
 }

@@ -1,7 +1,25 @@
-//! A bridge that keeps its ports in one list and takes each call as it comes.
+//! A bridge that keeps its ports in one list and its LSPs in one database, and takes each call as it comes.
 //!
-//! A tick takes time and memory for the frames that it sends, in proportion to the number of ports. Hearing a frame
-//! takes time in proportion to its length, and no memory; a change of carrier takes constant time.
+//! [`PlainBridge`] is a `Machine` with two marks: whether it is blank, and whether a call found no memory. What the machine
+//! makes of a call stands in `hearing` and `ticking`, what a frame brings in `judging`, and what is sent in `hello` and
+//! `sending`.
+//!
+//! # Costs
+//!
+//! With p ports, n LSPs that are held and an own LSP of b bytes:
+//!
+//! - The body of the own LSP is kept. It is made anew, in time and memory of order p + b and for sorting what is attached,
+//!   where a port comes Up, leaves Up, or is Up and gets another metric; no other call makes it. Each call that may
+//!   originate compares it with the one that is held: a binary search, and b bytes.
+//! - A tick in which no flags stand goes once over the ports and once over the database, in time p + n, and takes memory for
+//!   the hellos alone. Where flags stand or the bridge originated, it also goes over the database twice for each Up port, and
+//!   over it once more for each at which CSNPs are due, and takes memory for what is sent. It goes over the database once for
+//!   each port at which a neighbour is lost.
+//! - A hello takes time in proportion to its length, and no memory, unless the port comes Up or leaves Up. Leaving Up goes
+//!   over the database once; entering Up once more, with a binary search for each LSP.
+//! - An LSP takes a binary search, and memory for its body if it is stored; a sequence numbers PDU a binary search for each
+//!   entry, and a CSNP also what `snp_sync` says.
+//! - No call copies the database.
 #![tactic(auto)]
 
 pub use bridge::PlainBridge;
@@ -13,6 +31,6 @@ mod judging;
 mod machine;
 mod ports;
 mod sending;
-mod ticking;
 #[cfg(test)]
 mod tests;
+mod ticking;

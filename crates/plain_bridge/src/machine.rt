@@ -107,8 +107,7 @@ impl Machine {
     {
         let vids = Vec::from_slice(self.alloc, self.vids.as_slice())?;
         let neighbours = neighbours_at(self.alloc, self.ports.as_slice())?;
-        let attached =
-            attached_members(self.alloc, self.id.system, self.attached.as_slice())?;
+        let attached = attached_members(self.alloc, self.id.system, self.attached.as_slice())?;
         Ok(Local {
             config: BridgeConfigFacts {
                 id: self.id,

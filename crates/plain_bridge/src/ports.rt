@@ -79,10 +79,7 @@ pub(crate) fn up_ports(ports: &[BridgePort]) -> PortSet
 }
 
 /// The neighbours at the ports that are Up, in order, each with the metric of the link there.
-pub(crate) fn neighbours_at(
-    alloc: Global,
-    ports: &[BridgePort],
-) -> Result<Vec<Neighbour>, NoMemory>
+pub(crate) fn neighbours_at(alloc: Global, ports: &[BridgePort]) -> Result<Vec<Neighbour>, NoMemory>
     requires { length ports.now ≤ 32 }
     ensures { IfOk result (λ v. v.items ≡ own.neighbours_from 1 ports.now) }
 {

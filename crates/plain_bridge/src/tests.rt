@@ -184,7 +184,10 @@ fn two_boxes_come_up_with_each_other(rt: HostRuntime) -> Result<(), Fail> {
     make(alloc, &mut a, 1)?;
     make(alloc, &mut b, 2)?;
     assert_eq!(rt; (a.is_blank(), a.is_failed()), (false, false));
-    assert_eq!(rt; (a.adjacent(1).state, a.has_flag()), (AdjState::Down, false));
+    assert_eq!(rt;
+        (a.adjacent(1).state, a.has_flag()),
+        (AdjState::Down, false)
+    );
     greet(alloc, &mut a, &mut b)?;
     assert_eq!(rt;
         (b.adjacent(1).state, b.due(1)),
@@ -204,7 +207,10 @@ fn two_boxes_come_to_hold_the_same(rt: HostRuntime) -> Result<(), Fail> {
     let mut b: Box<dyn Bridge> = Box::new(alloc, PlainBridge::blank(alloc))?;
     make(alloc, &mut a, 1)?;
     make(alloc, &mut b, 2)?;
-    let alone = Version::Live { seq: 1, sum: 0x4fd7 };
+    let alone = Version::Live {
+        seq: 1,
+        sum: 0x4fd7,
+    };
     assert_eq!(rt; held_at(&a, 0), (alone, 1200));
     greet(alloc, &mut a, &mut b)?;
     greet(alloc, &mut b, &mut a)?;
@@ -213,8 +219,14 @@ fn two_boxes_come_to_hold_the_same(rt: HostRuntime) -> Result<(), Fail> {
     greet(alloc, &mut b, &mut a)?;
     greet(alloc, &mut a, &mut b)?;
     assert_eq!(rt; (a.has_flag(), b.has_flag()), (false, false));
-    let of_a = Version::Live { seq: 2, sum: 0xa512 };
-    let of_b = Version::Live { seq: 2, sum: 0xc2f3 };
+    let of_a = Version::Live {
+        seq: 2,
+        sum: 0xa512,
+    };
+    let of_b = Version::Live {
+        seq: 2,
+        sum: 0xc2f3,
+    };
     assert_eq!(rt; (held_at(&a, 0).0, held_at(&b, 0).0), (of_a, of_a));
     assert_eq!(rt; (held_at(&a, 1).0, held_at(&b, 1).0), (of_b, of_b));
     assert!(rt; a.entry(2).is_none());

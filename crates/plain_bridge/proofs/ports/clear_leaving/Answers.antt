@@ -10,11 +10,11 @@ pub clear-preserved : goal.clear-preserved
 clear-preserved c =
     elim c.if-leaves.branch [
       | then-leaves w ↦ (
-          cleared_next true c.args.ports.now c.clear.place _ c.args.db.now c.clear.db _ c.clear-test.true w.if-leaves.ensures c.clear.invariant.0 (w.db-is ∙ w.clear_port.ensures),
-          some_next true c.args.ports.now c.clear.place _ c.clear.some _ c.clear-test.true w.if-leaves.ensures c.clear.invariant.1 w.some-is,
-        )
+        cleared_next true c.args.ports.now c.clear.place _ c.args.db.now c.clear.db _ c.clear-test.true w.if-leaves.ensures c.clear.invariant.0 (w.db-is ∙ w.clear_port.ensures),
+        some_next true c.args.ports.now c.clear.place _ c.clear.some _ c.clear-test.true w.if-leaves.ensures c.clear.invariant.1 w.some-is,
+      )
       | else-leaves w ↦ (
-          cleared_next false c.args.ports.now c.clear.place _ c.args.db.now c.clear.db _ c.clear-test.true w.if-leaves.ensures c.clear.invariant.0 w.db-is,
-          some_next false c.args.ports.now c.clear.place _ c.clear.some _ c.clear-test.true w.if-leaves.ensures c.clear.invariant.1 w.some-is,
-        )
+        cleared_next false c.args.ports.now c.clear.place _ c.args.db.now c.clear.db _ c.clear-test.true w.if-leaves.ensures c.clear.invariant.0 w.db-is,
+        some_next false c.args.ports.now c.clear.place _ c.clear.some _ c.clear-test.true w.if-leaves.ensures c.clear.invariant.1 w.some-is,
+      )
     ]

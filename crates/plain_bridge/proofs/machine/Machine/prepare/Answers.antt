@@ -14,4 +14,3 @@ pub refresh-requires-clause-current : goal.refresh-requires-clause-current
 refresh-requires-clause-current c =
     let is = expired_after (counted (view_of c.args.self.now)) c.count.new.self c.up_ports-up.result c.age_one-flags.new.self c.in_ok-count.ensures (c.up_ports-up.ensures ∙ ap (up_from 1) c.as_slice.ensures.value) c.age_one-flags.ensures.aged in
     is.current
-
