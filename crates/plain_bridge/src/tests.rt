@@ -204,8 +204,8 @@ fn two_boxes_come_up_with_each_other(rt: HostRuntime) -> Result<(), Fail> {
 fn two_boxes_come_to_hold_the_same(rt: HostRuntime) -> Result<(), Fail> {
     let alloc = rt.alloc();
     let mut a: Box<dyn Bridge> = Box::new(alloc, PlainBridge::blank(alloc))?;
-    let mut b: Box<dyn Bridge> = Box::new(alloc, PlainBridge::blank(alloc))?;
     make(alloc, &mut a, 1)?;
+    let mut b: Box<dyn Bridge> = Box::new(alloc, PlainBridge::blank(alloc))?;
     make(alloc, &mut b, 2)?;
     let alone = Version::Live {
         seq: 1,
@@ -237,8 +237,8 @@ fn two_boxes_come_to_hold_the_same(rt: HostRuntime) -> Result<(), Fail> {
 fn a_greater_number_of_an_own_lsp_is_answered(rt: HostRuntime) -> Result<(), Fail> {
     let alloc = rt.alloc();
     let mut a: Box<dyn Bridge> = Box::new(alloc, PlainBridge::blank(alloc))?;
-    let mut b: Box<dyn Bridge> = Box::new(alloc, PlainBridge::blank(alloc))?;
     make(alloc, &mut a, 1)?;
+    let mut b: Box<dyn Bridge> = Box::new(alloc, PlainBridge::blank(alloc))?;
     make(alloc, &mut b, 2)?;
     // It isn't Up yet.
     assert!(rt; is_dropped(alloc, &mut a, &OLD_LSP)?);
