@@ -176,12 +176,12 @@ fn the_next_hello_names_the_neighbour_that_was_heard(rt: HostRuntime) -> Result<
 fn two_boxes_come_up_with_each_other(rt: HostRuntime) -> Result<(), Fail> {
     let alloc = rt.alloc();
     let mut a: Box<dyn Bridge> = Box::new(alloc, PlainBridge::blank(alloc))?;
-    let mut b: Box<dyn Bridge> = Box::new(alloc, PlainBridge::blank(alloc))?;
     assert_eq!(rt;
         (a.kind(), a.is_blank(), a.is_failed()),
         (Kind::Plain, true, false)
     );
     make(alloc, &mut a, 1)?;
+    let mut b: Box<dyn Bridge> = Box::new(alloc, PlainBridge::blank(alloc))?;
     make(alloc, &mut b, 2)?;
     assert_eq!(rt; (a.is_blank(), a.is_failed()), (false, false));
     assert_eq!(rt;
@@ -204,8 +204,8 @@ fn two_boxes_come_up_with_each_other(rt: HostRuntime) -> Result<(), Fail> {
 fn two_boxes_come_to_hold_the_same(rt: HostRuntime) -> Result<(), Fail> {
     let alloc = rt.alloc();
     let mut a: Box<dyn Bridge> = Box::new(alloc, PlainBridge::blank(alloc))?;
-    let mut b: Box<dyn Bridge> = Box::new(alloc, PlainBridge::blank(alloc))?;
     make(alloc, &mut a, 1)?;
+    let mut b: Box<dyn Bridge> = Box::new(alloc, PlainBridge::blank(alloc))?;
     make(alloc, &mut b, 2)?;
     let alone = Version::Live {
         seq: 1,
@@ -237,8 +237,8 @@ fn two_boxes_come_to_hold_the_same(rt: HostRuntime) -> Result<(), Fail> {
 fn a_greater_number_of_an_own_lsp_is_answered(rt: HostRuntime) -> Result<(), Fail> {
     let alloc = rt.alloc();
     let mut a: Box<dyn Bridge> = Box::new(alloc, PlainBridge::blank(alloc))?;
-    let mut b: Box<dyn Bridge> = Box::new(alloc, PlainBridge::blank(alloc))?;
     make(alloc, &mut a, 1)?;
+    let mut b: Box<dyn Bridge> = Box::new(alloc, PlainBridge::blank(alloc))?;
     make(alloc, &mut b, 2)?;
     // It isn't Up yet.
     assert!(rt; is_dropped(alloc, &mut a, &OLD_LSP)?);
@@ -268,8 +268,8 @@ fn an_own_lsp_of_lifetime_300_is_originated_anew(rt: HostRuntime) -> Result<(), 
 fn a_box_drops_garbage_and_stays_as_it_was(rt: HostRuntime) -> Result<(), Fail> {
     let alloc = rt.alloc();
     let mut a: Box<dyn Bridge> = Box::new(alloc, PlainBridge::blank(alloc))?;
-    let mut b: Box<dyn Bridge> = Box::new(alloc, PlainBridge::blank(alloc))?;
     make(alloc, &mut a, 1)?;
+    let mut b: Box<dyn Bridge> = Box::new(alloc, PlainBridge::blank(alloc))?;
     make(alloc, &mut b, 2)?;
     greet(alloc, &mut a, &mut b)?;
     greet(alloc, &mut b, &mut a)?;
@@ -289,8 +289,8 @@ fn a_box_drops_garbage_and_stays_as_it_was(rt: HostRuntime) -> Result<(), Fail> 
 fn one_box_of_several_ticks(rt: HostRuntime) -> Result<(), Fail> {
     let alloc = rt.alloc();
     let mut a: Box<dyn Bridge> = Box::new(alloc, PlainBridge::blank(alloc))?;
-    let mut b: Box<dyn Bridge> = Box::new(alloc, PlainBridge::blank(alloc))?;
     make(alloc, &mut a, 2)?;
+    let mut b: Box<dyn Bridge> = Box::new(alloc, PlainBridge::blank(alloc))?;
     make(alloc, &mut b, 1)?;
     let mut boxes = vec![in alloc; a, b]?;
     let mut outbox = Outbox::new(alloc);
