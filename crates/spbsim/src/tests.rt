@@ -181,6 +181,25 @@ fn check(
     Ok(())
 }
 
+/// Asserts what lines behind a script answer, where all are accepted.
+fn check_done(
+    rt: &impl Abort,
+    alloc: Global,
+    before: &str,
+    lines: &str,
+    text: &str,
+) -> Result<(), Fail> {
+    let script = format!(in alloc; "{before}{lines}")?;
+    check(
+        rt,
+        alloc,
+        script.as_bytes(),
+        50,
+        Status::Done,
+        text.as_bytes(),
+    )
+}
+
 /// Asserts that a line behind a script is refused for a reason, as its fourth line.
 fn check_refused(
     rt: &impl Abort,
@@ -225,65 +244,27 @@ fn scripts_are_answered_in_pieces_of_any_size(rt: HostRuntime) -> Result<(), Fai
 
 #[test]
 fn hellos_bring_two_bridges_up(rt: HostRuntime) -> Result<(), Fail> {
-    let alloc = rt.alloc();
-    let script = format!(in alloc; "{TWO}{HELLOS}")?;
-    check(
-        &rt,
-        alloc,
-        script.as_bytes(),
-        50,
-        Status::Done,
-        HELLOS_ANSWER.as_bytes(),
-    )
+    check_done(&rt, rt.alloc(), TWO, HELLOS, HELLOS_ANSWER)
 }
 
 #[test]
 fn lost_hellos_take_a_bridge_down(rt: HostRuntime) -> Result<(), Fail> {
-    let alloc = rt.alloc();
-    let script = format!(in alloc; "{TWO}{LOST}")?;
-    check(
-        &rt,
-        alloc,
-        script.as_bytes(),
-        50,
-        Status::Done,
-        LOST_ANSWER.as_bytes(),
-    )
+    check_done(&rt, rt.alloc(), TWO, LOST, LOST_ANSWER)
 }
 
 #[test]
 fn databases_are_equal_whatever_is_lost_or_doubled(rt: HostRuntime) -> Result<(), Fail> {
-    let alloc = rt.alloc();
-    let script = format!(in alloc; "{TWO}{SYNCED}")?;
-    check(
-        &rt,
-        alloc,
-        script.as_bytes(),
-        50,
-        Status::Done,
-        SYNCED_ANSWER.as_bytes(),
-    )
+    check_done(&rt, rt.alloc(), TWO, SYNCED, SYNCED_ANSWER)
 }
 
 #[test]
 fn the_lsp_of_a_cut_off_neighbour_runs_out(rt: HostRuntime) -> Result<(), Fail> {
-    let alloc = rt.alloc();
-    let script = format!(in alloc; "{TWO}{CUT_OFF}")?;
-    check(
-        &rt,
-        alloc,
-        script.as_bytes(),
-        50,
-        Status::Done,
-        CUT_OFF_ANSWER.as_bytes(),
-    )
+    check_done(&rt, rt.alloc(), TWO, CUT_OFF, CUT_OFF_ANSWER)
 }
 
 #[test]
 fn a_link_goes_down_and_up_and_its_hellos_are_doubled(rt: HostRuntime) -> Result<(), Fail> {
-    let alloc = rt.alloc();
-    let script = format!(in alloc;
-        "{TWO}round 3
+    let lines = "round 3
 down L1
 adj A
 up L1
@@ -293,16 +274,15 @@ double L1 ba 0
 drain 1
 deliver L1 ba
 adj A
-"
-    )?;
-    check(
-        &rt,
-        alloc,
-        script.as_bytes(),
-        50,
-        Status::Done,
-        b"adj A 1\np 1 off\nadj A 1\np 1 down\nadj A 1\np 1 init 020000000002 1 3 -\n",
-    )
+";
+    let text = "adj A 1
+p 1 off
+adj A 1
+p 1 down
+adj A 1
+p 1 init 020000000002 1 3 -
+";
+    check_done(&rt, rt.alloc(), TWO, lines, text)
 }
 
 #[test]
