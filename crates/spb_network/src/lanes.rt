@@ -1,4 +1,4 @@
-ghost use Rattle.std.specs.Prelude.{◌≡◌, ◌≤◌, ◌↔◌, [], length, OnOk, IsErrOf, slice_get};
+ghost use Rattle.std.specs.Prelude.{◌≡◌, ◌<◌, ◌≤◌, ◌↔◌, [], length, IsOk, OnOk, IsErrOf, slice_get};
 ghost use Rattle.std.specs.Option.{option_map};
 ghost use Rattle.link_model.specs.Lane.{pushed, after_lose, after_double};
 ghost use Rattle.spb_network.specs.Lanes.{lane_in, changed_lane, rest};
@@ -60,9 +60,10 @@ impl Lanes {
         }
     }
 
-    /// Removes the frame at place `k` of a lane.
+    /// Removes the frame at place `k` of a lane. `NoFrame` exactly where `k` isn't below its length.
     pub fn lose(&mut self, dir: Dir, k: usize) -> Result<(), NoFrame>
-        ensures { self.new ≡ changed_lane dir (λ frames. after_lose frames k) self.old }
+        ensures ok { IsOk result ↔ (k < length (lane_in dir self.old)) }
+        ensures frames { self.new ≡ changed_lane dir (λ frames. after_lose frames k) self.old }
     {
         match dir {
             Dir::Ab => self.ab.lose(k),
