@@ -41,7 +41,7 @@ use Rattle.bridge_api.specs.Laws.{IsSoundPort, HasConfig, HasDatabase, IsSoundVi
 use Rattle.bridge_api.proofs.Places.{got_at}
 use Rattle.bridge_api.proofs.Adjacent.{came_up, stayed_up, hello_sound, carrier_sound}
 use Rattle.bridge_api.proofs.Changes.{KeepsRest, found, Flooded, Completed, Requested, frame_step, idle, by_hello, by_lsp, by_csnp, by_psnp, carrier_step, metric_step, settled_ports, tick_is}
-use Rattle.bridge_api.proofs.SoundPorts.{AreSoundPorts, all_set, heard_six, carrier_six, metered_sound, sound_at, source_six, all_later, all_dark, config_kept}
+use Rattle.bridge_api.proofs.SoundPorts.{AreSoundPorts, all_set, heard_six, carrier_six, metered_sound, sound_at, source_six, all_later, all_dark, config_kept, bare_config}
 use Rattle.bridge_api.proofs.Saying.{has_body}
 use Rattle.bridge_api.proofs.Data.{CanOriginate, own_named, up_at, settled_keeps, refreshed_keeps, lsp_keeps, csnp_keeps, psnp_keeps, moved_keeps, left_keeps, joined_at_keeps, counted_keeps, expired_keeps, told_keeps}
 use Rattle.bridge_api.proofs.Reading.{heard_lsp, heard_csnp, heard_psnp}
@@ -222,19 +222,6 @@ configured_alone c id apart = origination_leaves_others (up_ports (bare c)) (hol
 
 pub configured_holds_own : ConfiguredHoldsOwn
 configured_holds_own c = record { own = configured_own c; alone = configured_alone c }
-
-bare_config : (c : BridgeConfig) → IsWhole c → HasConfig (bare c)
-bare_config c whole = record {
-  priority = whole.priority;
-  system = whole.system;
-  source = whole.source;
-  few_vids = whole.few_vids;
-  each_vid = whole.each_vid;
-  vids_apart = whole.vids_apart;
-  each_attachment = whole.each_attachment;
-  attachments_apart = whole.attachments_apart;
-  few_isids = whole.few_isids;
-}
 
 pub configured_holds : (c : BridgeConfig) → IsWhole c → HasDatabase (configured c)
 unfolding configured

@@ -18,7 +18,7 @@ use Rattle.adjacency.specs.Adjacency.{IsSound, down, led_to, state_towards, is_d
 use Rattle.bridge_api.specs.declared.port.BridgePort.{BridgePort}
 use Rattle.bridge_api.specs.declared.config.BridgeConfig.{BridgeConfig}
 use Rattle.bridge_api.specs.View.{BridgeView, port_at, neighbour_at, is_port_up, has_carrier_in, has_carrier_at, metrics_of}
-use Rattle.bridge_api.specs.Config.{IsWhole, IsMetric, dark, configured}
+use Rattle.bridge_api.specs.Config.{IsWhole, IsMetric, dark, bare, configured}
 use Rattle.bridge_api.specs.Judging.{judged, greeting}
 use Rattle.bridge_api.specs.Hearing.{with_due, with_adjacency, after_receive, with_carrier, metered, with_metric}
 use Rattle.bridge_api.specs.Ports.{noted, greeted_port, carried_port}
@@ -26,7 +26,7 @@ use Rattle.bridge_api.specs.Ticking.{later}
 use Rattle.bridge_api.specs.Step.{Input, second, frame, carrier, metric, step}
 use Rattle.bridge_api.specs.Laws.{IsSoundPort, HasConfig, IsInput, ConfiguredIsDark}
 use Rattle.bridge_api.proofs.Adjacent.{came_up, stayed_up, hello_sound, second_sound, carrier_sound, not_discarded}
-use Rattle.bridge_api.proofs.Changes.{KeepsRest, found, frame_ports, greeted_ports, carrier_step, carried_ports, metric_step, metered_ports, tick_ports, configured_is, configured_ports}
+use Rattle.bridge_api.proofs.Changes.{KeepsRest, found, frame_ports, greeted_ports, carrier_step, carried_ports, metric_step, metered_ports, tick_ports, configured_ports}
 use Rattle.bridge_api.proofs.Certified.{end_in}
 use Rattle.bridge_api.proofs.Heard.{pdu_in, heard_pdu}
 
@@ -159,19 +159,22 @@ config_kept v w rest was =
       few_isids = was.few_isids;
     })
 
+pub bare_config : (c : BridgeConfig) → IsWhole c → HasConfig (bare c)
+bare_config c whole = record {
+  priority = whole.priority;
+  system = whole.system;
+  source = whole.source;
+  few_vids = whole.few_vids;
+  each_vid = whole.each_vid;
+  vids_apart = whole.vids_apart;
+  each_attachment = whole.each_attachment;
+  attachments_apart = whole.attachments_apart;
+  few_isids = whole.few_isids;
+}
+
 pub configured_config : (c : BridgeConfig) → IsWhole c → HasConfig (configured c)
-configured_config c whole =
-    subst HasConfig (sym (configured_is c)) (record {
-      priority = whole.priority;
-      system = whole.system;
-      source = whole.source;
-      few_vids = whole.few_vids;
-      each_vid = whole.each_vid;
-      vids_apart = whole.vids_apart;
-      each_attachment = whole.each_attachment;
-      attachments_apart = whole.attachments_apart;
-      few_isids = whole.few_isids;
-    })
+unfolding configured
+configured_config c whole = config_kept (bare c) (configured c) refl (bare_config c whole)
 
 pub all_dark : (metrics : List ℕ) → AllByRecursion IsMetric metrics → AreSoundPorts (map dark metrics)
 all_dark [] each = tt

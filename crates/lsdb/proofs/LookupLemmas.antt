@@ -1,12 +1,13 @@
 -- What stands under an id after a change of the map.
-use Rattle.std.specs.Prelude.{◌≡◌, Bool, true, false, ◌&&◌, ◌||◌, cond, T, List, [], ◌∷◌, map, Option, Some, None, nat_lt, is_some, if◌then◌else◌}
+use Rattle.std.specs.Prelude.{◌≡◌, Bool, true, false, ◌&&◌, ◌||◌, cond, T, List, [], ◌∷◌, map, Option, Some, None, length, nat_lt, is_some, if◌then◌else◌}
 use Rattle.std.proofs.Common.{refl, sym, ap, subst, ◌∙◌, ◌⊎◌, inl, inr, ⊎_elim}
 use Rattle.std.proofs.lemmas.Bool.{false≢true}
+use Rattle.std.proofs.lemmas.List.{length-map}
 use Rattle.std.specs.declared.cmp.Ordering.{Ordering}
 use Rattle.std.specs.declared.cmp.Ordering.TheVariants.{Less, Equal, Greater}
 use Rattle.std.specs.Ordering.{is_eq, is_lt}
 use Rattle.std.specs.Option.{option_map}
-use Rattle.std.specs.FinMap.{find, is_sorted, get, insert, entries, entries_sorted, get-from_sorted, get-entries, get-insert, len, same_map}
+use Rattle.std.specs.FinMap.{find, is_sorted, get, insert, entries, entries_sorted, entries-from_sorted, get-from_sorted, get-entries, get-insert, len, len-entries, same_map}
 use Rattle.std.specs.FinMap.Entries.{below_all}
 use Rattle.spb_types.specs.declared.address.LspId.{LspId}
 use Rattle.lsdb.specs.Entry.{Entry}
@@ -63,6 +64,24 @@ get-each f db x =
     let es = entries db in
     get-from_sorted id_cmp (map (λ (e : LspId × Entry). (e.0, f e.0 e.1)) es) x (subst T (sym (sorted_each f es)) (entries_sorted db))
     ∙ find_each f es x ∙ ap (option_map (f x)) (sym (get-entries db x))
+
+pub is_some-option_map : {X Y : Type 0} (f : X → Y) (o : Option X) → is_some (option_map f o) ≡ is_some o
+is_some-option_map f None = refl
+is_some-option_map f (Some x) = refl
+
+-- a map has as many entries, and as much place, after every entry was changed
+len-each : (f : LspId → Entry → Entry) (db : Lsps) → len (each f db) ≡ len db
+unfolding each
+len-each f db =
+    let es = entries db in
+    len-entries (each f db)
+    ∙ (ap length (entries-from_sorted id_cmp (map (λ (e : LspId × Entry). (e.0, f e.0 e.1)) es) (subst T (sym (sorted_each f es)) (entries_sorted db)))
+    ∙ (length-map es (λ (e : LspId × Entry). (e.0, f e.0 e.1)) ∙ sym (len-entries db)))
+
+pub fits-each : (f : LspId → Entry → Entry) (db : Lsps) (id : LspId) → fits (each f db) id ≡ fits db id
+fits-each f db id =
+    let is : is_some (get (each f db) id) ≡ is_some (get db id) = ap is_some (get-each f db id) ∙ is_some-option_map (f id) (get db id) in
+    λ i. is i || nat_lt (len-each f db i) 2048
 
 -- an entry changed twice, and an entry that is placed where the id is held
 pub insert-insert : (db : Lsps) (id : LspId) (e f : Entry) → insert (insert db id e) id f ≡ insert db id f

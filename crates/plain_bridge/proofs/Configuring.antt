@@ -12,28 +12,14 @@ use Rattle.bridge_api.specs.declared.config.BridgeConfig.{BridgeConfig}
 use Rattle.bridge_api.specs.View.{BridgeView}
 use Rattle.bridge_api.specs.Own.{local_of, own_of, originating}
 use Rattle.bridge_api.specs.Config.{IsWhole, dark, bare, configured}
-use Rattle.bridge_api.specs.Laws.{HasConfig}
 use Rattle.bridge_api.proofs.Saying.{is_local}
-use Rattle.bridge_api.proofs.SoundPorts.{all_dark}
+use Rattle.bridge_api.proofs.SoundPorts.{all_dark, bare_config}
 use Rattle.plain_bridge.specs.declared.machine.Machine.{Machine}
 use Rattle.plain_bridge.specs.Machine.{view_of, CanOriginate, IsAfter}
 use Rattle.plain_bridge.proofs.Owning.{after_same}
 
 few_dark : (c : BridgeConfig) → IsWhole c → length (bare c).ports ≤ 32
 few_dark c whole = omega (arith, length-map c.metrics dark, whole.metrics, whole.ports)
-
-bare_config : (c : BridgeConfig) → IsWhole c → HasConfig (bare c)
-bare_config c whole = record {
-  priority = whole.priority;
-  system = whole.system;
-  source = whole.source;
-  few_vids = whole.few_vids;
-  each_vid = whole.each_vid;
-  vids_apart = whole.vids_apart;
-  each_attachment = whole.each_attachment;
-  attachments_apart = whole.attachments_apart;
-  few_isids = whole.few_isids;
-}
 
 pub bare_local : (c : BridgeConfig) → IsWhole c → IsLocal (local_of (bare c))
 bare_local c whole = is_local (bare c) (bare_config c whole) (few_dark c whole) (all_dark c.metrics whole.each_metric)

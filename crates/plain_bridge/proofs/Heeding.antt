@@ -10,7 +10,7 @@ use Rattle.lsdb.specs.Version.{is_absent, relation}
 use Rattle.lsdb.specs.Entry.{Entry}
 use Rattle.lsdb.specs.Database.{Lsps, version_in, fits, placed, each}
 use Rattle.lsdb.specs.Certificate.{Claim}
-use Rattle.lsdb.proofs.LookupLemmas.{get-insert_same, get-insert_other, same_or_not, get-each}
+use Rattle.lsdb.proofs.LookupLemmas.{get-insert_same, get-insert_other, same_or_not, get-each, is_some-option_map}
 use Rattle.flooding.specs.declared.own.Own.{Own}
 use Rattle.flooding.specs.Own.{own_id}
 use Rattle.flooding.specs.Hearing.{Holding, lsp_row, snp_row, claim_of, heard_by, own_after, lacks_place, after_claim, hear_lsp_of, hear_entry_of}
@@ -28,7 +28,7 @@ use Rattle.plain_bridge.specs.declared.machine.Machine.{Machine}
 use Rattle.plain_bridge.specs.Machine.{view_of, IsCurrent, IsReady, CanOriginate, IsAfter, heard_by as heard_in, hears}
 use Rattle.plain_bridge.specs.Message.{IsIdle}
 use Rattle.plain_bridge.proofs.Owning.{current_with}
-use Rattle.plain_bridge.proofs.Putting.{got, some_mapped}
+use Rattle.plain_bridge.proofs.Putting.{got}
 
 -- ---- what is held stays held
 
@@ -65,7 +65,7 @@ entries_held up p [] h x held = held
 entries_held up p (c ∷ claims) h x held = entries_held up p claims (hear_entry_of up p c h) x (claim_held (snp_row up p c.version) up c h x held)
 
 each_held : (f : LspId → Entry → Entry) (db : Lsps) (x : LspId) → IsHeld db x → IsHeld (each f db) x
-each_held f db x held = ap is_some (get-each f db x) ∙ (some_mapped (f x) (get db x) ∙ held)
+each_held f db x held = ap is_some (get-each f db x) ∙ (is_some-option_map (f x) (get db x) ∙ held)
 
 -- ---- the machine that heard it
 

@@ -16,7 +16,7 @@ use Rattle.spb_tlvs.specs.declared.neighbours.Neighbour.{Neighbour}
 use Rattle.spb_tlvs.specs.declared.three_way.ThreeWay.{ThreeWay}
 use Rattle.lsdb.specs.Entry.{Entry, parted, joined}
 use Rattle.lsdb.specs.Database.{Lsps, id_cmp, fits, each}
-use Rattle.lsdb.proofs.LookupLemmas.{get-each}
+use Rattle.lsdb.proofs.LookupLemmas.{fits-each}
 use Rattle.flooding.specs.declared.own.Own.{Own}
 use Rattle.flooding.specs.Own.{own_id}
 use Rattle.spb_content.specs.Local.{IsLocal}
@@ -127,32 +127,6 @@ can_put m p new ready is metric = record { port = is; can = ready_can m ready; c
 
 -- ---- leaving and entering Up
 
--- the machine can originate with each entry changed
-below_each : (x : LspId) (f : LspId → Entry → Entry) (es : List (LspId × Entry)) → below_all id_cmp x (map (λ e. (e.0, f e.0 e.1)) es) ≡ below_all id_cmp x es
-below_each x f [] = refl
-below_each x f (e ∷ es) = ap (λ b. is_lt (id_cmp x e.0) && b) (below_each x f es)
-
-sorted_each : (f : LspId → Entry → Entry) (es : List (LspId × Entry)) → is_sorted id_cmp (map (λ e. (e.0, f e.0 e.1)) es) ≡ is_sorted id_cmp es
-sorted_each f [] = refl
-sorted_each f (e ∷ es) = λ i. below_each e.0 f es i && sorted_each f es i
-
-len_each : (f : LspId → Entry → Entry) (db : Lsps) → len (each f db) ≡ len db
-unfolding each
-len_each f db =
-    let es = entries db in
-    len-entries (each f db)
-    ∙ (ap length (entries-from_sorted id_cmp (map (λ (e : LspId × Entry). (e.0, f e.0 e.1)) es) (subst T (sym (sorted_each f es)) (entries_sorted db)))
-    ∙ (length-map es (λ (e : LspId × Entry). (e.0, f e.0 e.1)) ∙ sym (len-entries db)))
-
-pub some_mapped : {X Y : Type 0} (f : X → Y) (o : Option X) → is_some (option_map f o) ≡ is_some o
-some_mapped f None = refl
-some_mapped f (Some x) = refl
-
-pub fits_each : (f : LspId → Entry → Entry) (db : Lsps) (id : LspId) → fits (each f db) id ≡ fits db id
-fits_each f db id =
-    let is : is_some (get (each f db) id) ≡ is_some (get db id) = ap is_some (get-each f db id) ∙ some_mapped (f id) (get db id) in
-    λ i. is i || nat_lt (len_each f db i) 2048
-
 -- a port leaves Up
 pub left_local : (m : Machine) (p : ℕ) (new : BridgePort) (ports : Vec BridgePort) (db : Lsps) → CanPut p new m → ports.items ≡ slice_set m.ports.items (p - 1) (with_due false new) → IsLocal (local_of (view_of (record m { ports = ports; db = db })))
 left_local m p new ports db can is =
@@ -174,7 +148,7 @@ pub left_can : (m n : Machine) (p : ℕ) (new : BridgePort) (ports : Vec BridgeP
 left_can m n p new ports db own can is parts renewed =
     subst CanOriginate (sym renewed) (record {
       few = omega (arith, can.can.few, ap length is, length-set m.ports.items (p - 1) (with_due false new));
-      place = ap (λ (d : Lsps). fits d (own_id m.id.system)) parts ∙ (fits_each (λ id e. parted p e) m.db (own_id m.id.system) ∙ can.can.place);
+      place = ap (λ (d : Lsps). fits d (own_id m.id.system)) parts ∙ (fits-each (λ id e. parted p e) m.db (own_id m.id.system) ∙ can.can.place);
     })
 
 -- a port enters Up

@@ -1,6 +1,5 @@
 -- What hearing entries comes to.
 use Rattle.std.specs.Prelude.{◌≡◌, ℕ, zero, suc, ◌+◌, ◌≤◌, ◌<◌, Bool, true, false, List, [], ◌∷◌, ◌++◌, length, take, Option, Some, None, is_some, Result, Ok, Err, OnErr, if◌then◌else◌}
-use Rattle.std.specs.Option.{option_map}
 use Rattle.std.proofs.Common.{refl, sym, ap, subst, ◌∙◌, arith, get_or, add-one}
 use Rattle.std.specs.FinMap.{get, insert}
 use Rattle.std.proofs.lemmas.List.{take_all, length-map}
@@ -19,10 +18,6 @@ use Rattle.snp_sync.specs.Hearing.{claim_in, claims_in, hear_entries_of, full_co
 pub wanted_held : (db new : Lsps) (id : LspId) (port : ℕ) (o : Option Entry) → o ≡ get db id → is_some o ≡ true → new ≡ changed (acked port) db id → (fits db id ≡ true) × (new ≡ insert db id (wanted port (get db id)))
 wanted_held db new id port None is held changed_is = absurd (cc)
 wanted_held db new id port (Some e) is held changed_is = (fits_held db id e (sym is), changed_is ∙ changed_held (acked port) db id e (sym is) ∙ ap (λ o. insert db id (wanted port o)) is)
-
-pub some_mapped : {A B : Type 0} (f : A → B) (o : Option A) → is_some (option_map f o) ≡ is_some o
-some_mapped f None = refl
-some_mapped f (Some x) = refl
 
 -- hearing leaves the system's body
 pub entries_body : (up : PortSet) (port : ℕ) (claims : List Claim) (h : Holding) → (hear_entries_of up port claims h).own.body ≡ h.own.body

@@ -1,24 +1,20 @@
 -- How long the TLVs of lines are.
-use Rattle.std.proofs.Common.{◌≡◌, inl, inr, ◌≤◌, ◌+◌, ◌-◌, ◌*◌, ℕ, zero, suc, List, [], ◌∷◌, ◌++◌, length, min, take, drop, sym, ap, ◌∙◌, subst, refl, arith, length-append}
+use Rattle.std.proofs.Common.{◌≡◌, inl, inr, ◌≤◌, ◌+◌, ◌-◌, ◌*◌, ℕ, zero, suc, List, [], ◌∷◌, ◌++◌, length, min, take, drop, sym, ap, ◌∙◌, subst, arith, length-append}
 use Rattle.std.specs.List.{AllByRecursion}
 use Rattle.std.proofs.lemmas.List.{take-append-drop, length-take, length-drop, nil_from_length}
 use Rattle.std.proofs.lemmas.Bool.{cases_lt}
 use Rattle.spb_tlvs.specs.declared.entries.SnpEntry.{SnpEntry}
 use Rattle.spb_tlvs.specs.RoundTrip.{IsEntry}
 use Rattle.spb_tlvs.specs.Entry.{entry_bytes, entries_value}
-use Rattle.spb_tlvs.specs.Number.{two, four}
 use Rattle.spb_tlvs.specs.Tlv.{tlv}
-use Rattle.spb_tlvs.proofs.Numbers.{six, length_of_joined, weaker}
+use Rattle.spb_tlvs.proofs.EntryLaws.{entry_len}
+use Rattle.spb_tlvs.proofs.Numbers.{length_of_joined, weaker}
 use Rattle.snp_sync.specs.Parts.{line_tlvs}
 use Rattle.snp_sync.proofs.Cuts.{tlvs_none, tlvs_first}
 use Rattle.snp_sync.proofs.Said.{all_both}
 
--- a line has 16 bytes
-entry_long : (e : SnpEntry) → IsEntry e → length (entry_bytes e) ≡ 16
-entry_long e h = six (λ (m : List ℕ). length (two e.lifetime ++ (m ++ e.id.pseudonode ∷ e.id.number ∷ []) ++ four e.seq ++ two e.sum) ≡ 16) e.id.system.mac.bytes h.system (λ a b c d f g. refl)
-
 lines_long : (lines : List SnpEntry) → AllByRecursion IsEntry lines → length (entries_value lines) ≡ 16 * length lines
-lines_long lines all = length_of_joined entry_bytes 16 lines (weaker IsEntry (λ (e : SnpEntry). length (entry_bytes e) ≡ 16) lines entry_long all)
+lines_long lines all = length_of_joined entry_bytes 16 lines (weaker IsEntry (λ (e : SnpEntry). length (entry_bytes e) ≡ 16) lines entry_len all)
 
 -- the TLVs of at most so many lines: of 15 lines in each, the last with the rest
 within : (n : ℕ) (lines : List SnpEntry) → length lines ≤ n → AllByRecursion IsEntry lines → 15 * length (line_tlvs lines) ≤ 242 * length lines + 28

@@ -12,7 +12,8 @@ use Rattle.spb_tlvs.specs.Entry.{entry_bytes, entry_at, entries_value}
 use Rattle.spb_tlvs.specs.RoundTrip.{IsEntry, AreBytes, EntriesAgain, EntriesSame}
 use Rattle.spb_tlvs.proofs.Numbers.{two_again, four_again, two_same, four_same, six, sixteen, chunks_of_joined, length_of_joined, weaker}
 
-entry_len : (e : SnpEntry) → IsEntry e → length (entry_bytes e) ≡ 16
+-- an entry has 16 bytes
+pub entry_len : (e : SnpEntry) → IsEntry e → length (entry_bytes e) ≡ 16
 entry_len e h = six (λ (m : List ℕ). length (two e.lifetime ++ (m ++ e.id.pseudonode ∷ e.id.number ∷ []) ++ four e.seq ++ two e.sum) ≡ 16) e.id.system.mac.bytes h.system (λ a b c d f g. refl)
 
 entry_again : (e : SnpEntry) → IsEntry e → entry_at (entry_bytes e) ≡ e
