@@ -9,7 +9,7 @@ use Rattle.lsdb.specs.declared.version.Version.{Version}
 use Rattle.lsdb.specs.declared.version.Relation.{Relation}
 use Rattle.lsdb.specs.declared.version.Relation.TheVariants.{Older, Equal, Newer, Confused}
 use Rattle.lsdb.specs.Version.{number_of, is_absent, relation, IsAtMost}
-use Rattle.lsdb.specs.Entry.{Entry, acked, asked}
+use Rattle.lsdb.specs.Entry.{Entry, acked, offered}
 use Rattle.lsdb.specs.Database.{version_in}
 use Rattle.lsdb.proofs.Order.{itself, greater, equal_is, older_is}
 use Rattle.flooding.specs.declared.own.Own.{Own}
@@ -25,9 +25,9 @@ sparing : (f : Entry → Entry) (e : Entry) (b : Bool) → (f e).version ≡ e.v
 sparing f e true same = refl
 sparing f e false same = same
 
-asked_version : (port : ℕ) (o : Option Entry) → version_in (option_map (asked port) o) ≡ version_in o
-asked_version port None = refl
-asked_version port (Some e) = refl
+offered_version : (port : ℕ) (o : Option Entry) → version_in (option_map (offered port) o) ≡ version_in o
+offered_version port None = refl
+offered_version port (Some e) = refl
 
 acked_version : (port : ℕ) (o : Option Entry) → version_in (option_map (unless_absent (acked port)) o) ≡ version_in o
 acked_version port None = refl
@@ -36,7 +36,7 @@ acked_version port (Some e) = sparing (acked port) e (is_absent e.version) refl
 at_most_row : (up : PortSet) (port : ℕ) (l : LspValue) (r : Relation) (held : Option Entry) → relation (claim_of l).version (version_in held) ≡ r
     → IsAtMost (claim_of l).version (version_in (lsp_row up port l r held))
 at_most_row up port l Older held is =
-    subst (λ (v : Version). IsAtMost (claim_of l).version v) (sym (asked_version port held)) (older_is (claim_of l).version (version_in held) is).0
+    subst (λ (v : Version). IsAtMost (claim_of l).version v) (sym (offered_version port held)) (older_is (claim_of l).version (version_in held) is).0
 at_most_row up port l Equal held is =
     subst (λ (v : Version). IsAtMost (claim_of l).version v) (equal_is (claim_of l).version (version_in held) is ∙ sym (acked_version port held)) (itself (claim_of l).version)
 at_most_row up port l Newer held is = itself (claim_of l).version

@@ -13,7 +13,7 @@ use Rattle.lsdb.specs.declared.version.Version.TheVariants.{Absent, Live, Dead}
 use Rattle.lsdb.specs.declared.version.Relation.{Relation}
 use Rattle.lsdb.specs.declared.version.Relation.TheVariants.{Older, Equal, Newer, Confused}
 use Rattle.lsdb.specs.Version.{number_of, is_absent, leq, relation}
-use Rattle.lsdb.specs.Entry.{Entry, stored, acked, cleared, asked}
+use Rattle.lsdb.specs.Entry.{Entry, stored, acked, cleared, offered}
 use Rattle.lsdb.specs.Database.{version_in}
 use Rattle.lsdb.proofs.Order.{older_is, newer_is}
 use Rattle.flooding.specs.declared.own.Own.{Own}
@@ -71,8 +71,8 @@ module _ (up : PortSet) where
     cleared_flagged : (e : Entry) → HasFlagsAt up e → HasFlagsAt up (cleared port e)
     cleared_flagged e f = record { srm = without_up e.srm f.srm; ssn = f.ssn; absent = λ a p. without_none e.srm p (f.absent a p) }
 
-    asked_flagged : (e : Entry) → (e.version ≡ Absent → ⊥) → HasFlagsAt up e → HasFlagsAt up (asked port e)
-    asked_flagged e there f = record { srm = with_up e.srm f.srm; ssn = without_up e.ssn f.ssn; absent = λ a p. absurd (there a) }
+    offered_flagged : (e : Entry) → (e.version ≡ Absent → ⊥) → HasFlagsAt up e → HasFlagsAt up (offered port e)
+    offered_flagged e there f = record { srm = with_up e.srm f.srm; ssn = without_up e.ssn f.ssn; absent = λ a p. absurd (there a) }
 
     alone_up : (p : ℕ) → has (with_port no_ports port) p ≡ true → has up p ≡ true
     alone_up p h = here_up p (sym (has-alone port p range.0 range.1) ∙ h)
@@ -112,14 +112,14 @@ module _ (up : PortSet) where
 
   snp_row_flagged : (port : ℕ) → has up port ≡ true → (a : Version) (r : Relation) (held : Option Entry) → relation a (version_in held) ≡ r
       → ((e : Entry) → held ≡ Some e → HasFlagsAt up e) → (g : Entry) → snp_row up port a r held ≡ Some g → HasFlagsAt up g
-  snp_row_flagged port is_up a Older held is all g found = mapped (asked port) held (λ e h. asked_flagged port is_up e (older_there a held e is h) (all e h)) g found
+  snp_row_flagged port is_up a Older held is all g found = mapped (offered port) held (λ e h. offered_flagged port is_up e (older_there a held e is h) (all e h)) g found
   snp_row_flagged port is_up a Equal held is all g found = mapped (unless_absent (cleared port)) held (λ e h. spared (cleared port) e (is_absent e.version) (all e h) (cleared_flagged port is_up e (all e h))) g found
   snp_row_flagged port is_up a Newer held is all g found = let same : wanted port held ≡ g = cc in subst (λ (x : Entry). HasFlagsAt up x) same (wanted_flagged port is_up held all)
   snp_row_flagged port is_up a Confused held is all g found = ended_is (number_of a) g found
 
   lsp_row_flagged : (port : ℕ) → has up port ≡ true → (l : LspValue) (r : Relation) (held : Option Entry) → relation (claim_of l).version (version_in held) ≡ r
       → ((e : Entry) → held ≡ Some e → HasFlagsAt up e) → (g : Entry) → lsp_row up port l r held ≡ Some g → HasFlagsAt up g
-  lsp_row_flagged port is_up l Older held is all g found = mapped (asked port) held (λ e h. asked_flagged port is_up e (older_there (claim_of l).version held e is h) (all e h)) g found
+  lsp_row_flagged port is_up l Older held is all g found = mapped (offered port) held (λ e h. offered_flagged port is_up e (older_there (claim_of l).version held e is h) (all e h)) g found
   lsp_row_flagged port is_up l Equal held is all g found = mapped (unless_absent (acked port)) held (λ e h. spared (acked port) e (is_absent e.version) (all e h) (acked_flagged port is_up e (all e h))) g found
   lsp_row_flagged port is_up l Newer held is all g found =
       let same : stored up port (claim_of l).version l.lifetime (body_of l) ≡ g = cc in

@@ -5,7 +5,7 @@ use Rattle.std.proofs.lemmas.Bool.{cases_eq, eq-eqb, ne_eqb}
 use Rattle.spb_types.specs.declared.ports.PortSet.{PortSet}
 use Rattle.spb_types.specs.Ports.{has, no_ports, with_port, without_port}
 use Rattle.spb_types.proofs.PortLemmas.{has-no_ports, has-with_same, has-with_other, has-without_same, has-without_other}
-use Rattle.flooding.specs.Laws.{StoredFlags, FloodedFlags, EnteredFlags, AckedFlags, ClearedFlags, AskedFlags}
+use Rattle.flooding.specs.Laws.{StoredFlags, FloodedFlags, EnteredFlags, AckedFlags, ClearedFlags, OfferedFlags}
 
 -- a set with a port, and without one, read at each port
 module _ (set : PortSet) (port q : ℕ) (low : 1 ≤ port) (high : port ≤ 32) where
@@ -55,5 +55,5 @@ acked_flags port e low high = record { srm_at = λ p. has-without e.srm port p l
 pub cleared_flags : ClearedFlags
 cleared_flags port e low high = record { srm_at = λ p. has-without e.srm port p low high; ssn_at = λ p. refl }
 
-pub asked_flags : AskedFlags
-asked_flags port e low high = record { srm_at = λ p. has-with e.srm port p low high; ssn_at = λ p. has-without e.ssn port p low high }
+pub offered_flags : OfferedFlags
+offered_flags port e low high = record { srm_at = λ p. has-with e.srm port p low high; ssn_at = λ p. has-without e.ssn port p low high }

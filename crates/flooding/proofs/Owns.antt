@@ -12,7 +12,7 @@ use Rattle.lsdb.specs.declared.version.Version.{Version}
 use Rattle.lsdb.specs.declared.version.Relation.{Relation}
 use Rattle.lsdb.specs.declared.version.Relation.TheVariants.{Older, Equal, Newer, Confused}
 use Rattle.lsdb.specs.Version.{number_of, is_absent, relation}
-use Rattle.lsdb.specs.Entry.{Entry, acked, cleared, asked, with_flags}
+use Rattle.lsdb.specs.Entry.{Entry, acked, cleared, offered, with_flags}
 use Rattle.lsdb.specs.Database.{Lsps, version_in, version_at, placed}
 use Rattle.lsdb.specs.Certificate.{Claim}
 use Rattle.lsdb.proofs.LookupLemmas.{fits_held}
@@ -96,13 +96,13 @@ same_fields : (old : Entry) (srm ssn : PortSet) → IsKept old (with_flags srm s
 same_fields old srm ssn = record { version = refl; lifetime = refl; body = refl }
 
 lsp_row_keeps : (up : PortSet) (port : ℕ) (l : LspValue) → KeepsHeld (lsp_row up port l)
-lsp_row_keeps up port l Older old new within is = kept_at old (asked port old) new (same_fields old _ _) is
+lsp_row_keeps up port l Older old new within is = kept_at old (offered port old) new (same_fields old _ _) is
 lsp_row_keeps up port l Equal old new within is = kept_at old _ new (spared_is_kept (acked port) old (is_absent old.version) (same_fields old _ _)) is
 lsp_row_keeps up port l Newer old new within is = absurd (cc)
 lsp_row_keeps up port l Confused old new within is = absurd (cc)
 
 snp_row_keeps : (up : PortSet) (port : ℕ) (a : Version) → KeepsHeld (snp_row up port a)
-snp_row_keeps up port a Older old new within is = kept_at old (asked port old) new (same_fields old _ _) is
+snp_row_keeps up port a Older old new within is = kept_at old (offered port old) new (same_fields old _ _) is
 snp_row_keeps up port a Equal old new within is = kept_at old _ new (spared_is_kept (cleared port) old (is_absent old.version) (same_fields old _ _)) is
 snp_row_keeps up port a Newer old new within is = absurd (cc)
 snp_row_keeps up port a Confused old new within is = absurd (cc)

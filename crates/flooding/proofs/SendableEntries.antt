@@ -23,7 +23,7 @@ use Rattle.lsdb.specs.declared.version.Version.TheVariants.{Absent, Live, Dead}
 use Rattle.lsdb.specs.declared.version.Relation.{Relation}
 use Rattle.lsdb.specs.declared.version.Relation.TheVariants.{Older, Equal, Newer, Confused}
 use Rattle.lsdb.specs.Version.{number_of, is_absent, leq, relation, claimed}
-use Rattle.lsdb.specs.Entry.{Entry, made, stored, acked, cleared, asked, aged_at, AreKept}
+use Rattle.lsdb.specs.Entry.{Entry, made, stored, acked, cleared, offered, aged_at, AreKept}
 use Rattle.lsdb.specs.Database.{version_in}
 use Rattle.flooding.specs.declared.own.Own.{Own}
 use Rattle.flooding.specs.Own.{last_number, own_id, is_originated, renewed, ended, answered}
@@ -120,8 +120,8 @@ mapped_sendable : (f : Entry → Entry) (id : LspId) (held : Option Entry) → (
 mapped_sendable f id None all keeps g is = absurd (cc)
 mapped_sendable f id (Some e) all keeps g is = let same : f e ≡ g = cc in subst (λ (x : Entry). IsSendable id x) same (keeps e (all e refl))
 
-asked_sendable : (port : ℕ) (id : LspId) (e : Entry) → IsSendable id e → IsSendable id (asked port e)
-asked_sendable port id e s = flags_sendable _ _ id e s
+offered_sendable : (port : ℕ) (id : LspId) (e : Entry) → IsSendable id e → IsSendable id (offered port e)
+offered_sendable port id e s = flags_sendable _ _ id e s
 
 acked_sendable : (port : ℕ) (id : LspId) (e : Entry) → IsSendable id e → IsSendable id (unless_absent (acked port) e)
 acked_sendable port id e s = spared (acked port) id e (is_absent e.version) s (flags_sendable _ _ id e s)
@@ -138,7 +138,7 @@ ended_sendable up id seq g numbered is = let same : ended up seq ≡ g = cc in s
 
 snp_row_sendable : (up : PortSet) (port : ℕ) (id : LspId) (a : Version) (r : Relation) (held : Option Entry) → IsNumbered a → relation a (version_in held) ≡ r
     → ((e : Entry) → held ≡ Some e → IsSendable id e) → (g : Entry) → snp_row up port a r held ≡ Some g → IsSendable id g
-snp_row_sendable up port id a Older held numbered is all g found = mapped_sendable (asked port) id held all (asked_sendable port id) g found
+snp_row_sendable up port id a Older held numbered is all g found = mapped_sendable (offered port) id held all (offered_sendable port id) g found
 snp_row_sendable up port id a Equal held numbered is all g found = mapped_sendable (unless_absent (cleared port)) id held all (cleared_sendable port id) g found
 snp_row_sendable up port id a Newer held numbered is all g found = let same : wanted port held ≡ g = cc in subst (λ (x : Entry). IsSendable id x) same (wanted_sendable port id held all)
 snp_row_sendable up port id a Confused held numbered is all g found =
@@ -158,7 +158,7 @@ stored_by up port l false false number life whole = record {
 
 lsp_row_sendable : (up : PortSet) (port : ℕ) (l : LspValue) (r : Relation) (held : Option Entry) → IsWhole l → relation (claim_of l).version (version_in held) ≡ r
     → ((e : Entry) → held ≡ Some e → IsSendable l.id e) → (g : Entry) → lsp_row up port l r held ≡ Some g → IsSendable l.id g
-lsp_row_sendable up port l Older held whole is all g found = mapped_sendable (asked port) l.id held all (asked_sendable port l.id) g found
+lsp_row_sendable up port l Older held whole is all g found = mapped_sendable (offered port) l.id held all (offered_sendable port l.id) g found
 lsp_row_sendable up port l Equal held whole is all g found = mapped_sendable (unless_absent (acked port)) l.id held all (acked_sendable port l.id) g found
 lsp_row_sendable up port l Newer held whole is all g found =
     let same : stored up port (claim_of l).version l.lifetime (body_of l) ≡ g = cc in

@@ -15,11 +15,11 @@ use Rattle.lsdb.specs.declared.version.Version.TheVariants.{Absent, Live, Dead}
 use Rattle.lsdb.specs.declared.version.Relation.{Relation}
 use Rattle.lsdb.specs.declared.version.Relation.TheVariants.{Older, Equal, Newer, Confused}
 use Rattle.lsdb.specs.Version.{number_of, is_absent, leq, relation, IsAtMost}
-use Rattle.lsdb.specs.Entry.{Entry, acked, cleared, asked}
+use Rattle.lsdb.specs.Entry.{Entry, acked, cleared, offered}
 use Rattle.lsdb.specs.Database.{Lsps, version_in}
 use Rattle.lsdb.specs.Certificate.{Claim, IsClaimed, is_flagged, EntryCertificate, Certificate}
 use Rattle.lsdb.proofs.Order.{itself, greater, not_at_most, newer_is, equal_is, confused_is, confused_are_live}
-use Rattle.lsdb.proofs.Certified.{standing, storing, acking, clearing, entering, asking, flooding, placing}
+use Rattle.lsdb.proofs.Certified.{standing, storing, acking, clearing, entering, offering, flooding, placing}
 use Rattle.flooding.specs.declared.own.Own.{Own}
 use Rattle.flooding.specs.Own.{last_number, own_id, is_originated, renewed, ended, answered}
 use Rattle.flooding.specs.Hearing.{Holding, claim_of, body_of, unless_absent, wanted, lsp_row, snp_row, is_beyond, is_answered, after_claim}
@@ -75,9 +75,9 @@ module _ (up : PortSet) (port : ℕ) (claims : List Claim) (id : LspId) (a : Ver
   sparing f e true same change = same
   sparing f e false same change = change
 
-  asking_of : (held : Option Entry) → EntryCertificate port claims up up id held held → EntryCertificate port claims up up id held (option_map (asked port) held)
-  asking_of None same = same
-  asking_of (Some e) same = let range = has_port up port is_up in asking up port port claims id e range.0 range.1
+  offering_of : (held : Option Entry) → EntryCertificate port claims up up id held held → EntryCertificate port claims up up id held (option_map (offered port) held)
+  offering_of None same = same
+  offering_of (Some e) same = let range = has_port up port is_up in offering up port port claims id e range.0 range.1
 
   ending_of : (held : Option Entry) (seq : ℕ) → relation a (version_in held) ≡ Confused → seq ≡ number_of a → EntryCertificate port claims up up id held (Some (ended up seq))
   ending_of held seq is seq_is = flooding up port claims id (Dead seq) 0 [] held (subst (λ n. IsAtMost (version_in held) (Dead n)) (sym seq_is) (confused_below a (version_in held) is))
@@ -95,7 +95,7 @@ module _ (up : PortSet) (port : ℕ) (claims : List Claim) (id : LspId) (a : Ver
   wanting_of (Some e) is = acking up port claims id a e is_up (newer_is a e.version is).1 claimed_it
 
   snp_step : (r : Relation) (held : Option Entry) → relation a (version_in held) ≡ r → EntryCertificate port claims up up id held held → EntryCertificate port claims up up id held (snp_row up port a r held)
-  snp_step Older held is same = asking_of held same
+  snp_step Older held is same = offering_of held same
   snp_step Equal held is same = clearing_of held (equal_is a (version_in held) is) same
   snp_step Newer held is same = wanting_of held is
   snp_step Confused held is same = ending_of held (number_of a) is refl
@@ -103,7 +103,7 @@ module _ (up : PortSet) (port : ℕ) (claims : List Claim) (id : LspId) (a : Ver
 lsp_step : (up : PortSet) (port : ℕ) (claims : List Claim) (l : LspValue) → has up port ≡ true → IsClaimed claims l.id (claim_of l).version
     → (r : Relation) (held : Option Entry) → relation (claim_of l).version (version_in held) ≡ r → EntryCertificate port claims up up l.id held held
     → EntryCertificate port claims up up l.id held (lsp_row up port l r held)
-lsp_step up port claims l is_up claimed_it Older held is same = asking_of up port claims l.id (claim_of l).version is_up claimed_it held same
+lsp_step up port claims l is_up claimed_it Older held is same = offering_of up port claims l.id (claim_of l).version is_up claimed_it held same
 lsp_step up port claims l is_up claimed_it Equal held is same = acking_of up port claims l.id (claim_of l).version is_up claimed_it held (equal_is (claim_of l).version (version_in held) is) same
 lsp_step up port claims l is_up claimed_it Newer held is same =
     storing up port claims l.id (claim_of l).version l.lifetime (body_of l) held is_up (newer_is (claim_of l).version (version_in held) is).1 claimed_it

@@ -10,7 +10,7 @@ use Rattle.lsdb.specs.declared.version.Version.{Version}
 use Rattle.lsdb.specs.declared.version.Relation.{Relation}
 use Rattle.lsdb.specs.declared.version.Relation.TheVariants.{Older, Equal, Newer, Confused}
 use Rattle.lsdb.specs.Version.{number_of, is_absent, relation, claimed}
-use Rattle.lsdb.specs.Entry.{Entry, stored, entered, acked, cleared, asked}
+use Rattle.lsdb.specs.Entry.{Entry, stored, entered, acked, cleared, offered}
 use Rattle.lsdb.specs.Database.{Lsps, version_in, fits, placed}
 use Rattle.lsdb.specs.Certificate.{Claim}
 use Rattle.flooding.specs.declared.own.Own.{Own}
@@ -34,7 +34,7 @@ unless_absent f e = if is_absent e.version then e else f e
 abbrev pub lsp_row : PortSet → ℕ → LspValue → Relation → Option Entry → Option Entry
 lsp_row up port l Newer held = Some (stored up port (claimed l.seq l.lifetime l.sum) l.lifetime (body_of l))
 lsp_row up port l Equal held = option_map (unless_absent (acked port)) held
-lsp_row up port l Older held = option_map (asked port) held
+lsp_row up port l Older held = option_map (offered port) held
 lsp_row up port l Confused held = Some (ended up l.seq)
 
 -- a newer version that a neighbour has is asked for at its port; an id that isn't held is entered as absent for it
@@ -47,7 +47,7 @@ wanted port (Some e) = acked port e
 abbrev pub snp_row : PortSet → ℕ → Version → Relation → Option Entry → Option Entry
 snp_row up port a Newer held = Some (wanted port held)
 snp_row up port a Equal held = option_map (unless_absent (cleared port)) held
-snp_row up port a Older held = option_map (asked port) held
+snp_row up port a Older held = option_map (offered port) held
 snp_row up port a Confused held = Some (ended up (number_of a))
 
 -- a claim that isn't equal to what is held, nor older

@@ -12,7 +12,7 @@ use Rattle.isis_pdu.specs.Grammar.{IsId, IsBytes, is_sound_lsp}
 use Rattle.lsdb.specs.declared.version.Version.{Version}
 use Rattle.lsdb.specs.declared.version.Relation.{Relation}
 use Rattle.lsdb.specs.Version.{number_of, IsAtMost, relation, claimed}
-use Rattle.lsdb.specs.Entry.{Entry, stored, flooded, entered, acked, cleared, asked, with_flags, aged}
+use Rattle.lsdb.specs.Entry.{Entry, stored, flooded, entered, acked, cleared, offered, with_flags, aged}
 use Rattle.lsdb.specs.Database.{Lsps, version_in, version_at, fits}
 use Rattle.lsdb.specs.Certificate.{Claim, Control, EntryCertificate, Certificate}
 use Rattle.flooding.specs.declared.own.Own.{Own}
@@ -101,8 +101,8 @@ AckedFlags = (port : ℕ) (e : Entry) → 1 ≤ port → port ≤ 32 → HasFlag
 abbrev pub ClearedFlags : Type 0
 ClearedFlags = (port : ℕ) (e : Entry) → 1 ≤ port → port ≤ 32 → HasFlags (cleared port e) (λ p. has e.srm p && not (p == port)) (λ p. has e.ssn p)
 
-abbrev pub AskedFlags : Type 0
-AskedFlags = (port : ℕ) (e : Entry) → 1 ≤ port → port ≤ 32 → HasFlags (asked port e) (λ p. has e.srm p || (p == port)) (λ p. has e.ssn p && not (p == port))
+abbrev pub OfferedFlags : Type 0
+OfferedFlags = (port : ℕ) (e : Entry) → 1 ≤ port → port ≤ 32 → HasFlags (offered port e) (λ p. has e.srm p || (p == port)) (λ p. has e.ssn p && not (p == port))
 
 -- ---- the own LSP
 

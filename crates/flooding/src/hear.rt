@@ -8,7 +8,7 @@ ghost use Rattle.flooding.specs.Hearing.{unless_absent, hear_lsp_of, is_full_for
 ghost use Rattle.flooding.specs.Placing.{Puts, Hears, holding};
 
 use crate::put::put;
-use crate::rows::{acknowledge, ask};
+use crate::rows::{acknowledge, offer};
 use crate::{FloodError, Own};
 use isis_pdu::Lsp;
 use lsdb::{Database, Held, Relation, Version, compare};
@@ -47,7 +47,7 @@ pub fn hear_lsp(
     match relation {
         Relation::Newer => return store(alloc, db, up, port, lsp),
         Relation::Equal => acknowledge_held(db, port, &lsp.id),
-        Relation::Older => ask(db, port, &lsp.id),
+        Relation::Older => offer(db, port, &lsp.id),
         Relation::Confused => db.bury(&lsp.id, lsp.seq, up),
     }
     Ok(())

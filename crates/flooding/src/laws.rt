@@ -1,5 +1,5 @@
 //! The laws of flooding. Each is the contract of a function that does nothing.
-ghost use Rattle.flooding.specs.Laws.{HearingLspIsCertified, HearingEntryIsCertified, AnsweringIsCertified, OriginationIsCertified, OthersStand, LspStands, EntryStands, FullStands, FittingIsNotFull, HeardIsAtMostHeld, StoredFlags, FloodedFlags, EnteredFlags, AckedFlags, ClearedFlags, AskedFlags, OwnStands, OwnIsNotSpent, LspLeavesOwn, EntryLeavesOwn, OriginatedStands, OriginationLeavesOthers, OriginationLeavesOwn, OriginationIsNotSpent, IdsNameLsps, SentIsHeld, SentIsRead, ReadIsWhole, ClaimIsNumbered, LspKeepsSendable, EntryKeepsSendable, OriginationKeepsSendable, AgeingKeepsSendable, FlagsKeepSendable, LspKeepsFlags, EntryKeepsFlags, OriginationKeepsFlags};
+ghost use Rattle.flooding.specs.Laws.{HearingLspIsCertified, HearingEntryIsCertified, AnsweringIsCertified, OriginationIsCertified, OthersStand, LspStands, EntryStands, FullStands, FittingIsNotFull, HeardIsAtMostHeld, StoredFlags, FloodedFlags, EnteredFlags, AckedFlags, ClearedFlags, OfferedFlags, OwnStands, OwnIsNotSpent, LspLeavesOwn, EntryLeavesOwn, OriginatedStands, OriginationLeavesOthers, OriginationLeavesOwn, OriginationIsNotSpent, IdsNameLsps, SentIsHeld, SentIsRead, ReadIsWhole, ClaimIsNumbered, LspKeepsSendable, EntryKeepsSendable, OriginationKeepsSendable, AgeingKeepsSendable, FlagsKeepSendable, LspKeepsFlags, EntryKeepsFlags, OriginationKeepsFlags};
 
 /// What is heard at an Up port, answered and originated is a certified step.
 pub fn flooding_is_certified()
@@ -30,7 +30,7 @@ pub fn flags_are_read_port_by_port()
     ensures entered { EnteredFlags }
     ensures acked { AckedFlags }
     ensures cleared { ClearedFlags }
-    ensures asked { AskedFlags }
+    ensures offered { OfferedFlags }
 {}
 
 /// What hearing leaves of the own LSP, and what an origination makes of it.

@@ -1,6 +1,6 @@
 //! Rows of hearing that change what is held, and take no memory.
 ghost use Rattle.std.specs.Prelude.{◌≡◌, ◌≤◌};
-ghost use Rattle.lsdb.specs.Entry.{acked, asked};
+ghost use Rattle.lsdb.specs.Entry.{acked, offered};
 ghost use Rattle.lsdb.specs.Database.{changed};
 
 use lsdb::Database;
@@ -19,10 +19,10 @@ pub fn acknowledge(db: &mut Database, port: u8, id: &LspId)
 
 /// The neighbour at a port, 1 to 32, has an older LSP than the one under an id, and gets this one: its SRM flag is set
 /// there and its SSN flag cleared. Nothing happens where the id isn't held.
-pub fn ask(db: &mut Database, port: u8, id: &LspId)
+pub fn offer(db: &mut Database, port: u8, id: &LspId)
     requires low { 1 ≤ port }
     requires high { port ≤ 32 }
-    ensures { db.new ≡ changed (asked port) db.old id.now }
+    ensures { db.new ≡ changed (offered port) db.old id.now }
 {
     db.set_srm(id, port, true);
     db.set_ssn(id, port, false);

@@ -11,10 +11,10 @@ use Rattle.spb_types.proofs.PortLemmas.{has_port, has-with_same, has-with_other,
 use Rattle.lsdb.specs.declared.version.Version.{Version}
 use Rattle.lsdb.specs.declared.version.Version.TheVariants.{Absent, Live, Dead}
 use Rattle.lsdb.specs.Version.{IsAtMost, is_absent}
-use Rattle.lsdb.specs.Entry.{Entry, made, acked, cleared, asked, flagged, parted, aged_at}
+use Rattle.lsdb.specs.Entry.{Entry, made, acked, cleared, offered, flagged, parted, aged_at}
 use Rattle.lsdb.specs.Database.{Lsps, version_in, srm_in, version_at, fits, changed_to, each}
 use Rattle.lsdb.specs.Certificate.{Claim, IsClaimed, Kept, is_flagged, is_absent as is_gone, is_as_before, is_claimed, EntryCertificate, Certificate}
-use Rattle.lsdb.specs.CertificateLaws.{StandingIsCertified, StepsCompose, SilenceServesAll, StoringIsCertified, AckingIsCertified, ClearingIsCertified, EnteringIsCertified, AskingIsCertified, FlaggingIsCertified, FloodingIsCertified, AgeingIsCertified, PartingIsCertified, JoiningIsCertified, EntryStepsCompose, PlacingIsCertified, ChangingIsCertified, ChangingEachIsCertified}
+use Rattle.lsdb.specs.CertificateLaws.{StandingIsCertified, StepsCompose, SilenceServesAll, StoringIsCertified, AckingIsCertified, ClearingIsCertified, EnteringIsCertified, OfferingIsCertified, FlaggingIsCertified, FloodingIsCertified, AgeingIsCertified, PartingIsCertified, JoiningIsCertified, EntryStepsCompose, PlacingIsCertified, ChangingIsCertified, ChangingEachIsCertified}
 use Rattle.lsdb.proofs.Order.{itself, through, live_dead}
 use Rattle.lsdb.proofs.LookupLemmas.{get-insert_same, get-insert_other, same_or_not, get-each}
 
@@ -128,8 +128,8 @@ port_set before after port at claims id e n low high was_up v s = record {
       (cases_eq p port);
 }
 
-pub asking : AskingIsCertified
-asking up port at claims id e low high = port_set up up port at claims id e (asked port e) low high (λ p other u. u) refl refl
+pub offering : OfferingIsCertified
+offering up port at claims id e low high = port_set up up port at claims id e (offered port e) low high (λ p other u. u) refl refl
 
 pub flagging : FlaggingIsCertified
 flagging up port at claims id e low high = port_set up up port at claims id e (flagged port e) low high (λ p other u. u) refl refl

@@ -6,7 +6,7 @@ use Rattle.spb_types.specs.declared.ports.PortSet.{PortSet}
 use Rattle.spb_types.specs.Ports.{has, with_port, without_port}
 use Rattle.lsdb.specs.declared.version.Version.{Version}
 use Rattle.lsdb.specs.Version.{IsAtMost}
-use Rattle.lsdb.specs.Entry.{Entry, stored, flooded, entered, acked, cleared, asked, flagged, joined, parted, aged}
+use Rattle.lsdb.specs.Entry.{Entry, stored, flooded, entered, acked, cleared, offered, flagged, joined, parted, aged}
 use Rattle.lsdb.specs.Database.{Lsps, version_in, placed, changed, each}
 use Rattle.lsdb.specs.Certificate.{Claim, IsClaimed, Control, EntryCertificate, Certificate}
 
@@ -44,9 +44,9 @@ abbrev pub EnteringIsCertified : Type 0
 EnteringIsCertified = (before after : PortSet) (port : ℕ) (claims : List Claim) (id : LspId) → EntryCertificate port claims before after id None (Some (entered port))
 
 -- an LSP is to be sent at a port
-abbrev pub AskingIsCertified : Type 0
-AskingIsCertified = (up : PortSet) (port at : ℕ) (claims : List Claim) (id : LspId) (e : Entry)
-    → 1 ≤ port → port ≤ 32 → EntryCertificate at claims up up id (Some e) (Some (asked port e))
+abbrev pub OfferingIsCertified : Type 0
+OfferingIsCertified = (up : PortSet) (port at : ℕ) (claims : List Claim) (id : LspId) (e : Entry)
+    → 1 ≤ port → port ≤ 32 → EntryCertificate at claims up up id (Some e) (Some (offered port e))
 
 abbrev pub FlaggingIsCertified : Type 0
 FlaggingIsCertified = (up : PortSet) (port at : ℕ) (claims : List Claim) (id : LspId) (e : Entry)

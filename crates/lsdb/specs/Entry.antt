@@ -110,8 +110,8 @@ abbrev pub cleared : ℕ → Entry → Entry
 cleared port e = record e { srm = without_port e.srm port }
 
 -- the neighbour at a port has an older one, and gets this one
-abbrev pub asked : ℕ → Entry → Entry
-asked port e = record e { srm = with_port e.srm port; ssn = without_port e.ssn port }
+abbrev pub offered : ℕ → Entry → Entry
+offered port e = record e { srm = with_port e.srm port; ssn = without_port e.ssn port }
 
 -- the LSP is to be sent at a port
 abbrev pub flagged : ℕ → Entry → Entry

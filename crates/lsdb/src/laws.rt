@@ -1,5 +1,5 @@
 //! The laws of versions and of databases. Each is the contract of a function that does nothing.
-ghost use Rattle.lsdb.specs.CertificateLaws.{StandingIsCertified, StepsCompose, SilenceServesAll, StoringIsCertified, AckingIsCertified, ClearingIsCertified, EnteringIsCertified, AskingIsCertified, FlaggingIsCertified, FloodingIsCertified, AgeingIsCertified, PartingIsCertified, JoiningIsCertified, EntryStepsCompose, PlacingIsCertified, ChangingIsCertified, ChangingEachIsCertified};
+ghost use Rattle.lsdb.specs.CertificateLaws.{StandingIsCertified, StepsCompose, SilenceServesAll, StoringIsCertified, AckingIsCertified, ClearingIsCertified, EnteringIsCertified, OfferingIsCertified, FlaggingIsCertified, FloodingIsCertified, AgeingIsCertified, PartingIsCertified, JoiningIsCertified, EntryStepsCompose, PlacingIsCertified, ChangingIsCertified, ChangingEachIsCertified};
 ghost use Rattle.lsdb.specs.Laws.{AtMostItself, SameBothWays, AtMostThrough, AbsentIsLeast, JoinIsAbove, JoinIsLeast, OlderIsBelow, NewerIsAbove, EqualIsSame, ConfusedIsNeither, ConfusedAreLive, ConfusedJoinIsDead, NumbersFollow, GreaterNumberIsAbove, AtOneNumber, NotAtMost, WithoutFlagsNoneIsDue, WhereNoneIsDueNoFlags};
 
 /// Versions are ordered, and absent is the least of them.
@@ -48,7 +48,7 @@ pub fn changes_of_an_entry_are_certified()
     ensures acking { AckingIsCertified }
     ensures clearing { ClearingIsCertified }
     ensures entering { EnteringIsCertified }
-    ensures asking { AskingIsCertified }
+    ensures offering { OfferingIsCertified }
     ensures flagging { FlaggingIsCertified }
     ensures flooding { FloodingIsCertified }
     ensures ageing { AgeingIsCertified }

@@ -14,7 +14,7 @@ use Rattle.lsdb.specs.declared.version.Version.TheVariants.{Absent, Live, Dead}
 use Rattle.lsdb.specs.declared.version.Relation.{Relation}
 use Rattle.lsdb.specs.declared.version.Relation.TheVariants.{Older, Equal, Newer, Confused}
 use Rattle.lsdb.specs.Version.{number_of, is_absent, claimed}
-use Rattle.lsdb.specs.Entry.{Entry, made, stored, entered, acked, cleared, asked, aged_at}
+use Rattle.lsdb.specs.Entry.{Entry, made, stored, entered, acked, cleared, offered, aged_at}
 use Rattle.lsdb.specs.Database.{version_in}
 use Rattle.flooding.specs.declared.own.Own.{Own}
 use Rattle.flooding.specs.Own.{last_number, own_id, flags_in, tlvs_in, is_originated, renewed, ended, answered}
@@ -71,8 +71,8 @@ module _ (up : PortSet) (port : ℕ) (id : LspId) (named : IsLspId id) (held : O
   acked_sized : (e : Entry) → held ≡ Some e → IsSized id (acked port e)
   acked_sized e is = let s = all e is in record { named = s.named; line = s.line }
 
-  asked_sized : (e : Entry) → held ≡ Some e → IsSized id (asked port e)
-  asked_sized e is = let s = all e is in record { named = s.named; line = s.line }
+  offered_sized : (e : Entry) → held ≡ Some e → IsSized id (offered port e)
+  offered_sized e is = let s = all e is in record { named = s.named; line = s.line }
 
   cleared_sized : (e : Entry) → held ≡ Some e → IsSized id (unless_absent (cleared port) e)
   cleared_sized e is = let s = all e is in spared_sized (cleared port) id e (is_absent e.version) s (record { named = s.named; line = s.line })
@@ -90,14 +90,14 @@ module _ (up : PortSet) (port : ℕ) (id : LspId) (named : IsLspId id) (held : O
   snp_row_sized : (a : Version) (r : Relation) → number_of a < 2 ^ 32 → (n : Entry) → snp_row up port a r held ≡ Some n → IsSized id n
   snp_row_sized a Newer h n is = let same : wanted port held ≡ n = cc in subst (λ (g : Entry). IsSized id g) same (wanted_sized held refl)
   snp_row_sized a Equal h n is = mapped_sized (unless_absent (cleared port)) id held cleared_sized n is
-  snp_row_sized a Older h n is = mapped_sized (asked port) id held asked_sized n is
+  snp_row_sized a Older h n is = mapped_sized (offered port) id held offered_sized n is
   snp_row_sized a Confused h n is = ended_sized (number_of a) h n is
 
   lsp_row_sized : (l : LspValue) (r : Relation) → l.seq < 2 ^ 32 → IsSized id (stored up port (claimed l.seq l.lifetime l.sum) l.lifetime (body_of l)) → (n : Entry) → lsp_row up port l r held ≡ Some n → IsSized id n
   lsp_row_sized l Newer h new n is =
       let same : stored up port (claimed l.seq l.lifetime l.sum) l.lifetime (body_of l) ≡ n = cc in subst (λ (g : Entry). IsSized id g) same new
   lsp_row_sized l Equal h new n is = mapped_sized (unless_absent (acked port)) id held told_sized n is
-  lsp_row_sized l Older h new n is = mapped_sized (asked port) id held asked_sized n is
+  lsp_row_sized l Older h new n is = mapped_sized (offered port) id held offered_sized n is
   lsp_row_sized l Confused h new n is = ended_sized l.seq h n is
 
 -- ---- what is heard

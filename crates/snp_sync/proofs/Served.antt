@@ -14,7 +14,7 @@ use Rattle.lsdb.specs.declared.version.Version.TheVariants.{Absent}
 use Rattle.lsdb.specs.declared.version.Relation.{Relation}
 use Rattle.lsdb.specs.declared.version.Relation.TheVariants.{Older, Equal, Newer, Confused}
 use Rattle.lsdb.specs.Version.{IsAtMost, number_of, is_absent, relation}
-use Rattle.lsdb.specs.Entry.{Entry, acked, cleared, asked, flagged, entered}
+use Rattle.lsdb.specs.Entry.{Entry, acked, cleared, offered, flagged, entered}
 use Rattle.lsdb.specs.Database.{id_cmp, version_in, srm_in, ssn_in}
 use Rattle.lsdb.specs.Certificate.{Claim, EntryCertificate, Certificate}
 use Rattle.lsdb.proofs.Ids.{tied_same}
@@ -112,7 +112,7 @@ served_row up port a Equal held is_up is =
     served_same port a Equal held (option_map (unless_absent (cleared port)) held) is (cleared_version port held) (λ e. absurd (cc)) (λ e. absurd (cc)) (λ e. cc)
 served_row up port a Older None is_up is = absurd (none_older a is)
 served_row up port a Older (Some e) is_up is =
-    served_same port a Older (Some e) (Some (asked port e)) is refl (λ r. absurd (cc)) (λ r. has-with_same e.srm port (has_port up port is_up).0 (has_port up port is_up).1) (λ r. cc)
+    served_same port a Older (Some e) (Some (offered port e)) is refl (λ r. absurd (cc)) (λ r. has-with_same e.srm port (has_port up port is_up).0 (has_port up port is_up).1) (λ r. cc)
 served_row up port a Confused held is_up is = served_above port a (Some (ended up (number_of a))) (at_most_dead a (number_of a) (omega arith)) is_up
 
 served_answer : (up : PortSet) (port : ℕ) (own : Own) (a : Version) (b : Bool) → has up port ≡ true → IsServed port a (Some (if b then renewed up own (number_of a + 1) else ended up (number_of a)))

@@ -8,7 +8,7 @@ ghost use Rattle.flooding.specs.Placing.{Puts, Hears, holding};
 ghost use Rattle.snp_sync.specs.Hearing.{claim_in, claims_in, hear_entries_of, full_count, HeardSome, hear_csnp_of};
 
 use crate::missed::{flag_missed, sorted_ids};
-use flooding::{FloodError, Own, acknowledge, ask};
+use flooding::{FloodError, Own, acknowledge, offer};
 use lsdb::{Database, Held, Relation, Version, compare};
 use spb_tlvs::SnpEntry;
 use spb_types::{LspId, NoMemory, PortSet, Seq};
@@ -75,7 +75,7 @@ fn hear_entry(
     match relation {
         Relation::Newer => return want(alloc, db, port, &entry.id),
         Relation::Equal => clear(db, port, &entry.id),
-        Relation::Older => ask(db, port, &entry.id),
+        Relation::Older => offer(db, port, &entry.id),
         Relation::Confused => db.bury(&entry.id, entry.seq, up),
     }
     Ok(())

@@ -279,7 +279,7 @@ fn entries_without_a_place_are_counted(rt: HostRuntime) -> Result<(), Fail> {
 }
 
 #[test]
-fn a_csnp_asks_for_what_its_sender_lacks(rt: HostRuntime) -> Result<(), Fail> {
+fn a_csnp_is_answered_with_what_its_sender_lacks(rt: HostRuntime) -> Result<(), Fail> {
     let alloc = rt.alloc();
     let mut db = Database::new(alloc);
     for (system, version) in [

@@ -4,7 +4,7 @@ use Rattle.isis_pdu.specs.Pdu.{lsp_of}
 use Rattle.lsdb.specs.declared.version.Version.{Version}
 use Rattle.lsdb.specs.declared.version.Relation.{Relation}
 use Rattle.lsdb.specs.Version.{relation}
-use Rattle.lsdb.specs.Entry.{acked, asked, buried}
+use Rattle.lsdb.specs.Entry.{acked, offered, buried}
 use Rattle.lsdb.specs.Database.{version_in}
 use Rattle.flooding.specs.Own.{answered, answering}
 use Rattle.flooding.specs.Hearing.{unless_absent, lsp_row, claim_of, lacks_place, after_entry}
@@ -35,7 +35,7 @@ returns-in-Older c =
     let l = lsp_of c.args.lsp.now in
     let is : relation (claim_of l).version (version_in (get c.args.db.now l.id)) ≡ c.compare-relation.result = stands c.compare-relation.ensures c.version_of.ensures c.version_at.ensures in
     let row_is = ap (λ (q : Relation). lsp_row c.args.up c.args.port l q (get c.args.db.now l.id)) c.in-Older.is in
-    hears_change (lsp_row c.args.up c.args.port l) c.args.up (claim_of l) c.args.db.now c.args.own.now c.compare-relation.result (asked c.args.port) c.ask.new.db is (sym c.answers.ensures ∙ c.if-answers.false) row_is c.ask.ensures
+    hears_change (lsp_row c.args.up c.args.port l) c.args.up (claim_of l) c.args.db.now c.args.own.now c.compare-relation.result (offered c.args.port) c.offer.new.db is (sym c.answers.ensures ∙ c.if-answers.false) row_is c.offer.ensures
 
 pub returns-then-answers : goal.returns-then-answers
 returns-then-answers c =

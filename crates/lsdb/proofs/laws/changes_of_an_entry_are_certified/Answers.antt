@@ -1,4 +1,4 @@
-use Rattle.lsdb.proofs.Certified.{storing, acking, clearing, entering, asking, flagging, flooding, ageing, parting, joining}
+use Rattle.lsdb.proofs.Certified.{storing, acking, clearing, entering, offering, flagging, flooding, ageing, parting, joining}
 use Rattle.lsdb.proofs.laws.changes_of_an_entry_are_certified.Goals as goal
 
 pub returns : goal.returns
@@ -7,7 +7,7 @@ returns c = record {
   acking = acking;
   clearing = clearing;
   entering = entering;
-  asking = asking;
+  offering = offering;
   flagging = flagging;
   flooding = flooding;
   ageing = ageing;

@@ -2,7 +2,7 @@ use Rattle.std.proofs.Common.{◌≡◌, ℕ, Some, sym, ap, subst, ◌∙◌}
 use Rattle.std.specs.FinMap.{get}
 use Rattle.lsdb.specs.declared.version.Relation.{Relation}
 use Rattle.lsdb.specs.Version.{relation}
-use Rattle.lsdb.specs.Entry.{cleared, asked, buried}
+use Rattle.lsdb.specs.Entry.{cleared, offered, buried}
 use Rattle.lsdb.specs.Database.{version_in}
 use Rattle.flooding.specs.Own.{ended, answered, answering}
 use Rattle.flooding.specs.Hearing.{unless_absent, snp_row, lacks_place, after_entry}
@@ -30,7 +30,7 @@ returns-in-Older c =
     let e = claim_in c.args.entry.now in
     let is : relation e.version (version_in (get c.args.db.now e.id)) ≡ c.compare-relation.result = sym (c.compare-relation.ensures ∙ (λ i. relation (c.version_of.ensures i) (c.version_at.ensures i))) in
     let row_is = ap (λ (q : Relation). snp_row c.args.up c.args.port e.version q (get c.args.db.now e.id)) c.in-Older.is in
-    hears_change (snp_row c.args.up c.args.port e.version) c.args.up e c.args.db.now c.args.own.now c.compare-relation.result (asked c.args.port) c.ask.new.db is (sym c.answers.ensures ∙ c.if-answers.false) row_is c.ask.ensures
+    hears_change (snp_row c.args.up c.args.port e.version) c.args.up e c.args.db.now c.args.own.now c.compare-relation.result (offered c.args.port) c.offer.new.db is (sym c.answers.ensures ∙ c.if-answers.false) row_is c.offer.ensures
 
 pub returns-then-answers : goal.returns-then-answers
 returns-then-answers c =

@@ -2,7 +2,7 @@ use Rattle.std.proofs.Common.{true, false, ap, ◌∙◌}
 use Rattle.lsdb.specs.Entry.{with_srm, with_ssn}
 use Rattle.lsdb.specs.Database.{Lsps, changed}
 use Rattle.lsdb.proofs.LookupLemmas.{changed-changed}
-use Rattle.flooding.proofs.rows.ask.Goals as goal
+use Rattle.flooding.proofs.rows.offer.Goals as goal
 
 pub returns : goal.returns
 returns c =
