@@ -15,7 +15,7 @@ use Rattle.spb_tlvs.specs.RoundTrip.{IsNamed}
 use Rattle.lsdb.specs.declared.version.Version.{Version}
 use Rattle.lsdb.specs.declared.version.Version.TheVariants.{Absent}
 use Rattle.lsdb.specs.Version.{IsAtMost, is_absent}
-use Rattle.lsdb.specs.Database.{version_in, srm_in, version_at}
+use Rattle.lsdb.specs.Database.{version_in, srm_in, ssn_in, version_at}
 use Rattle.lsdb.specs.Certificate.{Claim, IsClaimed, Certificate}
 use Rattle.flooding.specs.Own.{own_id, renewed}
 use Rattle.flooding.specs.Hearing.{claim_of}
@@ -31,7 +31,7 @@ use Rattle.adjacency.specs.Adjacency.{IsSound}
 use Rattle.bridge_api.specs.declared.port.BridgePort.{BridgePort}
 use Rattle.bridge_api.specs.declared.config.BridgeConfig.{BridgeConfig}
 use Rattle.bridge_api.specs.View.{BridgeView, IsPort, neighbour_at, is_up_at, has_carrier_at, is_due_at, is_port_up, metrics_of, up_ports, control_of}
-use Rattle.bridge_api.specs.Own.{local_of, own_of, own_entry}
+use Rattle.bridge_api.specs.Own.{local_of, own_of, own_entry, IsTended}
 use Rattle.bridge_api.specs.Config.{IsWhole, IsOwnMac, IsMetric, IsAttachment, AgreesWith, ArePairwise, different, vids_of, bare, configured}
 use Rattle.bridge_api.specs.Judging.{Judged, useless, greeting, link_state, complete, partial, tenant, greeting_in, judged}
 use Rattle.bridge_api.specs.Hearing.{with_carrier}
@@ -65,12 +65,13 @@ pub record HasDatabase (v : BridgeView) : Type 0 where
   pub flags : HaveFlagsAt (up_ports v) v.database
   pub own : is_absent (version_at v.database (own_id v.id.system)) ≡ false
 
--- a configured bridge with at most 32 ports, each sound, and a sound database
+-- a configured bridge with at most 32 ports, each sound, and a sound database, in which its own LSP is tended
 pub record IsSoundView (v : BridgeView) : Type 0 where
   pub config : HasConfig v
   pub few : length v.ports ≤ 32
   pub ports : AllByRecursion IsSoundPort v.ports
   pub database : HasDatabase v
+  pub own : IsTended v
 
 -- so what it says of itself can be written, and fits one LSP
 pub record CanSay (v : BridgeView) : Type 0 where
@@ -215,10 +216,12 @@ HellosAreHeard = (v : BridgeView) (p : ℕ) → IsSoundView v → has_carrier_at
 abbrev pub SentWithCarrier : Type 0
 SentWithCarrier = (v : BridgeView) (p : ℕ) (bytes : List ℕ) → IsSoundView v → IsSent (sent second v) p bytes → has_carrier_at v p ≡ true
 
--- a port that has just come up: CSNPs are due there, and each LSP that is held is to be sent there
+-- a port that has just come up: CSNPs are due there, each LSP that is held is to be sent there, and none is to be
+-- acknowledged or asked for
 pub record IsFresh (v : BridgeView) (p : ℕ) : Type 0 where
   pub due : is_due_at v p ≡ true
   pub flagged : (id : LspId) → (has (srm_in (get v.database id)) p ≡ true) ⊎ (version_in (get v.database id) ≡ Absent)
+  pub silent : (id : LspId) → has (ssn_in (get v.database id)) p ≡ false
 
 -- entering Up is one operation: a port that is Up was so before, with the same neighbour, or is fresh
 abbrev pub EnteringUpIsWhole : Type 0

@@ -8,3 +8,5 @@ pub mod Ticking
 pub mod Step
 pub mod Among
 pub mod Laws
+pub mod Duties
+pub mod Graph

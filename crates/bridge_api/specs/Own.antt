@@ -1,11 +1,13 @@
 -- What a bridge says of itself, and its own LSP (RFC 6329, 13 to 16; ISO/IEC 10589, 7.3.7).
-use Rattle.std.specs.Prelude.{ℕ, ◌+◌, List, [], ◌∷◌, map, Bool, ◌||◌, Option, Some, None, if◌then◌else◌}
+use Rattle.std.specs.Prelude.{◌≡◌, ℕ, ◌+◌, ◌≤◌, List, [], ◌∷◌, map, Bool, false, ◌||◌, Option, Some, None, if◌then◌else◌}
 use Rattle.std.specs.Str.{bytes_eq}
 use Rattle.std.specs.FinMap.{get}
 use Rattle.spb_types.specs.declared.address.SystemId.{SystemId}
 use Rattle.spb_types.specs.declared.graph.Member.{Member}
 use Rattle.spb_types.specs.declared.service.Attachment.{Attachment}
 use Rattle.spb_tlvs.specs.declared.neighbours.Neighbour.{Neighbour}
+use Rattle.lsdb.specs.declared.version.Version.{Version}
+use Rattle.lsdb.specs.declared.version.Version.TheVariants.{Absent, Live, Dead}
 use Rattle.lsdb.specs.Entry.{Entry}
 use Rattle.flooding.specs.declared.own.Own.{Own}
 use Rattle.flooding.specs.Own.{own_id}
@@ -66,6 +68,21 @@ body_in (Some e) = e.body
 -- whether the own LSP that is held says what the bridge has to say
 unfoldable pub is_said : BridgeView → Bool
 is_said v = bytes_eq (body_in (own_entry v)) (body_of v)
+
+-- an LSP that is live for 301 to 1,200 seconds more
+abbrev pub Lasts : Version → ℕ → Type 0
+Lasts Absent lifetime = ⊥
+Lasts (Live seq sum) lifetime = (301 ≤ lifetime) × (lifetime ≤ 1200)
+Lasts (Dead seq) lifetime = ⊥
+
+abbrev pub IsAlive : Option Entry → Type 0
+IsAlive None = ⊥
+IsAlive (Some e) = Lasts e.version e.lifetime
+
+-- unless its sequence numbers are spent, the own LSP of a bridge is alive and says what the bridge has to say
+pub record IsTended (v : BridgeView) : Type 0 where
+  pub said : v.spent ≡ false → body_in (own_entry v) ≡ body_of v
+  pub alive : v.spent ≡ false → IsAlive (own_entry v)
 
 -- after an origination
 abbrev pub originating : BridgeView → BridgeView

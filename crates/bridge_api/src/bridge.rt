@@ -68,11 +68,13 @@ pub trait Bridge: Drop {
         ensures made { blank self.new ≡ false }
         ensures kind { kind_of self.new ≡ kind_of self.old };
 
-    /// Hears a frame, which may be any bytes, at a port. A frame of no use is dropped and changes nothing; LSPs and
-    /// sequence numbers PDUs are heard only at a port that is Up (ISO/IEC 10589, 7.3.15).
+    /// Hears a frame, which may be any bytes, at a port. A frame of no use, or at a port without carrier, is dropped and
+    /// changes nothing. A hello moves the adjacency (RFC 5303, 3.2): where the port leaves Up its flags are cleared, and where
+    /// it enters Up every LSP is to be sent there and CSNPs are due. LSPs and sequence numbers PDUs are heard only at a port
+    /// that is Up (ISO/IEC 10589, 7.3.15). Afterwards the bridge originates if it has something else to say.
     fn receive(&mut self, port: u8, frame: &[u8], outbox: &mut Outbox) -> Result<(), NoMemory>
         requires made { blank self.old ≡ false }
-        requires port { IsPort (view self.old) port }
+        requires port { (view self.old).failed ≡ false → IsPort (view self.old) port }
         ensures view { OnOk result (view self.new ≡ after_receive port frame.now (view self.old)) }
         ensures sent { outbox.new ≡ outbox.old }
         ensures memory { OnErr result ((view self.new).failed ≡ true) }
@@ -80,20 +82,22 @@ pub trait Bridge: Drop {
         ensures still_made { blank self.new ≡ false }
         ensures kind { kind_of self.new ≡ kind_of self.old };
 
-    /// Carrier comes or goes at a port.
+    /// Carrier comes or goes at a port. Where it goes, the port is Down and its flags are cleared; the bridge originates if it
+    /// has something else to say.
     fn carrier(&mut self, port: u8, on: bool) -> Result<(), NoMemory>
         requires made { blank self.old ≡ false }
-        requires port { IsPort (view self.old) port }
+        requires port { (view self.old).failed ≡ false → IsPort (view self.old) port }
         ensures view { OnOk result (view self.new ≡ with_carrier port on (view self.old)) }
         ensures memory { OnErr result ((view self.new).failed ≡ true) }
         ensures failed { (view self.old).failed ≡ true → IsErr result × (view self.new ≡ view self.old) }
         ensures still_made { blank self.new ≡ false }
         ensures kind { kind_of self.new ≡ kind_of self.old };
 
-    /// Sets the metric of the link at a port, from 1 to 16,777,214 (ISO/IEC 10589, RFC 5305 section 3).
+    /// Sets the metric of the link at a port, from 1 to 16,777,214 (RFC 5305, 3). The bridge originates if it has something
+    /// else to say.
     fn set_metric(&mut self, port: u8, metric: u32) -> Result<(), NoMemory>
         requires made { blank self.old ≡ false }
-        requires port { IsPort (view self.old) port }
+        requires port { (view self.old).failed ≡ false → IsPort (view self.old) port }
         requires metric { IsMetric metric }
         ensures view { OnOk result (view self.new ≡ with_metric port metric (view self.old)) }
         ensures memory { OnErr result ((view self.new).failed ≡ true) }

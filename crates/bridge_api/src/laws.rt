@@ -1,9 +1,13 @@
 //! What every step of a bridge keeps, whatever comes to it. Each is the contract of a function that does nothing.
 ghost use Rattle.bridge_api.specs.Laws.{ConfiguredIsSound, ConfiguredIsDark, ConfiguredHoldsOwn, SoundCanSay, StepsStaySound, StepsKeepBridge, StepsKeepCarrier, StepsKeepNeighbours, FramesAreSound, HellosAreHeard, SentWithCarrier, EnteringUpIsWhole, UpPortsAreUp, StepsCarryDatabase, NeighboursComeUp, SomeBridge};
 
+ghost use Rattle.bridge_api.specs.Duties.{SecondsServe, SecondsSettle};
+ghost use Rattle.bridge_api.specs.Graph.{ReadsWhatIsHeld, ReadsEachOnce, ReadsItself};
+
 use itag_frames::control_again;
 
-/// A configured bridge is sound, and stays so. It has the ports of its configuration and no carrier yet, and holds its own
+/// A configured bridge is sound, and stays so: unless its sequence numbers are spent, its own LSP is live for 301 to 1,200
+/// seconds and says what the bridge has to say. It has the ports of its configuration and no carrier yet, and holds its own
 /// LSP alone. What a sound bridge says of itself can be written, and fits one LSP.
 pub fn bridges_are_sound()
     ensures configured { ConfiguredIsSound }
@@ -35,7 +39,21 @@ pub fn frames_are_heard()
     control_again();
 }
 
-/// A port that is Up was so before with the same neighbour, or everything is to be sent there.
+/// In each second all is sent that is to be sent at an Up port, and afterwards nothing is owed anywhere.
+pub fn seconds_serve_neighbours()
+    ensures sent { SecondsServe }
+    ensures settled { SecondsSettle }
+{}
+
+/// A bridge reads its graph from the live LSPs that it holds, of each system what that says, and of itself what it has to
+/// say.
+pub fn graphs_are_read_from_what_is_held()
+    ensures held { ReadsWhatIsHeld }
+    ensures once { ReadsEachOnce }
+    ensures own { ReadsItself }
+{}
+
+/// A port that is Up was so before with the same neighbour, or everything is to be sent there and nothing is owed.
 pub fn entering_up_is_whole()
     ensures { EnteringUpIsWhole }
 {}
