@@ -19,3 +19,4 @@ pub mod StepsCarry
 pub mod Entering
 pub mod Spelled
 pub mod Frames
+pub mod GraphRead
