@@ -42,7 +42,7 @@ find_has x (d ∷ es) e is = at (is_eq (id_cmp x d.0)) refl is (find_has x es e)
         inl (λ i. (key i, value i))
     at false t is rest = inr (rest is)
 
-get_has : (db : Lsps) (x : LspId) (e : Entry) → get db x ≡ Some e → Has (x, e) (entries db)
+pub get_has : (db : Lsps) (x : LspId) (e : Entry) → get db x ≡ Some e → Has (x, e) (entries db)
 get_has db x e is = find_has x (entries db) e (sym (get-entries db x) ∙ is)
 
 has_get : (db : Lsps) (x : LspId) (e : Entry) → Has (x, e) (entries db) → get db x ≡ Some e

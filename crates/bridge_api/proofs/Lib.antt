@@ -20,3 +20,5 @@ pub mod Entering
 pub mod Spelled
 pub mod Frames
 pub mod GraphRead
+pub mod ServingPorts
+pub mod Serving
