@@ -1,6 +1,6 @@
 -- A bridge reads its graph from the live LSPs that it holds, each system's once.
-use Rattle.std.proofs.Common.{◌≡◌, ◌⊎◌, inl, inr, ◌≤◌, ℕ, Bool, true, false, List, [], ◌∷◌, map, cond, refl, sym, ap, ◌∙◌, subst, Option, Some, None}
-use Rattle.std.specs.Prelude.{◌&&◌, ◌==◌, ◌↔◌, T, if◌then◌else◌, Contains}
+use Rattle.std.proofs.Common.{◌≡◌, inl, inr, ℕ, Bool, true, false, List, [], ◌∷◌, cond, refl, sym, ap, ◌∙◌, subst, Option, Some, None}
+use Rattle.std.specs.Prelude.{◌&&◌, ◌==◌, T, if◌then◌else◌}
 use Rattle.std.specs.Option.{option_map}
 use Rattle.std.specs.List.{filter_map, cons_option}
 use Rattle.std.specs.FinMap.{find, is_sorted, get, entries, entries_sorted, get-entries}
@@ -120,9 +120,10 @@ held_read db x c None is says = cc
 held_read db x c (Some e) is says = has_read read_entry (own_id x, e) (x, c) (entries db) (get_has db (own_id x) e is) (reads x c e says)
 
 pub reads_what_is_held : ReadsWhatIsHeld
-reads_what_is_held v x c =
-    (λ contains. read_held v.database x c (has_from_contains (x, c) (contents_of v) contains),
-    λ says. contains_from_has (x, c) (contents_of v) (held_read v.database x c (get v.database (own_id x)) refl says))
+reads_what_is_held v x c = (
+  λ contains. read_held v.database x c (has_from_contains (x, c) (contents_of v) contains),
+  λ says. contains_from_has (x, c) (contents_of v) (held_read v.database x c (get v.database (own_id x)) refl says),
+)
 
 -- ---- of each system once
 

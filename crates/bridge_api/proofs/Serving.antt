@@ -2,7 +2,6 @@
 use Rattle.std.proofs.Common.{◌≡◌, ◌≢◌, ◌≤◌, ◌+◌, ◌-◌, ℕ, zero, suc, Bool, true, false, List, [], ◌∷◌, ◌++◌, map, length, refl, sym, ap, ◌∙◌, subst, Option, Some, None, inl, inr, arith}
 use Rattle.std.specs.Prelude.{nat_le, slice_get, if◌then◌else◌}
 use Rattle.std.specs.Option.{option_map}
-use Rattle.std.specs.List.{AllByRecursion}
 use Rattle.std.specs.FinMap.{get, entries}
 use Rattle.std.proofs.lemmas.Bool.{false≢true}
 use Rattle.std.proofs.lemmas.List.{length-map}
@@ -11,17 +10,16 @@ use Rattle.spb_types.specs.declared.address.SystemId.{SystemId}
 use Rattle.spb_types.specs.declared.address.LspId.{LspId}
 use Rattle.spb_types.specs.Ports.{has}
 use Rattle.spb_types.proofs.PortLemmas.{has-no_ports}
-use Rattle.isis_pdu.specs.Pdu.{LspValue, CsnpValue, PsnpValue}
+use Rattle.isis_pdu.specs.Pdu.{CsnpValue, PsnpValue}
 use Rattle.lsdb.specs.Entry.{Entry}
 use Rattle.lsdb.specs.Database.{Lsps, ssn_in}
 use Rattle.flooding.specs.Sending.{lsp_in, lsps_to_send}
 use Rattle.snp_sync.specs.Sending.{csnps_of, psnps_of}
 use Rattle.spb_content.proofs.Members.{Has, has_all, has_map, has_filter}
 use Rattle.bridge_api.specs.declared.port.BridgePort.{BridgePort}
-use Rattle.bridge_api.specs.View.{BridgeView, port_in, port_at, is_port_up, is_up_in, is_up_at, is_due_in, is_due_at, up_ports}
+use Rattle.bridge_api.specs.View.{BridgeView, port_at, is_port_up, is_up_in, is_up_at, is_due_in, is_due_at, up_ports}
 use Rattle.bridge_api.specs.Hearing.{with_due}
-use Rattle.bridge_api.specs.Ticking.{later, readied, lsp_frame, csnp_frame, psnp_frame, greetings_at, summaries_at, lsps_at, requests_at, synced_at, sent_at, sent_from, sent_by, told_at, told_from, told, after_tick, sent_in_tick}
-use Rattle.bridge_api.specs.Step.{second, sent}
+use Rattle.bridge_api.specs.Ticking.{later, readied, lsp_frame, csnp_frame, psnp_frame, greetings_at, summaries_at, lsps_at, requests_at, synced_at, sent_at, sent_from, sent_by, told_at, told_from, told, sent_in_tick}
 use Rattle.bridge_api.specs.Laws.{HasDatabase, IsSent, IsSoundView}
 use Rattle.bridge_api.specs.Duties.{IsServedAt, SecondsServe, but_for_ssn, OwesNothing, SecondsSettle}
 use Rattle.bridge_api.proofs.Changes.{found, readied_ports, tick_is, when_true}

@@ -8,11 +8,9 @@ use Rattle.std.specs.FinMap.Entries.{below_all}
 use Rattle.spb_types.specs.declared.address.SystemId.{SystemId}
 use Rattle.spb_types.specs.declared.address.LspId.{LspId}
 use Rattle.spb_types.specs.declared.ports.PortSet.{PortSet}
-use Rattle.spb_types.specs.Ports.{has, no_ports}
+use Rattle.spb_types.specs.Ports.{has}
 use Rattle.spb_types.proofs.PortLemmas.{has-no_ports, has-without_same, has-without_other}
 use Rattle.spb_tlvs.specs.declared.entries.SnpEntry.{SnpEntry}
-use Rattle.lsdb.specs.declared.version.Version.{Version}
-use Rattle.lsdb.specs.Version.{is_absent}
 use Rattle.lsdb.specs.Entry.{Entry, with_ssn}
 use Rattle.lsdb.specs.Database.{Lsps, id_cmp, ssn_in, each}
 use Rattle.lsdb.proofs.LookupLemmas.{get-each}
