@@ -1,27 +1,33 @@
 -- Entering Up is one operation: a port that is Up was so before with the same neighbour, or everything is to be sent there.
 use Rattle.std.proofs.Common.{◌≡◌, ◌⊎◌, inl, inr, ◌≤◌, ◌-◌, ℕ, Bool, true, false, List, length, refl, sym, ap, ◌∙◌, subst, Option, Some, None}
-use Rattle.std.specs.Prelude.{slice_set, if◌then◌else◌}
+use Rattle.std.specs.Prelude.{◌+◌, ◌||◌, nat_lt, slice_set, if◌then◌else◌}
 use Rattle.std.specs.Option.{option_map, option_and_then}
 use Rattle.std.specs.FinMap.{get}
 use Rattle.spb_types.specs.declared.address.LspId.{LspId}
+use Rattle.spb_types.specs.declared.ports.PortSet.{PortSet}
 use Rattle.spb_types.specs.Ports.{has}
-use Rattle.spb_types.proofs.PortLemmas.{has-with_same}
+use Rattle.spb_types.proofs.PortLemmas.{has-no_ports, has-with_same, has-without_same}
 use Rattle.isis_pdu.specs.Pdu.{HelloValue}
 use Rattle.spb_tlvs.specs.declared.three_way.ThreeWay.{ThreeWay}
 use Rattle.lsdb.specs.declared.version.Version.{Version}
 use Rattle.lsdb.specs.declared.version.Version.TheVariants.{Absent, Live, Dead}
-use Rattle.lsdb.specs.Version.{is_absent}
-use Rattle.lsdb.specs.Entry.{Entry, joined, flagged}
-use Rattle.lsdb.specs.Database.{version_in, srm_in}
+use Rattle.lsdb.specs.Version.{number_of, is_absent}
+use Rattle.lsdb.specs.Entry.{Entry, joined, flagged, parted}
+use Rattle.lsdb.specs.Database.{Lsps, version_in, srm_in, ssn_in, each}
 use Rattle.lsdb.proofs.LookupLemmas.{get-each}
+use Rattle.flooding.specs.declared.own.Own.{Own}
+use Rattle.flooding.specs.Own.{last_number, own_id, renewed}
+use Rattle.flooding.specs.Origination.{spent_entry}
+use Rattle.flooding.specs.Entries.{AllEntries}
+use Rattle.flooding.proofs.AllEntries.{all_originated}
 use Rattle.adjacency.specs.declared.state.Heard.{Heard}
 use Rattle.adjacency.specs.declared.state.Heard.TheVariants as did
 use Rattle.adjacency.specs.declared.port.Adjacency.{Adjacency}
 use Rattle.adjacency.specs.Hearing.{End, is_discarded}
 use Rattle.adjacency.specs.Adjacency.{neighbour_of, is_up, after_heard, after_hello, heard_of, after_carrier, change_of}
 use Rattle.bridge_api.specs.declared.port.BridgePort.{BridgePort}
-use Rattle.bridge_api.specs.View.{BridgeView, port_in, port_at, neighbour_at, is_port_up, is_up_in, is_up_at, is_due_in, is_due_at}
-use Rattle.bridge_api.specs.Own.{settled}
+use Rattle.bridge_api.specs.View.{BridgeView, port_in, port_at, neighbour_at, is_port_up, is_up_in, is_up_at, is_due_in, is_due_at, up_ports}
+use Rattle.bridge_api.specs.Own.{own_of, own_entry, holding_of, is_said, originating, settled}
 use Rattle.bridge_api.specs.Hearing.{with_due, with_adjacency, left, joined_at, entered, changed_at, greeted, after_receive, carried_at, with_carrier, metered, with_metric}
 use Rattle.bridge_api.specs.Ports.{noted}
 use Rattle.bridge_api.specs.Ticking.{after_tick}
@@ -55,6 +61,54 @@ joined_in : (q : ℕ) (o : Option Entry) → 1 ≤ q → q ≤ 32 → (has (srm_
 joined_in q None low high = inr refl
 joined_in q (Some e) low high = joined_flagged q e e.version low high refl
 
+-- ---- nothing is to be acknowledged or asked for there
+
+-- no SSN flag stands at the port
+abbrev IsSilent : ℕ → Lsps → Type 0
+IsSilent q db = AllEntries (λ id e. has e.ssn q ≡ false) db
+
+silent_at : (q : ℕ) (o : Option Entry) → ((e : Entry) → o ≡ Some e → has e.ssn q ≡ false) → has (ssn_in o) q ≡ false
+silent_at q None all = has-no_ports q
+silent_at q (Some e) all = all e refl
+
+-- on leaving Up
+parted_in : (q : ℕ) (o : Option Entry) → 1 ≤ q → q ≤ 32 → has (ssn_in (option_map (parted q) o)) q ≡ false
+parted_in q None low high = has-no_ports q
+parted_in q (Some e) low high = has-without_same e.ssn q low high
+
+left_silent : (q : ℕ) (db : Lsps) → 1 ≤ q → q ≤ 32 → IsSilent q (each (λ id e. parted q e) db)
+left_silent q db low high x e is =
+    sym (ap (λ (o : Option Entry). has (ssn_in o) q) is)
+    ∙ (ap (λ (o : Option Entry). has (ssn_in o) q) (get-each (λ (id : LspId) (e : Entry). parted q e) db x) ∙ parted_in q (get db x) low high)
+
+-- an origination sets no SSN flag
+next_silent : (q seq : ℕ) (up : PortSet) (own : Own) (o : Option Entry) (b : Bool) → has (ssn_in o) q ≡ false → has (if b then renewed up own (seq + 1) else spent_entry up seq o).ssn q ≡ false
+next_silent q seq up own o true off = has-no_ports q
+next_silent q seq up own o false off = off
+
+settled_by : (b : Bool) (q : ℕ) (v : BridgeView) → IsSilent q v.database → IsSilent q (if b then v else originating v).database
+settled_by true q v silent = silent
+settled_by false q v silent =
+    let seq = number_of (version_in (own_entry v)) in
+    all_originated (λ id e. has e.ssn q ≡ false) (up_ports v) (holding_of v) silent
+    (next_silent q seq (up_ports v) (own_of v) (own_entry v) (nat_lt seq last_number) (silent_at q (own_entry v) (silent (own_id v.id.system))))
+
+settled_silent : (q : ℕ) (v : BridgeView) → IsSilent q v.database → IsSilent q (settled v).database
+unfolding settled
+settled_silent q v silent = settled_by (v.spent || is_said v) q v silent
+
+-- nor does entering Up
+joined_ssn : (q : ℕ) (e : Entry) (b : Bool) → has e.ssn q ≡ false → has (if b then e else flagged q e).ssn q ≡ false
+joined_ssn q e true off = off
+joined_ssn q e false off = off
+
+joined_silent_in : (q : ℕ) (o : Option Entry) → ((e : Entry) → o ≡ Some e → has e.ssn q ≡ false) → has (ssn_in (option_map (joined q) o)) q ≡ false
+joined_silent_in q None all = has-no_ports q
+joined_silent_in q (Some e) all = joined_ssn q e (is_absent e.version) (all e refl)
+
+joined_silent : (q : ℕ) (db : Lsps) (x : LspId) → IsSilent q db → has (ssn_in (get (each (λ id e. joined q e) db) x)) q ≡ false
+joined_silent q db x silent = ap (λ (o : Option Entry). has (ssn_in o) q) (get-each (λ (id : LspId) (e : Entry). joined q e) db x) ∙ joined_silent_in q (get db x) (silent x)
+
 entered_fresh : (q : ℕ) (old new : BridgePort) (v : BridgeView) (p : ℕ) → Stood v q old → p ≡ q → port_at (entered q new v) p ≡ Some (with_due true new) → IsFresh (entered q new v) p
 unfolding is_due_at
 entered_fresh q old new v p at here there =
@@ -63,6 +117,8 @@ entered_fresh q old new v p at here there =
       due = ap is_due_in there;
       flagged = λ id. subst (λ (k : ℕ). (has (srm_in (get (joined_at q new u).database id)) k ≡ true) ⊎ (version_in (get (joined_at q new u).database id) ≡ Absent)) (sym here)
           (subst (λ (o : Option Entry). (has (srm_in o) q ≡ true) ⊎ (version_in o ≡ Absent)) (sym (get-each (λ (x : LspId) (e : Entry). joined q e) u.database id)) (joined_in q (get u.database id) at.low at.high));
+      silent = λ id. subst (λ (k : ℕ). has (ssn_in (get (joined_at q new u).database id)) k ≡ false) (sym here)
+          (joined_silent q u.database id (settled_silent q (left q new v) (left_silent q v.database at.low at.high)));
     }
 
 -- ---- something came to pass at a port

@@ -21,3 +21,6 @@ pub mod StepsCarry
 pub mod Entering
 pub mod Spelled
 pub mod Frames
+pub mod GraphRead
+pub mod ServingPorts
+pub mod Serving

@@ -1,6 +1,5 @@
 //! What every step of a bridge keeps, whatever comes to it. Each is the contract of a function that does nothing.
 ghost use Rattle.bridge_api.specs.Laws.{ConfiguredIsSound, ConfiguredIsDark, ConfiguredHoldsOwn, SoundCanSay, StepsStaySound, StepsKeepBridge, StepsKeepCarrier, StepsKeepNeighbours, FramesAreSound, HellosAreHeard, SentWithCarrier, EnteringUpIsWhole, UpPortsAreUp, StepsCarryDatabase, NeighboursComeUp, SomeBridge};
-
 ghost use Rattle.bridge_api.specs.Duties.{SecondsServe, SecondsSettle};
 ghost use Rattle.bridge_api.specs.Graph.{ReadsWhatIsHeld, ReadsEachOnce, ReadsItself};
 

@@ -1,0 +1,11 @@
+use Rattle.bridge_api.proofs.GraphRead.{reads_what_is_held, reads_each_once, reads_itself}
+use Rattle.bridge_api.proofs.laws.graphs_are_read_from_what_is_held.Goals as goal
+
+pub returns-clause-held : goal.returns-clause-held
+returns-clause-held c = reads_what_is_held
+
+pub returns-clause-once : goal.returns-clause-once
+returns-clause-once c = reads_each_once
+
+pub returns-clause-own : goal.returns-clause-own
+returns-clause-own c = reads_itself
