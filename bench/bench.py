@@ -3,7 +3,8 @@
 
     bench/bench.py [PROGRAM ..]
 
-Without arguments it measures the program built in this repository (build it first: ./spbsim run < examples/two-bridges.spb).
+Without arguments it measures the program built in this repository (build it first:
+./spbsim run < examples/two-bridges.spb).
 Each further program that takes the word `run` and a script on standard input is measured beside it.
 """
 import os
@@ -68,7 +69,7 @@ def workloads():
     yield "  and wiring of each", fabric + [f"wiring b{k}" for k in range(1, count + 1)], FULL * 2 * links
     chain = [(k, k + 1) for k in range(1, 96)]
     yield "96 bridges in a line, round 1000", list(wired(96, chain)) + ["round 1000"], 1000 * 2 * len(chain)
-    # as many of the shortest lines as a script may have
+    # as many comments of one byte, each with its line feed, as fit into the 65,536 bytes of a script
     yield "32,768 lines", ["#"] * 32768, 0
 
 
