@@ -37,7 +37,8 @@ lsp_row up port l Equal held = option_map (unless_absent (acked port)) held
 lsp_row up port l Older held = option_map (offered port) held
 lsp_row up port l Confused held = Some (ended up l.seq)
 
--- a newer version that a neighbour has is asked for at its port; an id that isn't held is entered as absent for it
+-- a newer version that a neighbour has is asked for at its port; an id that isn't held is entered as absent for it, also
+-- where the neighbour's is dead (profile)
 abbrev pub wanted : ℕ → Option Entry → Entry
 wanted port None = entered port
 wanted port (Some e) = acked port e
