@@ -1,5 +1,5 @@
 -- Changes of what is held under one id.
-use Rattle.std.specs.Prelude.{◌≡◌, false, not, Option, Some, None, if◌then◌else◌}
+use Rattle.std.specs.Prelude.{◌≡◌, true, false, not, Option, Some, None, if◌then◌else◌}
 use Rattle.std.proofs.Common.{refl, sym, ap, subst, ◌∙◌, ⊎_elim}
 use Rattle.std.specs.Option.{option_map}
 use Rattle.std.specs.FinMap.{get, insert, same_map}
@@ -54,6 +54,11 @@ unspared f (Some e) is = ap (λ b. Some (if b then e else f e)) is
 
 pub changed_spared : (f : Entry → Entry) (db : Lsps) (id : LspId) → version_in (get db id) ≡ Absent → changed (unless_absent f) db id ≡ db
 changed_spared f db id is = changed_still (unless_absent f) db id (spared f (get db id) is)
+
+pub absent_is : (a : Version) → is_absent a ≡ true → a ≡ Absent
+absent_is Absent is = refl
+absent_is (Live seq sum) is = absurd (cc)
+absent_is (Dead seq) is = absurd (cc)
 
 pub changed_unspared : (f : Entry → Entry) (db : Lsps) (id : LspId) → is_absent (version_in (get db id)) ≡ false → changed (unless_absent f) db id ≡ changed f db id
 changed_unspared f db id is = ap (changed_to db id) (unspared f (get db id) is)

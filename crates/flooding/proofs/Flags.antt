@@ -1,11 +1,15 @@
 -- The flags of an entry, port by port.
-use Rattle.std.specs.Prelude.{◌≡◌, ℕ, ◌≤◌, Bool, true, false, ◌&&◌, ◌||◌, not, ◌==◌}
+use Rattle.std.specs.Prelude.{◌≡◌, ◌≢◌, ℕ, ◌≤◌, Bool, true, false, ◌&&◌, ◌||◌, not, ◌==◌, ◌-◌, [], nat_le, if◌then◌else◌}
 use Rattle.std.proofs.Common.{refl, sym, ap, ◌∙◌, ⊎_elim}
 use Rattle.std.proofs.lemmas.Bool.{cases_eq, eq-eqb, ne_eqb}
 use Rattle.spb_types.specs.declared.ports.PortSet.{PortSet}
 use Rattle.spb_types.specs.Ports.{has, no_ports, with_port, without_port}
 use Rattle.spb_types.proofs.PortLemmas.{has-no_ports, has-with_same, has-with_other, has-without_same, has-without_other}
-use Rattle.flooding.specs.Laws.{StoredFlags, FloodedFlags, EnteredFlags, AckedFlags, ClearedFlags, OfferedFlags}
+use Rattle.lsdb.specs.declared.version.Version.{Version}
+use Rattle.lsdb.specs.declared.version.Version.TheVariants.{Absent, Live, Dead}
+use Rattle.lsdb.specs.Version.{is_absent}
+use Rattle.lsdb.specs.Entry.{Entry, made, flagged, aged_at}
+use Rattle.flooding.specs.Laws.{HasFlags, StoredFlags, FloodedFlags, EnteredFlags, AckedFlags, ClearedFlags, OfferedFlags, FlaggedFlags, JoinedFlags, PartedFlags, AgedFlags, ExpiredFlags, SpentFlags}
 
 -- a set with a port, and without one, read at each port
 module _ (set : PortSet) (port q : ℕ) (low : 1 ≤ port) (high : port ≤ 32) where
@@ -57,3 +61,51 @@ cleared_flags port e low high = record { srm_at = λ p. has-without e.srm port p
 
 pub offered_flags : OfferedFlags
 offered_flags port e low high = record { srm_at = λ p. has-with e.srm port p low high; ssn_at = λ p. has-without e.ssn port p low high }
+
+pub flagged_flags : FlaggedFlags
+flagged_flags port e low high = record { srm_at = λ p. has-with e.srm port p low high; ssn_at = λ p. refl }
+
+or_no : (b : Bool) → (b || false) ≡ b
+or_no true = refl
+or_no false = refl
+
+joined_by : (port : ℕ) (e : Entry) → 1 ≤ port → port ≤ 32 → (b : Bool) → HasFlags (if b then e else flagged port e) (λ p. has e.srm p || (not b && (p == port))) (λ p. has e.ssn p)
+joined_by port e low high true = record { srm_at = λ p. sym (or_no (has e.srm p)); ssn_at = λ p. refl }
+joined_by port e low high false = flagged_flags port e low high
+
+pub joined_flags : JoinedFlags
+joined_flags port e low high = joined_by port e low high (is_absent e.version)
+
+pub parted_flags : PartedFlags
+parted_flags port e low high = record { srm_at = λ p. has-without e.srm port p low high; ssn_at = λ p. has-without e.ssn port p low high }
+
+-- a live LSP after a second, by whether its lifetime ends
+abbrev live_after : PortSet → Entry → ℕ → Bool → Entry
+live_after up e seq b = if b then made (Dead seq) 0 [] up e.ssn else record e { lifetime = e.lifetime - 1 }
+
+live_aged : (up : PortSet) (e : Entry) (seq sum : ℕ) (b : Bool) → (live_after up e seq b).version ≡ Live seq sum → HasFlags (live_after up e seq b) (λ p. has e.srm p) (λ p. has e.ssn p)
+live_aged up e seq sum true same = absurd (cc)
+live_aged up e seq sum false same = record { srm_at = λ p. refl; ssn_at = λ p. refl }
+
+live_expired : (up : PortSet) (e : Entry) (seq sum : ℕ) (b : Bool) → e.version ≡ Live seq sum → (live_after up e seq b).version ≢ Live seq sum → HasFlags (live_after up e seq b) (λ p. has up p) (λ p. has e.ssn p)
+live_expired up e seq sum true is other = record { srm_at = λ p. refl; ssn_at = λ p. refl }
+live_expired up e seq sum false is other = absurd (other is)
+
+aged_by : (up : PortSet) (e : Entry) (v : Version) → (aged_at up e v).version ≡ v → HasFlags (aged_at up e v) (λ p. has e.srm p) (λ p. has e.ssn p)
+aged_by up e Absent same = record { srm_at = λ p. refl; ssn_at = λ p. refl }
+aged_by up e (Live seq sum) same = live_aged up e seq sum (nat_le e.lifetime 1) same
+aged_by up e (Dead seq) same = record { srm_at = λ p. refl; ssn_at = λ p. refl }
+
+pub aged_flags : AgedFlags
+aged_flags up e same = aged_by up e e.version same
+
+expired_by : (up : PortSet) (e : Entry) (v : Version) → e.version ≡ v → (aged_at up e v).version ≢ v → HasFlags (aged_at up e v) (λ p. has up p) (λ p. has e.ssn p)
+expired_by up e Absent is other = absurd (other is)
+expired_by up e (Live seq sum) is other = live_expired up e seq sum (nat_le e.lifetime 1) is other
+expired_by up e (Dead seq) is other = absurd (other is)
+
+pub expired_flags : ExpiredFlags
+expired_flags up e other = expired_by up e e.version refl other
+
+pub spent_flags : SpentFlags
+spent_flags up seq held = record { srm_at = λ p. refl; ssn_at = λ p. refl }

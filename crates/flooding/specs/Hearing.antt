@@ -29,15 +29,16 @@ abbrev pub unless_absent : (Entry → Entry) → Entry → Entry
 unless_absent f e = if is_absent e.version then e else f e
 
 -- what an LSP heard at a port makes of what is held under its id, by the relation of its version to the held one:
--- a newer one is stored; the same one is acknowledged; of an older one the neighbour gets what is held; and confused ones
--- can't stand, so the dead one of their number goes to every Up port
+-- a newer one is stored, also a dead one of an id that isn't held (*profile*); the same one is acknowledged; of an older one
+-- the neighbour gets what is held; and confused ones can't stand, so the dead one of their number goes to every Up port
 abbrev pub lsp_row : PortSet → ℕ → LspValue → Relation → Option Entry → Option Entry
 lsp_row up port l Newer held = Some (stored up port (claimed l.seq l.lifetime l.sum) l.lifetime (body_of l))
 lsp_row up port l Equal held = option_map (unless_absent (acked port)) held
 lsp_row up port l Older held = option_map (offered port) held
 lsp_row up port l Confused held = Some (ended up l.seq)
 
--- a newer version that a neighbour has is asked for at its port; an id that isn't held is entered as absent for it
+-- a newer version that a neighbour has is asked for at its port; an id that isn't held is entered as absent for it, also
+-- where the neighbour's is dead (*profile*)
 abbrev pub wanted : ℕ → Option Entry → Entry
 wanted port None = entered port
 wanted port (Some e) = acked port e

@@ -11,14 +11,14 @@ use Rattle.isis_pdu.specs.Reading.{read}
 use Rattle.isis_pdu.specs.Grammar.{IsId, IsBytes, is_sound_lsp}
 use Rattle.lsdb.specs.declared.version.Version.{Version}
 use Rattle.lsdb.specs.declared.version.Relation.{Relation}
-use Rattle.lsdb.specs.Version.{number_of, IsAtMost, relation, claimed}
-use Rattle.lsdb.specs.Entry.{Entry, stored, flooded, entered, acked, cleared, offered, with_flags, aged}
-use Rattle.lsdb.specs.Database.{Lsps, version_in, version_at, fits}
+use Rattle.lsdb.specs.Version.{number_of, is_absent, IsAtMost, relation, claimed}
+use Rattle.lsdb.specs.Entry.{Entry, stored, flooded, entered, acked, cleared, offered, flagged, joined, parted, with_flags, aged}
+use Rattle.lsdb.specs.Database.{Lsps, version_in, version_at, ssn_in, fits}
 use Rattle.lsdb.specs.Certificate.{Claim, Control, EntryCertificate, Certificate}
 use Rattle.flooding.specs.declared.own.Own.{Own}
 use Rattle.flooding.specs.Own.{last_number, own_id, tlvs_in, renewed, answered}
 use Rattle.flooding.specs.Hearing.{Holding, claim_of, lsp_row, snp_row, is_beyond, heard_by, after_claim, is_full, hear_lsp_of, is_full_for_lsp, hear_entry_of, is_full_for_entry}
-use Rattle.flooding.specs.Origination.{next_entry, originated}
+use Rattle.flooding.specs.Origination.{spent_entry, next_entry, originated}
 use Rattle.flooding.specs.Sending.{lsp_in, ids_to_send, lsps_to_send}
 use Rattle.flooding.specs.Entries.{IsNumbered, IsSendable, AreSendable, HaveFlagsAt}
 
@@ -103,6 +103,31 @@ ClearedFlags = (port : ℕ) (e : Entry) → 1 ≤ port → port ≤ 32 → HasFl
 
 abbrev pub OfferedFlags : Type 0
 OfferedFlags = (port : ℕ) (e : Entry) → 1 ≤ port → port ≤ 32 → HasFlags (offered port e) (λ p. has e.srm p || (p == port)) (λ p. has e.ssn p && not (p == port))
+
+abbrev pub FlaggedFlags : Type 0
+FlaggedFlags = (port : ℕ) (e : Entry) → 1 ≤ port → port ≤ 32 → HasFlags (flagged port e) (λ p. has e.srm p || (p == port)) (λ p. has e.ssn p)
+
+-- a port comes up: to be sent there too, unless it is absent
+abbrev pub JoinedFlags : Type 0
+JoinedFlags = (port : ℕ) (e : Entry) → 1 ≤ port → port ≤ 32
+    → HasFlags (joined port e) (λ p. has e.srm p || (not (is_absent e.version) && (p == port))) (λ p. has e.ssn p)
+
+-- a port is no longer Up: neither to be sent nor to be acknowledged there
+abbrev pub PartedFlags : Type 0
+PartedFlags = (port : ℕ) (e : Entry) → 1 ≤ port → port ≤ 32
+    → HasFlags (parted port e) (λ p. has e.srm p && not (p == port)) (λ p. has e.ssn p && not (p == port))
+
+-- a second passes: an LSP whose version changes by it, since its lifetime ends, is to be sent at every Up port; where any
+-- other is to be sent stays, and where any is to be acknowledged
+abbrev pub AgedFlags : Type 0
+AgedFlags = (up : PortSet) (e : Entry) → (aged up e).version ≡ e.version → HasFlags (aged up e) (λ p. has e.srm p) (λ p. has e.ssn p)
+
+abbrev pub ExpiredFlags : Type 0
+ExpiredFlags = (up : PortSet) (e : Entry) → (aged up e).version ≢ e.version → HasFlags (aged up e) (λ p. has up p) (λ p. has e.ssn p)
+
+-- the own LSP past the last number: to be sent at every Up port; where it is to be acknowledged stays
+abbrev pub SpentFlags : Type 0
+SpentFlags = (up : PortSet) (seq : ℕ) (held : Option Entry) → HasFlags (spent_entry up seq held) (λ p. has up p) (λ p. has (ssn_in held) p)
 
 -- ---- the own LSP
 

@@ -17,15 +17,16 @@ use std::alloc::{AllocError, Global};
 
 /// Hears an LSP at a port, 1 to 32 (ISO/IEC 10589, 7.3.15.1 and 7.3.16), where `up` are the Up ports:
 ///
-/// - a newer one is stored, to be sent at the other Up ports and acknowledged at this one;
+/// - a newer one is stored, to be sent at the other Up ports and acknowledged at this one; that a dead one of an id that
+///   isn't held is stored too is *profile*;
 /// - the same one is acknowledged at this port, and needn't be sent there;
 /// - of an older one the neighbour gets what is held;
 /// - one that is live with the number of the held one and another checksum makes the LSP dead at that number, to be sent
 ///   at every Up port;
 /// - a newer or confused one of the system's own is answered instead.
 ///
-/// `own.body` has at least one byte. `Full` only where the id needs a place and 2,048 ids are held. After an error nothing
-/// changed.
+/// `own.body` has at least one byte. Where the id needs a place and 2,048 ids are held the answer is `Full` or `NoMemory`,
+/// and else never `Full`. After an error nothing changed.
 pub fn hear_lsp(
     alloc: Global,
     db: &mut Database,
@@ -103,8 +104,7 @@ fn acknowledge_held(db: &mut Database, port: u8, id: &LspId)
     requires high { port ≤ 32 }
     ensures { db.new ≡ changed (unless_absent (acked port)) db.old id.now }
 {
-    match db.version_at(id) {
-        Version::Absent => {}
-        _ => acknowledge(db, port, id),
+    if !db.version_at(id).is_absent() {
+        acknowledge(db, port, id);
     }
 }

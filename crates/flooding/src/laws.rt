@@ -1,5 +1,5 @@
 //! The laws of flooding. Each is the contract of a function that does nothing.
-ghost use Rattle.flooding.specs.Laws.{HearingLspIsCertified, HearingEntryIsCertified, AnsweringIsCertified, OriginationIsCertified, OthersStand, LspStands, EntryStands, FullStands, FittingIsNotFull, HeardIsAtMostHeld, StoredFlags, FloodedFlags, EnteredFlags, AckedFlags, ClearedFlags, OfferedFlags, OwnStands, OwnIsNotSpent, LspLeavesOwn, EntryLeavesOwn, OriginatedStands, OriginationLeavesOthers, OriginationLeavesOwn, OriginationIsNotSpent, IdsNameLsps, SentIsHeld, SentIsRead, ReadIsWhole, ClaimIsNumbered, LspKeepsSendable, EntryKeepsSendable, OriginationKeepsSendable, AgeingKeepsSendable, FlagsKeepSendable, LspKeepsFlags, EntryKeepsFlags, OriginationKeepsFlags};
+ghost use Rattle.flooding.specs.Laws.{HearingLspIsCertified, HearingEntryIsCertified, AnsweringIsCertified, OriginationIsCertified, OthersStand, LspStands, EntryStands, FullStands, FittingIsNotFull, HeardIsAtMostHeld, StoredFlags, FloodedFlags, EnteredFlags, AckedFlags, ClearedFlags, OfferedFlags, FlaggedFlags, JoinedFlags, PartedFlags, AgedFlags, ExpiredFlags, SpentFlags, OwnStands, OwnIsNotSpent, LspLeavesOwn, EntryLeavesOwn, OriginatedStands, OriginationLeavesOthers, OriginationLeavesOwn, OriginationIsNotSpent, IdsNameLsps, SentIsHeld, SentIsRead, ReadIsWhole, ClaimIsNumbered, LspKeepsSendable, EntryKeepsSendable, OriginationKeepsSendable, AgeingKeepsSendable, FlagsKeepSendable, LspKeepsFlags, EntryKeepsFlags, OriginationKeepsFlags};
 
 /// What is heard at an Up port, answered and originated is a certified step.
 pub fn flooding_is_certified()
@@ -18,7 +18,7 @@ pub fn a_claim_changes_its_id_alone()
     ensures fitting { FittingIsNotFull }
 {}
 
-/// After an LSP is heard, what is held is no older.
+/// After an LSP is heard where there was a place, what is held is no older.
 pub fn what_is_held_is_no_older_than_what_was_heard()
     ensures { HeardIsAtMostHeld }
 {}
@@ -31,6 +31,12 @@ pub fn flags_are_read_port_by_port()
     ensures acked { AckedFlags }
     ensures cleared { ClearedFlags }
     ensures offered { OfferedFlags }
+    ensures flagged { FlaggedFlags }
+    ensures joined { JoinedFlags }
+    ensures parted { PartedFlags }
+    ensures aged { AgedFlags }
+    ensures expired { ExpiredFlags }
+    ensures spent { SpentFlags }
 {}
 
 /// What hearing leaves of the own LSP, and what an origination makes of it.

@@ -52,7 +52,8 @@ impl Own {
     /// LSP goes one number further, with the present body; at the last number it is dead and the system spent. Every other
     /// LSP is dead at the claim's number. Each goes to every Up port.
     ///
-    /// `body` has at least one byte. `Full` only where the id isn't held and 2,048 ids are. After an error nothing changed.
+    /// `body` has at least one byte. Where the id isn't held and 2,048 ids are the answer is `Full` or `NoMemory`, and else
+    /// never `Full`. After an error nothing changed.
     pub fn answer(
         &mut self,
         alloc: Global,

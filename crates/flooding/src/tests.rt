@@ -1,4 +1,5 @@
-//! Expected flags are the standard's, at three Up ports, of which the second hears. Checksums and PDUs were made by hand.
+//! Expected flags are the standard's, at three Up ports, of which the second hears; those of a dead LSP of an id that isn't
+//! held are *profile*. Checksums and PDUs were made by hand.
 ghost use Rattle.std.specs.Prelude.{◌≡◌, ◌≤◌, length, IfOk};
 ghost use Rattle.isis_pdu.specs.declared.kind.Kind.TheVariants as kinds;
 ghost use Rattle.isis_pdu.specs.Spelling.{CanWrite};
@@ -155,7 +156,7 @@ fn each_row_of_the_table_gives_its_version_and_flags(rt: HostRuntime) -> Result<
     let id = lsp_id(2, 0);
     let (none, lived, died) = (Some(Version::Absent), Some(live(7, 9)), Some(dead(7)));
     for (before, claim, outcome) in [
-        // Newer: stored, also where nothing is held and where it is dead.
+        // Newer: stored, also where it is dead, and where nothing is held (for a dead one that is *profile*).
         (lived, (8, 30, 5), row(live(8, 5), 30, 3, 0b101, 0b010)),
         (lived, (7, 0, 0), row(dead(7), 0, 1, 0b101, 0b010)),
         (none, (1, 30, 5), row(live(1, 5), 30, 3, 0b101, 0b010)),

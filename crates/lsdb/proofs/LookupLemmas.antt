@@ -98,6 +98,21 @@ changed_twice f g db id (Some e) is =
 pub changed-changed : (f g : Entry → Entry) (db : Lsps) (id : LspId) → changed g (changed f db id) id ≡ changed (λ e. g (f e)) db id
 changed-changed f g db id = changed_twice f g db id (get db id) refl
 
+-- the entry under an id after it was changed, and that under every other
+changed_to_same : (f : Entry → Entry) (db : Lsps) (id : LspId) (o : Option Entry) → get db id ≡ o → get (changed_to db id (option_map f o)) id ≡ option_map f o
+changed_to_same f db id None is = is
+changed_to_same f db id (Some e) is = get-insert_same db id (f e)
+
+pub get-changed_same : (f : Entry → Entry) (db : Lsps) (id : LspId) → get (changed f db id) id ≡ option_map f (get db id)
+get-changed_same f db id = changed_to_same f db id (get db id) refl
+
+changed_to_other : (db : Lsps) (id x : LspId) (o : Option Entry) → (x ≡ id → ⊥) → get (changed_to db id o) x ≡ get db x
+changed_to_other db id x None apart = refl
+changed_to_other db id x (Some e) apart = get-insert_other db id e x apart
+
+pub get-changed_other : (f : Entry → Entry) (db : Lsps) (id x : LspId) → (x ≡ id → ⊥) → get (changed f db id) x ≡ get db x
+get-changed_other f db id x apart = changed_to_other db id x (option_map f (get db id)) apart
+
 pub changed_held : (f : Entry → Entry) (db : Lsps) (id : LspId) (e : Entry) → get db id ≡ Some e → changed f db id ≡ insert db id (f e)
 changed_held f db id e is = ap (λ o. changed_to db id (option_map f o)) is
 

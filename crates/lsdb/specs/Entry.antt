@@ -130,7 +130,7 @@ abbrev pub parted : ℕ → Entry → Entry
 parted port e = record e { srm = without_port e.srm port; ssn = without_port e.ssn port }
 
 -- an entry of this version after a second: a live one's lifetime falls by one, and at 0 it is dead and goes to every Up
--- port, its SSN flags as they were (ISO/IEC 10589, 7.3.16.3)
+-- port, its SSN flags as they were (ISO/IEC 10589, 7.3.16.4)
 abbrev pub aged_at : PortSet → Entry → Version → Entry
 aged_at up e Absent = e
 aged_at up e (Live seq sum) = if nat_le e.lifetime 1 then made (Dead seq) 0 [] up e.ssn else record e { lifetime = e.lifetime - 1 }

@@ -4,4 +4,5 @@ pub mod Database
 pub mod Place
 pub mod Certificate
 pub mod CertificateLaws
+pub mod MapLaws
 pub mod Laws

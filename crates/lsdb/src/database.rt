@@ -265,7 +265,8 @@ impl Database {
     }
 
     /// A second passes: each live lifetime falls by one. At 0 the LSP is dead at its number, with lifetime 0 and the body
-    /// 01, and is to be sent at every Up port; where it is to be acknowledged stays. Tells, as `has_flags`, whether any
+    /// 01, and is to be sent at every Up port; where it is to be acknowledged stays. That a dead LSP is kept as long as the
+    /// bridge runs, and not for a minute alone (ISO/IEC 10589, 7.3.16.4), is *profile*. Tells, as `has_flags`, whether any
     /// flag stands afterwards, in the same walk. Takes no memory.
     pub fn age_one(&mut self, up: PortSet) -> bool
         ensures aged { self.new ≡ each (λ id e. aged up e) self.old }

@@ -1,5 +1,6 @@
 //! The laws of versions and of databases. Each is the contract of a function that does nothing.
 ghost use Rattle.lsdb.specs.CertificateLaws.{StandingIsCertified, StepsCompose, SilenceServesAll, StoringIsCertified, AckingIsCertified, ClearingIsCertified, EnteringIsCertified, OfferingIsCertified, FlaggingIsCertified, FloodingIsCertified, AgeingIsCertified, PartingIsCertified, JoiningIsCertified, EntryStepsCompose, PlacingIsCertified, ChangingIsCertified, ChangingEachIsCertified};
+ghost use Rattle.lsdb.specs.MapLaws.{EachIsRead, ChangedIsRead, ChangingLeavesOthers, InsertedIsRead, InsertingLeavesOthers, IdsAreOrdered, TiedIdsAreOne};
 ghost use Rattle.lsdb.specs.Laws.{AtMostItself, SameBothWays, AtMostThrough, AbsentIsLeast, JoinIsAbove, JoinIsLeast, OlderIsBelow, NewerIsAbove, EqualIsSame, ConfusedIsNeither, ConfusedAreLive, ConfusedJoinIsDead, NumbersFollow, GreaterNumberIsAbove, AtOneNumber, NotAtMost, WithoutFlagsNoneIsDue, WhereNoneIsDueNoFlags};
 
 /// Versions are ordered, and absent is the least of them.
@@ -61,6 +62,17 @@ pub fn changes_of_a_database_are_certified()
     ensures placing { PlacingIsCertified }
     ensures changing { ChangingIsCertified }
     ensures each { ChangingEachIsCertified }
+{}
+
+/// What a change of the database leaves under each id, and that ids are in one order.
+pub fn changes_are_read_by_id()
+    ensures each { EachIsRead }
+    ensures changed { ChangedIsRead }
+    ensures others_changed { ChangingLeavesOthers }
+    ensures inserted { InsertedIsRead }
+    ensures others_inserted { InsertingLeavesOthers }
+    ensures order { IdsAreOrdered }
+    ensures tied { TiedIdsAreOne }
 {}
 
 /// No flags stand exactly where no LSP is to be sent, acknowledged or asked for at any port.

@@ -183,6 +183,22 @@ fn a_newer_version_takes_the_place_of_an_older(rt: HostRuntime) -> Result<(), Fa
 }
 
 #[test]
+fn an_id_that_isnt_held_is_not_raised(rt: HostRuntime) -> Result<(), Fail> {
+    let mut db = Database::new(rt.alloc());
+    db.put(live(rt.alloc(), id(1, 0), 2)?)?;
+    let other = id(2, 0);
+    let to = Version::Dead { seq: 8 };
+    let body = vec![in rt.alloc(); 1]?;
+    let Relation::Newer = compare(to, db.version_at(&other)) else {
+        return Err("not newer".into());
+    };
+    assert_eq!(rt; db.raise(&other, to, 0, body), Raised::NotHeld);
+    assert_eq!(rt; db.len(), 1);
+    assert!(rt; db.find(&other).is_none());
+    Ok(())
+}
+
+#[test]
 fn flags_are_set_and_cleared(rt: HostRuntime) -> Result<(), Fail> {
     let mut db = Database::new(rt.alloc());
     let own = id(1, 0);

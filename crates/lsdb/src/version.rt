@@ -1,5 +1,5 @@
 ghost use Rattle.std.specs.Prelude.{◌≡◌};
-ghost use Rattle.lsdb.specs.Version.{leq, relation, join_of, number_of, claimed};
+ghost use Rattle.lsdb.specs.Version.{is_absent, leq, relation, join_of, number_of, claimed};
 
 /// The version of an LSP (ISO/IEC 10589, 7.3.16).
 #[derive(Clone, Copy, Debug, PartialEq, Eq, Hash)]
@@ -47,6 +47,16 @@ impl Version {
             Version::Absent => 0,
             Version::Live { seq, sum: _ } => seq,
             Version::Dead { seq } => seq,
+        }
+    }
+
+    /// Whether it is the version of nothing.
+    pub fn is_absent(self) -> bool
+        ensures { result ≡ is_absent self }
+    {
+        match self {
+            Version::Absent => true,
+            Version::Live { seq: _, sum: _ } | Version::Dead { seq: _ } => false,
         }
     }
 
@@ -139,5 +149,9 @@ mod tests {
         assert_eq!(rt; Version::claimed(9, 0, 7), Version::Dead { seq: 9 });
         assert_eq!(rt; Version::claimed(9, 1, 7), live(9, 7));
         assert_eq!(rt; live(9, 7).number(), 9);
+        assert_eq!(rt;
+            (Version::Absent.is_absent(), live(9, 7).is_absent()),
+            (true, false)
+        );
     }
 }

@@ -5,3 +5,4 @@ pub mod Bytes
 pub mod Name
 pub mod Padding
 pub mod Ports
+pub mod PortLaws

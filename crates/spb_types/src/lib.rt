@@ -1,7 +1,8 @@
 //! Identities, the graph of a backbone and the tables of a bridge: the words that every other crate uses.
 //!
 //! A value is `Copy` where it is small, and each list is a [`Seq`], which contracts see as the list of its items.
-//! No call here takes memory; each takes constant time, but for `Name::new`, which reads its at most 16 bytes.
+//! Only `Seq::push` takes memory, and moves the items where there is no room left. `Name::new` reads its at most 16 bytes,
+//! and `Seq::truncate` drops items; each other call takes constant time.
 #![tactic(auto)]
 
 pub use address::{BridgeId, LspId, Mac, SystemId};
@@ -18,6 +19,7 @@ pub use take::{Short, take_u8, take_u16, take_u24, take_u32};
 mod address;
 mod ect;
 mod graph;
+pub mod laws;
 mod memory;
 mod name;
 mod ports;
