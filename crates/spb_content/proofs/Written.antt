@@ -4,6 +4,7 @@ use Rattle.std.specs.List.{AllByRecursion}
 use Rattle.std.proofs.lemmas.List.{length-drop, length-map, append_assoc, take_all, drop_all}
 use Rattle.std.proofs.lemmas.List.Elements.{All-from_recursion}
 use Rattle.std.proofs.lemmas.Bool.{cases_lt}
+use Rattle.spb_types.specs.Ascending.{ascending}
 use Rattle.spb_types.specs.declared.service.SourceId.{SourceId}
 use Rattle.spb_types.specs.declared.service.VidPlan.{VidPlan}
 use Rattle.spb_types.specs.declared.service.Isid.{Isid}
@@ -14,7 +15,6 @@ use Rattle.spb_tlvs.specs.Tlv.{tlv}
 use Rattle.spb_tlvs.specs.Neighbour.{neighbours_value}
 use Rattle.spb_tlvs.specs.Capability.{IsInst, IsTree, IsService, IsServices}
 use Rattle.spb_tlvs.specs.declared.capability.Service.{Service}
-use Rattle.spb_content.specs.Ascending.{ascending}
 use Rattle.spb_content.specs.Local.{neighbour_tlvs, plan_number, vid_number, isid_number, vids_in, isids_in, in_vid, services_in, service_with, IsAttached}
 use Rattle.spb_content.proofs.Members.{Has, all_has, has_all, has_map, map_has, filter_has}
 use Rattle.spb_content.proofs.Ascended.{ascending_ascends, has_ascending, numbered_ascending, Numbered}

@@ -5,3 +5,5 @@ pub mod Bytes
 pub mod Name
 pub mod Padding
 pub mod Ports
+pub mod Ascending
+pub mod Service
