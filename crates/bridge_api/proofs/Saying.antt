@@ -3,6 +3,7 @@ use Rattle.std.proofs.Common.{◌≡◌, ◌≢◌, inl, inr, ◌≤◌, ◌+◌
 use Rattle.std.specs.Prelude.{◌||◌, nat_eq, Contains, if◌then◌else◌}
 use Rattle.std.specs.List.{list_any, AllByRecursion}
 use Rattle.std.proofs.lemmas.Bool.{eqb-true}
+use Rattle.spb_types.specs.Service.{AreVidsApart}
 use Rattle.spb_types.specs.declared.address.SystemId.{SystemId}
 use Rattle.spb_types.specs.declared.graph.Member.{Member}
 use Rattle.spb_types.specs.declared.service.Isid.{Isid}
@@ -11,7 +12,7 @@ use Rattle.spb_types.specs.declared.service.Attachment.{Attachment}
 use Rattle.spb_tlvs.specs.Capability.{IsTree}
 use Rattle.spb_tlvs.specs.RoundTrip.{IsNeighbour}
 use Rattle.flooding.specs.Laws.{HasBody}
-use Rattle.spb_content.specs.Local.{IsLocal, IsAttached, AreVidsApart, AreInOneVid, isid_number, isids_in, content_bytes}
+use Rattle.spb_content.specs.Local.{IsLocal, IsAttached, AreInOneVid, isid_number, isids_in, content_bytes}
 use Rattle.spb_content.specs.Laws.{HasFields, AreConfigured, Fits}
 use Rattle.spb_content.proofs.Members.{Has, all_has, weaker, has_map, map_has, contains_from_has}
 use Rattle.spb_content.proofs.Ascended.{ascending_ascends, Numbered}

@@ -5,6 +5,7 @@ use Rattle.std.specs.Cmp.{IsTotalOrder}
 use Rattle.std.proofs.lemmas.Cmp.{nat_cmp_total, nat_list_cmp_total, then_total, on_total, tied_itself}
 use Rattle.spb_types.specs.Ect.{mask_of}
 use Rattle.spb_types.specs.Graph.{IsAmong, IsDistinct, IsBridge, systems_of, port_between, IsValid}
+use Rattle.spb_types.specs.Service.{AreVidsApart}
 use Rattle.spb_types.specs.declared.address.SystemId.{SystemId}
 use Rattle.spb_types.specs.declared.graph.Graph.{Graph}
 use Rattle.spb_types.specs.declared.service.VidPlan.{VidPlan}
@@ -15,7 +16,7 @@ use Rattle.ect_trees.proofs.Alike.{has_from_contains, contains_from_has}
 use Rattle.ect_trees.proofs.Exists.{best_of_some}
 use Rattle.ect_trees.proofs.Members.{Has, has_flat_map}
 use Rattle.ect_trees.proofs.Placing.{nat_tied, ids_tied}
-use Rattle.fdb_build.specs.Tables.{ascending, mac_cmp, system_cmp, vid_cmp, row_cmp, port_towards, unicast_row, rows_of_vid, unicast_rows, AreVidsApart, IsUnicast, Ascends, RowsAreTable, TableIsOne}
+use Rattle.fdb_build.specs.Tables.{ascending, mac_cmp, system_cmp, vid_cmp, row_cmp, port_towards, unicast_row, rows_of_vid, unicast_rows, IsUnicast, Ascends, RowsAreTable, TableIsOne}
 use Rattle.fdb_build.proofs.AscendLemmas.{All-has, All-each, ascending_has, has_ascending, Ascends-placed, Ascends-one, Ascends-filter_map, Ascends-flat_map, filter_map_has, has_filter_map, flat_map_has}
 
 systems_total : IsTotalOrder system_cmp

@@ -1,10 +1,11 @@
-use Rattle.std.specs.Prelude.{◌≡◌, ◌≢◌, ◌↔◌, ℕ, ◌≤◌, List, [], ◌∷◌, Option, Some, Contains, ⊤, if◌then◌else◌, slice_get, option_map, option_and_then}
+use Rattle.std.specs.Prelude.{◌≡◌, ◌↔◌, ℕ, ◌≤◌, List, [], ◌∷◌, Option, Some, Contains, ⊤, if◌then◌else◌, slice_get, option_map, option_and_then}
 use Rattle.std.specs.List.{AllByRecursion, filter_map, flat_map}
 use Rattle.std.specs.declared.cmp.Ordering.{Ordering}
 use Rattle.std.specs.Ordering.{nat_cmp, ordering_then, is_gt}
 use Rattle.std.specs.Cmp.Lexicographic.{slice_cmp}
 use Rattle.spb_types.specs.Ect.{mask_of}
 use Rattle.spb_types.specs.Graph.{systems_of, port_between, IsValid}
+use Rattle.spb_types.specs.Service.{AreVidsApart}
 use Rattle.spb_types.specs.declared.address.Mac.{Mac}
 use Rattle.spb_types.specs.declared.address.SystemId.{SystemId}
 use Rattle.spb_types.specs.declared.graph.Graph.{Graph}
@@ -47,11 +48,6 @@ rows_of_vid g me plan = filter_map (unicast_row g me plan) (ascending system_cmp
 -- the unicast rows of `me`, by ascending VID and address (IEEE 802.1aq, 8.8 and 28.10)
 unfoldable pub unicast_rows : Graph → SystemId → List VidPlan → List UnicastRow
 unicast_rows g me vids = flat_map (rows_of_vid g me) (ascending vid_cmp vids)
-
--- no VID stands twice in the list
-abbrev pub AreVidsApart : List VidPlan → Type 0
-AreVidsApart [] = ⊤
-AreVidsApart (p ∷ ps) = AllByRecursion (λ q. p.vid.value ≢ q.vid.value) ps × AreVidsApart ps
 
 -- each plan has the number of an ECT algorithm, and no VID stands twice
 pub record ArePlans (vids : List VidPlan) : Type 0 where

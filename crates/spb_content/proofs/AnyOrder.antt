@@ -1,14 +1,15 @@
 -- What is said doesn't depend on the order of VIDs and attached ports.
 use Rattle.std.proofs.Common.{◌≡◌, List, [], ◌∷◌, ◌++◌, map, flat_map, Some, refl, sym, ap, ◌∙◌, subst}
 use Rattle.std.specs.Prelude.{◌==◌, Contains}
+use Rattle.spb_types.specs.Ascending.{ascending}
+use Rattle.spb_types.specs.Service.{AreVidsApart}
 use Rattle.spb_types.specs.declared.address.Mac.{Mac}
 use Rattle.spb_types.specs.declared.graph.Member.{Member}
 use Rattle.spb_types.specs.declared.service.Vid.{Vid}
 use Rattle.spb_types.specs.declared.service.VidPlan.{VidPlan}
 use Rattle.spb_tlvs.specs.declared.capability.Service.{Service}
 use Rattle.spb_content.specs.declared.local.Local.{Local}
-use Rattle.spb_content.specs.Ascending.{ascending}
-use Rattle.spb_content.specs.Local.{own_mac, trees_of, vids_in, isids_in, in_vid, services_in, service_with, plan_number, vid_number, isid_number, said_by, AreVidsApart}
+use Rattle.spb_content.specs.Local.{own_mac, trees_of, vids_in, isids_in, in_vid, services_in, service_with, plan_number, vid_number, isid_number, said_by}
 use Rattle.spb_content.specs.Laws.{OrderSaysNothing}
 use Rattle.spb_content.proofs.Members.{Has, has_map, has_filter, filter_has, has_from_contains, contains_from_has}
 use Rattle.spb_content.proofs.Ascended.{ascending_ascends, has_ascending, numbered_ascending, ascends_once}

@@ -1,9 +1,10 @@
 -- Parts of the own content.
-use Rattle.std.proofs.Common.{◌≡◌, ℕ, zero, suc, ◌+◌, ◌-◌, ◌/◌, ◌≤◌, ◌<◌, inl, inr, List, [], ◌∷◌, ◌++◌, length, take, drop, min, map, refl, sym, ap, ◌∙◌, subst, arith}
+use Rattle.std.proofs.Common.{◌≡◌, ℕ, zero, suc, ◌+◌, ◌-◌, ◌/◌, ◌≤◌, ◌<◌, List, [], ◌∷◌, ◌++◌, length, take, drop, min, map, refl, sym, ap, ◌∙◌, subst, arith}
 use Rattle.std.specs.List.{AllByRecursion}
-use Rattle.std.proofs.lemmas.List.{length-drop, length-map, append_assoc, take_all, drop_all}
+use Rattle.std.proofs.lemmas.List.{length-drop, length-map, append-nil, append_assoc, append_cancel_left, nil_from_length, take_min, take-append-drop}
+use Rattle.std.proofs.Math.Seq.{take-append_seam}
 use Rattle.std.proofs.lemmas.List.Elements.{All-from_recursion}
-use Rattle.std.proofs.lemmas.Bool.{cases_lt}
+use Rattle.spb_types.specs.Ascending.{ascending}
 use Rattle.spb_types.specs.declared.service.SourceId.{SourceId}
 use Rattle.spb_types.specs.declared.service.VidPlan.{VidPlan}
 use Rattle.spb_types.specs.declared.service.Isid.{Isid}
@@ -14,7 +15,6 @@ use Rattle.spb_tlvs.specs.Tlv.{tlv}
 use Rattle.spb_tlvs.specs.Neighbour.{neighbours_value}
 use Rattle.spb_tlvs.specs.Capability.{IsInst, IsTree, IsService, IsServices}
 use Rattle.spb_tlvs.specs.declared.capability.Service.{Service}
-use Rattle.spb_content.specs.Ascending.{ascending}
 use Rattle.spb_content.specs.Local.{neighbour_tlvs, plan_number, vid_number, isid_number, vids_in, isids_in, in_vid, services_in, service_with, IsAttached}
 use Rattle.spb_content.proofs.Members.{Has, all_has, has_all, has_map, map_has, filter_has}
 use Rattle.spb_content.proofs.Ascended.{ascending_ascends, has_ascending, numbered_ascending, Numbered}
@@ -34,24 +34,34 @@ is_inst source plans high few each = record {
   each = All-from_recursion IsTree _ (all_ascending IsTree plan_number plans each);
 }
 
--- the first 13 at most, as they are cut off
-pub cut_front : (k : ℕ) (ns : List Neighbour) → k ≡ min (length ns) 13 → (take k ns ≡ take 13 ns) × (drop k ns ≡ drop 13 ns)
-cut_front k ns e =
-    elim (cases_lt (length ns) 13) [
-      | inl short ↦ (take_all k ns (omega (arith, e)) ∙ sym (take_all 13 ns (omega (arith, short))), drop_all k ns (omega (arith, e)) ∙ sym (drop_all 13 ns (omega (arith, short))))
-      | inr long ↦ let is : k ≡ 13 = omega (arith, e, long) in (ap (λ n. take n ns) is, ap (λ n. drop n ns) is)
-    ]
-
-pub tlvs_more : (before out new : List ℕ) (whole few rest : List Neighbour) (ns : List Neighbour) (k : ℕ) → 0 < length ns → k ≡ min (length ns) 13 → few ≡ take k ns → rest ≡ drop k ns → out ++ neighbour_tlvs ns ≡ before ++ neighbour_tlvs whole → new ≡ out ++ tlv 22 (neighbours_value few) → new ++ neighbour_tlvs rest ≡ before ++ neighbour_tlvs whole
-tlvs_more before out new whole few rest ns k some is front back so_far more =
-    let cut = cut_front k ns is in
-    let step : neighbour_tlvs ns ≡ tlv 22 (neighbours_value few) ++ neighbour_tlvs rest = neighbour_tlvs-cut ns some ∙ ap (λ xs. tlv 22 (neighbours_value xs) ++ neighbour_tlvs (drop 13 ns)) (sym (front ∙ cut.0)) ∙ ap (λ xs. tlv 22 (neighbours_value few) ++ neighbour_tlvs xs) (sym (back ∙ cut.1)) in
-    ap (λ xs. xs ++ neighbour_tlvs rest) more ∙ append_assoc out _ _ ∙ ap (λ xs. out ++ xs) (sym step) ∙ so_far
-
 pub all_drop : {A : Type 0} (P : A → Type 0) (k : ℕ) (xs : List A) → AllByRecursion P xs → AllByRecursion P (drop k xs)
 all_drop P zero xs all = all
 all_drop P (suc k) [] all = tt
 all_drop P (suc k) (x ∷ xs) all = all_drop P k xs all.1
+
+-- the first 13 at most, as they are cut off
+cut_front : (ns few rest : List Neighbour) → ns ≡ few ++ rest → length few ≡ min 13 (length ns) → (few ≡ take 13 ns) × (rest ≡ drop 13 ns)
+cut_front ns few rest is size =
+    let front : take 13 ns ≡ few = sym (take_min 13 ns) ∙ ap (λ k. take k ns) (sym size) ∙ ap (λ (ms : List Neighbour). take (length few) ms) is ∙ take-append_seam few rest in
+    (sym front, sym (append_cancel_left few (drop 13 ns) rest (ap (λ (ms : List Neighbour). ms ++ drop 13 ns) (sym front) ∙ take-append-drop 13 ns ∙ is)))
+
+-- the TLVs so far, and those of the neighbours that are left, whose metrics can be written
+pub record Cut (before : List ℕ) (whole ns : List Neighbour) (out : List ℕ) : Type 0 where
+  pub so_far : out ++ neighbour_tlvs ns ≡ before ++ neighbour_tlvs whole
+  pub metrics : AllByRecursion (λ n. n.metric < 16777216) ns
+
+pub cut_more : (before out new : List ℕ) (whole few rest ns : List Neighbour) → Cut before whole ns out → ns ≡ few ++ rest → length few ≡ min 13 (length ns) → 0 < length ns → new ≡ out ++ tlv 22 (neighbours_value few) → Cut before whole rest new
+cut_more before out new whole few rest ns cut is size some more =
+    let at = cut_front ns few rest is size in
+    let step : neighbour_tlvs ns ≡ tlv 22 (neighbours_value few) ++ neighbour_tlvs rest = neighbour_tlvs-cut ns some ∙ ap (λ xs. tlv 22 (neighbours_value xs) ++ neighbour_tlvs (drop 13 ns)) (sym at.0) ∙ ap (λ xs. tlv 22 (neighbours_value few) ++ neighbour_tlvs xs) (sym at.1) in
+    record {
+      so_far = ap (λ xs. xs ++ neighbour_tlvs rest) more ∙ append_assoc out _ _ ∙ ap (λ xs. out ++ xs) (sym step) ∙ cut.so_far;
+      metrics = subst (λ ms. AllByRecursion (λ n. n.metric < 16777216) ms) (sym at.1) (all_drop _ 13 ns cut.metrics);
+    }
+
+pub cut_all : (before out : List ℕ) (whole rest : List Neighbour) → Cut before whole rest out → length rest ≡ 0 → out ≡ before ++ neighbour_tlvs whole
+cut_all before out whole rest cut none =
+    sym (append-nil out) ∙ ap (λ ns. out ++ neighbour_tlvs ns) (sym (nil_from_length rest none)) ∙ cut.so_far
 
 -- ---- services
 

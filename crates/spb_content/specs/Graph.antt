@@ -91,7 +91,7 @@ IsReached list me x = (walk : List SystemId) × Leads list me walk x
 -- ---- the graph
 
 -- the graph of `me`: the bridges that `me` reaches, their links and their members; nothing where `me` is no bridge. The
--- order of its lists, and which end of an edge is which, are left open
+-- order of its lists, which end of an edge is which, and how often a member stands there are left open
 pub record IsGraphOf (me : SystemId) (list : Contents) (g : Graph) : Type 0 where
   pub bridges : (b : GraphBridge) → Contains g.bridges b ↔ (Contains (filter_map bridge_of list) b × IsReached list me b.id.system)
   pub costs : (x y : SystemId) → IsReached list me x → cost_between g x y ≡ cost_said list x y

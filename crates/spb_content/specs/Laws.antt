@@ -1,6 +1,7 @@
 -- The laws of what is written and read.
-use Rattle.std.specs.Prelude.{◌≡◌, ◌↔◌, ℕ, ◌+◌, ◌≤◌, ◌<◌, ◌^◌, List, length, Contains, IsTrue}
+use Rattle.std.specs.Prelude.{◌≡◌, ◌↔◌, ℕ, ◌+◌, ◌≤◌, ◌<◌, ◌^◌, List, length, map, Contains, IsTrue}
 use Rattle.std.specs.List.{AllByRecursion}
+use Rattle.spb_types.specs.Ascending.{Ascends}
 use Rattle.spb_types.specs.declared.graph.Member.{Member}
 use Rattle.spb_types.specs.declared.service.VidPlan.{VidPlan}
 use Rattle.isis_pdu.specs.declared.kind.Kind.TheVariants as kinds
@@ -8,7 +9,7 @@ use Rattle.isis_pdu.specs.Header.{fixed_length}
 use Rattle.isis_pdu.specs.Tlvs.{is_whole}
 use Rattle.spb_tlvs.specs.RoundTrip.{IsMac, IsNeighbour}
 use Rattle.spb_content.specs.declared.local.Local.{Local}
-use Rattle.spb_content.specs.Local.{IsLocal, own_mac, said_by, content_bytes}
+use Rattle.spb_content.specs.Local.{IsLocal, plan_number, vid_number, isid_number, trees_of, vids_in, isids_in, own_mac, said_by, content_bytes}
 use Rattle.spb_content.specs.Content.{content_in}
 
 -- what the fields of the types hold
@@ -40,6 +41,24 @@ pub record IsLike (l m : Local) : Type 0 where
 -- they say the same
 abbrev pub OrderSaysNothing : Type 0
 OrderSaysNothing = (l m : Local) → IsLocal l → IsLocal m → IsLike l m → said_by l ≡ said_by m
+
+-- ys ascends, its items are items of xs, and its numbers are those of xs: so each of these stands once
+pub record IsAscendingOf {A : Type 0} (number : A → ℕ) (xs ys : List A) : Type 0 where
+  pub ascends : Ascends number ys
+  pub items : (x : A) → Contains ys x → Contains xs x
+  pub numbers : (n : ℕ) → Contains (map number ys) n ↔ Contains (map number xs) n
+
+-- the trees ascend by VID, one for each VID that is configured
+abbrev pub TreesAscend : Type 0
+TreesAscend = (l : Local) → IsAscendingOf plan_number l.config.vids (trees_of l)
+
+-- the base VIDs in use ascend, each once
+abbrev pub VidsAscend : Type 0
+VidsAscend = (attached : List Member) → IsAscendingOf vid_number (map (λ m. m.vid) attached) (vids_in attached)
+
+-- so do the I-SIDs, of all attached ports and of those in one base VID
+abbrev pub IsidsAscend : Type 0
+IsidsAscend = (attached : List Member) → IsAscendingOf isid_number (map (λ m. m.isid) attached) (isids_in attached)
 
 -- each attached base VID is a configured one
 abbrev pub AreConfigured : Local → Type 0

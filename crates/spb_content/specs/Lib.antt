@@ -1,4 +1,3 @@
-pub mod Ascending
 pub mod Local
 pub mod Content
 pub mod Graph

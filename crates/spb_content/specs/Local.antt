@@ -1,7 +1,9 @@
 -- What a bridge says of itself in its LSP (RFC 6329, 13 to 16).
-use Rattle.std.specs.Prelude.{◌≡◌, ◌≢◌, ℕ, ◌+◌, ◌/◌, ◌≤◌, ◌<◌, List, [], ◌∷◌, ◌++◌, length, map, filter, flat_map, true, Some, ◌==◌, ⊤}
+use Rattle.std.specs.Prelude.{◌≡◌, ℕ, ◌+◌, ◌/◌, ◌≤◌, ◌<◌, List, [], ◌∷◌, ◌++◌, length, map, filter, flat_map, true, Some, ◌==◌, ⊤}
 use Rattle.std.specs.List.{AllByRecursion}
 use Rattle.std.specs.Simd.{first_chunks}
+use Rattle.spb_types.specs.Ascending.{ascending}
+use Rattle.spb_types.specs.Service.{AreVidsApart}
 use Rattle.spb_types.specs.declared.address.Mac.{Mac}
 use Rattle.spb_types.specs.declared.graph.Member.{Member}
 use Rattle.spb_types.specs.declared.service.Isid.{Isid}
@@ -16,7 +18,6 @@ use Rattle.spb_tlvs.specs.Neighbour.{neighbours_value}
 use Rattle.spb_tlvs.specs.Capability.{capability_value, IsTree}
 use Rattle.spb_content.specs.declared.local.Local.{Local}
 use Rattle.spb_content.specs.declared.content.Content.{Content}
-use Rattle.spb_content.specs.Ascending.{ascending}
 
 abbrev pub plan_number : VidPlan → ℕ
 plan_number p = p.vid.value
@@ -93,11 +94,6 @@ unfoldable pub content_bytes : Local → List ℕ
 content_bytes l = areas ++ protocols ++ neighbour_tlvs l.neighbours ++ inst_tlv l ++ service_tlvs l
 
 -- ---- what a bridge has
-
--- no base VID stands twice
-abbrev pub AreVidsApart : List VidPlan → Type 0
-AreVidsApart [] = ⊤
-AreVidsApart (p ∷ ps) = AllByRecursion (λ q. p.vid.value ≢ q.vid.value) ps × AreVidsApart ps
 
 pub record IsAttached (m : Member) : Type 0 where
   pub isid_low : 1 ≤ m.isid.value

@@ -1,5 +1,5 @@
 //! The laws of what is written and read. Each is the contract of a function that does nothing.
-ghost use Rattle.spb_content.specs.Laws.{ReadAgain, SameIsWritten, WrittenIsSame, OrderSaysNothing, OwnFits};
+ghost use Rattle.spb_content.specs.Laws.{ReadAgain, SameIsWritten, WrittenIsSame, OrderSaysNothing, TreesAscend, VidsAscend, IsidsAscend, OwnFits};
 
 /// What is written is read as what the bridge says.
 pub fn content_again()
@@ -15,6 +15,13 @@ pub fn same_content_is_written_alike()
 /// What a bridge says doesn't depend on the order of its VIDs and attached ports.
 pub fn order_says_nothing()
     ensures { OrderSaysNothing }
+{}
+
+/// The trees, the base VIDs in use and the I-SIDs that a bridge says are those that it has, each once and ascending.
+pub fn lists_ascend()
+    ensures trees { TreesAscend }
+    ensures vids { VidsAscend }
+    ensures isids { IsidsAscend }
 {}
 
 /// What a bridge of at most 32 ports writes fits into one LSP.

@@ -3,7 +3,9 @@
 //! [`content_of`] writes the TLVs of the own LSP, [`read_content`] reads those of any LSP, and [`graph_of`] makes the
 //! graph of what the systems of a backbone say.
 //!
-//! The first two take time in proportion to the bytes, but for sorting the VIDs and I-SIDs of the own content.
+//! The first two take time in proportion to the bytes. Before it writes them, `content_of` sorts the VIDs and I-SIDs, and
+//! goes over all attached ports once for each base VID in use: for m attached ports in v base VIDs, and t trees, that
+//! takes O(m (v + log m) + t log t).
 //!
 //! The graph of n systems takes O(n log n) for a map of the bridges; then O(k + log n) for each entry of a reached bridge,
 //! where k is how many neighbours it and the one that it lists have, as both ends of a link are searched and an entry is
@@ -12,12 +14,15 @@
 
 pub use content::{Content, Inst, read_content};
 pub use graph::graph_of;
+pub use laws::{
+    content_again, content_fits, lists_ascend, order_says_nothing, same_content_is_written_alike,
+};
 pub use local::{BridgeConfigFacts, Local, content_of};
 
 mod backbone;
 mod content;
 mod graph;
-pub mod laws;
+mod laws;
 mod local;
 #[cfg(test)]
 mod tests;

@@ -1,11 +1,14 @@
-ghost use Rattle.std.specs.Prelude.{◌≡◌, ◌≤◌, [], ◌∷◌, length, IfOk};
+ghost use Rattle.std.specs.Prelude.{◌≡◌, ◌≤◌, ◌<◌, [], ◌∷◌, length, IfOk};
+ghost use Rattle.std.specs.List.{AllByRecursion};
 ghost use Rattle.spb_types.specs.Graph.{IsDistinct};
 ghost use Rattle.spb_content.specs.Graph.{systems_in};
 ghost use Rattle.spb_content.specs.Local.{IsLocal};
 
 use crate::{BridgeConfigFacts, Content, Inst, Local, content_of, graph_of, read_content};
-use spb_tlvs::{Neighbour, Service};
-use spb_types::{BridgeId, Edge, Isid, Mac, Member, NoMemory, Seq, SourceId, SystemId, Vid};
+use spb_tlvs::{Neighbour, Service, find_tlv, read_neighbours};
+use spb_types::{
+    BridgeId, Edge, Isid, Mac, Member, NoMemory, Seq, SourceId, SystemId, Vid, VidPlan,
+};
 use std::alloc::Global;
 use std::test::Fail;
 
@@ -20,17 +23,35 @@ fn system(last: u8) -> SystemId
     }
 }
 
-/// Bridge 1 without VIDs, with bridge 2 at its port 1 over a link of metric 10.
-fn linked(alloc: Global) -> Result<Local, NoMemory>
-    ensures { IfOk result IsLocal }
+/// An entry for the system with this last byte.
+fn entry(to: u8, metric: u32, port: u16) -> Neighbour
+    ensures { result.metric ≡ metric }
+{
+    Neighbour {
+        system: system(to),
+        metric,
+        port,
+    }
+}
+
+/// Bridges 2, 3 and so on at the ports 1, 2 and so on, over links of metric 10.
+fn neighbours(alloc: Global, count: u8) -> Result<Seq<Neighbour>, NoMemory>
+    requires { count ≤ 32 }
+    ensures { IfOk result (AllByRecursion (λ n. n.metric < 16777216)) }
 {
     let mut neighbours = Seq::new(alloc);
-    neighbours.push(Neighbour {
-        system: system(2),
-        metric: 10,
-        port: 1,
-    })?;
-    Ok(Local {
+    for place in 0..count {
+        neighbours.push(entry(place + 2, 10, u16::from(place) + 1))?;
+    }
+    Ok(neighbours)
+}
+
+/// Bridge 1 without VIDs, with these neighbours.
+fn linked(alloc: Global, neighbours: Seq<Neighbour>) -> Local
+    requires { AllByRecursion (λ n. n.metric < 16777216) neighbours }
+    ensures { IsLocal result }
+{
+    Local {
         config: BridgeConfigFacts {
             id: BridgeId {
                 priority: 32768,
@@ -41,30 +62,28 @@ fn linked(alloc: Global) -> Result<Local, NoMemory>
         },
         neighbours,
         attached: Seq::new(alloc),
-    })
+    }
 }
 
-/// The TLVs of that bridge, made by hand.
-const TLVS: [u8; 54] = [
+/// The TLVs of that bridge with one neighbour, made by hand.
+const TLVS: [u8; 55] = [
     0x01, 0x04, 0x03, 0x49, 0x00, 0x01, 0x81, 0x01, 0xc1, 0x16, 0x13, 0x02, 0x00, 0x00, 0x00, 0x00,
     0x02, 0x00, 0x00, 0x00, 0x0a, 0x08, 0x1d, 0x06, 0x00, 0x00, 0x0a, 0x01, 0x00, 0x01, 0x90, 0x17,
     0x00, 0x00, 0x01, 0x13, 0x00, 0x00, 0x00, 0x00, 0x00, 0x00, 0x00, 0x00, 0x00, 0x00, 0x00, 0x00,
-    0x80, 0x00, 0x00, 0x00, 0x00, 0x01,
+    0x80, 0x00, 0x00, 0x00, 0x00, 0x01, 0x00,
 ];
 
 #[test]
 fn a_bridge_with_a_neighbour_writes_its_tlvs(rt: HostRuntime) -> Result<(), Fail> {
-    let local = linked(rt.alloc())?;
+    let local = linked(rt.alloc(), neighbours(rt.alloc(), 1)?);
     let content = content_of(rt.alloc(), &local)?;
-    assert_eq!(rt; content.len(), 55);
-    assert_eq!(rt; content.as_slice().split_at(54).0, TLVS.as_slice());
-    assert_eq!(rt; content.last().copied(), Some(0));
+    assert_eq!(rt; content.as_slice(), TLVS.as_slice());
     Ok(())
 }
 
 #[test]
 fn what_is_written_is_read(rt: HostRuntime) -> Result<(), Fail> {
-    let local = linked(rt.alloc())?;
+    let local = linked(rt.alloc(), neighbours(rt.alloc(), 1)?);
     let tlvs = content_of(rt.alloc(), &local)?;
     let content = read_content(rt.alloc(), tlvs.as_slice())?;
     assert_eq!(rt; content.neighbours.len(), 1);
@@ -74,13 +93,118 @@ fn what_is_written_is_read(rt: HostRuntime) -> Result<(), Fail> {
     Ok(())
 }
 
-/// An entry for the system with this last byte.
-fn entry(to: u8, metric: u32, port: u16) -> Neighbour {
-    Neighbour {
-        system: system(to),
-        metric,
-        port,
+#[test]
+fn the_fourteenth_neighbour_takes_a_second_tlv(rt: HostRuntime) -> Result<(), Fail> {
+    let local = linked(rt.alloc(), neighbours(rt.alloc(), 14)?);
+    let content = content_of(rt.alloc(), &local)?;
+    let tlvs = content.as_slice();
+    let first = read_neighbours(rt.alloc(), find_tlv(tlvs, 22, 0).ok_or("no TLV 22")?)?;
+    let second = read_neighbours(rt.alloc(), find_tlv(tlvs, 22, 1).ok_or("only one")?)?;
+    assert_eq!(rt; first.len(), 13);
+    assert_eq!(rt; second.as_slice(), [entry(15, 10, 14)].as_slice());
+    assert!(rt; find_tlv(tlvs, 22, 2).is_none());
+    Ok(())
+}
+
+/// A customer port of bridge 1, attached to a service in a base VID.
+fn attached(isid: u32, vid: u16) -> Member
+    ensures isid { result.isid.value ≡ isid }
+    ensures vid { result.vid.value ≡ vid }
+{
+    Member {
+        system: system(1),
+        isid: Isid { value: isid },
+        vid: Vid { value: vid },
     }
+}
+
+/// Bridge 1 with two VIDs, two neighbours and three services, of which one is attached at two ports.
+fn serving(alloc: Global) -> Result<Local, NoMemory>
+    ensures { IfOk result IsLocal }
+{
+    let vids = [
+        VidPlan {
+            vid: Vid { value: 20 },
+            ect: 2,
+        },
+        VidPlan {
+            vid: Vid { value: 10 },
+            ect: 1,
+        },
+    ];
+    let neighbours = [entry(2, 10, 1), entry(3, 0x01_2345, 3)];
+    let ports = [
+        attached(300, 20),
+        attached(200, 10),
+        attached(100, 10),
+        attached(200, 10),
+    ];
+    Ok(Local {
+        config: BridgeConfigFacts {
+            id: BridgeId {
+                priority: 32768,
+                system: system(1),
+            },
+            source: SourceId { value: 1 },
+            vids: Seq::from_vec(Vec::from_slice(alloc, &vids)?),
+        },
+        neighbours: Seq::from_vec(Vec::from_slice(alloc, &neighbours)?),
+        attached: Seq::from_vec(Vec::from_slice(alloc, &ports)?),
+    })
+}
+
+/// The neighbours of that bridge, made by hand: a TLV 22 with two entries of 19 bytes.
+const TWO_NEIGHBOURS: [u8; 40] = [
+    0x16, 0x26, 0x02, 0x00, 0x00, 0x00, 0x00, 0x02, 0x00, 0x00, 0x00, 0x0a, 0x08, 0x1d, 0x06, 0x00,
+    0x00, 0x0a, 0x01, 0x00, 0x01, 0x02, 0x00, 0x00, 0x00, 0x00, 0x03, 0x00, 0x01, 0x23, 0x45, 0x08,
+    0x1d, 0x06, 0x01, 0x23, 0x45, 0x01, 0x00, 0x03,
+];
+
+/// Its SPB-Inst with the trees of the VIDs 10 and 20.
+const TWO_TREES: [u8; 41] = [
+    0x90, 0x27, 0x00, 0x00, 0x01, 0x23, 0x00, 0x00, 0x00, 0x00, 0x00, 0x00, 0x00, 0x00, 0x00, 0x00,
+    0x00, 0x00, 0x80, 0x00, 0x00, 0x00, 0x00, 0x01, 0x02, 0x40, 0x00, 0x80, 0xc2, 0x01, 0x00, 0xa0,
+    0x00, 0x40, 0x00, 0x80, 0xc2, 0x02, 0x01, 0x40, 0x00,
+];
+
+/// Its services: the I-SIDs 100 and 200 in VID 10, and 300 in VID 20.
+const THREE_SERVICES: [u8; 40] = [
+    0x90, 0x14, 0x00, 0x00, 0x03, 0x10, 0x02, 0x00, 0x00, 0x00, 0x00, 0x01, 0x00, 0x0a, 0xc0, 0x00,
+    0x00, 0x64, 0xc0, 0x00, 0x00, 0xc8, 0x90, 0x10, 0x00, 0x00, 0x03, 0x0c, 0x02, 0x00, 0x00, 0x00,
+    0x00, 0x01, 0x00, 0x14, 0xc0, 0x00, 0x01, 0x2c,
+];
+
+#[test]
+fn vids_and_services_are_written_ascending(rt: HostRuntime) -> Result<(), Fail> {
+    let local = serving(rt.alloc())?;
+    let content = content_of(rt.alloc(), &local)?;
+    let mut tlvs = Vec::from_slice(rt.alloc(), &[1, 4, 0x03, 0x49, 0x00, 0x01, 0x81, 1, 0xc1])?;
+    tlvs.extend_from_slice(&TWO_NEIGHBOURS)?;
+    tlvs.extend_from_slice(&TWO_TREES)?;
+    tlvs.extend_from_slice(&THREE_SERVICES)?;
+    assert_eq!(rt; content.as_slice(), tlvs.as_slice());
+    Ok(())
+}
+
+/// A TLV 144 with an SPB-Inst without trees.
+fn inst_tlv(mt_id: u8, priority: u8, source: u8) -> [u8; 25] {
+    [
+        0x90, 0x17, 0x00, mt_id, 0x01, 0x13, 0x00, 0x00, 0x00, 0x00, 0x00, 0x00, 0x00, 0x00, 0x00,
+        0x00, 0x00, 0x00, priority, 0x00, 0x00, 0x00, 0x00, source, 0x00,
+    ]
+}
+
+#[test]
+fn the_first_inst_that_can_be_read_counts(rt: HostRuntime) -> Result<(), Fail> {
+    // an SPB-Inst that is cut
+    let mut tlvs = Vec::from_slice(rt.alloc(), &[0x90, 0x05, 0x00, 0x00, 0x01, 0x01, 0x00])?;
+    tlvs.extend_from_slice(&inst_tlv(2, 0x70, 7))?;
+    tlvs.extend_from_slice(&inst_tlv(0, 0x80, 1))?;
+    tlvs.extend_from_slice(&inst_tlv(0, 0x10, 2))?;
+    let content = read_content(rt.alloc(), tlvs.as_slice())?;
+    let inst = content.inst.ok_or("no SPB-Inst")?;
+    assert_eq!(rt; (inst.priority, inst.source.value), (0x8000, 1));
+    Ok(())
 }
 
 /// What a bridge without services says.

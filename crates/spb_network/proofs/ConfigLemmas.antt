@@ -4,7 +4,7 @@ use Rattle.std.proofs.lemmas.Bool.Decides.{nat_tests}
 use Rattle.std.specs.List.{AllByRecursion}
 use Rattle.spb_types.specs.declared.service.VidPlan.{VidPlan}
 use Rattle.spb_types.specs.declared.address.Mac.{Mac}
-use Rattle.fdb_build.specs.Tables.{AreVidsApart}
+use Rattle.spb_types.specs.Service.{AreVidsApart}
 use Rattle.bridge_api.specs.Config.{IsOwnMac, IsMetric, ArePairwise, IsWhole, vids_of}
 use Rattle.spb_network.specs.declared.declaration.DeclaredBridge.{DeclaredBridge}
 use Rattle.spb_network.specs.World.{World, Sound}

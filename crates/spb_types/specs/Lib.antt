@@ -6,3 +6,5 @@ pub mod Name
 pub mod Padding
 pub mod Ports
 pub mod PortLaws
+pub mod Ascending
+pub mod Service
