@@ -265,6 +265,7 @@ fn filled(alloc: Global, count: u16) -> Result<Database, Fail> {
 fn entries_without_a_place_are_counted(rt: HostRuntime) -> Result<(), Fail> {
     let alloc = rt.alloc();
     let mut db = filled(alloc, 2048)?;
+    let mut again = own(alloc)?;
     let mut own = own(alloc)?;
     let entries = [
         entry(lsp_id(3000, 0), (1, 600, 7)),
@@ -278,7 +279,7 @@ fn entries_without_a_place_are_counted(rt: HostRuntime) -> Result<(), Fail> {
     assert_eq!(rt; db.len(), 2048);
     assert_eq!(rt; db.find(&lsp_id(7, 0)).map(|h| h.srm.bits), Some(0b010));
     let (start, end) = (lsp_id(8, 0), lsp_id(9, 0));
-    let full = hear_csnp(alloc, &mut db, up, 2, &start, &end, &entries, &mut own)?;
+    let full = hear_csnp(alloc, &mut db, up, 2, &start, &end, &entries, &mut again)?;
     assert_eq!(rt; full, 2);
     assert_eq!(rt; db.len(), 2048);
     for (system, srm) in [(8, 0b010), (9, 0b010), (10, 0)] {
