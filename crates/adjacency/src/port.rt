@@ -16,6 +16,7 @@ use spb_types::{Mac, SystemId};
 pub struct Adjacency {
     /// Whether the port has carrier.
     pub carrier: bool,
+    /// The state of the adjacency.
     pub state: AdjState,
     /// The neighbour's system id.
     pub neighbour: SystemId,

@@ -6,6 +6,7 @@ use thiserror::Error;
 pub struct Hello<'a> {
     /// The levels that the sender speaks on this circuit: 1 is level 1 alone.
     pub circuit_type: u8,
+    /// The sender.
     pub source: SystemId,
     /// How long the sender is to be held as a neighbour, in seconds.
     pub holding: u16,
@@ -20,7 +21,9 @@ pub struct Hello<'a> {
 pub struct Lsp<'a> {
     /// The remaining lifetime, in seconds. An LSP with 0 is dead.
     pub lifetime: u16,
+    /// The LSP id: the system that the LSP is of, the pseudonode, and the number of the fragment.
     pub id: LspId,
+    /// The sequence number.
     pub seq: u32,
     /// The checksum field: its two check bytes, the first one times 256.
     pub sum: u16,
@@ -33,6 +36,7 @@ pub struct Lsp<'a> {
 /// A level 1 complete sequence numbers PDU (ISO/IEC 10589, 9.10).
 #[derive(Clone, Copy, Debug, PartialEq, Eq)]
 pub struct Csnp<'a> {
+    /// The sender.
     pub source: SystemId,
     /// The first LSP id of the range that it speaks of.
     pub start: LspId,
@@ -45,6 +49,7 @@ pub struct Csnp<'a> {
 /// A level 1 partial sequence numbers PDU (ISO/IEC 10589, 9.12).
 #[derive(Clone, Copy, Debug, PartialEq, Eq)]
 pub struct Psnp<'a> {
+    /// The sender.
     pub source: SystemId,
     /// The TLVs, one after another, as bytes.
     pub tlvs: &'a [u8],
@@ -53,9 +58,13 @@ pub struct Psnp<'a> {
 /// A PDU that was read. Its TLVs lie in the bytes that it was read from.
 #[derive(Clone, Copy, Debug, PartialEq, Eq)]
 pub enum Pdu<'a> {
+    /// A hello of a point-to-point circuit.
     Hello(Hello<'a>),
+    /// A link state PDU.
     Lsp(Lsp<'a>),
+    /// A complete sequence numbers PDU.
     Csnp(Csnp<'a>),
+    /// A partial sequence numbers PDU.
     Psnp(Psnp<'a>),
 }
 

@@ -11,21 +11,20 @@ use crate::checksum::check_ok;
 use crate::kind::Kind;
 use crate::pdu::{Csnp, Hello, Lsp, Pdu, PduError, Psnp};
 use crate::tlvs::are_whole;
-use spb_types::{LspId, Mac, SystemId};
+use spb_types::{LspId, Mac, SystemId, take_u16, take_u32};
 
 fn read_u16(bytes: &[u8], at: usize) -> u16
     requires { at + 2 ≤ length bytes.now }
     ensures { result ≡ u16_at bytes.now at }
 {
-    u16::from(bytes[at]) * 256 + u16::from(bytes[at + 1])
+    take_u16(bytes, at).unwrap()
 }
 
 fn read_u32(bytes: &[u8], at: usize) -> u32
     requires { at + 4 ≤ length bytes.now }
     ensures { result ≡ u32_at bytes.now at }
 {
-    let high = u32::from(bytes[at]) * 256 + u32::from(bytes[at + 1]);
-    (high * 256 + u32::from(bytes[at + 2])) * 256 + u32::from(bytes[at + 3])
+    take_u32(bytes, at).unwrap()
 }
 
 fn read_system(bytes: &[u8], at: usize) -> SystemId

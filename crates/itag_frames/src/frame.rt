@@ -9,7 +9,7 @@ use thiserror::Error;
 pub enum Frame<'a> {
     /// A control frame, by its PDU.
     Control(&'a [u8]),
-    /// A frame with an I-TAG.
+    /// A frame with an I-TAG. [`classify`] doesn't answer it yet.
     Backbone(Backbone<'a>),
 }
 
@@ -31,13 +31,13 @@ pub struct Backbone<'a> {
 /// Why bytes are no frame of the backbone.
 #[derive(Clone, Copy, Debug, PartialEq, Eq, Hash, Error)]
 pub enum FrameError {
-    /// Too few bytes.
+    /// Fewer than 17 bytes.
     #[error("a frame is too short")]
     Short,
-    /// Neither a control frame nor a frame with a B-TAG.
+    /// No control frame. [`classify`] answers it for a frame with a B-TAG too, which it doesn't read yet.
     #[error("a frame is no backbone frame")]
     NotBackbone,
-    /// A frame with a B-TAG and no I-TAG.
+    /// A frame with a B-TAG and no I-TAG. [`classify`] doesn't answer it yet.
     #[error("a frame has no I-TAG")]
     NoItag,
 }
@@ -50,7 +50,7 @@ pub(crate) const LLC: [u8; 3] = [0xfe, 0xfe, 0x03];
 
 /// What a frame is. `Short` where it has fewer than 17 bytes. A frame to 01-80-C2-00-00-14 is `Control` where its length
 /// is 3 to 1,500 and at most the number of the bytes after the length field, and the LLC bytes are fe fe 03
-/// (ISO/IEC 10589, 8.4.8); bytes after the length are passed over. Every other frame is `NotBackbone`.
+/// (ISO/IEC 10589, 8.4.8); bytes after the length are passed over. Every other frame is `NotBackbone`, one with a B-TAG too.
 pub fn classify(frame: &[u8]) -> Result<Frame<'_>, FrameError>
     ensures { spec.contents result ≡ spec.content_in frame.now }
 {

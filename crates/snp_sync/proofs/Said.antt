@@ -1,8 +1,9 @@
 -- What is sent is read again, and claims what is held; and afterwards nothing is owed.
-use Rattle.std.specs.Prelude.{◌≡◌, ℕ, ◌≤◌, Bool, true, false, ◌&&◌, not, ◌==◌, List, [], ◌∷◌, ◌++◌, map, Some, Ok, if◌then◌else◌}
+use Rattle.std.specs.Prelude.{◌≡◌, ℕ, ◌≤◌, Bool, true, false, ◌&&◌, not, ◌==◌, List, [], ◌∷◌, ◌++◌, map, Option, Some, None, Ok, if◌then◌else◌}
 use Rattle.std.proofs.Common.{refl, sym, ap, subst, ◌∙◌, lit≤, ⊎_elim}
 use Rattle.std.specs.List.{AllByRecursion, flat_map}
-use Rattle.std.specs.FinMap.{entries}
+use Rattle.std.specs.FinMap.{entries, get}
+use Rattle.std.specs.Option.{option_map}
 use Rattle.std.proofs.lemmas.Bool.{cases_Bool, eqb-true}
 use Rattle.spb_types.specs.declared.address.LspId.{LspId}
 use Rattle.spb_types.specs.declared.ports.PortSet.{PortSet}
@@ -24,6 +25,7 @@ use Rattle.lsdb.specs.Database.{Lsps, version_in}
 use Rattle.lsdb.specs.Certificate.{Claim, is_flagged, is_as_before, EntryCertificate}
 use Rattle.lsdb.proofs.Order.{itself}
 use Rattle.lsdb.proofs.Certified.{changing_each}
+use Rattle.lsdb.proofs.LookupLemmas.{get-each}
 use Rattle.flooding.specs.Entries.{AllEntries, AreSendable}
 use Rattle.flooding.proofs.Flags.{has-without}
 use Rattle.flooding.proofs.SendableEntries.{claimed_again}
@@ -33,7 +35,7 @@ use Rattle.snp_sync.specs.Ids.{successor, first_id}
 use Rattle.snp_sync.specs.Sending.{Page, end_of, pages_from, csnp_for, psnp_for, csnp_pages, psnp_parts, settled}
 use Rattle.snp_sync.specs.Reading.{before_others, entries_in_all, entries_in}
 use Rattle.snp_sync.specs.Sized.{IsSizedLine}
-use Rattle.snp_sync.specs.SendingLaws.{LineClaimsWhatIsHeld, ClaimsWhatIsHeld, PagesClaimWhatIsHeld, CsnpIsRead, LinesAreRead, PageLinesAreRead, PageLinesAreSized, PartsClaimWhatIsHeld, PsnpIsRead, PartLinesAreRead, PartLinesAreSized, SettledOwesNothing, SettlingIsCertified}
+use Rattle.snp_sync.specs.SendingLaws.{LineClaimsWhatIsHeld, ClaimsWhatIsHeld, PagesClaimWhatIsHeld, CsnpIsRead, LinesAreRead, PageLinesAreRead, PageLinesAreSized, PartsClaimWhatIsHeld, PsnpIsRead, PartLinesAreRead, PartLinesAreSized, IsSettledEntry, IsSettledUnder, SettledOwesNothing, SettlingIsCertified}
 use Rattle.snp_sync.proofs.Gathered.{gathered}
 use Rattle.snp_sync.proofs.Cuts.{tlvs_whole}
 use Rattle.snp_sync.proofs.Ranges.{joined, joined_parts, joined_or_one, of_entries}
@@ -150,12 +152,34 @@ and_here port q set none = by_test (q == port) refl
     by_test true t = and_false (has set q) (ap (λ p. has set p) (eqb-true q port t) ∙ none)
     by_test false t = and_true (has set q)
 
-pub settled_owes_nothing : SettledOwesNothing
-settled_owes_nothing port e low high q =
+settled_ssn : (port : ℕ) (e : Entry) → 1 ≤ port → port ≤ 32 → (q : ℕ) → has (settled port e).ssn q ≡ (has e.ssn q && not (q == port))
+settled_ssn port e low high q =
     ⊎_elim
     (λ owed. ap (λ b. has (if b then with_ssn port false e else e).ssn q) owed ∙ has-without e.ssn port q low high)
     (λ none. ap (λ b. has (if b then with_ssn port false e else e).ssn q) none ∙ and_here port q e.ssn none)
     (cases_Bool (has e.ssn port))
+
+-- what is so of an entry with the flag cleared is so of the settled one
+settled_keeps : {A : Type 0} (f : Entry → A) (port : ℕ) (e : Entry) (b : Bool) → f (with_ssn port false e) ≡ f e → f (if b then with_ssn port false e else e) ≡ f e
+settled_keeps f port e true same = same
+settled_keeps f port e false same = refl
+
+settled_entry : (port : ℕ) (e : Entry) → 1 ≤ port → port ≤ 32 → IsSettledEntry port e (settled port e)
+settled_entry port e low high = record {
+  version = settled_keeps (λ x. x.version) port e (has e.ssn port) refl;
+  lifetime = settled_keeps (λ x. x.lifetime) port e (has e.ssn port) refl;
+  body = settled_keeps (λ x. x.body) port e (has e.ssn port) refl;
+  srm = settled_keeps (λ x. x.srm) port e (has e.ssn port) refl;
+  ssn = settled_ssn port e low high;
+}
+
+settled_under : (port : ℕ) (o : Option Entry) → 1 ≤ port → port ≤ 32 → IsSettledUnder port o (option_map (settled port) o)
+settled_under port None low high = refl
+settled_under port (Some e) low high = settled_entry port e low high
+
+pub settled_owes_nothing : SettledOwesNothing
+settled_owes_nothing port db low high id =
+    subst (λ (new : Option Entry). IsSettledUnder port (get db id) new) (sym (get-each (λ (x : LspId) (e : Entry). settled port e) db id)) (settled_under port (get db id) low high)
 
 -- the version and SRM stand
 pub same_srm : (up : PortSet) (at : ℕ) (claims : List Claim) (id : LspId) (e n : Entry) → n.version ≡ e.version → n.srm ≡ e.srm → EntryCertificate at claims up up id (Some e) (Some n)

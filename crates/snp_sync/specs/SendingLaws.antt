@@ -1,6 +1,7 @@
 -- What the sequence numbers PDUs that a bridge sends say.
-use Rattle.std.specs.Prelude.{◌≡◌, ℕ, ◌≤◌, List, length, filter, count_by, ◌&&◌, not, ◌==◌, Ok}
+use Rattle.std.specs.Prelude.{◌≡◌, ℕ, ◌≤◌, List, length, filter, count_by, ◌&&◌, not, ◌==◌, Option, Some, None, Ok}
 use Rattle.std.specs.List.{AllByRecursion, flat_map}
+use Rattle.std.specs.FinMap.{get}
 use Rattle.std.specs.Ordering.{is_lt, is_le}
 use Rattle.std.specs.declared.cmp.Ordering.TheVariants.{Less}
 use Rattle.spb_types.specs.declared.address.SystemId.{SystemId}
@@ -20,7 +21,7 @@ use Rattle.flooding.specs.Entries.{IsNumbered, AreSendable}
 use Rattle.snp_sync.specs.Line.{line_of, lines_where, is_listed, is_owed}
 use Rattle.snp_sync.specs.Parts.{line_tlvs}
 use Rattle.snp_sync.specs.Ids.{successor, last_id, is_between}
-use Rattle.snp_sync.specs.Sending.{Page, csnp_for, psnp_for, csnp_pages, psnp_parts, settled, all_settled}
+use Rattle.snp_sync.specs.Sending.{Page, csnp_for, psnp_for, csnp_pages, psnp_parts, all_settled}
 use Rattle.snp_sync.specs.Sized.{IsLspId, HaveIds, AreSized, IsSizedLine}
 use Rattle.snp_sync.specs.Reading.{entries_in}
 use Rattle.snp_sync.specs.Hearing.{claim_in}
@@ -101,9 +102,23 @@ PsnpIsRead = (me : SystemId) (part : List SnpEntry) → IsId me → read (psnp_b
 abbrev pub PartLinesAreRead : Type 0
 PartLinesAreRead = (port : ℕ) (db : Lsps) → AreSized db → AllByRecursion (λ part. entries_in (line_tlvs part) ≡ Ok part) (psnp_parts port db)
 
+-- what is held under an id, and afterwards: it isn't to be acknowledged or asked for at the port, and all else of it stands
+pub record IsSettledEntry (port : ℕ) (e new : Entry) : Type 0 where
+  pub version : new.version ≡ e.version
+  pub lifetime : new.lifetime ≡ e.lifetime
+  pub body : new.body ≡ e.body
+  pub srm : new.srm ≡ e.srm
+  pub ssn : (q : ℕ) → has new.ssn q ≡ (has e.ssn q && not (q == port))
+
+-- an id that isn't held stays so
+abbrev pub IsSettledUnder : ℕ → Option Entry → Option Entry → Type 0
+IsSettledUnder port None new = new ≡ None
+IsSettledUnder port (Some e) None = ⊥
+IsSettledUnder port (Some e) (Some new) = IsSettledEntry port e new
+
 -- afterwards nothing is owed there, and all else stands
 abbrev pub SettledOwesNothing : Type 0
-SettledOwesNothing = (port : ℕ) (e : Entry) → 1 ≤ port → port ≤ 32 → (q : ℕ) → has (settled port e).ssn q ≡ (has e.ssn q && not (q == port))
+SettledOwesNothing = (port : ℕ) (db : Lsps) → 1 ≤ port → port ≤ 32 → (id : LspId) → IsSettledUnder port (get db id) (get (all_settled port db) id)
 
 abbrev pub SettlingIsCertified : Type 0
 SettlingIsCertified = (up : PortSet) (port at : ℕ) (claims : List Claim) (db : Lsps) → Certificate at claims (record { up = up; db = db }) (record { up = up; db = all_settled port db })

@@ -16,7 +16,7 @@ pub fn csnps_cover_each_id_once()
     ensures ends { PagesEndAtIds }
 {}
 
-/// The PSNPs at a port have what is owed there, and afterwards nothing is.
+/// The PSNPs at a port have what is owed there, and afterwards nothing is, and all else stands under every id.
 pub fn psnps_say_what_is_owed()
     ensures whole { PartsAreWhole }
     ensures short { PartsAreShort }

@@ -1,11 +1,8 @@
 ghost use Rattle.spb_tlvs.specs.Reading.{Reads};
 ghost use Rattle.snp_sync.specs.Reading.{entries_in};
 
-use spb_tlvs::{SnpEntry, TlvError, find_tlv, read_entries};
+use spb_tlvs::{LSP_ENTRIES, SnpEntry, TlvError, find_tlv, read_entries};
 use std::alloc::Global;
-
-/// The code of a TLV with LSP entries (ISO/IEC 10589, 9.10 and 9.12).
-const LSP_ENTRIES: u8 = 9;
 
 /// The entries of a sequence numbers PDU by its TLVs: those of each of its TLVs 9, in order. The first that can't be read
 /// refuses all. Each TLV is looked for from the front.

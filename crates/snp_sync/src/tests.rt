@@ -1,4 +1,6 @@
-//! Expected flags are the standard's, at three Up ports, of which the second hears. Checksums and PDUs were made by hand.
+//! Expected flags are the standard's, but for this project's profile of dead LSPs: an id that isn't held is asked for where
+//! a dead LSP of it is claimed too, and a dead LSP that a CSNP doesn't list is sent. There are three Up ports, of which the
+//! second hears. Checksums and PDUs were made by hand.
 ghost use Rattle.std.specs.Prelude.{◌≡◌, ◌≤◌, length, IfOk};
 ghost use Rattle.lsdb.specs.Entry.{CanBeHeld};
 
@@ -263,6 +265,7 @@ fn filled(alloc: Global, count: u16) -> Result<Database, Fail> {
 fn entries_without_a_place_are_counted(rt: HostRuntime) -> Result<(), Fail> {
     let alloc = rt.alloc();
     let mut db = filled(alloc, 2048)?;
+    let mut again = own(alloc)?;
     let mut own = own(alloc)?;
     let entries = [
         entry(lsp_id(3000, 0), (1, 600, 7)),
@@ -275,6 +278,14 @@ fn entries_without_a_place_are_counted(rt: HostRuntime) -> Result<(), Fail> {
     assert_eq!(rt; full, 2);
     assert_eq!(rt; db.len(), 2048);
     assert_eq!(rt; db.find(&lsp_id(7, 0)).map(|h| h.srm.bits), Some(0b010));
+    let (start, end) = (lsp_id(8, 0), lsp_id(9, 0));
+    let full = hear_csnp(alloc, &mut db, up, 2, &start, &end, &entries, &mut again)?;
+    assert_eq!(rt; full, 2);
+    assert_eq!(rt; db.len(), 2048);
+    for (system, srm) in [(8, 0b010), (9, 0b010), (10, 0)] {
+        let flags = db.find(&lsp_id(system, 0)).map(|h| h.srm.bits);
+        assert_eq!(rt; flags, Some(srm), "bridge {system}");
+    }
     Ok(())
 }
 
@@ -329,8 +340,8 @@ fn a_psnp_acknowledges_once(rt: HostRuntime) -> Result<(), Fail> {
     Ok(())
 }
 
-/// The source and the range of a CSNP, and how many entries its TLVs have.
-fn said(alloc: Global, pdu: &[u8]) -> Result<(SystemId, LspId, LspId, usize), Fail> {
+/// The source and the range of a CSNP, and the entries of its TLVs.
+fn said(alloc: Global, pdu: &[u8]) -> Result<(SystemId, LspId, LspId, Vec<SnpEntry>), Fail> {
     let Ok(
         Pdu::Csnp(
             Csnp {
@@ -344,7 +355,7 @@ fn said(alloc: Global, pdu: &[u8]) -> Result<(SystemId, LspId, LspId, usize), Fa
     else {
         return Err("no CSNP".into());
     };
-    Ok((source, start, end, entries_of_snp(alloc, tlvs)?.len()))
+    Ok((source, start, end, entries_of_snp(alloc, tlvs)?))
 }
 
 #[test]
@@ -353,27 +364,46 @@ fn csnps_list_90_lsps_each(rt: HostRuntime) -> Result<(), Fail> {
     let me = bridge(1);
     let (first, last) = (ids::FIRST, ids::LAST);
     let (end, next) = (lsp_id(90, 0), lsp_id(90, 1));
-    for (count, want) in [
-        (0, [Some((33, (me, first, last, 0))), None]),
-        (1, [Some((51, (me, first, last, 1))), None]),
-        (90, [Some((1485, (me, first, last, 90))), None]),
+    let (second_end, third) = (lsp_id(180, 0), lsp_id(180, 1));
+    for (count, pages, want) in [
+        (0, 1, [Some((33, (me, first, last, 0))), None, None]),
+        (1, 1, [Some((51, (me, first, last, 1))), None, None]),
+        (90, 1, [Some((1485, (me, first, last, 90))), None, None]),
         (
             91,
+            2,
             [
                 Some((1485, (me, first, end, 90))),
                 Some((51, (me, next, last, 1))),
+                None,
+            ],
+        ),
+        (
+            181,
+            3,
+            [
+                Some((1485, (me, first, end, 90))),
+                Some((1485, (me, next, second_end, 90))),
+                Some((51, (me, third, last, 1))),
             ],
         ),
     ] {
         let db = filled(alloc, count)?;
         let pdus = csnps(alloc, &db, me)?;
-        let mut got = [None, None];
+        let mut got = [None, None, None];
+        let mut system: u16 = 0;
         for (place, pdu) in pdus.iter().enumerate() {
-            if place < 2 {
-                got[place] = Some((pdu.len(), said(alloc, pdu)?));
+            let (source, start, end, entries) = said(alloc, pdu)?;
+            for entry in &entries {
+                system = system.wrapping_add(1);
+                assert_eq!(rt; entry.id, lsp_id(system, 0));
+            }
+            if place < 3 {
+                got[place] = Some((pdu.len(), (source, start, end, entries.len())));
             }
         }
-        assert_eq!(rt; (pdus.len(), got), (if count > 90 { 2 } else { 1 }, want));
+        assert_eq!(rt; (pdus.len(), got), (pages, want));
+        assert_eq!(rt; system, count);
     }
     Ok(())
 }
@@ -384,7 +414,7 @@ fn an_absent_lsp_is_not_listed(rt: HostRuntime) -> Result<(), Fail> {
     let mut db = filled(alloc, 2)?;
     db.put(held(alloc, lsp_id(1, 5), Version::Absent, &[], &[2])?)?;
     for pdu in &csnps(alloc, &db, bridge(1))? {
-        assert_eq!(rt; said(alloc, pdu)?.3, 2);
+        assert_eq!(rt; said(alloc, pdu)?.3.len(), 2);
     }
     assert_eq!(rt; psnps(alloc, &mut db, bridge(1), 2)?.len(), 1);
     Ok(())

@@ -6,6 +6,7 @@ ghost use Rattle.spb_tlvs.specs.Reading.{Gives, Reads};
 ghost use Rattle.spb_tlvs.specs.Capability as spec;
 
 use crate::append::{push_some, put, whole_or_none};
+use crate::codes::MT_CAPABILITY;
 use crate::error::TlvError;
 use crate::fields::{mac_in, u16_in, u24_in, u32_in};
 use crate::piece::split_piece;
@@ -41,8 +42,6 @@ pub enum Capability {
         isids: Seq<Service>,
     },
 }
-
-const MT_CAPABILITY: u8 = 144;
 
 const SPB_INST: u8 = 1;
 

@@ -4,6 +4,7 @@ ghost use Rattle.spb_tlvs.specs.Reading.{Reads};
 ghost use Rattle.spb_tlvs.specs.Entry.{entries_of, entries_value, entry_at, entry_bytes};
 
 use crate::append::{put, whole_or_none};
+use crate::codes::LSP_ENTRIES;
 use crate::error::TlvError;
 use crate::fields::{system_in, u16_in, u32_in};
 use spb_types::{LspId, NoMemory};
@@ -21,8 +22,6 @@ pub struct SnpEntry {
     /// Its checksum.
     pub sum: u16,
 }
-
-const LSP_ENTRIES: u8 = 9;
 
 /// Reads the value of a TLV 9 (ISO/IEC 10589, 9.10 to 9.13): the entries in order. `Cut` exactly where its length is
 /// no multiple of 16.

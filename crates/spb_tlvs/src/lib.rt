@@ -5,10 +5,11 @@
 //! byte string, and passes over what it doesn't know.
 //!
 //! A reader takes time in proportion to the bytes, and memory for the list that it answers. A writer takes memory
-//! for the bytes that it appends alone. [`find_tlv`] and [`read_three_way`] take none.
+//! for the bytes that it appends alone. [`split_tlv`], [`find_tlv`] and [`read_three_way`] take none.
 #![tactic(auto)]
 
 pub use capability::{Capability, Service, read_capability, write_capability};
+pub use codes::{EXTENDED_IS_REACHABILITY, LSP_ENTRIES, MT_CAPABILITY, THREE_WAY_ADJACENCY};
 pub use entries::{SnpEntry, read_entries, write_entries};
 pub use error::TlvError;
 pub use laws::{
@@ -17,10 +18,11 @@ pub use laws::{
 };
 pub use neighbours::{Neighbour, read_neighbours, write_neighbours};
 pub use three_way::{ThreeWay, read_three_way, write_three_way};
-pub use tlv::find_tlv;
+pub use tlv::{find_tlv, split_tlv};
 
 mod append;
 mod capability;
+mod codes;
 mod entries;
 mod error;
 mod fields;

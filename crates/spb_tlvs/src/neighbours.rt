@@ -6,6 +6,7 @@ ghost use Rattle.spb_tlvs.specs.Reading.{Reads};
 ghost use Rattle.spb_tlvs.specs.Neighbour as spec;
 
 use crate::append::{push_some, put, whole_or_none};
+use crate::codes::EXTENDED_IS_REACHABILITY;
 use crate::error::TlvError;
 use crate::fields::{system_in, u16_in, u24_in};
 use crate::piece::split_piece;
@@ -23,8 +24,6 @@ pub struct Neighbour {
     /// The id of the bridge's port towards the neighbour.
     pub port: u16,
 }
-
-const REACHABILITY: u8 = 22;
 
 const SPB_METRIC: u8 = 29;
 
@@ -119,7 +118,7 @@ fn put_neighbours(out: &mut Vec<u8>, items: &[Neighbour]) -> Result<(), NoMemory
     ensures ok { OnOk result (out.new.items ≡ out.old.items ++ tlv 22 (spec.neighbours_value items.now)) }
     ensures err { OnErr result (take (length out.old.items) out.new.items ≡ out.old.items) }
 {
-    put(out, &[REACHABILITY, 19 * items.len() as u8])?;
+    put(out, &[EXTENDED_IS_REACHABILITY, 19 * items.len() as u8])?;
     for neighbour in items {
         put_neighbour(out, neighbour)?;
     }

@@ -267,6 +267,21 @@ fn a_tlv_by_its_code_and_number(rt: HostRuntime) {
     assert!(rt; find_tlv(&tlvs, 240, 0).is_none());
 }
 
+#[test]
+fn the_tlv_at_the_front(rt: HostRuntime) {
+    let bytes = [MT_CAPABILITY, 2, 5, 6, EXTENDED_IS_REACHABILITY, 1];
+    match split_tlv(&bytes) {
+        Some((code, value, after)) => {
+            assert_eq!(rt; code, 144);
+            assert_eq!(rt; value, [5, 6].as_slice());
+            assert_eq!(rt; after, [22, 1].as_slice());
+            assert!(rt; split_tlv(after).is_none());
+        }
+        None => panic!(rt; "no TLV"),
+    }
+    assert!(rt; split_tlv(&bytes[..3]).is_none());
+}
+
 fn is_found(rt: &impl Abort, found: Option<&[u8]>, want: &[u8]) {
     match found {
         Some(value) => assert_eq!(rt; value, want),

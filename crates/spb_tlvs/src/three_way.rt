@@ -4,6 +4,7 @@ ghost use Rattle.spb_tlvs.specs.ThreeWay.{three_way_of, three_way_value};
 ghost use Rattle.spb_tlvs.specs.ThreeWay as spec;
 
 use crate::append::{put, whole_or_none};
+use crate::codes::THREE_WAY_ADJACENCY;
 use crate::error::TlvError;
 use crate::fields::{system_in, u32_in};
 use spb_types::{NoMemory, SystemId};
@@ -18,8 +19,6 @@ pub struct ThreeWay {
     /// The neighbour's system id and extended local circuit id, where the sender names a neighbour.
     pub neighbour: Option<(SystemId, u32)>,
 }
-
-const THREE_WAY: u8 = 240;
 
 /// Reads the value of a TLV 240 (RFC 5303, 3). `Cut` where it has neither 5 nor 15 bytes, and else `Range` where the
 /// state is above 2. It takes no memory.
@@ -66,7 +65,7 @@ fn put_three_way(out: &mut Vec<u8>, item: &ThreeWay) -> Result<(), NoMemory>
     ensures err { OnErr result (take (length out.old.items) out.new.items ≡ out.old.items) }
 {
     let len = if item.neighbour.is_some() { 15 } else { 5 };
-    put(out, &[THREE_WAY, len, item.state])?;
+    put(out, &[THREE_WAY_ADJACENCY, len, item.state])?;
     put(out, &item.circuit.to_be_bytes())?;
     match item.neighbour {
         None => Ok(()),

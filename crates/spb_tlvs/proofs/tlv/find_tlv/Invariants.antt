@@ -3,8 +3,8 @@ use Rattle.std.specs.List.{slice_get}
 use Rattle.spb_tlvs.specs.Tlv.{values_with}
 use Rattle.spb_tlvs.proofs.tlv.find_tlv.Given as goal
 
-abbrev pub invariant-loop-tlv : goal.invariant-loop-tlv
-invariant-loop-tlv l = slice_get (values_with l.code l.rest) l.before ≡ slice_get (values_with l.fn.code l.fn.tlvs) l.fn.nth
+abbrev pub invariant-loop-found : goal.invariant-loop-found
+invariant-loop-found l = slice_get (values_with l.code l.rest) l.before ≡ slice_get (values_with l.fn.code l.fn.tlvs) l.fn.nth
 
-abbrev pub decreases-loop-tlv : goal.decreases-loop-tlv
-decreases-loop-tlv l = length l.rest
+abbrev pub decreases-loop-found : goal.decreases-loop-found
+decreases-loop-found l = length l.rest
