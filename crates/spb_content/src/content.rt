@@ -6,7 +6,10 @@ ghost use Rattle.spb_tlvs.specs.Capability.{capabilities_of};
 ghost use Rattle.spb_tlvs.specs.declared.error.TlvError.{TlvError};
 ghost use Rattle.spb_content.specs.Content as spec;
 
-use spb_tlvs::{Capability, Neighbour, Service, TlvError, read_capability, read_neighbours};
+use spb_tlvs::{
+    Capability, EXTENDED_IS_REACHABILITY, MT_CAPABILITY, Neighbour, Service, TlvError,
+    read_capability, read_neighbours, split_tlv,
+};
 use spb_types::{Mac, NoMemory, Seq, SourceId, Vid, VidPlan};
 use std::alloc::Global;
 
@@ -32,10 +35,6 @@ pub struct Content {
     pub services: Seq<(Mac, Vid, Service)>,
 }
 
-const REACHABILITY: u8 = 22;
-
-const MT_CAPABILITY: u8 = 144;
-
 /// Reads the TLVs of an LSP (RFC 6329, 13 to 16): the neighbours of all TLVs 22 and the services of all TLVs 144 in
 /// order, and the first SPB-Inst. A TLV that can't be read is passed over, and so is every other TLV.
 #[tactic(auto, unfolding(crate::specs::Content::content_in))]
@@ -45,22 +44,6 @@ pub fn read_content(alloc: Global, tlvs: &[u8]) -> Result<Content, NoMemory>
     let neighbours = neighbours_in(alloc, tlvs)?;
     let capabilities = capabilities_in(alloc, tlvs)?;
     content_with(alloc, neighbours, capabilities)
-}
-
-/// The TLV at the front: its code, its value and the bytes after it. None exactly where no whole TLV stands there.
-fn split_tlv(bytes: &[u8]) -> Option<(u8, &[u8], &[u8])>
-    ensures values { (code : ℕ) → MatchOption result (values_with code bytes.now ≡ [])
-        (λ t. values_with code bytes.now ≡ (if t.0 == code then t.1.now ∷ values_with code t.2.now else values_with code t.2.now)) }
-    ensures shorter { MatchOption result (Unit {0}) (λ t. length t.2.now < length bytes.now) }
-{
-    if bytes.len() < 2 {
-        return None;
-    }
-    let end = 2 + usize::from(bytes[1]);
-    if bytes.len() < end {
-        return None;
-    }
-    Some((bytes[0], &bytes[2..end], &bytes[end..]))
 }
 
 /// What was read, or nothing where it couldn't be.
@@ -81,7 +64,7 @@ fn neighbours_in(alloc: Global, tlvs: &[u8]) -> Result<Vec<Neighbour>, NoMemory>
     let mut neighbours = Vec::new(alloc);
     let mut rest = tlvs;
     while let Some((code, value, after)) = split_tlv(rest) {
-        if code == REACHABILITY {
+        if code == EXTENDED_IS_REACHABILITY {
             let more = or_nothing(alloc, read_neighbours(alloc, value))?;
             neighbours.extend_from_slice(more.as_slice())?;
         }
