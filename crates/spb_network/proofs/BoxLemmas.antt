@@ -74,7 +74,7 @@ get-some [] i x h e = absurd (omega arith)
 get-some (z ∷ zs) zero x h e = ap Some (sym e)
 get-some (z ∷ zs) (suc i) x h e = get-some zs i x (omega arith) e
 
-get-none : {X : Type 0} (xs : List X) (i : ℕ) → length xs ≤ i → slice_get xs i ≡ None
+pub get-none : {X : Type 0} (xs : List X) (i : ℕ) → length xs ≤ i → slice_get xs i ≡ None
 get-none [] i h = refl
 get-none (z ∷ zs) zero h = absurd (omega arith)
 get-none (z ∷ zs) (suc i) h = get-none zs i (omega arith)

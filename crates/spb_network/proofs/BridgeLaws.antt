@@ -1,9 +1,10 @@
 -- The laws of a step of a bridge, on which what is sound of a network rests.
 use Rattle.itag_frames.proofs.ControlLaws.{control_again}
-use Rattle.bridge_api.specs.Laws.{ConfiguredIsSound, ConfiguredIsDark, StepsStaySound, StepsKeepBridge, StepsKeepCarrier, StepsKeepNeighbours, FramesAreSound, UpPortsAreUp, StepsCarryDatabase}
+use Rattle.bridge_api.specs.Laws.{ConfiguredIsSound, ConfiguredIsDark, StepsStaySound, StepsKeepBridge, StepsKeepCarrier, StepsKeepNeighbours, FramesAreSound, HellosAreHeard, UpPortsAreUp, StepsCarryDatabase}
 use Rattle.bridge_api.proofs.Certified as certified
 use Rattle.bridge_api.proofs.Carriers as carriers
 use Rattle.bridge_api.proofs.Frames as frames
+use Rattle.bridge_api.proofs.Hellos as hellos
 use Rattle.bridge_api.proofs.Sound as stays
 use Rattle.bridge_api.proofs.SoundPorts as ports
 use Rattle.bridge_api.proofs.StepsCarry as carry
@@ -29,6 +30,9 @@ steps_keep_neighbours = certified.steps_keep_neighbours
 
 pub frames_are_sound : FramesAreSound
 frames_are_sound = frames.frames_are_sound control_again
+
+pub hellos_are_heard : HellosAreHeard
+hellos_are_heard = hellos.hellos_are_heard control_again
 
 pub up_ports_are_up : UpPortsAreUp
 up_ports_are_up = up.up_ports_are_up

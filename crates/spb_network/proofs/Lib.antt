@@ -6,6 +6,7 @@ pub mod RefusalLemmas
 pub mod ValidLemmas
 pub mod BoxLemmas
 pub mod WayLemmas
+pub mod LaneLemmas
 pub mod SendLemmas
 pub mod BridgeLaws
 pub mod FitsLemmas
@@ -29,4 +30,5 @@ pub mod ConfigLemmas
 pub mod PortLemmas
 pub mod RowLemmas
 pub mod CommandFits
+pub mod DeclaredLemmas
 pub mod HintLemmas

@@ -1,14 +1,23 @@
 -- A bridge that was just configured; and one of a single port, which gets a metric and carrier and sends a hello.
-use Rattle.std.proofs.Common.{◌≡◌, ℕ, Bool, true, false, List, [], ◌∷◌, refl, ap, ◌∙◌}
+use Rattle.std.proofs.Common.{◌≡◌, ℕ, Bool, true, false, List, [], ◌∷◌, Option, Some, None, inl, inr, refl, sym, subst, ap, ◌∙◌}
 use Rattle.std.specs.Prelude.{slice_set, map, if◌then◌else◌}
-use Rattle.adjacency.specs.Adjacency.{down}
+use Rattle.std.specs.Option.{option_and_then}
+use Rattle.isis_pdu.specs.Pdu.{HelloValue}
+use Rattle.spb_tlvs.specs.declared.three_way.ThreeWay.{ThreeWay}
+use Rattle.spb_tlvs.specs.RoundTrip.{IsNamed}
+use Rattle.adjacency.specs.Hearing.{End}
+use Rattle.adjacency.specs.Adjacency.{down, neighbour_of}
 use Rattle.bridge_api.specs.declared.config.BridgeConfig.{BridgeConfig}
 use Rattle.bridge_api.specs.declared.port.BridgePort.{BridgePort}
-use Rattle.bridge_api.specs.View.{BridgeView, port_in}
+use Rattle.bridge_api.specs.View.{BridgeView, port_in, neighbour_at, has_carrier_in, has_carrier_at}
 use Rattle.bridge_api.specs.Own.{settled, originating}
 use Rattle.bridge_api.specs.Config.{dark, bare, configured}
 use Rattle.bridge_api.specs.Hearing.{metered_at, with_metric, carried_at, with_carrier}
 use Rattle.bridge_api.specs.Ticking.{later, expired, counted, refreshed, readied, hello_frame, sent_from, sent_in_tick}
+use Rattle.bridge_api.specs.Judging.{greeting, judged}
+use Rattle.bridge_api.specs.Step.{second, step}
+use Rattle.bridge_api.specs.Laws.{IsSoundView, IsSent, IsGreeted, AreOctets}
+use Rattle.spb_network.proofs.BridgeLaws.{steps_keep_neighbours, hellos_are_heard}
 use Rattle.spb_network.proofs.SoundLane.{IsStill}
 
 -- it has the ids, the VIDs and what is attached of its configuration
@@ -65,8 +74,55 @@ unfolding sent_in_tick
 hello_sent v m is =
     ap (λ (ports : List BridgePort). sent_from (readied v).id.system 1 ports (readied v).database) (refreshed_ports (expired (counted v)) ∙ ap (map later) is)
 
--- what a bridge sends first, which was configured with one port, whose link then got a metric and came up
-pub first_hello : (c : BridgeConfig) (m n : ℕ) → c.metrics ≡ m ∷ [] → (bytes : List ℕ) × (sent_in_tick (with_carrier 1 true (with_metric 1 n (configured c))) ≡ (1, bytes) ∷ [])
-first_hello c m n is =
-    let v : BridgeView = with_carrier 1 true (with_metric 1 n (configured c)) in
-    (hello_frame (readied v).id.system 1 (lit_port n), hello_sent v n (carried_port (with_metric 1 n (configured c)) n (metered_port (configured c) m n (configured_ports c ∙ ap (map dark) is))))
+-- a bridge that was configured with one port, whose link then got a metric and came up
+abbrev pub lit : BridgeConfig → ℕ → BridgeView
+lit c n = with_carrier 1 true (with_metric 1 n (configured c))
+
+lit_ports : (c : BridgeConfig) (m n : ℕ) → c.metrics ≡ m ∷ [] → (lit c n).ports ≡ lit_port n ∷ []
+lit_ports c m n is = carried_port (with_metric 1 n (configured c)) n (metered_port (configured c) m n (configured_ports c ∙ ap (map dark) is))
+
+-- what it sends first
+pub first_hello : (c : BridgeConfig) (m n : ℕ) → c.metrics ≡ m ∷ [] → (bytes : List ℕ) × (sent_in_tick (lit c n) ≡ (1, bytes) ∷ [])
+first_hello c m n is = (hello_frame (readied (lit c n)).id.system 1 (lit_port n), hello_sent (lit c n) n (lit_ports c m n is))
+
+-- and that is heard as a hello
+pub record IsHello (bytes : List ℕ) : Type 0 where
+  pub hello : HelloValue
+  pub way : ThreeWay
+  pub heard : judged bytes ≡ greeting hello way
+
+lit_carrier : (v : BridgeView) (m : ℕ) → v.ports ≡ lit_port m ∷ [] → has_carrier_at v 1 ≡ true
+unfolding has_carrier_at
+lit_carrier v m is = ap (λ (ports : List BridgePort). has_carrier_in (port_in ports 1)) is
+
+lit_alone : (v : BridgeView) (m : ℕ) → v.ports ≡ lit_port m ∷ [] → neighbour_at v 1 ≡ None
+unfolding neighbour_at
+lit_alone v m is = ap (λ (ports : List BridgePort). option_and_then (λ port. neighbour_of port.adjacency) (port_in ports 1)) is
+
+none_some : (n : End) → None ≡ Some n → ⊥
+none_some n h = cc
+
+not_kept : (v : BridgeView) → neighbour_at v 1 ≡ None → (n : End) → neighbour_at (step second v) 1 ≡ Some n → ⊥
+not_kept v none n kept = elim (steps_keep_neighbours second v 1 n kept) [
+  | inl before ↦ absurd (none_some n (sym none ∙ before))
+  | inr heard ↦ heard
+]
+
+nobody : (o : Option End) → ((n : End) → o ≡ Some n → ⊥) → IsNamed o × AreOctets o
+nobody None none = (tt, tt)
+nobody (Some n) none = absurd (none n refl)
+
+only_sent : (s : List (ℕ × List ℕ)) (bytes other : List ℕ) → s ≡ (1, bytes) ∷ [] → IsSent s 1 other → bytes ≡ other
+only_sent s bytes other is some = elim (subst (λ (fs : List (ℕ × List ℕ)). IsSent fs 1 other) is some) [
+  | inl first ↦ first.1
+  | inr none ↦ absurd none
+]
+
+pub first_heard : (c : BridgeConfig) (m n : ℕ) (is : c.metrics ≡ m ∷ []) → IsSoundView (lit c n) → IsHello (first_hello c m n is).0
+first_heard c m n is sound =
+    let v : BridgeView = lit c n in
+    let ports = lit_ports c m n is in
+    let named = nobody (neighbour_at (step second v) 1) (not_kept v (lit_alone v n ports)) in
+    let said : IsGreeted v 1 = hellos_are_heard v 1 sound (lit_carrier v n ports) named.0 named.1 in
+    let hello = first_hello c m n is in
+    record { hello = said.hello; way = said.way; heard = ap judged (only_sent _ _ _ hello.1 said.sent) ∙ said.heard }

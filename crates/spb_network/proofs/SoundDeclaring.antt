@@ -18,9 +18,9 @@ use Rattle.spb_network.specs.declared.way.Way.{Way}
 use Rattle.spb_network.specs.World.{World, Bridges, Links, names_of, things_of, is_at_port, IsLink, AreApart, Sound}
 use Rattle.spb_network.specs.Lanes.{no_frames}
 use Rattle.spb_network.specs.Declaring.{with_vid, with_bridge, with_link}
-use Rattle.spb_network.specs.State.{State, Spare, links_of, is_live, near_end, far_end, is_at, way_of, way_from, way_out}
+use Rattle.spb_network.specs.State.{State, Spare, links_of, is_live, near_end, far_end, is_at, way_of, way_from, way_out, lane_of}
 use Rattle.spb_network.specs.Network.{HasPorts, Fits}
-use Rattle.spb_network.specs.Sound.{AreDistinct, IsShown, AreShown, is_lit, AreLit, Agrees, lane_of, AllAgree, IsSoundState}
+use Rattle.spb_network.specs.Sound.{AreDistinct, IsShown, AreShown, is_lit, AreLit, Agrees, AllAgree, IsSoundState}
 use Rattle.spb_network.proofs.BoxLemmas.{All-get}
 use Rattle.spb_network.proofs.ListLemmas.{All-push, things_of-push, length-push}
 use Rattle.spb_network.proofs.WorldLemmas.{IsNewBridge, Sound-with_bridge, IsNewLink, Sound-with_link}

@@ -17,7 +17,7 @@ use Rattle.bridge_api.specs.View.{BridgeView, neighbour_at, is_up_at}
 use Rattle.bridge_api.specs.Judging.{Judged, useless, greeting, link_state, complete, partial, tenant, judged}
 use Rattle.bridge_api.specs.Step.{Input, second, frame, carrier, metric, step, sent}
 use Rattle.bridge_api.specs.Laws.{IsInput, IsSoundView, IsHeard, IsSent, IsHelloOf, IsFrameOf, greeter, port_of, claims_of}
-use Rattle.spb_network.specs.Sound.{end_at, IsHelloTo, IsSaid, IsReady, Agrees}
+use Rattle.spb_network.specs.Sound.{end_at, IsHelloTo, IsSaid, IsFollowed, Agrees}
 use Rattle.spb_network.proofs.BridgeLaws.{steps_keep_bridge, steps_keep_neighbours, steps_stay_sound, frames_are_sound, up_ports_are_up, steps_carry_database}
 use Rattle.spb_network.proofs.SoundLaws.{sent_second}
 
@@ -155,7 +155,7 @@ newly_said v p w q (Some input) y lane back after f move some = by input (sent_s
     by (metric r m) e keeps some = absurd some
 
 -- whoever is no further behind stays so
-moved_ready : (v : BridgeView) (p : ℕ) (w : BridgeView) (q : ℕ) (x y : Option Input) (lane back after : List Frame) → IsMove v p w q x y lane back after → (id : LspId) → is_up_at (moved x v) p ≡ true → IsReady (moved x v) p (moved y w) id
+moved_ready : (v : BridgeView) (p : ℕ) (w : BridgeView) (q : ℕ) (x y : Option Input) (lane back after : List Frame) → IsMove v p w q x y lane back after → (id : LspId) → is_up_at (moved x v) p ≡ true → IsFollowed (moved x v) p (moved y w) id
 moved_ready v p w q None y lane back after move id up =
     elim (move.there.ready id up) [
       | inl flagged ↦ inl flagged

@@ -14,9 +14,9 @@ use Rattle.spb_network.specs.declared.lanes.Lanes.{Lanes}
 use Rattle.spb_network.specs.declared.way.Way.{Way}
 use Rattle.spb_network.specs.World.{World, Links, names_of, things_of}
 use Rattle.spb_network.specs.Declaring.{end_on, link_metered, links_metered, with_end_metric}
-use Rattle.spb_network.specs.State.{State, links_of, is_live, near_end, far_end, is_at, direction, way_of, way_from, way_out}
+use Rattle.spb_network.specs.State.{State, links_of, is_live, near_end, far_end, is_at, direction, way_of, way_from, way_out, lane_of}
 use Rattle.spb_network.specs.Events.{metered, metered_on, remetered}
-use Rattle.spb_network.specs.Sound.{is_lit, AreLit, metric_at, AreMetered, Agrees, lane_of, AllAgree, IsSoundState}
+use Rattle.spb_network.specs.Sound.{is_lit, AreLit, metric_at, AreMetered, Agrees, AllAgree, IsSoundState}
 use Rattle.spb_network.proofs.WorldLemmas.{end_on-is, Sound-with_end_metric}
 use Rattle.spb_network.proofs.FitsLemmas.{Fits-with_end_metric, link_there, near_is_port}
 use Rattle.spb_network.proofs.SoundLane.{some-is}

@@ -19,9 +19,9 @@ use Rattle.spb_network.specs.declared.way.Way.{Way}
 use Rattle.spb_network.specs.World.{World, Links, names_of, things_of}
 use Rattle.spb_network.specs.Lanes.{lane_in, changed_lane, rest, no_frames}
 use Rattle.spb_network.specs.Declaring.{switched, with_live}
-use Rattle.spb_network.specs.State.{State, changed_at, links_of, is_live, near_end, far_end, way_out, with_frames}
+use Rattle.spb_network.specs.State.{State, changed_at, links_of, is_live, near_end, far_end, way_out, with_frames, lane_of}
 use Rattle.spb_network.specs.Events.{sent_over, sent_all, stepped}
-use Rattle.spb_network.specs.Sound.{AreShort, Agrees, lane_of, AllAgree, AreIdle}
+use Rattle.spb_network.specs.Sound.{AreShort, Agrees, AllAgree, AreIdle}
 use Rattle.spb_network.proofs.ListLemmas.{length-push}
 use Rattle.spb_network.proofs.WorldLemmas.{Sound-with_live}
 use Rattle.spb_network.proofs.FitsLemmas.{IsAlike, alike_then, alike_stepped, Fits-with_live}

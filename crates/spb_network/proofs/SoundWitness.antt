@@ -8,6 +8,7 @@ use Rattle.scenario.specs.declared.command.Command.TheVariants as command
 use Rattle.bridge_api.specs.declared.config.BridgeConfig.{BridgeConfig}
 use Rattle.bridge_api.specs.declared.kind.Kind.TheVariants as kind
 use Rattle.bridge_api.specs.Step.{second, step}
+use Rattle.bridge_api.specs.Laws.{IsSoundView}
 use Rattle.spb_network.specs.declared.kind_rule.KindRule.TheVariants as rule
 use Rattle.spb_network.specs.Reason.{reason_unless}
 use Rattle.spb_network.specs.Declaring.{is_vid_range, is_new_name, is_new_system, is_new_source, is_bridge_range, is_free_port, is_link_range, is_unlinked, vid_refusal, bridge_refusal, link_refusal, plan_of, bridge_of, with_vid, with_bridge, with_link, with_live}
@@ -17,7 +18,8 @@ use Rattle.spb_network.specs.Refusing.{declared_refusal, named_link_refusal, unn
 use Rattle.spb_network.specs.Play.{config_of, with_vid_more, declared, linked, named_link, at_bridge, counted, next_state, played_all}
 use Rattle.spb_network.specs.Sound.{opening}
 use Rattle.spb_network.specs.SoundLaws.{IsAddress, AreAccepted, IsBusy, SomeNetworkIsBusy}
-use Rattle.spb_network.proofs.SoundConfigured.{first_hello}
+use Rattle.spb_network.proofs.SoundConfigured.{lit, first_hello, IsHello, first_heard}
+use Rattle.spb_network.proofs.SoundPlay.{networks_are_sound}
 
 abbrev system : ℕ → Mac
 system n = record { bytes = 2 ∷ 0 ∷ 0 ∷ 0 ∷ 0 ∷ n ∷ [] }
@@ -44,6 +46,18 @@ declarations =
 abbrev script : List Command
 script = declarations ++ command.Tick (97 ∷ []) ∷ []
 
+address : (n : ℕ) → n < 256 → IsAddress (system n)
+address n low = record { bytes = refl; octets = octets }
+  where
+    octets : IsBytes (2 ∷ 0 ∷ 0 ∷ 0 ∷ 0 ∷ n ∷ [])
+    octets zero = omega arith
+    octets (suc zero) = omega arith
+    octets (suc (suc zero)) = omega arith
+    octets (suc (suc (suc zero))) = omega arith
+    octets (suc (suc (suc (suc zero)))) = omega arith
+    octets (suc (suc (suc (suc (suc zero))))) = low
+    octets (suc (suc (suc (suc (suc (suc i)))))) = omega arith
+
 accepted : AreAccepted start script
 unfolding next_state reason_unless vid_refusal bridge_refusal link_refusal is_vid_range is_new_name is_new_system is_new_source is_bridge_range is_free_port is_link_range is_unlinked with_vid with_bridge with_link with_live next_box way_out stepped switched_on with_vid_more declared_refusal named_link_refusal unnamed_refusal declared linked named_link at_bridge
 accepted = (refl, (refl, (refl, (refl, (refl, tt)))))
@@ -56,27 +70,23 @@ first = config_of (record { vids = plan_of 100 1 ∷ []; bridges = []; links = [
 abbrev sending : List (ℕ × List ℕ) → State
 sending fs = let s : State = played_all start declarations in counted (sent_all (record s { views = changed_at (step second) s.views 0 }) 0 fs)
 
-one_frame : (bytes : List ℕ) → IsBusy (sending ((1, bytes) ∷ []))
+one_frame : (bytes : List ℕ) → IsHello bytes → IsBusy (sending ((1, bytes) ∷ []))
 unfolding next_state vid_refusal with_vid with_bridge with_link with_live next_box way_out stepped switched_on with_vid_more declared linked named_link
-one_frame bytes = record { live = refl; waiting = refl }
+one_frame bytes is = record { live = refl; bytes = bytes; waiting = refl; hello = is.hello; way = is.way; heard = is.heard }
+
+all_declared : AreAccepted start declarations
+unfolding next_state reason_unless vid_refusal bridge_refusal link_refusal is_vid_range is_new_name is_new_system is_new_source is_bridge_range is_free_port is_link_range is_unlinked with_vid with_bridge with_link with_live next_box way_out stepped switched_on with_vid_more declared_refusal named_link_refusal unnamed_refusal declared linked named_link
+all_declared = (refl, (refl, (refl, (refl, tt))))
+
+sound : IsSoundView (lit first 10)
+unfolding next_state vid_refusal with_vid with_bridge with_link with_live next_box way_out stepped switched_on with_vid_more declared linked named_link
+sound = (networks_are_sound rule.Plain (box ∷ box ∷ []) declarations (tt, (address 1 (omega arith), (address 2 (omega arith), (tt, tt)))) all_declared).views.0
 
 shown : IsBusy (played_all start script)
 unfolding next_state vid_refusal with_vid with_bridge with_link with_live next_box way_out stepped switched_on with_vid_more declared linked named_link at_bridge
 shown =
     let hello = first_hello first 1 10 refl in
-    subst (λ (fs : List (ℕ × List ℕ)). IsBusy (sending fs)) (sym hello.1) (one_frame hello.0)
-
-address : (n : ℕ) → n < 256 → IsAddress (system n)
-address n low = record { bytes = refl; octets = octets }
-  where
-    octets : IsBytes (2 ∷ 0 ∷ 0 ∷ 0 ∷ 0 ∷ n ∷ [])
-    octets zero = omega arith
-    octets (suc zero) = omega arith
-    octets (suc (suc zero)) = omega arith
-    octets (suc (suc (suc zero))) = omega arith
-    octets (suc (suc (suc (suc zero)))) = omega arith
-    octets (suc (suc (suc (suc (suc zero))))) = low
-    octets (suc (suc (suc (suc (suc (suc i)))))) = omega arith
+    subst (λ (fs : List (ℕ × List ℕ)). IsBusy (sending fs)) (sym hello.1) (one_frame hello.0 (first_heard first 1 10 refl sound))
 
 pub busy : SomeNetworkIsBusy
 busy = record { rule = rule.Plain; rack = box ∷ box ∷ []; commands = script; addressed = (tt, (address 1 (omega arith), (address 2 (omega arith), (tt, (tt, tt))))); accepted = accepted; busy = shown }

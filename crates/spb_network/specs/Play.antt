@@ -1,5 +1,5 @@
 -- What an accepted command makes of a network, and what it answers.
-use Rattle.std.specs.Prelude.{ℕ, ◌+◌, List, [], ◌∷◌, ◌++◌, length, map, Bool, replicate, remove, Option, Some, None, slice_get, if◌then◌else◌, nat_lt}
+use Rattle.std.specs.Prelude.{ℕ, ◌+◌, List, [], ◌∷◌, ◌++◌, length, map, Bool, replicate, remove, Option, Some, None, slice_get, min}
 use Rattle.std.specs.Option.{option_map_or}
 use Rattle.std.specs.FinMap.{entries}
 use Rattle.spb_types.specs.declared.address.LspId.{LspId}
@@ -89,7 +89,7 @@ played s _ = s
 
 -- one more, up to the greatest number of 64 bits
 abbrev pub next_count : ℕ → ℕ
-next_count n = if nat_lt n 18446744073709551615 then n + 1 else n
+next_count n = min (n + 1) 18446744073709551615
 
 -- one accepted command more
 abbrev pub counted : State → State

@@ -24,8 +24,7 @@ use Rattle.spb_network.specs.declared.declaration.DeclaredLink.{DeclaredLink}
 use Rattle.spb_network.specs.declared.kind_rule.KindRule.{KindRule}
 use Rattle.spb_network.specs.declared.lanes.Lanes.{Lanes}
 use Rattle.spb_network.specs.World.{World, names_of, things_of, Sound}
-use Rattle.spb_network.specs.Lanes.{lane_in}
-use Rattle.spb_network.specs.State.{State, Spare, links_of, is_live, near_end, far_end, way_out}
+use Rattle.spb_network.specs.State.{State, Spare, links_of, is_live, near_end, far_end, way_out, lane_of}
 use Rattle.spb_network.specs.Network.{Fits}
 
 -- ---- what is declared
@@ -87,19 +86,15 @@ pub record IsSaid (v : BridgeView) (p : ℕ) (w : BridgeView) (q : ℕ) (bytes :
   pub claims : (id : LspId) (a : Version) → IsClaimed (claims_said (judged bytes)) id a → IsAtMost a (version_at v.database id)
 
 -- the LSP under an id is to be sent at port p of v, or w holds it at least at the version of v
-abbrev pub IsReady : BridgeView → ℕ → BridgeView → LspId → Type 0
-IsReady v p w id = (has (srm_in (get v.database id)) p ≡ true) ⊎ IsAtMost (version_at v.database id) (version_at w.database id)
+abbrev pub IsFollowed : BridgeView → ℕ → BridgeView → LspId → Type 0
+IsFollowed v p w id = (has (srm_in (get v.database id)) p ≡ true) ⊎ IsAtMost (version_at v.database id) (version_at w.database id)
 
 -- one direction of a link, from port p of v to port q of w, with the frames that are on their way: each is said by v, the
 -- neighbour that v keeps is the far end, and while the port of v is Up, w is no further behind than what is to be sent
 pub record Agrees (v : BridgeView) (p : ℕ) (w : BridgeView) (q : ℕ) (frames : List Frame) : Type 0 where
   pub said : AllByRecursion (IsSaid v p w q) frames
   pub keeps : (n : End) → neighbour_at v p ≡ Some n → n ≡ end_at w q
-  pub ready : (id : LspId) → is_up_at v p ≡ true → IsReady v p w id
-
--- the frames on their way in a direction of the link at place k
-abbrev pub lane_of : List Lanes → ℕ → Dir → List Frame
-lane_of lanes k dir = option_map_or (lane_in dir) (slice_get lanes k) []
+  pub ready : (id : LspId) → is_up_at v p ≡ true → IsFollowed v p w id
 
 -- both directions of each link agree, whether it is up or not
 abbrev pub AllAgree : List DeclaredLink → List BridgeView → List Lanes → Type 0

@@ -2,19 +2,23 @@
 use Rattle.std.specs.Prelude.{◌≡◌, ℕ, List, [], ◌∷◌, length, true, None, ⊤}
 use Rattle.std.specs.List.{AllByRecursion}
 use Rattle.spb_types.specs.declared.address.Mac.{Mac}
+use Rattle.link_model.specs.Lane.{Frame}
 use Rattle.isis_pdu.specs.Grammar.{IsBytes}
+use Rattle.isis_pdu.specs.Pdu.{HelloValue}
+use Rattle.spb_tlvs.specs.declared.three_way.ThreeWay.{ThreeWay}
 use Rattle.scenario.specs.declared.command.Command.{Command}
 use Rattle.scenario.specs.declared.command.Command.TheVariants as command
 use Rattle.scenario.specs.declared.command.Dir.{Dir}
 use Rattle.scenario.specs.declared.command.Dir.TheVariants.{Ab}
 use Rattle.scenario.specs.declared.command.Side.{Side}
 use Rattle.bridge_api.specs.Config.{IsMetric}
+use Rattle.bridge_api.specs.Judging.{greeting, judged}
 use Rattle.spb_network.specs.declared.kind_rule.KindRule.{KindRule}
-use Rattle.spb_network.specs.State.{State, Spare, links_of, is_live}
+use Rattle.spb_network.specs.State.{State, Spare, links_of, is_live, lane_of}
 use Rattle.spb_network.specs.Events.{ticked, delivered, lost, doubled, remetered, switched_off, switched_on, rounds, drained}
 use Rattle.spb_network.specs.Refusing.{refusal_of}
 use Rattle.spb_network.specs.Play.{next_state, played_all}
-use Rattle.spb_network.specs.Sound.{IsSoundState, lane_of, opening}
+use Rattle.spb_network.specs.Sound.{IsSoundState, opening}
 
 -- ---- the events
 
@@ -59,10 +63,14 @@ AreAccepted s (c ∷ cs) = (refusal_of s c ≡ None) × AreAccepted (next_state 
 abbrev pub NetworksAreSound : Type 0
 NetworksAreSound = (rule : KindRule) (rack : List Spare) (cs : List Command) → AllByRecursion IsAddressed cs → AreAccepted (opening rule rack) cs → IsSoundState (played_all (opening rule rack) cs)
 
--- a link is up, and a frame is on its way over it
+-- a link is up, and a frame is on its way over it that is heard as a hello
 pub record IsBusy (s : State) : Type 0 where
   pub live : is_live (links_of s) 0 ≡ true
-  pub waiting : length (lane_of s.lanes 0 Ab) ≡ 1
+  pub bytes : Frame
+  pub waiting : lane_of s.lanes 0 Ab ≡ bytes ∷ []
+  pub hello : HelloValue
+  pub way : ThreeWay
+  pub heard : judged bytes ≡ greeting hello way
 
 -- some commands lead to such a network
 pub record SomeNetworkIsBusy : Type 0 where

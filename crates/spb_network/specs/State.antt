@@ -84,9 +84,12 @@ abbrev pub live_way : List DeclaredLink → Option Way → Option Way
 live_way links None = None
 live_way links (Some way) = if is_live links way.link then Some way else None
 
--- the frames that stand in a lane of the link at place k
+-- the frames on their way in a direction of the link at place k
+abbrev pub lane_of : List Lanes → ℕ → Dir → List Frame
+lane_of lanes k dir = option_map_or (lane_in dir) (slice_get lanes k) []
+
 abbrev pub lane_at : State → ℕ → Dir → List Frame
-lane_at s k dir = option_map_or (lane_in dir) (slice_get s.lanes k) []
+lane_at s k dir = lane_of s.lanes k dir
 
 -- the frames in that lane changed
 abbrev pub with_frames : (List Frame → List Frame) → State → ℕ → Dir → State

@@ -3,6 +3,7 @@ ghost use Rattle.spb_network.specs.Declaring as declare;
 ghost use Rattle.spb_network.specs.World as state;
 ghost use Rattle.spb_network.specs.SoundLaws.{IsAddress, IsAddressed};
 
+use crate::limits::METRIC;
 use crate::{DeclaredBridge, DeclaredLink};
 use indexmap::IndexMap;
 use scenario::Command;
@@ -168,7 +169,7 @@ pub fn is_link_range(
         && is_port(bridges, i, port_a)
         && is_port(bridges, j, port_b)
         && 1 <= cost
-        && cost <= 16_777_214
+        && cost <= METRIC
 }
 
 /// Says that the address that a command declares, if it does, has six octets.

@@ -192,7 +192,7 @@ impl<B: Bridge> NetworkOf<B> {
         }
     }
 
-    /// The frame at a place of a lane is lost.
+    /// The frame at a place of a lane is lost. Nothing happens where there is none.
     pub(crate) fn lose(&mut self, way: Way, place: usize)
         requires { IsInOrder B.kind_of B.blank B.view self.old }
         ensures state { state_of B.kind_of B.blank B.view self.new
@@ -202,7 +202,7 @@ impl<B: Bridge> NetworkOf<B> {
         wires::lose(&mut self.lanes, way, place);
     }
 
-    /// The frame at a place of a lane is doubled. The lane has a frame there, or else this answers NoMemory.
+    /// The frame at a place of a lane is doubled. Nothing happens where there is none.
     pub(crate) fn double(&mut self, way: Way, place: usize) -> Result<(), NoMemory>
         requires { IsInOrder B.kind_of B.blank B.view self.old }
         ensures state { OnOk result (state_of B.kind_of B.blank B.view self.new

@@ -1,12 +1,10 @@
 use crate::LinkEnd;
+use crate::limits::BRIDGES;
 use spb_types::NoMemory;
 use std::alloc::Global;
 
 /// Places for the ports of a bridge, which are numbered from 1 to 32.
 const PORTS: usize = 33;
-
-/// The most bridges.
-const BRIDGES: usize = 96;
 
 /// Which link may end at each port. A hint says nothing by itself: who takes it looks at the link.
 #[derive(Drop)]

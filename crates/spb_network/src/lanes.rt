@@ -1,6 +1,6 @@
-ghost use Rattle.std.specs.Prelude.{◌≡◌, ◌<◌, ◌≤◌, ◌↔◌, [], length, IsOk, OnOk, IsErrOf, slice_get};
+ghost use Rattle.std.specs.Prelude.{◌≡◌, ◌<◌, ◌≤◌, ◌↔◌, [], false, length, Ok, IsOk, OnOk, OnErr, IsErrOf, slice_get};
 ghost use Rattle.std.specs.Option.{option_map};
-ghost use Rattle.link_model.specs.Lane.{pushed, after_lose, after_double};
+ghost use Rattle.link_model.specs.Lane.{has_room, pushed, after_lose, after_double};
 ghost use Rattle.spb_network.specs.Lanes.{lane_in, changed_lane, rest};
 
 use link_model::{DoubleError, Lane, NoFrame, Pushed};
@@ -39,9 +39,11 @@ impl Lanes {
         }
     }
 
-    /// Sends a frame into a lane.
+    /// Sends a frame into a lane. It is lost exactly where 1,024 frames stand. After NoMemory nothing changed.
     pub fn push(&mut self, dir: Dir, frame: Vec<u8>) -> Result<Pushed, NoMemory>
+        ensures dropped { (result ≡ Ok Pushed.Dropped) ↔ (has_room (lane_in dir self.old) ≡ false) }
         ensures ok { OnOk result (self.new ≡ changed_lane dir (λ frames. pushed frames frame.items) self.old) }
+        ensures err { OnErr result (self.new ≡ self.old) }
     {
         match dir {
             Dir::Ab => self.ab.push(frame),
@@ -71,10 +73,12 @@ impl Lanes {
         }
     }
 
-    /// Puts a copy of the frame at place `k` of a lane right behind it.
+    /// Puts a copy of the frame at place `k` of a lane right behind it; the copy is lost where 1,024 frames stand. `NoFrame`
+    /// exactly where `k` isn't below the lane's length. After an error nothing changed.
     pub fn double(&mut self, dir: Dir, k: usize) -> Result<(), DoubleError>
         ensures no_frame { IsErrOf result DoubleError.NoFrame ↔ (length (lane_in dir self.old) ≤ k) }
         ensures ok { OnOk result (self.new ≡ changed_lane dir (λ frames. after_double frames k (slice_get frames k)) self.old) }
+        ensures err { OnErr result (self.new ≡ self.old) }
     {
         match dir {
             Dir::Ab => self.ab.double(k),

@@ -12,7 +12,7 @@ pub fn networks_are_sound()
     ensures always { NetworksAreSound }
 {}
 
-/// Some commands lead to a network with a frame on its way over a link.
+/// Some commands lead to a network with a hello on its way over a link.
 pub fn some_network_is_busy()
     ensures { SomeNetworkIsBusy }
 {}

@@ -31,6 +31,7 @@ mod hints;
 mod kind_rule;
 mod lanes;
 mod laws;
+mod limits;
 mod network;
 mod play;
 mod questions;

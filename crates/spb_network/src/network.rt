@@ -1,8 +1,7 @@
 ghost use Rattle.std.specs.Prelude.{◌≡◌, false, map};
 ghost use Rattle.spb_network.specs.declared.kind_rule.KindRule.TheVariants as rules;
 ghost use Rattle.spb_network.specs.Sound.{opening};
-ghost use Rattle.spb_network.specs.Play as play;
-ghost use Rattle.spb_network.specs.Network.{state_of, spare};
+ghost use Rattle.spb_network.specs.Network.{state_of, spare, AreMade};
 ghost use Rattle.spb_network.specs.Applying.{Answers, Applies, IsReady};
 
 use crate::{Answer, ApplyError, KindRule, Lanes, World, check};
@@ -66,9 +65,12 @@ impl<B: Bridge> NetworkOf<B> {
         self.rule = rule;
     }
 
-    /// The boxes of the declared bridges, in order of declaration. Takes no memory.
+    /// The boxes of the declared bridges, in order of declaration: the network's own, and none is blank unless the network
+    /// halted. Takes no memory.
     pub fn boxes(&self) -> &[B]
-        ensures { map B.view result.now ≡ (state_of B.kind_of B.blank B.view self.now).views }
+        ensures same { result.now ≡ self.now.boxes.items }
+        ensures views { map B.view result.now ≡ (state_of B.kind_of B.blank B.view self.now).views }
+        ensures made { self.now.halted ≡ false → IsReady B.kind_of B.blank B.view self.now → AreMade B.blank result.now }
     {
         self.boxes.as_slice()
     }
@@ -79,7 +81,7 @@ impl<B: Bridge> NetworkOf<B> {
     /// where one does. After both nothing is changed, and no memory was taken. After `NoMemory` the network is halted,
     /// and nothing is said of its boxes and lanes.
     ///
-    /// A form that isn't played yet is accepted, changes nothing and answers `Silent`.
+    /// A form that isn't played yet is accepted: it changes nothing but the count of accepted commands, and answers `Silent`.
     pub fn apply(&mut self, command: &Command) -> Result<Answer, ApplyError>
         requires { IsReady B.kind_of B.blank B.view self.old }
         ensures applies { Applies B.kind_of B.blank B.view self.old command.now result self.new }
@@ -91,7 +93,7 @@ impl<B: Bridge> NetworkOf<B> {
         check::addressed(command);
         match self.play(command) {
             Ok(answer) => {
-                self.accepted = next_count(self.accepted);
+                self.accepted = self.accepted.saturating_add(1);
                 self.halted = false;
                 Ok(answer)
             }
@@ -102,11 +104,4 @@ impl<B: Bridge> NetworkOf<B> {
             Err(error) => Err(error),
         }
     }
-}
-
-/// One more than a count, which stops at the greatest number of 64 bits.
-fn next_count(count: u64) -> u64
-    ensures { result ≡ play.next_count count }
-{
-    if count < u64::MAX { count + 1 } else { count }
 }

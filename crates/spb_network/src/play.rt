@@ -8,6 +8,7 @@ ghost use Rattle.spb_network.specs.Events as event;
 ghost use Rattle.spb_network.specs.Network.{state_of, AreMade, IsInOrder, IsBlankAt};
 ghost use Rattle.spb_network.specs.Applying.{Answers, Happens, IsWayTo, answered};
 
+use crate::limits::METRIC;
 use crate::rack::{kind_at, next_box};
 use crate::{Answer, ApplyError, Lanes, NetworkOf, Reason, Way, wires};
 use bridge_api::Bridge;
@@ -166,7 +167,7 @@ impl<B: Bridge> NetworkOf<B> {
         let Some(link) = self.world.link_place(name) else {
             return Err(ApplyError::Refused(Reason::NoSuchName));
         };
-        if metric < 1 || metric > 16_777_214 {
+        if metric < 1 || metric > METRIC {
             return Err(ApplyError::Refused(Reason::Range));
         }
         self.set_metric(link, side, metric as u32)?;

@@ -6,6 +6,7 @@ ghost use Rattle.spb_network.specs.State.{changed_at};
 ghost use Rattle.spb_network.specs.Lanes.{changed_lane, lane_in, rest, no_frames};
 
 use crate::{Lanes, Way};
+use link_model::DoubleError;
 use spb_types::NoMemory;
 
 /// A frame goes into a lane. It is lost where the lane is full.
@@ -34,7 +35,7 @@ pub fn pop(lanes: &mut Vec<Lanes>, way: Way) -> Option<Vec<u8>>
     }
 }
 
-/// The frame at a place of a lane is lost.
+/// The frame at a place of a lane is lost. Nothing happens where there is none.
 pub fn lose(lanes: &mut Vec<Lanes>, way: Way, place: usize)
     ensures { lanes.new.items
         ≡ changed_at (changed_lane way.dir (λ frames. after_lose frames place)) lanes.old.items way.link }
@@ -47,7 +48,7 @@ pub fn lose(lanes: &mut Vec<Lanes>, way: Way, place: usize)
     }
 }
 
-/// The frame at a place of a lane is doubled. The lane has a frame there, or else this answers NoMemory.
+/// The frame at a place of a lane is doubled. Nothing happens where there is none.
 pub fn double(lanes: &mut Vec<Lanes>, way: Way, place: usize) -> Result<(), NoMemory>
     ensures { OnOk result (lanes.new.items
         ≡ changed_at (changed_lane way.dir (λ frames. after_double frames place (slice_get frames place))) lanes.old.items way.link) }
@@ -56,7 +57,8 @@ pub fn double(lanes: &mut Vec<Lanes>, way: Way, place: usize) -> Result<(), NoMe
         None => Ok(()),
         Some(lanes) => match lanes.double(way.dir, place) {
             Ok(()) => Ok(()),
-            Err(_) => Err(NoMemory),
+            Err(DoubleError::NoFrame) => Ok(()),
+            Err(DoubleError::NoMemory) => Err(NoMemory),
         },
     }
 }

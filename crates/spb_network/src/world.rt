@@ -3,6 +3,7 @@ ghost use Rattle.spb_network.specs.Declaring.{is_new_name, switched, links_meter
 
 use crate::graph::{graph_bridges, graph_edges, system_at};
 use crate::hints::Hints;
+use crate::limits::{BRIDGES, LINKS};
 use crate::reason::reason_unless;
 use crate::{DeclaredBridge, DeclaredLink, LinkEnd, Reason, Way, check, ways};
 use bridge_api::BridgeConfig;
@@ -229,7 +230,7 @@ impl World {
         reason_unless(is_new_name, Reason::NameTaken)
             .or(reason_unless(is_new_id, Reason::IdTaken))
             .or(reason_unless(is_range, Reason::Range))
-            .or(reason_unless(self.bridges.len() < 96, Reason::TooMany))
+            .or(reason_unless(self.bridges.len() < BRIDGES, Reason::TooMany))
     }
 
     /// Why a link between the bridges at two places can't be declared, if it can't.
@@ -251,7 +252,7 @@ impl World {
         reason_unless(is_new_name, Reason::NameTaken)
             .or(reason_unless(are_free, Reason::PortUse))
             .or(reason_unless(is_range, Reason::Range))
-            .or(reason_unless(self.links.len() < 400, Reason::TooMany))
+            .or(reason_unless(self.links.len() < LINKS, Reason::TooMany))
             .or(reason_unless(check::is_unlinked(&self.links, i, j), Reason::AlreadyLinked))
     }
 
@@ -312,7 +313,7 @@ impl World {
             ≡ declare.with_link self.old name (declare.link_of i port_a j port_b cost)) }
         ensures err { OnErr result (self.new ≡ self.old) }
     {
-        let _ = &self.links;
+        let place = self.links.len();
         let metric = cost as u32;
         let link = DeclaredLink {
             a: LinkEnd {
@@ -327,7 +328,6 @@ impl World {
             },
             live: false,
         };
-        let place = self.links.len();
         insert_new(&mut self.links, name, link)?;
         self.hints.note(link.a, place);
         self.hints.note(link.b, place);

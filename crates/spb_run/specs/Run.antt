@@ -20,14 +20,14 @@ status_number WriteFault = 5
 status_number TooLong = 6
 
 -- whether all that the script writes is written
-abbrev pub is_played : Status → Bool
-is_played Done = true
-is_played (Refused line why) = true
-is_played Usage = false
-is_played NoMemory = false
-is_played ReadFault = false
-is_played WriteFault = false
-is_played TooLong = true
+abbrev pub is_written : Status → Bool
+is_written Done = true
+is_written (Refused line why) = true
+is_written Usage = false
+is_written NoMemory = false
+is_written ReadFault = false
+is_written WriteFault = false
+is_written TooLong = true
 
 -- whether the script was played to its end, or to the first line that is refused
 abbrev pub is_ended : Status → Bool

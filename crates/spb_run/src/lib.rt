@@ -13,5 +13,3 @@ mod reply;
 mod runner;
 mod script;
 mod status;
-#[cfg(test)]
-mod tests;

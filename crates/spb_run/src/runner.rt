@@ -103,9 +103,9 @@ fn status_of_script<B: Bridge, K: Sink>(
 ) -> Status
     requires alive { IsAlive B.kind_of B.blank B.view network.old }
     requires short { length script.now ≤ most_bytes }
-    ensures fate { IsTrue (forms.is_played result) →
+    ensures fate { IsTrue (forms.is_written result) →
         result ≡ fate_of (state_of B.kind_of B.blank B.view network.old) script.now }
-    ensures text { IsTrue (forms.is_played result) → Appends (K.holds sink.old) (K.holds sink.new)
+    ensures text { IsTrue (forms.is_written result) → Appends (K.holds sink.old) (K.holds sink.new)
         (text_of (state_of B.kind_of B.blank B.view network.old) script.now) }
     ensures state { IsTrue (forms.is_ended result) → state_of B.kind_of B.blank B.view network.new
         ≡ end_of (state_of B.kind_of B.blank B.view network.old) script.now }
@@ -146,9 +146,9 @@ pub fn run<B: Bridge, S: Source, K: Sink>(
     ensures silent { IsTrue (forms.is_silent result) → sink.new ≡ sink.old }
 
     // The status is the script's fate and all of its text is written, unless the run was cut short.
-    ensures fate { IsTrue (forms.is_played result) → IfSome (S.left source.old) (λ script.
+    ensures fate { IsTrue (forms.is_written result) → IfSome (S.left source.old) (λ script.
         result ≡ fate_of (state_of B.kind_of B.blank B.view network.old) script) }
-    ensures text { IsTrue (forms.is_played result) → IfSome (S.left source.old) (λ script.
+    ensures text { IsTrue (forms.is_written result) → IfSome (S.left source.old) (λ script.
         Appends (K.holds sink.old) (K.holds sink.new)
         (text_of (state_of B.kind_of B.blank B.view network.old) script)) }
     ensures ended { result ≡ Status.Done → IsAtEnd (S.left source.new) }

@@ -1,13 +1,17 @@
-ghost use Rattle.std.specs.Prelude.{IfOk};
+ghost use Rattle.std.specs.Prelude.{◌≡◌, ℕ, [], OnOk};
 ghost use Rattle.bridge_api.specs.Config.{IsWhole};
+ghost use Rattle.spb_network.specs.Network.{state_of, IsPortAt};
+ghost use Rattle.spb_run.specs.Replying.{IsAlive};
 
 use crate::{Status, play, run};
+use adjacency::Adjacency;
 use bridge_api::{Bridge, BridgeConfig};
 use plain_bridge::PlainBridge;
-use spb_network::{NetworkOf, Reason};
+use scenario::Command;
+use spb_network::{ApplyError, KindRule, NetworkOf, Reason};
 use spb_outside::{MemorySink, MemorySource, Sink, Source};
 use spb_run::Refusal;
-use spb_types::{BridgeId, Mac, NoMemory, Seq, SourceId, SystemId};
+use spb_types::{BridgeId, LspId, Mac, Name, Seq, SourceId, SystemId};
 use std::alloc::Global;
 use std::process::Abort;
 use std::test::Fail;
@@ -52,6 +56,23 @@ const FIVE_ANSWER: &[u8] = b"wiring A 4 0\n\
     u 10 020000000003 1\n\
     u 10 020000000004 2\n\
     u 10 020000000009 2\n";
+
+/// Three bridges, each with a link to each other, of which that from A to B is the dearest way but for one metric.
+const TRIANGLE: &str = "vid 10 1
+bridge A 32768 020000000001 00001 2
+bridge B 32768 020000000002 00002 2
+bridge C 32768 020000000003 00003 2
+link L1 A 1 B 1 10
+link L2 A 2 C 1 7
+link L3 B 2 C 2 8
+";
+
+/// A comes up over the link to B.
+const UP_AT_A: &str = "tick A
+deliver L1 ab
+tick B
+deliver L1 ba
+";
 
 /// The hello of A comes to B, then that of B to A, then again that of A to B.
 const HELLOS: &str = "tick A
@@ -221,14 +242,22 @@ fn check_refused(
     )
 }
 
-/// Runs the program with one word over a script, on the network of a rack, and gives the status.
-fn played_on<B: Bridge>(alloc: Global, rack: Vec<B>, script: &str) -> Result<Status, NoMemory> {
+/// Asserts that two bridges are declared on the network of a rack until it has no blank box for the second.
+fn check_spent<B: Bridge>(rt: &impl Abort, alloc: Global, rack: Vec<B>) -> Result<(), Fail> {
     let words = vec![in alloc; String::from_str(alloc, "run")?]?;
     let mut network = NetworkOf::new(alloc, rack);
-    let bytes = Vec::from_slice(alloc, script.as_bytes())?;
-    let mut source = MemorySource::new(bytes, Vec::new(alloc), 100);
+    let mut source = MemorySource::new(
+        Vec::from_slice(alloc, TWO.as_bytes())?,
+        Vec::new(alloc),
+        100,
+    );
     let mut sink = MemorySink::new(alloc, Vec::new(alloc), 100);
-    Ok(run(alloc, &words, &mut network, &mut source, &mut sink))
+    assert_eq!(rt;
+        run(alloc, &words, &mut network, &mut source, &mut sink),
+        Status::Refused(2, Refusal::Command(Reason::RackSpent))
+    );
+    assert_eq!(rt; sink.bytes(), b"error 2 12 RackSpent\n".as_slice());
+    Ok(())
 }
 
 #[test]
@@ -286,6 +315,56 @@ p 1 init 020000000002 1 3 -
 }
 
 #[test]
+fn a_link_that_is_down_is_no_wiring_and_keeps_its_metric(rt: HostRuntime) -> Result<(), Fail> {
+    let alloc = rt.alloc();
+    check_done(
+        &rt,
+        alloc,
+        TRIANGLE,
+        "down L1\nmetric L1 b 20\nup L1\nwiring A\n",
+        "wiring A 2 0\nu 10 020000000002 2\nu 10 020000000003 2\n",
+    )?;
+    check_done(&rt, alloc, TWO, "down L1\nwiring A\n", "wiring A 0 0\n")
+}
+
+#[test]
+fn a_metric_is_said_by_the_bridge_of_that_end(rt: HostRuntime) -> Result<(), Fail> {
+    let lines = "db A
+metric L1 b 20
+metric L1 a 15
+db A
+db B
+";
+    let text = "db A 1
+l 0200000000010000 live 1200 2 a512 srm 1 ssn -
+db A 1
+l 0200000000010000 live 1200 3 9e0e srm 1 ssn -
+db B 1
+l 0200000000020000 live 1199 1 69bb srm - ssn -
+";
+    let alloc = rt.alloc();
+    let before = format!(in alloc; "{TWO}{UP_AT_A}")?;
+    check_done(&rt, alloc, before.as_str(), lines, text)
+}
+
+#[test]
+fn a_database_is_told_in_order_of_id(rt: HostRuntime) -> Result<(), Fail> {
+    let lines = "tick A
+deliver L1 ab
+deliver L1 ab
+deliver L1 ab
+db B
+";
+    let text = "db B 2
+l 0200000000010000 live 1199 2 a512 srm - ssn 1
+l 0200000000020000 live 1200 2 c2f3 srm 1 ssn -
+";
+    let alloc = rt.alloc();
+    let before = format!(in alloc; "{TWO}{UP_AT_A}")?;
+    check_done(&rt, alloc, before.as_str(), lines, text)
+}
+
+#[test]
 fn the_first_refused_line_ends_the_run(rt: HostRuntime) -> Result<(), Fail> {
     let alloc = rt.alloc();
     let words = |line, column| Status::Refused(line, Refusal::Words(column));
@@ -331,6 +410,7 @@ fn lines_outside_the_grammar_have_a_column(rt: HostRuntime) -> Result<(), Fail> 
         ("tick", 5, "1 Words 5"),
         ("tick A B", 8, "1 Words 8"),
         ("deliver L1 xy", 12, "1 Words 12"),
+        ("metric L1 c 1", 11, "1 Words 11"),
         ("round", 6, "1 Words 6"),
         ("isid 100 10", 1, "1 Words 1"),
         (" frame A 1 00", 2, "1 Words 2"),
@@ -397,9 +477,7 @@ fn each_bridge_takes_a_box(rt: HostRuntime) -> Result<(), Fail> {
     let alloc = rt.alloc();
     let mut rack: Vec<Box<dyn Bridge>> = Vec::new(alloc);
     rack.push(Box::new(alloc, PlainBridge::blank(alloc))?)?;
-    let spent = Status::Refused(2, Refusal::Command(Reason::RackSpent));
-    assert_eq!(rt; played_on(alloc, rack, TWO), Ok(spent));
-    Ok(())
+    check_spent(&rt, alloc, rack)
 }
 
 /// What a bridge without ports is configured with.
@@ -431,9 +509,101 @@ fn a_box_that_is_not_blank_is_never_taken(rt: HostRuntime) -> Result<(), Fail> {
     let mut rack: Vec<Box<dyn Bridge>> = Vec::new(alloc);
     rack.push(Box::new(alloc, PlainBridge::blank(alloc))?)?;
     rack.push(Box::new(alloc, used)?)?;
-    let spent = Status::Refused(2, Refusal::Command(Reason::RackSpent));
-    assert_eq!(rt; played_on(alloc, rack, TWO), Ok(spent));
+    check_spent(&rt, alloc, rack)
+}
+
+/// The address of the bridge of a number.
+fn address(number: u8) -> Mac {
+    Mac {
+        bytes: [2, 0, 0, 0, 0, number],
+    }
+}
+
+/// Declares two bridges of one port each, and a link between them.
+fn declare_two<B: Bridge>(
+    network: &mut NetworkOf<B>,
+    a: Name,
+    b: Name,
+    link: Name,
+) -> Result<(), ApplyError>
+    requires alive { IsAlive B.kind_of B.blank B.view network.old }
+    requires new { (state_of B.kind_of B.blank B.view network.old).world.bridges ≡ [] }
+    ensures alive { OnOk result (IsAlive B.kind_of B.blank B.view network.new) }
+    ensures ports { OnOk result ((i : ℕ) → IsPortAt (state_of B.kind_of B.blank B.view network.new).views i 1) }
+{
+    let _first = network.apply(&Command::Bridge {
+        name: a,
+        priority: 32768,
+        system: address(1),
+        source: SourceId { value: 1 },
+        ports: 1,
+    })?;
+    let _second = network.apply(&Command::Bridge {
+        name: b,
+        priority: 32768,
+        system: address(2),
+        source: SourceId { value: 2 },
+        ports: 1,
+    })?;
+    let _third = network.apply(&Command::Link {
+        name: link,
+        a,
+        port_a: 1,
+        b,
+        port_b: 1,
+        cost: 10,
+    })?;
     Ok(())
+}
+
+/// What the box of the bridge at a place answers: the adjacency at its first port, and the first LSP that it holds.
+fn asked<B: Bridge>(network: &NetworkOf<B>, place: usize) -> Option<(Adjacency, LspId)>
+    requires alive { IsAlive B.kind_of B.blank B.view network.now }
+    requires port { IsPortAt (state_of B.kind_of B.blank B.view network.now).views place 1 }
+{
+    match network.boxes().get(place) {
+        None => None,
+        Some(bridge) => {
+            let held = bridge.entry(0)?;
+            Some((bridge.adjacent(1), held.id))
+        }
+    }
+}
+
+/// The first LSP of the bridge of a number.
+fn own_id(number: u8) -> LspId {
+    LspId {
+        system: SystemId {
+            mac: address(number),
+        },
+        pseudonode: 0,
+        number: 0,
+    }
+}
+
+/// Asserts what the boxes of two bridges answer, which are declared on the network of a rack after its rule was set.
+fn check_boxes<B: Bridge>(rt: &impl Abort, alloc: Global, rack: Vec<B>) -> Result<(), Fail> {
+    let mut network = NetworkOf::new(alloc, rack);
+    network.set_rule(KindRule::Plain);
+    let a = Name::new(b"A").ok_or("no name")?;
+    let b = Name::new(b"B").ok_or("no name")?;
+    let link = Name::new(b"L1").ok_or("no name")?;
+    declare_two(&mut network, a, b, link)?;
+    let lit = Adjacency::down(true);
+    assert_eq!(rt; asked(&network, 0), Some((lit, own_id(1))));
+    assert_eq!(rt; asked(&network, 1), Some((lit, own_id(2))));
+    assert_eq!(rt; asked(&network, 2), None);
+    Ok(())
+}
+
+#[test]
+fn the_boxes_of_a_network_can_be_asked(rt: HostRuntime) -> Result<(), Fail> {
+    let alloc = rt.alloc();
+    let mut rack: Vec<Box<dyn Bridge>> = Vec::new(alloc);
+    for _ in 0..2 {
+        rack.push(Box::new(alloc, PlainBridge::blank(alloc))?)?;
+    }
+    check_boxes(&rt, alloc, rack)
 }
 
 #[test]

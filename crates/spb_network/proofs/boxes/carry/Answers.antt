@@ -12,5 +12,5 @@ returns-in-Some-clause-views g c =
     on_ok c.carrier.result (map-set g.B.Bridge.view (step (comes.carrier c.args.port c.args.on)) c.args.boxes.now.items c.args.i c.in-Some.bridge.now c.carrier.new.self (lent _ _ _ _ c.get_mut.ensures.item c.in-Some.is)) c.carrier.ensures.view
 
 pub carrier-requires-clause-port : goal.carrier-requires-clause-port
-carrier-requires-clause-port g c =
+carrier-requires-clause-port g c not_failed =
     c.requires.port (g.B.Bridge.view c.in-Some.bridge.now) (get-map g.B.Bridge.view c.args.boxes.now.items c.args.i c.in-Some.bridge.now (lent _ _ _ _ c.get_mut.ensures.item c.in-Some.is))

@@ -12,5 +12,5 @@ returns-in-Some-clause-views g c =
     on_ok c.receive.result (map-set g.B.Bridge.view (step (comes.frame c.args.port c.args.frame.now)) c.args.boxes.now.items c.args.i c.in-Some.bridge.now c.receive.new.self (lent _ _ _ _ c.get_mut.ensures.item c.in-Some.is)) c.receive.ensures.view
 
 pub receive-requires-clause-port : goal.receive-requires-clause-port
-receive-requires-clause-port g c =
+receive-requires-clause-port g c not_failed =
     c.requires.port (g.B.Bridge.view c.in-Some.bridge.now) (get-map g.B.Bridge.view c.args.boxes.now.items c.args.i c.in-Some.bridge.now (lent _ _ _ _ c.get_mut.ensures.item c.in-Some.is))

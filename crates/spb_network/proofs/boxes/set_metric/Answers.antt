@@ -12,5 +12,5 @@ returns-in-Some-clause-views g c =
     on_ok c.set_metric.result (map-set g.B.Bridge.view (step (comes.metric c.args.port c.args.metric)) c.args.boxes.now.items c.args.i c.in-Some.bridge.now c.set_metric.new.self (lent _ _ _ _ c.get_mut.ensures.item c.in-Some.is)) c.set_metric.ensures.view
 
 pub set_metric-requires-clause-port : goal.set_metric-requires-clause-port
-set_metric-requires-clause-port g c =
+set_metric-requires-clause-port g c not_failed =
     c.requires.port (g.B.Bridge.view c.in-Some.bridge.now) (get-map g.B.Bridge.view c.args.boxes.now.items c.args.i c.in-Some.bridge.now (lent _ _ _ _ c.get_mut.ensures.item c.in-Some.is))

@@ -14,7 +14,7 @@ returns-in-Ok-clause-applies g c =
       record {
         accepted = c.in-Ok.ensures.answers.0;
         answer_is = c.in-Ok.ensures.answers.1;
-        state = (λ i. record made { accepted = c.next_count-self.ensures i }) ∙ ap counted c.in-Ok.ensures.answers.2;
+        state = (λ i. record made { accepted = c.saturating_add-self.ensures i }) ∙ ap counted c.in-Ok.ensures.answers.2;
       },
       refl,
     )
@@ -27,5 +27,5 @@ returns-in-Ok-clause-ready g c =
     let sound : IsSoundState old = ⊎_elim (λ h. absurd (true≢false (sym h ∙ c.if-self.false))) (λ n. n.state) c.requires in
     inr (record {
       made = c.in-Ok.ensures.made;
-      state = subst IsSoundState (sym ((λ i. record made { accepted = c.next_count-self.ensures i }) ∙ ap counted c.in-Ok.ensures.answers.2)) (commands_keep_sound old c.args.command.now sound c.addressed.ensures c.in-Ok.ensures.answers.0);
+      state = subst IsSoundState (sym ((λ i. record made { accepted = c.saturating_add-self.ensures i }) ∙ ap counted c.in-Ok.ensures.answers.2)) (commands_keep_sound old c.args.command.now sound c.addressed.ensures c.in-Ok.ensures.answers.0);
     })

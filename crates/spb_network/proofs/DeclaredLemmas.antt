@@ -1,0 +1,56 @@
+-- The bridges that are declared once a declaration was accepted.
+use Rattle.std.proofs.Common.{◌≡◌, ℕ, zero, suc, true, List, [], ◌∷◌, ◌++◌, length, Option, Some, None, slice_get, refl, ap, ◌∙◌, arith}
+use Rattle.std.proofs.lemmas.Option.{slice_get_within}
+use Rattle.std.specs.Prelude.{is_some}
+use Rattle.spb_types.specs.declared.address.Mac.{Mac}
+use Rattle.spb_types.specs.declared.service.SourceId.{SourceId}
+use Rattle.scenario.specs.declared.command.Command.TheVariants as command
+use Rattle.spb_network.specs.declared.declaration.DeclaredBridge.{DeclaredBridge}
+use Rattle.spb_network.specs.declared.declaration.DeclaredLink.{DeclaredLink}
+use Rattle.spb_network.specs.World.{place_of, things_of}
+use Rattle.spb_network.specs.Lanes.{no_frames}
+use Rattle.spb_network.specs.Declaring.{bridge_of, link_of, with_bridge, with_link}
+use Rattle.spb_network.specs.State.{State}
+use Rattle.spb_network.specs.Events.{metered, metered_over}
+use Rattle.spb_network.specs.Refusing.{box_for, declared_refusal, refusal_of}
+use Rattle.spb_network.specs.Play.{boxed, declared, linked, placed_link, named_link, next_state}
+use Rattle.spb_network.specs.Network.{Fits, IsPortAt}
+use Rattle.spb_network.proofs.FitsLemmas.{IsAlike, alike_then, alike_metered, alike_switched_on}
+use Rattle.spb_network.proofs.SoundNames.{last_none, passes}
+
+boxed_bridges : (s : State) (name : List ℕ) (b : DeclaredBridge) (place : Option ℕ) → is_some place ≡ true → (boxed s name b place).world.bridges ≡ s.world.bridges ++ (name, b) ∷ []
+unfolding with_bridge
+boxed_bridges s name b None found = absurd cc
+boxed_bridges s name b (Some place) found = refl
+
+-- a bridge that is accepted is declared behind the others
+pub bridge_declared : (s : State) (name : List ℕ) (priority : ℕ) (system : Mac) (source : SourceId) (ports : ℕ) → refusal_of s (command.Bridge name priority system source ports) ≡ None → (next_state s (command.Bridge name priority system source ports)).world.bridges ≡ s.world.bridges ++ (name, bridge_of priority system source ports) ∷ []
+unfolding next_state declared declared_refusal
+bridge_declared s name priority system source ports none =
+    boxed_bridges s name (bridge_of priority system source ports) (box_for s) (passes (is_some (box_for s)) _ (last_none _ _ none))
+
+linked_bridges : (s : State) (name : List ℕ) (l : DeclaredLink) → (linked s name l).world.bridges ≡ s.world.bridges
+unfolding linked with_link
+linked_bridges s name l =
+    let t : State = record s { world = with_link s.world name l; lanes = s.lanes ++ no_frames ∷ [] } in
+    let alike : IsAlike t (metered_over t l) = alike_then t (metered t l.a) (metered_over t l) (alike_metered t l.a) (alike_metered (metered t l.a) l.b) in
+    (alike_switched_on (metered_over t l) (length s.lanes)).bridges ∙ alike.bridges
+
+placed_bridges : (s : State) (name : List ℕ) (a b : Option ℕ) (port_a port_b cost : ℕ) → (placed_link s name a port_a b port_b cost).world.bridges ≡ s.world.bridges
+placed_bridges s name None b port_a port_b cost = refl
+placed_bridges s name (Some i) None port_a port_b cost = refl
+placed_bridges s name (Some i) (Some j) port_a port_b cost = linked_bridges s name (link_of i port_a j port_b cost)
+
+-- a link leaves the bridges as they were declared
+pub link_declared : (s : State) (name a b : List ℕ) (port_a port_b cost : ℕ) → (next_state s (command.Link name a port_a b port_b cost)).world.bridges ≡ s.world.bridges
+unfolding next_state named_link
+link_declared s name a b port_a port_b cost = placed_bridges s name (place_of a s.world.bridges) (place_of b s.world.bridges) port_a port_b cost
+
+-- each of two bridges has a port where one was declared of each
+pub two_have_port : (s : State) (n m : List ℕ) (b c : DeclaredBridge) → s.world.bridges ≡ (n, b) ∷ (m, c) ∷ [] → b.ports ≡ 1 → c.ports ≡ 1 → Fits s → (i : ℕ) → IsPortAt s.views i 1
+two_have_port s n m b c is one_b one_c fits zero v at =
+    record { low = omega arith; high = omega (arith, (fits.ports 0 v b at (ap (λ bs. slice_get (things_of bs) 0) is)).ports, one_b) }
+two_have_port s n m b c is one_b one_c fits (suc zero) v at =
+    record { low = omega arith; high = omega (arith, (fits.ports 1 v c at (ap (λ bs. slice_get (things_of bs) 1) is)).ports, one_c) }
+two_have_port s n m b c is one_b one_c fits (suc (suc i)) v at =
+    absurd (omega (arith, slice_get_within s.views (suc (suc i)) v at, fits.bridges, ap length is))
