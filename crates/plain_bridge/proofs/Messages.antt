@@ -1,10 +1,10 @@
 -- What the code takes a frame for: a slice of bytes is a list of octets.
-use Rattle.std.proofs.Common.{◌≡◌, Bool, true, List, sym, ap, ◌∙◌, Result, ℕ}
+use Rattle.std.proofs.Common.{◌≡◌, Bool, List, sym, ap, ◌∙◌, Result, ℕ}
 use Rattle.std.specs.Prelude.{if◌then◌else◌}
 use Rattle.isis_pdu.specs.Grammar.{IsBytes}
 use Rattle.itag_frames.specs.declared.frame.FrameError.{FrameError}
 use Rattle.itag_frames.specs.Frame.{Content, content_in}
-use Rattle.bridge_api.specs.Judging.{Judged, useless, Frame, by_content, is_octets, judged}
+use Rattle.bridge_api.specs.Judging.{useless, Frame, by_content, judged}
 use Rattle.bridge_api.proofs.Octets.{bytes_small, octets_small}
 
 pub judged_as : (frame : List ℕ) (content : Result Content FrameError) → IsBytes frame → content ≡ content_in frame → by_content content ≡ judged frame

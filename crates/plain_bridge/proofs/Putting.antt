@@ -1,21 +1,16 @@
 -- A port that comes into a new state.
-use Rattle.std.proofs.Common.{◌≡◌, ◌≤◌, ◌<◌, ◌-◌, ◌+◌, ℕ, zero, suc, Bool, true, false, List, [], ◌∷◌, map, length, refl, sym, ap, ◌∙◌, subst, Option, Some, None, arith}
-use Rattle.std.specs.Prelude.{T, slice_get, slice_set, not, nat_lt, is_some, ◌||◌, ◌&&◌, if◌then◌else◌}
+use Rattle.std.proofs.Common.{◌≡◌, ◌≤◌, ◌<◌, ◌-◌, ◌+◌, ℕ, zero, suc, Bool, true, false, List, [], ◌∷◌, length, refl, sym, ap, ◌∙◌, subst, Some, arith}
+use Rattle.std.specs.Prelude.{slice_get, slice_set, not, ◌&&◌, if◌then◌else◌}
 use Rattle.std.specs.List.{AllByRecursion}
-use Rattle.std.specs.Ordering.{is_lt}
-use Rattle.std.specs.Option.{option_map}
-use Rattle.std.specs.FinMap.{is_sorted, get, len, len-entries, entries, entries_sorted, entries-from_sorted}
-use Rattle.std.specs.FinMap.Entries.{below_all}
 use Rattle.std.specs.Global.{Vec}
-use Rattle.std.proofs.lemmas.List.{length-map, length-set, set-set}
+use Rattle.std.proofs.lemmas.List.{length-set, set-set}
 use Rattle.std.proofs.lemmas.Bool.{le-leb}
 use Rattle.spb_types.specs.declared.address.SystemId.{SystemId}
-use Rattle.spb_types.specs.declared.address.LspId.{LspId}
 use Rattle.isis_pdu.specs.Pdu.{HelloValue}
 use Rattle.spb_tlvs.specs.declared.neighbours.Neighbour.{Neighbour}
 use Rattle.spb_tlvs.specs.declared.three_way.ThreeWay.{ThreeWay}
-use Rattle.lsdb.specs.Entry.{Entry, parted, joined}
-use Rattle.lsdb.specs.Database.{Lsps, id_cmp, fits, each}
+use Rattle.lsdb.specs.Entry.{parted, joined}
+use Rattle.lsdb.specs.Database.{Lsps, fits, each}
 use Rattle.lsdb.proofs.LookupLemmas.{fits-each}
 use Rattle.flooding.specs.declared.own.Own.{Own}
 use Rattle.flooding.specs.Own.{own_id}

@@ -1,7 +1,6 @@
 -- A second of a machine.
 use Rattle.std.proofs.Common.{◌≡◌, ◌≤◌, ◌+◌, ℕ, Bool, true, false, List, [], ◌∷◌, map, length, refl, sym, ap, ◌∙◌, subst, Option, Some, None, arith}
 use Rattle.std.specs.Prelude.{not, ◌&&◌, ◌||◌, if◌then◌else◌}
-use Rattle.std.specs.List.{AllByRecursion}
 use Rattle.std.specs.Global.{Vec}
 use Rattle.std.proofs.lemmas.List.{length-map}
 use Rattle.spb_types.specs.declared.address.SystemId.{SystemId}
@@ -23,7 +22,7 @@ use Rattle.bridge_api.specs.View.{BridgeView, is_port_up, up_from}
 use Rattle.bridge_api.specs.Own.{neighbour_in, neighbours_from, local_of, own_of}
 use Rattle.bridge_api.specs.Hearing.{with_due}
 use Rattle.bridge_api.specs.Ticking.{later, leaves, leaving_from, parted_all, counted, expired, readied, told, told_from, sent_from, after_tick, sent_in_tick}
-use Rattle.bridge_api.specs.Laws.{IsSoundPort, HasDatabase, IsSoundView}
+use Rattle.bridge_api.specs.Laws.{HasDatabase, IsSoundView}
 use Rattle.bridge_api.proofs.Adjacent.{second_up}
 use Rattle.bridge_api.proofs.Changes.{tick_is, readied_ports}
 use Rattle.bridge_api.proofs.SoundPorts.{all_later, config_kept}
