@@ -17,8 +17,8 @@
 //!   it also goes over the database three times for each Up port: for the LSPs to be sent, for the entries that are owed, and
 //!   to clear these, with a binary search for each LSP that is sent and each entry that is cleared. It goes over the database
 //!   once for each port at which CSNPs are due and for each at which a neighbour is lost. Memory is taken for what is sent.
-//! - A hello takes time in proportion to its length and the comparison of the own body, and no memory, unless the port comes
-//!   Up or leaves Up. Leaving Up goes over the database once; entering Up once more, with a binary search for each LSP.
+//! - A hello takes time in proportion to its length, and no memory, unless the port comes Up or leaves Up. Leaving
+//!   Up goes over the database once; entering Up once more, with a binary search for each LSP.
 //! - An LSP goes over the ports once and takes a binary search, and memory for its body if it is stored; a sequence numbers
 //!   PDU goes over the ports once and takes a binary search for each entry, and a CSNP also what `snp_sync` says.
 //! - No call copies the database.
