@@ -7,4 +7,5 @@ pub mod Sends
 pub mod Seconds
 pub mod Putting
 pub mod Heeding
+pub mod Messages
 pub mod Keeping

@@ -4,6 +4,7 @@ use Rattle.std.specs.Prelude.{not, ◌||◌, ◌&&◌, if◌then◌else◌}
 use Rattle.std.specs.Str.{bytes_eq}
 use Rattle.std.specs.FinMap.{get}
 use Rattle.std.specs.Global.{Vec}
+use Rattle.std.proofs.lemmas.Slice.Eq.{bytes_eq-Decides}
 use Rattle.spb_types.specs.declared.ports.PortSet.{PortSet}
 use Rattle.lsdb.specs.Database.{Lsps}
 use Rattle.flooding.specs.declared.own.Own.{Own}
@@ -82,6 +83,15 @@ or_right false b e = e
 or_neither : (a b : Bool) → a ≡ false → b ≡ false → (a || b) ≡ false
 or_neither true b e f = absurd cc
 or_neither false b e f = f
+
+-- a bridge whose own LSP says what it has to say, or whose numbers are spent
+still_by : (spent said : Bool) (v w : BridgeView) → (spent ≡ false → said ≡ true) → v ≡ (if spent || said then v else w)
+still_by true said v w says = refl
+still_by false said v w says = sym (choice said true v w (says refl))
+
+pub settled_still : (v : BridgeView) → (v.spent ≡ false → body_in (own_entry v) ≡ body_of v) → v ≡ settled v
+unfolding settled is_said
+settled_still v says = still_by v.spent (is_said v) v (originating v) (λ alive. (bytes_eq-Decides (body_in (own_entry v)) (body_of v)).1 (says alive))
 
 pub settled_spent : (m : Machine) → IsCurrent m → m.own.spent ≡ true → IsAfter (settled (view_of m)) m
 unfolding settled

@@ -1,21 +1,16 @@
 -- A port that comes into a new state.
-use Rattle.std.proofs.Common.{◌≡◌, ◌≤◌, ◌<◌, ◌-◌, ◌+◌, ℕ, zero, suc, Bool, true, false, List, [], ◌∷◌, map, length, refl, sym, ap, ◌∙◌, subst, Option, Some, None, arith}
-use Rattle.std.specs.Prelude.{T, slice_get, slice_set, not, nat_lt, is_some, ◌||◌, ◌&&◌, if◌then◌else◌}
+use Rattle.std.proofs.Common.{◌≡◌, ◌≤◌, ◌<◌, ◌-◌, ◌+◌, ℕ, zero, suc, Bool, true, false, List, [], ◌∷◌, length, refl, sym, ap, ◌∙◌, subst, Some, arith}
+use Rattle.std.specs.Prelude.{slice_get, slice_set, not, ◌&&◌, if◌then◌else◌}
 use Rattle.std.specs.List.{AllByRecursion}
-use Rattle.std.specs.Ordering.{is_lt}
-use Rattle.std.specs.Option.{option_map}
-use Rattle.std.specs.FinMap.{is_sorted, get, len, len-entries, entries, entries_sorted, entries-from_sorted}
-use Rattle.std.specs.FinMap.Entries.{below_all}
 use Rattle.std.specs.Global.{Vec}
-use Rattle.std.proofs.lemmas.List.{length-map, length-set, set-set}
+use Rattle.std.proofs.lemmas.List.{length-set, set-set}
 use Rattle.std.proofs.lemmas.Bool.{le-leb}
 use Rattle.spb_types.specs.declared.address.SystemId.{SystemId}
-use Rattle.spb_types.specs.declared.address.LspId.{LspId}
 use Rattle.isis_pdu.specs.Pdu.{HelloValue}
 use Rattle.spb_tlvs.specs.declared.neighbours.Neighbour.{Neighbour}
 use Rattle.spb_tlvs.specs.declared.three_way.ThreeWay.{ThreeWay}
-use Rattle.lsdb.specs.Entry.{Entry, parted, joined}
-use Rattle.lsdb.specs.Database.{Lsps, id_cmp, fits, each}
+use Rattle.lsdb.specs.Entry.{parted, joined}
+use Rattle.lsdb.specs.Database.{Lsps, fits, each}
 use Rattle.lsdb.proofs.LookupLemmas.{fits-each}
 use Rattle.flooding.specs.declared.own.Own.{Own}
 use Rattle.flooding.specs.Own.{own_id}
@@ -27,7 +22,7 @@ use Rattle.adjacency.specs.Hearing.{End, same_end, is_discarded}
 use Rattle.adjacency.specs.Adjacency.{is_up, after_heard, after_hello, after_carrier, change_of, heard_of}
 use Rattle.bridge_api.specs.declared.port.BridgePort.{BridgePort}
 use Rattle.bridge_api.specs.View.{BridgeView, IsPort, port_in, port_at, with_port_at, is_port_up, has_carrier_in, has_carrier_at}
-use Rattle.bridge_api.specs.Own.{neighbour_in, neighbours_from, local_of, settled}
+use Rattle.bridge_api.specs.Own.{neighbour_in, neighbours_from, local_of, body_of, settled}
 use Rattle.bridge_api.specs.Config.{IsMetric}
 use Rattle.bridge_api.specs.Hearing.{with_adjacency, with_due, left, joined_at, entered, changed_at, with_carrier, metered, with_metric}
 use Rattle.bridge_api.specs.Laws.{IsSoundPort}
@@ -38,7 +33,7 @@ use Rattle.bridge_api.proofs.Saying.{is_local}
 use Rattle.bridge_api.proofs.SoundPorts.{AreSoundPorts, sound_at}
 use Rattle.plain_bridge.specs.declared.machine.Machine.{Machine}
 use Rattle.plain_bridge.specs.Machine.{view_of, IsReady, CanOriginate, IsAfter, CanPut, SaysTheSame}
-use Rattle.plain_bridge.proofs.Owning.{said_alike, current_with, ready_can}
+use Rattle.plain_bridge.proofs.Owning.{said_alike, settled_still, current_with, ready_can}
 
 -- ---- two ports of which the same is said
 
@@ -123,7 +118,20 @@ local_with m p new ready is =
     }
 
 pub can_put : (m : Machine) (p : ℕ) (new : BridgePort) → IsReady m → IsPort (view_of m) p → IsMetric new.metric → CanPut p new m
-can_put m p new ready is metric = record { port = is; can = ready_can m ready; current = ready.current; local = local_with m p new ready metric }
+can_put m p new ready is metric = record { port = is; can = ready_can m ready; current = ready.current; local = local_with m p new ready metric; tended = ready.sound.own }
+
+-- a port that is kept: the own LSP says what the bridge has to say still
+pub kept_after : (m : Machine) (p : ℕ) (new : BridgePort) (ports : Vec BridgePort) → CanPut p new m → SaysTheSame p new m → ports.items ≡ slice_set m.ports.items (p - 1) new → IsAfter (settled (with_port_at p new (view_of m))) (record m { ports = ports })
+kept_after m p new ports can same is =
+    let v : BridgeView = view_of m in
+    let w : BridgeView = with_port_at p new v in
+    let now : view_of (record m { ports = ports }) ≡ w = λ i. record v { ports = is i } in
+    let body = ap (λ (o : Own). o.body) can.current ∙ (sym same ∙ ap body_of (sym now)) in
+    let system = ap (λ (o : Own). o.system) can.current in
+    record {
+      view = now ∙ settled_still w (λ alive. can.tended.said alive ∙ sym same);
+      current = λ i. record { system = system i; body = body i; spent = m.own.spent };
+    }
 
 -- ---- leaving and entering Up
 

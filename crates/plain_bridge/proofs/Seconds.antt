@@ -1,7 +1,6 @@
 -- A second of a machine.
 use Rattle.std.proofs.Common.{◌≡◌, ◌≤◌, ◌+◌, ℕ, Bool, true, false, List, [], ◌∷◌, map, length, refl, sym, ap, ◌∙◌, subst, Option, Some, None, arith}
 use Rattle.std.specs.Prelude.{not, ◌&&◌, ◌||◌, if◌then◌else◌}
-use Rattle.std.specs.List.{AllByRecursion}
 use Rattle.std.specs.Global.{Vec}
 use Rattle.std.proofs.lemmas.List.{length-map}
 use Rattle.spb_types.specs.declared.address.SystemId.{SystemId}
@@ -20,10 +19,10 @@ use Rattle.flooding.specs.Entries.{AreSendable}
 use Rattle.snp_sync.specs.Sized.{AreSized}
 use Rattle.bridge_api.specs.declared.port.BridgePort.{BridgePort}
 use Rattle.bridge_api.specs.View.{BridgeView, is_port_up, up_from}
-use Rattle.bridge_api.specs.Own.{neighbour_in, neighbours_from, local_of}
+use Rattle.bridge_api.specs.Own.{neighbour_in, neighbours_from, local_of, own_of}
 use Rattle.bridge_api.specs.Hearing.{with_due}
 use Rattle.bridge_api.specs.Ticking.{later, leaves, leaving_from, parted_all, counted, expired, readied, told, told_from, sent_from, after_tick, sent_in_tick}
-use Rattle.bridge_api.specs.Laws.{IsSoundPort, HasDatabase, IsSoundView}
+use Rattle.bridge_api.specs.Laws.{HasDatabase, IsSoundView}
 use Rattle.bridge_api.proofs.Adjacent.{second_up}
 use Rattle.bridge_api.proofs.Changes.{tick_is, readied_ports}
 use Rattle.bridge_api.proofs.SoundPorts.{all_later, config_kept}
@@ -32,12 +31,8 @@ use Rattle.bridge_api.proofs.Data.{fits_own, counted_keeps, expired_keeps, refre
 use Rattle.bridge_api.proofs.DataSteps.{can_originate}
 use Rattle.plain_bridge.specs.declared.machine.Machine.{Machine}
 use Rattle.plain_bridge.specs.Machine.{view_of, IsCurrent, IsReady, CanOriginate, IsAfter}
-use Rattle.plain_bridge.specs.Ports.{AreSound, has_leaving}
-use Rattle.plain_bridge.proofs.Owning.{current_with}
-
-pub sound_ports : (ports : List BridgePort) → AllByRecursion IsSoundPort ports → AreSound ports
-sound_ports [] all = tt
-sound_ports (port ∷ ports) all = (all.0.adjacency, sound_ports ports all.1)
+use Rattle.plain_bridge.specs.Ports.{has_leaving}
+use Rattle.plain_bridge.proofs.Owning.{current_with, after_same}
 
 -- ---- the neighbours that are left
 
@@ -97,7 +92,7 @@ neighbours_undue q (port ∷ ports) = ap (λ (ns : List Neighbour). if is_port_u
 
 -- ---- the holding counts fall
 
-pub counted_view : (m : Machine) (ports : Vec BridgePort) (db : Lsps) → ports.items ≡ map later m.ports.items → db ≡ each (λ id e. parted_all (leaving_from 1 m.ports.items) e) m.db
+counted_view : (m : Machine) (ports : Vec BridgePort) (db : Lsps) → ports.items ≡ map later m.ports.items → db ≡ each (λ id e. parted_all (leaving_from 1 m.ports.items) e) m.db
     → view_of (record m { ports = ports; db = db }) ≡ counted (view_of m)
 counted_view m ports db is are = λ i. record (view_of m) { ports = is i; database = are i }
 
@@ -114,8 +109,20 @@ counted_local m ports db ready is are =
     subst (λ (w : BridgeView). IsLocal (local_of w)) (sym (counted_view m ports db is are))
     (is_local (counted v) (config_kept v (counted v) refl ready.sound.config) (few_later v.ports ready.sound.few) (all_later v.ports ready.sound.ports))
 
-pub counted_current : (m : Machine) (ports : Vec BridgePort) (db : Lsps) → IsReady m → ports.items ≡ map later m.ports.items → has_leaving m.ports.items ≡ false → IsCurrent (record m { ports = ports; db = db })
+counted_current : (m : Machine) (ports : Vec BridgePort) (db : Lsps) → IsReady m → ports.items ≡ map later m.ports.items → has_leaving m.ports.items ≡ false → IsCurrent (record m { ports = ports; db = db })
 counted_current m ports db ready is none = current_with m ports db m.own ready.current refl refl (ap (neighbours_from 1) is ∙ neighbours_later 1 m.ports.items none)
+
+-- with no neighbour lost the body stays, and else it is made anew
+renewed : (m n : Machine) → n ≡ record m { own = own_of (view_of m) } → IsAfter (view_of m) n
+renewed m n is = subst (λ (x : Machine). IsAfter (view_of m) x) (sym is) (record { view = refl; current = refl })
+
+pub counted_same : (m : Machine) (ports : Vec BridgePort) (db : Lsps) → IsReady m → ports.items ≡ map later m.ports.items → db ≡ each (λ id e. parted_all (leaving_from 1 m.ports.items) e) m.db → has_leaving m.ports.items ≡ false
+    → IsAfter (counted (view_of m)) (record m { ports = ports; db = db })
+counted_same m ports db ready is are none = record { view = counted_view m ports db is are; current = counted_current m ports db ready is none }
+
+pub counted_anew : (m n : Machine) (ports : Vec BridgePort) (db : Lsps) → ports.items ≡ map later m.ports.items → db ≡ each (λ id e. parted_all (leaving_from 1 m.ports.items) e) m.db
+    → n ≡ record m { ports = ports; db = db; own = own_of (view_of (record m { ports = ports; db = db })) } → IsAfter (counted (view_of m)) n
+counted_anew m n ports db is are anew = after_same _ (counted (view_of m)) n (counted_view m ports db is are) (renewed (record m { ports = ports; db = db }) n anew)
 
 -- ---- the lifetimes fall
 

@@ -5,7 +5,7 @@ use Rattle.lsdb.specs.Database.{fits}
 use Rattle.spb_content.specs.Local.{IsLocal}
 use Rattle.bridge_api.specs.declared.port.BridgePort.{BridgePort}
 use Rattle.bridge_api.specs.View.{BridgeView, IsPort, port_at, with_port_at}
-use Rattle.bridge_api.specs.Own.{local_of, own_of, body_of}
+use Rattle.bridge_api.specs.Own.{local_of, own_of, body_of, IsTended}
 use Rattle.bridge_api.specs.Judging.{Judged}
 use Rattle.bridge_api.specs.Hearing.{heard_as}
 use Rattle.bridge_api.specs.Laws.{IsSoundView}
@@ -51,6 +51,7 @@ pub record CanPut (p : ℕ) (new : BridgePort) (m : Machine) : Type 0 where
   pub can : CanOriginate m
   pub current : IsCurrent m
   pub local : IsLocal (local_of (with_port_at p new (view_of m)))
+  pub tended : IsTended (view_of m)
 
 -- the bridge says the same of itself with a port of this number in a new state
 abbrev pub SaysTheSame : ℕ → BridgePort → Machine → Type 0

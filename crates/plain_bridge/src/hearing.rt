@@ -77,7 +77,8 @@ impl Machine {
         let mut new = port_at(self.ports.as_slice(), port);
         new.metric = metric;
         if !is_up(&new) {
-            return self.keep(port, new);
+            self.keep(port, new);
+            return Ok(());
         }
         put_port(&mut self.ports, port, new);
         self.renew_body()?;
@@ -92,20 +93,22 @@ impl Machine {
     {
         match heard {
             Heard::Discarded => Ok(()),
-            Heard::Kept => self.keep(port, new),
+            Heard::Kept => {
+                self.keep(port, new);
+                Ok(())
+            }
             Heard::LeftUp => self.leave(port, new),
             Heard::CameUp => self.enter(port, new),
         }
     }
 
-    /// A port comes into a state in which the bridge says the same of itself.
-    fn keep(&mut self, port: u8, new: BridgePort) -> Result<(), NoMemory>
+    /// A port comes into a state in which the bridge says the same of itself, as its own LSP does.
+    fn keep(&mut self, port: u8, new: BridgePort)
         requires can { CanPut port new self.old }
         requires same { SaysTheSame port new self.old }
-        ensures { OnOk result (IsAfter (api.changed_at did.Kept port new (view_of self.old)) self.new) }
+        ensures { IsAfter (api.changed_at did.Kept port new (view_of self.old)) self.new }
     {
         put_port(&mut self.ports, port, new);
-        self.settle()
     }
 
     /// A port leaves Up: its flags are cleared, and nothing is due there.

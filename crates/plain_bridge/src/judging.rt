@@ -3,11 +3,12 @@ ghost use Rattle.std.specs.Prelude.{◌≡◌, slice_get};
 ghost use Rattle.isis_pdu.specs.Pdu.{hello_of};
 ghost use Rattle.isis_pdu.specs.Reading.{read};
 ghost use Rattle.spb_tlvs.specs.Tlv.{values_with};
+ghost use Rattle.itag_frames.specs.Frame.{contents};
 ghost use Rattle.bridge_api.specs.Judging as api;
 ghost use Rattle.plain_bridge.specs.Message.{Says};
 
 use isis_pdu::{Csnp, Hello, Lsp, Pdu, Psnp, decode};
-use itag_frames::{Frame, classify};
+use itag_frames::{Frame, FrameError, classify};
 use spb_tlvs::{ThreeWay, find_tlv, read_three_way};
 
 /// The code of the three-way adjacency (RFC 5303, 3).
@@ -26,24 +27,20 @@ pub(crate) enum Message<'a> {
 }
 
 /// What a frame brings. It may be any bytes.
-#[tactic(auto, unfolding(bridge_api::specs::Judging::judged))]
 pub(crate) fn judge(frame: &[u8]) -> Message<'_>
     ensures { Says result (api.judged frame.now) }
 {
-    if !is_octets(frame) {
-        return Message::Nothing;
-    }
-    match classify(frame) {
+    judge_content(classify(frame))
+}
+
+/// Only a control frame is heard, by its PDU.
+fn judge_content(content: Result<Frame<'_>, FrameError>) -> Message<'_>
+    ensures { Says result (api.by_content (contents content.entry)) }
+{
+    match content {
         Ok(Frame::Control(pdu)) => judge_pdu(pdu),
         Ok(Frame::Backbone(_)) | Err(_) => Message::Nothing,
     }
-}
-
-/// Whether the bytes are octets, as all bytes are.
-fn is_octets(frame: &[u8]) -> bool
-    ensures { result ≡ api.is_octets frame.now }
-{
-    frame.iter().all(|b| u16::from(*b) < 256)
 }
 
 fn judge_pdu(pdu: &[u8]) -> Message<'_>

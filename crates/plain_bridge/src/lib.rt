@@ -9,16 +9,18 @@
 //! With p ports, n LSPs that are held and an own LSP of b bytes:
 //!
 //! - The body of the own LSP is kept. It is made anew, in time and memory of order p + b and for sorting what is attached,
-//!   where a port comes Up, leaves Up, or is Up and gets another metric; no other call makes it. Each call that may
-//!   originate compares it with the one that is held: a binary search, and b bytes.
-//! - A tick in which no flags stand goes once over the ports and once over the database, in time p + n, and takes memory for
-//!   the hellos alone. Where flags stand or the bridge originated, it also goes over the database twice for each Up port, and
-//!   over it once more for each at which CSNPs are due, and takes memory for what is sent. It goes over the database once for
-//!   each port at which a neighbour is lost.
-//! - A hello takes time in proportion to its length, and no memory, unless the port comes Up or leaves Up. Leaving Up goes
-//!   over the database once; entering Up once more, with a binary search for each LSP.
-//! - An LSP takes a binary search, and memory for its body if it is stored; a sequence numbers PDU a binary search for each
-//!   entry, and a CSNP also what `snp_sync` says.
+//!   where a port comes Up or leaves Up, and where the metric of an Up port is set, even to what it was; no other call makes
+//!   it. Each call that may originate compares it with the one that is held: a binary search, and b bytes. Originating goes
+//!   over the ports once, and takes time and memory of order b.
+//! - A tick in which no flags stand goes four times over the ports and once over the database, looks up the own LSP and
+//!   compares its body, in time p + n + b, and takes memory for the hellos alone. Where flags stand or the bridge originated,
+//!   it also goes over the database three times for each Up port: for the LSPs to be sent, for the entries that are owed, and
+//!   to clear these, with a binary search for each LSP that is sent and each entry that is cleared. It goes over the database
+//!   once for each port at which CSNPs are due and for each at which a neighbour is lost. Memory is taken for what is sent.
+//! - A hello takes time in proportion to its length, and no memory, unless the port comes Up or leaves Up. Leaving
+//!   Up goes over the database once; entering Up once more, with a binary search for each LSP.
+//! - An LSP goes over the ports once and takes a binary search, and memory for its body if it is stored; a sequence numbers
+//!   PDU goes over the ports once and takes a binary search for each entry, and a CSNP also what `snp_sync` says.
 //! - No call copies the database.
 #![tactic(auto)]
 

@@ -4,15 +4,15 @@ ghost use Rattle.std.specs.List.{AllByRecursion};
 ghost use Rattle.lsdb.specs.Entry.{joined};
 ghost use Rattle.lsdb.specs.Version as lsdb_version;
 ghost use Rattle.lsdb.specs.Database.{each};
-ghost use Rattle.adjacency.specs.Adjacency.{IsSound};
 ghost use Rattle.bridge_api.specs.View.{is_port_up, up_from, port_in};
 ghost use Rattle.bridge_api.specs.Config.{dark};
 ghost use Rattle.bridge_api.specs.Own as own;
 ghost use Rattle.bridge_api.specs.Hearing as api;
 ghost use Rattle.bridge_api.specs.Ticking as ticking;
-ghost use Rattle.plain_bridge.specs.Ports.{AreSound, has_leaving};
+ghost use Rattle.bridge_api.specs.Laws.{IsSoundPort};
+ghost use Rattle.plain_bridge.specs.Ports.{AreSoundPorts, has_leaving};
 
-use adjacency::{AdjState, Adjacency};
+use adjacency::{AdjState, Adjacency, Heard};
 use bridge_api::BridgePort;
 use lsdb::{Database, Held, Version};
 use spb_tlvs::Neighbour;
@@ -127,49 +127,34 @@ fn member_of(system: SystemId, a: &Attachment) -> Member
     }
 }
 
-/// A second passes at each port: the holding counts fall.
-pub(crate) fn count_down(ports: &mut Vec<BridgePort>)
-    requires { AreSound ports.old.items }
-    ensures { ports.new.items ≡ map ticking.later ports.old.items }
+/// A second passes at each port: the holding counts fall. Where the neighbour at an Up port is lost, the flags of the port are
+/// cleared and nothing is due there any more. Tells whether there is such a port.
+pub(crate) fn count_down(ports: &mut Vec<BridgePort>, db: &mut Database) -> bool
+    requires few { length ports.old.items ≤ 32 }
+    requires sound { AreSoundPorts ports.old.items }
+    ensures ports { ports.new.items ≡ map ticking.later ports.old.items }
+    ensures db { db.new ≡ each (λ id e. ticking.parted_all (ticking.leaving_from 1 ports.old.items) e) db.old }
+    ensures left { result ≡ has_leaving ports.old.items }
 {
-    for port in ports.iter_mut() {
-        pass_second(port);
-    }
-}
-
-fn pass_second(port: &mut BridgePort)
-    requires { IsSound port.old.adjacency }
-    ensures { port.new ≡ ticking.later port.old }
-{
-    let _ = port.adjacency.tick();
-    port.due = port.due && port.adjacency.state == AdjState::Up;
-}
-
-/// Whether the neighbour at an Up port is lost in this second.
-fn leaves(port: &BridgePort) -> bool
-    requires { IsSound port.now.adjacency }
-    ensures { result ≡ ticking.leaves port.now }
-{
-    let mut next = *port;
-    pass_second(&mut next);
-    is_up(port) && !is_up(&next)
-}
-
-/// Clears the flags of the ports at which the neighbour is lost in this second, and tells whether there is one.
-pub(crate) fn clear_leaving(ports: &[BridgePort], db: &mut Database) -> bool
-    requires few { length ports.now ≤ 32 }
-    requires sound { AreSound ports.now }
-    ensures db { db.new ≡ each (λ id e. ticking.parted_all (ticking.leaving_from 1 ports.now) e) db.old }
-    ensures some { result ≡ has_leaving ports.now }
-{
-    let mut some = false;
-    'clear: for (place, port) in ports.iter().enumerate() {
-        if leaves(port) {
+    let mut left = false;
+    'count: for place in 0..ports.len() {
+        if pass_second(&mut ports[place]) {
             db.clear_port(place as u8 + 1);
-            some = true;
+            left = true;
         }
     }
-    some
+    left
+}
+
+/// A second passes at a port. Tells whether its neighbour is lost and it leaves Up.
+fn pass_second(port: &mut BridgePort) -> bool
+    requires { IsSoundPort port.old }
+    ensures port { port.new ≡ ticking.later port.old }
+    ensures left { result ≡ ticking.leaves port.old }
+{
+    let left = port.adjacency.tick() == Heard::LeftUp;
+    port.due = port.due && !left;
+    left
 }
 
 /// Nothing is due any more.

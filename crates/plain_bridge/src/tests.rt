@@ -7,7 +7,7 @@ ghost use Rattle.bridge_api.specs.Among.{stepped_at, sent_from_place};
 use crate::PlainBridge;
 use adjacency::AdjState;
 use bridge_api::{Bridge, BridgeConfig, Kind, Outbox};
-use lsdb::Version;
+use lsdb::{DbRow, Version};
 use spb_types::{BridgeId, Mac, NoMemory, Seq, SourceId, SystemId};
 use std::alloc::Global;
 use std::test::Fail;
@@ -123,18 +123,55 @@ fn tick_at<B: Bridge>(
     bridges[place].tick(outbox)
 }
 
-/// Whether a frame that comes to the port 1 changes nothing there, and nothing is sent.
+/// A frame comes to the port 1.
+fn hear<B: Bridge>(bridge: &mut B, frame: &[u8], outbox: &mut Outbox) -> Result<(), NoMemory>
+    requires made { B.blank bridge.old ≡ false }
+    requires port { 1 ≤ length (B.view bridge.old).ports }
+    ensures still_made { B.blank bridge.new ≡ false }
+    ensures still_port { OnOk result (length (B.view bridge.new).ports ≡ length (B.view bridge.old).ports) }
+{
+    bridge.receive(1, frame, outbox)
+}
+
+/// What is held, in order, but for the bodies.
+fn rows<B: Bridge>(alloc: Global, bridge: &B) -> Result<Vec<DbRow>, NoMemory>
+    requires { B.blank bridge.now ≡ false }
+{
+    let mut rows = Vec::new(alloc);
+    for place in 0..2048 {
+        if let Some(held) = bridge.entry(place) {
+            rows.push(held.row())?;
+        }
+    }
+    Ok(rows)
+}
+
+/// Whether what is held at a place is to be sent at the port 1, and is to be acknowledged or asked for there.
+fn flags_at<B: Bridge>(bridge: &B, place: usize) -> (bool, bool)
+    requires { B.blank bridge.now ≡ false }
+{
+    match bridge.entry(place) {
+        Some(held) => (held.srm.has(1), held.ssn.has(1)),
+        None => (false, false),
+    }
+}
+
+/// Whether a frame that comes to the port 1 changes nothing there and nothing that is held, but for the bodies, and nothing is
+/// sent.
 fn is_dropped<B: Bridge>(alloc: Global, bridge: &mut B, frame: &[u8]) -> Result<bool, NoMemory>
     requires made { B.blank bridge.old ≡ false }
     requires port { 1 ≤ length (B.view bridge.old).ports }
     ensures still_made { B.blank bridge.new ≡ false }
     ensures still_port { OnOk result (length (B.view bridge.new).ports ≡ length (B.view bridge.old).ports) }
 {
-    let before = (bridge.adjacent(1), bridge.due(1));
+    let before = (bridge.adjacent(1), bridge.due(1), bridge.has_flag());
+    let held_before = rows(alloc, bridge)?;
     let mut outbox = Outbox::new(alloc);
-    bridge.receive(1, frame, &mut outbox)?;
-    let after = (bridge.adjacent(1), bridge.due(1));
-    Ok(outbox.wire.is_empty() && after == before)
+    hear(bridge, frame, &mut outbox)?;
+    let after = (bridge.adjacent(1), bridge.due(1), bridge.has_flag());
+    let held_after = rows(alloc, bridge)?;
+    let same_rows = held_after.as_slice() == held_before.as_slice();
+    Ok(outbox.wire.is_empty() && after == before && same_rows)
 }
 
 #[test]
@@ -230,6 +267,41 @@ fn two_boxes_come_to_hold_the_same(rt: HostRuntime) -> Result<(), Fail> {
     assert_eq!(rt; (held_at(&a, 0).0, held_at(&b, 0).0), (of_a, of_a));
     assert_eq!(rt; (held_at(&a, 1).0, held_at(&b, 1).0), (of_b, of_b));
     assert!(rt; a.entry(2).is_none());
+    Ok(())
+}
+
+#[test]
+fn another_neighbour_at_an_up_port_gets_all_and_is_owed_nothing(
+    rt: HostRuntime,
+) -> Result<(), Fail> {
+    let alloc = rt.alloc();
+    let mut a: Box<dyn Bridge> = Box::new(alloc, PlainBridge::blank(alloc))?;
+    make(alloc, &mut a, 1)?;
+    let mut b: Box<dyn Bridge> = Box::new(alloc, PlainBridge::blank(alloc))?;
+    make(alloc, &mut b, 2)?;
+    greet(alloc, &mut a, &mut b)?;
+    greet(alloc, &mut b, &mut a)?;
+    greet(alloc, &mut a, &mut b)?;
+    greet(alloc, &mut b, &mut a)?;
+    assert_eq!(rt; (a.adjacent(1).state, a.due(1)), (AdjState::Up, false));
+    assert_eq!(rt;
+        (flags_at(&a, 0), flags_at(&a, 1)),
+        ((false, false), (false, true))
+    );
+    assert_eq!(rt; held_at(&a, 0).0.number(), 2);
+    // C's hello when it has heard A's circuit 1.
+    let mut hello = INITIALIZING_HELLO;
+    hello[11] = 3;
+    hello[31] = 3;
+    hello[58] = 1;
+    hear(&mut a, &hello, &mut Outbox::new(alloc))?;
+    assert_eq!(rt; a.adjacent(1).neighbour.mac.bytes, [2, 0, 0, 0, 0, 3]);
+    assert_eq!(rt; (a.adjacent(1).state, a.due(1)), (AdjState::Up, true));
+    assert_eq!(rt;
+        (flags_at(&a, 0), flags_at(&a, 1)),
+        ((true, false), (true, false))
+    );
+    assert_eq!(rt; held_at(&a, 0).0.number(), 3);
     Ok(())
 }
 

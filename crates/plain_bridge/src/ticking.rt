@@ -1,14 +1,13 @@
 //! A second of a bridge.
-ghost use Rattle.std.specs.Prelude.{◌≡◌, ◌≤◌, false, length, OnOk, OnErr, IfOk};
+ghost use Rattle.std.specs.Prelude.{◌≡◌, false, OnOk, OnErr, IfOk};
 ghost use Rattle.lsdb.specs.Database.{any_flags};
-ghost use Rattle.spb_content.specs.Local.{IsLocal};
-ghost use Rattle.bridge_api.specs.Own.{own_of, local_of};
+ghost use Rattle.bridge_api.specs.Own.{own_of};
 ghost use Rattle.bridge_api.specs.Step.{with_wire, Gains};
 ghost use Rattle.bridge_api.specs.Ticking as api;
-ghost use Rattle.plain_bridge.specs.Machine.{view_of, IsReady, IsCurrent, IsAfter};
+ghost use Rattle.plain_bridge.specs.Machine.{view_of, IsReady, IsAfter};
 
 use crate::machine::Machine;
-use crate::ports::{clear_due, clear_leaving, count_down, up_ports};
+use crate::ports::{clear_due, count_down, up_ports};
 use crate::sending::send_all;
 use bridge_api::Outbox;
 use spb_types::NoMemory;
@@ -47,24 +46,14 @@ impl Machine {
         Ok(flags || originated)
     }
 
-    /// The holding counts fall.
+    /// The holding counts fall. Where a neighbour is lost, the body of the own LSP is made anew.
     fn count(&mut self) -> Result<(), NoMemory>
         requires { IsReady self.old }
         ensures { OnOk result (IsAfter (api.counted (view_of self.old)) self.new) }
     {
-        let left = clear_leaving(self.ports.as_slice(), &mut self.db);
-        count_down(&mut self.ports);
-        self.renew_body_if(left)
-    }
-
-    /// Makes the body of the own LSP anew if an Up port changed.
-    fn renew_body_if(&mut self, changed: bool) -> Result<(), NoMemory>
-        requires few { length self.old.ports.items ≤ 32 }
-        requires system { self.old.own.system ≡ self.old.id.system }
-        requires local { IsLocal (local_of (view_of self.old)) }
-        requires kept { changed ≡ false → IsCurrent self.old }
-        ensures { OnOk result (IsAfter (view_of self.old) self.new) }
-    {
-        if changed { self.renew_body() } else { Ok(()) }
+        if count_down(&mut self.ports, &mut self.db) {
+            self.renew_body()?;
+        }
+        Ok(())
     }
 }

@@ -1,6 +1,11 @@
 use Rattle.std.proofs.Common.{◌≡◌, ◌++◌, map, take, drop}
-use Rattle.bridge_api.specs.Ticking.{later}
+use Rattle.std.specs.List.{list_any}
+use Rattle.lsdb.specs.Database.{each}
+use Rattle.bridge_api.specs.Ticking.{later, leaves, leaving_from, parted_all}
 use Rattle.plain_bridge.proofs.ports.count_down.Given as goal
 
-abbrev pub invariant-loop-port : goal.invariant-loop-port
-invariant-loop-port l = l.port-items ≡ map later (take l.port-index l.fn.ports.items) ++ drop l.port-index l.fn.ports.items
+abbrev pub invariant-count : goal.invariant-count
+invariant-count l =
+    (l.ports.items ≡ map later (take l.place l.fn.ports.items) ++ drop l.place l.fn.ports.items)
+    × (l.db ≡ each (λ id e. parted_all (leaving_from 1 (take l.place l.fn.ports.items)) e) l.fn.db)
+    × (l.left ≡ list_any leaves (take l.place l.fn.ports.items))

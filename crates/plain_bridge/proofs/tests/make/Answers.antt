@@ -9,7 +9,7 @@ use Rattle.bridge_api.proofs.Changes.{configured_ports}
 use Rattle.plain_bridge.proofs.tests.make.Goals as goal
 
 pub carrier-requires-clause-port : goal.carrier-requires-clause-port
-carrier-requires-clause-port g c =
+carrier-requires-clause-port g c = λ unfailed.
     let config = c.in_ok-config.config in
     let made : length (g.B.Bridge.view c.configure.new.self).ports ≡ length config.metrics = ap (λ (v : BridgeView). length v.ports) c.in_ok-configure.ensures.view ∙ (ap length (configured_ports config) ∙ length-map config.metrics dark) in
     record { low = omega arith; high = omega (arith, made, c.in_ok-config.ensures.whole.metrics, c.in_ok-config.ensures.port) }

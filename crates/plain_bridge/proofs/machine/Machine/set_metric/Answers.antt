@@ -23,7 +23,7 @@ returns-then-not-is_up c =
     let v = view_of c.args.self.now in
     let port = c.port_at-new.result in
     let there = there_at c.args.self.now c.as_slice.result.now c.args.port port c.as_slice.ensures.value c.port_at-new.ensures in
-    on_ok_weaker c.keep.result (after_same _ _ c.keep.new.self (sym (metered_is v c.args.port c.args.metric port c.requires.port.low (got v c.args.port port c.requires.port there)))) c.keep.ensures
+    after_same _ _ c.keep.new.self (sym (metered_is v c.args.port c.args.metric port c.requires.port.low (got v c.args.port port c.requires.port there))) c.keep.ensures
 
 pub renew_body-requires-clause-local : goal.renew_body-requires-clause-local
 renew_body-requires-clause-local c = metered_local c.args.self.now c.args.port (metered c.args.metric c.port_at-new.result) c.put_port.new.ports c.requires.ready c.requires.metric c.put_port.ensures
