@@ -2,11 +2,11 @@
 //! database, and what one that it hears changes there.
 //!
 //! A PDU has at most 90 entries, in TLVs of 15. CSNPs go over the database once, to list it. PSNPs go over it twice, to list
-//! what is owed and to clear it, where each flag that is cleared takes a binary search. Each entry that is heard takes one
-//! too. After the entries of a CSNP one pass over the database finds what its sender lacks, with a binary search among the
-//! ids that it named for each LSP in its range. Memory is taken for the entries that are listed and the PDUs that are made
-//! of them, for the entries that [`entries_of_snp`] reads, for the sorted ids of a CSNP, and for ids that are entered or
-//! answered.
+//! what is owed and to clear it, where each flag that is cleared takes a binary search. [`entries_of_snp`] goes over the
+//! TLVs of a PDU once. Each entry that is heard takes a binary search too. After the entries of a CSNP one pass over the
+//! database finds what its sender lacks, with a binary search among the ids that it named for each LSP in its range. Memory
+//! is taken for the entries that are listed and the PDUs that are made of them, for the entries that [`entries_of_snp`]
+//! reads, for the sorted ids of a CSNP, and for ids that are entered or answered.
 #![tactic(auto)]
 
 pub use hearing::{hear_csnp, hear_psnp};
