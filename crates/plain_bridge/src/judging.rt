@@ -9,10 +9,7 @@ ghost use Rattle.plain_bridge.specs.Message.{Says};
 
 use isis_pdu::{Csnp, Hello, Lsp, Pdu, Psnp, decode};
 use itag_frames::{Frame, FrameError, classify};
-use spb_tlvs::{ThreeWay, find_tlv, read_three_way};
-
-/// The code of the three-way adjacency (RFC 5303, 3).
-const THREE_WAY: u8 = 240;
+use spb_tlvs::{THREE_WAY_ADJACENCY, ThreeWay, find_tlv, read_three_way};
 
 /// What a frame brings to a bridge.
 #[derive(Clone, Copy, Debug)]
@@ -59,7 +56,7 @@ fn judge_pdu(pdu: &[u8]) -> Message<'_>
 fn judge_hello<'a>(hello: &Hello<'a>) -> Message<'a>
     ensures { Says result (api.by_three_way (hello_of hello.now) (slice_get (values_with 240 hello.now.tlvs.now) 0)) }
 {
-    let Some(value) = find_tlv(hello.tlvs, THREE_WAY, 0) else {
+    let Some(value) = find_tlv(hello.tlvs, THREE_WAY_ADJACENCY, 0) else {
         return Message::Nothing;
     };
     match read_three_way(value) {

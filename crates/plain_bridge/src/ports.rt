@@ -2,7 +2,6 @@
 ghost use Rattle.std.specs.Prelude.{◌≡◌, ◌-◌, ◌≤◌, Bool, true, false, length, map, Some, IfOk, slice_get, slice_set};
 ghost use Rattle.std.specs.List.{AllByRecursion};
 ghost use Rattle.lsdb.specs.Entry.{joined};
-ghost use Rattle.lsdb.specs.Version as lsdb_version;
 ghost use Rattle.lsdb.specs.Database.{each};
 ghost use Rattle.bridge_api.specs.View.{is_port_up, up_from, port_in};
 ghost use Rattle.bridge_api.specs.Config.{dark};
@@ -14,7 +13,7 @@ ghost use Rattle.plain_bridge.specs.Ports.{AreSoundPorts, has_leaving};
 
 use adjacency::{AdjState, Adjacency, Heard};
 use bridge_api::BridgePort;
-use lsdb::{Database, Held, Version};
+use lsdb::Database;
 use spb_tlvs::Neighbour;
 use spb_types::{Attachment, Member, NoMemory, PortSet, SystemId};
 use std::alloc::Global;
@@ -174,19 +173,10 @@ pub(crate) fn join_all(db: &mut Database, port: u8)
 {
     for place in 0..db.len() {
         if let Some(held) = db.at(place) {
-            if !is_absent(held) {
+            if !held.version.is_absent() {
                 let id = held.id;
                 db.set_srm(&id, port, true);
             }
         }
-    }
-}
-
-fn is_absent(held: &Held) -> bool
-    ensures { result ≡ lsdb_version.is_absent held.now.version }
-{
-    match held.version {
-        Version::Absent => true,
-        Version::Live { seq: _, sum: _ } | Version::Dead { seq: _ } => false,
     }
 }
