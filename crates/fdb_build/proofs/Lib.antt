@@ -1,4 +1,4 @@
-pub mod PlacedLemmas
 pub mod RowLemmas
 pub mod AscendLemmas
+pub mod SortLemmas
 pub mod TableLemmas

@@ -1,10 +1,10 @@
 -- The unicast table: its rows are just those of the definition, and they ascend.
-use Rattle.std.proofs.Common.{◌≡◌, ◌≢◌, ℕ, inl, inr, List, [], ◌∷◌, Contains, Option, Some, None, option_map, option_and_then, slice_get, refl, sym, ap, ◌∙◌, subst, Ordering, Less, Equal, nat_cmp}
+use Rattle.std.proofs.Common.{◌≡◌, ℕ, inl, inr, List, [], ◌∷◌, Contains, Option, Some, None, option_map, option_and_then, slice_get, refl, sym, ap, ◌∙◌, subst, Ordering, Less, nat_cmp}
 use Rattle.std.specs.Ordering.{ordering_then}
 use Rattle.std.specs.Cmp.{IsTotalOrder}
 use Rattle.std.proofs.lemmas.Cmp.{nat_cmp_total, nat_list_cmp_total, then_total, on_total, tied_itself}
 use Rattle.spb_types.specs.Ect.{mask_of}
-use Rattle.spb_types.specs.Graph.{IsAmong, IsDistinct, IsBridge, systems_of, port_between, IsValid}
+use Rattle.spb_types.specs.Graph.{IsAmong, IsBridge, systems_of, port_between, IsValid}
 use Rattle.spb_types.specs.Service.{AreVidsApart}
 use Rattle.spb_types.specs.declared.address.SystemId.{SystemId}
 use Rattle.spb_types.specs.declared.graph.Graph.{Graph}
@@ -15,40 +15,12 @@ use Rattle.ect_trees.specs.Best.{IsBest, best_of}
 use Rattle.ect_trees.proofs.Alike.{has_from_contains, contains_from_has}
 use Rattle.ect_trees.proofs.Exists.{best_of_some}
 use Rattle.ect_trees.proofs.Members.{Has, has_flat_map}
-use Rattle.ect_trees.proofs.Placing.{nat_tied, ids_tied}
 use Rattle.fdb_build.specs.Tables.{ascending, mac_cmp, system_cmp, vid_cmp, row_cmp, port_towards, unicast_row, rows_of_vid, unicast_rows, IsUnicast, Ascends, RowsAreTable, TableIsOne}
-use Rattle.fdb_build.proofs.AscendLemmas.{All-has, All-each, ascending_has, has_ascending, Ascends-placed, Ascends-one, Ascends-filter_map, Ascends-flat_map, filter_map_has, has_filter_map, flat_map_has}
-
-systems_total : IsTotalOrder system_cmp
-systems_total = on_total (λ (x : SystemId). x.mac.bytes) nat_list_cmp_total
-
-vids_total : IsTotalOrder vid_cmp
-vids_total = on_total (λ (p : VidPlan). p.vid.value) nat_cmp_total
+use Rattle.fdb_build.proofs.AscendLemmas.{ascending_has, has_ascending, Ascends-ascending, Ascends-one, Ascends-filter_map, Ascends-flat_map, filter_map_has, has_filter_map, flat_map_has}
+use Rattle.fdb_build.proofs.SortLemmas.{systems_total, vids_total, systems_apart, vids_apart}
 
 rows_total : IsTotalOrder row_cmp
 rows_total = then_total (on_total (λ (r : UnicastRow). r.vid.value) nat_cmp_total) (on_total (λ (r : UnicastRow). r.mac.bytes) nat_list_cmp_total)
-
--- lists whose items are apart, put in order, ascend
-systems_ascend : (xs : List SystemId) → IsDistinct xs → Ascends system_cmp (ascending system_cmp xs)
-systems_ascend [] d = tt
-systems_ascend (x ∷ xs) d =
-    Ascends-placed system_cmp systems_total x (ascending system_cmp xs) (All-each (λ y. system_cmp x y ≢ Equal) (ascending system_cmp xs) (λ y i e. d.0 (among y e (has_ascending system_cmp y xs i)))) (systems_ascend xs d.1)
-  where
-    among : (y : SystemId) → system_cmp x y ≡ Equal → Has y xs → IsAmong x xs
-    among y e i =
-        let bytes : x.mac.bytes ≡ y.mac.bytes = ids_tied x.mac.bytes y.mac.bytes e in
-        let same : x ≡ y = λ k. record { mac = record { bytes = bytes k } } in
-        from xs (subst (λ z. Has z xs) (sym same) i)
-      where
-        from : (ys : List SystemId) → Has x ys → IsAmong x ys
-        from [] h = h
-        from (z ∷ zs) (inl k) = inl k
-        from (z ∷ zs) (inr h) = inr (from zs h)
-
-vids_ascend : (ps : List VidPlan) → AreVidsApart ps → Ascends vid_cmp (ascending vid_cmp ps)
-vids_ascend [] d = tt
-vids_ascend (p ∷ ps) d =
-    Ascends-placed vid_cmp vids_total p (ascending vid_cmp ps) (All-each (λ q. vid_cmp p q ≢ Equal) (ascending vid_cmp ps) (λ q i e. All-has (λ r. p.vid.value ≢ r.vid.value) ps d.0 q (has_ascending vid_cmp q ps i) (nat_tied p.vid.value q.vid.value e))) (vids_ascend ps d.1)
 
 -- how a port towards a bridge comes about
 record Route (g : Graph) (mask : ℕ) (me d : SystemId) (port : ℕ) : Type 0 where
@@ -139,7 +111,7 @@ same_then n o = ap (λ c. ordering_then c o) (tied_itself nat_cmp_total n)
 rows_ascend : (g : Graph) (me : SystemId) (vids : List VidPlan) → IsValid g → AreVidsApart vids → Ascends row_cmp (unicast_rows g me vids)
 unfolding unicast_rows
 rows_ascend g me vids valid apart =
-    Ascends-flat_map vid_cmp row_cmp (rows_of_vid g me) each across (ascending vid_cmp vids) (vids_ascend vids apart)
+    Ascends-flat_map vid_cmp row_cmp (rows_of_vid g me) each across (ascending vid_cmp vids) (Ascends-ascending vid_cmp vids_total vids (vids_apart vids apart))
   where
     within : (p : VidPlan) (u v : SystemId) (r s : UnicastRow) → system_cmp u v ≡ Less → unicast_row g me p u ≡ Some r → unicast_row g me p v ≡ Some s → row_cmp r s ≡ Less
     within p u v r s less hr hs =
@@ -148,7 +120,7 @@ rows_ascend g me vids valid apart =
         ap (λ z. row_cmp z s) er ∙ ap (λ z. row_cmp (row_with p u r.port) z) es ∙ same_then p.vid.value (system_cmp u v) ∙ less
 
     each : (p : VidPlan) → Ascends row_cmp (rows_of_vid g me p)
-    each p = Ascends-filter_map system_cmp row_cmp (unicast_row g me p) (within p) (ascending system_cmp (systems_of g.bridges)) (systems_ascend (systems_of g.bridges) valid.apart)
+    each p = Ascends-filter_map system_cmp row_cmp (unicast_row g me p) (within p) (ascending system_cmp (systems_of g.bridges)) (Ascends-ascending system_cmp systems_total (systems_of g.bridges) (systems_apart (systems_of g.bridges) valid.apart))
 
     vid_is : (p : VidPlan) (r : UnicastRow) → Has r (rows_of_vid g me p) → r.vid.value ≡ p.vid.value
     vid_is p r i =
