@@ -6,11 +6,11 @@ use Rattle.std.proofs.lemmas.List.Elements.{Contains-get_or}
 use Rattle.spb_types.specs.Graph.{IsAmong, IsDistinct}
 use Rattle.spb_types.specs.declared.address.SystemId.{SystemId}
 use Rattle.spb_content.specs.declared.content.Content.{Content}
-use Rattle.spb_content.specs.Graph.{Contents, systems_in, said_of, IsReached}
+use Rattle.spb_content.specs.Graph.{Contents, systems_in, said_of, link_said, IsReached}
 use Rattle.spb_content.specs.Building.{mark_at, IsAt, Reaches, kept}
 use Rattle.spb_content.proofs.Members.{Has, has_from_contains}
 use Rattle.spb_content.proofs.Places.{test, found_at, place_for}
-use Rattle.spb_content.proofs.Links.{same_is, reached_said}
+use Rattle.spb_content.proofs.Links.{same_is, reached_said, reached_more}
 
 -- ---- systems that differ
 
@@ -20,7 +20,7 @@ among_has (d ∷ ds) c (inl e) = inl (ap (λ (t : SystemId × Content). t.0) e)
 among_has (d ∷ ds) c (inr h) = inr (among_has ds c h)
 
 -- of systems that differ, each has one content
-one_content : (list : Contents) (c d : SystemId × Content) → IsDistinct (systems_in list) → Has c list → Has d list → c.0 ≡ d.0 → c ≡ d
+pub one_content : (list : Contents) (c d : SystemId × Content) → IsDistinct (systems_in list) → Has c list → Has d list → c.0 ≡ d.0 → c ≡ d
 one_content [] c d apart h k e = absurd h
 one_content (b ∷ bs) c d apart (inl h) (inl k) e = h ∙ sym k
 one_content (b ∷ bs) c d apart (inl h) (inr k) e = absurd (apart.0 (subst (λ x. IsAmong x (systems_in bs)) (sym e ∙ ap (λ (t : SystemId × Content). t.0) h) (among_has bs d k)))
@@ -87,14 +87,16 @@ kept_few (c ∷ cs) (m ∷ ms) = at m (kept_few cs ms)
     at true h = omega (arith, h)
     at false h = omega (arith, h)
 
--- ---- what is reached
+-- ---- what is chosen
 
--- these are the contents of the bridges that `me` reaches
-pub record AreReached (list : Contents) (me : SystemId) (ks : Contents) : Type 0 where
+-- these are the contents of the bridges of which P holds, and P holds along links
+pub record AreChosen (list : Contents) (P : SystemId → Type 0) (ks : Contents) : Type 0 where
+  pub said : (x : SystemId) → P x → IsSome (said_of list x)
+  pub closed : (x y : SystemId) → P x → IsSome (link_said list x y) → P y
   pub has : (c : SystemId × Content) → Has c ks → Has c list
-  pub reached : (c : SystemId × Content) → Has c ks → IsReached list me c.0
+  pub holds : (c : SystemId × Content) → Has c ks → P c.0
   pub bridge : (c : SystemId × Content) → Has c ks → IsSome c.1.inst
-  pub all : (c : SystemId × Content) → Has c list → IsReached list me c.0 → Has c ks
+  pub all : (c : SystemId × Content) → Has c list → P c.0 → Has c ks
   pub apart : IsDistinct (systems_in ks)
   pub few : length ks ≤ length list
 
@@ -122,10 +124,13 @@ reached_kept list me marks c apart h has reached =
     let same = one_content list (get_or list p.0 c) c apart (has_at list p.0 c f.high) has (same_is _ _ (and_parts _ _ f.passes).1) in
     has_kept list marks p.0 c f.high same (h.marked p.0 c.0 p.1 reached)
 
-pub are_reached : (list : Contents) (me : SystemId) (marks : List Bool) → IsDistinct (systems_in list) → Reaches list me marks → AreReached list me (kept list marks)
+-- what is reached is chosen
+pub are_reached : (list : Contents) (me : SystemId) (marks : List Bool) → IsDistinct (systems_in list) → Reaches list me marks → AreChosen list (IsReached list me) (kept list marks)
 are_reached list me marks apart h = record {
+  said = λ x r. reached_said list me x r;
+  closed = λ x y r link. reached_more list me x y r link;
   has = λ c k. (let p = kept_has list marks c k in subst (λ d. Has d list) p.here (has_at list p.place c p.high));
-  reached = λ c k. (kept_reached list me marks c h (kept_has list marks c k)).reached;
+  holds = λ c k. (kept_reached list me marks c h (kept_has list marks c k)).reached;
   bridge = λ c k. (kept_reached list me marks c h (kept_has list marks c k)).bridge;
   all = λ c k r. reached_kept list me marks c apart h k r;
   apart = kept_apart list marks apart;

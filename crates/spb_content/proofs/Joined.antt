@@ -8,35 +8,37 @@ use Rattle.spb_types.specs.Graph.{OneEdge, joins, port_at, cost_among, port_amon
 use Rattle.spb_types.specs.declared.address.SystemId.{SystemId}
 use Rattle.spb_types.specs.declared.graph.Edge.{Edge}
 use Rattle.spb_tlvs.specs.declared.neighbours.Neighbour.{Neighbour}
-use Rattle.spb_content.specs.Graph.{Contents, said_of, link_said, cost_said, port_said, IsReached}
+use Rattle.spb_content.specs.Graph.{Contents, said_of, link_said, cost_said, port_said}
 use Rattle.spb_content.specs.Building.{system_cmp, edge_with, edges_from}
 use Rattle.spb_content.proofs.Members.{Has, has_flat_map, flat_map_has}
-use Rattle.spb_content.proofs.Links.{same_is, same_self, apart_is, entries_of, link_turned, link_of, ends_said, reached_more, listed_in, some_is}
-use Rattle.spb_content.proofs.Chosen.{AreReached, said_has}
+use Rattle.spb_content.proofs.Links.{same_is, same_self, apart_is, entries_of, link_turned, link_of, ends_said, listed_in, some_is}
+use Rattle.spb_content.proofs.Chosen.{AreChosen, said_has}
 use Rattle.spb_content.proofs.Made.{Made, one_below, edge_of_link, from_made, from_at, from_has, made_apart, all_one}
 
 -- ---- the edges of the graph
 
--- these are the edges of the links of reached bridges, each once
-pub record AreEdges (list : Contents) (me : SystemId) (es : List Edge) : Type 0 where
+-- these are the edges of the links of bridges of which P holds, each once
+pub record AreEdges (list : Contents) (P : SystemId → Type 0) (es : List Edge) : Type 0 where
+  pub closed : (x y : SystemId) → P x → IsSome (link_said list x y) → P y
   pub made : (e : Edge) → Has e es → Made list e
-  pub reached : (e : Edge) → Has e es → IsReached list me e.a
-  pub all : (x y : SystemId) (l : Neighbour × Neighbour) → IsReached list me x → is_lt (system_cmp x y) ≡ true → link_said list x y ≡ Some l → Has (edge_with x y l) es
+  pub holds : (e : Edge) → Has e es → P e.a
+  pub all : (x y : SystemId) (l : Neighbour × Neighbour) → P x → is_lt (system_cmp x y) ≡ true → link_said list x y ≡ Some l → Has (edge_with x y l) es
   pub one : OneEdge es
 
-each_has : (list : Contents) (me : SystemId) (ks : Contents) (x y : SystemId) (l : Neighbour × Neighbour) → AreReached list me ks → IsReached list me x → is_lt (system_cmp x y) ≡ true → link_said list x y ≡ Some l → Has (edge_with x y l) (flat_map (edges_from list) ks)
-each_has list me ks x y l h reached low link =
+each_has : (list : Contents) (P : SystemId → Type 0) (ks : Contents) (x y : SystemId) (l : Neighbour × Neighbour) → AreChosen list P ks → P x → is_lt (system_cmp x y) ≡ true → link_said list x y ≡ Some l → Has (edge_with x y l) (flat_map (edges_from list) ks)
+each_has list P ks x y l h holds low link =
     let some : IsSome (link_said list x y) = subst (λ o. IsSome o) (sym link) refl in
     let c = some_is (said_of list x) (ends_said list x y some).0 in
     let n = listed_in list x y c.0 c.1 some in
-    has_flat_map (edges_from list) (x, c.0) (edge_with x y l) ks (h.all (x, c.0) (said_has list x c.0 c.1) reached)
+    has_flat_map (edges_from list) (x, c.0) (edge_with x y l) ks (h.all (x, c.0) (said_has list x c.0 c.1) holds)
     (from_has list (x, c.0) y (edge_with x y l) n.0 n.1 n.2 (edge_of_link list x y l low link))
 
-pub are_edges : (list : Contents) (me : SystemId) (ks : Contents) → AreReached list me ks → AreEdges list me (flat_map (edges_from list) ks)
-are_edges list me ks h = record {
+pub are_edges : (list : Contents) (P : SystemId → Type 0) (ks : Contents) → AreChosen list P ks → AreEdges list P (flat_map (edges_from list) ks)
+are_edges list P ks h = record {
+  closed = h.closed;
   made = λ e k. (let c = flat_map_has (edges_from list) e ks k in from_made list c.0 e c.2);
-  reached = λ e k. (let c = flat_map_has (edges_from list) e ks k in subst (λ x. IsReached list me x) (sym (from_at list c.0 e c.2)) (h.reached c.0 c.1));
-  all = λ x y l r low link. each_has list me ks x y l h r low link;
+  holds = λ e k. (let c = flat_map_has (edges_from list) e ks k in subst P (sym (from_at list c.0 e c.2)) (h.holds c.0 c.1));
+  all = λ x y l r low link. each_has list P ks x y l h r low link;
   one = all_one list ks h.apart;
 }
 
@@ -75,7 +77,7 @@ between list e x y m h =
       | inr p ↦ subst (λ z. Between list e z y) p.1 (subst (λ z. Between list e e.b z) p.0 (between_back list e m))
     ]
 
--- ---- costs and ports
+-- ---- costs and ports, at a bridge of which P holds wherever it has a link
 
 -- a number of the first of the edges that joins x and y
 value_among : (Edge → ℕ) → List Edge → SystemId → SystemId → Option ℕ
@@ -127,14 +129,14 @@ either_way : (b : Bool) → (b || true) ≡ true
 either_way true = refl
 either_way false = refl
 
--- each link of a reached bridge has its edge
-pub link_joined : (list : Contents) (me : SystemId) (es : List Edge) (x y : SystemId) (l : Neighbour × Neighbour) → AreEdges list me es → IsReached list me x → link_said list x y ≡ Some l → Joins es x y
-link_joined list me es x y l h reached link =
+-- each link of such a bridge has its edge
+pub link_joined : (list : Contents) (P : SystemId → Type 0) (es : List Edge) (x y : SystemId) (l : Neighbour × Neighbour) → AreEdges list P es → P x → link_said list x y ≡ Some l → Joins es x y
+link_joined list P es x y l h holds link =
     elim (one_below x y (entries_of list x y l link).apart) [
-      | inl low ↦ record { edge = edge_with x y l; has = h.all x y l reached low link; joins = rw (same_self x, same_self y) refl }
+      | inl low ↦ record { edge = edge_with x y l; has = h.all x y l holds low link; joins = rw (same_self x, same_self y) refl }
       | inr low ↦ record {
         edge = edge_with y x (l.1, l.0);
-        has = h.all y x (l.1, l.0) (reached_more list me x y reached (subst (λ o. IsSome o) (sym link) refl)) low (link_turned list x y l link);
+        has = h.all y x (l.1, l.0) (h.closed x y holds (subst (λ o. IsSome o) (sym link) refl)) low (link_turned list x y l link);
         joins = ap (λ b. (same_system y x && same_system x y) || b) (rw (same_self x, same_self y) refl) ∙ either_way _;
       }
     ]
@@ -143,22 +145,22 @@ map_some : {A B : Type 0} (f : A → B) (o : Option A) → IsSome (option_map f 
 map_some f None h = h
 map_some f (Some a) h = refl
 
-some_joined : (list : Contents) (me : SystemId) (es : List Edge) (x y : SystemId) → AreEdges list me es → IsReached list me x → IsSome (link_said list x y) → Joins es x y
-some_joined list me es x y h reached some = let l = link_of list x y some in link_joined list me es x y l.0 h reached l.1
+some_joined : (list : Contents) (P : SystemId → Type 0) (es : List Edge) (x y : SystemId) → AreEdges list P es → P x → IsSome (link_said list x y) → Joins es x y
+some_joined list P es x y h holds some = let l = link_of list x y some in link_joined list P es x y l.0 h holds l.1
 
-pub costs : (list : Contents) (me : SystemId) (es : List Edge) (x y : SystemId) → AreEdges list me es → IsReached list me x → cost_among es x y ≡ cost_said list x y
-costs list me es x y h reached =
+pub costs : (list : Contents) (P : SystemId → Type 0) (es : List Edge) (x y : SystemId) → AreEdges list P es → (IsSome (link_said list x y) → P x) → cost_among es x y ≡ cost_said list x y
+costs list P es x y h holds =
     costs_are es x y ∙ value_is (λ e. e.cost) es x y (cost_said list x y)
     (λ e k j. (let b = between list e x y (h.made e k) j in ap (option_map (λ l. max l.0.metric l.1.metric)) b.said ∙ ap Some (sym b.cost)))
-    (λ some. some_joined list me es x y h reached (map_some _ (link_said list x y) some))
+    (λ some. (let link = map_some _ (link_said list x y) some in some_joined list P es x y h (holds link) link))
 
-pub ports : (list : Contents) (me : SystemId) (es : List Edge) (x y : SystemId) → AreEdges list me es → IsReached list me x → port_among es x y ≡ port_said list x y
-ports list me es x y h reached =
+pub ports : (list : Contents) (P : SystemId → Type 0) (es : List Edge) (x y : SystemId) → AreEdges list P es → (IsSome (link_said list x y) → P x) → port_among es x y ≡ port_said list x y
+ports list P es x y h holds =
     ports_are es x y ∙ value_is (λ e. port_at e x) es x y (port_said list x y)
     (λ e k j. (let b = between list e x y (h.made e k) j in ap (option_map (λ l. l.0.port)) b.said ∙ ap Some (sym b.port)))
-    (λ some. some_joined list me es x y h reached (map_some _ (link_said list x y) some))
+    (λ some. (let link = map_some _ (link_said list x y) some in some_joined list P es x y h (holds link) link))
 
--- only reached bridges have edges
+-- only such bridges have edges
 some_among : (es : List Edge) (x y : SystemId) → IsSome (cost_among es x y) → Joins es x y
 some_among [] x y h = absurd (true≢false (sym h))
 some_among (e ∷ es) x y h = at (joins e x y) refl h (λ k. some_among es x y k)
@@ -167,13 +169,13 @@ some_among (e ∷ es) x y h = at (joins e x y) refl h (λ k. some_among es x y k
     at true t k r = record { edge = e; has = inl refl; joins = t }
     at false t k r = let j = r k in record { edge = j.edge; has = inr j.has; joins = j.joins }
 
-pub reached_far : (list : Contents) (me : SystemId) (es : List Edge) (e : Edge) → AreEdges list me es → Has e es → IsReached list me e.b
-reached_far list me es e h k = reached_more list me e.a e.b (h.reached e k) (subst (λ o. IsSome o) (sym (h.made e k).said) refl)
+pub holds_far : (list : Contents) (P : SystemId → Type 0) (es : List Edge) (e : Edge) → AreEdges list P es → Has e es → P e.b
+holds_far list P es e h k = h.closed e.a e.b (h.holds e k) (subst (λ o. IsSome o) (sym (h.made e k).said) refl)
 
-pub within : (list : Contents) (me : SystemId) (es : List Edge) (x y : SystemId) → AreEdges list me es → IsSome (cost_among es x y) → IsReached list me x
-within list me es x y h some =
+pub within : (list : Contents) (P : SystemId → Type 0) (es : List Edge) (x y : SystemId) → AreEdges list P es → IsSome (cost_among es x y) → P x
+within list P es x y h some =
     let j = some_among es x y some in
     elim (joins_ends j.edge x y j.joins) [
-      | inl p ↦ subst (λ z. IsReached list me z) p.0 (h.reached j.edge j.has)
-      | inr p ↦ subst (λ z. IsReached list me z) p.1 (reached_far list me es j.edge h j.has)
+      | inl p ↦ subst P p.0 (h.holds j.edge j.has)
+      | inr p ↦ subst P p.1 (holds_far list P es j.edge h j.has)
     ]

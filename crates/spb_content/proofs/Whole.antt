@@ -16,10 +16,10 @@ use Rattle.spb_content.specs.declared.content.Inst.{Inst}
 use Rattle.spb_content.specs.Graph.{Contents, systems_in, said_of, bridge_of, member_of, members_of, IsReached, IsGraphOf, ArePortsApart, HasOwnPorts}
 use Rattle.spb_content.specs.Building.{Reaches, kept, edges_from, graph_among}
 use Rattle.spb_content.proofs.Members.{Has, has_from_contains, contains_from_has, all_has, has_all, has_flat_map, flat_map_has}
-use Rattle.spb_content.proofs.Links.{same_is, same_self, entries_of, said_for, entry_is, some_is, some_same, reached_said}
-use Rattle.spb_content.proofs.Chosen.{AreReached, are_reached, said_has}
+use Rattle.spb_content.proofs.Links.{same_is, same_self, entries_of, said_for, entry_is, some_is, some_same}
+use Rattle.spb_content.proofs.Chosen.{AreChosen, are_reached, said_has}
 use Rattle.spb_content.proofs.Made.{Made}
-use Rattle.spb_content.proofs.Joined.{are_edges, between, costs, ports, within, reached_far}
+use Rattle.spb_content.proofs.Joined.{are_edges, between, costs, ports, within, holds_far}
 
 -- ---- what is there of each content
 
@@ -54,15 +54,15 @@ map_is_some : {A B : Type 0} (f : A → B) (o : Option A) → IsSome o → IsSom
 map_is_some f None h = h
 map_is_some f (Some a) h = refl
 
-pub bridges_are : (list : Contents) (me : SystemId) (ks : Contents) (b : GraphBridge) → AreReached list me ks → Contains (filter_map bridge_of ks) b → Contains (filter_map bridge_of list) b × IsReached list me b.id.system
-bridges_are list me ks b h k =
+pub bridges_are : (list : Contents) (P : SystemId → Type 0) (ks : Contents) (b : GraphBridge) → AreChosen list P ks → Contains (filter_map bridge_of ks) b → Contains (filter_map bridge_of list) b × P b.id.system
+bridges_are list P ks b h k =
     let c = filter_map_has bridge_of b ks (has_from_contains b _ k) in
-    (contains_from_has b _ (has_filter_map bridge_of c.0 b list (h.has c.0 c.1) c.2), subst (λ x. IsReached list me x) (sym (bridge_system c.0 b c.2)) (h.reached c.0 c.1))
+    (contains_from_has b _ (has_filter_map bridge_of c.0 b list (h.has c.0 c.1) c.2), subst P (sym (bridge_system c.0 b c.2)) (h.holds c.0 c.1))
 
-pub are_bridges : (list : Contents) (me : SystemId) (ks : Contents) (b : GraphBridge) → AreReached list me ks → Contains (filter_map bridge_of list) b × IsReached list me b.id.system → Contains (filter_map bridge_of ks) b
-are_bridges list me ks b h k =
+pub are_bridges : (list : Contents) (P : SystemId → Type 0) (ks : Contents) (b : GraphBridge) → AreChosen list P ks → Contains (filter_map bridge_of list) b × P b.id.system → Contains (filter_map bridge_of ks) b
+are_bridges list P ks b h k =
     let c = filter_map_has bridge_of b list (has_from_contains b _ k.0) in
-    contains_from_has b _ (has_filter_map bridge_of c.0 b ks (h.all c.0 c.1 (subst (λ x. IsReached list me x) (bridge_system c.0 b c.2) k.1)) c.2)
+    contains_from_has b _ (has_filter_map bridge_of c.0 b ks (h.all c.0 c.1 (subst P (bridge_system c.0 b c.2) k.1)) c.2)
 
 bridge_among : (bs : List GraphBridge) (b : GraphBridge) → Has b bs → IsAmong b.id.system (systems_of bs)
 bridge_among [] b h = absurd h
@@ -94,11 +94,11 @@ bridges_few (c ∷ cs) = at (bridge_of c) (bridges_few cs)
     at None h = omega (arith, h)
     at (Some b) h = omega (arith, h)
 
--- what is reached is a bridge of the graph
-is_bridge : (list : Contents) (me : SystemId) (ks : Contents) (x : SystemId) → AreReached list me ks → IsReached list me x → IsBridge (graph_among list ks) x
-is_bridge list me ks x h reached =
-    let c = some_is (said_of list x) (reached_said list me x reached) in
-    let k = h.all (x, c.0) (said_has list x c.0 c.1) reached in
+-- where P holds is a bridge of the graph
+is_bridge : (list : Contents) (P : SystemId → Type 0) (ks : Contents) (x : SystemId) → AreChosen list P ks → P x → IsBridge (graph_among list ks) x
+is_bridge list P ks x h holds =
+    let c = some_is (said_of list x) (h.said x holds) in
+    let k = h.all (x, c.0) (said_has list x c.0 c.1) holds in
     let b = some_is (bridge_of (x, c.0)) (map_is_some _ c.0.inst (h.bridge (x, c.0) k)) in
     subst (λ y. IsBridge (graph_among list ks) y) (bridge_system (x, c.0) b.0 b.1) (bridge_among _ b.0 (has_filter_map bridge_of (x, c.0) b.0 ks k b.1))
 
@@ -114,32 +114,32 @@ member_system c m h = at (filter_map_has (member_of c.0) m c.1.services h)
     at : (s : _) × Has s c.1.services × (member_of c.0 s ≡ Some m) → m.system ≡ c.0
     at (s, k, e) = of_test c.0 (_) (record { system = c.0; isid = s.2.isid; vid = s.1 }) refl e
 
-pub members_are : (list : Contents) (me : SystemId) (ks : Contents) (m : Member) → AreReached list me ks → Contains (flat_map members_of ks) m → Contains (flat_map members_of list) m × IsReached list me m.system
-members_are list me ks m h k =
+pub members_are : (list : Contents) (P : SystemId → Type 0) (ks : Contents) (m : Member) → AreChosen list P ks → Contains (flat_map members_of ks) m → Contains (flat_map members_of list) m × P m.system
+members_are list P ks m h k =
     let c = flat_map_has members_of m ks (has_from_contains m _ k) in
-    (contains_from_has m _ (has_flat_map members_of c.0 m list (h.has c.0 c.1) c.2), subst (λ x. IsReached list me x) (sym (member_system c.0 m c.2)) (h.reached c.0 c.1))
+    (contains_from_has m _ (has_flat_map members_of c.0 m list (h.has c.0 c.1) c.2), subst P (sym (member_system c.0 m c.2)) (h.holds c.0 c.1))
 
-pub are_members : (list : Contents) (me : SystemId) (ks : Contents) (m : Member) → AreReached list me ks → Contains (flat_map members_of list) m × IsReached list me m.system → Contains (flat_map members_of ks) m
-are_members list me ks m h k =
+pub are_members : (list : Contents) (P : SystemId → Type 0) (ks : Contents) (m : Member) → AreChosen list P ks → Contains (flat_map members_of list) m × P m.system → Contains (flat_map members_of ks) m
+are_members list P ks m h k =
     let c = flat_map_has members_of m list (has_from_contains m _ k.0) in
-    contains_from_has m _ (has_flat_map members_of c.0 m ks (h.all c.0 c.1 (subst (λ x. IsReached list me x) (member_system c.0 m c.2) k.1)) c.2)
+    contains_from_has m _ (has_flat_map members_of c.0 m ks (h.all c.0 c.1 (subst P (member_system c.0 m c.2) k.1)) c.2)
 
 -- ---- the graph
 
-graph_of_reached : (list : Contents) (me : SystemId) (ks : Contents) → AreReached list me ks → IsGraphOf me list (graph_among list ks)
+graph_of_reached : (list : Contents) (me : SystemId) (ks : Contents) → AreChosen list (IsReached list me) ks → IsGraphOf me list (graph_among list ks)
 graph_of_reached list me ks h =
-    let es = are_edges list me ks h in
+    let es = are_edges list (IsReached list me) ks h in
     record {
-      bridges = λ b. (λ k. bridges_are list me ks b h k, λ k. are_bridges list me ks b h k);
-      costs = λ x y r. costs list me _ x y es r;
-      ports = λ x y r. ports list me _ x y es r;
-      within = λ x y s. within list me _ x y es s;
-      members = λ m. (λ k. members_are list me ks m h k, λ k. are_members list me ks m h k);
+      bridges = λ b. (λ k. bridges_are list _ ks b h k, λ k. are_bridges list _ ks b h k);
+      costs = λ x y r. costs list _ _ x y es (λ l. r);
+      ports = λ x y r. ports list _ _ x y es (λ l. r);
+      within = λ x y s. within list _ _ x y es s;
+      members = λ m. (λ k. members_are list _ ks m h k, λ k. are_members list _ ks m h k);
     }
 
-edge_of_graph : (list : Contents) (me : SystemId) (ks : Contents) (e : Edge) → AreReached list me ks → Has e (flat_map (edges_from list) ks) → IsEdgeOf (graph_among list ks) e
-edge_of_graph list me ks e h k =
-    let es = are_edges list me ks h in
+edge_of_graph : (list : Contents) (P : SystemId → Type 0) (ks : Contents) (e : Edge) → AreChosen list P ks → Has e (flat_map (edges_from list) ks) → IsEdgeOf (graph_among list ks) e
+edge_of_graph list P ks e h k =
+    let es = are_edges list P ks h in
     let m = es.made e k in
     let l = entries_of list e.a e.b m.link m.said in
     let there = said_for list e.a e.b m.link.0 l.there in
@@ -147,20 +147,20 @@ edge_of_graph list me ks e h k =
     let n = entry_is e.b there.content m.link.0 there.entry in
     let o = entry_is e.a back.content m.link.1 back.entry in
     record {
-      from = is_bridge list me ks e.a h (es.reached e k);
-      to = is_bridge list me ks e.b h (reached_far list me _ e es k);
+      from = is_bridge list P ks e.a h (es.holds e k);
+      to = is_bridge list P ks e.b h (holds_far list P _ e es k);
       apart = l.apart;
       low = omega (arith, m.cost, n.low, o.low);
       high = omega (arith, m.cost, n.high, o.high);
     }
 
-valid_reached : (list : Contents) (me : SystemId) (ks : Contents) → length list ≤ 65535 → AreReached list me ks → IsValid (graph_among list ks)
-valid_reached list me ks few h = record {
+pub valid_chosen : (list : Contents) (P : SystemId → Type 0) (ks : Contents) → length list ≤ 65535 → AreChosen list P ks → IsValid (graph_among list ks)
+valid_chosen list P ks few h = record {
   few = omega (arith, bridges_few ks, h.few, few);
   apart = bridges_distinct ks h.apart;
-  edges = has_all (λ e. IsEdgeOf (graph_among list ks) e) (flat_map (edges_from list) ks) (λ e k. edge_of_graph list me ks e h k);
-  one_edge = (are_edges list me ks h).one;
-  members = has_all (λ m. IsBridge (graph_among list ks) m.system) (flat_map members_of ks) (λ m k. is_bridge list me ks m.system h (members_are list me ks m h (contains_from_has m _ k)).1);
+  edges = has_all (λ e. IsEdgeOf (graph_among list ks) e) (flat_map (edges_from list) ks) (λ e k. edge_of_graph list P ks e h k);
+  one_edge = (are_edges list P ks h).one;
+  members = has_all (λ m. IsBridge (graph_among list ks) m.system) (flat_map members_of ks) (λ m k. is_bridge list P ks m.system h (members_are list P ks m h (contains_from_has m _ k)).1);
 }
 
 -- ---- the ports of one bridge
@@ -269,13 +269,13 @@ own_apart list x (e ∷ es) own made one = at (is_at e x) refl (own_apart list x
     )
     at false t r = r
 
-valid_for_reached : (list : Contents) (me : SystemId) (ks : Contents) → length list ≤ 65535 → AreReached list me ks → HasOwnPorts list me → IsValidFor (graph_among list ks) me
-valid_for_reached list me ks few h own =
-    let es = are_edges list me ks h in
+pub valid_for_chosen : (list : Contents) (P : SystemId → Type 0) (ks : Contents) (x : SystemId) → length list ≤ 65535 → AreChosen list P ks → HasOwnPorts list x → IsValidFor (graph_among list ks) x
+valid_for_chosen list P ks x few h own =
+    let es = are_edges list P ks h in
     record {
-      valid = valid_reached list me ks few h;
-      ports = has_all (λ e. (1 ≤ port_at e me) × (port_at e me ≤ 32)) (edges_at (flat_map (edges_from list) ks) me) (λ e k. (let s = at_has (flat_map (edges_from list) ks) me e k in own_port list me e own (es.made e s.0) s.1));
-      ports_apart = own_apart list me (flat_map (edges_from list) ks) own es.made es.one;
+      valid = valid_chosen list P ks few h;
+      ports = has_all (λ e. (1 ≤ port_at e x) × (port_at e x ≤ 32)) (edges_at (flat_map (edges_from list) ks) x) (λ e k. (let s = at_has (flat_map (edges_from list) ks) x e k in own_port list x e own (es.made e s.0) s.1));
+      ports_apart = own_apart list x (flat_map (edges_from list) ks) own es.made es.one;
     }
 
 -- ---- what was built
@@ -301,7 +301,7 @@ pub graph_is : {E : Type 0} (list : Contents) (me : SystemId) (r : Result Graph 
 graph_is list me r apart b = ok_is (IsGraphOf me list) _ r b.is (graph_of_reached list me (kept list b.marks) (are_reached list me b.marks apart b.walked))
 
 pub graph_valid : {E : Type 0} (list : Contents) (me : SystemId) (r : Result Graph E) → IsDistinct (systems_in list) → length list ≤ 65535 → Built list me r → IfOk r IsValid
-graph_valid list me r apart few b = ok_is IsValid _ r b.is (valid_reached list me (kept list b.marks) few (are_reached list me b.marks apart b.walked))
+graph_valid list me r apart few b = ok_is IsValid _ r b.is (valid_chosen list _ (kept list b.marks) few (are_reached list me b.marks apart b.walked))
 
 pub graph_valid_for : {E : Type 0} (list : Contents) (me : SystemId) (r : Result Graph E) → IsDistinct (systems_in list) → length list ≤ 65535 → Built list me r → HasOwnPorts list me → IfOk r (λ g. IsValidFor g me)
-graph_valid_for list me r apart few b own = ok_is (λ g. IsValidFor g me) _ r b.is (valid_for_reached list me (kept list b.marks) few (are_reached list me b.marks apart b.walked) own)
+graph_valid_for list me r apart few b own = ok_is (λ g. IsValidFor g me) _ r b.is (valid_for_chosen list _ (kept list b.marks) me few (are_reached list me b.marks apart b.walked) own)
