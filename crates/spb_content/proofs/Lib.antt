@@ -17,3 +17,4 @@ pub mod Made
 pub mod Put
 pub mod Joined
 pub mod Whole
+pub mod Uncut

@@ -1,5 +1,5 @@
 -- How the graph of contents is built: where each bridge stands, which are reached, and each edge once.
-use Rattle.std.specs.Prelude.{◌≡◌, ℕ, ◌+◌, List, [], ◌∷◌, ◌++◌, length, flat_map, max, Bool, true, false, not, ◌&&◌, Option, Some, None, is_some, option_map, if◌then◌else◌, Contains, count_by, slice_set}
+use Rattle.std.specs.Prelude.{◌≡◌, ℕ, ◌+◌, List, [], ◌∷◌, ◌++◌, length, filter, flat_map, max, Bool, true, false, not, ◌&&◌, Option, Some, None, is_some, option_map, if◌then◌else◌, Contains, count_by, slice_set}
 use Rattle.std.specs.List.{AllByRecursion, filter_map, list_any, slice_index_or}
 use Rattle.std.specs.Option.{option_to_list}
 use Rattle.std.specs.declared.cmp.Ordering.{Ordering}
@@ -138,3 +138,7 @@ graph_among list some = record {
   edges = flat_map (edges_from list) some;
   members = flat_map members_of some;
 }
+
+-- the graph of all that is said, reached or not
+abbrev pub said_graph : Contents → Graph
+said_graph list = graph_among list (filter (λ c. is_some c.1.inst) list)

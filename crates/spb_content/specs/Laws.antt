@@ -2,6 +2,9 @@
 use Rattle.std.specs.Prelude.{◌≡◌, ◌↔◌, ℕ, ◌+◌, ◌≤◌, ◌<◌, ◌^◌, List, length, map, Contains, IsTrue}
 use Rattle.std.specs.List.{AllByRecursion}
 use Rattle.spb_types.specs.Ascending.{Ascends}
+use Rattle.spb_types.specs.Graph.{IsDistinct, IsValid, IsValidFor, cost_between, port_between}
+use Rattle.spb_types.specs.declared.address.SystemId.{SystemId}
+use Rattle.spb_types.specs.declared.graph.Graph.{Graph}
 use Rattle.spb_types.specs.declared.graph.Member.{Member}
 use Rattle.spb_types.specs.declared.service.VidPlan.{VidPlan}
 use Rattle.isis_pdu.specs.declared.kind.Kind.TheVariants as kinds
@@ -11,6 +14,8 @@ use Rattle.spb_tlvs.specs.RoundTrip.{IsMac, IsNeighbour}
 use Rattle.spb_content.specs.declared.local.Local.{Local}
 use Rattle.spb_content.specs.Local.{IsLocal, plan_number, vid_number, isid_number, trees_of, vids_in, isids_in, own_mac, said_by, content_bytes}
 use Rattle.spb_content.specs.Content.{content_in}
+use Rattle.spb_content.specs.Graph.{Contents, systems_in, cost_said, port_said, HasOwnPorts}
+use Rattle.spb_content.specs.Building.{said_graph}
 
 -- what the fields of the types hold
 pub record HasFields (l : Local) : Type 0 where
@@ -72,3 +77,14 @@ pub record Fits (bytes : List ℕ) : Type 0 where
 -- with at most 32 ports, the LSP of a bridge has at most 1,267 bytes
 abbrev pub OwnFits : Type 0
 OwnFits = (l : Local) → IsLocal l → HasFields l → AreConfigured l → length l.neighbours ≤ 32 → Fits (content_bytes l)
+
+-- the graph of all that is said: it is valid, also for each bridge that lists its neighbours at ports of their own, and
+-- its costs and ports are those that are said
+pub record IsWhole (list : Contents) (g : Graph) : Type 0 where
+  pub valid : IsValid g
+  pub valid_for : (x : SystemId) → HasOwnPorts list x → IsValidFor g x
+  pub costs : (x y : SystemId) → cost_between g x y ≡ cost_said list x y
+  pub ports : (x y : SystemId) → port_between g x y ≡ port_said list x y
+
+abbrev pub SaidGraphIsWhole : Type 0
+SaidGraphIsWhole = (list : Contents) → IsDistinct (systems_in list) → length list ≤ 65535 → IsWhole list (said_graph list)
