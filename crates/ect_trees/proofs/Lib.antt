@@ -13,4 +13,6 @@ pub mod Placed
 pub mod Started
 pub mod Masked
 pub mod Steps
+pub mod Joining
+pub mod Reached
 pub mod Alike

@@ -1,5 +1,5 @@
 -- Members of lists: of an ascending list, of a map, a filter, a flat map.
-use Rattle.std.proofs.Common.{◌≡◌, ℕ, Bool, true, false, true≢false, ◌⊎◌, inl, inr, List, [], ◌∷◌, ◌++◌, map, filter, flat_map, if◌then◌else◌, refl, sym, ap, ◌∙◌, subst, is_gt}
+use Rattle.std.proofs.Common.{◌≡◌, ℕ, zero, suc, ◌<◌, Bool, true, false, true≢false, ◌⊎◌, inl, inr, List, [], ◌∷◌, ◌++◌, length, map, filter, flat_map, Contains, get_or, if◌then◌else◌, refl, sym, ap, ◌∙◌, subst, arith, is_gt}
 use Rattle.ect_trees.specs.Key.{id_cmp, placed, ascending}
 
 -- x is an element of the list
@@ -81,3 +81,17 @@ has_ascending z (x ∷ xs) h = has_ascending_at (has_placed z x (ascending xs) h
     has_ascending_at : Has z (x ∷ ascending xs) → (Has z (ascending xs) → Has z xs) → Has z (x ∷ xs)
     has_ascending_at (inl e) r = inl e
     has_ascending_at (inr i) r = inr (r i)
+
+-- what a list contains it has, and the other way round
+has_at : {X : Type 0} (xs : List X) (k : ℕ) (x : X) → k < length xs → get_or xs k x ≡ x → Has x xs
+has_at [] k x l e = absurd (omega (arith, l))
+has_at (y ∷ ys) zero x l e = inl (sym e)
+has_at (y ∷ ys) (suc k) x l e = inr (has_at ys k x (omega (arith, l)) e)
+
+pub has_from_contains : {X : Type 0} (xs : List X) (x : X) → Contains xs x → Has x xs
+has_from_contains xs x c = has_at xs c.0 x c.1 c.2
+
+pub contains_from_has : {X : Type 0} (xs : List X) (x : X) → Has x xs → Contains xs x
+contains_from_has [] x h = absurd h
+contains_from_has (y ∷ ys) x (inl e) = (0, omega arith, sym e)
+contains_from_has (y ∷ ys) x (inr h) = let r = contains_from_has ys x h in (suc r.0, omega (arith, r.1), r.2)

@@ -147,7 +147,7 @@ joined_bridges g x y v s = ends_at (edge_between g x y s)
           | inr i ↦ (subst (λ t. IsBridge g t) i.1 edge.to, subst (λ t. IsBridge g t) i.0 edge.from)
         ]
 
-first_joins : (f e : Edge) (es : List Edge) → AllByRecursion (λ h. joins f h.a h.b ≡ false) es → Has e es → joins f e.a e.b ≡ false
+pub first_joins : (f e : Edge) (es : List Edge) → AllByRecursion (λ h. joins f h.a h.b ≡ false) es → Has e es → joins f e.a e.b ≡ false
 first_joins f e [] v h = absurd h
 first_joins f e (d ∷ es) v (inl i) = subst (λ t. joins f t.a t.b ≡ false) (sym i) v.0
 first_joins f e (d ∷ es) v (inr i) = first_joins f e es v.1 i

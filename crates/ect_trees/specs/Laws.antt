@@ -1,13 +1,14 @@
-use Rattle.std.specs.Prelude.{◌≡◌, ◌↔◌, ◌⊎◌, Contains, ℕ, List, [], ◌∷◌, ◌++◌, reverse, Some, None}
+use Rattle.std.specs.Prelude.{◌≡◌, ◌↔◌, ◌⊎◌, Contains, ℕ, List, [], ◌∷◌, ◌++◌, reverse, Some, None, IsSome}
 use Rattle.std.specs.declared.cmp.Ordering.{Ordering}
 use Rattle.std.specs.Cmp.{IsTotalOrder}
 use Rattle.spb_types.specs.declared.address.SystemId.{SystemId}
 use Rattle.spb_types.specs.declared.graph.Edge.{Edge}
 use Rattle.spb_types.specs.declared.graph.GraphBridge.{GraphBridge}
 use Rattle.spb_types.specs.declared.graph.Graph.{Graph}
-use Rattle.spb_types.specs.Graph.{IsBridge, IsValid}
+use Rattle.spb_types.specs.declared.graph.Member.{Member}
+use Rattle.spb_types.specs.Graph.{IsBridge, IsValid, cost_between, port_between}
 use Rattle.ect_trees.specs.declared.key.PathKey.{PathKey}
-use Rattle.ect_trees.specs.Path.{IsPath}
+use Rattle.ect_trees.specs.Path.{Leads, IsPath}
 use Rattle.ect_trees.specs.Key.{key_of, key_cmp, IsBelow}
 use Rattle.ect_trees.specs.Best.{IsBest, best_of}
 
@@ -91,3 +92,53 @@ pub record AreAlike (g h : Graph) : Type 0 where
 abbrev pub OrderSaysNothing : Type 0
 OrderSaysNothing = (g h : Graph) (mask : ℕ) (a b : SystemId)
     → IsValid g → IsValid h → AreAlike g h → best_of g mask a b ≡ best_of h mask a b
+
+-- ---- what a bridge sees of a graph
+
+-- a reaches x over edges
+abbrev pub IsReached : Graph → SystemId → SystemId → Type 0
+IsReached g a x = (walk : List SystemId) × Leads g a walk x
+
+-- two graphs look alike from a bridge: it reaches the same in both
+pub record LookAlike (g h : Graph) (me : SystemId) : Type 0 where
+  pub start : IsBridge g me ↔ IsBridge h me
+  pub bridges : (b : GraphBridge) → IsReached g me b.id.system → Contains g.bridges b ↔ Contains h.bridges b
+  pub costs : (x y : SystemId) → IsReached g me x → cost_between g x y ≡ cost_between h x y
+  pub ports : (x y : SystemId) → IsReached g me x → port_between g x y ≡ port_between h x y
+  pub members : (m : Member) → IsReached g me m.system → Contains g.members m ↔ Contains h.members m
+
+-- it looks the same back, and the bridge reaches the same bridges in both
+abbrev pub LooksBack : Type 0
+LooksBack = (g h : Graph) (me : SystemId)
+    → IsValid g → LookAlike g h me → LookAlike h g me × ((x : SystemId) → IsReached g me x ↔ IsReached h me x)
+
+-- graphs that look alike from a bridge look alike from each bridge that it reaches
+abbrev pub LooksOn : Type 0
+LooksOn = (g h : Graph) (me x : SystemId) → LookAlike g h me → IsReached g me x → LookAlike g h x
+
+-- the best paths from a bridge are the same in graphs that look alike from it
+abbrev pub SameBest : Type 0
+SameBest = (g h : Graph) (mask : ℕ) (a b : SystemId)
+    → IsValid g → IsValid h → LookAlike g h a → best_of g mask a b ≡ best_of h mask a b
+
+-- g is the part of a graph that `me` reaches
+pub record IsPartOf (whole : Graph) (me : SystemId) (g : Graph) : Type 0 where
+  pub bridges : (b : GraphBridge) → Contains g.bridges b ↔ (Contains whole.bridges b × IsReached whole me b.id.system)
+  pub costs : (x y : SystemId) → IsReached whole me x → cost_between g x y ≡ cost_between whole x y
+  pub ports : (x y : SystemId) → IsReached whole me x → port_between g x y ≡ port_between whole x y
+  pub within : (x y : SystemId) → IsSome (cost_between g x y) → IsReached whole me x
+  pub members : (m : Member) → Contains g.members m ↔ (Contains whole.members m × IsReached whole me m.system)
+
+-- a graph and the part that a bridge reaches look alike from it
+abbrev pub PartLooksAlike : Type 0
+PartLooksAlike = (whole g : Graph) (me : SystemId) → IsPartOf whole me g → LookAlike whole g me
+
+-- graphs that are alike have the same costs and ports
+abbrev pub AlikeHaveSamePorts : Type 0
+AlikeHaveSamePorts = (g h : Graph) (x y : SystemId) → IsValid g → IsValid h → AreAlike g h
+    → (cost_between g x y ≡ cost_between h x y) × (port_between g x y ≡ port_between h x y)
+
+-- and they look alike from every bridge, where they have the same members
+abbrev pub LookAlikeFromEach : Type 0
+LookAlikeFromEach = (g h : Graph) (me : SystemId) → IsValid g → IsValid h → AreAlike g h
+    → ((m : Member) → Contains g.members m ↔ Contains h.members m) → LookAlike g h me

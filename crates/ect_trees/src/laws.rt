@@ -1,5 +1,5 @@
 //! The laws of keys and of best paths. Each is the contract of a function that does nothing.
-ghost use Rattle.ect_trees.specs.Laws.{AreKeysOrdered, KeepsOrder, NoTieIsLeast, BestIsUnique, BestExists, BestOfNone, BestOfSome, BestToItself, BestReversed, FrontIsBest, BackIsBest, OrderSaysNothing};
+ghost use Rattle.ect_trees.specs.Laws.{AreKeysOrdered, KeepsOrder, NoTieIsLeast, BestIsUnique, BestExists, BestOfNone, BestOfSome, BestToItself, BestReversed, FrontIsBest, BackIsBest, OrderSaysNothing, AlikeHaveSamePorts, LookAlikeFromEach, LooksBack, LooksOn, SameBest, PartLooksAlike};
 
 /// Keys are totally ordered, and only equal keys tie.
 pub fn keys_are_ordered()
@@ -51,4 +51,26 @@ pub fn parts_of_best_are_best()
 /// Best paths don't depend on the order of a graph's lists, nor on the order of an edge's ends.
 pub fn order_says_nothing()
     ensures { OrderSaysNothing }
+{}
+
+/// Graphs that are alike have the same costs and ports, and look alike from every bridge.
+pub fn alike_graphs_look_alike()
+    ensures ports { AlikeHaveSamePorts }
+    ensures look { LookAlikeFromEach }
+{}
+
+/// Graphs that look alike from a bridge look alike both ways, and from each bridge that it reaches.
+pub fn looks_are_shared()
+    ensures back { LooksBack }
+    ensures on { LooksOn }
+{}
+
+/// Best paths from a bridge are the same in graphs that look alike from it.
+pub fn best_is_seen_alike()
+    ensures { SameBest }
+{}
+
+/// A graph looks like the part of it that a bridge reaches, seen from that bridge.
+pub fn part_looks_alike()
+    ensures { PartLooksAlike }
 {}

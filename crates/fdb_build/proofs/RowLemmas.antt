@@ -1,4 +1,4 @@
-use Rattle.std.proofs.Common.{◌≡◌, ℕ, zero, suc, ◌+◌, ◌≤◌, ◌<◌, Bool, true, false, true≢false, ◌&&◌, ◌||◌, List, [], ◌∷◌, ◌++◌, length, take, get_or, cond, find, Option, Some, None, option_map, refl, sym, ap, ◌∙◌, arith, if◌then◌else◌}
+use Rattle.std.proofs.Common.{◌≡◌, ℕ, zero, suc, ◌+◌, ◌≤◌, ◌<◌, Bool, true, false, true≢false, ◌&&◌, ◌||◌, List, [], ◌∷◌, ◌++◌, length, take, get_or, Option, Some, None, refl, sym, ap, ◌∙◌, arith, if◌then◌else◌}
 use Rattle.std.specs.List.{AllByRecursion, filter_map}
 use Rattle.std.specs.Option.{option_to_list}
 use Rattle.std.proofs.lemmas.List.{take_more}
@@ -44,15 +44,6 @@ port_among-le (e ∷ es) x y p ports h =
         let same : p ≡ port_at e x = cc in
         omega (arith, same, port.1)
     by false j h rest = rest h
-
--- the port of the first edge that joins them
-pub port_among_find : (es : List Edge) (x y : SystemId) → port_among es x y ≡ option_map (λ e. port_at e x) (find (λ e. joins e x y) es)
-port_among_find [] x y = refl
-port_among_find (e ∷ es) x y = by (joins e x y) (port_among_find es x y)
-  where
-    by : (b : Bool) → port_among es x y ≡ option_map (λ f. port_at f x) (find (λ f. joins f x y) es) → (if b then Some (port_at e x) else port_among es x y) ≡ option_map (λ f. port_at f x) (cond b (Some e) (find (λ f. joins f x y) es))
-    by true h = refl
-    by false h = h
 
 cons_one : {Y : Type 0} (o : Option Y) → filter_map (λ z. z) (o ∷ []) ≡ option_to_list o
 cons_one None = refl

@@ -12,6 +12,7 @@ use Rattle.spb_types.specs.declared.graph.Graph.{Graph}
 use Rattle.spb_types.specs.declared.service.VidPlan.{VidPlan}
 use Rattle.spb_types.specs.declared.tables.UnicastRow.{UnicastRow}
 use Rattle.ect_trees.specs.Best.{IsBest, best_of}
+use Rattle.ect_trees.specs.Laws.{AreAlike, LookAlike}
 
 -- an item put at its place in an ascending list
 abbrev pub placed : {A : Type 0} → (A → A → Ordering) → A → List A → List A
@@ -86,7 +87,19 @@ abbrev pub RowsAreTable : Type 0
 RowsAreTable = (g : Graph) (me : SystemId) (vids : List VidPlan)
     → IsValid g → ArePlans vids → IsUnicastTable g me vids (unicast_rows g me vids)
 
--- there is just one such table, whatever the order of a graph's lists and of the VIDs
+-- there is just one such table
 abbrev pub TableIsOne : Type 0
 TableIsOne = (g : Graph) (me : SystemId) (vids : List VidPlan) (rows others : List UnicastRow)
     → IsUnicastTable g me vids rows → IsUnicastTable g me vids others → rows ≡ others
+
+-- the rows of a bridge are the same in graphs that look alike from it
+abbrev pub SameRows : Type 0
+SameRows = (g h : Graph) (me : SystemId) (vids : List VidPlan)
+    → IsValid g → IsValid h → LookAlike g h me → unicast_rows g me vids ≡ unicast_rows h me vids
+
+-- they don't depend on the order of a graph's lists, nor of an edge's ends, nor of the VIDs
+abbrev pub OrderSaysNothing : Type 0
+OrderSaysNothing = (g h : Graph) (me : SystemId) (vids others : List VidPlan)
+    → IsValid g → IsValid h → AreAlike g h
+    → AreVidsApart vids → AreVidsApart others → ((p : VidPlan) → Contains vids p ↔ Contains others p)
+    → unicast_rows g me vids ≡ unicast_rows h me others

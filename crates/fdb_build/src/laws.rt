@@ -1,12 +1,22 @@
 //! The laws of a bridge's tables. Each is the contract of a function that does nothing.
-ghost use Rattle.fdb_build.specs.Tables.{RowsAreTable, TableIsOne};
+ghost use Rattle.fdb_build.specs.Tables.{RowsAreTable, TableIsOne, SameRows, OrderSaysNothing};
 
 /// The unicast rows that `unicast_rows` computes are just those of the bridges with a best path, each once, ascending.
 pub fn rows_are_table()
     ensures { RowsAreTable }
 {}
 
-/// There is just one such table, whatever the order of the graph's lists and of the VIDs.
+/// There is just one such table.
 pub fn table_is_one()
     ensures { TableIsOne }
+{}
+
+/// The rows of a bridge are the same in graphs that look alike from it.
+pub fn rows_are_seen_alike()
+    ensures { SameRows }
+{}
+
+/// They don't depend on the order of the graph's lists, nor of an edge's ends, nor of the VIDs.
+pub fn order_says_nothing()
+    ensures { OrderSaysNothing }
 {}
