@@ -14,7 +14,7 @@ use Rattle.spb_network.specs.declared.declaration.LinkEnd.{LinkEnd}
 use Rattle.spb_network.specs.declared.lanes.Lanes.{Lanes}
 use Rattle.spb_network.specs.declared.way.Way.{Way}
 use Rattle.spb_network.specs.World.{World, things_of, Sound}
-use Rattle.spb_network.specs.Lanes.{changed_lane, rest, no_frames}
+use Rattle.spb_network.specs.Lanes.{changed_lane, rest, no_frames, IsIn}
 use Rattle.spb_network.specs.Declaring.{with_live}
 use Rattle.spb_network.specs.State.{State, changed_at, links_of, far_end, is_at, way_out, lane_at, with_frames, lane_of}
 use Rattle.spb_network.specs.Events.{stepped, ticked, heard_over, delivered_front, delivered, lost, doubled, carried, carried_over, flushed, switched_off, switched_on, ticked_from, delivered_times, lane_served, served_from, one_round, rounds, first_full_from, delivered_over, delivered_first, drained}
@@ -22,7 +22,6 @@ use Rattle.spb_network.specs.Sound.{AreShort, is_lit, AreLit, AreMetered, IsSoun
 use Rattle.spb_network.proofs.WorldLemmas.{switched-none}
 use Rattle.spb_network.proofs.FitsLemmas.{IsAlike, alike_itself, alike_with_frames, alike_flushed, link_there}
 use Rattle.spb_network.proofs.SoundLaws.{is_carrier}
-use Rattle.spb_network.proofs.SoundLane.{IsIn}
 use Rattle.spb_network.proofs.SoundWays.{turned, near-turned, way_of_end}
 use Rattle.spb_network.proofs.SoundMoves.{IsCore, Comes}
 use Rattle.spb_network.proofs.SoundSteps.{short_rest, short_lost, short_doubled, short_flushed, in_got, in_rest, in_lost, in_doubled, in_changed, in_flushed, flushed_lane, world-sent_all, views-sent_all, core_stepped, core_fewer, core_with_live}

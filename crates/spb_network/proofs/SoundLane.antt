@@ -17,14 +17,10 @@ use Rattle.bridge_api.specs.View.{BridgeView, neighbour_at, is_up_at}
 use Rattle.bridge_api.specs.Judging.{Judged, useless, greeting, link_state, complete, partial, tenant, judged}
 use Rattle.bridge_api.specs.Step.{Input, second, frame, carrier, metric, step, sent}
 use Rattle.bridge_api.specs.Laws.{IsInput, IsSoundView, IsHeard, IsSent, IsHelloOf, IsFrameOf, greeter, port_of, claims_of}
+use Rattle.spb_network.specs.Lanes.{IsIn}
 use Rattle.spb_network.specs.Sound.{end_at, IsHelloTo, IsSaid, IsFollowed, Agrees}
 use Rattle.spb_network.proofs.BridgeLaws.{steps_keep_bridge, steps_keep_neighbours, steps_stay_sound, frames_are_sound, up_ports_are_up, steps_carry_database}
 use Rattle.spb_network.proofs.SoundLaws.{sent_second}
-
--- a frame is one of a lane's
-abbrev pub IsIn : Frame → List Frame → Type 0
-IsIn f [] = ⊥
-IsIn f (g ∷ gs) = (f ≡ g) ⊎ IsIn f gs
 
 pub All-in : (P : Frame → Type 0) (fs : List Frame) (f : Frame) → AllByRecursion P fs → IsIn f fs → P f
 All-in P [] f all among = absurd among

@@ -12,12 +12,13 @@ use Rattle.spb_network.specs.declared.declaration.DeclaredLink.{DeclaredLink}
 use Rattle.spb_network.specs.declared.lanes.Lanes.{Lanes}
 use Rattle.spb_network.specs.declared.way.Way.{Way}
 use Rattle.spb_network.specs.World.{World, things_of, Sound}
+use Rattle.spb_network.specs.Lanes.{IsIn}
 use Rattle.spb_network.specs.State.{State, links_of, is_live, near_end, far_end, way_out, lane_of}
 use Rattle.spb_network.specs.Network.{Fits}
 use Rattle.spb_network.specs.Sound.{AreDistinct, AreShort, IsShown, AreShown, IsSaid, Agrees, AllAgree, AreIdle}
 use Rattle.spb_network.proofs.BoxLemmas.{All-get}
 use Rattle.spb_network.proofs.FitsLemmas.{IsAlike, Fits-alike, link_there, far_is_port}
-use Rattle.spb_network.proofs.SoundLane.{some-is, IsIn, moved, sent_by, moved_same, AreInputs, moved_sound, IsMove, agrees_moved}
+use Rattle.spb_network.proofs.SoundLane.{some-is, moved, sent_by, moved_same, AreInputs, moved_sound, IsMove, agrees_moved}
 use Rattle.spb_network.proofs.SoundWays.{turned, way_of_end, LeadsFrom, way_leads}
 
 -- what is sound of a state, but for carrier, which comes and goes at one end of a link after the other
