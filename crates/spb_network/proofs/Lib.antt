@@ -17,6 +17,7 @@ pub mod SoundMoves
 pub mod SoundSteps
 pub mod SoundCarrier
 pub mod SoundMetrics
+pub mod SoundAttached
 pub mod SoundEvents
 pub mod SoundDeclaring
 pub mod SoundLinks

@@ -49,11 +49,10 @@ pub record IsStill (v w : BridgeView) : Type 0 where
   pub id : w.id ≡ v.id
   pub source : w.source ≡ v.source
   pub vids : w.vids ≡ v.vids
-  pub attached : w.attached ≡ v.attached
 
 pub moved_same : (x : Option Input) (v : BridgeView) → IsStill v (moved x v)
-moved_same None v = record { id = refl; source = refl; vids = refl; attached = refl }
-moved_same (Some input) v = let same = steps_keep_bridge input v in record { id = same.id; source = same.source; vids = same.vids; attached = same.attached }
+moved_same None v = record { id = refl; source = refl; vids = refl }
+moved_same (Some input) v = let same = steps_keep_bridge input v in record { id = same.id; source = same.source; vids = same.vids }
 
 -- what comes, if something does, is an input
 abbrev pub AreInputs : Option Input → Type 0

@@ -80,7 +80,7 @@ moves_shown w links o views views' lanes lanes' move shown i v b at declared =
     let was = got_mapped (moved (o i)) (slice_get views i) v (sym (move.bridges i) ∙ at) in
     let same = moved_same (o i) was.0 in
     let before : IsShown w.vids b was.0 = shown i was.0 b was.1 declared in
-    subst (IsShown w.vids b) (sym was.2) (record { id = same.id ∙ before.id; source = same.source ∙ before.source; vids = same.vids ∙ before.vids; attached = same.attached ∙ before.attached })
+    subst (IsShown w.vids b) (sym was.2) (record { id = same.id ∙ before.id; source = same.source ∙ before.source; vids = same.vids ∙ before.vids })
 
 moves_idle : (links : List DeclaredLink) (o : ℕ → Option Input) (views views' : List BridgeView) (lanes lanes' : List Lanes) → Moves links o views views' lanes lanes' → AreIdle links lanes → AreIdle links lanes'
 moves_idle links o views views' lanes lanes' move idle k dir dead =
