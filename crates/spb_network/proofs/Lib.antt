@@ -26,6 +26,7 @@ pub mod SoundConfigured
 pub mod SoundNames
 pub mod SoundPlay
 pub mod SoundWitness
+pub mod Wired
 pub mod RoundLemmas
 pub mod ConfigLemmas
 pub mod PortLemmas

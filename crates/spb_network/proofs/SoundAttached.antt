@@ -1,5 +1,5 @@
 -- What is attached to each bridge is what is attached in the world.
-use Rattle.std.proofs.Common.{◌≡◌, inl, inr, ℕ, List, ap, ◌∙◌}
+use Rattle.std.proofs.Common.{inl, inr, ℕ, List, ap, ◌∙◌}
 use Rattle.bridge_api.specs.View.{BridgeView}
 use Rattle.bridge_api.specs.Step.{Input, step}
 use Rattle.spb_network.specs.World.{World}

@@ -10,3 +10,4 @@ pub mod Refusing
 pub mod Play
 pub mod Applying
 pub mod SoundLaws
+pub mod WiringLaws
