@@ -27,6 +27,8 @@ pub mod SoundNames
 pub mod SoundPlay
 pub mod SoundWitness
 pub mod Wired
+pub mod SentLanes
+pub mod Delivered
 pub mod RoundLemmas
 pub mod ConfigLemmas
 pub mod PortLemmas

@@ -11,3 +11,4 @@ pub mod Play
 pub mod Applying
 pub mod SoundLaws
 pub mod WiringLaws
+pub mod DeliveryLaws
