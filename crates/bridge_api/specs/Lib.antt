@@ -1,4 +1,5 @@
 pub mod View
+pub mod Shown
 pub mod Own
 pub mod Config
 pub mod Judging

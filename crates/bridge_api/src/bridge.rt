@@ -13,45 +13,39 @@ use spb_types::NoMemory;
 /// the outbox may have gained the first of that call's frames.
 pub trait Bridge: Drop {
     ghost use Rattle.std.specs.Prelude.{◌≡◌, Bool, true, false, OnOk, OnErr, IsErr, Some};
-    ghost use Rattle.bridge_api.specs.declared.kind.Kind.{Kind};
     ghost use Rattle.std.specs.Option.{option_map, option_copied};
     ghost use Rattle.lsdb.specs.Database.{keyed};
-    ghost use Rattle.bridge_api.specs.View.{BridgeView, IsPort, port_at, is_due_at, adjacency_at, has_flags, entry_at};
+    ghost use Rattle.bridge_api.specs.Shown.{Shown};
+    ghost use Rattle.bridge_api.specs.View.{IsPort, port_at, is_due_at, adjacency_at, has_flags, entry_at};
     ghost use Rattle.bridge_api.specs.Config.{IsWhole, IsMetric, configured};
     ghost use Rattle.bridge_api.specs.Hearing.{after_receive, with_carrier, with_metric};
     ghost use Rattle.bridge_api.specs.Ticking.{after_tick, sent_in_tick};
     ghost use Rattle.bridge_api.specs.Step.{with_wire, Gains};
 
-    /// The kind of the box, which never changes.
-    ghost kind_of: { Self → Kind };
-
-    /// Whether the bridge wasn't configured yet.
-    ghost blank: { Self → Bool };
-
-    /// The bridge as it is seen from outside. Of a blank one it says nothing but that it isn't failed.
-    ghost view: { Self → BridgeView };
+    /// What is seen of the box: its kind, whether it is blank, and the bridge in it.
+    ghost shown: { Self → Shown };
 
     /// The kind of this implementation.
     fn kind(&self) -> Kind
-        ensures { result ≡ kind_of self.now };
+        ensures { result ≡ (shown self.now).kind };
 
     /// Whether `configure` was never called.
     fn is_blank(&self) -> bool
-        ensures { result ≡ blank self.now };
+        ensures { result ≡ (shown self.now).blank };
 
     /// Whether a call answered `NoMemory`. A blank bridge isn't failed.
     fn is_failed(&self) -> bool
-        ensures failed { result ≡ (view self.now).failed }
-        ensures made { result ≡ true → blank self.now ≡ false };
+        ensures failed { result ≡ (shown self.now).view.failed }
+        ensures made { result ≡ true → (shown self.now).blank ≡ false };
 
     /// Makes the blank bridge that of a whole configuration. There is no carrier afterwards.
     fn configure(&mut self, config: &BridgeConfig) -> Result<(), NoMemory>
-        requires blank { blank self.old ≡ true }
+        requires blank { (shown self.old).blank ≡ true }
         requires whole { IsWhole config.now }
-        ensures view { OnOk result (view self.new ≡ configured config.now) }
-        ensures memory { OnErr result ((view self.new).failed ≡ true) }
-        ensures made { blank self.new ≡ false }
-        ensures kind { kind_of self.new ≡ kind_of self.old };
+        ensures view { OnOk result ((shown self.new).view ≡ configured config.now) }
+        ensures memory { OnErr result ((shown self.new).view.failed ≡ true) }
+        ensures made { (shown self.new).blank ≡ false }
+        ensures kind { (shown self.new).kind ≡ (shown self.old).kind };
 
     /// A second passes, in four steps (ISO/IEC 10589, 7.3.15 and 7.3.16). The holding counts fall, and at 0 a port goes
     /// Down. The lifetimes of what is held fall, and at 0 an LSP is dead and is sent at every Up port. The bridge originates
@@ -59,81 +53,77 @@ pub trait Bridge: Drop {
     /// carrier, in ascending order, a hello, and at an Up one the CSNPs if they are due, the LSPs with SRM there, and PSNPs
     /// of those with SSN there.
     fn tick(&mut self, outbox: &mut Outbox) -> Result<(), NoMemory>
-        requires { blank self.old ≡ false }
-        ensures view { OnOk result (view self.new ≡ after_tick (view self.old)) }
-        ensures sent { OnOk result (outbox.new ≡ with_wire (sent_in_tick (view self.old)) outbox.old) }
-        ensures memory { OnErr result ((view self.new).failed ≡ true) }
-        ensures gained { OnErr result (Gains (sent_in_tick (view self.old)) outbox.old outbox.new) }
-        ensures failed { (view self.old).failed ≡ true → IsErr result × (view self.new ≡ view self.old) × (outbox.new ≡ outbox.old) }
-        ensures made { blank self.new ≡ false }
-        ensures kind { kind_of self.new ≡ kind_of self.old };
+        requires { (shown self.old).blank ≡ false }
+        ensures view { OnOk result ((shown self.new).view ≡ after_tick (shown self.old).view) }
+        ensures sent { OnOk result (outbox.new ≡ with_wire (sent_in_tick (shown self.old).view) outbox.old) }
+        ensures memory { OnErr result ((shown self.new).view.failed ≡ true) }
+        ensures gained { OnErr result (Gains (sent_in_tick (shown self.old).view) outbox.old outbox.new) }
+        ensures failed { (shown self.old).view.failed ≡ true → IsErr result × ((shown self.new).view ≡ (shown self.old).view) × (outbox.new ≡ outbox.old) }
+        ensures made { (shown self.new).blank ≡ false }
+        ensures kind { (shown self.new).kind ≡ (shown self.old).kind };
 
     /// Hears a frame, which may be any bytes, at a port. A frame of no use, or at a port without carrier, is dropped and
     /// changes nothing. A hello moves the adjacency (RFC 5303, 3.2): where the port leaves Up its flags are cleared, and where
     /// it enters Up every LSP is to be sent there and CSNPs are due. LSPs and sequence numbers PDUs are heard only at a port
     /// that is Up (ISO/IEC 10589, 7.3.15). Afterwards the bridge originates if it has something else to say.
     fn receive(&mut self, port: u8, frame: &[u8], outbox: &mut Outbox) -> Result<(), NoMemory>
-        requires made { blank self.old ≡ false }
-        requires port { (view self.old).failed ≡ false → IsPort (view self.old) port }
-        ensures view { OnOk result (view self.new ≡ after_receive port frame.now (view self.old)) }
+        requires made { (shown self.old).blank ≡ false }
+        requires port { (shown self.old).view.failed ≡ false → IsPort (shown self.old).view port }
+        ensures view { OnOk result ((shown self.new).view ≡ after_receive port frame.now (shown self.old).view) }
         ensures sent { outbox.new ≡ outbox.old }
-        ensures memory { OnErr result ((view self.new).failed ≡ true) }
-        ensures failed { (view self.old).failed ≡ true → IsErr result × (view self.new ≡ view self.old) }
-        ensures still_made { blank self.new ≡ false }
-        ensures kind { kind_of self.new ≡ kind_of self.old };
+        ensures memory { OnErr result ((shown self.new).view.failed ≡ true) }
+        ensures failed { (shown self.old).view.failed ≡ true → IsErr result × ((shown self.new).view ≡ (shown self.old).view) }
+        ensures still_made { (shown self.new).blank ≡ false }
+        ensures kind { (shown self.new).kind ≡ (shown self.old).kind };
 
     /// Carrier comes or goes at a port. Where it goes, the port is Down and its flags are cleared; the bridge originates if it
     /// has something else to say.
     fn carrier(&mut self, port: u8, on: bool) -> Result<(), NoMemory>
-        requires made { blank self.old ≡ false }
-        requires port { (view self.old).failed ≡ false → IsPort (view self.old) port }
-        ensures view { OnOk result (view self.new ≡ with_carrier port on (view self.old)) }
-        ensures memory { OnErr result ((view self.new).failed ≡ true) }
-        ensures failed { (view self.old).failed ≡ true → IsErr result × (view self.new ≡ view self.old) }
-        ensures still_made { blank self.new ≡ false }
-        ensures kind { kind_of self.new ≡ kind_of self.old };
+        requires made { (shown self.old).blank ≡ false }
+        requires port { (shown self.old).view.failed ≡ false → IsPort (shown self.old).view port }
+        ensures view { OnOk result ((shown self.new).view ≡ with_carrier port on (shown self.old).view) }
+        ensures memory { OnErr result ((shown self.new).view.failed ≡ true) }
+        ensures failed { (shown self.old).view.failed ≡ true → IsErr result × ((shown self.new).view ≡ (shown self.old).view) }
+        ensures still_made { (shown self.new).blank ≡ false }
+        ensures kind { (shown self.new).kind ≡ (shown self.old).kind };
 
     /// Sets the metric of the link at a port, from 1 to 16,777,214 (RFC 5305, 3). The bridge originates if it has something
     /// else to say.
     fn set_metric(&mut self, port: u8, metric: u32) -> Result<(), NoMemory>
-        requires made { blank self.old ≡ false }
-        requires port { (view self.old).failed ≡ false → IsPort (view self.old) port }
+        requires made { (shown self.old).blank ≡ false }
+        requires port { (shown self.old).view.failed ≡ false → IsPort (shown self.old).view port }
         requires metric { IsMetric metric }
-        ensures view { OnOk result (view self.new ≡ with_metric port metric (view self.old)) }
-        ensures memory { OnErr result ((view self.new).failed ≡ true) }
-        ensures failed { (view self.old).failed ≡ true → IsErr result × (view self.new ≡ view self.old) }
-        ensures still_made { blank self.new ≡ false }
-        ensures kind { kind_of self.new ≡ kind_of self.old };
+        ensures view { OnOk result ((shown self.new).view ≡ with_metric port metric (shown self.old).view) }
+        ensures memory { OnErr result ((shown self.new).view.failed ≡ true) }
+        ensures failed { (shown self.old).view.failed ≡ true → IsErr result × ((shown self.new).view ≡ (shown self.old).view) }
+        ensures still_made { (shown self.new).blank ≡ false }
+        ensures kind { (shown self.new).kind ≡ (shown self.old).kind };
 
     /// The adjacency at a port.
     fn adjacent(&self, port: u8) -> Adjacency
-        requires made { blank self.now ≡ false }
-        requires port { IsPort (view self.now) port }
-        ensures { Some result ≡ adjacency_at (view self.now) port };
+        requires made { (shown self.now).blank ≡ false }
+        requires port { IsPort (shown self.now).view port }
+        ensures { Some result ≡ adjacency_at (shown self.now).view port };
 
     /// Whether CSNPs are to be sent at a port at the next tick.
     fn due(&self, port: u8) -> bool
-        requires made { blank self.now ≡ false }
-        requires port { IsPort (view self.now) port }
-        ensures { result ≡ is_due_at (view self.now) port };
+        requires made { (shown self.now).blank ≡ false }
+        requires port { IsPort (shown self.now).view port }
+        ensures { result ≡ is_due_at (shown self.now).view port };
 
     /// Whether an LSP is to be sent, acknowledged or asked for at any port (SRM and SSN), or CSNPs are due at one.
     fn has_flag(&self) -> bool
-        requires { blank self.now ≡ false }
-        ensures { result ≡ has_flags (view self.now) };
+        requires { (shown self.now).blank ≡ false }
+        ensures { result ≡ has_flags (shown self.now).view };
 
     /// What is held at a place, counted from 0, in order of LSP id; None exactly past the last.
     fn entry(&self, place: usize) -> Option<&Held>
-        requires { blank self.now ≡ false }
-        ensures { option_map keyed (option_copied result) ≡ entry_at (view self.now) place };
+        requires { (shown self.now).blank ≡ false }
+        ensures { option_map keyed (option_copied result) ≡ entry_at (shown self.now).view place };
 }
 
 impl Bridge for Box<dyn Bridge> {
-    ghost kind_of = { λ b. (Bridge-box b).kind_of b.value };
-
-    ghost blank = { λ b. (Bridge-box b).blank b.value };
-
-    ghost view = { λ b. (Bridge-box b).view b.value };
+    ghost shown = { λ b. (Bridge-box b).shown b.value };
 
     fn kind(&self) -> Kind {
         (**self).kind()

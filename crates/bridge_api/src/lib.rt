@@ -3,7 +3,7 @@
 //!
 //! The trait says of each call which bridge it leaves and what it sends, as one step of the machine that `specs/`
 //! defines, so all implementations do the same. A network reaches its bridges through the trait alone. `Box<dyn Bridge>`
-//! is a `Bridge` too, so code over any `B: Bridge` serves boxes of mixed kinds. Its clauses speak of `B.view`; for a
+//! is a `Bridge` too, so code over any `B: Bridge` serves boxes of mixed kinds. Its clauses speak of `B.shown`; for a
 //! list of bridges `specs/Among.antt` has the words, and `proofs/Listed.antt` the lemmas.
 //!
 //! # Another implementation
@@ -13,7 +13,7 @@
 //! 1. Write a struct that keeps what it likes, and an `impl Model` for it. The model's value is a record of what the
 //!    fields say, and its invariant what the fields have to meet, such as that each port's adjacency is sound. A
 //!    constructor `blank` gives a bridge that is blank and not failed.
-//! 2. In `impl Bridge`, define `kind_of`, `blank` and `view` as functions of that value. `view` gives a `BridgeView`, in
+//! 2. In `impl Bridge`, define `shown` as a function of that value (`specs/Shown.antt`). Its `view` is a `BridgeView`, in
 //!    which a part that isn't kept yet is as after `configure`.
 //! 3. Do the work of each call in a private function, which answers by `?`. Where it answers `Ok`, its contract names the
 //!    view afterwards, such as `after_tick`, and the frames, such as `sent_in_tick`. The trait's call tests first whether

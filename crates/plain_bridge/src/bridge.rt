@@ -56,11 +56,7 @@ impl Bridge for PlainBridge {
     ghost use Rattle.bridge_api.specs.declared.kind.Kind.TheVariants.{Plain};
     ghost use Rattle.plain_bridge.specs.Plain.{seen};
 
-    ghost kind_of = { λ _. Plain };
-
-    ghost blank = { λ b. b.blank };
-
-    ghost view = { λ b. seen b };
+    ghost shown = { λ b. record { kind = Plain; blank = b.blank; view = seen b } };
 
     fn kind(&self) -> Kind {
         Kind::Plain

@@ -1,8 +1,9 @@
 //! Bridges in boxes, called through the trait alone: A and B, each with one port, at the two ends of a link.
-ghost use Rattle.std.specs.Prelude.{◌≡◌, ◌≤◌, ◌<◌, true, false, length, map, vec_len, All, IfOk, OnOk};
+ghost use Rattle.std.specs.Prelude.{◌≡◌, ◌≤◌, ◌<◌, true, false, length, vec_len, All, IfOk, OnOk};
 ghost use Rattle.bridge_api.specs.Config.{IsWhole};
 ghost use Rattle.bridge_api.specs.Step.{second, with_wire};
 ghost use Rattle.bridge_api.specs.Among.{stepped_at, sent_from_place};
+ghost use Rattle.bridge_api.specs.Shown.{views_of};
 
 use crate::PlainBridge;
 use adjacency::AdjState;
@@ -60,9 +61,9 @@ fn config(alloc: Global, last: u8) -> Result<BridgeConfig, NoMemory>
 
 /// Makes a blank bridge that of the configuration, with carrier at its port.
 fn make<B: Bridge>(alloc: Global, bridge: &mut B, last: u8) -> Result<(), NoMemory>
-    requires { B.blank bridge.old ≡ true }
-    ensures made { OnOk result (B.blank bridge.new ≡ false) }
-    ensures port { OnOk result (1 ≤ length (B.view bridge.new).ports) }
+    requires { (B.shown bridge.old).blank ≡ true }
+    ensures made { OnOk result ((B.shown bridge.new).blank ≡ false) }
+    ensures port { OnOk result (1 ≤ length (B.shown bridge.new).view.ports) }
 {
     let config = config(alloc, last)?;
     bridge.configure(&config)?;
@@ -71,13 +72,13 @@ fn make<B: Bridge>(alloc: Global, bridge: &mut B, last: u8) -> Result<(), NoMemo
 
 /// A second passes at `from`, and all that it sends comes to the port 1 of `to`.
 fn greet<B: Bridge>(alloc: Global, from: &mut B, to: &mut B) -> Result<(), NoMemory>
-    requires from { B.blank from.old ≡ false }
-    requires to { B.blank to.old ≡ false }
-    requires port { 1 ≤ length (B.view to.old).ports }
-    ensures from { B.blank from.new ≡ false }
-    ensures from_port { OnOk result (length (B.view from.new).ports ≡ length (B.view from.old).ports) }
-    ensures to { B.blank to.new ≡ false }
-    ensures to_port { OnOk result (length (B.view to.new).ports ≡ length (B.view to.old).ports) }
+    requires from { (B.shown from.old).blank ≡ false }
+    requires to { (B.shown to.old).blank ≡ false }
+    requires port { 1 ≤ length (B.shown to.old).view.ports }
+    ensures from { (B.shown from.new).blank ≡ false }
+    ensures from_port { OnOk result (length (B.shown from.new).view.ports ≡ length (B.shown from.old).view.ports) }
+    ensures to { (B.shown to.new).blank ≡ false }
+    ensures to_port { OnOk result (length (B.shown to.new).view.ports ≡ length (B.shown to.old).view.ports) }
 {
     let mut outbox = Outbox::new(alloc);
     from.tick(&mut outbox)?;
@@ -89,8 +90,8 @@ fn greet<B: Bridge>(alloc: Global, from: &mut B, to: &mut B) -> Result<(), NoMem
 
 /// Seconds pass at a bridge, and what it sends is lost.
 fn pass<B: Bridge>(alloc: Global, bridge: &mut B, seconds: u16) -> Result<(), NoMemory>
-    requires { B.blank bridge.old ≡ false }
-    ensures { B.blank bridge.new ≡ false }
+    requires { (B.shown bridge.old).blank ≡ false }
+    ensures { (B.shown bridge.new).blank ≡ false }
 {
     'pass: for _ in 0..seconds {
         bridge.tick(&mut Outbox::new(alloc))?;
@@ -100,7 +101,7 @@ fn pass<B: Bridge>(alloc: Global, bridge: &mut B, seconds: u16) -> Result<(), No
 
 /// The version and the lifetime that a bridge holds at a place.
 fn held_at<B: Bridge>(bridge: &B, place: usize) -> (Version, u16)
-    requires { B.blank bridge.now ≡ false }
+    requires { (B.shown bridge.now).blank ≡ false }
 {
     match bridge.entry(place) {
         Some(held) => (held.version, held.lifetime),
@@ -115,27 +116,27 @@ fn tick_at<B: Bridge>(
     outbox: &mut Outbox,
 ) -> Result<(), NoMemory>
     requires place { place < vec_len bridges.old }
-    requires made { All (λ b. B.blank b ≡ false) bridges.old.items }
-    ensures views { OnOk result (map B.view bridges.new.items ≡ stepped_at second place (map B.view bridges.old.items)) }
-    ensures sent { OnOk result (outbox.new ≡ with_wire (sent_from_place second place (map B.view bridges.old.items)) outbox.old) }
-    ensures still_made { All (λ b. B.blank b ≡ false) bridges.new.items }
+    requires made { All (λ b. (B.shown b).blank ≡ false) bridges.old.items }
+    ensures views { OnOk result (views_of B.shown bridges.new.items ≡ stepped_at second place (views_of B.shown bridges.old.items)) }
+    ensures sent { OnOk result (outbox.new ≡ with_wire (sent_from_place second place (views_of B.shown bridges.old.items)) outbox.old) }
+    ensures still_made { All (λ b. (B.shown b).blank ≡ false) bridges.new.items }
 {
     bridges[place].tick(outbox)
 }
 
 /// A frame comes to the port 1.
 fn hear<B: Bridge>(bridge: &mut B, frame: &[u8], outbox: &mut Outbox) -> Result<(), NoMemory>
-    requires made { B.blank bridge.old ≡ false }
-    requires port { 1 ≤ length (B.view bridge.old).ports }
-    ensures still_made { B.blank bridge.new ≡ false }
-    ensures still_port { OnOk result (length (B.view bridge.new).ports ≡ length (B.view bridge.old).ports) }
+    requires made { (B.shown bridge.old).blank ≡ false }
+    requires port { 1 ≤ length (B.shown bridge.old).view.ports }
+    ensures still_made { (B.shown bridge.new).blank ≡ false }
+    ensures still_port { OnOk result (length (B.shown bridge.new).view.ports ≡ length (B.shown bridge.old).view.ports) }
 {
     bridge.receive(1, frame, outbox)
 }
 
 /// What is held, in order, but for the bodies.
 fn rows<B: Bridge>(alloc: Global, bridge: &B) -> Result<Vec<DbRow>, NoMemory>
-    requires { B.blank bridge.now ≡ false }
+    requires { (B.shown bridge.now).blank ≡ false }
 {
     let mut rows = Vec::new(alloc);
     for place in 0..2048 {
@@ -148,7 +149,7 @@ fn rows<B: Bridge>(alloc: Global, bridge: &B) -> Result<Vec<DbRow>, NoMemory>
 
 /// Whether what is held at a place is to be sent at the port 1, and is to be acknowledged or asked for there.
 fn flags_at<B: Bridge>(bridge: &B, place: usize) -> (bool, bool)
-    requires { B.blank bridge.now ≡ false }
+    requires { (B.shown bridge.now).blank ≡ false }
 {
     match bridge.entry(place) {
         Some(held) => (held.srm.has(1), held.ssn.has(1)),
@@ -159,10 +160,10 @@ fn flags_at<B: Bridge>(bridge: &B, place: usize) -> (bool, bool)
 /// Whether a frame that comes to the port 1 changes nothing there and nothing that is held, but for the bodies, and nothing is
 /// sent.
 fn is_dropped<B: Bridge>(alloc: Global, bridge: &mut B, frame: &[u8]) -> Result<bool, NoMemory>
-    requires made { B.blank bridge.old ≡ false }
-    requires port { 1 ≤ length (B.view bridge.old).ports }
-    ensures still_made { B.blank bridge.new ≡ false }
-    ensures still_port { OnOk result (length (B.view bridge.new).ports ≡ length (B.view bridge.old).ports) }
+    requires made { (B.shown bridge.old).blank ≡ false }
+    requires port { 1 ≤ length (B.shown bridge.old).view.ports }
+    ensures still_made { (B.shown bridge.new).blank ≡ false }
+    ensures still_port { OnOk result (length (B.shown bridge.new).view.ports ≡ length (B.shown bridge.old).view.ports) }
 {
     let before = (bridge.adjacent(1), bridge.due(1), bridge.has_flag());
     let held_before = rows(alloc, bridge)?;

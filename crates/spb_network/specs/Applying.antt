@@ -1,8 +1,7 @@
 -- What one application of a command answers, and what it leaves.
 use Rattle.std.specs.Prelude.{◌≡◌, ◌⊎◌, ℕ, List, Bool, true, false, Option, Some, None, Result, Ok, Err}
 use Rattle.scenario.specs.declared.command.Command.{Command}
-use Rattle.bridge_api.specs.declared.kind.Kind.{Kind}
-use Rattle.bridge_api.specs.View.{BridgeView}
+use Rattle.bridge_api.specs.Shown.{Shown}
 use Rattle.spb_network.specs.declared.answer.Answer.{Answer}
 use Rattle.spb_network.specs.declared.network.NetworkOf.{NetworkOf}
 use Rattle.spb_network.specs.declared.reason.ApplyError.{ApplyError}
@@ -53,11 +52,11 @@ abbrev pub IsWayTo : State → List ℕ → Dir → ℕ → Result Way Reason �
 IsWayTo s name dir place (Err reason) = frame_refusal s name dir place ≡ Some reason
 IsWayTo s name dir place (Ok way) = (frame_refusal s name dir place ≡ None) × (place_of name s.world.links ≡ Some way.link) × (way.dir ≡ dir)
 
-module _ {B : Type 0} (kind_of : B → Kind) (blank : B → Bool) (view : B → BridgeView) where
+module _ {B : Type 0} (shown : B → Shown) where
   -- a network at which no command found want of memory: its boxes are made, and its state is sound
   pub record IsSoundNetwork (n : NetworkOf B) : Type 0 where
-    pub made : AreMade blank n.boxes.items
-    pub state : IsSoundState (state_of kind_of blank view n)
+    pub made : AreMade shown n.boxes.items
+    pub state : IsSoundState (state_of shown n)
 
   -- a network that halted, or is sound: so is every network that `new` gave, whatever was applied to it
   abbrev pub IsReady : NetworkOf B → Type 0
@@ -66,7 +65,7 @@ module _ {B : Type 0} (kind_of : B → Kind) (blank : B → Bool) (view : B → 
   -- what `apply` answers and leaves. It halts exactly where an earlier command found no memory; a command that is refused
   -- changes nothing, and one that is accepted is one step of play
   abbrev pub Applies : NetworkOf B → Command → Result Answer ApplyError → NetworkOf B → Type 0
-  Applies old c (Ok answer) new = (old.halted ≡ false) × Plays (state_of kind_of blank view old) c answer (state_of kind_of blank view new) × (new.halted ≡ false)
-  Applies old c (Err (error.Refused reason)) new = (old.halted ≡ false) × (refusal_of (state_of kind_of blank view old) c ≡ Some reason) × (new ≡ old)
-  Applies old c (Err error.NoMemory) new = (old.halted ≡ false) × (refusal_of (state_of kind_of blank view old) c ≡ None) × (new.halted ≡ true)
+  Applies old c (Ok answer) new = (old.halted ≡ false) × Plays (state_of shown old) c answer (state_of shown new) × (new.halted ≡ false)
+  Applies old c (Err (error.Refused reason)) new = (old.halted ≡ false) × (refusal_of (state_of shown old) c ≡ Some reason) × (new ≡ old)
+  Applies old c (Err error.NoMemory) new = (old.halted ≡ false) × (refusal_of (state_of shown old) c ≡ None) × (new.halted ≡ true)
   Applies old c (Err error.Halted) new = (old.halted ≡ true) × (new ≡ old)

@@ -1,17 +1,17 @@
 -- What a network of boxes is the state of.
 use Rattle.std.specs.Prelude.{◌≡◌, ℕ, List, length, map, Bool, true, false, Some, slice_get}
 use Rattle.std.specs.List.{AllByRecursion}
-use Rattle.bridge_api.specs.declared.kind.Kind.{Kind}
+use Rattle.bridge_api.specs.Shown.{Shown, views_of}
 use Rattle.bridge_api.specs.View.{BridgeView, IsPort}
 use Rattle.spb_network.specs.declared.network.NetworkOf.{NetworkOf}
 use Rattle.spb_network.specs.declared.declaration.DeclaredBridge.{DeclaredBridge}
 use Rattle.spb_network.specs.World.{things_of}
 use Rattle.spb_network.specs.State.{Spare, State}
 
-module _ {B : Type 0} (kind_of : B → Kind) (blank : B → Bool) (view : B → BridgeView) where
+module _ {B : Type 0} (shown : B → Shown) where
   -- the box as one of the rack
   abbrev pub spare : B → Spare
-  spare b = record { kind = kind_of b; blank = blank b }
+  spare b = record { kind = (shown b).kind; blank = (shown b).blank }
 
   -- the state that a network is in: its boxes show the bridges
   abbrev pub state_of : NetworkOf B → State
@@ -19,7 +19,7 @@ module _ {B : Type 0} (kind_of : B → Kind) (blank : B → Bool) (view : B → 
     rule = n.rule;
     rack = map spare n.rack.items;
     world = n.world;
-    views = map view n.boxes.items;
+    views = views_of shown n.boxes.items;
     lanes = n.lanes.items;
     rounds = n.rounds;
     drained = n.drained;
@@ -37,18 +37,18 @@ pub record Fits (s : State) : Type 0 where
   pub ports : (i : ℕ) (v : BridgeView) (b : DeclaredBridge) → slice_get s.views i ≡ Some v → slice_get (things_of s.world.bridges) i ≡ Some b → HasPorts v b
 
 -- the network's boxes are no blanks
-abbrev pub AreMade : {B : Type 0} → (B → Bool) → List B → Type 0
-AreMade blank boxes = AllByRecursion (λ b. blank b ≡ false) boxes
+abbrev pub AreMade : {B : Type 0} → (B → Shown) → List B → Type 0
+AreMade shown boxes = AllByRecursion (λ b. (shown b).blank ≡ false) boxes
 
 -- the bridge at place i has this port, if there is such a bridge
 abbrev pub IsPortAt : List BridgeView → ℕ → ℕ → Type 0
 IsPortAt views i port = (v : BridgeView) → slice_get views i ≡ Some v → IsPort v port
 
 -- the boxes are made, and the state has its shape
-pub record IsInOrder {B : Type 0} (kind_of : B → Kind) (blank : B → Bool) (view : B → BridgeView) (n : NetworkOf B) : Type 0 where
-  pub made : AreMade blank n.boxes.items
-  pub fits : Fits (state_of kind_of blank view n)
+pub record IsInOrder {B : Type 0} (shown : B → Shown) (n : NetworkOf B) : Type 0 where
+  pub made : AreMade shown n.boxes.items
+  pub fits : Fits (state_of shown n)
 
 -- the box at a place is blank
-abbrev pub IsBlankAt : {B : Type 0} → (B → Bool) → List B → ℕ → Type 0
-IsBlankAt {B} blank boxes place = (b : B) → slice_get boxes place ≡ Some b → blank b ≡ true
+abbrev pub IsBlankAt : {B : Type 0} → (B → Shown) → List B → ℕ → Type 0
+IsBlankAt {B} shown boxes place = (b : B) → slice_get boxes place ≡ Some b → (shown b).blank ≡ true

@@ -1,9 +1,10 @@
 //! What one box of a list does. A place past the last box is one where nothing happens.
-ghost use Rattle.std.specs.Prelude.{◌≡◌, ◌≤◌, [], false, length, map, slice_get, OnOk, IfOk};
+ghost use Rattle.std.specs.Prelude.{◌≡◌, ◌≤◌, [], false, length, slice_get, OnOk, IfOk};
 ghost use Rattle.std.specs.Option.{option_map_or};
 ghost use Rattle.bridge_api.specs.Config.{IsMetric};
 ghost use Rattle.bridge_api.specs.Step as comes;
 ghost use Rattle.bridge_api.specs.Step.{sent, step, with_wire};
+ghost use Rattle.bridge_api.specs.Shown.{views_of};
 ghost use Rattle.spb_network.specs.State.{changed_at};
 ghost use Rattle.spb_network.specs.Play as play;
 ghost use Rattle.spb_network.specs.Network.{AreMade, IsPortAt};
@@ -16,11 +17,11 @@ use std::alloc::Global;
 
 /// A second of a bridge.
 pub fn tick<B: Bridge>(boxes: &mut Vec<B>, i: usize, outbox: &mut Outbox) -> Result<(), NoMemory>
-    requires made { AreMade B.blank boxes.old.items }
-    ensures views { OnOk result (map B.view boxes.new.items ≡ changed_at (step comes.second) (map B.view boxes.old.items) i) }
+    requires made { AreMade B.shown boxes.old.items }
+    ensures views { OnOk result (views_of B.shown boxes.new.items ≡ changed_at (step comes.second) (views_of B.shown boxes.old.items) i) }
     ensures sent { OnOk result (outbox.new
-        ≡ with_wire (option_map_or (sent comes.second) (slice_get (map B.view boxes.old.items) i) []) outbox.old) }
-    ensures made { OnOk result (AreMade B.blank boxes.new.items) }
+        ≡ with_wire (option_map_or (sent comes.second) (slice_get (views_of B.shown boxes.old.items) i) []) outbox.old) }
+    ensures made { OnOk result (AreMade B.shown boxes.new.items) }
 {
     match boxes.get_mut(i) {
         None => Ok(()),
@@ -36,12 +37,12 @@ pub fn hear<B: Bridge>(
     frame: &[u8],
     outbox: &mut Outbox,
 ) -> Result<(), NoMemory>
-    requires made { AreMade B.blank boxes.old.items }
-    requires port { IsPortAt (map B.view boxes.old.items) i port }
-    ensures views { OnOk result (map B.view boxes.new.items
-        ≡ changed_at (step (comes.frame port frame.now)) (map B.view boxes.old.items) i) }
+    requires made { AreMade B.shown boxes.old.items }
+    requires port { IsPortAt (views_of B.shown boxes.old.items) i port }
+    ensures views { OnOk result (views_of B.shown boxes.new.items
+        ≡ changed_at (step (comes.frame port frame.now)) (views_of B.shown boxes.old.items) i) }
     ensures sent { OnOk result (outbox.new ≡ outbox.old) }
-    ensures made { OnOk result (AreMade B.blank boxes.new.items) }
+    ensures made { OnOk result (AreMade B.shown boxes.new.items) }
 {
     match boxes.get_mut(i) {
         None => Ok(()),
@@ -51,11 +52,11 @@ pub fn hear<B: Bridge>(
 
 /// Carrier comes to a port of a bridge, or goes.
 pub fn carry<B: Bridge>(boxes: &mut Vec<B>, i: usize, port: u8, on: bool) -> Result<(), NoMemory>
-    requires made { AreMade B.blank boxes.old.items }
-    requires port { IsPortAt (map B.view boxes.old.items) i port }
-    ensures views { OnOk result (map B.view boxes.new.items
-        ≡ changed_at (step (comes.carrier port on)) (map B.view boxes.old.items) i) }
-    ensures made { OnOk result (AreMade B.blank boxes.new.items) }
+    requires made { AreMade B.shown boxes.old.items }
+    requires port { IsPortAt (views_of B.shown boxes.old.items) i port }
+    ensures views { OnOk result (views_of B.shown boxes.new.items
+        ≡ changed_at (step (comes.carrier port on)) (views_of B.shown boxes.old.items) i) }
+    ensures made { OnOk result (AreMade B.shown boxes.new.items) }
 {
     match boxes.get_mut(i) {
         None => Ok(()),
@@ -70,12 +71,12 @@ pub fn set_metric<B: Bridge>(
     port: u8,
     metric: u32,
 ) -> Result<(), NoMemory>
-    requires made { AreMade B.blank boxes.old.items }
-    requires port { IsPortAt (map B.view boxes.old.items) i port }
+    requires made { AreMade B.shown boxes.old.items }
+    requires port { IsPortAt (views_of B.shown boxes.old.items) i port }
     requires metric { IsMetric metric }
-    ensures views { OnOk result (map B.view boxes.new.items
-        ≡ changed_at (step (comes.metric port metric)) (map B.view boxes.old.items) i) }
-    ensures made { OnOk result (AreMade B.blank boxes.new.items) }
+    ensures views { OnOk result (views_of B.shown boxes.new.items
+        ≡ changed_at (step (comes.metric port metric)) (views_of B.shown boxes.old.items) i) }
+    ensures made { OnOk result (AreMade B.shown boxes.new.items) }
 {
     match boxes.get_mut(i) {
         None => Ok(()),
@@ -89,10 +90,10 @@ pub fn told_ports<B: Bridge>(
     bridge: &B,
     count: u8,
 ) -> Result<Vec<(Adjacency, bool)>, NoMemory>
-    requires made { B.blank bridge.now ≡ false }
-    requires count { length (B.view bridge.now).ports ≡ count }
+    requires made { (B.shown bridge.now).blank ≡ false }
+    requires count { length (B.shown bridge.now).view.ports ≡ count }
     requires few { count ≤ 32 }
-    ensures { IfOk result (λ ports. ports.items ≡ play.told_ports (B.view bridge.now).ports) }
+    ensures { IfOk result (λ ports. ports.items ≡ play.told_ports (B.shown bridge.now).view.ports) }
 {
     let mut ports = Vec::new(alloc);
     for place in 0..count {
@@ -104,8 +105,8 @@ pub fn told_ports<B: Bridge>(
 
 /// A row for each LSP id that a bridge holds, in order of id.
 pub fn held_rows<B: Bridge>(alloc: Global, bridge: &B) -> Result<Vec<DbRow>, NoMemory>
-    requires { B.blank bridge.now ≡ false }
-    ensures { IfOk result (λ rows. rows.items ≡ play.rows_of (B.view bridge.now).database) }
+    requires { (B.shown bridge.now).blank ≡ false }
+    ensures { IfOk result (λ rows. rows.items ≡ play.rows_of (B.shown bridge.now).view.database) }
 {
     let mut rows = Vec::new(alloc);
     while let Some(held) = bridge.entry(rows.len()) {

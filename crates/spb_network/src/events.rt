@@ -15,9 +15,9 @@ use spb_types::{NoMemory, Seq};
 impl<B: Bridge> NetworkOf<B> {
     /// A frame goes out at a port of the bridge at a place. It is lost where no link that is up ends there.
     fn send_over(&mut self, i: usize, port: u8, frame: Vec<u8>) -> Result<(), NoMemory>
-        ensures state { OnOk result (state_of B.kind_of B.blank B.view self.new
-            ≡ event.sent_over (state_of B.kind_of B.blank B.view self.old)
-            (way_out (links_of (state_of B.kind_of B.blank B.view self.old)) i port) frame.items) }
+        ensures state { OnOk result (state_of B.shown self.new
+            ≡ event.sent_over (state_of B.shown self.old)
+            (way_out (links_of (state_of B.shown self.old)) i port) frame.items) }
         ensures boxes { self.new.boxes ≡ self.old.boxes }
     {
         match self.world.live_way(i, port) {
@@ -28,8 +28,8 @@ impl<B: Bridge> NetworkOf<B> {
 
     /// The bridge at a place sends frames, each at a port.
     fn send_all(&mut self, i: usize, frames: Vec<(u8, Seq<u8>)>) -> Result<(), NoMemory>
-        ensures state { OnOk result (state_of B.kind_of B.blank B.view self.new
-            ≡ event.sent_all (state_of B.kind_of B.blank B.view self.old) i frames.items) }
+        ensures state { OnOk result (state_of B.shown self.new
+            ≡ event.sent_all (state_of B.shown self.old) i frames.items) }
         ensures boxes { self.new.boxes ≡ self.old.boxes }
     {
         for (port, frame) in frames {
@@ -40,10 +40,10 @@ impl<B: Bridge> NetworkOf<B> {
 
     /// A second of the bridge at a place.
     pub(crate) fn tick(&mut self, i: usize) -> Result<(), NoMemory>
-        requires { IsInOrder B.kind_of B.blank B.view self.old }
-        ensures state { OnOk result (state_of B.kind_of B.blank B.view self.new
-            ≡ event.ticked (state_of B.kind_of B.blank B.view self.old) i) }
-        ensures order { OnOk result (IsInOrder B.kind_of B.blank B.view self.new) }
+        requires { IsInOrder B.shown self.old }
+        ensures state { OnOk result (state_of B.shown self.new
+            ≡ event.ticked (state_of B.shown self.old) i) }
+        ensures order { OnOk result (IsInOrder B.shown self.new) }
     {
         let mut outbox = Outbox::new(self.alloc);
         boxes::tick(&mut self.boxes, i, &mut outbox)?;
@@ -52,11 +52,11 @@ impl<B: Bridge> NetworkOf<B> {
 
     /// A frame comes to an end of a link.
     fn hear(&mut self, end: LinkEnd, frame: &[u8]) -> Result<(), NoMemory>
-        requires order { IsInOrder B.kind_of B.blank B.view self.old }
+        requires order { IsInOrder B.shown self.old }
         requires end { IsEnd self.old.world.bridges end }
-        ensures state { OnOk result (state_of B.kind_of B.blank B.view self.new
-            ≡ event.stepped (comes.frame end.port frame.now) (state_of B.kind_of B.blank B.view self.old) end.bridge) }
-        ensures order { OnOk result (IsInOrder B.kind_of B.blank B.view self.new) }
+        ensures state { OnOk result (state_of B.shown self.new
+            ≡ event.stepped (comes.frame end.port frame.now) (state_of B.shown self.old) end.bridge) }
+        ensures order { OnOk result (IsInOrder B.shown self.new) }
     {
         let mut outbox = Outbox::new(self.alloc);
         boxes::hear(&mut self.boxes, end.bridge, end.port, frame, &mut outbox)?;
@@ -65,11 +65,11 @@ impl<B: Bridge> NetworkOf<B> {
 
     /// Carrier comes to an end of a link, or goes.
     fn carry(&mut self, end: LinkEnd, on: bool) -> Result<(), NoMemory>
-        requires order { IsInOrder B.kind_of B.blank B.view self.old }
+        requires order { IsInOrder B.shown self.old }
         requires end { IsEnd self.old.world.bridges end }
-        ensures state { OnOk result (state_of B.kind_of B.blank B.view self.new
-            ≡ event.carried on (state_of B.kind_of B.blank B.view self.old) end) }
-        ensures order { OnOk result (IsInOrder B.kind_of B.blank B.view self.new) }
+        ensures state { OnOk result (state_of B.shown self.new
+            ≡ event.carried on (state_of B.shown self.old) end) }
+        ensures order { OnOk result (IsInOrder B.shown self.new) }
         ensures world { self.new.world ≡ self.old.world }
     {
         boxes::carry(&mut self.boxes, end.bridge, end.port, on)
@@ -77,11 +77,11 @@ impl<B: Bridge> NetworkOf<B> {
 
     /// Carrier comes to both ends of the link that was at a place, or goes.
     fn carry_over(&mut self, link: Option<DeclaredLink>, on: bool) -> Result<(), NoMemory>
-        requires order { IsInOrder B.kind_of B.blank B.view self.old }
+        requires order { IsInOrder B.shown self.old }
         requires ends { IfSome link (IsLink self.old.world.bridges) }
-        ensures state { OnOk result (state_of B.kind_of B.blank B.view self.new
-            ≡ event.carried_over on (state_of B.kind_of B.blank B.view self.old) link) }
-        ensures order { OnOk result (IsInOrder B.kind_of B.blank B.view self.new) }
+        ensures state { OnOk result (state_of B.shown self.new
+            ≡ event.carried_over on (state_of B.shown self.old) link) }
+        ensures order { OnOk result (IsInOrder B.shown self.new) }
     {
         match link {
             None => Ok(()),
@@ -94,11 +94,11 @@ impl<B: Bridge> NetworkOf<B> {
 
     /// An end of a link gets its metric.
     fn meter(&mut self, end: LinkEnd) -> Result<(), NoMemory>
-        requires order { IsInOrder B.kind_of B.blank B.view self.old }
+        requires order { IsInOrder B.shown self.old }
         requires end { IsEnd self.old.world.bridges end }
-        ensures state { OnOk result (state_of B.kind_of B.blank B.view self.new
-            ≡ event.metered (state_of B.kind_of B.blank B.view self.old) end) }
-        ensures order { OnOk result (IsInOrder B.kind_of B.blank B.view self.new) }
+        ensures state { OnOk result (state_of B.shown self.new
+            ≡ event.metered (state_of B.shown self.old) end) }
+        ensures order { OnOk result (IsInOrder B.shown self.new) }
         ensures world { self.new.world ≡ self.old.world }
     {
         boxes::set_metric(&mut self.boxes, end.bridge, end.port, end.metric)
@@ -106,11 +106,11 @@ impl<B: Bridge> NetworkOf<B> {
 
     /// Both ends of a link get their metrics.
     pub(crate) fn meter_over(&mut self, link: DeclaredLink) -> Result<(), NoMemory>
-        requires order { IsInOrder B.kind_of B.blank B.view self.old }
+        requires order { IsInOrder B.shown self.old }
         requires link { IsLink self.old.world.bridges link }
-        ensures state { OnOk result (state_of B.kind_of B.blank B.view self.new
-            ≡ event.metered_over (state_of B.kind_of B.blank B.view self.old) link) }
-        ensures order { OnOk result (IsInOrder B.kind_of B.blank B.view self.new) }
+        ensures state { OnOk result (state_of B.shown self.new
+            ≡ event.metered_over (state_of B.shown self.old) link) }
+        ensures order { OnOk result (IsInOrder B.shown self.new) }
     {
         self.meter(link.a)?;
         self.meter(link.b)
@@ -124,11 +124,11 @@ impl<B: Bridge> NetworkOf<B> {
         side: Side,
         metric: u32,
     ) -> Result<(), NoMemory>
-        requires order { IsInOrder B.kind_of B.blank B.view self.old }
+        requires order { IsInOrder B.shown self.old }
         requires metric { IsMetric metric }
-        ensures state { OnOk result (state_of B.kind_of B.blank B.view self.new
-            ≡ event.remetered (state_of B.kind_of B.blank B.view self.old) place side metric) }
-        ensures order { OnOk result (IsInOrder B.kind_of B.blank B.view self.new) }
+        ensures state { OnOk result (state_of B.shown self.new
+            ≡ event.remetered (state_of B.shown self.old) place side metric) }
+        ensures order { OnOk result (IsInOrder B.shown self.new) }
     {
         self.world.set_metric(place, side, metric);
         match self.world.link(place) {
@@ -140,10 +140,10 @@ impl<B: Bridge> NetworkOf<B> {
     /// The link at a place comes up.
     #[tactic(auto, unfolding(crate::specs::Events::switched_on))]
     pub(crate) fn switch_on(&mut self, place: usize) -> Result<(), NoMemory>
-        requires { IsInOrder B.kind_of B.blank B.view self.old }
-        ensures state { OnOk result (state_of B.kind_of B.blank B.view self.new
-            ≡ event.switched_on (state_of B.kind_of B.blank B.view self.old) place) }
-        ensures order { OnOk result (IsInOrder B.kind_of B.blank B.view self.new) }
+        requires { IsInOrder B.shown self.old }
+        ensures state { OnOk result (state_of B.shown self.new
+            ≡ event.switched_on (state_of B.shown self.old) place) }
+        ensures order { OnOk result (IsInOrder B.shown self.new) }
     {
         let link = self.world.link(place);
         self.world.set_live(place, true);
@@ -153,10 +153,10 @@ impl<B: Bridge> NetworkOf<B> {
     /// The link at a place goes down.
     #[tactic(auto, unfolding(crate::specs::Events::switched_off))]
     pub(crate) fn switch_off(&mut self, place: usize) -> Result<(), NoMemory>
-        requires { IsInOrder B.kind_of B.blank B.view self.old }
-        ensures state { OnOk result (state_of B.kind_of B.blank B.view self.new
-            ≡ event.switched_off (state_of B.kind_of B.blank B.view self.old) place) }
-        ensures order { OnOk result (IsInOrder B.kind_of B.blank B.view self.new) }
+        requires { IsInOrder B.shown self.old }
+        ensures state { OnOk result (state_of B.shown self.new
+            ≡ event.switched_off (state_of B.shown self.old) place) }
+        ensures order { OnOk result (IsInOrder B.shown self.new) }
     {
         let link = self.world.link(place);
         wires::flush(&mut self.lanes, place);
@@ -167,10 +167,10 @@ impl<B: Bridge> NetworkOf<B> {
     /// The frame at the front of a lane is delivered. Nothing happens where there is none.
     #[tactic(auto, unfolding(crate::specs::Events::delivered))]
     pub(crate) fn deliver(&mut self, way: Way) -> Result<(), NoMemory>
-        requires { IsInOrder B.kind_of B.blank B.view self.old }
-        ensures state { OnOk result (state_of B.kind_of B.blank B.view self.new
-            ≡ event.delivered (state_of B.kind_of B.blank B.view self.old) way.link way.dir) }
-        ensures order { OnOk result (IsInOrder B.kind_of B.blank B.view self.new) }
+        requires { IsInOrder B.shown self.old }
+        ensures state { OnOk result (state_of B.shown self.new
+            ≡ event.delivered (state_of B.shown self.old) way.link way.dir) }
+        ensures order { OnOk result (IsInOrder B.shown self.new) }
     {
         match wires::pop(&mut self.lanes, way) {
             None => Ok(()),
@@ -180,11 +180,11 @@ impl<B: Bridge> NetworkOf<B> {
 
     /// A frame comes to the far end of a way.
     fn hear_over(&mut self, way: Way, frame: &[u8]) -> Result<(), NoMemory>
-        requires { IsInOrder B.kind_of B.blank B.view self.old }
-        ensures state { OnOk result (state_of B.kind_of B.blank B.view self.new
-            ≡ event.heard_over (state_of B.kind_of B.blank B.view self.old) way.dir frame.now
-            (slice_get (links_of (state_of B.kind_of B.blank B.view self.old)) way.link)) }
-        ensures order { OnOk result (IsInOrder B.kind_of B.blank B.view self.new) }
+        requires { IsInOrder B.shown self.old }
+        ensures state { OnOk result (state_of B.shown self.new
+            ≡ event.heard_over (state_of B.shown self.old) way.dir frame.now
+            (slice_get (links_of (state_of B.shown self.old)) way.link)) }
+        ensures order { OnOk result (IsInOrder B.shown self.new) }
     {
         match self.world.link(way.link) {
             None => Ok(()),
@@ -194,20 +194,20 @@ impl<B: Bridge> NetworkOf<B> {
 
     /// The frame at a place of a lane is lost. Nothing happens where there is none.
     pub(crate) fn lose(&mut self, way: Way, place: usize)
-        requires { IsInOrder B.kind_of B.blank B.view self.old }
-        ensures state { state_of B.kind_of B.blank B.view self.new
-            ≡ event.lost (state_of B.kind_of B.blank B.view self.old) way.link way.dir place }
-        ensures order { IsInOrder B.kind_of B.blank B.view self.new }
+        requires { IsInOrder B.shown self.old }
+        ensures state { state_of B.shown self.new
+            ≡ event.lost (state_of B.shown self.old) way.link way.dir place }
+        ensures order { IsInOrder B.shown self.new }
     {
         wires::lose(&mut self.lanes, way, place);
     }
 
     /// The frame at a place of a lane is doubled. Nothing happens where there is none.
     pub(crate) fn double(&mut self, way: Way, place: usize) -> Result<(), NoMemory>
-        requires { IsInOrder B.kind_of B.blank B.view self.old }
-        ensures state { OnOk result (state_of B.kind_of B.blank B.view self.new
-            ≡ event.doubled (state_of B.kind_of B.blank B.view self.old) way.link way.dir place) }
-        ensures order { OnOk result (IsInOrder B.kind_of B.blank B.view self.new) }
+        requires { IsInOrder B.shown self.old }
+        ensures state { OnOk result (state_of B.shown self.new
+            ≡ event.doubled (state_of B.shown self.old) way.link way.dir place) }
+        ensures order { OnOk result (IsInOrder B.shown self.new) }
     {
         wires::double(&mut self.lanes, way, place)
     }

@@ -1,4 +1,5 @@
 ghost use Rattle.std.specs.Prelude.{◌≡◌, false, map};
+ghost use Rattle.bridge_api.specs.Shown.{views_of};
 ghost use Rattle.spb_network.specs.declared.kind_rule.KindRule.TheVariants as rules;
 ghost use Rattle.spb_network.specs.Sound.{opening};
 ghost use Rattle.spb_network.specs.Network.{state_of, spare, AreMade};
@@ -33,10 +34,10 @@ pub type Network = NetworkOf<Box<dyn Bridge>>;
 impl<B: Bridge> NetworkOf<B> {
     /// The network of a rack of boxes, in which nothing is declared. Takes no memory.
     pub fn new(alloc: Global, rack: Vec<B>) -> Self
-        ensures state { state_of B.kind_of B.blank B.view result
-            ≡ opening rules.Plain (map (spare B.kind_of B.blank B.view) rack.items) }
+        ensures state { state_of B.shown result
+            ≡ opening rules.Plain (map (spare B.shown) rack.items) }
         ensures halted { result.halted ≡ false }
-        ensures ready { IsReady B.kind_of B.blank B.view result }
+        ensures ready { IsReady B.shown result }
     {
         NetworkOf {
             alloc,
@@ -56,11 +57,11 @@ impl<B: Bridge> NetworkOf<B> {
     pub fn set_rule(&mut self, rule: KindRule)
         requires halted { self.old.halted ≡ false }
         requires first { self.old.accepted ≡ 0 }
-        requires ready { IsReady B.kind_of B.blank B.view self.old }
-        ensures state { state_of B.kind_of B.blank B.view self.new
-            ≡ record (state_of B.kind_of B.blank B.view self.old) { rule = rule } }
+        requires ready { IsReady B.shown self.old }
+        ensures state { state_of B.shown self.new
+            ≡ record (state_of B.shown self.old) { rule = rule } }
         ensures halted { self.new.halted ≡ false }
-        ensures ready { IsReady B.kind_of B.blank B.view self.new }
+        ensures ready { IsReady B.shown self.new }
     {
         self.rule = rule;
     }
@@ -69,8 +70,8 @@ impl<B: Bridge> NetworkOf<B> {
     /// halted. Takes no memory.
     pub fn boxes(&self) -> &[B]
         ensures same { result.now ≡ self.now.boxes.items }
-        ensures views { map B.view result.now ≡ (state_of B.kind_of B.blank B.view self.now).views }
-        ensures made { self.now.halted ≡ false → IsReady B.kind_of B.blank B.view self.now → AreMade B.blank result.now }
+        ensures views { views_of B.shown result.now ≡ (state_of B.shown self.now).views }
+        ensures made { self.now.halted ≡ false → IsReady B.shown self.now → AreMade B.shown result.now }
     {
         self.boxes.as_slice()
     }
@@ -83,9 +84,9 @@ impl<B: Bridge> NetworkOf<B> {
     ///
     /// A form that isn't played yet is accepted: it changes nothing but the count of accepted commands, and answers `Silent`.
     pub fn apply(&mut self, command: &Command) -> Result<Answer, ApplyError>
-        requires { IsReady B.kind_of B.blank B.view self.old }
-        ensures applies { Applies B.kind_of B.blank B.view self.old command.now result self.new }
-        ensures ready { IsReady B.kind_of B.blank B.view self.new }
+        requires { IsReady B.shown self.old }
+        ensures applies { Applies B.shown self.old command.now result self.new }
+        ensures ready { IsReady B.shown self.new }
     {
         if self.halted {
             return Err(ApplyError::Halted);

@@ -20,11 +20,11 @@ impl<B: Bridge> NetworkOf<B> {
     /// Declares a base VID.
     #[tactic(auto, unfolding(crate::specs::Play::with_vid_more))]
     fn play_vid(&mut self, vid: u64, ect: u64) -> Result<(), ApplyError>
-        requires { IsInOrder B.kind_of B.blank B.view self.old }
-        ensures happens { Happens (declare.vid_refusal (state_of B.kind_of B.blank B.view self.old).world vid ect)
-            (play.with_vid_more (state_of B.kind_of B.blank B.view self.old) vid ect)
-            self.old result self.new (state_of B.kind_of B.blank B.view self.new) }
-        ensures made { OnOk result (AreMade B.blank self.new.boxes.items) }
+        requires { IsInOrder B.shown self.old }
+        ensures happens { Happens (declare.vid_refusal (state_of B.shown self.old).world vid ect)
+            (play.with_vid_more (state_of B.shown self.old) vid ect)
+            self.old result self.new (state_of B.shown self.new) }
+        ensures made { OnOk result (AreMade B.shown self.new.boxes.items) }
     {
         match self.world.vid_refusal(vid, ect) {
             Some(reason) => Err(ApplyError::Refused(reason)),
@@ -46,13 +46,13 @@ impl<B: Bridge> NetworkOf<B> {
         ports: u64,
     ) -> Result<(), NoMemory>
         requires place { place < length self.old.rack.items }
-        requires blank { IsBlankAt B.blank self.old.rack.items place }
-        requires made { AreMade B.blank self.old.boxes.items }
+        requires blank { IsBlankAt B.shown self.old.rack.items place }
+        requires made { AreMade B.shown self.old.boxes.items }
         requires accepted { declare.bridge_refusal self.old.world name priority system source ports ≡ None }
-        ensures state { OnOk result (state_of B.kind_of B.blank B.view self.new
-            ≡ play.boxed (state_of B.kind_of B.blank B.view self.old) name
+        ensures state { OnOk result (state_of B.shown self.new
+            ≡ play.boxed (state_of B.shown self.old) name
             (declare.bridge_of priority system source ports) (Some place)) }
-        ensures made { OnOk result (AreMade B.blank self.new.boxes.items) }
+        ensures made { OnOk result (AreMade B.shown self.new.boxes.items) }
     {
         let id = BridgeId {
             priority: priority as u16,
@@ -76,11 +76,11 @@ impl<B: Bridge> NetworkOf<B> {
         source: SourceId,
         ports: u64,
     ) -> Result<(), ApplyError>
-        requires { IsInOrder B.kind_of B.blank B.view self.old }
-        ensures happens { Happens (refuse.declared_refusal (state_of B.kind_of B.blank B.view self.old) name priority system source ports)
-            (play.declared (state_of B.kind_of B.blank B.view self.old) name (declare.bridge_of priority system source ports))
-            self.old result self.new (state_of B.kind_of B.blank B.view self.new) }
-        ensures made { OnOk result (AreMade B.blank self.new.boxes.items) }
+        requires { IsInOrder B.shown self.old }
+        ensures happens { Happens (refuse.declared_refusal (state_of B.shown self.old) name priority system source ports)
+            (play.declared (state_of B.shown self.old) name (declare.bridge_of priority system source ports))
+            self.old result self.new (state_of B.shown self.new) }
+        ensures made { OnOk result (AreMade B.shown self.new.boxes.items) }
     {
         let wanted = kind_at(self.rule, self.world.bridge_count());
         if let Some(reason) = self
@@ -110,11 +110,11 @@ impl<B: Bridge> NetworkOf<B> {
         port_b: u64,
         cost: u64,
     ) -> Result<(), NoMemory>
-        requires order { IsInOrder B.kind_of B.blank B.view self.old }
+        requires order { IsInOrder B.shown self.old }
         requires accepted { declare.link_refusal self.old.world name i port_a j port_b cost ≡ None }
-        ensures state { OnOk result (state_of B.kind_of B.blank B.view self.new
-            ≡ play.linked (state_of B.kind_of B.blank B.view self.old) name (declare.link_of i port_a j port_b cost)) }
-        ensures made { OnOk result (AreMade B.blank self.new.boxes.items) }
+        ensures state { OnOk result (state_of B.shown self.new
+            ≡ play.linked (state_of B.shown self.old) name (declare.link_of i port_a j port_b cost)) }
+        ensures made { OnOk result (AreMade B.shown self.new.boxes.items) }
     {
         let place = self.lanes.len();
         let link = self.world.declare_link(name, i, port_a, j, port_b, cost)?;
@@ -134,11 +134,11 @@ impl<B: Bridge> NetworkOf<B> {
         port_b: u64,
         cost: u64,
     ) -> Result<(), ApplyError>
-        requires { IsInOrder B.kind_of B.blank B.view self.old }
-        ensures happens { Happens (refuse.named_link_refusal (state_of B.kind_of B.blank B.view self.old) name a port_a b port_b cost)
-            (play.named_link (state_of B.kind_of B.blank B.view self.old) name a port_a b port_b cost)
-            self.old result self.new (state_of B.kind_of B.blank B.view self.new) }
-        ensures made { OnOk result (AreMade B.blank self.new.boxes.items) }
+        requires { IsInOrder B.shown self.old }
+        ensures happens { Happens (refuse.named_link_refusal (state_of B.shown self.old) name a port_a b port_b cost)
+            (play.named_link (state_of B.shown self.old) name a port_a b port_b cost)
+            self.old result self.new (state_of B.shown self.new) }
+        ensures made { OnOk result (AreMade B.shown self.new.boxes.items) }
     {
         let Some(i) = self.world.bridge_place(a) else {
             return Err(ApplyError::Refused(Reason::NoSuchName));
@@ -158,11 +158,11 @@ impl<B: Bridge> NetworkOf<B> {
     /// An end of a link gets another metric.
     #[tactic(auto, unfolding(crate::specs::Refusing::metric_refusal, crate::specs::Play::at_link, crate::specs::Reason::reason_unless))]
     fn play_metric(&mut self, name: Name, side: Side, metric: u64) -> Result<(), ApplyError>
-        requires { IsInOrder B.kind_of B.blank B.view self.old }
-        ensures happens { Happens (refuse.metric_refusal (state_of B.kind_of B.blank B.view self.old) name metric)
-            (play.at_link (λ s k. event.remetered s k side metric) (state_of B.kind_of B.blank B.view self.old) name)
-            self.old result self.new (state_of B.kind_of B.blank B.view self.new) }
-        ensures made { OnOk result (AreMade B.blank self.new.boxes.items) }
+        requires { IsInOrder B.shown self.old }
+        ensures happens { Happens (refuse.metric_refusal (state_of B.shown self.old) name metric)
+            (play.at_link (λ s k. event.remetered s k side metric) (state_of B.shown self.old) name)
+            self.old result self.new (state_of B.shown self.new) }
+        ensures made { OnOk result (AreMade B.shown self.new.boxes.items) }
     {
         let Some(link) = self.world.link_place(name) else {
             return Err(ApplyError::Refused(Reason::NoSuchName));
@@ -177,11 +177,11 @@ impl<B: Bridge> NetworkOf<B> {
     /// A link goes down.
     #[tactic(auto, unfolding(crate::specs::Refusing::down_refusal, crate::specs::Play::at_link, crate::specs::Reason::reason_unless))]
     fn play_down(&mut self, name: Name) -> Result<(), ApplyError>
-        requires { IsInOrder B.kind_of B.blank B.view self.old }
-        ensures happens { Happens (refuse.down_refusal (state_of B.kind_of B.blank B.view self.old) name)
-            (play.at_link event.switched_off (state_of B.kind_of B.blank B.view self.old) name)
-            self.old result self.new (state_of B.kind_of B.blank B.view self.new) }
-        ensures made { OnOk result (AreMade B.blank self.new.boxes.items) }
+        requires { IsInOrder B.shown self.old }
+        ensures happens { Happens (refuse.down_refusal (state_of B.shown self.old) name)
+            (play.at_link event.switched_off (state_of B.shown self.old) name)
+            self.old result self.new (state_of B.shown self.new) }
+        ensures made { OnOk result (AreMade B.shown self.new.boxes.items) }
     {
         let Some(link) = self.world.link_place(name) else {
             return Err(ApplyError::Refused(Reason::NoSuchName));
@@ -196,11 +196,11 @@ impl<B: Bridge> NetworkOf<B> {
     /// A link comes up.
     #[tactic(auto, unfolding(crate::specs::Refusing::up_refusal, crate::specs::Play::at_link, crate::specs::Reason::reason_unless))]
     fn play_up(&mut self, name: Name) -> Result<(), ApplyError>
-        requires { IsInOrder B.kind_of B.blank B.view self.old }
-        ensures happens { Happens (refuse.up_refusal (state_of B.kind_of B.blank B.view self.old) name)
-            (play.at_link event.switched_on (state_of B.kind_of B.blank B.view self.old) name)
-            self.old result self.new (state_of B.kind_of B.blank B.view self.new) }
-        ensures made { OnOk result (AreMade B.blank self.new.boxes.items) }
+        requires { IsInOrder B.shown self.old }
+        ensures happens { Happens (refuse.up_refusal (state_of B.shown self.old) name)
+            (play.at_link event.switched_on (state_of B.shown self.old) name)
+            self.old result self.new (state_of B.shown self.new) }
+        ensures made { OnOk result (AreMade B.shown self.new.boxes.items) }
     {
         let Some(link) = self.world.link_place(name) else {
             return Err(ApplyError::Refused(Reason::NoSuchName));
@@ -215,11 +215,11 @@ impl<B: Bridge> NetworkOf<B> {
     /// A second of a bridge.
     #[tactic(auto, unfolding(crate::specs::Refusing::unnamed_refusal, crate::specs::Play::at_bridge, crate::specs::Reason::reason_unless))]
     fn play_tick(&mut self, name: Name) -> Result<(), ApplyError>
-        requires { IsInOrder B.kind_of B.blank B.view self.old }
-        ensures happens { Happens (refuse.unnamed_refusal (state_of B.kind_of B.blank B.view self.old) name)
-            (play.at_bridge event.ticked (state_of B.kind_of B.blank B.view self.old) name)
-            self.old result self.new (state_of B.kind_of B.blank B.view self.new) }
-        ensures made { OnOk result (AreMade B.blank self.new.boxes.items) }
+        requires { IsInOrder B.shown self.old }
+        ensures happens { Happens (refuse.unnamed_refusal (state_of B.shown self.old) name)
+            (play.at_bridge event.ticked (state_of B.shown self.old) name)
+            self.old result self.new (state_of B.shown self.new) }
+        ensures made { OnOk result (AreMade B.shown self.new.boxes.items) }
     {
         let Some(place) = self.world.bridge_place(name) else {
             return Err(ApplyError::Refused(Reason::NoSuchName));
@@ -231,7 +231,7 @@ impl<B: Bridge> NetworkOf<B> {
     /// The way of a frame at a place of a lane. Refused where there is no such link, or no such frame.
     #[tactic(auto, unfolding(crate::specs::Refusing::frame_refusal, crate::specs::Reason::reason_unless))]
     fn way_to(&self, name: Name, dir: Dir, place: u64) -> Result<Way, Reason>
-        ensures { IsWayTo (state_of B.kind_of B.blank B.view self.now) name dir place result }
+        ensures { IsWayTo (state_of B.shown self.now) name dir place result }
     {
         let Some(link) = self.world.link_place(name) else {
             return Err(Reason::NoSuchName);
@@ -247,11 +247,11 @@ impl<B: Bridge> NetworkOf<B> {
     /// The frame at the front of a lane is delivered.
     #[tactic(auto, unfolding(crate::specs::Play::at_link))]
     fn play_deliver(&mut self, name: Name, dir: Dir) -> Result<(), ApplyError>
-        requires { IsInOrder B.kind_of B.blank B.view self.old }
-        ensures happens { Happens (refuse.frame_refusal (state_of B.kind_of B.blank B.view self.old) name dir 0)
-            (play.at_link (λ s k. event.delivered s k dir) (state_of B.kind_of B.blank B.view self.old) name)
-            self.old result self.new (state_of B.kind_of B.blank B.view self.new) }
-        ensures made { OnOk result (AreMade B.blank self.new.boxes.items) }
+        requires { IsInOrder B.shown self.old }
+        ensures happens { Happens (refuse.frame_refusal (state_of B.shown self.old) name dir 0)
+            (play.at_link (λ s k. event.delivered s k dir) (state_of B.shown self.old) name)
+            self.old result self.new (state_of B.shown self.new) }
+        ensures made { OnOk result (AreMade B.shown self.new.boxes.items) }
     {
         match self.way_to(name, dir, 0) {
             Err(reason) => Err(ApplyError::Refused(reason)),
@@ -265,11 +265,11 @@ impl<B: Bridge> NetworkOf<B> {
     /// A frame is lost.
     #[tactic(auto, unfolding(crate::specs::Play::at_link))]
     fn play_lose(&mut self, name: Name, dir: Dir, place: u64) -> Result<(), ApplyError>
-        requires { IsInOrder B.kind_of B.blank B.view self.old }
-        ensures happens { Happens (refuse.frame_refusal (state_of B.kind_of B.blank B.view self.old) name dir place)
-            (play.at_link (λ s k. event.lost s k dir place) (state_of B.kind_of B.blank B.view self.old) name)
-            self.old result self.new (state_of B.kind_of B.blank B.view self.new) }
-        ensures made { OnOk result (AreMade B.blank self.new.boxes.items) }
+        requires { IsInOrder B.shown self.old }
+        ensures happens { Happens (refuse.frame_refusal (state_of B.shown self.old) name dir place)
+            (play.at_link (λ s k. event.lost s k dir place) (state_of B.shown self.old) name)
+            self.old result self.new (state_of B.shown self.new) }
+        ensures made { OnOk result (AreMade B.shown self.new.boxes.items) }
     {
         match self.way_to(name, dir, place) {
             Err(reason) => Err(ApplyError::Refused(reason)),
@@ -283,11 +283,11 @@ impl<B: Bridge> NetworkOf<B> {
     /// A frame is doubled.
     #[tactic(auto, unfolding(crate::specs::Play::at_link))]
     fn play_double(&mut self, name: Name, dir: Dir, place: u64) -> Result<(), ApplyError>
-        requires { IsInOrder B.kind_of B.blank B.view self.old }
-        ensures happens { Happens (refuse.frame_refusal (state_of B.kind_of B.blank B.view self.old) name dir place)
-            (play.at_link (λ s k. event.doubled s k dir place) (state_of B.kind_of B.blank B.view self.old) name)
-            self.old result self.new (state_of B.kind_of B.blank B.view self.new) }
-        ensures made { OnOk result (AreMade B.blank self.new.boxes.items) }
+        requires { IsInOrder B.shown self.old }
+        ensures happens { Happens (refuse.frame_refusal (state_of B.shown self.old) name dir place)
+            (play.at_link (λ s k. event.doubled s k dir place) (state_of B.shown self.old) name)
+            self.old result self.new (state_of B.shown self.new) }
+        ensures made { OnOk result (AreMade B.shown self.new.boxes.items) }
     {
         match self.way_to(name, dir, place) {
             Err(reason) => Err(ApplyError::Refused(reason)),
@@ -301,11 +301,11 @@ impl<B: Bridge> NetworkOf<B> {
     /// So many rounds.
     #[tactic(auto, unfolding(crate::specs::Refusing::round_refusal, crate::specs::Play::with_rounds, crate::specs::Reason::reason_unless))]
     fn play_round_command(&mut self, n: u64) -> Result<(), ApplyError>
-        requires { IsInOrder B.kind_of B.blank B.view self.old }
-        ensures happens { Happens (refuse.round_refusal (state_of B.kind_of B.blank B.view self.old) n)
-            (play.with_rounds n (state_of B.kind_of B.blank B.view self.old))
-            self.old result self.new (state_of B.kind_of B.blank B.view self.new) }
-        ensures made { OnOk result (AreMade B.blank self.new.boxes.items) }
+        requires { IsInOrder B.shown self.old }
+        ensures happens { Happens (refuse.round_refusal (state_of B.shown self.old) n)
+            (play.with_rounds n (state_of B.shown self.old))
+            self.old result self.new (state_of B.shown self.new) }
+        ensures made { OnOk result (AreMade B.shown self.new.boxes.items) }
     {
         if n < 1 || n > 20_000 {
             return Err(ApplyError::Refused(Reason::Range));
@@ -322,11 +322,11 @@ impl<B: Bridge> NetworkOf<B> {
     /// So many deliveries at most.
     #[tactic(auto, unfolding(crate::specs::Refusing::drain_refusal, crate::specs::Play::with_drain, crate::specs::Reason::reason_unless))]
     fn play_drain_command(&mut self, n: u64) -> Result<(), ApplyError>
-        requires { IsInOrder B.kind_of B.blank B.view self.old }
-        ensures happens { Happens (refuse.drain_refusal (state_of B.kind_of B.blank B.view self.old) n)
-            (play.with_drain n (state_of B.kind_of B.blank B.view self.old))
-            self.old result self.new (state_of B.kind_of B.blank B.view self.new) }
-        ensures made { OnOk result (AreMade B.blank self.new.boxes.items) }
+        requires { IsInOrder B.shown self.old }
+        ensures happens { Happens (refuse.drain_refusal (state_of B.shown self.old) n)
+            (play.with_drain n (state_of B.shown self.old))
+            self.old result self.new (state_of B.shown self.new) }
+        ensures made { OnOk result (AreMade B.shown self.new.boxes.items) }
     {
         if n < 1 || n > 1_000_000 {
             return Err(ApplyError::Refused(Reason::Range));
@@ -342,10 +342,10 @@ impl<B: Bridge> NetworkOf<B> {
 
     /// Plays a command at a network that hasn't halted.
     pub(crate) fn play(&mut self, command: &Command) -> Result<Answer, ApplyError>
-        requires { IsInOrder B.kind_of B.blank B.view self.old }
-        ensures answers { Answers (state_of B.kind_of B.blank B.view self.old) command.now
-            self.old result self.new (state_of B.kind_of B.blank B.view self.new) }
-        ensures made { OnOk result (AreMade B.blank self.new.boxes.items) }
+        requires { IsInOrder B.shown self.old }
+        ensures answers { Answers (state_of B.shown self.old) command.now
+            self.old result self.new (state_of B.shown self.new) }
+        ensures made { OnOk result (AreMade B.shown self.new.boxes.items) }
     {
         match command {
             Command::Vid { vid, ect } => silent(self.play_vid(*vid, *ect)),

@@ -16,9 +16,9 @@ impl<B: Bridge> NetworkOf<B> {
     #[tactic(auto, unfolding(crate::specs::Refusing::unnamed_refusal, crate::specs::Play::wiring_of, crate::specs::Reason::reason_unless))]
     pub(crate) fn wiring(&self, name: Name) -> Result<Answer, ApplyError>
         ensures { MatchResult result
-            (λ answer. (unnamed_refusal (state_of B.kind_of B.blank B.view self.now) name ≡ None)
-            × (answer ≡ play.wiring_of (state_of B.kind_of B.blank B.view self.now) name))
-            (Declines (unnamed_refusal (state_of B.kind_of B.blank B.view self.now) name)) }
+            (λ answer. (unnamed_refusal (state_of B.shown self.now) name ≡ None)
+            × (answer ≡ play.wiring_of (state_of B.shown self.now) name))
+            (Declines (unnamed_refusal (state_of B.shown self.now) name)) }
     {
         match self.world.bridge_place(name) {
             None => Err(ApplyError::Refused(Reason::NoSuchName)),
@@ -35,11 +35,11 @@ impl<B: Bridge> NetworkOf<B> {
     /// The database of a bridge.
     #[tactic(auto, unfolding(crate::specs::Refusing::unnamed_refusal, crate::specs::Play::db_of, crate::specs::Reason::reason_unless))]
     pub(crate) fn db(&self, name: Name) -> Result<Answer, ApplyError>
-        requires { IsInOrder B.kind_of B.blank B.view self.now }
+        requires { IsInOrder B.shown self.now }
         ensures { MatchResult result
-            (λ answer. (unnamed_refusal (state_of B.kind_of B.blank B.view self.now) name ≡ None)
-            × (answer ≡ play.db_of (state_of B.kind_of B.blank B.view self.now) name))
-            (Declines (unnamed_refusal (state_of B.kind_of B.blank B.view self.now) name)) }
+            (λ answer. (unnamed_refusal (state_of B.shown self.now) name ≡ None)
+            × (answer ≡ play.db_of (state_of B.shown self.now) name))
+            (Declines (unnamed_refusal (state_of B.shown self.now) name)) }
     {
         match self.world.bridge_place(name) {
             None => Err(ApplyError::Refused(Reason::NoSuchName)),
@@ -55,8 +55,8 @@ impl<B: Bridge> NetworkOf<B> {
 
     /// What the bridge at a place holds: a row for each LSP id, in order of id.
     fn rows(&self, place: usize) -> Result<Vec<DbRow>, NoMemory>
-        requires { IsInOrder B.kind_of B.blank B.view self.now }
-        ensures { IfOk result (λ rows. rows.items ≡ play.db_at (state_of B.kind_of B.blank B.view self.now) place) }
+        requires { IsInOrder B.shown self.now }
+        ensures { IfOk result (λ rows. rows.items ≡ play.db_at (state_of B.shown self.now) place) }
     {
         match self.boxes.get(place) {
             None => Ok(Vec::new(self.alloc)),
@@ -67,11 +67,11 @@ impl<B: Bridge> NetworkOf<B> {
     /// The adjacencies of a bridge.
     #[tactic(auto, unfolding(crate::specs::Refusing::unnamed_refusal, crate::specs::Play::adj_of, crate::specs::Reason::reason_unless))]
     pub(crate) fn adj(&self, name: Name) -> Result<Answer, ApplyError>
-        requires { IsInOrder B.kind_of B.blank B.view self.now }
+        requires { IsInOrder B.shown self.now }
         ensures { MatchResult result
-            (λ answer. (unnamed_refusal (state_of B.kind_of B.blank B.view self.now) name ≡ None)
-            × (answer ≡ play.adj_of (state_of B.kind_of B.blank B.view self.now) name))
-            (Declines (unnamed_refusal (state_of B.kind_of B.blank B.view self.now) name)) }
+            (λ answer. (unnamed_refusal (state_of B.shown self.now) name ≡ None)
+            × (answer ≡ play.adj_of (state_of B.shown self.now) name))
+            (Declines (unnamed_refusal (state_of B.shown self.now) name)) }
     {
         match self.world.bridge_place(name) {
             None => Err(ApplyError::Refused(Reason::NoSuchName)),
@@ -87,8 +87,8 @@ impl<B: Bridge> NetworkOf<B> {
 
     /// The ports of the bridge at a place, from port 1 on: the adjacency, and whether CSNPs are due.
     fn adjacencies(&self, place: usize) -> Result<Vec<(Adjacency, bool)>, NoMemory>
-        requires { IsInOrder B.kind_of B.blank B.view self.now }
-        ensures { IfOk result (λ ports. ports.items ≡ play.adj_at (state_of B.kind_of B.blank B.view self.now) place) }
+        requires { IsInOrder B.shown self.now }
+        ensures { IfOk result (λ ports. ports.items ≡ play.adj_at (state_of B.shown self.now) place) }
     {
         let count = self.world.ports(place);
         match self.boxes.get(place) {

@@ -34,7 +34,7 @@ fn is_same_kind(x: Kind, y: Kind) -> bool
 
 /// Whether a box is a blank one of a kind.
 fn serves<B: Bridge>(bridge: &B, wanted: Kind) -> bool
-    ensures { result ≡ state.serves wanted (spare B.kind_of B.blank B.view bridge.now) }
+    ensures { result ≡ state.serves wanted (spare B.shown bridge.now) }
 {
     bridge.is_blank() && is_same_kind(bridge.kind(), wanted)
 }
@@ -42,9 +42,9 @@ fn serves<B: Bridge>(bridge: &B, wanted: Kind) -> bool
 /// The next blank box of a kind, by place in the rack. None exactly where none is left.
 #[tactic(auto, unfolding(crate::specs::State::next_box))]
 pub fn next_box<B: Bridge>(rack: &Vec<B>, wanted: Kind) -> Option<usize>
-    ensures place { result ≡ state.next_box wanted (map (spare B.kind_of B.blank B.view) rack.now.items) }
+    ensures place { result ≡ state.next_box wanted (map (spare B.shown) rack.now.items) }
     ensures within { IfSome result (λ place. place < length rack.now.items) }
-    ensures blank { IfSome result (IsBlankAt B.blank rack.now.items) }
+    ensures blank { IfSome result (IsBlankAt B.shown rack.now.items) }
 {
     for place in 0..rack.len() {
         if serves(&rack[place], wanted) {

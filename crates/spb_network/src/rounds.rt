@@ -38,10 +38,10 @@ fn full_at(lanes: &[Lanes], link: usize) -> Option<Way>
 impl<B: Bridge> NetworkOf<B> {
     /// Every bridge ticks, in order of declaration.
     fn tick_all(&mut self) -> Result<(), NoMemory>
-        requires { IsInOrder B.kind_of B.blank B.view self.old }
-        ensures state { OnOk result (state_of B.kind_of B.blank B.view self.new
-            ≡ event.all_ticked (state_of B.kind_of B.blank B.view self.old)) }
-        ensures order { OnOk result (IsInOrder B.kind_of B.blank B.view self.new) }
+        requires { IsInOrder B.shown self.old }
+        ensures state { OnOk result (state_of B.shown self.new
+            ≡ event.all_ticked (state_of B.shown self.old)) }
+        ensures order { OnOk result (IsInOrder B.shown self.new) }
     {
         for i in 0..self.boxes.len() {
             self.tick(i)?;
@@ -52,10 +52,10 @@ impl<B: Bridge> NetworkOf<B> {
     /// As many frames of a lane are delivered as it holds.
     #[tactic(auto, unfolding(crate::specs::Events::lane_served))]
     fn serve_lane(&mut self, way: Way) -> Result<(), NoMemory>
-        requires { IsInOrder B.kind_of B.blank B.view self.old }
-        ensures state { OnOk result (state_of B.kind_of B.blank B.view self.new
-            ≡ event.lane_served (state_of B.kind_of B.blank B.view self.old) way.link way.dir) }
-        ensures order { OnOk result (IsInOrder B.kind_of B.blank B.view self.new) }
+        requires { IsInOrder B.shown self.old }
+        ensures state { OnOk result (state_of B.shown self.new
+            ≡ event.lane_served (state_of B.shown self.old) way.link way.dir) }
+        ensures order { OnOk result (IsInOrder B.shown self.new) }
     {
         for _ in 0..wires::len(&self.lanes, way) {
             self.deliver(way)?;
@@ -65,10 +65,10 @@ impl<B: Bridge> NetworkOf<B> {
 
     /// Both lanes of the link at a place are served, ab before ba.
     fn serve_link(&mut self, link: usize) -> Result<(), NoMemory>
-        requires { IsInOrder B.kind_of B.blank B.view self.old }
-        ensures state { OnOk result (state_of B.kind_of B.blank B.view self.new
-            ≡ event.link_served (state_of B.kind_of B.blank B.view self.old) link) }
-        ensures order { OnOk result (IsInOrder B.kind_of B.blank B.view self.new) }
+        requires { IsInOrder B.shown self.old }
+        ensures state { OnOk result (state_of B.shown self.new
+            ≡ event.link_served (state_of B.shown self.old) link) }
+        ensures order { OnOk result (IsInOrder B.shown self.new) }
     {
         self.serve_lane(Way { link, dir: Dir::Ab })?;
         self.serve_lane(Way { link, dir: Dir::Ba })
@@ -76,10 +76,10 @@ impl<B: Bridge> NetworkOf<B> {
 
     /// Every link is served, in order of declaration.
     fn serve_all(&mut self) -> Result<(), NoMemory>
-        requires { IsInOrder B.kind_of B.blank B.view self.old }
-        ensures state { OnOk result (state_of B.kind_of B.blank B.view self.new
-            ≡ event.all_served (state_of B.kind_of B.blank B.view self.old)) }
-        ensures order { OnOk result (IsInOrder B.kind_of B.blank B.view self.new) }
+        requires { IsInOrder B.shown self.old }
+        ensures state { OnOk result (state_of B.shown self.new
+            ≡ event.all_served (state_of B.shown self.old)) }
+        ensures order { OnOk result (IsInOrder B.shown self.new) }
     {
         for link in 0..self.lanes.len() {
             self.serve_link(link)?;
@@ -89,10 +89,10 @@ impl<B: Bridge> NetworkOf<B> {
 
     /// So many rounds. In each every bridge ticks, and then every link is served.
     pub(crate) fn play_rounds(&mut self, n: u32) -> Result<(), NoMemory>
-        requires { IsInOrder B.kind_of B.blank B.view self.old }
-        ensures state { OnOk result (state_of B.kind_of B.blank B.view self.new
-            ≡ event.rounds n (state_of B.kind_of B.blank B.view self.old)) }
-        ensures order { OnOk result (IsInOrder B.kind_of B.blank B.view self.new) }
+        requires { IsInOrder B.shown self.old }
+        ensures state { OnOk result (state_of B.shown self.new
+            ≡ event.rounds n (state_of B.shown self.old)) }
+        ensures order { OnOk result (IsInOrder B.shown self.new) }
     {
         for _ in 0..n {
             self.play_round()?;
@@ -103,10 +103,10 @@ impl<B: Bridge> NetworkOf<B> {
     /// One round.
     #[tactic(auto, unfolding(crate::specs::Events::one_round))]
     fn play_round(&mut self) -> Result<(), NoMemory>
-        requires { IsInOrder B.kind_of B.blank B.view self.old }
-        ensures state { OnOk result (state_of B.kind_of B.blank B.view self.new
-            ≡ event.one_round (state_of B.kind_of B.blank B.view self.old)) }
-        ensures order { OnOk result (IsInOrder B.kind_of B.blank B.view self.new) }
+        requires { IsInOrder B.shown self.old }
+        ensures state { OnOk result (state_of B.shown self.new
+            ≡ event.one_round (state_of B.shown self.old)) }
+        ensures order { OnOk result (IsInOrder B.shown self.new) }
     {
         self.tick_all()?;
         self.serve_all()
@@ -114,10 +114,10 @@ impl<B: Bridge> NetworkOf<B> {
 
     /// At most so many deliveries, each from the first lane that isn't empty.
     pub(crate) fn play_drain(&mut self, n: u32) -> Result<(), NoMemory>
-        requires { IsInOrder B.kind_of B.blank B.view self.old }
-        ensures state { OnOk result (state_of B.kind_of B.blank B.view self.new
-            ≡ event.drained n (state_of B.kind_of B.blank B.view self.old)) }
-        ensures order { OnOk result (IsInOrder B.kind_of B.blank B.view self.new) }
+        requires { IsInOrder B.shown self.old }
+        ensures state { OnOk result (state_of B.shown self.new
+            ≡ event.drained n (state_of B.shown self.old)) }
+        ensures order { OnOk result (IsInOrder B.shown self.new) }
     {
         for _ in 0..n {
             let Some(way) = first_full(&self.lanes) else {

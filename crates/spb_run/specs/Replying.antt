@@ -1,7 +1,6 @@
 -- What a reply to a line is, and which networks can be played.
 use Rattle.std.specs.Prelude.{◌≡◌, Bool, false}
-use Rattle.bridge_api.specs.declared.kind.Kind.{Kind}
-use Rattle.bridge_api.specs.View.{BridgeView}
+use Rattle.bridge_api.specs.Shown.{Shown}
 use Rattle.spb_network.specs.declared.network.NetworkOf.{NetworkOf}
 use Rattle.spb_network.specs.Applying.{IsReady}
 use Rattle.spb_network.specs.Network.{state_of}
@@ -16,13 +15,13 @@ pub record Replies (judgement : Judged) (reply : Reply) (new : State) : Type 0 w
   pub refused : reply.refused ≡ judgement.refused
   pub state : new ≡ judgement.state
 
-module _ {B : Type 0} (kind_of : B → Kind) (blank : B → Bool) (view : B → BridgeView) where
+module _ {B : Type 0} (shown : B → Shown) where
   -- a network at which every command so far found memory
   pub record IsAlive (n : NetworkOf B) : Type 0 where
     pub halted : n.halted ≡ false
-    pub ready : IsReady kind_of blank view n
+    pub ready : IsReady shown n
 
   -- a network as it is made of a rack: nothing is declared, and no command was applied
   pub record IsNew (n : NetworkOf B) : Type 0 where
     pub alive : IsAlive n
-    pub opening : state_of kind_of blank view n ≡ opening (state_of kind_of blank view n).rule (state_of kind_of blank view n).rack
+    pub opening : state_of shown n ≡ opening (state_of shown n).rule (state_of shown n).rack

@@ -74,13 +74,13 @@ fn play_command<B: Bridge>(
     number: u32,
     command: &Command,
 ) -> Result<Reply, NoMemory>
-    requires { IsAlive B.kind_of B.blank B.view network.old }
+    requires { IsAlive B.shown network.old }
     ensures ok { IfOk result (λ reply. Replies
-        (play.judged_by (state_of B.kind_of B.blank B.view network.old) number command.now
-        (refuse.refusal_of (state_of B.kind_of B.blank B.view network.old) command.now))
-        reply (state_of B.kind_of B.blank B.view network.new)) }
-    ensures alive { OnOk result (IsAlive B.kind_of B.blank B.view network.new) }
-    ensures ready { IsReady B.kind_of B.blank B.view network.new }
+        (play.judged_by (state_of B.shown network.old) number command.now
+        (refuse.refusal_of (state_of B.shown network.old) command.now))
+        reply (state_of B.shown network.new)) }
+    ensures alive { OnOk result (IsAlive B.shown network.new) }
+    ensures ready { IsReady B.shown network.new }
 {
     match network.apply(command) {
         Ok(answer) => Ok(Reply {
@@ -99,12 +99,12 @@ fn play_parsed<B: Bridge>(
     number: u32,
     line: &[u8],
 ) -> Result<Reply, NoMemory>
-    requires { IsAlive B.kind_of B.blank B.view network.old }
+    requires { IsAlive B.shown network.old }
     ensures ok { IfOk result (λ reply. Replies
-        (play.judged_as (state_of B.kind_of B.blank B.view network.old) number (line_of line.now))
-        reply (state_of B.kind_of B.blank B.view network.new)) }
-    ensures alive { OnOk result (IsAlive B.kind_of B.blank B.view network.new) }
-    ensures ready { IsReady B.kind_of B.blank B.view network.new }
+        (play.judged_as (state_of B.shown network.old) number (line_of line.now))
+        reply (state_of B.shown network.new)) }
+    ensures alive { OnOk result (IsAlive B.shown network.new) }
+    ensures ready { IsReady B.shown network.new }
 {
     match parse_line(alloc, line) {
         Ok(Some(command)) => play_command(alloc, network, number, &command),
@@ -126,12 +126,12 @@ pub(crate) fn play_line<B: Bridge>(
     number: u32,
     line: &[u8],
 ) -> Result<Reply, NoMemory>
-    requires { IsAlive B.kind_of B.blank B.view network.old }
+    requires { IsAlive B.shown network.old }
     ensures ok { IfOk result (λ reply. Replies
-        (play.judged (state_of B.kind_of B.blank B.view network.old) number line.now)
-        reply (state_of B.kind_of B.blank B.view network.new)) }
-    ensures alive { OnOk result (IsAlive B.kind_of B.blank B.view network.new) }
-    ensures ready { IsReady B.kind_of B.blank B.view network.new }
+        (play.judged (state_of B.shown network.old) number line.now)
+        reply (state_of B.shown network.new)) }
+    ensures alive { OnOk result (IsAlive B.shown network.new) }
+    ensures ready { IsReady B.shown network.new }
 {
     match head(line) {
         None => play_parsed(alloc, network, number, line),

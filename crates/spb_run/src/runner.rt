@@ -28,17 +28,17 @@ fn answer_line<B: Bridge, K: Sink>(
     line: &[u8],
     sink: &mut K,
 ) -> Result<Option<Refusal>, WriteError>
-    requires { IsAlive B.kind_of B.blank B.view network.old }
+    requires { IsAlive B.shown network.old }
     ensures text { OnOk result (Appends (K.holds sink.old) (K.holds sink.new)
-        (judged (state_of B.kind_of B.blank B.view network.old) number line.now).text) }
+        (judged (state_of B.shown network.old) number line.now).text) }
     ensures refused { IfOk result (λ refused.
-        refused ≡ (judged (state_of B.kind_of B.blank B.view network.old) number line.now).refused) }
-    ensures state { OnOk result (state_of B.kind_of B.blank B.view network.new
-        ≡ (judged (state_of B.kind_of B.blank B.view network.old) number line.now).state) }
-    ensures alive { OnOk result (IsAlive B.kind_of B.blank B.view network.new) }
-    ensures ready { IsReady B.kind_of B.blank B.view network.new }
+        refused ≡ (judged (state_of B.shown network.old) number line.now).refused) }
+    ensures state { OnOk result (state_of B.shown network.new
+        ≡ (judged (state_of B.shown network.old) number line.now).state) }
+    ensures alive { OnOk result (IsAlive B.shown network.new) }
+    ensures ready { IsReady B.shown network.new }
     ensures front { OnErr result (AppendsFront (K.holds sink.old) (K.holds sink.new)
-        (judged (state_of B.kind_of B.blank B.view network.old) number line.now).text) }
+        (judged (state_of B.shown network.old) number line.now).text) }
     ensures count { K.faults sink.old ≤ K.faults sink.new }
     ensures failed { IsErrOf result WriteError.Failed → Rose (K.faults sink.old) (K.faults sink.new) }
     ensures reliable { IsTrue (K.is_reliable sink.old) →
@@ -57,18 +57,18 @@ fn play_script<B: Bridge, K: Sink>(
     script: &[u8],
     sink: &mut K,
 ) -> Result<Option<(u32, Refusal)>, WriteError>
-    requires alive { IsAlive B.kind_of B.blank B.view network.old }
+    requires alive { IsAlive B.shown network.old }
     requires short { length script.now ≤ most_bytes }
     ensures text { OnOk result (Appends (K.holds sink.old) (K.holds sink.new)
-        (played (state_of B.kind_of B.blank B.view network.old) script.now).text) }
+        (played (state_of B.shown network.old) script.now).text) }
     ensures refused { IfOk result (λ refused.
-        refused ≡ (played (state_of B.kind_of B.blank B.view network.old) script.now).refused) }
-    ensures state { OnOk result (state_of B.kind_of B.blank B.view network.new
-        ≡ end_of (state_of B.kind_of B.blank B.view network.old) script.now) }
-    ensures alive { OnOk result (IsAlive B.kind_of B.blank B.view network.new) }
-    ensures ready { IsReady B.kind_of B.blank B.view network.new }
+        refused ≡ (played (state_of B.shown network.old) script.now).refused) }
+    ensures state { OnOk result (state_of B.shown network.new
+        ≡ end_of (state_of B.shown network.old) script.now) }
+    ensures alive { OnOk result (IsAlive B.shown network.new) }
+    ensures ready { IsReady B.shown network.new }
     ensures front { OnErr result (AppendsFront (K.holds sink.old) (K.holds sink.new)
-        (played (state_of B.kind_of B.blank B.view network.old) script.now).text) }
+        (played (state_of B.shown network.old) script.now).text) }
     ensures failed { IsErrOf result WriteError.Failed → Rose (K.faults sink.old) (K.faults sink.new) }
     ensures reliable { IsTrue (K.is_reliable sink.old) → result ≢ Err WriteError.Failed }
 {
@@ -101,18 +101,18 @@ fn status_of_script<B: Bridge, K: Sink>(
     script: &[u8],
     sink: &mut K,
 ) -> Status
-    requires alive { IsAlive B.kind_of B.blank B.view network.old }
+    requires alive { IsAlive B.shown network.old }
     requires short { length script.now ≤ most_bytes }
     ensures fate { IsTrue (forms.is_written result) →
-        result ≡ fate_of (state_of B.kind_of B.blank B.view network.old) script.now }
+        result ≡ fate_of (state_of B.shown network.old) script.now }
     ensures text { IsTrue (forms.is_written result) → Appends (K.holds sink.old) (K.holds sink.new)
-        (text_of (state_of B.kind_of B.blank B.view network.old) script.now) }
-    ensures state { IsTrue (forms.is_ended result) → state_of B.kind_of B.blank B.view network.new
-        ≡ end_of (state_of B.kind_of B.blank B.view network.old) script.now }
-    ensures alive { IsTrue (forms.is_ended result) → IsAlive B.kind_of B.blank B.view network.new }
-    ensures ready { IsReady B.kind_of B.blank B.view network.new }
+        (text_of (state_of B.shown network.old) script.now) }
+    ensures state { IsTrue (forms.is_ended result) → state_of B.shown network.new
+        ≡ end_of (state_of B.shown network.old) script.now }
+    ensures alive { IsTrue (forms.is_ended result) → IsAlive B.shown network.new }
+    ensures ready { IsReady B.shown network.new }
     ensures front { IsTrue (forms.is_cut result) → AppendsFront (K.holds sink.old) (K.holds sink.new)
-        (text_of (state_of B.kind_of B.blank B.view network.old) script.now) }
+        (text_of (state_of B.shown network.old) script.now) }
     ensures other { IsTrue (forms.is_silent result) → ⊥ }
     ensures failed { result ≡ Status.WriteFault → Rose (K.faults sink.old) (K.faults sink.new) }
     ensures reliable { IsTrue (K.is_reliable sink.old) → result ≢ Status.WriteFault }
@@ -137,7 +137,7 @@ pub fn run<B: Bridge, S: Source, K: Sink>(
     source: &mut S,
     sink: &mut K,
 ) -> Status
-    requires { IsNew B.kind_of B.blank B.view network.old }
+    requires { IsNew B.shown network.old }
 
     // Usage comes exactly for other words, and then nothing is read, played or written.
     ensures usage { (result ≡ Status.Usage) ↔ (forms.is_run (map string_bytes words.now) ≡ false) }
@@ -147,25 +147,25 @@ pub fn run<B: Bridge, S: Source, K: Sink>(
 
     // The status is the script's fate and all of its text is written, unless the run was cut short.
     ensures fate { IsTrue (forms.is_written result) → IfSome (S.left source.old) (λ script.
-        result ≡ fate_of (state_of B.kind_of B.blank B.view network.old) script) }
+        result ≡ fate_of (state_of B.shown network.old) script) }
     ensures text { IsTrue (forms.is_written result) → IfSome (S.left source.old) (λ script.
         Appends (K.holds sink.old) (K.holds sink.new)
-        (text_of (state_of B.kind_of B.blank B.view network.old) script)) }
+        (text_of (state_of B.shown network.old) script)) }
     ensures ended { result ≡ Status.Done → IsAtEnd (S.left source.new) }
 
     // A run that ended by itself leaves the network as the accepted lines make it.
     ensures state { IsTrue (forms.is_ended result) → IfSome (S.left source.old) (λ script.
-        state_of B.kind_of B.blank B.view network.new
-        ≡ end_of (state_of B.kind_of B.blank B.view network.old) script) }
+        state_of B.shown network.new
+        ≡ end_of (state_of B.shown network.old) script) }
 
     // The network is sound then, and after every run it can be asked to apply commands.
-    ensures sound { IsTrue (forms.is_ended result) → IsSoundState (state_of B.kind_of B.blank B.view network.new) }
-    ensures ready { IsReady B.kind_of B.blank B.view network.new }
+    ensures sound { IsTrue (forms.is_ended result) → IsSoundState (state_of B.shown network.new) }
+    ensures ready { IsReady B.shown network.new }
 
     // A run that was cut short wrote a front of the text.
     ensures front { IsTrue (forms.is_cut result) → IfSome (S.left source.old) (λ script.
         AppendsFront (K.holds sink.old) (K.holds sink.new)
-        (text_of (state_of B.kind_of B.blank B.view network.old) script)) }
+        (text_of (state_of B.shown network.old) script)) }
 
     // A fault comes only where the source or the sink failed in this call.
     ensures read_fault { result ≡ Status.ReadFault → Rose (S.faults source.old) (S.faults source.new) }
@@ -176,7 +176,7 @@ pub fn run<B: Bridge, S: Source, K: Sink>(
     // So over a source and a sink that don't fail, only memory can be wanting.
     ensures complete { IsTrue (forms.is_run (map string_bytes words.now)) → IsTrue (S.is_reliable source.old) →
         IsTrue (K.is_reliable sink.old) → IfSome (S.left source.old) (λ script.
-        (result ≡ fate_of (state_of B.kind_of B.blank B.view network.old) script) ⊎ (result ≡ Status.NoMemory)) }
+        (result ≡ fate_of (state_of B.shown network.old) script) ⊎ (result ≡ Status.NoMemory)) }
 
     // At most one byte more is read than a script may have.
     ensures few { (read : List ℕ) × Consumes (S.left source.old) (S.left source.new) read × (length read ≤ most_bytes + 1) }

@@ -526,10 +526,10 @@ fn declare_two<B: Bridge>(
     b: Name,
     link: Name,
 ) -> Result<(), ApplyError>
-    requires alive { IsAlive B.kind_of B.blank B.view network.old }
-    requires new { (state_of B.kind_of B.blank B.view network.old).world.bridges ≡ [] }
-    ensures alive { OnOk result (IsAlive B.kind_of B.blank B.view network.new) }
-    ensures ports { OnOk result ((i : ℕ) → IsPortAt (state_of B.kind_of B.blank B.view network.new).views i 1) }
+    requires alive { IsAlive B.shown network.old }
+    requires new { (state_of B.shown network.old).world.bridges ≡ [] }
+    ensures alive { OnOk result (IsAlive B.shown network.new) }
+    ensures ports { OnOk result ((i : ℕ) → IsPortAt (state_of B.shown network.new).views i 1) }
 {
     let _first = network.apply(&Command::Bridge {
         name: a,
@@ -558,8 +558,8 @@ fn declare_two<B: Bridge>(
 
 /// What the box of the bridge at a place answers: the adjacency at its first port, and the first LSP that it holds.
 fn asked<B: Bridge>(network: &NetworkOf<B>, place: usize) -> Option<(Adjacency, LspId)>
-    requires alive { IsAlive B.kind_of B.blank B.view network.now }
-    requires port { IsPortAt (state_of B.kind_of B.blank B.view network.now).views place 1 }
+    requires alive { IsAlive B.shown network.now }
+    requires port { IsPortAt (state_of B.shown network.now).views place 1 }
 {
     match network.boxes().get(place) {
         None => None,

@@ -11,11 +11,11 @@ use Rattle.plain_bridge.proofs.tests.make.Goals as goal
 pub carrier-requires-clause-port : goal.carrier-requires-clause-port
 carrier-requires-clause-port g c = λ unfailed.
     let config = c.in_ok-config.config in
-    let made : length (g.B.Bridge.view c.configure.new.self).ports ≡ length config.metrics = ap (λ (v : BridgeView). length v.ports) c.in_ok-configure.ensures.view ∙ (ap length (configured_ports config) ∙ length-map config.metrics dark) in
+    let made : length (g.B.Bridge.shown c.configure.new.self).view.ports ≡ length config.metrics = ap (λ (v : BridgeView). length v.ports) c.in_ok-configure.ensures.view ∙ (ap length (configured_ports config) ∙ length-map config.metrics dark) in
     record { low = omega arith; high = omega (arith, made, c.in_ok-config.ensures.whole.metrics, c.in_ok-config.ensures.port) }
 
 pub returns-clause-port : goal.returns-clause-port
 returns-clause-port g c =
     let config = c.in_ok-config.config in
-    let made : length (g.B.Bridge.view c.configure.new.self).ports ≡ length config.metrics = ap (λ (v : BridgeView). length v.ports) c.in_ok-configure.ensures.view ∙ (ap length (configured_ports config) ∙ length-map config.metrics dark) in
-    on_ok_weaker c.carrier.result (λ lit. omega (arith, ports_after (carrier 1 true) (g.B.Bridge.view c.configure.new.self) (g.B.Bridge.view c.carrier.new.self) lit, made, c.in_ok-config.ensures.whole.metrics, c.in_ok-config.ensures.port)) c.carrier.ensures.view
+    let made : length (g.B.Bridge.shown c.configure.new.self).view.ports ≡ length config.metrics = ap (λ (v : BridgeView). length v.ports) c.in_ok-configure.ensures.view ∙ (ap length (configured_ports config) ∙ length-map config.metrics dark) in
+    on_ok_weaker c.carrier.result (λ lit. omega (arith, ports_after (carrier 1 true) (g.B.Bridge.shown c.configure.new.self).view (g.B.Bridge.shown c.carrier.new.self).view lit, made, c.in_ok-config.ensures.whole.metrics, c.in_ok-config.ensures.port)) c.carrier.ensures.view

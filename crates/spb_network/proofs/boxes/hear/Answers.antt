@@ -1,16 +1,17 @@
 use Rattle.bridge_api.specs.Step as comes
 use Rattle.bridge_api.specs.Step.{sent, step, with_wire}
+use Rattle.bridge_api.specs.Shown.{view_in}
 use Rattle.spb_network.proofs.BoxLemmas.{map-set, changed-none, get-map, on_ok, lent, lent-none}
 use Rattle.spb_network.proofs.boxes.hear.Goals as goal
 
 pub returns-in-None-clause-views : goal.returns-in-None-clause-views
 returns-in-None-clause-views g c =
-    changed-none g.B.Bridge.view (step (comes.frame c.args.port c.args.frame.now)) c.args.boxes.now.items c.args.i (lent-none _ _ _ c.get_mut.ensures.item c.in-None.is)
+    changed-none (view_in g.B.Bridge.shown) (step (comes.frame c.args.port c.args.frame.now)) c.args.boxes.now.items c.args.i (lent-none _ _ _ c.get_mut.ensures.item c.in-None.is)
 
 pub returns-in-Some-clause-views : goal.returns-in-Some-clause-views
 returns-in-Some-clause-views g c =
-    on_ok c.receive.result (map-set g.B.Bridge.view (step (comes.frame c.args.port c.args.frame.now)) c.args.boxes.now.items c.args.i c.in-Some.bridge.now c.receive.new.self (lent _ _ _ _ c.get_mut.ensures.item c.in-Some.is)) c.receive.ensures.view
+    on_ok c.receive.result (map-set (view_in g.B.Bridge.shown) (step (comes.frame c.args.port c.args.frame.now)) c.args.boxes.now.items c.args.i c.in-Some.bridge.now c.receive.new.self (lent _ _ _ _ c.get_mut.ensures.item c.in-Some.is)) c.receive.ensures.view
 
 pub receive-requires-clause-port : goal.receive-requires-clause-port
 receive-requires-clause-port g c not_failed =
-    c.requires.port (g.B.Bridge.view c.in-Some.bridge.now) (get-map g.B.Bridge.view c.args.boxes.now.items c.args.i c.in-Some.bridge.now (lent _ _ _ _ c.get_mut.ensures.item c.in-Some.is))
+    c.requires.port ((view_in g.B.Bridge.shown) c.in-Some.bridge.now) (get-map (view_in g.B.Bridge.shown) c.args.boxes.now.items c.args.i c.in-Some.bridge.now (lent _ _ _ _ c.get_mut.ensures.item c.in-Some.is))

@@ -9,13 +9,13 @@ use Rattle.spb_network.proofs.boxes.held_rows.Goals as goal
 
 pub loop-held-smaller : goal.loop-held-smaller
 loop-held-smaller g c =
-    let db : Lsps = (g.B.Bridge.view c.args.bridge.now).database in
+    let db : Lsps = (g.B.Bridge.shown c.args.bridge.now).view.database in
     let at : slice_get (entries db) c.len.result ≡ Some (keyed c.in-Some.held.now) = sym c.entry.ensures ∙ ap (λ o. option_map keyed (option_copied o)) c.in-Some.is in
     omega (arith, c.len.ensures, within row_of (entries db) c.len.result (keyed c.in-Some.held.now) at, ap length c.in_ok-push.ensures.items, length-push c.loop-held.rows.items c.row.result)
 
 pub loop-held-preserved : goal.loop-held-preserved
 loop-held-preserved g c =
-    let db : Lsps = (g.B.Bridge.view c.args.bridge.now).database in
+    let db : Lsps = (g.B.Bridge.shown c.args.bridge.now).view.database in
     let n : ℕ = length c.loop-held.rows.items in
     let place : n ≡ c.len.result = omega (arith, c.len.ensures, c.loop-held.rows.ok) in
     let at : slice_get (entries db) n ≡ Some (keyed c.in-Some.held.now) = ap (slice_get (entries db)) place ∙ (sym c.entry.ensures ∙ ap (λ o. option_map keyed (option_copied o)) c.in-Some.is) in
@@ -27,7 +27,7 @@ loop-held-preserved g c =
 
 pub returns : goal.returns
 returns g c =
-    let db : Lsps = (g.B.Bridge.view c.args.bridge.now).database in
+    let db : Lsps = (g.B.Bridge.shown c.args.bridge.now).view.database in
     let n : ℕ = length c.loop-held.rows.items in
     let place : n ≡ c.len.result = omega (arith, c.len.ensures, c.loop-held.rows.ok) in
     let past : slice_get (entries db) n ≡ None = ap (slice_get (entries db)) place ∙ (sym c.entry.ensures ∙ ap (λ o. option_map keyed (option_copied o)) c.in_default.is) in

@@ -3,7 +3,7 @@ use Rattle.spb_network.specs.Play.{rows_of}
 use Rattle.spb_network.proofs.boxes.held_rows.Given as goal
 
 abbrev pub invariant-loop-held : goal.invariant-loop-held
-invariant-loop-held g l = l.rows.items ≡ take (length l.rows.items) (rows_of (g.B.Bridge.view l.fn.bridge).database)
+invariant-loop-held g l = l.rows.items ≡ take (length l.rows.items) (rows_of (g.B.Bridge.shown l.fn.bridge).view.database)
 
 abbrev pub decreases-loop-held : goal.decreases-loop-held
-decreases-loop-held g l = length (rows_of (g.B.Bridge.view l.fn.bridge).database) - length l.rows.items
+decreases-loop-held g l = length (rows_of (g.B.Bridge.shown l.fn.bridge).view.database) - length l.rows.items

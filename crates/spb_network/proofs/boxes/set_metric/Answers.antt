@@ -1,16 +1,17 @@
 use Rattle.bridge_api.specs.Step as comes
 use Rattle.bridge_api.specs.Step.{sent, step, with_wire}
+use Rattle.bridge_api.specs.Shown.{view_in}
 use Rattle.spb_network.proofs.BoxLemmas.{map-set, changed-none, get-map, on_ok, lent, lent-none}
 use Rattle.spb_network.proofs.boxes.set_metric.Goals as goal
 
 pub returns-in-None-clause-views : goal.returns-in-None-clause-views
 returns-in-None-clause-views g c =
-    changed-none g.B.Bridge.view (step (comes.metric c.args.port c.args.metric)) c.args.boxes.now.items c.args.i (lent-none _ _ _ c.get_mut.ensures.item c.in-None.is)
+    changed-none (view_in g.B.Bridge.shown) (step (comes.metric c.args.port c.args.metric)) c.args.boxes.now.items c.args.i (lent-none _ _ _ c.get_mut.ensures.item c.in-None.is)
 
 pub returns-in-Some-clause-views : goal.returns-in-Some-clause-views
 returns-in-Some-clause-views g c =
-    on_ok c.set_metric.result (map-set g.B.Bridge.view (step (comes.metric c.args.port c.args.metric)) c.args.boxes.now.items c.args.i c.in-Some.bridge.now c.set_metric.new.self (lent _ _ _ _ c.get_mut.ensures.item c.in-Some.is)) c.set_metric.ensures.view
+    on_ok c.set_metric.result (map-set (view_in g.B.Bridge.shown) (step (comes.metric c.args.port c.args.metric)) c.args.boxes.now.items c.args.i c.in-Some.bridge.now c.set_metric.new.self (lent _ _ _ _ c.get_mut.ensures.item c.in-Some.is)) c.set_metric.ensures.view
 
 pub set_metric-requires-clause-port : goal.set_metric-requires-clause-port
 set_metric-requires-clause-port g c not_failed =
-    c.requires.port (g.B.Bridge.view c.in-Some.bridge.now) (get-map g.B.Bridge.view c.args.boxes.now.items c.args.i c.in-Some.bridge.now (lent _ _ _ _ c.get_mut.ensures.item c.in-Some.is))
+    c.requires.port ((view_in g.B.Bridge.shown) c.in-Some.bridge.now) (get-map (view_in g.B.Bridge.shown) c.args.boxes.now.items c.args.i c.in-Some.bridge.now (lent _ _ _ _ c.get_mut.ensures.item c.in-Some.is))

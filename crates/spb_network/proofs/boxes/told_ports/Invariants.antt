@@ -5,4 +5,4 @@ use Rattle.spb_network.proofs.boxes.told_ports.Given as goal
 abbrev pub invariant-loop-place : goal.invariant-loop-place
 invariant-loop-place g l =
     (l.place ≤ l.fn.count) ×
-    (l.ports.items ≡ take l.place (told_ports (g.B.Bridge.view l.fn.bridge).ports))
+    (l.ports.items ≡ take l.place (told_ports (g.B.Bridge.shown l.fn.bridge).view.ports))

@@ -6,5 +6,5 @@ use Rattle.spb_network.proofs.rack.next_box.Given as goal
 abbrev pub invariant-loop-place : goal.invariant-loop-place
 invariant-loop-place g l =
     (l.place ≤ length l.rack.items) ×
-    (box_from 0 l.wanted (map (spare g.B.Bridge.kind_of g.B.Bridge.blank g.B.Bridge.view) l.rack.items)
-    ≡ box_from l.place l.wanted (drop l.place (map (spare g.B.Bridge.kind_of g.B.Bridge.blank g.B.Bridge.view) l.rack.items)))
+    (box_from 0 l.wanted (map (spare g.B.Bridge.shown) l.rack.items)
+    ≡ box_from l.place l.wanted (drop l.place (map (spare g.B.Bridge.shown) l.rack.items)))

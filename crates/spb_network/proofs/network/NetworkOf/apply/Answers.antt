@@ -9,7 +9,7 @@ use Rattle.spb_network.proofs.network.NetworkOf.apply.Goals as goal
 pub returns-in-Ok-clause-applies : goal.returns-in-Ok-clause-applies
 unfolding next_state
 returns-in-Ok-clause-applies g c =
-    let made : State = state_of g.B.Bridge.kind_of g.B.Bridge.blank g.B.Bridge.view c.play.new.self in (
+    let made : State = state_of g.B.Bridge.shown c.play.new.self in (
       c.if-self.false,
       record {
         accepted = c.in-Ok.ensures.answers.0;
@@ -22,8 +22,8 @@ returns-in-Ok-clause-applies g c =
 pub returns-in-Ok-clause-ready : goal.returns-in-Ok-clause-ready
 unfolding next_state
 returns-in-Ok-clause-ready g c =
-    let old : State = state_of g.B.Bridge.kind_of g.B.Bridge.blank g.B.Bridge.view c.args.self.now in
-    let made : State = state_of g.B.Bridge.kind_of g.B.Bridge.blank g.B.Bridge.view c.play.new.self in
+    let old : State = state_of g.B.Bridge.shown c.args.self.now in
+    let made : State = state_of g.B.Bridge.shown c.play.new.self in
     let sound : IsSoundState old = ⊎_elim (λ h. absurd (true≢false (sym h ∙ c.if-self.false))) (λ n. n.state) c.requires in
     inr (record {
       made = c.in-Ok.ensures.made;

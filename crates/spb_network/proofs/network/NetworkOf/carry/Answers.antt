@@ -7,15 +7,15 @@ use Rattle.spb_network.proofs.FitsLemmas.{Fits-stepped, end_is_port}
 use Rattle.spb_network.proofs.network.NetworkOf.carry.Goals as goal
 
 pub carry-requires-clause-port : goal.carry-requires-clause-port
-carry-requires-clause-port g c = end_is_port (state_of g.B.Bridge.kind_of g.B.Bridge.blank g.B.Bridge.view c.args.self.now) c.args.end c.requires.order.fits c.requires.end
+carry-requires-clause-port g c = end_is_port (state_of g.B.Bridge.shown c.args.self.now) c.args.end c.requires.order.fits c.requires.end
 
 pub returns-clause-state : goal.returns-clause-state
 returns-clause-state g c =
-    on_ok c.carry.result (λ e. stepped-is (comes.carrier c.args.end.port c.args.on) (state_of g.B.Bridge.kind_of g.B.Bridge.blank g.B.Bridge.view c.args.self.now) c.args.end.bridge _ _ e (frames-none (state_of g.B.Bridge.kind_of g.B.Bridge.blank g.B.Bridge.view c.args.self.now).views c.args.end.bridge)) c.carry.ensures.views
+    on_ok c.carry.result (λ e. stepped-is (comes.carrier c.args.end.port c.args.on) (state_of g.B.Bridge.shown c.args.self.now) c.args.end.bridge _ _ e (frames-none (state_of g.B.Bridge.shown c.args.self.now).views c.args.end.bridge)) c.carry.ensures.views
 
 pub returns-clause-order : goal.returns-clause-order
 returns-clause-order g c =
     both c.carry.result (λ made e. record {
       made = made;
-      fits = subst Fits (sym e) (Fits-stepped (comes.carrier c.args.end.port c.args.on) (state_of g.B.Bridge.kind_of g.B.Bridge.blank g.B.Bridge.view c.args.self.now) c.args.end.bridge c.requires.order.fits);
+      fits = subst Fits (sym e) (Fits-stepped (comes.carrier c.args.end.port c.args.on) (state_of g.B.Bridge.shown c.args.self.now) c.args.end.bridge c.requires.order.fits);
     }) c.carry.ensures.made (returns-clause-state g c)

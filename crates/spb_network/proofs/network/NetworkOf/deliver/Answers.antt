@@ -10,7 +10,7 @@ use Rattle.spb_network.proofs.network.NetworkOf.deliver.Goals as goal
 
 pub hear_over-requires : goal.hear_over-requires
 hear_over-requires g c =
-    let s : State = state_of g.B.Bridge.kind_of g.B.Bridge.blank g.B.Bridge.view c.args.self.now in
+    let s : State = state_of g.B.Bridge.shown c.args.self.now in
     record {
       made = c.requires.made;
       fits = subst Fits (ap (λ l. record s { lanes = l }) (sym c.pop.ensures.rest)) (Fits-with_frames rest s c.args.way.link c.args.way.dir c.requires.fits);
@@ -19,13 +19,13 @@ hear_over-requires g c =
 pub returns-in-None-clause-state : goal.returns-in-None-clause-state
 unfolding delivered
 returns-in-None-clause-state g c =
-    let s : State = state_of g.B.Bridge.kind_of g.B.Bridge.blank g.B.Bridge.view c.args.self.now in
+    let s : State = state_of g.B.Bridge.shown c.args.self.now in
     let none : slice_get (lane_at s c.args.way.link c.args.way.dir) 0 ≡ None = sym c.pop.ensures.frame ∙ ap (option_map (λ frame. frame.items)) c.in-None.is in
     ap (λ l. record s { lanes = l }) (c.pop.ensures.rest ∙ sym (rest-none c.args.way.dir s.lanes c.args.way.link none)) ∙ sym (ap (delivered_front s c.args.way.link c.args.way.dir) none)
 
 pub returns-in-None-clause-order : goal.returns-in-None-clause-order
 returns-in-None-clause-order g c =
-    let s : State = state_of g.B.Bridge.kind_of g.B.Bridge.blank g.B.Bridge.view c.args.self.now in
+    let s : State = state_of g.B.Bridge.shown c.args.self.now in
     record {
       made = c.requires.made;
       fits = subst Fits (ap (λ l. record s { lanes = l }) (sym c.pop.ensures.rest)) (Fits-with_frames rest s c.args.way.link c.args.way.dir c.requires.fits);

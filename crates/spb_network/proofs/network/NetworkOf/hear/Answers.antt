@@ -7,15 +7,15 @@ use Rattle.spb_network.proofs.FitsLemmas.{Fits-stepped, end_is_port}
 use Rattle.spb_network.proofs.network.NetworkOf.hear.Goals as goal
 
 pub hear-requires-clause-port : goal.hear-requires-clause-port
-hear-requires-clause-port g c = end_is_port (state_of g.B.Bridge.kind_of g.B.Bridge.blank g.B.Bridge.view c.args.self.now) c.args.end c.requires.order.fits c.requires.end
+hear-requires-clause-port g c = end_is_port (state_of g.B.Bridge.shown c.args.self.now) c.args.end c.requires.order.fits c.requires.end
 
 pub returns-clause-state : goal.returns-clause-state
 returns-clause-state g c =
-    on_ok c.send_all.result (λ e. e ∙ stepped-is (comes.frame c.args.end.port c.args.frame.now) (state_of g.B.Bridge.kind_of g.B.Bridge.blank g.B.Bridge.view c.args.self.now) c.args.end.bridge _ _ c.in_ok-hear.ensures.views (c.into_vec.ensures ∙ ap (λ outbox. outbox.wire) c.in_ok-hear.ensures.sent ∙ c.new-outbox.ensures.wire ∙ frames-none (state_of g.B.Bridge.kind_of g.B.Bridge.blank g.B.Bridge.view c.args.self.now).views c.args.end.bridge)) c.send_all.ensures.state
+    on_ok c.send_all.result (λ e. e ∙ stepped-is (comes.frame c.args.end.port c.args.frame.now) (state_of g.B.Bridge.shown c.args.self.now) c.args.end.bridge _ _ c.in_ok-hear.ensures.views (c.into_vec.ensures ∙ ap (λ outbox. outbox.wire) c.in_ok-hear.ensures.sent ∙ c.new-outbox.ensures.wire ∙ frames-none (state_of g.B.Bridge.shown c.args.self.now).views c.args.end.bridge)) c.send_all.ensures.state
 
 pub returns-clause-order : goal.returns-clause-order
 returns-clause-order g c =
     on_ok c.send_all.result (λ e. record {
-      made = subst (λ b. AreMade g.B.Bridge.blank b.items) (sym c.send_all.ensures.boxes) c.in_ok-hear.ensures.made;
-      fits = subst Fits (sym e) (Fits-stepped (comes.frame c.args.end.port c.args.frame.now) (state_of g.B.Bridge.kind_of g.B.Bridge.blank g.B.Bridge.view c.args.self.now) c.args.end.bridge c.requires.order.fits);
+      made = subst (λ b. AreMade g.B.Bridge.shown b.items) (sym c.send_all.ensures.boxes) c.in_ok-hear.ensures.made;
+      fits = subst Fits (sym e) (Fits-stepped (comes.frame c.args.end.port c.args.frame.now) (state_of g.B.Bridge.shown c.args.self.now) c.args.end.bridge c.requires.order.fits);
     }) (returns-clause-state g c)

@@ -7,17 +7,17 @@ use Rattle.spb_network.proofs.FitsLemmas.{Fits-stepped, end_is_port}
 use Rattle.spb_network.proofs.network.NetworkOf.meter.Goals as goal
 
 pub set_metric-requires-clause-port : goal.set_metric-requires-clause-port
-set_metric-requires-clause-port g c = end_is_port (state_of g.B.Bridge.kind_of g.B.Bridge.blank g.B.Bridge.view c.args.self.now) c.args.end c.requires.order.fits c.requires.end
+set_metric-requires-clause-port g c = end_is_port (state_of g.B.Bridge.shown c.args.self.now) c.args.end c.requires.order.fits c.requires.end
 
 pub returns-clause-state : goal.returns-clause-state
 returns-clause-state g c =
-    on_ok c.set_metric.result (λ e. stepped-is (comes.metric c.args.end.port c.args.end.metric) (state_of g.B.Bridge.kind_of g.B.Bridge.blank g.B.Bridge.view c.args.self.now) c.args.end.bridge _ _ e (frames-none (state_of g.B.Bridge.kind_of g.B.Bridge.blank g.B.Bridge.view c.args.self.now).views c.args.end.bridge)) c.set_metric.ensures.views
+    on_ok c.set_metric.result (λ e. stepped-is (comes.metric c.args.end.port c.args.end.metric) (state_of g.B.Bridge.shown c.args.self.now) c.args.end.bridge _ _ e (frames-none (state_of g.B.Bridge.shown c.args.self.now).views c.args.end.bridge)) c.set_metric.ensures.views
 
 pub returns-clause-order : goal.returns-clause-order
 returns-clause-order g c =
     both c.set_metric.result (λ made e. record {
       made = made;
-      fits = subst Fits (sym e) (Fits-stepped (comes.metric c.args.end.port c.args.end.metric) (state_of g.B.Bridge.kind_of g.B.Bridge.blank g.B.Bridge.view c.args.self.now) c.args.end.bridge c.requires.order.fits);
+      fits = subst Fits (sym e) (Fits-stepped (comes.metric c.args.end.port c.args.end.metric) (state_of g.B.Bridge.shown c.args.self.now) c.args.end.bridge c.requires.order.fits);
     }) c.set_metric.ensures.made (returns-clause-state g c)
 
 pub set_metric-requires-clause-metric : goal.set_metric-requires-clause-metric

@@ -5,6 +5,6 @@ use Rattle.spb_network.proofs.network.NetworkOf.play_rounds.Given as goal
 
 abbrev pub invariant-loop : goal.invariant-loop
 invariant-loop g l =
-    (IsInOrder g.B.Bridge.kind_of g.B.Bridge.blank g.B.Bridge.view l.self) ×
+    (IsInOrder g.B.Bridge.shown l.self) ×
     (l.counter ≤ l.fn.n) ×
-    (rounds (l.fn.n - l.counter) (state_of g.B.Bridge.kind_of g.B.Bridge.blank g.B.Bridge.view l.self) ≡ rounds l.fn.n (state_of g.B.Bridge.kind_of g.B.Bridge.blank g.B.Bridge.view l.fn.self))
+    (rounds (l.fn.n - l.counter) (state_of g.B.Bridge.shown l.self) ≡ rounds l.fn.n (state_of g.B.Bridge.shown l.fn.self))

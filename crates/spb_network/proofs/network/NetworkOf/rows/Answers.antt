@@ -1,5 +1,6 @@
 use Rattle.std.proofs.Common.{◌≡◌, map, slice_get, Some, None, sym, ap, ◌∙◌, [], subst}
 use Rattle.std.specs.Option.{option_map_or}
+use Rattle.bridge_api.specs.Shown.{view_in, views_of}
 use Rattle.spb_network.specs.Play.{rows_of}
 use Rattle.spb_network.proofs.BoxLemmas.{get-map, get-map-none, seen, seen-none}
 use Rattle.spb_network.proofs.PortLemmas.{told-ok}
@@ -7,10 +8,10 @@ use Rattle.spb_network.proofs.network.NetworkOf.rows.Goals as goal
 
 pub returns-in-None : goal.returns-in-None
 returns-in-None g c =
-    let at = get-map-none g.B.Bridge.view _ c.args.place (seen-none _ c.args.place c.get.result c.get.ensures.lookup c.in-None.is) in
-    c.new.ensures.items ∙ ap (λ o. option_map_or (λ v. rows_of v.database) o []) (sym (subst (λ bs. slice_get (map g.B.Bridge.view bs) c.args.place ≡ None) c.deref.ensures.value at))
+    let at = get-map-none (view_in g.B.Bridge.shown) _ c.args.place (seen-none _ c.args.place c.get.result c.get.ensures.lookup c.in-None.is) in
+    c.new.ensures.items ∙ ap (λ o. option_map_or (λ v. rows_of v.database) o []) (sym (subst (λ bs. slice_get (views_of g.B.Bridge.shown bs) c.args.place ≡ None) c.deref.ensures.value at))
 
 pub returns-in-Some : goal.returns-in-Some
 returns-in-Some g c =
-    let at = get-map g.B.Bridge.view _ c.args.place c.in-Some.bridge.now (seen _ c.args.place c.get.result c.in-Some.bridge c.get.ensures.lookup c.in-Some.is) in
-    told-ok c.held_rows.result (λ x e. e ∙ ap (λ o. option_map_or (λ v. rows_of v.database) o []) (sym (subst (λ bs. slice_get (map g.B.Bridge.view bs) c.args.place ≡ Some (g.B.Bridge.view c.in-Some.bridge.now)) c.deref.ensures.value at))) c.held_rows.ensures
+    let at = get-map (view_in g.B.Bridge.shown) _ c.args.place c.in-Some.bridge.now (seen _ c.args.place c.get.result c.in-Some.bridge c.get.ensures.lookup c.in-Some.is) in
+    told-ok c.held_rows.result (λ x e. e ∙ ap (λ o. option_map_or (λ v. rows_of v.database) o []) (sym (subst (λ bs. slice_get (views_of g.B.Bridge.shown bs) c.args.place ≡ Some ((view_in g.B.Bridge.shown) c.in-Some.bridge.now)) c.deref.ensures.value at))) c.held_rows.ensures

@@ -5,6 +5,6 @@ use Rattle.spb_network.proofs.network.NetworkOf.serve_all.Given as goal
 
 abbrev pub invariant-loop-link : goal.invariant-loop-link
 invariant-loop-link g l =
-    (IsInOrder g.B.Bridge.kind_of g.B.Bridge.blank g.B.Bridge.view l.self) ×
+    (IsInOrder g.B.Bridge.shown l.self) ×
     (l.link ≤ l.link-end) ×
-    (served_from (l.link-end - l.link) l.link (state_of g.B.Bridge.kind_of g.B.Bridge.blank g.B.Bridge.view l.self) ≡ all_served (state_of g.B.Bridge.kind_of g.B.Bridge.blank g.B.Bridge.view l.fn.self))
+    (served_from (l.link-end - l.link) l.link (state_of g.B.Bridge.shown l.self) ≡ all_served (state_of g.B.Bridge.shown l.fn.self))

@@ -5,6 +5,6 @@ use Rattle.spb_network.proofs.network.NetworkOf.serve_lane.Given as goal
 
 abbrev pub invariant-loop : goal.invariant-loop
 invariant-loop g l =
-    (IsInOrder g.B.Bridge.kind_of g.B.Bridge.blank g.B.Bridge.view l.self) ×
+    (IsInOrder g.B.Bridge.shown l.self) ×
     (l.counter ≤ l.end) ×
-    (delivered_times (l.end - l.counter) l.way.link l.way.dir (state_of g.B.Bridge.kind_of g.B.Bridge.blank g.B.Bridge.view l.self) ≡ lane_served (state_of g.B.Bridge.kind_of g.B.Bridge.blank g.B.Bridge.view l.fn.self) l.way.link l.way.dir)
+    (delivered_times (l.end - l.counter) l.way.link l.way.dir (state_of g.B.Bridge.shown l.self) ≡ lane_served (state_of g.B.Bridge.shown l.fn.self) l.way.link l.way.dir)

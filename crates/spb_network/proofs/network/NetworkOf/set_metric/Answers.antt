@@ -8,7 +8,7 @@ use Rattle.spb_network.proofs.network.NetworkOf.set_metric.Goals as goal
 
 pub meter-requires-clause-order : goal.meter-requires-clause-order
 meter-requires-clause-order g c =
-    let s : State = state_of g.B.Bridge.kind_of g.B.Bridge.blank g.B.Bridge.view c.args.self.now in
+    let s : State = state_of g.B.Bridge.shown c.args.self.now in
     record {
       made = c.requires.order.made;
       fits = subst Fits (ap (λ w. record s { world = w }) (sym c.set_metric.ensures)) (Fits-with_end_metric c.args.side c.args.metric s c.args.place c.requires.order.fits);
@@ -19,7 +19,7 @@ meter-requires-clause-end g c = subst (IsEnd c.set_metric.new.self.bridges) (sym
 
 pub returns-in-None-clause-order : goal.returns-in-None-clause-order
 returns-in-None-clause-order g c =
-    let s : State = state_of g.B.Bridge.kind_of g.B.Bridge.blank g.B.Bridge.view c.args.self.now in
+    let s : State = state_of g.B.Bridge.shown c.args.self.now in
     record {
       made = c.requires.order.made;
       fits = subst Fits (ap (λ w. record s { world = w }) (sym c.set_metric.ensures)) (Fits-with_end_metric c.args.side c.args.metric s c.args.place c.requires.order.fits);

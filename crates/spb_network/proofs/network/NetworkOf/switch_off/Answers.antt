@@ -9,7 +9,7 @@ use Rattle.spb_network.proofs.network.NetworkOf.switch_off.Goals as goal
 
 pub carry_over-requires-clause-order : goal.carry_over-requires-clause-order
 carry_over-requires-clause-order g c =
-    let s : State = state_of g.B.Bridge.kind_of g.B.Bridge.blank g.B.Bridge.view c.args.self.now in
+    let s : State = state_of g.B.Bridge.shown c.args.self.now in
     record {
       made = c.requires.made;
       fits = subst Fits (λ i. record s { world = sym c.set_live.ensures i; lanes = sym c.flush.ensures i }) (Fits-with_live false (flushed s c.args.place) c.args.place (Fits-flushed s c.args.place c.requires.fits));

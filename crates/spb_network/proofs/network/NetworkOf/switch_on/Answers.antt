@@ -8,7 +8,7 @@ use Rattle.spb_network.proofs.network.NetworkOf.switch_on.Goals as goal
 pub carry_over-requires-clause-order : goal.carry_over-requires-clause-order
 carry_over-requires-clause-order g c = record {
   made = c.requires.made;
-  fits = subst Fits (ap (λ w. record (state_of g.B.Bridge.kind_of g.B.Bridge.blank g.B.Bridge.view c.args.self.now) { world = w }) (sym c.set_live.ensures)) (Fits-with_live true (state_of g.B.Bridge.kind_of g.B.Bridge.blank g.B.Bridge.view c.args.self.now) c.args.place c.requires.fits);
+  fits = subst Fits (ap (λ w. record (state_of g.B.Bridge.shown c.args.self.now) { world = w }) (sym c.set_live.ensures)) (Fits-with_live true (state_of g.B.Bridge.shown c.args.self.now) c.args.place c.requires.fits);
 }
 
 pub carry_over-requires-clause-ends : goal.carry_over-requires-clause-ends

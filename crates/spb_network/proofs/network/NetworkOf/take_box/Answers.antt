@@ -1,5 +1,6 @@
 use Rattle.std.proofs.Common.{◌≡◌, ◌∷◌, [], ◌++◌, map, false, subst, sym, ap, ◌∙◌, arith}
 use Rattle.bridge_api.specs.Config.{configured}
+use Rattle.bridge_api.specs.Shown.{view_in, views_of}
 use Rattle.spb_network.specs.State.{State}
 use Rattle.spb_network.specs.Network.{state_of, spare, AreMade}
 use Rattle.spb_network.proofs.BoxLemmas.{on_ok, got}
@@ -32,13 +33,13 @@ configure-requires-clause-blank g c = c.requires.blank c.remove-bridge.result (g
 
 pub returns-clause-state : goal.returns-clause-state
 returns-clause-state g c =
-    let s : State = state_of g.B.Bridge.kind_of g.B.Bridge.blank g.B.Bridge.view c.args.self.now in
+    let s : State = state_of g.B.Bridge.shown c.args.self.now in
     on_ok c.declare_bridge.result (λ e. λ i. record s {
-      rack = (ap (map (spare g.B.Bridge.kind_of g.B.Bridge.blank g.B.Bridge.view)) c.remove-bridge.ensures.items ∙ map-remove (spare g.B.Bridge.kind_of g.B.Bridge.blank g.B.Bridge.view) c.args.self.now.rack.items c.args.place) i;
+      rack = (ap (map (spare g.B.Bridge.shown)) c.remove-bridge.ensures.items ∙ map-remove (spare g.B.Bridge.shown) c.args.self.now.rack.items c.args.place) i;
       world = e i;
-      views = (ap (map g.B.Bridge.view) c.in_ok-push.ensures.items ∙ map-push g.B.Bridge.view c.args.self.now.boxes.items c.configure.new.self ∙ ap (λ v. s.views ++ v ∷ []) (c.in_ok-configure.ensures.view ∙ ap configured c.in_ok-config.ensures.config)) i;
+      views = (ap (views_of g.B.Bridge.shown) c.in_ok-push.ensures.items ∙ map-push (view_in g.B.Bridge.shown) c.args.self.now.boxes.items c.configure.new.self ∙ ap (λ v. s.views ++ v ∷ []) (c.in_ok-configure.ensures.view ∙ ap configured c.in_ok-config.ensures.config)) i;
     }) c.declare_bridge.ensures.ok
 
 pub returns-clause-made : goal.returns-clause-made
 returns-clause-made g c =
-    on_ok c.declare_bridge.result (λ e. subst (AreMade g.B.Bridge.blank) (sym c.in_ok-push.ensures.items) (All-push (λ b. g.B.Bridge.blank b ≡ false) c.args.self.now.boxes.items c.configure.new.self c.requires.made c.in_ok-configure.ensures.made)) c.declare_bridge.ensures.ok
+    on_ok c.declare_bridge.result (λ e. subst (AreMade g.B.Bridge.shown) (sym c.in_ok-push.ensures.items) (All-push (λ b. (g.B.Bridge.shown b).blank ≡ false) c.args.self.now.boxes.items c.configure.new.self c.requires.made c.in_ok-configure.ensures.made)) c.declare_bridge.ensures.ok

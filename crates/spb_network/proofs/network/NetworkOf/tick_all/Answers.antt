@@ -6,4 +6,4 @@ use Rattle.spb_network.proofs.network.NetworkOf.tick_all.Goals as goal
 
 pub loop-i-preserved : goal.loop-i-preserved
 loop-i-preserved g c =
-    (c.in_ok-tick.ensures.order, omega (arith, c.loop-i-test.true), ap (ticked_from (_ - (c.loop-i.i + 1)) (c.loop-i.i + 1)) c.in_ok-tick.ensures.state ∙ sym (ticked-step (state_of g.B.Bridge.kind_of g.B.Bridge.blank g.B.Bridge.view c.loop-i.self) _ c.loop-i.i (omega (arith, c.loop-i-test.true))) ∙ c.loop-i.invariant.2)
+    (c.in_ok-tick.ensures.order, omega (arith, c.loop-i-test.true), ap (ticked_from (_ - (c.loop-i.i + 1)) (c.loop-i.i + 1)) c.in_ok-tick.ensures.state ∙ sym (ticked-step (state_of g.B.Bridge.shown c.loop-i.self) _ c.loop-i.i (omega (arith, c.loop-i-test.true))) ∙ c.loop-i.invariant.2)

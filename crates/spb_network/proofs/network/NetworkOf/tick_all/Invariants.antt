@@ -5,6 +5,6 @@ use Rattle.spb_network.proofs.network.NetworkOf.tick_all.Given as goal
 
 abbrev pub invariant-loop-i : goal.invariant-loop-i
 invariant-loop-i g l =
-    (IsInOrder g.B.Bridge.kind_of g.B.Bridge.blank g.B.Bridge.view l.self) ×
+    (IsInOrder g.B.Bridge.shown l.self) ×
     (l.i ≤ l.i-end) ×
-    (ticked_from (l.i-end - l.i) l.i (state_of g.B.Bridge.kind_of g.B.Bridge.blank g.B.Bridge.view l.self) ≡ all_ticked (state_of g.B.Bridge.kind_of g.B.Bridge.blank g.B.Bridge.view l.fn.self))
+    (ticked_from (l.i-end - l.i) l.i (state_of g.B.Bridge.shown l.self) ≡ all_ticked (state_of g.B.Bridge.shown l.fn.self))
