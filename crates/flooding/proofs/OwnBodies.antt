@@ -1,6 +1,6 @@
 -- Under an id of the own system no body is ever held but those that the system wrote.
 use Rattle.std.specs.Prelude.{◌≡◌, ℕ, ◌+◌, Bool, true, false, ◌&&◌, Option, Some, None, nat_lt, if◌then◌else◌}
-use Rattle.std.proofs.Common.{refl, sym, subst}
+use Rattle.std.proofs.Common.{inl, inr, refl, sym, ap, subst, ◌∙◌}
 use Rattle.std.proofs.lemmas.Bool.{true≢false}
 use Rattle.std.proofs.lemmas.Slice.Eq.{bytes_eq-Decides}
 use Rattle.std.specs.FinMap.{get, insert}
@@ -16,23 +16,24 @@ use Rattle.lsdb.specs.Version.{number_of, is_absent, relation}
 use Rattle.lsdb.specs.Entry.{Entry, acked, cleared}
 use Rattle.lsdb.specs.Database.{Lsps, version_in, fits, placed}
 use Rattle.lsdb.specs.Certificate.{Claim}
-use Rattle.lsdb.proofs.LookupLemmas.{get-insert_same}
+use Rattle.lsdb.proofs.LookupLemmas.{get-insert_same, same_or_not}
 use Rattle.flooding.specs.declared.own.Own.{Own}
 use Rattle.flooding.specs.Own.{last_number, own_id, is_originated, body_in, renewed, ended, answered}
 use Rattle.flooding.specs.Hearing.{Holding, claim_of, lsp_row, snp_row, is_beyond, after_claim}
 use Rattle.flooding.specs.Origination.{next_entry, spent_entry, originated_from, originated}
-use Rattle.flooding.specs.Laws.{IsOwnBody, is_old, is_own, is_ended, LspLeavesOwnBody, EntryLeavesOwnBody, OriginationLeavesOwnBody}
+use Rattle.flooding.specs.Laws.{IsOwnBody, stays, renews, ends, LspLeavesOwnBody, EntryLeavesOwnBody, OriginationLeavesOwnBody}
 use Rattle.flooding.proofs.Heard.{Row}
-use Rattle.flooding.proofs.Claimed.{heard_of, db_after}
+use Rattle.flooding.proofs.Claimed.{heard_of, db_after, others_stand}
+use Rattle.flooding.proofs.Owns.{origination_leaves_others}
 
 -- ---- what is placed
 
 placed_at : (own : Own) (db : Lsps) (id : LspId) (e : Entry) (b : Bool) → IsOwnBody own (get db id) (Some e) → IsOwnBody own (get db id) (get (if b then insert db id e else db) id)
 placed_at own db id e true new = subst (IsOwnBody own (get db id)) (sym (get-insert_same db id e)) new
-placed_at own db id e false new = is_old refl
+placed_at own db id e false new = stays refl
 
 placed_body : (own : Own) (db : Lsps) (id : LspId) (o : Option Entry) → IsOwnBody own (get db id) o → IsOwnBody own (get db id) (get (placed db id o) id)
-placed_body own db id None new = is_old refl
+placed_body own db id None new = stays refl
 placed_body own db id (Some e) new = placed_at own db id e (fits db id) new
 
 -- ---- a claim
@@ -62,19 +63,19 @@ snp_row_body up port a Newer held within = absurd (true≢false within)
 snp_row_body up port a Confused held within = absurd (true≢false within)
 
 answer_body : (up : PortSet) (own : Own) (seq : ℕ) (held : Option Entry) (b : Bool) → IsOwnBody own held (Some (if b then renewed up own (seq + 1) else ended up seq))
-answer_body up own seq held true = is_own refl
-answer_body up own seq held false = is_ended refl
+answer_body up own seq held true = renews refl
+answer_body up own seq held false = ends refl
 
 heard_body : (row : Row) → KeepsBody row → (up : PortSet) (own : Own) (id : LspId) (a : Version) (r : Relation) (held : Option Entry) (b : Bool) → is_beyond r ≡ b
     → IsOwnBody own held (if b then Some (answered up own id (number_of a)) else row r held)
 heard_body row keeps up own id a r held true beyond = answer_body up own (number_of a) held (is_originated own.system id && nat_lt (number_of a) last_number)
-heard_body row keeps up own id a r held false within = is_old (keeps r held within)
+heard_body row keeps up own id a r held false within = stays (keeps r held within)
 
 same_own : (x y : SystemId) → x ≡ y → same_system x y ≡ true
 same_own x y is = subst (λ (z : SystemId). same_system z y ≡ true) (sym is) ((bytes_eq-Decides y.mac.bytes y.mac.bytes).1 refl)
 
-claim_leaves : (row : Row) → KeepsBody row → (up : PortSet) (c : Claim) (h : Holding) → c.id.system ≡ h.own.system → IsOwnBody h.own (get h.db c.id) (get (after_claim row up c h).db c.id)
-claim_leaves row keeps up c h mine =
+claimed_body : (row : Row) → KeepsBody row → (up : PortSet) (c : Claim) (h : Holding) → c.id.system ≡ h.own.system → IsOwnBody h.own (get h.db c.id) (get (after_claim row up c h).db c.id)
+claimed_body row keeps up c h mine =
     let held = get h.db c.id in
     let r = relation c.version (version_in held) in
     let heard : IsOwnBody h.own held (heard_of row up c h) =
@@ -82,25 +83,42 @@ claim_leaves row keeps up c h mine =
     (sym (same_own c.id.system h.own.system mine)) (heard_body row keeps up h.own c.id c.version r held (is_beyond r) refl) in
     subst (λ (db : Lsps). IsOwnBody h.own held (get db c.id)) (sym (db_after row up c h)) (placed_body h.own h.db c.id (heard_of row up c h) heard)
 
+-- under another id nothing changes
+claim_leaves : (row : Row) → KeepsBody row → (up : PortSet) (c : Claim) (h : Holding) (id : LspId) → id.system ≡ h.own.system → IsOwnBody h.own (get h.db id) (get (after_claim row up c h).db id)
+claim_leaves row keeps up c h id mine =
+    elim (same_or_not id c.id) [
+      | inl here ↦
+          subst (λ (x : LspId). IsOwnBody h.own (get h.db x) (get (after_claim row up c h).db x)) (sym here)
+          (claimed_body row keeps up c h (ap (λ (x : LspId). x.system) (sym here) ∙ mine))
+      | inr apart ↦ stays (ap body_in (others_stand row up c h id apart))
+    ]
+
 pub lsp_leaves_own_body : LspLeavesOwnBody
-lsp_leaves_own_body up port l h mine = claim_leaves (lsp_row up port l) (lsp_row_body up port l) up (claim_of l) h mine
+lsp_leaves_own_body up port l h id mine = claim_leaves (lsp_row up port l) (lsp_row_body up port l) up (claim_of l) h id mine
 
 pub entry_leaves_own_body : EntryLeavesOwnBody
-entry_leaves_own_body up port c h mine = claim_leaves (snp_row up port c.version) (snp_row_body up port c.version) up c h mine
+entry_leaves_own_body up port c h id mine = claim_leaves (snp_row up port c.version) (snp_row_body up port c.version) up c h id mine
 
 -- ---- an origination
 
 next_body : (up : PortSet) (own : Own) (seq : ℕ) (held : Option Entry) (b : Bool) → IsOwnBody own held (Some (if b then renewed up own (seq + 1) else spent_entry up seq held))
-next_body up own seq held true = is_own refl
-next_body up own seq held false = is_ended refl
+next_body up own seq held true = renews refl
+next_body up own seq held false = ends refl
 
 originated_by : (up : PortSet) (h : Holding) (b : Bool) → IsOwnBody h.own (get h.db (own_id h.own.system)) (get (if b then h else originated_from up (get h.db (own_id h.own.system)) h).db (own_id h.own.system))
-originated_by up h true = is_old refl
+originated_by up h true = stays refl
 originated_by up h false =
     let held = get h.db (own_id h.own.system) in
     let seq : ℕ = number_of (version_in held) in
     placed_body h.own h.db (own_id h.own.system) (Some (next_entry up h.own seq held)) (next_body up h.own seq held (nat_lt seq last_number))
 
-pub origination_leaves_own_body : OriginationLeavesOwnBody
+originated_own : (up : PortSet) (h : Holding) → IsOwnBody h.own (get h.db (own_id h.own.system)) (get (originated up h).db (own_id h.own.system))
 unfolding originated
-origination_leaves_own_body up h = originated_by up h h.own.spent
+originated_own up h = originated_by up h h.own.spent
+
+pub origination_leaves_own_body : OriginationLeavesOwnBody
+origination_leaves_own_body up h id =
+    elim (same_or_not id (own_id h.own.system)) [
+      | inl here ↦ subst (λ (x : LspId). IsOwnBody h.own (get h.db x) (get (originated up h).db x)) (sym here) (originated_own up h)
+      | inr apart ↦ stays (ap body_in (origination_leaves_others up h id apart))
+    ]

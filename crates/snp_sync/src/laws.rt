@@ -1,5 +1,5 @@
 //! The laws of sequence numbers PDUs. Each is the contract of a function that does nothing.
-ghost use Rattle.snp_sync.specs.HearingLaws.{EntriesAreCertified, CsnpIsCertified, UnnamedStands, LastClaimStands, EntryIsServed, CsnpStands, MissedIsSent, EntriesLeaveOwn, EntriesDontSpend, ClaimsAreNumbered, EntriesKeepSendable, CsnpKeepsSendable, EntriesKeepFlags, CsnpKeepsFlags, EntriesKeepSized, CsnpKeepsSized, LspKeepsSized, OriginationKeepsSized, AgeingKeepsSized, FlagsKeepSized};
+ghost use Rattle.snp_sync.specs.HearingLaws.{EntriesAreCertified, CsnpIsCertified, UnnamedStands, LastClaimStands, EntryIsServed, CsnpStands, MissedIsSent, EntriesLeaveOwn, EntriesDontSpend, EntriesLeaveOwnBody, CsnpLeavesOwnBody, ClaimsAreNumbered, EntriesKeepSendable, CsnpKeepsSendable, EntriesKeepFlags, CsnpKeepsFlags, EntriesKeepSized, CsnpKeepsSized, LspKeepsSized, OriginationKeepsSized, AgeingKeepsSized, FlagsKeepSized};
 ghost use Rattle.snp_sync.specs.SendingLaws.{SuccessorIsNext, SuccessorIsId, LineClaimsWhatIsHeld, RangesCoverOnce, PagesListTheirRanges, PagesAreShort, PagesEndAtIds, PagesClaimWhatIsHeld, PagesListWhatIsHeld, CsnpIsRead, LinesAreRead, PageLinesAreRead, PageLinesAreSized, PartsAreWhole, PartsAreShort, PartsClaimWhatIsHeld, PartsListWhatIsHeld, PsnpIsRead, PartLinesAreRead, PartLinesAreSized, SettledOwesNothing, SettlingIsCertified};
 
 /// No LSP id lies between an id and its successor.
@@ -63,6 +63,8 @@ pub fn the_sender_is_served()
 pub fn hearing_leaves_the_own_lsp()
     ensures stands { EntriesLeaveOwn }
     ensures not_spent { EntriesDontSpend }
+    ensures body { EntriesLeaveOwnBody }
+    ensures csnp_body { CsnpLeavesOwnBody }
 {}
 
 /// What is so of every entry before entries are heard is so afterwards.
