@@ -1,7 +1,7 @@
 -- Each frame that a bridge sends is one of its hellos, or claims what the bridge holds.
 use Rattle.std.proofs.Common.{◌≡◌, inl, inr, ◌≤◌, ◌+◌, ◌-◌, ℕ, suc, Bool, true, false, List, [], ◌∷◌, ◌++◌, length, map, filter, refl, sym, ap, ◌∙◌, subst, Option, Some, None, Result, Ok, arith}
-use Rattle.std.specs.Prelude.{slice_get, nat_le, if◌then◌else◌}
-use Rattle.std.specs.Option.{option_map, option_and_then}
+use Rattle.std.specs.Prelude.{is_some, slice_get, nat_le, if◌then◌else◌}
+use Rattle.std.specs.Option.{option_map}
 use Rattle.std.specs.List.{AllByRecursion}
 use Rattle.std.specs.FinMap.{get, entries}
 use Rattle.std.proofs.lemmas.List.{length-map}
@@ -36,31 +36,25 @@ use Rattle.snp_sync.specs.Reading.{entries_in}
 use Rattle.snp_sync.specs.Sized.{IsLspId, IsSizedLine}
 use Rattle.snp_sync.specs.Sending.{Page, csnp_for, psnp_for, csnp_pages, csnps_of, psnp_parts, psnps_of, settled, all_settled}
 use Rattle.snp_sync.specs.Hearing.{claims_in}
-use Rattle.snp_sync.specs.SendingLaws.{ClaimsWhatIsHeld}
+use Rattle.snp_sync.specs.SendingLaws.{ClaimsWhatIsHeld, IsLineOfHeld}
 use Rattle.snp_sync.proofs.Ranges.{of_entries, pages_are_short, pages_end_at_ids, parts_are_short}
-use Rattle.snp_sync.proofs.Said.{page_lines_are_read, page_lines_are_sized, pages_claim_what_is_held, part_lines_are_read, part_lines_are_sized, parts_claim_what_is_held}
-use Rattle.adjacency.specs.declared.state.AdjState.{AdjState}
-use Rattle.adjacency.specs.declared.state.AdjState.TheVariants.{Down, Initializing, Up}
-use Rattle.adjacency.specs.States.{number_of}
+use Rattle.snp_sync.proofs.Said.{page_lines_are_read, page_lines_are_sized, pages_claim_what_is_held, pages_list_what_is_held, part_lines_are_read, part_lines_are_sized, parts_claim_what_is_held, parts_list_what_is_held}
 use Rattle.adjacency.specs.Adjacency.{neighbour_of, said}
 use Rattle.bridge_api.specs.declared.port.BridgePort.{BridgePort}
-use Rattle.bridge_api.specs.View.{BridgeView, port_in, neighbour_at, is_port_up, up_ports}
-use Rattle.bridge_api.specs.Judging.{Judged, useless, greeting, link_state, complete, partial, judged, is_octets, by_content, greeting_in}
+use Rattle.bridge_api.specs.View.{BridgeView, port_at, neighbour_at, is_port_up, up_ports}
+use Rattle.bridge_api.specs.Judging.{Judged, useless, greeting, link_state, complete, partial, greeting_in, judged, is_hello, is_octets, by_content}
 use Rattle.bridge_api.specs.Judging as drop
 use Rattle.bridge_api.specs.Hearing.{with_due}
 use Rattle.bridge_api.specs.Ticking.{later, readied, hello_at, hello_frame, lsp_frame, csnp_frame, psnp_frame, greetings_at, summaries_at, lsps_at, requests_at, synced_at, sent_at, told_at, sent_from, told_from, told, after_tick, sent_in_tick}
-use Rattle.bridge_api.specs.Laws.{IsSent, IsHelloOf, IsFrameOf, claims_or_none, claims_said, FramesAreSound}
+use Rattle.bridge_api.specs.Step.{second, frame, carrier, metric, step, sent}
+use Rattle.bridge_api.specs.Laws.{IsSoundView, IsSent, IsHelloOf, IsWritten, writes_hello, writes_lsp, writes_csnp, writes_psnp, IsHeldLsp, IsHeldAt, IsFrameOf, claims_or_none, claims_said, SentIsSound}
 use Rattle.bridge_api.proofs.Changes.{readied_ports, readied_rest}
 use Rattle.bridge_api.proofs.Spelled.{lsp_taken, csnp_taken, psnp_taken}
 use Rattle.bridge_api.proofs.Data.{IsSoundData, lsps_of, told_at_keeps}
 use Rattle.bridge_api.proofs.DataSteps.{readied_holds}
-use Rattle.bridge_api.proofs.Hellos.{hello_content, sent_either}
+use Rattle.bridge_api.proofs.Hellos.{hello_content, neighbour_found, hello_of, sent_either}
 
 -- ---- lists
-
-all_both : {X : Type 0} (P Q : X → Type 0) (xs : List X) → AllByRecursion P xs → AllByRecursion Q xs → AllByRecursion (λ x. P x × Q x) xs
-all_both P Q [] ps qs = tt
-all_both P Q (x ∷ xs) ps qs = ((ps.0, qs.0), all_both P Q xs ps.1 qs.1)
 
 all_mapped : {X Y : Type 0} (f : X → Y) (P : Y → Type 0) (xs : List X) → AllByRecursion (λ x. P (f x)) xs → AllByRecursion P (map f xs)
 all_mapped f P [] all = tt
@@ -79,76 +73,133 @@ all_kept P test (x ∷ xs) all = all_kept_at P (test x) x (filter test xs) all.0
 -- what a bridge may say by a frame at a port, by what the frame is taken for
 record MaySay (w : BridgeView) (p : ℕ) (j : Judged) : Type 0 where
   hello : (h : HelloValue) (way : ThreeWay) → j ≡ greeting h way → IsHelloOf w p h way
-  claims : (id : LspId) (a : Version) → IsClaimed (claims_said j) id a → IsAtMost a (version_at w.database id)
+  lsp : (l : LspValue) → j ≡ link_state l → IsHeldLsp w l
+  claims : (id : LspId) (a : Version) → IsClaimed (claims_said j) id a → IsHeldAt w id a
 
 say_nothing : (w : BridgeView) (p : ℕ) (reason : drop.Drop) → MaySay w p (useless reason)
-say_nothing w p reason = record { hello = λ h way e. absurd cc; claims = λ id a claimed. absurd claimed }
+say_nothing w p reason = record { hello = λ h way e. absurd cc; lsp = λ l e. absurd cc; claims = λ id a claimed. absurd claimed }
 
 judged_at : (b : Bool) (w : BridgeView) (p : ℕ) (j : Judged) → MaySay w p j → MaySay w p (if b then j else useless drop.Frame)
 judged_at true w p j may = may
 judged_at false w p j may = say_nothing w p drop.Frame
 
 -- a frame of octets is taken for what it contains, and any other for nothing
-frame_of : (w : BridgeView) (p : ℕ) (bytes : List ℕ) (j : Judged) → by_content (content_in bytes) ≡ j → MaySay w p j → IsFrameOf w p bytes
+frame_of : (w : BridgeView) (p : ℕ) (bytes : List ℕ) (j : Judged) → by_content (content_in bytes) ≡ j → IsWritten w.id.system.mac bytes → MaySay w p j → IsFrameOf w p bytes
 unfolding judged
-frame_of w p bytes j is may =
+frame_of w p bytes j is written may =
     let says : MaySay w p (if is_octets bytes then by_content (content_in bytes) else useless drop.Frame) = judged_at (is_octets bytes) w p (by_content (content_in bytes)) (subst (λ (k : Judged). MaySay w p k) (sym is) may) in
-    record { hello = says.hello; claims = says.claims }
+    record { hello = says.hello; lsp = says.lsp; claims = says.claims; written = written }
 
--- a version that is held
-at_most_held : (w : BridgeView) (id : LspId) (a : Version) → a ≡ version_at w.database id → IsAtMost a (version_at w.database id)
-at_most_held w id a e = subst (λ (h : Version). IsAtMost a h) e (itself a)
+-- a frame that is taken for a hello by nobody
+not_hello_at : (b : Bool) (j : Judged) → is_some (greeting_in j) ≡ false → is_some (greeting_in (if b then j else useless drop.Frame)) ≡ false
+not_hello_at true j silent = silent
+not_hello_at false j silent = refl
 
--- claims of what is held in a database with the same versions
-abbrev SameVersions : Lsps → BridgeView → Type 0
-SameVersions db w = (id : LspId) → version_at db id ≡ version_at w.database id
+not_hello : (bytes : List ℕ) (j : Judged) → by_content (content_in bytes) ≡ j → is_some (greeting_in j) ≡ false → is_hello bytes ≡ false
+unfolding judged
+not_hello bytes j is silent = not_hello_at (is_octets bytes) (by_content (content_in bytes)) (ap (λ (k : Judged). is_some (greeting_in k)) is ∙ silent)
 
-lines_claimed : (db : Lsps) (lines : List SnpEntry) (id : LspId) (a : Version) → AllByRecursion (ClaimsWhatIsHeld db) lines → IsClaimed (claims_in lines) id a → a ≡ version_at db id
-lines_claimed db [] id a all claimed = absurd claimed
-lines_claimed db (line ∷ lines) id a all (inl here) = sym here.1 ∙ (all.0 ∙ ap (λ (x : LspId). version_at db x) here.0)
-lines_claimed db (line ∷ lines) id a all (inr there) = lines_claimed db lines id a all.1 there
+-- a frame of the bridge that is no hello
+pub record IsOther (w : BridgeView) (p : ℕ) (bytes : List ℕ) : Type 0 where
+  pub frame : IsFrameOf w p bytes
+  pub silent : is_hello bytes ≡ false
+
+other_of : (w : BridgeView) (p : ℕ) (bytes : List ℕ) (j : Judged) → by_content (content_in bytes) ≡ j → is_some (greeting_in j) ≡ false → IsWritten w.id.system.mac bytes → MaySay w p j → IsOther w p bytes
+other_of w p bytes j is silent written may = record { frame = frame_of w p bytes j is written may; silent = not_hello bytes j is silent }
+
+-- what is held is at most itself
+held_least : (o : Option Entry) (e : Entry) (a : Version) → o ≡ Some e → a ≡ e.version → IsAtMost a (version_in o)
+held_least o e a is same = subst (λ (h : Version). IsAtMost a h) (same ∙ sym (ap version_in is)) (itself a)
+
+pub at_most_held : (w : BridgeView) (id : LspId) (a : Version) → IsHeldAt w id a → IsAtMost a (version_at w.database id)
+at_most_held w id a held = held_least (get w.database id) held.0 a held.1 held.2
+
+-- ---- what is held afterwards, of what is held when it is sent
+
+-- another entry with the same LSP
+pub record IsSameLsp (e d : Entry) : Type 0 where
+  pub version : d.version ≡ e.version
+  pub lifetime : d.lifetime ≡ e.lifetime
+  pub body : d.body ≡ e.body
+
+same_lsp : (id : LspId) (e d : Entry) → IsSameLsp e d → lsp_in id e ≡ lsp_in id d
+same_lsp id e d same = λ i. lsp_in id (record { version = sym same.version i; lifetime = sym same.lifetime i; body = sym same.body i; srm = e.srm; ssn = e.ssn })
+
+-- all that is held is held by the bridge too, but for its flags
+abbrev pub IsHeldBy : Lsps → BridgeView → Type 0
+IsHeldBy db w = (id : LspId) (e : Entry) → get db id ≡ Some e → (d : Entry) × (get w.database id ≡ Some d) × IsSameLsp e d
+
+-- claims of what is held
+lines_claimed : (db : Lsps) (w : BridgeView) (lines : List SnpEntry) (id : LspId) (a : Version) → IsHeldBy db w → AllByRecursion (ClaimsWhatIsHeld db) lines → AllByRecursion (IsLineOfHeld db) lines → IsClaimed (claims_in lines) id a → IsHeldAt w id a
+lines_claimed db w [] id a same all held claimed = absurd claimed
+lines_claimed db w (line ∷ lines) id a same all held (inl here) =
+    let found = same line.id held.0.0 held.0.1 in
+    let version : a ≡ found.0.version = sym here.1 ∙ (all.0 ∙ (ap version_in held.0.1 ∙ sym found.2.version)) in
+    subst (λ (x : LspId). IsHeldAt w x a) here.0 (found.0, found.1, version)
+lines_claimed db w (line ∷ lines) id a same all held (inr there) = lines_claimed db w lines id a same all.1 held.1 there
 
 -- the claims of a sequence numbers PDU whose entries are these lines
-claims_of_lines : (w : BridgeView) (db : Lsps) (lines : List SnpEntry) (read : Result (List SnpEntry) TlvError) → SameVersions db w → AllByRecursion (ClaimsWhatIsHeld db) lines → read ≡ Ok lines
-    → (id : LspId) (a : Version) → IsClaimed (claims_or_none read) id a → IsAtMost a (version_at w.database id)
-claims_of_lines w db lines read same all is id a claimed =
-    at_most_held w id a (lines_claimed db lines id a all (subst (λ (r : Result (List SnpEntry) TlvError). IsClaimed (claims_or_none r) id a) is claimed) ∙ same id)
+claims_of_lines : (w : BridgeView) (db : Lsps) (lines : List SnpEntry) (read : Result (List SnpEntry) TlvError) → IsHeldBy db w → AllByRecursion (ClaimsWhatIsHeld db) lines → AllByRecursion (IsLineOfHeld db) lines → read ≡ Ok lines
+    → (id : LspId) (a : Version) → IsClaimed (claims_or_none read) id a → IsHeldAt w id a
+claims_of_lines w db lines read same all held is id a claimed =
+    lines_claimed db w lines id a same all held (subst (λ (r : Result (List SnpEntry) TlvError). IsClaimed (claims_or_none r) id a) is claimed)
 
 -- ---- LSPs, CSNPs and PSNPs
 
-lsp_says : ControlAgain → (w : BridgeView) (p : ℕ) (system : SystemId) (id : LspId) (e : Entry) → IsId system → IsId id.system → IsSendable id e → e.version ≡ version_at w.database id
-    → IsFrameOf w p (lsp_frame system (lsp_in id e))
-lsp_says again w p system id e mine named s held =
-    let is : claim_of (lsp_in id e) ≡ record { id = id; version = e.version } = sent_is_held id e s in
-    frame_of w p (lsp_frame system (lsp_in id e)) (link_state (lsp_in id e)) (lsp_taken again system id e mine named s) (record {
-      hello = λ h way no. absurd cc;
-      claims = λ x a claimed. elim claimed [
-        | inl here ↦
-            let version : a ≡ e.version = sym here.1 ∙ ap (λ (c : Claim). c.version) is in
-            at_most_held w x a (version ∙ (held ∙ ap (λ (y : LspId). version_at w.database y) here.0))
-        | inr none ↦ absurd none
-      ];
-    })
+-- the frames of the bridge
+lsp_written : (system : SystemId) (l : LspValue) → IsWritten system.mac (lsp_frame system l)
+unfolding lsp_frame
+lsp_written system l = writes_lsp l refl
 
-csnp_says : ControlAgain → (w : BridgeView) (p : ℕ) (db : Lsps) (system : SystemId) (page : Page) → IsId system → SameVersions db w
-    → (length page.lines ≤ 90) × (IsLspId page.start × IsLspId page.end) → AllByRecursion IsSizedLine page.lines → entries_in (line_tlvs page.lines) ≡ Ok page.lines → AllByRecursion (ClaimsWhatIsHeld db) page.lines
-    → IsFrameOf w p (csnp_frame system (csnp_for system page))
-csnp_says again w p db system page mine same sides sized read held =
-    let lines : AllByRecursion IsEntry page.lines = weaker IsSizedLine IsEntry page.lines (λ line s. s.line) sized in
-    frame_of w p (csnp_frame system (csnp_for system page)) (complete (csnp_for system page)) (csnp_taken again system page mine sides.1.0 sides.1.1 lines sides.0) (record {
-      hello = λ h way no. absurd cc;
-      claims = claims_of_lines w db page.lines (entries_in (line_tlvs page.lines)) same held read;
-    })
+csnp_written : (system : SystemId) (c : CsnpValue) → IsWritten system.mac (csnp_frame system c)
+unfolding csnp_frame
+csnp_written system c = writes_csnp c refl
 
-psnp_says : ControlAgain → (w : BridgeView) (p : ℕ) (db : Lsps) (system : SystemId) (part : List SnpEntry) → IsId system → SameVersions db w
-    → length part ≤ 90 → AllByRecursion IsSizedLine part → entries_in (line_tlvs part) ≡ Ok part → AllByRecursion (ClaimsWhatIsHeld db) part
-    → IsFrameOf w p (psnp_frame system (psnp_for system part))
-psnp_says again w p db system part mine same few sized read held =
-    let lines : AllByRecursion IsEntry part = weaker IsSizedLine IsEntry part (λ line s. s.line) sized in
-    frame_of w p (psnp_frame system (psnp_for system part)) (partial (psnp_for system part)) (psnp_taken again system part mine lines few) (record {
-      hello = λ h way no. absurd cc;
-      claims = claims_of_lines w db part (entries_in (line_tlvs part)) same held read;
-    })
+psnp_written : (system : SystemId) (s : PsnpValue) → IsWritten system.mac (psnp_frame system s)
+unfolding psnp_frame
+psnp_written system s = writes_psnp s refl
+
+hello_written : (system : SystemId) (p : ℕ) (port : BridgePort) → IsWritten system.mac (hello_frame system p port)
+unfolding hello_frame
+hello_written system p port = writes_hello (hello_at system p port) refl
+
+module _ (again : ControlAgain) (w : BridgeView) (p : ℕ) (db : Lsps) (mine : IsId w.id.system) (same : IsHeldBy db w) where
+  lsp_says : (id : LspId) (e : Entry) → IsId id.system → IsSendable id e → get db id ≡ Some e → IsOther w p (lsp_frame w.id.system (lsp_in id e))
+  lsp_says id e named s held =
+      let claim : claim_of (lsp_in id e) ≡ record { id = id; version = e.version } = sent_is_held id e s in
+      let found = same id e held in
+      other_of w p (lsp_frame w.id.system (lsp_in id e)) (link_state (lsp_in id e)) (lsp_taken again w.id.system id e mine named s) refl (lsp_written w.id.system (lsp_in id e)) (record {
+        hello = λ h way no. absurd cc;
+        lsp = λ l is. let this : lsp_in id e ≡ l = cc in subst (λ (k : LspValue). IsHeldLsp w k) this (found.0, found.1, same_lsp id e found.0 found.2);
+        claims = λ x a claimed. elim claimed [
+          | inl here ↦
+              let version : a ≡ found.0.version = sym here.1 ∙ (ap (λ (c : Claim). c.version) claim ∙ sym found.2.version) in
+              subst (λ (y : LspId). IsHeldAt w y a) here.0 (found.0, found.1, version)
+          | inr none ↦ absurd none
+        ];
+      })
+
+  csnp_says : (page : Page) → (length page.lines ≤ 90) × (IsLspId page.start × IsLspId page.end) → AllByRecursion IsSizedLine page.lines → entries_in (line_tlvs page.lines) ≡ Ok page.lines → AllByRecursion (ClaimsWhatIsHeld db) page.lines → AllByRecursion (IsLineOfHeld db) page.lines
+      → IsOther w p (csnp_frame w.id.system (csnp_for w.id.system page))
+  csnp_says page sides sized read claims held =
+      let lines : AllByRecursion IsEntry page.lines = weaker IsSizedLine IsEntry page.lines (λ line s. s.line) sized in
+      let c : CsnpValue = csnp_for w.id.system page in
+      other_of w p (csnp_frame w.id.system c) (complete c) (csnp_taken again w.id.system page mine sides.1.0 sides.1.1 lines sides.0) refl (csnp_written w.id.system c) (record {
+        hello = λ h way no. absurd cc;
+        lsp = λ l no. absurd cc;
+        claims = claims_of_lines w db page.lines (entries_in (line_tlvs page.lines)) same claims held read;
+      })
+
+  psnp_says : (part : List SnpEntry) → length part ≤ 90 → AllByRecursion IsSizedLine part → entries_in (line_tlvs part) ≡ Ok part → AllByRecursion (ClaimsWhatIsHeld db) part → AllByRecursion (IsLineOfHeld db) part
+      → IsOther w p (psnp_frame w.id.system (psnp_for w.id.system part))
+  psnp_says part few sized read claims held =
+      let lines : AllByRecursion IsEntry part = weaker IsSizedLine IsEntry part (λ line s. s.line) sized in
+      let s : PsnpValue = psnp_for w.id.system part in
+      other_of w p (psnp_frame w.id.system s) (partial s) (psnp_taken again w.id.system part mine lines few) refl (psnp_written w.id.system s) (record {
+        hello = λ h way no. absurd cc;
+        lsp = λ l no. absurd cc;
+        claims = claims_of_lines w db part (entries_in (line_tlvs part)) same claims held read;
+      })
 
 -- ---- which frames are sent at a port
 
@@ -158,51 +209,77 @@ sent_one P f k [] p bytes all some = absurd some
 sent_one P f k (x ∷ xs) p bytes all (inl here) = subst P here.1 all.0
 sent_one P f k (x ∷ xs) p bytes all (inr there) = sent_one P f k xs p bytes all.1 there
 
--- a database as what is sent needs it: sound, and with the versions that the bridge holds afterwards
-record CanTell (w : BridgeView) (db : Lsps) : Type 0 where
-  up : PortSet
-  sound : IsSoundData up w.id.system db
-  same : SameVersions db w
-  mine : IsId w.id.system
+-- a database as what is sent needs it: sound, and held by the bridge afterwards
+pub record CanTell (w : BridgeView) (db : Lsps) : Type 0 where
+  pub up : PortSet
+  pub sound : IsSoundData up w.id.system db
+  pub same : IsHeldBy db w
+  pub mine : IsId w.id.system
 
-lsps_say : ControlAgain → (w : BridgeView) (p k : ℕ) (db : Lsps) (bytes : List ℕ) → CanTell w db → IsSent (lsps_at w.id.system k db) p bytes → IsFrameOf w p bytes
+lsps_say : ControlAgain → (w : BridgeView) (p k : ℕ) (db : Lsps) (bytes : List ℕ) → CanTell w db → IsSent (lsps_at w.id.system k db) p bytes → IsOther w p bytes
 lsps_say again w p k db bytes can some =
-    let each_one : AllEntries (λ id e. IsFrameOf w p (lsp_frame w.id.system (lsp_in id e))) db = λ id e at.
-    lsp_says again w p w.id.system id e can.mine (can.sound.sized id e at).named.system (can.sound.sendable id e at) (sym (ap version_in at) ∙ can.same id) in
-    sent_one (IsFrameOf w p) (lsp_frame w.id.system) k (lsps_to_send db k) p bytes
-    (all_mapped (λ (e : LspId × Entry). lsp_in e.0 e.1) (λ (l : LspValue). IsFrameOf w p (lsp_frame w.id.system l)) (filter (λ (e : LspId × Entry). has e.1.srm k) (entries db))
-    (all_kept (λ (e : LspId × Entry). IsFrameOf w p (lsp_frame w.id.system (lsp_in e.0 e.1))) (λ (e : LspId × Entry). has e.1.srm k) (entries db) (of_entries (λ id e. IsFrameOf w p (lsp_frame w.id.system (lsp_in id e))) db each_one)))
+    let each_one : AllEntries (λ id e. IsOther w p (lsp_frame w.id.system (lsp_in id e))) db = λ id e at.
+    lsp_says again w p db can.mine can.same id e (can.sound.sized id e at).named.system (can.sound.sendable id e at) at in
+    sent_one (IsOther w p) (lsp_frame w.id.system) k (lsps_to_send db k) p bytes
+    (all_mapped (λ (e : LspId × Entry). lsp_in e.0 e.1) (λ (l : LspValue). IsOther w p (lsp_frame w.id.system l)) (filter (λ (e : LspId × Entry). has e.1.srm k) (entries db))
+    (all_kept (λ (e : LspId × Entry). IsOther w p (lsp_frame w.id.system (lsp_in e.0 e.1))) (λ (e : LspId × Entry). has e.1.srm k) (entries db) (of_entries (λ id e. IsOther w p (lsp_frame w.id.system (lsp_in id e))) db each_one)))
     some
 
-csnps_say : ControlAgain → (w : BridgeView) (p k : ℕ) (db : Lsps) (bytes : List ℕ) → CanTell w db → IsSent (map (λ c. (k, csnp_frame w.id.system c)) (csnps_of w.id.system db)) p bytes → IsFrameOf w p bytes
+-- a page, and a part, of which all is so that makes it one of the bridge
+record IsPageOf (db : Lsps) (page : Page) : Type 0 where
+  sides : (length page.lines ≤ 90) × (IsLspId page.start × IsLspId page.end)
+  sized : AllByRecursion IsSizedLine page.lines
+  read : entries_in (line_tlvs page.lines) ≡ Ok page.lines
+  claims : AllByRecursion (ClaimsWhatIsHeld db) page.lines
+  held : AllByRecursion (IsLineOfHeld db) page.lines
+
+are_pages : (db : Lsps) (pages : List Page) → AllByRecursion (λ (page : Page). length page.lines ≤ 90) pages → AllByRecursion (λ (page : Page). IsLspId page.start × IsLspId page.end) pages → AllByRecursion (λ (page : Page). AllByRecursion IsSizedLine page.lines) pages
+    → AllByRecursion (λ (page : Page). entries_in (line_tlvs page.lines) ≡ Ok page.lines) pages → AllByRecursion (λ (page : Page). AllByRecursion (ClaimsWhatIsHeld db) page.lines) pages → AllByRecursion (λ (page : Page). AllByRecursion (IsLineOfHeld db) page.lines) pages
+    → AllByRecursion (IsPageOf db) pages
+are_pages db [] few ends sized read claims held = tt
+are_pages db (page ∷ pages) few ends sized read claims held =
+    (record { sides = (few.0, ends.0); sized = sized.0; read = read.0; claims = claims.0; held = held.0 }, are_pages db pages few.1 ends.1 sized.1 read.1 claims.1 held.1)
+
+csnps_say : ControlAgain → (w : BridgeView) (p k : ℕ) (db : Lsps) (bytes : List ℕ) → CanTell w db → IsSent (map (λ c. (k, csnp_frame w.id.system c)) (csnps_of w.id.system db)) p bytes → IsOther w p bytes
 csnps_say again w p k db bytes can some =
     let pages : List Page = csnp_pages db in
-    let sides = all_both (λ (page : Page). length page.lines ≤ 90) (λ page. IsLspId page.start × IsLspId page.end) pages (pages_are_short db) (pages_end_at_ids db (λ id e at. (can.sound.sized id e at).named)) in
-    let lines = all_both (λ (page : Page). entries_in (line_tlvs page.lines) ≡ Ok page.lines) (λ page. AllByRecursion (ClaimsWhatIsHeld db) page.lines) pages (page_lines_are_read db can.sound.sized) (pages_claim_what_is_held db can.sound.sendable) in
-    let more = all_both (λ (page : Page). AllByRecursion IsSizedLine page.lines) (λ page. (entries_in (line_tlvs page.lines) ≡ Ok page.lines) × AllByRecursion (ClaimsWhatIsHeld db) page.lines) pages (page_lines_are_sized db can.sound.sized) lines in
-    let all = all_both (λ (page : Page). (length page.lines ≤ 90) × (IsLspId page.start × IsLspId page.end)) (λ page. AllByRecursion IsSizedLine page.lines × ((entries_in (line_tlvs page.lines) ≡ Ok page.lines) × AllByRecursion (ClaimsWhatIsHeld db) page.lines)) pages sides more in
-    sent_one (IsFrameOf w p) (csnp_frame w.id.system) k (csnps_of w.id.system db) p bytes
-    (all_mapped (csnp_for w.id.system) (λ (c : CsnpValue). IsFrameOf w p (csnp_frame w.id.system c)) pages
-    (weaker _ (λ (page : Page). IsFrameOf w p (csnp_frame w.id.system (csnp_for w.id.system page))) pages (λ page h. csnp_says again w p db w.id.system page can.mine can.same h.0 h.1.0 h.1.1.0 h.1.1.1) all))
+    let all : AllByRecursion (IsPageOf db) pages =
+    are_pages db pages (pages_are_short db) (pages_end_at_ids db (λ id e at. (can.sound.sized id e at).named)) (page_lines_are_sized db can.sound.sized) (page_lines_are_read db can.sound.sized)
+    (pages_claim_what_is_held db can.sound.sendable) (pages_list_what_is_held db) in
+    sent_one (IsOther w p) (csnp_frame w.id.system) k (csnps_of w.id.system db) p bytes
+    (all_mapped (csnp_for w.id.system) (λ (c : CsnpValue). IsOther w p (csnp_frame w.id.system c)) pages
+    (weaker (IsPageOf db) (λ (page : Page). IsOther w p (csnp_frame w.id.system (csnp_for w.id.system page))) pages (λ page h. csnp_says again w p db can.mine can.same page h.sides h.sized h.read h.claims h.held) all))
     some
 
-psnps_say : ControlAgain → (w : BridgeView) (p k : ℕ) (db : Lsps) (bytes : List ℕ) → CanTell w db → IsSent (requests_at w.id.system k db) p bytes → IsFrameOf w p bytes
+record IsPartOf (db : Lsps) (part : List SnpEntry) : Type 0 where
+  few : (1 ≤ length part) × (length part ≤ 90)
+  sized : AllByRecursion IsSizedLine part
+  read : entries_in (line_tlvs part) ≡ Ok part
+  claims : AllByRecursion (ClaimsWhatIsHeld db) part
+  held : AllByRecursion (IsLineOfHeld db) part
+
+are_parts : (db : Lsps) (ps : List (List SnpEntry)) → AllByRecursion (λ (part : List SnpEntry). (1 ≤ length part) × (length part ≤ 90)) ps → AllByRecursion (AllByRecursion IsSizedLine) ps → AllByRecursion (λ (part : List SnpEntry). entries_in (line_tlvs part) ≡ Ok part) ps
+    → AllByRecursion (AllByRecursion (ClaimsWhatIsHeld db)) ps → AllByRecursion (AllByRecursion (IsLineOfHeld db)) ps → AllByRecursion (IsPartOf db) ps
+are_parts db [] few sized read claims held = tt
+are_parts db (part ∷ ps) few sized read claims held =
+    (record { few = few.0; sized = sized.0; read = read.0; claims = claims.0; held = held.0 }, are_parts db ps few.1 sized.1 read.1 claims.1 held.1)
+
+psnps_say : ControlAgain → (w : BridgeView) (p k : ℕ) (db : Lsps) (bytes : List ℕ) → CanTell w db → IsSent (requests_at w.id.system k db) p bytes → IsOther w p bytes
 psnps_say again w p k db bytes can some =
     let ps : List (List SnpEntry) = psnp_parts k db in
-    let lines = all_both (λ (part : List SnpEntry). entries_in (line_tlvs part) ≡ Ok part) (AllByRecursion (ClaimsWhatIsHeld db)) ps (part_lines_are_read k db can.sound.sized) (parts_claim_what_is_held k db can.sound.sendable) in
-    let more = all_both (AllByRecursion IsSizedLine) (λ (part : List SnpEntry). (entries_in (line_tlvs part) ≡ Ok part) × AllByRecursion (ClaimsWhatIsHeld db) part) ps (part_lines_are_sized k db can.sound.sized) lines in
-    let all = all_both (λ (part : List SnpEntry). (1 ≤ length part) × (length part ≤ 90)) (λ part. AllByRecursion IsSizedLine part × ((entries_in (line_tlvs part) ≡ Ok part) × AllByRecursion (ClaimsWhatIsHeld db) part)) ps (parts_are_short k db) more in
-    sent_one (IsFrameOf w p) (psnp_frame w.id.system) k (psnps_of w.id.system k db) p bytes
-    (all_mapped (psnp_for w.id.system) (λ (s : PsnpValue). IsFrameOf w p (psnp_frame w.id.system s)) ps
-    (weaker _ (λ (part : List SnpEntry). IsFrameOf w p (psnp_frame w.id.system (psnp_for w.id.system part))) ps (λ part h. psnp_says again w p db w.id.system part can.mine can.same h.0.1 h.1.0 h.1.1.0 h.1.1.1) all))
+    let all : AllByRecursion (IsPartOf db) ps =
+    are_parts db ps (parts_are_short k db) (part_lines_are_sized k db can.sound.sized) (part_lines_are_read k db can.sound.sized) (parts_claim_what_is_held k db can.sound.sendable) (parts_list_what_is_held k db) in
+    sent_one (IsOther w p) (psnp_frame w.id.system) k (psnps_of w.id.system k db) p bytes
+    (all_mapped (psnp_for w.id.system) (λ (s : PsnpValue). IsOther w p (psnp_frame w.id.system s)) ps
+    (weaker (IsPartOf db) (λ (part : List SnpEntry). IsOther w p (psnp_frame w.id.system (psnp_for w.id.system part))) ps (λ part h. psnp_says again w p db can.mine can.same part h.few.1 h.sized h.read h.claims h.held) all))
     some
 
-where_so : (b : Bool) (w : BridgeView) (p : ℕ) (bytes : List ℕ) (frames : List (ℕ × List ℕ)) → (IsSent frames p bytes → IsFrameOf w p bytes) → IsSent (if b then frames else []) p bytes → IsFrameOf w p bytes
+where_so : (b : Bool) (w : BridgeView) (p : ℕ) (bytes : List ℕ) (frames : List (ℕ × List ℕ)) → (IsSent frames p bytes → IsOther w p bytes) → IsSent (if b then frames else []) p bytes → IsOther w p bytes
 where_so true w p bytes frames says some = says some
 where_so false w p bytes frames says some = absurd some
 
 -- at a port that is Up
-synced_say : ControlAgain → (w : BridgeView) (p k : ℕ) (port : BridgePort) (db : Lsps) (bytes : List ℕ) → CanTell w db → IsSent (synced_at w.id.system k port db) p bytes → IsFrameOf w p bytes
+pub synced_say : ControlAgain → (w : BridgeView) (p k : ℕ) (port : BridgePort) (db : Lsps) (bytes : List ℕ) → CanTell w db → IsSent (synced_at w.id.system k port db) p bytes → IsOther w p bytes
 synced_say again w p k port db bytes can some =
     where_so (is_port_up port) w p bytes (summaries_at w.id.system k port db ++ lsps_at w.id.system k db ++ requests_at w.id.system k db)
     (λ any. elim (sent_either (summaries_at w.id.system k port db ++ lsps_at w.id.system k db) (requests_at w.id.system k db) p bytes any) [
@@ -217,27 +294,48 @@ synced_say again w p k port db bytes can some =
 
 -- ---- after what was sent at a port nothing is owed there
 
-settled_version : (b : Bool) (p : ℕ) (e : Entry) → (if b then with_ssn p false e else e).version ≡ e.version
-settled_version true p e = refl
-settled_version false p e = refl
+settled_same : (b : Bool) (p : ℕ) (e : Entry) → IsSameLsp e (if b then with_ssn p false e else e)
+settled_same true p e = record { version = refl; lifetime = refl; body = refl }
+settled_same false p e = record { version = refl; lifetime = refl; body = refl }
 
-settled_in : (p : ℕ) (o : Option Entry) → version_in (option_map (settled p) o) ≡ version_in o
-settled_in p None = refl
-settled_in p (Some e) = settled_version (is_owed p e) p e
+told_by : (b : Bool) (p : ℕ) (db : Lsps) (id : LspId) (e : Entry) → get db id ≡ Some e → (d : Entry) × (get (if b then all_settled p db else db) id ≡ Some d) × IsSameLsp e d
+told_by true p db id e at = (settled p e, get-each (λ (x : LspId) (e : Entry). settled p e) db id ∙ ap (option_map (settled p)) at, settled_same (is_owed p e) p e)
+told_by false p db id e at = (e, at, record { version = refl; lifetime = refl; body = refl })
 
-told_by : (b : Bool) (p : ℕ) (db : Lsps) (id : LspId) → version_at (if b then all_settled p db else db) id ≡ version_at db id
-told_by true p db id = ap version_in (get-each (λ (x : LspId) (e : Entry). settled p e) db id) ∙ settled_in p (get db id)
-told_by false p db id = refl
+through_same : (e d c : Entry) → IsSameLsp e d → IsSameLsp d c → IsSameLsp e c
+through_same e d c first next = record { version = next.version ∙ first.version; lifetime = next.lifetime ∙ first.lifetime; body = next.body ∙ first.body }
 
-told_version : (k : ℕ) (ports : List BridgePort) (db : Lsps) (id : LspId) → version_at (told_from k ports db) id ≡ version_at db id
-told_version k [] db id = refl
-told_version k (port ∷ ports) db id = told_version (k + 1) ports (told_at k port db) id ∙ told_by (is_port_up port) k db id
+back_same : (e d : Entry) → IsSameLsp e d → IsSameLsp d e
+back_same e d same = record { version = sym same.version; lifetime = sym same.lifetime; body = sym same.body }
 
-told_can : (w : BridgeView) (k : ℕ) (port : BridgePort) (db : Lsps) → CanTell w db → CanTell w (told_at k port db)
+-- what is held stays so until all is sent
+told_held : (k : ℕ) (ports : List BridgePort) (db : Lsps) (id : LspId) (e : Entry) → get db id ≡ Some e → (d : Entry) × (get (told_from k ports db) id ≡ Some d) × IsSameLsp e d
+told_held k [] db id e at = (e, at, record { version = refl; lifetime = refl; body = refl })
+told_held k (port ∷ ports) db id e at =
+    let first = told_by (is_port_up port) k db id e at in
+    let next = told_held (k + 1) ports (told_at k port db) id first.0 first.1 in
+    (next.0, next.1, through_same e first.0 next.0 first.2 next.2)
+
+-- and nothing else is held then
+told_was : (b : Bool) (p : ℕ) (db : Lsps) (id : LspId) (d : Entry) → get (if b then all_settled p db else db) id ≡ Some d → (e : Entry) × (get db id ≡ Some e) × IsSameLsp d e
+told_was true p db id d at = by_held (get db id) refl
+  where
+    by_held : (o : Option Entry) → get db id ≡ o → (e : Entry) × (get db id ≡ Some e) × IsSameLsp d e
+    by_held None held = let no : None ≡ Some d = sym (get-each (λ (x : LspId) (e : Entry). settled p e) db id ∙ ap (option_map (settled p)) held) ∙ at in absurd cc
+    by_held (Some e) held =
+        let found : Some (settled p e) ≡ Some d = sym (get-each (λ (x : LspId) (e : Entry). settled p e) db id ∙ ap (option_map (settled p)) held) ∙ at in
+        let same : settled p e ≡ d = cc in
+        (e, held, subst (λ (c : Entry). IsSameLsp c e) same (back_same e (settled p e) (settled_same (is_owed p e) p e)))
+told_was false p db id d at = (d, at, record { version = refl; lifetime = refl; body = refl })
+
+pub told_can : (w : BridgeView) (k : ℕ) (port : BridgePort) (db : Lsps) → CanTell w db → CanTell w (told_at k port db)
 told_can w k port db can = record {
   up = can.up;
   sound = told_at_keeps can.up w.id.system k port db can.sound;
-  same = λ id. told_by (is_port_up port) k db id ∙ can.same id;
+  same = λ id d at.
+      let was = told_was (is_port_up port) k db id d at in
+      let found = can.same id was.0 was.1 in
+      (found.0, found.1, through_same d was.0 found.0 was.2 found.2);
   mine = can.mine;
 }
 
@@ -262,48 +360,60 @@ sent_says again w p bytes k (port ∷ ports) db can hellos some =
                 let is = hello_sent port.adjacency.carrier k bytes p (hello_frame w.id.system k port) greets in
                 let frame_is : hello_frame w.id.system p port ≡ bytes = ap (λ (n : ℕ). hello_frame w.id.system n port) is.0 ∙ is.1 in
                 subst (IsFrameOf w p) frame_is (hellos 0 port refl (omega (arith, is.0)))
-            | inr synced ↦ synced_say again w p k port db bytes can synced
+            | inr synced ↦ (synced_say again w p k port db bytes can synced).frame
           ]
     ]
 
 -- a hello is one of the bridge
-state_low : (s : AdjState) → number_of s ≤ 2
-state_low Down = omega arith
-state_low Initializing = omega arith
-state_low Up = omega arith
-
-hello_says : ControlAgain → (w : BridgeView) (p : ℕ) (port : BridgePort) → IsId w.id.system → p ≤ 32 → IsNamed (neighbour_at w p) → neighbour_at w p ≡ neighbour_of port.adjacency → IsFrameOf w p (hello_frame w.id.system p port)
-hello_says again w p port mine low named kept =
+hello_says : ControlAgain → (w : BridgeView) (p : ℕ) (port there : BridgePort) → IsId w.id.system → p ≤ 32 → IsNamed (neighbour_at w p) → port_at w p ≡ Some there → there.adjacency ≡ port.adjacency
+    → IsFrameOf w p (hello_frame w.id.system p port)
+hello_says again w p port there mine low named at same =
     let h : HelloValue = hello_at w.id.system p port in
     let way : ThreeWay = said p port.adjacency in
-    let own : IsHelloOf w p h way = record { sender = refl; level = refl; holding = refl; state = state_low port.adjacency.state; neighbour = sym kept } in
-    frame_of w p (hello_frame w.id.system p port) (greeting h way) (hello_content again w.id.system p port mine low (subst IsNamed kept named)) (record {
+    let kept : neighbour_at w p ≡ neighbour_of port.adjacency = neighbour_found w p there at ∙ ap neighbour_of same in
+    let own : IsHelloOf w p h way = hello_of w p port there at same in
+    frame_of w p (hello_frame w.id.system p port) (greeting h way) (hello_content again w.id.system p port mine low (subst IsNamed kept named)) (hello_written w.id.system p port) (record {
       hello = λ other name e.
           let same_hello : h ≡ other = cc in
           let same_name : way ≡ name = cc in
           subst (λ (g : HelloValue). IsHelloOf w p g name) same_hello (subst (λ (n : ThreeWay). IsHelloOf w p h n) same_name own);
+      lsp = λ l no. absurd cc;
       claims = λ id a none. absurd none;
     })
 
--- the neighbour at a port that sends is that afterwards
-kept_told : (r : BridgeView) (p i : ℕ) (port : BridgePort) → slice_get r.ports i ≡ Some port → p ≡ 1 + i → neighbour_at (told r) p ≡ neighbour_of port.adjacency
-unfolding neighbour_at
+-- the port that sends is that afterwards, but for what is due
+kept_told : (r : BridgeView) (p i : ℕ) (port : BridgePort) → slice_get r.ports i ≡ Some port → p ≡ 1 + i → port_at (told r) p ≡ Some (with_due false port)
 kept_told r p i port is same =
     let place : p - 1 ≡ i = omega (arith, same) in
     let low : nat_le 1 p ≡ true = le-leb 1 p (omega (arith, same)) in
-    let there : port_in (map (with_due false) r.ports) p ≡ Some (with_due false port) = rw (low, place) (slice_get-map (with_due false) r.ports i ∙ ap (λ (o : Option BridgePort). option_map (with_due false) o) is) in
-    ap (λ (o : Option BridgePort). option_and_then (λ (x : BridgePort). neighbour_of x.adjacency) o) there
+    rw (low, place) (slice_get-map (with_due false) r.ports i ∙ ap (λ (o : Option BridgePort). option_map (with_due false) o) is)
 
-pub frames_are_sound : ControlAgain → FramesAreSound
+-- the bridge that sends can tell what it will hold
+pub readied_can : (v : BridgeView) → IsSoundView v → CanTell (told (readied v)) (readied v).database
+readied_can v was =
+    let r : BridgeView = readied v in
+    record {
+      up = up_ports r;
+      sound = lsps_of r (readied_holds v was);
+      same = told_held 1 r.ports r.database;
+      mine = ap (λ (u : BridgeView). length u.id.system.mac.bytes) (readied_rest v) ∙ was.config.system.bytes;
+    }
+
+second_says : ControlAgain → (v : BridgeView) (p : ℕ) (bytes : List ℕ) → IsSoundView v → IsNamed (neighbour_at (step second v) p) → IsSent (sent second v) p bytes → IsFrameOf (step second v) p bytes
 unfolding after_tick sent_in_tick
-frames_are_sound again v p bytes was named some =
+second_says again v p bytes was named some =
     let r : BridgeView = readied v in
     let w : BridgeView = told r in
-    let mine : IsId r.id.system = ap (λ (u : BridgeView). length u.id.system.mac.bytes) (readied_rest v) ∙ was.config.system.bytes in
+    let can : CanTell w r.database = readied_can v was in
     let many : length r.ports ≡ length v.ports = ap length (readied_ports v) ∙ length-map v.ports later in
-    let can : CanTell w r.database = record { up = up_ports r; sound = lsps_of r (readied_holds v was); same = λ id. sym (told_version 1 r.ports r.database id); mine = mine } in
     sent_says again w p bytes 1 r.ports r.database can
     (λ i port is same.
     let within = slice_get_within r.ports i port is in
-    hello_says again w p port mine (omega (arith, within, many, was.few, same)) named (kept_told r p i port is same))
+    hello_says again w p port (with_due false port) can.mine (omega (arith, within, many, was.few, same)) named (kept_told r p i port is same) refl)
     some
+
+pub sent_is_sound : ControlAgain → SentIsSound
+sent_is_sound again second v p bytes was named some = second_says again v p bytes was named some
+sent_is_sound again (frame q f) v p bytes was named some = absurd some
+sent_is_sound again (carrier q on) v p bytes was named some = absurd some
+sent_is_sound again (metric q m) v p bytes was named some = absurd some

@@ -39,7 +39,7 @@ use Rattle.bridge_api.specs.View.{BridgeView, port_at, neighbour_at, is_port_up,
 use Rattle.bridge_api.specs.Judging.{Judged, useless, judged, greeting, is_octets, by_content, by_pdu, by_three_way, by_reading}
 use Rattle.bridge_api.specs.Judging as drop
 use Rattle.bridge_api.specs.Ticking.{later, readied, hello_tlvs, hello_at, hello_frame, lsp_frame, csnp_frame, psnp_frame, greetings_at, summaries_at, lsps_at, requests_at, synced_at, sent_at, told_at, sent_from, sent_in_tick, after_tick}
-use Rattle.bridge_api.specs.Laws.{IsSoundPort, IsSent, AreOctets, HellosAreHeard, SentWithCarrier}
+use Rattle.bridge_api.specs.Laws.{IsSoundPort, IsSent, IsHelloOf, AreOctets, HellosAreHeard, SentWithCarrier}
 use Rattle.bridge_api.proofs.Changes.{found, readied_ports, readied_rest, ticked, tick_port, when_true}
 use Rattle.bridge_api.proofs.Carriers.{later_carrier}
 use Rattle.bridge_api.proofs.Octets.{AreSmall, octets_small, bytes_small, small_both}
@@ -96,6 +96,23 @@ hello_content control_again system p port six low named =
     ∙ (ap by_pdu (written_again (hello h) whole)
     ∙ (ap (λ (vs : List (List ℕ)). by_three_way h (slice_get vs 0)) (way_found way)
     ∙ ap (by_reading h) again))
+
+-- the hello at a port is one of the bridge that has this adjacency there
+pub neighbour_found : (w : BridgeView) (p : ℕ) (there : BridgePort) → port_at w p ≡ Some there → neighbour_at w p ≡ neighbour_of there.adjacency
+unfolding neighbour_at
+neighbour_found w p there at = ap (option_and_then (λ (x : BridgePort). neighbour_of x.adjacency)) at
+
+pub hello_of : (w : BridgeView) (p : ℕ) (port there : BridgePort) → port_at w p ≡ Some there → there.adjacency ≡ port.adjacency → IsHelloOf w p (hello_at w.id.system p port) (said p port.adjacency)
+hello_of w p port there at same = record {
+  sender = refl;
+  level = refl;
+  holding = refl;
+  state = said_state port.adjacency.state;
+  neighbour = ap neighbour_of (sym same) ∙ sym (neighbour_found w p there at);
+  spoken = λ other is.
+      let one : there ≡ other = let both : Some there ≡ Some other = sym at ∙ is in cc in
+      ap (said p) (sym same ∙ ap (λ (x : BridgePort). x.adjacency) one);
+}
 
 -- ---- its octets
 
@@ -197,7 +214,7 @@ synced_where true system q port db p bytes some =
     ]
 
 -- a frame is sent at a port with carrier, or at one that is Up
-at_port : (system : SystemId) (q : ℕ) (port : BridgePort) (db : Lsps) (p : ℕ) (bytes : List ℕ) → IsSent (sent_at system q port db) p bytes → (q ≡ p) × ((port.adjacency.carrier ≡ true) ⊎ (is_port_up port ≡ true))
+pub at_port : (system : SystemId) (q : ℕ) (port : BridgePort) (db : Lsps) (p : ℕ) (bytes : List ℕ) → IsSent (sent_at system q port db) p bytes → (q ≡ p) × ((port.adjacency.carrier ≡ true) ⊎ (is_port_up port ≡ true))
 at_port system q port db p bytes some =
     elim (sent_either (greetings_at system q port) (synced_at system q port db) p bytes some) [
       | inl first ↦ let at = greeted_at port.adjacency.carrier system q port p bytes first in (at.0, inl at.1)
@@ -205,14 +222,14 @@ at_port system q port db p bytes some =
     ]
 
 -- the port at which a frame was sent, from a list of ports of which the first has number q
-record SentAt (q : ℕ) (ports : List BridgePort) (p : ℕ) : Type 0 where
-  port : BridgePort
-  place : ℕ
-  number : p ≡ q + place
-  found : slice_get ports place ≡ Some port
-  lit : (port.adjacency.carrier ≡ true) ⊎ (is_port_up port ≡ true)
+pub record SentAt (q : ℕ) (ports : List BridgePort) (p : ℕ) : Type 0 where
+  pub port : BridgePort
+  pub place : ℕ
+  pub number : p ≡ q + place
+  pub found : slice_get ports place ≡ Some port
+  pub lit : (port.adjacency.carrier ≡ true) ⊎ (is_port_up port ≡ true)
 
-sent_where : (system : SystemId) (q : ℕ) (ports : List BridgePort) (db : Lsps) (p : ℕ) (bytes : List ℕ) → IsSent (sent_from system q ports db) p bytes → SentAt q ports p
+pub sent_where : (system : SystemId) (q : ℕ) (ports : List BridgePort) (db : Lsps) (p : ℕ) (bytes : List ℕ) → IsSent (sent_from system q ports db) p bytes → SentAt q ports p
 sent_where system q [] db p bytes none = absurd none
 sent_where system q (port ∷ ports) db p bytes some =
     elim (sent_either (sent_at system q port db) (sent_from system (q + 1) ports (told_at q port db)) p bytes some) [
@@ -282,7 +299,7 @@ lit_port None v p there lit = absurd cc
 lit_port (Some port) v p there lit = record { port = port; there = there; lit = lit }
 
 pub hellos_are_heard : ControlAgain → HellosAreHeard
-unfolding sent_in_tick after_tick neighbour_at has_carrier_at
+unfolding sent_in_tick after_tick has_carrier_at
 hellos_are_heard control_again v p was carrier named octets =
     let w : BridgeView = readied v in
     let g = lit_port (port_at v p) v p refl carrier in
@@ -290,7 +307,8 @@ hellos_are_heard control_again v p was carrier named octets =
     let port : BridgePort = later g.port in
     let there : slice_get w.ports (p - 1) ≡ Some port =
     ap (λ (ports : List BridgePort). slice_get ports (p - 1)) (readied_ports v) ∙ (slice_get-map later v.ports (p - 1) ∙ ap (option_map later) at.1) in
-    let kept : neighbour_at (after_tick v) p ≡ neighbour_of port.adjacency = ap (option_and_then (λ (x : BridgePort). neighbour_of x.adjacency)) (tick_port v p ∙ ap (option_map ticked) g.there) in
+    let afterwards : port_at (after_tick v) p ≡ Some (ticked g.port) = tick_port v p ∙ ap (option_map ticked) g.there in
+    let kept : neighbour_at (after_tick v) p ≡ neighbour_of port.adjacency = neighbour_found (after_tick v) p (ticked g.port) afterwards in
     let same : w.id ≡ v.id = ap (λ (u : BridgeView). u.id) (readied_rest v) in
     let within : p - 1 < length v.ports = slice_get_within v.ports (p - 1) g.port at.1 in
     let six : length w.id.system.mac.bytes ≡ 6 = ap (λ (id : BridgeId). length id.system.mac.bytes) same ∙ was.config.system.bytes in
@@ -301,11 +319,5 @@ hellos_are_heard control_again v p was carrier named octets =
       hello = hello_at w.id.system p port;
       way = said p port.adjacency;
       heard = hello_heard control_again w.id.system p port six from (omega (arith, at.0, within, was.few)) (subst IsNamed kept named) (subst AreOctets kept octets);
-      own = record {
-        sender = refl;
-        level = refl;
-        holding = refl;
-        state = said_state port.adjacency.state;
-        neighbour = sym kept;
-      };
+      own = hello_of (after_tick v) p port (ticked g.port) afterwards refl;
     }

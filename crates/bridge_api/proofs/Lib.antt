@@ -21,6 +21,7 @@ pub mod StepsCarry
 pub mod Entering
 pub mod Spelled
 pub mod Frames
+pub mod OneHello
 pub mod GraphRead
 pub mod ServingPorts
 pub mod Serving

@@ -1,5 +1,5 @@
 -- What a frame is taken for, before the bridge that hears it is looked at.
-use Rattle.std.specs.Prelude.{ℕ, List, Bool, Option, Some, None, Result, Ok, Err, slice_get, nat_lt, if◌then◌else◌}
+use Rattle.std.specs.Prelude.{ℕ, List, Bool, Option, Some, None, is_some, Result, Ok, Err, slice_get, nat_lt, if◌then◌else◌}
 use Rattle.std.specs.List.{list_all}
 use Rattle.spb_types.specs.declared.address.Mac.{Mac}
 use Rattle.spb_types.specs.declared.service.Vid.{Vid}
@@ -72,3 +72,7 @@ greeting_in (link_state l) = None
 greeting_in (complete c) = None
 greeting_in (partial s) = None
 greeting_in (tenant da sa vid isid customer) = None
+
+-- whether a frame is heard as a hello
+abbrev pub is_hello : List ℕ → Bool
+is_hello frame = is_some (greeting_in (judged frame))

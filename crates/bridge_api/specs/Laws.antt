@@ -1,11 +1,15 @@
 -- What every step of a bridge keeps, whatever comes to it: the facts that a network rests on.
-use Rattle.std.specs.Prelude.{◌≡◌, ◌≢◌, ◌⊎◌, ℕ, ◌-◌, ◌≤◌, ◌<◌, nat_le, List, [], ◌∷◌, length, map, slice_set, Bool, true, false, ◌==◌, if◌then◌else◌, Option, Some, None, Result, Ok, Err, ⊤}
+use Rattle.std.specs.Prelude.{◌≡◌, ◌≢◌, ◌⊎◌, ℕ, ◌-◌, ◌≤◌, ◌<◌, nat_le, List, [], ◌∷◌, length, map, count_by, slice_set, Bool, true, false, ◌==◌, ◌&&◌, if◌then◌else◌, Option, Some, None, Result, Ok, Err, ⊤}
 use Rattle.std.specs.List.{AllByRecursion}
 use Rattle.std.specs.Option.{option_map}
 use Rattle.std.specs.FinMap.{get}
+use Rattle.spb_types.specs.declared.address.Mac.{Mac}
 use Rattle.spb_types.specs.declared.address.LspId.{LspId}
+use Rattle.spb_types.specs.declared.service.Vid.{Vid}
+use Rattle.spb_types.specs.declared.service.Isid.{Isid}
 use Rattle.spb_types.specs.Ports.{has, no_ports}
-use Rattle.isis_pdu.specs.Pdu.{HelloValue}
+use Rattle.isis_pdu.specs.Pdu.{HelloValue, LspValue, CsnpValue, PsnpValue}
+use Rattle.isis_pdu.specs.Spelling.{hello_bytes, lsp_bytes, csnp_bytes, psnp_bytes}
 use Rattle.isis_pdu.specs.Grammar.{IsBytes}
 use Rattle.spb_tlvs.specs.declared.entries.SnpEntry.{SnpEntry}
 use Rattle.spb_tlvs.specs.declared.error.TlvError.{TlvError}
@@ -14,26 +18,29 @@ use Rattle.spb_tlvs.specs.Capability.{IsTree}
 use Rattle.spb_tlvs.specs.RoundTrip.{IsNamed}
 use Rattle.lsdb.specs.declared.version.Version.{Version}
 use Rattle.lsdb.specs.declared.version.Version.TheVariants.{Absent}
-use Rattle.lsdb.specs.Version.{IsAtMost, is_absent}
+use Rattle.lsdb.specs.Version.{is_absent}
+use Rattle.lsdb.specs.Entry.{Entry}
 use Rattle.lsdb.specs.Database.{version_in, srm_in, ssn_in, version_at}
 use Rattle.lsdb.specs.Certificate.{Claim, IsClaimed, Certificate}
 use Rattle.flooding.specs.Own.{own_id, renewed}
 use Rattle.flooding.specs.Hearing.{claim_of}
+use Rattle.flooding.specs.Sending.{lsp_in}
 use Rattle.flooding.specs.Entries.{AreSendable, HaveFlagsAt}
 use Rattle.flooding.specs.Laws.{HasBody}
 use Rattle.snp_sync.specs.Sized.{AreSized}
 use Rattle.snp_sync.specs.Reading.{entries_in}
 use Rattle.snp_sync.specs.Hearing.{claims_in}
+use Rattle.itag_frames.specs.Frame.{control_bytes}
 use Rattle.spb_content.specs.Local.{IsLocal}
 use Rattle.spb_content.specs.Laws.{HasFields}
 use Rattle.adjacency.specs.Hearing.{End, sender}
-use Rattle.adjacency.specs.Adjacency.{IsSound}
+use Rattle.adjacency.specs.Adjacency.{IsSound, said}
 use Rattle.bridge_api.specs.declared.port.BridgePort.{BridgePort}
 use Rattle.bridge_api.specs.declared.config.BridgeConfig.{BridgeConfig}
-use Rattle.bridge_api.specs.View.{BridgeView, IsPort, neighbour_at, is_up_at, has_carrier_at, is_due_at, is_port_up, metrics_of, up_ports, control_of}
+use Rattle.bridge_api.specs.View.{BridgeView, IsPort, port_at, neighbour_at, is_up_at, has_carrier_at, is_due_at, is_port_up, metrics_of, up_ports, control_of}
 use Rattle.bridge_api.specs.Own.{local_of, own_of, own_entry, IsTended}
 use Rattle.bridge_api.specs.Config.{IsWhole, IsOwnMac, IsMetric, IsAttachment, AgreesWith, ArePairwise, different, vids_of, bare, configured}
-use Rattle.bridge_api.specs.Judging.{Judged, useless, greeting, link_state, complete, partial, tenant, greeting_in, judged}
+use Rattle.bridge_api.specs.Judging.{Judged, useless, greeting, link_state, complete, partial, tenant, greeting_in, judged, is_hello}
 use Rattle.bridge_api.specs.Hearing.{with_carrier}
 use Rattle.bridge_api.specs.Step.{Input, second, frame, carrier, metric, step, sent}
 
@@ -172,6 +179,7 @@ pub record IsHelloOf (v : BridgeView) (p : ℕ) (hello : HelloValue) (way : Thre
   pub holding : hello.holding ≡ 3
   pub state : way.state ≤ 2
   pub neighbour : way.neighbour ≡ neighbour_at v p
+  pub spoken : (port : BridgePort) → port_at v p ≡ Some port → way ≡ said p port.adjacency
 
 -- the claims of a frame: that of an LSP, and those of the entries of a sequence numbers PDU that can be read
 abbrev pub claims_or_none : Result (List SnpEntry) TlvError → List Claim
@@ -186,15 +194,39 @@ claims_said (complete c) = claims_or_none (entries_in c.tlvs)
 claims_said (partial s) = claims_or_none (entries_in s.tlvs)
 claims_said (tenant da sa vid isid customer) = []
 
--- a frame of this bridge at the port: if it is heard as a hello, as one of this bridge; and what it claims is at most what
--- the bridge holds
+-- a frame as the bridge with an address writes it: a PDU in a control frame, or a frame of the backbone
+pub data IsWritten (sa : Mac) (bytes : List ℕ) : Type 0 where
+  writes_hello : (h : HelloValue) → bytes ≡ control_bytes sa (hello_bytes h) → IsWritten sa bytes
+  writes_lsp : (l : LspValue) → bytes ≡ control_bytes sa (lsp_bytes l) → IsWritten sa bytes
+  writes_csnp : (c : CsnpValue) → bytes ≡ control_bytes sa (csnp_bytes c) → IsWritten sa bytes
+  writes_psnp : (s : PsnpValue) → bytes ≡ control_bytes sa (psnp_bytes s) → IsWritten sa bytes
+  carries : (da ba : Mac) (vid : Vid) (isid : Isid) (customer : List ℕ) → judged bytes ≡ tenant da ba vid isid customer → IsWritten sa bytes
+
+-- the LSP of what a bridge holds under its id
+abbrev pub IsHeldLsp : BridgeView → LspValue → Type 0
+IsHeldLsp v l = (e : Entry) × (get v.database l.id ≡ Some e) × (l ≡ lsp_in l.id e)
+
+-- under this id a bridge holds something, of this version
+abbrev pub IsHeldAt : BridgeView → LspId → Version → Type 0
+IsHeldAt v id a = (e : Entry) × (get v.database id ≡ Some e) × (a ≡ e.version)
+
+-- a frame of this bridge at the port: if it is heard as a hello, as one of this bridge; if as an LSP, as the one that the
+-- bridge holds; what it claims is what the bridge holds; and it is written as this bridge writes
 pub record IsFrameOf (v : BridgeView) (p : ℕ) (bytes : List ℕ) : Type 0 where
   pub hello : (h : HelloValue) (way : ThreeWay) → judged bytes ≡ greeting h way → IsHelloOf v p h way
-  pub claims : (id : LspId) (a : Version) → IsClaimed (claims_said (judged bytes)) id a → IsAtMost a (version_at v.database id)
+  pub lsp : (l : LspValue) → judged bytes ≡ link_state l → IsHeldLsp v l
+  pub claims : (id : LspId) (a : Version) → IsClaimed (claims_said (judged bytes)) id a → IsHeldAt v id a
+  pub written : IsWritten v.id.system.mac bytes
 
--- each frame that a bridge sends is such a one, where the neighbour can be named: a circuit id of four bytes
-abbrev pub FramesAreSound : Type 0
-FramesAreSound = (v : BridgeView) (p : ℕ) (bytes : List ℕ) → IsSoundView v → IsNamed (neighbour_at (step second v) p) → IsSent (sent second v) p bytes → IsFrameOf (step second v) p bytes
+-- whatever came in, each frame that a bridge sends is such a one, where the neighbour can be named: a circuit id of four
+-- bytes
+abbrev pub SentIsSound : Type 0
+SentIsSound = (input : Input) (v : BridgeView) (p : ℕ) (bytes : List ℕ) → IsSoundView v → IsNamed (neighbour_at (step input v) p)
+    → IsSent (sent input v) p bytes → IsFrameOf (step input v) p bytes
+
+-- in a second at most one hello is sent at a port
+abbrev pub OneHello : Type 0
+OneHello = (v : BridgeView) (p : ℕ) → IsSoundView v → count_by (λ s. (s.0 == p) && is_hello s.1) (sent second v) ≤ 1
 
 -- and at a port with carrier and a neighbour of octets, if it keeps one, a hello is sent that is heard
 pub record IsGreeted (v : BridgeView) (p : ℕ) : Type 0 where

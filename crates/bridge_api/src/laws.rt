@@ -1,5 +1,5 @@
 //! What every step of a bridge keeps, whatever comes to it. Each is the contract of a function that does nothing.
-ghost use Rattle.bridge_api.specs.Laws.{ConfiguredIsSound, ConfiguredIsDark, ConfiguredHoldsOwn, SoundCanSay, StepsStaySound, StepsKeepBridge, StepsKeepCarrier, StepsKeepNeighbours, FramesAreSound, HellosAreHeard, SentWithCarrier, EnteringUpIsWhole, UpPortsAreUp, StepsCarryDatabase, NeighboursComeUp, SomeBridge};
+ghost use Rattle.bridge_api.specs.Laws.{ConfiguredIsSound, ConfiguredIsDark, ConfiguredHoldsOwn, SoundCanSay, StepsStaySound, StepsKeepBridge, StepsKeepCarrier, StepsKeepNeighbours, SentIsSound, OneHello, HellosAreHeard, SentWithCarrier, EnteringUpIsWhole, UpPortsAreUp, StepsCarryDatabase, NeighboursComeUp, SomeBridge};
 ghost use Rattle.bridge_api.specs.Duties.{SecondsServe, SecondsSettle};
 ghost use Rattle.bridge_api.specs.Graph.{ReadsWhatIsHeld, ReadsEachOnce, ReadsItself};
 
@@ -28,10 +28,12 @@ pub fn steps_keep_neighbours()
     ensures { StepsKeepNeighbours }
 {}
 
-/// Each frame that is sent and heard as a hello names its sender and port, and nobody but the neighbour that is kept; and
-/// what a frame claims is at most what its sender holds. A hello is sent at each port with carrier, and nothing at others.
+/// Each frame that is sent and heard as a hello names its sender and port, the state there, and nobody but the neighbour that
+/// is kept; an LSP that is sent is the one that its sender holds, and what a frame claims is just what its sender holds. In
+/// each second one hello is sent at each port with carrier, and nothing at others.
 pub fn frames_are_heard()
-    ensures sound { FramesAreSound }
+    ensures sound { SentIsSound }
+    ensures one_hello { OneHello }
     ensures heard { HellosAreHeard }
     ensures carrier { SentWithCarrier }
 {

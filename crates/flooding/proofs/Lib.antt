@@ -5,6 +5,7 @@ pub mod Sent
 pub mod Claimed
 pub mod Steps
 pub mod Owns
+pub mod OwnBodies
 pub mod AtMostHeld
 pub mod Flags
 pub mod AllEntries

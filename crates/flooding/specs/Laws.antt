@@ -16,7 +16,7 @@ use Rattle.lsdb.specs.Entry.{Entry, stored, flooded, entered, acked, cleared, of
 use Rattle.lsdb.specs.Database.{Lsps, version_in, version_at, ssn_in, fits}
 use Rattle.lsdb.specs.Certificate.{Claim, Control, EntryCertificate, Certificate}
 use Rattle.flooding.specs.declared.own.Own.{Own}
-use Rattle.flooding.specs.Own.{last_number, own_id, tlvs_in, renewed, answered}
+use Rattle.flooding.specs.Own.{last_number, own_id, tlvs_in, body_in, renewed, answered}
 use Rattle.flooding.specs.Hearing.{Holding, claim_of, lsp_row, snp_row, is_beyond, heard_by, after_claim, is_full, hear_lsp_of, is_full_for_lsp, hear_entry_of, is_full_for_entry}
 use Rattle.flooding.specs.Origination.{spent_entry, next_entry, originated}
 use Rattle.flooding.specs.Sending.{lsp_in, ids_to_send, lsps_to_send}
@@ -153,6 +153,24 @@ LspLeavesOwn = (up : PortSet) (port : ℕ) (l : LspValue) (h : Holding) (old new
 abbrev pub EntryLeavesOwn : Type 0
 EntryLeavesOwn = (up : PortSet) (port : ℕ) (c : Claim) (h : Holding) (old new : Entry) → c.id ≡ own_id h.own.system → number_of c.version < last_number
     → get h.db c.id ≡ Some old → get (hear_entry_of up port c h).db c.id ≡ Some new → OwnEntry up h.own c.version old new
+
+-- the body under an id of the own system, after a claim or an origination: the one that was held, the own one, or that of a
+-- dead LSP. What others send is never held there
+pub data IsOwnBody (own : Own) (old new : Option Entry) : Type 0 where
+  stays : body_in new ≡ body_in old → IsOwnBody own old new
+  renews : body_in new ≡ own.body → IsOwnBody own old new
+  ends : body_in new ≡ 1 ∷ [] → IsOwnBody own old new
+
+abbrev pub LspLeavesOwnBody : Type 0
+LspLeavesOwnBody = (up : PortSet) (port : ℕ) (l : LspValue) (h : Holding) (id : LspId) → id.system ≡ h.own.system
+    → IsOwnBody h.own (get h.db id) (get (hear_lsp_of up port l h).db id)
+
+abbrev pub EntryLeavesOwnBody : Type 0
+EntryLeavesOwnBody = (up : PortSet) (port : ℕ) (c : Claim) (h : Holding) (id : LspId) → id.system ≡ h.own.system
+    → IsOwnBody h.own (get h.db id) (get (hear_entry_of up port c h).db id)
+
+abbrev pub OriginationLeavesOwnBody : Type 0
+OriginationLeavesOwnBody = (up : PortSet) (h : Holding) (id : LspId) → IsOwnBody h.own (get h.db id) (get (originated up h).db id)
 
 -- after an origination the next entry stands under the own id and no other changes. The system and its body stay, and below
 -- the last number it isn't spent

@@ -1,5 +1,5 @@
 -- The own LSP of a system: what the system originates, and how it answers a claim of one of its ids.
-use Rattle.std.specs.Prelude.{ℕ, ◌+◌, List, [], ◌∷◌, Bool, true, ◌&&◌, not, ◌==◌, nat_lt, if◌then◌else◌}
+use Rattle.std.specs.Prelude.{ℕ, ◌+◌, List, [], ◌∷◌, Bool, true, ◌&&◌, not, ◌==◌, Option, Some, None, nat_lt, if◌then◌else◌}
 use Rattle.spb_types.specs.declared.address.SystemId.{SystemId}
 use Rattle.spb_types.specs.declared.address.LspId.{LspId}
 use Rattle.spb_types.specs.declared.ports.PortSet.{PortSet}
@@ -29,6 +29,11 @@ flags_in (flags ∷ tlvs) = flags
 abbrev pub tlvs_in : List ℕ → List ℕ
 tlvs_in [] = []
 tlvs_in (flags ∷ tlvs) = tlvs
+
+-- the body of what is held under an id, and of nothing none
+abbrev pub body_in : Option Entry → List ℕ
+body_in None = []
+body_in (Some e) = e.body
 
 -- the own LSP at a number: live with the present body for 1,200 seconds, to be sent at every Up port
 abbrev pub renewed : PortSet → Own → ℕ → Entry

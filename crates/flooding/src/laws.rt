@@ -1,5 +1,5 @@
 //! The laws of flooding. Each is the contract of a function that does nothing.
-ghost use Rattle.flooding.specs.Laws.{HearingLspIsCertified, HearingEntryIsCertified, AnsweringIsCertified, OriginationIsCertified, OthersStand, LspStands, EntryStands, FullStands, FittingIsNotFull, HeardIsAtMostHeld, StoredFlags, FloodedFlags, EnteredFlags, AckedFlags, ClearedFlags, OfferedFlags, FlaggedFlags, JoinedFlags, PartedFlags, AgedFlags, ExpiredFlags, SpentFlags, OwnStands, OwnIsNotSpent, LspLeavesOwn, EntryLeavesOwn, OriginatedStands, OriginationLeavesOthers, OriginationLeavesOwn, OriginationIsNotSpent, IdsNameLsps, SentIsHeld, SentIsRead, ReadIsWhole, ClaimIsNumbered, LspKeepsSendable, EntryKeepsSendable, OriginationKeepsSendable, AgeingKeepsSendable, FlagsKeepSendable, LspKeepsFlags, EntryKeepsFlags, OriginationKeepsFlags};
+ghost use Rattle.flooding.specs.Laws.{HearingLspIsCertified, HearingEntryIsCertified, AnsweringIsCertified, OriginationIsCertified, OthersStand, LspStands, EntryStands, FullStands, FittingIsNotFull, HeardIsAtMostHeld, StoredFlags, FloodedFlags, EnteredFlags, AckedFlags, ClearedFlags, OfferedFlags, FlaggedFlags, JoinedFlags, PartedFlags, AgedFlags, ExpiredFlags, SpentFlags, OwnStands, OwnIsNotSpent, LspLeavesOwn, EntryLeavesOwn, LspLeavesOwnBody, EntryLeavesOwnBody, OriginationLeavesOwnBody, OriginatedStands, OriginationLeavesOthers, OriginationLeavesOwn, OriginationIsNotSpent, IdsNameLsps, SentIsHeld, SentIsRead, ReadIsWhole, ClaimIsNumbered, LspKeepsSendable, EntryKeepsSendable, OriginationKeepsSendable, AgeingKeepsSendable, FlagsKeepSendable, LspKeepsFlags, EntryKeepsFlags, OriginationKeepsFlags};
 
 /// What is heard at an Up port, answered and originated is a certified step.
 pub fn flooding_is_certified()
@@ -49,6 +49,13 @@ pub fn the_own_lsp_is_kept_or_renewed()
     ensures others { OriginationLeavesOthers }
     ensures still_own { OriginationLeavesOwn }
     ensures still_not_spent { OriginationIsNotSpent }
+{}
+
+/// Under an id of the own system stands no body but one that the system wrote, or that of a dead LSP.
+pub fn own_bodies_are_the_systems()
+    ensures lsp { LspLeavesOwnBody }
+    ensures entry { EntryLeavesOwnBody }
+    ensures originated { OriginationLeavesOwnBody }
 {}
 
 /// What is to be sent at a port by its ids is what the database says; an LSP that is sent claims what is held, and its bytes

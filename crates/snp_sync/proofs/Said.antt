@@ -35,7 +35,7 @@ use Rattle.snp_sync.specs.Ids.{successor, first_id}
 use Rattle.snp_sync.specs.Sending.{Page, end_of, pages_from, csnp_for, psnp_for, csnp_pages, psnp_parts, settled}
 use Rattle.snp_sync.specs.Reading.{before_others, entries_in_all, entries_in}
 use Rattle.snp_sync.specs.Sized.{IsSizedLine}
-use Rattle.snp_sync.specs.SendingLaws.{LineClaimsWhatIsHeld, ClaimsWhatIsHeld, PagesClaimWhatIsHeld, CsnpIsRead, LinesAreRead, PageLinesAreRead, PageLinesAreSized, PartsClaimWhatIsHeld, PsnpIsRead, PartLinesAreRead, PartLinesAreSized, IsSettledEntry, IsSettledUnder, SettledOwesNothing, SettlingIsCertified}
+use Rattle.snp_sync.specs.SendingLaws.{LineClaimsWhatIsHeld, ClaimsWhatIsHeld, IsLineOfHeld, PagesClaimWhatIsHeld, PagesListWhatIsHeld, CsnpIsRead, LinesAreRead, PageLinesAreRead, PageLinesAreSized, PartsClaimWhatIsHeld, PartsListWhatIsHeld, PsnpIsRead, PartLinesAreRead, PartLinesAreSized, IsSettledEntry, IsSettledUnder, SettledOwesNothing, SettlingIsCertified}
 use Rattle.snp_sync.proofs.Gathered.{gathered}
 use Rattle.snp_sync.proofs.Cuts.{tlvs_whole}
 use Rattle.snp_sync.proofs.Ranges.{joined, joined_parts, joined_or_one, of_entries}
@@ -134,6 +134,17 @@ pages_claim_what_is_held db all = of_csnps (ClaimsWhatIsHeld db) db (claims_held
 
 pub parts_claim_what_is_held : PartsClaimWhatIsHeld
 parts_claim_what_is_held port db all = of_psnps (ClaimsWhatIsHeld db) port db (claims_held db all)
+
+-- ---- each line is one of what is held
+
+lines_held : (db : Lsps) → AllEntries (λ id e. IsLineOfHeld db (line_of id e)) db
+lines_held db id e at = (e, at, refl)
+
+pub pages_list_what_is_held : PagesListWhatIsHeld
+pages_list_what_is_held db = of_csnps (IsLineOfHeld db) db (lines_held db)
+
+pub parts_list_what_is_held : PartsListWhatIsHeld
+parts_list_what_is_held port db = of_psnps (IsLineOfHeld db) port db (lines_held db)
 
 -- ---- what was sent is settled
 

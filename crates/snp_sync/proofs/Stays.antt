@@ -15,15 +15,18 @@ use Rattle.lsdb.specs.Version.{is_absent}
 use Rattle.lsdb.specs.Entry.{Entry}
 use Rattle.lsdb.specs.Database.{Lsps, each}
 use Rattle.lsdb.proofs.LookupLemmas.{get-each}
-use Rattle.flooding.specs.Own.{tlvs_in}
-use Rattle.flooding.specs.Hearing.{snp_row, hear_entry_of}
+use Rattle.flooding.specs.declared.own.Own.{Own}
+use Rattle.flooding.specs.Own.{tlvs_in, body_in}
+use Rattle.flooding.specs.Hearing.{Holding, snp_row, hear_entry_of}
 use Rattle.flooding.specs.Entries.{AllEntries, IsSendable, HasFlagsAt}
+use Rattle.flooding.specs.Laws.{IsOwnBody, stays, renews, ends}
 use Rattle.flooding.proofs.Owns.{own_stands, own_is_not_spent}
+use Rattle.flooding.proofs.OwnBodies.{entry_leaves_own_body}
 use Rattle.flooding.proofs.SendableEntries.{claim_is_numbered, entry_keeps_sendable, flags_sendable}
 use Rattle.flooding.proofs.FlagEntries.{entry_keeps_flags}
 use Rattle.snp_sync.specs.Ids.{is_between}
-use Rattle.snp_sync.specs.Hearing.{hear_entries_of, ids_of, is_among, is_missed, flag_if}
-use Rattle.snp_sync.specs.HearingLaws.{EntriesLeaveOwn, EntriesDontSpend, ClaimsAreNumbered, EntriesKeepSendable, CsnpKeepsSendable, EntriesKeepFlags, CsnpKeepsFlags}
+use Rattle.snp_sync.specs.Hearing.{hear_entries_of, ids_of, is_among, is_missed, flag_if, hear_csnp_of}
+use Rattle.snp_sync.specs.HearingLaws.{EntriesLeaveOwn, EntriesDontSpend, EntriesLeaveOwnBody, CsnpLeavesOwnBody, ClaimsAreNumbered, EntriesKeepSendable, CsnpKeepsSendable, EntriesKeepFlags, CsnpKeepsFlags}
 
 -- ---- the own LSP
 
@@ -38,6 +41,39 @@ pub entries_dont_spend : EntriesDontSpend
 entries_dont_spend up port [] h low = refl
 entries_dont_spend up port (c ∷ claims) h low =
     entries_dont_spend up port claims (hear_entry_of up port c h) low.1 ∙ own_is_not_spent (snp_row up port c.version) up c h low.0
+
+-- one claim after another: the body is still the own one
+body_after : (own next : Own) (old mid new : Option Entry) → next.body ≡ own.body → IsOwnBody own old mid → IsOwnBody next mid new → IsOwnBody own old new
+body_after own next old mid new same first (renews e) = renews (e ∙ same)
+body_after own next old mid new same first (ends e) = ends e
+body_after own next old mid new same (stays d) (stays e) = stays (e ∙ d)
+body_after own next old mid new same (renews d) (stays e) = renews (e ∙ d)
+body_after own next old mid new same (ends d) (stays e) = ends (e ∙ d)
+
+pub entries_leave_own_body : EntriesLeaveOwnBody
+entries_leave_own_body up port [] h id mine = stays refl
+entries_leave_own_body up port (c ∷ claims) h id mine =
+    let g : Holding = hear_entry_of up port c h in
+    let stands = own_stands (snp_row up port c.version) up c h in
+    body_after h.own g.own (get h.db id) (get g.db id) (get (hear_entries_of up port claims g).db id) stands.1
+    (entry_leaves_own_body up port c h id mine) (entries_leave_own_body up port claims g id (mine ∙ sym stands.0))
+
+flag_body : (port : ℕ) (e : Entry) (b : Bool) → (flag_if b port e).body ≡ e.body
+flag_body port e true = refl
+flag_body port e false = refl
+
+flagged_body : (port : ℕ) (missed : Entry → Bool) (o : Option Entry) → body_in (option_map (λ e. flag_if (missed e) port e) o) ≡ body_in o
+flagged_body port missed None = refl
+flagged_body port missed (Some e) = flag_body port e (missed e)
+
+pub csnp_leaves_own_body : CsnpLeavesOwnBody
+csnp_leaves_own_body up port start end claims h id mine =
+    let heard : Holding = hear_entries_of up port claims h in
+    let missed : LspId → Entry → Bool = is_missed start end (ids_of claims) in
+    let same : body_in (get (hear_csnp_of up port start end claims h).db id) ≡ body_in (get heard.db id) =
+    ap body_in (get-each (λ x e. flag_if (missed x e) port e) heard.db id) ∙ flagged_body port (missed id) (get heard.db id) in
+    body_after h.own h.own (get h.db id) (get heard.db id) (get (hear_csnp_of up port start end claims h).db id) refl
+    (entries_leave_own_body up port claims h id mine) (stays same)
 
 -- ---- every entry
 

@@ -19,7 +19,7 @@ use Rattle.flooding.specs.Own.{last_number, own_id}
 use Rattle.flooding.specs.Hearing.{Holding, hear_lsp_of, hear_entry_of, is_full_for_entry}
 use Rattle.flooding.specs.Origination.{originated}
 use Rattle.flooding.specs.Entries.{IsNumbered, AreSendable, HaveFlagsAt}
-use Rattle.flooding.specs.Laws.{control, HasBody}
+use Rattle.flooding.specs.Laws.{control, HasBody, IsOwnBody}
 use Rattle.snp_sync.specs.Sized.{IsLspId, IsSized, AreSized, IsSizedLine}
 use Rattle.snp_sync.specs.Hearing.{claim_in, claims_in, hear_entries_of, ids_of, is_among, is_missed, flag_if, hear_csnp_of}
 
@@ -79,6 +79,15 @@ EntriesLeaveOwn = (up : PortSet) (port : ℕ) (claims : List Claim) (h : Holding
 abbrev pub EntriesDontSpend : Type 0
 EntriesDontSpend = (up : PortSet) (port : ℕ) (claims : List Claim) (h : Holding) → AllByRecursion (λ c. number_of c.version < last_number) claims
     → (hear_entries_of up port claims h).own ≡ h.own
+
+-- nor do they bring a body under an id of the own system
+abbrev pub EntriesLeaveOwnBody : Type 0
+EntriesLeaveOwnBody = (up : PortSet) (port : ℕ) (claims : List Claim) (h : Holding) (id : LspId) → id.system ≡ h.own.system
+    → IsOwnBody h.own (get h.db id) (get (hear_entries_of up port claims h).db id)
+
+abbrev pub CsnpLeavesOwnBody : Type 0
+CsnpLeavesOwnBody = (up : PortSet) (port : ℕ) (start end : LspId) (claims : List Claim) (h : Holding) (id : LspId) → id.system ≡ h.own.system
+    → IsOwnBody h.own (get h.db id) (get (hear_csnp_of up port start end claims h).db id)
 
 -- ---- what every entry keeps
 

@@ -44,6 +44,10 @@ LineClaimsWhatIsHeld = (id : LspId) (e : Entry) → IsNumbered e.version → IsC
 abbrev pub ClaimsWhatIsHeld : Lsps → SnpEntry → Type 0
 ClaimsWhatIsHeld db line = (claim_in line).version ≡ version_at db line.id
 
+-- a line of what is held: its id is held, and it is the line of the entry there
+abbrev pub IsLineOfHeld : Lsps → SnpEntry → Type 0
+IsLineOfHeld db line = (e : Entry) × (get db line.id ≡ Some e) × (line ≡ line_of line.id e)
+
 -- ---- CSNPs
 
 -- each id lies in the range of one CSNP, and of no other
@@ -67,6 +71,10 @@ PagesEndAtIds = (db : Lsps) → HaveIds db → AllByRecursion (λ page. IsLspId 
 -- what it claims is what is held
 abbrev pub PagesClaimWhatIsHeld : Type 0
 PagesClaimWhatIsHeld = (db : Lsps) → AreSendable db → AllByRecursion (λ page. AllByRecursion (ClaimsWhatIsHeld db) page.lines) (csnp_pages db)
+
+-- it lists nothing but what is held
+abbrev pub PagesListWhatIsHeld : Type 0
+PagesListWhatIsHeld = (db : Lsps) → AllByRecursion (λ page. AllByRecursion (IsLineOfHeld db) page.lines) (csnp_pages db)
 
 abbrev pub PageLinesAreSized : Type 0
 PageLinesAreSized = (db : Lsps) → AreSized db → AllByRecursion (λ page. AllByRecursion IsSizedLine page.lines) (csnp_pages db)
@@ -92,6 +100,9 @@ PartsAreShort = (port : ℕ) (db : Lsps) → AllByRecursion (λ part. (1 ≤ len
 
 abbrev pub PartsClaimWhatIsHeld : Type 0
 PartsClaimWhatIsHeld = (port : ℕ) (db : Lsps) → AreSendable db → AllByRecursion (λ part. AllByRecursion (ClaimsWhatIsHeld db) part) (psnp_parts port db)
+
+abbrev pub PartsListWhatIsHeld : Type 0
+PartsListWhatIsHeld = (port : ℕ) (db : Lsps) → AllByRecursion (AllByRecursion (IsLineOfHeld db)) (psnp_parts port db)
 
 abbrev pub PartLinesAreSized : Type 0
 PartLinesAreSized = (port : ℕ) (db : Lsps) → AreSized db → AllByRecursion (AllByRecursion IsSizedLine) (psnp_parts port db)

@@ -1,6 +1,6 @@
 //! The laws of sequence numbers PDUs. Each is the contract of a function that does nothing.
-ghost use Rattle.snp_sync.specs.HearingLaws.{EntriesAreCertified, CsnpIsCertified, UnnamedStands, LastClaimStands, EntryIsServed, CsnpStands, MissedIsSent, EntriesLeaveOwn, EntriesDontSpend, ClaimsAreNumbered, EntriesKeepSendable, CsnpKeepsSendable, EntriesKeepFlags, CsnpKeepsFlags, EntriesKeepSized, CsnpKeepsSized, LspKeepsSized, OriginationKeepsSized, AgeingKeepsSized, FlagsKeepSized};
-ghost use Rattle.snp_sync.specs.SendingLaws.{SuccessorIsNext, SuccessorIsId, LineClaimsWhatIsHeld, RangesCoverOnce, PagesListTheirRanges, PagesAreShort, PagesEndAtIds, PagesClaimWhatIsHeld, CsnpIsRead, LinesAreRead, PageLinesAreRead, PageLinesAreSized, PartsAreWhole, PartsAreShort, PartsClaimWhatIsHeld, PsnpIsRead, PartLinesAreRead, PartLinesAreSized, SettledOwesNothing, SettlingIsCertified};
+ghost use Rattle.snp_sync.specs.HearingLaws.{EntriesAreCertified, CsnpIsCertified, UnnamedStands, LastClaimStands, EntryIsServed, CsnpStands, MissedIsSent, EntriesLeaveOwn, EntriesDontSpend, EntriesLeaveOwnBody, CsnpLeavesOwnBody, ClaimsAreNumbered, EntriesKeepSendable, CsnpKeepsSendable, EntriesKeepFlags, CsnpKeepsFlags, EntriesKeepSized, CsnpKeepsSized, LspKeepsSized, OriginationKeepsSized, AgeingKeepsSized, FlagsKeepSized};
+ghost use Rattle.snp_sync.specs.SendingLaws.{SuccessorIsNext, SuccessorIsId, LineClaimsWhatIsHeld, RangesCoverOnce, PagesListTheirRanges, PagesAreShort, PagesEndAtIds, PagesClaimWhatIsHeld, PagesListWhatIsHeld, CsnpIsRead, LinesAreRead, PageLinesAreRead, PageLinesAreSized, PartsAreWhole, PartsAreShort, PartsClaimWhatIsHeld, PartsListWhatIsHeld, PsnpIsRead, PartLinesAreRead, PartLinesAreSized, SettledOwesNothing, SettlingIsCertified};
 
 /// No LSP id lies between an id and its successor.
 pub fn the_successor_is_next()
@@ -24,11 +24,13 @@ pub fn psnps_say_what_is_owed()
     ensures certified { SettlingIsCertified }
 {}
 
-/// An entry that is sent claims exactly what is held.
+/// An entry that is sent is one of an LSP that is held, and claims exactly what is held.
 pub fn what_is_said_is_what_is_held()
     ensures line { LineClaimsWhatIsHeld }
     ensures pages { PagesClaimWhatIsHeld }
     ensures parts { PartsClaimWhatIsHeld }
+    ensures pages_held { PagesListWhatIsHeld }
+    ensures parts_held { PartsListWhatIsHeld }
 {}
 
 /// A PDU that is sent is read as it was written.
@@ -61,6 +63,8 @@ pub fn the_sender_is_served()
 pub fn hearing_leaves_the_own_lsp()
     ensures stands { EntriesLeaveOwn }
     ensures not_spent { EntriesDontSpend }
+    ensures body { EntriesLeaveOwnBody }
+    ensures csnp_body { CsnpLeavesOwnBody }
 {}
 
 /// What is so of every entry before entries are heard is so afterwards.
