@@ -24,3 +24,6 @@ pub mod Frames
 pub mod GraphRead
 pub mod ServingPorts
 pub mod Serving
+pub mod Time
+pub mod TimeLsps
+pub mod TimeOwn
