@@ -25,3 +25,6 @@ pub mod OneHello
 pub mod GraphRead
 pub mod ServingPorts
 pub mod Serving
+pub mod Time
+pub mod TimeLsps
+pub mod TimeOwn

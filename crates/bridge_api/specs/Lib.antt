@@ -11,3 +11,4 @@ pub mod Among
 pub mod Laws
 pub mod Duties
 pub mod Graph
+pub mod Time
