@@ -1,1 +1,3 @@
 pub mod Lane
+pub mod Lanes
+pub mod Lending

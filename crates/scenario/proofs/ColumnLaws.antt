@@ -1,8 +1,8 @@
 use Rattle.std.proofs.Common.{◌≡◌, ℕ, ◌+◌, ◌≤◌, List, [], ◌∷◌, ◌++◌, length, false, nat_lt, codes, Option, Some, None, Ok, Err, Result, ◌⊎◌, refl, sym, ap, ◌∙◌, subst, inl, inr, arith}
 use Rattle.std.proofs.lemmas.Bool.{cases_Bool}
 use Rattle.std.proofs.lemmas.Bool.Decides.{nat_tests}
-use Rattle.scenario.specs.declared.command.Side.TheVariants.{A}
-use Rattle.scenario.specs.declared.command.Dir.TheVariants.{Ab}
+use Rattle.spb_types.specs.declared.link.Side.TheVariants.{A}
+use Rattle.spb_types.specs.declared.link.Dir.TheVariants.{Ab}
 use Rattle.scenario.specs.declared.command.Command.{Command}
 use Rattle.scenario.specs.declared.keyword.Keyword.{Keyword}
 use Rattle.scenario.specs.declared.keyword.Keyword.TheVariants.{State}

@@ -9,10 +9,10 @@ use Rattle.hex.specs.Hex.{is_hex_digit}
 use Rattle.spb_types.specs.Name.{is_name, is_digit}
 use Rattle.spb_types.specs.declared.address.Mac.{Mac}
 use Rattle.spb_types.specs.declared.service.SourceId.{SourceId}
-use Rattle.scenario.specs.declared.command.Side.{Side}
-use Rattle.scenario.specs.declared.command.Side.TheVariants.{A, B}
-use Rattle.scenario.specs.declared.command.Dir.{Dir}
-use Rattle.scenario.specs.declared.command.Dir.TheVariants.{Ab, Ba}
+use Rattle.spb_types.specs.declared.link.Side.{Side}
+use Rattle.spb_types.specs.declared.link.Side.TheVariants.{A, B}
+use Rattle.spb_types.specs.declared.link.Dir.{Dir}
+use Rattle.spb_types.specs.declared.link.Dir.TheVariants.{Ab, Ba}
 use Rattle.scenario.specs.WordForms.{name, number, system, source, frame, dir, side, decimal, decoded, hexadecimal}
 use Rattle.scenario.specs.Grammar.{Kind, a_name, a_number, a_system, a_source, a_frame, a_dir, a_side, Value, meaning}
 use Rattle.scenario.specs.Spelling.{dir_text, side_text, SpellsValue}

@@ -6,10 +6,10 @@ use Rattle.hex.specs.declared.error.FromHexError.{FromHexError}
 use Rattle.spb_types.specs.Name.{is_name, is_digit}
 use Rattle.spb_types.specs.declared.address.Mac.{Mac}
 use Rattle.spb_types.specs.declared.service.SourceId.{SourceId}
-use Rattle.scenario.specs.declared.command.Side.{Side}
-use Rattle.scenario.specs.declared.command.Side.TheVariants.{A, B}
-use Rattle.scenario.specs.declared.command.Dir.{Dir}
-use Rattle.scenario.specs.declared.command.Dir.TheVariants.{Ab, Ba}
+use Rattle.spb_types.specs.declared.link.Side.{Side}
+use Rattle.spb_types.specs.declared.link.Side.TheVariants.{A, B}
+use Rattle.spb_types.specs.declared.link.Dir.{Dir}
+use Rattle.spb_types.specs.declared.link.Dir.TheVariants.{Ab, Ba}
 
 -- what a word means in each of its forms, or None where it isn't of that form
 

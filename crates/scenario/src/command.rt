@@ -1,22 +1,4 @@
-use spb_types::{Mac, Name, Seq, SourceId};
-
-/// An end of a link.
-#[derive(Clone, Copy, Debug, PartialEq, Eq)]
-pub enum Side {
-    /// The end that the `link` line names first.
-    A,
-    /// The end that it names second.
-    B,
-}
-
-/// A direction of a link.
-#[derive(Clone, Copy, Debug, PartialEq, Eq)]
-pub enum Dir {
-    /// From end a to end b.
-    Ab,
-    /// From end b to end a.
-    Ba,
-}
+use spb_types::{Dir, Mac, Name, Seq, Side, SourceId};
 
 /// A command of a script: one variant for each form of a line.
 ///

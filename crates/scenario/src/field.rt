@@ -4,8 +4,7 @@ ghost use Rattle.std.specs.List.{list_all};
 ghost use Rattle.spb_types.specs.Name.{is_digit};
 ghost use Rattle.scenario.specs.WordForms as forms;
 
-use crate::command::{Dir, Side};
-use spb_types::{Mac, Name, NoMemory, Seq, SourceId};
+use spb_types::{Dir, Mac, Name, NoMemory, Seq, Side, SourceId};
 use std::alloc::Global;
 use std::marker::Model;
 

@@ -15,10 +15,11 @@ mod keyword;
 mod line;
 mod words;
 
-pub use command::{Command, Dir, Side};
+pub use command::Command;
 pub use error::LineError;
 pub use keyword::{KEYWORDS, Keyword};
 pub use line::{FirstWord, LINE_LIMIT, head, parse_line};
+pub use spb_types::{Dir, Side};
 
 #[cfg(test)]
 mod tests;

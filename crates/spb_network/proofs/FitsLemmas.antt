@@ -4,8 +4,8 @@ use Rattle.std.specs.Prelude.{if◌then◌else◌}
 use Rattle.std.specs.Option.{option_map_or}
 use Rattle.std.proofs.lemmas.List.{length-map}
 use Rattle.link_model.specs.Lane.{Frame, pushed, after_lose, after_double}
-use Rattle.scenario.specs.declared.command.Dir.{Dir}
-use Rattle.scenario.specs.declared.command.Dir.TheVariants.{Ab, Ba}
+use Rattle.spb_types.specs.declared.link.Dir.{Dir}
+use Rattle.spb_types.specs.declared.link.Dir.TheVariants.{Ab, Ba}
 use Rattle.bridge_api.specs.Step as comes
 use Rattle.bridge_api.specs.Step.{Input, step, sent}
 use Rattle.spb_network.proofs.BridgeLaws.{steps_keep_bridge}
@@ -15,7 +15,7 @@ use Rattle.spb_network.specs.declared.declaration.LinkEnd.{LinkEnd}
 use Rattle.spb_network.specs.declared.way.Way.{Way}
 use Rattle.spb_network.specs.World.{Bridges, Links, things_of, ports_at, IsEnd, IsLink, Sound}
 use Rattle.spb_network.specs.Lanes.{rest}
-use Rattle.scenario.specs.declared.command.Side.{Side}
+use Rattle.spb_types.specs.declared.link.Side.{Side}
 use Rattle.spb_network.specs.Declaring.{switched, with_live, links_metered, with_end_metric}
 use Rattle.spb_network.specs.State.{State, changed_at, links_of, is_live, near_end, far_end, way_out, lane_at, with_frames}
 use Rattle.spb_network.specs.Events.{sent_over, sent_all, stepped, ticked, heard_over, delivered_front, delivered, lost, doubled, carried, carried_over, metered, flushed, switched_off, switched_on, ticked_from, delivered_times, lane_served, served_from, one_round, rounds, first_full_from, delivered_over, delivered_first, drained}

@@ -1,8 +1,8 @@
 -- The lanes of a link.
 use Rattle.std.proofs.Common.{◌≡◌, ℕ, ◌≤◌, length, slice_get, refl, sym, ap, ◌∙◌}
 use Rattle.link_model.specs.Lane.{after_double}
-use Rattle.scenario.specs.declared.command.Dir.{Dir}
-use Rattle.scenario.specs.declared.command.Dir.TheVariants.{Ab, Ba}
+use Rattle.spb_types.specs.declared.link.Dir.{Dir}
+use Rattle.spb_types.specs.declared.link.Dir.TheVariants.{Ab, Ba}
 use Rattle.spb_network.specs.declared.lanes.Lanes.{Lanes}
 use Rattle.spb_network.specs.Lanes.{lane_in, with_lane, changed_lane}
 use Rattle.spb_network.proofs.BoxLemmas.{get-none}

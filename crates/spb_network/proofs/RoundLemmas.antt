@@ -1,7 +1,7 @@
 -- Many events, one after another.
 use Rattle.std.proofs.Common.{◌≡◌, ℕ, zero, suc, ◌+◌, ◌-◌, ◌<◌, List, [], ◌∷◌, length, drop, Some, None, slice_get, refl, sym, ap, ◌∙◌, arith}
 use Rattle.std.specs.Option.{option_and_then, option_or}
-use Rattle.scenario.specs.declared.command.Dir.{Dir}
+use Rattle.spb_types.specs.declared.link.Dir.{Dir}
 use Rattle.spb_network.specs.declared.lanes.Lanes.{Lanes}
 use Rattle.spb_network.specs.declared.way.Way.{Way}
 use Rattle.spb_network.specs.State.{State, lane_at}

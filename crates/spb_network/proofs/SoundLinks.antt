@@ -1,8 +1,8 @@
 -- A link more: its ends get their metrics.
 use Rattle.std.proofs.Common.{◌≡◌, ◌≢◌, ◌⊎◌, inl, inr, ◌<◌, ℕ, Bool, true, false, true≢false, List, [], ◌∷◌, ◌++◌, length, refl, sym, ap, ◌∙◌, subst, Some, slice_get}
 use Rattle.std.specs.List.{AllByRecursion}
-use Rattle.scenario.specs.declared.command.Dir.{Dir}
-use Rattle.scenario.specs.declared.command.Dir.TheVariants.{Ab, Ba}
+use Rattle.spb_types.specs.declared.link.Dir.{Dir}
+use Rattle.spb_types.specs.declared.link.Dir.TheVariants.{Ab, Ba}
 use Rattle.bridge_api.specs.View.{BridgeView}
 use Rattle.bridge_api.specs.Config.{IsMetric}
 use Rattle.bridge_api.specs.Step as comes

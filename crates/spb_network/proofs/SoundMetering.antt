@@ -1,10 +1,10 @@
 -- An end of a link gets another metric, and its bridge is told it.
 use Rattle.std.proofs.Common.{◌≡◌, ◌≢◌, ◌⊎◌, inl, inr, ◌+◌, ℕ, zero, suc, Bool, true, false, true≢false, List, [], ◌∷◌, refl, sym, ap, ◌∙◌, subst, Option, Some, None, slice_get}
 use Rattle.std.specs.Option.{option_map, option_or}
-use Rattle.scenario.specs.declared.command.Dir.{Dir}
-use Rattle.scenario.specs.declared.command.Dir.TheVariants.{Ab, Ba}
-use Rattle.scenario.specs.declared.command.Side.{Side}
-use Rattle.scenario.specs.declared.command.Side.TheVariants as side
+use Rattle.spb_types.specs.declared.link.Dir.{Dir}
+use Rattle.spb_types.specs.declared.link.Dir.TheVariants.{Ab, Ba}
+use Rattle.spb_types.specs.declared.link.Side.{Side}
+use Rattle.spb_types.specs.declared.link.Side.TheVariants as side
 use Rattle.bridge_api.specs.View.{BridgeView}
 use Rattle.bridge_api.specs.Config.{ArePairwise, IsMetric}
 use Rattle.bridge_api.specs.Step as comes

@@ -3,8 +3,8 @@ use Rattle.std.proofs.Common.{◌≡◌, ◌≢◌, ◌⊎◌, inl, inr, ℕ, ze
 use Rattle.std.specs.Option.{option_map}
 use Rattle.std.specs.List.{AllByRecursion}
 use Rattle.link_model.specs.Lane.{Frame}
-use Rattle.scenario.specs.declared.command.Dir.{Dir}
-use Rattle.scenario.specs.declared.command.Dir.TheVariants.{Ab, Ba}
+use Rattle.spb_types.specs.declared.link.Dir.{Dir}
+use Rattle.spb_types.specs.declared.link.Dir.TheVariants.{Ab, Ba}
 use Rattle.bridge_api.specs.View.{BridgeView, IsPort}
 use Rattle.bridge_api.specs.Step.{Input, frame}
 use Rattle.bridge_api.specs.Laws.{IsSoundView, IsSent}

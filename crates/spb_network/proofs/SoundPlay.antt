@@ -7,7 +7,7 @@ use Rattle.spb_types.specs.declared.address.Mac.{Mac}
 use Rattle.spb_types.specs.declared.service.SourceId.{SourceId}
 use Rattle.scenario.specs.declared.command.Command.{Command}
 use Rattle.scenario.specs.declared.command.Command.TheVariants as command
-use Rattle.scenario.specs.declared.command.Side.{Side}
+use Rattle.spb_types.specs.declared.link.Side.{Side}
 use Rattle.bridge_api.specs.declared.config.BridgeConfig.{BridgeConfig}
 use Rattle.bridge_api.specs.View.{BridgeView}
 use Rattle.bridge_api.specs.Config.{IsWhole, bare, configured}

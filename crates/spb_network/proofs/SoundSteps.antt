@@ -6,8 +6,8 @@ use Rattle.std.proofs.lemmas.List.{length-append, length-take, length-drop}
 use Rattle.std.proofs.lemmas.Bool.{ltb-true}
 use Rattle.std.proofs.lemmas.Option.{slice_get_within}
 use Rattle.link_model.specs.Lane.{Frame, has_room, pushed, after_lose, after_double}
-use Rattle.scenario.specs.declared.command.Dir.{Dir}
-use Rattle.scenario.specs.declared.command.Dir.TheVariants.{Ab, Ba}
+use Rattle.spb_types.specs.declared.link.Dir.{Dir}
+use Rattle.spb_types.specs.declared.link.Dir.TheVariants.{Ab, Ba}
 use Rattle.bridge_api.specs.View.{BridgeView}
 use Rattle.bridge_api.specs.Step.{Input, frame, step, sent}
 use Rattle.bridge_api.specs.Config.{ArePairwise}

@@ -10,8 +10,8 @@ use Rattle.spb_network.specs.declared.declaration.DeclaredLink.{DeclaredLink}
 use Rattle.spb_network.specs.declared.declaration.LinkEnd.{LinkEnd}
 use Rattle.spb_types.specs.declared.service.VidPlan.{VidPlan}
 use Rattle.spb_tlvs.specs.Capability.{IsTree}
-use Rattle.scenario.specs.declared.command.Side.{Side}
-use Rattle.scenario.specs.declared.command.Side.TheVariants as side
+use Rattle.spb_types.specs.declared.link.Side.{Side}
+use Rattle.spb_types.specs.declared.link.Side.TheVariants as side
 use Rattle.bridge_api.specs.Config.{IsMetric}
 use Rattle.spb_network.specs.Declaring.{with_vid, with_bridge, with_link, with_live, switched, end_on, link_metered, links_metered, with_end_metric}
 use Rattle.indexmap.specs.Layout.{set_value_at}

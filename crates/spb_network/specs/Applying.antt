@@ -7,7 +7,7 @@ use Rattle.spb_network.specs.declared.network.NetworkOf.{NetworkOf}
 use Rattle.spb_network.specs.declared.reason.ApplyError.{ApplyError}
 use Rattle.spb_network.specs.declared.reason.ApplyError.TheVariants as error
 use Rattle.spb_network.specs.declared.reason.Reason.{Reason}
-use Rattle.scenario.specs.declared.command.Dir.{Dir}
+use Rattle.spb_types.specs.declared.link.Dir.{Dir}
 use Rattle.spb_network.specs.declared.way.Way.{Way}
 use Rattle.spb_network.specs.World.{place_of}
 use Rattle.spb_network.specs.State.{State}

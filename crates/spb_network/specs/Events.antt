@@ -2,9 +2,9 @@
 use Rattle.std.specs.Prelude.{ℕ, zero, suc, ◌+◌, List, [], ◌∷◌, length, nat_lt, Bool, true, false, Option, Some, None, slice_get, if◌then◌else◌}
 use Rattle.std.specs.Option.{option_map_or, option_and_then, option_or}
 use Rattle.link_model.specs.Lane.{Frame, pushed, after_lose, after_double}
-use Rattle.scenario.specs.declared.command.Dir.{Dir}
-use Rattle.scenario.specs.declared.command.Dir.TheVariants.{Ab, Ba}
-use Rattle.scenario.specs.declared.command.Side.{Side}
+use Rattle.spb_types.specs.declared.link.Dir.{Dir}
+use Rattle.spb_types.specs.declared.link.Dir.TheVariants.{Ab, Ba}
+use Rattle.spb_types.specs.declared.link.Side.{Side}
 use Rattle.bridge_api.specs.Step as comes
 use Rattle.bridge_api.specs.Step.{Input, step, sent}
 use Rattle.spb_network.specs.declared.declaration.DeclaredLink.{DeclaredLink}

@@ -4,7 +4,7 @@ use Rattle.spb_types.specs.declared.address.Mac.{Mac}
 use Rattle.spb_types.specs.declared.service.SourceId.{SourceId}
 use Rattle.scenario.specs.declared.command.Command.{Command}
 use Rattle.scenario.specs.declared.command.Command.TheVariants as command
-use Rattle.scenario.specs.declared.command.Dir.{Dir}
+use Rattle.spb_types.specs.declared.link.Dir.{Dir}
 use Rattle.spb_network.specs.declared.reason.Reason.{Reason}
 use Rattle.spb_network.specs.declared.reason.Reason.TheVariants.{NoSuchName, Range, TooMany, AlreadyUp, AlreadyDown, NoFrame, RackSpent}
 use Rattle.spb_network.specs.Reason.{reason_unless, ◌or◌}

@@ -14,7 +14,7 @@ use Rattle.lsdb.specs.Version.{IsAtMost}
 use Rattle.lsdb.specs.Database.{srm_in, version_at}
 use Rattle.lsdb.specs.Certificate.{IsClaimed}
 use Rattle.adjacency.specs.Hearing.{End, sender}
-use Rattle.scenario.specs.declared.command.Dir.{Dir}
+use Rattle.spb_types.specs.declared.link.Dir.{Dir}
 use Rattle.bridge_api.specs.View.{BridgeView, IsPort, port_at, neighbour_at, is_up_at, has_carrier_at}
 use Rattle.bridge_api.specs.Config.{ArePairwise}
 use Rattle.bridge_api.specs.Judging.{greeting, judged}

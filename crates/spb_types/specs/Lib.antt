@@ -8,3 +8,4 @@ pub mod Ports
 pub mod PortLaws
 pub mod Ascending
 pub mod Service
+pub mod Places

@@ -8,6 +8,7 @@
 pub use address::{BridgeId, LspId, Mac, SystemId};
 pub use ect::ect_mask;
 pub use graph::{Edge, Graph, GraphBridge, Member};
+pub use link::{Dir, Side};
 pub use memory::NoMemory;
 pub use name::Name;
 pub use ports::PortSet;
@@ -20,6 +21,7 @@ mod address;
 mod ect;
 mod graph;
 pub mod laws;
+mod link;
 mod memory;
 mod name;
 mod ports;

@@ -1,0 +1,259 @@
+ghost use Rattle.std.specs.Prelude.{◌≡◌, [], ◌∷◌, ◌++◌, length, OnOk, OnErr, slice_get};
+ghost use Rattle.std.specs.Option.{option_map};
+ghost use Rattle.std.specs.Borrow.{sem};
+ghost use Rattle.spb_types.specs.Places.{changed_at};
+ghost use Rattle.link_model.specs.Lane.{pushed, after_lose, after_double};
+ghost use Rattle.link_model.specs.Lanes.{lane_in, lane_of, rest, no_frames, changed_frames, full_at, first_full_from};
+ghost use Rattle.link_model.specs.Lending.{LendsLane, LendsLaneAt};
+
+use crate::{DoubleError, Lane};
+use spb_types::{Dir, NoMemory};
+use std::alloc::Global;
+use std::marker::Model;
+
+/// A lane: the link by place in order of declaration, counted from 0, and a direction.
+#[derive(Clone, Copy, Debug, PartialEq, Eq)]
+pub struct LaneId {
+    pub link: usize,
+    pub dir: Dir,
+}
+
+/// The two lanes of a link.
+#[derive(Debug, Drop)]
+pub struct LinkLanes {
+    /// From end a to end b.
+    pub ab: Lane,
+    /// From end b to end a.
+    pub ba: Lane,
+}
+
+impl LinkLanes {
+    /// Two empty lanes, which take no memory.
+    fn new(alloc: Global) -> Self
+        ensures { result ≡ no_frames }
+    {
+        LinkLanes {
+            ab: Lane::new(alloc),
+            ba: Lane::new(alloc),
+        }
+    }
+
+    /// The lane of a direction.
+    fn lane(&self, dir: Dir) -> &Lane
+        ensures { result.now ≡ lane_in dir self.now }
+    {
+        match dir {
+            Dir::Ab => &self.ab,
+            Dir::Ba => &self.ba,
+        }
+    }
+
+    /// Both lanes lose their frames.
+    fn flush(&mut self)
+        ensures { self.new ≡ no_frames }
+    {
+        self.ab.flush();
+        self.ba.flush();
+    }
+
+    /// The lane of a direction, to be changed.
+    fn lane_mut(&mut self, dir: Dir) -> &mut Lane
+        ensures* writes_back { sem 𝓛 (LendsLane self.entry dir result) }
+        ensures lane { result.now ≡ lane_in dir self.old }
+    {
+        match dir {
+            Dir::Ab => &mut self.ab,
+            Dir::Ba => &mut self.ba,
+        }
+    }
+}
+
+/// The lanes of a network's links, in order of declaration. A place past the last link is one where nothing happens.
+/// Contracts see the list of each link's two lanes.
+#[derive(Debug, Drop)]
+pub struct Lanes {
+    links: Vec<LinkLanes>,
+}
+
+impl Model for Lanes {
+    ghost use Rattle.std.specs.Prelude.{List};
+    ghost use Rattle.link_model.specs.declared.lanes.LinkLanes.{LinkLanes};
+
+    ghost Value = { List LinkLanes };
+
+    ghost view = { λ lanes. lanes.links.items };
+}
+
+impl Lanes {
+    /// No lanes, which take no memory.
+    pub fn new(alloc: Global) -> Self
+        ensures { result ≡ [] }
+    {
+        Lanes {
+            links: Vec::new(alloc),
+        }
+    }
+
+    /// How many links have lanes.
+    pub fn links(&self) -> usize
+        ensures { result ≡ length self.now }
+    {
+        self.links.len()
+    }
+
+    /// Two empty lanes for one link more. After NoMemory nothing changed.
+    pub fn add_link(&mut self) -> Result<(), NoMemory>
+        ensures ok { OnOk result (self.new ≡ self.old ++ no_frames ∷ []) }
+        ensures err { OnErr result (self.new ≡ self.old) }
+    {
+        let lanes = LinkLanes::new(*self.links.allocator());
+        self.links.push(lanes)?;
+        Ok(())
+    }
+
+    /// How many frames stand in a lane.
+    pub fn frames(&self, id: LaneId) -> usize
+        ensures { result ≡ length (lane_of self.now id.link id.dir) }
+    {
+        match self.links.get(id.link) {
+            None => 0,
+            Some(lanes) => lanes.lane(id.dir).len(),
+        }
+    }
+
+    /// The lane of an id, to be changed. None exactly where its link has none.
+    fn lane_mut(&mut self, id: LaneId) -> Option<&mut Lane>
+        ensures* writes_back { sem 𝓛 (LendsLaneAt self.entry id result) }
+        ensures lane { option_map (λ lane. lane.now) result
+            ≡ option_map (lane_in id.dir) (slice_get self.old id.link) }
+    {
+        let lanes = self.links.get_mut(id.link)?;
+        Some(lanes.lane_mut(id.dir))
+    }
+
+    /// A frame goes into a lane. It is lost where 1,024 frames stand. After NoMemory nothing changed.
+    pub fn push(&mut self, id: LaneId, frame: Vec<u8>) -> Result<(), NoMemory>
+        ensures ok { OnOk result (self.new
+            ≡ changed_frames (λ frames. pushed frames frame.items) self.old id.link id.dir) }
+        ensures err { OnErr result (self.new ≡ self.old) }
+    {
+        match self.lane_mut(id) {
+            None => Ok(()),
+            Some(lane) => {
+                let _pushed = lane.push(frame)?;
+                Ok(())
+            }
+        }
+    }
+
+    /// Takes the frame at the front of a lane. None exactly where there is none.
+    pub fn pop(&mut self, id: LaneId) -> Option<Vec<u8>>
+        ensures frame { option_map (λ frame. frame.items) result ≡ slice_get (lane_of self.old id.link id.dir) 0 }
+        ensures rest { self.new ≡ changed_frames rest self.old id.link id.dir }
+    {
+        match self.lane_mut(id) {
+            None => None,
+            Some(lane) => lane.pop(),
+        }
+    }
+
+    /// The frame at a place of a lane, counted from 0 at the front, is lost. Nothing happens where there is none.
+    pub fn lose(&mut self, id: LaneId, place: usize)
+        ensures { self.new ≡ changed_frames (λ frames. after_lose frames place) self.old id.link id.dir }
+    {
+        match self.lane_mut(id) {
+            None => {}
+            Some(lane) => {
+                let _lost = lane.lose(place);
+            }
+        }
+    }
+
+    /// The frame at a place of a lane, counted from 0 at the front, is doubled: its copy stands right behind it, and is
+    /// lost where 1,024 frames stand. Nothing happens where there is no frame. After NoMemory nothing changed.
+    pub fn double(&mut self, id: LaneId, place: usize) -> Result<(), NoMemory>
+        ensures ok { OnOk result (self.new
+            ≡ changed_frames (λ frames. after_double frames place (slice_get frames place)) self.old id.link id.dir) }
+        ensures err { OnErr result (self.new ≡ self.old) }
+    {
+        match self.lane_mut(id) {
+            None => Ok(()),
+            Some(lane) => match lane.double(place) {
+                Ok(()) => Ok(()),
+                Err(DoubleError::NoFrame) => Ok(()),
+                Err(DoubleError::NoMemory) => Err(NoMemory),
+            },
+        }
+    }
+
+    /// Both lanes of the link at a place lose their frames.
+    pub fn flush(&mut self, link: usize)
+        ensures { self.new ≡ changed_at (λ _. no_frames) self.old link }
+    {
+        if let Some(lanes) = self.links.get_mut(link) {
+            lanes.flush();
+        }
+    }
+
+    /// The lane of the link at a place that isn't empty, ab before ba. None exactly where both are empty.
+    fn full_at(&self, link: usize) -> Option<LaneId>
+        ensures { result ≡ full_at self.now link }
+    {
+        let ab = LaneId { link, dir: Dir::Ab };
+        if self.frames(ab) > 0 {
+            return Some(ab);
+        }
+        let ba = LaneId { link, dir: Dir::Ba };
+        if self.frames(ba) > 0 {
+            return Some(ba);
+        }
+        None
+    }
+
+    /// The first lane that isn't empty, in order of declaration, ab before ba. None exactly where all are empty.
+    pub fn first_full(&self) -> Option<LaneId>
+        ensures { result ≡ first_full_from 0 self.now }
+    {
+        for link in 0..self.links.len() {
+            if let Some(id) = self.full_at(link) {
+                return Some(id);
+            }
+        }
+        None
+    }
+}
+
+#[cfg(test)]
+mod tests {
+    use super::*;
+    use std::test::Fail;
+
+    #[test]
+    fn frames_stand_in_the_lane_of_their_link_and_direction(rt: HostRuntime) -> Result<(), Fail> {
+        let mut lanes = Lanes::new(rt.alloc());
+        lanes.add_link()?;
+        lanes.add_link()?;
+        assert_eq!(rt; lanes.links(), 2);
+        let there = LaneId {
+            link: 1,
+            dir: Dir::Ab,
+        };
+        let back = LaneId {
+            link: 1,
+            dir: Dir::Ba,
+        };
+        lanes.push(back, vec![in rt.alloc(); 7]?)?;
+        assert_eq!(rt; lanes.first_full(), Some(back));
+        lanes.push(there, vec![in rt.alloc(); 8]?)?;
+        lanes.push(there, vec![in rt.alloc(); 9]?)?;
+        lanes.double(there, 1)?;
+        lanes.lose(there, 0);
+        assert_eq!(rt; (lanes.frames(there), lanes.frames(back)), (2, 1));
+        assert_eq!(rt; lanes.first_full(), Some(there));
+        assert_eq!(rt; lanes.pop(there).ok_or("empty")?.as_slice(), [9].as_slice());
+        lanes.flush(1);
+        assert_eq!(rt; lanes.first_full(), None);
+        assert!(rt; lanes.pop(back).is_none());
+        Ok(())
+    }
+}

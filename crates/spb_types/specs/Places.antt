@@ -1,0 +1,8 @@
+-- Lists by place, counted from 0.
+use Rattle.std.specs.Prelude.{ℕ, zero, suc, List, [], ◌∷◌}
+
+-- the item at a place changed; past the last item nothing is
+abbrev pub changed_at : {X : Type 0} → (X → X) → List X → ℕ → List X
+changed_at f [] i = []
+changed_at f (x ∷ xs) zero = f x ∷ xs
+changed_at f (x ∷ xs) (suc i) = x ∷ changed_at f xs i
