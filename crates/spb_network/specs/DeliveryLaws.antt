@@ -2,7 +2,7 @@
 use Rattle.std.specs.Prelude.{◌≡◌, ◌≢◌, ℕ, List, [], ◌∷◌, true, ◌==◌, if◌then◌else◌, Some, None, slice_get}
 use Rattle.link_model.specs.Lane.{Frame, pushed}
 use Rattle.scenario.specs.declared.command.Command.TheVariants as command
-use Rattle.scenario.specs.declared.command.Dir.{Dir}
+use Rattle.spb_types.specs.declared.link.Dir.{Dir}
 use Rattle.bridge_api.specs.View.{BridgeView}
 use Rattle.bridge_api.specs.Step.{Input, frame, step, sent}
 use Rattle.spb_network.specs.declared.declaration.DeclaredLink.{DeclaredLink}
