@@ -1,8 +1,13 @@
-use Rattle.std.specs.Prelude.{ℕ, ◌+◌, List, [], ◌∷◌, ◌++◌, length, nat_lt, insert, remove, Option, Some, None, if◌then◌else◌, Bool}
+use Rattle.std.specs.Prelude.{◌≡◌, ◌⊎◌, ℕ, ◌+◌, List, [], ◌∷◌, ◌++◌, length, nat_lt, insert, remove, Option, Some, None, if◌then◌else◌, Bool}
 
 -- a frame, as its bytes
 abbrev pub Frame : Type 0
 Frame = List ℕ
+
+-- a frame is one of a lane's
+abbrev pub IsIn : Frame → List Frame → Type 0
+IsIn f [] = ⊥
+IsIn f (g ∷ gs) = (f ≡ g) ⊎ IsIn f gs
 
 -- whether a lane with these frames has room for one more
 abbrev pub has_room : List Frame → Bool

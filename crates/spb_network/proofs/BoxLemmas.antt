@@ -3,7 +3,7 @@ use Rattle.std.proofs.Common.{Bor, MutBor, Result, Ok, Err, OnOk, ◌++◌, ◌�
 use Rattle.std.specs.List.{AllByRecursion, slice_index_or, slice_set, IsItemAtMut, ItemBy}
 use Rattle.bridge_api.specs.declared.outbox.Outbox.{Outbox}
 use Rattle.bridge_api.specs.Step.{with_wire}
-use Rattle.spb_network.specs.State.{changed_at}
+use Rattle.spb_types.specs.Places.{changed_at}
 
 some-is : {X : Type 0} (x y : X) → Some x ≡ Some y → x ≡ y
 some-is x y h = cc
@@ -40,17 +40,6 @@ All-set P [] i y a p = a
 All-set P (b ∷ bs) zero y a p = (p, a.1)
 All-set P (b ∷ bs) (suc i) y a p = (a.0, All-set P bs i y a.1 p)
 
--- the same, where the items are looked at themselves
-pub set-is : {X : Type 0} (f : X → X) (xs : List X) (i : ℕ) (x y : X) → slice_get xs i ≡ Some x → y ≡ f x → slice_set xs i y ≡ changed_at f xs i
-set-is f [] i x y h g = cc
-set-is f (z ∷ zs) zero x y h g = ap (λ w. w ∷ zs) (g ∙ ap f (sym (some-is z x h)))
-set-is f (z ∷ zs) (suc i) x y h g = ap (λ ws. z ∷ ws) (set-is f zs i x y h g)
-
-pub none-is : {X : Type 0} (f : X → X) (xs : List X) (i : ℕ) → slice_get xs i ≡ None → xs ≡ changed_at f xs i
-none-is f [] i h = refl
-none-is f (z ∷ zs) zero h = cc
-none-is f (z ∷ zs) (suc i) h = ap (λ ws. z ∷ ws) (none-is f zs i h)
-
 -- what holds where a call answered Ok
 pub on_ok : {T E : Type 0} {P Q : Type 0} (r : Result T E) → (P → Q) → OnOk r P → OnOk r Q
 on_ok (Ok x) f p = f p
@@ -69,26 +58,7 @@ append-none (x ∷ xs) = ap (λ l. x ∷ l) (append-none xs)
 pub with_wire-none : (outbox : Outbox) → outbox ≡ with_wire [] outbox
 with_wire-none outbox = ap (λ w. record outbox { wire = w }) (sym (append-none outbox.wire))
 
-get-some : {X : Type 0} (xs : List X) (i : ℕ) (x : X) → i < length xs → x ≡ slice_index_or xs i x → slice_get xs i ≡ Some x
-get-some [] i x h e = absurd (omega arith)
-get-some (z ∷ zs) zero x h e = ap Some (sym e)
-get-some (z ∷ zs) (suc i) x h e = get-some zs i x (omega arith) e
-
-pub get-none : {X : Type 0} (xs : List X) (i : ℕ) → length xs ≤ i → slice_get xs i ≡ None
-get-none [] i h = refl
-get-none (z ∷ zs) zero h = absurd (omega arith)
-get-none (z ∷ zs) (suc i) h = get-none zs i (omega arith)
-
--- the item that a list lends at a place
-pub lent : {X : Type 0} (xs : List X) (i : ℕ) (r : Option (MutBor X)) (x : MutBor X) → IsItemAtMut xs i r → r ≡ Some x → slice_get xs i ≡ Some x.now
-lent xs i (Some y) x h e = subst (λ z. slice_get xs i ≡ Some z.now) (some-is y x e) (get-some xs i y.now h.3.0 h.1)
-lent xs i None x h e = cc
-
-pub lent-none : {X : Type 0} (xs : List X) (i : ℕ) (r : Option (MutBor X)) → IsItemAtMut xs i r → r ≡ None → slice_get xs i ≡ None
-lent-none xs i (Some y) h e = cc
-lent-none xs i None h e = get-none xs i h.3
-
--- the same of an item that is only read
+-- the item of a list that is read at a place
 pub seen : {X : Type 0} (xs : List X) (i : ℕ) (r : Option (Bor X)) (x : Bor X) → ItemBy (λ (y : Bor X). y.now) xs i i r → r ≡ Some x → slice_get xs i ≡ Some x.now
 seen xs i (Some y) x h e = subst (λ z. slice_get xs i ≡ Some z.now) (some-is y x e) (get-some xs i y.now h.3.0 h.1)
 seen xs i None x h e = cc

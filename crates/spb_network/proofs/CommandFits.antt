@@ -1,13 +1,13 @@
 -- The shape of a state after a declaration, and the boxes of a rack.
 use Rattle.std.proofs.Common.{◌≡◌, ℕ, zero, suc, List, [], ◌∷◌, ◌++◌, map, remove, refl, ap, arith}
 use Rattle.spb_network.specs.declared.declaration.DeclaredLink.{DeclaredLink}
-use Rattle.spb_network.specs.declared.lanes.Lanes.{Lanes}
+use Rattle.link_model.specs.declared.lanes.LinkLanes.{LinkLanes}
 use Rattle.spb_network.specs.Declaring.{with_link}
 use Rattle.spb_network.specs.State.{State}
 use Rattle.spb_network.specs.Network.{Fits}
 use Rattle.spb_network.proofs.ListLemmas.{length-push}
 
-pub Fits-with_link : (s : State) (name : List ℕ) (l : DeclaredLink) (lanes : Lanes) → Fits s → Fits (record s { world = with_link s.world name l; lanes = s.lanes ++ lanes ∷ [] })
+pub Fits-with_link : (s : State) (name : List ℕ) (l : DeclaredLink) (lanes : LinkLanes) → Fits s → Fits (record s { world = with_link s.world name l; lanes = s.lanes ++ lanes ∷ [] })
 unfolding with_link
 Fits-with_link s name l lanes fits = record {
   bridges = fits.bridges;

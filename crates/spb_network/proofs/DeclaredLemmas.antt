@@ -8,7 +8,7 @@ use Rattle.scenario.specs.declared.command.Command.TheVariants as command
 use Rattle.spb_network.specs.declared.declaration.DeclaredBridge.{DeclaredBridge}
 use Rattle.spb_network.specs.declared.declaration.DeclaredLink.{DeclaredLink}
 use Rattle.spb_network.specs.World.{place_of, things_of}
-use Rattle.spb_network.specs.Lanes.{no_frames}
+use Rattle.link_model.specs.Lanes.{no_frames}
 use Rattle.spb_network.specs.Declaring.{bridge_of, link_of, with_bridge, with_link}
 use Rattle.spb_network.specs.State.{State}
 use Rattle.spb_network.specs.Events.{metered, metered_over}

@@ -13,7 +13,7 @@ use Rattle.spb_network.specs.declared.reason.Reason.{Reason}
 use Rattle.spb_network.specs.declared.reason.Reason.TheVariants.{NoFrame}
 use Rattle.spb_network.specs.Reason.{reason_unless}
 use Rattle.spb_network.specs.World.{place_of, IsLink}
-use Rattle.spb_network.specs.Lanes.{changed_lane, rest}
+use Rattle.link_model.specs.Lanes.{changed_lane, rest}
 use Rattle.spb_network.specs.State.{State, links_of, near_end, far_end, lane_at, with_frames}
 use Rattle.spb_network.specs.Events.{stepped, heard_over, delivered_front, delivered}
 use Rattle.spb_network.specs.Refusing.{placed_refusal, frame_refusal}

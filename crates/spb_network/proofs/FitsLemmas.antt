@@ -12,13 +12,14 @@ use Rattle.spb_network.proofs.BridgeLaws.{steps_keep_bridge}
 use Rattle.spb_network.specs.declared.declaration.DeclaredBridge.{DeclaredBridge}
 use Rattle.spb_network.specs.declared.declaration.DeclaredLink.{DeclaredLink}
 use Rattle.spb_network.specs.declared.declaration.LinkEnd.{LinkEnd}
-use Rattle.spb_network.specs.declared.way.Way.{Way}
+use Rattle.link_model.specs.declared.lanes.LaneId.{LaneId}
 use Rattle.spb_network.specs.World.{Bridges, Links, things_of, ports_at, IsEnd, IsLink, Sound}
-use Rattle.spb_network.specs.Lanes.{rest}
+use Rattle.link_model.specs.Lanes.{rest, first_full_from}
 use Rattle.spb_types.specs.declared.link.Side.{Side}
 use Rattle.spb_network.specs.Declaring.{switched, with_live, links_metered, with_end_metric}
-use Rattle.spb_network.specs.State.{State, changed_at, links_of, is_live, near_end, far_end, way_out, lane_at, with_frames}
-use Rattle.spb_network.specs.Events.{sent_over, sent_all, stepped, ticked, heard_over, delivered_front, delivered, lost, doubled, carried, carried_over, metered, flushed, switched_off, switched_on, ticked_from, delivered_times, lane_served, served_from, one_round, rounds, first_full_from, delivered_over, delivered_first, drained}
+use Rattle.spb_types.specs.Places.{changed_at}
+use Rattle.spb_network.specs.State.{State, links_of, is_live, near_end, far_end, way_out, lane_at, with_frames}
+use Rattle.spb_network.specs.Events.{sent_over, sent_all, stepped, ticked, heard_over, delivered_front, delivered, lost, doubled, carried, carried_over, metered, flushed, switched_off, switched_on, ticked_from, delivered_times, lane_served, served_from, one_round, rounds, delivered_over, delivered_first, drained}
 use Rattle.spb_network.specs.Network.{Fits, IsPortAt}
 use Rattle.spb_network.proofs.BoxLemmas.{get-map, All-get}
 
@@ -75,7 +76,7 @@ length-switched on (l ∷ ls) (suc k) = grind (arith, length-switched on ls k)
 pub alike_with_frames : (f : List Frame → List Frame) (s : State) (k : ℕ) (dir : Dir) → IsAlike s (with_frames f s k dir)
 alike_with_frames f s k dir = record { bridges = refl; links = refl; ports = refl; lanes = length-changed _ s.lanes k }
 
-pub alike_sent_over : (s : State) (way : Option Way) (frame : Frame) → IsAlike s (sent_over s way frame)
+pub alike_sent_over : (s : State) (way : Option LaneId) (frame : Frame) → IsAlike s (sent_over s way frame)
 alike_sent_over s None frame = alike_itself s
 alike_sent_over s (Some way) frame = by (is_live (links_of s) way.link)
   where
@@ -194,7 +195,7 @@ pub alike_rounds : (n : ℕ) (s : State) → IsAlike s (rounds n s)
 alike_rounds zero s = alike_itself s
 alike_rounds (suc n) s = alike_then s (one_round s) (rounds (suc n) s) (alike_one_round s) (alike_rounds n (one_round s))
 
-pub alike_delivered_over : (s : State) (way : Option Way) → IsAlike s (delivered_over s way)
+pub alike_delivered_over : (s : State) (way : Option LaneId) → IsAlike s (delivered_over s way)
 alike_delivered_over s None = alike_itself s
 alike_delivered_over s (Some way) = alike_delivered s way.link way.dir
 

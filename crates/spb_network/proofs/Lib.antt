@@ -6,7 +6,6 @@ pub mod RefusalLemmas
 pub mod ValidLemmas
 pub mod BoxLemmas
 pub mod WayLemmas
-pub mod LaneLemmas
 pub mod SendLemmas
 pub mod BridgeLaws
 pub mod FitsLemmas

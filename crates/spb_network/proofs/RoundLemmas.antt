@@ -2,10 +2,11 @@
 use Rattle.std.proofs.Common.{◌≡◌, ℕ, zero, suc, ◌+◌, ◌-◌, ◌<◌, List, [], ◌∷◌, length, drop, Some, None, slice_get, refl, sym, ap, ◌∙◌, arith}
 use Rattle.std.specs.Option.{option_and_then, option_or}
 use Rattle.spb_types.specs.declared.link.Dir.{Dir}
-use Rattle.spb_network.specs.declared.lanes.Lanes.{Lanes}
-use Rattle.spb_network.specs.declared.way.Way.{Way}
+use Rattle.link_model.specs.declared.lanes.LinkLanes.{LinkLanes}
+use Rattle.link_model.specs.declared.lanes.LaneId.{LaneId}
 use Rattle.spb_network.specs.State.{State, lane_at}
-use Rattle.spb_network.specs.Events.{ticked, ticked_from, all_ticked, delivered, delivered_times, link_served, served_from, all_served, one_round, rounds, full_in, full_at, first_full_from, delivered_first, delivered_over, drained}
+use Rattle.link_model.specs.Lanes.{full_in, full_at, first_full_from}
+use Rattle.spb_network.specs.Events.{ticked, ticked_from, all_ticked, delivered, delivered_times, link_served, served_from, all_served, one_round, rounds, delivered_first, delivered_over, drained}
 
 suc-less : (e i : ℕ) → i < e → e - i ≡ suc (e - (i + 1))
 suc-less e i h = omega arith
@@ -48,7 +49,7 @@ unfolding delivered_first
 idle-first s h = ap (delivered_over s) h
 
 -- a delivery from the lane that was found
-pub drained-found : (s : State) (e i : ℕ) (w : Way) → i < e → first_full_from 0 s.lanes ≡ Some w → drained (e - i) s ≡ drained (e - (i + 1)) (delivered s w.link w.dir)
+pub drained-found : (s : State) (e i : ℕ) (w : LaneId) → i < e → first_full_from 0 s.lanes ≡ Some w → drained (e - i) s ≡ drained (e - (i + 1)) (delivered s w.link w.dir)
 unfolding delivered_first
 drained-found s e i w h f = drained-step s e i h ∙ ap (λ o. drained (e - (i + 1)) (delivered_over s o)) f
 
@@ -56,17 +57,3 @@ drained-found s e i w h f = drained-step s e i h ∙ ap (λ o. drained (e - (i +
 pub drained-idle : (n : ℕ) (s : State) → first_full_from 0 s.lanes ≡ None → drained n s ≡ s
 drained-idle zero s h = refl
 drained-idle (suc n) s h = ap (drained n) (idle-first s h) ∙ drained-idle n s h
-
-full-step : (k : ℕ) (ls : List Lanes) (n : ℕ) → n < length ls → first_full_from k (drop n ls) ≡ option_or (option_and_then (full_in k) (slice_get ls n)) (first_full_from (k + 1) (drop (suc n) ls))
-full-step k [] n h = absurd (omega arith)
-full-step k (l ∷ ls) zero h = refl
-full-step k (l ∷ ls) (suc n) h = full-step k ls n (omega arith)
-
-suc-is : (k : ℕ) → suc k ≡ k + 1
-suc-is k = omega arith
-
-pub full-found : (ls : List Lanes) (k : ℕ) (w : Way) → k < length ls → Some w ≡ full_at ls k → first_full_from k (drop k ls) ≡ Some w
-full-found ls k w h e = full-step k ls k h ∙ ap (λ o. option_or o (first_full_from (k + 1) (drop (suc k) ls))) (sym e)
-
-pub full-passed : (ls : List Lanes) (k : ℕ) → k < length ls → None ≡ full_at ls k → first_full_from k (drop k ls) ≡ first_full_from (k + 1) (drop (k + 1) ls)
-full-passed ls k h e = full-step k ls k h ∙ ap (λ o. option_or o (first_full_from (k + 1) (drop (suc k) ls))) (sym e) ∙ ap (λ m. first_full_from (k + 1) (drop m ls)) (suc-is k)

@@ -6,21 +6,22 @@ use Rattle.spb_types.specs.declared.link.Dir.{Dir}
 use Rattle.spb_types.specs.declared.link.Dir.TheVariants.{Ab, Ba}
 use Rattle.bridge_api.specs.View.{BridgeView}
 use Rattle.bridge_api.specs.Step.{Input, step, sent}
-use Rattle.spb_network.specs.declared.lanes.Lanes.{Lanes}
-use Rattle.spb_network.specs.declared.way.Way.{Way}
-use Rattle.spb_network.specs.Lanes.{lane_in, changed_lane, rest}
-use Rattle.spb_network.specs.State.{State, changed_at, links_of, is_live, live_way, with_frames}
+use Rattle.link_model.specs.declared.lanes.LinkLanes.{LinkLanes}
+use Rattle.link_model.specs.declared.lanes.LaneId.{LaneId}
+use Rattle.link_model.specs.Lanes.{lane_in, changed_lane, rest}
+use Rattle.spb_types.specs.Places.{changed_at}
+use Rattle.spb_network.specs.State.{State, links_of, is_live, live_way, with_frames}
 use Rattle.spb_network.specs.Events.{sent_over, sent_all, stepped}
 
-same-way : (s : State) (v w : Way) (f : Frame) (b : Bool) → (if b then Some v else None) ≡ Some w → (if b then with_frames (λ frames. pushed frames f) s v.link v.dir else s) ≡ with_frames (λ frames. pushed frames f) s w.link w.dir
+same-way : (s : State) (v w : LaneId) (f : Frame) (b : Bool) → (if b then Some v else None) ≡ Some w → (if b then with_frames (λ frames. pushed frames f) s v.link v.dir else s) ≡ with_frames (λ frames. pushed frames f) s w.link w.dir
 same-way s v w f true e = ap (λ x. with_frames (λ frames. pushed frames f) s x.link x.dir) (some-is v w e)
   where
-    some-is : (v w : Way) → Some v ≡ Some w → v ≡ w
+    some-is : (v w : LaneId) → Some v ≡ Some w → v ≡ w
     some-is v w h = cc
 same-way s v w f false e = cc
 
 -- a frame goes over the way that is live
-pub sent-live : (s : State) (o : Option Way) (w : Way) (f : Frame) → live_way (links_of s) o ≡ Some w → sent_over s o f ≡ with_frames (λ frames. pushed frames f) s w.link w.dir
+pub sent-live : (s : State) (o : Option LaneId) (w : LaneId) (f : Frame) → live_way (links_of s) o ≡ Some w → sent_over s o f ≡ with_frames (λ frames. pushed frames f) s w.link w.dir
 sent-live s None w f e = cc
 sent-live s (Some v) w f e = same-way s v w f (is_live (links_of s) v.link) e
 
@@ -40,7 +41,7 @@ no-frames (Some v) = refl
 pub frames-none : {V : Type 0} (vs : List V) (i : ℕ) → no_sent ≡ option_map_or (λ v. []) (slice_get vs i) []
 frames-none vs i = no-frames (slice_get vs i)
 
-none-changed : (dir : Dir) (l : Lanes) → slice_get (lane_in dir l) 0 ≡ None → l ≡ changed_lane dir rest l
+none-changed : (dir : Dir) (l : LinkLanes) → slice_get (lane_in dir l) 0 ≡ None → l ≡ changed_lane dir rest l
 none-changed Ab l h = λ j. record l { ab = same-rest l.ab h j }
   where
     same-rest : (fs : List Frame) → slice_get fs 0 ≡ None → fs ≡ rest fs
@@ -53,7 +54,7 @@ none-changed Ba l h = λ j. record l { ba = same-rest l.ba h j }
     same-rest (f ∷ fs) h = cc
 
 -- nothing is taken from an empty lane
-pub rest-none : (dir : Dir) (ls : List Lanes) (k : ℕ) → slice_get (option_map_or (lane_in dir) (slice_get ls k) []) 0 ≡ None → ls ≡ changed_at (changed_lane dir rest) ls k
+pub rest-none : (dir : Dir) (ls : List LinkLanes) (k : ℕ) → slice_get (option_map_or (lane_in dir) (slice_get ls k) []) 0 ≡ None → ls ≡ changed_at (changed_lane dir rest) ls k
 rest-none dir [] k h = refl
 rest-none dir (l ∷ ls) zero h = ap (λ x. x ∷ ls) (none-changed dir l h)
 rest-none dir (l ∷ ls) (suc k) h = ap (λ x. l ∷ x) (rest-none dir ls k h)

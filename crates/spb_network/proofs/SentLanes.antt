@@ -8,11 +8,12 @@ use Rattle.spb_types.specs.declared.link.Dir.TheVariants.{Ab, Ba}
 use Rattle.bridge_api.specs.View.{BridgeView}
 use Rattle.bridge_api.specs.Step.{Input, step, sent}
 use Rattle.spb_network.specs.declared.declaration.DeclaredLink.{DeclaredLink}
-use Rattle.spb_network.specs.declared.lanes.Lanes.{Lanes}
-use Rattle.spb_network.specs.declared.way.Way.{Way}
+use Rattle.link_model.specs.declared.lanes.LinkLanes.{LinkLanes}
+use Rattle.link_model.specs.declared.lanes.LaneId.{LaneId}
 use Rattle.spb_network.specs.World.{World, things_of, AllApart}
-use Rattle.spb_network.specs.Lanes.{changed_lane}
-use Rattle.spb_network.specs.State.{State, changed_at, links_of, is_live, near_end, way_out, lane_of, with_frames}
+use Rattle.link_model.specs.Lanes.{changed_lane, lane_of}
+use Rattle.spb_types.specs.Places.{changed_at}
+use Rattle.spb_network.specs.State.{State, links_of, is_live, near_end, way_out, with_frames}
 use Rattle.spb_network.specs.Events.{sent_over, sent_all, stepped}
 use Rattle.spb_network.specs.DeliveryLaws.{frames_at, entered, IsOneStep}
 use Rattle.spb_network.proofs.FitsLemmas.{alike_sent_over}
@@ -24,14 +25,14 @@ use Rattle.spb_network.proofs.SoundEvents.{stepped_views}
 -- ---- one lane
 
 -- the frames of a lane that is there are changed
-pub lane_here : (g : List Frame → List Frame) (lanes : List Lanes) (k : ℕ) (dir : Dir) → k < length lanes → lane_of (changed_at (changed_lane dir g) lanes k) k dir ≡ g (lane_of lanes k dir)
+pub lane_here : (g : List Frame → List Frame) (lanes : List LinkLanes) (k : ℕ) (dir : Dir) → k < length lanes → lane_of (changed_at (changed_lane dir g) lanes k) k dir ≡ g (lane_of lanes k dir)
 lane_here g [] k dir within = absurd (omega arith)
 lane_here g (x ∷ lanes) zero Ab within = refl
 lane_here g (x ∷ lanes) zero Ba within = refl
 lane_here g (x ∷ lanes) (suc k) dir within = lane_here g lanes k dir (omega arith)
 
 -- and those of no other
-pub lane_beside : (g : List Frame → List Frame) (lanes : List Lanes) (j : ℕ) (d : Dir) (k : ℕ) (dir : Dir) → ((j ≡ k) × (d ≡ dir) → ⊥) → lane_of (changed_at (changed_lane d g) lanes j) k dir ≡ lane_of lanes k dir
+pub lane_beside : (g : List Frame → List Frame) (lanes : List LinkLanes) (j : ℕ) (d : Dir) (k : ℕ) (dir : Dir) → ((j ≡ k) × (d ≡ dir) → ⊥) → lane_of (changed_at (changed_lane d g) lanes j) k dir ≡ lane_of lanes k dir
 lane_beside g lanes j d k dir apart =
     elim (lane_changed g lanes j d k dir) [
       | inl here ↦ absurd (apart (here.0, here.1))
@@ -50,7 +51,7 @@ over_here true s k dir x within live = ap (λ (b : Bool). lane_of (if b then wit
 over_here false s k dir x within live = ap (λ (b : Bool). lane_of (if b then with_frames (λ frames. pushed frames x) s k dir else s).lanes k dir) live
 
 -- and into no other
-over_beside : (s : State) (o : Option Way) (x : Frame) (k : ℕ) (dir : Dir) → ((way : Way) → o ≡ Some way → (way.link ≡ k) × (way.dir ≡ dir) → ⊥) → lane_of (sent_over s o x).lanes k dir ≡ lane_of s.lanes k dir
+over_beside : (s : State) (o : Option LaneId) (x : Frame) (k : ℕ) (dir : Dir) → ((way : LaneId) → o ≡ Some way → (way.link ≡ k) × (way.dir ≡ dir) → ⊥) → lane_of (sent_over s o x).lanes k dir ≡ lane_of s.lanes k dir
 over_beside s None x k dir apart = refl
 over_beside s (Some way) x k dir apart = by (is_live (links_of s) way.link)
   where
@@ -60,7 +61,7 @@ over_beside s (Some way) x k dir apart = by (is_live (links_of s) way.link)
 
 module _ (links : List DeclaredLink) (i k : ℕ) (dir : Dir) (l : DeclaredLink) (there : slice_get links k ≡ Some l) where
   -- a way into this lane leads from this end
-  leads_here : (q : ℕ) (way : Way) → way_out links i q ≡ Some way → (way.link ≡ k) × (way.dir ≡ dir) → ((near_end dir l).bridge ≡ i) × ((near_end dir l).port ≡ q)
+  leads_here : (q : ℕ) (way : LaneId) → way_out links i q ≡ Some way → (way.link ≡ k) × (way.dir ≡ dir) → ((near_end dir l).bridge ≡ i) × ((near_end dir l).port ≡ q)
   leads_here q way out same =
       let leads : LeadsFrom links i q way.link way.dir = way_leads links i q way out in
       let link : leads.link ≡ l = some-is leads.link l (sym leads.there ∙ (ap (slice_get links) same.0 ∙ there)) in
@@ -71,7 +72,7 @@ module _ (links : List DeclaredLink) (i k : ℕ) (dir : Dir) (l : DeclaredLink) 
   pub sent_beside : (s : State) (fs : List (ℕ × Frame)) → links_of s ≡ links → (near_end dir l).bridge ≢ i → lane_of (sent_all s i fs).lanes k dir ≡ lane_of s.lanes k dir
   sent_beside s [] same apart = refl
   sent_beside s (x ∷ fs) same apart =
-      let way : Option Way = way_out (links_of s) i x.0 in
+      let way : Option LaneId = way_out (links_of s) i x.0 in
       sent_beside (sent_over s way x.1) fs (ap (λ (w : World). things_of w.links) (world-sent_over s way x.1) ∙ same) apart
       ∙ over_beside s way x.1 k dir (λ w out is. apart (leads_here x.0 w (ap (λ (ls : List DeclaredLink). way_out ls i x.0) (sym same) ∙ out) is).0)
 
@@ -85,7 +86,7 @@ module _ (links : List DeclaredLink) (i k : ℕ) (dir : Dir) (l : DeclaredLink) 
         → lane_of (sent_over s (way_out (links_of s) i x.0) x.1).lanes k dir ≡ (if b && l.live then pushed (lane_of s.lanes k dir) x.1 else lane_of s.lanes k dir)
     one_sent s x true same within at =
         let out : way_out (links_of s) i x.0 ≡ Some (record { link = k; dir = dir }) = ap (λ (ls : List DeclaredLink). way_out ls i x.0) same ∙ out_here x.0 (sym (eqb-true x.0 (near_end dir l).port at)) in
-        ap (λ (o : Option Way). lane_of (sent_over s o x.1).lanes k dir) out
+        ap (λ (o : Option LaneId). lane_of (sent_over s o x.1).lanes k dir) out
         ∙ over_here l.live s k dir x.1 within (ap (λ (ls : List DeclaredLink). is_live ls k) same ∙ live_of links k l there)
     one_sent s x false same within at =
         over_beside s (way_out (links_of s) i x.0) x.1 k dir (λ w out is.
@@ -105,7 +106,7 @@ module _ (links : List DeclaredLink) (i k : ℕ) (dir : Dir) (l : DeclaredLink) 
         → lane_of (sent_all s i fs).lanes k dir ≡ entered (lane_of s.lanes k dir) (if l.live then frames_at (near_end dir l).port fs else [])
     sent_here s [] same within = nothing_sent l.live (lane_of s.lanes k dir)
     sent_here s (x ∷ fs) same within =
-        let way : Option Way = way_out (links_of s) i x.0 in
+        let way : Option LaneId = way_out (links_of s) i x.0 in
         let next : State = sent_over s way x.1 in
         let more : List Frame = frames_at (near_end dir l).port fs in
         sent_here next fs (ap (λ (w : World). things_of w.links) (world-sent_over s way x.1) ∙ same) (subst (λ (n : ℕ). k < n) (sym (alike_sent_over s way x.1).lanes) within)
@@ -114,7 +115,7 @@ module _ (links : List DeclaredLink) (i k : ℕ) (dir : Dir) (l : DeclaredLink) 
 
 -- ---- nothing else is changed
 
-over_rest : (s : State) (o : Option Way) (x : Frame) → sent_over s o x ≡ record s { lanes = (sent_over s o x).lanes }
+over_rest : (s : State) (o : Option LaneId) (x : Frame) → sent_over s o x ≡ record s { lanes = (sent_over s o x).lanes }
 over_rest s None x = refl
 over_rest s (Some way) x = by (is_live (links_of s) way.link)
   where

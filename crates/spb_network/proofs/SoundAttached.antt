@@ -3,7 +3,7 @@ use Rattle.std.proofs.Common.{inl, inr, ℕ, List, ap, ◌∙◌}
 use Rattle.bridge_api.specs.View.{BridgeView}
 use Rattle.bridge_api.specs.Step.{Input, step}
 use Rattle.spb_network.specs.World.{World}
-use Rattle.spb_network.specs.State.{changed_at}
+use Rattle.spb_types.specs.Places.{changed_at}
 use Rattle.spb_network.specs.Sound.{AreAttached}
 use Rattle.spb_network.proofs.BridgeLaws.{steps_keep_bridge}
 use Rattle.spb_network.proofs.SoundCarrier.{got_changed}

@@ -9,10 +9,11 @@ use Rattle.bridge_api.specs.View.{BridgeView, IsPort, has_carrier_at}
 use Rattle.bridge_api.specs.Step.{Input, carrier, step}
 use Rattle.spb_network.specs.declared.declaration.DeclaredLink.{DeclaredLink}
 use Rattle.spb_network.specs.declared.declaration.LinkEnd.{LinkEnd}
-use Rattle.spb_network.specs.declared.way.Way.{Way}
+use Rattle.link_model.specs.declared.lanes.LaneId.{LaneId}
 use Rattle.spb_network.specs.World.{Links, things_of, AllApart}
 use Rattle.spb_network.specs.Declaring.{switched}
-use Rattle.spb_network.specs.State.{changed_at, is_live, near_end, is_at, direction, way_from, way_out}
+use Rattle.spb_types.specs.Places.{changed_at}
+use Rattle.spb_network.specs.State.{is_live, near_end, is_at, direction, way_from, way_out}
 use Rattle.spb_network.specs.Sound.{is_lit}
 use Rattle.spb_network.proofs.BridgeLaws.{steps_keep_bridge}
 use Rattle.spb_network.proofs.SoundLaws.{is_carrier, carrier_kept, carrier_set, carrier_beside}
@@ -110,7 +111,7 @@ lit_carried on views e lit have j v p at port =
 out-switched_from : (n : ℕ) (on : Bool) (ls : Links) (k i p : ℕ) → way_from n (things_of (switched on ls k)) i p ≡ way_from n (things_of ls) i p
 out-switched_from n on [] k i p = refl
 out-switched_from n on (l ∷ ls) zero i p = refl
-out-switched_from n on (l ∷ ls) (suc k) i p = ap (λ (o : Option Way). option_or (option_map (λ dir. record { link = n; dir = dir }) (direction l.1 i p)) o) (out-switched_from (n + 1) on ls k i p)
+out-switched_from n on (l ∷ ls) (suc k) i p = ap (λ (o : Option LaneId). option_or (option_map (λ dir. record { link = n; dir = dir }) (direction l.1 i p)) o) (out-switched_from (n + 1) on ls k i p)
 
 out-switched : (on : Bool) (ls : Links) (k i p : ℕ) → way_out (things_of (switched on ls k)) i p ≡ way_out (things_of ls) i p
 unfolding way_out
@@ -121,7 +122,7 @@ live-here on [] k l at = absurd cc
 live-here on (h ∷ ls) zero l at = refl
 live-here on (h ∷ ls) (suc k) l at = live-here on ls k l at
 
-abbrev pub lit_by : List DeclaredLink → Option Way → Bool
+abbrev pub lit_by : List DeclaredLink → Option LaneId → Bool
 lit_by links way = option_map_or (λ w. is_live links w.link) way false
 
 -- the ends of a link that is switched, and every other port
@@ -140,7 +141,7 @@ lit-switched on ls k l apart ends at i p =
     not_here Ab a b = a
     not_here Ba a b = b
 
-    other : (o : Option Way) → way_out (things_of ls) i p ≡ o → is_at l.a i p ≡ false → is_at l.b i p ≡ false → lit_by (things_of ls) o ≡ lit_by (things_of (switched on ls k)) o
+    other : (o : Option LaneId) → way_out (things_of ls) i p ≡ o → is_at l.a i p ≡ false → is_at l.b i p ≡ false → lit_by (things_of ls) o ≡ lit_by (things_of (switched on ls k)) o
     other None out a b = refl
     other (Some way) out a b =
         elim (live-switched on ls k way.link) [

@@ -13,12 +13,12 @@ use Rattle.bridge_api.specs.Config.{ArePairwise}
 use Rattle.bridge_api.specs.Laws.{IsSoundView}
 use Rattle.spb_network.specs.declared.declaration.DeclaredBridge.{DeclaredBridge}
 use Rattle.spb_network.specs.declared.declaration.DeclaredLink.{DeclaredLink}
-use Rattle.spb_network.specs.declared.lanes.Lanes.{Lanes}
-use Rattle.spb_network.specs.declared.way.Way.{Way}
+use Rattle.link_model.specs.declared.lanes.LinkLanes.{LinkLanes}
+use Rattle.link_model.specs.declared.lanes.LaneId.{LaneId}
 use Rattle.spb_network.specs.World.{World, Bridges, Links, names_of, things_of, attached_at, is_at_port, IsLink, AreApart, Sound}
-use Rattle.spb_network.specs.Lanes.{no_frames}
+use Rattle.link_model.specs.Lanes.{no_frames, lane_of}
 use Rattle.spb_network.specs.Declaring.{with_vid, with_bridge, with_link}
-use Rattle.spb_network.specs.State.{State, Spare, links_of, is_live, near_end, far_end, is_at, way_of, way_from, way_out, lane_of}
+use Rattle.spb_network.specs.State.{State, Spare, links_of, is_live, near_end, far_end, is_at, way_of, way_from, way_out}
 use Rattle.spb_network.specs.Network.{HasPorts, Fits}
 use Rattle.spb_network.specs.Sound.{AreDistinct, IsShown, AreShown, AreAttached, is_lit, AreLit, Agrees, AllAgree, IsSoundState}
 use Rattle.spb_network.proofs.BoxLemmas.{All-get}
@@ -102,7 +102,7 @@ far_within : (s : State) (k : ℕ) (dir : Dir) (l : DeclaredLink) → Sound s.wo
 far_within s k Ab l sound fits at = omega (arith, (link_there s k l sound at).b.bridge, fits.bridges)
 far_within s k Ba l sound fits at = omega (arith, (link_there s k l sound at).a.bridge, fits.bridges)
 
-unlit : (s : State) (p : ℕ) (o : Option Way) → Sound s.world → Fits s → way_out (links_of s) (length s.views) p ≡ o → false ≡ lit_by (links_of s) o
+unlit : (s : State) (p : ℕ) (o : Option LaneId) → Sound s.world → Fits s → way_out (links_of s) (length s.views) p ≡ o → false ≡ lit_by (links_of s) o
 unlit s p None sound fits out = refl
 unlit s p (Some way) sound fits out =
     let leads : LeadsFrom (links_of s) (length s.views) p way.link way.dir = way_leads (links_of s) (length s.views) p way out in
@@ -156,7 +156,7 @@ no_lane Ab zero = refl
 no_lane Ba zero = refl
 no_lane dir (suc k) = refl
 
-lane-push : (lanes : List Lanes) (k : ℕ) (dir : Dir) → lane_of (lanes ++ no_frames ∷ []) k dir ≡ lane_of lanes k dir
+lane-push : (lanes : List LinkLanes) (k : ℕ) (dir : Dir) → lane_of (lanes ++ no_frames ∷ []) k dir ≡ lane_of lanes k dir
 lane-push [] k dir = no_lane dir k
 lane-push (x ∷ lanes) zero dir = refl
 lane-push (x ∷ lanes) (suc k) dir = lane-push lanes k dir
@@ -169,15 +169,15 @@ fits_link s name l fits = record {
   ports = fits.ports;
 }
 
-out-push_by : (o rest more : Option Way) (way : Way) → (rest ≡ Some way → more ≡ Some way) → option_or o rest ≡ Some way → option_or o more ≡ Some way
+out-push_by : (o rest more : Option LaneId) (way : LaneId) → (rest ≡ Some way → more ≡ Some way) → option_or o rest ≡ Some way → option_or o more ≡ Some way
 out-push_by (Some w) rest more way later out = out
 out-push_by None rest more way later out = later out
 
-out-push_from : (n : ℕ) (links : List DeclaredLink) (l : DeclaredLink) (i p : ℕ) (way : Way) → way_from n links i p ≡ Some way → way_from n (links ++ l ∷ []) i p ≡ Some way
+out-push_from : (n : ℕ) (links : List DeclaredLink) (l : DeclaredLink) (i p : ℕ) (way : LaneId) → way_from n links i p ≡ Some way → way_from n (links ++ l ∷ []) i p ≡ Some way
 out-push_from n [] l i p way out = absurd cc
 out-push_from n (h ∷ links) l i p way out = out-push_by (way_of n h i p) (way_from (n + 1) links i p) (way_from (n + 1) (links ++ l ∷ []) i p) way (out-push_from (n + 1) links l i p way) out
 
-out-push : (links : List DeclaredLink) (l : DeclaredLink) (i p : ℕ) (way : Way) → way_out links i p ≡ Some way → way_out (links ++ l ∷ []) i p ≡ Some way
+out-push : (links : List DeclaredLink) (l : DeclaredLink) (i p : ℕ) (way : LaneId) → way_out links i p ≡ Some way → way_out (links ++ l ∷ []) i p ≡ Some way
 unfolding way_out
 out-push links l i p way out = out-push_from 0 links l i p way out
 
@@ -186,7 +186,7 @@ past_dead [] = refl
 past_dead (h ∷ links) = past_dead links
 
 -- a link that isn't up lights no port
-dark_way : (s : State) (l : DeclaredLink) (i p : ℕ) (o : Option Way) → Sound s.world → l.live ≡ false → way_out (links_of s) i p ≡ None → way_out (links_of s ++ l ∷ []) i p ≡ o → false ≡ lit_by (links_of s ++ l ∷ []) o
+dark_way : (s : State) (l : DeclaredLink) (i p : ℕ) (o : Option LaneId) → Sound s.world → l.live ≡ false → way_out (links_of s) i p ≡ None → way_out (links_of s ++ l ∷ []) i p ≡ o → false ≡ lit_by (links_of s ++ l ∷ []) o
 dark_way s l i p None sound dead none out = refl
 dark_way s l i p (Some way) sound dead none out = by (got_push (links_of s) l way.link leads.link leads.there)
   where
@@ -201,7 +201,7 @@ dark_way s l i p (Some way) sound dead none out = by (got_push (links_of s) l wa
         absurd cc
     by (inr new) = sym (live-push (links_of s) l way.link dead ∙ (ap (is_live (links_of s)) new.0 ∙ past_dead (links_of s)))
 
-lit_link_by : (s : State) (l : DeclaredLink) (i p : ℕ) (o : Option Way) → Sound s.world → l.live ≡ false → way_out (links_of s) i p ≡ o → lit_by (links_of s) o ≡ is_lit (links_of s ++ l ∷ []) i p
+lit_link_by : (s : State) (l : DeclaredLink) (i p : ℕ) (o : Option LaneId) → Sound s.world → l.live ≡ false → way_out (links_of s) i p ≡ o → lit_by (links_of s) o ≡ is_lit (links_of s ++ l ∷ []) i p
 lit_link_by s l i p None sound dead out = dark_way s l i p (way_out (links_of s ++ l ∷ []) i p) sound dead out refl
 lit_link_by s l i p (Some way) sound dead out = sym (live-push (links_of s) l way.link dead) ∙ ap (lit_by (links_of s ++ l ∷ [])) (sym (out-push (links_of s) l i p way out))
 
@@ -221,7 +221,7 @@ apart_end : (dir : Dir) (m l : DeclaredLink) → AreApart m l → is_at_port m (
 apart_end Ab m l apart = apart.port_a
 apart_end Ba m l apart = apart.port_b
 
-free_end : (links : List DeclaredLink) (dir : Dir) (l : DeclaredLink) (o : Option Way) → AllByRecursion (λ m. AreApart m l) links → way_out links (near_end dir l).bridge (near_end dir l).port ≡ o → lit_by links o ≡ false
+free_end : (links : List DeclaredLink) (dir : Dir) (l : DeclaredLink) (o : Option LaneId) → AllByRecursion (λ m. AreApart m l) links → way_out links (near_end dir l).bridge (near_end dir l).port ≡ o → lit_by links o ≡ false
 free_end links dir l None apart out = refl
 free_end links dir l (Some way) apart out =
     let leads : LeadsFrom links (near_end dir l).bridge (near_end dir l).port way.link way.dir = way_leads links (near_end dir l).bridge (near_end dir l).port way out in
@@ -308,7 +308,7 @@ Sound-new_vid s plan sound none world =
 
 pub Sound-nothing : (s : State) → Sound s.world → s.world.bridges ≡ [] → s.world.links ≡ [] → s.views ≡ [] → s.lanes ≡ [] → IsSoundState s
 Sound-nothing s world bridges links views lanes =
-    let no_lane : (k : ℕ) (dir : Dir) → lane_of s.lanes k dir ≡ [] = λ k dir. ap (λ (ls : List Lanes). lane_of ls k dir) lanes in
+    let no_lane : (k : ℕ) (dir : Dir) → lane_of s.lanes k dir ≡ [] = λ k dir. ap (λ (ls : List LinkLanes). lane_of ls k dir) lanes in
     record {
       world = world;
       distinct = record { bridges = subst (λ (bs : Bridges). ArePairwise (λ x y. x ≢ y) (names_of bs)) (sym bridges) tt; sources = subst (λ (bs : Bridges). ArePairwise (λ x y. x ≢ y) (map (λ b. b.bridge.source.value) (things_of bs))) (sym bridges) tt; links = subst (λ (ls : Links). ArePairwise (λ x y. x ≢ y) (names_of ls)) (sym links) tt };

@@ -2,7 +2,7 @@
 use Rattle.std.proofs.Common.{◌≡◌, ℕ, zero, suc, ◌+◌, Bool, true, false, List, [], length, refl, sym, ap, ◌∙◌, subst, Option, Some, None, slice_get}
 use Rattle.std.specs.Prelude.{if◌then◌else◌}
 use Rattle.std.specs.Option.{option_map_or}
-use Rattle.link_model.specs.Lane.{Frame, after_lose, after_double}
+use Rattle.link_model.specs.Lane.{Frame, after_lose, after_double, IsIn}
 use Rattle.spb_types.specs.declared.link.Dir.{Dir}
 use Rattle.spb_types.specs.declared.link.Dir.TheVariants.{Ab, Ba}
 use Rattle.bridge_api.specs.View.{BridgeView}
@@ -11,13 +11,14 @@ use Rattle.bridge_api.specs.Step.{Input, step, sent}
 use Rattle.bridge_api.specs.Laws.{IsInput}
 use Rattle.spb_network.specs.declared.declaration.DeclaredLink.{DeclaredLink}
 use Rattle.spb_network.specs.declared.declaration.LinkEnd.{LinkEnd}
-use Rattle.spb_network.specs.declared.lanes.Lanes.{Lanes}
-use Rattle.spb_network.specs.declared.way.Way.{Way}
+use Rattle.link_model.specs.declared.lanes.LinkLanes.{LinkLanes}
+use Rattle.link_model.specs.declared.lanes.LaneId.{LaneId}
 use Rattle.spb_network.specs.World.{World, things_of, Sound}
-use Rattle.spb_network.specs.Lanes.{changed_lane, rest, no_frames, IsIn}
+use Rattle.link_model.specs.Lanes.{changed_lane, rest, no_frames, lane_of, first_full_from}
 use Rattle.spb_network.specs.Declaring.{with_live}
-use Rattle.spb_network.specs.State.{State, changed_at, links_of, far_end, is_at, way_out, lane_at, with_frames, lane_of}
-use Rattle.spb_network.specs.Events.{stepped, ticked, heard_over, delivered_front, delivered, lost, doubled, carried, carried_over, flushed, switched_off, switched_on, ticked_from, delivered_times, lane_served, served_from, one_round, rounds, first_full_from, delivered_over, delivered_first, drained}
+use Rattle.spb_types.specs.Places.{changed_at}
+use Rattle.spb_network.specs.State.{State, links_of, far_end, is_at, way_out, lane_at, with_frames}
+use Rattle.spb_network.specs.Events.{stepped, ticked, heard_over, delivered_front, delivered, lost, doubled, carried, carried_over, flushed, switched_off, switched_on, ticked_from, delivered_times, lane_served, served_from, one_round, rounds, delivered_over, delivered_first, drained}
 use Rattle.spb_network.specs.Sound.{AreShort, is_lit, AreLit, AreMetered, AreAttached, IsSoundState}
 use Rattle.spb_network.proofs.WorldLemmas.{switched-none}
 use Rattle.spb_network.proofs.FitsLemmas.{IsAlike, alike_itself, alike_with_frames, alike_flushed, link_there}
@@ -66,7 +67,7 @@ stepped_attached x s i attached =
     (attached_stepped x s.world s.views i attached))
 
 -- an input that changes neither, after frames were lost or taken from lanes
-stays_stepped : (x : Input) (s : State) (lanes : List Lanes) (i : ℕ) → IsInput x → is_carrier x ≡ false → is_metric x ≡ false → IsSoundState s → IsAlike s (record s { lanes = lanes }) → AreShort lanes → ((k : ℕ) (dir : Dir) (f : Frame) → IsIn f (lane_of lanes k dir) → IsIn f (lane_of s.lanes k dir)) → ((p : ℕ) (f : Frame) → x ≡ comes.frame p f → Comes (links_of s) s.lanes i p f) → IsSoundState (stepped x (record s { lanes = lanes }) i)
+stays_stepped : (x : Input) (s : State) (lanes : List LinkLanes) (i : ℕ) → IsInput x → is_carrier x ≡ false → is_metric x ≡ false → IsSoundState s → IsAlike s (record s { lanes = lanes }) → AreShort lanes → ((k : ℕ) (dir : Dir) (f : Frame) → IsIn f (lane_of lanes k dir) → IsIn f (lane_of s.lanes k dir)) → ((p : ℕ) (f : Frame) → x ≡ comes.frame p f → Comes (links_of s) s.lanes i p f) → IsSoundState (stepped x (record s { lanes = lanes }) i)
 stays_stepped x s lanes i is_input same_carrier same_metric sound alike short fewer from =
     sound_from (stepped x (record s { lanes = lanes }) i) (core_stepped x s lanes i is_input (core_of s sound) alike short fewer from)
     (stepped_lit x (record s { lanes = lanes }) i same_carrier sound.lit)
@@ -99,7 +100,7 @@ fewer_rest : (s : State) (j : ℕ) (d : Dir) (k : ℕ) (dir : Dir) (f : Frame) �
 fewer_rest s j d k dir f among = in_changed rest in_rest s.lanes j d k dir f among
 
 -- frames are lost, doubled or taken
-stays_fewer : (s : State) (lanes : List Lanes) → IsSoundState s → IsAlike s (record s { lanes = lanes }) → AreShort lanes → ((k : ℕ) (dir : Dir) (f : Frame) → IsIn f (lane_of lanes k dir) → IsIn f (lane_of s.lanes k dir)) → IsSoundState (record s { lanes = lanes })
+stays_fewer : (s : State) (lanes : List LinkLanes) → IsSoundState s → IsAlike s (record s { lanes = lanes }) → AreShort lanes → ((k : ℕ) (dir : Dir) (f : Frame) → IsIn f (lane_of lanes k dir) → IsIn f (lane_of s.lanes k dir)) → IsSoundState (record s { lanes = lanes })
 stays_fewer s lanes sound alike short fewer = sound_from (record s { lanes = lanes }) (core_fewer s lanes (core_of s sound) alike short fewer) sound.lit sound.metered sound.attached
 
 heard_sound : (s : State) (k : ℕ) (dir : Dir) (bytes : Frame) (o : Option DeclaredLink) → slice_get (links_of s) k ≡ o → slice_get (lane_at s k dir) 0 ≡ Some bytes → IsSoundState s → IsSoundState (heard_over (with_frames rest s k dir) dir bytes o)
@@ -209,7 +210,7 @@ pub Sound-rounds : (n : ℕ) (s : State) → IsSoundState s → IsSoundState (ro
 Sound-rounds zero s sound = sound
 Sound-rounds (suc n) s sound = Sound-rounds n (one_round s) (Sound-one_round s sound)
 
-delivered_over_sound : (s : State) (way : Option Way) → IsSoundState s → IsSoundState (delivered_over s way)
+delivered_over_sound : (s : State) (way : Option LaneId) → IsSoundState s → IsSoundState (delivered_over s way)
 delivered_over_sound s None sound = sound
 delivered_over_sound s (Some way) sound = Sound-delivered s way.link way.dir sound
 

@@ -10,7 +10,7 @@ use Rattle.bridge_api.specs.Step.{step}
 use Rattle.spb_network.specs.declared.declaration.DeclaredLink.{DeclaredLink}
 use Rattle.spb_network.specs.declared.declaration.LinkEnd.{LinkEnd}
 use Rattle.spb_network.specs.World.{World, Bridges, IsEnd, things_of, is_at_port, AreApart}
-use Rattle.spb_network.specs.Lanes.{no_frames}
+use Rattle.link_model.specs.Lanes.{no_frames}
 use Rattle.spb_network.specs.Declaring.{with_link}
 use Rattle.spb_network.specs.State.{State, links_of, near_end, is_at}
 use Rattle.spb_network.specs.Events.{metered, metered_over}

@@ -10,11 +10,12 @@ use Rattle.bridge_api.specs.Config.{ArePairwise, IsMetric}
 use Rattle.bridge_api.specs.Step as comes
 use Rattle.spb_network.specs.declared.declaration.DeclaredLink.{DeclaredLink}
 use Rattle.spb_network.specs.declared.declaration.LinkEnd.{LinkEnd}
-use Rattle.spb_network.specs.declared.lanes.Lanes.{Lanes}
-use Rattle.spb_network.specs.declared.way.Way.{Way}
+use Rattle.link_model.specs.declared.lanes.LinkLanes.{LinkLanes}
+use Rattle.link_model.specs.declared.lanes.LaneId.{LaneId}
 use Rattle.spb_network.specs.World.{World, Links, names_of, things_of}
 use Rattle.spb_network.specs.Declaring.{end_on, link_metered, links_metered, with_end_metric}
-use Rattle.spb_network.specs.State.{State, links_of, is_live, near_end, far_end, is_at, direction, way_of, way_from, way_out, lane_of}
+use Rattle.link_model.specs.Lanes.{lane_of}
+use Rattle.spb_network.specs.State.{State, links_of, is_live, near_end, far_end, is_at, direction, way_of, way_from, way_out}
 use Rattle.spb_network.specs.Events.{metered, metered_on, remetered}
 use Rattle.spb_network.specs.Sound.{is_lit, AreLit, metric_at, AreMetered, AreAttached, Agrees, AllAgree, IsSoundState}
 use Rattle.spb_network.proofs.WorldLemmas.{end_on-is, Sound-with_end_metric}
@@ -117,13 +118,13 @@ direction-metered side.B m l i p = refl
 out-metered_from : (n : ℕ) (on : Side) (m : ℕ) (ls : Links) (k i p : ℕ) → way_from n (things_of (links_metered on m ls k)) i p ≡ way_from n (things_of ls) i p
 out-metered_from n on m [] k i p = refl
 out-metered_from n on m (l ∷ ls) zero i p = ap (λ (d : Option Dir). option_or (option_map (λ dir. record { link = n; dir = dir }) d) (way_from (n + 1) (things_of ls) i p)) (direction-metered on m l.1 i p)
-out-metered_from n on m (l ∷ ls) (suc k) i p = ap (λ (o : Option Way). option_or (way_of n l.1 i p) o) (out-metered_from (n + 1) on m ls k i p)
+out-metered_from n on m (l ∷ ls) (suc k) i p = ap (λ (o : Option LaneId). option_or (way_of n l.1 i p) o) (out-metered_from (n + 1) on m ls k i p)
 
 out-metered : (on : Side) (m : ℕ) (ls : Links) (k i p : ℕ) → way_out (things_of (links_metered on m ls k)) i p ≡ way_out (things_of ls) i p
 unfolding way_out
 out-metered on m ls k i p = out-metered_from 0 on m ls k i p
 
-lit_metered_by : (on : Side) (m : ℕ) (ls : Links) (k : ℕ) (o : Option Way) → lit_by (things_of (links_metered on m ls k)) o ≡ lit_by (things_of ls) o
+lit_metered_by : (on : Side) (m : ℕ) (ls : Links) (k : ℕ) (o : Option LaneId) → lit_by (things_of (links_metered on m ls k)) o ≡ lit_by (things_of ls) o
 lit_metered_by on m ls k None = refl
 lit_metered_by on m ls k (Some way) = live-metered on m ls k way.link
 
@@ -132,7 +133,7 @@ lit-metered on m ls k i p = ap (lit_by (things_of (links_metered on m ls k))) (o
 
 -- ---- what is sound, before the bridge is told
 
-agree_metered : (on : Side) (m : ℕ) (ls : Links) (k : ℕ) (views : List BridgeView) (lanes : List Lanes) → AllAgree (things_of ls) views lanes → AllAgree (things_of (links_metered on m ls k)) views lanes
+agree_metered : (on : Side) (m : ℕ) (ls : Links) (k : ℕ) (views : List BridgeView) (lanes : List LinkLanes) → AllAgree (things_of ls) views lanes → AllAgree (things_of (links_metered on m ls k)) views lanes
 agree_metered on m ls k views lanes agree j dir h v w at at_v at_w =
     let was = metered_link on m ls k j h at in
     let near : IsSameEnd (near_end dir was.link) (near_end dir h) = was.ends dir in
@@ -171,7 +172,7 @@ same_port s k j l h d dir core at_l at_h at =
     let out_l : way_out (links_of s) (near_end d l).bridge (near_end d l).port ≡ Some (record { link = k; dir = d }) = way_of_end (links_of s) k l d core.world.links_apart (link_there s k l core.world at_l).apart at_l in
     let out_h : way_out (links_of s) (near_end dir h).bridge (near_end dir h).port ≡ Some (record { link = j; dir = dir }) = way_of_end (links_of s) j h dir core.world.links_apart (link_there s j h core.world at_h).apart at_h in
     let same : record { link = j; dir = dir } ≡ record { link = k; dir = d } = some-is _ _ (sym out_h ∙ (sym (λ i. way_out (links_of s) (parts.0 i) (parts.1 i)) ∙ out_l)) in
-    (ap (λ (way : Way). way.link) same, ap (λ (way : Way). way.dir) same)
+    (ap (λ (way : LaneId). way.link) same, ap (λ (way : LaneId). way.dir) same)
 
 -- each port at an end of a link has its metric, but for the one end that got another
 abbrev MeteredBut : State → ℕ → Dir → Type 0

@@ -14,7 +14,8 @@ use Rattle.spb_network.specs.declared.declaration.DeclaredLink.{DeclaredLink}
 use Rattle.spb_network.specs.declared.declaration.LinkEnd.{LinkEnd}
 use Rattle.spb_network.specs.World.{Links, things_of}
 use Rattle.spb_network.specs.Declaring.{switched}
-use Rattle.spb_network.specs.State.{changed_at, near_end, is_at}
+use Rattle.spb_types.specs.Places.{changed_at}
+use Rattle.spb_network.specs.State.{near_end, is_at}
 use Rattle.spb_network.specs.Network.{IsPortAt}
 use Rattle.spb_network.specs.Sound.{metric_at, AreMetered}
 use Rattle.spb_network.proofs.BridgeLaws.{steps_keep_bridge}

@@ -2,18 +2,18 @@
 use Rattle.std.proofs.Common.{◌≡◌, ◌≢◌, ◌⊎◌, inl, inr, ℕ, zero, suc, true, true≢false, List, [], ◌∷◌, refl, sym, ap, ◌∙◌, subst, Option, Some, None, slice_get, arith}
 use Rattle.std.specs.Option.{option_map}
 use Rattle.std.specs.List.{AllByRecursion}
-use Rattle.link_model.specs.Lane.{Frame}
+use Rattle.link_model.specs.Lane.{Frame, IsIn}
 use Rattle.spb_types.specs.declared.link.Dir.{Dir}
 use Rattle.spb_types.specs.declared.link.Dir.TheVariants.{Ab, Ba}
 use Rattle.bridge_api.specs.View.{BridgeView, IsPort}
 use Rattle.bridge_api.specs.Step.{Input, frame}
 use Rattle.bridge_api.specs.Laws.{IsSoundView, IsSent}
 use Rattle.spb_network.specs.declared.declaration.DeclaredLink.{DeclaredLink}
-use Rattle.spb_network.specs.declared.lanes.Lanes.{Lanes}
-use Rattle.spb_network.specs.declared.way.Way.{Way}
+use Rattle.link_model.specs.declared.lanes.LinkLanes.{LinkLanes}
+use Rattle.link_model.specs.declared.lanes.LaneId.{LaneId}
 use Rattle.spb_network.specs.World.{World, things_of, Sound}
-use Rattle.spb_network.specs.Lanes.{IsIn}
-use Rattle.spb_network.specs.State.{State, links_of, is_live, near_end, far_end, way_out, lane_of}
+use Rattle.link_model.specs.Lanes.{lane_of}
+use Rattle.spb_network.specs.State.{State, links_of, is_live, near_end, far_end, way_out}
 use Rattle.spb_network.specs.Network.{Fits}
 use Rattle.spb_network.specs.Sound.{AreDistinct, AreShort, IsShown, AreShown, IsSaid, Agrees, AllAgree, AreIdle}
 use Rattle.spb_network.proofs.BoxLemmas.{All-get}
@@ -33,8 +33,8 @@ pub record IsCore (s : State) : Type 0 where
   pub agree : AllAgree (links_of s) s.views s.lanes
 
 -- a frame that comes to a port was on its way there
-pub record Comes (links : List DeclaredLink) (lanes : List Lanes) (i p : ℕ) (f : Frame) : Type 0 where
-  pub way : Way
+pub record Comes (links : List DeclaredLink) (lanes : List LinkLanes) (i p : ℕ) (f : Frame) : Type 0 where
+  pub way : LaneId
   pub out : way_out links i p ≡ Some way
   pub among : IsIn f (lane_of lanes way.link (turned way.dir))
 
@@ -49,7 +49,7 @@ pub record GoesOut (links : List DeclaredLink) (o : ℕ → Option Input) (views
   pub sent : IsSent (sent_by (o place) view) port f
 
 -- what comes to the bridge at each place is o; what is on its way afterwards was so before, or is sent now
-pub record Moves (links : List DeclaredLink) (o : ℕ → Option Input) (views views' : List BridgeView) (lanes lanes' : List Lanes) : Type 0 where
+pub record Moves (links : List DeclaredLink) (o : ℕ → Option Input) (views views' : List BridgeView) (lanes lanes' : List LinkLanes) : Type 0 where
   pub bridges : (i : ℕ) → slice_get views' i ≡ option_map (moved (o i)) (slice_get views i)
   pub inputs : (i : ℕ) → AreInputs (o i)
   pub heard : (i p : ℕ) (f : Frame) → o i ≡ Some (frame p f) → Comes links lanes i p f
@@ -69,20 +69,20 @@ got_mapped f (Some x) y is = (x, refl, sym (some-is (f x) y is))
 
 -- ---- the parts of what is sound
 
-moves_views : (links : List DeclaredLink) (o : ℕ → Option Input) (views views' : List BridgeView) (lanes lanes' : List Lanes) → Moves links o views views' lanes lanes' → AllByRecursion IsSoundView views → AllByRecursion IsSoundView views'
+moves_views : (links : List DeclaredLink) (o : ℕ → Option Input) (views views' : List BridgeView) (lanes lanes' : List LinkLanes) → Moves links o views views' lanes lanes' → AllByRecursion IsSoundView views → AllByRecursion IsSoundView views'
 moves_views links o views views' lanes lanes' move sound =
     All-each IsSoundView views' (λ i v at.
     let was = got_mapped (moved (o i)) (slice_get views i) v (sym (move.bridges i) ∙ at) in
     subst IsSoundView (sym was.2) (moved_sound (o i) was.0 (move.inputs i) (All-get IsSoundView views i was.0 sound was.1)))
 
-moves_shown : (w : World) (links : List DeclaredLink) (o : ℕ → Option Input) (views views' : List BridgeView) (lanes lanes' : List Lanes) → Moves links o views views' lanes lanes' → AreShown w views → AreShown w views'
+moves_shown : (w : World) (links : List DeclaredLink) (o : ℕ → Option Input) (views views' : List BridgeView) (lanes lanes' : List LinkLanes) → Moves links o views views' lanes lanes' → AreShown w views → AreShown w views'
 moves_shown w links o views views' lanes lanes' move shown i v b at declared =
     let was = got_mapped (moved (o i)) (slice_get views i) v (sym (move.bridges i) ∙ at) in
     let same = moved_same (o i) was.0 in
     let before : IsShown w.vids b was.0 = shown i was.0 b was.1 declared in
     subst (IsShown w.vids b) (sym was.2) (record { id = same.id ∙ before.id; source = same.source ∙ before.source; vids = same.vids ∙ before.vids })
 
-moves_idle : (links : List DeclaredLink) (o : ℕ → Option Input) (views views' : List BridgeView) (lanes lanes' : List Lanes) → Moves links o views views' lanes lanes' → AreIdle links lanes → AreIdle links lanes'
+moves_idle : (links : List DeclaredLink) (o : ℕ → Option Input) (views views' : List BridgeView) (lanes lanes' : List LinkLanes) → Moves links o views views' lanes lanes' → AreIdle links lanes → AreIdle links lanes'
 moves_idle links o views views' lanes lanes' move idle k dir dead =
     nothing_in (lane_of lanes' k dir) (λ f among.
     elim (move.frames k dir f among) [
@@ -91,7 +91,7 @@ moves_idle links o views views' lanes lanes' move idle k dir dead =
     ])
 
 -- the other direction of a link
-agree_back : (links : List DeclaredLink) (views : List BridgeView) (lanes : List Lanes) → AllAgree links views lanes → (k : ℕ) (dir : Dir) (l : DeclaredLink) (v w : BridgeView) → slice_get links k ≡ Some l → slice_get views (near_end dir l).bridge ≡ Some v → slice_get views (far_end dir l).bridge ≡ Some w → AllByRecursion (IsSaid w (far_end dir l).port v (near_end dir l).port) (lane_of lanes k (turned dir))
+agree_back : (links : List DeclaredLink) (views : List BridgeView) (lanes : List LinkLanes) → AllAgree links views lanes → (k : ℕ) (dir : Dir) (l : DeclaredLink) (v w : BridgeView) → slice_get links k ≡ Some l → slice_get views (near_end dir l).bridge ≡ Some v → slice_get views (far_end dir l).bridge ≡ Some w → AllByRecursion (IsSaid w (far_end dir l).port v (near_end dir l).port) (lane_of lanes k (turned dir))
 agree_back links views lanes agree k Ab l v w at at_v at_w = (agree k Ba l w v at at_w at_v).said
 agree_back links views lanes agree k Ba l v w at at_v at_w = (agree k Ab l w v at at_w at_v).said
 
@@ -102,7 +102,7 @@ link-apart s k l core at = (link_there s k l core.world at).apart
 heard_there : (s : State) (k : ℕ) (dir : Dir) (l : DeclaredLink) (f : Frame) → IsCore s → slice_get (links_of s) k ≡ Some l → Comes (links_of s) s.lanes (near_end dir l).bridge (near_end dir l).port f → IsIn f (lane_of s.lanes k (turned dir))
 heard_there s k dir l f core at comes =
     let same : comes.way ≡ record { link = k; dir = dir } = some-is comes.way (record { link = k; dir = dir }) (sym comes.out ∙ way_of_end (links_of s) k l dir core.world.links_apart (link-apart s k l core at) at) in
-    subst (λ (way : Way). IsIn f (lane_of s.lanes way.link (turned way.dir))) same comes.among
+    subst (λ (way : LaneId). IsIn f (lane_of s.lanes way.link (turned way.dir))) same comes.among
 
 -- what goes out over a link is sent by the bridge at the near end
 sent_there : (links : List DeclaredLink) (o : ℕ → Option Input) (views : List BridgeView) (k : ℕ) (dir : Dir) (l : DeclaredLink) (v : BridgeView) (f : Frame) → slice_get links k ≡ Some l → slice_get views (near_end dir l).bridge ≡ Some v → GoesOut links o views k dir f → IsSent (sent_by (o (near_end dir l).bridge) v) (near_end dir l).port f
@@ -116,7 +116,7 @@ sent_there links o views k dir l v f at at_v new =
     (subst (λ (i : ℕ). IsSent (sent_by (o i) v) new.port f) place
     (subst (λ (u : BridgeView). IsSent (sent_by (o new.place) u) new.port f) view new.sent))
 
-moves_agree : (s : State) (o : ℕ → Option Input) (views' : List BridgeView) (lanes' : List Lanes) → IsCore s → Moves (links_of s) o s.views views' s.lanes lanes' → AllAgree (links_of s) views' lanes'
+moves_agree : (s : State) (o : ℕ → Option Input) (views' : List BridgeView) (lanes' : List LinkLanes) → IsCore s → Moves (links_of s) o s.views views' s.lanes lanes' → AllAgree (links_of s) views' lanes'
 moves_agree s o views' lanes' core move k dir l v' w' at at_v at_w =
     let near : ℕ = (near_end dir l).bridge in
     let far : ℕ = (far_end dir l).bridge in

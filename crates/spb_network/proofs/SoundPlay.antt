@@ -13,9 +13,9 @@ use Rattle.bridge_api.specs.View.{BridgeView}
 use Rattle.bridge_api.specs.Config.{IsWhole, bare, configured}
 use Rattle.spb_network.specs.declared.declaration.DeclaredLink.{DeclaredLink}
 use Rattle.spb_network.specs.declared.kind_rule.KindRule.{KindRule}
-use Rattle.spb_network.specs.declared.lanes.Lanes.{Lanes}
+use Rattle.link_model.specs.declared.lanes.LinkLanes.{LinkLanes}
 use Rattle.spb_network.specs.World.{World, place_of, Sound}
-use Rattle.spb_network.specs.Lanes.{no_frames}
+use Rattle.link_model.specs.Lanes.{no_frames}
 use Rattle.spb_network.specs.Declaring.{bridge_refusal, vid_refusal, link_refusal, plan_of, bridge_of, link_of, with_link}
 use Rattle.spb_network.specs.State.{State, Spare}
 use Rattle.spb_network.specs.Events.{ticked, delivered, lost, doubled, metered_over, remetered, switched_off, switched_on, rounds, drained}
@@ -52,7 +52,7 @@ events_keep_sound = record {
 pub sound_again : (s t : State) → t.world ≡ s.world → t.views ≡ s.views → t.lanes ≡ s.lanes → IsSoundState s → IsSoundState t
 sound_again s t world views lanes sound =
     let same : IsSoundState (record s { world = t.world; views = t.views; lanes = t.lanes }) =
-    subst (λ (ls : List Lanes). IsSoundState (record s { world = t.world; views = t.views; lanes = ls })) (sym lanes)
+    subst (λ (ls : List LinkLanes). IsSoundState (record s { world = t.world; views = t.views; lanes = ls })) (sym lanes)
     (subst (λ (vs : List BridgeView). IsSoundState (record s { world = t.world; views = vs })) (sym views)
     (subst (λ (w : World). IsSoundState (record s { world = w })) (sym world) sound)) in
     record {

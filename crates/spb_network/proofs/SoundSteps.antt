@@ -5,7 +5,7 @@ use Rattle.std.specs.Option.{option_map, option_map_or}
 use Rattle.std.proofs.lemmas.List.{length-append, length-take, length-drop}
 use Rattle.std.proofs.lemmas.Bool.{ltb-true}
 use Rattle.std.proofs.lemmas.Option.{slice_get_within}
-use Rattle.link_model.specs.Lane.{Frame, has_room, pushed, after_lose, after_double}
+use Rattle.link_model.specs.Lane.{Frame, has_room, pushed, after_lose, after_double, IsIn}
 use Rattle.spb_types.specs.declared.link.Dir.{Dir}
 use Rattle.spb_types.specs.declared.link.Dir.TheVariants.{Ab, Ba}
 use Rattle.bridge_api.specs.View.{BridgeView}
@@ -14,12 +14,13 @@ use Rattle.bridge_api.specs.Config.{ArePairwise}
 use Rattle.bridge_api.specs.Laws.{IsInput, IsSent}
 use Rattle.spb_network.specs.declared.declaration.DeclaredLink.{DeclaredLink}
 use Rattle.spb_network.specs.declared.declaration.LinkEnd.{LinkEnd}
-use Rattle.spb_network.specs.declared.lanes.Lanes.{Lanes}
-use Rattle.spb_network.specs.declared.way.Way.{Way}
+use Rattle.link_model.specs.declared.lanes.LinkLanes.{LinkLanes}
+use Rattle.link_model.specs.declared.lanes.LaneId.{LaneId}
 use Rattle.spb_network.specs.World.{World, Links, names_of, things_of}
-use Rattle.spb_network.specs.Lanes.{lane_in, changed_lane, rest, no_frames, IsIn}
+use Rattle.link_model.specs.Lanes.{lane_in, changed_lane, rest, no_frames, lane_of}
 use Rattle.spb_network.specs.Declaring.{switched, with_live}
-use Rattle.spb_network.specs.State.{State, changed_at, links_of, is_live, near_end, far_end, way_out, with_frames, lane_of}
+use Rattle.spb_types.specs.Places.{changed_at}
+use Rattle.spb_network.specs.State.{State, links_of, is_live, near_end, far_end, way_out, with_frames}
 use Rattle.spb_network.specs.Events.{sent_over, sent_all, stepped}
 use Rattle.spb_network.specs.Sound.{AreShort, Agrees, AllAgree, AreIdle}
 use Rattle.spb_network.proofs.ListLemmas.{length-push}
@@ -105,7 +106,7 @@ in_pushed : (f x : Frame) (frames : List Frame) → IsIn f (pushed frames x) →
 in_pushed f x frames among = in_pushed_at (has_room frames) f x frames among
 
 -- one lane is changed, and every other is as it was
-pub lane_changed : (g : List Frame → List Frame) (lanes : List Lanes) (j : ℕ) (d : Dir) (k : ℕ) (dir : Dir) → ((j ≡ k) × (d ≡ dir) × (lane_of (changed_at (changed_lane d g) lanes j) k dir ≡ g (lane_of lanes k dir))) ⊎ (lane_of (changed_at (changed_lane d g) lanes j) k dir ≡ lane_of lanes k dir)
+pub lane_changed : (g : List Frame → List Frame) (lanes : List LinkLanes) (j : ℕ) (d : Dir) (k : ℕ) (dir : Dir) → ((j ≡ k) × (d ≡ dir) × (lane_of (changed_at (changed_lane d g) lanes j) k dir ≡ g (lane_of lanes k dir))) ⊎ (lane_of (changed_at (changed_lane d g) lanes j) k dir ≡ lane_of lanes k dir)
 lane_changed g [] j d k dir = inr refl
 lane_changed g (x ∷ lanes) zero Ab zero Ab = inl (refl, refl, refl)
 lane_changed g (x ∷ lanes) zero Ab zero Ba = inr refl
@@ -120,14 +121,14 @@ lane_changed g (x ∷ lanes) (suc j) d (suc k) dir =
     ]
 
 -- where only frames that were there are left
-pub in_changed : (g : List Frame → List Frame) → ((f : Frame) (frames : List Frame) → IsIn f (g frames) → IsIn f frames) → (lanes : List Lanes) (j : ℕ) (d : Dir) (k : ℕ) (dir : Dir) (f : Frame) → IsIn f (lane_of (changed_at (changed_lane d g) lanes j) k dir) → IsIn f (lane_of lanes k dir)
+pub in_changed : (g : List Frame → List Frame) → ((f : Frame) (frames : List Frame) → IsIn f (g frames) → IsIn f frames) → (lanes : List LinkLanes) (j : ℕ) (d : Dir) (k : ℕ) (dir : Dir) (f : Frame) → IsIn f (lane_of (changed_at (changed_lane d g) lanes j) k dir) → IsIn f (lane_of lanes k dir)
 in_changed g fewer lanes j d k dir f among =
     elim (lane_changed g lanes j d k dir) [
       | inl here ↦ fewer f (lane_of lanes k dir) (subst (IsIn f) here.2 among)
       | inr same ↦ subst (IsIn f) same among
     ]
 
-pub flushed_lane : (lanes : List Lanes) (k : ℕ) (dir : Dir) → lane_of (changed_at (λ l. no_frames) lanes k) k dir ≡ []
+pub flushed_lane : (lanes : List LinkLanes) (k : ℕ) (dir : Dir) → lane_of (changed_at (λ l. no_frames) lanes k) k dir ≡ []
 flushed_lane [] k dir = refl
 flushed_lane (x ∷ lanes) zero Ab = refl
 flushed_lane (x ∷ lanes) zero Ba = refl
@@ -137,7 +138,7 @@ none_in : (dir : Dir) (f : Frame) → IsIn f (lane_in dir no_frames) → ⊥
 none_in Ab f among = among
 none_in Ba f among = among
 
-pub in_flushed : (lanes : List Lanes) (j k : ℕ) (dir : Dir) (f : Frame) → IsIn f (lane_of (changed_at (λ l. no_frames) lanes j) k dir) → IsIn f (lane_of lanes k dir)
+pub in_flushed : (lanes : List LinkLanes) (j k : ℕ) (dir : Dir) (f : Frame) → IsIn f (lane_of (changed_at (λ l. no_frames) lanes j) k dir) → IsIn f (lane_of lanes k dir)
 in_flushed [] j k dir f among = among
 in_flushed (x ∷ lanes) zero zero dir f among = absurd (none_in dir f among)
 in_flushed (x ∷ lanes) zero (suc k) dir f among = among
@@ -146,7 +147,7 @@ in_flushed (x ∷ lanes) (suc j) (suc k) dir f among = in_flushed lanes j k dir 
 
 -- ---- how many frames a lane holds
 
-short_changed : (g : List Frame → List Frame) → ((frames : List Frame) → length frames ≤ 1024 → length (g frames) ≤ 1024) → (lanes : List Lanes) (j : ℕ) (d : Dir) → AreShort lanes → AreShort (changed_at (changed_lane d g) lanes j)
+short_changed : (g : List Frame → List Frame) → ((frames : List Frame) → length frames ≤ 1024 → length (g frames) ≤ 1024) → (lanes : List LinkLanes) (j : ℕ) (d : Dir) → AreShort lanes → AreShort (changed_at (changed_lane d g) lanes j)
 short_changed g keeps lanes j d short k dir =
     elim (lane_changed g lanes j d k dir) [
       | inl here ↦ subst (λ (fs : List Frame). length fs ≤ 1024) (sym here.2) (keeps (lane_of lanes k dir) (short k dir))
@@ -182,20 +183,20 @@ doubled_by (Some x) k frames at short = doubled_at (has_room frames) x k frames 
 doubled_short : (k : ℕ) (frames : List Frame) → length frames ≤ 1024 → length (after_double frames k (slice_get frames k)) ≤ 1024
 doubled_short k frames short = doubled_by (slice_get frames k) k frames refl short
 
-pub short_rest : (lanes : List Lanes) (j : ℕ) (d : Dir) → AreShort lanes → AreShort (changed_at (changed_lane d rest) lanes j)
+pub short_rest : (lanes : List LinkLanes) (j : ℕ) (d : Dir) → AreShort lanes → AreShort (changed_at (changed_lane d rest) lanes j)
 short_rest lanes j d short = short_changed rest rest_short lanes j d short
 
-pub short_lost : (place : ℕ) (lanes : List Lanes) (j : ℕ) (d : Dir) → AreShort lanes → AreShort (changed_at (changed_lane d (λ frames. after_lose frames place)) lanes j)
+pub short_lost : (place : ℕ) (lanes : List LinkLanes) (j : ℕ) (d : Dir) → AreShort lanes → AreShort (changed_at (changed_lane d (λ frames. after_lose frames place)) lanes j)
 short_lost place lanes j d short = short_changed (λ frames. after_lose frames place) (lost_short place) lanes j d short
 
-pub short_doubled : (place : ℕ) (lanes : List Lanes) (j : ℕ) (d : Dir) → AreShort lanes → AreShort (changed_at (changed_lane d (λ frames. after_double frames place (slice_get frames place))) lanes j)
+pub short_doubled : (place : ℕ) (lanes : List LinkLanes) (j : ℕ) (d : Dir) → AreShort lanes → AreShort (changed_at (changed_lane d (λ frames. after_double frames place (slice_get frames place))) lanes j)
 short_doubled place lanes j d short = short_changed (λ frames. after_double frames place (slice_get frames place)) (doubled_short place) lanes j d short
 
 empty_lane : (dir : Dir) → length (lane_in dir no_frames) ≤ 1024
 empty_lane Ab = omega arith
 empty_lane Ba = omega arith
 
-pub short_flushed : (lanes : List Lanes) (j k : ℕ) (dir : Dir) → length (lane_of lanes k dir) ≤ 1024 → length (lane_of (changed_at (λ l. no_frames) lanes j) k dir) ≤ 1024
+pub short_flushed : (lanes : List LinkLanes) (j k : ℕ) (dir : Dir) → length (lane_of lanes k dir) ≤ 1024 → length (lane_of (changed_at (λ l. no_frames) lanes j) k dir) ≤ 1024
 short_flushed [] j k dir short = short
 short_flushed (x ∷ lanes) zero zero dir short = empty_lane dir
 short_flushed (x ∷ lanes) zero (suc k) dir short = short
@@ -211,7 +212,7 @@ pub record IsSentOver (links : List DeclaredLink) (i : ℕ) (fs : List (ℕ × L
   pub live : is_live links k ≡ true
   pub sent : IsSent fs port f
 
-pub world-sent_over : (s : State) (way : Option Way) (x : Frame) → (sent_over s way x).world ≡ s.world
+pub world-sent_over : (s : State) (way : Option LaneId) (x : Frame) → (sent_over s way x).world ≡ s.world
 world-sent_over s None x = refl
 world-sent_over s (Some way) x = by (is_live (links_of s) way.link)
   where
@@ -219,7 +220,7 @@ world-sent_over s (Some way) x = by (is_live (links_of s) way.link)
     by true = refl
     by false = refl
 
-pub views-sent_over : (s : State) (way : Option Way) (x : Frame) → (sent_over s way x).views ≡ s.views
+pub views-sent_over : (s : State) (way : Option LaneId) (x : Frame) → (sent_over s way x).views ≡ s.views
 views-sent_over s None x = refl
 views-sent_over s (Some way) x = by (is_live (links_of s) way.link)
   where
@@ -227,7 +228,7 @@ views-sent_over s (Some way) x = by (is_live (links_of s) way.link)
     by true = refl
     by false = refl
 
-in_sent_over : (s : State) (way : Option Way) (x : Frame) (k : ℕ) (dir : Dir) (f : Frame) → IsIn f (lane_of (sent_over s way x).lanes k dir) → IsIn f (lane_of s.lanes k dir) ⊎ ((way ≡ Some (record { link = k; dir = dir })) × (is_live (links_of s) k ≡ true) × (f ≡ x))
+in_sent_over : (s : State) (way : Option LaneId) (x : Frame) (k : ℕ) (dir : Dir) (f : Frame) → IsIn f (lane_of (sent_over s way x).lanes k dir) → IsIn f (lane_of s.lanes k dir) ⊎ ((way ≡ Some (record { link = k; dir = dir })) × (is_live (links_of s) k ≡ true) × (f ≡ x))
 in_sent_over s None x k dir f among = inl among
 in_sent_over s (Some way) x k dir f among = by (is_live (links_of s) way.link) refl among
   where
@@ -251,7 +252,7 @@ pub views-sent_all : (s : State) (i : ℕ) (fs : List (ℕ × List ℕ)) → (se
 views-sent_all s i [] = refl
 views-sent_all s i (x ∷ fs) = views-sent_all (sent_over s (way_out (links_of s) i x.0) x.1) i fs ∙ views-sent_over s (way_out (links_of s) i x.0) x.1
 
-short_sent_over : (s : State) (way : Option Way) (x : Frame) → AreShort s.lanes → AreShort (sent_over s way x).lanes
+short_sent_over : (s : State) (way : Option LaneId) (x : Frame) → AreShort s.lanes → AreShort (sent_over s way x).lanes
 short_sent_over s None x short = short
 short_sent_over s (Some way) x short = by (is_live (links_of s) way.link)
   where
@@ -266,7 +267,7 @@ short_sent_all s i (x ∷ fs) short = short_sent_all (sent_over s (way_out (link
 in_sent_all : (s : State) (i : ℕ) (fs : List (ℕ × List ℕ)) (k : ℕ) (dir : Dir) (f : Frame) → IsIn f (lane_of (sent_all s i fs).lanes k dir) → IsIn f (lane_of s.lanes k dir) ⊎ IsSentOver (links_of s) i fs k dir f
 in_sent_all s i [] k dir f among = inl among
 in_sent_all s i (x ∷ fs) k dir f among =
-    let way : Option Way = way_out (links_of s) i x.0 in
+    let way : Option LaneId = way_out (links_of s) i x.0 in
     let next : State = sent_over s way x.1 in
     elim (in_sent_all next i fs k dir f among) [
       | inl before ↦
@@ -332,7 +333,7 @@ goes_out s x i (Some v) k dir f at over = record {
 }
 
 -- something comes to a bridge after frames were lost or taken from lanes; a frame that comes stood in the lane towards it
-pub moves_stepped : (x : Input) (s : State) (lanes : List Lanes) (i : ℕ) → IsInput x → ((k : ℕ) (dir : Dir) (f : Frame) → IsIn f (lane_of lanes k dir) → IsIn f (lane_of s.lanes k dir)) → ((p : ℕ) (f : Frame) → x ≡ frame p f → Comes (links_of s) s.lanes i p f) → Moves (links_of s) (only i x) s.views (stepped x (record s { lanes = lanes }) i).views s.lanes (stepped x (record s { lanes = lanes }) i).lanes
+pub moves_stepped : (x : Input) (s : State) (lanes : List LinkLanes) (i : ℕ) → IsInput x → ((k : ℕ) (dir : Dir) (f : Frame) → IsIn f (lane_of lanes k dir) → IsIn f (lane_of s.lanes k dir)) → ((p : ℕ) (f : Frame) → x ≡ frame p f → Comes (links_of s) s.lanes i p f) → Moves (links_of s) (only i x) s.views (stepped x (record s { lanes = lanes }) i).views s.lanes (stepped x (record s { lanes = lanes }) i).lanes
 unfolding stepped
 moves_stepped x s lanes i is_input fewer comes = record {
   bridges = λ j. ap (λ (views : List BridgeView). slice_get views j) (views-sent_all next i fs) ∙ get-changed x s.views i j;
@@ -354,7 +355,7 @@ moves_stepped x s lanes i is_input fewer comes = record {
     frames k dir f (inl old) = inl (fewer k dir f old)
     frames k dir f (inr new) = inr (goes_out s x i (slice_get s.views i) k dir f refl new)
 
-world_stepped : (x : Input) (s : State) (lanes : List Lanes) (i : ℕ) → (stepped x (record s { lanes = lanes }) i).world ≡ s.world
+world_stepped : (x : Input) (s : State) (lanes : List LinkLanes) (i : ℕ) → (stepped x (record s { lanes = lanes }) i).world ≡ s.world
 unfolding stepped
 world_stepped x s lanes i = world-sent_all (record s { lanes = lanes; views = changed_at (step x) s.views i }) i (option_map_or (sent x) (slice_get s.views i) [])
 
@@ -362,14 +363,14 @@ short_stepped : (x : Input) (s : State) (i : ℕ) → AreShort s.lanes → AreSh
 unfolding stepped
 short_stepped x s i short = short_sent_all (record s { views = changed_at (step x) s.views i }) i (option_map_or (sent x) (slice_get s.views i) []) short
 
-pub core_stepped : (x : Input) (s : State) (lanes : List Lanes) (i : ℕ) → IsInput x → IsCore s → IsAlike s (record s { lanes = lanes }) → AreShort lanes → ((k : ℕ) (dir : Dir) (f : Frame) → IsIn f (lane_of lanes k dir) → IsIn f (lane_of s.lanes k dir)) → ((p : ℕ) (f : Frame) → x ≡ frame p f → Comes (links_of s) s.lanes i p f) → IsCore (stepped x (record s { lanes = lanes }) i)
+pub core_stepped : (x : Input) (s : State) (lanes : List LinkLanes) (i : ℕ) → IsInput x → IsCore s → IsAlike s (record s { lanes = lanes }) → AreShort lanes → ((k : ℕ) (dir : Dir) (f : Frame) → IsIn f (lane_of lanes k dir) → IsIn f (lane_of s.lanes k dir)) → ((p : ℕ) (f : Frame) → x ≡ frame p f → Comes (links_of s) s.lanes i p f) → IsCore (stepped x (record s { lanes = lanes }) i)
 core_stepped x s lanes i is_input core alike short fewer comes =
     let t : State = stepped x (record s { lanes = lanes }) i in
     sound_moves s t (only i x) core (world_stepped x s lanes i) (alike_then s (record s { lanes = lanes }) t alike (alike_stepped x (record s { lanes = lanes }) i)) (short_stepped x (record s { lanes = lanes }) i short) (moves_stepped x s lanes i is_input fewer comes)
 
 -- ---- frames go
 
-pub moves_fewer : (s : State) (lanes : List Lanes) → ((k : ℕ) (dir : Dir) (f : Frame) → IsIn f (lane_of lanes k dir) → IsIn f (lane_of s.lanes k dir)) → Moves (links_of s) (λ j. None) s.views s.views s.lanes lanes
+pub moves_fewer : (s : State) (lanes : List LinkLanes) → ((k : ℕ) (dir : Dir) (f : Frame) → IsIn f (lane_of lanes k dir) → IsIn f (lane_of s.lanes k dir)) → Moves (links_of s) (λ j. None) s.views s.views s.lanes lanes
 moves_fewer s lanes fewer = record {
   bridges = λ j. map-moved_none (slice_get s.views j);
   inputs = λ j. tt;
@@ -377,7 +378,7 @@ moves_fewer s lanes fewer = record {
   frames = λ k dir f among. inl (fewer k dir f among);
 }
 
-pub core_fewer : (s : State) (lanes : List Lanes) → IsCore s → IsAlike s (record s { lanes = lanes }) → AreShort lanes → ((k : ℕ) (dir : Dir) (f : Frame) → IsIn f (lane_of lanes k dir) → IsIn f (lane_of s.lanes k dir)) → IsCore (record s { lanes = lanes })
+pub core_fewer : (s : State) (lanes : List LinkLanes) → IsCore s → IsAlike s (record s { lanes = lanes }) → AreShort lanes → ((k : ℕ) (dir : Dir) (f : Frame) → IsIn f (lane_of lanes k dir) → IsIn f (lane_of s.lanes k dir)) → IsCore (record s { lanes = lanes })
 core_fewer s lanes core alike short fewer =
     sound_moves s (record s { lanes = lanes }) (λ j. None) core refl alike short (moves_fewer s lanes fewer)
 
@@ -419,7 +420,7 @@ same_far : (dir : Dir) (h l : DeclaredLink) → h.a ≡ l.a → h.b ≡ l.b → 
 same_far Ab h l a b = b
 same_far Ba h l a b = a
 
-agree_switched : (on : Bool) (ls : Links) (k : ℕ) (views : List BridgeView) (lanes : List Lanes) → AllAgree (things_of ls) views lanes → AllAgree (things_of (switched on ls k)) views lanes
+agree_switched : (on : Bool) (ls : Links) (k : ℕ) (views : List BridgeView) (lanes : List LinkLanes) → AllAgree (things_of ls) views lanes → AllAgree (things_of (switched on ls k)) views lanes
 agree_switched on ls k views lanes agree j dir l v w at at_v at_w =
     let was = switched_link on ls k j l at in
     let near : near_end dir was.link ≡ near_end dir l = same_near dir was.link l was.a was.b in
@@ -428,7 +429,7 @@ agree_switched on ls k views lanes agree j dir l v w at at_v at_w =
     (subst (λ (e : LinkEnd). Agrees v e.port w (far_end dir was.link).port (lane_of lanes j dir)) near
     (agree j dir was.link v w was.there (ap (λ (e : LinkEnd). slice_get views e.bridge) near ∙ at_v) (ap (λ (e : LinkEnd). slice_get views e.bridge) far ∙ at_w)))
 
-idle_switched : (on : Bool) (ls : Links) (k : ℕ) (lanes : List Lanes) → AreIdle (things_of ls) lanes → (on ≡ false → (dir : Dir) → lane_of lanes k dir ≡ []) → AreIdle (things_of (switched on ls k)) lanes
+idle_switched : (on : Bool) (ls : Links) (k : ℕ) (lanes : List LinkLanes) → AreIdle (things_of ls) lanes → (on ≡ false → (dir : Dir) → lane_of lanes k dir ≡ []) → AreIdle (things_of (switched on ls k)) lanes
 idle_switched on ls k lanes idle empty j dir dead =
     elim (live-switched on ls k j) [
       | inl here ↦ ap (λ (n : ℕ). lane_of lanes n dir) here.0 ∙ empty (sym here.1 ∙ dead) dir

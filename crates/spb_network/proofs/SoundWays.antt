@@ -7,7 +7,7 @@ use Rattle.spb_types.specs.declared.link.Dir.{Dir}
 use Rattle.spb_types.specs.declared.link.Dir.TheVariants.{Ab, Ba}
 use Rattle.spb_network.specs.declared.declaration.DeclaredLink.{DeclaredLink}
 use Rattle.spb_network.specs.declared.declaration.LinkEnd.{LinkEnd}
-use Rattle.spb_network.specs.declared.way.Way.{Way}
+use Rattle.link_model.specs.declared.lanes.LaneId.{LaneId}
 use Rattle.spb_network.specs.World.{is_at_port, AreApart, AllApart}
 use Rattle.spb_network.specs.State.{near_end, far_end, is_at, direction, way_from, way_out}
 use Rattle.spb_network.proofs.BoxLemmas.{All-get}
@@ -57,7 +57,7 @@ apart-near : (dir : Dir) (m l : DeclaredLink) → AreApart m l → is_at_port m 
 apart-near Ab m l apart = apart.port_a
 apart-near Ba m l apart = apart.port_b
 
-abbrev way_at : ℕ → Option Dir → Option Way
+abbrev way_at : ℕ → Option Dir → Option LaneId
 way_at k dir = option_map (λ d. record { link = k; dir = d }) dir
 
 way_of_end_from : (n : ℕ) (links : List DeclaredLink) (k m : ℕ) (l : DeclaredLink) (dir : Dir) → AllApart links → l.a.bridge ≢ l.b.bridge → slice_get links k ≡ Some l → m ≡ n + k → way_from n links (near_end dir l).bridge (near_end dir l).port ≡ Some (record { link = m; dir = dir })
@@ -86,30 +86,30 @@ pub record LeadsFrom (links : List DeclaredLink) (i p k : ℕ) (dir : Dir) : Typ
   pub bridge : (near_end dir link).bridge ≡ i
   pub port : (near_end dir link).port ≡ p
 
-record LeadsAt (n : ℕ) (links : List DeclaredLink) (i p : ℕ) (way : Way) : Type 0 where
+record LeadsAt (n : ℕ) (links : List DeclaredLink) (i p : ℕ) (way : LaneId) : Type 0 where
   place : ℕ
   number : way.link ≡ n + place
   leads : LeadsFrom links i p place way.dir
 
-leads_at : (n : ℕ) (h : DeclaredLink) (links : List DeclaredLink) (i p : ℕ) (way : Way) (a b : Bool) → is_at h.a i p ≡ a → is_at h.b i p ≡ b → (way_from (n + 1) links i p ≡ Some way → LeadsAt (n + 1) links i p way) → option_or (way_at n (if a then Some Ab else (if b then Some Ba else None))) (way_from (n + 1) links i p) ≡ Some way → LeadsAt n (h ∷ links) i p way
+leads_at : (n : ℕ) (h : DeclaredLink) (links : List DeclaredLink) (i p : ℕ) (way : LaneId) (a b : Bool) → is_at h.a i p ≡ a → is_at h.b i p ≡ b → (way_from (n + 1) links i p ≡ Some way → LeadsAt (n + 1) links i p way) → option_or (way_at n (if a then Some Ab else (if b then Some Ba else None))) (way_from (n + 1) links i p) ≡ Some way → LeadsAt n (h ∷ links) i p way
 leads_at n h links i p way true b at_a at_b rest is =
     let at = at_parts h.a i p at_a in
     let same : record { link = n; dir = Ab } ≡ way = some-is _ way is in
-    subst (λ (w : Way). LeadsAt n (h ∷ links) i p w) same (record { place = 0; number = omega arith; leads = record { link = h; there = refl; bridge = at.0; port = at.1 } })
+    subst (λ (w : LaneId). LeadsAt n (h ∷ links) i p w) same (record { place = 0; number = omega arith; leads = record { link = h; there = refl; bridge = at.0; port = at.1 } })
 leads_at n h links i p way false true at_a at_b rest is =
     let at = at_parts h.b i p at_b in
     let same : record { link = n; dir = Ba } ≡ way = some-is _ way is in
-    subst (λ (w : Way). LeadsAt n (h ∷ links) i p w) same (record { place = 0; number = omega arith; leads = record { link = h; there = refl; bridge = at.0; port = at.1 } })
+    subst (λ (w : LaneId). LeadsAt n (h ∷ links) i p w) same (record { place = 0; number = omega arith; leads = record { link = h; there = refl; bridge = at.0; port = at.1 } })
 leads_at n h links i p way false false at_a at_b rest is =
     let after = rest is in
     record { place = suc after.place; number = omega (arith, after.number); leads = record { link = after.leads.link; there = after.leads.there; bridge = after.leads.bridge; port = after.leads.port } }
 
-leads_from : (n : ℕ) (links : List DeclaredLink) (i p : ℕ) (way : Way) → way_from n links i p ≡ Some way → LeadsAt n links i p way
+leads_from : (n : ℕ) (links : List DeclaredLink) (i p : ℕ) (way : LaneId) → way_from n links i p ≡ Some way → LeadsAt n links i p way
 leads_from n [] i p way is = absurd cc
 leads_from n (h ∷ links) i p way is = leads_at n h links i p way (is_at h.a i p) (is_at h.b i p) refl refl (leads_from (n + 1) links i p way) is
 
 -- a way out of a port leads from there
-pub way_leads : (links : List DeclaredLink) (i p : ℕ) (way : Way) → way_out links i p ≡ Some way → LeadsFrom links i p way.link way.dir
+pub way_leads : (links : List DeclaredLink) (i p : ℕ) (way : LaneId) → way_out links i p ≡ Some way → LeadsFrom links i p way.link way.dir
 unfolding way_out
 way_leads links i p way is =
     let at = leads_from 0 links i p way is in

@@ -12,7 +12,8 @@ use Rattle.bridge_api.specs.Laws.{IsSoundView}
 use Rattle.spb_network.specs.declared.kind_rule.KindRule.TheVariants as rule
 use Rattle.spb_network.specs.Reason.{reason_unless}
 use Rattle.spb_network.specs.Declaring.{is_vid_range, is_new_name, is_new_system, is_new_source, is_bridge_range, is_free_port, is_link_range, is_unlinked, vid_refusal, bridge_refusal, link_refusal, plan_of, bridge_of, with_vid, with_bridge, with_link, with_live}
-use Rattle.spb_network.specs.State.{State, Spare, changed_at, next_box, way_out}
+use Rattle.spb_types.specs.Places.{changed_at}
+use Rattle.spb_network.specs.State.{State, Spare, next_box, way_out}
 use Rattle.spb_network.specs.Events.{sent_all, stepped, switched_on}
 use Rattle.spb_network.specs.Refusing.{declared_refusal, named_link_refusal, unnamed_refusal}
 use Rattle.spb_network.specs.Play.{config_of, with_vid_more, declared, linked, named_link, at_bridge, counted, next_state, played_all}

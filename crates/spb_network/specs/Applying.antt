@@ -8,7 +8,7 @@ use Rattle.spb_network.specs.declared.reason.ApplyError.{ApplyError}
 use Rattle.spb_network.specs.declared.reason.ApplyError.TheVariants as error
 use Rattle.spb_network.specs.declared.reason.Reason.{Reason}
 use Rattle.spb_types.specs.declared.link.Dir.{Dir}
-use Rattle.spb_network.specs.declared.way.Way.{Way}
+use Rattle.link_model.specs.declared.lanes.LaneId.{LaneId}
 use Rattle.spb_network.specs.World.{place_of}
 use Rattle.spb_network.specs.State.{State}
 use Rattle.spb_network.specs.Network.{state_of, AreMade}
@@ -48,7 +48,7 @@ answered answer (Ok done) = Ok answer
 answered answer (Err e) = Err e
 
 -- the way of a frame at a place of a lane of the link of a name, or why there is none
-abbrev pub IsWayTo : State → List ℕ → Dir → ℕ → Result Way Reason → Type 0
+abbrev pub IsWayTo : State → List ℕ → Dir → ℕ → Result LaneId Reason → Type 0
 IsWayTo s name dir place (Err reason) = frame_refusal s name dir place ≡ Some reason
 IsWayTo s name dir place (Ok way) = (frame_refusal s name dir place ≡ None) × (place_of name s.world.links ≡ Some way.link) × (way.dir ≡ dir)
 

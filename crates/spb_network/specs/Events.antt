@@ -9,14 +9,15 @@ use Rattle.bridge_api.specs.Step as comes
 use Rattle.bridge_api.specs.Step.{Input, step, sent}
 use Rattle.spb_network.specs.declared.declaration.DeclaredLink.{DeclaredLink}
 use Rattle.spb_network.specs.declared.declaration.LinkEnd.{LinkEnd}
-use Rattle.spb_network.specs.declared.lanes.Lanes.{Lanes}
-use Rattle.spb_network.specs.declared.way.Way.{Way}
-use Rattle.spb_network.specs.Lanes.{rest, no_frames}
+use Rattle.link_model.specs.declared.lanes.LinkLanes.{LinkLanes}
+use Rattle.link_model.specs.declared.lanes.LaneId.{LaneId}
+use Rattle.link_model.specs.Lanes.{rest, no_frames, first_full_from}
 use Rattle.spb_network.specs.Declaring.{end_on, with_live, with_end_metric}
-use Rattle.spb_network.specs.State.{State, changed_at, links_of, is_live, far_end, way_out, lane_at, with_frames}
+use Rattle.spb_types.specs.Places.{changed_at}
+use Rattle.spb_network.specs.State.{State, links_of, is_live, far_end, way_out, lane_at, with_frames}
 
 -- a frame goes into the lane of a way whose link is up; it is lost where there is no such way, and where the lane is full
-abbrev pub sent_over : State → Option Way → Frame → State
+abbrev pub sent_over : State → Option LaneId → Frame → State
 sent_over s None frame = s
 sent_over s (Some way) frame = if is_live (links_of s) way.link then with_frames (λ frames. pushed frames frame) s way.link way.dir else s
 
@@ -130,19 +131,7 @@ abbrev pub rounds : ℕ → State → State
 rounds zero s = s
 rounds (suc n) s = rounds n (one_round s)
 
--- the lane of the link at place k that isn't empty, if there is one, ab before ba
-abbrev pub full_in : ℕ → Lanes → Option Way
-full_in k lanes = if nat_lt 0 (length lanes.ab) then Some (record { link = k; dir = Ab }) else (if nat_lt 0 (length lanes.ba) then Some (record { link = k; dir = Ba }) else None)
-
-abbrev pub full_at : List Lanes → ℕ → Option Way
-full_at lanes k = option_and_then (full_in k) (slice_get lanes k)
-
--- the first lane that isn't empty, over the links from place k on
-abbrev pub first_full_from : ℕ → List Lanes → Option Way
-first_full_from k [] = None
-first_full_from k (lanes ∷ more) = option_or (full_in k lanes) (first_full_from (k + 1) more)
-
-abbrev pub delivered_over : State → Option Way → State
+abbrev pub delivered_over : State → Option LaneId → State
 delivered_over s None = s
 delivered_over s (Some way) = delivered s way.link way.dir
 

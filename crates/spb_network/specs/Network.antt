@@ -20,7 +20,7 @@ module _ {B : Type 0} (shown : B → Shown) where
     rack = map spare n.rack.items;
     world = n.world;
     views = views_of shown n.boxes.items;
-    lanes = n.lanes.items;
+    lanes = n.lanes;
     rounds = n.rounds;
     drained = n.drained;
     accepted = n.accepted;

@@ -18,7 +18,7 @@ use Rattle.spb_network.specs.declared.declaration.DeclaredBridge.{DeclaredBridge
 use Rattle.spb_network.specs.declared.declaration.DeclaredLink.{DeclaredLink}
 use Rattle.spb_network.specs.World.{World, place_of, wired_tables}
 use Rattle.spb_network.specs.Declaring.{plan_of, bridge_of, link_of, with_vid, with_bridge, with_link}
-use Rattle.spb_network.specs.Lanes.{no_frames}
+use Rattle.link_model.specs.Lanes.{no_frames}
 use Rattle.spb_network.specs.State.{State}
 use Rattle.spb_network.specs.Events.{ticked, delivered, lost, doubled, metered_over, remetered, switched_on, switched_off, rounds, drained}
 use Rattle.spb_network.specs.Refusing.{box_for}

@@ -22,9 +22,10 @@ use Rattle.bridge_api.specs.Laws.{IsSoundView, claims_said}
 use Rattle.spb_network.specs.declared.declaration.DeclaredBridge.{DeclaredBridge}
 use Rattle.spb_network.specs.declared.declaration.DeclaredLink.{DeclaredLink}
 use Rattle.spb_network.specs.declared.kind_rule.KindRule.{KindRule}
-use Rattle.spb_network.specs.declared.lanes.Lanes.{Lanes}
+use Rattle.link_model.specs.declared.lanes.LinkLanes.{LinkLanes}
 use Rattle.spb_network.specs.World.{World, names_of, things_of, attached_at, Sound}
-use Rattle.spb_network.specs.State.{State, Spare, links_of, is_live, near_end, far_end, way_out, lane_of}
+use Rattle.link_model.specs.Lanes.{lane_of}
+use Rattle.spb_network.specs.State.{State, Spare, links_of, is_live, near_end, far_end, way_out}
 use Rattle.spb_network.specs.Network.{Fits}
 
 -- ---- what is declared
@@ -100,15 +101,15 @@ pub record Agrees (v : BridgeView) (p : ℕ) (w : BridgeView) (q : ℕ) (frames 
   pub ready : (id : LspId) → is_up_at v p ≡ true → IsFollowed v p w id
 
 -- both directions of each link agree, whether it is up or not
-abbrev pub AllAgree : List DeclaredLink → List BridgeView → List Lanes → Type 0
+abbrev pub AllAgree : List DeclaredLink → List BridgeView → List LinkLanes → Type 0
 AllAgree links views lanes = (k : ℕ) (dir : Dir) (l : DeclaredLink) (v w : BridgeView) → slice_get links k ≡ Some l → slice_get views (near_end dir l).bridge ≡ Some v → slice_get views (far_end dir l).bridge ≡ Some w → Agrees v (near_end dir l).port w (far_end dir l).port (lane_of lanes k dir)
 
 -- no lane has more frames than it has room for
-abbrev pub AreShort : List Lanes → Type 0
+abbrev pub AreShort : List LinkLanes → Type 0
 AreShort lanes = (k : ℕ) (dir : Dir) → length (lane_of lanes k dir) ≤ 1024
 
 -- no frame is on its way over a link that is down
-abbrev pub AreIdle : List DeclaredLink → List Lanes → Type 0
+abbrev pub AreIdle : List DeclaredLink → List LinkLanes → Type 0
 AreIdle links lanes = (k : ℕ) (dir : Dir) → is_live links k ≡ false → lane_of lanes k dir ≡ []
 
 -- ---- the network

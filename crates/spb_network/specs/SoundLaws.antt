@@ -14,7 +14,8 @@ use Rattle.spb_types.specs.declared.link.Side.{Side}
 use Rattle.bridge_api.specs.Config.{IsMetric}
 use Rattle.bridge_api.specs.Judging.{greeting, judged}
 use Rattle.spb_network.specs.declared.kind_rule.KindRule.{KindRule}
-use Rattle.spb_network.specs.State.{State, Spare, links_of, is_live, lane_of}
+use Rattle.link_model.specs.Lanes.{lane_of}
+use Rattle.spb_network.specs.State.{State, Spare, links_of, is_live}
 use Rattle.spb_network.specs.Events.{ticked, delivered, lost, doubled, remetered, switched_off, switched_on, rounds, drained}
 use Rattle.spb_network.specs.Refusing.{refusal_of}
 use Rattle.spb_network.specs.Play.{next_state, played_all}

@@ -11,10 +11,10 @@ use Rattle.spb_network.specs.declared.kind_rule.KindRule.{KindRule}
 use Rattle.spb_network.specs.declared.kind_rule.KindRule.TheVariants as rule
 use Rattle.spb_network.specs.declared.declaration.DeclaredLink.{DeclaredLink}
 use Rattle.spb_network.specs.declared.declaration.LinkEnd.{LinkEnd}
-use Rattle.spb_network.specs.declared.lanes.Lanes.{Lanes}
-use Rattle.spb_network.specs.declared.way.Way.{Way}
+use Rattle.link_model.specs.declared.lanes.LinkLanes.{LinkLanes}
+use Rattle.link_model.specs.declared.lanes.LaneId.{LaneId}
 use Rattle.spb_network.specs.World.{World, things_of}
-use Rattle.spb_network.specs.Lanes.{lane_in, changed_lane}
+use Rattle.link_model.specs.Lanes.{lane_of, changed_frames}
 
 -- a box of the rack: its kind, and whether it is blank
 pub record Spare : Type 0 where
@@ -29,16 +29,10 @@ pub record State : Type 0 where
   pub rack : List Spare
   pub world : World
   pub views : List BridgeView
-  pub lanes : List Lanes
+  pub lanes : List LinkLanes
   pub rounds : ℕ
   pub drained : ℕ
   pub accepted : ℕ
-
--- the item at a place changed
-abbrev pub changed_at : {X : Type 0} → (X → X) → List X → ℕ → List X
-changed_at f [] i = []
-changed_at f (x ∷ xs) zero = f x ∷ xs
-changed_at f (x ∷ xs) (suc i) = x ∷ changed_at f xs i
 
 -- the links, in order of declaration
 abbrev pub links_of : State → List DeclaredLink
@@ -67,33 +61,30 @@ abbrev pub direction : DeclaredLink → ℕ → ℕ → Option Dir
 direction l i port = if is_at l.a i port then Some Ab else (if is_at l.b i port then Some Ba else None)
 
 -- the way that the link at place k makes out of a port, if it ends there
-abbrev pub way_of : ℕ → DeclaredLink → ℕ → ℕ → Option Way
+abbrev pub way_of : ℕ → DeclaredLink → ℕ → ℕ → Option LaneId
 way_of k l i port = option_map (λ dir. record { link = k; dir = dir }) (direction l i port)
 
 -- the way out of a port, over the links from place k on
-abbrev pub way_from : ℕ → List DeclaredLink → ℕ → ℕ → Option Way
+abbrev pub way_from : ℕ → List DeclaredLink → ℕ → ℕ → Option LaneId
 way_from k [] i port = None
 way_from k (l ∷ ls) i port = option_or (way_of k l i port) (way_from (k + 1) ls i port)
 
 -- the way out of a port of the bridge at place i, if a link ends there
-unfoldable pub way_out : List DeclaredLink → ℕ → ℕ → Option Way
+unfoldable pub way_out : List DeclaredLink → ℕ → ℕ → Option LaneId
 way_out links i port = way_from 0 links i port
 
 -- and if that link is up
-abbrev pub live_way : List DeclaredLink → Option Way → Option Way
+abbrev pub live_way : List DeclaredLink → Option LaneId → Option LaneId
 live_way links None = None
 live_way links (Some way) = if is_live links way.link then Some way else None
 
 -- the frames on their way in a direction of the link at place k
-abbrev pub lane_of : List Lanes → ℕ → Dir → List Frame
-lane_of lanes k dir = option_map_or (lane_in dir) (slice_get lanes k) []
-
 abbrev pub lane_at : State → ℕ → Dir → List Frame
 lane_at s k dir = lane_of s.lanes k dir
 
 -- the frames in that lane changed
 abbrev pub with_frames : (List Frame → List Frame) → State → ℕ → Dir → State
-with_frames f s k dir = record s { lanes = changed_at (changed_lane dir f) s.lanes k }
+with_frames f s k dir = record s { lanes = changed_frames f s.lanes k dir }
 
 -- the kind of box that the bridge at place i takes
 abbrev pub kind_at : KindRule → ℕ → Kind

@@ -5,7 +5,7 @@ ghost use Rattle.bridge_api.specs.Config.{IsMetric};
 ghost use Rattle.bridge_api.specs.Step as comes;
 ghost use Rattle.bridge_api.specs.Step.{sent, step, with_wire};
 ghost use Rattle.bridge_api.specs.Shown.{views_of};
-ghost use Rattle.spb_network.specs.State.{changed_at};
+ghost use Rattle.spb_types.specs.Places.{changed_at};
 ghost use Rattle.spb_network.specs.Play as play;
 ghost use Rattle.spb_network.specs.Network.{AreMade, IsPortAt};
 

@@ -7,8 +7,9 @@ ghost use Rattle.spb_network.specs.State.{links_of, way_out};
 ghost use Rattle.spb_network.specs.Events as event;
 ghost use Rattle.spb_network.specs.Network.{state_of, IsInOrder};
 
-use crate::{DeclaredLink, LinkEnd, NetworkOf, Way, boxes, ways, wires};
+use crate::{DeclaredLink, LinkEnd, NetworkOf, boxes, ways};
 use bridge_api::{Bridge, Outbox};
+use link_model::LaneId;
 use scenario::Side;
 use spb_types::{NoMemory, Seq};
 
@@ -22,7 +23,7 @@ impl<B: Bridge> NetworkOf<B> {
     {
         match self.world.live_way(i, port) {
             None => Ok(()),
-            Some(way) => wires::push(&mut self.lanes, way, frame),
+            Some(way) => self.lanes.push(way, frame),
         }
     }
 
@@ -159,27 +160,27 @@ impl<B: Bridge> NetworkOf<B> {
         ensures order { OnOk result (IsInOrder B.shown self.new) }
     {
         let link = self.world.link(place);
-        wires::flush(&mut self.lanes, place);
+        self.lanes.flush(place);
         self.world.set_live(place, false);
         self.carry_over(link, false)
     }
 
     /// The frame at the front of a lane is delivered. Nothing happens where there is none.
     #[tactic(auto, unfolding(crate::specs::Events::delivered))]
-    pub(crate) fn deliver(&mut self, way: Way) -> Result<(), NoMemory>
+    pub(crate) fn deliver(&mut self, way: LaneId) -> Result<(), NoMemory>
         requires { IsInOrder B.shown self.old }
         ensures state { OnOk result (state_of B.shown self.new
             ≡ event.delivered (state_of B.shown self.old) way.link way.dir) }
         ensures order { OnOk result (IsInOrder B.shown self.new) }
     {
-        match wires::pop(&mut self.lanes, way) {
+        match self.lanes.pop(way) {
             None => Ok(()),
             Some(frame) => self.hear_over(way, frame.as_slice()),
         }
     }
 
     /// A frame comes to the far end of a way.
-    fn hear_over(&mut self, way: Way, frame: &[u8]) -> Result<(), NoMemory>
+    fn hear_over(&mut self, way: LaneId, frame: &[u8]) -> Result<(), NoMemory>
         requires { IsInOrder B.shown self.old }
         ensures state { OnOk result (state_of B.shown self.new
             ≡ event.heard_over (state_of B.shown self.old) way.dir frame.now
@@ -193,22 +194,22 @@ impl<B: Bridge> NetworkOf<B> {
     }
 
     /// The frame at a place of a lane is lost. Nothing happens where there is none.
-    pub(crate) fn lose(&mut self, way: Way, place: usize)
+    pub(crate) fn lose(&mut self, way: LaneId, place: usize)
         requires { IsInOrder B.shown self.old }
         ensures state { state_of B.shown self.new
             ≡ event.lost (state_of B.shown self.old) way.link way.dir place }
         ensures order { IsInOrder B.shown self.new }
     {
-        wires::lose(&mut self.lanes, way, place);
+        self.lanes.lose(way, place);
     }
 
     /// The frame at a place of a lane is doubled. Nothing happens where there is none.
-    pub(crate) fn double(&mut self, way: Way, place: usize) -> Result<(), NoMemory>
+    pub(crate) fn double(&mut self, way: LaneId, place: usize) -> Result<(), NoMemory>
         requires { IsInOrder B.shown self.old }
         ensures state { OnOk result (state_of B.shown self.new
             ≡ event.doubled (state_of B.shown self.old) way.link way.dir place) }
         ensures order { OnOk result (IsInOrder B.shown self.new) }
     {
-        wires::double(&mut self.lanes, way, place)
+        self.lanes.double(way, place)
     }
 }

@@ -14,11 +14,9 @@
 pub use answer::{Answer, Out};
 pub use declaration::{DeclaredBridge, DeclaredLink, LinkEnd};
 pub use kind_rule::KindRule;
-pub use lanes::Lanes;
 pub use laws::{events_keep_sound, networks_are_sound, some_network_is_busy};
 pub use network::{Network, NetworkOf};
 pub use reason::{ApplyError, Reason};
-pub use way::Way;
 pub use world::World;
 
 mod answer;
@@ -29,7 +27,6 @@ mod events;
 mod graph;
 mod hints;
 mod kind_rule;
-mod lanes;
 mod laws;
 mod limits;
 mod network;
@@ -38,7 +35,5 @@ mod questions;
 mod rack;
 mod reason;
 mod rounds;
-mod way;
 mod ways;
-mod wires;
 mod world;

@@ -5,8 +5,9 @@ ghost use Rattle.spb_network.specs.Sound.{opening};
 ghost use Rattle.spb_network.specs.Network.{state_of, spare, AreMade};
 ghost use Rattle.spb_network.specs.Applying.{Answers, Applies, IsReady};
 
-use crate::{Answer, ApplyError, KindRule, Lanes, World, check};
+use crate::{Answer, ApplyError, KindRule, World, check};
 use bridge_api::Bridge;
+use link_model::Lanes;
 use scenario::Command;
 use std::alloc::Global;
 
@@ -21,7 +22,7 @@ pub struct NetworkOf<B> {
     pub(crate) rack: Vec<B>,
     pub(crate) boxes: Vec<B>,
     pub(crate) world: World,
-    pub(crate) lanes: Vec<Lanes>,
+    pub(crate) lanes: Lanes,
     pub(crate) rounds: u32,
     pub(crate) drained: u32,
     pub(crate) accepted: u64,
@@ -45,7 +46,7 @@ impl<B: Bridge> NetworkOf<B> {
             rack,
             boxes: Vec::new(alloc),
             world: World::new(alloc),
-            lanes: Vec::new(alloc),
+            lanes: Lanes::new(alloc),
             rounds: 0,
             drained: 0,
             accepted: 0,

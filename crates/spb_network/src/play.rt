@@ -10,8 +10,9 @@ ghost use Rattle.spb_network.specs.Applying.{Answers, Happens, IsWayTo, answered
 
 use crate::limits::METRIC;
 use crate::rack::{kind_at, next_box};
-use crate::{Answer, ApplyError, Lanes, NetworkOf, Reason, Way, wires};
+use crate::{Answer, ApplyError, NetworkOf, Reason};
 use bridge_api::Bridge;
+use link_model::LaneId;
 use scenario::{Command, Dir, Side};
 use spb_types::{BridgeId, Mac, Name, NoMemory, Seq, SourceId, SystemId};
 use std::alloc::Global;
@@ -116,9 +117,9 @@ impl<B: Bridge> NetworkOf<B> {
             ≡ play.linked (state_of B.shown self.old) name (declare.link_of i port_a j port_b cost)) }
         ensures made { OnOk result (AreMade B.shown self.new.boxes.items) }
     {
-        let place = self.lanes.len();
+        let place = self.lanes.links();
         let link = self.world.declare_link(name, i, port_a, j, port_b, cost)?;
-        self.lanes.push(Lanes::new(self.alloc))?;
+        self.lanes.add_link()?;
         self.meter_over(link)?;
         self.switch_on(place)
     }
@@ -230,14 +231,14 @@ impl<B: Bridge> NetworkOf<B> {
 
     /// The way of a frame at a place of a lane. Refused where there is no such link, or no such frame.
     #[tactic(auto, unfolding(crate::specs::Refusing::frame_refusal, crate::specs::Reason::reason_unless))]
-    fn way_to(&self, name: Name, dir: Dir, place: u64) -> Result<Way, Reason>
+    fn way_to(&self, name: Name, dir: Dir, place: u64) -> Result<LaneId, Reason>
         ensures { IsWayTo (state_of B.shown self.now) name dir place result }
     {
         let Some(link) = self.world.link_place(name) else {
             return Err(Reason::NoSuchName);
         };
-        let way = Way { link, dir };
-        if place < wires::len(&self.lanes, way) as u64 {
+        let way = LaneId { link, dir };
+        if place < self.lanes.frames(way) as u64 {
             Ok(way)
         } else {
             Err(Reason::NoFrame)

@@ -3,37 +3,11 @@ ghost use Rattle.std.specs.Prelude.{◌≡◌, OnOk};
 ghost use Rattle.spb_network.specs.Events as event;
 ghost use Rattle.spb_network.specs.Network.{state_of, IsInOrder};
 
-use crate::{Lanes, NetworkOf, Way, wires};
+use crate::NetworkOf;
 use bridge_api::Bridge;
+use link_model::LaneId;
 use scenario::Dir;
 use spb_types::NoMemory;
-
-/// The first lane that isn't empty, ab before ba. None exactly where all are empty.
-fn first_full(lanes: &[Lanes]) -> Option<Way>
-    ensures { result ≡ event.first_full_from 0 lanes.now }
-{
-    for place in 0..lanes.len() {
-        if let Some(way) = full_at(lanes, place) {
-            return Some(way);
-        }
-    }
-    None
-}
-
-/// The lane of the link at a place that isn't empty, ab before ba. None exactly where both are empty.
-fn full_at(lanes: &[Lanes], link: usize) -> Option<Way>
-    ensures { result ≡ event.full_at lanes.now link }
-{
-    let ab = Way { link, dir: Dir::Ab };
-    if wires::len(lanes, ab) > 0 {
-        return Some(ab);
-    }
-    let ba = Way { link, dir: Dir::Ba };
-    if wires::len(lanes, ba) > 0 {
-        return Some(ba);
-    }
-    None
-}
 
 impl<B: Bridge> NetworkOf<B> {
     /// Every bridge ticks, in order of declaration.
@@ -51,13 +25,13 @@ impl<B: Bridge> NetworkOf<B> {
 
     /// As many frames of a lane are delivered as it holds.
     #[tactic(auto, unfolding(crate::specs::Events::lane_served))]
-    fn serve_lane(&mut self, way: Way) -> Result<(), NoMemory>
+    fn serve_lane(&mut self, way: LaneId) -> Result<(), NoMemory>
         requires { IsInOrder B.shown self.old }
         ensures state { OnOk result (state_of B.shown self.new
             ≡ event.lane_served (state_of B.shown self.old) way.link way.dir) }
         ensures order { OnOk result (IsInOrder B.shown self.new) }
     {
-        for _ in 0..wires::len(&self.lanes, way) {
+        for _ in 0..self.lanes.frames(way) {
             self.deliver(way)?;
         }
         Ok(())
@@ -70,8 +44,8 @@ impl<B: Bridge> NetworkOf<B> {
             ≡ event.link_served (state_of B.shown self.old) link) }
         ensures order { OnOk result (IsInOrder B.shown self.new) }
     {
-        self.serve_lane(Way { link, dir: Dir::Ab })?;
-        self.serve_lane(Way { link, dir: Dir::Ba })
+        self.serve_lane(LaneId { link, dir: Dir::Ab })?;
+        self.serve_lane(LaneId { link, dir: Dir::Ba })
     }
 
     /// Every link is served, in order of declaration.
@@ -81,7 +55,7 @@ impl<B: Bridge> NetworkOf<B> {
             ≡ event.all_served (state_of B.shown self.old)) }
         ensures order { OnOk result (IsInOrder B.shown self.new) }
     {
-        for link in 0..self.lanes.len() {
+        for link in 0..self.lanes.links() {
             self.serve_link(link)?;
         }
         Ok(())
@@ -120,7 +94,7 @@ impl<B: Bridge> NetworkOf<B> {
         ensures order { OnOk result (IsInOrder B.shown self.new) }
     {
         for _ in 0..n {
-            let Some(way) = first_full(&self.lanes) else {
+            let Some(way) = self.lanes.first_full() else {
                 return Ok(());
             };
             self.deliver(way)?;

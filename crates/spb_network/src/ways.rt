@@ -5,8 +5,9 @@ ghost use Rattle.spb_network.specs.World.{things_of};
 ghost use Rattle.spb_network.specs.Declaring as declare;
 ghost use Rattle.spb_network.specs.State as state;
 
-use crate::{DeclaredLink, LinkEnd, Way};
+use crate::{DeclaredLink, LinkEnd};
 use indexmap::IndexMap;
+use link_model::LaneId;
 use scenario::{Dir, Side};
 use spb_types::Name;
 
@@ -31,11 +32,11 @@ fn direction(link: &DeclaredLink, bridge: usize, port: u8) -> Option<Dir>
 }
 
 /// The way that a link, which stands at a place, makes out of a port. None exactly where it doesn't end there.
-pub fn way_of(place: usize, link: &DeclaredLink, bridge: usize, port: u8) -> Option<Way>
+pub fn way_of(place: usize, link: &DeclaredLink, bridge: usize, port: u8) -> Option<LaneId>
     ensures { result ≡ state.way_of place link.now bridge port }
 {
     let dir = direction(link, bridge, port)?;
-    Some(Way { link: place, dir })
+    Some(LaneId { link: place, dir })
 }
 
 /// The way that the link at a place makes out of a port. None exactly where it makes none.
@@ -45,7 +46,7 @@ fn way_at(
     place: usize,
     bridge: usize,
     port: u8,
-) -> Option<Way>
+) -> Option<LaneId>
     ensures { result ≡ option_and_then (λ l. state.way_of place l bridge port) (slice_get (things_of links.now.entries) place) }
 {
     let (_, link) = links.get_index(place)?;
@@ -64,7 +65,7 @@ pub fn far_end(link: DeclaredLink, dir: Dir) -> LinkEnd
 
 /// The way out of a port. None exactly where no link ends there.
 #[tactic(auto, unfolding(crate::specs::State::way_out))]
-pub fn way_out(links: &IndexMap<Name, DeclaredLink>, bridge: usize, port: u8) -> Option<Way>
+pub fn way_out(links: &IndexMap<Name, DeclaredLink>, bridge: usize, port: u8) -> Option<LaneId>
     ensures { result ≡ state.way_out (things_of links.now.entries) bridge port }
 {
     for place in 0..links.len() {

@@ -5,10 +5,11 @@ use crate::graph::{graph_bridges, graph_edges, system_at};
 use crate::hints::Hints;
 use crate::limits::{BRIDGES, LINKS};
 use crate::reason::reason_unless;
-use crate::{DeclaredBridge, DeclaredLink, LinkEnd, Reason, Way, check, ways};
+use crate::{DeclaredBridge, DeclaredLink, LinkEnd, Reason, check, ways};
 use bridge_api::BridgeConfig;
 use fdb_build::tables_of;
 use indexmap::IndexMap;
+use link_model::LaneId;
 use scenario::Side;
 use spb_types::{
     BridgeId, Graph, GraphBridge, Mac, Name, NoMemory, Seq, SourceId, SystemId, Tables, Vid,
@@ -104,7 +105,7 @@ impl World {
     }
 
     /// The way that the hint of a port gives, where that link ends there.
-    fn hinted_way(&self, bridge: usize, port: u8) -> Option<Way>
+    fn hinted_way(&self, bridge: usize, port: u8) -> Option<LaneId>
         ensures { IfSome result (λ way. way_out (things_of self.now.links) bridge port ≡ Some way) }
     {
         let place = self.hints.link_at(bridge, port);
@@ -115,7 +116,7 @@ impl World {
     }
 
     /// The way out of a port of the bridge at a place, over a link that is up. None exactly where there is none.
-    pub fn live_way(&self, bridge: usize, port: u8) -> Option<Way>
+    pub fn live_way(&self, bridge: usize, port: u8) -> Option<LaneId>
         ensures { result ≡ live_way (things_of self.now.links) (way_out (things_of self.now.links) bridge port) }
     {
         let way = match self.hinted_way(bridge, port) {

@@ -1,6 +1,6 @@
 use Rattle.std.proofs.Common.{◌≡◌, ap, sym, subst, ◌∙◌, None, slice_get}
 use Rattle.std.specs.Option.{option_map}
-use Rattle.spb_network.specs.Lanes.{rest}
+use Rattle.link_model.specs.Lanes.{rest}
 use Rattle.spb_network.specs.State.{State, lane_at}
 use Rattle.spb_network.specs.Events.{delivered, delivered_front}
 use Rattle.spb_network.specs.Network.{state_of, Fits}
