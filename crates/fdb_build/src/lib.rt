@@ -8,3 +8,5 @@ pub use tables::tables_of;
 
 pub mod laws;
 mod tables;
+#[cfg(test)]
+mod tests;
