@@ -87,4 +87,5 @@ pub record IsWhole (list : Contents) (g : Graph) : Type 0 where
   pub ports : (x y : SystemId) → port_between g x y ≡ port_said list x y
 
 abbrev pub SaidGraphIsWhole : Type 0
-SaidGraphIsWhole = (list : Contents) → IsDistinct (systems_in list) → length list ≤ 65535 → IsWhole list (said_graph list)
+SaidGraphIsWhole = (list : Contents)
+    → IsDistinct (systems_in list) → length list ≤ 65535 → IsWhole list (said_graph list)
