@@ -15,4 +15,5 @@ pub mod Masked
 pub mod Steps
 pub mod Joining
 pub mod Reached
+pub mod Cut
 pub mod Alike

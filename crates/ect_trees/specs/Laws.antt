@@ -133,6 +133,20 @@ pub record IsPartOf (whole : Graph) (me : SystemId) (g : Graph) : Type 0 where
 abbrev pub PartLooksAlike : Type 0
 PartLooksAlike = (whole g : Graph) (me : SystemId) → IsPartOf whole me g → LookAlike whole g me
 
+-- a bridge joined to another, which reaches that and no third one
+pub record IsCut (whole : Graph) (me : SystemId) (g : Graph) : Type 0 where
+  pub valid : IsValid whole
+  pub part : IsPartOf whole me g
+  pub next : SystemId
+  pub joined : IsSome (cost_between g me next)
+  pub other : GraphBridge
+  pub there : Contains whole.bridges other
+  pub missing : Contains g.bridges other → ⊥
+
+-- there is such a part of a graph
+abbrev pub SomeGraphIsCut : Type 0
+SomeGraphIsCut = (whole : Graph) × (me : SystemId) × (g : Graph) × IsCut whole me g
+
 -- graphs that are alike have the same costs and ports
 abbrev pub AlikeHaveSamePorts : Type 0
 AlikeHaveSamePorts = (g h : Graph) (x y : SystemId) → IsValid g → IsValid h → AreAlike g h

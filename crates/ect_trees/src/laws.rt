@@ -1,5 +1,5 @@
 //! The laws of keys and of best paths. Each is the contract of a function that does nothing.
-ghost use Rattle.ect_trees.specs.Laws.{AreKeysOrdered, KeepsOrder, NoTieIsLeast, BestIsUnique, BestExists, BestOfNone, BestOfSome, BestToItself, BestReversed, FrontIsBest, BackIsBest, OrderSaysNothing, AlikeHaveSamePorts, LookAlikeFromEach, LooksBack, LooksOn, SameBest, PartLooksAlike};
+ghost use Rattle.ect_trees.specs.Laws.{AreKeysOrdered, KeepsOrder, NoTieIsLeast, BestIsUnique, BestExists, BestOfNone, BestOfSome, BestToItself, BestReversed, FrontIsBest, BackIsBest, OrderSaysNothing, AlikeHaveSamePorts, LookAlikeFromEach, LooksBack, LooksOn, SameBest, PartLooksAlike, SomeGraphIsCut};
 
 /// Keys are totally ordered, and only equal keys tie.
 pub fn keys_are_ordered()
@@ -70,7 +70,8 @@ pub fn best_is_seen_alike()
     ensures { SameBest }
 {}
 
-/// A graph looks like the part of it that a bridge reaches, seen from that bridge.
+/// A graph looks like the part of it that a bridge reaches, seen from that bridge. Some graph has a smaller part.
 pub fn part_looks_alike()
-    ensures { PartLooksAlike }
+    ensures look { PartLooksAlike }
+    ensures some { SomeGraphIsCut }
 {}

@@ -6,7 +6,7 @@ use Rattle.spb_types.specs.Graph.{IsAmong, IsDistinct}
 use Rattle.spb_types.specs.declared.address.SystemId.{SystemId}
 use Rattle.spb_content.specs.declared.content.Content.{Content}
 use Rattle.spb_content.specs.Graph.{Contents, systems_in, said_of}
-use Rattle.spb_content.specs.Laws.{SaidGraphIsWhole}
+use Rattle.spb_content.specs.Laws.{SaidGraphHasAllLinks}
 use Rattle.spb_content.proofs.Members.{Has, has_filter, filter_has}
 use Rattle.spb_content.proofs.Places.{test}
 use Rattle.spb_content.proofs.Links.{same_self, ends_said, some_is}
@@ -79,8 +79,8 @@ all_chosen list apart = record {
   few = filter_few list;
 }
 
-pub said_graph_is_whole : SaidGraphIsWhole
-said_graph_is_whole list apart few =
+pub said_graph_has_all_links : SaidGraphHasAllLinks
+said_graph_has_all_links list apart few =
     let h = all_chosen list apart in
     let es = are_edges list (IsSaid list) _ h in
     record {

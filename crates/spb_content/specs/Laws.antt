@@ -80,11 +80,12 @@ OwnFits = (l : Local) → IsLocal l → HasFields l → AreConfigured l → leng
 
 -- the graph of all that is said: it is valid, also for each bridge that lists its neighbours at ports of their own, and
 -- its costs and ports are those that are said
-pub record IsWhole (list : Contents) (g : Graph) : Type 0 where
+pub record HasAllLinks (list : Contents) (g : Graph) : Type 0 where
   pub valid : IsValid g
   pub valid_for : (x : SystemId) → HasOwnPorts list x → IsValidFor g x
   pub costs : (x y : SystemId) → cost_between g x y ≡ cost_said list x y
   pub ports : (x y : SystemId) → port_between g x y ≡ port_said list x y
 
-abbrev pub SaidGraphIsWhole : Type 0
-SaidGraphIsWhole = (list : Contents) → IsDistinct (systems_in list) → length list ≤ 65535 → IsWhole list (said_graph list)
+abbrev pub SaidGraphHasAllLinks : Type 0
+SaidGraphHasAllLinks = (list : Contents)
+    → IsDistinct (systems_in list) → length list ≤ 65535 → HasAllLinks list (said_graph list)

@@ -1,5 +1,5 @@
 //! The laws of what is written and read, and of the graph of all that is said. Each is the contract of a function that does nothing.
-ghost use Rattle.spb_content.specs.Laws.{ReadAgain, SameIsWritten, WrittenIsSame, OrderSaysNothing, TreesAscend, VidsAscend, IsidsAscend, OwnFits, SaidGraphIsWhole};
+ghost use Rattle.spb_content.specs.Laws.{ReadAgain, SameIsWritten, WrittenIsSame, OrderSaysNothing, TreesAscend, VidsAscend, IsidsAscend, OwnFits, SaidGraphHasAllLinks};
 
 /// What is written is read as what the bridge says.
 pub fn content_again()
@@ -30,6 +30,6 @@ pub fn content_fits()
 {}
 
 /// The graph of all that is said, reached or not, is valid, and has the costs and ports that are said.
-pub fn said_graph_is_whole()
-    ensures { SaidGraphIsWhole }
+pub fn said_graph_has_all_links()
+    ensures { SaidGraphHasAllLinks }
 {}
