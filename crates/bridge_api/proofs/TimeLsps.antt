@@ -77,7 +77,7 @@ module _ (x y : Option Entry) (same : but_for_ssn x ≡ but_for_ssn y) where
   pub aged_same : (old : Option Entry) → AgedFrom old y → AgedFrom old x
   aged_same old (stays version body most least) =
       stays (version_same ∙ version) (body_same ∙ body) (omega (arith, lifetime_same, most)) (omega (arith, lifetime_same, least))
-  aged_same old (died version last) = died (version_same ∙ version) last
+  aged_same old (died live last version body) = died live last (version_same ∙ version) (body_same ∙ body)
 
 -- ---- an entry a second later
 
@@ -136,7 +136,7 @@ module _ (up : PortSet) (ps : List ℕ) where
             stays lasts.version lasts.body (omega (arith, lasts.lifetime, more)) (omega (arith, lasts.lifetime, more))
         | inr last ↦
             let dead : IsDead seq up (Some (older up ps e)) = older_dies (Some e) seq sum is last in
-            died (dead.version ∙ ap (λ (a : Version). Dead (number_of a)) (sym is)) last
+            died (ap is_live is) last (dead.version ∙ ap (λ (a : Version). Dead (number_of a)) (sym is)) dead.body
       ]
 
   older_by : (e : Entry) (a : Version) → e.version ≡ a → AgedFrom (Some e) (Some (older up ps e))

@@ -1,4 +1,4 @@
--- What time alone makes of a bridge: of its neighbours, of the LSPs that it holds, and of its own LSP.
+-- What time makes of a bridge: of its neighbours, of the LSPs that it holds, and of its own LSP.
 use Rattle.std.specs.Prelude.{◌≡◌, ◌≢◌, ◌⊎◌, ℕ, zero, suc, ◌+◌, ◌*◌, ◌≤◌, ◌<◌, true, false, ⊤}
 use Rattle.std.specs.Prelude.{List, [], ◌∷◌, Option, Some, None}
 use Rattle.std.specs.List.{AllByRecursion}
@@ -79,11 +79,12 @@ pub record KeepsSomebody : Type 0 where
 -- ---- LSPs
 
 -- what stands under an id a second later: the same version and body, with a lifetime that is at most one lower; or, of
--- an LSP in its last second, one that is dead at its number
+-- a live LSP in its last second, one that is dead at its number, its body cut to the flags octet
 pub data AgedFrom (old new : Option Entry) : Type 0 where
   stays : version_in new ≡ version_in old → body_in new ≡ body_in old
       → lifetime_in new ≤ lifetime_in old → lifetime_in old ≤ lifetime_in new + 1 → AgedFrom old new
-  dies : version_in new ≡ Dead (number_of (version_in old)) → lifetime_in old ≤ 1 → AgedFrom old new
+  dies : is_live (version_in old) ≡ true → lifetime_in old ≤ 1
+      → version_in new ≡ Dead (number_of (version_in old)) → body_in new ≡ 1 ∷ [] → AgedFrom old new
 
 -- so it is under each id but the own one
 abbrev pub SecondsAge : Type 0
