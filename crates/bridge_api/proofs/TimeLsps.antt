@@ -66,7 +66,7 @@ module _ (x y : Option Entry) (same : but_for_ssn x ≡ but_for_ssn y) where
     lifetime = lifetime_same ∙ lasts.lifetime;
   }
 
-  dead_same : (seq : ℕ) (up : PortSet) → IsDead seq up y → IsDead seq up x
+  pub dead_same : (seq : ℕ) (up : PortSet) → IsDead seq up y → IsDead seq up x
   dead_same seq up dead = record {
     version = version_same ∙ dead.version;
     lifetime = lifetime_same ∙ dead.lifetime;
@@ -74,10 +74,10 @@ module _ (x y : Option Entry) (same : but_for_ssn x ≡ but_for_ssn y) where
     srm = srm_same ∙ dead.srm;
   }
 
-  aged_same : (old : Option Entry) → AgedFrom old y → AgedFrom old x
+  pub aged_same : (old : Option Entry) → AgedFrom old y → AgedFrom old x
   aged_same old (stays version body most least) =
       stays (version_same ∙ version) (body_same ∙ body) (omega (arith, lifetime_same, most)) (omega (arith, lifetime_same, least))
-  aged_same old (died version last) = died (version_same ∙ version) last
+  aged_same old (died live last version body) = died live last (version_same ∙ version) (body_same ∙ body)
 
 -- ---- an entry a second later
 
@@ -136,7 +136,7 @@ module _ (up : PortSet) (ps : List ℕ) where
             stays lasts.version lasts.body (omega (arith, lasts.lifetime, more)) (omega (arith, lasts.lifetime, more))
         | inr last ↦
             let dead : IsDead seq up (Some (older up ps e)) = older_dies (Some e) seq sum is last in
-            died (dead.version ∙ ap (λ (a : Version). Dead (number_of a)) (sym is)) last
+            died (ap is_live is) last (dead.version ∙ ap (λ (a : Version). Dead (number_of a)) (sym is)) dead.body
       ]
 
   older_by : (e : Entry) (a : Version) → e.version ≡ a → AgedFrom (Some e) (Some (older up ps e))
@@ -144,7 +144,7 @@ module _ (up : PortSet) (ps : List ℕ) where
   older_by e (Live seq sum) is = older_live e seq sum is
   older_by e (Dead seq) is = older_stands e (ap is_live is)
 
-  older_ages : (o : Option Entry) → AgedFrom o (option_map (older up ps) o)
+  pub older_ages : (o : Option Entry) → AgedFrom o (option_map (older up ps) o)
   older_ages None = stays refl refl (omega arith) (omega arith)
   older_ages (Some e) = older_by e e.version refl
 

@@ -1,10 +1,10 @@
 -- What seconds make of the own LSP: it stands still while it says what the bridge has to say and isn't old, and else is
 -- originated anew.
 use Rattle.std.proofs.Common.{◌≡◌, ◌≢◌, ◌⊎◌, inl, inr, ℕ, zero, suc, ◌+◌, ◌-◌, ◌*◌, ◌≤◌, ◌<◌, Bool, true, false, List, [], ◌∷◌, map, refl, sym, ap, ◌∙◌, subst, Option, Some, None, arith}
-use Rattle.std.specs.Prelude.{◌&&◌, ◌||◌, not, nat_le, slice_get, if◌then◌else◌}
+use Rattle.std.specs.Prelude.{nat_lt, ◌&&◌, ◌||◌, not, nat_le, slice_get, if◌then◌else◌}
 use Rattle.std.specs.Option.{option_map, option_and_then}
 use Rattle.std.specs.FinMap.{get, empty, get-empty}
-use Rattle.std.proofs.lemmas.Bool.{le-leb, lt-leb, lt-ltb}
+use Rattle.std.proofs.lemmas.Bool.{le-leb, lt-leb, lt-ltb, le-ltb}
 use Rattle.std.proofs.lemmas.Slice.Eq.{bytes_eq-Decides}
 use Rattle.spb_types.specs.declared.address.LspId.{LspId}
 use Rattle.spb_types.specs.declared.ports.PortSet.{PortSet}
@@ -21,7 +21,7 @@ use Rattle.lsdb.proofs.LookupLemmas.{get-each}
 use Rattle.flooding.specs.declared.own.Own.{Own}
 use Rattle.flooding.specs.Own.{last_number, own_id, renewed}
 use Rattle.flooding.specs.Hearing.{Holding}
-use Rattle.flooding.specs.Origination.{spent_entry}
+use Rattle.flooding.specs.Origination.{spent_entry, originated_from, originated}
 use Rattle.flooding.proofs.Owns.{originated_stands, origination_is_not_spent}
 use Rattle.snp_sync.specs.Line.{is_owed}
 use Rattle.snp_sync.specs.Sending.{settled as told_entry, all_settled}
@@ -36,7 +36,7 @@ use Rattle.bridge_api.specs.Duties.{but_for_ssn}
 use Rattle.bridge_api.specs.Ticking.{later, leaving_from, counted, expired, is_old, refreshed, readied, told_at, told_from}
 use Rattle.bridge_api.specs.Step.{second, step}
 use Rattle.bridge_api.specs.Laws.{IsSoundView}
-use Rattle.bridge_api.specs.Time.{seconds, IsLasting, own_number, StandsStill, IsRenewed, SecondsStandStill, SecondsRenew, SaysTheSame, OwnLspLasts, OwnLspIsRenewed, IsAlone, AloneStaysAlone, IsAtNumber, EveryNineHundred}
+use Rattle.bridge_api.specs.Time.{seconds, AgedFrom, IsLasting, IsDead, own_number, StandsStill, IsRenewed, SecondsStandStill, SecondsRenew, IsSpent, SecondsSpend, SpentStandsStill, SaysTheSame, OwnLspLasts, OwnLspIsRenewed, IsAlone, AloneStaysAlone, IsAtNumber, EveryNineHundred}
 use Rattle.bridge_api.proofs.Adjacent.{second_up, up_keeps}
 use Rattle.bridge_api.proofs.Certified.{steps_keep_bridge}
 use Rattle.bridge_api.proofs.Changes.{with_parts, ticked, tick_is, tick_ports, tick_port, tick_rest, when_true, when_false}
@@ -47,7 +47,7 @@ use Rattle.bridge_api.proofs.Sound.{configured_is_sound}
 use Rattle.bridge_api.proofs.SoundPorts.{configured_is_dark}
 use Rattle.bridge_api.proofs.TendedSteps.{undue_neighbours}
 use Rattle.bridge_api.proofs.Time.{no_seconds, next_second, seconds_add, seconds_sound}
-use Rattle.bridge_api.proofs.TimeLsps.{older_lasts, up_second, expired_holds, second_holds, lasting_same, lasting_on}
+use Rattle.bridge_api.proofs.TimeLsps.{older_lasts, older_ages, up_second, expired_holds, second_holds, lasting_same, dead_same, aged_same, lasting_on}
 
 -- ---- what the bridge has to say after a second
 
@@ -236,6 +236,59 @@ seconds_renew v was fresh below why =
     let left : ℕ = lifetime_in (own_entry v) - 1 in
     let count : lifetime_in (own_entry v) ≡ left + 1 = omega (arith, alive.1) in
     renewing v left was fresh below count (why_less v left count why)
+
+-- ---- the last number
+
+originating_spends : (w : BridgeView) → w.spent ≡ false → is_live (version_in (own_entry w)) ≡ true → last_number ≤ own_number w
+    → (own_entry (originating w) ≡ Some (spent_entry (up_ports w) (own_number w) (own_entry w))) × ((originating w).spent ≡ true)
+unfolding originated
+originating_spends w fresh live past =
+    let up : PortSet = up_ports w in
+    let h : Holding = holding_of w in
+    let there : fits w.database (own_id w.id.system) ≡ true = fits_own w (present_by (version_in (own_entry w)) live) in
+    let last : nat_lt (own_number w) last_number ≡ false = le-ltb (own_number w) last_number past in (
+      originated_stands up h fresh there ∙ ap (λ b. Some (if b then renewed up h.own (own_number w + 1) else spent_entry up (own_number w) (own_entry w))) last,
+      ap (λ b. (if b then h else originated_from up (own_entry w) h).own.spent) fresh ∙ ap (λ b. (if b then h.own else record h.own { spent = true }).spent) last,
+    )
+
+spending : (v : BridgeView) (left : ℕ) → IsSoundView v → v.spent ≡ false → last_number ≤ own_number v → lifetime_in (own_entry v) ≡ left + 1 → (left ≤ 300) ⊎ (body_of (step second v) ≢ body_of v) → IsSpent v (step second v)
+spending v left was fresh past count why =
+    let w : BridgeView = expired (counted v) in
+    let id : LspId = own_id v.id.system in
+    let f : Fell left v w = fell v left was fresh count in
+    let spends : readied v ≡ originating w = refreshed_renews w fresh (why_by v w left f (expired_says v) why) in
+    let number : own_number w ≡ own_number v = ap number_of f.lasts.version in
+    let made = originating_spends w fresh f.live (omega (arith, number, past)) in
+    let new : Option Entry = Some (spent_entry (up_ports w) (own_number w) (own_entry w)) in
+    let held : but_for_ssn (get (step second v).database id) ≡ but_for_ssn new =
+    second_holds v id ∙ ap but_for_ssn (ap (λ (x : BridgeView). get x.database id) spends ∙ made.0) in
+    let dead : IsDead (own_number w) (up_ports w) (get (step second v).database id) =
+    dead_same (get (step second v).database id) new held (own_number w) (up_ports w) (record { version = refl; lifetime = refl; body = refl; srm = refl }) in
+    record {
+      own = subst (IsDead (own_number v) (up_ports (step second v))) (sym (second_own v)) (subst (λ n. IsDead n (up_ports (step second v)) (get (step second v).database id)) number (subst (λ (up : PortSet). IsDead (own_number w) up (get (step second v).database id)) (sym (up_second v)) dead));
+      spent = second_spent v ∙ (ap (λ (x : BridgeView). x.spent) spends ∙ made.1);
+    }
+
+pub seconds_spend : SecondsSpend
+seconds_spend v was fresh past why =
+    let alive = live_in (own_entry v) (was.own.alive fresh) in
+    let left : ℕ = lifetime_in (own_entry v) - 1 in
+    let count : lifetime_in (own_entry v) ≡ left + 1 = omega (arith, alive.1) in
+    spending v left was fresh past count (why_less v left count why)
+
+refreshed_spent : (w : BridgeView) → w.spent ≡ true → refreshed w ≡ w
+unfolding refreshed
+refreshed_spent w spent = ap (λ b. if b || (is_said w && not (is_old (own_entry w))) then w else originating w) spent
+
+pub spent_stands_still : SpentStandsStill
+spent_stands_still v spent =
+    let w : BridgeView = expired (counted v) in
+    let id : LspId = own_id v.id.system in
+    let stands : readied v ≡ w = refreshed_spent w spent in (
+      subst (AgedFrom (own_entry v)) (sym (second_own v))
+          (aged_same _ _ (second_holds v id ∙ ap but_for_ssn (ap (λ (u : BridgeView). get u.database id) stands ∙ expired_holds v id)) (own_entry v) (older_ages (up_ports (counted v)) (leaving_from 1 v.ports) (own_entry v))),
+      second_spent v ∙ (ap (λ (u : BridgeView). u.spent) stands ∙ spent),
+    )
 
 -- ---- many seconds
 

@@ -1,5 +1,7 @@
--- What time alone makes of a bridge: of its neighbours, of the LSPs that it holds, and of its own LSP.
-use Rattle.std.specs.Prelude.{◌≡◌, ◌≢◌, ◌⊎◌, ℕ, zero, suc, ◌+◌, ◌*◌, ◌≤◌, ◌<◌, [], ◌∷◌, true, false, Option, Some, None}
+-- What time makes of a bridge: of its neighbours, of the LSPs that it holds, and of its own LSP.
+use Rattle.std.specs.Prelude.{◌≡◌, ◌≢◌, ◌⊎◌, ℕ, zero, suc, ◌+◌, ◌*◌, ◌≤◌, ◌<◌, true, false, ⊤}
+use Rattle.std.specs.Prelude.{List, [], ◌∷◌, Option, Some, None}
+use Rattle.std.specs.List.{AllByRecursion}
 use Rattle.std.specs.FinMap.{get}
 use Rattle.spb_types.specs.declared.address.LspId.{LspId}
 use Rattle.spb_types.specs.declared.ports.PortSet.{PortSet}
@@ -16,7 +18,8 @@ use Rattle.bridge_api.specs.declared.config.BridgeConfig.{BridgeConfig}
 use Rattle.bridge_api.specs.View.{BridgeView, adjacency_at, neighbour_at, is_up_at, up_ports}
 use Rattle.bridge_api.specs.Own.{body_of, own_of, own_entry, body_in}
 use Rattle.bridge_api.specs.Config.{IsWhole, configured}
-use Rattle.bridge_api.specs.Step.{second, step}
+use Rattle.bridge_api.specs.Judging.{judged, greeting_in}
+use Rattle.bridge_api.specs.Step.{Input, second, frame, carrier, metric, step}
 use Rattle.bridge_api.specs.Laws.{IsSoundView}
 
 -- a bridge so many seconds later, where nothing else comes to it
@@ -26,11 +29,30 @@ seconds (suc n) v = step second (seconds n v)
 
 -- ---- neighbours
 
--- a neighbour is kept, in the state that it is in, while some of its holding count is left
+-- nothing comes to the adjacency at a port: no frame there that is taken for a hello, and no change of carrier there
+abbrev pub IsSilentAt : ℕ → Input → Type 0
+IsSilentAt p second = ⊤
+IsSilentAt p (frame q bytes) = q ≡ p → greeting_in (judged bytes) ≡ None
+IsSilentAt p (carrier q on) = q ≢ p
+IsSilentAt p (metric q m) = ⊤
+
+-- a bridge after such inputs, of which the first comes first, and how many of them are seconds
+abbrev pub steps : List Input → BridgeView → BridgeView
+steps [] v = v
+steps (input ∷ inputs) v = steps inputs (step input v)
+
+abbrev pub seconds_in : List Input → ℕ
+seconds_in [] = 0
+seconds_in (second ∷ inputs) = seconds_in inputs + 1
+seconds_in (frame q bytes ∷ inputs) = seconds_in inputs
+seconds_in (carrier q on ∷ inputs) = seconds_in inputs
+seconds_in (metric q m ∷ inputs) = seconds_in inputs
+
+-- where nothing comes to it, a neighbour is kept, in the state that it is in, while some of its holding count is left
 abbrev pub NeighboursAreKept : Type 0
-NeighboursAreKept = (v : BridgeView) (p : ℕ) (a : Adjacency) (n : End) (k left : ℕ)
-    → adjacency_at v p ≡ Some a → neighbour_of a ≡ Some n → a.hold ≡ left + k → 1 ≤ left
-    → adjacency_at (seconds k v) p ≡ Some (record a { hold = left })
+NeighboursAreKept = (v : BridgeView) (p : ℕ) (a : Adjacency) (n : End) (inputs : List Input) (left : ℕ)
+    → adjacency_at v p ≡ Some a → neighbour_of a ≡ Some n → AllByRecursion (IsSilentAt p) inputs
+    → a.hold ≡ left + seconds_in inputs → 1 ≤ left → adjacency_at (steps inputs v) p ≡ Some (record a { hold = left })
 
 -- a port that is Down, and so keeps nobody
 pub record IsDown (v : BridgeView) (p : ℕ) : Type 0 where
@@ -40,9 +62,9 @@ pub record IsDown (v : BridgeView) (p : ℕ) : Type 0 where
 
 -- and is lost with the end of the count: from then on the port is Down
 abbrev pub NeighboursAreLost : Type 0
-NeighboursAreLost = (v : BridgeView) (p : ℕ) (a : Adjacency) (n : End) (more : ℕ)
-    → IsSoundView v → adjacency_at v p ≡ Some a → neighbour_of a ≡ Some n
-    → IsDown (seconds (more + a.hold) v) p
+NeighboursAreLost = (v : BridgeView) (p : ℕ) (a : Adjacency) (n : End) (inputs : List Input)
+    → IsSoundView v → adjacency_at v p ≡ Some a → neighbour_of a ≡ Some n → AllByRecursion (IsSilentAt p) inputs
+    → a.hold ≤ seconds_in inputs → IsDown (steps inputs v) p
 
 -- a sound bridge that keeps a neighbour, so that this is said of something
 pub record KeepsSomebody : Type 0 where
@@ -57,11 +79,12 @@ pub record KeepsSomebody : Type 0 where
 -- ---- LSPs
 
 -- what stands under an id a second later: the same version and body, with a lifetime that is at most one lower; or, of
--- an LSP in its last second, one that is dead at its number
+-- a live LSP in its last second, one that is dead at its number, its body cut to the flags octet
 pub data AgedFrom (old new : Option Entry) : Type 0 where
   stays : version_in new ≡ version_in old → body_in new ≡ body_in old
       → lifetime_in new ≤ lifetime_in old → lifetime_in old ≤ lifetime_in new + 1 → AgedFrom old new
-  dies : version_in new ≡ Dead (number_of (version_in old)) → lifetime_in old ≤ 1 → AgedFrom old new
+  dies : is_live (version_in old) ≡ true → lifetime_in old ≤ 1
+      → version_in new ≡ Dead (number_of (version_in old)) → body_in new ≡ 1 ∷ [] → AgedFrom old new
 
 -- so it is under each id but the own one
 abbrev pub SecondsAge : Type 0
@@ -120,6 +143,20 @@ SecondsStandStill = (v : BridgeView) (left : ℕ) → IsSoundView v → v.spent 
 abbrev pub SecondsRenew : Type 0
 SecondsRenew = (v : BridgeView) → IsSoundView v → v.spent ≡ false → own_number v < last_number
     → (lifetime_in (own_entry v) ≤ 301) ⊎ (body_of (step second v) ≢ body_of v) → IsRenewed v (step second v)
+
+-- past the last number its own LSP is dead instead, and its sequence numbers are spent
+pub record IsSpent (v w : BridgeView) : Type 0 where
+  pub own : IsDead (own_number v) (up_ports w) (own_entry w)
+  pub spent : w.spent ≡ true
+
+abbrev pub SecondsSpend : Type 0
+SecondsSpend = (v : BridgeView) → IsSoundView v → v.spent ≡ false → last_number ≤ own_number v
+    → (lifetime_in (own_entry v) ≤ 301) ⊎ (body_of (step second v) ≢ body_of v) → IsSpent v (step second v)
+
+-- and from then on no second originates
+abbrev pub SpentStandsStill : Type 0
+SpentStandsStill = (v : BridgeView) → v.spent ≡ true
+    → AgedFrom (own_entry v) (own_entry (step second v)) × ((step second v).spent ≡ true)
 
 -- a bridge that has the same to say in each of so many seconds
 abbrev pub SaysTheSame : ℕ → BridgeView → Type 0

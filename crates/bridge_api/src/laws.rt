@@ -2,7 +2,7 @@
 ghost use Rattle.bridge_api.specs.Laws.{ConfiguredIsSound, ConfiguredIsDark, ConfiguredHoldsOwn, SoundCanSay, StepsStaySound, StepsKeepBridge, StepsKeepCarrier, StepsKeepNeighbours, SentIsSound, OneHello, HellosAreHeard, SentWithCarrier, EnteringUpIsWhole, UpPortsAreUp, StepsCarryDatabase, NeighboursComeUp, SomeBridge};
 ghost use Rattle.bridge_api.specs.Duties.{SecondsServe, SecondsSettle};
 ghost use Rattle.bridge_api.specs.Graph.{ReadsWhatIsHeld, ReadsEachOnce, ReadsItself};
-ghost use Rattle.bridge_api.specs.Time.{NeighboursAreKept, NeighboursAreLost, KeepsSomebody, SecondsAge, LspsLast, LspsExpire, SecondsStandStill, SecondsRenew, OwnLspLasts, OwnLspIsRenewed, AloneStaysAlone, EveryNineHundred};
+ghost use Rattle.bridge_api.specs.Time.{NeighboursAreKept, NeighboursAreLost, KeepsSomebody, SecondsAge, LspsLast, LspsExpire, SecondsStandStill, SecondsRenew, SecondsSpend, SpentStandsStill, OwnLspLasts, OwnLspIsRenewed, AloneStaysAlone, EveryNineHundred};
 
 use itag_frames::control_again;
 
@@ -75,8 +75,9 @@ pub fn neighbours_come_up()
     control_again();
 }
 
-/// A neighbour from which nothing more is heard is kept for as many seconds as its holding count says, in the state that
-/// it is in. Then the port is Down, and keeps nobody. There are bridges that keep somebody.
+/// A neighbour is kept for as many seconds as its holding count says, in the state that it is in, whatever comes to the
+/// bridge but hellos and changes of carrier at its port. Then the port is Down, and keeps nobody. There are bridges that
+/// keep somebody.
 pub fn silent_neighbours_are_lost()
     ensures kept { NeighboursAreKept }
     ensures lost { NeighboursAreLost }
@@ -93,12 +94,14 @@ pub fn silent_lsps_expire()
     ensures expire { LspsExpire }
 {}
 
-/// A second after which a bridge has the same to say, and its own lifetime is above 300, originates nothing; each other
-/// originates, unless the sequence numbers are spent. So a bridge just configured and left to itself originates every 900
-/// seconds.
+/// A second after which a bridge has the same to say, and its own lifetime is above 300, originates nothing. Each other
+/// originates: the own LSP stands one number further, or past the last one is dead, and then none originates any more. So
+/// a bridge just configured and left to itself originates every 900 seconds.
 pub fn own_lsps_are_renewed()
     ensures still { SecondsStandStill }
     ensures renew { SecondsRenew }
+    ensures spend { SecondsSpend }
+    ensures spent { SpentStandsStill }
     ensures lasts { OwnLspLasts }
     ensures renewed { OwnLspIsRenewed }
     ensures alone { AloneStaysAlone }

@@ -24,12 +24,14 @@ aged_through (up ∷ ups) e = aged_through ups (aged up e)
 -- a live LSP stays as it is, but that its lifetime falls, while some of it is left
 abbrev pub LivesForItsLifetime : Type 0
 LivesForItsLifetime = (ups : List PortSet) (e : Entry) (left : ℕ)
-    → is_live e.version ≡ true → e.lifetime ≡ left + length ups → 1 ≤ left → aged_through ups e ≡ record e { lifetime = left }
+    → is_live e.version ≡ true → e.lifetime ≡ left + length ups → 1 ≤ left
+    → aged_through ups e ≡ record e { lifetime = left }
 
 -- in the second in which none is left, it dies at its number, and is to be sent at every port that is Up then
 abbrev pub DiesAfterIt : Type 0
 DiesAfterIt = (ups : List PortSet) (up : PortSet) (e : Entry) (seq sum : ℕ)
-    → e.version ≡ Live seq sum → e.lifetime ≡ length ups + 1 → aged_through (ups ++ up ∷ []) e ≡ made (Dead seq) 0 [] up e.ssn
+    → e.version ≡ Live seq sum → e.lifetime ≡ length ups + 1
+    → aged_through (ups ++ up ∷ []) e ≡ made (Dead seq) 0 [] up e.ssn
 
 -- an LSP that isn't live doesn't age
 abbrev pub OthersDontAge : Type 0
