@@ -24,3 +24,5 @@ pub mod Frames
 pub mod GraphRead
 pub mod ServingPorts
 pub mod Serving
+pub mod FewHeld
+pub mod FewSent
