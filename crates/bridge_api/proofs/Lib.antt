@@ -28,3 +28,5 @@ pub mod Serving
 pub mod Time
 pub mod TimeLsps
 pub mod TimeOwn
+pub mod FewHeld
+pub mod FewSent

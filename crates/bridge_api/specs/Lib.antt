@@ -12,3 +12,4 @@ pub mod Laws
 pub mod Duties
 pub mod Graph
 pub mod Time
+pub mod Few
