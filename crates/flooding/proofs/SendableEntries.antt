@@ -22,14 +22,14 @@ use Rattle.lsdb.specs.declared.version.Version.{Version}
 use Rattle.lsdb.specs.declared.version.Version.TheVariants.{Absent, Live, Dead}
 use Rattle.lsdb.specs.declared.version.Relation.{Relation}
 use Rattle.lsdb.specs.declared.version.Relation.TheVariants.{Older, Equal, Newer, Confused}
-use Rattle.lsdb.specs.Version.{number_of, is_absent, leq, relation, claimed}
+use Rattle.lsdb.specs.Version.{number_of, is_absent, leq, relation, claimed, sum_of}
 use Rattle.lsdb.specs.Entry.{Entry, made, stored, acked, cleared, offered, aged_at, AreKept}
 use Rattle.lsdb.specs.Database.{version_in}
 use Rattle.flooding.specs.declared.own.Own.{Own}
 use Rattle.flooding.specs.Own.{last_number, own_id, is_originated, renewed, ended, answered}
 use Rattle.flooding.specs.Hearing.{claim_of, body_of, unless_absent, wanted, lsp_row, snp_row, is_beyond}
 use Rattle.flooding.specs.Origination.{spent_entry}
-use Rattle.flooding.specs.Sending.{sum_of, lsp_in}
+use Rattle.flooding.specs.Sending.{lsp_in}
 use Rattle.flooding.specs.Entries.{IsNumbered, IsSendable}
 use Rattle.flooding.specs.Laws.{HasBody, IsWhole, SentIsHeld, SentIsRead, ReadIsWhole, ClaimIsNumbered, LspKeepsSendable, EntryKeepsSendable, OriginationKeepsSendable, AgeingKeepsSendable, FlagsKeepSendable}
 use Rattle.flooding.proofs.Heard.{number-claimed}

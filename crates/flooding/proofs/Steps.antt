@@ -27,6 +27,7 @@ use Rattle.flooding.specs.Origination.{next_entry, spent_entry, originated_from,
 use Rattle.flooding.specs.Laws.{control, HearingLspIsCertified, HearingEntryIsCertified, AnsweringIsCertified, OriginationIsCertified}
 use Rattle.flooding.proofs.Heard.{Row, number-claimed}
 use Rattle.flooding.proofs.Claimed.{heard_of, db_after}
+use Rattle.flooding.specs.declared.put.TheConstants.{MAX_AGE}
 
 -- ---- versions
 
@@ -54,7 +55,7 @@ answering_by : (up : PortSet) (port : ℕ) (claims : List Claim) (own : Own) (id
     → EntryCertificate port claims up up id held (Some (if b then renewed up own (seq + 1) else ended up seq))
 answering_by up port claims own id held seq true below =
     let further = renewed up own (seq + 1) in
-    flooding up port claims id further.version 1200 own.body held (greater (version_in held) further.version (omega arith))
+    flooding up port claims id further.version MAX_AGE own.body held (greater (version_in held) further.version (omega arith))
 answering_by up port claims own id held seq false below = flooding up port claims id (Dead seq) 0 [] held (at_most_dead (version_in held) seq below)
 
 pub answering : AnsweringIsCertified
@@ -149,7 +150,7 @@ next_by : (up : PortSet) (port : ℕ) (claims : List Claim) (own : Own) (id : Ls
     → EntryCertificate port claims up up id held (Some (if b then renewed up own (number_of (version_in held) + 1) else spent_entry up (number_of (version_in held)) held))
 next_by up port claims own id held true =
     let further = renewed up own (number_of (version_in held) + 1) in
-    flooding up port claims id further.version 1200 own.body held (greater (version_in held) further.version (omega arith))
+    flooding up port claims id further.version MAX_AGE own.body held (greater (version_in held) further.version (omega arith))
 next_by up port claims own id held false = record { rises = at_most_dead (version_in held) (number_of (version_in held)) (omega arith); kept = λ p u. is_flagged u }
 
 originated_by : (up : PortSet) (port : ℕ) (claims : List Claim) (h : Holding) (b : Bool)

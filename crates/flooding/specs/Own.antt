@@ -8,6 +8,8 @@ use Rattle.isis_pdu.specs.Checksum.{lsp_sum_of}
 use Rattle.lsdb.specs.declared.version.Version.TheVariants.{Live, Dead}
 use Rattle.lsdb.specs.Entry.{Entry, flooded}
 use Rattle.flooding.specs.declared.own.Own.{Own}
+use Rattle.spb_types.specs.declared.level.TheConstants.{LEVEL_1}
+use Rattle.flooding.specs.declared.put.TheConstants.{MAX_AGE}
 
 -- the greatest sequence number (ISO/IEC 10589, 7.3.16.1)
 abbrev pub last_number : ℕ
@@ -23,7 +25,7 @@ is_originated system id = same_system id.system system && ((id.pseudonode == 0) 
 
 -- a body is the flags octet and then the TLVs; the flags of level 1 stand for a missing octet
 abbrev pub flags_in : List ℕ → ℕ
-flags_in [] = 1
+flags_in [] = LEVEL_1
 flags_in (flags ∷ tlvs) = flags
 
 abbrev pub tlvs_in : List ℕ → List ℕ
@@ -38,7 +40,7 @@ body_in (Some e) = e.body
 -- the own LSP at a number: live with the present body for 1,200 seconds, to be sent at every Up port
 abbrev pub renewed : PortSet → Own → ℕ → Entry
 renewed up own seq =
-    flooded up (Live seq (lsp_sum_of (own_id own.system) seq (flags_in own.body) (tlvs_in own.body))) 1200 own.body
+    flooded up (Live seq (lsp_sum_of (own_id own.system) seq (flags_in own.body) (tlvs_in own.body))) MAX_AGE own.body
 
 -- an LSP that is dead at a number, to be sent at every Up port
 abbrev pub ended : PortSet → ℕ → Entry

@@ -4,9 +4,7 @@ use Rattle.std.specs.FinMap.{entries}
 use Rattle.spb_types.specs.declared.address.LspId.{LspId}
 use Rattle.spb_types.specs.Ports.{has}
 use Rattle.isis_pdu.specs.Pdu.{LspValue}
-use Rattle.lsdb.specs.declared.version.Version.{Version}
-use Rattle.lsdb.specs.declared.version.Version.TheVariants.{Absent, Live, Dead}
-use Rattle.lsdb.specs.Version.{number_of}
+use Rattle.lsdb.specs.Version.{number_of, sum_of}
 use Rattle.lsdb.specs.Entry.{Entry}
 use Rattle.lsdb.specs.Database.{Lsps}
 use Rattle.flooding.specs.Own.{flags_in, tlvs_in}
@@ -18,12 +16,6 @@ ids_among port es = map (λ e. e.0) (filter (λ e. has e.1.srm port) es)
 -- the ids that are to be sent at a port, in order of id
 abbrev pub ids_to_send : Lsps → ℕ → List LspId
 ids_to_send db port = ids_among port (entries db)
-
--- the checksum of a version; that of a dead one, and of none, is 0
-abbrev pub sum_of : Version → ℕ
-sum_of Absent = 0
-sum_of (Live seq sum) = sum
-sum_of (Dead seq) = 0
 
 -- the LSP of an entry. A dead one is the header alone, since its body is the flags octet
 abbrev pub lsp_in : LspId → Entry → LspValue

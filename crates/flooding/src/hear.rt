@@ -12,6 +12,7 @@ use crate::rows::{acknowledge, offer};
 use crate::{FloodError, Own};
 use isis_pdu::Lsp;
 use lsdb::{Database, Held, Relation, Version, compare};
+use spb_types::limits::MOST_PORTS;
 use spb_types::{LspId, PortSet, Seq};
 use std::alloc::{AllocError, Global};
 
@@ -36,7 +37,7 @@ pub fn hear_lsp(
     own: &mut Own,
 ) -> Result<(), FloodError>
     requires low { 1 ≤ port }
-    requires high { port ≤ 32 }
+    requires high { port ≤ MOST_PORTS }
     requires body { 1 ≤ length own.old.body }
     ensures { Hears result (is_full_for_lsp up port (lsp_of lsp.now) (holding db.old own.old)) (holding db.old own.old)
         (hear_lsp_of up port (lsp_of lsp.now) (holding db.old own.old)) (holding db.new own.new) }
@@ -79,7 +80,7 @@ fn store(
     lsp: &Lsp<'_>,
 ) -> Result<(), FloodError>
     requires low { 1 ≤ port }
-    requires high { port ≤ 32 }
+    requires high { port ≤ MOST_PORTS }
     ensures { Puts result lsp.now.id
         (stored up port (claimed lsp.now.seq lsp.now.lifetime lsp.now.sum) lsp.now.lifetime (hearing.body_of (lsp_of lsp.now)))
         db.old db.new }
@@ -101,7 +102,7 @@ fn store(
 /// The neighbour at a port has the LSP that is held, and is told so. Nothing happens where it is absent.
 fn acknowledge_held(db: &mut Database, port: u8, id: &LspId)
     requires low { 1 ≤ port }
-    requires high { port ≤ 32 }
+    requires high { port ≤ MOST_PORTS }
     ensures { db.new ≡ changed (unless_absent (acked port)) db.old id.now }
 {
     if !db.version_at(id).is_absent() {

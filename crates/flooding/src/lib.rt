@@ -9,7 +9,7 @@ pub use hear::hear_lsp;
 pub use origination::originate;
 pub use own::Own;
 pub use rows::{acknowledge, offer};
-pub use send::{lsp_of, sum_of, to_send, write_held};
+pub use send::{lsp_of, to_send, write_held};
 
 mod error;
 mod hear;

@@ -7,11 +7,11 @@ ghost use Rattle.flooding.specs.Placing.{Puts};
 use crate::{FloodError, Own};
 use isis_pdu::lsp_sum;
 use lsdb::{Database, Held, Version};
-use spb_types::{LspId, PortSet, Seq};
+use spb_types::{LEVEL_1, LspId, PortSet, Seq};
 use std::alloc::Global;
 
-/// The lifetime of an own LSP in seconds (ISO/IEC 10589, 7.3.5, MaxAge).
-const LIFETIME: u16 = 1200;
+/// The lifetime of an own LSP when it is originated, in seconds (ISO/IEC 10589, 7.3.5).
+pub const MAX_AGE: u16 = 1_200;
 
 /// Puts an LSP in.
 pub fn put(db: &mut Database, held: Held) -> Result<(), FloodError>
@@ -38,7 +38,7 @@ pub fn put_dead(
             id: *id,
             version: Version::Dead { seq },
             lifetime: 0,
-            body: Seq::from_vec(vec![in alloc; 1]?),
+            body: Seq::from_vec(vec![in alloc; LEVEL_1]?),
             srm: up,
             ssn: PortSet::none(),
         },
@@ -64,7 +64,7 @@ pub fn renew(
         Held {
             id,
             version: Version::Live { seq, sum },
-            lifetime: LIFETIME,
+            lifetime: MAX_AGE,
             body: Seq::from_vec(body),
             srm: up,
             ssn: PortSet::none(),

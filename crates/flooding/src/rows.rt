@@ -5,12 +5,13 @@ ghost use Rattle.lsdb.specs.Database.{changed};
 
 use lsdb::Database;
 use spb_types::LspId;
+use spb_types::limits::MOST_PORTS;
 
 /// The neighbour at a port, 1 to 32, needn't be sent the LSP under an id, and is told so: its SRM flag is cleared there and
 /// its SSN flag set. Nothing happens where the id isn't held.
 pub fn acknowledge(db: &mut Database, port: u8, id: &LspId)
     requires low { 1 ≤ port }
-    requires high { port ≤ 32 }
+    requires high { port ≤ MOST_PORTS }
     ensures { db.new ≡ changed (acked port) db.old id.now }
 {
     db.set_srm(id, port, false);
@@ -21,7 +22,7 @@ pub fn acknowledge(db: &mut Database, port: u8, id: &LspId)
 /// there and its SSN flag cleared. Nothing happens where the id isn't held.
 pub fn offer(db: &mut Database, port: u8, id: &LspId)
     requires low { 1 ≤ port }
-    requires high { port ≤ 32 }
+    requires high { port ≤ MOST_PORTS }
     ensures { db.new ≡ changed (offered port) db.old id.now }
 {
     db.set_srm(id, port, true);

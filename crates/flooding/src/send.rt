@@ -4,21 +4,18 @@ ghost use Rattle.isis_pdu.specs.Pdu as pdu;
 ghost use Rattle.isis_pdu.specs.Spelling.{CanWrite, lsp_bytes};
 ghost use Rattle.lsdb.specs.Entry.{entry_of};
 ghost use Rattle.flooding.specs.Own.{tlvs_in};
-ghost use Rattle.flooding.specs.Sending as sending;
 ghost use Rattle.flooding.specs.Sending.{ids_to_send, lsp_in};
 
 use isis_pdu::{Lsp, write_lsp};
-use lsdb::{Database, Held, Version};
-use spb_types::{LspId, NoMemory};
+use lsdb::{Database, Held};
+use spb_types::limits::MOST_PORTS;
+use spb_types::{LEVEL_1, LspId, NoMemory};
 use std::alloc::Global;
-
-/// The flags octet of an LSP without a body: that of a level 1 system.
-const LEVEL_1: u8 = 1;
 
 /// The ids of the LSPs that are to be sent at a port, 1 to 32, in order of id.
 pub fn to_send(alloc: Global, db: &Database, port: u8) -> Result<Vec<LspId>, NoMemory>
     requires low { 1 ≤ port }
-    requires high { port ≤ 32 }
+    requires high { port ≤ MOST_PORTS }
     ensures { IfOk result (λ ids. ids.items ≡ ids_to_send db.now port) }
 {
     let mut ids = Vec::new(alloc);
@@ -30,16 +27,6 @@ pub fn to_send(alloc: Global, db: &Database, port: u8) -> Result<Vec<LspId>, NoM
         }
     }
     Ok(ids)
-}
-
-/// The checksum of an LSP with a lifetime left; that of a dead one, and of none, is 0.
-pub fn sum_of(version: Version) -> u16
-    ensures { result ≡ sending.sum_of version }
-{
-    match version {
-        Version::Live { seq: _, sum } => sum,
-        Version::Absent | Version::Dead { seq: _ } => 0,
-    }
 }
 
 /// The LSP of what is held under an id (ISO/IEC 10589, 9.8). A dead one is the header alone, with lifetime 0, checksum 0
@@ -55,7 +42,7 @@ pub fn lsp_of(held: &Held) -> Lsp<'_>
         lifetime: held.lifetime,
         id: held.id,
         seq: held.version.number(),
-        sum: sum_of(held.version),
+        sum: held.version.sum(),
         flags,
         tlvs,
     }

@@ -4,15 +4,16 @@ use Rattle.std.specs.Prelude.{IsTrue, ◌&&◌, ◌||◌, ◌==◌, nat_le, slic
 use Rattle.std.proofs.lemmas.Bool.{leb-true, eqb-true, cases_lt}
 use Rattle.std.proofs.lemmas.List.{length-take, length-drop, get_or-drop, get_or-take, get_or_past}
 use Rattle.std.proofs.lemmas.List.Folds.{drop_split}
-use Rattle.spb_types.specs.Bytes.{u8_at, u16_at, u32_at}
+use Rattle.spb_types.specs.Bytes.{u8_at, u16_at, u32_at, system_at, lsp_id_at}
+use Rattle.spb_types.specs.declared.address.SystemId.{SystemId}
 use Rattle.isis_pdu.specs.declared.kind.Kind.{Kind}
 use Rattle.isis_pdu.specs.declared.kind.Kind.TheVariants as kinds
 use Rattle.isis_pdu.specs.declared.pdu.PduError.{PduError}
 use Rattle.isis_pdu.specs.Header.{kind_of, number_of, fixed_length}
-use Rattle.isis_pdu.specs.Pdu.{PduValue, LspValue, lsp}
+use Rattle.isis_pdu.specs.Pdu.{PduValue, LspValue, hello, lsp, csnp, psnp}
 use Rattle.isis_pdu.specs.Tlvs.{is_whole}
 use Rattle.isis_pdu.specs.Spelling.{PassedOver, IsPassedOver, pdu_with}
-use Rattle.isis_pdu.specs.Reading.{is_isis, kind_at, pdu_length, has_length, has_sum, tlvs_in, value_in, unless, read_as, read, lsp_id_at, system_at}
+use Rattle.isis_pdu.specs.Reading.{is_isis, kind_at, pdu_length, has_length, has_sum, tlvs_in, value_in, unless, read_as, read}
 use Rattle.isis_pdu.proofs.Written.{lsp_laid}
 use Rattle.isis_pdu.specs.Grammar.{length_of, IsId, is_sound_lsp, passed_over_in, IsBytes, IsLspIdOfBytes, HasFields, IsReadFrom}
 
@@ -103,6 +104,14 @@ drop-cells (suc n) i bytes h =
     let next : suc i + n ≡ i + suc n = omega arith in
     drop-cons bytes i 0 (omega arith) ∙ ap (λ (xs : List ℕ). u8_at bytes i ∷ xs) (drop-cells n (suc i) bytes (omega arith) ∙ ap (λ (j : ℕ). cells n (suc i) bytes ++ drop j bytes) next)
 
+-- the six bytes of an id
+six_cells : (bytes : List ℕ) (i : ℕ) → i + 6 ≤ length bytes → take 6 (drop i bytes) ≡ cells 6 i bytes
+unfolding cells
+six_cells bytes i h = ap (λ (xs : List ℕ). take 6 xs) (drop-cells 6 i bytes h)
+
+six_long : (bytes : List ℕ) (i : ℕ) → i + 6 ≤ length bytes → IsId (system_at bytes i)
+six_long bytes i h = omega (arith, length-take 6 (drop i bytes), length-drop i bytes, h)
+
 -- the fixed part, the TLVs, and what follows the PDU
 in_parts : (n end : ℕ) (bytes : List ℕ) → n ≤ end → end ≤ length bytes → bytes ≡ cells n 0 bytes ++ (slice_range bytes n end ++ drop end bytes)
 in_parts n end bytes low high =
@@ -155,9 +164,48 @@ header_of bytes k h =
 tlvs_end : (k : Kind) (bytes : List ℕ) → IsAccepted bytes k → fixed_length k + length (tlvs_in k bytes) ≡ pdu_length k bytes
 tlvs_end k bytes h = omega (arith, length-take (pdu_length k bytes - fixed_length k) (drop (fixed_length k) bytes), length-drop (fixed_length k) bytes, h.low, h.high)
 
-hello_parts : (bytes : List ℕ) → IsBytes bytes → IsAccepted bytes kinds.Hello → bytes ≡ pdu_with (passed_over_in (value_in kinds.Hello bytes) bytes) (value_in kinds.Hello bytes) ++ drop (length_of (value_in kinds.Hello bytes)) bytes
-unfolding value_in pdu_with cells
-hello_parts bytes fits h =
+-- the bytes are the PDU, and what follows it
+abbrev AreParts : List ℕ → PduValue → Type 0
+AreParts bytes p = bytes ≡ pdu_with (passed_over_in p bytes) p ++ drop (length_of p) bytes
+
+-- a system id of these bytes
+abbrev id_of : List ℕ → SystemId
+id_of xs = record { mac = record { bytes = xs } }
+
+-- the values in the bytes, but for the bytes of their ids
+abbrev hello_in : List ℕ → List ℕ → PduValue
+hello_in bytes xs = hello (record {
+  circuit_type = u8_at bytes 8;
+  source = id_of xs;
+  holding = u16_at bytes 15;
+  circuit = u8_at bytes 19;
+  tlvs = tlvs_in kinds.Hello bytes;
+})
+
+abbrev lsp_in : List ℕ → List ℕ → PduValue
+lsp_in bytes xs = lsp (record {
+  lifetime = u16_at bytes 10;
+  id = record { system = id_of xs; pseudonode = u8_at bytes 18; number = u8_at bytes 19 };
+  seq = u32_at bytes 20;
+  sum = u16_at bytes 24;
+  flags = u8_at bytes 26;
+  tlvs = tlvs_in kinds.Lsp bytes;
+})
+
+abbrev csnp_in : List ℕ → List ℕ → List ℕ → List ℕ → PduValue
+csnp_in bytes xs ys zs = csnp (record {
+  source = id_of xs;
+  start = record { system = id_of ys; pseudonode = u8_at bytes 23; number = u8_at bytes 24 };
+  end = record { system = id_of zs; pseudonode = u8_at bytes 31; number = u8_at bytes 32 };
+  tlvs = tlvs_in kinds.Csnp bytes;
+})
+
+abbrev psnp_in : List ℕ → List ℕ → PduValue
+psnp_in bytes xs = psnp (record { source = id_of xs; tlvs = tlvs_in kinds.Psnp bytes })
+
+hello_cells : (bytes : List ℕ) → IsBytes bytes → IsAccepted bytes kinds.Hello → AreParts bytes (hello_in bytes (cells 6 9 bytes))
+unfolding pdu_with cells
+hello_cells bytes fits h =
     let head = header_of bytes kinds.Hello h in
     let len : 20 + length (tlvs_in kinds.Hello bytes) ≡ pdu_length kinds.Hello bytes = tlvs_end kinds.Hello bytes h in
     let e15 : u16_at bytes 15 / 256 ≡ u8_at bytes 15 = high_byte _ _ (fits 16) in
@@ -166,9 +214,9 @@ hello_parts bytes fits h =
     let e18 : (20 + length (tlvs_in kinds.Hello bytes)) % 256 ≡ u8_at bytes 18 = rw len (low_byte _ _ (fits 18)) in
     in_parts 20 (pdu_length kinds.Hello bytes) bytes h.low h.high ∙ cc
 
-lsp_parts : (bytes : List ℕ) → IsBytes bytes → IsAccepted bytes kinds.Lsp → bytes ≡ pdu_with (passed_over_in (value_in kinds.Lsp bytes) bytes) (value_in kinds.Lsp bytes) ++ drop (length_of (value_in kinds.Lsp bytes)) bytes
-unfolding value_in pdu_with cells
-lsp_parts bytes fits h =
+lsp_cells : (bytes : List ℕ) → IsBytes bytes → IsAccepted bytes kinds.Lsp → AreParts bytes (lsp_in bytes (cells 6 12 bytes))
+unfolding pdu_with cells
+lsp_cells bytes fits h =
     let head = header_of bytes kinds.Lsp h in
     let len : 27 + length (tlvs_in kinds.Lsp bytes) ≡ pdu_length kinds.Lsp bytes = tlvs_end kinds.Lsp bytes h in
     let e10 : u16_at bytes 10 / 256 ≡ u8_at bytes 10 = high_byte _ _ (fits 11) in
@@ -183,23 +231,46 @@ lsp_parts bytes fits h =
     let e9 : (27 + length (tlvs_in kinds.Lsp bytes)) % 256 ≡ u8_at bytes 9 = rw len (low_byte _ _ (fits 9)) in
     in_parts 27 (pdu_length kinds.Lsp bytes) bytes h.low h.high ∙ cc
 
-csnp_parts : (bytes : List ℕ) → IsBytes bytes → IsAccepted bytes kinds.Csnp → bytes ≡ pdu_with (passed_over_in (value_in kinds.Csnp bytes) bytes) (value_in kinds.Csnp bytes) ++ drop (length_of (value_in kinds.Csnp bytes)) bytes
-unfolding value_in pdu_with cells
-csnp_parts bytes fits h =
+csnp_cells : (bytes : List ℕ) → IsBytes bytes → IsAccepted bytes kinds.Csnp → AreParts bytes (csnp_in bytes (cells 6 10 bytes) (cells 6 17 bytes) (cells 6 25 bytes))
+unfolding pdu_with cells
+csnp_cells bytes fits h =
     let head = header_of bytes kinds.Csnp h in
     let len : 33 + length (tlvs_in kinds.Csnp bytes) ≡ pdu_length kinds.Csnp bytes = tlvs_end kinds.Csnp bytes h in
     let e8 : (33 + length (tlvs_in kinds.Csnp bytes)) / 256 ≡ u8_at bytes 8 = rw len (high_byte _ _ (fits 9)) in
     let e9 : (33 + length (tlvs_in kinds.Csnp bytes)) % 256 ≡ u8_at bytes 9 = rw len (low_byte _ _ (fits 9)) in
     in_parts 33 (pdu_length kinds.Csnp bytes) bytes h.low h.high ∙ cc
 
-psnp_parts : (bytes : List ℕ) → IsBytes bytes → IsAccepted bytes kinds.Psnp → bytes ≡ pdu_with (passed_over_in (value_in kinds.Psnp bytes) bytes) (value_in kinds.Psnp bytes) ++ drop (length_of (value_in kinds.Psnp bytes)) bytes
-unfolding value_in pdu_with cells
-psnp_parts bytes fits h =
+psnp_cells : (bytes : List ℕ) → IsBytes bytes → IsAccepted bytes kinds.Psnp → AreParts bytes (psnp_in bytes (cells 6 10 bytes))
+unfolding pdu_with cells
+psnp_cells bytes fits h =
     let head = header_of bytes kinds.Psnp h in
     let len : 17 + length (tlvs_in kinds.Psnp bytes) ≡ pdu_length kinds.Psnp bytes = tlvs_end kinds.Psnp bytes h in
     let e8 : (17 + length (tlvs_in kinds.Psnp bytes)) / 256 ≡ u8_at bytes 8 = rw len (high_byte _ _ (fits 9)) in
     let e9 : (17 + length (tlvs_in kinds.Psnp bytes)) % 256 ≡ u8_at bytes 9 = rw len (low_byte _ _ (fits 9)) in
     in_parts 17 (pdu_length kinds.Psnp bytes) bytes h.low h.high ∙ cc
+
+hello_parts : (bytes : List ℕ) → IsBytes bytes → IsAccepted bytes kinds.Hello → AreParts bytes (value_in kinds.Hello bytes)
+unfolding value_in
+hello_parts bytes fits h =
+    subst (λ (xs : List ℕ). AreParts bytes (hello_in bytes xs)) (sym (six_cells bytes 9 (omega (arith, h.long)))) (hello_cells bytes fits h)
+
+lsp_parts : (bytes : List ℕ) → IsBytes bytes → IsAccepted bytes kinds.Lsp → AreParts bytes (value_in kinds.Lsp bytes)
+unfolding value_in
+lsp_parts bytes fits h =
+    subst (λ (xs : List ℕ). AreParts bytes (lsp_in bytes xs)) (sym (six_cells bytes 12 (omega (arith, h.long)))) (lsp_cells bytes fits h)
+
+csnp_parts : (bytes : List ℕ) → IsBytes bytes → IsAccepted bytes kinds.Csnp → AreParts bytes (value_in kinds.Csnp bytes)
+unfolding value_in
+csnp_parts bytes fits h =
+    subst (λ (xs : List ℕ). AreParts bytes (csnp_in bytes xs (take 6 (drop 17 bytes)) (take 6 (drop 25 bytes)))) (sym (six_cells bytes 10 (omega (arith, h.long))))
+    (subst (λ (ys : List ℕ). AreParts bytes (csnp_in bytes (cells 6 10 bytes) ys (take 6 (drop 25 bytes)))) (sym (six_cells bytes 17 (omega (arith, h.long))))
+    (subst (λ (zs : List ℕ). AreParts bytes (csnp_in bytes (cells 6 10 bytes) (cells 6 17 bytes) zs)) (sym (six_cells bytes 25 (omega (arith, h.long))))
+    (csnp_cells bytes fits h)))
+
+psnp_parts : (bytes : List ℕ) → IsBytes bytes → IsAccepted bytes kinds.Psnp → AreParts bytes (value_in kinds.Psnp bytes)
+unfolding value_in
+psnp_parts bytes fits h =
+    subst (λ (xs : List ℕ). AreParts bytes (psnp_in bytes xs)) (sym (six_cells bytes 10 (omega (arith, h.long)))) (psnp_cells bytes fits h)
 
 -- ---- the ranges of the fields
 
@@ -208,15 +279,6 @@ u16_fits bytes i fits = omega (arith, fits i, fits (i + 1))
 
 u32_fits : (bytes : List ℕ) (i : ℕ) → IsBytes bytes → u32_at bytes i < 4294967296
 u32_fits bytes i fits = omega (arith, fits i, fits (i + 1), fits (i + 2), fits (i + 3))
-
-six_fit : (a b c d e f : ℕ) → a < 256 → b < 256 → c < 256 → d < 256 → e < 256 → f < 256 → IsBytes (a ∷ b ∷ c ∷ d ∷ e ∷ f ∷ [])
-six_fit a b c d e f p q r s t u zero = p
-six_fit a b c d e f p q r s t u (suc zero) = q
-six_fit a b c d e f p q r s t u (suc (suc zero)) = r
-six_fit a b c d e f p q r s t u (suc (suc (suc zero))) = s
-six_fit a b c d e f p q r s t u (suc (suc (suc (suc zero)))) = t
-six_fit a b c d e f p q r s t u (suc (suc (suc (suc (suc zero))))) = u
-six_fit a b c d e f p q r s t u (suc (suc (suc (suc (suc (suc i)))))) = omega arith
 
 IsBytes-drop : (n : ℕ) (bytes : List ℕ) → IsBytes bytes → IsBytes (drop n bytes)
 IsBytes-drop n bytes fits i = rw get_or-drop (fits (n + i))
@@ -232,8 +294,7 @@ tlvs_fit : (k : Kind) (bytes : List ℕ) → IsBytes bytes → IsBytes (tlvs_in 
 tlvs_fit k bytes fits = IsBytes-take _ _ (IsBytes-drop (fixed_length k) bytes fits)
 
 system_fits : (bytes : List ℕ) (i : ℕ) → IsBytes bytes → IsBytes (system_at bytes i).mac.bytes
-system_fits bytes i fits =
-    six_fit _ _ _ _ _ _ (fits i) (fits (i + 1)) (fits (i + 2)) (fits (i + 3)) (fits (i + 4)) (fits (i + 5))
+system_fits bytes i fits = IsBytes-take 6 _ (IsBytes-drop i bytes fits)
 
 lsp_id_fits : (bytes : List ℕ) (i : ℕ) → IsBytes bytes → IsLspIdOfBytes (lsp_id_at bytes i)
 lsp_id_fits bytes i fits = (system_fits bytes i fits, fits (i + 6), fits (i + 7))
@@ -259,7 +320,7 @@ read_from kinds.Hello bytes fits h =
       allowed = record { id_length = head.id_length; max_areas = head.max_areas };
       parts = hello_parts bytes fits h;
       within = rw (tlvs_end kinds.Hello bytes h) h.high;
-      pdu = record { ids = refl; whole = h.whole };
+      pdu = record { ids = six_long bytes 9 (omega (arith, h.long)); whole = h.whole };
       sound = refl;
       fields = fields_of kinds.Hello bytes fits;
     }
@@ -269,12 +330,13 @@ read_from kinds.Lsp bytes fits h =
     let o : PassedOver = passed_over_in (lsp l) bytes in
     let over : IsPassedOver o = record { id_length = head.id_length; max_areas = head.max_areas } in
     let parts : bytes ≡ pdu_with o (lsp l) ++ drop (length_of (lsp l)) bytes = lsp_parts bytes fits h in
+    let six : IsId l.id.system = six_long bytes 12 (omega (arith, h.long)) in
     record {
       allowed = over;
       parts = parts;
       within = rw (tlvs_end kinds.Lsp bytes h) h.high;
-      pdu = record { ids = refl; whole = h.whole };
-      sound = lsp_sound o l (drop (length_of (lsp l)) bytes) bytes over refl parts h.sum;
+      pdu = record { ids = six; whole = h.whole };
+      sound = lsp_sound o l (drop (length_of (lsp l)) bytes) bytes over six parts h.sum;
       fields = fields_of kinds.Lsp bytes fits;
     }
 read_from kinds.Csnp bytes fits h =
@@ -283,7 +345,7 @@ read_from kinds.Csnp bytes fits h =
       allowed = record { id_length = head.id_length; max_areas = head.max_areas };
       parts = csnp_parts bytes fits h;
       within = rw (tlvs_end kinds.Csnp bytes h) h.high;
-      pdu = record { ids = (refl, refl, refl); whole = h.whole };
+      pdu = record { ids = (six_long bytes 10 (omega (arith, h.long)), six_long bytes 17 (omega (arith, h.long)), six_long bytes 25 (omega (arith, h.long))); whole = h.whole };
       sound = refl;
       fields = fields_of kinds.Csnp bytes fits;
     }
@@ -293,7 +355,7 @@ read_from kinds.Psnp bytes fits h =
       allowed = record { id_length = head.id_length; max_areas = head.max_areas };
       parts = psnp_parts bytes fits h;
       within = rw (tlvs_end kinds.Psnp bytes h) h.high;
-      pdu = record { ids = refl; whole = h.whole };
+      pdu = record { ids = six_long bytes 10 (omega (arith, h.long)); whole = h.whole };
       sound = refl;
       fields = fields_of kinds.Psnp bytes fits;
     }

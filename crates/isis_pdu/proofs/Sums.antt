@@ -6,7 +6,8 @@ use Rattle.std.proofs.lemmas.Bool.{eqb-true}
 use Rattle.std.proofs.lemmas.Bool.Decides.{nat_tests}
 use Rattle.spb_types.specs.declared.address.LspId.{LspId}
 use Rattle.isis_pdu.specs.declared.checksum.Sums.{Sums}
-use Rattle.isis_pdu.specs.Bytes.{lsp_id_bytes, u32_bytes}
+use Rattle.spb_types.specs.Bytes.{lsp_id_bytes}
+use Rattle.isis_pdu.specs.Bytes.{u32_bytes}
 use Rattle.isis_pdu.specs.Checksum.{summed, sums_from, sums_of, is_checked, covered, check_byte, first_check, second_check, check_field, lsp_sum_of, HasCheckBytes}
 
 -- two numbers are the same modulo 255

@@ -2,7 +2,8 @@
 use Rattle.std.specs.Prelude.{ℕ, ◌+◌, ◌*◌, ◌-◌, ◌/◌, ◌%◌, ◌≤◌, List, [], ◌∷◌, ◌++◌, length, fold, Bool, ◌&&◌, ◌==◌, if◌then◌else◌}
 use Rattle.spb_types.specs.declared.address.LspId.{LspId}
 use Rattle.isis_pdu.specs.declared.checksum.Sums.{Sums}
-use Rattle.isis_pdu.specs.Bytes.{lsp_id_bytes, u16_bytes, u32_bytes}
+use Rattle.spb_types.specs.Bytes.{lsp_id_bytes}
+use Rattle.isis_pdu.specs.Bytes.{u16_bytes, u32_bytes}
 
 -- one more byte: it is added to the first sum, and the first sum to the second
 abbrev pub summed : Sums → ℕ → Sums

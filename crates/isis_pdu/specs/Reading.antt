@@ -1,8 +1,6 @@
 -- Reading a PDU, with the first rule that the bytes break.
-use Rattle.std.specs.Prelude.{ℕ, ◌+◌, ◌%◌, List, [], ◌∷◌, length, Bool, true, ◌&&◌, ◌||◌, ◌==◌, nat_le, if◌then◌else◌, Option, Some, None, Result, Ok, Err, slice_range}
-use Rattle.spb_types.specs.declared.address.SystemId.{SystemId}
-use Rattle.spb_types.specs.declared.address.LspId.{LspId}
-use Rattle.spb_types.specs.Bytes.{u8_at, u16_at, u32_at}
+use Rattle.std.specs.Prelude.{ℕ, ◌+◌, ◌%◌, List, length, Bool, true, ◌&&◌, ◌||◌, ◌==◌, nat_le, if◌then◌else◌, Option, Some, None, Result, Ok, Err, slice_range}
+use Rattle.spb_types.specs.Bytes.{u8_at, u16_at, u32_at, system_at, lsp_id_at}
 use Rattle.isis_pdu.specs.declared.kind.Kind.{Kind}
 use Rattle.isis_pdu.specs.declared.kind.Kind.TheVariants as kinds
 use Rattle.isis_pdu.specs.declared.pdu.PduError.{PduError}
@@ -12,17 +10,6 @@ use Rattle.isis_pdu.specs.Header.{kind_of, fixed_length, length_place}
 use Rattle.isis_pdu.specs.Pdu.{PduValue, hello, lsp, csnp, psnp, pdu_of}
 use Rattle.isis_pdu.specs.Tlvs.{is_whole}
 use Rattle.isis_pdu.specs.Checksum.{is_checked}
-
--- the system id in the six bytes from a place on, and the LSP id in the eight
-abbrev pub system_at : List ℕ → ℕ → SystemId
-system_at bytes i = record {
-  mac = record {
-    bytes = u8_at bytes i ∷ u8_at bytes (i + 1) ∷ u8_at bytes (i + 2) ∷ u8_at bytes (i + 3) ∷ u8_at bytes (i + 4) ∷ u8_at bytes (i + 5) ∷ [];
-  };
-}
-
-abbrev pub lsp_id_at : List ℕ → ℕ → LspId
-lsp_id_at bytes i = record { system = system_at bytes i; pseudonode = u8_at bytes (i + 6); number = u8_at bytes (i + 7) }
 
 -- the common header is that of an IS-IS PDU, whatever its type: discriminator, both versions, id length, areas
 abbrev pub is_isis : List ℕ → Bool

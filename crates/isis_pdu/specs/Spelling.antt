@@ -6,7 +6,8 @@ use Rattle.isis_pdu.specs.declared.kind.Kind.TheVariants as kinds
 use Rattle.isis_pdu.specs.Header.{number_of, fixed_length}
 use Rattle.isis_pdu.specs.Pdu.{HelloValue, LspValue, CsnpValue, PsnpValue, PduValue, hello, lsp, csnp, psnp}
 use Rattle.isis_pdu.specs.Tlvs.{is_whole}
-use Rattle.isis_pdu.specs.Bytes.{u16_bytes, u32_bytes, lsp_id_bytes}
+use Rattle.spb_types.specs.Bytes.{lsp_id_bytes}
+use Rattle.isis_pdu.specs.Bytes.{u16_bytes, u32_bytes}
 
 -- what a reader passes over. A writer writes each of these as 0
 pub record PassedOver : Type 0 where

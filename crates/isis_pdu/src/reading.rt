@@ -1,60 +1,16 @@
 ghost use Rattle.std.specs.Prelude.{◌≡◌, ◌+◌, ◌≤◌, length, IsTrue, IfOk, Some};
-ghost use Rattle.spb_types.specs.Bytes.{u16_at, u32_at};
 ghost use Rattle.isis_pdu.specs.Header.{fixed_length, length_place};
 ghost use Rattle.isis_pdu.specs.Grammar.{IsReadFrom, IsCanonical};
 ghost use Rattle.isis_pdu.specs.Pdu.{pdu_of};
 ghost use Rattle.isis_pdu.specs.Spelling.{pdu_bytes};
 ghost use Rattle.isis_pdu.specs.Reading as layout;
-ghost use Rattle.isis_pdu.specs.Reading.{system_at, lsp_id_at, pdu_length, tlvs_in, value_in, read_as, read, answer_of};
+ghost use Rattle.isis_pdu.specs.Reading.{pdu_length, tlvs_in, value_in, read_as, read, answer_of};
 
 use crate::checksum::check_ok;
 use crate::kind::Kind;
 use crate::pdu::{Csnp, Hello, Lsp, Pdu, PduError, Psnp};
 use crate::tlvs::are_whole;
-use spb_types::{LspId, Mac, SystemId, take_u16, take_u32};
-
-fn read_u16(bytes: &[u8], at: usize) -> u16
-    requires { at + 2 ≤ length bytes.now }
-    ensures { result ≡ u16_at bytes.now at }
-{
-    take_u16(bytes, at).unwrap()
-}
-
-fn read_u32(bytes: &[u8], at: usize) -> u32
-    requires { at + 4 ≤ length bytes.now }
-    ensures { result ≡ u32_at bytes.now at }
-{
-    take_u32(bytes, at).unwrap()
-}
-
-fn read_system(bytes: &[u8], at: usize) -> SystemId
-    requires { at + 6 ≤ length bytes.now }
-    ensures { result ≡ system_at bytes.now at }
-{
-    SystemId {
-        mac: Mac {
-            bytes: [
-                bytes[at],
-                bytes[at + 1],
-                bytes[at + 2],
-                bytes[at + 3],
-                bytes[at + 4],
-                bytes[at + 5],
-            ],
-        },
-    }
-}
-
-fn read_lsp_id(bytes: &[u8], at: usize) -> LspId
-    requires { at + 8 ≤ length bytes.now }
-    ensures { result ≡ lsp_id_at bytes.now at }
-{
-    LspId {
-        system: read_system(bytes, at),
-        pseudonode: bytes[at + 6],
-        number: bytes[at + 7],
-    }
-}
+use spb_types::{lsp_id_in, system_in, u16_in, u32_in};
 
 /// Whether the common header is that of an IS-IS PDU, whatever its type.
 fn is_isis(bytes: &[u8]) -> bool
@@ -76,7 +32,7 @@ fn has_length(kind: Kind, bytes: &[u8]) -> bool
     if bytes.len() < fixed {
         return false;
     }
-    let len = usize::from(read_u16(bytes, kind.length_place()));
+    let len = usize::from(u16_in(bytes, kind.length_place()));
     fixed <= len && len <= bytes.len()
 }
 
@@ -87,10 +43,10 @@ fn has_sum(kind: Kind, bytes: &[u8]) -> bool
 {
     match kind {
         Kind::Lsp => {
-            let len = usize::from(read_u16(bytes, 8));
-            read_u16(bytes, 10) == 0
-                || read_u32(bytes, 20) == 0
-                || (read_u16(bytes, 24) >= 1 && check_ok(&bytes[12..len]))
+            let len = usize::from(u16_in(bytes, 8));
+            u16_in(bytes, 10) == 0
+                || u32_in(bytes, 20) == 0
+                || (u16_in(bytes, 24) >= 1 && check_ok(&bytes[12..len]))
         }
         Kind::Hello | Kind::Csnp | Kind::Psnp => true,
     }
@@ -106,27 +62,27 @@ fn value<'a>(kind: Kind, bytes: &'a [u8], tlvs: &'a [u8]) -> Pdu<'a>
     match kind {
         Kind::Hello => Pdu::Hello(Hello {
             circuit_type: bytes[8],
-            source: read_system(bytes, 9),
-            holding: read_u16(bytes, 15),
+            source: system_in(bytes, 9),
+            holding: u16_in(bytes, 15),
             circuit: bytes[19],
             tlvs,
         }),
         Kind::Lsp => Pdu::Lsp(Lsp {
-            lifetime: read_u16(bytes, 10),
-            id: read_lsp_id(bytes, 12),
-            seq: read_u32(bytes, 20),
-            sum: read_u16(bytes, 24),
+            lifetime: u16_in(bytes, 10),
+            id: lsp_id_in(bytes, 12),
+            seq: u32_in(bytes, 20),
+            sum: u16_in(bytes, 24),
             flags: bytes[26],
             tlvs,
         }),
         Kind::Csnp => Pdu::Csnp(Csnp {
-            source: read_system(bytes, 10),
-            start: read_lsp_id(bytes, 17),
-            end: read_lsp_id(bytes, 25),
+            source: system_in(bytes, 10),
+            start: lsp_id_in(bytes, 17),
+            end: lsp_id_in(bytes, 25),
             tlvs,
         }),
         Kind::Psnp => Pdu::Psnp(Psnp {
-            source: read_system(bytes, 10),
+            source: system_in(bytes, 10),
             tlvs,
         }),
     }
@@ -145,7 +101,7 @@ fn decode_as(kind: Kind, bytes: &[u8]) -> Result<Pdu<'_>, PduError>
     if !has_length(kind, bytes) {
         return Err(PduError::Length);
     }
-    let len = usize::from(read_u16(bytes, kind.length_place()));
+    let len = usize::from(u16_in(bytes, kind.length_place()));
     let tlvs = &bytes[usize::from(fixed)..len];
     if !are_whole(tlvs) {
         return Err(PduError::TlvCut);

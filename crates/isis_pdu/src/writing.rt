@@ -1,6 +1,7 @@
 ghost use Rattle.std.specs.Prelude.{◌≡◌, ◌+◌, ◌≤◌, ◌++◌, length, IfOk, OnOk};
 ghost use Rattle.isis_pdu.specs.declared.kind.Kind.TheVariants as kinds;
-ghost use Rattle.isis_pdu.specs.Bytes.{u16_bytes, u32_bytes, lsp_id_bytes};
+ghost use Rattle.spb_types.specs.Bytes.{lsp_id_bytes};
+ghost use Rattle.isis_pdu.specs.Bytes.{u16_bytes, u32_bytes};
 ghost use Rattle.isis_pdu.specs.Header.{fixed_length};
 ghost use Rattle.isis_pdu.specs.Pdu.{hello_of, lsp_of, csnp_of, psnp_of};
 ghost use Rattle.isis_pdu.specs.Spelling as spelling;

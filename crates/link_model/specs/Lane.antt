@@ -1,4 +1,5 @@
 use Rattle.std.specs.Prelude.{◌≡◌, ◌⊎◌, ℕ, ◌+◌, List, [], ◌∷◌, ◌++◌, length, nat_lt, insert, remove, Option, Some, None, if◌then◌else◌, Bool}
+use Rattle.spb_types.specs.declared.limits.TheConstants.{MOST_FRAMES}
 
 -- a frame, as its bytes
 abbrev pub Frame : Type 0
@@ -11,7 +12,7 @@ IsIn f (g ∷ gs) = (f ≡ g) ⊎ IsIn f gs
 
 -- whether a lane with these frames has room for one more
 abbrev pub has_room : List Frame → Bool
-has_room frames = nat_lt (length frames) 1024
+has_room frames = nat_lt (length frames) MOST_FRAMES
 
 -- the frames with one more behind them; where there is no room it is lost
 abbrev pub pushed : List Frame → Frame → List Frame

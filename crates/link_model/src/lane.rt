@@ -5,13 +5,11 @@ ghost use Rattle.link_model.specs.declared.lane.DoubleError.TheVariants as doubl
 ghost use Rattle.link_model.specs.Lane.{pushed, doubled, has_room, after_double, after_lose};
 
 use spb_types::NoMemory;
+use spb_types::limits::MOST_FRAMES;
 use std::alloc::{AllocError, AllocFailed, Global};
 use std::collections::VecDeque;
 use std::marker::Model;
 use thiserror::Error;
-
-/// The most frames that a lane holds.
-const MOST: usize = 1024;
 
 /// One direction of a link: its frames in the order in which they were sent, at most 1,024. Contracts see it as
 /// the list of the frames' bytes, the front first.
@@ -23,12 +21,13 @@ pub struct Lane {
 impl Model for Lane {
     ghost use Rattle.std.specs.Prelude.{List, ℕ, ◌≤◌, map};
     ghost use Rattle.std.specs.VecDeque.{deque_len};
+    ghost use Rattle.spb_types.specs.declared.limits.TheConstants.{MOST_FRAMES};
 
     ghost Value = { List (List ℕ) };
 
     ghost view = { λ lane. map (λ frame. frame.items) lane.frames.items };
 
-    ghost invariant = { λ lane. deque_len lane.frames ≤ 1024 };
+    ghost invariant = { λ lane. deque_len lane.frames ≤ MOST_FRAMES };
 }
 
 /// What became of a frame that was pushed.
@@ -85,7 +84,7 @@ impl Lane {
     /// How many frames stand in the lane, at most 1,024.
     pub fn len(&self) -> usize
         ensures len { result ≡ length self.now }
-        ensures within { result ≤ 1024 }
+        ensures within { result ≤ MOST_FRAMES }
     {
         self.frames.len()
     }
@@ -103,7 +102,7 @@ impl Lane {
         ensures ok { OnOk result (self.new ≡ pushed self.old frame.items) }
         ensures err { OnErr result (self.new ≡ self.old) }
     {
-        if self.frames.len() == MOST {
+        if self.frames.len() == MOST_FRAMES {
             return Ok(Pushed::Dropped);
         }
         self.frames.push_back(frame)?;
@@ -156,7 +155,7 @@ impl Lane {
         let Some(frame) = self.at(k) else {
             return Err(DoubleError::NoFrame);
         };
-        if self.frames.len() == MOST {
+        if self.frames.len() == MOST_FRAMES {
             return Ok(());
         }
         let copy = Vec::from_slice(*self.frames.allocator(), frame)?;
@@ -221,12 +220,12 @@ mod tests {
     #[test]
     fn the_frame_after_1024_and_a_copy_after_them_are_lost(rt: HostRuntime) -> Result<(), Fail> {
         let mut lane = Lane::new(rt.alloc());
-        for _ in 0..1024 {
+        for _ in 0..MOST_FRAMES {
             assert_eq!(rt; lane.push(vec![in rt.alloc(); 1]?)?, Pushed::Kept);
         }
         assert_eq!(rt; lane.push(vec![in rt.alloc(); 2]?)?, Pushed::Dropped);
         assert_eq!(rt; lane.double(0), Ok(()));
-        assert_eq!(rt; lane.len(), 1024);
+        assert_eq!(rt; lane.len(), MOST_FRAMES);
         Ok(())
     }
 }

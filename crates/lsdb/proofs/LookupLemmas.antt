@@ -13,6 +13,7 @@ use Rattle.spb_types.specs.declared.address.LspId.{LspId}
 use Rattle.lsdb.specs.Entry.{Entry}
 use Rattle.lsdb.specs.Database.{Lsps, id_cmp, fits, placed, changed, changed_to, each}
 use Rattle.lsdb.proofs.Ids.{ids_total, ids_tied, tied_same}
+use Rattle.spb_types.specs.declared.limits.TheConstants.{MOST_LSPS}
 
 pub tied_is : (x y : LspId) → is_eq (id_cmp x y) ≡ true → x ≡ y
 tied_is x y e = ids_tied x y (equal_from (id_cmp x y) e)
@@ -81,7 +82,7 @@ len-each f db =
 pub fits-each : (f : LspId → Entry → Entry) (db : Lsps) (id : LspId) → fits (each f db) id ≡ fits db id
 fits-each f db id =
     let is : is_some (get (each f db) id) ≡ is_some (get db id) = ap is_some (get-each f db id) ∙ is_some-option_map (f id) (get db id) in
-    λ i. is i || nat_lt (len-each f db i) 2048
+    λ i. is i || nat_lt (len-each f db i) MOST_LSPS
 
 -- an entry changed twice, and an entry that is placed where the id is held
 pub insert-insert : (db : Lsps) (id : LspId) (e f : Entry) → insert (insert db id e) id f ≡ insert db id f
@@ -120,7 +121,7 @@ pub changed_missing : (f : Entry → Entry) (db : Lsps) (id : LspId) → get db 
 changed_missing f db id is = ap (λ o. changed_to db id (option_map f o)) is
 
 pub fits_held : (db : Lsps) (id : LspId) (e : Entry) → get db id ≡ Some e → fits db id ≡ true
-fits_held db id e is = ap (λ o. is_some o || nat_lt (len db) 2048) is
+fits_held db id e is = ap (λ o. is_some o || nat_lt (len db) MOST_LSPS) is
 
 pub placed_held : (db : Lsps) (id : LspId) (e new : Entry) → get db id ≡ Some e → placed db id (Some new) ≡ insert db id new
 placed_held db id e new is = ap (λ b. if b then insert db id new else db) (fits_held db id e is)

@@ -23,6 +23,7 @@ use Rattle.lsdb.specs.Database.{Lsps, id_cmp, keyed, fits, changed, changed_to, 
 use Rattle.lsdb.specs.Place.{AreSorted, IsSound, IsAt, IsGap, with_entry}
 use Rattle.lsdb.proofs.Ids.{ids_total, ids_tied, tied_same, turned_less, turned_greater}
 use Rattle.lsdb.proofs.Searched.{ids_rise}
+use Rattle.spb_types.specs.declared.limits.TheConstants.{MOST_LSPS}
 
 pub true_from_T : (b : Bool) → T b → b ≡ true
 true_from_T true h = refl
@@ -165,7 +166,7 @@ insert_clean hs zero h all one = (one, all)
 insert_clean [] (suc i) h all one = (one, all)
 insert_clean (g ∷ hs) (suc i) h all one = (all.0, insert_clean hs i h all.1 one)
 
-pub insert_sound : (hs : List Held) → IsSound hs → (h : Held) (i : ℕ) → IsGap hs h.id i → length hs < 2048 → IsClean (entry_of h) → IsSound (inserted hs i h)
+pub insert_sound : (hs : List Held) → IsSound hs → (h : Held) (i : ℕ) → IsGap hs h.id i → length hs < MOST_LSPS → IsClean (entry_of h) → IsSound (inserted hs i h)
 insert_sound hs sound h i gap room clean = record {
   sorted = put_sorted hs sound.sorted h.id (entry_of h) (inserted hs i h) (insert_put hs h i gap);
   few = rw (length-insert hs i h gap.within) (omega arith);
@@ -174,11 +175,11 @@ insert_sound hs sound h i gap room clean = record {
 
 -- whether there is a place
 pub fits_at : (hs : List Held) → AreSorted hs → (id : LspId) (i : ℕ) → IsAt hs id i → (d : Held) → fits (from_sorted (map keyed hs)) id ≡ true
-fits_at hs s id i at d = ap (λ o. is_some o || nat_lt (len (from_sorted {R = id_cmp} (map keyed hs))) 2048) (get_at hs s id i at d)
+fits_at hs s id i at d = ap (λ o. is_some o || nat_lt (len (from_sorted {R = id_cmp} (map keyed hs))) MOST_LSPS) (get_at hs s id i at d)
 
-pub fits_gap : (hs : List Held) → AreSorted hs → (id : LspId) (i : ℕ) → IsGap hs id i → fits (from_sorted (map keyed hs)) id ≡ nat_lt (length hs) 2048
+pub fits_gap : (hs : List Held) → AreSorted hs → (id : LspId) (i : ℕ) → IsGap hs id i → fits (from_sorted (map keyed hs)) id ≡ nat_lt (length hs) MOST_LSPS
 fits_gap hs s id i gap =
-    ap (λ o. is_some o || nat_lt (len (from_sorted {R = id_cmp} (map keyed hs))) 2048) (get_gap hs s id i gap) ∙ ap (λ n. nat_lt n 2048) (len_map hs s)
+    ap (λ o. is_some o || nat_lt (len (from_sorted {R = id_cmp} (map keyed hs))) MOST_LSPS) (get_gap hs s id i gap) ∙ ap (λ n. nat_lt n MOST_LSPS) (len_map hs s)
 
 -- ---- every LSP changed
 
@@ -287,7 +288,7 @@ cleaned_clean h held is can =
 pub put_over_sound : (hs ls : List Held) → ls ≡ hs → (h : Held) (i : ℕ) → IsAt ls h.id i → IsSound hs → (held : Held) → h ≡ with_entry cleaned held → CanBeHeld held.version held.lifetime held.body → IsSound (set hs i h)
 put_over_sound hs ls same h i at sound held is can = set_sound hs sound h.id i (at_in hs ls same h.id i at) h refl (cleaned_clean h held is can)
 
-pub put_new_sound : (hs ls : List Held) → ls ≡ hs → (h : Held) (i : ℕ) → IsGap ls h.id i → IsSound hs → length hs < 2048 → (held : Held) → h ≡ with_entry cleaned held → CanBeHeld held.version held.lifetime held.body → IsSound (inserted hs i h)
+pub put_new_sound : (hs ls : List Held) → ls ≡ hs → (h : Held) (i : ℕ) → IsGap ls h.id i → IsSound hs → length hs < MOST_LSPS → (held : Held) → h ≡ with_entry cleaned held → CanBeHeld held.version held.lifetime held.body → IsSound (inserted hs i h)
 put_new_sound hs ls same h i gap sound room held is can = insert_sound hs sound h i (gap_in hs ls same h.id i gap) room (cleaned_clean h held is can)
 
 as_put : (m : Lsps) (h held : Held) → h ≡ with_entry cleaned held → (db : Lsps) → m ≡ db → insert m h.id (entry_of h) ≡ insert db held.id (cleaned (entry_of held))
@@ -308,7 +309,7 @@ pub put_over_fits : (hs ls : List Held) → ls ≡ hs → (h : Held) (i : ℕ) �
 put_over_fits hs ls same h i at sound held is db view =
     sym (fits_as (from_sorted (map keyed hs)) h held is db view) ∙ fits_at hs sound.sorted h.id i (at_in hs ls same h.id i at) h
 
-pub put_new_fits : (hs ls : List Held) → ls ≡ hs → (h : Held) (i : ℕ) → IsGap ls h.id i → IsSound hs → (held : Held) → h ≡ with_entry cleaned held → (db : Lsps) → from_sorted (map keyed hs) ≡ db → fits db held.id ≡ nat_lt (length hs) 2048
+pub put_new_fits : (hs ls : List Held) → ls ≡ hs → (h : Held) (i : ℕ) → IsGap ls h.id i → IsSound hs → (held : Held) → h ≡ with_entry cleaned held → (db : Lsps) → from_sorted (map keyed hs) ≡ db → fits db held.id ≡ nat_lt (length hs) MOST_LSPS
 put_new_fits hs ls same h i gap sound held is db view =
     sym (fits_as (from_sorted (map keyed hs)) h held is db view) ∙ fits_gap hs sound.sorted h.id i (gap_in hs ls same h.id i gap)
 

@@ -9,6 +9,7 @@ use Rattle.lsdb.specs.Version.{IsAtMost}
 use Rattle.lsdb.specs.Entry.{Entry, stored, flooded, entered, acked, cleared, offered, flagged, joined, parted, aged}
 use Rattle.lsdb.specs.Database.{Lsps, version_in, placed, changed, each}
 use Rattle.lsdb.specs.Certificate.{Claim, IsClaimed, Control, EntryCertificate, Certificate}
+use Rattle.spb_types.specs.declared.limits.TheConstants.{MOST_PORTS}
 
 -- a step in which nothing changes is certified
 abbrev pub StandingIsCertified : Type 0
@@ -46,11 +47,11 @@ EnteringIsCertified = (before after : PortSet) (port : ℕ) (claims : List Claim
 -- an LSP is to be sent at a port
 abbrev pub OfferingIsCertified : Type 0
 OfferingIsCertified = (up : PortSet) (port at : ℕ) (claims : List Claim) (id : LspId) (e : Entry)
-    → 1 ≤ port → port ≤ 32 → EntryCertificate at claims up up id (Some e) (Some (offered port e))
+    → 1 ≤ port → port ≤ MOST_PORTS → EntryCertificate at claims up up id (Some e) (Some (offered port e))
 
 abbrev pub FlaggingIsCertified : Type 0
 FlaggingIsCertified = (up : PortSet) (port at : ℕ) (claims : List Claim) (id : LspId) (e : Entry)
-    → 1 ≤ port → port ≤ 32 → EntryCertificate at claims up up id (Some e) (Some (flagged port e))
+    → 1 ≤ port → port ≤ MOST_PORTS → EntryCertificate at claims up up id (Some e) (Some (flagged port e))
 
 -- a version that isn't older than what is held goes to every Up port
 abbrev pub FloodingIsCertified : Type 0
@@ -64,12 +65,12 @@ AgeingIsCertified = (up : PortSet) (port : ℕ) (claims : List Claim) (id : LspI
 -- a port leaves the Up ports, and its flags are cleared
 abbrev pub PartingIsCertified : Type 0
 PartingIsCertified = (up : PortSet) (port at : ℕ) (claims : List Claim) (id : LspId) (e : Entry)
-    → 1 ≤ port → port ≤ 32 → EntryCertificate at claims up (without_port up port) id (Some e) (Some (parted port e))
+    → 1 ≤ port → port ≤ MOST_PORTS → EntryCertificate at claims up (without_port up port) id (Some e) (Some (parted port e))
 
 -- a port comes up, and every LSP that isn't absent is to be sent there
 abbrev pub JoiningIsCertified : Type 0
 JoiningIsCertified = (up : PortSet) (port at : ℕ) (claims : List Claim) (id : LspId) (e : Entry)
-    → 1 ≤ port → port ≤ 32 → EntryCertificate at claims up (with_port up port) id (Some e) (Some (joined port e))
+    → 1 ≤ port → port ≤ MOST_PORTS → EntryCertificate at claims up (with_port up port) id (Some e) (Some (joined port e))
 
 -- two certified steps of one entry are one
 abbrev pub EntryStepsCompose : Type 0

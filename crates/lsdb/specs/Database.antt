@@ -12,6 +12,7 @@ use Rattle.lsdb.specs.declared.version.Version.{Version}
 use Rattle.lsdb.specs.declared.version.Version.TheVariants.{Absent}
 use Rattle.lsdb.specs.declared.held.Held.{Held}
 use Rattle.lsdb.specs.Entry.{Entry, entry_of, has_flags}
+use Rattle.spb_types.specs.declared.limits.TheConstants.{MOST_LSPS}
 
 -- the order of LSP ids: that of their eight bytes (ISO/IEC 10589, 9.8)
 abbrev pub id_cmp : LspId → LspId → Ordering
@@ -46,9 +47,9 @@ ssn_in (Some e) = e.ssn
 abbrev pub version_at : Lsps → LspId → Version
 version_at db id = version_in (get db id)
 
--- whether there is a place for the id: it is held, or fewer than 2,048 ids are
+-- whether there is a place for the id: it is held, or fewer ids than a database can hold are
 abbrev pub fits : Lsps → LspId → Bool
-fits db id = contains_key db id || nat_lt (len db) 2048
+fits db id = contains_key db id || nat_lt (len db) MOST_LSPS
 
 -- the entry put under the id, if there is one and a place for it
 abbrev pub placed : Lsps → LspId → Option Entry → Lsps

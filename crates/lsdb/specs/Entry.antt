@@ -6,6 +6,8 @@ use Rattle.lsdb.specs.declared.version.Version.TheVariants.{Absent, Live, Dead}
 use Rattle.lsdb.specs.declared.held.Held.{Held}
 use Rattle.lsdb.specs.declared.held.DbRow.{DbRow}
 use Rattle.lsdb.specs.Version.{is_absent}
+use Rattle.spb_types.specs.declared.address.LspId.{LspId}
+use Rattle.spb_types.specs.declared.level.TheConstants.{LEVEL_1}
 
 -- what a database holds under an id: a version, its remaining lifetime and its body (the flags octet and the TLVs), and
 -- the ports at which it is to be sent (SRM) and to be acknowledged (SSN) (ISO/IEC 10589, 7.3.15)
@@ -22,11 +24,11 @@ lifetime_at Absent lifetime = 0
 lifetime_at (Live seq sum) lifetime = lifetime
 lifetime_at (Dead seq) lifetime = 0
 
--- a dead LSP is its flags octet alone, and an absent one has no body
+-- a dead LSP is the flags octet of level 1 alone, and an absent one has no body
 abbrev pub body_at : Version → List ℕ → List ℕ
 body_at Absent body = []
 body_at (Live seq sum) body = body
-body_at (Dead seq) body = 1 ∷ []
+body_at (Dead seq) body = LEVEL_1 ∷ []
 
 -- the entry of a version with this lifetime, body and flags
 abbrev pub made : Version → ℕ → List ℕ → PortSet → PortSet → Entry
@@ -42,7 +44,7 @@ CanBeHeld (Dead seq) lifetime body = 1 ≤ length body
 abbrev pub AreKept : Version → ℕ → List ℕ → Type 0
 AreKept Absent lifetime body = (lifetime ≡ 0) × (body ≡ [])
 AreKept (Live seq sum) lifetime body = (1 ≤ lifetime) × (1 ≤ length body)
-AreKept (Dead seq) lifetime body = (lifetime ≡ 0) × (body ≡ 1 ∷ [])
+AreKept (Dead seq) lifetime body = (lifetime ≡ 0) × (body ≡ LEVEL_1 ∷ [])
 
 -- the entry has the lifetime and the body that its version is kept with
 abbrev pub IsClean : Entry → Type 0
@@ -56,9 +58,9 @@ entry_of h = record { version = h.version; lifetime = h.lifetime; body = h.body;
 abbrev pub cleaned : Entry → Entry
 cleaned e = made e.version e.lifetime e.body e.srm e.ssn
 
--- all of a held LSP but its body
-abbrev pub row_of : Held → DbRow
-row_of h = record { id = h.id; version = h.version; lifetime = h.lifetime; srm = h.srm; ssn = h.ssn }
+-- the id of a held LSP, and all of its entry but the body
+abbrev pub row_of : LspId → Entry → DbRow
+row_of id e = record { id = id; version = e.version; lifetime = e.lifetime; srm = e.srm; ssn = e.ssn }
 
 -- whether some port is in the set: one of its 32 bits is 1
 unfoldable pub has_ports : PortSet → Bool

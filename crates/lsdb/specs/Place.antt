@@ -6,6 +6,7 @@ use Rattle.spb_types.specs.declared.address.LspId.{LspId}
 use Rattle.lsdb.specs.declared.held.Held.{Held}
 use Rattle.lsdb.specs.Entry.{Entry, entry_of, IsClean}
 use Rattle.lsdb.specs.Database.{id_cmp, keyed}
+use Rattle.spb_types.specs.declared.limits.TheConstants.{MOST_LSPS}
 
 -- the ids rise, so that each stands once
 abbrev pub AreSorted : List Held → Type 0
@@ -14,7 +15,7 @@ AreSorted held = IsTrue (is_sorted id_cmp (map keyed held))
 -- how a database keeps its LSPs
 pub record IsSound (held : List Held) : Type 0 where
   pub sorted : AreSorted held
-  pub few : length held ≤ 2048
+  pub few : length held ≤ MOST_LSPS
   pub clean : AllByRecursion (λ h. IsClean (entry_of h)) held
 
 -- the id stands at this place

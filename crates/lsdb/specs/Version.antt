@@ -10,6 +10,12 @@ number_of Absent = 0
 number_of (Live seq sum) = seq
 number_of (Dead seq) = seq
 
+-- the checksum of a version; that of a dead one, and of none, is 0
+abbrev pub sum_of : Version → ℕ
+sum_of Absent = 0
+sum_of (Live seq sum) = sum
+sum_of (Dead seq) = 0
+
 -- whether it is the version of nothing
 abbrev pub is_absent : Version → Bool
 is_absent Absent = true

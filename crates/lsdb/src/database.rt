@@ -8,13 +8,11 @@ ghost use Rattle.lsdb.specs.Database.{keyed, fits, version_at, changed, each, an
 ghost use Rattle.lsdb.specs.Place.{AreSorted, IsAt, IsGap, with_entry};
 
 use crate::{Held, Relation, Version, item};
+use spb_types::limits::{MOST_LSPS, MOST_PORTS};
 use spb_types::{LspId, PortSet};
 use std::alloc::{AllocFailed, Global};
 use std::marker::Model;
 use thiserror::Error;
-
-/// The most LSPs that a database holds.
-const MOST: usize = 2048;
 
 /// The link state database of a bridge: at most 2,048 LSPs in order of id. Contracts see it as the finite map from ids
 /// to entries.
@@ -86,7 +84,7 @@ fn age_all(held: &mut Vec<Held>, up: PortSet) -> bool
 // Changes every LSP by `item::part`.
 fn part_all(held: &mut Vec<Held>, port: u8)
     requires low { 1 ≤ port }
-    requires high { port ≤ 32 }
+    requires high { port ≤ MOST_PORTS }
     ensures { held.new.items ≡ map (with_entry (parted port)) held.old.items }
 {
     for h in held.iter_mut() {
@@ -116,7 +114,7 @@ impl Database {
     /// How many ids are held, at most 2,048.
     pub fn len(&self) -> usize
         ensures len { result ≡ finite.len self.now }
-        ensures few { result ≤ 2048 }
+        ensures few { result ≤ MOST_LSPS }
     {
         self.held.len()
     }
@@ -180,7 +178,7 @@ impl Database {
                 Ok(())
             }
             Err(place) => {
-                if self.held.len() >= MOST {
+                if self.held.len() >= MOST_LSPS {
                     return Err(PutError::Full);
                 }
                 self.held.insert(place, held)?;
@@ -233,7 +231,7 @@ impl Database {
     /// happens where the id isn't held.
     pub fn set_srm(&mut self, id: &LspId, port: u8, on: bool)
         requires low { 1 ≤ port }
-        requires high { port ≤ 32 }
+        requires high { port ≤ MOST_PORTS }
         ensures { self.new ≡ changed (with_srm port on) self.old id.now }
     {
         match place_of(&self.held, id) {
@@ -246,7 +244,7 @@ impl Database {
     /// Nothing happens where the id isn't held.
     pub fn set_ssn(&mut self, id: &LspId, port: u8, on: bool)
         requires low { 1 ≤ port }
-        requires high { port ≤ 32 }
+        requires high { port ≤ MOST_PORTS }
         ensures { self.new ≡ changed (with_ssn port on) self.old id.now }
     {
         match place_of(&self.held, id) {
@@ -258,7 +256,7 @@ impl Database {
     /// Takes a port, 1 to 32, out of the flags of every LSP.
     pub fn clear_port(&mut self, port: u8)
         requires low { 1 ≤ port }
-        requires high { port ≤ 32 }
+        requires high { port ≤ MOST_PORTS }
         ensures { self.new ≡ each (λ id e. parted port e) self.old }
     {
         part_all(&mut self.held, port);

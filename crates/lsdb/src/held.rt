@@ -1,5 +1,5 @@
 ghost use Rattle.std.specs.Prelude.{◌≡◌};
-ghost use Rattle.lsdb.specs.Entry.{row_of};
+ghost use Rattle.lsdb.specs.Entry.{entry_of, row_of};
 
 use crate::Version;
 use spb_types::{LspId, PortSet, Seq};
@@ -32,7 +32,7 @@ pub struct DbRow {
 impl Held {
     /// All but the body.
     pub fn row(&self) -> DbRow
-        ensures { result ≡ row_of self.now }
+        ensures { result ≡ row_of self.now.id (entry_of self.now) }
     {
         DbRow {
             id: self.id,

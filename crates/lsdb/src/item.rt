@@ -5,15 +5,16 @@ ghost use Rattle.lsdb.specs.Entry.{entry_of, CanBeHeld, IsClean, cleaned, raised
 ghost use Rattle.lsdb.specs.Place.{with_entry};
 
 use crate::{Held, Version};
-use spb_types::{PortSet, Seq};
+use spb_types::limits::MOST_PORTS;
+use spb_types::{LEVEL_1, PortSet, Seq};
 
 // Leaves the flags octet of a dead LSP alone.
 fn keep_flags_octet(body: &mut Seq<u8>)
     requires { 1 ≤ length body.old }
-    ensures { body.new ≡ 1 ∷ [] }
+    ensures { body.new ≡ LEVEL_1 ∷ [] }
 {
     body.truncate(1);
-    body.set(0, 1);
+    body.set(0, LEVEL_1);
 }
 
 /// Gives the LSP the lifetime and the body that its version is kept with.
@@ -65,7 +66,7 @@ pub fn bury(held: &mut Held, seq: u32, srm: PortSet)
 
 fn switched(ports: PortSet, port: u8, on: bool) -> PortSet
     requires low { 1 ≤ port }
-    requires high { port ≤ 32 }
+    requires high { port ≤ MOST_PORTS }
     ensures { result ≡ entry.switched on ports port }
 {
     if on {
@@ -78,7 +79,7 @@ fn switched(ports: PortSet, port: u8, on: bool) -> PortSet
 /// Puts a port into the ports at which the LSP is to be sent, or takes it out.
 pub fn set_srm(held: &mut Held, port: u8, on: bool)
     requires low { 1 ≤ port }
-    requires high { port ≤ 32 }
+    requires high { port ≤ MOST_PORTS }
     ensures { held.new ≡ with_entry (with_srm port on) held.old }
 {
     held.srm = switched(held.srm, port, on);
@@ -87,7 +88,7 @@ pub fn set_srm(held: &mut Held, port: u8, on: bool)
 /// Puts a port into the ports at which the LSP is to be acknowledged, or takes it out.
 pub fn set_ssn(held: &mut Held, port: u8, on: bool)
     requires low { 1 ≤ port }
-    requires high { port ≤ 32 }
+    requires high { port ≤ MOST_PORTS }
     ensures { held.new ≡ with_entry (with_ssn port on) held.old }
 {
     held.ssn = switched(held.ssn, port, on);
@@ -96,7 +97,7 @@ pub fn set_ssn(held: &mut Held, port: u8, on: bool)
 /// Takes a port out of the flags.
 pub fn part(held: &mut Held, port: u8)
     requires low { 1 ≤ port }
-    requires high { port ≤ 32 }
+    requires high { port ≤ MOST_PORTS }
     ensures { held.new ≡ with_entry (parted port) held.old }
 {
     held.srm = held.srm.without(port);

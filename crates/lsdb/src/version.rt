@@ -1,5 +1,5 @@
 ghost use Rattle.std.specs.Prelude.{◌≡◌};
-ghost use Rattle.lsdb.specs.Version.{is_absent, leq, relation, join_of, number_of, claimed};
+ghost use Rattle.lsdb.specs.Version.{is_absent, leq, relation, join_of, number_of, sum_of, claimed};
 
 /// The version of an LSP (ISO/IEC 10589, 7.3.16).
 #[derive(Clone, Copy, Debug, PartialEq, Eq, Hash)]
@@ -47,6 +47,16 @@ impl Version {
             Version::Absent => 0,
             Version::Live { seq, sum: _ } => seq,
             Version::Dead { seq } => seq,
+        }
+    }
+
+    /// The checksum of an LSP with a lifetime left; that of a dead one, and of none, is 0.
+    pub fn sum(self) -> u16
+        ensures { result ≡ sum_of self }
+    {
+        match self {
+            Version::Live { seq: _, sum } => sum,
+            Version::Absent | Version::Dead { seq: _ } => 0,
         }
     }
 

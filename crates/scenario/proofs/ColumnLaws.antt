@@ -14,6 +14,7 @@ use Rattle.scenario.specs.Spelling.{SpellsValue, SpellsForm, SpellsWords, CanGoO
 use Rattle.scenario.proofs.Values.{spells-meaning, meaning-spelled}
 use Rattle.scenario.proofs.FormLaws.{rest}
 use Rattle.scenario.proofs.LineLaws.{keyword-text, text-keyword}
+use Rattle.scenario.specs.declared.line.TheConstants.{LINE_LIMIT}
 
 -- a word of each kind
 example : (k : Kind) → (word : List ℕ) × (value : Value k) × SpellsValue k value word
@@ -204,7 +205,7 @@ some-Err : {A : Type 0} (r : Result A ℕ) (column : ℕ) → some r ≡ Err col
 some-Err (Ok value) column h = cc
 some-Err (Err other) column h = cc
 
-words-wrong : (line : List ℕ) (column : ℕ) (words : List Word) → length line ≤ 8192 → words_in is_blank false 1 line ≡ words
+words-wrong : (line : List ℕ) (column : ℕ) (words : List Word) → length line ≤ LINE_LIMIT → words_in is_blank false 1 line ≡ words
     → unless_blank words (rest words (1 + length line)) ≡ Err column → IsRefusedAt line column
 unfolding next
 words-wrong line column [] short e h = cc
@@ -218,12 +219,12 @@ words-wrong line column (word ∷ words) short e h =
 pub refused-line : (line : List ℕ) (column : ℕ) → line_of line ≡ Err column → IsRefusedAt line column
 unfolding line_of rest_from
 refused-line line column h =
-    elim (cases_Bool (nat_lt 8192 (length line))) [
+    elim (cases_Bool (nat_lt LINE_LIMIT (length line))) [
       | inl long ↦
-          let is : column ≡ 8193 = cc (rw long at h) in
+          let is : column ≡ LINE_LIMIT + 1 = cc (rw long at h) in
           too_long (grind (arith, nat_tests)) is
       | inr short ↦
-          let few : length line ≤ 8192 = grind (arith, nat_tests) in
+          let few : length line ≤ LINE_LIMIT = grind (arith, nat_tests) in
           elim (cases_Bool (is_comment line)) [
             | inl comment ↦ cc (rw (short, comment) at h)
             | inr plain ↦ words-wrong line column (words_in is_blank false 1 line) few refl (rw (short, plain) at h)

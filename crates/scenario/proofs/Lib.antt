@@ -5,3 +5,4 @@ pub mod FormLaws
 pub mod WordLaws
 pub mod LineLaws
 pub mod ColumnLaws
+pub mod Rows

@@ -1,4 +1,4 @@
-use Rattle.std.proofs.Common.{◌≡◌, ℕ, ◌+◌, ◌≤◌, ◌==◌, List, [], ◌∷◌, ◌++◌, length, Bool, true, false, nat_lt, Option, Some, None, Result, Ok, Err, find, refl, sym, ◌∙◌, inl, inr, arith, if◌then◌else◌}
+use Rattle.std.proofs.Common.{◌≡◌, ℕ, ◌+◌, ◌≤◌, ◌==◌, List, [], ◌∷◌, ◌++◌, length, Bool, true, false, nat_lt, Option, Some, None, Result, Ok, Err, find, map, refl, sym, ◌∙◌, inl, inr, arith, if◌then◌else◌}
 use Rattle.std.specs.List.{list_all}
 use Rattle.std.specs.Str.{bytes_eq}
 use Rattle.std.proofs.lemmas.Bool.{cases_Bool, and_parts}
@@ -14,6 +14,7 @@ use Rattle.scenario.specs.Grammar.{read, form_of, is_comment, some, unless_blank
 use Rattle.scenario.specs.Spelling.{AreBlank, SpellsForm, Spells, IsPassedOver, bytes_of}
 use Rattle.scenario.proofs.FormLaws.{rest, spells-read, read-spelled}
 use Rattle.scenario.proofs.WordLaws.{words-apart, words-same, words_in-none}
+use Rattle.scenario.specs.declared.line.TheConstants.{LINE_LIMIT}
 
 -- what a search finds passes the test
 find-passes : {X : Type 0} (p : X → Bool) (xs : List X) (x : X) → find p xs ≡ Some x → p x ≡ true
@@ -31,7 +32,7 @@ find-passes p (y ∷ ys) x h =
 pub keyword-text : (word : List ℕ) (k : Keyword) → keyword word ≡ Some k → word ≡ text_of k
 unfolding keyword
 keyword-text word k h =
-    sym ((bytes_eq-Decides (text_of k) word).0 (find-passes (λ k. bytes_eq (text_of k) word) KEYWORDS k h))
+    sym ((bytes_eq-Decides (text_of k) word).0 (find-passes (λ k. bytes_eq (text_of k) word) (map (λ row. row.0) KEYWORDS) k h))
 
 -- each keyword's text means it
 pub text-keyword : (k : Keyword) → keyword (text_of k) ≡ Some k
@@ -75,7 +76,7 @@ taken-keyword word words end command (Some k) e h =
     (k, keyword-text word.bytes k e, spells-read (form_of k) command words end h)
 
 -- a line whose words gave a command spells it
-words-spell : (line : List ℕ) (command : Command) (words : List Word) (end : ℕ) → length line ≤ 8192
+words-spell : (line : List ℕ) (command : Command) (words : List Word) (end : ℕ) → length line ≤ LINE_LIMIT
     → words_in is_blank false 1 line ≡ words → unless_blank words (rest words end) ≡ Ok (Some command) → Spells line command
 unfolding next
 words-spell line command [] end short e h = cc
@@ -94,10 +95,10 @@ words-spell line command (word ∷ words) end short e h =
 pub Spells-line_of : (line : List ℕ) (command : Command) → line_of line ≡ Ok (Some command) → Spells line command
 unfolding line_of rest_from
 Spells-line_of line command h =
-    elim (cases_Bool (nat_lt 8192 (length line))) [
+    elim (cases_Bool (nat_lt LINE_LIMIT (length line))) [
       | inl long ↦ cc (rw long at h)
       | inr short ↦
-          let few : length line ≤ 8192 = grind (arith, nat_tests) in
+          let few : length line ≤ LINE_LIMIT = grind (arith, nat_tests) in
           elim (cases_Bool (is_comment line)) [
             | inl comment ↦ cc (rw (short, comment) at h)
             | inr plain ↦
@@ -121,7 +122,7 @@ words-read (word ∷ words) end k texts command e h =
 pub line_of-spelled : (line : List ℕ) (command : Command) → Spells line command → line_of line ≡ Ok (Some command)
 unfolding line_of rest_from
 line_of-spelled line command h =
-    let short : nat_lt 8192 (length line) ≡ false = grind (arith, nat_tests, h.short) in
+    let short : nat_lt LINE_LIMIT (length line) ≡ false = grind (arith, nat_tests, h.short) in
     let plain : is_comment line ≡ false = rw h.apart.5 (plain-comment h.apart.0 h.apart.1 h.keyword h.apart.2) in
     let words : bytes_of (words_in is_blank false 1 line) ≡ text_of h.keyword ∷ h.words = words-same (text_of h.keyword ∷ h.words) line 1 h.apart in
     rw (short, plain) (words-read (words_in is_blank false 1 line) (1 + length line) h.keyword h.words command words h.form)
@@ -143,10 +144,10 @@ words-none line (word ∷ words) end e h = absurd (some-None (command_in (rest (
 pub IsPassedOver-line_of : (line : List ℕ) → line_of line ≡ Ok None → IsPassedOver line
 unfolding line_of rest_from
 IsPassedOver-line_of line h =
-    elim (cases_Bool (nat_lt 8192 (length line))) [
+    elim (cases_Bool (nat_lt LINE_LIMIT (length line))) [
       | inl long ↦ cc (rw long at h)
       | inr short ↦
-          let few : length line ≤ 8192 = grind (arith, nat_tests) in
+          let few : length line ≤ LINE_LIMIT = grind (arith, nat_tests) in
           elim (cases_Bool (is_comment line)) [
             | inl comment ↦ (few, inr comment)
             | inr plain ↦ (few, inl (words-none line (words_in is_blank false 1 line) (1 + length line) refl (rw (short, plain) at h)))
@@ -156,7 +157,7 @@ IsPassedOver-line_of line h =
 pub line_of-passed_over : (line : List ℕ) → IsPassedOver line → line_of line ≡ Ok None
 unfolding line_of rest_from
 line_of-passed_over line h =
-    let short : nat_lt 8192 (length line) ≡ false = grind (arith, nat_tests, h.0) in
+    let short : nat_lt LINE_LIMIT (length line) ≡ false = grind (arith, nat_tests, h.0) in
     elim h.1 [
       | inl blank ↦ rw (short, words_in-none line 1 blank) (either (is_comment line))
       | inr comment ↦ rw (short, comment) refl

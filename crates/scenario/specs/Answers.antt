@@ -1,9 +1,10 @@
-use Rattle.std.specs.Prelude.{◌≡◌, ℕ, Option, Some, Result, Ok, Err, ⊤}
+use Rattle.std.specs.Prelude.{◌≡◌, ℕ, List, Option, Some, Result, Ok, Err, ◌⊎◌, ⊤}
 use Rattle.scenario.specs.declared.command.Command.{Command}
 use Rattle.scenario.specs.declared.command.Command.TheVariants as command
 use Rattle.scenario.specs.declared.error.LineError.{LineError}
 use Rattle.scenario.specs.declared.error.LineError.TheVariants.{Words, NoMemory}
-use Rattle.scenario.specs.Words.{Rest, Reading}
+use Rattle.scenario.specs.Words.{Rest, Reading, next, at_end}
+use Rattle.scenario.specs.WordForms.{name}
 use Rattle.scenario.specs.Grammar.{some}
 
 -- what a call answered that takes no memory is what reading gives
@@ -33,6 +34,13 @@ Fails NoMemory reading = NeedsMemory reading
 abbrev pub Reads : Result (Option Command) LineError → Result (Option Command) ℕ → Type 0
 Reads (Ok found) reading = reading ≡ Ok found
 Reads (Err e) reading = Fails e reading
+
+-- the last word was read as a name, or else that word or the one behind it is refused
+abbrev pub Names : Result (List ℕ) LineError → Rest → Type 0
+Names (Ok found) rest = (left : Rest) × (next name rest ≡ Ok (found, left)) × (at_end left ≡ Ok tt)
+Names (Err e) rest =
+    Refuses e (next name rest)
+    ⊎ ((found : List ℕ) × (left : Rest) × (next name rest ≡ Ok (found, left)) × Refuses e (at_end left))
 
 -- the same of a command
 abbrev pub Gives : Result Command LineError → Result Command ℕ → Type 0

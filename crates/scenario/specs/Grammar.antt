@@ -1,4 +1,4 @@
-use Rattle.std.specs.Prelude.{ℕ, List, [], ◌∷◌, length, nat_lt, Bool, false, ◌==◌, if◌then◌else◌, Option, Some, None, Result, Ok, Err}
+use Rattle.std.specs.Prelude.{ℕ, ◌+◌, List, [], ◌∷◌, length, nat_lt, Bool, false, ◌==◌, if◌then◌else◌, Option, Some, None, Result, Ok, Err}
 use Rattle.spb_types.specs.declared.address.Mac.{Mac}
 use Rattle.spb_types.specs.declared.service.SourceId.{SourceId}
 use Rattle.spb_types.specs.declared.link.Side.{Side}
@@ -8,6 +8,7 @@ use Rattle.scenario.specs.declared.command.Command.TheVariants as command
 use Rattle.scenario.specs.declared.keyword.Keyword.{Keyword}
 use Rattle.scenario.specs.declared.line.FirstWord.{FirstWord}
 use Rattle.scenario.specs.declared.keyword.Keyword.TheVariants.{Vid, Bridge, Link, Isid, Attach, Detach, Metric, Down, Up, Restart, Tick, Deliver, Lose, Double, Round, Drain, Frame, State, Show, Wiring, Db, Adj, Path}
+use Rattle.scenario.specs.declared.line.TheConstants.{LINE_LIMIT}
 use Rattle.scenario.specs.Words.{Word, Rest, rest_from, Reading, next, at_end}
 use Rattle.scenario.specs.WordForms.{name, number, system, source, frame, dir, side}
 use Rattle.scenario.specs.Keywords.{keyword}
@@ -65,6 +66,12 @@ infixl 10 ◌>>=◌
 abbrev pub ◌>>=◌ : (k : Kind) → (Value k → Form) → Form
 k >>= f = takes k f
 
+-- one name, and the command that it gives
+abbrev pub one_name : (List ℕ → Command) → Form
+one_name command = do
+  name ← a_name
+  gives (command name)
+
 -- the form of the line that each keyword begins
 unfoldable pub form_of : Keyword → Form
 form_of Vid = do
@@ -104,18 +111,10 @@ form_of Metric = do
   side ← a_side
   metric ← a_number
   gives (command.Metric link side metric)
-form_of Down = do
-  link ← a_name
-  gives (command.Down link)
-form_of Up = do
-  link ← a_name
-  gives (command.Up link)
-form_of Restart = do
-  bridge ← a_name
-  gives (command.Restart bridge)
-form_of Tick = do
-  bridge ← a_name
-  gives (command.Tick bridge)
+form_of Down = one_name command.Down
+form_of Up = one_name command.Up
+form_of Restart = one_name command.Restart
+form_of Tick = one_name command.Tick
 form_of Deliver = do
   link ← a_name
   dir ← a_dir
@@ -142,18 +141,10 @@ form_of Frame = do
   frame ← a_frame
   gives (command.Frame bridge port frame)
 form_of State = gives command.State
-form_of Show = do
-  bridge ← a_name
-  gives (command.Show bridge)
-form_of Wiring = do
-  bridge ← a_name
-  gives (command.Wiring bridge)
-form_of Db = do
-  bridge ← a_name
-  gives (command.Db bridge)
-form_of Adj = do
-  bridge ← a_name
-  gives (command.Adj bridge)
+form_of Show = one_name command.Show
+form_of Wiring = one_name command.Wiring
+form_of Db = one_name command.Db
+form_of Adj = one_name command.Adj
 form_of Path = do
   from ← a_name
   to ← a_name
@@ -182,7 +173,7 @@ unless_blank (word ∷ words) rest = some (command_in rest)
 -- first byte of the first word that doesn't fit, or where words are missing, the column right behind the line.
 unfoldable pub line_of : List ℕ → Result (Option Command) ℕ
 line_of line =
-    if nat_lt 8192 (length line) then Err 8193
+    if nat_lt LINE_LIMIT (length line) then Err (LINE_LIMIT + 1)
     else (if is_comment line then Ok None
     else unless_blank (rest_from 1 line).words (rest_from 1 line))
 
@@ -193,5 +184,5 @@ first_head (first ∷ words) = Some (record { column = first.column; keyword = k
 -- the first word of a line that is neither too long nor a comment, with the keyword that it spells
 unfoldable pub head_of : List ℕ → Option FirstWord
 head_of line =
-    if nat_lt 8192 (length line) then None
+    if nat_lt LINE_LIMIT (length line) then None
     else (if is_comment line then None else first_head (rest_from 1 line).words)

@@ -1,4 +1,4 @@
-use Rattle.std.specs.Prelude.{ℕ, List, Option, codes, find}
+use Rattle.std.specs.Prelude.{ℕ, List, Option, codes, find, map}
 use Rattle.std.specs.Str.{bytes_eq}
 use Rattle.scenario.specs.declared.keyword.Keyword.{Keyword}
 use Rattle.scenario.specs.declared.keyword.Keyword.TheVariants.{Vid, Bridge, Link, Isid, Attach, Detach, Metric, Down, Up, Restart, Tick, Deliver, Lose, Double, Round, Drain, Frame, State, Show, Wiring, Db, Adj, Path}
@@ -32,4 +32,4 @@ text_of Path = codes "path"
 
 -- the keyword that a word spells
 unfoldable pub keyword : List ℕ → Option Keyword
-keyword word = find (λ k. bytes_eq (text_of k) word) KEYWORDS
+keyword word = find (λ k. bytes_eq (text_of k) word) (map (λ row. row.0) KEYWORDS)

@@ -12,6 +12,7 @@ use Rattle.scenario.specs.Words.{is_blank, Word, words_in}
 use Rattle.scenario.specs.WordForms.{decimal, decoded, hexadecimal}
 use Rattle.scenario.specs.Keywords.{text_of}
 use Rattle.scenario.specs.Grammar.{Kind, a_name, a_number, a_system, a_source, a_frame, a_dir, a_side, Value, Form, gives, takes, form_of, is_comment}
+use Rattle.scenario.specs.declared.line.TheConstants.{LINE_LIMIT}
 
 -- How a command may be spelled in a line.
 
@@ -70,13 +71,13 @@ AreWords (word ∷ words) bytes =
 pub record Spells (line : List ℕ) (command : Command) : Type 0 where
   pub keyword : Keyword
   pub words : List (List ℕ)
-  pub short : length line ≤ 8192
+  pub short : length line ≤ LINE_LIMIT
   pub apart : AreWords (text_of keyword ∷ words) line
   pub form : SpellsForm (form_of keyword) command words
 
 -- The line is passed over: it has at most 8,192 bytes, and it is blank or a comment.
 abbrev pub IsPassedOver : List ℕ → Type 0
-IsPassedOver line = (length line ≤ 8192) × (AreBlank line ⊎ IsTrue (is_comment line))
+IsPassedOver line = (length line ≤ LINE_LIMIT) × (AreBlank line ⊎ IsTrue (is_comment line))
 
 -- ---- Where a line goes wrong
 
@@ -112,6 +113,6 @@ pub record Misses (words : List Word) : Type 0 where
 
 -- The line is refused at the column: it is too long, or a word doesn't fit, or words are missing.
 pub data IsRefusedAt (line : List ℕ) (column : ℕ) : Type 0 where
-  too_long : 8192 < length line → column ≡ 8193 → IsRefusedAt line column
-  misfits : length line ≤ 8192 → Misfits (words_in is_blank false 1 line) column → IsRefusedAt line column
-  misses : length line ≤ 8192 → Misses (words_in is_blank false 1 line) → column ≡ length line + 1 → IsRefusedAt line column
+  too_long : LINE_LIMIT < length line → column ≡ LINE_LIMIT + 1 → IsRefusedAt line column
+  misfits : length line ≤ LINE_LIMIT → Misfits (words_in is_blank false 1 line) column → IsRefusedAt line column
+  misses : length line ≤ LINE_LIMIT → Misses (words_in is_blank false 1 line) → column ≡ length line + 1 → IsRefusedAt line column

@@ -1,13 +1,23 @@
 ghost use Rattle.std.specs.Prelude.{◌≡◌};
 ghost use Rattle.scenario.specs.Grammar.{read, form_of};
-ghost use Rattle.scenario.specs.Answers.{Gives};
+ghost use Rattle.scenario.specs.Answers.{Gives, Names};
 
 use crate::command::Command;
 use crate::error::LineError;
 use crate::field::Hex;
 use crate::keyword::Keyword;
 use crate::words::Words;
+use spb_types::Name;
 use std::alloc::Global;
+
+/// The word behind a keyword that takes one name, as in `tick B`.
+pub fn one_name(words: &mut Words<'_>) -> Result<Name, LineError>
+    ensures { Names result words.old }
+{
+    let name = words.take()?;
+    words.finish()?;
+    Ok(name)
+}
 
 /// The words behind the keyword of `vid V E`.
 pub fn vid(words: &mut Words<'_>) -> Result<Command, LineError>
@@ -101,42 +111,6 @@ pub fn metric(words: &mut Words<'_>) -> Result<Command, LineError>
     Ok(Command::Metric { link, side, metric })
 }
 
-/// The words behind the keyword of `down L`.
-pub fn down(words: &mut Words<'_>) -> Result<Command, LineError>
-    ensures { Gives result (read (form_of Keyword.Down) words.old) }
-{
-    let link = words.take()?;
-    words.finish()?;
-    Ok(Command::Down(link))
-}
-
-/// The words behind the keyword of `up L`.
-pub fn up(words: &mut Words<'_>) -> Result<Command, LineError>
-    ensures { Gives result (read (form_of Keyword.Up) words.old) }
-{
-    let link = words.take()?;
-    words.finish()?;
-    Ok(Command::Up(link))
-}
-
-/// The words behind the keyword of `restart B`.
-pub fn restart(words: &mut Words<'_>) -> Result<Command, LineError>
-    ensures { Gives result (read (form_of Keyword.Restart) words.old) }
-{
-    let bridge = words.take()?;
-    words.finish()?;
-    Ok(Command::Restart(bridge))
-}
-
-/// The words behind the keyword of `tick B`.
-pub fn tick(words: &mut Words<'_>) -> Result<Command, LineError>
-    ensures { Gives result (read (form_of Keyword.Tick) words.old) }
-{
-    let bridge = words.take()?;
-    words.finish()?;
-    Ok(Command::Tick(bridge))
-}
-
 /// The words behind the keyword of `deliver L DIR`.
 pub fn deliver(words: &mut Words<'_>) -> Result<Command, LineError>
     ensures { Gives result (read (form_of Keyword.Deliver) words.old) }
@@ -185,42 +159,6 @@ pub fn drain(words: &mut Words<'_>) -> Result<Command, LineError>
     let most = words.take()?;
     words.finish()?;
     Ok(Command::Drain(most))
-}
-
-/// The words behind the keyword of `show B`.
-pub fn show(words: &mut Words<'_>) -> Result<Command, LineError>
-    ensures { Gives result (read (form_of Keyword.Show) words.old) }
-{
-    let bridge = words.take()?;
-    words.finish()?;
-    Ok(Command::Show(bridge))
-}
-
-/// The words behind the keyword of `wiring B`.
-pub fn wiring(words: &mut Words<'_>) -> Result<Command, LineError>
-    ensures { Gives result (read (form_of Keyword.Wiring) words.old) }
-{
-    let bridge = words.take()?;
-    words.finish()?;
-    Ok(Command::Wiring(bridge))
-}
-
-/// The words behind the keyword of `db B`.
-pub fn db(words: &mut Words<'_>) -> Result<Command, LineError>
-    ensures { Gives result (read (form_of Keyword.Db) words.old) }
-{
-    let bridge = words.take()?;
-    words.finish()?;
-    Ok(Command::Db(bridge))
-}
-
-/// The words behind the keyword of `adj B`.
-pub fn adj(words: &mut Words<'_>) -> Result<Command, LineError>
-    ensures { Gives result (read (form_of Keyword.Adj) words.old) }
-{
-    let bridge = words.take()?;
-    words.finish()?;
-    Ok(Command::Adj(bridge))
 }
 
 /// The words behind the keyword of `path A B V`.

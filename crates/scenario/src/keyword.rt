@@ -29,31 +29,31 @@ pub enum Keyword {
     Path,
 }
 
-/// The keywords, one for each form of a line.
-pub const KEYWORDS: [Keyword; 23] = [
-    Keyword::Vid,
-    Keyword::Bridge,
-    Keyword::Link,
-    Keyword::Isid,
-    Keyword::Attach,
-    Keyword::Detach,
-    Keyword::Metric,
-    Keyword::Down,
-    Keyword::Up,
-    Keyword::Restart,
-    Keyword::Tick,
-    Keyword::Deliver,
-    Keyword::Lose,
-    Keyword::Double,
-    Keyword::Round,
-    Keyword::Drain,
-    Keyword::Frame,
-    Keyword::State,
-    Keyword::Show,
-    Keyword::Wiring,
-    Keyword::Db,
-    Keyword::Adj,
-    Keyword::Path,
+/// The keywords with their texts, one row for each form of a line.
+pub const KEYWORDS: [(Keyword, &str); 23] = [
+    (Keyword::Vid, "vid"),
+    (Keyword::Bridge, "bridge"),
+    (Keyword::Link, "link"),
+    (Keyword::Isid, "isid"),
+    (Keyword::Attach, "attach"),
+    (Keyword::Detach, "detach"),
+    (Keyword::Metric, "metric"),
+    (Keyword::Down, "down"),
+    (Keyword::Up, "up"),
+    (Keyword::Restart, "restart"),
+    (Keyword::Tick, "tick"),
+    (Keyword::Deliver, "deliver"),
+    (Keyword::Lose, "lose"),
+    (Keyword::Double, "double"),
+    (Keyword::Round, "round"),
+    (Keyword::Drain, "drain"),
+    (Keyword::Frame, "frame"),
+    (Keyword::State, "state"),
+    (Keyword::Show, "show"),
+    (Keyword::Wiring, "wiring"),
+    (Keyword::Db, "db"),
+    (Keyword::Adj, "adj"),
+    (Keyword::Path, "path"),
 ];
 
 impl Keyword {
@@ -61,31 +61,7 @@ impl Keyword {
     pub fn text(self) -> &'static [u8]
         ensures { result.now ≡ text_of self }
     {
-        match self {
-            Keyword::Vid => b"vid",
-            Keyword::Bridge => b"bridge",
-            Keyword::Link => b"link",
-            Keyword::Isid => b"isid",
-            Keyword::Attach => b"attach",
-            Keyword::Detach => b"detach",
-            Keyword::Metric => b"metric",
-            Keyword::Down => b"down",
-            Keyword::Up => b"up",
-            Keyword::Restart => b"restart",
-            Keyword::Tick => b"tick",
-            Keyword::Deliver => b"deliver",
-            Keyword::Lose => b"lose",
-            Keyword::Double => b"double",
-            Keyword::Round => b"round",
-            Keyword::Drain => b"drain",
-            Keyword::Frame => b"frame",
-            Keyword::State => b"state",
-            Keyword::Show => b"show",
-            Keyword::Wiring => b"wiring",
-            Keyword::Db => b"db",
-            Keyword::Adj => b"adj",
-            Keyword::Path => b"path",
-        }
+        KEYWORDS[self as usize].1.as_bytes()
     }
 
     /// The keyword that the word spells, in lower case. None exactly where it spells none.
@@ -93,6 +69,7 @@ impl Keyword {
     pub fn read(word: &[u8]) -> Option<Keyword>
         ensures { result ≡ keyword word.now }
     {
-        KEYWORDS.iter().find(|k| k.text() == word).copied()
+        let row = KEYWORDS.iter().find(|row| row.1.as_bytes() == word)?;
+        Some(row.0)
     }
 }

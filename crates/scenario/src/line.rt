@@ -11,7 +11,7 @@ use crate::words::Words;
 use std::alloc::Global;
 
 /// How many bytes a line has at most, without its end.
-pub const LINE_LIMIT: usize = 8192;
+pub const LINE_LIMIT: usize = 8_192;
 
 /// The first word of a line.
 #[derive(Clone, Copy, Debug, PartialEq, Eq)]
@@ -30,6 +30,7 @@ fn is_comment(line: &[u8]) -> bool
 }
 
 /// The command of the keyword's form, of the words behind it.
+#[tactic(auto, unfolding(crate::specs::Grammar::form_of))]
 fn command(alloc: Global, keyword: Keyword, words: &mut Words<'_>) -> Result<Command, LineError>
     ensures { Gives result (read (form_of keyword) words.old) }
 {
@@ -41,10 +42,10 @@ fn command(alloc: Global, keyword: Keyword, words: &mut Words<'_>) -> Result<Com
         Keyword::Attach => forms::attach(words),
         Keyword::Detach => forms::detach(words),
         Keyword::Metric => forms::metric(words),
-        Keyword::Down => forms::down(words),
-        Keyword::Up => forms::up(words),
-        Keyword::Restart => forms::restart(words),
-        Keyword::Tick => forms::tick(words),
+        Keyword::Down => Ok(Command::Down(forms::one_name(words)?)),
+        Keyword::Up => Ok(Command::Up(forms::one_name(words)?)),
+        Keyword::Restart => Ok(Command::Restart(forms::one_name(words)?)),
+        Keyword::Tick => Ok(Command::Tick(forms::one_name(words)?)),
         Keyword::Deliver => forms::deliver(words),
         Keyword::Lose => forms::lose(words),
         Keyword::Double => forms::double(words),
@@ -52,10 +53,10 @@ fn command(alloc: Global, keyword: Keyword, words: &mut Words<'_>) -> Result<Com
         Keyword::Drain => forms::drain(words),
         Keyword::Frame => forms::frame(alloc, words),
         Keyword::State => forms::state(words),
-        Keyword::Show => forms::show(words),
-        Keyword::Wiring => forms::wiring(words),
-        Keyword::Db => forms::db(words),
-        Keyword::Adj => forms::adj(words),
+        Keyword::Show => Ok(Command::Show(forms::one_name(words)?)),
+        Keyword::Wiring => Ok(Command::Wiring(forms::one_name(words)?)),
+        Keyword::Db => Ok(Command::Db(forms::one_name(words)?)),
+        Keyword::Adj => Ok(Command::Adj(forms::one_name(words)?)),
         Keyword::Path => forms::path(words),
     }
 }

@@ -305,8 +305,9 @@ fn the_first_word_tells_the_form(rt: HostRuntime) {
 
 #[test]
 fn a_keyword_is_read_from_its_text(rt: HostRuntime) {
-    for keyword in KEYWORDS {
-        assert_eq!(rt; Keyword::read(keyword.text()), Some(keyword));
+    for (keyword, text) in KEYWORDS {
+        assert_eq!(rt; Keyword::read(text.as_bytes()), Some(keyword));
+        assert_eq!(rt; keyword.text(), text.as_bytes());
     }
 }
 

@@ -13,14 +13,13 @@ use Rattle.lsdb.specs.declared.version.Version.{Version}
 use Rattle.lsdb.specs.declared.version.Version.TheVariants.{Absent, Live, Dead}
 use Rattle.lsdb.specs.declared.version.Relation.{Relation}
 use Rattle.lsdb.specs.declared.version.Relation.TheVariants.{Older, Equal, Newer, Confused}
-use Rattle.lsdb.specs.Version.{number_of, is_absent, claimed}
+use Rattle.lsdb.specs.Version.{number_of, is_absent, claimed, sum_of}
 use Rattle.lsdb.specs.Entry.{Entry, made, stored, entered, acked, cleared, offered, aged_at}
 use Rattle.lsdb.specs.Database.{version_in}
 use Rattle.flooding.specs.declared.own.Own.{Own}
 use Rattle.flooding.specs.Own.{last_number, own_id, flags_in, tlvs_in, is_originated, renewed, ended, answered}
 use Rattle.flooding.specs.Hearing.{Holding, claim_of, body_of, unless_absent, wanted, lsp_row, snp_row, hear_entry_of}
 use Rattle.flooding.specs.Origination.{next_entry, spent_entry}
-use Rattle.flooding.specs.Sending.{sum_of}
 use Rattle.flooding.proofs.Heard.{number-claimed}
 use Rattle.flooding.proofs.AllEntries.{all_after_claim, all_originated}
 use Rattle.snp_sync.specs.Sized.{IsLspId, IsSized, IsSizedLine}

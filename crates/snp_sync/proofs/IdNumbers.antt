@@ -13,7 +13,7 @@ use Rattle.std.proofs.lemmas.List.{length-append}
 use Rattle.std.proofs.lemmas.Nat.{from_be_bytes-to_be_bytes_8}
 use Rattle.spb_types.specs.declared.address.LspId.{LspId}
 use Rattle.isis_pdu.specs.Grammar.{IsBytes}
-use Rattle.spb_tlvs.specs.Entry.{lsp_id_bytes}
+use Rattle.spb_types.specs.Bytes.{lsp_id_bytes}
 use Rattle.spb_tlvs.proofs.Numbers.{six}
 use Rattle.lsdb.specs.Database.{id_cmp}
 use Rattle.snp_sync.specs.Ids.{id_number, id_of, successor, first_id, last_id, is_between}

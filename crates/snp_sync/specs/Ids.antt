@@ -3,7 +3,7 @@ use Rattle.std.specs.Prelude.{ℕ, ◌+◌, ◌%◌, ◌^◌, ◌∷◌, [], Boo
 use Rattle.std.specs.Int.{w64, to_be_bytes, from_be_bytes}
 use Rattle.std.specs.Ordering.{is_le}
 use Rattle.spb_types.specs.declared.address.LspId.{LspId}
-use Rattle.spb_tlvs.specs.Entry.{lsp_id_bytes, lsp_id_at}
+use Rattle.spb_types.specs.Bytes.{lsp_id_bytes, lsp_id_at}
 use Rattle.lsdb.specs.Database.{id_cmp}
 
 -- an id as a number, the greatest byte first

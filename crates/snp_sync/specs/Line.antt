@@ -4,10 +4,9 @@ use Rattle.std.specs.FinMap.{entries}
 use Rattle.spb_types.specs.declared.address.LspId.{LspId}
 use Rattle.spb_types.specs.Ports.{has}
 use Rattle.spb_tlvs.specs.declared.entries.SnpEntry.{SnpEntry}
-use Rattle.lsdb.specs.Version.{number_of, is_absent}
+use Rattle.lsdb.specs.Version.{number_of, sum_of, is_absent}
 use Rattle.lsdb.specs.Entry.{Entry}
 use Rattle.lsdb.specs.Database.{Lsps}
-use Rattle.flooding.specs.Sending.{sum_of}
 
 -- the line of an LSP: its lifetime, its id, its sequence number and its checksum
 abbrev pub line_of : LspId → Entry → SnpEntry

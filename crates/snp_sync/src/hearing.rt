@@ -11,6 +11,7 @@ use crate::missed::{flag_missed, sorted_ids};
 use flooding::{FloodError, Own, acknowledge, offer};
 use lsdb::{Database, Held, Relation, Version, compare};
 use spb_tlvs::SnpEntry;
+use spb_types::limits::MOST_PORTS;
 use spb_types::{LspId, NoMemory, PortSet, Seq};
 use std::alloc::Global;
 
@@ -23,7 +24,7 @@ fn version_of(entry: &SnpEntry) -> Version
 /// The neighbour at a port has a newer LSP, which is asked for. An id that isn't held is entered as absent.
 fn want(alloc: Global, db: &mut Database, port: u8, id: &LspId) -> Result<(), FloodError>
     requires low { 1 ≤ port }
-    requires high { port ≤ 32 }
+    requires high { port ≤ MOST_PORTS }
     ensures { Puts result id.now (wanted port (get db.old id.now)) db.old db.new }
 {
     if db.find(id).is_some() {
@@ -44,7 +45,7 @@ fn want(alloc: Global, db: &mut Database, port: u8, id: &LspId) -> Result<(), Fl
 /// The neighbour at a port has the LSP. Nothing happens where it is absent.
 fn clear(db: &mut Database, port: u8, id: &LspId)
     requires low { 1 ≤ port }
-    requires high { port ≤ 32 }
+    requires high { port ≤ MOST_PORTS }
     ensures { db.new ≡ changed (unless_absent (cleared port)) db.old id.now }
 {
     if let Version::Absent = db.version_at(id) {
@@ -63,7 +64,7 @@ fn hear_entry(
     own: &mut Own,
 ) -> Result<(), FloodError>
     requires low { 1 ≤ port }
-    requires high { port ≤ 32 }
+    requires high { port ≤ MOST_PORTS }
     requires body { 1 ≤ length own.old.body }
     ensures { Hears result (is_full_for_entry up port (claim_in entry.now) (holding db.old own.old)) (holding db.old own.old)
         (hear_entry_of up port (claim_in entry.now) (holding db.old own.old)) (holding db.new own.new) }
@@ -91,7 +92,7 @@ fn count_entry(
     own: &mut Own,
 ) -> Result<u64, NoMemory>
     requires low { 1 ≤ port }
-    requires high { port ≤ 32 }
+    requires high { port ≤ MOST_PORTS }
     requires body { 1 ≤ length own.old.body }
     ensures full { IfOk result (λ n. n ≡ (if is_full_for_entry up port (claim_in entry.now) (holding db.old own.old) then 1 else 0)) }
     ensures heard { OnOk result (holding db.new own.new ≡ hear_entry_of up port (claim_in entry.now) (holding db.old own.old)) }
@@ -127,7 +128,7 @@ pub fn hear_psnp(
     own: &mut Own,
 ) -> Result<u64, NoMemory>
     requires low { 1 ≤ port }
-    requires high { port ≤ 32 }
+    requires high { port ≤ MOST_PORTS }
     requires body { 1 ≤ length own.old.body }
     ensures full { IfOk result (λ n. n ≡ full_count up port (claims_in entries.now) (holding db.old own.old)) }
     ensures heard { OnOk result (holding db.new own.new ≡ hear_entries_of up port (claims_in entries.now) (holding db.old own.old)) }
@@ -158,7 +159,7 @@ pub fn hear_csnp(
     own: &mut Own,
 ) -> Result<u64, NoMemory>
     requires low { 1 ≤ port }
-    requires high { port ≤ 32 }
+    requires high { port ≤ MOST_PORTS }
     requires body { 1 ≤ length own.old.body }
     ensures full { IfOk result (λ n. n ≡ full_count up port (claims_in entries.now) (holding db.old own.old)) }
     ensures heard { OnOk result (holding db.new own.new ≡ hear_csnp_of up port start.now end.now (claims_in entries.now) (holding db.old own.old)) }

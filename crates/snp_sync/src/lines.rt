@@ -4,10 +4,10 @@ ghost use Rattle.snp_sync.specs.Line as lines;
 ghost use Rattle.snp_sync.specs.Line.{lines_where, is_owed};
 ghost use Rattle.snp_sync.specs.Parts.{line_tlvs};
 
-use flooding::sum_of;
 use lsdb::{Database, Held, Version};
 use spb_tlvs::{SnpEntry, write_entries};
 use spb_types::NoMemory;
+use spb_types::limits::MOST_PORTS;
 use std::alloc::Global;
 
 /// The most lines in a TLV.
@@ -21,7 +21,7 @@ fn line_of(held: &Held) -> SnpEntry
         lifetime: held.lifetime,
         id: held.id,
         seq: held.version.number(),
-        sum: sum_of(held.version),
+        sum: held.version.sum(),
     }
 }
 
@@ -54,7 +54,7 @@ pub fn listed(alloc: Global, db: &Database) -> Result<Vec<SnpEntry>, NoMemory>
 /// The lines of the LSPs that are to be acknowledged or asked for at a port, in order of id.
 pub fn owed(alloc: Global, db: &Database, port: u8) -> Result<Vec<SnpEntry>, NoMemory>
     requires low { 1 ≤ port }
-    requires high { port ≤ 32 }
+    requires high { port ≤ MOST_PORTS }
     ensures { IfOk result (λ v. v.items ≡ lines_where (is_owed port) db.now) }
 {
     let mut lines = Vec::new(alloc);

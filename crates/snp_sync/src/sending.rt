@@ -9,6 +9,7 @@ use crate::lines::{listed, owed, tlvs_of};
 use isis_pdu::{Csnp, Psnp, write_csnp, write_psnp};
 use lsdb::Database;
 use spb_tlvs::SnpEntry;
+use spb_types::limits::MOST_PORTS;
 use spb_types::{LspId, NoMemory, SystemId};
 use std::alloc::Global;
 
@@ -89,7 +90,7 @@ fn psnps_of(alloc: Global, lines: &[SnpEntry], me: SystemId) -> Result<Vec<Vec<u
 /// Nothing is to be acknowledged or asked for at a port any longer.
 fn settle(db: &mut Database, port: u8)
     requires low { 1 ≤ port }
-    requires high { port ≤ 32 }
+    requires high { port ≤ MOST_PORTS }
     ensures { db.new ≡ all_settled port db.old }
 {
     for place in 0..db.len() {
@@ -112,7 +113,7 @@ pub fn psnps(
     port: u8,
 ) -> Result<Vec<Vec<u8>>, NoMemory>
     requires low { 1 ≤ port }
-    requires high { port ≤ 32 }
+    requires high { port ≤ MOST_PORTS }
     ensures ok { IfOk result (λ pdus. bytes_in pdus.items ≡ map psnp_bytes (sending.psnps_of me port db.old)) }
     ensures settled { OnOk result (db.new ≡ all_settled port db.old) }
     ensures err { OnErr result (db.new ≡ db.old) }

@@ -16,6 +16,7 @@ use Rattle.spb_tlvs.specs.RoundTrip.{IsMac, CapabilityAgain, CapabilitySame}
 use Rattle.spb_tlvs.proofs.Numbers.{two_again, three_again, four_again, six, chunks_of_joined, everywhere}
 use Rattle.spb_tlvs.proofs.TlvLaws.{tlv_alone, tlv_alone_whole}
 use Rattle.spb_tlvs.proofs.Written.{trees_len, services_len}
+use Rattle.spb_types.specs.declared.limits.TheConstants.{GREATEST_VID, SOURCE_IDS}
 
 -- ---- trees
 
@@ -35,7 +36,7 @@ is_read p h =
     record {
       known = known;
       vid = vid;
-      inside = rw (known, vid, le-leb 1 p.vid.value h.vid_low, le-leb p.vid.value 4094 h.vid_high) refl;
+      inside = rw (known, vid, le-leb 1 p.vid.value h.vid_low, le-leb p.vid.value GREATEST_VID h.vid_high) refl;
       plan = rw (known, vid, number) refl;
     }
 
@@ -56,7 +57,7 @@ inst_again priority source trees h fits =
     let room : leb 19 (length v) ≡ true = le-leb _ _ (omega arith) in
     let enough : leb (19 + 8 * length trees) (length v) ≡ true = le-leb _ _ (omega arith) in
     let chunks = chunks_of_joined spec.tree_bytes 8 trees (everywhere (λ (p : VidPlan). length (spec.tree_bytes p) ≡ 8) trees (λ p. refl)) in
-    let small : source.value % 1048576 ≡ source.value = omega (arith, h.source_high) in
+    let small : source.value % SOURCE_IDS ≡ source.value = omega (arith, h.source_high) in
     rw (long, tlv_alone 1 v, tlv_alone_whole 1 v, room, enough, chunks, none_outside trees each, two_again priority fits, four_again source.value (omega (arith, h.source_high)), small, each_plan trees each) refl
 
 -- ---- services
@@ -91,7 +92,7 @@ services_again mac vid services h is_mac =
     let chunks = chunks_of_joined spec.service_bytes 4 services (everywhere (λ (s : Service). length (spec.service_bytes s) ≡ 4) services (λ s. refl)) in
     let small : vid.value % 4096 ≡ vid.value = omega (arith, h.high) in
     let low : leb 1 vid.value ≡ true = le-leb _ _ h.low in
-    let high : leb vid.value 4094 ≡ true = le-leb _ _ h.high in
+    let high : leb vid.value GREATEST_VID ≡ true = le-leb _ _ h.high in
     rw (long, tlv_alone 3 v, tlv_alone_whole 3 v, room, even, two_again vid.value (omega (arith, h.high)), small, low, high, count, chunks, each_service services each) refl)
 
 pub capability_again : CapabilityAgain

@@ -3,7 +3,7 @@
 use Rattle.std.specs.Prelude.{ℕ, ◌≤◌, ◌<◌, All, ◌+◌, ◌-◌, ◌*◌, ◌/◌, ◌%◌, List, [], ◌∷◌, ◌++◌, length, drop, replicate, Bool, true, false, ◌&&◌, not, nat_le, nat_lt, Option, Some, None, Result, Ok, Err, ◌==◌, if◌then◌else◌}
 use Rattle.std.specs.List.{flat_map, filter_map, list_any}
 use Rattle.std.specs.Simd.{first_chunks}
-use Rattle.spb_types.specs.Bytes.{u8_at, u16_at, u24_at, u32_at}
+use Rattle.spb_types.specs.Bytes.{u8_at, u16_at, u24_at, u32_at, mac_at}
 use Rattle.spb_types.specs.declared.address.Mac.{Mac}
 use Rattle.spb_types.specs.declared.service.Vid.{Vid}
 use Rattle.spb_types.specs.declared.service.VidPlan.{VidPlan}
@@ -13,8 +13,9 @@ use Rattle.spb_tlvs.specs.declared.error.TlvError.TheVariants.{Cut, Range}
 use Rattle.spb_tlvs.specs.declared.capability.Capability.{Capability}
 use Rattle.spb_tlvs.specs.declared.capability.Capability.TheVariants.{Inst, Services}
 use Rattle.spb_tlvs.specs.declared.capability.Service.{Service}
-use Rattle.spb_tlvs.specs.Number.{two, three, four, mac_at}
+use Rattle.spb_tlvs.specs.Number.{two, three, four}
 use Rattle.spb_tlvs.specs.Tlv.{Tlv, tlv, tlvs_in, are_whole}
+use Rattle.spb_types.specs.declared.limits.TheConstants.{GREATEST_VID, GREATEST_ISID, GREATEST_ECT, SOURCE_IDS, MOST_VIDS}
 
 -- ---- SPB-Inst
 
@@ -48,7 +49,7 @@ plan_of tree = if is_known tree then Some (record { vid = record { value = base_
 
 -- what a value says: the reserved bits, the V bit, and the CIST fields are passed over
 abbrev pub inst_of : List ℕ → Capability
-inst_of value = Inst (u16_at value 12) (record { value = u32_at value 14 % 1048576 }) (filter_map plan_of (trees_in value))
+inst_of value = Inst (u16_at value 12) (record { value = u32_at value 14 % SOURCE_IDS }) (filter_map plan_of (trees_in value))
 
 -- ---- SPBM-SI
 
@@ -108,7 +109,7 @@ is_sub_whole t =
 
 -- whether a base VID is 0 or 4095
 abbrev pub is_outside : ℕ → Bool
-is_outside vid = not (nat_le 1 vid && nat_le vid 4094)
+is_outside vid = not (nat_le 1 vid && nat_le vid GREATEST_VID)
 
 abbrev pub is_tree_outside : List ℕ → Bool
 is_tree_outside tree = is_known tree && is_outside (base_vid_of tree)
@@ -147,22 +148,22 @@ capabilities_of value =
 
 pub record IsTree (p : VidPlan) : Type 0 where
   pub vid_low : 1 ≤ p.vid.value
-  pub vid_high : p.vid.value ≤ 4094
+  pub vid_high : p.vid.value ≤ GREATEST_VID
   pub ect_low : 1 ≤ p.ect
-  pub ect_high : p.ect ≤ 16
+  pub ect_high : p.ect ≤ GREATEST_ECT
 
 pub record IsInst (source : SourceId) (trees : List VidPlan) : Type 0 where
-  pub source_high : source.value < 1048576
-  pub few : length trees ≤ 16
+  pub source_high : source.value < SOURCE_IDS
+  pub few : length trees ≤ MOST_VIDS
   pub each : All IsTree trees
 
 pub record IsService (s : Service) : Type 0 where
   pub low : 1 ≤ s.isid.value
-  pub high : s.isid.value ≤ 16777215
+  pub high : s.isid.value ≤ GREATEST_ISID
 
 pub record IsServices (vid : Vid) (services : List Service) : Type 0 where
   pub low : 1 ≤ vid.value
-  pub high : vid.value ≤ 4094
+  pub high : vid.value ≤ GREATEST_VID
   pub few : length services ≤ 60
   pub each : All IsService services
 

@@ -1,20 +1,12 @@
 -- The LSP entries TLV of an SNP, code 9 (ISO/IEC 10589, 9.10 to 9.13).
-use Rattle.std.specs.Prelude.{ℕ, ◌+◌, List, [], ◌∷◌, ◌++◌, ◌/◌, ◌%◌, length, map, Result, Ok, Err, ◌==◌, if◌then◌else◌}
+use Rattle.std.specs.Prelude.{ℕ, ◌+◌, List, ◌++◌, ◌/◌, ◌%◌, length, map, Result, Ok, Err, ◌==◌, if◌then◌else◌}
 use Rattle.std.specs.List.{flat_map}
 use Rattle.std.specs.Simd.{first_chunks}
-use Rattle.spb_types.specs.Bytes.{u8_at, u16_at, u32_at}
-use Rattle.spb_types.specs.declared.address.LspId.{LspId}
+use Rattle.spb_types.specs.Bytes.{u16_at, u32_at, lsp_id_bytes, lsp_id_at}
 use Rattle.spb_tlvs.specs.declared.error.TlvError.{TlvError}
 use Rattle.spb_tlvs.specs.declared.error.TlvError.TheVariants.{Cut}
 use Rattle.spb_tlvs.specs.declared.entries.SnpEntry.{SnpEntry}
-use Rattle.spb_tlvs.specs.Number.{two, four, system_at}
-
--- an LSP id: the system id, the pseudonode and the number of the fragment
-abbrev pub lsp_id_bytes : LspId → List ℕ
-lsp_id_bytes id = id.system.mac.bytes ++ id.pseudonode ∷ id.number ∷ []
-
-abbrev pub lsp_id_at : List ℕ → ℕ → LspId
-lsp_id_at bytes i = record { system = system_at bytes i; pseudonode = u8_at bytes (i + 6); number = u8_at bytes (i + 7) }
+use Rattle.spb_tlvs.specs.Number.{two, four}
 
 -- an entry, 16 bytes: the remaining lifetime, the LSP id, the sequence number and the checksum
 abbrev pub entry_bytes : SnpEntry → List ℕ

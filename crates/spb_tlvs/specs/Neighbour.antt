@@ -3,11 +3,11 @@
 use Rattle.std.specs.Prelude.{ℕ, List, ◌∷◌, ◌++◌, length, drop, Bool, ◌&&◌, ◌||◌, not, nat_le, Option, None, Result, Ok, Err, ◌==◌, if◌then◌else◌}
 use Rattle.std.specs.List.{flat_map, filter_map, list_all, slice_get}
 use Rattle.std.specs.Option.{option_map}
-use Rattle.spb_types.specs.Bytes.{u8_at, u16_at, u24_at}
+use Rattle.spb_types.specs.Bytes.{u8_at, u16_at, u24_at, system_at}
 use Rattle.spb_tlvs.specs.declared.error.TlvError.{TlvError}
 use Rattle.spb_tlvs.specs.declared.error.TlvError.TheVariants.{Cut}
 use Rattle.spb_tlvs.specs.declared.neighbours.Neighbour.{Neighbour}
-use Rattle.spb_tlvs.specs.Number.{two, three, system_at}
+use Rattle.spb_tlvs.specs.Number.{two, three}
 use Rattle.spb_tlvs.specs.Piece.{pieces, ends_whole}
 use Rattle.spb_tlvs.specs.Tlv.{Tlv, tlv, are_whole, values_with}
 

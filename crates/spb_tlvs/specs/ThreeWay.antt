@@ -1,11 +1,11 @@
 -- The three-way adjacency TLV, code 240 (RFC 5303, 3).
 use Rattle.std.specs.Prelude.{ℕ, List, [], ◌∷◌, ◌++◌, length, Option, Some, None, Result, Ok, Err, ◌||◌, ◌==◌, nat_le, if◌then◌else◌}
-use Rattle.spb_types.specs.Bytes.{u8_at, u32_at}
+use Rattle.spb_types.specs.Bytes.{u8_at, u32_at, system_at}
 use Rattle.spb_types.specs.declared.address.SystemId.{SystemId}
 use Rattle.spb_tlvs.specs.declared.error.TlvError.{TlvError}
 use Rattle.spb_tlvs.specs.declared.error.TlvError.TheVariants.{Cut, Range}
 use Rattle.spb_tlvs.specs.declared.three_way.ThreeWay.{ThreeWay}
-use Rattle.spb_tlvs.specs.Number.{four, system_at}
+use Rattle.spb_tlvs.specs.Number.{four}
 
 -- the neighbour's system id and extended local circuit id, where there is a neighbour
 abbrev pub neighbour_bytes : Option (SystemId × ℕ) → List ℕ

@@ -8,10 +8,10 @@ ghost use Rattle.spb_tlvs.specs.Capability as spec;
 use crate::append::{push_some, put, whole_or_none};
 use crate::codes::MT_CAPABILITY;
 use crate::error::TlvError;
-use crate::fields::{mac_in, u16_in, u24_in, u32_in};
 use crate::piece::split_piece;
 use crate::tlv::TLV_HEAD;
-use spb_types::{Isid, Mac, NoMemory, Seq, SourceId, Vid, VidPlan};
+use spb_types::limits::{GREATEST_ECT, GREATEST_VID, MOST_VIDS, SOURCE_IDS};
+use spb_types::{Isid, Mac, NoMemory, Seq, SourceId, Vid, VidPlan, mac_in, u16_in, u24_in, u32_in};
 use std::alloc::{AllocError, Global};
 
 /// A service in an SPBM-SI: the I-SID, and whether the bridge sends frames of it into the backbone and takes frames of
@@ -139,7 +139,7 @@ fn inst_in(alloc: Global, value: &[u8]) -> Result<Capability, TlvError>
     Ok(Capability::Inst {
         priority: u16_in(value, 12),
         source: SourceId {
-            value: u32_in(value, 14) % (1 << 20),
+            value: u32_in(value, 14) % SOURCE_IDS,
         },
         trees: Seq::from_vec(plans),
     })
@@ -171,13 +171,13 @@ fn is_known(tree: &[u8; 8]) -> bool
     ensures { result ≡ spec.is_known tree.now }
 {
     let algorithm = u32_in(tree, 1);
-    ECT_BASE + 1 <= algorithm && algorithm <= ECT_BASE + 16
+    ECT_BASE + 1 <= algorithm && algorithm <= ECT_BASE + u32::from(GREATEST_ECT)
 }
 
 fn is_outside(vid: u32) -> bool
     ensures { result ≡ spec.is_outside vid }
 {
-    !(1 <= vid && vid <= 4094)
+    !(1 <= vid && vid <= u32::from(GREATEST_VID))
 }
 
 fn plans_in(alloc: Global, trees: &[[u8; 8]]) -> Result<Vec<VidPlan>, AllocError>
@@ -279,7 +279,7 @@ fn put_inst(
     source: SourceId,
     trees: &[VidPlan],
 ) -> Result<(), NoMemory>
-    requires { length trees.now ≤ 16 }
+    requires { length trees.now ≤ MOST_VIDS }
     ensures ok { OnOk result (out.new.items ≡ out.old.items ++ tlv 144 (spec.capability_value (Capability.Inst priority source trees.now))) }
     ensures err { OnErr result (take (length out.old.items) out.new.items ≡ out.old.items) }
 {
@@ -294,7 +294,7 @@ fn put_inst_head(
     source: SourceId,
     count: u8,
 ) -> Result<(), NoMemory>
-    requires { count ≤ 16 }
+    requires { count ≤ MOST_VIDS }
     ensures ok { OnOk result (out.new.items ≡ out.old.items ++ spec.heads 1 (19 + 8 * count) ++ spec.inst_fields priority source count) }
     ensures err { OnErr result (take (length out.old.items) out.new.items ≡ out.old.items) }
 {

@@ -6,8 +6,7 @@ ghost use Rattle.spb_tlvs.specs.Entry.{entries_of, entries_value, entry_at, entr
 use crate::append::{put, whole_or_none};
 use crate::codes::LSP_ENTRIES;
 use crate::error::TlvError;
-use crate::fields::{system_in, u16_in, u32_in};
-use spb_types::{LspId, NoMemory};
+use spb_types::{LspId, NoMemory, lsp_id_in, u16_in, u32_in};
 use std::alloc::{AllocError, Global};
 
 /// What an SNP says of an LSP, in a TLV 9 (ISO/IEC 10589, 9.10 to 9.13).
@@ -46,11 +45,7 @@ fn entry_in(entry: &[u8; 16]) -> SnpEntry
 {
     SnpEntry {
         lifetime: u16_in(entry, 0),
-        id: LspId {
-            system: system_in(entry, 2),
-            pseudonode: entry[8],
-            number: entry[9],
-        },
+        id: lsp_id_in(entry, 2),
         seq: u32_in(entry, 10),
         sum: u16_in(entry, 14),
     }

@@ -25,7 +25,6 @@ mod capability;
 mod codes;
 mod entries;
 mod error;
-mod fields;
 mod laws;
 mod neighbours;
 mod piece;

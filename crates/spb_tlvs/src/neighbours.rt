@@ -8,10 +8,9 @@ ghost use Rattle.spb_tlvs.specs.Neighbour as spec;
 use crate::append::{push_some, put, whole_or_none};
 use crate::codes::EXTENDED_IS_REACHABILITY;
 use crate::error::TlvError;
-use crate::fields::{system_in, u16_in, u24_in};
 use crate::piece::split_piece;
 use crate::tlv::{TLV_HEAD, find_tlv};
-use spb_types::{NoMemory, SystemId};
+use spb_types::{NoMemory, SystemId, system_in, u16_in, u24_in};
 use std::alloc::Global;
 
 /// A neighbour of a bridge, in a TLV 22 with an SPB link metric (RFC 5305, 3; RFC 6329, 15.1).

@@ -6,8 +6,7 @@ ghost use Rattle.spb_tlvs.specs.ThreeWay as spec;
 use crate::append::{put, whole_or_none};
 use crate::codes::THREE_WAY_ADJACENCY;
 use crate::error::TlvError;
-use crate::fields::{system_in, u32_in};
-use spb_types::{NoMemory, SystemId};
+use spb_types::{NoMemory, SystemId, system_in, u32_in};
 
 /// The three-way adjacency of a point-to-point hello, TLV 240 (RFC 5303, 3).
 #[derive(Clone, Copy, Debug, PartialEq, Eq, Hash)]

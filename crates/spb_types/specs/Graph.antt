@@ -5,6 +5,7 @@ use Rattle.spb_types.specs.declared.address.SystemId.{SystemId}
 use Rattle.spb_types.specs.declared.graph.GraphBridge.{GraphBridge}
 use Rattle.spb_types.specs.declared.graph.Edge.{Edge}
 use Rattle.spb_types.specs.declared.graph.Graph.{Graph}
+use Rattle.spb_types.specs.declared.limits.TheConstants.{GREATEST_METRIC, MOST_GRAPH_BRIDGES, MOST_PORTS}
 
 -- one of these system ids is x
 abbrev pub IsAmong : SystemId → List SystemId → Type 0
@@ -61,11 +62,11 @@ pub record IsEdgeOf (g : Graph) (e : Edge) : Type 0 where
   pub to : IsBridge g e.b
   pub apart : same_system e.a e.b ≡ false
   pub low : 1 ≤ e.cost
-  pub high : e.cost ≤ 16777214
+  pub high : e.cost ≤ GREATEST_METRIC
 
 -- a graph: bridges with system ids of their own, at most one edge between two of them, and members among them
 pub record IsValid (g : Graph) : Type 0 where
-  pub few : length g.bridges ≤ 65535
+  pub few : length g.bridges ≤ MOST_GRAPH_BRIDGES
   pub apart : IsDistinct (systems_of g.bridges)
   pub edges : AllByRecursion (λ e. IsEdgeOf g e) g.edges
   pub one_edge : OneEdge g.edges
@@ -78,7 +79,7 @@ edges_at (e ∷ es) x = if same_system e.a x || same_system e.b x then e ∷ edg
 
 -- each edge at x has a port of 1 to 32 there
 abbrev pub ArePorts : List Edge → SystemId → Type 0
-ArePorts es x = AllByRecursion (λ e. (1 ≤ port_at e x) × (port_at e x ≤ 32)) (edges_at es x)
+ArePorts es x = AllByRecursion (λ e. (1 ≤ port_at e x) × (port_at e x ≤ MOST_PORTS)) (edges_at es x)
 
 -- the edges at x have different ports there
 abbrev pub ArePortsApart : List Edge → SystemId → Type 0

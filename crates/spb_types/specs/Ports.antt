@@ -1,6 +1,7 @@
 use Rattle.std.specs.Prelude.{ℕ, ◌*◌, ◌-◌, ◌%◌, ◌^◌, Bool, ◌&&◌, ◌==◌, nat_le, bit_and, bit_or}
 use Rattle.std.specs.Int.{bit_at, bit_not, w32}
 use Rattle.spb_types.specs.declared.ports.PortSet.{PortSet}
+use Rattle.spb_types.specs.declared.limits.TheConstants.{MOST_PORTS}
 
 -- the bit of a port, 1 to 32, as a number
 abbrev pub bit_of : ℕ → ℕ
@@ -8,7 +9,7 @@ bit_of port = 1 * 2 ^ (port - 1) % 2 ^ 32
 
 -- whether the port is in the set; no number outside 1 to 32 is in any
 unfoldable pub has : PortSet → ℕ → Bool
-has set port = (nat_le 1 port && nat_le port 32) && (bit_at set.bits (port - 1) == 1)
+has set port = (nat_le 1 port && nat_le port MOST_PORTS) && (bit_at set.bits (port - 1) == 1)
 
 -- the set of no port
 unfoldable pub no_ports : PortSet

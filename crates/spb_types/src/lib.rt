@@ -7,7 +7,9 @@
 
 pub use address::{BridgeId, LspId, Mac, SystemId};
 pub use ect::ect_mask;
+pub use fields::{lsp_id_in, mac_in, system_in, u16_in, u24_in, u32_in};
 pub use graph::{Edge, Graph, GraphBridge, Member};
+pub use level::LEVEL_1;
 pub use link::{Dir, Side};
 pub use memory::NoMemory;
 pub use name::Name;
@@ -19,8 +21,11 @@ pub use take::{Short, take_u8, take_u16, take_u24, take_u32};
 
 mod address;
 mod ect;
+mod fields;
 mod graph;
 pub mod laws;
+mod level;
+pub mod limits;
 mod link;
 mod memory;
 mod name;

@@ -1,6 +1,8 @@
 ghost use Rattle.std.specs.Prelude.{◌≡◌, ◌≤◌};
 ghost use Rattle.spb_types.specs.Ports.{has, no_ports, with_port, without_port};
 
+use crate::limits::MOST_PORTS;
+
 /// A set of backbone ports, 1 to 32: port `p` is bit `p - 1`.
 #[derive(Clone, Copy, Debug, PartialEq, Eq, PartialOrd, Ord, Hash)]
 pub struct PortSet {
@@ -20,7 +22,7 @@ impl PortSet {
     #[tactic(auto, using(crate::proofs::PortLemmas::has_bit))]
     pub fn has(self, port: u8) -> bool
         requires low { 1 ≤ port }
-        requires high { port ≤ 32 }
+        requires high { port ≤ MOST_PORTS }
         ensures { result ≡ has self port }
     {
         (self.bits >> (port - 1)) & 1 == 1
@@ -30,7 +32,7 @@ impl PortSet {
     #[tactic(auto, unfolding(crate::specs::Ports::with_port))]
     pub fn with(self, port: u8) -> PortSet
         requires low { 1 ≤ port }
-        requires high { port ≤ 32 }
+        requires high { port ≤ MOST_PORTS }
         ensures { result ≡ with_port self port }
     {
         PortSet {
@@ -42,7 +44,7 @@ impl PortSet {
     #[tactic(auto, unfolding(crate::specs::Ports::without_port))]
     pub fn without(self, port: u8) -> PortSet
         requires low { 1 ≤ port }
-        requires high { port ≤ 32 }
+        requires high { port ≤ MOST_PORTS }
         ensures { result ≡ without_port self port }
     {
         PortSet {
