@@ -25,3 +25,4 @@ pub mod OneHello
 pub mod GraphRead
 pub mod ServingPorts
 pub mod Serving
+pub mod OwnPorts

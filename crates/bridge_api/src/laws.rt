@@ -1,7 +1,7 @@
 //! What every step of a bridge keeps, whatever comes to it. Each is the contract of a function that does nothing.
 ghost use Rattle.bridge_api.specs.Laws.{ConfiguredIsSound, ConfiguredIsDark, ConfiguredHoldsOwn, SoundCanSay, StepsStaySound, StepsKeepBridge, StepsKeepCarrier, StepsKeepNeighbours, SentIsSound, OneHello, HellosAreHeard, SentWithCarrier, EnteringUpIsWhole, UpPortsAreUp, StepsCarryDatabase, NeighboursComeUp, SomeBridge};
 ghost use Rattle.bridge_api.specs.Duties.{SecondsServe, SecondsSettle};
-ghost use Rattle.bridge_api.specs.Graph.{ReadsWhatIsHeld, ReadsEachOnce, ReadsItself};
+ghost use Rattle.bridge_api.specs.Graph.{ReadsWhatIsHeld, ReadsEachOnce, ReadsItself, OwnPortsAreApart};
 
 use itag_frames::control_again;
 
@@ -47,11 +47,12 @@ pub fn seconds_serve_neighbours()
 {}
 
 /// A bridge reads its graph from the live LSPs that it holds, of each system what that says, and of itself what it has to
-/// say.
+/// say, with each neighbour at a port of its own.
 pub fn graphs_are_read_from_what_is_held()
     ensures held { ReadsWhatIsHeld }
     ensures once { ReadsEachOnce }
     ensures own { ReadsItself }
+    ensures ports { OwnPortsAreApart }
 {}
 
 /// A port that is Up was so before with the same neighbour, or everything is to be sent there and nothing is owed.
