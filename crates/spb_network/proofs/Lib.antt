@@ -17,6 +17,7 @@ pub mod SoundMoves
 pub mod SoundSteps
 pub mod SoundCarrier
 pub mod SoundMetrics
+pub mod SoundAttached
 pub mod SoundEvents
 pub mod SoundDeclaring
 pub mod SoundLinks
@@ -25,6 +26,9 @@ pub mod SoundConfigured
 pub mod SoundNames
 pub mod SoundPlay
 pub mod SoundWitness
+pub mod Wired
+pub mod SentLanes
+pub mod Delivered
 pub mod RoundLemmas
 pub mod ConfigLemmas
 pub mod PortLemmas

@@ -20,13 +20,21 @@ use Rattle.bridge_api.specs.Laws.{IsSoundView, IsSent, IsGreeted, AreOctets}
 use Rattle.spb_network.proofs.BridgeLaws.{steps_keep_neighbours, hellos_are_heard}
 use Rattle.spb_network.proofs.SoundLane.{IsStill}
 
--- it has the ids, the VIDs and what is attached of its configuration
+-- it has the ids and the VIDs of its configuration
 originating_still : (v : BridgeView) → IsStill v (originating v)
-originating_still v = record { id = refl; source = refl; vids = refl; attached = refl }
+originating_still v = record { id = refl; source = refl; vids = refl }
 
 pub configured_still : (c : BridgeConfig) → IsStill (bare c) (configured c)
 unfolding configured
 configured_still c = originating_still (bare c)
+
+-- and has attached what this says
+originating_attached : (v : BridgeView) → (originating v).attached ≡ v.attached
+originating_attached v = refl
+
+pub configured_attached : (c : BridgeConfig) → (configured c).attached ≡ c.attached
+unfolding configured
+configured_attached c = originating_attached (bare c)
 
 -- ---- the ports
 

@@ -15,12 +15,12 @@ use Rattle.spb_network.specs.declared.declaration.DeclaredBridge.{DeclaredBridge
 use Rattle.spb_network.specs.declared.declaration.DeclaredLink.{DeclaredLink}
 use Rattle.spb_network.specs.declared.lanes.Lanes.{Lanes}
 use Rattle.spb_network.specs.declared.way.Way.{Way}
-use Rattle.spb_network.specs.World.{World, Bridges, Links, names_of, things_of, is_at_port, IsLink, AreApart, Sound}
+use Rattle.spb_network.specs.World.{World, Bridges, Links, names_of, things_of, attached_at, is_at_port, IsLink, AreApart, Sound}
 use Rattle.spb_network.specs.Lanes.{no_frames}
 use Rattle.spb_network.specs.Declaring.{with_vid, with_bridge, with_link}
 use Rattle.spb_network.specs.State.{State, Spare, links_of, is_live, near_end, far_end, is_at, way_of, way_from, way_out, lane_of}
 use Rattle.spb_network.specs.Network.{HasPorts, Fits}
-use Rattle.spb_network.specs.Sound.{AreDistinct, IsShown, AreShown, is_lit, AreLit, Agrees, AllAgree, IsSoundState}
+use Rattle.spb_network.specs.Sound.{AreDistinct, IsShown, AreShown, AreAttached, is_lit, AreLit, Agrees, AllAgree, IsSoundState}
 use Rattle.spb_network.proofs.BoxLemmas.{All-get}
 use Rattle.spb_network.proofs.ListLemmas.{All-push, things_of-push, length-push}
 use Rattle.spb_network.proofs.WorldLemmas.{IsNewBridge, Sound-with_bridge, IsNewLink, Sound-with_link}
@@ -51,6 +51,7 @@ length-things xs = length-map xs (λ e. e.1)
 -- the bridge is the new one: sound by itself, as it was declared, and without carrier
 pub record IsNewView (w : World) (b : DeclaredBridge) (v : BridgeView) : Type 0 where
   pub shown : IsShown w.vids b v
+  pub attached : v.attached ≡ []
   pub ports : HasPorts v b
   pub sound : IsSoundView v
   pub dark : (p : ℕ) → has_carrier_at v p ≡ false
@@ -79,6 +80,18 @@ shown_bridge s name b v fits shown new i u c at declared =
     each (inl old) (inr is) = absurd (omega (arith, old.0, is.0, length-things s.world.bridges, fits.bridges))
     each (inr fresh) (inl was) = absurd (omega (arith, fresh.0, was.0, length-things s.world.bridges, fits.bridges))
     each (inr fresh) (inr is) = subst (λ (d : DeclaredBridge). IsShown s.world.vids d u) is.1 (subst (λ (x : BridgeView). IsShown s.world.vids b x) fresh.1 new)
+
+-- nothing is attached where no bridge is
+attached_past : (w : World) (i : ℕ) → i ≡ length w.bridges → [] ≡ attached_at w i
+attached_past w i past = refl
+
+attached_bridge : (s : State) (name : List ℕ) (b : DeclaredBridge) (v : BridgeView) → Fits s → AreAttached s.world s.views → v.attached ≡ [] → AreAttached (with_bridge s.world name b) (s.views ++ v ∷ [])
+unfolding with_bridge
+attached_bridge s name b v fits attached none i u at =
+    elim (got_push s.views v i u at) [
+      | inl old ↦ attached i u old.1
+      | inr new ↦ ap (λ (x : BridgeView). x.attached) (sym new.1) ∙ (none ∙ attached_past s.world i (new.0 ∙ fits.bridges))
+    ]
 
 -- an end of a link lies at a bridge that is there
 near_within : (s : State) (k : ℕ) (dir : Dir) (l : DeclaredLink) → Sound s.world → Fits s → slice_get (links_of s) k ≡ Some l → (near_end dir l).bridge < length s.views
@@ -124,6 +137,7 @@ Sound-new_bridge s rack name b v sound declared distinct new = record {
   views = All-push IsSoundView s.views v sound.views new.sound;
   lit = lit_bridge s v sound.world sound.fits sound.lit new.dark;
   metered = λ k dir l u at at_u. sound.metered k dir l u at (old_view s.views v (near_end dir l).bridge u (near_within s k dir l sound.world sound.fits at) at_u);
+  attached = attached_bridge s name b v sound.fits sound.attached new.attached;
   short = sound.short;
   idle = sound.idle;
   agree = agree_bridge s v sound.world sound.fits sound.agree;
@@ -284,6 +298,7 @@ Sound-new_vid s plan sound none world =
       views = sound.views;
       lit = sound.lit;
       metered = sound.metered;
+      attached = sound.attached;
       short = sound.short;
       idle = sound.idle;
       agree = sound.agree;
@@ -302,6 +317,7 @@ Sound-nothing s world bridges links views lanes =
       views = subst (λ (vs : List BridgeView). AllByRecursion IsSoundView vs) (sym views) tt;
       lit = λ i v p at port. absurd (none_within s.views i v views at);
       metered = λ k dir l v at at_v. absurd (none_within s.views (near_end dir l).bridge v views at_v);
+      attached = λ i v at. absurd (none_within s.views i v views at);
       short = λ k dir. subst (λ (fs : List Frame). length fs ≤ 1024) (sym (no_lane k dir)) (omega arith);
       idle = λ k dir dead. no_lane k dir;
       agree = λ k dir l v w at at_v at_w. absurd (none_within s.views (near_end dir l).bridge v views at_v);

@@ -14,27 +14,27 @@ use Rattle.spb_network.specs.declared.declaration.LinkEnd.{LinkEnd}
 use Rattle.spb_network.specs.declared.lanes.Lanes.{Lanes}
 use Rattle.spb_network.specs.declared.way.Way.{Way}
 use Rattle.spb_network.specs.World.{World, things_of, Sound}
-use Rattle.spb_network.specs.Lanes.{changed_lane, rest, no_frames}
+use Rattle.spb_network.specs.Lanes.{changed_lane, rest, no_frames, IsIn}
 use Rattle.spb_network.specs.Declaring.{with_live}
 use Rattle.spb_network.specs.State.{State, changed_at, links_of, far_end, is_at, way_out, lane_at, with_frames, lane_of}
 use Rattle.spb_network.specs.Events.{stepped, ticked, heard_over, delivered_front, delivered, lost, doubled, carried, carried_over, flushed, switched_off, switched_on, ticked_from, delivered_times, lane_served, served_from, one_round, rounds, first_full_from, delivered_over, delivered_first, drained}
-use Rattle.spb_network.specs.Sound.{AreShort, is_lit, AreLit, AreMetered, IsSoundState}
+use Rattle.spb_network.specs.Sound.{AreShort, is_lit, AreLit, AreMetered, AreAttached, IsSoundState}
 use Rattle.spb_network.proofs.WorldLemmas.{switched-none}
 use Rattle.spb_network.proofs.FitsLemmas.{IsAlike, alike_itself, alike_with_frames, alike_flushed, link_there}
 use Rattle.spb_network.proofs.SoundLaws.{is_carrier}
-use Rattle.spb_network.proofs.SoundLane.{IsIn}
 use Rattle.spb_network.proofs.SoundWays.{turned, near-turned, way_of_end}
 use Rattle.spb_network.proofs.SoundMoves.{IsCore, Comes}
 use Rattle.spb_network.proofs.SoundSteps.{short_rest, short_lost, short_doubled, short_flushed, in_got, in_rest, in_lost, in_doubled, in_changed, in_flushed, flushed_lane, world-sent_all, views-sent_all, core_stepped, core_fewer, core_with_live}
 use Rattle.spb_network.proofs.SoundCarrier.{HaveCarrier, lit_stepped, lit_carried, lit-switched}
 use Rattle.spb_network.proofs.SoundMetrics.{is_metric, metered_stepped, metered_switched}
+use Rattle.spb_network.proofs.SoundAttached.{attached_stepped}
 
 -- the parts of what is sound
 pub core_of : (s : State) → IsSoundState s → IsCore s
 core_of s sound = record { world = sound.world; distinct = sound.distinct; fits = sound.fits; shown = sound.shown; views = sound.views; short = sound.short; idle = sound.idle; agree = sound.agree }
 
-pub sound_from : (s : State) → IsCore s → AreLit (links_of s) s.views → AreMetered (links_of s) s.views → IsSoundState s
-sound_from s core lit metered = record { world = core.world; distinct = core.distinct; fits = core.fits; shown = core.shown; views = core.views; lit = lit; metered = metered; short = core.short; idle = core.idle; agree = core.agree }
+pub sound_from : (s : State) → IsCore s → AreLit (links_of s) s.views → AreMetered (links_of s) s.views → AreAttached s.world s.views → IsSoundState s
+sound_from s core lit metered attached = record { world = core.world; distinct = core.distinct; fits = core.fits; shown = core.shown; views = core.views; lit = lit; metered = metered; attached = attached; short = core.short; idle = core.idle; agree = core.agree }
 
 -- ---- one bridge steps
 
@@ -59,12 +59,19 @@ stepped_metered x s i other metered =
     (subst (λ (views : List BridgeView). AreMetered (links_of s) views) (sym (stepped_views x s i))
     (metered_stepped x (links_of s) s.views i other metered))
 
+pub stepped_attached : (x : Input) (s : State) (i : ℕ) → AreAttached s.world s.views → AreAttached (stepped x s i).world (stepped x s i).views
+stepped_attached x s i attached =
+    subst (λ (w : World). AreAttached w (stepped x s i).views) (sym (stepped_world x s i))
+    (subst (AreAttached s.world) (sym (stepped_views x s i))
+    (attached_stepped x s.world s.views i attached))
+
 -- an input that changes neither, after frames were lost or taken from lanes
 stays_stepped : (x : Input) (s : State) (lanes : List Lanes) (i : ℕ) → IsInput x → is_carrier x ≡ false → is_metric x ≡ false → IsSoundState s → IsAlike s (record s { lanes = lanes }) → AreShort lanes → ((k : ℕ) (dir : Dir) (f : Frame) → IsIn f (lane_of lanes k dir) → IsIn f (lane_of s.lanes k dir)) → ((p : ℕ) (f : Frame) → x ≡ comes.frame p f → Comes (links_of s) s.lanes i p f) → IsSoundState (stepped x (record s { lanes = lanes }) i)
 stays_stepped x s lanes i is_input same_carrier same_metric sound alike short fewer from =
     sound_from (stepped x (record s { lanes = lanes }) i) (core_stepped x s lanes i is_input (core_of s sound) alike short fewer from)
     (stepped_lit x (record s { lanes = lanes }) i same_carrier sound.lit)
     (stepped_metered x (record s { lanes = lanes }) i same_metric sound.metered)
+    (stepped_attached x (record s { lanes = lanes }) i sound.attached)
 
 pub Sound-ticked : (s : State) (i : ℕ) → IsSoundState s → IsSoundState (ticked s i)
 Sound-ticked s i sound = stays_stepped comes.second s s.lanes i tt refl refl sound (alike_itself s) sound.short (λ k dir f among. among) (λ p f is. absurd cc)
@@ -93,7 +100,7 @@ fewer_rest s j d k dir f among = in_changed rest in_rest s.lanes j d k dir f amo
 
 -- frames are lost, doubled or taken
 stays_fewer : (s : State) (lanes : List Lanes) → IsSoundState s → IsAlike s (record s { lanes = lanes }) → AreShort lanes → ((k : ℕ) (dir : Dir) (f : Frame) → IsIn f (lane_of lanes k dir) → IsIn f (lane_of s.lanes k dir)) → IsSoundState (record s { lanes = lanes })
-stays_fewer s lanes sound alike short fewer = sound_from (record s { lanes = lanes }) (core_fewer s lanes (core_of s sound) alike short fewer) sound.lit sound.metered
+stays_fewer s lanes sound alike short fewer = sound_from (record s { lanes = lanes }) (core_fewer s lanes (core_of s sound) alike short fewer) sound.lit sound.metered sound.attached
 
 heard_sound : (s : State) (k : ℕ) (dir : Dir) (bytes : Frame) (o : Option DeclaredLink) → slice_get (links_of s) k ≡ o → slice_get (lane_at s k dir) 0 ≡ Some bytes → IsSoundState s → IsSoundState (heard_over (with_frames rest s k dir) dir bytes o)
 heard_sound s k dir bytes None at front sound = stays_fewer s (changed_at (changed_lane dir rest) s.lanes k) sound (alike_with_frames rest s k dir) (short_rest s.lanes k dir sound.short) (fewer_rest s k dir)
@@ -135,12 +142,12 @@ carried_lit : (on : Bool) (s : State) (e : LinkEnd) (lit : ℕ → ℕ → Bool)
 carried_lit on s e lit have = subst (λ (views : List BridgeView). HaveCarrier views (λ i p. if is_at e i p then on else lit i p)) (sym (stepped_views (comes.carrier e.port on) s e.bridge)) (lit_carried on s.views e lit have)
 
 -- the link at a place is switched, and both ends learn it
-switched_sound : (on : Bool) (s t : State) (k : ℕ) (o : Option DeclaredLink) → t.world ≡ with_live on s.world k → t.views ≡ s.views → IsCore t → AreLit (links_of s) s.views → AreMetered (links_of t) t.views → Sound s.world → slice_get (links_of s) k ≡ o → IsSoundState (carried_over on t o)
+switched_sound : (on : Bool) (s t : State) (k : ℕ) (o : Option DeclaredLink) → t.world ≡ with_live on s.world k → t.views ≡ s.views → IsCore t → AreLit (links_of s) s.views → AreMetered (links_of t) t.views → AreAttached t.world t.views → Sound s.world → slice_get (links_of s) k ≡ o → IsSoundState (carried_over on t o)
 unfolding with_live
-switched_sound on s t k None world views core lit metered sound at =
+switched_sound on s t k None world views core lit metered attached sound at =
     let same : things_of s.world.links ≡ things_of t.world.links = ap things_of (switched-none on s.world.links k at) ∙ sym (ap (λ (w : World). things_of w.links) world) in
-    sound_from t core (subst (λ (vs : List BridgeView). AreLit (links_of t) vs) (sym views) (subst (λ (ls : List DeclaredLink). AreLit ls s.views) same lit)) metered
-switched_sound on s t k (Some l) world views core lit metered sound at =
+    sound_from t core (subst (λ (vs : List BridgeView). AreLit (links_of t) vs) (sym views) (subst (λ (ls : List DeclaredLink). AreLit ls s.views) same lit)) metered attached
+switched_sound on s t k (Some l) world views core lit metered attached sound at =
     let u : State = carried on t l.a in
     let x : State = carried on u l.b in
     let link = link_there s k l sound at in
@@ -151,21 +158,26 @@ switched_sound on s t k (Some l) world views core lit metered sound at =
     (subst (λ (w : World). AreLit (things_of w.links) x.views) (sym there)
     (λ i v p at_v port. both i v p at_v port ∙ lit-switched on s.world.links k l sound.links_apart link.apart at i p))
     (stepped_metered (comes.carrier l.b.port on) u l.b.bridge refl (stepped_metered (comes.carrier l.a.port on) t l.a.bridge refl metered))
+    (stepped_attached (comes.carrier l.b.port on) u l.b.bridge (stepped_attached (comes.carrier l.a.port on) t l.a.bridge attached))
 
 live_metered : (on : Bool) (s : State) (k : ℕ) → AreMetered (links_of s) s.views → AreMetered (things_of (with_live on s.world k).links) s.views
 unfolding with_live
 live_metered on s k metered = metered_switched on s.world.links k s.views metered
 
+live_attached : (on : Bool) (s : State) (k : ℕ) → AreAttached s.world s.views → AreAttached (with_live on s.world k) s.views
+unfolding with_live
+live_attached on s k attached = attached
+
 pub Sound-switched_on : (s : State) (k : ℕ) → IsSoundState s → IsSoundState (switched_on s k)
 unfolding switched_on
 Sound-switched_on s k sound =
-    switched_sound true s (record s { world = with_live true s.world k }) k (slice_get (links_of s) k) refl refl (core_with_live true s k (core_of s sound) (λ is dir. absurd cc)) sound.lit (live_metered true s k sound.metered) sound.world refl
+    switched_sound true s (record s { world = with_live true s.world k }) k (slice_get (links_of s) k) refl refl (core_with_live true s k (core_of s sound) (λ is dir. absurd cc)) sound.lit (live_metered true s k sound.metered) (live_attached true s k sound.attached) sound.world refl
 
 pub Sound-switched_off : (s : State) (k : ℕ) → IsSoundState s → IsSoundState (switched_off s k)
 unfolding switched_off
 Sound-switched_off s k sound =
     let t : State = flushed s k in
-    switched_sound false s (record t { world = with_live false t.world k }) k (slice_get (links_of s) k) refl refl (core_with_live false t k (core_of t (Sound-flushed s k sound)) (λ is dir. flushed_lane s.lanes k dir)) sound.lit (live_metered false t k sound.metered) sound.world refl
+    switched_sound false s (record t { world = with_live false t.world k }) k (slice_get (links_of s) k) refl refl (core_with_live false t k (core_of t (Sound-flushed s k sound)) (λ is dir. flushed_lane s.lanes k dir)) sound.lit (live_metered false t k sound.metered) (live_attached false t k sound.attached) sound.world refl
 
 -- ---- rounds and drains
 

@@ -17,14 +17,10 @@ use Rattle.bridge_api.specs.View.{BridgeView, neighbour_at, is_up_at}
 use Rattle.bridge_api.specs.Judging.{Judged, useless, greeting, link_state, complete, partial, tenant, judged}
 use Rattle.bridge_api.specs.Step.{Input, second, frame, carrier, metric, step, sent}
 use Rattle.bridge_api.specs.Laws.{IsInput, IsSoundView, IsHeard, IsSent, IsHelloOf, IsFrameOf, greeter, port_of, claims_of}
+use Rattle.spb_network.specs.Lanes.{IsIn}
 use Rattle.spb_network.specs.Sound.{end_at, IsHelloTo, IsSaid, IsFollowed, Agrees}
 use Rattle.spb_network.proofs.BridgeLaws.{steps_keep_bridge, steps_keep_neighbours, steps_stay_sound, frames_are_sound, up_ports_are_up, steps_carry_database}
 use Rattle.spb_network.proofs.SoundLaws.{sent_second}
-
--- a frame is one of a lane's
-abbrev pub IsIn : Frame → List Frame → Type 0
-IsIn f [] = ⊥
-IsIn f (g ∷ gs) = (f ≡ g) ⊎ IsIn f gs
 
 pub All-in : (P : Frame → Type 0) (fs : List Frame) (f : Frame) → AllByRecursion P fs → IsIn f fs → P f
 All-in P [] f all among = absurd among
@@ -53,11 +49,10 @@ pub record IsStill (v w : BridgeView) : Type 0 where
   pub id : w.id ≡ v.id
   pub source : w.source ≡ v.source
   pub vids : w.vids ≡ v.vids
-  pub attached : w.attached ≡ v.attached
 
 pub moved_same : (x : Option Input) (v : BridgeView) → IsStill v (moved x v)
-moved_same None v = record { id = refl; source = refl; vids = refl; attached = refl }
-moved_same (Some input) v = let same = steps_keep_bridge input v in record { id = same.id; source = same.source; vids = same.vids; attached = same.attached }
+moved_same None v = record { id = refl; source = refl; vids = refl }
+moved_same (Some input) v = let same = steps_keep_bridge input v in record { id = same.id; source = same.source; vids = same.vids }
 
 -- what comes, if something does, is an input
 abbrev pub AreInputs : Option Input → Type 0

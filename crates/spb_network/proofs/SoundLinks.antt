@@ -15,7 +15,7 @@ use Rattle.spb_network.specs.Declaring.{with_link}
 use Rattle.spb_network.specs.State.{State, links_of, near_end, is_at}
 use Rattle.spb_network.specs.Events.{metered, metered_over}
 use Rattle.spb_network.specs.Network.{IsPortAt}
-use Rattle.spb_network.specs.Sound.{AreDistinct, metric_at, AreMetered, IsSoundState}
+use Rattle.spb_network.specs.Sound.{AreDistinct, metric_at, AreMetered, AreAttached, IsSoundState}
 use Rattle.spb_network.proofs.BoxLemmas.{All-get}
 use Rattle.spb_network.proofs.ListLemmas.{things_of-push}
 use Rattle.spb_network.proofs.WorldLemmas.{IsNewLink}
@@ -24,7 +24,7 @@ use Rattle.spb_network.proofs.SoundMoves.{IsCore}
 use Rattle.spb_network.proofs.SoundWays.{at_parts, away}
 use Rattle.spb_network.proofs.SoundSteps.{core_stepped}
 use Rattle.spb_network.proofs.SoundMetrics.{port_stepped, after_end, metered_end, metered_away}
-use Rattle.spb_network.proofs.SoundEvents.{sound_from, stepped_world, stepped_views, stepped_lit}
+use Rattle.spb_network.proofs.SoundEvents.{sound_from, stepped_world, stepped_views, stepped_lit, stepped_attached}
 use Rattle.spb_network.proofs.SoundDeclaring.{got_push, at_end, lit_new_link, core_new_link}
 
 -- an end of a new link isn't an end of another
@@ -64,6 +64,10 @@ metered_new_link s name l sound new =
     subst (λ (ls : List DeclaredLink). AreMetered ls (after_end (after_end s.views l.a) l.b)) (sym (things_of-push s.world.links name l))
     (both_metered (links_of s) s.views l sound.metered new.apart new.link.apart (end_is_port s l.a sound.fits new.link.a) (end_is_port s l.b sound.fits new.link.b))
 
+attached_new_link : (s : State) (name : List ℕ) (l : DeclaredLink) → AreAttached s.world s.views → AreAttached (with_link s.world name l) s.views
+unfolding with_link
+attached_new_link s name l attached = attached
+
 pub end_metric : (bridges : Bridges) (e : LinkEnd) → IsEnd bridges e → IsMetric e.metric
 end_metric bridges e is = record { low = is.metric_low; high = is.metric_high }
 
@@ -76,6 +80,7 @@ Sound-new_link s name l sound new distinct dead =
     (stepped_lit (comes.metric l.b.port l.b.metric) u l.b.bridge refl (stepped_lit (comes.metric l.a.port l.a.metric) t l.a.bridge refl (lit_new_link s name l sound dead)))
     (subst (λ (w : World). AreMetered (things_of w.links) x.views) (sym world)
     (subst (λ (vs : List BridgeView). AreMetered (links_of t) vs) (sym views) (metered_new_link s name l sound new)))
+    (stepped_attached (comes.metric l.b.port l.b.metric) u l.b.bridge (stepped_attached (comes.metric l.a.port l.a.metric) t l.a.bridge (attached_new_link s name l sound.attached)))
   where
     t : State
     t = record s { world = with_link s.world name l; lanes = s.lanes ++ no_frames ∷ [] }

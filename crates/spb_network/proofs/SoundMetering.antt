@@ -16,7 +16,7 @@ use Rattle.spb_network.specs.World.{World, Links, names_of, things_of}
 use Rattle.spb_network.specs.Declaring.{end_on, link_metered, links_metered, with_end_metric}
 use Rattle.spb_network.specs.State.{State, links_of, is_live, near_end, far_end, is_at, direction, way_of, way_from, way_out, lane_of}
 use Rattle.spb_network.specs.Events.{metered, metered_on, remetered}
-use Rattle.spb_network.specs.Sound.{is_lit, AreLit, metric_at, AreMetered, Agrees, AllAgree, IsSoundState}
+use Rattle.spb_network.specs.Sound.{is_lit, AreLit, metric_at, AreMetered, AreAttached, Agrees, AllAgree, IsSoundState}
 use Rattle.spb_network.proofs.WorldLemmas.{end_on-is, Sound-with_end_metric}
 use Rattle.spb_network.proofs.FitsLemmas.{Fits-with_end_metric, link_there, near_is_port}
 use Rattle.spb_network.proofs.SoundLane.{some-is}
@@ -24,7 +24,7 @@ use Rattle.spb_network.proofs.SoundWays.{turned, near-turned, at_itself, at_part
 use Rattle.spb_network.proofs.SoundMoves.{IsCore}
 use Rattle.spb_network.proofs.SoundCarrier.{lit_by}
 use Rattle.spb_network.proofs.SoundMetrics.{after_end, metered_end, metered_away}
-use Rattle.spb_network.proofs.SoundEvents.{core_of, sound_from, stepped_world, stepped_views, stepped_lit}
+use Rattle.spb_network.proofs.SoundEvents.{core_of, sound_from, stepped_world, stepped_views, stepped_lit, stepped_attached}
 use Rattle.spb_network.proofs.SoundLinks.{end_metric, core_metered}
 
 -- ---- the links, of which one has another metric at one end
@@ -158,6 +158,10 @@ lit_with_end_metric : (on : Side) (m : ℕ) (s : State) (k : ℕ) → AreLit (li
 unfolding with_end_metric
 lit_with_end_metric on m s k lit i v p at port = lit i v p at port ∙ sym (lit-metered on m s.world.links k i p)
 
+attached_with_end_metric : (on : Side) (m : ℕ) (s : State) (k : ℕ) → AreAttached s.world s.views → AreAttached (with_end_metric on m s.world k) s.views
+unfolding with_end_metric
+attached_with_end_metric on m s k attached = attached
+
 -- ---- the bridge is told
 
 -- two ends at one port are the same end of the same link
@@ -218,13 +222,14 @@ unfolding with_end_metric
 none_metered on m s k have none = subst (λ (ls : Links). AreMetered (things_of ls) s.views) (metered_past on m s.world.links k none) have
 
 -- the bridge of the end that got its metric is told it
-told_sound : (s : State) (k : ℕ) (on : Side) (o : Option DeclaredLink) → IsCore s → AreLit (links_of s) s.views → MeteredBut s k (dir_of on) → (o ≡ None → AreMetered (links_of s) s.views) → slice_get (links_of s) k ≡ o → IsSoundState (metered_on on s o)
-told_sound s k on None core lit but none at = sound_from s core lit (none refl)
-told_sound s k on (Some l) core lit but none at =
+told_sound : (s : State) (k : ℕ) (on : Side) (o : Option DeclaredLink) → IsCore s → AreLit (links_of s) s.views → AreAttached s.world s.views → MeteredBut s k (dir_of on) → (o ≡ None → AreMetered (links_of s) s.views) → slice_get (links_of s) k ≡ o → IsSoundState (metered_on on s o)
+told_sound s k on None core lit attached but none at = sound_from s core lit (none refl) attached
+told_sound s k on (Some l) core lit attached but none at =
     sound_from x (core_metered s e (end_metric s.world.bridges e (end_on-is on s.world.bridges l (link_there s k l core.world at))) core) (stepped_lit (comes.metric e.port e.metric) s e.bridge refl lit)
     (subst (λ (w : World). AreMetered (things_of w.links) x.views) (sym (stepped_world (comes.metric e.port e.metric) s e.bridge))
     (subst (λ (vs : List BridgeView). AreMetered (links_of s) vs) (sym (stepped_views (comes.metric e.port e.metric) s e.bridge))
     (subst (λ (f : LinkEnd). AreMetered (links_of s) (after_end s.views f)) (near-side on l) (told_metered s k l (dir_of on) core at but))))
+    (stepped_attached (comes.metric e.port e.metric) s e.bridge attached)
   where
     e : LinkEnd
     e = end_on on l
@@ -236,4 +241,4 @@ pub Sound-remetered : (s : State) (k : ℕ) (on : Side) (m : ℕ) → IsMetric m
 unfolding remetered
 Sound-remetered s k on m is sound =
     let t : State = record s { world = with_end_metric on m s.world k } in
-    told_sound t k on (slice_get (links_of t) k) (core_with_end_metric on m s k is (core_of s sound)) (lit_with_end_metric on m s k sound.lit) (metered_but on m s k sound.metered) (none_metered on m s k sound.metered) refl
+    told_sound t k on (slice_get (links_of t) k) (core_with_end_metric on m s k is (core_of s sound)) (lit_with_end_metric on m s k sound.lit) (attached_with_end_metric on m s k sound.attached) (metered_but on m s k sound.metered) (none_metered on m s k sound.metered) refl

@@ -12,12 +12,13 @@ use Rattle.spb_network.specs.declared.declaration.DeclaredLink.{DeclaredLink}
 use Rattle.spb_network.specs.declared.lanes.Lanes.{Lanes}
 use Rattle.spb_network.specs.declared.way.Way.{Way}
 use Rattle.spb_network.specs.World.{World, things_of, Sound}
+use Rattle.spb_network.specs.Lanes.{IsIn}
 use Rattle.spb_network.specs.State.{State, links_of, is_live, near_end, far_end, way_out, lane_of}
 use Rattle.spb_network.specs.Network.{Fits}
 use Rattle.spb_network.specs.Sound.{AreDistinct, AreShort, IsShown, AreShown, IsSaid, Agrees, AllAgree, AreIdle}
 use Rattle.spb_network.proofs.BoxLemmas.{All-get}
 use Rattle.spb_network.proofs.FitsLemmas.{IsAlike, Fits-alike, link_there, far_is_port}
-use Rattle.spb_network.proofs.SoundLane.{some-is, IsIn, moved, sent_by, moved_same, AreInputs, moved_sound, IsMove, agrees_moved}
+use Rattle.spb_network.proofs.SoundLane.{some-is, moved, sent_by, moved_same, AreInputs, moved_sound, IsMove, agrees_moved}
 use Rattle.spb_network.proofs.SoundWays.{turned, way_of_end, LeadsFrom, way_leads}
 
 -- what is sound of a state, but for carrier, which comes and goes at one end of a link after the other
@@ -79,7 +80,7 @@ moves_shown w links o views views' lanes lanes' move shown i v b at declared =
     let was = got_mapped (moved (o i)) (slice_get views i) v (sym (move.bridges i) ∙ at) in
     let same = moved_same (o i) was.0 in
     let before : IsShown w.vids b was.0 = shown i was.0 b was.1 declared in
-    subst (IsShown w.vids b) (sym was.2) (record { id = same.id ∙ before.id; source = same.source ∙ before.source; vids = same.vids ∙ before.vids; attached = same.attached ∙ before.attached })
+    subst (IsShown w.vids b) (sym was.2) (record { id = same.id ∙ before.id; source = same.source ∙ before.source; vids = same.vids ∙ before.vids })
 
 moves_idle : (links : List DeclaredLink) (o : ℕ → Option Input) (views views' : List BridgeView) (lanes lanes' : List Lanes) → Moves links o views views' lanes lanes' → AreIdle links lanes → AreIdle links lanes'
 moves_idle links o views views' lanes lanes' move idle k dir dead =

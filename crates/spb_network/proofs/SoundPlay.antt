@@ -33,7 +33,7 @@ use Rattle.spb_network.proofs.SoundDeclaring.{empty_from, IsNewView, Sound-new_b
 use Rattle.spb_network.proofs.SoundLinks.{Sound-new_link}
 use Rattle.spb_network.proofs.SoundMetering.{Sound-remetered}
 use Rattle.spb_network.proofs.SoundLane.{IsStill}
-use Rattle.spb_network.proofs.SoundConfigured.{configured_still}
+use Rattle.spb_network.proofs.SoundConfigured.{configured_still, configured_attached}
 
 pub events_keep_sound : EventsKeepSound
 events_keep_sound = record {
@@ -63,6 +63,7 @@ sound_again s t world views lanes sound =
       views = same.views;
       lit = same.lit;
       metered = same.metered;
+      attached = same.attached;
       short = same.short;
       idle = same.idle;
       agree = same.agree;
@@ -85,7 +86,8 @@ vid_sound s vid ect sound none =
 
 new_view : (w : World) (name : List ℕ) (priority : ℕ) (system : Mac) (source : SourceId) (ports : ℕ) → Sound w → IsAddress system → IsFreeBridge w name priority system source ports → IsNewView w (bridge_of priority system source ports) (configured (config_of w (bridge_of priority system source ports)))
 new_view w name priority system source ports sound six new = record {
-  shown = record { id = still.id; source = still.source; vids = still.vids; attached = still.attached };
+  shown = record { id = still.id; source = still.source; vids = still.vids };
+  attached = configured_attached c;
   ports = record { ports = (configured_is_dark c whole).ports };
   sound = configured_is_sound c whole;
   dark = (configured_is_dark c whole).carrier;

@@ -17,7 +17,7 @@ use Rattle.spb_network.specs.declared.declaration.LinkEnd.{LinkEnd}
 use Rattle.spb_network.specs.declared.lanes.Lanes.{Lanes}
 use Rattle.spb_network.specs.declared.way.Way.{Way}
 use Rattle.spb_network.specs.World.{World, Links, names_of, things_of}
-use Rattle.spb_network.specs.Lanes.{lane_in, changed_lane, rest, no_frames}
+use Rattle.spb_network.specs.Lanes.{lane_in, changed_lane, rest, no_frames, IsIn}
 use Rattle.spb_network.specs.Declaring.{switched, with_live}
 use Rattle.spb_network.specs.State.{State, changed_at, links_of, is_live, near_end, far_end, way_out, with_frames, lane_of}
 use Rattle.spb_network.specs.Events.{sent_over, sent_all, stepped}
@@ -25,8 +25,8 @@ use Rattle.spb_network.specs.Sound.{AreShort, Agrees, AllAgree, AreIdle}
 use Rattle.spb_network.proofs.ListLemmas.{length-push}
 use Rattle.spb_network.proofs.WorldLemmas.{Sound-with_live}
 use Rattle.spb_network.proofs.FitsLemmas.{IsAlike, alike_then, alike_stepped, Fits-with_live}
-use Rattle.spb_network.proofs.SoundLane.{IsIn, moved, sent_by, AreInputs}
-use Rattle.spb_network.proofs.SoundMoves.{IsCore, Comes, GoesOut, sound_moves}
+use Rattle.spb_network.proofs.SoundLane.{moved, sent_by, AreInputs}
+use Rattle.spb_network.proofs.SoundMoves.{IsCore, Comes, GoesOut, Moves, sound_moves}
 
 -- ---- what becomes of a lane
 
@@ -282,7 +282,7 @@ in_sent_all s i (x ∷ fs) k dir f among =
 -- ---- one bridge steps
 
 -- something comes to the bridge at one place, and nothing elsewhere
-only : ℕ → Input → ℕ → Option Input
+pub only : ℕ → Input → ℕ → Option Input
 only zero x zero = Some x
 only zero x (suc j) = None
 only (suc i) x zero = None
@@ -332,24 +332,20 @@ goes_out s x i (Some v) k dir f at over = record {
 }
 
 -- something comes to a bridge after frames were lost or taken from lanes; a frame that comes stood in the lane towards it
-pub core_stepped : (x : Input) (s : State) (lanes : List Lanes) (i : ℕ) → IsInput x → IsCore s → IsAlike s (record s { lanes = lanes }) → AreShort lanes → ((k : ℕ) (dir : Dir) (f : Frame) → IsIn f (lane_of lanes k dir) → IsIn f (lane_of s.lanes k dir)) → ((p : ℕ) (f : Frame) → x ≡ frame p f → Comes (links_of s) s.lanes i p f) → IsCore (stepped x (record s { lanes = lanes }) i)
+pub moves_stepped : (x : Input) (s : State) (lanes : List Lanes) (i : ℕ) → IsInput x → ((k : ℕ) (dir : Dir) (f : Frame) → IsIn f (lane_of lanes k dir) → IsIn f (lane_of s.lanes k dir)) → ((p : ℕ) (f : Frame) → x ≡ frame p f → Comes (links_of s) s.lanes i p f) → Moves (links_of s) (only i x) s.views (stepped x (record s { lanes = lanes }) i).views s.lanes (stepped x (record s { lanes = lanes }) i).lanes
 unfolding stepped
-core_stepped x s lanes i is_input core alike short fewer comes =
-    sound_moves s t (only i x) core (world-sent_all next i fs) (alike_then s (record s { lanes = lanes }) t alike (alike_stepped x (record s { lanes = lanes }) i)) (short_sent_all next i fs short) (record {
-      bridges = λ j. ap (λ (views : List BridgeView). slice_get views j) (views-sent_all next i fs) ∙ get-changed x s.views i j;
-      inputs = λ j. only_input i x j is_input;
-      heard = λ j p f is. heard j p f (only_is i x j (frame p f) is);
-      frames = λ k dir f among. frames k dir f (in_sent_all next i fs k dir f among);
-    })
+moves_stepped x s lanes i is_input fewer comes = record {
+  bridges = λ j. ap (λ (views : List BridgeView). slice_get views j) (views-sent_all next i fs) ∙ get-changed x s.views i j;
+  inputs = λ j. only_input i x j is_input;
+  heard = λ j p f is. heard j p f (only_is i x j (frame p f) is);
+  frames = λ k dir f among. frames k dir f (in_sent_all next i fs k dir f among);
+}
   where
     next : State
     next = record s { lanes = lanes; views = changed_at (step x) s.views i }
 
     fs : List (ℕ × List ℕ)
     fs = option_map_or (sent x) (slice_get s.views i) []
-
-    t : State
-    t = sent_all next i fs
 
     heard : (j p : ℕ) (f : Frame) → (j ≡ i) × (x ≡ frame p f) → Comes (links_of s) s.lanes j p f
     heard j p f is = subst (λ (n : ℕ). Comes (links_of s) s.lanes n p f) (sym is.0) (comes p f is.1)
@@ -358,16 +354,32 @@ core_stepped x s lanes i is_input core alike short fewer comes =
     frames k dir f (inl old) = inl (fewer k dir f old)
     frames k dir f (inr new) = inr (goes_out s x i (slice_get s.views i) k dir f refl new)
 
+world_stepped : (x : Input) (s : State) (lanes : List Lanes) (i : ℕ) → (stepped x (record s { lanes = lanes }) i).world ≡ s.world
+unfolding stepped
+world_stepped x s lanes i = world-sent_all (record s { lanes = lanes; views = changed_at (step x) s.views i }) i (option_map_or (sent x) (slice_get s.views i) [])
+
+short_stepped : (x : Input) (s : State) (i : ℕ) → AreShort s.lanes → AreShort (stepped x s i).lanes
+unfolding stepped
+short_stepped x s i short = short_sent_all (record s { views = changed_at (step x) s.views i }) i (option_map_or (sent x) (slice_get s.views i) []) short
+
+pub core_stepped : (x : Input) (s : State) (lanes : List Lanes) (i : ℕ) → IsInput x → IsCore s → IsAlike s (record s { lanes = lanes }) → AreShort lanes → ((k : ℕ) (dir : Dir) (f : Frame) → IsIn f (lane_of lanes k dir) → IsIn f (lane_of s.lanes k dir)) → ((p : ℕ) (f : Frame) → x ≡ frame p f → Comes (links_of s) s.lanes i p f) → IsCore (stepped x (record s { lanes = lanes }) i)
+core_stepped x s lanes i is_input core alike short fewer comes =
+    let t : State = stepped x (record s { lanes = lanes }) i in
+    sound_moves s t (only i x) core (world_stepped x s lanes i) (alike_then s (record s { lanes = lanes }) t alike (alike_stepped x (record s { lanes = lanes }) i)) (short_stepped x (record s { lanes = lanes }) i short) (moves_stepped x s lanes i is_input fewer comes)
+
 -- ---- frames go
+
+pub moves_fewer : (s : State) (lanes : List Lanes) → ((k : ℕ) (dir : Dir) (f : Frame) → IsIn f (lane_of lanes k dir) → IsIn f (lane_of s.lanes k dir)) → Moves (links_of s) (λ j. None) s.views s.views s.lanes lanes
+moves_fewer s lanes fewer = record {
+  bridges = λ j. map-moved_none (slice_get s.views j);
+  inputs = λ j. tt;
+  heard = λ j p f is. absurd cc;
+  frames = λ k dir f among. inl (fewer k dir f among);
+}
 
 pub core_fewer : (s : State) (lanes : List Lanes) → IsCore s → IsAlike s (record s { lanes = lanes }) → AreShort lanes → ((k : ℕ) (dir : Dir) (f : Frame) → IsIn f (lane_of lanes k dir) → IsIn f (lane_of s.lanes k dir)) → IsCore (record s { lanes = lanes })
 core_fewer s lanes core alike short fewer =
-    sound_moves s (record s { lanes = lanes }) (λ j. None) core refl alike short (record {
-      bridges = λ j. map-moved_none (slice_get s.views j);
-      inputs = λ j. tt;
-      heard = λ j p f is. absurd cc;
-      frames = λ k dir f among. inl (fewer k dir f among);
-    })
+    sound_moves s (record s { lanes = lanes }) (λ j. None) core refl alike short (moves_fewer s lanes fewer)
 
 -- ---- a link is switched
 

@@ -1,5 +1,5 @@
 -- The lanes of a link.
-use Rattle.std.specs.Prelude.{List, [], ◌∷◌}
+use Rattle.std.specs.Prelude.{◌≡◌, ◌⊎◌, List, [], ◌∷◌}
 use Rattle.link_model.specs.Lane.{Frame}
 use Rattle.scenario.specs.declared.command.Dir.{Dir}
 use Rattle.scenario.specs.declared.command.Dir.TheVariants.{Ab, Ba}
@@ -27,3 +27,8 @@ rest (frame ∷ frames) = frames
 -- no frame is on its way
 abbrev pub no_frames : Lanes
 no_frames = record { ab = []; ba = [] }
+
+-- a frame is one of a lane's
+abbrev pub IsIn : Frame → List Frame → Type 0
+IsIn f [] = ⊥
+IsIn f (g ∷ gs) = (f ≡ g) ⊎ IsIn f gs

@@ -10,3 +10,5 @@ pub mod Refusing
 pub mod Play
 pub mod Applying
 pub mod SoundLaws
+pub mod WiringLaws
+pub mod DeliveryLaws

@@ -23,7 +23,7 @@ use Rattle.spb_network.specs.declared.declaration.DeclaredBridge.{DeclaredBridge
 use Rattle.spb_network.specs.declared.declaration.DeclaredLink.{DeclaredLink}
 use Rattle.spb_network.specs.declared.kind_rule.KindRule.{KindRule}
 use Rattle.spb_network.specs.declared.lanes.Lanes.{Lanes}
-use Rattle.spb_network.specs.World.{World, names_of, things_of, Sound}
+use Rattle.spb_network.specs.World.{World, names_of, things_of, attached_at, Sound}
 use Rattle.spb_network.specs.State.{State, Spare, links_of, is_live, near_end, far_end, way_out, lane_of}
 use Rattle.spb_network.specs.Network.{Fits}
 
@@ -37,16 +37,19 @@ pub record AreDistinct (w : World) : Type 0 where
 
 -- ---- one bridge
 
--- the bridge is the declared one: its ids, and the VIDs of the network. Nothing is attached yet
+-- the bridge is the declared one: its ids, and the VIDs of the network
 pub record IsShown (plans : List VidPlan) (b : DeclaredBridge) (v : BridgeView) : Type 0 where
   pub id : v.id ≡ b.bridge.id
   pub source : v.source ≡ b.bridge.source
   pub vids : v.vids ≡ plans
-  pub attached : v.attached ≡ []
 
 -- each bridge is the one that was declared at its place
 abbrev pub AreShown : World → List BridgeView → Type 0
 AreShown w views = (i : ℕ) (v : BridgeView) (b : DeclaredBridge) → slice_get views i ≡ Some v → slice_get (things_of w.bridges) i ≡ Some b → IsShown w.vids b v
+
+-- each bridge has attached what is attached in the world
+abbrev pub AreAttached : World → List BridgeView → Type 0
+AreAttached w views = (i : ℕ) (v : BridgeView) → slice_get views i ≡ Some v → v.attached ≡ attached_at w i
 
 -- whether a link that is up ends at a port of the bridge at place i
 abbrev pub is_lit : List DeclaredLink → ℕ → ℕ → Bool
@@ -120,6 +123,7 @@ pub record IsSoundState (s : State) : Type 0 where
   pub views : AllByRecursion IsSoundView s.views
   pub lit : AreLit (links_of s) s.views
   pub metered : AreMetered (links_of s) s.views
+  pub attached : AreAttached s.world s.views
   pub short : AreShort s.lanes
   pub idle : AreIdle (links_of s) s.lanes
   pub agree : AllAgree (links_of s) s.views s.lanes

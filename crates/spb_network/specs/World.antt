@@ -6,6 +6,7 @@ use Rattle.spb_types.specs.declared.address.SystemId.{SystemId}
 use Rattle.spb_types.specs.declared.graph.Edge.{Edge}
 use Rattle.spb_types.specs.declared.graph.Graph.{Graph}
 use Rattle.spb_types.specs.declared.graph.GraphBridge.{GraphBridge}
+use Rattle.spb_types.specs.declared.service.Attachment.{Attachment}
 use Rattle.spb_types.specs.declared.service.VidPlan.{VidPlan}
 use Rattle.spb_tlvs.specs.Capability.{IsTree}
 use Rattle.spb_network.specs.declared.declaration.DeclaredBridge.{DeclaredBridge}
@@ -55,6 +56,10 @@ abbrev pub ports_at : Bridges → ℕ → ℕ
 ports_at [] i = 0
 ports_at (b ∷ bs) zero = b.1.ports
 ports_at (b ∷ bs) (suc i) = ports_at bs i
+
+-- what is attached to the ports of the bridge at a place: nothing is
+abbrev pub attached_at : World → ℕ → List Attachment
+attached_at w i = []
 
 -- the edge that a link makes: its cost is the greater of the metrics of its ends
 abbrev pub edge_of : Bridges → DeclaredLink → Edge
