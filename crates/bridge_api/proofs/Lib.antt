@@ -26,3 +26,5 @@ pub mod GraphRead
 pub mod ServingPorts
 pub mod Serving
 pub mod OwnPorts
+pub mod FewHeld
+pub mod FewSent

@@ -44,17 +44,17 @@ led h way s held next =
     ∙ (ap (λ (t : AdjState). led_to (next_state t (state_numbered way.state)) h way) (either (same_end (no_system, 0) (sender h way)) Down)
     ∙ ap (λ (t : AdjState). led_to t h way) next)
 
-heard_down : (me : SystemId) (h : HelloValue) (way : ThreeWay) (s : AdjState) → is_discarded me 1 h way ≡ false → (h.holding == 0) ≡ false → next_state Down (state_numbered way.state) ≡ s → after_hello me 1 h way (down true) ≡ led_to s h way
+pub heard_down : (me : SystemId) (h : HelloValue) (way : ThreeWay) (s : AdjState) → is_discarded me 1 h way ≡ false → (h.holding == 0) ≡ false → next_state Down (state_numbered way.state) ≡ s → after_hello me 1 h way (down true) ≡ led_to s h way
 heard_down me h way s heard held next = when_false (is_discarded me 1 h way) (down true) (after_heard h way (down true)) heard ∙ led h way s held next
 
 -- ---- a bridge, seen at its first port
 
-record Starts (system : SystemId) (a : Adjacency) (v : BridgeView) : Type 0 where
-  port : BridgePort
-  rest : List BridgePort
-  id : v.id.system ≡ system
-  is : v.ports ≡ port ∷ rest
-  adjacency : port.adjacency ≡ a
+pub record Starts (system : SystemId) (a : Adjacency) (v : BridgeView) : Type 0 where
+  pub port : BridgePort
+  pub rest : List BridgePort
+  pub id : v.id.system ≡ system
+  pub is : v.ports ≡ port ∷ rest
+  pub adjacency : port.adjacency ≡ a
 
 lit_at : (c : BridgeConfig) (metrics : List ℕ) → (configured c).ports ≡ map dark metrics → 1 ≤ length metrics → Starts c.id.system (down true) (lit c)
 lit_at c [] ports some = absurd (omega arith)
@@ -86,11 +86,11 @@ greets_first v ports port rest is first lit =
     ∙ first_is (later port).adjacency.carrier (1, hello_frame w.id.system 1 (later port)) (synced_at w.id.system 1 (later port) w.database) (sent_from w.id.system 2 rest (told_at 1 (later port) w.database)) lit
 
 -- the hello of a system, by its adjacency
-abbrev greets : SystemId → Adjacency → HelloValue
+abbrev pub greets : SystemId → Adjacency → HelloValue
 greets system a = record { circuit_type = 1; source = system; holding = 3; circuit = 1; tlvs = hello_tlvs (said 1 a) }
 
 -- it hears what another sends first
-hears : ControlAgain → (me other : SystemId) (a b : Adjacency) (v w : BridgeView) → Starts me a v → Starts other b w → a.carrier ≡ true → (after_second b).carrier ≡ true → length other.mac.bytes ≡ 6 → IsBytes other.mac.bytes → IsNamed (neighbour_of (after_second b)) → AreOctets (neighbour_of (after_second b)) → Starts me (after_hello me 1 (greets other (after_second b)) (said 1 (after_second b)) a) (hearing_from w v)
+pub hears : ControlAgain → (me other : SystemId) (a b : Adjacency) (v w : BridgeView) → Starts me a v → Starts other b w → a.carrier ≡ true → (after_second b).carrier ≡ true → length other.mac.bytes ≡ 6 → IsBytes other.mac.bytes → IsNamed (neighbour_of (after_second b)) → AreOctets (neighbour_of (after_second b)) → Starts me (after_hello me 1 (greets other (after_second b)) (said 1 (after_second b)) a) (hearing_from w v)
 hears again me other a b v w sv sw lit_v lit_w six from named octets =
     let next : (later sw.port).adjacency ≡ after_second b = ap after_second sw.adjacency in
     let sender_is : (readied w).id.system ≡ other = ap (λ (u : BridgeView). u.id.system) (readied_rest w) ∙ sw.id in
@@ -118,7 +118,7 @@ hears again me other a b v w sv sw lit_v lit_w six from named octets =
           ∙ (λ i. after_hello (sv.id i) 1 h way (sv.adjacency i));
     }
 
-up_first : (v : BridgeView) (system : SystemId) (a : Adjacency) → Starts system a v → is_up a.state ≡ true → is_up_at v 1 ≡ true
+pub up_first : (v : BridgeView) (system : SystemId) (a : Adjacency) → Starts system a v → is_up a.state ≡ true → is_up_at v 1 ≡ true
 unfolding is_up_at
 up_first v system a s up = ap (λ (list : List BridgePort). is_up_in (port_in list 1)) s.is ∙ (ap (λ (x : Adjacency). is_up x.state) s.adjacency ∙ up)
 

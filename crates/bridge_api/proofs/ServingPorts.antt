@@ -27,7 +27,7 @@ use Rattle.bridge_api.specs.Duties.{but_for_ssn}
 
 -- ---- every entry changed in its place
 
-abbrev moved : (LspId → Entry → Entry) → LspId × Entry → LspId × Entry
+abbrev pub moved : (LspId → Entry → Entry) → LspId × Entry → LspId × Entry
 moved f e = (e.0, f e.0 e.1)
 
 below_moved : (f : LspId → Entry → Entry) (x : LspId) (es : List (LspId × Entry)) → below_all id_cmp x (map (moved f) es) ≡ below_all id_cmp x es
@@ -38,7 +38,7 @@ sorted_moved : (f : LspId → Entry → Entry) (es : List (LspId × Entry)) → 
 sorted_moved f [] = refl
 sorted_moved f (e ∷ es) = λ i. below_moved f e.0 es i && sorted_moved f es i
 
-entries-each : (f : LspId → Entry → Entry) (db : Lsps) → entries (each f db) ≡ map (moved f) (entries db)
+pub entries-each : (f : LspId → Entry → Entry) (db : Lsps) → entries (each f db) ≡ map (moved f) (entries db)
 unfolding each
 entries-each f db = entries-from_sorted id_cmp (map (moved f) (entries db)) (subst T (sym (sorted_moved f (entries db))) (entries_sorted db))
 

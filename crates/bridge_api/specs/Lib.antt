@@ -10,3 +10,4 @@ pub mod Among
 pub mod Laws
 pub mod Duties
 pub mod Graph
+pub mod Few

@@ -1,6 +1,7 @@
 //! What every step of a bridge keeps, whatever comes to it. Each is the contract of a function that does nothing.
 ghost use Rattle.bridge_api.specs.Laws.{ConfiguredIsSound, ConfiguredIsDark, ConfiguredHoldsOwn, SoundCanSay, StepsStaySound, StepsKeepBridge, StepsKeepCarrier, StepsKeepNeighbours, SentIsSound, OneHello, HellosAreHeard, SentWithCarrier, EnteringUpIsWhole, UpPortsAreUp, StepsCarryDatabase, NeighboursComeUp, SomeBridge};
 ghost use Rattle.bridge_api.specs.Duties.{SecondsServe, SecondsSettle};
+ghost use Rattle.bridge_api.specs.Few.{ConfiguredHoldsFew, StepsHoldFew, SecondsSendFew};
 ghost use Rattle.bridge_api.specs.Graph.{ReadsWhatIsHeld, ReadsEachOnce, ReadsItself, OwnPortsAreApart};
 
 use itag_frames::control_again;
@@ -74,3 +75,11 @@ pub fn neighbours_come_up()
 {
     control_again();
 }
+
+/// A bridge that hears hellos alone holds at most one LSP more after each step, and its own LSP goes at most one number
+/// further; and in a second it sends few frames.
+pub fn few_are_held_and_sent()
+    ensures configured { ConfiguredHoldsFew }
+    ensures steps { StepsHoldFew }
+    ensures sent { SecondsSendFew }
+{}
