@@ -2,3 +2,4 @@ pub mod States
 pub mod Hearing
 pub mod Adjacency
 pub mod Laws
+pub mod Time

@@ -4,7 +4,10 @@
 //! No call takes memory, and each takes constant time.
 #![tactic(auto)]
 
-pub use laws::{a_hello_names_nobody_but_the_kept_neighbour, a_kept_neighbour_was_kept_or_heard};
+pub use laws::{
+    a_hello_names_nobody_but_the_kept_neighbour, a_kept_neighbour_was_kept_or_heard,
+    a_silent_neighbour_is_kept_for_its_count,
+};
 pub use port::Adjacency;
 pub use state::{AdjState, Heard};
 

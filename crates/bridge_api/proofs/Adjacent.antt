@@ -67,7 +67,7 @@ up_keeps_at Down n up = absurd cc
 up_keeps_at Initializing n up = absurd cc
 up_keeps_at Up n up = refl
 
-up_keeps : (a : Adjacency) → is_up a.state ≡ true → neighbour_of a ≡ Some (a.neighbour, a.circuit)
+pub up_keeps : (a : Adjacency) → is_up a.state ≡ true → neighbour_of a ≡ Some (a.neighbour, a.circuit)
 up_keeps a up = up_keeps_at a.state (a.neighbour, a.circuit) up
 
 -- what is Up came up, or was Up with the same neighbour

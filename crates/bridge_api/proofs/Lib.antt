@@ -28,3 +28,6 @@ pub mod Serving
 pub mod OwnPorts
 pub mod FewHeld
 pub mod FewSent
+pub mod Time
+pub mod TimeLsps
+pub mod TimeOwn

@@ -155,7 +155,7 @@ nothing_owed v p id few held = by_test (has (ssn_in (get db id)) p) refl
 
 -- ---- and else
 
-held_from : (q : ℕ) (ports : List BridgePort) (db : Lsps) (id : LspId) → but_for_ssn (get (told_from q ports db) id) ≡ but_for_ssn (get db id)
+pub held_from : (q : ℕ) (ports : List BridgePort) (db : Lsps) (id : LspId) → but_for_ssn (get (told_from q ports db) id) ≡ but_for_ssn (get db id)
 held_from q [] db id = refl
 held_from q (x ∷ ports) db id = held_from (q + 1) ports (told_at q x db) id ∙ told_holds q x db id
 

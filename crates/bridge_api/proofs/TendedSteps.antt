@@ -65,7 +65,7 @@ moved_body ports db v same =
     ap (λ (list : List Neighbour). 1 ∷ content_bytes (record { config = record { id = v.id; source = v.source; vids = v.vids }; neighbours = list; attached = map (member_of v.id.system) v.attached })) same
 
 -- whether CSNPs are due isn't said
-undue_neighbours : (p : ℕ) (ports : List BridgePort) → neighbours_from p (map (with_due false) ports) ≡ neighbours_from p ports
+pub undue_neighbours : (p : ℕ) (ports : List BridgePort) → neighbours_from p (map (with_due false) ports) ≡ neighbours_from p ports
 undue_neighbours p [] = refl
 undue_neighbours p (port ∷ ports) = ap (λ (list : List Neighbour). if is_port_up port then neighbour_in p port ∷ list else list) (undue_neighbours (p + 1) ports)
 

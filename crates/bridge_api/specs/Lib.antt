@@ -11,3 +11,4 @@ pub mod Laws
 pub mod Duties
 pub mod Graph
 pub mod Few
+pub mod Time

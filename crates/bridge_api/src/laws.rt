@@ -3,6 +3,7 @@ ghost use Rattle.bridge_api.specs.Laws.{ConfiguredIsSound, ConfiguredIsDark, Con
 ghost use Rattle.bridge_api.specs.Duties.{SecondsServe, SecondsSettle};
 ghost use Rattle.bridge_api.specs.Few.{ConfiguredHoldsFew, StepsHoldFew, SecondsSendFew};
 ghost use Rattle.bridge_api.specs.Graph.{ReadsWhatIsHeld, ReadsEachOnce, ReadsItself, OwnPortsAreApart};
+ghost use Rattle.bridge_api.specs.Time.{NeighboursAreKept, NeighboursAreLost, KeepsSomebody, SecondsAge, LspsLast, LspsExpire, SecondsStandStill, SecondsRenew, SecondsSpend, SpentStandsStill, OwnLspLasts, OwnLspIsRenewed, AloneStaysAlone, EveryNineHundred};
 
 use itag_frames::control_again;
 
@@ -82,4 +83,37 @@ pub fn few_are_held_and_sent()
     ensures configured { ConfiguredHoldsFew }
     ensures steps { StepsHoldFew }
     ensures sent { SecondsSendFew }
+{}
+
+/// A neighbour is kept for as many seconds as its holding count says, in the state that it is in, whatever comes to the
+/// bridge but hellos and changes of carrier at its port. Then the port is Down, and keeps nobody. There are bridges that
+/// keep somebody.
+pub fn silent_neighbours_are_lost()
+    ensures kept { NeighboursAreKept }
+    ensures lost { NeighboursAreLost }
+    ensures some { KeepsSomebody }
+{
+    control_again();
+}
+
+/// In a second an LSP of another system keeps its version and body, or is dead at its number. A live one of which nothing
+/// more is heard stays as it is for the seconds of its lifetime, and is then dead, to be sent at every Up port.
+pub fn silent_lsps_expire()
+    ensures age { SecondsAge }
+    ensures last { LspsLast }
+    ensures expire { LspsExpire }
+{}
+
+/// A second after which a bridge has the same to say, and its own lifetime is above 300, originates nothing. Each other
+/// originates: the own LSP stands one number further, or past the last one is dead, and then none originates any more. So
+/// a bridge just configured and left to itself originates every 900 seconds.
+pub fn own_lsps_are_renewed()
+    ensures still { SecondsStandStill }
+    ensures renew { SecondsRenew }
+    ensures spend { SecondsSpend }
+    ensures spent { SpentStandsStill }
+    ensures lasts { OwnLspLasts }
+    ensures renewed { OwnLspIsRenewed }
+    ensures alone { AloneStaysAlone }
+    ensures every { EveryNineHundred }
 {}

@@ -34,7 +34,8 @@ pub use config::BridgeConfig;
 pub use kind::Kind;
 pub use laws::{
     bridges_are_sound, entering_up_is_whole, frames_are_heard, graphs_are_read_from_what_is_held,
-    neighbours_come_up, seconds_serve_neighbours, steps_carry_the_database, steps_keep_neighbours,
+    neighbours_come_up, own_lsps_are_renewed, seconds_serve_neighbours, silent_lsps_expire,
+    silent_neighbours_are_lost, steps_carry_the_database, steps_keep_neighbours,
     steps_keep_the_bridge,
 };
 pub use outbox::Outbox;

@@ -6,3 +6,4 @@ pub mod Certificate
 pub mod CertificateLaws
 pub mod MapLaws
 pub mod Laws
+pub mod Time

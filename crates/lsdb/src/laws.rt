@@ -2,6 +2,7 @@
 ghost use Rattle.lsdb.specs.CertificateLaws.{StandingIsCertified, StepsCompose, SilenceServesAll, StoringIsCertified, AckingIsCertified, ClearingIsCertified, EnteringIsCertified, OfferingIsCertified, FlaggingIsCertified, FloodingIsCertified, AgeingIsCertified, PartingIsCertified, JoiningIsCertified, EntryStepsCompose, PlacingIsCertified, ChangingIsCertified, ChangingEachIsCertified};
 ghost use Rattle.lsdb.specs.MapLaws.{EachIsRead, ChangedIsRead, ChangingLeavesOthers, InsertedIsRead, InsertingLeavesOthers, IdsAreOrdered, TiedIdsAreOne};
 ghost use Rattle.lsdb.specs.Laws.{AtMostItself, SameBothWays, AtMostThrough, AbsentIsLeast, JoinIsAbove, JoinIsLeast, OlderIsBelow, NewerIsAbove, EqualIsSame, ConfusedIsNeither, ConfusedAreLive, ConfusedJoinIsDead, NumbersFollow, GreaterNumberIsAbove, AtOneNumber, NotAtMost, WithoutFlagsNoneIsDue, WhereNoneIsDueNoFlags};
+ghost use Rattle.lsdb.specs.Time.{LivesForItsLifetime, DiesAfterIt, OthersDontAge};
 
 /// Versions are ordered, and absent is the least of them.
 pub fn versions_are_ordered()
@@ -79,4 +80,12 @@ pub fn changes_are_read_by_id()
 pub fn flags_are_at_ports()
     ensures none { WithoutFlagsNoneIsDue }
     ensures all { WhereNoneIsDueNoFlags }
+{}
+
+/// A live LSP of which nothing more is heard stays as it is for the seconds of its lifetime, which falls. After them it is
+/// dead at its number, with lifetime 0 and the body 01, and is to be sent at every port that is Up then. No other ages.
+pub fn a_silent_lsp_lives_for_its_lifetime()
+    ensures lives { LivesForItsLifetime }
+    ensures dies { DiesAfterIt }
+    ensures others { OthersDontAge }
 {}
