@@ -22,12 +22,13 @@ use Rattle.lsdb.specs.Entry.{Entry, made, joined, parted, aged, aged_at}
 use Rattle.lsdb.specs.Database.{Lsps, version_in, version_at, fits, each}
 use Rattle.lsdb.specs.Certificate.{Certificate}
 use Rattle.lsdb.proofs.LookupLemmas.{get-each, fits_held}
-use Rattle.flooding.specs.Own.{own_id}
+use Rattle.flooding.specs.Own.{own_id, body_in}
 use Rattle.flooding.specs.Hearing.{Holding, claim_of, hear_lsp_of}
 use Rattle.flooding.specs.Origination.{originated}
 use Rattle.flooding.specs.Entries.{AllEntries, IsNumbered, IsSendable, HasFlagsAt, AreSendable, HaveFlagsAt}
 use Rattle.flooding.specs.Laws.{HasBody, IsWhole, control}
 use Rattle.flooding.proofs.SendableEntries.{flags_sendable, lsp_keeps_sendable, origination_keeps_sendable, ageing_keeps_sendable}
+use Rattle.flooding.proofs.OwnBodies.{lsp_leaves_own_body, origination_leaves_own_body}
 use Rattle.flooding.proofs.FlagEntries.{lsp_keeps_flags, origination_keeps_flags}
 use Rattle.flooding.proofs.Steps.{hearing_lsp, origination}
 use Rattle.snp_sync.specs.Line.{is_owed}
@@ -35,33 +36,39 @@ use Rattle.snp_sync.specs.Sending.{settled as told_entry, all_settled}
 use Rattle.snp_sync.specs.Sized.{IsLspId, IsSized, IsSizedLine, AreSized}
 use Rattle.snp_sync.specs.Hearing.{claims_in, hear_entries_of, hear_csnp_of}
 use Rattle.snp_sync.proofs.Fields.{flags_keep_sized, entries_keep_sized, csnp_keeps_sized, lsp_keeps_sized, origination_keeps_sized, ageing_keeps_sized}
-use Rattle.snp_sync.proofs.Stays.{claims_are_numbered, entries_keep_sendable, csnp_keeps_sendable, entries_keep_flags, csnp_keeps_flags}
+use Rattle.snp_sync.proofs.Stays.{claims_are_numbered, entries_keep_sendable, csnp_keeps_sendable, entries_keep_flags, csnp_keeps_flags, entries_leave_own_body, csnp_leaves_own_body}
 use Rattle.snp_sync.proofs.Served.{entries_are_certified, csnp_is_certified}
 use Rattle.spb_content.proofs.Members.{Has}
 use Rattle.bridge_api.specs.declared.port.BridgePort.{BridgePort}
 use Rattle.bridge_api.specs.View.{BridgeView, port_in, port_at, with_port_at, is_port_up, is_up_in, up_from, up_ports}
-use Rattle.bridge_api.specs.Own.{own_of, own_entry, holding_of, is_said, originating, settled}
+use Rattle.bridge_api.specs.Own.{body_of, own_of, own_entry, holding_of, is_said, originating, settled}
 use Rattle.bridge_api.specs.Config.{IsOwnMac}
 use Rattle.bridge_api.specs.Hearing.{with_due, left, joined_at, flooded, completed, requested}
 use Rattle.bridge_api.specs.Ticking.{later, leaves, leaving_from, parted_all, counted, expired, is_old, refreshed, told_at, told_from, told}
 use Rattle.bridge_api.specs.Laws.{HasDatabase}
+use Rattle.bridge_api.proofs.OwnPorts.{HasApart, empty_apart, own_apart, mapped_apart}
 use Rattle.bridge_api.proofs.Places.{got_at}
 use Rattle.bridge_api.proofs.UpPorts.{up_ports_from}
 use Rattle.bridge_api.proofs.Changes.{found, one_port}
 
 -- ---- a sound database
 
--- of a system with this id, with these Up ports
+-- of a system with this id, with these Up ports; its own LSP lists each neighbour at a port of its own
 pub record IsSoundData (up : PortSet) (system : SystemId) (db : Lsps) : Type 0 where
   pub sendable : AreSendable db
   pub sized : AreSized db
   pub flags : HaveFlagsAt up db
   pub own : is_absent (version_at db (own_id system)) ≡ false
+  pub apart : HasApart (body_in (get db (own_id system)))
 
-pub lsps_of : (v : BridgeView) → HasDatabase v → IsSoundData (up_ports v) v.id.system v.database
-lsps_of v held = record { sendable = held.sendable; sized = held.sized; flags = held.flags; own = held.own }
+-- the database of a bridge
+abbrev pub Holds : BridgeView → Type 0
+Holds v = IsSoundData (up_ports v) v.id.system v.database
 
-pub has_lsps : (v : BridgeView) → IsSoundData (up_ports v) v.id.system v.database → HasDatabase v
+pub lsps_of : (v : BridgeView) → HasDatabase v → HasApart (body_in (own_entry v)) → Holds v
+lsps_of v held apart = record { sendable = held.sendable; sized = held.sized; flags = held.flags; own = held.own; apart = apart }
+
+pub has_lsps : (v : BridgeView) → Holds v → HasDatabase v
 has_lsps v held = record { sendable = held.sendable; sized = held.sized; flags = held.flags; own = held.own }
 
 -- the own id, of six octets
@@ -89,75 +96,80 @@ fits_own v there = fits_at v.database (own_id v.id.system) (own_entry v) refl th
 
 -- ---- the own LSP
 
-pub originated_keeps : (up : PortSet) (h : Holding) → HasBody h.own → IsLspId (own_id h.own.system) → IsSoundData up h.own.system h.db → IsSoundData up h.own.system (originated up h).db
-originated_keeps up h body named held =
+pub originated_keeps : (up : PortSet) (h : Holding) → HasBody h.own → IsLspId (own_id h.own.system) → HasApart h.own.body → IsSoundData up h.own.system h.db → IsSoundData up h.own.system (originated up h).db
+originated_keeps up h body named said held =
     let steps : Certificate 0 [] (control up h) (control up (originated up h)) = origination up 0 [] h in
     record {
       sendable = origination_keeps_sendable up h body held.sendable;
       sized = origination_keeps_sized up h named held.sized;
       flags = origination_keeps_flags up h held.flags;
       own = risen _ _ (steps.rises (own_id h.own.system)) held.own;
+      apart = own_apart h.own (get h.db (own_id h.own.system)) (get (originated up h).db (own_id h.own.system)) said (origination_leaves_own_body up h (own_id h.own.system)) held.apart;
     }
 
--- a bridge that can write what it says, and whose id is six octets
+-- a bridge that can write what it says, whose id is six octets, and whose neighbours are at different ports
 pub record CanOriginate (v : BridgeView) : Type 0 where
   pub body : HasBody (own_of v)
   pub named : IsLspId (own_id v.id.system)
+  pub apart : HasApart (body_of v)
 
-pub originating_keeps : (v : BridgeView) → CanOriginate v → HasDatabase v → HasDatabase (originating v)
-originating_keeps v can held = has_lsps (originating v) (originated_keeps (up_ports v) (holding_of v) can.body can.named (lsps_of v held))
+pub originating_keeps : (v : BridgeView) → CanOriginate v → Holds v → Holds (originating v)
+originating_keeps v can held = originated_keeps (up_ports v) (holding_of v) can.body can.named can.apart held
 
-stands_or : (b : Bool) (v : BridgeView) → CanOriginate v → HasDatabase v → HasDatabase (if b then v else originating v)
+stands_or : (b : Bool) (v : BridgeView) → CanOriginate v → Holds v → Holds (if b then v else originating v)
 stands_or true v can held = held
 stands_or false v can held = originating_keeps v can held
 
-pub settled_keeps : (v : BridgeView) → CanOriginate v → HasDatabase v → HasDatabase (settled v)
+pub settled_keeps : (v : BridgeView) → CanOriginate v → Holds v → Holds (settled v)
 unfolding settled
 settled_keeps v can held = stands_or (v.spent || is_said v) v can held
 
-pub refreshed_keeps : (v : BridgeView) → CanOriginate v → HasDatabase v → HasDatabase (refreshed v)
+pub refreshed_keeps : (v : BridgeView) → CanOriginate v → Holds v → Holds (refreshed v)
 unfolding refreshed
 refreshed_keeps v can held = stands_or (v.spent || (is_said v && not (is_old (own_entry v)))) v can held
 
 -- ---- what is heard at an Up port
 
-pub lsp_keeps : (l : LspValue) (p : ℕ) (v : BridgeView) → has (up_ports v) p ≡ true → IsWhole l → IsId l.id.system → HasFields (lsp l) → HasBody (own_of v) → HasDatabase v → HasDatabase (flooded l p v)
-lsp_keeps l p v up whole id fields body held =
+pub lsp_keeps : (l : LspValue) (p : ℕ) (v : BridgeView) → has (up_ports v) p ≡ true → IsWhole l → IsId l.id.system → HasFields (lsp l) → CanOriginate v → Holds v → Holds (flooded l p v)
+lsp_keeps l p v up whole id fields can held =
     let h : Holding = holding_of v in
     let steps : Certificate p (claim_of l ∷ []) (control (up_ports v) h) (control (up_ports v) (hear_lsp_of (up_ports v) p l h)) = hearing_lsp (up_ports v) p l h up in
     record {
-      sendable = lsp_keeps_sendable (up_ports v) p l h whole body held.sendable;
+      sendable = lsp_keeps_sendable (up_ports v) p l h whole can.body held.sendable;
       sized = lsp_keeps_sized (up_ports v) p l h id fields held.sized;
       flags = lsp_keeps_flags (up_ports v) p l h up held.flags;
       own = risen _ _ (steps.rises (own_id v.id.system)) held.own;
+      apart = own_apart h.own (own_entry v) (get (hear_lsp_of (up_ports v) p l h).db (own_id v.id.system)) can.apart (lsp_leaves_own_body (up_ports v) p l h (own_id v.id.system) refl) held.apart;
     }
 
 all_numbered : (entries : List SnpEntry) → AllByRecursion (λ c. IsNumbered c.version) (claims_in entries)
 all_numbered [] = tt
 all_numbered (e ∷ entries) = (claims_are_numbered e, all_numbered entries)
 
-pub csnp_keeps : (c : CsnpValue) (entries : List SnpEntry) (p : ℕ) (v : BridgeView) → has (up_ports v) p ≡ true → AllByRecursion IsSizedLine entries → HasBody (own_of v) → HasDatabase v → HasDatabase (completed c entries p v)
-csnp_keeps c entries p v up lines body held =
+pub csnp_keeps : (c : CsnpValue) (entries : List SnpEntry) (p : ℕ) (v : BridgeView) → has (up_ports v) p ≡ true → AllByRecursion IsSizedLine entries → CanOriginate v → Holds v → Holds (completed c entries p v)
+csnp_keeps c entries p v up lines can held =
     let h : Holding = holding_of v in
     let steps : Certificate p (claims_in entries) (control (up_ports v) h) (control (up_ports v) (hear_csnp_of (up_ports v) p c.start c.end (claims_in entries) h)) =
     csnp_is_certified (up_ports v) p c.start c.end (claims_in entries) h up in
     record {
-      sendable = csnp_keeps_sendable (up_ports v) p c.start c.end (claims_in entries) h (all_numbered entries) body held.sendable;
+      sendable = csnp_keeps_sendable (up_ports v) p c.start c.end (claims_in entries) h (all_numbered entries) can.body held.sendable;
       sized = csnp_keeps_sized (up_ports v) p c.start c.end entries h lines held.sized;
       flags = csnp_keeps_flags (up_ports v) p c.start c.end (claims_in entries) h up held.flags;
       own = risen _ _ (steps.rises (own_id v.id.system)) held.own;
+      apart = own_apart h.own (own_entry v) (get (hear_csnp_of (up_ports v) p c.start c.end (claims_in entries) h).db (own_id v.id.system)) can.apart (csnp_leaves_own_body (up_ports v) p c.start c.end (claims_in entries) h (own_id v.id.system) refl) held.apart;
     }
 
-pub psnp_keeps : (entries : List SnpEntry) (p : ℕ) (v : BridgeView) → has (up_ports v) p ≡ true → AllByRecursion IsSizedLine entries → HasBody (own_of v) → HasDatabase v → HasDatabase (requested entries p v)
-psnp_keeps entries p v up lines body held =
+pub psnp_keeps : (entries : List SnpEntry) (p : ℕ) (v : BridgeView) → has (up_ports v) p ≡ true → AllByRecursion IsSizedLine entries → CanOriginate v → Holds v → Holds (requested entries p v)
+psnp_keeps entries p v up lines can held =
     let h : Holding = holding_of v in
     let steps : Certificate p (claims_in entries) (control (up_ports v) h) (control (up_ports v) (hear_entries_of (up_ports v) p (claims_in entries) h)) =
     entries_are_certified (up_ports v) p (claims_in entries) h up in
     record {
-      sendable = entries_keep_sendable (up_ports v) p (claims_in entries) h (all_numbered entries) body held.sendable;
+      sendable = entries_keep_sendable (up_ports v) p (claims_in entries) h (all_numbered entries) can.body held.sendable;
       sized = entries_keep_sized (up_ports v) p entries h lines held.sized;
       flags = entries_keep_flags (up_ports v) p (claims_in entries) h up held.flags;
       own = risen _ _ (steps.rises (own_id v.id.system)) held.own;
+      apart = own_apart h.own (own_entry v) (get (hear_entries_of (up_ports v) p (claims_in entries) h).db (own_id v.id.system)) can.apart (entries_leave_own_body (up_ports v) p (claims_in entries) h (own_id v.id.system) refl) held.apart;
     }
 
 -- ---- every entry changed
@@ -177,6 +189,7 @@ pub record KeepsEntry (up next : PortSet) (f : LspId → Entry → Entry) : Type
   pub sized : (x : LspId) (e : Entry) → IsSized x e → IsSized x (f x e)
   pub flags : (x : LspId) (e : Entry) → HasFlagsAt up e → HasFlagsAt next (f x e)
   pub there : (x : LspId) (e : Entry) → is_absent e.version ≡ false → is_absent (f x e).version ≡ false
+  pub apart : (x : LspId) (e : Entry) → HasApart e.body → HasApart (f x e).body
 
 there_at : (f : Entry → Entry) (o : Option Entry) → ((e : Entry) → is_absent e.version ≡ false → is_absent (f e).version ≡ false) → is_absent (version_in o) ≡ false → is_absent (version_in (option_map f o)) ≡ false
 there_at f None keeps there = there
@@ -190,6 +203,9 @@ each_keeps up next system f db keeps held = record {
   own =
       ap (λ o. is_absent (version_in o)) (get-each f db (own_id system))
       ∙ there_at (f (own_id system)) (get db (own_id system)) (keeps.there (own_id system)) held.own;
+  apart =
+      subst (λ (o : Option Entry). HasApart (body_in o)) (sym (get-each f db (own_id system)))
+      (mapped_apart (f (own_id system)) (get db (own_id system)) (keeps.apart (own_id system)) held.apart);
 }
 
 -- ---- flags at other Up ports
@@ -202,7 +218,7 @@ wider : (up next : PortSet) (e : Entry) → StayUp up next → HasFlagsAt up e �
 wider up next e stay flags = record { srm = λ q on. stay q (flags.srm q on); ssn = λ q on. stay q (flags.ssn q on); absent = flags.absent }
 
 pub wider_keeps : (up next : PortSet) (system : SystemId) (db : Lsps) → StayUp up next → IsSoundData up system db → IsSoundData next system db
-wider_keeps up next system db stay held = record { sendable = held.sendable; sized = held.sized; flags = λ x e is. wider up next e stay (held.flags x e is); own = held.own }
+wider_keeps up next system db stay held = record { sendable = held.sendable; sized = held.sized; flags = λ x e is. wider up next e stay (held.flags x e is); own = held.own; apart = held.apart }
 
 module _ (up next : PortSet) (p : ℕ) (low : 1 ≤ p) (high : p ≤ 32) where
   module _ (stay : (q : ℕ) → q ≢ p → has up q ≡ true → has next q ≡ true) where
@@ -228,6 +244,7 @@ module _ (up next : PortSet) (p : ℕ) (low : 1 ≤ p) (high : p ≤ 32) where
       sized = λ x e s. flags_keep_sized (without_port e.srm p) (without_port e.ssn p) x e s;
       flags = λ x e flags. parted_flags e flags;
       there = λ x e there. there;
+      apart = λ x e apart. apart;
     }
 
   module _ (stay : StayUp up next) (up_here : has next p ≡ true) where
@@ -253,12 +270,17 @@ module _ (up next : PortSet) (p : ℕ) (low : 1 ≤ p) (high : p ≤ 32) where
     joined_there e true there = there
     joined_there e false there = there
 
+    joined_apart : (e : Entry) (b : Bool) → HasApart e.body → HasApart (if b then e else record e { srm = with_port e.srm p }).body
+    joined_apart e true apart = apart
+    joined_apart e false apart = apart
+
     joined_keeps : KeepsEntry up next (λ id e. joined p e)
     joined_keeps = record {
       sendable = λ x e s. joined_sendable x e (is_absent e.version) s;
       sized = λ x e s. joined_sized x e (is_absent e.version) s;
       flags = λ x e flags. joined_flags e (is_absent e.version) refl flags;
       there = λ x e there. joined_there e (is_absent e.version) there;
+      apart = λ x e apart. joined_apart e (is_absent e.version) apart;
     }
 
 -- ---- the Up ports, where one port changes
@@ -302,26 +324,24 @@ module _ (v : BridgeView) (p : ℕ) (old new : BridgePort) (few : length v.ports
 
 -- ---- a port changes
 
-pub moved_keeps : (v : BridgeView) (p : ℕ) (old new : BridgePort) → length v.ports ≤ 32 → port_at v p ≡ Some old → (is_port_up old ≡ true → is_port_up new ≡ true) → HasDatabase v → HasDatabase (with_port_at p new v)
+pub moved_keeps : (v : BridgeView) (p : ℕ) (old new : BridgePort) → length v.ports ≤ 32 → port_at v p ≡ Some old → (is_port_up old ≡ true → is_port_up new ≡ true) → Holds v → Holds (with_port_at p new v)
 moved_keeps v p old new few there stays held =
     let w : BridgeView = with_port_at p new v in
-    has_lsps w (wider_keeps (up_ports v) (up_ports w) v.id.system v.database (all_stay v p old new few there stays) (lsps_of v held))
+    wider_keeps (up_ports v) (up_ports w) v.id.system v.database (all_stay v p old new few there stays) held
 
-pub left_keeps : (v : BridgeView) (p : ℕ) (old new : BridgePort) → length v.ports ≤ 32 → port_at v p ≡ Some old → HasDatabase v → HasDatabase (left p new v)
+pub left_keeps : (v : BridgeView) (p : ℕ) (old new : BridgePort) → length v.ports ≤ 32 → port_at v p ≡ Some old → Holds v → Holds (left p new v)
 left_keeps v p old new few there held =
     let w : BridgeView = left p new v in
     let range = port_range v.ports p old few there in
-    has_lsps w
-    (each_keeps (up_ports v) (up_ports w) v.id.system (λ id e. parted p e) v.database
-    (parted_keeps (up_ports v) (up_ports w) p range.0 range.1 (others_stay v p old (with_due false new) few there)) (lsps_of v held))
+    each_keeps (up_ports v) (up_ports w) v.id.system (λ id e. parted p e) v.database
+    (parted_keeps (up_ports v) (up_ports w) p range.0 range.1 (others_stay v p old (with_due false new) few there)) held
 
-pub joined_at_keeps : (v : BridgeView) (p : ℕ) (old new : BridgePort) → length v.ports ≤ 32 → port_at v p ≡ Some old → is_port_up new ≡ true → HasDatabase v → HasDatabase (joined_at p new v)
+pub joined_at_keeps : (v : BridgeView) (p : ℕ) (old new : BridgePort) → length v.ports ≤ 32 → port_at v p ≡ Some old → is_port_up new ≡ true → Holds v → Holds (joined_at p new v)
 joined_at_keeps v p old new few there up held =
     let w : BridgeView = joined_at p new v in
     let range = port_range v.ports p old few there in
-    has_lsps w
-    (each_keeps (up_ports v) (up_ports w) v.id.system (λ id e. joined p e) v.database
-    (joined_keeps (up_ports v) (up_ports w) p range.0 range.1 (all_stay v p old (with_due true new) few there (λ was. up)) (up_after v p old (with_due true new) few there up)) (lsps_of v held))
+    each_keeps (up_ports v) (up_ports w) v.id.system (λ id e. joined p e) v.database
+    (joined_keeps (up_ports v) (up_ports w) p range.0 range.1 (all_stay v p old (with_due true new) few there (λ was. up)) (up_after v p old (with_due true new) few there up)) held
 
 -- ---- a second passes
 
@@ -344,15 +364,25 @@ aged_there up e (Live seq sum) is there = by_test (nat_le e.lifetime 1)
     by_test false = there
 aged_there up e (Dead seq) is there = there
 
-pub expired_keeps : (v : BridgeView) → HasDatabase v → HasDatabase (expired v)
+aged_apart : (up : PortSet) (e : Entry) (a : Version) → HasApart e.body → HasApart (aged_at up e a).body
+aged_apart up e Absent apart = apart
+aged_apart up e (Live seq sum) apart = by_test (nat_le e.lifetime 1)
+  where
+    by_test : (b : Bool) → HasApart (if b then made (Dead seq) 0 [] up e.ssn else record e { lifetime = e.lifetime - 1 }).body
+    by_test true = empty_apart
+    by_test false = apart
+aged_apart up e (Dead seq) apart = apart
+
+pub expired_keeps : (v : BridgeView) → Holds v → Holds (expired v)
 expired_keeps v held =
     let keeps : KeepsEntry (up_ports v) (up_ports v) (λ id e. aged (up_ports v) e) = record {
       sendable = ageing_keeps_sendable (up_ports v);
       sized = ageing_keeps_sized (up_ports v);
       flags = λ x e flags. aged_flags (up_ports v) e e.version refl flags;
       there = λ x e there. aged_there (up_ports v) e e.version refl there;
+      apart = λ x e apart. aged_apart (up_ports v) e e.version apart;
     } in
-    has_lsps (expired v) (each_keeps (up_ports v) (up_ports v) v.id.system (λ id e. aged (up_ports v) e) v.database keeps (lsps_of v held))
+    each_keeps (up_ports v) (up_ports v) v.id.system (λ id e. aged (up_ports v) e) v.database keeps held
 
 -- the neighbours at some ports are lost
 abbrev IsPortNumber : ℕ → Type 0
@@ -381,6 +411,10 @@ all_parted_sized (p ∷ ps) x e s = all_parted_sized ps x (parted p e) (flags_ke
 all_parted_there : (ps : List ℕ) (e : Entry) → is_absent e.version ≡ false → is_absent (parted_all ps e).version ≡ false
 all_parted_there [] e there = there
 all_parted_there (p ∷ ps) e there = all_parted_there ps (parted p e) there
+
+all_parted_apart : (ps : List ℕ) (e : Entry) → HasApart e.body → HasApart (parted_all ps e).body
+all_parted_apart [] e apart = apart
+all_parted_apart (p ∷ ps) e apart = all_parted_apart ps (parted p e) apart
 
 -- a port where the neighbour is lost is among those
 later_has : (b : Bool) (q p : ℕ) (ports : List BridgePort) → Has q (leaving_from (p + 1) ports) → Has q (if b then p ∷ leaving_from (p + 1) ports else leaving_from (p + 1) ports)
@@ -425,7 +459,7 @@ stay_or_leave ports q (Some port) few there up =
       | inr stays ↦ inr (up_at (map later ports) q (omega (arith, few, length-map ports later)) ∙ (ap is_up_in next ∙ stays))
     ]
 
-pub counted_keeps : (v : BridgeView) → length v.ports ≤ 32 → HasDatabase v → HasDatabase (counted v)
+pub counted_keeps : (v : BridgeView) → length v.ports ≤ 32 → Holds v → Holds (counted v)
 counted_keeps v few held =
     let ps : List ℕ = leaving_from 1 v.ports in
     let w : BridgeView = counted v in
@@ -435,8 +469,9 @@ counted_keeps v few held =
       flags = λ x e flags. all_parted_flags ps (up_ports v) (up_ports w) e (leaving_range 1 v.ports (omega arith) (omega (arith, few)))
           (λ q up. stay_or_leave v.ports q (port_in v.ports q) few refl (sym (up_at v.ports q few) ∙ up)) flags;
       there = λ x e there. all_parted_there ps e there;
+      apart = λ x e apart. all_parted_apart ps e apart;
     } in
-    has_lsps w (each_keeps (up_ports v) (up_ports w) v.id.system (λ id e. parted_all ps e) v.database keeps (lsps_of v held))
+    each_keeps (up_ports v) (up_ports w) v.id.system (λ id e. parted_all ps e) v.database keeps held
 
 -- ---- what was owed was sent
 
@@ -465,6 +500,10 @@ owed_there : (p : ℕ) (e : Entry) (b : Bool) → is_absent e.version ≡ false 
 owed_there p e true there = there
 owed_there p e false there = there
 
+owed_apart : (p : ℕ) (e : Entry) (b : Bool) → HasApart e.body → HasApart (if b then record e { ssn = without_port e.ssn p } else e).body
+owed_apart p e true apart = apart
+owed_apart p e false apart = apart
+
 pub all_settled_keeps : (up : PortSet) (system : SystemId) (p : ℕ) (db : Lsps) → IsSoundData up system db → IsSoundData up system (all_settled p db)
 all_settled_keeps up system p db held =
     let keeps : KeepsEntry up up (λ id e. told_entry p e) = record {
@@ -472,6 +511,7 @@ all_settled_keeps up system p db held =
       sized = λ x e s. owed_sized x p e (is_owed p e) s;
       flags = λ x e flags. owed_flags up p e (is_owed p e) refl flags;
       there = λ x e there. owed_there p e (is_owed p e) there;
+      apart = λ x e apart. owed_apart p e (is_owed p e) apart;
     } in
     each_keeps up up system (λ id e. told_entry p e) db keeps held
 
@@ -494,8 +534,7 @@ pub undue_up : (p : ℕ) (ports : List BridgePort) → up_from p (map (with_due 
 undue_up p [] = refl
 undue_up p (port ∷ ports) = same_up_at (is_port_up port) _ _ p (undue_up (p + 1) ports)
 
-pub told_keeps : (v : BridgeView) → HasDatabase v → HasDatabase (told v)
+pub told_keeps : (v : BridgeView) → Holds v → Holds (told v)
 told_keeps v held =
-    has_lsps (told v)
-    (subst (λ (up : PortSet). IsSoundData up v.id.system (told_from 1 v.ports v.database)) (sym (undue_up 1 v.ports))
-    (told_from_keeps (up_ports v) v.id.system 1 v.ports v.database (lsps_of v held)))
+    subst (λ (up : PortSet). IsSoundData up v.id.system (told_from 1 v.ports v.database)) (sym (undue_up 1 v.ports))
+    (told_from_keeps (up_ports v) v.id.system 1 v.ports v.database held)

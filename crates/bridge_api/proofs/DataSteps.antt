@@ -14,11 +14,10 @@ use Rattle.spb_tlvs.specs.declared.three_way.ThreeWay.{ThreeWay}
 use Rattle.lsdb.specs.Version.{number_of, is_absent}
 use Rattle.lsdb.specs.Entry.{Entry}
 use Rattle.lsdb.specs.Database.{id_cmp, version_in, fits}
-use Rattle.flooding.specs.Own.{own_id, renewed}
+use Rattle.flooding.specs.Own.{own_id, body_in, renewed}
 use Rattle.flooding.specs.Hearing.{Holding}
 use Rattle.flooding.specs.Origination.{next_entry}
 use Rattle.flooding.specs.Entries.{AllEntries}
-use Rattle.flooding.specs.Laws.{HasBody}
 use Rattle.flooding.proofs.Owns.{originated_stands, origination_leaves_others}
 use Rattle.flooding.proofs.SendableEntries.{origination_keeps_sendable}
 use Rattle.flooding.proofs.FlagEntries.{origination_keeps_flags}
@@ -37,22 +36,30 @@ use Rattle.bridge_api.specs.Config.{IsWhole, IsMetric, dark, bare, configured}
 use Rattle.bridge_api.specs.Hearing.{with_due, with_adjacency, left, joined_at, changed_at, flooded, completed, requested, greeted, after_receive, carried_at, with_carrier, metered, with_metric}
 use Rattle.bridge_api.specs.Ticking.{later, counted, expired, readied, after_tick}
 use Rattle.bridge_api.specs.Step.{Input, second, frame, carrier, metric, step}
-use Rattle.bridge_api.specs.Laws.{IsSoundPort, HasConfig, HasDatabase, IsSoundView, IsInput, ConfiguredHoldsOwn}
+use Rattle.bridge_api.specs.Laws.{IsSoundPort, HasConfig, IsSoundView, IsInput, ConfiguredHoldsOwn}
 use Rattle.bridge_api.proofs.Places.{got_at}
 use Rattle.bridge_api.proofs.Adjacent.{came_up, stayed_up, hello_sound, carrier_sound}
 use Rattle.bridge_api.proofs.Changes.{KeepsRest, found, Flooded, Completed, Requested, frame_step, idle, by_hello, by_lsp, by_csnp, by_psnp, carrier_step, metric_step, settled_ports, tick_is}
 use Rattle.bridge_api.proofs.SoundPorts.{AreSoundPorts, all_set, heard_six, carrier_six, metered_sound, sound_at, source_six, all_later, all_dark, config_kept, bare_config}
-use Rattle.bridge_api.proofs.Saying.{has_body}
-use Rattle.bridge_api.proofs.Data.{CanOriginate, own_named, up_at, settled_keeps, refreshed_keeps, lsp_keeps, csnp_keeps, psnp_keeps, moved_keeps, left_keeps, joined_at_keeps, counted_keeps, expired_keeps, told_keeps}
+use Rattle.bridge_api.proofs.Saying.{has_body, can_say}
+use Rattle.bridge_api.proofs.OwnPorts.{HasApart, body_apart}
+use Rattle.bridge_api.proofs.Data.{Holds, lsps_of, CanOriginate, own_named, up_at, settled_keeps, refreshed_keeps, lsp_keeps, csnp_keeps, psnp_keeps, moved_keeps, left_keeps, joined_at_keeps, counted_keeps, expired_keeps, told_keeps}
 use Rattle.bridge_api.proofs.Reading.{heard_lsp, heard_csnp, heard_psnp}
 
 -- a configured bridge with sound ports can originate
 pub can_originate : (v : BridgeView) → HasConfig v → length v.ports ≤ 32 → AreSoundPorts v.ports → CanOriginate v
-can_originate v config few ports = record { body = has_body v config few ports; named = own_named v.id.system config.system }
+can_originate v config few ports = record {
+  body = has_body v config few ports;
+  named = own_named v.id.system config.system;
+  apart = body_apart v few (can_say v config few ports);
+}
 
 -- ---- something came to pass at a port of a sound bridge
 
 module _ (v : BridgeView) (was : IsSoundView v) where
+  before_holds : Holds v
+  before_holds = lsps_of v was.database was.own.text
+
   -- a bridge that differs in what a step changes
   can_after : (w : BridgeView) → KeepsRest v w → length w.ports ≤ 32 → AreSoundPorts w.ports → CanOriginate w
   can_after w rest few ports = can_originate w (config_kept v w rest was.config) few ports
@@ -74,12 +81,12 @@ module _ (v : BridgeView) (was : IsSoundView v) where
       left_sound : IsSoundPort (with_due false (with_adjacency a old))
       left_sound = let before : IsSoundPort old = sound_at v p old was.ports there in record { adjacency = sound; neighbour = six; due = λ e. absurd cc; metric = before.metric }
 
-      left_holds : HasDatabase (settled (left p (with_adjacency a old) v))
+      left_holds : Holds (settled (left p (with_adjacency a old) v))
       left_holds =
           let w : BridgeView = left p (with_adjacency a old) v in
-          settled_keeps w (can_set w (with_due false (with_adjacency a old)) refl refl left_sound) (left_keeps v p old (with_adjacency a old) was.few there was.database)
+          settled_keeps w (can_set w (with_due false (with_adjacency a old)) refl refl left_sound) (left_keeps v p old (with_adjacency a old) was.few there before_holds)
 
-      came_holds : is_port_up (with_adjacency a old) ≡ true → HasDatabase (joined_at p (with_adjacency a old) (settled (left p (with_adjacency a old) v)))
+      came_holds : is_port_up (with_adjacency a old) ≡ true → Holds (joined_at p (with_adjacency a old) (settled (left p (with_adjacency a old) v)))
       came_holds up =
           let w : BridgeView = left p (with_adjacency a old) v in
           let u : BridgeView = settled w in
@@ -90,99 +97,99 @@ module _ (v : BridgeView) (was : IsSoundView v) where
           let now : port_at u p ≡ Some undue = ap (λ (ports : List BridgePort). port_in ports p) (settled_ports w) ∙ got in
           joined_at_keeps u p undue (with_adjacency a old) few now up left_holds
 
-      changed_holds : (heard : Heard) → change_of old.adjacency a ≡ heard → HasDatabase (changed_at heard p (with_adjacency a old) v)
-      changed_holds Discarded e = was.database
+      changed_holds : (heard : Heard) → change_of old.adjacency a ≡ heard → Holds (changed_at heard p (with_adjacency a old) v)
+      changed_holds Discarded e = before_holds
       changed_holds Kept e =
           let w : BridgeView = with_port_at p (with_adjacency a old) v in
-          settled_keeps w (can_set w (with_adjacency a old) refl refl (kept_sound e)) (moved_keeps v p old (with_adjacency a old) was.few there (stayed_up old.adjacency a e) was.database)
+          settled_keeps w (can_set w (with_adjacency a old) refl refl (kept_sound e)) (moved_keeps v p old (with_adjacency a old) was.few there (stayed_up old.adjacency a e) before_holds)
       changed_holds LeftUp e = left_holds
       changed_holds CameUp e = came_holds (came_up old.adjacency a e)
 
     -- a hello
     hello_holds : (discarded : Bool) (h : HelloValue) (way : ThreeWay) → IsId h.source → IsSound (if discarded then old.adjacency else after_heard h way old.adjacency)
-        → HasDatabase (changed_at (if discarded then Discarded else change_of old.adjacency (after_heard h way old.adjacency)) p (with_adjacency (if discarded then old.adjacency else after_heard h way old.adjacency) old) v)
-    hello_holds true h way six sound = was.database
+        → Holds (changed_at (if discarded then Discarded else change_of old.adjacency (after_heard h way old.adjacency)) p (with_adjacency (if discarded then old.adjacency else after_heard h way old.adjacency) old) v)
+    hello_holds true h way six sound = before_holds
     hello_holds false h way six sound =
         let a : Adjacency = after_heard h way old.adjacency in
         changed_holds a sound (heard_six (h.holding == 0) (next_state (state_towards (sender h way) old.adjacency) (state_numbered way.state)) h way six) (change_of old.adjacency a) refl
 
-    greeted_holds : (h : HelloValue) (way : ThreeWay) → IsId h.source → HasDatabase (greeted h way p old v)
+    greeted_holds : (h : HelloValue) (way : ThreeWay) → IsId h.source → Holds (greeted h way p old v)
     greeted_holds h way six =
         let before : IsSoundPort old = sound_at v p old was.ports there in
         hello_holds (is_discarded v.id.system p h way) h way six (hello_sound v.id.system p h way old.adjacency before.adjacency)
 
-    carried_holds : (on : Bool) → HasDatabase (carried_at p on (Some old) v)
+    carried_holds : (on : Bool) → Holds (carried_at p on (Some old) v)
     carried_holds on =
         let before : IsSoundPort old = sound_at v p old was.ports there in
         let a : Adjacency = after_carrier on old.adjacency in
         changed_holds a (carrier_sound on old.adjacency before.adjacency) (carrier_six on old.adjacency before.neighbour) (change_of old.adjacency a) refl
 
-    metered_holds : (m : ℕ) → IsMetric m → HasDatabase (settled (with_port_at p (metered m old) v))
+    metered_holds : (m : ℕ) → IsMetric m → Holds (settled (with_port_at p (metered m old) v))
     metered_holds m is =
         let w : BridgeView = with_port_at p (metered m old) v in
-        settled_keeps w (can_set w (metered m old) refl refl (metered_sound m old is (sound_at v p old was.ports there))) (moved_keeps v p old (metered m old) was.few there (λ up. up) was.database)
+        settled_keeps w (can_set w (metered m old) refl refl (metered_sound m old is (sound_at v p old was.ports there))) (moved_keeps v p old (metered m old) was.few there (λ up. up) before_holds)
 
     -- the port is among the Up ones
     among_up : is_port_up old ≡ true → has (up_ports v) p ≡ true
     among_up up = up_at v.ports p was.few ∙ (ap is_up_in there ∙ up)
 
-  body : HasBody (own_of v)
-  body = has_body v was.config was.few was.ports
+  can : CanOriginate v
+  can = can_originate v was.config was.few was.ports
 
-  flooded_holds : (q : ℕ) (bytes : List ℕ) (w : BridgeView) → Flooded v q bytes w → HasDatabase w
+  flooded_holds : (q : ℕ) (bytes : List ℕ) (w : BridgeView) → Flooded v q bytes w → Holds w
   flooded_holds q bytes w g =
       let l = heard_lsp bytes g.lsp g.is in
       let u : BridgeView = flooded g.lsp q v in
-      subst HasDatabase (sym g.after)
-      (settled_keeps u (can_after u refl was.few was.ports) (lsp_keeps g.lsp q v (among_up q g.port g.there g.up) l.whole l.id l.fields body was.database))
+      subst Holds (sym g.after)
+      (settled_keeps u (can_after u refl was.few was.ports) (lsp_keeps g.lsp q v (among_up q g.port g.there g.up) l.whole l.id l.fields can before_holds))
 
-  completed_holds : (q : ℕ) (bytes : List ℕ) (w : BridgeView) → Completed v q bytes w → HasDatabase w
+  completed_holds : (q : ℕ) (bytes : List ℕ) (w : BridgeView) → Completed v q bytes w → Holds w
   completed_holds q bytes w g =
       let u : BridgeView = completed g.csnp g.entries q v in
-      subst HasDatabase (sym g.after)
-      (settled_keeps u (can_after u refl was.few was.ports) (csnp_keeps g.csnp g.entries q v (among_up q g.port g.there g.up) (heard_csnp bytes g.csnp g.entries g.is g.read) body was.database))
+      subst Holds (sym g.after)
+      (settled_keeps u (can_after u refl was.few was.ports) (csnp_keeps g.csnp g.entries q v (among_up q g.port g.there g.up) (heard_csnp bytes g.csnp g.entries g.is g.read) can before_holds))
 
-  requested_holds : (q : ℕ) (bytes : List ℕ) (w : BridgeView) → Requested v q bytes w → HasDatabase w
+  requested_holds : (q : ℕ) (bytes : List ℕ) (w : BridgeView) → Requested v q bytes w → Holds w
   requested_holds q bytes w g =
       let u : BridgeView = requested g.entries q v in
-      subst HasDatabase (sym g.after)
-      (settled_keeps u (can_after u refl was.few was.ports) (psnp_keeps g.entries q v (among_up q g.port g.there g.up) (heard_psnp bytes g.psnp g.entries g.is g.read) body was.database))
+      subst Holds (sym g.after)
+      (settled_keeps u (can_after u refl was.few was.ports) (psnp_keeps g.entries q v (among_up q g.port g.there g.up) (heard_psnp bytes g.psnp g.entries g.is g.read) can before_holds))
 
-  pub frame_holds : (q : ℕ) (bytes : List ℕ) → HasDatabase (after_receive q bytes v)
+  pub frame_holds : (q : ℕ) (bytes : List ℕ) → Holds (after_receive q bytes v)
   frame_holds q bytes =
       elim (frame_step v q bytes) [
-        | idle e ↦ subst HasDatabase (sym e) was.database
-        | by_hello g ↦ subst HasDatabase (sym g.after) (greeted_holds q g.port g.there g.hello g.way (source_six bytes g.hello g.way g.is))
+        | idle e ↦ subst Holds (sym e) before_holds
+        | by_hello g ↦ subst Holds (sym g.after) (greeted_holds q g.port g.there g.hello g.way (source_six bytes g.hello g.way g.is))
         | by_lsp g ↦ flooded_holds q bytes (after_receive q bytes v) g
         | by_csnp g ↦ completed_holds q bytes (after_receive q bytes v) g
         | by_psnp g ↦ requested_holds q bytes (after_receive q bytes v) g
       ]
 
-  pub carrier_holds : (q : ℕ) (on : Bool) → HasDatabase (with_carrier q on v)
+  pub carrier_holds : (q : ℕ) (on : Bool) → Holds (with_carrier q on v)
   carrier_holds q on =
       elim (carrier_step v q on) [
-        | inl e ↦ subst HasDatabase (sym e) was.database
-        | inr g ↦ subst HasDatabase (sym g.after) (carried_holds q g.port g.there on)
+        | inl e ↦ subst Holds (sym e) before_holds
+        | inr g ↦ subst Holds (sym g.after) (carried_holds q g.port g.there on)
       ]
 
-  pub metric_holds : (q m : ℕ) → IsMetric m → HasDatabase (with_metric q m v)
+  pub metric_holds : (q m : ℕ) → IsMetric m → Holds (with_metric q m v)
   metric_holds q m is =
       elim (metric_step v q m) [
-        | inl e ↦ subst HasDatabase (sym e) was.database
-        | inr g ↦ subst HasDatabase (sym g.after) (metered_holds q g.port g.there m is)
+        | inl e ↦ subst Holds (sym e) before_holds
+        | inr g ↦ subst Holds (sym g.after) (metered_holds q g.port g.there m is)
       ]
 
   -- a second
-  pub readied_holds : HasDatabase (readied v)
+  pub readied_holds : Holds (readied v)
   readied_holds =
       let u : BridgeView = counted v in
       let w : BridgeView = expired u in
-      refreshed_keeps w (can_after w refl (omega (arith, length-map v.ports later, was.few)) (all_later v.ports was.ports)) (expired_keeps u (counted_keeps v was.few was.database))
+      refreshed_keeps w (can_after w refl (omega (arith, length-map v.ports later, was.few)) (all_later v.ports was.ports)) (expired_keeps u (counted_keeps v was.few before_holds))
 
-  pub tick_holds : HasDatabase (after_tick v)
-  tick_holds = subst HasDatabase (sym (tick_is v)) (told_keeps (readied v) readied_holds)
+  pub tick_holds : Holds (after_tick v)
+  tick_holds = subst Holds (sym (tick_is v)) (told_keeps (readied v) readied_holds)
 
-pub step_holds : (input : Input) (v : BridgeView) → IsInput input → IsSoundView v → HasDatabase (step input v)
+pub step_holds : (input : Input) (v : BridgeView) → IsInput v input → IsSoundView v → Holds (step input v)
 step_holds second v is was = tick_holds v was
 step_holds (frame q bytes) v is was = frame_holds v was q bytes
 step_holds (carrier q on) v is was = carrier_holds v was q on
@@ -223,7 +230,7 @@ configured_alone c id apart = origination_leaves_others (up_ports (bare c)) (hol
 pub configured_holds_own : ConfiguredHoldsOwn
 configured_holds_own c = record { own = configured_own c; alone = configured_alone c }
 
-pub configured_holds : (c : BridgeConfig) → IsWhole c → HasDatabase (configured c)
+pub configured_holds : (c : BridgeConfig) → IsWhole c → Holds (configured c)
 unfolding configured
 configured_holds c whole =
     let v : BridgeView = bare c in
@@ -235,4 +242,5 @@ configured_holds c whole =
       sized = origination_keeps_sized up h can.named (all_of_none _);
       flags = origination_keeps_flags up h (all_of_none _);
       own = ap (λ (o : Option Entry). is_absent (version_in o)) (configured_own c);
+      apart = subst (λ (o : Option Entry). HasApart (body_in o)) (sym (configured_own c)) can.apart;
     }

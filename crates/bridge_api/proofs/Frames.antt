@@ -50,7 +50,7 @@ use Rattle.bridge_api.specs.Step.{second, frame, carrier, metric, step, sent}
 use Rattle.bridge_api.specs.Laws.{IsSoundView, IsSent, IsHelloOf, IsWritten, writes_hello, writes_lsp, writes_csnp, writes_psnp, IsHeldLsp, IsHeldAt, IsFrameOf, claims_or_none, claims_said, SentIsSound}
 use Rattle.bridge_api.proofs.Changes.{readied_ports, readied_rest}
 use Rattle.bridge_api.proofs.Spelled.{lsp_taken, csnp_taken, psnp_taken}
-use Rattle.bridge_api.proofs.Data.{IsSoundData, lsps_of, told_at_keeps}
+use Rattle.bridge_api.proofs.Data.{IsSoundData, told_at_keeps}
 use Rattle.bridge_api.proofs.DataSteps.{readied_holds}
 use Rattle.bridge_api.proofs.Hellos.{hello_content, neighbour_found, hello_of, sent_either}
 
@@ -394,7 +394,7 @@ readied_can v was =
     let r : BridgeView = readied v in
     record {
       up = up_ports r;
-      sound = lsps_of r (readied_holds v was);
+      sound = readied_holds v was;
       same = told_held 1 r.ports r.database;
       mine = ap (λ (u : BridgeView). length u.id.system.mac.bytes) (readied_rest v) ∙ was.config.system.bytes;
     }

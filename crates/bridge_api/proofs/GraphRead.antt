@@ -175,7 +175,7 @@ alive_says : (o : Option Entry) → IsAlive o → content_held o ≡ Some (conte
 alive_says None alive = absurd alive
 alive_says (Some e) alive = lasting e.version e.lifetime e.body alive
 
-tlvs_said : (v : BridgeView) → tlvs_in (body_of v) ≡ content_bytes (local_of v)
+pub tlvs_said : (v : BridgeView) → tlvs_in (body_of v) ≡ content_bytes (local_of v)
 unfolding body_of
 tlvs_said v = refl
 

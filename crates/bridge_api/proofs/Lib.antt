@@ -25,8 +25,9 @@ pub mod OneHello
 pub mod GraphRead
 pub mod ServingPorts
 pub mod Serving
+pub mod OwnPorts
+pub mod FewHeld
+pub mod FewSent
 pub mod Time
 pub mod TimeLsps
 pub mod TimeOwn
-pub mod FewHeld
-pub mod FewSent

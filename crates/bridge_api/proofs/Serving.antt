@@ -20,11 +20,11 @@ use Rattle.bridge_api.specs.declared.port.BridgePort.{BridgePort}
 use Rattle.bridge_api.specs.View.{BridgeView, port_at, is_port_up, is_up_in, is_up_at, is_due_in, is_due_at, up_ports}
 use Rattle.bridge_api.specs.Hearing.{with_due}
 use Rattle.bridge_api.specs.Ticking.{later, readied, lsp_frame, csnp_frame, psnp_frame, greetings_at, summaries_at, lsps_at, requests_at, synced_at, sent_at, sent_from, sent_by, told_at, told_from, told, sent_in_tick}
-use Rattle.bridge_api.specs.Laws.{HasDatabase, IsSent, IsSoundView}
+use Rattle.bridge_api.specs.Laws.{IsSent, IsSoundView}
 use Rattle.bridge_api.specs.Duties.{IsServedAt, SecondsServe, but_for_ssn, OwesNothing, SecondsSettle}
 use Rattle.bridge_api.proofs.Changes.{found, readied_ports, tick_is, when_true}
 use Rattle.bridge_api.proofs.Hellos.{sent_left, sent_right}
-use Rattle.bridge_api.proofs.Data.{IsSoundData, lsps_of, up_at, told_from_keeps}
+use Rattle.bridge_api.proofs.Data.{IsSoundData, Holds, up_at, told_from_keeps}
 use Rattle.bridge_api.proofs.DataSteps.{readied_holds}
 use Rattle.bridge_api.proofs.GraphRead.{get_has}
 use Rattle.bridge_api.proofs.ServingPorts.{still_synced, stays_clear, told_clears, told_holds}
@@ -138,7 +138,7 @@ flag_up : (v : BridgeView) (p : ℕ) (id : LspId) (db : Lsps) (o : Option Entry)
 flag_up v p id db None sound held on = absurd (false≢true (sym (has-no_ports p) ∙ on))
 flag_up v p id db (Some e) sound held on = (sound.flags id e held).ssn p on
 
-nothing_owed : (v : BridgeView) (p : ℕ) (id : LspId) → length v.ports ≤ 32 → HasDatabase v → has (ssn_in (get (told v).database id)) p ≡ false
+nothing_owed : (v : BridgeView) (p : ℕ) (id : LspId) → length v.ports ≤ 32 → Holds v → has (ssn_in (get (told v).database id)) p ≡ false
 nothing_owed v p id few held = by_test (has (ssn_in (get db id)) p) refl
   where
     db : Lsps
@@ -147,7 +147,7 @@ nothing_owed v p id few held = by_test (has (ssn_in (get db id)) p) refl
     by_test : (b : Bool) → has (ssn_in (get db id)) p ≡ b → has (ssn_in (get db id)) p ≡ false
     by_test false off = off
     by_test true on =
-        let sound : IsSoundData (up_ports v) v.id.system db = told_from_keeps (up_ports v) v.id.system 1 v.ports v.database (lsps_of v held) in
+        let sound : IsSoundData (up_ports v) v.id.system db = told_from_keeps (up_ports v) v.id.system 1 v.ports v.database held in
         let up : has (up_ports v) p ≡ true = flag_up v p id db (get db id) sound refl on in
         let g = up_port v p (port_at v p) refl (sym (up_at v.ports p few) ∙ up) in
         let at = found v.ports p g.port g.there in
@@ -167,7 +167,7 @@ undue : (b : Bool) (ports : List BridgePort) (place : ℕ) → is_due_in (if b t
 undue true ports place = ap is_due_in (slice_get-map (with_due false) ports place) ∙ undue_in (slice_get ports place)
 undue false ports place = refl
 
-told_settles : (v : BridgeView) → length v.ports ≤ 32 → HasDatabase v → OwesNothing v (told v)
+told_settles : (v : BridgeView) → length v.ports ≤ 32 → Holds v → OwesNothing v (told v)
 unfolding is_due_at
 told_settles v few held = record {
   due = λ p. undue (nat_le 1 p) v.ports (p - 1);

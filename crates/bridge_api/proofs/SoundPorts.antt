@@ -122,7 +122,7 @@ source_six bytes h way is = (heard_pdu bytes (hello h) (ap pdu_in is)).from.pdu.
 one_sound : (v w : BridgeView) (q : ℕ) (to : BridgePort) → AreSoundPorts v.ports → IsSoundPort to → w.ports ≡ slice_set v.ports (q - 1) to → AreSoundPorts w.ports
 one_sound v w q to all sound is = subst AreSoundPorts (sym is) (all_set v.ports (q - 1) to all sound)
 
-pub ports_stay_sound : (input : Input) (v : BridgeView) → IsInput input → AreSoundPorts v.ports → AreSoundPorts (step input v).ports
+pub ports_stay_sound : (input : Input) (v : BridgeView) → IsInput v input → AreSoundPorts v.ports → AreSoundPorts (step input v).ports
 ports_stay_sound second v is was = subst AreSoundPorts (sym (tick_ports v)) (all_undue (map later v.ports) (all_later v.ports was))
 ports_stay_sound (frame q bytes) v is was =
     elim (frame_ports v q bytes) [

@@ -33,7 +33,7 @@ use Rattle.adjacency.specs.Adjacency.{after_hello, heard_of, after_carrier, chan
 use Rattle.bridge_api.specs.declared.port.BridgePort.{BridgePort}
 use Rattle.bridge_api.specs.declared.config.BridgeConfig.{BridgeConfig}
 use Rattle.bridge_api.specs.View.{BridgeView, with_port_at, is_port_up, up_ports}
-use Rattle.bridge_api.specs.Own.{neighbour_in, neighbours_from, member_of, body_of, own_of, holding_of, with_holding, own_entry, body_in, is_said, Lasts, IsAlive, IsTended, originating, settled}
+use Rattle.bridge_api.specs.Own.{neighbour_in, neighbours_from, member_of, body_of, own_of, holding_of, with_holding, own_entry, body_in, is_said, Lasts, IsAlive, originating, settled}
 use Rattle.bridge_api.specs.Config.{bare, configured}
 use Rattle.bridge_api.specs.Hearing.{with_due, with_adjacency, left, joined_at, changed_at, flooded, completed, requested, after_receive, metered}
 use Rattle.bridge_api.specs.Ticking.{leaving_from, parted_all, counted, expired, is_old, refreshed, readied, told_at, told_from, told, after_tick}
@@ -42,7 +42,12 @@ use Rattle.bridge_api.proofs.Changes.{frame_step, idle, by_hello, by_lsp, by_csn
 use Rattle.bridge_api.proofs.DataSteps.{configured_holds_own}
 use Rattle.bridge_api.proofs.Tended.{mapped_alive, lsp_lives, entries_live, csnp_lives}
 
--- unless its sequence numbers are spent, the own LSP of a bridge is alive
+-- unless its sequence numbers are spent, the own LSP of a bridge is alive and says what the bridge has to say
+pub record IsSaying (v : BridgeView) : Type 0 where
+  pub said : v.spent ≡ false → body_in (own_entry v) ≡ body_of v
+  pub alive : v.spent ≡ false → IsAlive (own_entry v)
+
+-- it is alive
 abbrev Lives : BridgeView → Type 0
 Lives v = v.spent ≡ false → IsAlive (own_entry v)
 
@@ -91,8 +96,8 @@ originating_says v fresh there still =
     subst (Says (body_of v)) (sym (originated_stands up h fresh there))
     (next_says up h.own seq (own_entry v) (nat_lt seq last_number) (ap (λ (own : Own). own.spent) (sym (own_next up h fresh)) ∙ still))
 
-originating_tended : (v : BridgeView) → v.spent ≡ false → fits v.database (own_id v.id.system) ≡ true → IsTended (originating v)
-originating_tended v fresh there = record {
+originating_saying : (v : BridgeView) → v.spent ≡ false → fits v.database (own_id v.id.system) ≡ true → IsSaying (originating v)
+originating_saying v fresh there = record {
   said = λ still. (originating_says v fresh there still).0 ∙ sym (held_body (originated (up_ports v) (holding_of v)) v);
   alive = λ still. (originating_says v fresh there still).1;
 }
@@ -107,18 +112,18 @@ said_body : (v : BridgeView) → is_said v ≡ true → body_in (own_entry v) �
 unfolding is_said
 said_body v is = (bytes_eq-Decides (body_in (own_entry v)) (body_of v)).0 is
 
-settled_by : (b : Bool) (v : BridgeView) → (v.spent || is_said v) ≡ b → Lives v → IsTended (if b then v else originating v)
+settled_by : (b : Bool) (v : BridgeView) → (v.spent || is_said v) ≡ b → Lives v → IsSaying (if b then v else originating v)
 settled_by true v is alive = record {
   said = λ fresh. said_body v (ap (λ b. b || is_said v) (sym fresh) ∙ is);
   alive = alive;
 }
 settled_by false v is alive =
     let fresh = (or_parts v.spent (is_said v) is).0 in
-    originating_tended v fresh (alive_fits v.database (own_id v.id.system) (own_entry v) refl (alive fresh))
+    originating_saying v fresh (alive_fits v.database (own_id v.id.system) (own_entry v) refl (alive fresh))
 
-settled_tended : (v : BridgeView) → Lives v → IsTended (settled v)
+settled_saying : (v : BridgeView) → Lives v → IsSaying (settled v)
 unfolding settled
-settled_tended v alive = settled_by (v.spent || is_said v) v refl alive
+settled_saying v alive = settled_by (v.spent || is_said v) v refl alive
 
 -- ---- what is heard
 
@@ -147,34 +152,34 @@ joined_says body p e true says = says
 joined_says body p e false says = says
 
 -- what a tended bridge holds
-tended_says : (v : BridgeView) → IsTended v → v.spent ≡ false → Says (body_of v) (own_entry v)
+tended_says : (v : BridgeView) → IsSaying v → v.spent ≡ false → Says (body_of v) (own_entry v)
 tended_says v was fresh = (was.said fresh, was.alive fresh)
 
 -- the bridge with ports that have the same neighbours, and with every entry changed in its flags alone
-moved_tended : (ports : List BridgePort) (db : Lsps) (v : BridgeView) → neighbours_from 1 ports ≡ neighbours_from 1 v.ports → (Says (body_of v) (own_entry v) → Says (body_of v) (get db (own_id v.id.system))) → IsTended v → IsTended (record v { ports = ports; database = db })
-moved_tended ports db v same keeps was = record {
+moved_saying : (ports : List BridgePort) (db : Lsps) (v : BridgeView) → neighbours_from 1 ports ≡ neighbours_from 1 v.ports → (Says (body_of v) (own_entry v) → Says (body_of v) (get db (own_id v.id.system))) → IsSaying v → IsSaying (record v { ports = ports; database = db })
+moved_saying ports db v same keeps was = record {
   said = λ fresh. (keeps (tended_says v was fresh)).0 ∙ sym (moved_body ports db v same);
   alive = λ fresh. (keeps (tended_says v was fresh)).1;
 }
 
-joined_tended : (p : ℕ) (port : BridgePort) (v : BridgeView) → neighbours_from 1 (slice_set v.ports (p - 1) (with_due true port)) ≡ neighbours_from 1 v.ports → IsTended v → IsTended (joined_at p port v)
-joined_tended p port v same was =
+joined_saying : (p : ℕ) (port : BridgePort) (v : BridgeView) → neighbours_from 1 (slice_set v.ports (p - 1) (with_due true port)) ≡ neighbours_from 1 v.ports → IsSaying v → IsSaying (joined_at p port v)
+joined_saying p port v same was =
     let id : LspId = own_id v.id.system in
-    moved_tended (slice_set v.ports (p - 1) (with_due true port)) (each (λ x e. joined p e) v.database) v same
+    moved_saying (slice_set v.ports (p - 1) (with_due true port)) (each (λ x e. joined p e) v.database) v same
     (λ says. subst (Says (body_of v)) (sym (get-each (λ x e. joined p e) v.database id)) (mapped_says (body_of v) (joined p) (own_entry v) (λ e. joined_says (body_of v) p e (is_absent e.version)) says)) was
 
-changed_tended : (heard : Heard) (p : ℕ) (port : BridgePort) (v : BridgeView) → IsTended v → IsTended (changed_at heard p port v)
-changed_tended Discarded p port v was = was
-changed_tended Kept p port v was = settled_tended (with_port_at p port v) was.alive
-changed_tended LeftUp p port v was = settled_tended (left p port v) (left_lives p port v was.alive)
-changed_tended CameUp p port v was =
+changed_saying : (heard : Heard) (p : ℕ) (port : BridgePort) (v : BridgeView) → IsSaying v → IsSaying (changed_at heard p port v)
+changed_saying Discarded p port v was = was
+changed_saying Kept p port v was = settled_saying (with_port_at p port v) was.alive
+changed_saying LeftUp p port v was = settled_saying (left p port v) (left_lives p port v was.alive)
+changed_saying CameUp p port v was =
     let w : BridgeView = left p port v in
     let ports : (settled w).ports ≡ slice_set v.ports (p - 1) (with_due false port) = settled_ports w in
     let same : neighbours_from 1 (slice_set (settled w).ports (p - 1) (with_due true port)) ≡ neighbours_from 1 (settled w).ports =
     ap (λ (list : List BridgePort). neighbours_from 1 (slice_set list (p - 1) (with_due true port))) ports
     ∙ (ap (neighbours_from 1) (set-set v.ports (p - 1) (with_due false port) (with_due true port))
     ∙ (due_neighbours 1 (p - 1) port v.ports ∙ ap (neighbours_from 1) (sym ports))) in
-    joined_tended p port (settled w) same (settled_tended w (left_lives p port v was.alive))
+    joined_saying p port (settled w) same (settled_saying w (left_lives p port v was.alive))
 
 -- ---- a second
 
@@ -231,7 +236,7 @@ fading_fits : (db : Lsps) (id : LspId) (o : Option Entry) → get db id ≡ o �
 fading_fits db id None is fades = absurd fades
 fading_fits db id (Some e) is fades = fits_held db id e is
 
-refreshed_by : (b : Bool) (v : BridgeView) → (v.spent || (is_said v && not (is_old (own_entry v)))) ≡ b → (v.spent ≡ false → IsFading (own_entry v)) → IsTended (if b then v else originating v)
+refreshed_by : (b : Bool) (v : BridgeView) → (v.spent || (is_said v && not (is_old (own_entry v)))) ≡ b → (v.spent ≡ false → IsFading (own_entry v)) → IsSaying (if b then v else originating v)
 refreshed_by true v is fades =
     let both : v.spent ≡ false → (is_said v ≡ true) × (not (is_old (own_entry v)) ≡ true) =
     λ fresh. and_parts (is_said v) (not (is_old (own_entry v))) (ap (λ b. b || (is_said v && not (is_old (own_entry v)))) (sym fresh) ∙ is) in
@@ -241,11 +246,11 @@ refreshed_by true v is fades =
     }
 refreshed_by false v is fades =
     let fresh = (or_parts v.spent (is_said v && not (is_old (own_entry v))) is).0 in
-    originating_tended v fresh (fading_fits v.database (own_id v.id.system) (own_entry v) refl (fades fresh))
+    originating_saying v fresh (fading_fits v.database (own_id v.id.system) (own_entry v) refl (fades fresh))
 
-refreshed_tended : (v : BridgeView) → (v.spent ≡ false → IsFading (own_entry v)) → IsTended (refreshed v)
+refreshed_saying : (v : BridgeView) → (v.spent ≡ false → IsFading (own_entry v)) → IsSaying (refreshed v)
 unfolding refreshed
-refreshed_tended v fades = refreshed_by (v.spent || (is_said v && not (is_old (own_entry v)))) v refl fades
+refreshed_saying v fades = refreshed_by (v.spent || (is_said v && not (is_old (own_entry v)))) v refl fades
 
 -- what was owed was sent
 owed_says : (body : List ℕ) (p : ℕ) (e : Entry) (b : Bool) → Says body (Some e) → Says body (Some (if b then record e { ssn = without_port e.ssn p } else e))
@@ -264,42 +269,42 @@ told_from_says : (body : List ℕ) (id : LspId) (p : ℕ) (ports : List BridgePo
 told_from_says body id p [] db says = says
 told_from_says body id p (port ∷ ports) db says = told_from_says body id (p + 1) ports (told_at p port db) (told_at_says body id p (is_port_up port) db says)
 
-told_tended : (v : BridgeView) → IsTended v → IsTended (told v)
-told_tended v was =
-    moved_tended (map (with_due false) v.ports) (told_from 1 v.ports v.database) v (undue_neighbours 1 v.ports)
+told_saying : (v : BridgeView) → IsSaying v → IsSaying (told v)
+told_saying v was =
+    moved_saying (map (with_due false) v.ports) (told_from 1 v.ports v.database) v (undue_neighbours 1 v.ports)
     (told_from_says (body_of v) (own_id v.id.system) 1 v.ports v.database) was
 
-tick_tended : (v : BridgeView) → IsTended v → IsTended (after_tick v)
-tick_tended v was =
+tick_saying : (v : BridgeView) → IsSaying v → IsSaying (after_tick v)
+tick_saying v was =
     let w : BridgeView = counted v in
-    subst IsTended (sym (tick_is v)) (told_tended (readied v) (refreshed_tended (expired w) (expired_fades w (counted_lives v was.alive))))
+    subst IsSaying (sym (tick_is v)) (told_saying (readied v) (refreshed_saying (expired w) (expired_fades w (counted_lives v was.alive))))
 
 -- ---- every step
 
-frame_tended : (q : ℕ) (bytes : List ℕ) (v : BridgeView) → IsTended v → IsTended (after_receive q bytes v)
-frame_tended q bytes v was =
+frame_saying : (q : ℕ) (bytes : List ℕ) (v : BridgeView) → IsSaying v → IsSaying (after_receive q bytes v)
+frame_saying q bytes v was =
     elim (frame_step v q bytes) [
-      | idle e ↦ subst IsTended (sym e) was
+      | idle e ↦ subst IsSaying (sym e) was
       | by_hello g ↦
-          subst IsTended (sym g.after)
-          (changed_tended (heard_of v.id.system q g.hello g.way g.port.adjacency) q (with_adjacency (after_hello v.id.system q g.hello g.way g.port.adjacency) g.port) v was)
-      | by_lsp g ↦ subst IsTended (sym g.after) (settled_tended (flooded g.lsp q v) (flooded_lives g.lsp q v was.alive))
-      | by_csnp g ↦ subst IsTended (sym g.after) (settled_tended (completed g.csnp g.entries q v) (completed_lives g.csnp g.entries q v was.alive))
-      | by_psnp g ↦ subst IsTended (sym g.after) (settled_tended (requested g.entries q v) (requested_lives g.entries q v was.alive))
+          subst IsSaying (sym g.after)
+          (changed_saying (heard_of v.id.system q g.hello g.way g.port.adjacency) q (with_adjacency (after_hello v.id.system q g.hello g.way g.port.adjacency) g.port) v was)
+      | by_lsp g ↦ subst IsSaying (sym g.after) (settled_saying (flooded g.lsp q v) (flooded_lives g.lsp q v was.alive))
+      | by_csnp g ↦ subst IsSaying (sym g.after) (settled_saying (completed g.csnp g.entries q v) (completed_lives g.csnp g.entries q v was.alive))
+      | by_psnp g ↦ subst IsSaying (sym g.after) (settled_saying (requested g.entries q v) (requested_lives g.entries q v was.alive))
     ]
 
-pub steps_stay_tended : (input : Input) (v : BridgeView) → IsTended v → IsTended (step input v)
-steps_stay_tended second v was = tick_tended v was
-steps_stay_tended (frame q bytes) v was = frame_tended q bytes v was
-steps_stay_tended (carrier q on) v was =
+pub steps_stay_saying : (input : Input) (v : BridgeView) → IsSaying v → IsSaying (step input v)
+steps_stay_saying second v was = tick_saying v was
+steps_stay_saying (frame q bytes) v was = frame_saying q bytes v was
+steps_stay_saying (carrier q on) v was =
     elim (carrier_step v q on) [
-      | inl e ↦ subst IsTended (sym e) was
-      | inr g ↦ subst IsTended (sym g.after) (changed_tended (change_of g.port.adjacency (after_carrier on g.port.adjacency)) q (with_adjacency (after_carrier on g.port.adjacency) g.port) v was)
+      | inl e ↦ subst IsSaying (sym e) was
+      | inr g ↦ subst IsSaying (sym g.after) (changed_saying (change_of g.port.adjacency (after_carrier on g.port.adjacency)) q (with_adjacency (after_carrier on g.port.adjacency) g.port) v was)
     ]
-steps_stay_tended (metric q m) v was =
+steps_stay_saying (metric q m) v was =
     elim (metric_step v q m) [
-      | inl e ↦ subst IsTended (sym e) was
-      | inr g ↦ subst IsTended (sym g.after) (settled_tended (with_port_at q (metered m g.port) v) was.alive)
+      | inl e ↦ subst IsSaying (sym e) was
+      | inr g ↦ subst IsSaying (sym g.after) (settled_saying (with_port_at q (metered m g.port) v) was.alive)
     ]
 
 -- ---- the configured bridge
@@ -308,8 +313,8 @@ configured_body : (c : BridgeConfig) → body_of (configured c) ≡ body_of (bar
 unfolding configured
 configured_body c = held_body (originated (up_ports (bare c)) (holding_of (bare c))) (bare c)
 
-pub configured_tended : (c : BridgeConfig) → IsTended (configured c)
-configured_tended c =
+pub configured_is_saying : (c : BridgeConfig) → IsSaying (configured c)
+configured_is_saying c =
     let own : own_entry (configured c) ≡ Some (renewed no_ports (own_of (bare c)) 1) = (configured_holds_own c).own in
     record {
       said = λ fresh. ap body_in own ∙ sym (configured_body c);

@@ -36,10 +36,17 @@ abbrev pub different : List ℕ → List ℕ
 different [] = []
 different (x ∷ xs) = if list_any (nat_eq x) xs then different xs else x ∷ different xs
 
+-- the greatest number of a customer port, and how many I-SIDs at most are attached
+abbrev pub most_customer_ports : ℕ
+most_customer_ports = 64
+
+abbrev pub most_isids : ℕ
+most_isids = 60
+
 -- a customer port, attached to an I-SID in a base VID of these
 pub record IsAttachment (vids : List ℕ) (a : Attachment) : Type 0 where
   pub port_low : 1 ≤ a.port
-  pub port_high : a.port ≤ 64
+  pub port_high : a.port ≤ most_customer_ports
   pub isid_low : 1 ≤ a.isid.value
   pub isid_high : a.isid.value ≤ 16777215
   pub vid : IsTrue (list_any (nat_eq a.vid.value) vids)
@@ -64,7 +71,7 @@ pub record IsWhole (c : BridgeConfig) : Type 0 where
   pub source : c.source.value < 1048576
   pub each_attachment : AllByRecursion (IsAttachment (vids_of c.vids)) c.attached
   pub attachments_apart : ArePairwise AgreesWith c.attached
-  pub few_isids : length (different (map (λ a. a.isid.value) c.attached)) ≤ 60
+  pub few_isids : length (different (map (λ a. a.isid.value) c.attached)) ≤ most_isids
 
 -- a port without carrier, with this metric
 abbrev pub dark : ℕ → BridgePort

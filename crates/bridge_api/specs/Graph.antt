@@ -14,7 +14,7 @@ use Rattle.flooding.specs.Own.{own_id, is_originated, tlvs_in}
 use Rattle.spb_content.specs.declared.content.Content.{Content}
 use Rattle.spb_content.specs.Content.{content_in}
 use Rattle.spb_content.specs.Local.{content_bytes}
-use Rattle.spb_content.specs.Graph.{Contents, systems_in, IsGraphOf}
+use Rattle.spb_content.specs.Graph.{Contents, systems_in, IsGraphOf, HasOwnPorts}
 use Rattle.bridge_api.specs.View.{BridgeView}
 use Rattle.bridge_api.specs.Own.{local_of}
 use Rattle.bridge_api.specs.Laws.{IsSoundView}
@@ -55,3 +55,7 @@ ReadsEachOnce = (v : BridgeView) → IsDistinct (systems_in (contents_of v))
 -- of itself a sound bridge reads what it has to say, unless its sequence numbers are spent
 abbrev pub ReadsItself : Type 0
 ReadsItself = (v : BridgeView) → IsSoundView v → v.spent ≡ false → Contains (contents_of v) (v.id.system, content_in (content_bytes (local_of v)))
+
+-- and there each neighbour at a port of its own, also where they are spent
+abbrev pub OwnPortsAreApart : Type 0
+OwnPortsAreApart = (v : BridgeView) → IsSoundView v → HasOwnPorts (contents_of v) v.id.system

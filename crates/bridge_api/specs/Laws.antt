@@ -39,7 +39,7 @@ use Rattle.bridge_api.specs.declared.port.BridgePort.{BridgePort}
 use Rattle.bridge_api.specs.declared.config.BridgeConfig.{BridgeConfig}
 use Rattle.bridge_api.specs.View.{BridgeView, IsPort, port_at, neighbour_at, is_up_at, has_carrier_at, is_due_at, is_port_up, metrics_of, up_ports, control_of}
 use Rattle.bridge_api.specs.Own.{local_of, own_of, own_entry, IsTended}
-use Rattle.bridge_api.specs.Config.{IsWhole, IsOwnMac, IsMetric, IsAttachment, AgreesWith, ArePairwise, different, vids_of, bare, configured}
+use Rattle.bridge_api.specs.Config.{IsWhole, IsOwnMac, IsMetric, IsAttachment, AgreesWith, ArePairwise, different, most_isids, vids_of, bare, configured}
 use Rattle.bridge_api.specs.Judging.{Judged, useless, greeting, link_state, complete, partial, tenant, greeting_in, judged, is_hello}
 use Rattle.bridge_api.specs.Hearing.{with_carrier}
 use Rattle.bridge_api.specs.Step.{Input, second, frame, carrier, metric, step, sent}
@@ -62,7 +62,7 @@ pub record HasConfig (v : BridgeView) : Type 0 where
   pub vids_apart : ArePairwise (λ x y. x ≢ y) (vids_of v.vids)
   pub each_attachment : AllByRecursion (IsAttachment (vids_of v.vids)) v.attached
   pub attachments_apart : ArePairwise AgreesWith v.attached
-  pub few_isids : length (different (map (λ a. a.isid.value) v.attached)) ≤ 60
+  pub few_isids : length (different (map (λ a. a.isid.value) v.attached)) ≤ most_isids
 
 -- the database: each LSP that is held can be written, and is read again as what is held; what an SNP says of it can be
 -- written; flags stand at Up ports alone; and the own id is held
@@ -111,15 +111,15 @@ pub record HoldsOwnAlone (c : BridgeConfig) (v : BridgeView) : Type 0 where
 abbrev pub ConfiguredHoldsOwn : Type 0
 ConfiguredHoldsOwn = (c : BridgeConfig) → HoldsOwnAlone c (configured c)
 
--- a metric that comes is one of a link
-abbrev pub IsInput : Input → Type 0
-IsInput second = ⊤
-IsInput (frame q bytes) = ⊤
-IsInput (carrier q on) = ⊤
-IsInput (metric q m) = IsMetric m
+-- what can come to a bridge: a metric is one of a link
+abbrev pub IsInput : BridgeView → Input → Type 0
+IsInput v second = ⊤
+IsInput v (frame q bytes) = ⊤
+IsInput v (carrier q on) = ⊤
+IsInput v (metric q m) = IsMetric m
 
 abbrev pub StepsStaySound : Type 0
-StepsStaySound = (input : Input) (v : BridgeView) → IsInput input → IsSoundView v → IsSoundView (step input v)
+StepsStaySound = (input : Input) (v : BridgeView) → IsInput v input → IsSoundView v → IsSoundView (step input v)
 
 -- the metric of the link at a port is set by an input that says so, and by nothing else
 abbrev pub metrics_after : Input → List ℕ → List ℕ
@@ -200,7 +200,8 @@ pub data IsWritten (sa : Mac) (bytes : List ℕ) : Type 0 where
   writes_lsp : (l : LspValue) → bytes ≡ control_bytes sa (lsp_bytes l) → IsWritten sa bytes
   writes_csnp : (c : CsnpValue) → bytes ≡ control_bytes sa (csnp_bytes c) → IsWritten sa bytes
   writes_psnp : (s : PsnpValue) → bytes ≡ control_bytes sa (psnp_bytes s) → IsWritten sa bytes
-  carries : (da ba : Mac) (vid : Vid) (isid : Isid) (customer : List ℕ) → judged bytes ≡ tenant da ba vid isid customer → IsWritten sa bytes
+  carries : (da ba : Mac) (vid : Vid) (isid : Isid) (customer : List ℕ) → judged bytes ≡ tenant da ba vid isid customer
+      → IsWritten sa bytes
 
 -- the LSP of what a bridge holds under its id
 abbrev pub IsHeldLsp : BridgeView → LspValue → Type 0
@@ -210,19 +211,19 @@ IsHeldLsp v l = (e : Entry) × (get v.database l.id ≡ Some e) × (l ≡ lsp_in
 abbrev pub IsHeldAt : BridgeView → LspId → Version → Type 0
 IsHeldAt v id a = (e : Entry) × (get v.database id ≡ Some e) × (a ≡ e.version)
 
--- a frame of this bridge at the port: if it is heard as a hello, as one of this bridge; if as an LSP, as the one that the
--- bridge holds; what it claims is what the bridge holds; and it is written as this bridge writes
+-- a frame of this bridge at the port: if it is heard as a hello, as one of this bridge; if as an LSP, as the one that
+-- the bridge holds; what it claims is what the bridge holds; and it is written as this bridge writes
 pub record IsFrameOf (v : BridgeView) (p : ℕ) (bytes : List ℕ) : Type 0 where
   pub hello : (h : HelloValue) (way : ThreeWay) → judged bytes ≡ greeting h way → IsHelloOf v p h way
   pub lsp : (l : LspValue) → judged bytes ≡ link_state l → IsHeldLsp v l
   pub claims : (id : LspId) (a : Version) → IsClaimed (claims_said (judged bytes)) id a → IsHeldAt v id a
   pub written : IsWritten v.id.system.mac bytes
 
--- whatever came in, each frame that a bridge sends is such a one, where the neighbour can be named: a circuit id of four
--- bytes
+-- whatever came in, each frame that a bridge sends is such a one, where the neighbour can be named: a circuit id of
+-- four bytes
 abbrev pub SentIsSound : Type 0
-SentIsSound = (input : Input) (v : BridgeView) (p : ℕ) (bytes : List ℕ) → IsSoundView v → IsNamed (neighbour_at (step input v) p)
-    → IsSent (sent input v) p bytes → IsFrameOf (step input v) p bytes
+SentIsSound = (input : Input) (v : BridgeView) (p : ℕ) (bytes : List ℕ) → IsSoundView v
+    → IsNamed (neighbour_at (step input v) p) → IsSent (sent input v) p bytes → IsFrameOf (step input v) p bytes
 
 -- in a second at most one hello is sent at a port
 abbrev pub OneHello : Type 0

@@ -11,5 +11,5 @@ pub mod Among
 pub mod Laws
 pub mod Duties
 pub mod Graph
-pub mod Time
 pub mod Few
+pub mod Time

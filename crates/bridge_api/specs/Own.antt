@@ -10,11 +10,14 @@ use Rattle.lsdb.specs.declared.version.Version.{Version}
 use Rattle.lsdb.specs.declared.version.Version.TheVariants.{Absent, Live, Dead}
 use Rattle.lsdb.specs.Entry.{Entry}
 use Rattle.flooding.specs.declared.own.Own.{Own}
-use Rattle.flooding.specs.Own.{own_id}
+pub use Rattle.flooding.specs.Own.{body_in}
+use Rattle.flooding.specs.Own.{own_id, tlvs_in}
 use Rattle.flooding.specs.Hearing.{Holding}
 use Rattle.flooding.specs.Origination.{originated}
 use Rattle.spb_content.specs.declared.local.Local.{Local}
+use Rattle.spb_content.specs.Content.{content_in}
 use Rattle.spb_content.specs.Local.{content_bytes}
+use Rattle.spb_content.specs.Graph.{HasPorts}
 use Rattle.bridge_api.specs.declared.port.BridgePort.{BridgePort}
 use Rattle.bridge_api.specs.View.{BridgeView, is_port_up, up_ports}
 
@@ -57,13 +60,9 @@ holding_of v = record { db = v.database; own = own_of v }
 abbrev pub with_holding : Holding → BridgeView → BridgeView
 with_holding h v = record v { database = h.db; spent = h.own.spent }
 
--- what is held under the own id, and its body
+-- what is held under the own id
 abbrev pub own_entry : BridgeView → Option Entry
 own_entry v = get v.database (own_id v.id.system)
-
-abbrev pub body_in : Option Entry → List ℕ
-body_in None = []
-body_in (Some e) = e.body
 
 -- whether the own LSP that is held says what the bridge has to say
 unfoldable pub is_said : BridgeView → Bool
@@ -79,10 +78,12 @@ abbrev pub IsAlive : Option Entry → Type 0
 IsAlive None = ⊥
 IsAlive (Some e) = Lasts e.version e.lifetime
 
--- unless its sequence numbers are spent, the own LSP of a bridge is alive and says what the bridge has to say
+-- unless its sequence numbers are spent, the own LSP of a bridge is alive and says what the bridge has to say; and
+-- whatever became of it, it lists each neighbour at a port of its own
 pub record IsTended (v : BridgeView) : Type 0 where
   pub said : v.spent ≡ false → body_in (own_entry v) ≡ body_of v
   pub alive : v.spent ≡ false → IsAlive (own_entry v)
+  pub text : HasPorts (content_in (tlvs_in (body_in (own_entry v))))
 
 -- after an origination
 abbrev pub originating : BridgeView → BridgeView

@@ -2,7 +2,7 @@
 ghost use Rattle.bridge_api.specs.Laws.{ConfiguredIsSound, ConfiguredIsDark, ConfiguredHoldsOwn, SoundCanSay, StepsStaySound, StepsKeepBridge, StepsKeepCarrier, StepsKeepNeighbours, SentIsSound, OneHello, HellosAreHeard, SentWithCarrier, EnteringUpIsWhole, UpPortsAreUp, StepsCarryDatabase, NeighboursComeUp, SomeBridge};
 ghost use Rattle.bridge_api.specs.Duties.{SecondsServe, SecondsSettle};
 ghost use Rattle.bridge_api.specs.Few.{ConfiguredHoldsFew, StepsHoldFew, SecondsSendFew};
-ghost use Rattle.bridge_api.specs.Graph.{ReadsWhatIsHeld, ReadsEachOnce, ReadsItself};
+ghost use Rattle.bridge_api.specs.Graph.{ReadsWhatIsHeld, ReadsEachOnce, ReadsItself, OwnPortsAreApart};
 ghost use Rattle.bridge_api.specs.Time.{NeighboursAreKept, NeighboursAreLost, KeepsSomebody, SecondsAge, LspsLast, LspsExpire, SecondsStandStill, SecondsRenew, SecondsSpend, SpentStandsStill, OwnLspLasts, OwnLspIsRenewed, AloneStaysAlone, EveryNineHundred};
 
 use itag_frames::control_again;
@@ -49,11 +49,12 @@ pub fn seconds_serve_neighbours()
 {}
 
 /// A bridge reads its graph from the live LSPs that it holds, of each system what that says, and of itself what it has to
-/// say.
+/// say, with each neighbour at a port of its own.
 pub fn graphs_are_read_from_what_is_held()
     ensures held { ReadsWhatIsHeld }
     ensures once { ReadsEachOnce }
     ensures own { ReadsItself }
+    ensures ports { OwnPortsAreApart }
 {}
 
 /// A port that is Up was so before with the same neighbour, or everything is to be sent there and nothing is owed.
@@ -75,6 +76,14 @@ pub fn neighbours_come_up()
 {
     control_again();
 }
+
+/// A bridge that hears hellos alone holds at most one LSP more after each step, and its own LSP goes at most one number
+/// further; and in a second it sends few frames.
+pub fn few_are_held_and_sent()
+    ensures configured { ConfiguredHoldsFew }
+    ensures steps { StepsHoldFew }
+    ensures sent { SecondsSendFew }
+{}
 
 /// A neighbour is kept for as many seconds as its holding count says, in the state that it is in, whatever comes to the
 /// bridge but hellos and changes of carrier at its port. Then the port is Down, and keeps nobody. There are bridges that
@@ -107,12 +116,4 @@ pub fn own_lsps_are_renewed()
     ensures renewed { OwnLspIsRenewed }
     ensures alone { AloneStaysAlone }
     ensures every { EveryNineHundred }
-{}
-
-/// A bridge that hears hellos alone holds at most one LSP more after each step, and its own LSP goes at most one number
-/// further; and in a second it sends few frames.
-pub fn few_are_held_and_sent()
-    ensures configured { ConfiguredHoldsFew }
-    ensures steps { StepsHoldFew }
-    ensures sent { SecondsSendFew }
 {}

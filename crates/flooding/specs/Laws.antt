@@ -154,8 +154,8 @@ abbrev pub EntryLeavesOwn : Type 0
 EntryLeavesOwn = (up : PortSet) (port : ℕ) (c : Claim) (h : Holding) (old new : Entry) → c.id ≡ own_id h.own.system → number_of c.version < last_number
     → get h.db c.id ≡ Some old → get (hear_entry_of up port c h).db c.id ≡ Some new → OwnEntry up h.own c.version old new
 
--- the body under an id of the own system, after a claim or an origination: the one that was held, the own one, or that of a
--- dead LSP. What others send is never held there
+-- the body under an id of the own system, after a claim or an origination: the one that was held, the own one, or that
+-- of a dead LSP. What others send is never held there
 pub data IsOwnBody (own : Own) (old new : Option Entry) : Type 0 where
   stays : body_in new ≡ body_in old → IsOwnBody own old new
   renews : body_in new ≡ own.body → IsOwnBody own old new
@@ -170,7 +170,8 @@ EntryLeavesOwnBody = (up : PortSet) (port : ℕ) (c : Claim) (h : Holding) (id :
     → IsOwnBody h.own (get h.db id) (get (hear_entry_of up port c h).db id)
 
 abbrev pub OriginationLeavesOwnBody : Type 0
-OriginationLeavesOwnBody = (up : PortSet) (h : Holding) (id : LspId) → IsOwnBody h.own (get h.db id) (get (originated up h).db id)
+OriginationLeavesOwnBody = (up : PortSet) (h : Holding) (id : LspId)
+    → IsOwnBody h.own (get h.db id) (get (originated up h).db id)
 
 -- after an origination the next entry stands under the own id and no other changes. The system and its body stay, and below
 -- the last number it isn't spent

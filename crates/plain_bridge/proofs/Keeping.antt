@@ -20,12 +20,12 @@ use Rattle.plain_bridge.specs.Plain.{Plain, seen, IsKept}
 ready_after : (v : BridgeView) (m : Machine) → IsSoundView v → IsAfter v m → IsReady m
 ready_after v m sound is = record { sound = subst IsSoundView (sym is.view) sound; current = is.current }
 
-stepped : {T : Type 0} (r : Result T NoMemory) (input : Input) (old m : Machine) → IsReady old → IsInput input → OnOk r (IsAfter (step input (view_of old)) m) → is_err r ≡ false → IsReady m
+stepped : {T : Type 0} (r : Result T NoMemory) (input : Input) (old m : Machine) → IsReady old → IsInput (view_of old) input → OnOk r (IsAfter (step input (view_of old)) m) → is_err r ≡ false → IsReady m
 stepped (Ok x) input old m ready is after e = ready_after (step input (view_of old)) m (steps_stay_sound input (view_of old) is ready.sound) after
 stepped (Err x) input old m ready is after e = absurd cc
 
 -- after a step
-pub kept_step : {T : Type 0} (r : Result T NoMemory) (input : Input) (blank failed : Bool) (old m : Machine) → blank ≡ false → IsReady old → IsInput input → failed ≡ is_err r → OnOk r (IsAfter (step input (view_of old)) m)
+pub kept_step : {T : Type 0} (r : Result T NoMemory) (input : Input) (blank failed : Bool) (old m : Machine) → blank ≡ false → IsReady old → IsInput (view_of old) input → failed ≡ is_err r → OnOk r (IsAfter (step input (view_of old)) m)
     → IsKept (record { blank = blank; failed = failed; machine = m })
 kept_step r input blank failed old m made ready is told after = record {
   unfailed = λ e. absurd (let no : true ≡ false = sym e ∙ made in cc);

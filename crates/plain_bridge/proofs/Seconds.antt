@@ -22,12 +22,12 @@ use Rattle.bridge_api.specs.View.{BridgeView, is_port_up, up_from}
 use Rattle.bridge_api.specs.Own.{neighbour_in, neighbours_from, local_of, own_of}
 use Rattle.bridge_api.specs.Hearing.{with_due}
 use Rattle.bridge_api.specs.Ticking.{later, leaves, leaving_from, parted_all, counted, expired, readied, told, told_from, sent_from, after_tick, sent_in_tick}
-use Rattle.bridge_api.specs.Laws.{HasDatabase, IsSoundView}
+use Rattle.bridge_api.specs.Laws.{IsSoundView}
 use Rattle.bridge_api.proofs.Adjacent.{second_up}
 use Rattle.bridge_api.proofs.Changes.{tick_is, readied_ports}
 use Rattle.bridge_api.proofs.SoundPorts.{all_later, config_kept}
 use Rattle.bridge_api.proofs.Saying.{is_local}
-use Rattle.bridge_api.proofs.Data.{fits_own, counted_keeps, expired_keeps, refreshed_keeps}
+use Rattle.bridge_api.proofs.Data.{Holds, lsps_of, fits_own, counted_keeps, expired_keeps, refreshed_keeps}
 use Rattle.bridge_api.proofs.DataSteps.{can_originate}
 use Rattle.plain_bridge.specs.declared.machine.Machine.{Machine}
 use Rattle.plain_bridge.specs.Machine.{view_of, IsCurrent, IsReady, CanOriginate, IsAfter}
@@ -138,8 +138,8 @@ expired_after w m up db is is_up are = record {
   current = current_with m m.ports db m.own is.current refl refl refl;
 }
 
-expired_holds : (v : BridgeView) → IsSoundView v → HasDatabase (expired (counted v))
-expired_holds v sound = expired_keeps (counted v) (counted_keeps v sound.few sound.database)
+expired_holds : (v : BridgeView) → IsSoundView v → Holds (expired (counted v))
+expired_holds v sound = expired_keeps (counted v) (counted_keeps v sound.few (lsps_of v sound.database sound.own.text))
 
 pub expired_can : (m n : Machine) → IsReady m → IsAfter (expired (counted (view_of m))) n → CanOriginate n
 expired_can m n ready is =
@@ -151,7 +151,7 @@ expired_can m n ready is =
 
 -- ---- the bridge that sends
 
-readied_holds : (v : BridgeView) → IsSoundView v → HasDatabase (readied v)
+readied_holds : (v : BridgeView) → IsSoundView v → Holds (readied v)
 readied_holds v sound =
     let w : BridgeView = expired (counted v) in
     refreshed_keeps w (can_originate w (config_kept v w refl sound.config) (few_later v.ports sound.few) (all_later v.ports sound.ports)) (expired_holds v sound)

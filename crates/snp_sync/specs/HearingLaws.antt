@@ -82,12 +82,12 @@ EntriesDontSpend = (up : PortSet) (port : ℕ) (claims : List Claim) (h : Holdin
 
 -- nor do they bring a body under an id of the own system
 abbrev pub EntriesLeaveOwnBody : Type 0
-EntriesLeaveOwnBody = (up : PortSet) (port : ℕ) (claims : List Claim) (h : Holding) (id : LspId) → id.system ≡ h.own.system
-    → IsOwnBody h.own (get h.db id) (get (hear_entries_of up port claims h).db id)
+EntriesLeaveOwnBody = (up : PortSet) (port : ℕ) (claims : List Claim) (h : Holding) (id : LspId)
+    → id.system ≡ h.own.system → IsOwnBody h.own (get h.db id) (get (hear_entries_of up port claims h).db id)
 
 abbrev pub CsnpLeavesOwnBody : Type 0
-CsnpLeavesOwnBody = (up : PortSet) (port : ℕ) (start end : LspId) (claims : List Claim) (h : Holding) (id : LspId) → id.system ≡ h.own.system
-    → IsOwnBody h.own (get h.db id) (get (hear_csnp_of up port start end claims h).db id)
+CsnpLeavesOwnBody = (up : PortSet) (port : ℕ) (start end : LspId) (claims : List Claim) (h : Holding) (id : LspId)
+    → id.system ≡ h.own.system → IsOwnBody h.own (get h.db id) (get (hear_csnp_of up port start end claims h).db id)
 
 -- ---- what every entry keeps
 

@@ -1,6 +1,6 @@
 -- The laws of a step of a bridge, on which what is sound of a network rests.
 use Rattle.itag_frames.proofs.ControlLaws.{control_again}
-use Rattle.bridge_api.specs.Laws.{ConfiguredIsSound, ConfiguredIsDark, StepsStaySound, StepsKeepBridge, StepsKeepCarrier, StepsKeepNeighbours, FramesAreSound, HellosAreHeard, UpPortsAreUp, StepsCarryDatabase}
+use Rattle.bridge_api.specs.Laws.{ConfiguredIsSound, ConfiguredIsDark, StepsStaySound, StepsKeepBridge, StepsKeepCarrier, StepsKeepNeighbours, SentIsSound, HellosAreHeard, UpPortsAreUp, StepsCarryDatabase}
 use Rattle.bridge_api.proofs.Certified as certified
 use Rattle.bridge_api.proofs.Carriers as carriers
 use Rattle.bridge_api.proofs.Frames as frames
@@ -28,8 +28,8 @@ steps_keep_carrier = carriers.steps_keep_carrier
 pub steps_keep_neighbours : StepsKeepNeighbours
 steps_keep_neighbours = certified.steps_keep_neighbours
 
-pub frames_are_sound : FramesAreSound
-frames_are_sound = frames.frames_are_sound control_again
+pub sent_is_sound : SentIsSound
+sent_is_sound = frames.sent_is_sound control_again
 
 pub hellos_are_heard : HellosAreHeard
 hellos_are_heard = hellos.hellos_are_heard control_again

@@ -8,7 +8,6 @@ use Rattle.spb_types.specs.declared.link.Dir.TheVariants.{Ab, Ba}
 use Rattle.bridge_api.specs.View.{BridgeView}
 use Rattle.bridge_api.specs.Step as comes
 use Rattle.bridge_api.specs.Step.{Input, step, sent}
-use Rattle.bridge_api.specs.Laws.{IsInput}
 use Rattle.spb_network.specs.declared.declaration.DeclaredLink.{DeclaredLink}
 use Rattle.spb_network.specs.declared.declaration.LinkEnd.{LinkEnd}
 use Rattle.link_model.specs.declared.lanes.LinkLanes.{LinkLanes}
@@ -25,7 +24,7 @@ use Rattle.spb_network.proofs.FitsLemmas.{IsAlike, alike_itself, alike_with_fram
 use Rattle.spb_network.proofs.SoundLaws.{is_carrier}
 use Rattle.spb_network.proofs.SoundWays.{turned, near-turned, way_of_end}
 use Rattle.spb_network.proofs.SoundMoves.{IsCore, Comes}
-use Rattle.spb_network.proofs.SoundSteps.{short_rest, short_lost, short_doubled, short_flushed, in_got, in_rest, in_lost, in_doubled, in_changed, in_flushed, flushed_lane, world-sent_all, views-sent_all, core_stepped, core_fewer, core_with_live}
+use Rattle.spb_network.proofs.SoundSteps.{short_rest, short_lost, short_doubled, short_flushed, in_got, in_rest, in_lost, in_doubled, in_changed, in_flushed, flushed_lane, world-sent_all, views-sent_all, IsInputAt, core_stepped, core_fewer, core_with_live}
 use Rattle.spb_network.proofs.SoundCarrier.{HaveCarrier, lit_stepped, lit_carried, lit-switched}
 use Rattle.spb_network.proofs.SoundMetrics.{is_metric, metered_stepped, metered_switched}
 use Rattle.spb_network.proofs.SoundAttached.{attached_stepped}
@@ -67,7 +66,7 @@ stepped_attached x s i attached =
     (attached_stepped x s.world s.views i attached))
 
 -- an input that changes neither, after frames were lost or taken from lanes
-stays_stepped : (x : Input) (s : State) (lanes : List LinkLanes) (i : ℕ) → IsInput x → is_carrier x ≡ false → is_metric x ≡ false → IsSoundState s → IsAlike s (record s { lanes = lanes }) → AreShort lanes → ((k : ℕ) (dir : Dir) (f : Frame) → IsIn f (lane_of lanes k dir) → IsIn f (lane_of s.lanes k dir)) → ((p : ℕ) (f : Frame) → x ≡ comes.frame p f → Comes (links_of s) s.lanes i p f) → IsSoundState (stepped x (record s { lanes = lanes }) i)
+stays_stepped : (x : Input) (s : State) (lanes : List LinkLanes) (i : ℕ) → IsInputAt s.views i x → is_carrier x ≡ false → is_metric x ≡ false → IsSoundState s → IsAlike s (record s { lanes = lanes }) → AreShort lanes → ((k : ℕ) (dir : Dir) (f : Frame) → IsIn f (lane_of lanes k dir) → IsIn f (lane_of s.lanes k dir)) → ((p : ℕ) (f : Frame) → x ≡ comes.frame p f → Comes (links_of s) s.lanes i p f) → IsSoundState (stepped x (record s { lanes = lanes }) i)
 stays_stepped x s lanes i is_input same_carrier same_metric sound alike short fewer from =
     sound_from (stepped x (record s { lanes = lanes }) i) (core_stepped x s lanes i is_input (core_of s sound) alike short fewer from)
     (stepped_lit x (record s { lanes = lanes }) i same_carrier sound.lit)
@@ -75,7 +74,7 @@ stays_stepped x s lanes i is_input same_carrier same_metric sound alike short fe
     (stepped_attached x (record s { lanes = lanes }) i sound.attached)
 
 pub Sound-ticked : (s : State) (i : ℕ) → IsSoundState s → IsSoundState (ticked s i)
-Sound-ticked s i sound = stays_stepped comes.second s s.lanes i tt refl refl sound (alike_itself s) sound.short (λ k dir f among. among) (λ p f is. absurd cc)
+Sound-ticked s i sound = stays_stepped comes.second s s.lanes i (λ v at. tt) refl refl sound (alike_itself s) sound.short (λ k dir f among. among) (λ p f is. absurd cc)
 
 -- ---- a frame is delivered
 
@@ -106,7 +105,7 @@ stays_fewer s lanes sound alike short fewer = sound_from (record s { lanes = lan
 heard_sound : (s : State) (k : ℕ) (dir : Dir) (bytes : Frame) (o : Option DeclaredLink) → slice_get (links_of s) k ≡ o → slice_get (lane_at s k dir) 0 ≡ Some bytes → IsSoundState s → IsSoundState (heard_over (with_frames rest s k dir) dir bytes o)
 heard_sound s k dir bytes None at front sound = stays_fewer s (changed_at (changed_lane dir rest) s.lanes k) sound (alike_with_frames rest s k dir) (short_rest s.lanes k dir sound.short) (fewer_rest s k dir)
 heard_sound s k dir bytes (Some l) at front sound =
-    stays_stepped (comes.frame (far_end dir l).port bytes) s (changed_at (changed_lane dir rest) s.lanes k) (far_end dir l).bridge tt refl refl sound (alike_with_frames rest s k dir) (short_rest s.lanes k dir sound.short) (fewer_rest s k dir) (front_comes s k dir l bytes (core_of s sound) at front)
+    stays_stepped (comes.frame (far_end dir l).port bytes) s (changed_at (changed_lane dir rest) s.lanes k) (far_end dir l).bridge (λ v at. tt) refl refl sound (alike_with_frames rest s k dir) (short_rest s.lanes k dir sound.short) (fewer_rest s k dir) (front_comes s k dir l bytes (core_of s sound) at front)
 
 front_sound : (s : State) (k : ℕ) (dir : Dir) (o : Option Frame) → slice_get (lane_at s k dir) 0 ≡ o → IsSoundState s → IsSoundState (delivered_front s k dir o)
 front_sound s k dir None front sound = sound
@@ -134,7 +133,7 @@ Sound-flushed s k sound = stays_fewer s (changed_at (λ lanes. no_frames) s.lane
 -- ---- a link is switched
 
 core_carried : (on : Bool) (s : State) (e : LinkEnd) → IsCore s → IsCore (carried on s e)
-core_carried on s e core = core_stepped (comes.carrier e.port on) s s.lanes e.bridge tt core (alike_itself s) core.short (λ k dir f among. among) (λ p f is. absurd cc)
+core_carried on s e core = core_stepped (comes.carrier e.port on) s s.lanes e.bridge (λ v at. tt) core (alike_itself s) core.short (λ k dir f among. among) (λ p f is. absurd cc)
 
 carried_world : (on : Bool) (s : State) (e : LinkEnd) → (carried on s e).world ≡ s.world
 carried_world on s e = stepped_world (comes.carrier e.port on) s e.bridge

@@ -16,10 +16,10 @@ use Rattle.adjacency.specs.Hearing.{End}
 use Rattle.bridge_api.specs.View.{BridgeView, neighbour_at, is_up_at}
 use Rattle.bridge_api.specs.Judging.{Judged, useless, greeting, link_state, complete, partial, tenant, judged}
 use Rattle.bridge_api.specs.Step.{Input, second, frame, carrier, metric, step, sent}
-use Rattle.bridge_api.specs.Laws.{IsInput, IsSoundView, IsHeard, IsSent, IsHelloOf, IsFrameOf, greeter, port_of, claims_of}
+use Rattle.bridge_api.specs.Laws.{IsInput, IsSoundView, IsHeard, IsSent, IsHelloOf, IsWritten, IsFrameOf, greeter, port_of, claims_of}
+use Rattle.bridge_api.proofs.Frames.{at_most_held}
 use Rattle.spb_network.specs.Sound.{end_at, IsHelloTo, IsSaid, IsFollowed, Agrees}
-use Rattle.spb_network.proofs.BridgeLaws.{steps_keep_bridge, steps_keep_neighbours, steps_stay_sound, frames_are_sound, up_ports_are_up, steps_carry_database}
-use Rattle.spb_network.proofs.SoundLaws.{sent_second}
+use Rattle.spb_network.proofs.BridgeLaws.{steps_keep_bridge, steps_keep_neighbours, steps_stay_sound, sent_is_sound, up_ports_are_up, steps_carry_database}
 
 pub All-in : (P : Frame → Type 0) (fs : List Frame) (f : Frame) → AllByRecursion P fs → IsIn f fs → P f
 All-in P [] f all among = absurd among
@@ -53,12 +53,12 @@ pub moved_same : (x : Option Input) (v : BridgeView) → IsStill v (moved x v)
 moved_same None v = record { id = refl; source = refl; vids = refl }
 moved_same (Some input) v = let same = steps_keep_bridge input v in record { id = same.id; source = same.source; vids = same.vids }
 
--- what comes, if something does, is an input
-abbrev pub AreInputs : Option Input → Type 0
-AreInputs None = Unit {0}
-AreInputs (Some input) = IsInput input
+-- what comes to a bridge, if something does, is an input of it
+abbrev pub AreInputs : BridgeView → Option Input → Type 0
+AreInputs v None = Unit {0}
+AreInputs v (Some input) = IsInput v input
 
-pub moved_sound : (x : Option Input) (v : BridgeView) → AreInputs x → IsSoundView v → IsSoundView (moved x v)
+pub moved_sound : (x : Option Input) (v : BridgeView) → AreInputs v x → IsSoundView v → IsSoundView (moved x v)
 moved_sound None v is sound = sound
 moved_sound (Some input) v is sound = steps_stay_sound input v is sound
 
@@ -75,7 +75,7 @@ moved_rises (Some input) v id sound = (steps_carry_database input v sound).rises
 -- what comes to bridge v is x, and to bridge w is y. Whatever v hears at its port p was on its way there, and what is on
 -- its way from v afterwards was so before, or is sent now
 pub record IsMove (v : BridgeView) (p : ℕ) (w : BridgeView) (q : ℕ) (x y : Option Input) (lane back after : List Frame) : Type 0 where
-  pub input : AreInputs x
+  pub input : AreInputs v x
   pub first : IsSoundView v
   pub second : IsSoundView w
   pub port : q ≤ 32
@@ -130,23 +130,21 @@ still_said : (v : BridgeView) (p : ℕ) (w : BridgeView) (q : ℕ) (x y : Option
 still_said v p w q x y f sound was = record {
   hello = λ h way heard. subst (λ (to : End). IsHelloTo (end_at (moved x v) p) to h way) (sym (moved_end y w q)) (subst (λ (from : End). IsHelloTo from (end_at w q) h way) (sym (moved_end x v p)) (was.hello h way heard));
   claims = λ id a claimed. through a (version_at v.database id) (version_at (moved x v).database id) (was.claims id a claimed) (moved_rises x v id sound);
+  written = subst (λ (id : BridgeId). IsWritten id.system.mac f) (sym (moved_same x v).id) was.written;
 }
 
 -- what is sent is said
 newly_said : (v : BridgeView) (p : ℕ) (w : BridgeView) (q : ℕ) (x y : Option Input) (lane back after : List Frame) (f : Frame) → IsMove v p w q x y lane back after → IsSent (sent_by x v) p f → IsSaid (moved x v) p (moved y w) q f
 newly_said v p w q None y lane back after f move some = absurd some
-newly_said v p w q (Some input) y lane back after f move some = by input (sent_second input v p f some) (moved_keeps v p w q (Some input) y lane back after move) some
-  where
-    by : (i : Input) → i ≡ second → ((n : End) → neighbour_at (step i v) p ≡ Some n → n ≡ end_at w q) → IsSent (sent i v) p f → IsSaid (step i v) p (moved y w) q f
-    by second e keeps some =
-        let own : IsFrameOf (step second v) p f = frames_are_sound v p f move.first (named (neighbour_at (step second v) p) w q move.second move.port keeps) some in
-        record {
-          hello = λ h way heard. subst (λ (to : End). IsHelloTo (end_at (step second v) p) to h way) (sym (moved_end y w q)) (hello_to (step second v) p (end_at w q) h way (own.hello h way heard) keeps);
-          claims = own.claims;
-        }
-    by (frame r g) e keeps some = absurd some
-    by (carrier r on) e keeps some = absurd some
-    by (metric r m) e keeps some = absurd some
+newly_said v p w q (Some input) y lane back after f move some =
+    let next : BridgeView = step input v in
+    let keeps : (n : End) → neighbour_at next p ≡ Some n → n ≡ end_at w q = moved_keeps v p w q (Some input) y lane back after move in
+    let own : IsFrameOf next p f = sent_is_sound input v p f move.first (named (neighbour_at next p) w q move.second move.port keeps) some in
+    record {
+      hello = λ h way heard. subst (λ (to : End). IsHelloTo (end_at next p) to h way) (sym (moved_end y w q)) (hello_to next p (end_at w q) h way (own.hello h way heard) keeps);
+      claims = λ id a claimed. at_most_held next id a (own.claims id a claimed);
+      written = own.written;
+    }
 
 -- whoever is no further behind stays so
 moved_ready : (v : BridgeView) (p : ℕ) (w : BridgeView) (q : ℕ) (x y : Option Input) (lane back after : List Frame) → IsMove v p w q x y lane back after → (id : LspId) → is_up_at (moved x v) p ≡ true → IsFollowed (moved x v) p (moved y w) id

@@ -10,16 +10,9 @@ use Rattle.adjacency.specs.declared.port.Adjacency.{Adjacency}
 use Rattle.adjacency.specs.Adjacency.{is_up, kept_in, neighbour_of, SoundIn}
 use Rattle.bridge_api.specs.declared.port.BridgePort.{BridgePort}
 use Rattle.bridge_api.specs.View.{BridgeView, IsPort, neighbour_at, is_up_in, is_up_at, has_carrier_in, has_carrier_at}
-use Rattle.bridge_api.specs.Step.{Input, second, frame, carrier, metric, step, sent}
-use Rattle.bridge_api.specs.Laws.{IsSoundPort, IsSoundView, IsSent, carrier_after}
+use Rattle.bridge_api.specs.Step.{Input, second, frame, carrier, metric, step}
+use Rattle.bridge_api.specs.Laws.{IsSoundPort, IsSoundView, carrier_after}
 use Rattle.spb_network.proofs.BridgeLaws.{steps_keep_carrier}
-
--- frames are sent in a second alone
-pub sent_second : (input : Input) (v : BridgeView) (p : ℕ) (bytes : List ℕ) → IsSent (sent input v) p bytes → input ≡ second
-sent_second second v p bytes some = refl
-sent_second (frame q heard) v p bytes some = absurd some
-sent_second (carrier q on) v p bytes some = absurd some
-sent_second (metric q m) v p bytes some = absurd some
 
 -- ---- carrier
 

@@ -72,7 +72,7 @@ pub end_metric : (bridges : Bridges) (e : LinkEnd) → IsEnd bridges e → IsMet
 end_metric bridges e is = record { low = is.metric_low; high = is.metric_high }
 
 pub core_metered : (s : State) (e : LinkEnd) → IsMetric e.metric → IsCore s → IsCore (metered s e)
-core_metered s e is core = core_stepped (comes.metric e.port e.metric) s s.lanes e.bridge is core (alike_itself s) core.short (λ k dir f among. among) (λ p f is. absurd cc)
+core_metered s e is core = core_stepped (comes.metric e.port e.metric) s s.lanes e.bridge (λ v at. is) core (alike_itself s) core.short (λ k dir f among. among) (λ p f is. absurd cc)
 
 pub Sound-new_link : (s : State) (name : List ℕ) (l : DeclaredLink) → IsSoundState s → IsNewLink s.world l → AreDistinct (with_link s.world name l) → l.live ≡ false → IsSoundState (metered_over (record s { world = with_link s.world name l; lanes = s.lanes ++ no_frames ∷ [] }) l)
 Sound-new_link s name l sound new distinct dead =

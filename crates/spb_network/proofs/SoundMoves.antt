@@ -48,10 +48,10 @@ pub record GoesOut (links : List DeclaredLink) (o : ℕ → Option Input) (views
   pub from : slice_get views place ≡ Some view
   pub sent : IsSent (sent_by (o place) view) port f
 
--- what comes to the bridge at each place is o; what is on its way afterwards was so before, or is sent now
+-- what comes to the bridge at each place is o, an input of it; what is on its way afterwards was so before, or is sent now
 pub record Moves (links : List DeclaredLink) (o : ℕ → Option Input) (views views' : List BridgeView) (lanes lanes' : List LinkLanes) : Type 0 where
   pub bridges : (i : ℕ) → slice_get views' i ≡ option_map (moved (o i)) (slice_get views i)
-  pub inputs : (i : ℕ) → AreInputs (o i)
+  pub inputs : (i : ℕ) (v : BridgeView) → slice_get views i ≡ Some v → AreInputs v (o i)
   pub heard : (i p : ℕ) (f : Frame) → o i ≡ Some (frame p f) → Comes links lanes i p f
   pub frames : (k : ℕ) (dir : Dir) (f : Frame) → IsIn f (lane_of lanes' k dir) → IsIn f (lane_of lanes k dir) ⊎ GoesOut links o views k dir f
 
@@ -73,7 +73,7 @@ moves_views : (links : List DeclaredLink) (o : ℕ → Option Input) (views view
 moves_views links o views views' lanes lanes' move sound =
     All-each IsSoundView views' (λ i v at.
     let was = got_mapped (moved (o i)) (slice_get views i) v (sym (move.bridges i) ∙ at) in
-    subst IsSoundView (sym was.2) (moved_sound (o i) was.0 (move.inputs i) (All-get IsSoundView views i was.0 sound was.1)))
+    subst IsSoundView (sym was.2) (moved_sound (o i) was.0 (move.inputs i was.0 was.1) (All-get IsSoundView views i was.0 sound was.1)))
 
 moves_shown : (w : World) (links : List DeclaredLink) (o : ℕ → Option Input) (views views' : List BridgeView) (lanes lanes' : List LinkLanes) → Moves links o views views' lanes lanes' → AreShown w views → AreShown w views'
 moves_shown w links o views views' lanes lanes' move shown i v b at declared =
@@ -125,7 +125,7 @@ moves_agree s o views' lanes' core move k dir l v' w' at at_v at_w =
     let port : IsPort was_w.0 (far_end dir l).port = far_is_port s k l dir core.world core.fits at was_w.0 was_w.1 in
     let sound_w : IsSoundView was_w.0 = All-get IsSoundView s.views far was_w.0 core.views was_w.1 in
     let here : IsMove was_v.0 (near_end dir l).port was_w.0 (far_end dir l).port (o near) (o far) (lane_of s.lanes k dir) (lane_of s.lanes k (turned dir)) (lane_of lanes' k dir) = record {
-      input = move.inputs near;
+      input = move.inputs near was_v.0 was_v.1;
       first = All-get IsSoundView s.views near was_v.0 core.views was_v.1;
       second = sound_w;
       port = omega (arith, port.high, sound_w.few);

@@ -301,12 +301,17 @@ only_is zero x (suc j) y is = absurd cc
 only_is (suc i) x zero y is = absurd cc
 only_is (suc i) x (suc j) y is = let rest = only_is i x j y is in (ap suc rest.0, rest.1)
 
-only_input : (i : ℕ) (x : Input) (j : ℕ) → IsInput x → AreInputs (only i x j)
+-- what comes to the bridge at a place, if there is one, is an input of it
+abbrev pub IsInputAt : List BridgeView → ℕ → Input → Type 0
+IsInputAt views i x = (v : BridgeView) → slice_get views i ≡ Some v → IsInput v x
+
+only_input : (views : List BridgeView) (i : ℕ) (x : Input) (j : ℕ) → IsInputAt views i x → (v : BridgeView) → slice_get views j ≡ Some v → AreInputs v (only i x j)
 unfolding only
-only_input zero x zero is = is
-only_input zero x (suc j) is = tt
-only_input (suc i) x zero is = tt
-only_input (suc i) x (suc j) is = only_input i x j is
+only_input [] i x j is v at = absurd cc
+only_input (u ∷ views) zero x zero is v at = is v at
+only_input (u ∷ views) zero x (suc j) is v at = tt
+only_input (u ∷ views) (suc i) x zero is v at = tt
+only_input (u ∷ views) (suc i) x (suc j) is v at = only_input views i x j is v at
 
 map-moved_none : (o : Option BridgeView) → o ≡ option_map (moved None) o
 map-moved_none None = refl
@@ -333,11 +338,11 @@ goes_out s x i (Some v) k dir f at over = record {
 }
 
 -- something comes to a bridge after frames were lost or taken from lanes; a frame that comes stood in the lane towards it
-pub moves_stepped : (x : Input) (s : State) (lanes : List LinkLanes) (i : ℕ) → IsInput x → ((k : ℕ) (dir : Dir) (f : Frame) → IsIn f (lane_of lanes k dir) → IsIn f (lane_of s.lanes k dir)) → ((p : ℕ) (f : Frame) → x ≡ frame p f → Comes (links_of s) s.lanes i p f) → Moves (links_of s) (only i x) s.views (stepped x (record s { lanes = lanes }) i).views s.lanes (stepped x (record s { lanes = lanes }) i).lanes
+pub moves_stepped : (x : Input) (s : State) (lanes : List LinkLanes) (i : ℕ) → IsInputAt s.views i x → ((k : ℕ) (dir : Dir) (f : Frame) → IsIn f (lane_of lanes k dir) → IsIn f (lane_of s.lanes k dir)) → ((p : ℕ) (f : Frame) → x ≡ frame p f → Comes (links_of s) s.lanes i p f) → Moves (links_of s) (only i x) s.views (stepped x (record s { lanes = lanes }) i).views s.lanes (stepped x (record s { lanes = lanes }) i).lanes
 unfolding stepped
 moves_stepped x s lanes i is_input fewer comes = record {
   bridges = λ j. ap (λ (views : List BridgeView). slice_get views j) (views-sent_all next i fs) ∙ get-changed x s.views i j;
-  inputs = λ j. only_input i x j is_input;
+  inputs = λ j v at. only_input s.views i x j is_input v at;
   heard = λ j p f is. heard j p f (only_is i x j (frame p f) is);
   frames = λ k dir f among. frames k dir f (in_sent_all next i fs k dir f among);
 }
@@ -363,7 +368,7 @@ short_stepped : (x : Input) (s : State) (i : ℕ) → AreShort s.lanes → AreSh
 unfolding stepped
 short_stepped x s i short = short_sent_all (record s { views = changed_at (step x) s.views i }) i (option_map_or (sent x) (slice_get s.views i) []) short
 
-pub core_stepped : (x : Input) (s : State) (lanes : List LinkLanes) (i : ℕ) → IsInput x → IsCore s → IsAlike s (record s { lanes = lanes }) → AreShort lanes → ((k : ℕ) (dir : Dir) (f : Frame) → IsIn f (lane_of lanes k dir) → IsIn f (lane_of s.lanes k dir)) → ((p : ℕ) (f : Frame) → x ≡ frame p f → Comes (links_of s) s.lanes i p f) → IsCore (stepped x (record s { lanes = lanes }) i)
+pub core_stepped : (x : Input) (s : State) (lanes : List LinkLanes) (i : ℕ) → IsInputAt s.views i x → IsCore s → IsAlike s (record s { lanes = lanes }) → AreShort lanes → ((k : ℕ) (dir : Dir) (f : Frame) → IsIn f (lane_of lanes k dir) → IsIn f (lane_of s.lanes k dir)) → ((p : ℕ) (f : Frame) → x ≡ frame p f → Comes (links_of s) s.lanes i p f) → IsCore (stepped x (record s { lanes = lanes }) i)
 core_stepped x s lanes i is_input core alike short fewer comes =
     let t : State = stepped x (record s { lanes = lanes }) i in
     sound_moves s t (only i x) core (world_stepped x s lanes i) (alike_then s (record s { lanes = lanes }) t alike (alike_stepped x (record s { lanes = lanes }) i)) (short_stepped x (record s { lanes = lanes }) i short) (moves_stepped x s lanes i is_input fewer comes)
@@ -373,7 +378,7 @@ core_stepped x s lanes i is_input core alike short fewer comes =
 pub moves_fewer : (s : State) (lanes : List LinkLanes) → ((k : ℕ) (dir : Dir) (f : Frame) → IsIn f (lane_of lanes k dir) → IsIn f (lane_of s.lanes k dir)) → Moves (links_of s) (λ j. None) s.views s.views s.lanes lanes
 moves_fewer s lanes fewer = record {
   bridges = λ j. map-moved_none (slice_get s.views j);
-  inputs = λ j. tt;
+  inputs = λ j v at. tt;
   heard = λ j p f is. absurd cc;
   frames = λ k dir f among. inl (fewer k dir f among);
 }

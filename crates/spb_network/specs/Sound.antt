@@ -18,7 +18,7 @@ use Rattle.spb_types.specs.declared.link.Dir.{Dir}
 use Rattle.bridge_api.specs.View.{BridgeView, IsPort, port_at, neighbour_at, is_up_at, has_carrier_at}
 use Rattle.bridge_api.specs.Config.{ArePairwise}
 use Rattle.bridge_api.specs.Judging.{greeting, judged}
-use Rattle.bridge_api.specs.Laws.{IsSoundView, claims_said}
+use Rattle.bridge_api.specs.Laws.{IsSoundView, IsWritten, claims_said}
 use Rattle.spb_network.specs.declared.declaration.DeclaredBridge.{DeclaredBridge}
 use Rattle.spb_network.specs.declared.declaration.DeclaredLink.{DeclaredLink}
 use Rattle.spb_network.specs.declared.kind_rule.KindRule.{KindRule}
@@ -84,10 +84,12 @@ pub record IsHelloTo (from to : End) (hello : HelloValue) (way : ThreeWay) : Typ
   pub neighbour : (n : End) → way.neighbour ≡ Some n → n ≡ to
 
 -- a frame that is on its way from port p of a bridge v to port q of a bridge w: if it is heard as a hello, it is one of
--- this sender to this receiver; and whatever is claimed in it is at most what the sender holds now
+-- this sender to this receiver; whatever is claimed in it is at most what the sender holds now; and it is written as the
+-- sender writes
 pub record IsSaid (v : BridgeView) (p : ℕ) (w : BridgeView) (q : ℕ) (bytes : Frame) : Type 0 where
   pub hello : (h : HelloValue) (way : ThreeWay) → judged bytes ≡ greeting h way → IsHelloTo (end_at v p) (end_at w q) h way
   pub claims : (id : LspId) (a : Version) → IsClaimed (claims_said (judged bytes)) id a → IsAtMost a (version_at v.database id)
+  pub written : IsWritten v.id.system.mac bytes
 
 -- the LSP under an id is to be sent at port p of v, or w holds it at least at the version of v
 abbrev pub IsFollowed : BridgeView → ℕ → BridgeView → LspId → Type 0

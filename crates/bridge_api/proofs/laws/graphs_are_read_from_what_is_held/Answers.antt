@@ -1,4 +1,5 @@
 use Rattle.bridge_api.proofs.GraphRead.{reads_what_is_held, reads_each_once, reads_itself}
+use Rattle.bridge_api.proofs.OwnPorts.{own_ports_are_apart}
 use Rattle.bridge_api.proofs.laws.graphs_are_read_from_what_is_held.Goals as goal
 
 pub returns-clause-held : goal.returns-clause-held
@@ -9,3 +10,6 @@ returns-clause-once c = reads_each_once
 
 pub returns-clause-own : goal.returns-clause-own
 returns-clause-own c = reads_itself
+
+pub returns-clause-ports : goal.returns-clause-ports
+returns-clause-ports c = own_ports_are_apart
