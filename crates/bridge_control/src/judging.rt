@@ -1,0 +1,66 @@
+//! What a frame brings, before the bridge that hears it is looked at.
+ghost use Rattle.std.specs.Prelude.{◌≡◌, slice_get};
+ghost use Rattle.isis_pdu.specs.Pdu.{hello_of};
+ghost use Rattle.isis_pdu.specs.Reading.{read};
+ghost use Rattle.spb_tlvs.specs.Tlv.{values_with};
+ghost use Rattle.itag_frames.specs.Frame.{contents};
+ghost use Rattle.bridge_api.specs.Judging as api;
+ghost use Rattle.bridge_control.specs.Message.{Says};
+
+use isis_pdu::{Csnp, Hello, Lsp, Pdu, Psnp, decode};
+use itag_frames::{Frame, FrameError, classify};
+use spb_tlvs::{THREE_WAY_ADJACENCY, ThreeWay, find_tlv, read_three_way};
+
+/// What a frame brings to a bridge.
+#[derive(Clone, Copy, Debug)]
+pub(crate) enum Message<'a> {
+    /// Nothing that is heard.
+    Nothing,
+    /// A hello and its three-way adjacency.
+    Greeting(Hello<'a>, ThreeWay),
+    LinkState(Lsp<'a>),
+    Complete(Csnp<'a>),
+    Partial(Psnp<'a>),
+}
+
+/// What a frame brings. It may be any bytes.
+pub(crate) fn judge(frame: &[u8]) -> Message<'_>
+    ensures { Says result (api.judged frame.now) }
+{
+    judge_content(classify(frame))
+}
+
+/// Only a control frame is heard, by its PDU.
+fn judge_content(content: Result<Frame<'_>, FrameError>) -> Message<'_>
+    ensures { Says result (api.by_content (contents content.entry)) }
+{
+    match content {
+        Ok(Frame::Control(pdu)) => judge_pdu(pdu),
+        Ok(Frame::Backbone(_)) | Err(_) => Message::Nothing,
+    }
+}
+
+fn judge_pdu(pdu: &[u8]) -> Message<'_>
+    ensures { Says result (api.by_pdu (read pdu.now)) }
+{
+    match decode(pdu) {
+        Ok(Pdu::Hello(hello)) => judge_hello(&hello),
+        Ok(Pdu::Lsp(lsp)) => Message::LinkState(lsp),
+        Ok(Pdu::Csnp(csnp)) => Message::Complete(csnp),
+        Ok(Pdu::Psnp(psnp)) => Message::Partial(psnp),
+        Err(_) => Message::Nothing,
+    }
+}
+
+/// A hello is heard by its three-way adjacency, where that can be read.
+fn judge_hello<'a>(hello: &Hello<'a>) -> Message<'a>
+    ensures { Says result (api.by_three_way (hello_of hello.now) (slice_get (values_with 240 hello.now.tlvs.now) 0)) }
+{
+    let Some(value) = find_tlv(hello.tlvs, THREE_WAY_ADJACENCY, 0) else {
+        return Message::Nothing;
+    };
+    match read_three_way(value) {
+        Ok(way) => Message::Greeting(*hello, way),
+        Err(_) => Message::Nothing,
+    }
+}
