@@ -46,7 +46,8 @@ use Rattle.adjacency.specs.Adjacency.{neighbour_of, said}
 use Rattle.bridge_api.specs.declared.port.BridgePort.{BridgePort}
 use Rattle.bridge_api.specs.View.{BridgeView, port_in, neighbour_at, is_port_up, up_ports}
 use Rattle.bridge_api.specs.Judging.{Judged, useless, greeting, link_state, complete, partial, judged, is_octets, by_content, greeting_in}
-use Rattle.bridge_api.specs.Judging as drop
+use Rattle.bridge_api.specs.declared.drop_reason.DropReason.{DropReason}
+use Rattle.bridge_api.specs.declared.drop_reason.DropReason.TheVariants as drop
 use Rattle.bridge_api.specs.Hearing.{with_due}
 use Rattle.bridge_api.specs.Ticking.{later, readied, hello_at, hello_frame, lsp_frame, csnp_frame, psnp_frame, greetings_at, summaries_at, lsps_at, requests_at, synced_at, sent_at, told_at, sent_from, told_from, told, after_tick, sent_in_tick}
 use Rattle.bridge_api.specs.Laws.{IsSent, IsHelloOf, IsFrameOf, claims_or_none, claims_said, FramesAreSound}
@@ -81,7 +82,7 @@ record MaySay (w : BridgeView) (p : ℕ) (j : Judged) : Type 0 where
   hello : (h : HelloValue) (way : ThreeWay) → j ≡ greeting h way → IsHelloOf w p h way
   claims : (id : LspId) (a : Version) → IsClaimed (claims_said j) id a → IsAtMost a (version_at w.database id)
 
-say_nothing : (w : BridgeView) (p : ℕ) (reason : drop.Drop) → MaySay w p (useless reason)
+say_nothing : (w : BridgeView) (p : ℕ) (reason : DropReason) → MaySay w p (useless reason)
 say_nothing w p reason = record { hello = λ h way e. absurd cc; claims = λ id a claimed. absurd claimed }
 
 judged_at : (b : Bool) (w : BridgeView) (p : ℕ) (j : Judged) → MaySay w p j → MaySay w p (if b then j else useless drop.Frame)

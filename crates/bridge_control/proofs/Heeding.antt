@@ -21,12 +21,11 @@ use Rattle.snp_sync.proofs.Stays.{entries_leave_own}
 use Rattle.bridge_api.specs.declared.port.BridgePort.{BridgePort}
 use Rattle.bridge_api.specs.View.{BridgeView, IsPort, port_at, is_port_up, up_from, up_ports}
 use Rattle.bridge_api.specs.Own.{holding_of, with_holding, settled}
-use Rattle.bridge_api.specs.Judging.{Judged, useless, greeting, link_state, complete, partial, tenant, judged}
+use Rattle.bridge_api.specs.Judging.{Judged, link_state, judged}
 use Rattle.bridge_api.specs.Hearing.{heard_as, flooded, after_receive}
 use Rattle.bridge_api.proofs.Changes.{when_true, heard_is, deaf_is}
 use Rattle.bridge_control.specs.declared.machine.Machine.{Machine}
 use Rattle.bridge_control.specs.Machine.{view_of, IsCurrent, IsReady, CanOriginate, IsAfter, heard_by as heard_in, hears}
-use Rattle.bridge_control.specs.Message.{IsIdle}
 use Rattle.bridge_control.proofs.Owning.{current_with}
 use Rattle.bridge_control.proofs.Putting.{got}
 
@@ -148,16 +147,8 @@ pub not_false : (b : Bool) → not b ≡ false → b ≡ true
 not_false true e = refl
 not_false false e = absurd cc
 
--- what is of no use changes nothing
-pub idle_is : (j : Judged) (p : ℕ) (port : BridgePort) (v : BridgeView) → IsIdle j → heard_as j p port v ≡ v
-idle_is (useless reason) p port v idle = refl
-idle_is (greeting h way) p port v idle = absurd idle
-idle_is (link_state l) p port v idle = absurd idle
-idle_is (complete c) p port v idle = absurd idle
-idle_is (partial s) p port v idle = absurd idle
-idle_is (tenant da sa vid isid customer) p port v idle = refl
-
-pub idle_after : (m : Machine) (p : ℕ) (bytes : List ℕ) (port : BridgePort) → IsReady m → IsPort (view_of m) p → port_at (view_of m) p ≡ Some port → port.adjacency.carrier ≡ true → IsIdle (judged bytes) → IsAfter (after_receive p bytes (view_of m)) m
-idle_after m p bytes port ready is there lit idle =
+-- a frame that is heard as what changes nothing
+pub idle_after : (m : Machine) (p : ℕ) (bytes : List ℕ) (j : Judged) (port : BridgePort) → IsReady m → IsPort (view_of m) p → port_at (view_of m) p ≡ Some port → port.adjacency.carrier ≡ true → judged bytes ≡ j → heard_as j p port (view_of m) ≡ view_of m → IsAfter (after_receive p bytes (view_of m)) m
+idle_after m p bytes j port ready is there lit said idle =
     let v : BridgeView = view_of m in
-    record { view = sym (heard_is v p bytes port is.low (got v p port is there) lit ∙ idle_is (judged bytes) p port v idle); current = ready.current }
+    record { view = sym (heard_is v p bytes port is.low (got v p port is there) lit ∙ (ap (λ (k : Judged). heard_as k p port v) said ∙ idle)); current = ready.current }

@@ -31,11 +31,12 @@ impl Machine {
             return Ok(());
         }
         match judge(frame) {
-            Message::Nothing => Ok(()),
             Message::Greeting(hello, way) => self.greet(port, &hello, &way),
             Message::LinkState(lsp) => self.hear_lsp(port, &lsp),
             Message::Complete(csnp) => self.hear_csnp(port, &csnp),
             Message::Partial(psnp) => self.hear_psnp(port, &psnp),
+            Message::Dropped(_) => Ok(()),
+            Message::Tenant(_) => Ok(()),
         }
     }
 

@@ -7,20 +7,23 @@ ghost use Rattle.itag_frames.specs.Frame.{contents};
 ghost use Rattle.bridge_api.specs.Judging as api;
 ghost use Rattle.bridge_control.specs.Message.{Says};
 
+use bridge_api::DropReason;
 use isis_pdu::{Csnp, Hello, Lsp, Pdu, Psnp, decode};
-use itag_frames::{Frame, FrameError, classify};
+use itag_frames::{Backbone, Frame, FrameError, classify};
 use spb_tlvs::{THREE_WAY_ADJACENCY, ThreeWay, find_tlv, read_three_way};
 
 /// What a frame brings to a bridge.
 #[derive(Clone, Copy, Debug)]
 pub(crate) enum Message<'a> {
-    /// Nothing that is heard.
-    Nothing,
+    /// Nothing: every bridge drops it, for this reason.
+    Dropped(DropReason),
     /// A hello and its three-way adjacency.
     Greeting(Hello<'a>, ThreeWay),
     LinkState(Lsp<'a>),
     Complete(Csnp<'a>),
     Partial(Psnp<'a>),
+    /// A customer's frame over the backbone.
+    Tenant(Backbone<'a>),
 }
 
 /// What a frame brings. It may be any bytes.
@@ -30,13 +33,14 @@ pub(crate) fn judge(frame: &[u8]) -> Message<'_>
     judge_content(classify(frame))
 }
 
-/// Only a control frame is heard, by its PDU.
+/// A control frame is heard by its PDU.
 fn judge_content(content: Result<Frame<'_>, FrameError>) -> Message<'_>
     ensures { Says result (api.by_content (contents content.entry)) }
 {
     match content {
         Ok(Frame::Control(pdu)) => judge_pdu(pdu),
-        Ok(Frame::Backbone(_)) | Err(_) => Message::Nothing,
+        Ok(Frame::Backbone(frame)) => Message::Tenant(frame),
+        Err(_) => Message::Dropped(DropReason::Frame),
     }
 }
 
@@ -48,7 +52,7 @@ fn judge_pdu(pdu: &[u8]) -> Message<'_>
         Ok(Pdu::Lsp(lsp)) => Message::LinkState(lsp),
         Ok(Pdu::Csnp(csnp)) => Message::Complete(csnp),
         Ok(Pdu::Psnp(psnp)) => Message::Partial(psnp),
-        Err(_) => Message::Nothing,
+        Err(_) => Message::Dropped(DropReason::Pdu),
     }
 }
 
@@ -57,10 +61,10 @@ fn judge_hello<'a>(hello: &Hello<'a>) -> Message<'a>
     ensures { Says result (api.by_three_way (hello_of hello.now) (slice_get (values_with 240 hello.now.tlvs.now) 0)) }
 {
     let Some(value) = find_tlv(hello.tlvs, THREE_WAY_ADJACENCY, 0) else {
-        return Message::Nothing;
+        return Message::Dropped(DropReason::Tlv);
     };
     match read_three_way(value) {
         Ok(way) => Message::Greeting(*hello, way),
-        Err(_) => Message::Nothing,
+        Err(_) => Message::Dropped(DropReason::Tlv),
     }
 }

@@ -6,8 +6,15 @@
 //! makes of a frame stands in `hearing`, of a change at a port in `changing`, and of a second in `ticking`; what a frame
 //! brings in `judging`, and what is sent in `hello` and `sending`.
 //!
-//! A kind of bridge keeps a control plane, forwards the calls of `bridge_api::Bridge` to it, and adds how it keeps its tables.
-//! What it keeps of tables stands beside the control plane, and goes with each call that changes what they are read from.
+//! # A kind of bridge
+//!
+//! It keeps a control plane, and beside it what it knows of its tables.
+//!
+//! 1. Write a struct with a field `control: ControlPlane`, and an `impl Model` for it whose `Value` is `Plane` and whose `view`
+//!    is that field. The invariant says of what is kept of the tables what it is of `b.control.view`.
+//! 2. In `impl Bridge`, give the kind, and blank and view as the value has them. Forward each call, which needs no proof. One
+//!    that changes what the tables are read from forgets those that are kept.
+//! 3. What a call does beside the control plane may find no memory too: then the bridge has to be failed afterwards.
 //!
 //! # Costs
 //!

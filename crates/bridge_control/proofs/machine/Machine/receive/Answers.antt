@@ -1,4 +1,4 @@
-use Rattle.std.proofs.Common.{◌∙◌}
+use Rattle.std.proofs.Common.{◌∙◌, refl}
 use Rattle.std.proofs.lemmas.Result.{on_ok_weaker}
 use Rattle.isis_pdu.specs.Pdu.{hello_of, lsp_of, csnp_of, psnp_of}
 use Rattle.bridge_api.specs.Judging.{greeting, link_state, complete, partial}
@@ -19,12 +19,6 @@ greet-requires-clause-carrier c =
     let port = c.port_at.result in
     let there = there_at c.args.self.now c.as_slice.result.now c.args.port port c.as_slice.ensures.value c.port_at.ensures in
     carrier_there (view_of c.args.self.now) c.args.port port there ∙ not_false port.adjacency.carrier c.if-not-port_at.false
-
-pub returns-in-Nothing : goal.returns-in-Nothing
-returns-in-Nothing c =
-    let port = c.port_at.result in
-    let there = there_at c.args.self.now c.as_slice.result.now c.args.port port c.as_slice.ensures.value c.port_at.ensures in
-    idle_after c.args.self.now c.args.port c.args.frame.now port c.requires.ready c.requires.port there (not_false port.adjacency.carrier c.if-not-port_at.false) c.in-Nothing.ensures
 
 pub returns-in-Greeting : goal.returns-in-Greeting
 returns-in-Greeting c =
@@ -57,3 +51,15 @@ returns-in-Partial c =
     let there = there_at m c.as_slice.result.now c.args.port port c.as_slice.ensures.value c.port_at.ensures in
     let lit = not_false port.adjacency.carrier c.if-not-port_at.false in
     on_ok_weaker c.hear_psnp.result (after_same _ _ c.hear_psnp.new.self (received_path (view_of m) c.args.port c.args.frame.now (partial (psnp_of c.in-Partial.psnp)) port c.requires.port there lit c.in-Partial.ensures)) c.hear_psnp.ensures
+
+pub returns-in-Dropped : goal.returns-in-Dropped
+returns-in-Dropped c =
+    let port = c.port_at.result in
+    let there = there_at c.args.self.now c.as_slice.result.now c.args.port port c.as_slice.ensures.value c.port_at.ensures in
+    idle_after c.args.self.now c.args.port c.args.frame.now _ port c.requires.ready c.requires.port there (not_false port.adjacency.carrier c.if-not-port_at.false) c.in-Dropped.ensures refl
+
+pub returns-in-Tenant : goal.returns-in-Tenant
+returns-in-Tenant c =
+    let port = c.port_at.result in
+    let there = there_at c.args.self.now c.as_slice.result.now c.args.port port c.as_slice.ensures.value c.port_at.ensures in
+    idle_after c.args.self.now c.args.port c.args.frame.now _ port c.requires.ready c.requires.port there (not_false port.adjacency.carrier c.if-not-port_at.false) c.in-Tenant.ensures refl
