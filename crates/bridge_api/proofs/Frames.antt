@@ -43,7 +43,8 @@ use Rattle.adjacency.specs.Adjacency.{neighbour_of, said}
 use Rattle.bridge_api.specs.declared.port.BridgePort.{BridgePort}
 use Rattle.bridge_api.specs.View.{BridgeView, port_at, neighbour_at, is_port_up, up_ports}
 use Rattle.bridge_api.specs.Judging.{Judged, useless, greeting, link_state, complete, partial, greeting_in, judged, is_hello, is_octets, by_content}
-use Rattle.bridge_api.specs.Judging as drop
+use Rattle.bridge_api.specs.declared.drop_reason.DropReason.{DropReason}
+use Rattle.bridge_api.specs.declared.drop_reason.DropReason.TheVariants as drop
 use Rattle.bridge_api.specs.Hearing.{with_due}
 use Rattle.bridge_api.specs.Ticking.{later, readied, hello_at, hello_frame, lsp_frame, csnp_frame, psnp_frame, greetings_at, summaries_at, lsps_at, requests_at, synced_at, sent_at, told_at, sent_from, told_from, told, after_tick, sent_in_tick}
 use Rattle.bridge_api.specs.Step.{second, frame, carrier, metric, step, sent}
@@ -76,7 +77,7 @@ record MaySay (w : BridgeView) (p : ℕ) (j : Judged) : Type 0 where
   lsp : (l : LspValue) → j ≡ link_state l → IsHeldLsp w l
   claims : (id : LspId) (a : Version) → IsClaimed (claims_said j) id a → IsHeldAt w id a
 
-say_nothing : (w : BridgeView) (p : ℕ) (reason : drop.Drop) → MaySay w p (useless reason)
+say_nothing : (w : BridgeView) (p : ℕ) (reason : DropReason) → MaySay w p (useless reason)
 say_nothing w p reason = record { hello = λ h way e. absurd cc; lsp = λ l e. absurd cc; claims = λ id a claimed. absurd claimed }
 
 judged_at : (b : Bool) (w : BridgeView) (p : ℕ) (j : Judged) → MaySay w p j → MaySay w p (if b then j else useless drop.Frame)

@@ -14,8 +14,8 @@ use Rattle.itag_frames.specs.declared.frame.FrameError.{FrameError}
 use Rattle.itag_frames.specs.declared.frame.FrameError.TheVariants as refusals
 use Rattle.itag_frames.specs.Frame.{Content, content_in, is_control, pdu_of}
 use Rattle.itag_frames.specs.Frame as frames
-use Rattle.bridge_api.specs.Judging.{Judged, Drop, useless, greeting, link_state, complete, partial, tenant, is_octets, judged, by_content, by_pdu, by_three_way, by_reading}
-use Rattle.bridge_api.specs.Judging as drop
+use Rattle.bridge_api.specs.Judging.{Judged, useless, greeting, link_state, complete, partial, tenant, is_octets, judged, by_content, by_pdu, by_three_way, by_reading}
+use Rattle.bridge_api.specs.declared.drop_reason.DropReason.TheVariants as drop
 use Rattle.bridge_api.proofs.Octets.{AreSmall, small_octets, small_bytes, small_take, small_drop}
 
 -- the PDU that a frame was taken for

@@ -19,11 +19,12 @@ use Rattle.adjacency.specs.Adjacency.{after_hello, heard_of, after_carrier, chan
 use Rattle.bridge_api.specs.declared.port.BridgePort.{BridgePort}
 use Rattle.bridge_api.specs.View.{BridgeView, port_at, with_port_at, is_port_up, up_ports}
 use Rattle.bridge_api.specs.Own.{holding_of, with_holding, settled}
-use Rattle.bridge_api.specs.Judging.{Drop, Judged, useless, greeting, link_state, complete, partial, tenant, judged}
-use Rattle.bridge_api.specs.Judging as drop
+use Rattle.bridge_api.specs.Judging.{Judged, useless, greeting, link_state, complete, partial, tenant, judged}
+use Rattle.bridge_api.specs.declared.drop_reason.DropReason.{DropReason}
+use Rattle.bridge_api.specs.declared.drop_reason.DropReason.TheVariants as drop
 
 -- a frame that is dropped changes nothing: the counts aren't kept yet
-abbrev pub dropped : Drop → BridgeView → BridgeView
+abbrev pub dropped : DropReason → BridgeView → BridgeView
 dropped reason v = v
 
 -- a port with another adjacency, with CSNPs due or not, and with another metric

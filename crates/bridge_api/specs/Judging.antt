@@ -14,22 +14,12 @@ use Rattle.spb_tlvs.specs.ThreeWay.{three_way_of}
 use Rattle.itag_frames.specs.declared.frame.FrameError.{FrameError}
 use Rattle.itag_frames.specs.Frame.{Content, content_in}
 use Rattle.itag_frames.specs.Frame as frames
-
--- why a frame is dropped
-pub data Drop : Type 0 where
-  Frame : Drop
-  Pdu : Drop
-  Tlv : Drop
-  NotAdjacent : Drop
-  Hello : Drop
-  Ingress : Drop
-  NoWay : Drop
-  Mismatch : Drop
-  Full : Drop
+use Rattle.bridge_api.specs.declared.drop_reason.DropReason.{DropReason}
+use Rattle.bridge_api.specs.declared.drop_reason.DropReason.TheVariants as drop
 
 -- a frame that every bridge drops, or one that it hears by its kind
 pub data Judged : Type 0 where
-  useless : Drop → Judged
+  useless : DropReason → Judged
   greeting : HelloValue → ThreeWay → Judged
   link_state : LspValue → Judged
   complete : CsnpValue → Judged
@@ -39,21 +29,21 @@ pub data Judged : Type 0 where
 -- a hello is heard by its first three-way adjacency TLV, and is of no use without one that can be read (RFC 5303, 3)
 abbrev pub by_reading : HelloValue → Result ThreeWay TlvError → Judged
 by_reading h (Ok way) = greeting h way
-by_reading h (Err e) = useless Tlv
+by_reading h (Err e) = useless drop.Tlv
 
 abbrev pub by_three_way : HelloValue → Option (List ℕ) → Judged
-by_three_way h None = useless Tlv
+by_three_way h None = useless drop.Tlv
 by_three_way h (Some value) = by_reading h (three_way_of value)
 
 abbrev pub by_pdu : Result PduValue PduError → Judged
-by_pdu (Err e) = useless Pdu
+by_pdu (Err e) = useless drop.Pdu
 by_pdu (Ok (hello h)) = by_three_way h (slice_get (values_with 240 h.tlvs) 0)
 by_pdu (Ok (lsp l)) = link_state l
 by_pdu (Ok (csnp c)) = complete c
 by_pdu (Ok (psnp p)) = partial p
 
 abbrev pub by_content : Result Content FrameError → Judged
-by_content (Err e) = useless Frame
+by_content (Err e) = useless drop.Frame
 by_content (Ok (frames.Pdu pdu)) = by_pdu (read pdu)
 by_content (Ok (frames.Customer da sa vid isid customer)) = tenant da sa vid isid customer
 
@@ -62,7 +52,7 @@ abbrev pub is_octets : List ℕ → Bool
 is_octets frame = list_all (λ b. nat_lt b 256) frame
 
 unfoldable pub judged : List ℕ → Judged
-judged frame = if is_octets frame then by_content (content_in frame) else useless Frame
+judged frame = if is_octets frame then by_content (content_in frame) else useless drop.Frame
 
 -- the hello that a frame was taken for, with its three-way adjacency
 abbrev pub greeting_in : Judged → Option (HelloValue × ThreeWay)

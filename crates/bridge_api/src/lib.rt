@@ -31,6 +31,7 @@
 
 pub use bridge::Bridge;
 pub use config::BridgeConfig;
+pub use drop_reason::DropReason;
 pub use kind::Kind;
 pub use laws::{
     bridges_are_sound, entering_up_is_whole, frames_are_heard, graphs_are_read_from_what_is_held,
@@ -43,6 +44,7 @@ pub use port::BridgePort;
 
 mod bridge;
 mod config;
+mod drop_reason;
 mod kind;
 mod laws;
 mod outbox;

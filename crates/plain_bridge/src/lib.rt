@@ -1,38 +1,8 @@
-//! A bridge that keeps its ports in one list and its LSPs in one database, and takes each call as it comes.
-//!
-//! [`PlainBridge`] is a `Machine` with two marks: whether it is blank, and whether a call found no memory. What the machine
-//! makes of a call stands in `hearing` and `ticking`, what a frame brings in `judging`, and what is sent in `hello` and
-//! `sending`.
-//!
-//! # Costs
-//!
-//! With p ports, n LSPs that are held and an own LSP of b bytes:
-//!
-//! - The body of the own LSP is kept. It is made anew, in time and memory of order p + b and for sorting what is attached,
-//!   where a port comes Up or leaves Up, and where the metric of an Up port is set, even to what it was; no other call makes
-//!   it. Each call that may originate compares it with the one that is held: a binary search, and b bytes. Originating goes
-//!   over the ports once, and takes time and memory of order b.
-//! - A tick in which no flags stand goes four times over the ports and once over the database, looks up the own LSP and
-//!   compares its body, in time p + n + b, and takes memory for the hellos alone. Where flags stand or the bridge originated,
-//!   it also goes over the database three times for each Up port: for the LSPs to be sent, for the entries that are owed, and
-//!   to clear these, with a binary search for each LSP that is sent and each entry that is cleared. It goes over the database
-//!   once for each port at which CSNPs are due and for each at which a neighbour is lost. Memory is taken for what is sent.
-//! - A hello takes time in proportion to its length, and no memory, unless the port comes Up or leaves Up. Leaving
-//!   Up goes over the database once; entering Up once more, with a binary search for each LSP.
-//! - An LSP goes over the ports once and takes a binary search, and memory for its body if it is stored; a sequence numbers
-//!   PDU goes over the ports once and takes a binary search for each entry, and a CSNP also what `snp_sync` says.
-//! - No call copies the database.
+//! A bridge of the kind [`Kind::Plain`](bridge_api::Kind): a control plane of `bridge_control`, to which each call is forwarded.
 #![tactic(auto)]
 
 pub use bridge::PlainBridge;
 
 mod bridge;
-mod hearing;
-mod hello;
-mod judging;
-mod machine;
-mod ports;
-mod sending;
 #[cfg(test)]
 mod tests;
-mod ticking;

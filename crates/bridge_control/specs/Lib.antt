@@ -1,0 +1,5 @@
+pub mod Ports
+pub mod Machine
+pub mod Message
+pub mod Frames
+pub mod Plane

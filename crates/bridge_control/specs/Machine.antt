@@ -1,0 +1,66 @@
+-- The bridge that a machine's fields say.
+use Rattle.std.specs.Prelude.{◌≡◌, ℕ, ◌≤◌, [], length, true, false, replicate, Option, Some, None}
+use Rattle.flooding.specs.Own.{own_id}
+use Rattle.lsdb.specs.Database.{fits}
+use Rattle.spb_content.specs.Local.{IsLocal}
+use Rattle.bridge_api.specs.declared.port.BridgePort.{BridgePort}
+use Rattle.bridge_api.specs.View.{BridgeView, IsPort, port_at, with_port_at}
+use Rattle.bridge_api.specs.Own.{local_of, own_of, body_of, IsTended}
+use Rattle.bridge_api.specs.Judging.{Judged}
+use Rattle.bridge_api.specs.Hearing.{heard_as}
+use Rattle.bridge_api.specs.Laws.{IsSoundView}
+use Rattle.bridge_control.specs.declared.machine.Machine.{Machine}
+
+-- it has learned no address and counts no drop
+abbrev pub view_of : Machine → BridgeView
+view_of m = record {
+  id = m.id;
+  source = m.source;
+  vids = m.vids;
+  ports = m.ports.items;
+  database = m.db;
+  attached = m.attached;
+  learned = [];
+  spent = m.own.spent;
+  failed = false;
+  drops = replicate 9 0;
+}
+
+-- the body that is kept of the own LSP is what the bridge has to say
+abbrev pub IsCurrent : Machine → Type 0
+IsCurrent m = m.own ≡ own_of (view_of m)
+
+-- a machine between two calls
+pub record IsReady (m : Machine) : Type 0 where
+  pub sound : IsSoundView (view_of m)
+  pub current : IsCurrent m
+
+-- it has at most 32 ports, and a place for its own LSP
+pub record CanOriginate (m : Machine) : Type 0 where
+  pub few : length m.ports.items ≤ 32
+  pub place : fits m.db (own_id m.id.system) ≡ true
+
+-- a machine after a step: this is its bridge
+pub record IsAfter (v : BridgeView) (m : Machine) : Type 0 where
+  pub view : view_of m ≡ v
+  pub current : IsCurrent m
+
+-- a port of this number can come into a new state
+pub record CanPut (p : ℕ) (new : BridgePort) (m : Machine) : Type 0 where
+  pub port : IsPort (view_of m) p
+  pub can : CanOriginate m
+  pub current : IsCurrent m
+  pub local : IsLocal (local_of (with_port_at p new (view_of m)))
+  pub tended : IsTended (view_of m)
+
+-- the bridge says the same of itself with a port of this number in a new state
+abbrev pub SaysTheSame : ℕ → BridgePort → Machine → Type 0
+SaysTheSame p new m = body_of (with_port_at p new (view_of m)) ≡ body_of (view_of m)
+
+-- a bridge that hears this at a port of this number, which has carrier
+abbrev pub heard_by : Judged → ℕ → Option BridgePort → BridgeView → BridgeView
+heard_by j p None v = v
+heard_by j p (Some port) v = heard_as j p port v
+
+abbrev pub hears : Judged → ℕ → BridgeView → BridgeView
+hears j p v = heard_by j p (port_at v p) v

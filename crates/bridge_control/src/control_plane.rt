@@ -1,0 +1,199 @@
+ghost use Rattle.std.specs.Prelude.{◌≡◌, true, false, ◌↔◌, OnOk, OnErr, IsErr, Some};
+ghost use Rattle.std.specs.Option.{option_map, option_copied};
+ghost use Rattle.lsdb.specs.Database.{keyed};
+ghost use Rattle.bridge_api.specs.View.{IsPort, is_due_at, adjacency_at, has_flags, entry_at};
+ghost use Rattle.bridge_api.specs.Config.{IsWhole, IsMetric, configured};
+ghost use Rattle.bridge_api.specs.Hearing.{after_receive, with_carrier, with_metric};
+ghost use Rattle.bridge_api.specs.Ticking.{after_tick, sent_in_tick};
+ghost use Rattle.bridge_api.specs.Step.{with_wire, Gains};
+
+use crate::machine::Machine;
+use crate::ports::port_at;
+use adjacency::Adjacency;
+use bridge_api::{BridgeConfig, Outbox};
+use lsdb::Held;
+use spb_types::NoMemory;
+use std::alloc::Global;
+use std::marker::Model;
+
+/// The IS-IS control plane of a bridge: its adjacencies, its LSPs, and what it says of itself.
+///
+/// Its calls are those of `bridge_api::Bridge`, with the same conditions and answers, so a kind of bridge forwards them.
+/// It is blank until `configure` is called, and each call but `is_blank`, `is_failed` and `configure` has the condition
+/// that it isn't blank. A call that finds no memory leaves it failed: from then on each call that can answer `NoMemory`
+/// answers it and changes nothing.
+#[derive(Debug, Drop)]
+pub struct ControlPlane {
+    blank: bool,
+    failed: bool,
+    machine: Machine,
+}
+
+impl Model for ControlPlane {
+    ghost use Rattle.std.specs.Coded.{codes};
+    ghost use Rattle.lsdb.specs.contracts.database.Database as database;
+    ghost use Rattle.bridge_control.specs.Plane.{Plane, plane_of, IsKept};
+
+    ghost Value = { Plane };
+
+    ghost coded = { Prim.hlevel (codes, database.the_row.coded) };
+
+    ghost view = { λ c. plane_of c.blank c.failed c.machine };
+
+    ghost invariant = { λ c. IsKept c.blank c.failed c.machine };
+}
+
+impl ControlPlane {
+    /// A control plane that isn't configured. It keeps the allocator, and takes no memory.
+    pub fn blank(alloc: Global) -> Self
+        ensures blank { result.blank ≡ true }
+        ensures failed { result.view.failed ≡ false }
+    {
+        ControlPlane {
+            blank: true,
+            failed: false,
+            machine: Machine::idle(alloc),
+        }
+    }
+
+    /// Whether `configure` was never called.
+    pub fn is_blank(&self) -> bool
+        ensures { result ≡ self.now.blank }
+    {
+        self.blank
+    }
+
+    /// Whether a call answered `NoMemory`. A blank control plane isn't failed.
+    pub fn is_failed(&self) -> bool
+        ensures failed { result ≡ self.now.view.failed }
+        ensures made { result ≡ true → self.now.blank ≡ false }
+    {
+        self.failed
+    }
+
+    /// Refuses every call after one that found no memory.
+    fn refuse_failed(&self) -> Result<(), NoMemory>
+        ensures { IsErr result ↔ (self.now.view.failed ≡ true) }
+    {
+        if self.failed { Err(NoMemory) } else { Ok(()) }
+    }
+
+    /// Makes the blank control plane that of a whole configuration. There is no carrier afterwards.
+    pub fn configure(&mut self, config: &BridgeConfig) -> Result<(), NoMemory>
+        requires blank { self.old.blank ≡ true }
+        requires whole { IsWhole config.now }
+        ensures view { OnOk result (self.new.view ≡ configured config.now) }
+        ensures memory { OnErr result (self.new.view.failed ≡ true) }
+        ensures made { self.new.blank ≡ false }
+    {
+        self.blank = false;
+        match Machine::configured(self.machine.alloc, config) {
+            Ok(machine) => {
+                self.machine = machine;
+                Ok(())
+            }
+            Err(refused) => {
+                self.failed = true;
+                Err(refused)
+            }
+        }
+    }
+
+    /// A second passes: counts and lifetimes fall, the bridge originates where it has to, and all that is to be sent goes
+    /// into the outbox.
+    pub fn tick(&mut self, outbox: &mut Outbox) -> Result<(), NoMemory>
+        requires { self.old.blank ≡ false }
+        ensures view { OnOk result (self.new.view ≡ after_tick self.old.view) }
+        ensures sent { OnOk result (outbox.new ≡ with_wire (sent_in_tick self.old.view) outbox.old) }
+        ensures memory { OnErr result (self.new.view.failed ≡ true) }
+        ensures gained { OnErr result (Gains (sent_in_tick self.old.view) outbox.old outbox.new) }
+        ensures failed { self.old.view.failed ≡ true
+            → IsErr result × (self.new.view ≡ self.old.view) × (outbox.new ≡ outbox.old) }
+        ensures made { self.new.blank ≡ false }
+    {
+        self.refuse_failed()?;
+        let ended = self.machine.tick(outbox);
+        self.failed = ended.is_err();
+        ended
+    }
+
+    /// Hears a frame, which may be any bytes, at a port. A frame of no use is dropped and changes nothing. Nothing is sent.
+    pub fn receive(&mut self, port: u8, frame: &[u8]) -> Result<(), NoMemory>
+        requires made { self.old.blank ≡ false }
+        requires port { self.old.view.failed ≡ false → IsPort self.old.view port }
+        ensures view { OnOk result (self.new.view ≡ after_receive port frame.now self.old.view) }
+        ensures memory { OnErr result (self.new.view.failed ≡ true) }
+        ensures failed { self.old.view.failed ≡ true → IsErr result × (self.new.view ≡ self.old.view) }
+        ensures still_made { self.new.blank ≡ false }
+    {
+        self.refuse_failed()?;
+        let ended = self.machine.receive(port, frame);
+        self.failed = ended.is_err();
+        ended
+    }
+
+    /// Carrier comes or goes at a port.
+    pub fn carrier(&mut self, port: u8, on: bool) -> Result<(), NoMemory>
+        requires made { self.old.blank ≡ false }
+        requires port { self.old.view.failed ≡ false → IsPort self.old.view port }
+        ensures view { OnOk result (self.new.view ≡ with_carrier port on self.old.view) }
+        ensures memory { OnErr result (self.new.view.failed ≡ true) }
+        ensures failed { self.old.view.failed ≡ true → IsErr result × (self.new.view ≡ self.old.view) }
+        ensures still_made { self.new.blank ≡ false }
+    {
+        self.refuse_failed()?;
+        let ended = self.machine.carrier(port, on);
+        self.failed = ended.is_err();
+        ended
+    }
+
+    /// Sets the metric of the link at a port, from 1 to 16,777,214 (RFC 5305, 3).
+    pub fn set_metric(&mut self, port: u8, metric: u32) -> Result<(), NoMemory>
+        requires made { self.old.blank ≡ false }
+        requires port { self.old.view.failed ≡ false → IsPort self.old.view port }
+        requires metric { IsMetric metric }
+        ensures view { OnOk result (self.new.view ≡ with_metric port metric self.old.view) }
+        ensures memory { OnErr result (self.new.view.failed ≡ true) }
+        ensures failed { self.old.view.failed ≡ true → IsErr result × (self.new.view ≡ self.old.view) }
+        ensures still_made { self.new.blank ≡ false }
+    {
+        self.refuse_failed()?;
+        let ended = self.machine.set_metric(port, metric);
+        self.failed = ended.is_err();
+        ended
+    }
+
+    /// The adjacency at a port.
+    pub fn adjacent(&self, port: u8) -> Adjacency
+        requires made { self.now.blank ≡ false }
+        requires port { IsPort self.now.view port }
+        ensures { Some result ≡ adjacency_at self.now.view port }
+    {
+        port_at(self.machine.ports.as_slice(), port).adjacency
+    }
+
+    /// Whether CSNPs are to be sent at a port at the next tick.
+    pub fn due(&self, port: u8) -> bool
+        requires made { self.now.blank ≡ false }
+        requires port { IsPort self.now.view port }
+        ensures { result ≡ is_due_at self.now.view port }
+    {
+        port_at(self.machine.ports.as_slice(), port).due
+    }
+
+    /// Whether an LSP is to be sent, acknowledged or asked for at any port (SRM and SSN), or CSNPs are due at one.
+    pub fn has_flag(&self) -> bool
+        requires { self.now.blank ≡ false }
+        ensures { result ≡ has_flags self.now.view }
+    {
+        self.machine.db.has_flags() || self.machine.ports.iter().any(|port| port.due)
+    }
+
+    /// What is held at a place, counted from 0, in order of LSP id; None exactly past the last.
+    pub fn entry(&self, place: usize) -> Option<&Held>
+        requires { self.now.blank ≡ false }
+        ensures { option_map keyed (option_copied result) ≡ entry_at self.now.view place }
+    {
+        self.machine.db.at(place)
+    }
+}

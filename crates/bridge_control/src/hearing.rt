@@ -1,0 +1,158 @@
+//! Hearing a frame.
+ghost use Rattle.std.specs.Prelude.{◌≡◌, ◌≤◌, true, OnOk, length};
+ghost use Rattle.isis_pdu.specs.Pdu.{hello_of, lsp_of, csnp_of, psnp_of};
+ghost use Rattle.flooding.specs.Hearing.{hear_lsp_of};
+ghost use Rattle.flooding.specs.Placing.{holding};
+ghost use Rattle.bridge_api.specs.View.{IsPort, has_carrier_at};
+ghost use Rattle.bridge_api.specs.Own.{settled};
+ghost use Rattle.bridge_api.specs.Judging.{greeting, link_state, complete, partial};
+ghost use Rattle.bridge_api.specs.Hearing as api;
+ghost use Rattle.bridge_control.specs.Machine.{view_of, IsReady, IsAfter, hears};
+
+use crate::judging::{Message, judge};
+use crate::machine::Machine;
+use crate::ports::{is_up, port_at, up_ports};
+use flooding::{FloodError, Own};
+use isis_pdu::{Csnp, Hello, Lsp, Psnp};
+use lsdb::Database;
+use snp_sync::{entries_of_snp, hear_csnp, hear_psnp};
+use spb_tlvs::{SnpEntry, ThreeWay, TlvError};
+use spb_types::{NoMemory, PortSet};
+use std::alloc::Global;
+
+impl Machine {
+    /// Hears a frame, which may be any bytes, at a port.
+    pub(crate) fn receive(&mut self, port: u8, frame: &[u8]) -> Result<(), NoMemory>
+        requires ready { IsReady self.old }
+        requires port { IsPort (view_of self.old) port }
+        ensures { OnOk result (IsAfter (api.after_receive port frame.now (view_of self.old)) self.new) }
+    {
+        if !port_at(self.ports.as_slice(), port).adjacency.carrier {
+            return Ok(());
+        }
+        match judge(frame) {
+            Message::Greeting(hello, way) => self.greet(port, &hello, &way),
+            Message::LinkState(lsp) => self.hear_lsp(port, &lsp),
+            Message::Complete(csnp) => self.hear_csnp(port, &csnp),
+            Message::Partial(psnp) => self.hear_psnp(port, &psnp),
+            Message::Dropped(_) => Ok(()),
+            Message::Tenant(_) => Ok(()),
+        }
+    }
+
+    /// Hears a hello at a port with carrier.
+    fn greet(&mut self, port: u8, hello: &Hello<'_>, way: &ThreeWay) -> Result<(), NoMemory>
+        requires ready { IsReady self.old }
+        requires port { IsPort (view_of self.old) port }
+        requires carrier { has_carrier_at (view_of self.old) port ≡ true }
+        requires state { way.now.state ≤ 2 }
+        ensures { OnOk result (IsAfter (hears (greeting (hello_of hello.now) way.now) port (view_of self.old)) self.new) }
+    {
+        let mut new = port_at(self.ports.as_slice(), port);
+        let heard = new.adjacency.hear(self.id.system, port, hello, way);
+        self.change(port, new, heard)
+    }
+
+    /// Hears an LSP at a port with carrier.
+    fn hear_lsp(&mut self, port: u8, lsp: &Lsp<'_>) -> Result<(), NoMemory>
+        requires ready { IsReady self.old }
+        requires port { IsPort (view_of self.old) port }
+        ensures { OnOk result (IsAfter (hears (link_state (lsp_of lsp.now)) port (view_of self.old)) self.new) }
+    {
+        if !is_up(&port_at(self.ports.as_slice(), port)) {
+            return Ok(());
+        }
+        let up = up_ports(self.ports.as_slice());
+        flood(self.alloc, &mut self.db, up, port, lsp, &mut self.own)?;
+        self.settle()
+    }
+
+    /// Hears a CSNP at a port with carrier.
+    fn hear_csnp(&mut self, port: u8, csnp: &Csnp<'_>) -> Result<(), NoMemory>
+        requires ready { IsReady self.old }
+        requires port { IsPort (view_of self.old) port }
+        ensures { OnOk result (IsAfter (hears (complete (csnp_of csnp.now)) port (view_of self.old)) self.new) }
+    {
+        if !is_up(&port_at(self.ports.as_slice(), port)) {
+            return Ok(());
+        }
+        match entries_of_snp(self.alloc, csnp.tlvs) {
+            Ok(entries) => self.hear_listed(port, csnp, entries.as_slice()),
+            Err(TlvError::NoMemory) => Err(NoMemory),
+            Err(TlvError::Cut | TlvError::Range) => Ok(()),
+        }
+    }
+
+    /// Hears a CSNP with these entries at an Up port.
+    fn hear_listed(
+        &mut self,
+        port: u8,
+        csnp: &Csnp<'_>,
+        entries: &[SnpEntry],
+    ) -> Result<(), NoMemory>
+        requires ready { IsReady self.old }
+        requires port { IsPort (view_of self.old) port }
+        ensures { OnOk result (IsAfter (settled (api.completed (csnp_of csnp.now) entries.now port (view_of self.old))) self.new) }
+    {
+        let up = up_ports(self.ports.as_slice());
+        hear_csnp(
+            self.alloc,
+            &mut self.db,
+            up,
+            port,
+            &csnp.start,
+            &csnp.end,
+            entries,
+            &mut self.own,
+        )?;
+        self.settle()
+    }
+
+    /// Hears a PSNP at a port with carrier.
+    fn hear_psnp(&mut self, port: u8, psnp: &Psnp<'_>) -> Result<(), NoMemory>
+        requires ready { IsReady self.old }
+        requires port { IsPort (view_of self.old) port }
+        ensures { OnOk result (IsAfter (hears (partial (psnp_of psnp.now)) port (view_of self.old)) self.new) }
+    {
+        if !is_up(&port_at(self.ports.as_slice(), port)) {
+            return Ok(());
+        }
+        match entries_of_snp(self.alloc, psnp.tlvs) {
+            Ok(entries) => self.hear_requests(port, entries.as_slice()),
+            Err(TlvError::NoMemory) => Err(NoMemory),
+            Err(TlvError::Cut | TlvError::Range) => Ok(()),
+        }
+    }
+
+    /// Hears a PSNP with these entries at an Up port.
+    fn hear_requests(&mut self, port: u8, entries: &[SnpEntry]) -> Result<(), NoMemory>
+        requires ready { IsReady self.old }
+        requires port { IsPort (view_of self.old) port }
+        ensures { OnOk result (IsAfter (settled (api.requested entries.now port (view_of self.old))) self.new) }
+    {
+        let up = up_ports(self.ports.as_slice());
+        hear_psnp(self.alloc, &mut self.db, up, port, entries, &mut self.own)?;
+        self.settle()
+    }
+}
+
+/// Hears an LSP. One that finds no place in the database is dropped.
+fn flood(
+    alloc: Global,
+    db: &mut Database,
+    up: PortSet,
+    port: u8,
+    lsp: &Lsp<'_>,
+    own: &mut Own,
+) -> Result<(), NoMemory>
+    requires low { 1 ≤ port }
+    requires high { port ≤ 32 }
+    requires body { 1 ≤ length own.old.body }
+    ensures { OnOk result (holding db.new own.new ≡ hear_lsp_of up port (lsp_of lsp.now) (holding db.old own.old)) }
+{
+    match flooding::hear_lsp(alloc, db, up, port, lsp, own) {
+        Ok(()) => Ok(()),
+        Err(FloodError::Full) => Ok(()),
+        Err(FloodError::NoMemory) => Err(NoMemory),
+    }
+}

@@ -1,0 +1,70 @@
+//! What a frame brings, before the bridge that hears it is looked at.
+ghost use Rattle.std.specs.Prelude.{◌≡◌, slice_get};
+ghost use Rattle.isis_pdu.specs.Pdu.{hello_of};
+ghost use Rattle.isis_pdu.specs.Reading.{read};
+ghost use Rattle.spb_tlvs.specs.Tlv.{values_with};
+ghost use Rattle.itag_frames.specs.Frame.{contents};
+ghost use Rattle.bridge_api.specs.Judging as api;
+ghost use Rattle.bridge_control.specs.Message.{Says};
+
+use bridge_api::DropReason;
+use isis_pdu::{Csnp, Hello, Lsp, Pdu, Psnp, decode};
+use itag_frames::{Backbone, Frame, FrameError, classify};
+use spb_tlvs::{THREE_WAY_ADJACENCY, ThreeWay, find_tlv, read_three_way};
+
+/// What a frame brings to a bridge.
+#[derive(Clone, Copy, Debug)]
+pub(crate) enum Message<'a> {
+    /// Nothing: every bridge drops it, for this reason.
+    Dropped(DropReason),
+    /// A hello and its three-way adjacency.
+    Greeting(Hello<'a>, ThreeWay),
+    LinkState(Lsp<'a>),
+    Complete(Csnp<'a>),
+    Partial(Psnp<'a>),
+    /// A customer's frame over the backbone.
+    Tenant(Backbone<'a>),
+}
+
+/// What a frame brings. It may be any bytes.
+pub(crate) fn judge(frame: &[u8]) -> Message<'_>
+    ensures { Says result (api.judged frame.now) }
+{
+    judge_content(classify(frame))
+}
+
+/// A control frame is heard by its PDU.
+fn judge_content(content: Result<Frame<'_>, FrameError>) -> Message<'_>
+    ensures { Says result (api.by_content (contents content.entry)) }
+{
+    match content {
+        Ok(Frame::Control(pdu)) => judge_pdu(pdu),
+        Ok(Frame::Backbone(frame)) => Message::Tenant(frame),
+        Err(_) => Message::Dropped(DropReason::Frame),
+    }
+}
+
+fn judge_pdu(pdu: &[u8]) -> Message<'_>
+    ensures { Says result (api.by_pdu (read pdu.now)) }
+{
+    match decode(pdu) {
+        Ok(Pdu::Hello(hello)) => judge_hello(&hello),
+        Ok(Pdu::Lsp(lsp)) => Message::LinkState(lsp),
+        Ok(Pdu::Csnp(csnp)) => Message::Complete(csnp),
+        Ok(Pdu::Psnp(psnp)) => Message::Partial(psnp),
+        Err(_) => Message::Dropped(DropReason::Pdu),
+    }
+}
+
+/// A hello is heard by its three-way adjacency, where that can be read.
+fn judge_hello<'a>(hello: &Hello<'a>) -> Message<'a>
+    ensures { Says result (api.by_three_way (hello_of hello.now) (slice_get (values_with 240 hello.now.tlvs.now) 0)) }
+{
+    let Some(value) = find_tlv(hello.tlvs, THREE_WAY_ADJACENCY, 0) else {
+        return Message::Dropped(DropReason::Tlv);
+    };
+    match read_three_way(value) {
+        Ok(way) => Message::Greeting(*hello, way),
+        Err(_) => Message::Dropped(DropReason::Tlv),
+    }
+}

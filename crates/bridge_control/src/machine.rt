@@ -1,0 +1,204 @@
+//! What a configured bridge keeps, and its own LSP.
+ghost use Rattle.std.specs.Prelude.{◌≡◌, ◌≤◌, false, length, IfOk, OnOk};
+ghost use Rattle.std.specs.Str.{bytes_eq};
+ghost use Rattle.std.specs.FinMap.{get};
+ghost use Rattle.spb_content.specs.Local.{IsLocal};
+ghost use Rattle.flooding.specs.Own.{own_id};
+ghost use Rattle.bridge_api.specs.Config as config_specs;
+ghost use Rattle.bridge_api.specs.Ticking as ticking;
+ghost use Rattle.bridge_api.specs.Own as api;
+
+use crate::ports::{attached_members, dark_ports, neighbours_at, up_ports};
+use bridge_api::{BridgeConfig, BridgePort};
+use flooding::{Own, originate};
+use lsdb::Database;
+use spb_content::{BridgeConfigFacts, Local, content_of};
+use spb_types::{Attachment, BridgeId, Mac, NoMemory, Seq, SourceId, SystemId, VidPlan};
+use std::alloc::Global;
+
+/// The id of a bridge that isn't configured.
+const NO_ID: BridgeId = BridgeId {
+    priority: 0,
+    system: SystemId {
+        mac: Mac { bytes: [0; 6] },
+    },
+};
+
+/// The flags octet of an LSP of level 1.
+const LEVEL_1: u8 = 1;
+
+/// The remaining lifetime in seconds at which the own LSP is originated anew (ISO/IEC 10589, 7.3.7).
+const REFRESH_AT: u16 = 300;
+
+/// What a configured bridge keeps. Between calls `own.body` is what the bridge has to say of itself.
+#[derive(Debug, Drop)]
+pub(crate) struct Machine {
+    pub(crate) alloc: Global,
+    pub(crate) id: BridgeId,
+    pub(crate) source: SourceId,
+    pub(crate) vids: Seq<VidPlan>,
+    pub(crate) ports: Vec<BridgePort>,
+    pub(crate) attached: Seq<Attachment>,
+    pub(crate) db: Database,
+    pub(crate) own: Own,
+}
+
+impl Machine {
+    ghost use Rattle.bridge_control.specs.Machine.{view_of, IsCurrent, CanOriginate, IsAfter};
+
+    /// A machine without ports, which takes no memory.
+    pub(crate) fn idle(alloc: Global) -> Self {
+        Machine {
+            alloc,
+            id: NO_ID,
+            source: SourceId { value: 0 },
+            vids: Seq::new(alloc),
+            ports: Vec::new(alloc),
+            attached: Seq::new(alloc),
+            db: Database::new(alloc),
+            own: Own {
+                system: NO_ID.system,
+                body: Seq::new(alloc),
+                spent: false,
+            },
+        }
+    }
+
+    /// The machine of a whole configuration, with no carrier. It has originated its own LSP.
+    pub(crate) fn configured(alloc: Global, config: &BridgeConfig) -> Result<Self, NoMemory>
+        requires { config_specs.IsWhole config.now }
+        ensures { IfOk result (IsAfter (config_specs.configured config.now)) }
+    {
+        let mut machine = Machine::bare(alloc, config)?;
+        machine.renew_body()?;
+        machine.originate()?;
+        Ok(machine)
+    }
+
+    /// The machine of a whole configuration, which holds nothing yet and has no body of its own LSP.
+    fn bare(alloc: Global, config: &BridgeConfig) -> Result<Self, NoMemory>
+        requires { config_specs.IsWhole config.now }
+        ensures view { IfOk result (λ m. view_of m ≡ config_specs.bare config.now) }
+        ensures system { IfOk result (λ m. m.own.system ≡ m.id.system) }
+    {
+        let vids = Vec::from_slice(alloc, config.vids.as_slice())?;
+        let attached = Vec::from_slice(alloc, config.attached.as_slice())?;
+        let ports = dark_ports(alloc, config.metrics.as_slice())?;
+        Ok(Machine {
+            alloc,
+            id: config.id,
+            source: config.source,
+            vids: Seq::from_vec(vids),
+            ports,
+            attached: Seq::from_vec(attached),
+            db: Database::new(alloc),
+            own: Own {
+                system: config.id.system,
+                body: Seq::new(alloc),
+                spent: false,
+            },
+        })
+    }
+
+    /// What the bridge says of itself.
+    fn local(&self) -> Result<Local, NoMemory>
+        requires { length self.now.ports.items ≤ 32 }
+        ensures { IfOk result (λ local. local ≡ api.local_of (view_of self.now)) }
+    {
+        let vids = Vec::from_slice(self.alloc, self.vids.as_slice())?;
+        let neighbours = neighbours_at(self.alloc, self.ports.as_slice())?;
+        let attached = attached_members(self.alloc, self.id.system, self.attached.as_slice())?;
+        Ok(Local {
+            config: BridgeConfigFacts {
+                id: self.id,
+                source: self.source,
+                vids: Seq::from_vec(vids),
+            },
+            neighbours: Seq::from_vec(neighbours),
+            attached: Seq::from_vec(attached),
+        })
+    }
+
+    /// The body of the own LSP: the flags octet and then what the bridge says of itself.
+    #[tactic(auto, unfolding(bridge_api::specs::Own::body_of))]
+    fn body(&self) -> Result<Vec<u8>, NoMemory>
+        requires few { length self.now.ports.items ≤ 32 }
+        requires local { IsLocal (api.local_of (view_of self.now)) }
+        ensures { IfOk result (λ body. body.items ≡ api.body_of (view_of self.now)) }
+    {
+        let local = self.local()?;
+        let content = content_of(self.alloc, &local)?;
+        let mut body = Vec::with_capacity(self.alloc, 1 + content.len())?;
+        body.push(LEVEL_1)?;
+        body.extend_from_slice(content.as_slice())?;
+        Ok(body)
+    }
+
+    /// Makes the body of the own LSP anew, after an Up port, its neighbour or its metric changed.
+    pub(crate) fn renew_body(&mut self) -> Result<(), NoMemory>
+        requires few { length self.old.ports.items ≤ 32 }
+        requires system { self.old.own.system ≡ self.old.id.system }
+        requires local { IsLocal (api.local_of (view_of self.old)) }
+        ensures { OnOk result (self.new ≡ record self.old { own = api.own_of (view_of self.old) }) }
+    {
+        let body = self.body()?;
+        self.own.body = Seq::from_vec(body);
+        Ok(())
+    }
+
+    /// Originates (ISO/IEC 10589, 7.3.7).
+    pub(crate) fn originate(&mut self) -> Result<(), NoMemory>
+        requires can { CanOriginate self.old }
+        requires current { IsCurrent self.old }
+        ensures { OnOk result (IsAfter (api.originating (view_of self.old)) self.new) }
+    {
+        let up = up_ports(self.ports.as_slice());
+        originate(self.alloc, &mut self.db, up, &mut self.own)
+    }
+
+    /// Originates where the own LSP that is held says something else than the bridge.
+    pub(crate) fn settle(&mut self) -> Result<(), NoMemory>
+        requires can { CanOriginate self.old }
+        requires current { IsCurrent self.old }
+        ensures { OnOk result (IsAfter (api.settled (view_of self.old)) self.new) }
+    {
+        if self.own.spent || is_said(&self.db, &self.own) {
+            return Ok(());
+        }
+        self.originate()
+    }
+
+    /// Originates where the own LSP says something else or is old, and tells whether it did.
+    pub(crate) fn refresh(&mut self) -> Result<bool, NoMemory>
+        requires can { CanOriginate self.old }
+        requires current { IsCurrent self.old }
+        ensures after { OnOk result (IsAfter (ticking.refreshed (view_of self.old)) self.new) }
+        ensures idle { IfOk result (λ originated. originated ≡ false → self.new.db ≡ self.old.db) }
+    {
+        if self.own.spent || (is_said(&self.db, &self.own) && !is_old(&self.db, &self.own)) {
+            return Ok(false);
+        }
+        self.originate()?;
+        Ok(true)
+    }
+}
+
+/// Whether the own LSP that is held has this body.
+fn is_said(db: &Database, own: &Own) -> bool
+    ensures { result ≡ bytes_eq (api.body_in (get db.now (own_id own.now.system))) own.now.body }
+{
+    match db.find(&own.id()) {
+        Some(held) => held.body.as_slice() == own.body.as_slice(),
+        None => own.body.is_empty(),
+    }
+}
+
+/// Whether the own LSP has to be originated anew by its lifetime.
+fn is_old(db: &Database, own: &Own) -> bool
+    ensures { result ≡ ticking.is_old (get db.now (own_id own.now.system)) }
+{
+    match db.find(&own.id()) {
+        Some(held) => held.lifetime <= REFRESH_AT,
+        None => false,
+    }
+}

@@ -1,0 +1,182 @@
+//! Work on the ports of a bridge.
+ghost use Rattle.std.specs.Prelude.{◌≡◌, ◌-◌, ◌≤◌, Bool, true, false, length, map, Some, IfOk, slice_get, slice_set};
+ghost use Rattle.std.specs.List.{AllByRecursion};
+ghost use Rattle.lsdb.specs.Entry.{joined};
+ghost use Rattle.lsdb.specs.Database.{each};
+ghost use Rattle.bridge_api.specs.View.{is_port_up, up_from, port_in};
+ghost use Rattle.bridge_api.specs.Config.{dark};
+ghost use Rattle.bridge_api.specs.Own as own;
+ghost use Rattle.bridge_api.specs.Hearing as api;
+ghost use Rattle.bridge_api.specs.Ticking as ticking;
+ghost use Rattle.bridge_api.specs.Laws.{IsSoundPort};
+ghost use Rattle.bridge_control.specs.Ports.{AreSoundPorts, has_leaving};
+
+use adjacency::{AdjState, Adjacency, Heard};
+use bridge_api::BridgePort;
+use lsdb::Database;
+use spb_tlvs::Neighbour;
+use spb_types::{Attachment, Member, NoMemory, PortSet, SystemId};
+use std::alloc::Global;
+
+/// Ports without carrier, with these metrics.
+pub(crate) fn dark_ports(alloc: Global, metrics: &[u32]) -> Result<Vec<BridgePort>, NoMemory>
+    ensures { IfOk result (λ ports. ports.items ≡ map dark metrics.now) }
+{
+    let ports = metrics
+        .iter()
+        .map(|metric| dark_port(*metric))
+        .collect(alloc)?;
+    Ok(ports)
+}
+
+fn dark_port(metric: u32) -> BridgePort
+    ensures { result ≡ dark metric }
+{
+    BridgePort {
+        adjacency: Adjacency::down(false),
+        due: false,
+        metric,
+    }
+}
+
+/// The port of a number.
+pub(crate) fn port_at(ports: &[BridgePort], port: u8) -> BridgePort
+    requires low { 1 ≤ port }
+    requires high { port ≤ length ports.now }
+    ensures { port_in ports.now port ≡ Some result }
+{
+    ports[usize::from(port) - 1]
+}
+
+/// Gives the port of a number another state.
+pub(crate) fn put_port(ports: &mut Vec<BridgePort>, port: u8, new: BridgePort)
+    requires low { 1 ≤ port }
+    requires high { port ≤ length ports.old.items }
+    ensures { ports.new.items ≡ slice_set ports.old.items (port - 1) new }
+{
+    ports[usize::from(port) - 1] = new;
+}
+
+pub(crate) fn is_up(port: &BridgePort) -> bool
+    ensures { result ≡ is_port_up port.now }
+{
+    port.adjacency.state == AdjState::Up
+}
+
+/// The ports that are Up.
+pub(crate) fn up_ports(ports: &[BridgePort]) -> PortSet
+    requires { length ports.now ≤ 32 }
+    ensures { result ≡ up_from 1 ports.now }
+{
+    let mut up = PortSet::none();
+    'up: for place in (0..ports.len()).rev() {
+        if is_up(&ports[place]) {
+            up = up.with(place as u8 + 1);
+        }
+    }
+    up
+}
+
+/// The neighbours at the ports that are Up, in order, each with the metric of the link there.
+pub(crate) fn neighbours_at(alloc: Global, ports: &[BridgePort]) -> Result<Vec<Neighbour>, NoMemory>
+    requires { length ports.now ≤ 32 }
+    ensures { IfOk result (λ v. v.items ≡ own.neighbours_from 1 ports.now) }
+{
+    let mut neighbours = Vec::new(alloc);
+    'find: for (place, port) in ports.iter().enumerate() {
+        if is_up(port) {
+            neighbours.push(neighbour_at(place as u16 + 1, port))?;
+        }
+    }
+    Ok(neighbours)
+}
+
+fn neighbour_at(number: u16, port: &BridgePort) -> Neighbour
+    ensures { result ≡ own.neighbour_in number port.now }
+{
+    Neighbour {
+        system: port.adjacency.neighbour,
+        metric: port.metric,
+        port: number,
+    }
+}
+
+/// The services of which attached customer ports make a system a member.
+pub(crate) fn attached_members(
+    alloc: Global,
+    system: SystemId,
+    attached: &[Attachment],
+) -> Result<Vec<Member>, NoMemory>
+    ensures { IfOk result (λ v. v.items ≡ map (own.member_of system) attached.now) }
+{
+    let members = attached
+        .iter()
+        .map(|a| member_of(system, a))
+        .collect(alloc)?;
+    Ok(members)
+}
+
+fn member_of(system: SystemId, a: &Attachment) -> Member
+    ensures { result ≡ own.member_of system a.now }
+{
+    Member {
+        system,
+        isid: a.isid,
+        vid: a.vid,
+    }
+}
+
+/// A second passes at each port: the holding counts fall. Where the neighbour at an Up port is lost, the flags of the port are
+/// cleared and nothing is due there any more. Tells whether there is such a port.
+pub(crate) fn count_down(ports: &mut Vec<BridgePort>, db: &mut Database) -> bool
+    requires few { length ports.old.items ≤ 32 }
+    requires sound { AreSoundPorts ports.old.items }
+    ensures ports { ports.new.items ≡ map ticking.later ports.old.items }
+    ensures db { db.new ≡ each (λ id e. ticking.parted_all (ticking.leaving_from 1 ports.old.items) e) db.old }
+    ensures left { result ≡ has_leaving ports.old.items }
+{
+    let mut left = false;
+    'count: for place in 0..ports.len() {
+        if pass_second(&mut ports[place]) {
+            db.clear_port(place as u8 + 1);
+            left = true;
+        }
+    }
+    left
+}
+
+/// A second passes at a port. Tells whether its neighbour is lost and it leaves Up.
+fn pass_second(port: &mut BridgePort) -> bool
+    requires { IsSoundPort port.old }
+    ensures port { port.new ≡ ticking.later port.old }
+    ensures left { result ≡ ticking.leaves port.old }
+{
+    let left = port.adjacency.tick() == Heard::LeftUp;
+    port.due = port.due && !left;
+    left
+}
+
+/// Nothing is due any more.
+pub(crate) fn clear_due(ports: &mut Vec<BridgePort>)
+    ensures { ports.new.items ≡ map (api.with_due false) ports.old.items }
+{
+    for port in ports.iter_mut() {
+        port.due = false;
+    }
+}
+
+/// Each LSP that is held is to be sent at a port that has come up.
+pub(crate) fn join_all(db: &mut Database, port: u8)
+    requires low { 1 ≤ port }
+    requires high { port ≤ 32 }
+    ensures { db.new ≡ each (λ id e. joined port e) db.old }
+{
+    for place in 0..db.len() {
+        if let Some(held) = db.at(place) {
+            if !held.version.is_absent() {
+                let id = held.id;
+                db.set_srm(&id, port, true);
+            }
+        }
+    }
+}

@@ -1,0 +1,311 @@
+//! Two control planes, A and B, each with one port, at the two ends of a link.
+ghost use Rattle.std.specs.Prelude.{◌≡◌, ◌≤◌, true, false, length, IfOk, OnOk};
+ghost use Rattle.bridge_api.specs.Config.{IsWhole};
+
+use crate::ControlPlane;
+use adjacency::AdjState;
+use bridge_api::{BridgeConfig, Outbox};
+use lsdb::{DbRow, Version};
+use spb_types::{BridgeId, Mac, NoMemory, Seq, SourceId, SystemId};
+use std::alloc::Global;
+use std::test::Fail;
+
+// A's first hello, as the whole control frame.
+const FIRST_HELLO: [u8; 53] = [
+    0x01, 0x80, 0xc2, 0x00, 0x00, 0x14, 2, 0, 0, 0, 0, 1, 0x00, 0x27, 0xfe, 0xfe, 0x03, 0x83, 0x14,
+    1, 0, 0x11, 1, 0, 0, 1, 2, 0, 0, 0, 0, 1, 0, 3, 0, 0x24, 1, 1, 4, 3, 0x49, 0, 1, 0x81, 1, 0xc1,
+    0xf0, 5, 2, 0, 0, 0, 1,
+];
+
+// A's hello when it has heard B's circuit 1: it names that neighbour, in state Initializing.
+const INITIALIZING_HELLO: [u8; 63] = [
+    0x01, 0x80, 0xc2, 0x00, 0x00, 0x14, 2, 0, 0, 0, 0, 1, 0x00, 0x31, 0xfe, 0xfe, 0x03, 0x83, 0x14,
+    1, 0, 0x11, 1, 0, 0, 1, 2, 0, 0, 0, 0, 1, 0, 3, 0, 0x2e, 1, 1, 4, 3, 0x49, 0, 1, 0x81, 1, 0xc1,
+    0xf0, 0x0f, 1, 0, 0, 0, 1, 2, 0, 0, 0, 0, 2, 0, 0, 0, 1,
+];
+
+// An LSP of A at number 9 that says nothing, as a frame from B.
+const OLD_LSP: [u8; 44] = [
+    0x01, 0x80, 0xc2, 0x00, 0x00, 0x14, 2, 0, 0, 0, 0, 2, 0x00, 0x1e, 0xfe, 0xfe, 0x03, 0x83, 0x1b,
+    1, 0, 0x12, 1, 0, 0, 0, 0x1b, 3, 0xe8, 2, 0, 0, 0, 0, 1, 0, 0, 0, 0, 0, 9, 0xcc, 0x26, 1,
+];
+
+/// The configuration of a bridge with one port and no VID; its address ends in this number, which is its source too.
+fn config(alloc: Global, last: u8) -> Result<BridgeConfig, NoMemory>
+    ensures whole { IfOk result IsWhole }
+    ensures port { IfOk result (λ c. c.ports ≡ 1) }
+{
+    let mut metrics = Seq::new(alloc);
+    metrics.push(10)?;
+    Ok(BridgeConfig {
+        id: BridgeId {
+            priority: 32768,
+            system: SystemId {
+                mac: Mac {
+                    bytes: [2, 0, 0, 0, 0, last],
+                },
+            },
+        },
+        source: SourceId {
+            value: u32::from(last),
+        },
+        ports: 1,
+        vids: Seq::new(alloc),
+        metrics,
+        attached: Seq::new(alloc),
+    })
+}
+
+/// Makes a blank control plane that of the configuration, with carrier at its port.
+fn make(alloc: Global, plane: &mut ControlPlane, last: u8) -> Result<(), NoMemory>
+    requires { plane.old.blank ≡ true }
+    ensures made { OnOk result (plane.new.blank ≡ false) }
+    ensures port { OnOk result (1 ≤ length plane.new.view.ports) }
+{
+    let config = config(alloc, last)?;
+    plane.configure(&config)?;
+    plane.carrier(1, true)
+}
+
+/// A second passes at `from`, and all that it sends comes to the port 1 of `to`.
+fn greet(alloc: Global, from: &mut ControlPlane, to: &mut ControlPlane) -> Result<(), NoMemory>
+    requires from { from.old.blank ≡ false }
+    requires to { to.old.blank ≡ false }
+    requires port { 1 ≤ length to.old.view.ports }
+    ensures from { from.new.blank ≡ false }
+    ensures from_port { OnOk result (length from.new.view.ports ≡ length from.old.view.ports) }
+    ensures to { to.new.blank ≡ false }
+    ensures to_port { OnOk result (length to.new.view.ports ≡ length to.old.view.ports) }
+{
+    let mut outbox = Outbox::new(alloc);
+    from.tick(&mut outbox)?;
+    'hear: for sent in outbox.wire.as_slice() {
+        to.receive(1, sent.1.as_slice())?;
+    }
+    Ok(())
+}
+
+/// Seconds pass at a bridge, and what it sends is lost.
+fn pass(alloc: Global, plane: &mut ControlPlane, seconds: u16) -> Result<(), NoMemory>
+    requires { plane.old.blank ≡ false }
+    ensures { plane.new.blank ≡ false }
+{
+    'pass: for _ in 0..seconds {
+        plane.tick(&mut Outbox::new(alloc))?;
+    }
+    Ok(())
+}
+
+/// The version and the lifetime that a bridge holds at a place.
+fn held_at(plane: &ControlPlane, place: usize) -> (Version, u16)
+    requires { plane.now.blank ≡ false }
+{
+    match plane.entry(place) {
+        Some(held) => (held.version, held.lifetime),
+        None => (Version::Absent, 0),
+    }
+}
+
+/// A frame comes to the port 1.
+fn hear(plane: &mut ControlPlane, frame: &[u8]) -> Result<(), NoMemory>
+    requires made { plane.old.blank ≡ false }
+    requires port { 1 ≤ length plane.old.view.ports }
+    ensures still_made { plane.new.blank ≡ false }
+    ensures still_port { OnOk result (length plane.new.view.ports ≡ length plane.old.view.ports) }
+{
+    plane.receive(1, frame)
+}
+
+/// What is held, in order, but for the bodies.
+fn rows(alloc: Global, plane: &ControlPlane) -> Result<Vec<DbRow>, NoMemory>
+    requires { plane.now.blank ≡ false }
+{
+    let mut rows = Vec::new(alloc);
+    for place in 0..2048 {
+        if let Some(held) = plane.entry(place) {
+            rows.push(held.row())?;
+        }
+    }
+    Ok(rows)
+}
+
+/// Whether what is held at a place is to be sent at the port 1, and is to be acknowledged or asked for there.
+fn flags_at(plane: &ControlPlane, place: usize) -> (bool, bool)
+    requires { plane.now.blank ≡ false }
+{
+    match plane.entry(place) {
+        Some(held) => (held.srm.has(1), held.ssn.has(1)),
+        None => (false, false),
+    }
+}
+
+/// Whether a frame that comes to the port 1 changes nothing there and nothing that is held, but for the bodies.
+fn is_dropped(alloc: Global, plane: &mut ControlPlane, frame: &[u8]) -> Result<bool, NoMemory>
+    requires made { plane.old.blank ≡ false }
+    requires port { 1 ≤ length plane.old.view.ports }
+    ensures still_made { plane.new.blank ≡ false }
+    ensures still_port { OnOk result (length plane.new.view.ports ≡ length plane.old.view.ports) }
+{
+    let before = (plane.adjacent(1), plane.due(1), plane.has_flag());
+    let held_before = rows(alloc, plane)?;
+    hear(plane, frame)?;
+    let after = (plane.adjacent(1), plane.due(1), plane.has_flag());
+    let held_after = rows(alloc, plane)?;
+    let same_rows = held_after.as_slice() == held_before.as_slice();
+    Ok(after == before && same_rows)
+}
+
+#[test]
+fn the_first_hello_names_nobody(rt: HostRuntime) -> Result<(), Fail> {
+    let alloc = rt.alloc();
+    let mut a = ControlPlane::blank(alloc);
+    make(alloc, &mut a, 1)?;
+    a.set_metric(1, 20)?;
+    let mut outbox = Outbox::new(alloc);
+    a.tick(&mut outbox)?;
+    match outbox.wire.as_slice() {
+        [sent] => {
+            assert_eq!(rt; sent.0, 1);
+            assert_eq!(rt; sent.1.as_slice(), FIRST_HELLO.as_slice());
+        }
+        _ => panic!(rt; "not one frame"),
+    }
+    Ok(())
+}
+
+#[test]
+fn the_next_hello_names_the_neighbour_that_was_heard(rt: HostRuntime) -> Result<(), Fail> {
+    let alloc = rt.alloc();
+    let mut a = ControlPlane::blank(alloc);
+    let mut b = ControlPlane::blank(alloc);
+    make(alloc, &mut a, 1)?;
+    make(alloc, &mut b, 2)?;
+    greet(alloc, &mut b, &mut a)?;
+    let mut outbox = Outbox::new(alloc);
+    a.tick(&mut outbox)?;
+    match outbox.wire.as_slice() {
+        [sent] => assert_eq!(rt; sent.1.as_slice(), INITIALIZING_HELLO.as_slice()),
+        _ => panic!(rt; "not one frame"),
+    }
+    Ok(())
+}
+
+#[test]
+fn two_bridges_come_to_hold_the_same(rt: HostRuntime) -> Result<(), Fail> {
+    let alloc = rt.alloc();
+    let mut a = ControlPlane::blank(alloc);
+    make(alloc, &mut a, 1)?;
+    let mut b = ControlPlane::blank(alloc);
+    make(alloc, &mut b, 2)?;
+    let alone = Version::Live {
+        seq: 1,
+        sum: 0x4fd7,
+    };
+    assert_eq!(rt; held_at(&a, 0), (alone, 1200));
+    greet(alloc, &mut a, &mut b)?;
+    greet(alloc, &mut b, &mut a)?;
+    assert!(rt; a.has_flag());
+    greet(alloc, &mut a, &mut b)?;
+    greet(alloc, &mut b, &mut a)?;
+    greet(alloc, &mut a, &mut b)?;
+    assert_eq!(rt; (a.has_flag(), b.has_flag()), (false, false));
+    let of_a = Version::Live {
+        seq: 2,
+        sum: 0xa512,
+    };
+    let of_b = Version::Live {
+        seq: 2,
+        sum: 0xc2f3,
+    };
+    assert_eq!(rt; (held_at(&a, 0).0, held_at(&b, 0).0), (of_a, of_a));
+    assert_eq!(rt; (held_at(&a, 1).0, held_at(&b, 1).0), (of_b, of_b));
+    assert!(rt; a.entry(2).is_none());
+    Ok(())
+}
+
+#[test]
+fn another_neighbour_at_an_up_port_gets_all_and_is_owed_nothing(
+    rt: HostRuntime,
+) -> Result<(), Fail> {
+    let alloc = rt.alloc();
+    let mut a = ControlPlane::blank(alloc);
+    make(alloc, &mut a, 1)?;
+    let mut b = ControlPlane::blank(alloc);
+    make(alloc, &mut b, 2)?;
+    greet(alloc, &mut a, &mut b)?;
+    greet(alloc, &mut b, &mut a)?;
+    greet(alloc, &mut a, &mut b)?;
+    greet(alloc, &mut b, &mut a)?;
+    assert_eq!(rt; (a.adjacent(1).state, a.due(1)), (AdjState::Up, false));
+    assert_eq!(rt;
+        (flags_at(&a, 0), flags_at(&a, 1)),
+        ((false, false), (false, true))
+    );
+    assert_eq!(rt; held_at(&a, 0).0.number(), 2);
+    // C's hello when it has heard A's circuit 1.
+    let mut hello = INITIALIZING_HELLO;
+    hello[11] = 3;
+    hello[31] = 3;
+    hello[58] = 1;
+    hear(&mut a, &hello)?;
+    assert_eq!(rt; a.adjacent(1).neighbour.mac.bytes, [2, 0, 0, 0, 0, 3]);
+    assert_eq!(rt; (a.adjacent(1).state, a.due(1)), (AdjState::Up, true));
+    assert_eq!(rt;
+        (flags_at(&a, 0), flags_at(&a, 1)),
+        ((true, false), (true, false))
+    );
+    assert_eq!(rt; held_at(&a, 0).0.number(), 3);
+    Ok(())
+}
+
+#[test]
+fn a_greater_number_of_an_own_lsp_is_answered(rt: HostRuntime) -> Result<(), Fail> {
+    let alloc = rt.alloc();
+    let mut a = ControlPlane::blank(alloc);
+    make(alloc, &mut a, 1)?;
+    let mut b = ControlPlane::blank(alloc);
+    make(alloc, &mut b, 2)?;
+    // It isn't Up yet.
+    assert!(rt; is_dropped(alloc, &mut a, &OLD_LSP)?);
+    assert_eq!(rt; held_at(&a, 0).0.number(), 1);
+    greet(alloc, &mut a, &mut b)?;
+    greet(alloc, &mut b, &mut a)?;
+    a.receive(1, &OLD_LSP)?;
+    assert_eq!(rt; held_at(&a, 0).0.number(), 10);
+    Ok(())
+}
+
+#[test]
+fn an_own_lsp_of_lifetime_300_is_originated_anew(rt: HostRuntime) -> Result<(), Fail> {
+    let alloc = rt.alloc();
+    let mut a = ControlPlane::blank(alloc);
+    make(alloc, &mut a, 1)?;
+    pass(alloc, &mut a, 899)?;
+    let before = held_at(&a, 0);
+    assert_eq!(rt; (before.0.number(), before.1), (1, 301));
+    pass(alloc, &mut a, 1)?;
+    let after = held_at(&a, 0);
+    assert_eq!(rt; (after.0.number(), after.1), (2, 1200));
+    Ok(())
+}
+
+#[test]
+fn garbage_is_dropped_and_changes_nothing(rt: HostRuntime) -> Result<(), Fail> {
+    let alloc = rt.alloc();
+    let mut a = ControlPlane::blank(alloc);
+    make(alloc, &mut a, 1)?;
+    let mut b = ControlPlane::blank(alloc);
+    make(alloc, &mut b, 2)?;
+    greet(alloc, &mut a, &mut b)?;
+    greet(alloc, &mut b, &mut a)?;
+    assert!(rt; is_dropped(alloc, &mut a, &[])?);
+    assert!(rt; is_dropped(alloc, &mut a, b"no frame of the backbone")?);
+    assert!(rt; is_dropped(alloc, &mut a, &FIRST_HELLO[..52])?);
+    // Its own hello.
+    assert!(rt; is_dropped(alloc, &mut a, &FIRST_HELLO)?);
+    let mut other_protocol = FIRST_HELLO;
+    other_protocol[17] = 0x82;
+    assert!(rt; is_dropped(alloc, &mut b, &other_protocol)?);
+    assert!(rt; !is_dropped(alloc, &mut b, &FIRST_HELLO)?);
+    Ok(())
+}

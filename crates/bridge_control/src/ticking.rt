@@ -1,0 +1,59 @@
+//! A second of a bridge.
+ghost use Rattle.std.specs.Prelude.{◌≡◌, false, OnOk, OnErr, IfOk};
+ghost use Rattle.lsdb.specs.Database.{any_flags};
+ghost use Rattle.bridge_api.specs.Own.{own_of};
+ghost use Rattle.bridge_api.specs.Step.{with_wire, Gains};
+ghost use Rattle.bridge_api.specs.Ticking as api;
+ghost use Rattle.bridge_control.specs.Machine.{view_of, IsReady, IsAfter};
+
+use crate::machine::Machine;
+use crate::ports::{clear_due, count_down, up_ports};
+use crate::sending::send_all;
+use bridge_api::Outbox;
+use spb_types::NoMemory;
+
+impl Machine {
+    /// A second passes.
+    pub(crate) fn tick(&mut self, outbox: &mut Outbox) -> Result<(), NoMemory>
+        requires { IsReady self.old }
+        ensures after { OnOk result (IsAfter (api.after_tick (view_of self.old)) self.new) }
+        ensures sent { OnOk result (outbox.new ≡ with_wire (api.sent_in_tick (view_of self.old)) outbox.old) }
+        ensures gained { OnErr result (Gains (api.sent_in_tick (view_of self.old)) outbox.old outbox.new) }
+    {
+        let busy = self.prepare()?;
+        send_all(
+            self.alloc,
+            self.id.system,
+            self.ports.as_slice(),
+            &mut self.db,
+            busy,
+            outbox,
+        )?;
+        clear_due(&mut self.ports);
+        Ok(())
+    }
+
+    /// All of a second that comes before sending. Tells whether anything may have to be sent but hellos and CSNPs.
+    fn prepare(&mut self) -> Result<bool, NoMemory>
+        requires { IsReady self.old }
+        ensures after { OnOk result (IsAfter (api.readied (view_of self.old)) self.new) }
+        ensures idle { IfOk result (λ busy. busy ≡ false → any_flags self.new.db ≡ false) }
+    {
+        self.count()?;
+        let up = up_ports(self.ports.as_slice());
+        let flags = self.db.age_one(up);
+        let originated = self.refresh()?;
+        Ok(flags || originated)
+    }
+
+    /// The holding counts fall. Where a neighbour is lost, the body of the own LSP is made anew.
+    fn count(&mut self) -> Result<(), NoMemory>
+        requires { IsReady self.old }
+        ensures { OnOk result (IsAfter (api.counted (view_of self.old)) self.new) }
+    {
+        if count_down(&mut self.ports, &mut self.db) {
+            self.renew_body()?;
+        }
+        Ok(())
+    }
+}

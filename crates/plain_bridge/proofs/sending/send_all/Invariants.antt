@@ -1,5 +1,0 @@
-use Rattle.plain_bridge.proofs.Sends.{Sending}
-use Rattle.plain_bridge.proofs.sending.send_all.Given as goal
-
-abbrev pub invariant-send : goal.invariant-send
-invariant-send l = Sending l.system l.ports l.initial.db l.initial.outbox l.place l.busy l.db l.outbox

@@ -1,5 +1,0 @@
-pub mod Ports
-pub mod Machine
-pub mod Message
-pub mod Frames
-pub mod Plain
