@@ -37,6 +37,7 @@ mod play;
 mod questions;
 mod rack;
 mod reason;
+mod refusing;
 mod rounds;
 mod way;
 mod ways;
