@@ -4,8 +4,15 @@ use Rattle.spb_network.specs.declared.declaration.DeclaredLink.{DeclaredLink}
 use Rattle.link_model.specs.declared.lanes.LinkLanes.{LinkLanes}
 use Rattle.spb_network.specs.Declaring.{with_link}
 use Rattle.spb_network.specs.State.{State}
-use Rattle.spb_network.specs.Network.{Fits}
+use Rattle.bridge_api.specs.Shown.{Shown}
+use Rattle.spb_network.specs.declared.network.NetworkOf.{NetworkOf}
+use Rattle.spb_network.specs.Applying.{IsSoundNetwork}
+use Rattle.spb_network.specs.Network.{Fits, IsInOrder}
 use Rattle.spb_network.proofs.ListLemmas.{length-push}
+
+-- a sound network is in order
+pub in_order : {B : Type 0} (shown : B → Shown) (n : NetworkOf B) → IsSoundNetwork shown n → IsInOrder shown n
+in_order shown n sound = record { made = sound.made; fits = sound.state.fits }
 
 pub Fits-with_link : (s : State) (name : List ℕ) (l : DeclaredLink) (lanes : LinkLanes) → Fits s → Fits (record s { world = with_link s.world name l; lanes = s.lanes ++ lanes ∷ [] })
 unfolding with_link

@@ -1,4 +1,4 @@
-use Rattle.std.proofs.Common.{◌≡◌, ◌≢◌, ℕ, ◌<◌, ◌≤◌, ◌==◌, Bool, true, false, ◌&&◌, List, [], ◌∷◌, length, Option, Some, None, nat_lt, nat_le, refl, sym, ap, ◌∙◌, arith}
+use Rattle.std.proofs.Common.{◌≡◌, ◌≢◌, ℕ, ◌+◌, ◌<◌, ◌≤◌, ◌==◌, Bool, true, false, ◌&&◌, List, [], ◌∷◌, length, Option, Some, None, nat_lt, nat_le, refl, sym, ap, ◌∙◌, arith}
 use Rattle.std.proofs.lemmas.Bool.Decides.{nat_tests}
 use Rattle.std.specs.List.{AllByRecursion}
 use Rattle.std.specs.Str.{bytes_eq}
@@ -9,7 +9,7 @@ use Rattle.spb_network.specs.declared.reason.Reason.{Reason}
 use Rattle.spb_network.specs.declared.reason.Reason.TheVariants.{Range}
 use Rattle.bridge_api.specs.Config.{IsMetric}
 use Rattle.spb_network.specs.Reason.{reason_unless, ◌or◌}
-use Rattle.spb_network.specs.Refusing.{placed_refusal, metric_refusal}
+use Rattle.spb_network.specs.Refusing.{placed_refusal, metric_refusal, declared_refusal, round_refusal, drain_refusal}
 use Rattle.spb_network.specs.State.{State}
 use Rattle.spb_network.specs.World.{World, things_of, place_of, ports_at, is_between, is_at_port, AreApart}
 use Rattle.spb_network.specs.Declaring.{vid_refusal, bridge_refusal, link_refusal, is_vid_range, is_new_name, is_new_system, is_new_source, is_bridge_range, is_bridge_address, has_bridge_room, is_free_port, is_link_range, is_unlinked, bridge_of, link_of}
@@ -49,9 +49,9 @@ empty_list : {X : Type 0} (xs : List X) → (length xs == 0) ≡ true → xs ≡
 empty_list xs h = empty_from xs (eq-true (length xs) 0 h)
 
 -- what the test of a metric says
-pub metric_refusal_none : (s : State) (name : List ℕ) (m k : ℕ) → place_of name s.world.links ≡ Some k → metric_refusal s name m ≡ None → IsMetric m
+pub metric_refusal_none : (w : World) (name : List ℕ) (m k : ℕ) → place_of name w.links ≡ Some k → metric_refusal w name m ≡ None → IsMetric m
 unfolding metric_refusal
-metric_refusal_none s name m k at none =
+metric_refusal_none w name m k at none =
     let range = reason_unless-none (nat_le 1 m && nat_le m 16777214) _ (ap (placed_refusal (λ j. reason_unless (nat_le 1 m && nat_le m 16777214) Range)) (sym at) ∙ none) in
     record { low = le-true 1 m (and-left _ _ range); high = le-true m 16777214 (and-right _ _ range) }
 
@@ -151,3 +151,23 @@ link_refusal_none w name i port_a j port_b cost h =
         apart = all_apart (things_of w.links) (link_of i port_a j port_b cost) (All-none (λ l. is_between l i j) (things_of w.links) (not-true _ unlinked)) (All-none (λ l. is_at_port l i port_a) (things_of w.links) (not-true _ (and-left _ _ free))) (All-none (λ l. is_at_port l j port_b) (things_of w.links) (not-true _ (and-right _ _ free)));
       };
     }
+
+-- a bridge for which there is a box
+pub declared_refusal_none : (s : State) (name : List ℕ) (priority : ℕ) (system : Mac) (source : SourceId) (ports : ℕ) → declared_refusal s name priority system source ports ≡ None → bridge_refusal s.world name priority system source ports ≡ None
+unfolding declared_refusal
+declared_refusal_none s name priority system source ports h = or-first _ _ h
+
+-- what the tests of a number of rounds, and of deliveries, say
+pub round_refusal_none : (s : State) (n : ℕ) → round_refusal s n ≡ None → (n ≤ 20000) × (s.rounds + n ≤ 20000)
+unfolding round_refusal
+round_refusal_none s n h = (
+  le-true n 20000 (and-right _ _ (reason_unless-none (nat_le 1 n && nat_le n 20000) _ (or-first _ _ h))),
+  le-true (s.rounds + n) 20000 (reason_unless-none (nat_le (s.rounds + n) 20000) _ (or-second _ _ h)),
+)
+
+pub drain_refusal_none : (s : State) (n : ℕ) → drain_refusal s n ≡ None → (n ≤ 1000000) × (s.drained + n ≤ 100000000)
+unfolding drain_refusal
+drain_refusal_none s n h = (
+  le-true n 1000000 (and-right _ _ (reason_unless-none (nat_le 1 n && nat_le n 1000000) _ (or-first _ _ h))),
+  le-true (s.drained + n) 100000000 (reason_unless-none (nat_le (s.drained + n) 100000000) _ (or-second _ _ h)),
+)

@@ -122,12 +122,12 @@ linked_sound s name i port_a j port_b cost sound none =
     let new = link_refusal_none s.world name i port_a j port_b cost none in
     Sound-switched_on (metered_over (record s { world = with_link s.world name l; lanes = s.lanes ++ no_frames ∷ [] }) l) (length s.lanes) (Sound-new_link s name l sound new.new (distinct_link s.world name l sound.distinct new.name_new) refl)
 
-placed_sound : (s : State) (name : List ℕ) (a b : Option ℕ) (port_a port_b cost : ℕ) → IsSoundState s → placed_link_refusal s name a port_a b port_b cost ≡ None → IsSoundState (placed_link s name a port_a b port_b cost)
+placed_sound : (s : State) (name : List ℕ) (a b : Option ℕ) (port_a port_b cost : ℕ) → IsSoundState s → placed_link_refusal s.world name a port_a b port_b cost ≡ None → IsSoundState (placed_link s name a port_a b port_b cost)
 placed_sound s name None b port_a port_b cost sound none = sound
 placed_sound s name (Some i) None port_a port_b cost sound none = sound
 placed_sound s name (Some i) (Some j) port_a port_b cost sound none = linked_sound s name i port_a j port_b cost sound none
 
-link_sound : (s : State) (name a b : List ℕ) (port_a port_b cost : ℕ) → IsSoundState s → named_link_refusal s name a port_a b port_b cost ≡ None → IsSoundState (named_link s name a port_a b port_b cost)
+link_sound : (s : State) (name a b : List ℕ) (port_a port_b cost : ℕ) → IsSoundState s → named_link_refusal s.world name a port_a b port_b cost ≡ None → IsSoundState (named_link s name a port_a b port_b cost)
 unfolding named_link_refusal named_link
 link_sound s name a b port_a port_b cost sound none = placed_sound s name (place_of a s.world.bridges) (place_of b s.world.bridges) port_a port_b cost sound none
 
@@ -147,11 +147,11 @@ at_link_sound event s name keeps sound = place_sound event s (place_of name s.wo
 
 -- ---- a metric
 
-placed_metric_sound : (s : State) (name : List ℕ) (side : Side) (m : ℕ) (o : Option ℕ) → place_of name s.world.links ≡ o → IsSoundState s → metric_refusal s name m ≡ None → IsSoundState (at_place (λ t k. remetered t k side m) s o)
+placed_metric_sound : (s : State) (name : List ℕ) (side : Side) (m : ℕ) (o : Option ℕ) → place_of name s.world.links ≡ o → IsSoundState s → metric_refusal s.world name m ≡ None → IsSoundState (at_place (λ t k. remetered t k side m) s o)
 placed_metric_sound s name side m None at sound none = sound
-placed_metric_sound s name side m (Some k) at sound none = Sound-remetered s k side m (metric_refusal_none s name m k at none) sound
+placed_metric_sound s name side m (Some k) at sound none = Sound-remetered s k side m (metric_refusal_none s.world name m k at none) sound
 
-metric_sound : (s : State) (name : List ℕ) (side : Side) (m : ℕ) → IsSoundState s → metric_refusal s name m ≡ None → IsSoundState (at_link (λ t k. remetered t k side m) s name)
+metric_sound : (s : State) (name : List ℕ) (side : Side) (m : ℕ) → IsSoundState s → metric_refusal s.world name m ≡ None → IsSoundState (at_link (λ t k. remetered t k side m) s name)
 unfolding at_link
 metric_sound s name side m sound none = placed_metric_sound s name side m (place_of name s.world.links) refl sound none
 

@@ -1,5 +1,5 @@
 -- What a network of boxes is the state of.
-use Rattle.std.specs.Prelude.{◌≡◌, ℕ, List, length, map, Bool, true, false, Some, slice_get}
+use Rattle.std.specs.Prelude.{◌≡◌, ℕ, List, length, map, true, false, Some, slice_get}
 use Rattle.std.specs.List.{AllByRecursion}
 use Rattle.bridge_api.specs.Shown.{Shown, views_of}
 use Rattle.bridge_api.specs.View.{BridgeView, IsPort}

@@ -8,9 +8,9 @@ use Rattle.spb_types.specs.declared.link.Dir.{Dir}
 use Rattle.spb_network.specs.declared.reason.Reason.{Reason}
 use Rattle.spb_network.specs.declared.reason.Reason.TheVariants.{NoSuchName, Range, TooMany, AlreadyUp, AlreadyDown, NoFrame, RackSpent}
 use Rattle.spb_network.specs.Reason.{reason_unless, ◌or◌}
-use Rattle.spb_network.specs.World.{place_of}
+use Rattle.spb_network.specs.World.{World, things_of, place_of}
 use Rattle.spb_network.specs.Declaring.{vid_refusal, bridge_refusal, link_refusal}
-use Rattle.spb_network.specs.State.{State, links_of, is_live, lane_at, kind_at, next_box}
+use Rattle.spb_network.specs.State.{State, is_live, lane_at, kind_at, next_box}
 
 -- the box that the next declared bridge takes, by place in the rack
 abbrev pub box_for : State → Option ℕ
@@ -21,41 +21,43 @@ unfoldable pub declared_refusal : State → List ℕ → ℕ → Mac → SourceI
 declared_refusal s name priority system source ports = bridge_refusal s.world name priority system source ports or reason_unless (is_some (box_for s)) RackSpent
 
 -- of a link between two bridges, by the places that were found for their names
-abbrev pub placed_link_refusal : State → List ℕ → Option ℕ → ℕ → Option ℕ → ℕ → ℕ → Option Reason
-placed_link_refusal s name None port_a b port_b cost = Some NoSuchName
-placed_link_refusal s name (Some i) port_a None port_b cost = Some NoSuchName
-placed_link_refusal s name (Some i) port_a (Some j) port_b cost = link_refusal s.world name i port_a j port_b cost
+abbrev pub placed_link_refusal : World → List ℕ → Option ℕ → ℕ → Option ℕ → ℕ → ℕ → Option Reason
+placed_link_refusal w name None port_a b port_b cost = Some NoSuchName
+placed_link_refusal w name (Some i) port_a None port_b cost = Some NoSuchName
+placed_link_refusal w name (Some i) port_a (Some j) port_b cost = link_refusal w name i port_a j port_b cost
 
-unfoldable pub named_link_refusal : State → List ℕ → List ℕ → ℕ → List ℕ → ℕ → ℕ → Option Reason
-named_link_refusal s name a port_a b port_b cost = placed_link_refusal s name (place_of a s.world.bridges) port_a (place_of b s.world.bridges) port_b cost
+unfoldable pub named_link_refusal : World → List ℕ → List ℕ → ℕ → List ℕ → ℕ → ℕ → Option Reason
+named_link_refusal w name a port_a b port_b cost =
+    placed_link_refusal w name (place_of a w.bridges) port_a (place_of b w.bridges) port_b cost
 
 -- of what names a bridge
-unfoldable pub unnamed_refusal : State → List ℕ → Option Reason
-unnamed_refusal s name = reason_unless (is_some (place_of name s.world.bridges)) NoSuchName
+unfoldable pub unnamed_refusal : World → List ℕ → Option Reason
+unnamed_refusal w name = reason_unless (is_some (place_of name w.bridges)) NoSuchName
 
 -- of what names a link, by the place that was found for its name
 abbrev pub placed_refusal : (ℕ → Option Reason) → Option ℕ → Option Reason
 placed_refusal refusal None = Some NoSuchName
 placed_refusal refusal (Some k) = refusal k
 
-abbrev pub linked_refusal : State → (ℕ → Option Reason) → List ℕ → Option Reason
-linked_refusal s refusal name = placed_refusal refusal (place_of name s.world.links)
+abbrev pub linked_refusal : World → (ℕ → Option Reason) → List ℕ → Option Reason
+linked_refusal w refusal name = placed_refusal refusal (place_of name w.links)
 
 -- the link goes down
-unfoldable pub down_refusal : State → List ℕ → Option Reason
-down_refusal s name = linked_refusal s (λ k. reason_unless (is_live (links_of s) k) AlreadyDown) name
+unfoldable pub down_refusal : World → List ℕ → Option Reason
+down_refusal w name = linked_refusal w (λ k. reason_unless (is_live (things_of w.links) k) AlreadyDown) name
 
 -- the link comes up
-unfoldable pub up_refusal : State → List ℕ → Option Reason
-up_refusal s name = linked_refusal s (λ k. reason_unless (not (is_live (links_of s) k)) AlreadyUp) name
+unfoldable pub up_refusal : World → List ℕ → Option Reason
+up_refusal w name = linked_refusal w (λ k. reason_unless (not (is_live (things_of w.links) k)) AlreadyUp) name
 
 -- an end of the link gets this metric
-unfoldable pub metric_refusal : State → List ℕ → ℕ → Option Reason
-metric_refusal s name m = linked_refusal s (λ k. reason_unless (nat_le 1 m && nat_le m 16777214) Range) name
+unfoldable pub metric_refusal : World → List ℕ → ℕ → Option Reason
+metric_refusal w name m = linked_refusal w (λ k. reason_unless (nat_le 1 m && nat_le m 16777214) Range) name
 
 -- a frame stands at this place of a lane
 unfoldable pub frame_refusal : State → List ℕ → Dir → ℕ → Option Reason
-frame_refusal s name dir place = linked_refusal s (λ k. reason_unless (nat_lt place (length (lane_at s k dir))) NoFrame) name
+frame_refusal s name dir place =
+    linked_refusal s.world (λ k. reason_unless (nat_lt place (length (lane_at s k dir))) NoFrame) name
 
 -- so many rounds: 1 to 20,000, and together no more
 unfoldable pub round_refusal : State → ℕ → Option Reason
@@ -69,17 +71,17 @@ drain_refusal s n = reason_unless (nat_le 1 n && nat_le n 1000000) Range or reas
 abbrev pub refusal_of : State → Command → Option Reason
 refusal_of s (command.Vid vid ect) = vid_refusal s.world vid ect
 refusal_of s (command.Bridge name priority system source ports) = declared_refusal s name priority system source ports
-refusal_of s (command.Link name a port_a b port_b cost) = named_link_refusal s name a port_a b port_b cost
-refusal_of s (command.Metric name side m) = metric_refusal s name m
-refusal_of s (command.Down name) = down_refusal s name
-refusal_of s (command.Up name) = up_refusal s name
-refusal_of s (command.Tick name) = unnamed_refusal s name
+refusal_of s (command.Link name a port_a b port_b cost) = named_link_refusal s.world name a port_a b port_b cost
+refusal_of s (command.Metric name side m) = metric_refusal s.world name m
+refusal_of s (command.Down name) = down_refusal s.world name
+refusal_of s (command.Up name) = up_refusal s.world name
+refusal_of s (command.Tick name) = unnamed_refusal s.world name
 refusal_of s (command.Deliver name dir) = frame_refusal s name dir 0
 refusal_of s (command.Lose name dir place) = frame_refusal s name dir place
 refusal_of s (command.Double name dir place) = frame_refusal s name dir place
 refusal_of s (command.Round n) = round_refusal s n
 refusal_of s (command.Drain n) = drain_refusal s n
-refusal_of s (command.Wiring name) = unnamed_refusal s name
-refusal_of s (command.Db name) = unnamed_refusal s name
-refusal_of s (command.Adj name) = unnamed_refusal s name
+refusal_of s (command.Wiring name) = unnamed_refusal s.world name
+refusal_of s (command.Db name) = unnamed_refusal s.world name
+refusal_of s (command.Adj name) = unnamed_refusal s.world name
 refusal_of s _ = None

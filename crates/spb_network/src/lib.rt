@@ -34,6 +34,7 @@ mod play;
 mod questions;
 mod rack;
 mod reason;
+mod refusing;
 mod rounds;
 mod ways;
 mod world;

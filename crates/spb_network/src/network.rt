@@ -3,12 +3,13 @@ ghost use Rattle.bridge_api.specs.Shown.{views_of};
 ghost use Rattle.spb_network.specs.declared.kind_rule.KindRule.TheVariants as rules;
 ghost use Rattle.spb_network.specs.Sound.{opening};
 ghost use Rattle.spb_network.specs.Network.{state_of, spare, AreMade};
-ghost use Rattle.spb_network.specs.Applying.{Answers, Applies, IsReady};
+ghost use Rattle.spb_network.specs.Applying.{Applies, IsReady};
 
 use crate::{Answer, ApplyError, KindRule, World, check};
 use bridge_api::Bridge;
 use link_model::Lanes;
 use scenario::Command;
+use spb_types::NoMemory;
 use std::alloc::Global;
 
 /// A network of bridges in boxes of one type.
@@ -93,17 +94,19 @@ impl<B: Bridge> NetworkOf<B> {
             return Err(ApplyError::Halted);
         }
         check::addressed(command);
-        match self.play(command) {
-            Ok(answer) => {
-                self.accepted = self.accepted.saturating_add(1);
-                self.halted = false;
-                Ok(answer)
-            }
-            Err(ApplyError::NoMemory) => {
-                self.halted = true;
-                Err(ApplyError::NoMemory)
-            }
-            Err(error) => Err(error),
+        match self.refusal(command) {
+            Some(reason) => Err(ApplyError::Refused(reason)),
+            None => match self.play(command) {
+                Ok(answer) => {
+                    self.accepted = self.accepted.saturating_add(1);
+                    self.halted = false;
+                    Ok(answer)
+                }
+                Err(NoMemory) => {
+                    self.halted = true;
+                    Err(ApplyError::NoMemory)
+                }
+            },
         }
     }
 }

@@ -1,39 +1,30 @@
-//! What each command makes of a network.
-ghost use Rattle.std.specs.Prelude.{◌≡◌, ◌<◌, None, Some, length, OnOk};
-ghost use Rattle.spb_network.specs.declared.answer.Answer.TheVariants as answers;
+//! What each command makes of a network, where it isn't refused. Nothing happens at a name that isn't there.
+ghost use Rattle.std.specs.Prelude.{◌≡◌, ◌<◌, None, Some, length, OnOk, IfOk};
 ghost use Rattle.spb_network.specs.Declaring as declare;
 ghost use Rattle.spb_network.specs.Refusing as refuse;
 ghost use Rattle.spb_network.specs.Play as play;
 ghost use Rattle.spb_network.specs.Events as event;
 ghost use Rattle.spb_network.specs.Network.{state_of, AreMade, IsInOrder, IsBlankAt};
-ghost use Rattle.spb_network.specs.Applying.{Answers, Happens, IsWayTo, answered};
+ghost use Rattle.spb_network.specs.Applying.{IsSoundNetwork};
 
-use crate::limits::METRIC;
 use crate::rack::{kind_at, next_box};
-use crate::{Answer, ApplyError, NetworkOf, Reason};
+use crate::{Answer, NetworkOf};
 use bridge_api::Bridge;
 use link_model::LaneId;
 use scenario::{Command, Dir, Side};
-use spb_types::{BridgeId, Mac, Name, NoMemory, Seq, SourceId, SystemId};
-use std::alloc::Global;
+use spb_types::{BridgeId, Mac, Name, NoMemory, SourceId, SystemId};
 
 impl<B: Bridge> NetworkOf<B> {
     /// Declares a base VID.
     #[tactic(auto, unfolding(crate::specs::Play::with_vid_more))]
-    fn play_vid(&mut self, vid: u64, ect: u64) -> Result<(), ApplyError>
-        requires { IsInOrder B.shown self.old }
-        ensures happens { Happens (declare.vid_refusal (state_of B.shown self.old).world vid ect)
-            (play.with_vid_more (state_of B.shown self.old) vid ect)
-            self.old result self.new (state_of B.shown self.new) }
+    fn play_vid(&mut self, vid: u64, ect: u64) -> Result<(), NoMemory>
+        requires order { IsInOrder B.shown self.old }
+        requires accepted { declare.vid_refusal self.old.world vid ect ≡ None }
+        ensures state { OnOk result (state_of B.shown self.new
+            ≡ play.with_vid_more (state_of B.shown self.old) vid ect) }
         ensures made { OnOk result (AreMade B.shown self.new.boxes.items) }
     {
-        match self.world.vid_refusal(vid, ect) {
-            Some(reason) => Err(ApplyError::Refused(reason)),
-            None => {
-                self.world.declare_vid(vid, ect)?;
-                Ok(())
-            }
-        }
+        self.world.declare_vid(vid, ect)
     }
 
     /// Takes a box of the rack for a bridge that isn't refused.
@@ -67,8 +58,8 @@ impl<B: Bridge> NetworkOf<B> {
             .declare_bridge(name, priority, system, source, ports)
     }
 
-    /// Declares a bridge.
-    #[tactic(auto, unfolding(crate::specs::Refusing::declared_refusal, crate::specs::Play::declared, crate::specs::Reason::reason_unless))]
+    /// Declares a bridge. Nothing happens where no blank box of its kind is left.
+    #[tactic(auto, unfolding(crate::specs::Play::declared))]
     fn play_bridge(
         &mut self,
         name: Name,
@@ -76,26 +67,18 @@ impl<B: Bridge> NetworkOf<B> {
         system: Mac,
         source: SourceId,
         ports: u64,
-    ) -> Result<(), ApplyError>
-        requires { IsInOrder B.shown self.old }
-        ensures happens { Happens (refuse.declared_refusal (state_of B.shown self.old) name priority system source ports)
-            (play.declared (state_of B.shown self.old) name (declare.bridge_of priority system source ports))
-            self.old result self.new (state_of B.shown self.new) }
+    ) -> Result<(), NoMemory>
+        requires order { IsInOrder B.shown self.old }
+        requires accepted { refuse.declared_refusal (state_of B.shown self.old) name priority system source ports
+            ≡ None }
+        ensures state { OnOk result (state_of B.shown self.new
+            ≡ play.declared (state_of B.shown self.old) name (declare.bridge_of priority system source ports)) }
         ensures made { OnOk result (AreMade B.shown self.new.boxes.items) }
     {
         let wanted = kind_at(self.rule, self.world.bridge_count());
-        if let Some(reason) = self
-            .world
-            .bridge_refusal(name, priority, system, source, ports)
-        {
-            return Err(ApplyError::Refused(reason));
-        }
         match next_box(&self.rack, wanted) {
-            None => Err(ApplyError::Refused(Reason::RackSpent)),
-            Some(place) => {
-                self.take_box(place, name, priority, system, source, ports)?;
-                Ok(())
-            }
+            None => Ok(()),
+            Some(place) => self.take_box(place, name, priority, system, source, ports),
         }
     }
 
@@ -134,229 +117,165 @@ impl<B: Bridge> NetworkOf<B> {
         b: Name,
         port_b: u64,
         cost: u64,
-    ) -> Result<(), ApplyError>
-        requires { IsInOrder B.shown self.old }
-        ensures happens { Happens (refuse.named_link_refusal (state_of B.shown self.old) name a port_a b port_b cost)
-            (play.named_link (state_of B.shown self.old) name a port_a b port_b cost)
-            self.old result self.new (state_of B.shown self.new) }
+    ) -> Result<(), NoMemory>
+        requires order { IsInOrder B.shown self.old }
+        requires accepted { refuse.named_link_refusal self.old.world name a port_a b port_b cost ≡ None }
+        ensures state { OnOk result (state_of B.shown self.new
+            ≡ play.named_link (state_of B.shown self.old) name a port_a b port_b cost) }
         ensures made { OnOk result (AreMade B.shown self.new.boxes.items) }
     {
         let Some(i) = self.world.bridge_place(a) else {
-            return Err(ApplyError::Refused(Reason::NoSuchName));
+            return Ok(());
         };
         let Some(j) = self.world.bridge_place(b) else {
-            return Err(ApplyError::Refused(Reason::NoSuchName));
+            return Ok(());
         };
-        match self.world.link_refusal(name, i, port_a, j, port_b, cost) {
-            Some(reason) => Err(ApplyError::Refused(reason)),
-            None => {
-                self.add_link(name, i, port_a, j, port_b, cost)?;
-                Ok(())
-            }
-        }
+        self.add_link(name, i, port_a, j, port_b, cost)
     }
 
     /// An end of a link gets another metric.
-    #[tactic(auto, unfolding(crate::specs::Refusing::metric_refusal, crate::specs::Play::at_link, crate::specs::Reason::reason_unless))]
-    fn play_metric(&mut self, name: Name, side: Side, metric: u64) -> Result<(), ApplyError>
-        requires { IsInOrder B.shown self.old }
-        ensures happens { Happens (refuse.metric_refusal (state_of B.shown self.old) name metric)
-            (play.at_link (λ s k. event.remetered s k side metric) (state_of B.shown self.old) name)
-            self.old result self.new (state_of B.shown self.new) }
+    #[tactic(auto, using(crate::proofs::RefusalLemmas::metric_refusal_none), unfolding(crate::specs::Play::at_link))]
+    fn play_metric(&mut self, name: Name, side: Side, metric: u64) -> Result<(), NoMemory>
+        requires order { IsInOrder B.shown self.old }
+        requires accepted { refuse.metric_refusal self.old.world name metric ≡ None }
+        ensures state { OnOk result (state_of B.shown self.new
+            ≡ play.at_link (λ s k. event.remetered s k side metric) (state_of B.shown self.old) name) }
         ensures made { OnOk result (AreMade B.shown self.new.boxes.items) }
     {
-        let Some(link) = self.world.link_place(name) else {
-            return Err(ApplyError::Refused(Reason::NoSuchName));
-        };
-        if metric < 1 || metric > METRIC {
-            return Err(ApplyError::Refused(Reason::Range));
+        match self.world.link_place(name) {
+            None => Ok(()),
+            Some(link) => self.set_metric(link, side, metric as u32),
         }
-        self.set_metric(link, side, metric as u32)?;
-        Ok(())
     }
 
     /// A link goes down.
-    #[tactic(auto, unfolding(crate::specs::Refusing::down_refusal, crate::specs::Play::at_link, crate::specs::Reason::reason_unless))]
-    fn play_down(&mut self, name: Name) -> Result<(), ApplyError>
+    #[tactic(auto, unfolding(crate::specs::Play::at_link))]
+    fn play_down(&mut self, name: Name) -> Result<(), NoMemory>
         requires { IsInOrder B.shown self.old }
-        ensures happens { Happens (refuse.down_refusal (state_of B.shown self.old) name)
-            (play.at_link event.switched_off (state_of B.shown self.old) name)
-            self.old result self.new (state_of B.shown self.new) }
+        ensures state { OnOk result (state_of B.shown self.new
+            ≡ play.at_link event.switched_off (state_of B.shown self.old) name) }
         ensures made { OnOk result (AreMade B.shown self.new.boxes.items) }
     {
-        let Some(link) = self.world.link_place(name) else {
-            return Err(ApplyError::Refused(Reason::NoSuchName));
-        };
-        if !self.world.is_live(link) {
-            return Err(ApplyError::Refused(Reason::AlreadyDown));
+        match self.world.link_place(name) {
+            None => Ok(()),
+            Some(link) => self.switch_off(link),
         }
-        self.switch_off(link)?;
-        Ok(())
     }
 
     /// A link comes up.
-    #[tactic(auto, unfolding(crate::specs::Refusing::up_refusal, crate::specs::Play::at_link, crate::specs::Reason::reason_unless))]
-    fn play_up(&mut self, name: Name) -> Result<(), ApplyError>
+    #[tactic(auto, unfolding(crate::specs::Play::at_link))]
+    fn play_up(&mut self, name: Name) -> Result<(), NoMemory>
         requires { IsInOrder B.shown self.old }
-        ensures happens { Happens (refuse.up_refusal (state_of B.shown self.old) name)
-            (play.at_link event.switched_on (state_of B.shown self.old) name)
-            self.old result self.new (state_of B.shown self.new) }
+        ensures state { OnOk result (state_of B.shown self.new
+            ≡ play.at_link event.switched_on (state_of B.shown self.old) name) }
         ensures made { OnOk result (AreMade B.shown self.new.boxes.items) }
     {
-        let Some(link) = self.world.link_place(name) else {
-            return Err(ApplyError::Refused(Reason::NoSuchName));
-        };
-        if self.world.is_live(link) {
-            return Err(ApplyError::Refused(Reason::AlreadyUp));
+        match self.world.link_place(name) {
+            None => Ok(()),
+            Some(link) => self.switch_on(link),
         }
-        self.switch_on(link)?;
-        Ok(())
     }
 
     /// A second of a bridge.
-    #[tactic(auto, unfolding(crate::specs::Refusing::unnamed_refusal, crate::specs::Play::at_bridge, crate::specs::Reason::reason_unless))]
-    fn play_tick(&mut self, name: Name) -> Result<(), ApplyError>
+    #[tactic(auto, unfolding(crate::specs::Play::at_bridge))]
+    fn play_tick(&mut self, name: Name) -> Result<(), NoMemory>
         requires { IsInOrder B.shown self.old }
-        ensures happens { Happens (refuse.unnamed_refusal (state_of B.shown self.old) name)
-            (play.at_bridge event.ticked (state_of B.shown self.old) name)
-            self.old result self.new (state_of B.shown self.new) }
+        ensures state { OnOk result (state_of B.shown self.new
+            ≡ play.at_bridge event.ticked (state_of B.shown self.old) name) }
         ensures made { OnOk result (AreMade B.shown self.new.boxes.items) }
     {
-        let Some(place) = self.world.bridge_place(name) else {
-            return Err(ApplyError::Refused(Reason::NoSuchName));
-        };
-        self.tick(place)?;
-        Ok(())
-    }
-
-    /// The way of a frame at a place of a lane. Refused where there is no such link, or no such frame.
-    #[tactic(auto, unfolding(crate::specs::Refusing::frame_refusal, crate::specs::Reason::reason_unless))]
-    fn way_to(&self, name: Name, dir: Dir, place: u64) -> Result<LaneId, Reason>
-        ensures { IsWayTo (state_of B.shown self.now) name dir place result }
-    {
-        let Some(link) = self.world.link_place(name) else {
-            return Err(Reason::NoSuchName);
-        };
-        let way = LaneId { link, dir };
-        if place < self.lanes.frames(way) as u64 {
-            Ok(way)
-        } else {
-            Err(Reason::NoFrame)
+        match self.world.bridge_place(name) {
+            None => Ok(()),
+            Some(place) => self.tick(place),
         }
     }
 
     /// The frame at the front of a lane is delivered.
     #[tactic(auto, unfolding(crate::specs::Play::at_link))]
-    fn play_deliver(&mut self, name: Name, dir: Dir) -> Result<(), ApplyError>
+    fn play_deliver(&mut self, name: Name, dir: Dir) -> Result<(), NoMemory>
         requires { IsInOrder B.shown self.old }
-        ensures happens { Happens (refuse.frame_refusal (state_of B.shown self.old) name dir 0)
-            (play.at_link (λ s k. event.delivered s k dir) (state_of B.shown self.old) name)
-            self.old result self.new (state_of B.shown self.new) }
+        ensures state { OnOk result (state_of B.shown self.new
+            ≡ play.at_link (λ s k. event.delivered s k dir) (state_of B.shown self.old) name) }
         ensures made { OnOk result (AreMade B.shown self.new.boxes.items) }
     {
-        match self.way_to(name, dir, 0) {
-            Err(reason) => Err(ApplyError::Refused(reason)),
-            Ok(way) => {
-                self.deliver(way)?;
-                Ok(())
-            }
+        match self.world.link_place(name) {
+            None => Ok(()),
+            Some(link) => self.deliver(LaneId { link, dir }),
         }
     }
 
-    /// A frame is lost.
+    /// A frame is lost. Takes no memory, and answers Ok.
     #[tactic(auto, unfolding(crate::specs::Play::at_link))]
-    fn play_lose(&mut self, name: Name, dir: Dir, place: u64) -> Result<(), ApplyError>
+    fn play_lose(&mut self, name: Name, dir: Dir, place: u64) -> Result<(), NoMemory>
         requires { IsInOrder B.shown self.old }
-        ensures happens { Happens (refuse.frame_refusal (state_of B.shown self.old) name dir place)
-            (play.at_link (λ s k. event.lost s k dir place) (state_of B.shown self.old) name)
-            self.old result self.new (state_of B.shown self.new) }
+        ensures state { OnOk result (state_of B.shown self.new
+            ≡ play.at_link (λ s k. event.lost s k dir place) (state_of B.shown self.old) name) }
         ensures made { OnOk result (AreMade B.shown self.new.boxes.items) }
     {
-        match self.way_to(name, dir, place) {
-            Err(reason) => Err(ApplyError::Refused(reason)),
-            Ok(way) => {
-                self.lose(way, place as usize);
-                Ok(())
-            }
+        if let Some(link) = self.world.link_place(name) {
+            self.lose(LaneId { link, dir }, place as usize);
         }
+        Ok(())
     }
 
     /// A frame is doubled.
     #[tactic(auto, unfolding(crate::specs::Play::at_link))]
-    fn play_double(&mut self, name: Name, dir: Dir, place: u64) -> Result<(), ApplyError>
+    fn play_double(&mut self, name: Name, dir: Dir, place: u64) -> Result<(), NoMemory>
         requires { IsInOrder B.shown self.old }
-        ensures happens { Happens (refuse.frame_refusal (state_of B.shown self.old) name dir place)
-            (play.at_link (λ s k. event.doubled s k dir place) (state_of B.shown self.old) name)
-            self.old result self.new (state_of B.shown self.new) }
+        ensures state { OnOk result (state_of B.shown self.new
+            ≡ play.at_link (λ s k. event.doubled s k dir place) (state_of B.shown self.old) name) }
         ensures made { OnOk result (AreMade B.shown self.new.boxes.items) }
     {
-        match self.way_to(name, dir, place) {
-            Err(reason) => Err(ApplyError::Refused(reason)),
-            Ok(way) => {
-                self.double(way, place as usize)?;
-                Ok(())
-            }
+        match self.world.link_place(name) {
+            None => Ok(()),
+            Some(link) => self.double(LaneId { link, dir }, place as usize),
         }
     }
 
     /// So many rounds.
-    #[tactic(auto, unfolding(crate::specs::Refusing::round_refusal, crate::specs::Play::with_rounds, crate::specs::Reason::reason_unless))]
-    fn play_round_command(&mut self, n: u64) -> Result<(), ApplyError>
-        requires { IsInOrder B.shown self.old }
-        ensures happens { Happens (refuse.round_refusal (state_of B.shown self.old) n)
-            (play.with_rounds n (state_of B.shown self.old))
-            self.old result self.new (state_of B.shown self.new) }
+    #[tactic(auto, using(crate::proofs::RefusalLemmas::round_refusal_none), unfolding(crate::specs::Play::with_rounds))]
+    fn play_round_command(&mut self, n: u64) -> Result<(), NoMemory>
+        requires order { IsInOrder B.shown self.old }
+        requires accepted { refuse.round_refusal (state_of B.shown self.old) n ≡ None }
+        ensures state { OnOk result (state_of B.shown self.new ≡ play.with_rounds n (state_of B.shown self.old)) }
         ensures made { OnOk result (AreMade B.shown self.new.boxes.items) }
     {
-        if n < 1 || n > 20_000 {
-            return Err(ApplyError::Refused(Reason::Range));
-        }
-        if u64::from(self.rounds) + n > 20_000 {
-            return Err(ApplyError::Refused(Reason::TooMany));
-        }
-        let before = self.rounds;
+        let rounds = self.rounds + n as u32;
         self.play_rounds(n as u32)?;
-        self.rounds = before + n as u32;
+        self.rounds = rounds;
         Ok(())
     }
 
     /// So many deliveries at most.
-    #[tactic(auto, unfolding(crate::specs::Refusing::drain_refusal, crate::specs::Play::with_drain, crate::specs::Reason::reason_unless))]
-    fn play_drain_command(&mut self, n: u64) -> Result<(), ApplyError>
-        requires { IsInOrder B.shown self.old }
-        ensures happens { Happens (refuse.drain_refusal (state_of B.shown self.old) n)
-            (play.with_drain n (state_of B.shown self.old))
-            self.old result self.new (state_of B.shown self.new) }
+    #[tactic(auto, using(crate::proofs::RefusalLemmas::drain_refusal_none), unfolding(crate::specs::Play::with_drain))]
+    fn play_drain_command(&mut self, n: u64) -> Result<(), NoMemory>
+        requires order { IsInOrder B.shown self.old }
+        requires accepted { refuse.drain_refusal (state_of B.shown self.old) n ≡ None }
+        ensures state { OnOk result (state_of B.shown self.new ≡ play.with_drain n (state_of B.shown self.old)) }
         ensures made { OnOk result (AreMade B.shown self.new.boxes.items) }
     {
-        if n < 1 || n > 1_000_000 {
-            return Err(ApplyError::Refused(Reason::Range));
-        }
-        if u64::from(self.drained) + n > 100_000_000 {
-            return Err(ApplyError::Refused(Reason::TooMany));
-        }
-        let before = self.drained;
+        let drained = self.drained + n as u32;
         self.play_drain(n as u32)?;
-        self.drained = before + n as u32;
+        self.drained = drained;
         Ok(())
     }
 
-    /// Plays a command at a network that hasn't halted.
-    pub(crate) fn play(&mut self, command: &Command) -> Result<Answer, ApplyError>
-        requires { IsInOrder B.shown self.old }
-        ensures answers { Answers (state_of B.shown self.old) command.now
-            self.old result self.new (state_of B.shown self.new) }
+    /// What a command that isn't refused makes of the network.
+    fn perform(&mut self, command: &Command) -> Result<(), NoMemory>
+        requires order { IsInOrder B.shown self.old }
+        requires accepted { refuse.refusal_of (state_of B.shown self.old) command.now ≡ None }
+        ensures state { OnOk result (state_of B.shown self.new ≡ play.played (state_of B.shown self.old) command.now) }
         ensures made { OnOk result (AreMade B.shown self.new.boxes.items) }
     {
         match command {
-            Command::Vid { vid, ect } => silent(self.play_vid(*vid, *ect)),
+            Command::Vid { vid, ect } => self.play_vid(*vid, *ect),
             Command::Bridge {
                 name,
                 priority,
                 system,
                 source,
                 ports,
-            } => silent(self.play_bridge(*name, *priority, *system, *source, *ports)),
+            } => self.play_bridge(*name, *priority, *system, *source, *ports),
             Command::Link {
                 name,
                 a,
@@ -364,48 +283,31 @@ impl<B: Bridge> NetworkOf<B> {
                 b,
                 port_b,
                 cost,
-            } => silent(self.play_link(*name, *a, *port_a, *b, *port_b, *cost)),
-            Command::Wiring(name) => self.wiring(*name),
-            Command::Db(name) => self.db(*name),
-            Command::Adj(name) => self.adj(*name),
-            Command::Metric { link, side, metric } => {
-                outs(self.alloc, self.play_metric(*link, *side, *metric))
-            }
-            Command::Down(name) => outs(self.alloc, self.play_down(*name)),
-            Command::Up(name) => outs(self.alloc, self.play_up(*name)),
-            Command::Tick(name) => outs(self.alloc, self.play_tick(*name)),
-            Command::Deliver { link, dir } => outs(self.alloc, self.play_deliver(*link, *dir)),
-            Command::Lose { link, dir, place } => {
-                outs(self.alloc, self.play_lose(*link, *dir, *place))
-            }
-            Command::Double { link, dir, place } => {
-                outs(self.alloc, self.play_double(*link, *dir, *place))
-            }
-            Command::Round(n) => outs(self.alloc, self.play_round_command(*n)),
-            Command::Drain(n) => outs(self.alloc, self.play_drain_command(*n)),
-            _ => Ok(Answer::Silent),
+            } => self.play_link(*name, *a, *port_a, *b, *port_b, *cost),
+            Command::Metric { link, side, metric } => self.play_metric(*link, *side, *metric),
+            Command::Down(name) => self.play_down(*name),
+            Command::Up(name) => self.play_up(*name),
+            Command::Tick(name) => self.play_tick(*name),
+            Command::Deliver { link, dir } => self.play_deliver(*link, *dir),
+            Command::Lose { link, dir, place } => self.play_lose(*link, *dir, *place),
+            Command::Double { link, dir, place } => self.play_double(*link, *dir, *place),
+            Command::Round(n) => self.play_round_command(*n),
+            Command::Drain(n) => self.play_drain_command(*n),
+            _ => Ok(()),
         }
     }
-}
 
-/// The answer of a declaration.
-fn silent(happened: Result<(), ApplyError>) -> Result<Answer, ApplyError>
-    ensures { result ≡ answered answers.Silent happened }
-{
-    match happened {
-        Ok(()) => Ok(Answer::Silent),
-        Err(error) => Err(error),
-    }
-}
-
-/// The answer of an event: no customer frame leaves yet.
-fn outs(alloc: Global, happened: Result<(), ApplyError>) -> Result<Answer, ApplyError>
-    ensures { result ≡ answered play.no_outs happened }
-{
-    match happened {
-        Ok(()) => Ok(Answer::Outs {
-            frames: Seq::new(alloc),
-        }),
-        Err(error) => Err(error),
+    /// Plays a command that isn't refused, at a network that hasn't halted.
+    #[tactic(auto, using(crate::proofs::CommandFits::in_order))]
+    pub(crate) fn play(&mut self, command: &Command) -> Result<Answer, NoMemory>
+        requires sound { IsSoundNetwork B.shown self.old }
+        requires accepted { refuse.refusal_of (state_of B.shown self.old) command.now ≡ None }
+        ensures answer { IfOk result (λ answer. answer ≡ play.answer_of (state_of B.shown self.old) command.now) }
+        ensures state { OnOk result (state_of B.shown self.new ≡ play.played (state_of B.shown self.old) command.now) }
+        ensures made { OnOk result (AreMade B.shown self.new.boxes.items) }
+    {
+        let answer = self.answer(command)?;
+        self.perform(command)?;
+        Ok(answer)
     }
 }

@@ -1,27 +1,47 @@
 //! The questions that a network answers.
-ghost use Rattle.std.specs.Prelude.{◌≡◌, None, MatchResult, IfOk, map};
-ghost use Rattle.spb_network.specs.Refusing.{unnamed_refusal};
+ghost use Rattle.std.specs.Prelude.{◌≡◌, IfOk};
 ghost use Rattle.spb_network.specs.Play as play;
 ghost use Rattle.spb_network.specs.Network.{state_of, IsInOrder};
-ghost use Rattle.spb_network.specs.Applying.{Declines};
 
-use crate::{Answer, ApplyError, NetworkOf, Reason, boxes};
+use crate::{Answer, NetworkOf, boxes};
 use adjacency::Adjacency;
 use bridge_api::Bridge;
 use lsdb::DbRow;
+use scenario::Command;
 use spb_types::{Name, NoMemory, Seq};
 
 impl<B: Bridge> NetworkOf<B> {
+    /// What a command that isn't refused is answered, before anything of it happens: no customer frame leaves yet.
+    pub(crate) fn answer(&self, command: &Command) -> Result<Answer, NoMemory>
+        requires { IsInOrder B.shown self.now }
+        ensures { IfOk result (λ answer. answer ≡ play.answer_of (state_of B.shown self.now) command.now) }
+    {
+        match command {
+            Command::Metric { .. }
+            | Command::Down(_)
+            | Command::Up(_)
+            | Command::Tick(_)
+            | Command::Deliver { .. }
+            | Command::Lose { .. }
+            | Command::Double { .. }
+            | Command::Round(_)
+            | Command::Drain(_) => Ok(Answer::Outs {
+                frames: Seq::new(self.alloc),
+            }),
+            Command::Wiring(name) => self.wiring(*name),
+            Command::Db(name) => self.db(*name),
+            Command::Adj(name) => self.adj(*name),
+            _ => Ok(Answer::Silent),
+        }
+    }
+
     /// The tables that the wiring gives a bridge.
-    #[tactic(auto, unfolding(crate::specs::Refusing::unnamed_refusal, crate::specs::Play::wiring_of, crate::specs::Reason::reason_unless))]
-    pub(crate) fn wiring(&self, name: Name) -> Result<Answer, ApplyError>
-        ensures { MatchResult result
-            (λ answer. (unnamed_refusal (state_of B.shown self.now) name ≡ None)
-            × (answer ≡ play.wiring_of (state_of B.shown self.now) name))
-            (Declines (unnamed_refusal (state_of B.shown self.now) name)) }
+    #[tactic(auto, unfolding(crate::specs::Play::wiring_of))]
+    fn wiring(&self, name: Name) -> Result<Answer, NoMemory>
+        ensures { IfOk result (λ answer. answer ≡ play.wiring_of (state_of B.shown self.now) name) }
     {
         match self.world.bridge_place(name) {
-            None => Err(ApplyError::Refused(Reason::NoSuchName)),
+            None => Ok(Answer::Silent),
             Some(place) => {
                 let tables = self.world.wired_tables(self.alloc, place)?;
                 Ok(Answer::Wiring {
@@ -33,16 +53,13 @@ impl<B: Bridge> NetworkOf<B> {
     }
 
     /// The database of a bridge.
-    #[tactic(auto, unfolding(crate::specs::Refusing::unnamed_refusal, crate::specs::Play::db_of, crate::specs::Reason::reason_unless))]
-    pub(crate) fn db(&self, name: Name) -> Result<Answer, ApplyError>
+    #[tactic(auto, unfolding(crate::specs::Play::db_of))]
+    fn db(&self, name: Name) -> Result<Answer, NoMemory>
         requires { IsInOrder B.shown self.now }
-        ensures { MatchResult result
-            (λ answer. (unnamed_refusal (state_of B.shown self.now) name ≡ None)
-            × (answer ≡ play.db_of (state_of B.shown self.now) name))
-            (Declines (unnamed_refusal (state_of B.shown self.now) name)) }
+        ensures { IfOk result (λ answer. answer ≡ play.db_of (state_of B.shown self.now) name) }
     {
         match self.world.bridge_place(name) {
-            None => Err(ApplyError::Refused(Reason::NoSuchName)),
+            None => Ok(Answer::Silent),
             Some(place) => {
                 let rows = self.rows(place)?;
                 Ok(Answer::Db {
@@ -65,16 +82,13 @@ impl<B: Bridge> NetworkOf<B> {
     }
 
     /// The adjacencies of a bridge.
-    #[tactic(auto, unfolding(crate::specs::Refusing::unnamed_refusal, crate::specs::Play::adj_of, crate::specs::Reason::reason_unless))]
-    pub(crate) fn adj(&self, name: Name) -> Result<Answer, ApplyError>
+    #[tactic(auto, unfolding(crate::specs::Play::adj_of))]
+    fn adj(&self, name: Name) -> Result<Answer, NoMemory>
         requires { IsInOrder B.shown self.now }
-        ensures { MatchResult result
-            (λ answer. (unnamed_refusal (state_of B.shown self.now) name ≡ None)
-            × (answer ≡ play.adj_of (state_of B.shown self.now) name))
-            (Declines (unnamed_refusal (state_of B.shown self.now) name)) }
+        ensures { IfOk result (λ answer. answer ≡ play.adj_of (state_of B.shown self.now) name) }
     {
         match self.world.bridge_place(name) {
-            None => Err(ApplyError::Refused(Reason::NoSuchName)),
+            None => Ok(Answer::Silent),
             Some(place) => {
                 let ports = self.adjacencies(place)?;
                 Ok(Answer::Adj {

@@ -1,5 +1,5 @@
 -- What a reply to a line is, and which networks can be played.
-use Rattle.std.specs.Prelude.{◌≡◌, Bool, false}
+use Rattle.std.specs.Prelude.{◌≡◌, false}
 use Rattle.bridge_api.specs.Shown.{Shown}
 use Rattle.spb_network.specs.declared.network.NetworkOf.{NetworkOf}
 use Rattle.spb_network.specs.Applying.{IsReady}

@@ -1,5 +1,5 @@
 use Rattle.bridge_api.specs.Step as comes
-use Rattle.bridge_api.specs.Step.{sent, step, with_wire}
+use Rattle.bridge_api.specs.Step.{step}
 use Rattle.bridge_api.specs.Shown.{view_in}
 use Rattle.spb_types.proofs.Places.{lent, lent-none}
 use Rattle.spb_network.proofs.BoxLemmas.{map-set, changed-none, get-map, on_ok}

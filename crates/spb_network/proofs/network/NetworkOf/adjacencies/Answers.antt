@@ -1,4 +1,4 @@
-use Rattle.std.proofs.Common.{◌≡◌, map, slice_get, Some, None, sym, ap, ◌∙◌, [], subst}
+use Rattle.std.proofs.Common.{◌≡◌, slice_get, Some, None, sym, ap, ◌∙◌, [], subst}
 use Rattle.std.specs.Option.{option_map_or}
 use Rattle.bridge_api.specs.Shown.{view_in, views_of}
 use Rattle.spb_network.specs.State.{State}

@@ -1,10 +1,14 @@
-use Rattle.std.proofs.Common.{sym, ap, ◌∙◌, subst, refl, true≢false, inr, ⊎_elim}
+use Rattle.std.proofs.Common.{◌≡◌, None, sym, ap, ◌∙◌, subst, refl, true≢false, inr, ⊎_elim}
 use Rattle.spb_network.specs.State.{State}
+use Rattle.spb_network.specs.Refusing.{refusal_of}
 use Rattle.spb_network.specs.Play.{counted, next_state}
 use Rattle.spb_network.specs.Sound.{IsSoundState}
 use Rattle.spb_network.specs.Network.{state_of}
 use Rattle.spb_network.proofs.SoundPlay.{commands_keep_sound}
 use Rattle.spb_network.proofs.network.NetworkOf.apply.Goals as goal
+
+pub play-requires-clause-sound : goal.play-requires-clause-sound
+play-requires-clause-sound g c = ⊎_elim (λ h. absurd (true≢false (sym h ∙ c.if-self.false))) (λ n. n) c.requires
 
 pub returns-in-Ok-clause-applies : goal.returns-in-Ok-clause-applies
 unfolding next_state
@@ -12,9 +16,9 @@ returns-in-Ok-clause-applies g c =
     let made : State = state_of g.B.Bridge.shown c.play.new.self in (
       c.if-self.false,
       record {
-        accepted = c.in-Ok.ensures.answers.0;
-        answer_is = c.in-Ok.ensures.answers.1;
-        state = (λ i. record made { accepted = c.saturating_add-self.ensures i }) ∙ ap counted c.in-Ok.ensures.answers.2;
+        accepted = sym c.refusal.ensures ∙ c.in-None.is;
+        answer_is = c.in-Ok.ensures.answer;
+        state = (λ i. record made { accepted = c.saturating_add-self.ensures i }) ∙ ap counted c.in-Ok.ensures.state;
       },
       refl,
     )
@@ -25,7 +29,8 @@ returns-in-Ok-clause-ready g c =
     let old : State = state_of g.B.Bridge.shown c.args.self.now in
     let made : State = state_of g.B.Bridge.shown c.play.new.self in
     let sound : IsSoundState old = ⊎_elim (λ h. absurd (true≢false (sym h ∙ c.if-self.false))) (λ n. n.state) c.requires in
+    let accepted : refusal_of old c.args.command.now ≡ None = sym c.refusal.ensures ∙ c.in-None.is in
     inr (record {
       made = c.in-Ok.ensures.made;
-      state = subst IsSoundState (sym ((λ i. record made { accepted = c.saturating_add-self.ensures i }) ∙ ap counted c.in-Ok.ensures.answers.2)) (commands_keep_sound old c.args.command.now sound c.addressed.ensures c.in-Ok.ensures.answers.0);
+      state = subst IsSoundState (sym ((λ i. record made { accepted = c.saturating_add-self.ensures i }) ∙ ap counted c.in-Ok.ensures.state)) (commands_keep_sound old c.args.command.now sound c.addressed.ensures accepted);
     })

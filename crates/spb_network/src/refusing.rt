@@ -1,0 +1,181 @@
+//! Why each command is refused.
+ghost use Rattle.std.specs.Prelude.{◌≡◌};
+ghost use Rattle.spb_network.specs.Refusing as refuse;
+ghost use Rattle.spb_network.specs.Network.{state_of};
+
+use crate::limits::METRIC;
+use crate::rack::{kind_at, next_box};
+use crate::reason::reason_unless;
+use crate::{NetworkOf, Reason, World};
+use bridge_api::Bridge;
+use link_model::LaneId;
+use scenario::{Command, Dir};
+use spb_types::{Mac, Name, SourceId};
+
+impl World {
+    /// Why what names a bridge is refused, if it is.
+    #[tactic(auto, unfolding(crate::specs::Refusing::unnamed_refusal))]
+    pub fn unnamed_refusal(&self, name: Name) -> Option<Reason>
+        ensures { result ≡ refuse.unnamed_refusal self.now name }
+    {
+        reason_unless(self.bridge_place(name).is_some(), Reason::NoSuchName)
+    }
+
+    /// Why a link between two bridges can't be declared, if it can't.
+    #[tactic(auto, unfolding(crate::specs::Refusing::named_link_refusal))]
+    pub fn named_link_refusal(
+        &self,
+        name: Name,
+        a: Name,
+        port_a: u64,
+        b: Name,
+        port_b: u64,
+        cost: u64,
+    ) -> Option<Reason>
+        ensures { result ≡ refuse.named_link_refusal self.now name a port_a b port_b cost }
+    {
+        let Some(i) = self.bridge_place(a) else {
+            return Some(Reason::NoSuchName);
+        };
+        let Some(j) = self.bridge_place(b) else {
+            return Some(Reason::NoSuchName);
+        };
+        self.link_refusal(name, i, port_a, j, port_b, cost)
+    }
+
+    /// Why the link of a name can't go down, if it can't.
+    #[tactic(auto, unfolding(crate::specs::Refusing::down_refusal))]
+    pub fn down_refusal(&self, name: Name) -> Option<Reason>
+        ensures { result ≡ refuse.down_refusal self.now name }
+    {
+        match self.link_place(name) {
+            None => Some(Reason::NoSuchName),
+            Some(link) => reason_unless(self.is_live(link), Reason::AlreadyDown),
+        }
+    }
+
+    /// Why the link of a name can't come up, if it can't.
+    #[tactic(auto, unfolding(crate::specs::Refusing::up_refusal))]
+    pub fn up_refusal(&self, name: Name) -> Option<Reason>
+        ensures { result ≡ refuse.up_refusal self.now name }
+    {
+        match self.link_place(name) {
+            None => Some(Reason::NoSuchName),
+            Some(link) => reason_unless(!self.is_live(link), Reason::AlreadyUp),
+        }
+    }
+
+    /// Why an end of the link of a name can't get this metric, if it can't.
+    #[tactic(auto, unfolding(crate::specs::Refusing::metric_refusal))]
+    pub fn metric_refusal(&self, name: Name, metric: u64) -> Option<Reason>
+        ensures { result ≡ refuse.metric_refusal self.now name metric }
+    {
+        match self.link_place(name) {
+            None => Some(Reason::NoSuchName),
+            Some(_) => reason_unless(1 <= metric && metric <= METRIC, Reason::Range),
+        }
+    }
+}
+
+impl<B: Bridge> NetworkOf<B> {
+    /// Why a bridge can't be declared, if it can't.
+    #[tactic(auto, unfolding(crate::specs::Refusing::declared_refusal))]
+    fn declared_refusal(
+        &self,
+        name: Name,
+        priority: u64,
+        system: Mac,
+        source: SourceId,
+        ports: u64,
+    ) -> Option<Reason>
+        ensures { result ≡ refuse.declared_refusal (state_of B.shown self.now) name priority system source ports }
+    {
+        let wanted = kind_at(self.rule, self.world.bridge_count());
+        let has_box = next_box(&self.rack, wanted).is_some();
+        self.world
+            .bridge_refusal(name, priority, system, source, ports)
+            .or(reason_unless(has_box, Reason::RackSpent))
+    }
+
+    /// Why no frame at this place of a lane can be delivered, lost or doubled, if none can.
+    #[tactic(auto, unfolding(crate::specs::Refusing::frame_refusal))]
+    fn frame_refusal(&self, name: Name, dir: Dir, place: u64) -> Option<Reason>
+        ensures { result ≡ refuse.frame_refusal (state_of B.shown self.now) name dir place }
+    {
+        match self.world.link_place(name) {
+            None => Some(Reason::NoSuchName),
+            Some(link) => {
+                let frames = self.lanes.frames(LaneId { link, dir });
+                reason_unless(place < frames as u64, Reason::NoFrame)
+            }
+        }
+    }
+
+    /// Why so many rounds can't be played, if they can't.
+    #[tactic(auto, unfolding(crate::specs::Refusing::round_refusal, crate::specs::Reason::reason_unless))]
+    fn round_refusal(&self, n: u64) -> Option<Reason>
+        ensures { result ≡ refuse.round_refusal (state_of B.shown self.now) n }
+    {
+        if n < 1 || n > 20_000 {
+            return Some(Reason::Range);
+        }
+        if u64::from(self.rounds) + n > 20_000 {
+            return Some(Reason::TooMany);
+        }
+        None
+    }
+
+    /// Why so many deliveries can't be asked for, if they can't.
+    #[tactic(auto, unfolding(crate::specs::Refusing::drain_refusal, crate::specs::Reason::reason_unless))]
+    fn drain_refusal(&self, n: u64) -> Option<Reason>
+        ensures { result ≡ refuse.drain_refusal (state_of B.shown self.now) n }
+    {
+        if n < 1 || n > 1_000_000 {
+            return Some(Reason::Range);
+        }
+        if u64::from(self.drained) + n > 100_000_000 {
+            return Some(Reason::TooMany);
+        }
+        None
+    }
+
+    /// Why a command is refused, if it is: the first reason in order of number that holds. Takes no memory.
+    pub fn refusal(&self, command: &Command) -> Option<Reason>
+        ensures { result ≡ refuse.refusal_of (state_of B.shown self.now) command.now }
+    {
+        match command {
+            Command::Vid { vid, ect } => self.world.vid_refusal(*vid, *ect),
+            Command::Bridge {
+                name,
+                priority,
+                system,
+                source,
+                ports,
+            } => self.declared_refusal(*name, *priority, *system, *source, *ports),
+            Command::Link {
+                name,
+                a,
+                port_a,
+                b,
+                port_b,
+                cost,
+            } => self
+                .world
+                .named_link_refusal(*name, *a, *port_a, *b, *port_b, *cost),
+            Command::Metric { link, metric, .. } => self.world.metric_refusal(*link, *metric),
+            Command::Down(name) => self.world.down_refusal(*name),
+            Command::Up(name) => self.world.up_refusal(*name),
+            Command::Tick(name) => self.world.unnamed_refusal(*name),
+            Command::Deliver { link, dir } => self.frame_refusal(*link, *dir, 0),
+            Command::Lose { link, dir, place } | Command::Double { link, dir, place } => {
+                self.frame_refusal(*link, *dir, *place)
+            }
+            Command::Round(n) => self.round_refusal(*n),
+            Command::Drain(n) => self.drain_refusal(*n),
+            Command::Wiring(name) | Command::Db(name) | Command::Adj(name) => {
+                self.world.unnamed_refusal(*name)
+            }
+            _ => None,
+        }
+    }
+}
