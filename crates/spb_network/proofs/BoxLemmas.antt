@@ -4,6 +4,7 @@ use Rattle.std.specs.List.{AllByRecursion, slice_index_or, slice_set, IsItemAtMu
 use Rattle.bridge_api.specs.declared.outbox.Outbox.{Outbox}
 use Rattle.bridge_api.specs.Step.{with_wire}
 use Rattle.spb_types.specs.Places.{changed_at}
+use Rattle.spb_types.proofs.Places.{get-some, get-none}
 
 some-is : {X : Type 0} (x y : X) → Some x ≡ Some y → x ≡ y
 some-is x y h = cc

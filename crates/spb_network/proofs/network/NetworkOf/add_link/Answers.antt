@@ -12,7 +12,7 @@ meter_over-requires-clause-order g c =
     let s : State = state_of g.B.Bridge.shown c.args.self.now in
     record {
       made = c.requires.order.made;
-      fits = subst Fits (λ i. record s { world = sym c.in_ok-link.ensures.ok i; lanes = sym c.in_ok-push.ensures.items i }) (Fits-with_link s c.args.name (link_of c.args.i c.args.port_a c.args.j c.args.port_b c.args.cost) c.new.result c.requires.order.fits);
+      fits = subst Fits (λ i. record s { world = sym c.in_ok-link.ensures.ok i; lanes = sym c.in_ok-add_link.ensures.ok i }) (Fits-with_link s c.args.name (link_of c.args.i c.args.port_a c.args.j c.args.port_b c.args.cost) c.new.result c.requires.order.fits);
     }
 
 pub meter_over-requires-clause-link : goal.meter_over-requires-clause-link
