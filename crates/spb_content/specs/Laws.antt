@@ -11,6 +11,7 @@ use Rattle.spb_tlvs.specs.RoundTrip.{IsMac, IsNeighbour}
 use Rattle.spb_content.specs.declared.local.Local.{Local}
 use Rattle.spb_content.specs.Local.{IsLocal, plan_number, vid_number, isid_number, trees_of, vids_in, isids_in, own_mac, said_by, content_bytes}
 use Rattle.spb_content.specs.Content.{content_in}
+use Rattle.spb_types.specs.declared.limits.TheConstants.{MOST_PORTS}
 
 -- what the fields of the types hold
 pub record HasFields (l : Local) : Type 0 where
@@ -71,4 +72,4 @@ pub record Fits (bytes : List ℕ) : Type 0 where
 
 -- with at most 32 ports, the LSP of a bridge has at most 1,267 bytes
 abbrev pub OwnFits : Type 0
-OwnFits = (l : Local) → IsLocal l → HasFields l → AreConfigured l → length l.neighbours ≤ 32 → Fits (content_bytes l)
+OwnFits = (l : Local) → IsLocal l → HasFields l → AreConfigured l → length l.neighbours ≤ MOST_PORTS → Fits (content_bytes l)
