@@ -4,10 +4,11 @@ use Rattle.spb_types.specs.declared.address.SystemId.{SystemId}
 use Rattle.spb_types.specs.Address.{same_system}
 use Rattle.isis_pdu.specs.Pdu.{HelloValue}
 use Rattle.spb_tlvs.specs.declared.three_way.ThreeWay.{ThreeWay}
+use Rattle.spb_types.specs.declared.level.TheConstants.{LEVEL_1}
 
 -- the circuit type of a system that speaks level 1, alone or with level 2 (ISO/IEC 10589, 9.7)
 abbrev pub has_level_one : ℕ → Bool
-has_level_one circuit_type = (circuit_type == 1) || (circuit_type == 3)
+has_level_one circuit_type = (circuit_type == LEVEL_1) || (circuit_type == 3)
 
 -- an end of a circuit: a system and its extended local circuit id
 abbrev pub End : Type 0

@@ -6,7 +6,7 @@ ghost use Rattle.adjacency.specs.Adjacency.{IsSound, down, after_hello, after_he
 use crate::state::{AdjState, Heard};
 use isis_pdu::Hello;
 use spb_tlvs::ThreeWay;
-use spb_types::{Mac, SystemId};
+use spb_types::{LEVEL_1, Mac, SystemId};
 
 /// The three-way adjacency at a port (RFC 5303).
 ///
@@ -191,7 +191,7 @@ fn is_discarded(me: SystemId, port: u8, hello: &Hello, way: &ThreeWay) -> bool
 fn has_level_one(circuit_type: u8) -> bool
     ensures { result ≡ hearing.has_level_one circuit_type }
 {
-    circuit_type == 1 || circuit_type == 3
+    circuit_type == LEVEL_1 || circuit_type == 3
 }
 
 /// Whether a neighbour is named that isn't the system `me` at its port number `port`.

@@ -22,28 +22,29 @@ use Rattle.ect_trees.proofs.Among.{same_is, same_self, among_right}
 use Rattle.ect_trees.proofs.Walks.{step, path_snoc, path_distinct, path_length, cost-snoc, hops-snoc, ids-snoc}
 use Rattle.ect_trees.proofs.Least.{best_is_least, lists_eq_or_not}
 use Rattle.ect_trees.proofs.Places.{at_among}
+use Rattle.spb_types.specs.declared.limits.TheConstants.{GREATEST_METRIC, MOST_GRAPH_BRIDGES}
 
-cost_high : (g : Graph) (es : List Edge) (x y : SystemId) → AllByRecursion (λ e. IsEdgeOf g e) es → unwrap_or (cost_among es x y) 0 ≤ 16777214
+cost_high : (g : Graph) (es : List Edge) (x y : SystemId) → AllByRecursion (λ e. IsEdgeOf g e) es → unwrap_or (cost_among es x y) 0 ≤ GREATEST_METRIC
 cost_high g [] x y v = omega arith
 cost_high g (e ∷ es) x y v = by (joins e x y) (cost_high g es x y v.1)
   where
-    by : (t : Bool) → unwrap_or (cost_among es x y) 0 ≤ 16777214 → unwrap_or (if t then Some e.cost else cost_among es x y) 0 ≤ 16777214
+    by : (t : Bool) → unwrap_or (cost_among es x y) 0 ≤ GREATEST_METRIC → unwrap_or (if t then Some e.cost else cost_among es x y) 0 ≤ GREATEST_METRIC
     by true h = v.0.high
     by false h = h
 
-along_high : (g : Graph) (x : SystemId) (xs : List SystemId) → IsValid g → cost_along g x xs ≤ 16777214 * length xs
+along_high : (g : Graph) (x : SystemId) (xs : List SystemId) → IsValid g → cost_along g x xs ≤ GREATEST_METRIC * length xs
 along_high g x [] v = omega arith
 along_high g x (y ∷ ys) v =
-    let one : step g x y ≤ 16777214 = cost_high g g.edges x y v.edges in
-    let others : cost_along g y ys ≤ 16777214 * length ys = along_high g y ys v in
+    let one : step g x y ≤ GREATEST_METRIC = cost_high g g.edges x y v.edges in
+    let others : cost_along g y ys ≤ GREATEST_METRIC * length ys = along_high g y ys v in
     omega (arith, one, others)
 
 path_small : (g : Graph) (a b : SystemId) (p : List SystemId) → IsValid g → IsPath g a b p → (cost_of g p < 2 ^ 40) × (hops_of p < 65536)
 path_small g a b [] v w = absurd w
 path_small g a b (x ∷ xs) v w =
     let long : suc (length xs) ≤ length g.bridges = path_length g a b (x ∷ xs) w in
-    let few : length xs ≤ 65535 = omega (arith, long, v.few) in
-    let high : cost_along g x xs ≤ 16777214 * length xs = along_high g x xs v in
+    let few : length xs ≤ MOST_GRAPH_BRIDGES = omega (arith, long, v.few) in
+    let high : cost_along g x xs ≤ GREATEST_METRIC * length xs = along_high g x xs v in
     (omega (arith, high, few), omega (arith, few))
 
 -- the sums of a label stay far below their types' ends

@@ -12,6 +12,7 @@ use Rattle.ect_trees.proofs.Among.{same_is, same_self}
 use Rattle.ect_trees.proofs.Members.{Has}
 use Rattle.ect_trees.proofs.Walks.{leads_end, path_single, step, path_length}
 use Rattle.ect_trees.proofs.Least.{best_front}
+use Rattle.spb_types.specs.declared.limits.TheConstants.{GREATEST_METRIC, MOST_GRAPH_BRIDGES}
 
 -- a list that isn't empty has a last element
 pub front_and_last : (x : SystemId) (xs : List SystemId) → (l : List SystemId) × (z : SystemId) × (x ∷ xs ≡ l ++ z ∷ [])
@@ -66,33 +67,33 @@ best_step g mask a y (z ∷ t ∷ ts) valid h = from_last (front_and_last t ts)
           },
         )
 
-step_low_high : (g : Graph) (es : List Edge) (x y : SystemId) → AllByRecursion (λ e. IsEdgeOf g e) es → unwrap_or (cost_among es x y) 0 ≤ 16777214
+step_low_high : (g : Graph) (es : List Edge) (x y : SystemId) → AllByRecursion (λ e. IsEdgeOf g e) es → unwrap_or (cost_among es x y) 0 ≤ GREATEST_METRIC
 step_low_high g [] x y v = omega arith
 step_low_high g (e ∷ es) x y v = high_at (joins e x y) (step_low_high g es x y v.1)
   where
-    high_at : (b : Bool) → unwrap_or (cost_among es x y) 0 ≤ 16777214 → unwrap_or (if b then Some e.cost else cost_among es x y) 0 ≤ 16777214
+    high_at : (b : Bool) → unwrap_or (cost_among es x y) 0 ≤ GREATEST_METRIC → unwrap_or (if b then Some e.cost else cost_among es x y) 0 ≤ GREATEST_METRIC
     high_at true h = v.0.high
     high_at false h = h
 
 -- an edge costs at most 16,777,214
-pub step_high : (g : Graph) (x y : SystemId) → IsValid g → step g x y ≤ 16777214
+pub step_high : (g : Graph) (x y : SystemId) → IsValid g → step g x y ≤ GREATEST_METRIC
 step_high g x y v = step_low_high g g.edges x y v.edges
 
-along_high : (g : Graph) (x : SystemId) (xs : List SystemId) → IsValid g → cost_along g x xs ≤ length xs * 16777214
+along_high : (g : Graph) (x : SystemId) (xs : List SystemId) → IsValid g → cost_along g x xs ≤ length xs * GREATEST_METRIC
 along_high g x [] v = omega arith
 along_high g x (y ∷ ys) v = let h = along_high g y ys v in let s = step_high g x y v in omega (arith, h, s)
 
 -- and a path so much for each hop
-pub cost_high : (g : Graph) (p : List SystemId) → IsValid g → cost_of g p ≤ hops_of p * 16777214
+pub cost_high : (g : Graph) (p : List SystemId) → IsValid g → cost_of g p ≤ hops_of p * GREATEST_METRIC
 cost_high g [] v = omega arith
 cost_high g (x ∷ xs) v = let h = along_high g x xs v in omega (arith, h)
 
 -- a path has at most 65,535 bridges
-pub path_few : (g : Graph) (a b : SystemId) (p : List SystemId) → IsValid g → IsPath g a b p → length p ≤ 65535
+pub path_few : (g : Graph) (a b : SystemId) (p : List SystemId) → IsValid g → IsPath g a b p → length p ≤ MOST_GRAPH_BRIDGES
 path_few g a b p v w = omega (arith, path_length g a b p w, v.few)
 
 -- so its cost and that of one edge more is a number of 64 bits, and its hops and one more one of 32
-pub path_fits : (g : Graph) (a b : SystemId) (p : List SystemId) → IsValid g → IsPath g a b p → (cost_of g p + 16777214 < 2 ^ 64) × (hops_of p + 1 < 2 ^ 32)
+pub path_fits : (g : Graph) (a b : SystemId) (p : List SystemId) → IsValid g → IsPath g a b p → (cost_of g p + GREATEST_METRIC < 2 ^ 64) × (hops_of p + 1 < 2 ^ 32)
 path_fits g a b p v w = let h = cost_high g p v in let f = path_few g a b p v w in (omega (arith, h, f), omega (arith, f))
 
 and_parts : (a b : Bool) → (a && b) ≡ true → (a ≡ true) × (b ≡ true)

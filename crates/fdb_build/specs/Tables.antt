@@ -13,6 +13,7 @@ use Rattle.spb_types.specs.declared.service.VidPlan.{VidPlan}
 use Rattle.spb_types.specs.declared.tables.UnicastRow.{UnicastRow}
 use Rattle.ect_trees.specs.Best.{IsBest, best_of}
 use Rattle.ect_trees.specs.Laws.{AreAlike, LookAlike}
+use Rattle.spb_types.specs.declared.limits.TheConstants.{GREATEST_ECT}
 
 -- an item put at its place in an ascending list
 abbrev pub placed : {A : Type 0} → (A → A → Ordering) → A → List A → List A
@@ -52,7 +53,7 @@ unicast_rows g me vids = flat_map (rows_of_vid g me) (ascending vid_cmp vids)
 
 -- each plan has the number of an ECT algorithm, and no VID stands twice
 pub record ArePlans (vids : List VidPlan) : Type 0 where
-  pub ects : AllByRecursion (λ p. (1 ≤ p.ect) × (p.ect ≤ 16)) vids
+  pub ects : AllByRecursion (λ p. (1 ≤ p.ect) × (p.ect ≤ GREATEST_ECT)) vids
   pub apart : AreVidsApart vids
 
 -- a row of `me`: for one of the VIDs, and a bridge with a best path of two bridges or more, it has the bridge's

@@ -6,6 +6,7 @@ ghost use Rattle.report.specs.Ports.{ports_among, ports_text};
 ghost use Rattle.report.specs.Listing.{comma, separated, separator_after};
 
 use itoa::Buffer;
+use spb_types::limits::MOST_PORTS;
 use spb_types::{NoMemory, PortSet};
 use std::alloc::Global;
 use std::marker::Model;
@@ -126,7 +127,7 @@ impl Text {
     /// The separator and the port, if the set has it. The answer is the separator that comes next.
     fn port_if_there(&mut self, separator: u8, ports: PortSet, port: u8) -> Result<u8, NoMemory>
         requires low { 1 ≤ port }
-        requires high { port ≤ 32 }
+        requires high { port ≤ MOST_PORTS }
         ensures text { OnOk result
             (self.new ≡ self.old ++ (if has ports port then separator ∷ decimal port else [])) }
         ensures next { IfOk result (λ next. next ≡ (if has ports port then comma else separator)) }

@@ -9,6 +9,7 @@ use Rattle.spb_tlvs.specs.declared.neighbours.Neighbour.{Neighbour}
 use Rattle.spb_content.specs.declared.content.Content.{Content}
 use Rattle.spb_content.specs.Graph.{Contents, said_of, entry_for, entry_said, both, link_said, Leads, IsReached, usable}
 use Rattle.spb_content.proofs.Members.{Has}
+use Rattle.spb_types.specs.declared.limits.TheConstants.{GREATEST_METRIC}
 
 -- ---- system ids
 
@@ -122,19 +123,19 @@ pub record Entry (y : SystemId) (c : Content) (n : Neighbour) : Type 0 where
   pub listed : Has n c.neighbours
   pub system : n.system ≡ y
   pub low : 1 ≤ n.metric
-  pub high : n.metric ≤ 16777214
+  pub high : n.metric ≤ GREATEST_METRIC
 
 pub entry_is : (y : SystemId) (c : Content) (n : Neighbour) → entry_for y c ≡ Some n → Entry y c n
 entry_is y c n h = at (find (λ m. same_system m.system y) c.neighbours) refl h
   where
-    used : (m : Neighbour) (b : Bool) → (nat_le 1 m.metric && nat_le m.metric 16777214) ≡ b → cond b (Some m) None ≡ Some n → (m ≡ n) × ((nat_le 1 m.metric && nat_le m.metric 16777214) ≡ true)
+    used : (m : Neighbour) (b : Bool) → (nat_le 1 m.metric && nat_le m.metric GREATEST_METRIC) ≡ b → cond b (Some m) None ≡ Some n → (m ≡ n) × ((nat_le 1 m.metric && nat_le m.metric GREATEST_METRIC) ≡ true)
     used m true e k = (cc, e)
     used m false e k = absurd cc
 
     at : (o : Option Neighbour) → find (λ m. same_system m.system y) c.neighbours ≡ o → option_and_then usable o ≡ Some n → Entry y c n
     at None e k = absurd cc
     at (Some m) e k =
-        let u = used m (nat_le 1 m.metric && nat_le m.metric 16777214) refl k in
+        let u = used m (nat_le 1 m.metric && nat_le m.metric GREATEST_METRIC) refl k in
         let f = find_has (λ r. same_system r.system y) c.neighbours m e in
         let t = and_parts _ _ u.1 in
         subst (λ r. Entry y c r) u.0 (record { first = e; listed = f.0; system = same_is m.system y f.1; low = leb-true _ _ t.0; high = leb-true _ _ t.1 })

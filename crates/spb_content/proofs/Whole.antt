@@ -20,6 +20,7 @@ use Rattle.spb_content.proofs.Links.{same_is, same_self, entries_of, said_for, e
 use Rattle.spb_content.proofs.Chosen.{AreChosen, are_reached, said_has}
 use Rattle.spb_content.proofs.Made.{Made}
 use Rattle.spb_content.proofs.Joined.{are_edges, between, costs, ports, within, holds_far}
+use Rattle.spb_types.specs.declared.limits.TheConstants.{MOST_GRAPH_BRIDGES}
 
 -- ---- what is there of each content
 
@@ -154,7 +155,7 @@ edge_of_graph list P ks e h k =
       high = omega (arith, m.cost, n.high, o.high);
     }
 
-pub valid_chosen : (list : Contents) (P : SystemId → Type 0) (ks : Contents) → length list ≤ 65535 → AreChosen list P ks → IsValid (graph_among list ks)
+pub valid_chosen : (list : Contents) (P : SystemId → Type 0) (ks : Contents) → length list ≤ MOST_GRAPH_BRIDGES → AreChosen list P ks → IsValid (graph_among list ks)
 valid_chosen list P ks few h = record {
   few = omega (arith, bridges_few ks, h.few, few);
   apart = bridges_distinct ks h.apart;
@@ -269,7 +270,7 @@ own_apart list x (e ∷ es) own made one = at (is_at e x) refl (own_apart list x
     )
     at false t r = r
 
-pub valid_for_chosen : (list : Contents) (P : SystemId → Type 0) (ks : Contents) (x : SystemId) → length list ≤ 65535 → AreChosen list P ks → HasOwnPorts list x → IsValidFor (graph_among list ks) x
+pub valid_for_chosen : (list : Contents) (P : SystemId → Type 0) (ks : Contents) (x : SystemId) → length list ≤ MOST_GRAPH_BRIDGES → AreChosen list P ks → HasOwnPorts list x → IsValidFor (graph_among list ks) x
 valid_for_chosen list P ks x few h own =
     let es = are_edges list P ks h in
     record {
@@ -300,8 +301,8 @@ ok_is P g (Err e) h p = h
 pub graph_is : {E : Type 0} (list : Contents) (me : SystemId) (r : Result Graph E) → IsDistinct (systems_in list) → Built list me r → IfOk r (IsGraphOf me list)
 graph_is list me r apart b = ok_is (IsGraphOf me list) _ r b.is (graph_of_reached list me (kept list b.marks) (are_reached list me b.marks apart b.walked))
 
-pub graph_valid : {E : Type 0} (list : Contents) (me : SystemId) (r : Result Graph E) → IsDistinct (systems_in list) → length list ≤ 65535 → Built list me r → IfOk r IsValid
+pub graph_valid : {E : Type 0} (list : Contents) (me : SystemId) (r : Result Graph E) → IsDistinct (systems_in list) → length list ≤ MOST_GRAPH_BRIDGES → Built list me r → IfOk r IsValid
 graph_valid list me r apart few b = ok_is IsValid _ r b.is (valid_chosen list _ (kept list b.marks) few (are_reached list me b.marks apart b.walked))
 
-pub graph_valid_for : {E : Type 0} (list : Contents) (me : SystemId) (r : Result Graph E) → IsDistinct (systems_in list) → length list ≤ 65535 → Built list me r → HasOwnPorts list me → IfOk r (λ g. IsValidFor g me)
+pub graph_valid_for : {E : Type 0} (list : Contents) (me : SystemId) (r : Result Graph E) → IsDistinct (systems_in list) → length list ≤ MOST_GRAPH_BRIDGES → Built list me r → HasOwnPorts list me → IfOk r (λ g. IsValidFor g me)
 graph_valid_for list me r apart few b own = ok_is (λ g. IsValidFor g me) _ r b.is (valid_for_chosen list _ (kept list b.marks) me few (are_reached list me b.marks apart b.walked) own)

@@ -19,6 +19,7 @@ use Rattle.spb_content.specs.Local.{neighbour_tlvs, plan_number, vid_number, isi
 use Rattle.spb_content.proofs.Members.{Has, all_has, has_all, has_map, map_has, filter_has}
 use Rattle.spb_content.proofs.Ascended.{ascending_ascends, has_ascending, numbered_ascending, Numbered}
 use Rattle.spb_content.proofs.Kept.{all_ascending, length-ascending, length-within, apart_ascends}
+use Rattle.spb_types.specs.declared.limits.TheConstants.{GREATEST_ISID, GREATEST_VID, MOST_VIDS, SOURCE_IDS}
 
 -- how many TLVs neighbours take: one for the first 13, and those of the others
 count_more : (n : ℕ) → 0 < n → (n + 12) / 13 ≡ suc ((n - 13 + 12) / 13)
@@ -27,7 +28,7 @@ count_more n h = omega arith
 pub neighbour_tlvs-cut : (ns : List Neighbour) → 0 < length ns → neighbour_tlvs ns ≡ tlv 22 (neighbours_value (take 13 ns)) ++ neighbour_tlvs (drop 13 ns)
 neighbour_tlvs-cut ns h = rw (count_more (length ns) h, length-drop) refl
 
-pub is_inst : (source : SourceId) (plans : List VidPlan) → source.value < 1048576 → length plans ≤ 16 → AllByRecursion IsTree plans → IsInst source (ascending plan_number plans)
+pub is_inst : (source : SourceId) (plans : List VidPlan) → source.value < SOURCE_IDS → length plans ≤ MOST_VIDS → AllByRecursion IsTree plans → IsInst source (ascending plan_number plans)
 is_inst source plans high few each = record {
   source_high = high;
   few = omega (arith, length-ascending plan_number plans, few);
@@ -91,16 +92,16 @@ is_services vid attached each few h =
     let at : IsAttached a.0 = all_has IsAttached a.0 attached each a.1 in
     record {
       low = subst (λ (v : Vid). 1 ≤ v.value) (sym a.2) at.vid_low;
-      high = subst (λ (v : Vid). v.value ≤ 4094) (sym a.2) at.vid_high;
+      high = subst (λ (v : Vid). v.value ≤ GREATEST_VID) (sym a.2) at.vid_high;
       few = omega (arith, few, isids_within vid attached, length-map (isids_in (in_vid vid attached)) service_with);
       each = All-from_recursion IsService _ (has_all IsService (services_in vid attached) one);
     }
   where
-    isid_is : (isid : Isid) → Has isid (isids_in (in_vid vid attached)) → (1 ≤ isid.value) × (isid.value ≤ 16777215)
+    isid_is : (isid : Isid) → Has isid (isids_in (in_vid vid attached)) → (1 ≤ isid.value) × (isid.value ≤ GREATEST_ISID)
     isid_is isid i =
         let s = isid_attached isid (in_vid vid attached) i in
         let at : IsAttached s.0 = all_has IsAttached s.0 attached each (filter_has _ s.0 attached s.1).0 in
-        (subst (λ (j : Isid). 1 ≤ j.value) (sym s.2) at.isid_low, subst (λ (j : Isid). j.value ≤ 16777215) (sym s.2) at.isid_high)
+        (subst (λ (j : Isid). 1 ≤ j.value) (sym s.2) at.isid_low, subst (λ (j : Isid). j.value ≤ GREATEST_ISID) (sym s.2) at.isid_high)
 
     one : (s : Service) → Has s (services_in vid attached) → IsService s
     one s i =

@@ -12,6 +12,7 @@ use Rattle.spb_tlvs.specs.Neighbour.{neighbours_of}
 use Rattle.spb_tlvs.specs.Capability.{capabilities_of}
 use Rattle.spb_content.specs.declared.content.Content.{Content}
 use Rattle.spb_content.specs.declared.content.Inst.{Inst}
+use Rattle.spb_tlvs.specs.declared.codes.TheConstants.{EXTENDED_IS_REACHABILITY, MT_CAPABILITY}
 
 -- a value that can't be read is passed over
 abbrev pub or_nothing : {A : Type 0} → Result (List A) TlvError → List A
@@ -20,11 +21,11 @@ or_nothing (Err e) = []
 
 -- the neighbours of all TLVs 22, in order
 abbrev pub neighbours_in : List ℕ → List Neighbour
-neighbours_in tlvs = flat_map (λ value. or_nothing (neighbours_of value)) (values_with 22 tlvs)
+neighbours_in tlvs = flat_map (λ value. or_nothing (neighbours_of value)) (values_with EXTENDED_IS_REACHABILITY tlvs)
 
 -- the capabilities of all TLVs 144, in order
 abbrev pub capabilities_in : List ℕ → List Capability
-capabilities_in tlvs = flat_map (λ value. or_nothing (capabilities_of value)) (values_with 144 tlvs)
+capabilities_in tlvs = flat_map (λ value. or_nothing (capabilities_of value)) (values_with MT_CAPABILITY tlvs)
 
 -- the first SPB-Inst among them
 abbrev pub first_inst : List Capability → Option Inst

@@ -13,6 +13,7 @@ use Rattle.spb_types.specs.declared.service.Vid.{Vid}
 use Rattle.spb_tlvs.specs.declared.capability.Service.{Service}
 use Rattle.spb_tlvs.specs.declared.neighbours.Neighbour.{Neighbour}
 use Rattle.spb_content.specs.declared.content.Content.{Content}
+use Rattle.spb_types.specs.declared.limits.TheConstants.{GREATEST_METRIC, MOST_PORTS}
 
 -- what each of some systems says
 abbrev pub Contents : Type 0
@@ -36,7 +37,7 @@ bridge_of c = option_map (λ i. record { id = record { priority = i.priority; sy
 
 -- an entry with a metric that a link can have: of 24 bits, and neither 0 nor the greatest (RFC 6329, 15.1)
 abbrev pub usable : Neighbour → Option Neighbour
-usable n = if nat_le 1 n.metric && nat_le n.metric 16777214 then Some n else None
+usable n = if nat_le 1 n.metric && nat_le n.metric GREATEST_METRIC then Some n else None
 
 -- the entry for a neighbour: the first counts, and only with such a metric; where the first has another, none does
 abbrev pub entry_for : SystemId → Content → Option Neighbour
@@ -108,7 +109,7 @@ ArePortsApart (n ∷ ns) = AllByRecursion (λ m. n.port ≢ m.port) ns × ArePor
 
 -- a bridge lists each neighbour at a port of its own, 1 to 32
 pub record HasPorts (c : Content) : Type 0 where
-  pub each : AllByRecursion (λ n. (1 ≤ n.port) × (n.port ≤ 32)) c.neighbours
+  pub each : AllByRecursion (λ n. (1 ≤ n.port) × (n.port ≤ MOST_PORTS)) c.neighbours
   pub apart : ArePortsApart c.neighbours
 
 -- what `me` says, if it is a bridge, is so

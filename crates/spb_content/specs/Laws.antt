@@ -16,6 +16,7 @@ use Rattle.spb_content.specs.Local.{IsLocal, plan_number, vid_number, isid_numbe
 use Rattle.spb_content.specs.Content.{content_in}
 use Rattle.spb_content.specs.Graph.{Contents, systems_in, cost_said, port_said, HasOwnPorts}
 use Rattle.spb_content.specs.Building.{said_graph}
+use Rattle.spb_types.specs.declared.limits.TheConstants.{MOST_PORTS, MOST_GRAPH_BRIDGES}
 
 -- what the fields of the types hold
 pub record HasFields (l : Local) : Type 0 where
@@ -76,7 +77,7 @@ pub record Fits (bytes : List ℕ) : Type 0 where
 
 -- with at most 32 ports, the LSP of a bridge has at most 1,267 bytes
 abbrev pub OwnFits : Type 0
-OwnFits = (l : Local) → IsLocal l → HasFields l → AreConfigured l → length l.neighbours ≤ 32 → Fits (content_bytes l)
+OwnFits = (l : Local) → IsLocal l → HasFields l → AreConfigured l → length l.neighbours ≤ MOST_PORTS → Fits (content_bytes l)
 
 -- the graph of all that is said: it is valid, also for each bridge that lists its neighbours at ports of their own, and
 -- its costs and ports are those that are said
@@ -88,4 +89,4 @@ pub record HasAllLinks (list : Contents) (g : Graph) : Type 0 where
 
 abbrev pub SaidGraphHasAllLinks : Type 0
 SaidGraphHasAllLinks = (list : Contents)
-    → IsDistinct (systems_in list) → length list ≤ 65535 → HasAllLinks list (said_graph list)
+    → IsDistinct (systems_in list) → length list ≤ MOST_GRAPH_BRIDGES → HasAllLinks list (said_graph list)

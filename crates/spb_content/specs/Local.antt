@@ -18,6 +18,8 @@ use Rattle.spb_tlvs.specs.Neighbour.{neighbours_value}
 use Rattle.spb_tlvs.specs.Capability.{capability_value, IsTree}
 use Rattle.spb_content.specs.declared.local.Local.{Local}
 use Rattle.spb_content.specs.declared.content.Content.{Content}
+use Rattle.spb_types.specs.declared.limits.TheConstants.{GREATEST_ISID, GREATEST_VID, MOST_VIDS, SOURCE_IDS}
+use Rattle.spb_tlvs.specs.declared.codes.TheConstants.{AREA_ADDRESSES, EXTENDED_IS_REACHABILITY, MT_CAPABILITY, PROTOCOLS_SUPPORTED}
 
 abbrev pub plan_number : VidPlan → ℕ
 plan_number p = p.vid.value
@@ -69,18 +71,18 @@ said_by l = record {
 
 -- the area addresses, of which there is one, 49.0001 (ISO/IEC 10589, 9.8)
 abbrev pub areas : List ℕ
-areas = tlv 1 (0x03 ∷ 0x49 ∷ 0x00 ∷ 0x01 ∷ [])
+areas = tlv AREA_ADDRESSES (0x03 ∷ 0x49 ∷ 0x00 ∷ 0x01 ∷ [])
 
 -- the protocols supported: the NLPID of SPB (RFC 6329, 13)
 abbrev pub protocols : List ℕ
-protocols = tlv 129 (0xc1 ∷ [])
+protocols = tlv PROTOCOLS_SUPPORTED (0xc1 ∷ [])
 
 -- the neighbours, 13 in a TLV and the rest in the last one
 abbrev pub neighbour_tlvs : List Neighbour → List ℕ
-neighbour_tlvs ns = flat_map (λ few. tlv 22 (neighbours_value few)) (first_chunks 13 ((length ns + 12) / 13) ns)
+neighbour_tlvs ns = flat_map (λ few. tlv EXTENDED_IS_REACHABILITY (neighbours_value few)) (first_chunks 13 ((length ns + 12) / 13) ns)
 
 abbrev pub capability_tlv : Capability → List ℕ
-capability_tlv c = tlv 144 (capability_value c)
+capability_tlv c = tlv MT_CAPABILITY (capability_value c)
 
 -- one TLV with an SPB-Inst
 abbrev pub inst_tlv : Local → List ℕ
@@ -97,9 +99,9 @@ content_bytes l = areas ++ protocols ++ neighbour_tlvs l.neighbours ++ inst_tlv 
 
 pub record IsAttached (m : Member) : Type 0 where
   pub isid_low : 1 ≤ m.isid.value
-  pub isid_high : m.isid.value ≤ 16777215
+  pub isid_high : m.isid.value ≤ GREATEST_ISID
   pub vid_low : 1 ≤ m.vid.value
-  pub vid_high : m.vid.value ≤ 4094
+  pub vid_high : m.vid.value ≤ GREATEST_VID
 
 -- an I-SID is attached in one base VID
 abbrev pub AreInOneVid : List Member → Type 0
@@ -107,8 +109,8 @@ AreInOneVid [] = ⊤
 AreInOneVid (m ∷ ms) = AllByRecursion (λ n. m.isid.value ≡ n.isid.value → m.vid.value ≡ n.vid.value) ms × AreInOneVid ms
 
 pub record IsLocal (l : Local) : Type 0 where
-  pub source : l.config.source.value < 1048576
-  pub few_vids : length l.config.vids ≤ 16
+  pub source : l.config.source.value < SOURCE_IDS
+  pub few_vids : length l.config.vids ≤ MOST_VIDS
   pub vids : AllByRecursion IsTree l.config.vids
   pub vids_apart : AreVidsApart l.config.vids
   pub metrics : AllByRecursion (λ n. n.metric < 16777216) l.neighbours

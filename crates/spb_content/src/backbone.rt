@@ -6,6 +6,7 @@ ghost use Rattle.spb_content.specs.Building as building;
 
 use crate::Content;
 use spb_tlvs::Neighbour;
+use spb_types::limits::GREATEST_METRIC;
 use spb_types::{NoMemory, SystemId};
 use std::alloc::Global;
 use std::collections::BTreeMap;
@@ -19,17 +20,11 @@ pub struct Backbone<'a> {
     pub places: BTreeMap<SystemId, usize>,
 }
 
-/// The least metric that a link can have.
-const LEAST: u32 = 1;
-
-/// The greatest metric that a link can have.
-const GREATEST: u32 = 16_777_214;
-
 /// The entry, if its metric is one that a link can have.
 fn usable(neighbour: &Neighbour) -> Option<Neighbour>
     ensures { result ≡ spec.usable neighbour.now }
 {
-    if LEAST <= neighbour.metric && neighbour.metric <= GREATEST {
+    if 1 <= neighbour.metric && neighbour.metric <= GREATEST_METRIC {
         Some(*neighbour)
     } else {
         None

@@ -9,6 +9,7 @@ use crate::Content;
 use crate::backbone::Backbone;
 use crate::walk::walk_from;
 use spb_tlvs::{Neighbour, Service};
+use spb_types::limits::MOST_GRAPH_BRIDGES;
 use spb_types::{BridgeId, Edge, Graph, GraphBridge, Mac, Member, NoMemory, Seq, SystemId, Vid};
 use std::alloc::Global;
 
@@ -178,7 +179,7 @@ pub fn graph_of(
     list: &[(SystemId, Content)],
 ) -> Result<Graph, NoMemory>
     requires apart { IsDistinct (spec.systems_in list.now) }
-    requires few { length list.now ≤ 65535 }
+    requires few { length list.now ≤ MOST_GRAPH_BRIDGES }
     ensures graph { IfOk result (IsGraphOf me list.now) }
     ensures valid { IfOk result IsValid }
     ensures valid_for { HasOwnPorts list.now me → IfOk result (λ g. IsValidFor g me) }

@@ -17,7 +17,7 @@ pub use graph::graph_of;
 pub use laws::{
     content_again, content_fits, lists_ascend, order_says_nothing, same_content_is_written_alike,
 };
-pub use local::{BridgeConfigFacts, Local, content_of};
+pub use local::{AREAS_AND_PROTOCOLS, BridgeConfigFacts, Local, content_of};
 
 mod backbone;
 mod content;

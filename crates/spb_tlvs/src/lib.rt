@@ -9,7 +9,10 @@
 #![tactic(auto)]
 
 pub use capability::{Capability, Service, read_capability, write_capability};
-pub use codes::{EXTENDED_IS_REACHABILITY, LSP_ENTRIES, MT_CAPABILITY, THREE_WAY_ADJACENCY};
+pub use codes::{
+    AREA_ADDRESSES, EXTENDED_IS_REACHABILITY, LSP_ENTRIES, MT_CAPABILITY, PROTOCOLS_SUPPORTED,
+    THREE_WAY_ADJACENCY,
+};
 pub use entries::{SnpEntry, read_entries, write_entries};
 pub use error::TlvError;
 pub use laws::{
