@@ -1,6 +1,7 @@
 //! What holds of a network at every moment. Each law is the contract of a function that does nothing.
 ghost use Rattle.spb_network.specs.SoundLaws.{EventsKeepSound, CommandsKeepSound, NetworksAreSound, SomeNetworkIsBusy};
 ghost use Rattle.spb_network.specs.WiringLaws.{SoundIsWired, NetworksAreWired};
+ghost use Rattle.spb_network.specs.MeetingLaws.{SomeBridgesMeet};
 ghost use Rattle.spb_network.specs.DeliveryLaws.{FramesAreDelivered, DeliverDelivers};
 
 /// Whatever comes to the bridges of a sound network, and whatever becomes of its frames and links, it stays sound.
@@ -29,7 +30,9 @@ pub fn a_delivery_is_one_step()
     ensures command { DeliverDelivers }
 {}
 
-/// Some commands lead to a network with a hello on its way over a link.
+/// Some commands lead to a network with a hello on its way over a link; and some lead to one in which a port is Up, and
+/// a live LSP is on its way from it.
 pub fn some_network_is_busy()
-    ensures { SomeNetworkIsBusy }
+    ensures hello { SomeNetworkIsBusy }
+    ensures met { SomeBridgesMeet }
 {}
