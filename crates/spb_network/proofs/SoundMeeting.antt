@@ -10,7 +10,9 @@ use Rattle.spb_types.specs.declared.ports.PortSet.{PortSet}
 use Rattle.spb_types.specs.Ports.{has}
 use Rattle.isis_pdu.specs.Grammar.{IsBytes}
 use Rattle.isis_pdu.specs.Pdu.{LspValue}
-use Rattle.isis_pdu.specs.Spelling.{lsp_bytes}
+use Rattle.isis_pdu.specs.Bytes.{u16_bytes, u32_bytes, lsp_id_bytes}
+use Rattle.isis_pdu.specs.declared.kind.Kind.TheVariants as kinds
+use Rattle.isis_pdu.specs.Spelling.{zeros, common_header, length_bytes, lsp_bytes}
 use Rattle.itag_frames.specs.Frame.{content_in}
 use Rattle.spb_tlvs.specs.RoundTrip.{IsNamed}
 use Rattle.itag_frames.proofs.ControlLaws.{control_again}
@@ -41,7 +43,7 @@ use Rattle.bridge_api.specs.Step.{second, frame, step, sent}
 use Rattle.bridge_api.specs.Laws.{IsSoundView, IsSent, IsGreeted, IsFresh, AreOctets, first_of, hearing_from}
 use Rattle.bridge_api.specs.Duties.{but_for_ssn}
 use Rattle.bridge_api.specs.Few.{HoldsFew}
-use Rattle.bridge_api.proofs.Octets.{AreSmall, small_octets, octets_small, small_bytes}
+use Rattle.bridge_api.proofs.Octets.{AreSmall, small_octets, octets_small, small_bytes, small_both}
 use Rattle.bridge_api.proofs.Changes.{readied_ports, readied_rest, tick_ports, when_true}
 use Rattle.bridge_api.proofs.Hellos.{control_small}
 use Rattle.bridge_api.proofs.Spelled.{lsp_taken}
@@ -131,8 +133,11 @@ only_sent fs bytes other is some = elim (subst (λ (s : List (ℕ × List ℕ)).
 abbrev pub system : ℕ → SystemId
 system n = record { mac = record { bytes = 2 ∷ 0 ∷ 0 ∷ 0 ∷ 0 ∷ n ∷ [] } }
 
+address_small : (n : ℕ) → n < 256 → AreSmall (system n).mac.bytes
+address_small n low = (omega arith, (omega arith, (omega arith, (omega arith, (omega arith, (low, tt))))))
+
 octets : (n : ℕ) → n < 256 → IsBytes (system n).mac.bytes
-octets n low = small_bytes (2 ∷ 0 ∷ 0 ∷ 0 ∷ 0 ∷ n ∷ []) (omega arith, (omega arith, (omega arith, (omega arith, (omega arith, (low, tt))))))
+octets n low = small_bytes (system n).mac.bytes (address_small n low)
 
 -- two bridges, of one port each with carrier, that were heard by nobody yet
 pub record AreLit (v w : BridgeView) : Type 0 where
@@ -162,91 +167,32 @@ record Fit (l : LspValue) : Type 0 where
   sum : l.sum < 65536
   short : 27 + length l.tlvs ≤ 1497
 
+two_small : (n : ℕ) → n < 65536 → AreSmall (u16_bytes n)
+two_small n fits = (omega (arith, fits), (omega arith, tt))
+
+four_small : (n : ℕ) → n < 4294967296 → AreSmall (u32_bytes n)
+four_small n fits = (omega (arith, fits), (omega arith, (omega arith, (omega arith, tt))))
+
 lsp_small : (n : ℕ) (e : Entry) → n < 256 → Fit (lsp_in (own_id (system n)) e) → AreSmall e.body → AreSmall (lsp_frame (system n) (lsp_in (own_id (system n)) e))
 unfolding lsp_frame lsp_bytes
 lsp_small n e low fit small =
     let l : LspValue = lsp_in (own_id (system n)) e in
-    let own : AreSmall (system n).mac.bytes = (omega arith, (omega arith, (omega arith, (omega arith, (omega arith, (low, tt)))))) in
     let body = flags_small e.body small in
-    control_small (system n).mac (lsp_bytes l) own (
-      omega arith,
-      (
-        omega arith,
-        (
-          omega arith,
-          (
-            omega arith,
-            (
-              omega arith,
-              (
-                omega arith,
-                (
-                  omega arith,
-                  (
-                    omega arith,
-                    (
-                      omega (arith, fit.short),
-                      (
-                        omega arith,
-                        (
-                          omega (arith, fit.lifetime),
-                          (
-                            omega arith,
-                            (
-                              omega arith,
-                              (
-                                omega arith,
-                                (
-                                  omega arith,
-                                  (
-                                    omega arith,
-                                    (
-                                      omega arith,
-                                      (
-                                        low,
-                                        (
-                                          omega arith,
-                                          (
-                                            omega arith,
-                                            (
-                                              omega (arith, fit.seq),
-                                              (
-                                                omega arith,
-                                                (
-                                                  omega arith,
-                                                  (
-                                                    omega arith,
-                                                    (
-                                                      omega (arith, fit.sum),
-                                                      (
-                                                        omega arith,
-                                                        (body.0, body.1),
-                                                      ),
-                                                    ),
-                                                  ),
-                                                ),
-                                              ),
-                                            ),
-                                          ),
-                                        ),
-                                      ),
-                                    ),
-                                  ),
-                                ),
-                              ),
-                            ),
-                          ),
-                        ),
-                      ),
-                    ),
-                  ),
-                ),
-              ),
-            ),
-          ),
-        ),
-      ),
-    )
+    let start : List ℕ = common_header zeros kinds.Lsp in
+    let sized : List ℕ = start ++ length_bytes kinds.Lsp l.tlvs in
+    let timed : List ℕ = sized ++ u16_bytes l.lifetime in
+    let named : List ℕ = timed ++ lsp_id_bytes l.id in
+    let numbered : List ℕ = named ++ u32_bytes l.seq in
+    let summed : List ℕ = numbered ++ u16_bytes l.sum in
+    let flagged : List ℕ = summed ++ l.flags ∷ [] in
+    let id_small : AreSmall (lsp_id_bytes l.id) = small_both (system n).mac.bytes (0 ∷ 0 ∷ []) (address_small n low) (omega arith, (omega arith, tt)) in
+    let sized_small : AreSmall sized = small_both start (length_bytes kinds.Lsp l.tlvs) (small_octets start refl) (two_small (27 + length l.tlvs) (omega (arith, fit.short))) in
+    let timed_small : AreSmall timed = small_both sized (u16_bytes l.lifetime) sized_small (two_small l.lifetime fit.lifetime) in
+    let named_small : AreSmall named = small_both timed (lsp_id_bytes l.id) timed_small id_small in
+    let numbered_small : AreSmall numbered = small_both named (u32_bytes l.seq) named_small (four_small l.seq fit.seq) in
+    let summed_small : AreSmall summed = small_both numbered (u16_bytes l.sum) numbered_small (two_small l.sum fit.sum) in
+    let flagged_small : AreSmall flagged = small_both summed (l.flags ∷ []) summed_small (body.0, tt) in
+    control_small (system n).mac (lsp_bytes l) (address_small n low) (small_both flagged l.tlvs flagged_small body.1)
 
 lsp_heard : (n : ℕ) (e : Entry) → n < 256 → IsSendable (own_id (system n)) e → Fit (lsp_in (own_id (system n)) e) → AreSmall e.body → judged (lsp_frame (system n) (lsp_in (own_id (system n)) e)) ≡ link_state (lsp_in (own_id (system n)) e)
 unfolding judged

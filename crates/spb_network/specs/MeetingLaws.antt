@@ -1,4 +1,4 @@
--- A network in which two bridges have met: what is said of ports that are Up, and of LSPs on their way, is said of something.
+-- A network in which two bridges have met: so what is said of Up ports, and of LSPs on their way, is said of something.
 use Rattle.std.specs.Prelude.{◌≡◌, ℕ, List, true, Some, slice_get}
 use Rattle.std.specs.List.{AllByRecursion}
 use Rattle.link_model.specs.Lane.{Frame}

@@ -15,16 +15,16 @@ pub fn networks_are_sound()
     ensures always { NetworksAreSound }
 {}
 
-/// The wiring of a sound network is a valid graph, and valid for each bridge; and what `wiring` answers of a bridge is its
-/// unicast table in that graph. So it is whatever commands were accepted.
+/// The wiring of a sound network is a valid graph, and valid for each bridge; and what `wiring` answers of a bridge is
+/// its unicast table in that graph. So it is whatever commands were accepted.
 pub fn wiring_gives_tables()
     ensures sound { SoundIsWired }
     ensures always { NetworksAreWired }
 {}
 
-/// A delivery takes the frame at the front of a lane, which is one of a link that is up, makes the bridge at the far end
-/// step once by it, and puts what that sends into the lanes that lead from there; nothing else is changed. An accepted
-/// `deliver` makes such a delivery.
+/// A delivery takes the frame at the front of a lane, whose link is up, makes the bridge at the far end step once by it,
+/// and puts what that sends into the lanes that lead from there; nothing else is changed. An accepted `deliver` makes
+/// such a delivery.
 pub fn a_delivery_is_one_step()
     ensures delivered { FramesAreDelivered }
     ensures command { DeliverDelivers }
