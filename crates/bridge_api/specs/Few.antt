@@ -38,8 +38,8 @@ abbrev pub StepsHoldFew : Type 0
 StepsHoldFew = (k : ℕ) (input : Input) (v : BridgeView)
     → k < last_number → IsHelloAlone input → HoldsFew k v → HoldsFew (k + 1) (step input v)
 
--- in a second, a bridge sends at each port at most a hello, a CSNP, and a CSNP, an LSP and a PSNP for each LSP that it holds
--- after it was originated anew
+-- in a second, a bridge sends at each port at most a hello and a CSNP, and a CSNP, an LSP and a PSNP for each LSP that it
+-- holds when it sends: at most one more than before
 abbrev pub SecondsSendFew : Type 0
 SecondsSendFew = (k : ℕ) (v : BridgeView)
     → k < last_number → HoldsFew k v → length (sent second v) ≤ (3 * k + 5) * length v.ports

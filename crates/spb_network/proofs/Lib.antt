@@ -25,9 +25,11 @@ pub mod SoundConfigured
 pub mod SoundNames
 pub mod SoundPlay
 pub mod SoundWitness
+pub mod SoundMeeting
 pub mod Wired
 pub mod SentLanes
 pub mod Delivered
+pub mod SoundMet
 pub mod RoundLemmas
 pub mod ConfigLemmas
 pub mod PortLemmas

@@ -15,9 +15,9 @@ use Rattle.bridge_api.specs.Config.{dark, bare, configured}
 use Rattle.bridge_api.specs.Hearing.{metered_at, with_metric, carried_at, with_carrier}
 use Rattle.bridge_api.specs.Ticking.{later, expired, counted, refreshed, readied, hello_frame, sent_from, sent_in_tick}
 use Rattle.bridge_api.specs.Judging.{greeting, judged}
-use Rattle.bridge_api.specs.Step.{second, step}
+use Rattle.bridge_api.specs.Step.{second, carrier, metric, step}
 use Rattle.bridge_api.specs.Laws.{IsSoundView, IsSent, IsGreeted, AreOctets}
-use Rattle.spb_network.proofs.BridgeLaws.{steps_keep_neighbours, hellos_are_heard}
+use Rattle.spb_network.proofs.BridgeLaws.{steps_keep_bridge, steps_keep_neighbours, hellos_are_heard}
 use Rattle.spb_network.proofs.SoundLane.{IsStill}
 
 -- it has the ids and the VIDs of its configuration
@@ -86,8 +86,21 @@ hello_sent v m is =
 abbrev pub lit : BridgeConfig → ℕ → BridgeView
 lit c n = with_carrier 1 true (with_metric 1 n (configured c))
 
-lit_ports : (c : BridgeConfig) (m n : ℕ) → c.metrics ≡ m ∷ [] → (lit c n).ports ≡ lit_port n ∷ []
+pub lit_ports : (c : BridgeConfig) (m n : ℕ) → c.metrics ≡ m ∷ [] → (lit c n).ports ≡ lit_port n ∷ []
 lit_ports c m n is = carried_port (with_metric 1 n (configured c)) n (metered_port (configured c) m n (configured_ports c ∙ ap (map dark) is))
+
+pub lit_still : (c : BridgeConfig) (n : ℕ) → IsStill (bare c) (lit c n)
+lit_still c n =
+    let lit_up = steps_keep_bridge (carrier 1 true) (with_metric 1 n (configured c)) in
+    let told = steps_keep_bridge (metric 1 n) (configured c) in
+    let still = configured_still c in
+    record { id = lit_up.id ∙ (told.id ∙ still.id); source = lit_up.source ∙ (told.source ∙ still.source); vids = lit_up.vids ∙ (told.vids ∙ still.vids) }
+
+pub lit_attached : (c : BridgeConfig) (n : ℕ) → (lit c n).attached ≡ c.attached
+lit_attached c n =
+    (steps_keep_bridge (carrier 1 true) (with_metric 1 n (configured c))).attached
+    ∙ ((steps_keep_bridge (metric 1 n) (configured c)).attached
+    ∙ configured_attached c)
 
 -- what it sends first
 pub first_hello : (c : BridgeConfig) (m n : ℕ) → c.metrics ≡ m ∷ [] → (bytes : List ℕ) × (sent_in_tick (lit c n) ≡ (1, bytes) ∷ [])

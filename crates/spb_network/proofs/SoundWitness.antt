@@ -25,17 +25,17 @@ use Rattle.spb_network.proofs.SoundPlay.{networks_are_sound}
 abbrev system : ℕ → Mac
 system n = record { bytes = 2 ∷ 0 ∷ 0 ∷ 0 ∷ 0 ∷ n ∷ [] }
 
-abbrev source : ℕ → SourceId
+abbrev pub source : ℕ → SourceId
 source n = record { value = n }
 
-abbrev box : Spare
+abbrev pub box : Spare
 box = record { kind = kind.Plain; blank = true }
 
-abbrev start : State
+abbrev pub start : State
 start = opening rule.Plain (box ∷ box ∷ [])
 
 -- a VID, two bridges of one port each, and a link between them
-abbrev declarations : List Command
+abbrev pub declarations : List Command
 declarations =
     command.Vid 100 1
     ∷ command.Bridge (97 ∷ []) 32768 (system 1) (source 1) 1
@@ -47,7 +47,7 @@ declarations =
 abbrev script : List Command
 script = declarations ++ command.Tick (97 ∷ []) ∷ []
 
-address : (n : ℕ) → n < 256 → IsAddress (system n)
+pub address : (n : ℕ) → n < 256 → IsAddress (system n)
 address n low = record { bytes = refl; octets = octets }
   where
     octets : IsBytes (2 ∷ 0 ∷ 0 ∷ 0 ∷ 0 ∷ n ∷ [])
@@ -75,7 +75,7 @@ one_frame : (bytes : List ℕ) → IsHello bytes → IsBusy (sending ((1, bytes)
 unfolding next_state vid_refusal with_vid with_bridge with_link with_live next_box way_out stepped switched_on with_vid_more declared linked named_link
 one_frame bytes is = record { live = refl; bytes = bytes; waiting = refl; hello = is.hello; way = is.way; heard = is.heard }
 
-all_declared : AreAccepted start declarations
+pub all_declared : AreAccepted start declarations
 unfolding next_state reason_unless vid_refusal bridge_refusal link_refusal is_vid_range is_new_name is_new_system is_new_source is_bridge_range is_free_port is_link_range is_unlinked with_vid with_bridge with_link with_live next_box way_out stepped switched_on with_vid_more declared_refusal named_link_refusal unnamed_refusal declared linked named_link
 all_declared = (refl, (refl, (refl, (refl, tt))))
 

@@ -1,5 +1,5 @@
 -- What is wired is a graph, and the wired tables are the tables of that graph.
-use Rattle.std.proofs.Common.{◌≡◌, ℕ, List, [], refl}
+use Rattle.std.proofs.Common.{◌≡◌, ℕ, [], refl}
 use Rattle.fdb_build.specs.Tables.{IsUnicastTable}
 use Rattle.fdb_build.proofs.TableLemmas.{rows_are_table}
 use Rattle.spb_network.specs.World.{World, Sound, system_at, world_graph, wired_tables}

@@ -11,3 +11,4 @@ pub mod Applying
 pub mod SoundLaws
 pub mod WiringLaws
 pub mod DeliveryLaws
+pub mod MeetingLaws

@@ -1,0 +1,57 @@
+-- A network in which two bridges have met: so what is said of Up ports, and of LSPs on their way, is said of something.
+use Rattle.std.specs.Prelude.{◌≡◌, ℕ, List, true, Some, slice_get}
+use Rattle.std.specs.List.{AllByRecursion}
+use Rattle.link_model.specs.Lane.{Frame}
+use Rattle.isis_pdu.specs.Pdu.{HelloValue, LspValue}
+use Rattle.spb_tlvs.specs.declared.three_way.ThreeWay.{ThreeWay}
+use Rattle.lsdb.specs.declared.version.Version.TheVariants.{Live}
+use Rattle.lsdb.specs.Certificate.{IsClaimed}
+use Rattle.scenario.specs.declared.command.Command.{Command}
+use Rattle.scenario.specs.declared.command.Dir.TheVariants.{Ab}
+use Rattle.bridge_api.specs.View.{BridgeView, is_up_at}
+use Rattle.bridge_api.specs.Judging.{greeting, link_state, judged}
+use Rattle.bridge_api.specs.Laws.{claims_said}
+use Rattle.spb_network.specs.declared.kind_rule.KindRule.{KindRule}
+use Rattle.spb_network.specs.Lanes.{IsIn}
+use Rattle.spb_network.specs.State.{State, Spare, links_of, is_live, way_out, lane_at}
+use Rattle.spb_network.specs.Play.{played_all}
+use Rattle.spb_network.specs.Sound.{opening}
+use Rattle.spb_network.specs.SoundLaws.{IsAddressed, AreAccepted}
+
+-- a frame of a lane that is heard as a hello
+pub record HasHello (lane : List Frame) : Type 0 where
+  pub bytes : Frame
+  pub among : IsIn bytes lane
+  pub hello : HelloValue
+  pub way : ThreeWay
+  pub heard : judged bytes ≡ greeting hello way
+
+-- a frame of a lane that is heard as an LSP, which claims that it is live
+pub record HasLiveLsp (lane : List Frame) : Type 0 where
+  pub bytes : Frame
+  pub among : IsIn bytes lane
+  pub lsp : LspValue
+  pub heard : judged bytes ≡ link_state lsp
+  pub number : ℕ
+  pub sum : ℕ
+  pub claimed : IsClaimed (claims_said (judged bytes)) lsp.id (Live number sum)
+
+-- port 1 of the first bridge, where the first link leads away in direction ab, is Up; and a hello and a live LSP are on
+-- their way from there
+pub record HaveMet (s : State) : Type 0 where
+  pub live : is_live (links_of s) 0 ≡ true
+  pub out : way_out (links_of s) 0 1 ≡ Some (record { link = 0; dir = Ab })
+  pub view : BridgeView
+  pub there : slice_get s.views 0 ≡ Some view
+  pub up : is_up_at view 1 ≡ true
+  pub hello : HasHello (lane_at s 0 Ab)
+  pub lsp : HasLiveLsp (lane_at s 0 Ab)
+
+-- some commands lead to such a network
+pub record SomeBridgesMeet : Type 0 where
+  pub rule : KindRule
+  pub rack : List Spare
+  pub commands : List Command
+  pub addressed : AllByRecursion IsAddressed commands
+  pub accepted : AreAccepted (opening rule rack) commands
+  pub met : HaveMet (played_all (opening rule rack) commands)
