@@ -10,7 +10,7 @@ use Rattle.spb_network.specs.declared.declaration.DeclaredBridge.{DeclaredBridge
 use Rattle.spb_network.specs.World.{Bridges, things_of, ports_at}
 use Rattle.spb_network.specs.State.{State, Spare, serves, box_from}
 use Rattle.spb_network.specs.Network.{Fits}
-use Rattle.spb_network.specs.Play.{told_ports}
+use Rattle.spb_network.specs.Questions.{told_ports}
 
 pub some-is : {X : Type 0} (x y : X) → Some x ≡ Some y → x ≡ y
 some-is x y h = cc

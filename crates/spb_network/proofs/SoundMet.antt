@@ -2,12 +2,12 @@
 use Rattle.std.proofs.Common.{◌≡◌, inl, inr, ◌≤◌, ◌+◌, ◌==◌, ℕ, Bool, true, false, List, [], ◌∷◌, ◌++◌, length, refl, sym, ap, ◌∙◌, subst, Some, None, if◌then◌else◌, arith}
 use Rattle.std.proofs.lemmas.Bool.{eq-eqb, lt-ltb}
 use Rattle.spb_types.specs.declared.address.BridgeId.{BridgeId}
-use Rattle.link_model.specs.Lane.{Frame, has_room, pushed}
+use Rattle.link_model.specs.Lane.{Frame, has_room, pushed, IsIn}
 use Rattle.lsdb.specs.declared.version.Version.TheVariants.{Live}
 use Rattle.lsdb.specs.Certificate.{IsClaimed}
 use Rattle.scenario.specs.declared.command.Command.{Command}
 use Rattle.scenario.specs.declared.command.Command.TheVariants as command
-use Rattle.scenario.specs.declared.command.Dir.TheVariants.{Ab, Ba}
+use Rattle.spb_types.specs.declared.link.Dir.TheVariants.{Ab, Ba}
 use Rattle.adjacency.specs.Adjacency.{down}
 use Rattle.bridge_api.specs.declared.config.BridgeConfig.{BridgeConfig}
 use Rattle.bridge_api.specs.View.{BridgeView, metrics_of}
@@ -23,8 +23,8 @@ use Rattle.spb_network.specs.declared.kind_rule.KindRule.TheVariants as rule
 use Rattle.spb_network.specs.Reason.{reason_unless}
 use Rattle.spb_network.specs.World.{World, things_of}
 use Rattle.spb_network.specs.Declaring.{is_vid_range, is_new_name, is_new_system, is_new_source, is_bridge_range, is_free_port, is_link_range, is_unlinked, vid_refusal, bridge_refusal, link_refusal, plan_of, bridge_of, with_vid, with_bridge, with_link, with_live}
-use Rattle.spb_network.specs.Lanes.{IsIn}
-use Rattle.spb_network.specs.State.{State, is_live, next_box, way_out, lane_of}
+use Rattle.link_model.specs.Lanes.{lane_of}
+use Rattle.spb_network.specs.State.{State, is_live, next_box, way_out}
 use Rattle.spb_network.specs.Events.{sent_all, stepped, delivered, switched_on}
 use Rattle.spb_network.specs.Refusing.{declared_refusal, named_link_refusal, unnamed_refusal, frame_refusal, refusal_of}
 use Rattle.spb_network.specs.Play.{config_of, with_vid_more, declared, linked, named_link, at_bridge, at_link, next_count, counted, next_state, played_all}

@@ -5,6 +5,7 @@ pub mod State
 pub mod Events
 pub mod Network
 pub mod Sound
+pub mod Questions
 pub mod Refusing
 pub mod Play
 pub mod Applying

@@ -1,18 +1,17 @@
 -- A network in which two bridges have met: so what is said of Up ports, and of LSPs on their way, is said of something.
 use Rattle.std.specs.Prelude.{◌≡◌, ℕ, List, true, Some, slice_get}
 use Rattle.std.specs.List.{AllByRecursion}
-use Rattle.link_model.specs.Lane.{Frame}
+use Rattle.link_model.specs.Lane.{Frame, IsIn}
 use Rattle.isis_pdu.specs.Pdu.{HelloValue, LspValue}
 use Rattle.spb_tlvs.specs.declared.three_way.ThreeWay.{ThreeWay}
 use Rattle.lsdb.specs.declared.version.Version.TheVariants.{Live}
 use Rattle.lsdb.specs.Certificate.{IsClaimed}
 use Rattle.scenario.specs.declared.command.Command.{Command}
-use Rattle.scenario.specs.declared.command.Dir.TheVariants.{Ab}
+use Rattle.spb_types.specs.declared.link.Dir.TheVariants.{Ab}
 use Rattle.bridge_api.specs.View.{BridgeView, is_up_at}
 use Rattle.bridge_api.specs.Judging.{greeting, link_state, judged}
 use Rattle.bridge_api.specs.Laws.{claims_said}
 use Rattle.spb_network.specs.declared.kind_rule.KindRule.{KindRule}
-use Rattle.spb_network.specs.Lanes.{IsIn}
 use Rattle.spb_network.specs.State.{State, Spare, links_of, is_live, way_out, lane_at}
 use Rattle.spb_network.specs.Play.{played_all}
 use Rattle.spb_network.specs.Sound.{opening}

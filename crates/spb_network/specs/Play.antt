@@ -1,26 +1,19 @@
 -- What an accepted command makes of a network, and what it answers.
-use Rattle.std.specs.Prelude.{ℕ, ◌+◌, List, [], ◌∷◌, ◌++◌, length, map, Bool, replicate, remove, Option, Some, None, slice_get, min}
-use Rattle.std.specs.Option.{option_map_or}
-use Rattle.std.specs.FinMap.{entries}
-use Rattle.spb_types.specs.declared.address.LspId.{LspId}
-use Rattle.lsdb.specs.declared.held.DbRow.{DbRow}
-use Rattle.lsdb.specs.Entry.{Entry}
-use Rattle.lsdb.specs.Database.{Lsps}
-use Rattle.adjacency.specs.declared.port.Adjacency.{Adjacency}
+use Rattle.std.specs.Prelude.{ℕ, ◌+◌, List, [], ◌∷◌, ◌++◌, length, Bool, true, false, if◌then◌else◌, replicate, remove, Option, Some, None, min}
 use Rattle.scenario.specs.declared.command.Command.{Command}
 use Rattle.scenario.specs.declared.command.Command.TheVariants as command
 use Rattle.bridge_api.specs.declared.config.BridgeConfig.{BridgeConfig}
-use Rattle.bridge_api.specs.declared.port.BridgePort.{BridgePort}
 use Rattle.bridge_api.specs.Config.{configured}
 use Rattle.spb_network.specs.declared.answer.Answer.{Answer}
-use Rattle.spb_network.specs.declared.answer.Answer.TheVariants.{Silent, Outs, Wiring, Db, Adj}
+use Rattle.spb_network.specs.declared.answer.Answer.TheVariants.{Silent, Outs}
 use Rattle.spb_network.specs.declared.declaration.DeclaredBridge.{DeclaredBridge}
 use Rattle.spb_network.specs.declared.declaration.DeclaredLink.{DeclaredLink}
-use Rattle.spb_network.specs.World.{World, place_of, wired_tables}
+use Rattle.spb_network.specs.World.{World, place_of}
 use Rattle.spb_network.specs.Declaring.{plan_of, bridge_of, link_of, with_vid, with_bridge, with_link}
 use Rattle.link_model.specs.Lanes.{no_frames}
 use Rattle.spb_network.specs.State.{State}
 use Rattle.spb_network.specs.Events.{ticked, delivered, lost, doubled, metered_over, remetered, switched_on, switched_off, rounds, drained}
+use Rattle.spb_network.specs.Questions.{Question, question_of, answer_at}
 use Rattle.spb_network.specs.Refusing.{box_for}
 
 -- what a declared bridge is configured with: no port has a link yet, and none is attached
@@ -99,66 +92,36 @@ counted s = record s { accepted = next_count s.accepted }
 unfoldable pub next_state : State → Command → State
 next_state s c = counted (played s c)
 
--- the ports of a bridge as they are told: the adjacency, and whether CSNPs are due
-abbrev pub told_ports : List BridgePort → List (Adjacency × Bool)
-told_ports ports = map (λ port. (port.adjacency, port.due)) ports
+-- the answer by the place that was found for the name of the bridge
+abbrev pub placed_answer : State → Option Question → Option ℕ → Answer
+placed_answer s question None = Silent
+placed_answer s question (Some i) = answer_at s i question
 
-abbrev pub adj_at : State → ℕ → List (Adjacency × Bool)
-adj_at s i = option_map_or (λ v. told_ports v.ports) (slice_get s.views i) []
-
--- the answer about the bridge of a name, by the place that was found for it
-abbrev pub placed_wiring : State → List ℕ → Option ℕ → Answer
-placed_wiring s name None = Silent
-placed_wiring s name (Some i) = Wiring name (wired_tables s.world i)
-
-unfoldable pub wiring_of : State → List ℕ → Answer
-wiring_of s name = placed_wiring s name (place_of name s.world.bridges)
-
--- a row of a database: what is held under an id, but for the body
-abbrev pub row_of : LspId × Entry → DbRow
-row_of e = record { id = e.0; version = e.1.version; lifetime = e.1.lifetime; srm = e.1.srm; ssn = e.1.ssn }
-
--- a row for each id that is held, in order of id
-abbrev pub rows_of : Lsps → List DbRow
-rows_of db = map row_of (entries db)
-
--- those of the bridge at place i
-abbrev pub db_at : State → ℕ → List DbRow
-db_at s i = option_map_or (λ v. rows_of v.database) (slice_get s.views i) []
-
-abbrev pub placed_db : State → List ℕ → Option ℕ → Answer
-placed_db s name None = Silent
-placed_db s name (Some i) = Db name (db_at s i)
-
-unfoldable pub db_of : State → List ℕ → Answer
-db_of s name = placed_db s name (place_of name s.world.bridges)
-
-abbrev pub placed_adj : State → List ℕ → Option ℕ → Answer
-placed_adj s name None = Silent
-placed_adj s name (Some i) = Adj name (adj_at s i)
-
-unfoldable pub adj_of : State → List ℕ → Answer
-adj_of s name = placed_adj s name (place_of name s.world.bridges)
+-- the answer to a question about a bridge; nothing to what is none
+abbrev pub answer_to : State → Option Question → Answer
+answer_to s None = Silent
+answer_to s (Some q) = placed_answer s (Some q) (place_of q.bridge s.world.bridges)
 
 -- no customer frame leaves
 abbrev pub no_outs : Answer
 no_outs = Outs []
 
+-- whether something comes to pass on the network: a customer frame may leave
+abbrev pub is_event : Command → Bool
+is_event (command.Metric name side m) = true
+is_event (command.Down name) = true
+is_event (command.Up name) = true
+is_event (command.Tick name) = true
+is_event (command.Deliver name dir) = true
+is_event (command.Lose name dir place) = true
+is_event (command.Double name dir place) = true
+is_event (command.Round n) = true
+is_event (command.Drain n) = true
+is_event _ = false
+
 -- the answer to an accepted command
 abbrev pub answer_of : State → Command → Answer
-answer_of s (command.Metric name side m) = no_outs
-answer_of s (command.Down name) = no_outs
-answer_of s (command.Up name) = no_outs
-answer_of s (command.Tick name) = no_outs
-answer_of s (command.Deliver name dir) = no_outs
-answer_of s (command.Lose name dir place) = no_outs
-answer_of s (command.Double name dir place) = no_outs
-answer_of s (command.Round n) = no_outs
-answer_of s (command.Drain n) = no_outs
-answer_of s (command.Wiring name) = wiring_of s name
-answer_of s (command.Db name) = db_of s name
-answer_of s (command.Adj name) = adj_of s name
-answer_of s _ = Silent
+answer_of s c = if is_event c then no_outs else answer_to s (question_of c)
 
 -- the state after commands, one after another
 abbrev pub played_all : State → List Command → State

@@ -10,6 +10,7 @@ use Rattle.spb_network.specs.declared.reason.Reason.TheVariants.{NoSuchName, Ran
 use Rattle.spb_network.specs.Reason.{reason_unless, ◌or◌}
 use Rattle.spb_network.specs.World.{World, things_of, place_of}
 use Rattle.spb_network.specs.Declaring.{vid_refusal, bridge_refusal, link_refusal}
+use Rattle.spb_network.specs.Questions.{Question, question_of}
 use Rattle.spb_network.specs.State.{State, is_live, lane_at, kind_at, next_box}
 
 -- the box that the next declared bridge takes, by place in the rack
@@ -67,7 +68,12 @@ round_refusal s n = reason_unless (nat_le 1 n && nat_le n 20000) Range or reason
 unfoldable pub drain_refusal : State → ℕ → Option Reason
 drain_refusal s n = reason_unless (nat_le 1 n && nat_le n 1000000) Range or reason_unless (nat_le (s.drained + n) 100000000) TooMany
 
--- of a command; those that aren't named here are never refused
+-- of what may be a question about a bridge
+abbrev pub asked_refusal : World → Option Question → Option Reason
+asked_refusal w None = None
+asked_refusal w (Some q) = unnamed_refusal w q.bridge
+
+-- of a command; what is neither named here nor a question about a bridge is never refused
 abbrev pub refusal_of : State → Command → Option Reason
 refusal_of s (command.Vid vid ect) = vid_refusal s.world vid ect
 refusal_of s (command.Bridge name priority system source ports) = declared_refusal s name priority system source ports
@@ -81,7 +87,4 @@ refusal_of s (command.Lose name dir place) = frame_refusal s name dir place
 refusal_of s (command.Double name dir place) = frame_refusal s name dir place
 refusal_of s (command.Round n) = round_refusal s n
 refusal_of s (command.Drain n) = drain_refusal s n
-refusal_of s (command.Wiring name) = unnamed_refusal s.world name
-refusal_of s (command.Db name) = unnamed_refusal s.world name
-refusal_of s (command.Adj name) = unnamed_refusal s.world name
-refusal_of s _ = None
+refusal_of s c = asked_refusal s.world (question_of c)

@@ -6,7 +6,7 @@ ghost use Rattle.bridge_api.specs.Step as comes;
 ghost use Rattle.bridge_api.specs.Step.{sent, step, with_wire};
 ghost use Rattle.bridge_api.specs.Shown.{views_of};
 ghost use Rattle.spb_types.specs.Places.{changed_at};
-ghost use Rattle.spb_network.specs.Play as play;
+ghost use Rattle.spb_network.specs.Questions as question;
 ghost use Rattle.spb_network.specs.Network.{AreMade, IsPortAt};
 
 use adjacency::Adjacency;
@@ -93,7 +93,7 @@ pub fn told_ports<B: Bridge>(
     requires made { (B.shown bridge.now).blank ≡ false }
     requires count { length (B.shown bridge.now).view.ports ≡ count }
     requires few { count ≤ 32 }
-    ensures { IfOk result (λ ports. ports.items ≡ play.told_ports (B.shown bridge.now).view.ports) }
+    ensures { IfOk result (λ ports. ports.items ≡ question.told_ports (B.shown bridge.now).view.ports) }
 {
     let mut ports = Vec::new(alloc);
     for place in 0..count {
@@ -106,7 +106,7 @@ pub fn told_ports<B: Bridge>(
 /// A row for each LSP id that a bridge holds, in order of id.
 pub fn held_rows<B: Bridge>(alloc: Global, bridge: &B) -> Result<Vec<DbRow>, NoMemory>
     requires { (B.shown bridge.now).blank ≡ false }
-    ensures { IfOk result (λ rows. rows.items ≡ play.rows_of (B.shown bridge.now).view.database) }
+    ensures { IfOk result (λ rows. rows.items ≡ question.rows_of (B.shown bridge.now).view.database) }
 {
     let mut rows = Vec::new(alloc);
     while let Some(held) = bridge.entry(rows.len()) {

@@ -1,5 +1,9 @@
-//! The questions that a network answers.
+//! What a network answers, and the questions about one bridge.
 ghost use Rattle.std.specs.Prelude.{◌≡◌, IfOk};
+ghost use Rattle.std.specs.Option.{option_map};
+ghost use Rattle.spb_network.specs.declared.answer.Answer.TheVariants as answers;
+ghost use Rattle.spb_network.specs.World.{wired_tables};
+ghost use Rattle.spb_network.specs.Questions as question;
 ghost use Rattle.spb_network.specs.Play as play;
 ghost use Rattle.spb_network.specs.Network.{state_of, IsInOrder};
 
@@ -10,14 +14,13 @@ use lsdb::DbRow;
 use scenario::Command;
 use spb_types::{Name, NoMemory, Seq};
 
-impl<B: Bridge> NetworkOf<B> {
-    /// What a command that isn't refused is answered, before anything of it happens: no customer frame leaves yet.
-    pub(crate) fn answer(&self, command: &Command) -> Result<Answer, NoMemory>
-        requires { IsInOrder B.shown self.now }
-        ensures { IfOk result (λ answer. answer ≡ play.answer_of (state_of B.shown self.now) command.now) }
-    {
-        match command {
-            Command::Metric { .. }
+/// Whether something comes to pass on the network by a command, so that a customer frame may leave.
+fn is_event(command: &Command) -> bool
+    ensures { result ≡ play.is_event command.now }
+{
+    matches!(
+        command,
+        Command::Metric { .. }
             | Command::Down(_)
             | Command::Up(_)
             | Command::Tick(_)
@@ -25,55 +28,88 @@ impl<B: Bridge> NetworkOf<B> {
             | Command::Lose { .. }
             | Command::Double { .. }
             | Command::Round(_)
-            | Command::Drain(_) => Ok(Answer::Outs {
+            | Command::Drain(_)
+    )
+}
+
+/// The bridge that a command asks about. None exactly where the command is no question about one bridge.
+pub(crate) fn asked(command: &Command) -> Option<Name>
+    ensures { result ≡ option_map (λ q. q.bridge) (question.question_of command.now) }
+{
+    match command {
+        Command::Wiring(name) | Command::Db(name) | Command::Adj(name) => Some(*name),
+        _ => None,
+    }
+}
+
+impl<B: Bridge> NetworkOf<B> {
+    /// What a command that isn't refused is answered, before anything of it happens: no customer frame leaves yet.
+    pub(crate) fn answer(&self, command: &Command) -> Result<Answer, NoMemory>
+        requires { IsInOrder B.shown self.now }
+        ensures { IfOk result (λ answer. answer ≡ play.answer_of (state_of B.shown self.now) command.now) }
+    {
+        if is_event(command) {
+            return Ok(Answer::Outs {
                 frames: Seq::new(self.alloc),
-            }),
-            Command::Wiring(name) => self.wiring(*name),
-            Command::Db(name) => self.db(*name),
-            Command::Adj(name) => self.adj(*name),
+            });
+        }
+        self.answer_question(command)
+    }
+
+    /// The answer to a question about a bridge; `Silent` to what is none.
+    fn answer_question(&self, command: &Command) -> Result<Answer, NoMemory>
+        requires { IsInOrder B.shown self.now }
+        ensures { IfOk result (λ answer.
+            answer ≡ play.answer_to (state_of B.shown self.now) (question.question_of command.now)) }
+    {
+        let Some(name) = asked(command) else {
+            return Ok(Answer::Silent);
+        };
+        match self.world.bridge_place(name) {
+            None => Ok(Answer::Silent),
+            Some(place) => self.answer_at(command, place),
+        }
+    }
+
+    /// The answer about the bridge at a place; `Silent` to what is no question about a bridge.
+    fn answer_at(&self, command: &Command, place: usize) -> Result<Answer, NoMemory>
+        requires { IsInOrder B.shown self.now }
+        ensures { IfOk result (λ answer.
+            answer ≡ question.answer_at (state_of B.shown self.now) place (question.question_of command.now)) }
+    {
+        match command {
+            Command::Wiring(name) => self.wiring(*name, place),
+            Command::Db(name) => self.db(*name, place),
+            Command::Adj(name) => self.adj(*name, place),
             _ => Ok(Answer::Silent),
         }
     }
 
     /// The tables that the wiring gives a bridge.
-    #[tactic(auto, unfolding(crate::specs::Play::wiring_of))]
-    fn wiring(&self, name: Name) -> Result<Answer, NoMemory>
-        ensures { IfOk result (λ answer. answer ≡ play.wiring_of (state_of B.shown self.now) name) }
+    fn wiring(&self, bridge: Name, place: usize) -> Result<Answer, NoMemory>
+        ensures { IfOk result (λ answer. answer ≡ answers.Wiring bridge (wired_tables self.now.world place)) }
     {
-        match self.world.bridge_place(name) {
-            None => Ok(Answer::Silent),
-            Some(place) => {
-                let tables = self.world.wired_tables(self.alloc, place)?;
-                Ok(Answer::Wiring {
-                    bridge: name,
-                    tables,
-                })
-            }
-        }
+        let tables = self.world.wired_tables(self.alloc, place)?;
+        Ok(Answer::Wiring { bridge, tables })
     }
 
     /// The database of a bridge.
-    #[tactic(auto, unfolding(crate::specs::Play::db_of))]
-    fn db(&self, name: Name) -> Result<Answer, NoMemory>
+    fn db(&self, bridge: Name, place: usize) -> Result<Answer, NoMemory>
         requires { IsInOrder B.shown self.now }
-        ensures { IfOk result (λ answer. answer ≡ play.db_of (state_of B.shown self.now) name) }
+        ensures { IfOk result (λ answer.
+            answer ≡ answers.Db bridge (question.db_at (state_of B.shown self.now) place)) }
     {
-        match self.world.bridge_place(name) {
-            None => Ok(Answer::Silent),
-            Some(place) => {
-                let rows = self.rows(place)?;
-                Ok(Answer::Db {
-                    bridge: name,
-                    rows: Seq::from_vec(rows),
-                })
-            }
-        }
+        let rows = self.rows(place)?;
+        Ok(Answer::Db {
+            bridge,
+            rows: Seq::from_vec(rows),
+        })
     }
 
     /// What the bridge at a place holds: a row for each LSP id, in order of id.
     fn rows(&self, place: usize) -> Result<Vec<DbRow>, NoMemory>
         requires { IsInOrder B.shown self.now }
-        ensures { IfOk result (λ rows. rows.items ≡ play.db_at (state_of B.shown self.now) place) }
+        ensures { IfOk result (λ rows. rows.items ≡ question.db_at (state_of B.shown self.now) place) }
     {
         match self.boxes.get(place) {
             None => Ok(Vec::new(self.alloc)),
@@ -82,27 +118,22 @@ impl<B: Bridge> NetworkOf<B> {
     }
 
     /// The adjacencies of a bridge.
-    #[tactic(auto, unfolding(crate::specs::Play::adj_of))]
-    fn adj(&self, name: Name) -> Result<Answer, NoMemory>
+    fn adj(&self, bridge: Name, place: usize) -> Result<Answer, NoMemory>
         requires { IsInOrder B.shown self.now }
-        ensures { IfOk result (λ answer. answer ≡ play.adj_of (state_of B.shown self.now) name) }
+        ensures { IfOk result (λ answer.
+            answer ≡ answers.Adj bridge (question.adj_at (state_of B.shown self.now) place)) }
     {
-        match self.world.bridge_place(name) {
-            None => Ok(Answer::Silent),
-            Some(place) => {
-                let ports = self.adjacencies(place)?;
-                Ok(Answer::Adj {
-                    bridge: name,
-                    ports: Seq::from_vec(ports),
-                })
-            }
-        }
+        let ports = self.adjacencies(place)?;
+        Ok(Answer::Adj {
+            bridge,
+            ports: Seq::from_vec(ports),
+        })
     }
 
     /// The ports of the bridge at a place, from port 1 on: the adjacency, and whether CSNPs are due.
     fn adjacencies(&self, place: usize) -> Result<Vec<(Adjacency, bool)>, NoMemory>
         requires { IsInOrder B.shown self.now }
-        ensures { IfOk result (λ ports. ports.items ≡ play.adj_at (state_of B.shown self.now) place) }
+        ensures { IfOk result (λ ports. ports.items ≡ question.adj_at (state_of B.shown self.now) place) }
     {
         let count = self.world.ports(place);
         match self.boxes.get(place) {

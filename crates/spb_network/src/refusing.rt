@@ -1,9 +1,11 @@
 //! Why each command is refused.
 ghost use Rattle.std.specs.Prelude.{◌≡◌};
 ghost use Rattle.spb_network.specs.Refusing as refuse;
+ghost use Rattle.spb_network.specs.Questions.{question_of};
 ghost use Rattle.spb_network.specs.Network.{state_of};
 
-use crate::limits::METRIC;
+use crate::limits::{METRIC, MOST_DELIVERIES, MOST_DELIVERIES_TOGETHER, MOST_ROUNDS};
+use crate::questions::asked;
 use crate::rack::{kind_at, next_box};
 use crate::reason::reason_unless;
 use crate::{NetworkOf, Reason, World};
@@ -19,6 +21,16 @@ impl World {
         ensures { result ≡ refuse.unnamed_refusal self.now name }
     {
         reason_unless(self.bridge_place(name).is_some(), Reason::NoSuchName)
+    }
+
+    /// Why what may be a question about a bridge is refused, if it is.
+    fn asked_refusal(&self, command: &Command) -> Option<Reason>
+        ensures { result ≡ refuse.asked_refusal self.now (question_of command.now) }
+    {
+        match asked(command) {
+            None => None,
+            Some(name) => self.unnamed_refusal(name),
+        }
     }
 
     /// Why a link between two bridges can't be declared, if it can't.
@@ -116,10 +128,10 @@ impl<B: Bridge> NetworkOf<B> {
     fn round_refusal(&self, n: u64) -> Option<Reason>
         ensures { result ≡ refuse.round_refusal (state_of B.shown self.now) n }
     {
-        if n < 1 || n > 20_000 {
+        if n < 1 || n > MOST_ROUNDS {
             return Some(Reason::Range);
         }
-        if u64::from(self.rounds) + n > 20_000 {
+        if u64::from(self.rounds) + n > MOST_ROUNDS {
             return Some(Reason::TooMany);
         }
         None
@@ -130,10 +142,10 @@ impl<B: Bridge> NetworkOf<B> {
     fn drain_refusal(&self, n: u64) -> Option<Reason>
         ensures { result ≡ refuse.drain_refusal (state_of B.shown self.now) n }
     {
-        if n < 1 || n > 1_000_000 {
+        if n < 1 || n > MOST_DELIVERIES {
             return Some(Reason::Range);
         }
-        if u64::from(self.drained) + n > 100_000_000 {
+        if u64::from(self.drained) + n > MOST_DELIVERIES_TOGETHER {
             return Some(Reason::TooMany);
         }
         None
@@ -172,10 +184,7 @@ impl<B: Bridge> NetworkOf<B> {
             }
             Command::Round(n) => self.round_refusal(*n),
             Command::Drain(n) => self.drain_refusal(*n),
-            Command::Wiring(name) | Command::Db(name) | Command::Adj(name) => {
-                self.world.unnamed_refusal(*name)
-            }
-            _ => None,
+            _ => self.world.asked_refusal(command),
         }
     }
 }

@@ -17,22 +17,15 @@ use Rattle.spb_run.specs.declared.refusal.Refusal.TheVariants as refusal
 
 -- whether lines of this keyword are played
 abbrev pub is_played : Keyword → Bool
-is_played keyword.Vid = true
-is_played keyword.Bridge = true
-is_played keyword.Link = true
-is_played keyword.Metric = true
-is_played keyword.Down = true
-is_played keyword.Up = true
-is_played keyword.Tick = true
-is_played keyword.Deliver = true
-is_played keyword.Lose = true
-is_played keyword.Double = true
-is_played keyword.Round = true
-is_played keyword.Drain = true
-is_played keyword.Wiring = true
-is_played keyword.Db = true
-is_played keyword.Adj = true
-is_played _ = false
+is_played keyword.Isid = false
+is_played keyword.Attach = false
+is_played keyword.Detach = false
+is_played keyword.Restart = false
+is_played keyword.Frame = false
+is_played keyword.State = false
+is_played keyword.Show = false
+is_played keyword.Path = false
+is_played _ = true
 
 -- whether a first word is a keyword whose lines are played
 abbrev pub is_played_word : Option Keyword → Bool

@@ -23,24 +23,17 @@ use std::alloc::Global;
 fn is_played(word: Option<Keyword>) -> bool
     ensures { result ≡ play.is_played_word word }
 {
-    matches!(
+    !matches!(
         word,
-        Some(
-            Keyword::Vid
-                | Keyword::Bridge
-                | Keyword::Link
-                | Keyword::Metric
-                | Keyword::Down
-                | Keyword::Up
-                | Keyword::Tick
-                | Keyword::Deliver
-                | Keyword::Lose
-                | Keyword::Double
-                | Keyword::Round
-                | Keyword::Drain
-                | Keyword::Wiring
-                | Keyword::Db
-                | Keyword::Adj
+        None | Some(
+            Keyword::Isid
+                | Keyword::Attach
+                | Keyword::Detach
+                | Keyword::Restart
+                | Keyword::Frame
+                | Keyword::State
+                | Keyword::Show
+                | Keyword::Path
         )
     )
 }

@@ -2,7 +2,7 @@ use Rattle.std.proofs.Common.{◌≡◌, ◌∷◌, [], ◌++◌, length, take, 
 use Rattle.std.specs.Option.{option_map, option_copied}
 use Rattle.std.specs.FinMap.{entries}
 use Rattle.lsdb.specs.Database.{Lsps, keyed}
-use Rattle.spb_network.specs.Play.{row_of, rows_of}
+use Rattle.spb_network.specs.Questions.{row_of, rows_of}
 use Rattle.spb_network.proofs.ListLemmas.{length-push}
 use Rattle.spb_network.proofs.RowLemmas.{take-next, take-past, within}
 use Rattle.spb_network.proofs.boxes.held_rows.Goals as goal

@@ -1,5 +1,5 @@
 use Rattle.std.proofs.Common.{◌≡◌, ◌≤◌, take}
-use Rattle.spb_network.specs.Play.{told_ports}
+use Rattle.spb_network.specs.Questions.{told_ports}
 use Rattle.spb_network.proofs.boxes.told_ports.Given as goal
 
 abbrev pub invariant-loop-place : goal.invariant-loop-place

@@ -2,7 +2,7 @@ use Rattle.std.proofs.Common.{◌≡◌, slice_get, Some, None, sym, ap, ◌∙�
 use Rattle.std.specs.Option.{option_map_or}
 use Rattle.bridge_api.specs.Shown.{view_in, views_of}
 use Rattle.spb_network.specs.State.{State}
-use Rattle.spb_network.specs.Play.{told_ports}
+use Rattle.spb_network.specs.Questions.{told_ports}
 use Rattle.spb_network.specs.Network.{state_of}
 use Rattle.spb_network.proofs.BoxLemmas.{get-map, get-map-none, seen, seen-none}
 use Rattle.spb_network.proofs.PortLemmas.{ports-count, told-ok}

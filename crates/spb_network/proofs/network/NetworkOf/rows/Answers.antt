@@ -1,7 +1,7 @@
 use Rattle.std.proofs.Common.{◌≡◌, slice_get, Some, None, sym, ap, ◌∙◌, [], subst}
 use Rattle.std.specs.Option.{option_map_or}
 use Rattle.bridge_api.specs.Shown.{view_in, views_of}
-use Rattle.spb_network.specs.Play.{rows_of}
+use Rattle.spb_network.specs.Questions.{rows_of}
 use Rattle.spb_network.proofs.BoxLemmas.{get-map, get-map-none, seen, seen-none}
 use Rattle.spb_network.proofs.PortLemmas.{told-ok}
 use Rattle.spb_network.proofs.network.NetworkOf.rows.Goals as goal

@@ -1,0 +1,53 @@
+-- The questions about one bridge.
+use Rattle.std.specs.Prelude.{ℕ, List, [], map, Bool, Option, Some, None, slice_get}
+use Rattle.std.specs.Option.{option_map_or}
+use Rattle.std.specs.FinMap.{entries}
+use Rattle.spb_types.specs.declared.address.LspId.{LspId}
+use Rattle.lsdb.specs.declared.held.DbRow.{DbRow}
+use Rattle.lsdb.specs.Entry.{Entry}
+use Rattle.lsdb.specs.Database.{Lsps}
+use Rattle.adjacency.specs.declared.port.Adjacency.{Adjacency}
+use Rattle.scenario.specs.declared.command.Command.{Command}
+use Rattle.scenario.specs.declared.command.Command.TheVariants as command
+use Rattle.bridge_api.specs.declared.port.BridgePort.{BridgePort}
+use Rattle.spb_network.specs.declared.answer.Answer.{Answer}
+use Rattle.spb_network.specs.declared.answer.Answer.TheVariants.{Silent, Wiring, Db, Adj}
+use Rattle.spb_network.specs.World.{wired_tables}
+use Rattle.spb_network.specs.State.{State}
+
+-- a row of a database: what is held under an id, but for the body
+abbrev pub row_of : LspId × Entry → DbRow
+row_of e = record { id = e.0; version = e.1.version; lifetime = e.1.lifetime; srm = e.1.srm; ssn = e.1.ssn }
+
+-- a row for each id that is held, in order of id
+abbrev pub rows_of : Lsps → List DbRow
+rows_of db = map row_of (entries db)
+
+-- those of the bridge at place i
+abbrev pub db_at : State → ℕ → List DbRow
+db_at s i = option_map_or (λ v. rows_of v.database) (slice_get s.views i) []
+
+-- the ports of a bridge as they are told: the adjacency, and whether CSNPs are due
+abbrev pub told_ports : List BridgePort → List (Adjacency × Bool)
+told_ports ports = map (λ port. (port.adjacency, port.due)) ports
+
+abbrev pub adj_at : State → ℕ → List (Adjacency × Bool)
+adj_at s i = option_map_or (λ v. told_ports v.ports) (slice_get s.views i) []
+
+-- a question about a bridge: its name, and the answer about the bridge at a place
+pub record Question : Type 0 where
+  pub bridge : List ℕ
+  pub answer : State → ℕ → Answer
+
+-- what a command asks, if it is a question about one bridge
+abbrev pub question_of : Command → Option Question
+question_of (command.Wiring name) =
+    Some (record { bridge = name; answer = λ s i. Wiring name (wired_tables s.world i) })
+question_of (command.Db name) = Some (record { bridge = name; answer = λ s i. Db name (db_at s i) })
+question_of (command.Adj name) = Some (record { bridge = name; answer = λ s i. Adj name (adj_at s i) })
+question_of _ = None
+
+-- the answer about the bridge at place i; nothing to what is no question
+abbrev pub answer_at : State → ℕ → Option Question → Answer
+answer_at s i None = Silent
+answer_at s i (Some q) = q.answer s i
