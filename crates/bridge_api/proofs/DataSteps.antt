@@ -1,5 +1,6 @@
 -- The database of a bridge stays sound in every step.
 use Rattle.std.proofs.Common.{◌≡◌, ◌≢◌, inl, inr, ◌≤◌, ◌+◌, ◌-◌, ℕ, Bool, true, false, List, [], ◌∷◌, length, map, refl, sym, ap, ◌∙◌, subst, Option, Some, None, arith}
+use Rattle.spb_types.specs.declared.limits.TheConstants.{MOST_LSPS}
 use Rattle.std.specs.Prelude.{is_some, nat_lt, ◌==◌, ◌||◌, slice_set, if◌then◌else◌}
 use Rattle.std.specs.FinMap.{get, empty, get-empty, len, len-empty}
 use Rattle.std.proofs.lemmas.Bool.{le-leb}
@@ -210,8 +211,8 @@ all_of_none P id e is = absurd (let no : None ≡ Some e = sym (none_held id) �
 
 fits_empty : (id : LspId) → fits empty id ≡ true
 fits_empty id =
-    ap (λ (o : Option Entry). is_some o || nat_lt (len (empty {X = Entry} {R = id_cmp})) 2048) (none_held id)
-    ∙ ap (λ n. nat_lt n 2048) (len-empty id_cmp Entry)
+    ap (λ (o : Option Entry). is_some o || nat_lt (len (empty {X = Entry} {R = id_cmp})) MOST_LSPS) (none_held id)
+    ∙ ap (λ n. nat_lt n MOST_LSPS) (len-empty id_cmp Entry)
 
 configured_own : (c : BridgeConfig) → own_entry (configured c) ≡ Some (renewed no_ports (own_of (bare c)) 1)
 unfolding configured

@@ -39,7 +39,8 @@ use Rattle.bridge_api.specs.declared.port.BridgePort.{BridgePort}
 use Rattle.bridge_api.specs.declared.config.BridgeConfig.{BridgeConfig}
 use Rattle.bridge_api.specs.View.{BridgeView, IsPort, port_at, neighbour_at, is_up_at, has_carrier_at, is_due_at, is_port_up, metrics_of, up_ports, control_of}
 use Rattle.bridge_api.specs.Own.{local_of, own_of, own_entry, IsTended}
-use Rattle.bridge_api.specs.Config.{IsWhole, IsOwnMac, IsMetric, IsAttachment, AgreesWith, ArePairwise, different, most_isids, vids_of, bare, configured}
+use Rattle.spb_types.specs.declared.limits.TheConstants.{MOST_ISIDS}
+use Rattle.bridge_api.specs.Config.{IsWhole, IsOwnMac, IsMetric, IsAttachment, AgreesWith, ArePairwise, different, vids_of, bare, configured}
 use Rattle.bridge_api.specs.Judging.{Judged, useless, greeting, link_state, complete, partial, tenant, greeting_in, judged, is_hello}
 use Rattle.bridge_api.specs.Hearing.{with_carrier}
 use Rattle.bridge_api.specs.Step.{Input, second, frame, carrier, metric, step, sent}
@@ -62,7 +63,7 @@ pub record HasConfig (v : BridgeView) : Type 0 where
   pub vids_apart : ArePairwise (λ x y. x ≢ y) (vids_of v.vids)
   pub each_attachment : AllByRecursion (IsAttachment (vids_of v.vids)) v.attached
   pub attachments_apart : ArePairwise AgreesWith v.attached
-  pub few_isids : length (different (map (λ a. a.isid.value) v.attached)) ≤ most_isids
+  pub few_isids : length (different (map (λ a. a.isid.value) v.attached)) ≤ MOST_ISIDS
 
 -- the database: each LSP that is held can be written, and is read again as what is held; what an SNP says of it can be
 -- written; flags stand at Up ports alone; and the own id is held

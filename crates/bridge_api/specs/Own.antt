@@ -20,6 +20,7 @@ use Rattle.spb_content.specs.Local.{content_bytes}
 use Rattle.spb_content.specs.Graph.{HasPorts}
 use Rattle.bridge_api.specs.declared.port.BridgePort.{BridgePort}
 use Rattle.bridge_api.specs.View.{BridgeView, is_port_up, up_ports}
+use Rattle.flooding.specs.declared.put.TheConstants.{MAX_AGE}
 
 -- ---- what it says
 
@@ -71,7 +72,7 @@ is_said v = bytes_eq (body_in (own_entry v)) (body_of v)
 -- an LSP that is live for 301 to 1,200 seconds more
 abbrev pub Lasts : Version → ℕ → Type 0
 Lasts Absent lifetime = ⊥
-Lasts (Live seq sum) lifetime = (301 ≤ lifetime) × (lifetime ≤ 1200)
+Lasts (Live seq sum) lifetime = (301 ≤ lifetime) × (lifetime ≤ MAX_AGE)
 Lasts (Dead seq) lifetime = ⊥
 
 abbrev pub IsAlive : Option Entry → Type 0

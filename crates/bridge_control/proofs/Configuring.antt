@@ -1,5 +1,6 @@
 -- The machine of a configuration.
 use Rattle.std.proofs.Common.{◌≡◌, ◌≤◌, ℕ, Bool, true, false, length, refl, sym, ap, ◌∙◌, subst, arith}
+use Rattle.spb_types.specs.declared.limits.TheConstants.{MOST_LSPS}
 use Rattle.std.specs.Prelude.{◌||◌, nat_lt}
 use Rattle.std.specs.FinMap.{empty, len-empty, contains_key}
 use Rattle.std.proofs.lemmas.List.{length-map}
@@ -29,7 +30,7 @@ or_right true b e = refl
 or_right false b e = e
 
 fits_empty : (id : LspId) → fits empty id ≡ true
-fits_empty id = or_right (contains_key (empty {X = Entry} {R = id_cmp}) id) _ (ap (λ (n : ℕ). nat_lt n 2048) (len-empty id_cmp Entry))
+fits_empty id = or_right (contains_key (empty {X = Entry} {R = id_cmp}) id) _ (ap (λ (n : ℕ). nat_lt n MOST_LSPS) (len-empty id_cmp Entry))
 
 pub bare_can : (c : BridgeConfig) → IsWhole c → (m : Machine) → view_of m ≡ bare c → CanOriginate m
 bare_can c whole m is = record {

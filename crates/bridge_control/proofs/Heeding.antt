@@ -1,5 +1,6 @@
 -- The machine after an LSP or a sequence numbers PDU was heard.
 use Rattle.std.proofs.Common.{◌≡◌, ℕ, Bool, true, false, List, [], ◌∷◌, refl, sym, ap, ◌∙◌, subst, Option, Some, None, ⊎_elim}
+use Rattle.spb_types.specs.declared.limits.TheConstants.{MOST_LSPS}
 use Rattle.std.specs.Prelude.{is_some, nat_lt, not, ◌||◌, if◌then◌else◌}
 use Rattle.std.specs.FinMap.{get, insert, len}
 use Rattle.spb_types.specs.declared.address.LspId.{LspId}
@@ -88,7 +89,7 @@ pub record HasHeard (m : Machine) (h : Holding) : Type 0 where
 pub heard_can : (m : Machine) (h : Holding) (db : Lsps) (own : Own) → IsReady m → HasHeard m h → holding db own ≡ h → CanOriginate (record m { db = db; own = own })
 heard_can m h db own ready heard is = record {
   few = ready.sound.few;
-  place = or_left (is_some (get db (own_id m.id.system))) (nat_lt (len db) 2048) (ap (λ (x : Holding). is_some (get x.db (own_id m.id.system))) is ∙ heard.held);
+  place = or_left (is_some (get db (own_id m.id.system))) (nat_lt (len db) MOST_LSPS) (ap (λ (x : Holding). is_some (get x.db (own_id m.id.system))) is ∙ heard.held);
 }
 
 pub heard_current : (m : Machine) (h : Holding) (db : Lsps) (own : Own) → IsReady m → HasHeard m h → holding db own ≡ h → IsCurrent (record m { db = db; own = own })

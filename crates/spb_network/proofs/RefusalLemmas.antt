@@ -1,4 +1,5 @@
 use Rattle.std.proofs.Common.{◌≡◌, ◌≢◌, ℕ, ◌+◌, ◌<◌, ◌≤◌, ◌==◌, Bool, true, false, ◌&&◌, List, [], ◌∷◌, length, Option, Some, None, nat_lt, nat_le, refl, sym, ap, ◌∙◌, arith}
+use Rattle.spb_types.specs.declared.limits.TheConstants.{GREATEST_METRIC, MOST_ROUNDS}
 use Rattle.std.proofs.lemmas.Bool.Decides.{nat_tests}
 use Rattle.std.specs.List.{AllByRecursion}
 use Rattle.std.specs.Str.{bytes_eq}
@@ -52,8 +53,8 @@ empty_list xs h = empty_from xs (eq-true (length xs) 0 h)
 pub metric_refusal_none : (w : World) (name : List ℕ) (m k : ℕ) → place_of name w.links ≡ Some k → metric_refusal w name m ≡ None → IsMetric m
 unfolding metric_refusal
 metric_refusal_none w name m k at none =
-    let range = reason_unless-none (nat_le 1 m && nat_le m 16777214) _ (ap (placed_refusal (λ j. reason_unless (nat_le 1 m && nat_le m 16777214) Range)) (sym at) ∙ none) in
-    record { low = le-true 1 m (and-left _ _ range); high = le-true m 16777214 (and-right _ _ range) }
+    let range = reason_unless-none (nat_le 1 m && nat_le m GREATEST_METRIC) _ (ap (placed_refusal (λ j. reason_unless (nat_le 1 m && nat_le m GREATEST_METRIC) Range)) (sym at) ∙ none) in
+    record { low = le-true 1 m (and-left _ _ range); high = le-true m GREATEST_METRIC (and-right _ _ range) }
 
 -- what the tests of a VID say
 pub record IsNewVid (w : World) (vid ect : ℕ) : Type 0 where
@@ -109,7 +110,7 @@ pub record IsFreeLink (w : World) (name : List ℕ) (i port_a j port_b cost : �
   pub name_new : is_new_name name w.links ≡ true
   pub port_a_high : port_a ≤ ports_at w.bridges i
   pub port_b_high : port_b ≤ ports_at w.bridges j
-  pub cost_high : cost ≤ 16777214
+  pub cost_high : cost ≤ GREATEST_METRIC
   pub new : IsNewLink w (link_of i port_a j port_b cost)
 
 -- each earlier link is apart from a new one whose ports are free and whose bridges aren't linked
@@ -127,7 +128,7 @@ link_refusal_none w name i port_a j port_b cost h =
     let free = reason_unless-none (is_free_port w.links i port_a && is_free_port w.links j port_b) _ (or-second _ _ to_ports) in
     let range = reason_unless-none (is_link_range w.bridges i port_a j port_b cost) _ (or-second _ _ to_range) in
     let unlinked = reason_unless-none (is_unlinked w.links i j) _ (or-second _ _ h) in
-    let high = le-true cost 16777214 (and-right _ _ range) in
+    let high = le-true cost GREATEST_METRIC (and-right _ _ range) in
     let low = le-true 1 cost (and-right _ _ (and-left _ _ range)) in
     let ends = and-left _ _ (and-left _ _ range) in
     let is_b = and-right _ _ ends in
@@ -158,11 +159,11 @@ unfolding declared_refusal
 declared_refusal_none s name priority system source ports h = or-first _ _ h
 
 -- what the tests of a number of rounds, and of deliveries, say
-pub round_refusal_none : (s : State) (n : ℕ) → round_refusal s n ≡ None → (n ≤ 20000) × (s.rounds + n ≤ 20000)
+pub round_refusal_none : (s : State) (n : ℕ) → round_refusal s n ≡ None → (n ≤ MOST_ROUNDS) × (s.rounds + n ≤ MOST_ROUNDS)
 unfolding round_refusal
 round_refusal_none s n h = (
-  le-true n 20000 (and-right _ _ (reason_unless-none (nat_le 1 n && nat_le n 20000) _ (or-first _ _ h))),
-  le-true (s.rounds + n) 20000 (reason_unless-none (nat_le (s.rounds + n) 20000) _ (or-second _ _ h)),
+  le-true n MOST_ROUNDS (and-right _ _ (reason_unless-none (nat_le 1 n && nat_le n MOST_ROUNDS) _ (or-first _ _ h))),
+  le-true (s.rounds + n) MOST_ROUNDS (reason_unless-none (nat_le (s.rounds + n) MOST_ROUNDS) _ (or-second _ _ h)),
 )
 
 pub drain_refusal_none : (s : State) (n : ℕ) → drain_refusal s n ≡ None → (n ≤ 1000000) × (s.drained + n ≤ 100000000)

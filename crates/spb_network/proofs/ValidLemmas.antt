@@ -1,4 +1,5 @@
 use Rattle.std.proofs.Common.{◌≡◌, ◌≢◌, inl, inr, ℕ, zero, suc, ◌<◌, ◌≤◌, ◌==◌, ◌&&◌, ◌||◌, Bool, true, false, true≢false, List, [], ◌∷◌, length, max, Option, Some, None, refl, sym, ap, ◌∙◌, subst, arith, if◌then◌else◌}
+use Rattle.spb_types.specs.declared.limits.TheConstants.{GREATEST_METRIC}
 use Rattle.std.proofs.lemmas.Bool.Decides.{nat_tests}
 use Rattle.std.specs.List.{AllByRecursion, filter_map, cons_option}
 use Rattle.spb_types.specs.Graph.{IsAmong, IsDistinct, systems_of, joins, port_at, edges_at, ArePortsApart, OneEdge, IsEdgeOf, IsValid, IsValidFor}
@@ -69,7 +70,7 @@ edge_is w sound l h = record {
   to = among_at w.bridges l.b.bridge h.b.bridge;
   apart = same_at w.bridges sound.systems l.a.bridge l.b.bridge h.a.bridge h.b.bridge ∙ eq-apart l.a.bridge l.b.bridge h.apart;
   low = max-low l.a.metric l.b.metric h.a.metric_low;
-  high = max-high l.a.metric l.b.metric 16777214 h.a.metric_high h.b.metric_high;
+  high = max-high l.a.metric l.b.metric GREATEST_METRIC h.a.metric_high h.b.metric_high;
 }
 
 -- the edges of two links that are apart join different pairs of bridges

@@ -28,7 +28,6 @@ mod graph;
 mod hints;
 mod kind_rule;
 mod laws;
-mod limits;
 mod network;
 mod play;
 mod questions;

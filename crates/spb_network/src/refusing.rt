@@ -4,7 +4,6 @@ ghost use Rattle.spb_network.specs.Refusing as refuse;
 ghost use Rattle.spb_network.specs.Questions.{question_of};
 ghost use Rattle.spb_network.specs.Network.{state_of};
 
-use crate::limits::{METRIC, MOST_DELIVERIES, MOST_DELIVERIES_TOGETHER, MOST_ROUNDS};
 use crate::questions::asked;
 use crate::rack::{kind_at, next_box};
 use crate::reason::reason_unless;
@@ -12,6 +11,9 @@ use crate::{NetworkOf, Reason, World};
 use bridge_api::Bridge;
 use link_model::LaneId;
 use scenario::{Command, Dir};
+use spb_types::limits::{
+    GREATEST_METRIC, MOST_DELIVERIES, MOST_DELIVERIES_TOGETHER, MOST_ROUNDS,
+};
 use spb_types::{Mac, Name, SourceId};
 
 impl World {
@@ -84,7 +86,7 @@ impl World {
     {
         match self.link_place(name) {
             None => Some(Reason::NoSuchName),
-            Some(_) => reason_unless(1 <= metric && metric <= METRIC, Reason::Range),
+            Some(_) => reason_unless(1 <= metric && metric <= u64::from(GREATEST_METRIC), Reason::Range),
         }
     }
 }
