@@ -1,5 +1,6 @@
 -- One bridge steps, frames go, or a link is switched: moves of the whole network.
 use Rattle.std.proofs.Common.{◌≡◌, ◌≢◌, ◌≤◌, ◌<◌, ◌⊎◌, inl, inr, ◌+◌, ℕ, zero, suc, Bool, true, false, List, [], ◌∷◌, ◌++◌, length, take, drop, refl, sym, ap, ◌∙◌, subst, Option, Some, None, slice_get, arith}
+use Rattle.spb_types.specs.declared.limits.TheConstants.{MOST_FRAMES}
 use Rattle.std.specs.Prelude.{insert, remove, nat_lt, if◌then◌else◌}
 use Rattle.std.specs.Option.{option_map, option_map_or}
 use Rattle.std.proofs.lemmas.List.{length-append, length-take, length-drop}
@@ -147,40 +148,40 @@ in_flushed (x ∷ lanes) (suc j) (suc k) dir f among = in_flushed lanes j k dir 
 
 -- ---- how many frames a lane holds
 
-short_changed : (g : List Frame → List Frame) → ((frames : List Frame) → length frames ≤ 1024 → length (g frames) ≤ 1024) → (lanes : List LinkLanes) (j : ℕ) (d : Dir) → AreShort lanes → AreShort (changed_at (changed_lane d g) lanes j)
+short_changed : (g : List Frame → List Frame) → ((frames : List Frame) → length frames ≤ MOST_FRAMES → length (g frames) ≤ MOST_FRAMES) → (lanes : List LinkLanes) (j : ℕ) (d : Dir) → AreShort lanes → AreShort (changed_at (changed_lane d g) lanes j)
 short_changed g keeps lanes j d short k dir =
     elim (lane_changed g lanes j d k dir) [
-      | inl here ↦ subst (λ (fs : List Frame). length fs ≤ 1024) (sym here.2) (keeps (lane_of lanes k dir) (short k dir))
-      | inr same ↦ subst (λ (fs : List Frame). length fs ≤ 1024) (sym same) (short k dir)
+      | inl here ↦ subst (λ (fs : List Frame). length fs ≤ MOST_FRAMES) (sym here.2) (keeps (lane_of lanes k dir) (short k dir))
+      | inr same ↦ subst (λ (fs : List Frame). length fs ≤ MOST_FRAMES) (sym same) (short k dir)
     ]
 
-pushed_at : (b : Bool) (x : Frame) (frames : List Frame) → nat_lt (length frames) 1024 ≡ b → length frames ≤ 1024 → length (if b then frames ++ x ∷ [] else frames) ≤ 1024
-pushed_at true x frames room short = omega (arith, length-push frames x, ltb-true (length frames) 1024 room)
+pushed_at : (b : Bool) (x : Frame) (frames : List Frame) → nat_lt (length frames) MOST_FRAMES ≡ b → length frames ≤ MOST_FRAMES → length (if b then frames ++ x ∷ [] else frames) ≤ MOST_FRAMES
+pushed_at true x frames room short = omega (arith, length-push frames x, ltb-true (length frames) MOST_FRAMES room)
 pushed_at false x frames room short = short
 
-pushed_short : (x : Frame) (frames : List Frame) → length frames ≤ 1024 → length (pushed frames x) ≤ 1024
+pushed_short : (x : Frame) (frames : List Frame) → length frames ≤ MOST_FRAMES → length (pushed frames x) ≤ MOST_FRAMES
 pushed_short x frames short = pushed_at (has_room frames) x frames refl short
 
-rest_short : (frames : List Frame) → length frames ≤ 1024 → length (rest frames) ≤ 1024
+rest_short : (frames : List Frame) → length frames ≤ MOST_FRAMES → length (rest frames) ≤ MOST_FRAMES
 rest_short [] short = short
 rest_short (x ∷ frames) short = omega (arith, short)
 
-lost_at : (b : Bool) (k : ℕ) (frames : List Frame) → nat_lt k (length frames) ≡ b → length frames ≤ 1024 → length (if b then remove frames k else frames) ≤ 1024
+lost_at : (b : Bool) (k : ℕ) (frames : List Frame) → nat_lt k (length frames) ≡ b → length frames ≤ MOST_FRAMES → length (if b then remove frames k else frames) ≤ MOST_FRAMES
 lost_at true k frames within short = omega (arith, length-append (take k frames) (drop (suc k) frames), length-take k frames, length-drop (suc k) frames, ltb-true k (length frames) within)
 lost_at false k frames within short = short
 
-lost_short : (k : ℕ) (frames : List Frame) → length frames ≤ 1024 → length (after_lose frames k) ≤ 1024
+lost_short : (k : ℕ) (frames : List Frame) → length frames ≤ MOST_FRAMES → length (after_lose frames k) ≤ MOST_FRAMES
 lost_short k frames short = lost_at (nat_lt k (length frames)) k frames refl short
 
-doubled_at : (b : Bool) (x : Frame) (k : ℕ) (frames : List Frame) → nat_lt (length frames) 1024 ≡ b → k < length frames → length frames ≤ 1024 → length (if b then insert frames (k + 1) x else frames) ≤ 1024
-doubled_at true x k frames room within short = omega (arith, length-append (take (k + 1) frames) (x ∷ drop (k + 1) frames), length-take (k + 1) frames, length-drop (k + 1) frames, ltb-true (length frames) 1024 room)
+doubled_at : (b : Bool) (x : Frame) (k : ℕ) (frames : List Frame) → nat_lt (length frames) MOST_FRAMES ≡ b → k < length frames → length frames ≤ MOST_FRAMES → length (if b then insert frames (k + 1) x else frames) ≤ MOST_FRAMES
+doubled_at true x k frames room within short = omega (arith, length-append (take (k + 1) frames) (x ∷ drop (k + 1) frames), length-take (k + 1) frames, length-drop (k + 1) frames, ltb-true (length frames) MOST_FRAMES room)
 doubled_at false x k frames room within short = short
 
-doubled_by : (o : Option Frame) (k : ℕ) (frames : List Frame) → slice_get frames k ≡ o → length frames ≤ 1024 → length (after_double frames k o) ≤ 1024
+doubled_by : (o : Option Frame) (k : ℕ) (frames : List Frame) → slice_get frames k ≡ o → length frames ≤ MOST_FRAMES → length (after_double frames k o) ≤ MOST_FRAMES
 doubled_by None k frames at short = short
 doubled_by (Some x) k frames at short = doubled_at (has_room frames) x k frames refl (slice_get_within frames k x at) short
 
-doubled_short : (k : ℕ) (frames : List Frame) → length frames ≤ 1024 → length (after_double frames k (slice_get frames k)) ≤ 1024
+doubled_short : (k : ℕ) (frames : List Frame) → length frames ≤ MOST_FRAMES → length (after_double frames k (slice_get frames k)) ≤ MOST_FRAMES
 doubled_short k frames short = doubled_by (slice_get frames k) k frames refl short
 
 pub short_rest : (lanes : List LinkLanes) (j : ℕ) (d : Dir) → AreShort lanes → AreShort (changed_at (changed_lane d rest) lanes j)
@@ -192,11 +193,11 @@ short_lost place lanes j d short = short_changed (λ frames. after_lose frames p
 pub short_doubled : (place : ℕ) (lanes : List LinkLanes) (j : ℕ) (d : Dir) → AreShort lanes → AreShort (changed_at (changed_lane d (λ frames. after_double frames place (slice_get frames place))) lanes j)
 short_doubled place lanes j d short = short_changed (λ frames. after_double frames place (slice_get frames place)) (doubled_short place) lanes j d short
 
-empty_lane : (dir : Dir) → length (lane_in dir no_frames) ≤ 1024
+empty_lane : (dir : Dir) → length (lane_in dir no_frames) ≤ MOST_FRAMES
 empty_lane Ab = omega arith
 empty_lane Ba = omega arith
 
-pub short_flushed : (lanes : List LinkLanes) (j k : ℕ) (dir : Dir) → length (lane_of lanes k dir) ≤ 1024 → length (lane_of (changed_at (λ l. no_frames) lanes j) k dir) ≤ 1024
+pub short_flushed : (lanes : List LinkLanes) (j k : ℕ) (dir : Dir) → length (lane_of lanes k dir) ≤ MOST_FRAMES → length (lane_of (changed_at (λ l. no_frames) lanes j) k dir) ≤ MOST_FRAMES
 short_flushed [] j k dir short = short
 short_flushed (x ∷ lanes) zero zero dir short = empty_lane dir
 short_flushed (x ∷ lanes) zero (suc k) dir short = short
