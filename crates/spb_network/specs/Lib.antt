@@ -10,4 +10,5 @@ pub mod Questions
 pub mod Refusing
 pub mod Play
 pub mod Applying
+pub mod Holding
 pub mod SoundLaws

@@ -15,7 +15,9 @@ pub use answer::{Answer, Out};
 pub use declaration::{DeclaredBridge, DeclaredLink, LinkEnd};
 pub use kind_rule::KindRule;
 pub use lanes::Lanes;
-pub use laws::{events_keep_sound, networks_are_sound, some_network_is_busy};
+pub use laws::{
+    events_keep_sound, networks_are_sound, some_network_is_busy, the_first_reason_is_given,
+};
 pub use network::{Network, NetworkOf};
 pub use reason::{ApplyError, Reason};
 pub use way::Way;
