@@ -12,11 +12,11 @@ use spb_types::NoMemory;
 /// that can answer `NoMemory` answers it and changes nothing. What else a failed bridge's view says isn't told, and
 /// the outbox may have gained the first of that call's frames.
 pub trait Bridge: Drop {
-    ghost use Rattle.std.specs.Prelude.{◌≡◌, Bool, true, false, OnOk, OnErr, IsErr, Some};
+    ghost use Rattle.std.specs.Prelude.{◌≡◌, true, false, OnOk, OnErr, IsErr, Some};
     ghost use Rattle.std.specs.Option.{option_map, option_copied};
     ghost use Rattle.lsdb.specs.Database.{keyed};
     ghost use Rattle.bridge_api.specs.Shown.{Shown};
-    ghost use Rattle.bridge_api.specs.View.{IsPort, port_at, is_due_at, adjacency_at, has_flags, entry_at};
+    ghost use Rattle.bridge_api.specs.View.{IsPort, is_due_at, adjacency_at, has_flags, entry_at};
     ghost use Rattle.bridge_api.specs.Config.{IsWhole, IsMetric, configured};
     ghost use Rattle.bridge_api.specs.Hearing.{after_receive, with_carrier, with_metric};
     ghost use Rattle.bridge_api.specs.Ticking.{after_tick, sent_in_tick};
@@ -58,7 +58,8 @@ pub trait Bridge: Drop {
         ensures sent { OnOk result (outbox.new ≡ with_wire (sent_in_tick (shown self.old).view) outbox.old) }
         ensures memory { OnErr result ((shown self.new).view.failed ≡ true) }
         ensures gained { OnErr result (Gains (sent_in_tick (shown self.old).view) outbox.old outbox.new) }
-        ensures failed { (shown self.old).view.failed ≡ true → IsErr result × ((shown self.new).view ≡ (shown self.old).view) × (outbox.new ≡ outbox.old) }
+        ensures failed { (shown self.old).view.failed ≡ true →
+            IsErr result × ((shown self.new).view ≡ (shown self.old).view) × (outbox.new ≡ outbox.old) }
         ensures made { (shown self.new).blank ≡ false }
         ensures kind { (shown self.new).kind ≡ (shown self.old).kind };
 
@@ -72,7 +73,8 @@ pub trait Bridge: Drop {
         ensures view { OnOk result ((shown self.new).view ≡ after_receive port frame.now (shown self.old).view) }
         ensures sent { outbox.new ≡ outbox.old }
         ensures memory { OnErr result ((shown self.new).view.failed ≡ true) }
-        ensures failed { (shown self.old).view.failed ≡ true → IsErr result × ((shown self.new).view ≡ (shown self.old).view) }
+        ensures failed { (shown self.old).view.failed ≡ true →
+            IsErr result × ((shown self.new).view ≡ (shown self.old).view) }
         ensures still_made { (shown self.new).blank ≡ false }
         ensures kind { (shown self.new).kind ≡ (shown self.old).kind };
 
@@ -83,7 +85,8 @@ pub trait Bridge: Drop {
         requires port { (shown self.old).view.failed ≡ false → IsPort (shown self.old).view port }
         ensures view { OnOk result ((shown self.new).view ≡ with_carrier port on (shown self.old).view) }
         ensures memory { OnErr result ((shown self.new).view.failed ≡ true) }
-        ensures failed { (shown self.old).view.failed ≡ true → IsErr result × ((shown self.new).view ≡ (shown self.old).view) }
+        ensures failed { (shown self.old).view.failed ≡ true →
+            IsErr result × ((shown self.new).view ≡ (shown self.old).view) }
         ensures still_made { (shown self.new).blank ≡ false }
         ensures kind { (shown self.new).kind ≡ (shown self.old).kind };
 
@@ -95,7 +98,8 @@ pub trait Bridge: Drop {
         requires metric { IsMetric metric }
         ensures view { OnOk result ((shown self.new).view ≡ with_metric port metric (shown self.old).view) }
         ensures memory { OnErr result ((shown self.new).view.failed ≡ true) }
-        ensures failed { (shown self.old).view.failed ≡ true → IsErr result × ((shown self.new).view ≡ (shown self.old).view) }
+        ensures failed { (shown self.old).view.failed ≡ true →
+            IsErr result × ((shown self.new).view ≡ (shown self.old).view) }
         ensures still_made { (shown self.new).blank ≡ false }
         ensures kind { (shown self.new).kind ≡ (shown self.old).kind };
 

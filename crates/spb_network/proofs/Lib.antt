@@ -37,3 +37,6 @@ pub mod RowLemmas
 pub mod CommandFits
 pub mod DeclaredLemmas
 pub mod HintLemmas
+pub mod Chains
+pub mod Tested
+pub mod Firsts

@@ -9,6 +9,7 @@ pub mod Questions
 pub mod Refusing
 pub mod Play
 pub mod Applying
+pub mod Holding
 pub mod SoundLaws
 pub mod WiringLaws
 pub mod DeliveryLaws

@@ -1,4 +1,5 @@
 //! What holds of a network at every moment. Each law is the contract of a function that does nothing.
+ghost use Rattle.spb_network.specs.Holding.{TheFirstReasonIsGiven};
 ghost use Rattle.spb_network.specs.SoundLaws.{EventsKeepSound, CommandsKeepSound, NetworksAreSound, SomeNetworkIsBusy};
 ghost use Rattle.spb_network.specs.WiringLaws.{SoundIsWired, NetworksAreWired};
 ghost use Rattle.spb_network.specs.MeetingLaws.{SomeBridgesMeet};
@@ -35,4 +36,9 @@ pub fn a_delivery_is_one_step()
 pub fn some_network_is_busy()
     ensures hello { SomeNetworkIsBusy }
     ensures met { SomeBridgesMeet }
+{}
+
+/// A command is refused for the reason of the least number that holds of it, and accepted exactly where none holds.
+pub fn the_first_reason_is_given()
+    ensures { TheFirstReasonIsGiven }
 {}

@@ -14,7 +14,10 @@
 pub use answer::{Answer, Out};
 pub use declaration::{DeclaredBridge, DeclaredLink, LinkEnd};
 pub use kind_rule::KindRule;
-pub use laws::{events_keep_sound, networks_are_sound, some_network_is_busy};
+pub use laws::{
+    a_delivery_is_one_step, events_keep_sound, networks_are_sound, some_network_is_busy,
+    the_first_reason_is_given, wiring_gives_tables,
+};
 pub use network::{Network, NetworkOf};
 pub use reason::{ApplyError, Reason};
 pub use world::World;

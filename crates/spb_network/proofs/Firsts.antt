@@ -1,0 +1,248 @@
+-- The refusal of each command is that of a chain of tests, so the first reason is given.
+use Rattle.std.proofs.Common.{◌≡◌, ℕ, ◌+◌, ◌<◌, ◌≤◌, Bool, not, ◌&&◌, nat_lt, nat_le, List, [], ◌∷◌, length, Option, Some, None, is_some, ◌⊎◌, inl, inr, ⊎_elim, refl, subst, arith}
+use Rattle.std.specs.Prelude.{Decides}
+use Rattle.std.proofs.lemmas.Bool.Decides.{Decides-like}
+use Rattle.spb_types.specs.declared.address.Mac.{Mac}
+use Rattle.spb_types.specs.declared.service.SourceId.{SourceId}
+use Rattle.scenario.specs.declared.command.Command.{Command}
+use Rattle.scenario.specs.declared.command.Command.TheVariants as command
+use Rattle.spb_types.specs.declared.link.Dir.{Dir}
+use Rattle.spb_types.specs.declared.link.Side.{Side}
+use Rattle.spb_network.specs.declared.reason.Reason.{Reason}
+use Rattle.spb_network.specs.declared.reason.Reason.TheVariants.{NoSuchName, NameTaken, IdTaken, PortUse, Range, TooMany, AlreadyLinked, AlreadyUp, AlreadyDown, Attached, NotAttached, NoFrame, RackSpent, TooLate}
+use Rattle.spb_network.specs.Reason.{number_of, reason_unless}
+use Rattle.spb_network.specs.World.{World, things_of, place_of}
+use Rattle.spb_network.specs.Declaring.{is_new_vid, is_vid_range, is_before_bridges, is_new_name, is_new_system, is_new_source, is_bridge_range, has_bridge_room, is_free_port, is_link_range, has_link_room, is_unlinked, vid_refusal, bridge_refusal, link_refusal}
+use Rattle.spb_network.specs.State.{State, is_live, lane_at, kind_at}
+use Rattle.spb_network.specs.Questions.{Question, question_of}
+use Rattle.spb_network.specs.Refusing.{box_for, asked_refusal, declared_refusal, placed_link_refusal, named_link_refusal, unnamed_refusal, placed_refusal, down_refusal, up_refusal, metric_refusal, frame_refusal, round_refusal, drain_refusal, refusal_of}
+use Rattle.spb_network.specs.Holding.{IsNamed, IsAt, AsksUnknown, Holds, TheFirstReasonIsGiven}
+use Rattle.spb_network.proofs.Chains.{chain_said, Said, lowest, refused_for_the_first}
+use Rattle.spb_network.proofs.Tested.{true-is, false-is, fails, opposes, not-lt, not-le, named, known, unknown, at-is, both-at, taken_vid, wrong_vid, late, taken_name, taken_id, wrong_bridge, full_of_bridges, spent_rack, taken_port, wrong_metric, wrong_link, full_of_links, joined, wrong_count}
+
+-- ---- what names a bridge
+
+unnamed : (H : Reason → Type 0) (w : World) (name : List ℕ) → (¬ IsNamed name w.bridges → H NoSuchName) → (H NoSuchName → ¬ IsNamed name w.bridges) → ((q : Reason) → H q → q ≡ NoSuchName) → Said H (unnamed_refusal w name)
+unfolding unnamed_refusal
+unnamed H w name from to covers =
+    chain_said H 0 ((is_some (place_of name w.bridges), NoSuchName) ∷ [])
+    (Decides-like (not (is_some (place_of name w.bridges))) from to (fails (is_some (place_of name w.bridges)) (named name w.bridges)), tt)
+    (omega arith, tt) (λ q h. inl (covers q h))
+
+asked : (H : Reason → Type 0) (w : World) (o : Option Question) → (AsksUnknown w o → H NoSuchName) → (H NoSuchName → AsksUnknown w o) → ((q : Reason) → H q → q ≡ NoSuchName) → Said H (asked_refusal w o)
+asked H w None from to covers = λ q h. to (subst H (covers q h) h)
+asked H w (Some question) from to covers = unnamed H w question.bridge from to covers
+
+-- ---- what names a link
+
+linked : (H : Reason → Type 0) (w : World) (name : List ℕ) (test : ℕ → Bool) (r : Reason) → 2 < number_of r → (¬ IsNamed name w.links → H NoSuchName) → (H NoSuchName → ¬ IsNamed name w.links) → ((k : ℕ) → place_of name w.links ≡ Some k → Decides (not (test k)) (H r)) → ((q : Reason) → H q → (q ≡ NoSuchName) ⊎ (q ≡ r)) → (o : Option ℕ) → place_of name w.links ≡ o → Said H (placed_refusal (λ k. reason_unless (test k) r) o)
+linked H w name test r low from to d covers None at = (from (unknown name w.links at), λ q h. lowest q)
+linked H w name test r low from to d covers (Some k) at =
+    chain_said H 2 ((test k, r) ∷ []) (d k at, tt) (low, tt) (λ q h. ⊎_elim (λ e. absurd (to (subst H e h) (known name w.links k at))) (λ e. inl e) (covers q h))
+
+-- ---- the commands
+
+vid_said : (s : State) (vid ect : ℕ) → Said (Holds s (command.Vid vid ect)) (vid_refusal s.world vid ect)
+unfolding vid_refusal
+vid_said s vid ect =
+    chain_said (Holds s (command.Vid vid ect)) 0
+    ((is_new_vid s.world.vids vid, NameTaken) ∷ (is_vid_range s.world.vids vid ect, Range) ∷ (is_before_bridges s.world, TooLate) ∷ [])
+    (taken_vid s.world vid ect, (wrong_vid s.world vid ect, (late s.world, tt)))
+    (omega arith, (omega arith, (omega arith, tt)))
+    covers
+  where
+    covers : (q : Reason) → Holds s (command.Vid vid ect) q → (q ≡ NameTaken) ⊎ ((q ≡ Range) ⊎ ((q ≡ TooLate) ⊎ ⊥))
+    covers NameTaken h = inl refl
+    covers Range h = inr (inl refl)
+    covers TooLate h = inr (inr (inl refl))
+    covers _ h = absurd h
+
+bridge_said : (s : State) (name : List ℕ) (priority : ℕ) (system : Mac) (source : SourceId) (ports : ℕ) → Said (Holds s (command.Bridge name priority system source ports)) (declared_refusal s name priority system source ports)
+unfolding declared_refusal bridge_refusal
+bridge_said s name priority system source ports =
+    chain_said (Holds s (command.Bridge name priority system source ports)) 0
+    ((is_new_name name s.world.bridges, NameTaken)
+    ∷ (is_new_system system s.world.bridges && is_new_source source s.world.bridges, IdTaken)
+    ∷ (is_bridge_range priority system source ports, Range)
+    ∷ (has_bridge_room s.world, TooMany)
+    ∷ (is_some (box_for s), RackSpent)
+    ∷ [])
+    (taken_name name s.world.bridges, (taken_id s.world system source, (wrong_bridge priority system source ports, (full_of_bridges s.world, (spent_rack (kind_at s.rule (length s.world.bridges)) s.rack, tt)))))
+    (omega arith, (omega arith, (omega arith, (omega arith, (omega arith, tt)))))
+    covers
+  where
+    covers : (q : Reason) → Holds s (command.Bridge name priority system source ports) q → (q ≡ NameTaken) ⊎ ((q ≡ IdTaken) ⊎ ((q ≡ Range) ⊎ ((q ≡ TooMany) ⊎ ((q ≡ RackSpent) ⊎ ⊥))))
+    covers NameTaken h = inl refl
+    covers IdTaken h = inr (inl refl)
+    covers Range h = inr (inr (inl refl))
+    covers TooMany h = inr (inr (inr (inl refl)))
+    covers RackSpent h = inr (inr (inr (inr (inl refl))))
+    covers _ h = absurd h
+
+tick_said : (s : State) (name : List ℕ) → Said (Holds s (command.Tick name)) (unnamed_refusal s.world name)
+tick_said s name = unnamed (Holds s (command.Tick name)) s.world name (λ n. n) (λ n. n) covers
+  where
+    covers : (q : Reason) → Holds s (command.Tick name) q → q ≡ NoSuchName
+    covers NoSuchName h = refl
+    covers _ h = absurd h
+
+-- of a link, by the places that were found for the names
+placed_said : (s : State) (name a b : List ℕ) (port_a port_b cost : ℕ) (o p : Option ℕ) → place_of a s.world.bridges ≡ o → place_of b s.world.bridges ≡ p → Said (Holds s (command.Link name a port_a b port_b cost)) (placed_link_refusal s.world name o port_a p port_b cost)
+unfolding link_refusal
+placed_said s name a b port_a port_b cost None p at bt = (inl (unknown a s.world.bridges at), λ q h. lowest q)
+placed_said s name a b port_a port_b cost (Some i) None at bt = (inr (unknown b s.world.bridges bt), λ q h. lowest q)
+placed_said s name a b port_a port_b cost (Some i) (Some j) at bt =
+    let w : World = s.world in
+    chain_said (Holds s (command.Link name a port_a b port_b cost)) 0
+    ((is_new_name name w.links, NameTaken)
+    ∷ (is_free_port w.links i port_a && is_free_port w.links j port_b, PortUse)
+    ∷ (is_link_range w.bridges i port_a j port_b cost, Range)
+    ∷ (has_link_room w, TooMany)
+    ∷ (is_unlinked w.links i j, AlreadyLinked)
+    ∷ []) (
+      taken_name name w.links,
+      (
+        both-at a b w.bridges _ i j _ at bt (taken_port w i port_a j port_b),
+        (
+          both-at a b w.bridges _ i j _ at bt (wrong_link w.bridges i port_a j port_b cost),
+          (
+            both-at a b w.bridges _ i j _ at bt (full_of_links w),
+            (
+              both-at a b w.bridges _ i j _ at bt (joined w i j),
+              tt,
+            ),
+          ),
+        ),
+      ),
+    )
+    (omega arith, (omega arith, (omega arith, (omega arith, (omega arith, tt)))))
+    covers
+  where
+    covers : (q : Reason) → Holds s (command.Link name a port_a b port_b cost) q → (q ≡ NameTaken) ⊎ ((q ≡ PortUse) ⊎ ((q ≡ Range) ⊎ ((q ≡ TooMany) ⊎ ((q ≡ AlreadyLinked) ⊎ ⊥))))
+    covers NoSuchName h = absurd (⊎_elim (λ n. n (known a s.world.bridges i at)) (λ n. n (known b s.world.bridges j bt)) h)
+    covers NameTaken h = inl refl
+    covers PortUse h = inr (inl refl)
+    covers Range h = inr (inr (inl refl))
+    covers TooMany h = inr (inr (inr (inl refl)))
+    covers AlreadyLinked h = inr (inr (inr (inr (inl refl))))
+    covers _ h = absurd h
+
+link_said : (s : State) (name a b : List ℕ) (port_a port_b cost : ℕ) → Said (Holds s (command.Link name a port_a b port_b cost)) (named_link_refusal s.world name a port_a b port_b cost)
+unfolding named_link_refusal
+link_said s name a b port_a port_b cost = placed_said s name a b port_a port_b cost (place_of a s.world.bridges) (place_of b s.world.bridges) refl refl
+
+metric_said : (s : State) (name : List ℕ) (side : Side) (m : ℕ) → Said (Holds s (command.Metric name side m)) (metric_refusal s.world name m)
+unfolding metric_refusal
+metric_said s name side m = linked (Holds s (command.Metric name side m)) s.world name (λ k. nat_le 1 m && nat_le m 16777214) Range (omega arith) (λ n. n) (λ n. n) (λ k at. wrong_metric m) covers (place_of name s.world.links) refl
+  where
+    covers : (q : Reason) → Holds s (command.Metric name side m) q → (q ≡ NoSuchName) ⊎ (q ≡ Range)
+    covers NoSuchName h = inl refl
+    covers Range h = inr refl
+    covers _ h = absurd h
+
+down_said : (s : State) (name : List ℕ) → Said (Holds s (command.Down name)) (down_refusal s.world name)
+unfolding down_refusal
+down_said s name = linked (Holds s (command.Down name)) s.world name (λ k. is_live (things_of s.world.links) k) AlreadyDown (omega arith) (λ n. n) (λ n. n) (λ k at. at-is name s.world.links _ k _ at (false-is (is_live (things_of s.world.links) k))) covers (place_of name s.world.links) refl
+  where
+    covers : (q : Reason) → Holds s (command.Down name) q → (q ≡ NoSuchName) ⊎ (q ≡ AlreadyDown)
+    covers NoSuchName h = inl refl
+    covers AlreadyDown h = inr refl
+    covers _ h = absurd h
+
+up_said : (s : State) (name : List ℕ) → Said (Holds s (command.Up name)) (up_refusal s.world name)
+unfolding up_refusal
+up_said s name = linked (Holds s (command.Up name)) s.world name (λ k. not (is_live (things_of s.world.links) k)) AlreadyUp (omega arith) (λ n. n) (λ n. n) (λ k at. at-is name s.world.links _ k _ at (opposes (is_live (things_of s.world.links) k) (true-is (is_live (things_of s.world.links) k)))) covers (place_of name s.world.links) refl
+  where
+    covers : (q : Reason) → Holds s (command.Up name) q → (q ≡ NoSuchName) ⊎ (q ≡ AlreadyUp)
+    covers NoSuchName h = inl refl
+    covers AlreadyUp h = inr refl
+    covers _ h = absurd h
+
+-- of what names a frame
+frame_said : (H : Reason → Type 0) (s : State) (name : List ℕ) (dir : Dir) (place : ℕ) → (¬ IsNamed name s.world.links → H NoSuchName) → (H NoSuchName → ¬ IsNamed name s.world.links) → ((k : ℕ) → place_of name s.world.links ≡ Some k → Decides (not (nat_lt place (length (lane_at s k dir)))) (H NoFrame)) → ((q : Reason) → H q → (q ≡ NoSuchName) ⊎ (q ≡ NoFrame)) → Said H (frame_refusal s name dir place)
+unfolding frame_refusal
+frame_said H s name dir place from to d covers = linked H s.world name (λ k. nat_lt place (length (lane_at s k dir))) NoFrame (omega arith) from to d covers (place_of name s.world.links) refl
+
+lacking : (s : State) (name : List ℕ) (dir : Dir) (place k : ℕ) → place_of name s.world.links ≡ Some k → Decides (not (nat_lt place (length (lane_at s k dir)))) (IsAt name s.world.links (λ j. length (lane_at s j dir) ≤ place))
+lacking s name dir place k at = at-is name s.world.links _ k _ at (not-lt place (length (lane_at s k dir)))
+
+deliver_said : (s : State) (name : List ℕ) (dir : Dir) → Said (Holds s (command.Deliver name dir)) (frame_refusal s name dir 0)
+deliver_said s name dir = frame_said (Holds s (command.Deliver name dir)) s name dir 0 (λ n. n) (λ n. n) (λ k at. lacking s name dir 0 k at) covers
+  where
+    covers : (q : Reason) → Holds s (command.Deliver name dir) q → (q ≡ NoSuchName) ⊎ (q ≡ NoFrame)
+    covers NoSuchName h = inl refl
+    covers NoFrame h = inr refl
+    covers _ h = absurd h
+
+lose_said : (s : State) (name : List ℕ) (dir : Dir) (place : ℕ) → Said (Holds s (command.Lose name dir place)) (frame_refusal s name dir place)
+lose_said s name dir place = frame_said (Holds s (command.Lose name dir place)) s name dir place (λ n. n) (λ n. n) (λ k at. lacking s name dir place k at) covers
+  where
+    covers : (q : Reason) → Holds s (command.Lose name dir place) q → (q ≡ NoSuchName) ⊎ (q ≡ NoFrame)
+    covers NoSuchName h = inl refl
+    covers NoFrame h = inr refl
+    covers _ h = absurd h
+
+double_said : (s : State) (name : List ℕ) (dir : Dir) (place : ℕ) → Said (Holds s (command.Double name dir place)) (frame_refusal s name dir place)
+double_said s name dir place = frame_said (Holds s (command.Double name dir place)) s name dir place (λ n. n) (λ n. n) (λ k at. lacking s name dir place k at) covers
+  where
+    covers : (q : Reason) → Holds s (command.Double name dir place) q → (q ≡ NoSuchName) ⊎ (q ≡ NoFrame)
+    covers NoSuchName h = inl refl
+    covers NoFrame h = inr refl
+    covers _ h = absurd h
+
+round_said : (s : State) (n : ℕ) → Said (Holds s (command.Round n)) (round_refusal s n)
+unfolding round_refusal
+round_said s n =
+    chain_said (Holds s (command.Round n)) 0
+    ((nat_le 1 n && nat_le n 20000, Range) ∷ (nat_le (s.rounds + n) 20000, TooMany) ∷ [])
+    (wrong_count n 20000, (not-le (s.rounds + n) 20000, tt)) (omega arith, (omega arith, tt)) covers
+  where
+    covers : (q : Reason) → Holds s (command.Round n) q → (q ≡ Range) ⊎ ((q ≡ TooMany) ⊎ ⊥)
+    covers Range h = inl refl
+    covers TooMany h = inr (inl refl)
+    covers _ h = absurd h
+
+drain_said : (s : State) (n : ℕ) → Said (Holds s (command.Drain n)) (drain_refusal s n)
+unfolding drain_refusal
+drain_said s n =
+    chain_said (Holds s (command.Drain n)) 0
+    ((nat_le 1 n && nat_le n 1000000, Range) ∷ (nat_le (s.drained + n) 100000000, TooMany) ∷ [])
+    (wrong_count n 1000000, (not-le (s.drained + n) 100000000, tt)) (omega arith, (omega arith, tt)) covers
+  where
+    covers : (q : Reason) → Holds s (command.Drain n) q → (q ≡ Range) ⊎ ((q ≡ TooMany) ⊎ ⊥)
+    covers Range h = inl refl
+    covers TooMany h = inr (inl refl)
+    covers _ h = absurd h
+
+said : (s : State) (c : Command) → Said (Holds s c) (refusal_of s c)
+said s (command.Vid vid ect) = vid_said s vid ect
+said s (command.Bridge name priority system source ports) = bridge_said s name priority system source ports
+said s (command.Link name a port_a b port_b cost) = link_said s name a b port_a port_b cost
+said s (command.Metric name side m) = metric_said s name side m
+said s (command.Down name) = down_said s name
+said s (command.Up name) = up_said s name
+said s (command.Tick name) = tick_said s name
+said s (command.Deliver name dir) = deliver_said s name dir
+said s (command.Lose name dir place) = lose_said s name dir place
+said s (command.Double name dir place) = double_said s name dir place
+said s (command.Round n) = round_said s n
+said s (command.Drain n) = drain_said s n
+said s c = asked (Holds s c) s.world (question_of c) (λ h. h) (λ h. h) (λ q. elim q as (λ p. Holds s c p → p ≡ NoSuchName) [
+  | NoSuchName ↦ λ h. refl
+  | NameTaken ↦ λ h. absurd h
+  | IdTaken ↦ λ h. absurd h
+  | PortUse ↦ λ h. absurd h
+  | Range ↦ λ h. absurd h
+  | TooMany ↦ λ h. absurd h
+  | AlreadyLinked ↦ λ h. absurd h
+  | AlreadyUp ↦ λ h. absurd h
+  | AlreadyDown ↦ λ h. absurd h
+  | Attached ↦ λ h. absurd h
+  | NotAttached ↦ λ h. absurd h
+  | NoFrame ↦ λ h. absurd h
+  | RackSpent ↦ λ h. absurd h
+  | TooLate ↦ λ h. absurd h
+])
+
+pub the_first_reason_is_given : TheFirstReasonIsGiven
+the_first_reason_is_given s c = refused_for_the_first s c (said s c)
