@@ -34,10 +34,10 @@ pub use config::BridgeConfig;
 pub use drop_reason::DropReason;
 pub use kind::Kind;
 pub use laws::{
-    bridges_are_sound, entering_up_is_whole, frames_are_heard, graphs_are_read_from_what_is_held,
-    neighbours_come_up, own_lsps_are_renewed, seconds_serve_neighbours, silent_lsps_expire,
-    silent_neighbours_are_lost, steps_carry_the_database, steps_keep_neighbours,
-    steps_keep_the_bridge,
+    bridges_are_sound, entering_up_is_whole, few_are_held_and_sent, frames_are_heard,
+    graphs_are_read_from_what_is_held, neighbours_come_up, own_lsps_are_renewed,
+    seconds_serve_neighbours, silent_lsps_expire, silent_neighbours_are_lost,
+    steps_carry_the_database, steps_keep_neighbours, steps_keep_the_bridge,
 };
 pub use outbox::Outbox;
 pub use port::BridgePort;
