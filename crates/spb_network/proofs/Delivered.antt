@@ -19,7 +19,7 @@ use Rattle.spb_network.specs.Events.{stepped, heard_over, delivered_front, deliv
 use Rattle.spb_network.specs.Refusing.{placed_refusal, frame_refusal}
 use Rattle.spb_network.specs.Play.{at_place, at_link}
 use Rattle.spb_network.specs.Sound.{IsSoundState}
-use Rattle.spb_network.specs.DeliveryLaws.{frames_at, entered, IsOneStep, AreSent, IsDelivery, FramesAreDelivered, IsDeliveryOf, DeliverDelivers}
+use Rattle.spb_network.specs.DeliveryLaws.{frames_at, pushed_all, IsOneStep, AreSent, IsDelivery, FramesAreDelivered, IsDeliveryOf, DeliverDelivers}
 use Rattle.spb_network.proofs.FitsLemmas.{length-changed, link_there}
 use Rattle.spb_network.proofs.SoundLane.{some-is}
 use Rattle.spb_network.proofs.SentLanes.{lane_here, lane_beside, stepped_once, stepped_here, stepped_beside, stepped_rest}
@@ -78,7 +78,7 @@ module _ (s : State) (k : ℕ) (dir : Dir) (bytes : Frame) (behind : List Frame)
           near ((λ n. (near_end (same.1 n) (link n)).bridge) ∙ from) in
           stepped_here x next (far_end dir l).bridge v j d m at there_m sound.world.links_apart (link_there s j m sound.world there_m).apart from
           (subst (λ (n : ℕ). j < n) (sym (length-changed (changed_lane dir rest) s.lanes k)) (lane_within s j m sound there_m))
-          ∙ ap (λ (lane : List Frame). entered lane (if m.live then frames_at (near_end d m).port (sent x v) else [])) (lane_beside rest s.lanes k dir j d other)
+          ∙ ap (λ (lane : List Frame). pushed_all lane (if m.live then frames_at (near_end d m).port (sent x v) else [])) (lane_beside rest s.lanes k dir j d other)
 
   -- a link is there, and it is up: else no frame would be on its way over it
   over : (o : Option DeclaredLink) → slice_get (links_of s) k ≡ o → IsDelivery s (heard_over (with_frames rest s k dir) dir bytes o) k dir bytes behind

@@ -15,7 +15,7 @@ use Rattle.link_model.specs.Lanes.{changed_lane, lane_of}
 use Rattle.spb_types.specs.Places.{changed_at}
 use Rattle.spb_network.specs.State.{State, links_of, is_live, near_end, way_out, with_frames}
 use Rattle.spb_network.specs.Events.{sent_over, sent_all, stepped}
-use Rattle.spb_network.specs.DeliveryLaws.{frames_at, entered, IsOneStep}
+use Rattle.spb_network.specs.DeliveryLaws.{frames_at, pushed_all, IsOneStep}
 use Rattle.spb_network.proofs.FitsLemmas.{alike_sent_over}
 use Rattle.spb_network.proofs.SoundLane.{some-is}
 use Rattle.spb_network.proofs.SoundWays.{way_of_end, LeadsFrom, way_leads}
@@ -92,25 +92,25 @@ module _ (links : List DeclaredLink) (i k : ℕ) (dir : Dir) (l : DeclaredLink) 
         over_beside s (way_out (links_of s) i x.0) x.1 k dir (λ w out is.
         true≢false (sym (eq-eqb x.0 (near_end dir l).port (sym (leads_here x.0 w (ap (λ (ls : List DeclaredLink). way_out ls i x.0) (sym same) ∙ out) is).1)) ∙ at))
 
-    nothing_sent : (live : Bool) (lane : List Frame) → lane ≡ entered lane (if live then [] else [])
+    nothing_sent : (live : Bool) (lane : List Frame) → lane ≡ pushed_all lane (if live then [] else [])
     nothing_sent true lane = refl
     nothing_sent false lane = refl
 
-    in_order : (live b : Bool) (lane : List Frame) (x : Frame) (more : List Frame) → entered (if b && live then pushed lane x else lane) (if live then more else []) ≡ entered lane (if live then (if b then x ∷ more else more) else [])
+    in_order : (live b : Bool) (lane : List Frame) (x : Frame) (more : List Frame) → pushed_all (if b && live then pushed lane x else lane) (if live then more else []) ≡ pushed_all lane (if live then (if b then x ∷ more else more) else [])
     in_order true true lane x more = refl
     in_order true false lane x more = refl
     in_order false true lane x more = refl
     in_order false false lane x more = refl
 
     pub sent_here : (s : State) (fs : List (ℕ × Frame)) → links_of s ≡ links → k < length s.lanes
-        → lane_of (sent_all s i fs).lanes k dir ≡ entered (lane_of s.lanes k dir) (if l.live then frames_at (near_end dir l).port fs else [])
+        → lane_of (sent_all s i fs).lanes k dir ≡ pushed_all (lane_of s.lanes k dir) (if l.live then frames_at (near_end dir l).port fs else [])
     sent_here s [] same within = nothing_sent l.live (lane_of s.lanes k dir)
     sent_here s (x ∷ fs) same within =
         let way : Option LaneId = way_out (links_of s) i x.0 in
         let next : State = sent_over s way x.1 in
         let more : List Frame = frames_at (near_end dir l).port fs in
         sent_here next fs (ap (λ (w : World). things_of w.links) (world-sent_over s way x.1) ∙ same) (subst (λ (n : ℕ). k < n) (sym (alike_sent_over s way x.1).lanes) within)
-        ∙ (ap (λ (lane : List Frame). entered lane (if l.live then more else [])) (one_sent s x (x.0 == (near_end dir l).port) same within refl)
+        ∙ (ap (λ (lane : List Frame). pushed_all lane (if l.live then more else [])) (one_sent s x (x.0 == (near_end dir l).port) same within refl)
         ∙ in_order l.live (x.0 == (near_end dir l).port) (lane_of s.lanes k dir) x.1 more)
 
 -- ---- nothing else is changed
@@ -151,7 +151,7 @@ stepped_once x s i v at = record {
 }
 
 pub stepped_here : (x : Input) (s : State) (i : ℕ) (v : BridgeView) (k : ℕ) (dir : Dir) (l : DeclaredLink) → slice_get s.views i ≡ Some v → slice_get (links_of s) k ≡ Some l → AllApart (links_of s) → l.a.bridge ≢ l.b.bridge → (near_end dir l).bridge ≡ i → k < length s.lanes
-    → lane_of (stepped x s i).lanes k dir ≡ entered (lane_of s.lanes k dir) (if l.live then frames_at (near_end dir l).port (sent x v) else [])
+    → lane_of (stepped x s i).lanes k dir ≡ pushed_all (lane_of s.lanes k dir) (if l.live then frames_at (near_end dir l).port (sent x v) else [])
 unfolding stepped
 stepped_here x s i v k dir l at there all_apart ends near within =
     let next : State = record s { views = changed_at (step x) s.views i } in

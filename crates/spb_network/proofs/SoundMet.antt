@@ -29,7 +29,7 @@ use Rattle.spb_network.specs.Events.{sent_all, stepped, delivered, switched_on}
 use Rattle.spb_network.specs.Refusing.{declared_refusal, named_link_refusal, unnamed_refusal, frame_refusal, refusal_of}
 use Rattle.spb_network.specs.Play.{config_of, with_vid_more, declared, linked, named_link, at_bridge, at_link, next_count, counted, next_state, played_all}
 use Rattle.spb_network.specs.SoundLaws.{AreAccepted}
-use Rattle.spb_network.specs.DeliveryLaws.{frames_at, entered}
+use Rattle.spb_network.specs.DeliveryLaws.{frames_at, pushed_all}
 use Rattle.spb_network.specs.MeetingLaws.{HaveMet, SomeBridgesMeet}
 use Rattle.spb_network.proofs.ListLemmas.{length-push}
 use Rattle.spb_network.proofs.SoundConfigured.{lit, lit_port, lit_ports, lit_still, lit_attached}
@@ -54,7 +54,7 @@ still_if : (b : Bool) (f x : Frame) (lane : List Frame) → IsIn f lane → IsIn
 still_if true f x lane among = in_left f lane (x ∷ []) among
 still_if false f x lane among = among
 
-still_in : (f : Frame) (lane fs : List Frame) → IsIn f lane → IsIn f (entered lane fs)
+still_in : (f : Frame) (lane fs : List Frame) → IsIn f lane → IsIn f (pushed_all lane fs)
 still_in f lane [] among = among
 still_in f lane (x ∷ fs) among = still_in f (pushed lane x) fs (still_if (has_room lane) f x lane among)
 
@@ -62,13 +62,13 @@ pushed_is : (lane : List Frame) (x : Frame) → length lane ≤ 1023 → pushed 
 pushed_is lane x room = ap (λ (b : Bool). if b then lane ++ x ∷ [] else lane) (lt-ltb (length lane) 1024 (omega (arith, room)))
 
 -- frames for which there is room go in
-goes_in : (f : Frame) (lane fs : List Frame) → length lane + length fs ≤ 1024 → IsIn f fs → IsIn f (entered lane fs)
+goes_in : (f : Frame) (lane fs : List Frame) → length lane + length fs ≤ 1024 → IsIn f fs → IsIn f (pushed_all lane fs)
 goes_in f lane [] room among = absurd among
 goes_in f lane (x ∷ fs) room (inl here) =
-    subst (λ (l : List Frame). IsIn f (entered l fs)) (sym (pushed_is lane x (omega (arith, room))))
+    subst (λ (l : List Frame). IsIn f (pushed_all l fs)) (sym (pushed_is lane x (omega (arith, room))))
     (still_in f (lane ++ x ∷ []) fs (subst (λ (y : Frame). IsIn f (lane ++ y ∷ [])) here (in_last f lane)))
 goes_in f lane (x ∷ fs) room (inr there) =
-    subst (λ (l : List Frame). IsIn f (entered l fs)) (sym (pushed_is lane x (omega (arith, room))))
+    subst (λ (l : List Frame). IsIn f (pushed_all l fs)) (sym (pushed_is lane x (omega (arith, room))))
     (goes_in f (lane ++ x ∷ []) fs (omega (arith, room, length-push lane x)) there)
 
 at_port : (b : Bool) (f x : Frame) (more : List Frame) → b ≡ true → x ≡ f → IsIn f (if b then x ∷ more else more)
@@ -160,7 +160,7 @@ module _ (v w : BridgeView) (lit : AreLit v w) where
       let s : State = at u z [] [] n in
       let fs : List (ℕ × Frame) = sent second u in
       let room : 0 + length (frames_at 1 fs) ≤ 1024 = omega (arith, few_frames fs 1, few_sent v w lit) in
-      let lane : lane_of (stepped second s 0).lanes 0 Ab ≡ entered [] (frames_at 1 fs) =
+      let lane : lane_of (stepped second s 0).lanes 0 Ab ≡ pushed_all [] (frames_at 1 fs) =
       stepped_here second s 0 u 0 Ab link refl refl (tt, tt) (λ e. absurd (omega (arith, e))) refl (omega arith) in
       let hello = hello_sent v w lit in
       let own : SaysLsp u = lsp_sent v w lit in

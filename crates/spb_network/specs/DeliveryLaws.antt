@@ -19,9 +19,9 @@ frames_at p [] = []
 frames_at p (s ∷ ss) = if s.0 == p then s.1 ∷ frames_at p ss else frames_at p ss
 
 -- a lane into which frames went, one behind the other; each for which there was no room is lost
-abbrev pub entered : List Frame → List Frame → List Frame
-entered lane [] = lane
-entered lane (f ∷ fs) = entered (pushed lane f) fs
+abbrev pub pushed_all : List Frame → List Frame → List Frame
+pushed_all lane [] = lane
+pushed_all lane (f ∷ fs) = pushed_all (pushed lane f) fs
 
 -- something comes to the bridge at place i: it makes one step, and each other bridge is as it was
 pub record IsOneStep (s t : State) (i : ℕ) (input : Input) (v : BridgeView) : Type 0 where
@@ -33,7 +33,7 @@ pub record IsOneStep (s t : State) (i : ℕ) (input : Input) (v : BridgeView) : 
 abbrev pub AreSent : State → State → ℕ → List (ℕ × Frame) → Type 0
 AreSent s t i fs = (k : ℕ) (dir : Dir) (l : DeclaredLink)
     → slice_get (links_of s) k ≡ Some l → (near_end dir l).bridge ≡ i
-    → lane_at t k dir ≡ entered (lane_at s k dir) (if l.live then frames_at (near_end dir l).port fs else [])
+    → lane_at t k dir ≡ pushed_all (lane_at s k dir) (if l.live then frames_at (near_end dir l).port fs else [])
 
 -- each lane that leads from another bridge is as it was, but for the one in direction dir of the link at place k
 abbrev pub AreLeft : State → State → ℕ → ℕ → Dir → Type 0
