@@ -39,7 +39,7 @@ use Rattle.bridge_api.specs.declared.port.BridgePort.{BridgePort}
 use Rattle.bridge_api.specs.declared.config.BridgeConfig.{BridgeConfig}
 use Rattle.bridge_api.specs.View.{BridgeView, IsPort, port_at, neighbour_at, is_up_at, has_carrier_at, is_due_at, is_port_up, metrics_of, up_ports, control_of}
 use Rattle.bridge_api.specs.Own.{local_of, own_of, own_entry, IsTended}
-use Rattle.spb_types.specs.declared.limits.TheConstants.{MOST_ISIDS}
+use Rattle.spb_types.specs.declared.limits.TheConstants.{MOST_ISIDS, MOST_PORTS, MOST_VIDS, SOURCE_IDS}
 use Rattle.bridge_api.specs.Config.{IsWhole, IsOwnMac, IsMetric, IsAttachment, AgreesWith, ArePairwise, different, vids_of, bare, configured}
 use Rattle.bridge_api.specs.Judging.{Judged, useless, greeting, link_state, complete, partial, tenant, greeting_in, judged, is_hello}
 use Rattle.bridge_api.specs.Hearing.{with_carrier}
@@ -57,8 +57,8 @@ pub record IsSoundPort (port : BridgePort) : Type 0 where
 pub record HasConfig (v : BridgeView) : Type 0 where
   pub priority : v.id.priority < 65536
   pub system : IsOwnMac v.id.system.mac
-  pub source : v.source.value < 1048576
-  pub few_vids : length v.vids ≤ 16
+  pub source : v.source.value < SOURCE_IDS
+  pub few_vids : length v.vids ≤ MOST_VIDS
   pub each_vid : AllByRecursion IsTree v.vids
   pub vids_apart : ArePairwise (λ x y. x ≢ y) (vids_of v.vids)
   pub each_attachment : AllByRecursion (IsAttachment (vids_of v.vids)) v.attached
@@ -76,7 +76,7 @@ pub record HasDatabase (v : BridgeView) : Type 0 where
 -- a configured bridge with at most 32 ports, each sound, and a sound database, in which its own LSP is tended
 pub record IsSoundView (v : BridgeView) : Type 0 where
   pub config : HasConfig v
-  pub few : length v.ports ≤ 32
+  pub few : length v.ports ≤ MOST_PORTS
   pub ports : AllByRecursion IsSoundPort v.ports
   pub database : HasDatabase v
   pub own : IsTended v

@@ -1,5 +1,6 @@
 -- The bridge that a machine's fields say.
 use Rattle.std.specs.Prelude.{◌≡◌, ℕ, ◌≤◌, [], length, true, false, replicate, Option, Some, None}
+use Rattle.spb_types.specs.declared.limits.TheConstants.{MOST_PORTS}
 use Rattle.flooding.specs.Own.{own_id}
 use Rattle.lsdb.specs.Database.{fits}
 use Rattle.spb_content.specs.Local.{IsLocal}
@@ -37,7 +38,7 @@ pub record IsReady (m : Machine) : Type 0 where
 
 -- it has at most 32 ports, and a place for its own LSP
 pub record CanOriginate (m : Machine) : Type 0 where
-  pub few : length m.ports.items ≤ 32
+  pub few : length m.ports.items ≤ MOST_PORTS
   pub place : fits m.db (own_id m.id.system) ≡ true
 
 -- a machine after a step: this is its bridge

@@ -1,6 +1,7 @@
 -- When each reason for a refusal holds of a command, in the words of what is declared.
 use Rattle.std.specs.Prelude.{◌≡◌, ◌↔◌, ◌⊎◌, ℕ, ◌+◌, ◌<◌, ◌≤◌, ◌%◌, List, length, replicate, slice_index, true, false, Option, Some, None, Any, Contains}
 use Rattle.spb_types.specs.declared.address.Mac.{Mac}
+use Rattle.spb_types.specs.declared.limits.TheConstants.{GREATEST_VID, MOST_BRIDGES, MOST_DELIVERIES, MOST_DELIVERIES_TOGETHER, MOST_LINKS, MOST_PORTS, MOST_ROUNDS, SOURCE_IDS}
 use Rattle.spb_types.specs.declared.service.SourceId.{SourceId}
 use Rattle.scenario.specs.declared.command.Command.{Command}
 use Rattle.scenario.specs.declared.command.Command.TheVariants as command
@@ -78,7 +79,7 @@ TakesPort w _ = ⊥
 
 -- a base VID (IEEE 802.1Q, 9.6) with the first ECT algorithm, where no VID is declared yet
 abbrev pub IsVid : World → ℕ → ℕ → Type 0
-IsVid w vid ect = (1 ≤ vid) × (vid ≤ 4094) × (ect ≡ 1) × (length w.vids ≡ 0)
+IsVid w vid ect = (1 ≤ vid) × (vid ≤ GREATEST_VID) × (ect ≡ 1) × (length w.vids ≡ 0)
 
 -- a bridge's own address: the group bit is clear, and it isn't all zero
 abbrev pub IsOwnAddress : Mac → Type 0
@@ -86,7 +87,7 @@ IsOwnAddress mac = (slice_index mac.bytes 0 % 2 ≡ 0) × (¬ (mac.bytes ≡ rep
 
 abbrev pub IsBridgeInRange : ℕ → Mac → SourceId → ℕ → Type 0
 IsBridgeInRange priority system source ports =
-    (priority ≤ 65535) × IsOwnAddress system × (source.value < 1048576) × (ports ≤ 32)
+    (priority ≤ 65535) × IsOwnAddress system × (source.value < SOURCE_IDS) × (ports ≤ MOST_PORTS)
 
 -- the bridge at a place has this port
 abbrev pub HasPort : Bridges → ℕ → ℕ → Type 0
@@ -103,16 +104,17 @@ IsOutOfRange w (command.Bridge name priority system source ports) = ¬ IsBridgeI
 IsOutOfRange w (command.Link name a port_a b port_b cost) =
     AreAt a b w.bridges (λ i j. ¬ IsLinkInRange w.bridges i port_a j port_b cost)
 IsOutOfRange w (command.Metric link side m) = ¬ IsMetric m
-IsOutOfRange w (command.Round n) = ¬ ((1 ≤ n) × (n ≤ 20000))
-IsOutOfRange w (command.Drain n) = ¬ ((1 ≤ n) × (n ≤ 1000000))
+IsOutOfRange w (command.Round n) = ¬ ((1 ≤ n) × (n ≤ MOST_ROUNDS))
+IsOutOfRange w (command.Drain n) = ¬ ((1 ≤ n) × (n ≤ MOST_DELIVERIES))
 IsOutOfRange w _ = ⊥
 
 -- 7: there would be more than 96 bridges, 400 links, 20,000 rounds or 100,000,000 deliveries
 abbrev pub IsTooMany : State → Command → Type 0
-IsTooMany s (command.Bridge name priority system source ports) = 96 ≤ length s.world.bridges
-IsTooMany s (command.Link name a port_a b port_b cost) = AreAt a b s.world.bridges (λ i j. 400 ≤ length s.world.links)
-IsTooMany s (command.Round n) = 20000 < s.rounds + n
-IsTooMany s (command.Drain n) = 100000000 < s.drained + n
+IsTooMany s (command.Bridge name priority system source ports) = MOST_BRIDGES ≤ length s.world.bridges
+IsTooMany s (command.Link name a port_a b port_b cost) =
+    AreAt a b s.world.bridges (λ i j. MOST_LINKS ≤ length s.world.links)
+IsTooMany s (command.Round n) = MOST_ROUNDS < s.rounds + n
+IsTooMany s (command.Drain n) = MOST_DELIVERIES_TOGETHER < s.drained + n
 IsTooMany s _ = ⊥
 
 -- 8: a link joins the two bridges
