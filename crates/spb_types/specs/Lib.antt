@@ -7,4 +7,5 @@ pub mod Padding
 pub mod Ports
 pub mod PortLaws
 pub mod Ascending
+pub mod Sorted
 pub mod Service
