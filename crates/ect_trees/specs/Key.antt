@@ -1,12 +1,13 @@
 use Rattle.std.specs.Prelude.{◌≡◌, ℕ, List, [], ◌∷◌, map, if◌then◌else◌}
 use Rattle.std.specs.declared.cmp.Ordering.{Ordering}
-use Rattle.std.specs.Ordering.{nat_cmp, ordering_then, is_gt}
+use Rattle.std.specs.Ordering.{nat_cmp, ordering_then}
 use Rattle.std.specs.Cmp.Lexicographic.{slice_cmp}
 use Rattle.spb_types.specs.declared.address.SystemId.{SystemId}
 use Rattle.spb_types.specs.declared.address.BridgeId.{BridgeId}
 use Rattle.spb_types.specs.declared.graph.GraphBridge.{GraphBridge}
 use Rattle.spb_types.specs.declared.graph.Graph.{Graph}
 use Rattle.spb_types.specs.Address.{same_system, masked}
+use Rattle.spb_types.specs.Sorted as sorted
 use Rattle.ect_trees.specs.Path.{cost_of, hops_of}
 use Rattle.ect_trees.specs.declared.key.PathKey.{PathKey}
 
@@ -23,15 +24,13 @@ bridge_id_among (b ∷ bs) x = if same_system b.id.system x then b.id else bridg
 abbrev pub masked_id : Graph → ℕ → SystemId → List ℕ
 masked_id g mask x = masked mask (bridge_id_among g.bridges x)
 
--- an id put at its place in an ascending list
+-- an id put at its place in an ascending list of ids
 abbrev pub placed : List ℕ → List (List ℕ) → List (List ℕ)
-placed x [] = x ∷ []
-placed x (y ∷ ys) = if is_gt (id_cmp x y) then y ∷ placed x ys else x ∷ y ∷ ys
+placed = sorted.placed id_cmp
 
--- the list in ascending order
+-- ids in ascending order
 abbrev pub ascending : List (List ℕ) → List (List ℕ)
-ascending [] = []
-ascending (x ∷ xs) = placed x (ascending xs)
+ascending = sorted.ascending id_cmp
 
 -- the key of a path: the sum of its costs, its number of hops, and its PATHID, which is the list of its masked
 -- bridge ids in ascending order (IEEE 802.1aq, 28.5 to 28.8)

@@ -1,8 +1,9 @@
-use Rattle.std.specs.Prelude.{◌≡◌, ◌↔◌, ℕ, ◌≤◌, List, [], ◌∷◌, Option, Some, Contains, ⊤, if◌then◌else◌, slice_get, option_map, option_and_then}
+use Rattle.std.specs.Prelude.{◌≡◌, ◌↔◌, ℕ, ◌≤◌, List, ◌∷◌, Option, Some, Contains, slice_get, option_map, option_and_then}
 use Rattle.std.specs.List.{AllByRecursion, filter_map, flat_map}
 use Rattle.std.specs.declared.cmp.Ordering.{Ordering}
-use Rattle.std.specs.Ordering.{nat_cmp, ordering_then, is_gt}
+use Rattle.std.specs.Ordering.{nat_cmp, ordering_then}
 use Rattle.std.specs.Cmp.Lexicographic.{slice_cmp}
+pub use Rattle.spb_types.specs.Sorted.{placed, ascending, Ascends}
 use Rattle.spb_types.specs.Ect.{mask_of}
 use Rattle.spb_types.specs.Graph.{systems_of, port_between, IsValid}
 use Rattle.spb_types.specs.Service.{AreVidsApart}
@@ -14,16 +15,6 @@ use Rattle.spb_types.specs.declared.tables.UnicastRow.{UnicastRow}
 use Rattle.ect_trees.specs.Best.{IsBest, best_of}
 use Rattle.ect_trees.specs.Laws.{AreAlike, LookAlike}
 use Rattle.spb_types.specs.declared.limits.TheConstants.{GREATEST_ECT}
-
--- an item put at its place in an ascending list
-abbrev pub placed : {A : Type 0} → (A → A → Ordering) → A → List A → List A
-placed cmp x [] = x ∷ []
-placed cmp x (y ∷ ys) = if is_gt (cmp x y) then y ∷ placed cmp x ys else x ∷ y ∷ ys
-
--- the list in ascending order
-abbrev pub ascending : {A : Type 0} → (A → A → Ordering) → List A → List A
-ascending cmp [] = []
-ascending cmp (x ∷ xs) = placed cmp x (ascending cmp xs)
 
 -- addresses compare as their bytes
 abbrev pub mac_cmp : Mac → Mac → Ordering
@@ -72,11 +63,6 @@ pub record IsUnicast (g : Graph) (me : SystemId) (vids : List VidPlan) (r : Unic
 -- rows compare by VID, then by address
 abbrev pub row_cmp : UnicastRow → UnicastRow → Ordering
 row_cmp r s = ordering_then (nat_cmp r.vid.value s.vid.value) (mac_cmp r.mac s.mac)
-
--- each item is below every later one
-abbrev pub Ascends : {A : Type 0} → (A → A → Ordering) → List A → Type 0
-Ascends cmp [] = ⊤
-Ascends cmp (x ∷ xs) = AllByRecursion (λ y. cmp x y ≡ Ordering.Less) xs × Ascends cmp xs
 
 -- the unicast table of `me`: just its rows, each once, ascending
 pub record IsUnicastTable (g : Graph) (me : SystemId) (vids : List VidPlan) (rows : List UnicastRow) : Type 0 where

@@ -7,5 +7,6 @@ pub mod Padding
 pub mod Ports
 pub mod PortLaws
 pub mod Ascending
+pub mod Sorted
 pub mod Service
 pub mod Places
