@@ -11,9 +11,7 @@ use crate::{NetworkOf, Reason, World};
 use bridge_api::Bridge;
 use link_model::LaneId;
 use scenario::{Command, Dir};
-use spb_types::limits::{
-    GREATEST_METRIC, MOST_DELIVERIES, MOST_DELIVERIES_TOGETHER, MOST_ROUNDS,
-};
+use spb_types::limits::{GREATEST_METRIC, MOST_DELIVERIES, MOST_DELIVERIES_TOGETHER, MOST_ROUNDS};
 use spb_types::{Mac, Name, SourceId};
 
 impl World {
@@ -86,7 +84,10 @@ impl World {
     {
         match self.link_place(name) {
             None => Some(Reason::NoSuchName),
-            Some(_) => reason_unless(1 <= metric && metric <= u64::from(GREATEST_METRIC), Reason::Range),
+            Some(_) => reason_unless(
+                1 <= metric && metric <= u64::from(GREATEST_METRIC),
+                Reason::Range,
+            ),
         }
     }
 }
