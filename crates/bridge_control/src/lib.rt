@@ -14,7 +14,6 @@
 //!    is that field. The invariant says of what is kept of the tables what it is of `b.control.view`.
 //! 2. In `impl Bridge`, give the kind, and blank and view as the value has them. Forward each call, which needs no proof. One
 //!    that changes what the tables are read from forgets those that are kept.
-//! 3. What a call does beside the control plane may find no memory too: then the bridge has to be failed afterwards.
 //!
 //! # Costs
 //!
