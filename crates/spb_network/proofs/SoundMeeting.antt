@@ -10,7 +10,8 @@ use Rattle.spb_types.specs.declared.ports.PortSet.{PortSet}
 use Rattle.spb_types.specs.Ports.{has}
 use Rattle.isis_pdu.specs.Grammar.{IsBytes}
 use Rattle.isis_pdu.specs.Pdu.{LspValue}
-use Rattle.isis_pdu.specs.Bytes.{u16_bytes, u32_bytes, lsp_id_bytes}
+use Rattle.spb_types.specs.Bytes.{lsp_id_bytes}
+use Rattle.isis_pdu.specs.Bytes.{u16_bytes, u32_bytes}
 use Rattle.isis_pdu.specs.declared.kind.Kind.TheVariants as kinds
 use Rattle.isis_pdu.specs.Spelling.{zeros, common_header, length_bytes, lsp_bytes}
 use Rattle.itag_frames.specs.Frame.{content_in}
@@ -18,7 +19,7 @@ use Rattle.spb_tlvs.specs.RoundTrip.{IsNamed}
 use Rattle.itag_frames.proofs.ControlLaws.{control_again}
 use Rattle.lsdb.specs.declared.version.Version.{Version}
 use Rattle.lsdb.specs.declared.version.Version.TheVariants.{Absent, Live, Dead}
-use Rattle.lsdb.specs.Version.{number_of, is_absent}
+use Rattle.lsdb.specs.Version.{number_of, sum_of, is_absent}
 use Rattle.lsdb.specs.Entry.{Entry}
 use Rattle.lsdb.specs.Database.{version_at, srm_in}
 use Rattle.lsdb.specs.Certificate.{Claim, is_flagged, is_absent as is_none, is_as_before, is_claimed}
@@ -28,7 +29,7 @@ use Rattle.flooding.specs.Entries.{IsSendable}
 use Rattle.flooding.proofs.SendableEntries.{sent_is_held}
 use Rattle.spb_content.specs.declared.local.Local.{Local}
 use Rattle.spb_content.specs.Local.{content_bytes}
-use Rattle.flooding.specs.Sending.{sum_of, lsp_in}
+use Rattle.flooding.specs.Sending.{lsp_in}
 use Rattle.adjacency.specs.declared.state.AdjState.TheVariants.{Initializing, Up}
 use Rattle.adjacency.specs.declared.port.Adjacency.{Adjacency}
 use Rattle.adjacency.specs.Adjacency.{down, keeping, is_up, neighbour_of, after_second, said}
@@ -36,7 +37,7 @@ use Rattle.bridge_api.specs.declared.port.BridgePort.{BridgePort}
 use Rattle.bridge_api.specs.View.{BridgeView, metrics_of, port_in, neighbour_at, is_port_up, is_up_in, is_up_at, has_carrier_in, has_carrier_at}
 use Rattle.bridge_api.specs.Own.{neighbours_from, member_of, local_of, body_of, body_in, Lasts, IsAlive}
 use Rattle.bridge_api.specs.Judging.{judged, greeting, link_state, useless, is_octets, by_content}
-use Rattle.bridge_api.specs.Judging as drop
+use Rattle.bridge_api.specs.declared.drop_reason.DropReason.TheVariants as drop
 use Rattle.bridge_api.specs.Hearing.{with_due}
 use Rattle.bridge_api.specs.Ticking.{later, readied, hello_frame, lsp_frame, sent_from, sent_in_tick}
 use Rattle.bridge_api.specs.Step.{second, frame, step, sent}

@@ -1,4 +1,5 @@
 use Rattle.std.proofs.Common.{sym, subst}
+use Rattle.link_model.specs.Lanes.{no_frames}
 use Rattle.spb_network.specs.World.{World, IsLink}
 use Rattle.spb_network.specs.State.{State}
 use Rattle.spb_network.specs.Declaring.{link_of, with_link}
@@ -12,7 +13,7 @@ meter_over-requires-clause-order g c =
     let s : State = state_of g.B.Bridge.shown c.args.self.now in
     record {
       made = c.requires.order.made;
-      fits = subst Fits (λ i. record s { world = sym c.in_ok-link.ensures.ok i; lanes = sym c.in_ok-add_link.ensures.ok i }) (Fits-with_link s c.args.name (link_of c.args.i c.args.port_a c.args.j c.args.port_b c.args.cost) c.new.result c.requires.order.fits);
+      fits = subst Fits (λ i. record s { world = sym c.in_ok-link.ensures.ok i; lanes = sym c.in_ok-add_link.ensures.ok i }) (Fits-with_link s c.args.name (link_of c.args.i c.args.port_a c.args.j c.args.port_b c.args.cost) no_frames c.requires.order.fits);
     }
 
 pub meter_over-requires-clause-link : goal.meter_over-requires-clause-link
