@@ -13,6 +13,7 @@ use Rattle.bridge_api.specs.declared.port.BridgePort.{BridgePort}
 use Rattle.bridge_api.specs.declared.config.BridgeConfig.{BridgeConfig}
 use Rattle.bridge_api.specs.View.{BridgeView}
 use Rattle.bridge_api.specs.Own.{originating}
+use Rattle.spb_types.specs.declared.limits.TheConstants.{GREATEST_ISID, GREATEST_METRIC, MOST_CUSTOMER_PORTS, MOST_ISIDS, MOST_PORTS, MOST_VIDS, SOURCE_IDS}
 
 -- the address of a bridge: six bytes, not all zero, with the group bit clear
 pub record IsOwnMac (mac : Mac) : Type 0 where
@@ -24,7 +25,7 @@ pub record IsOwnMac (mac : Mac) : Type 0 where
 -- a metric of a link
 pub record IsMetric (metric : ℕ) : Type 0 where
   pub low : 1 ≤ metric
-  pub high : metric ≤ 16777214
+  pub high : metric ≤ GREATEST_METRIC
 
 -- each item stands so to every later one
 abbrev pub ArePairwise : {X : Type 0} → (X → X → Type 0) → List X → Type 0
@@ -39,9 +40,9 @@ different (x ∷ xs) = if list_any (nat_eq x) xs then different xs else x ∷ di
 -- a customer port, attached to an I-SID in a base VID of these
 pub record IsAttachment (vids : List ℕ) (a : Attachment) : Type 0 where
   pub port_low : 1 ≤ a.port
-  pub port_high : a.port ≤ 64
+  pub port_high : a.port ≤ MOST_CUSTOMER_PORTS
   pub isid_low : 1 ≤ a.isid.value
-  pub isid_high : a.isid.value ≤ 16777215
+  pub isid_high : a.isid.value ≤ GREATEST_ISID
   pub vid : IsTrue (list_any (nat_eq a.vid.value) vids)
 
 -- two attachments: other ports, and one base VID for an I-SID
@@ -53,18 +54,18 @@ abbrev pub vids_of : List VidPlan → List ℕ
 vids_of plans = map (λ plan. plan.vid.value) plans
 
 pub record IsWhole (c : BridgeConfig) : Type 0 where
-  pub ports : c.ports ≤ 32
+  pub ports : c.ports ≤ MOST_PORTS
   pub metrics : length c.metrics ≡ c.ports
   pub each_metric : AllByRecursion IsMetric c.metrics
-  pub few_vids : length c.vids ≤ 16
+  pub few_vids : length c.vids ≤ MOST_VIDS
   pub each_vid : AllByRecursion IsTree c.vids
   pub vids_apart : ArePairwise (λ x y. x ≢ y) (vids_of c.vids)
   pub priority : c.id.priority < 65536
   pub system : IsOwnMac c.id.system.mac
-  pub source : c.source.value < 1048576
+  pub source : c.source.value < SOURCE_IDS
   pub each_attachment : AllByRecursion (IsAttachment (vids_of c.vids)) c.attached
   pub attachments_apart : ArePairwise AgreesWith c.attached
-  pub few_isids : length (different (map (λ a. a.isid.value) c.attached)) ≤ 60
+  pub few_isids : length (different (map (λ a. a.isid.value) c.attached)) ≤ MOST_ISIDS
 
 -- a port without carrier, with this metric
 abbrev pub dark : ℕ → BridgePort

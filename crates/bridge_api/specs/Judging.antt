@@ -14,6 +14,7 @@ use Rattle.spb_tlvs.specs.ThreeWay.{three_way_of}
 use Rattle.itag_frames.specs.declared.frame.FrameError.{FrameError}
 use Rattle.itag_frames.specs.Frame.{Content, content_in}
 use Rattle.itag_frames.specs.Frame as frames
+use Rattle.spb_tlvs.specs.declared.codes.TheConstants.{THREE_WAY_ADJACENCY}
 
 -- why a frame is dropped
 pub data Drop : Type 0 where
@@ -47,7 +48,7 @@ by_three_way h (Some value) = by_reading h (three_way_of value)
 
 abbrev pub by_pdu : Result PduValue PduError → Judged
 by_pdu (Err e) = useless Pdu
-by_pdu (Ok (hello h)) = by_three_way h (slice_get (values_with 240 h.tlvs) 0)
+by_pdu (Ok (hello h)) = by_three_way h (slice_get (values_with THREE_WAY_ADJACENCY h.tlvs) 0)
 by_pdu (Ok (lsp l)) = link_state l
 by_pdu (Ok (csnp c)) = complete c
 by_pdu (Ok (psnp p)) = partial p

@@ -17,6 +17,8 @@ use Rattle.spb_content.specs.declared.local.Local.{Local}
 use Rattle.spb_content.specs.Local.{content_bytes}
 use Rattle.bridge_api.specs.declared.port.BridgePort.{BridgePort}
 use Rattle.bridge_api.specs.View.{BridgeView, is_port_up, up_ports}
+use Rattle.flooding.specs.declared.put.TheConstants.{MAX_AGE}
+use Rattle.spb_types.specs.declared.level.TheConstants.{LEVEL_1}
 
 -- ---- what it says
 
@@ -43,7 +45,7 @@ local_of v = record {
 
 -- the body of its own LSP: the flags octet of level 1, and then what it says (ISO/IEC 10589, 9.8)
 unfoldable pub body_of : BridgeView → List ℕ
-body_of v = 1 ∷ content_bytes (local_of v)
+body_of v = LEVEL_1 ∷ content_bytes (local_of v)
 
 -- ---- its own LSP
 
@@ -72,7 +74,7 @@ is_said v = bytes_eq (body_in (own_entry v)) (body_of v)
 -- an LSP that is live for 301 to 1,200 seconds more
 abbrev pub Lasts : Version → ℕ → Type 0
 Lasts Absent lifetime = ⊥
-Lasts (Live seq sum) lifetime = (301 ≤ lifetime) × (lifetime ≤ 1200)
+Lasts (Live seq sum) lifetime = (301 ≤ lifetime) × (lifetime ≤ MAX_AGE)
 Lasts (Dead seq) lifetime = ⊥
 
 abbrev pub IsAlive : Option Entry → Type 0

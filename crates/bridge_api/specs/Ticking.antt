@@ -16,6 +16,9 @@ use Rattle.bridge_api.specs.declared.port.BridgePort.{BridgePort}
 use Rattle.bridge_api.specs.View.{BridgeView, is_port_up, up_ports}
 use Rattle.bridge_api.specs.Own.{own_entry, is_said, originating}
 use Rattle.bridge_api.specs.Hearing.{with_adjacency, with_due}
+use Rattle.spb_content.specs.Local.{areas, protocols}
+use Rattle.spb_tlvs.specs.declared.codes.TheConstants.{THREE_WAY_ADJACENCY}
+use Rattle.spb_types.specs.declared.level.TheConstants.{LEVEL_1}
 
 -- a port a second later: the holding count falls, and where the neighbour is lost nothing is due any more
 abbrev pub later : BridgePort → BridgePort
@@ -60,11 +63,11 @@ readied v = refreshed (expired (counted v))
 -- the TLVs of a hello: one area address, the protocols supported, and the three-way adjacency
 -- (ISO/IEC 10589, 9.7; RFC 1195, 5.3.4; RFC 5303, 3)
 abbrev pub hello_tlvs : ThreeWay → List ℕ
-hello_tlvs way = tlv 1 (0x03 ∷ 0x49 ∷ 0x00 ∷ 0x01 ∷ []) ++ tlv 129 (0xc1 ∷ []) ++ tlv 240 (three_way_value way)
+hello_tlvs way = areas ++ protocols ++ tlv THREE_WAY_ADJACENCY (three_way_value way)
 
 -- the hello of a system at a port of this number: level 1 alone, to be held for three seconds
 abbrev pub hello_at : SystemId → ℕ → BridgePort → HelloValue
-hello_at system p port = record { circuit_type = 1; source = system; holding = 3; circuit = p; tlvs = hello_tlvs (said p port.adjacency) }
+hello_at system p port = record { circuit_type = LEVEL_1; source = system; holding = 3; circuit = p; tlvs = hello_tlvs (said p port.adjacency) }
 
 unfoldable pub hello_frame : SystemId → ℕ → BridgePort → List ℕ
 hello_frame system p port = control_bytes system.mac (hello_bytes (hello_at system p port))
