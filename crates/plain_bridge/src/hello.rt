@@ -6,18 +6,13 @@ ghost use Rattle.bridge_api.specs.Ticking as api;
 use bridge_api::{BridgePort, Outbox};
 use isis_pdu::{Hello, write_hello};
 use itag_frames::control_frame;
+use spb_content::AREAS_AND_PROTOCOLS;
 use spb_tlvs::{ThreeWay, write_three_way};
-use spb_types::{NoMemory, Seq, SystemId};
+use spb_types::{LEVEL_1, NoMemory, Seq, SystemId};
 use std::alloc::Global;
-
-/// The circuit type of a system that speaks level 1 alone.
-const LEVEL_ONE: u8 = 1;
 
 /// How long a neighbour is to hold this bridge, in seconds.
 const HOLDING: u16 = 3;
-
-/// The TLVs before the three-way adjacency: the area address 49.0001, and the one protocol supported.
-const FIRST_TLVS: [u8; 9] = [1, 4, 0x03, 0x49, 0x00, 0x01, 129, 1, 0xc1];
 
 /// Puts a hello into the outbox if the port has carrier.
 pub(crate) fn send_hello(
@@ -48,7 +43,7 @@ fn hello_frame(
 {
     let tlvs = hello_tlvs(alloc, port.adjacency.three_way(number))?;
     let hello = Hello {
-        circuit_type: LEVEL_ONE,
+        circuit_type: LEVEL_1,
         source: system,
         holding: HOLDING,
         circuit: number,
@@ -63,7 +58,7 @@ fn hello_tlvs(alloc: Global, way: ThreeWay) -> Result<Vec<u8>, NoMemory>
     ensures tlvs { IfOk result (λ tlvs. tlvs.items ≡ api.hello_tlvs way) }
     ensures short { IfOk result (λ tlvs. length tlvs.items ≤ 26) }
 {
-    let mut tlvs = Vec::from_slice(alloc, &FIRST_TLVS)?;
+    let mut tlvs = Vec::from_slice(alloc, &AREAS_AND_PROTOCOLS)?;
     write_three_way(&mut tlvs, &way)?;
     Ok(tlvs)
 }

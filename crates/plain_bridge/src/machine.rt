@@ -13,7 +13,7 @@ use bridge_api::{BridgeConfig, BridgePort};
 use flooding::{Own, originate};
 use lsdb::Database;
 use spb_content::{BridgeConfigFacts, Local, content_of};
-use spb_types::{Attachment, BridgeId, Mac, NoMemory, Seq, SourceId, SystemId, VidPlan};
+use spb_types::{Attachment, BridgeId, LEVEL_1, Mac, NoMemory, Seq, SourceId, SystemId, VidPlan};
 use std::alloc::Global;
 
 /// The id of a bridge that isn't configured.
@@ -23,9 +23,6 @@ const NO_ID: BridgeId = BridgeId {
         mac: Mac { bytes: [0; 6] },
     },
 };
-
-/// The flags octet of an LSP of level 1.
-const LEVEL_1: u8 = 1;
 
 /// The remaining lifetime in seconds at which the own LSP is originated anew (ISO/IEC 10589, 7.3.7).
 const REFRESH_AT: u16 = 300;
