@@ -21,6 +21,7 @@ use Rattle.spb_content.specs.Graph.{HasPorts}
 use Rattle.bridge_api.specs.declared.port.BridgePort.{BridgePort}
 use Rattle.bridge_api.specs.View.{BridgeView, is_port_up, up_ports}
 use Rattle.flooding.specs.declared.put.TheConstants.{MAX_AGE}
+use Rattle.spb_types.specs.declared.level.TheConstants.{LEVEL_1}
 
 -- ---- what it says
 
@@ -47,7 +48,7 @@ local_of v = record {
 
 -- the body of its own LSP: the flags octet of level 1, and then what it says (ISO/IEC 10589, 9.8)
 unfoldable pub body_of : BridgeView → List ℕ
-body_of v = 1 ∷ content_bytes (local_of v)
+body_of v = LEVEL_1 ∷ content_bytes (local_of v)
 
 -- ---- its own LSP
 
