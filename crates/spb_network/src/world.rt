@@ -72,13 +72,6 @@ impl World {
         self.bridges.len()
     }
 
-    /// How many links are declared.
-    pub fn link_count(&self) -> usize
-        ensures { result ≡ length self.now.links }
-    {
-        self.links.len()
-    }
-
     /// The place of the bridge of this name in order of declaration. None exactly where there is none.
     pub fn bridge_place(&self, name: Name) -> Option<usize>
         ensures { result ≡ place_of name self.now.bridges }
