@@ -45,6 +45,4 @@ mod judging;
 mod machine;
 mod ports;
 mod sending;
-#[cfg(test)]
-mod tests;
 mod ticking;

@@ -1,0 +1,5 @@
+use Rattle.std.proofs.Common.{◌≡◌, false}
+use Rattle.plain_bridge.proofs.tests.pass.Given as goal
+
+abbrev pub invariant-pass : goal.invariant-pass
+invariant-pass g l = g.B.Bridge.blank l.bridge ≡ false
