@@ -14,6 +14,7 @@ use Rattle.spb_network.specs.declared.reason.Reason.{Reason}
 use Rattle.spb_network.specs.declared.reason.Reason.TheVariants.{NameTaken, IdTaken, PortUse, Range, TooMany, AlreadyLinked, TooLate}
 use Rattle.spb_network.specs.Reason.{reason_unless, ◌or◌}
 use Rattle.spb_network.specs.World.{World, Bridges, Links, things_of, place_of, ports_at, is_between, is_at_port}
+use Rattle.spb_types.specs.declared.limits.TheConstants.{GREATEST_METRIC, GREATEST_VID, MOST_BRIDGES, MOST_LINKS, MOST_PORTS, SOURCE_IDS}
 
 -- The tests of a declaration. Each reason for a refusal is one of them that fails, and the first that fails counts.
 
@@ -27,7 +28,7 @@ is_new_vid vids vid = not (has_vid vids vid)
 -- a base VID (IEEE 802.1Q, 9.6) and the number of its ECT algorithm, of which only the first is taken; and no other VID
 -- is declared
 unfoldable pub is_vid_range : List VidPlan → ℕ → ℕ → Bool
-is_vid_range vids vid ect = nat_le 1 vid && nat_le vid 4094 && (ect == 1) && (length vids == 0)
+is_vid_range vids vid ect = nat_le 1 vid && nat_le vid GREATEST_VID && (ect == 1) && (length vids == 0)
 
 -- no bridge is declared yet
 abbrev pub is_before_bridges : World → Bool
@@ -51,11 +52,11 @@ is_bridge_address mac = (slice_index mac.bytes 0 % 2 == 0) && not (bytes_eq mac.
 
 -- a priority, an address, a source of 20 bits and a number of ports that a bridge can have
 unfoldable pub is_bridge_range : ℕ → Mac → SourceId → ℕ → Bool
-is_bridge_range priority system source ports = nat_le priority 65535 && is_bridge_address system && nat_lt source.value 1048576 && nat_le ports 32
+is_bridge_range priority system source ports = nat_le priority 65535 && is_bridge_address system && nat_lt source.value SOURCE_IDS && nat_le ports MOST_PORTS
 
 -- one bridge more can be declared
 abbrev pub has_bridge_room : World → Bool
-has_bridge_room w = nat_lt (length w.bridges) 96
+has_bridge_room w = nat_lt (length w.bridges) MOST_BRIDGES
 
 -- the port of the bridge at a place has no link
 unfoldable pub is_free_port : Links → ℕ → ℕ → Bool
@@ -67,11 +68,11 @@ is_port bridges i port = nat_le 1 port && nat_le port (ports_at bridges i)
 
 -- two different bridges, a port of each, and a cost that a link can have
 unfoldable pub is_link_range : Bridges → ℕ → ℕ → ℕ → ℕ → ℕ → Bool
-is_link_range bridges i port_a j port_b cost = not (i == j) && is_port bridges i port_a && is_port bridges j port_b && nat_le 1 cost && nat_le cost 16777214
+is_link_range bridges i port_a j port_b cost = not (i == j) && is_port bridges i port_a && is_port bridges j port_b && nat_le 1 cost && nat_le cost GREATEST_METRIC
 
 -- one link more can be declared
 abbrev pub has_link_room : World → Bool
-has_link_room w = nat_lt (length w.links) 400
+has_link_room w = nat_lt (length w.links) MOST_LINKS
 
 -- no link joins the bridges at two places
 unfoldable pub is_unlinked : Links → ℕ → ℕ → Bool

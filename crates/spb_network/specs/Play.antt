@@ -4,7 +4,7 @@ use Rattle.std.specs.Option.{option_map_or}
 use Rattle.std.specs.FinMap.{entries}
 use Rattle.spb_types.specs.declared.address.LspId.{LspId}
 use Rattle.lsdb.specs.declared.held.DbRow.{DbRow}
-use Rattle.lsdb.specs.Entry.{Entry}
+use Rattle.lsdb.specs.Entry.{row_of}
 use Rattle.lsdb.specs.Database.{Lsps}
 use Rattle.adjacency.specs.declared.port.Adjacency.{Adjacency}
 use Rattle.scenario.specs.declared.command.Command.{Command}
@@ -114,13 +114,9 @@ placed_wiring s name (Some i) = Wiring name (wired_tables s.world i)
 unfoldable pub wiring_of : State → List ℕ → Answer
 wiring_of s name = placed_wiring s name (place_of name s.world.bridges)
 
--- a row of a database: what is held under an id, but for the body
-abbrev pub row_of : LspId × Entry → DbRow
-row_of e = record { id = e.0; version = e.1.version; lifetime = e.1.lifetime; srm = e.1.srm; ssn = e.1.ssn }
-
 -- a row for each id that is held, in order of id
 abbrev pub rows_of : Lsps → List DbRow
-rows_of db = map row_of (entries db)
+rows_of db = map (λ e. row_of e.0 e.1) (entries db)
 
 -- those of the bridge at place i
 abbrev pub db_at : State → ℕ → List DbRow

@@ -11,6 +11,7 @@ use Rattle.spb_network.specs.Reason.{reason_unless, ◌or◌}
 use Rattle.spb_network.specs.World.{place_of}
 use Rattle.spb_network.specs.Declaring.{vid_refusal, bridge_refusal, link_refusal}
 use Rattle.spb_network.specs.State.{State, links_of, is_live, lane_at, kind_at, next_box}
+use Rattle.spb_types.specs.declared.limits.TheConstants.{GREATEST_METRIC, MOST_DELIVERIES, MOST_DELIVERIES_TOGETHER, MOST_ROUNDS}
 
 -- the box that the next declared bridge takes, by place in the rack
 abbrev pub box_for : State → Option ℕ
@@ -51,7 +52,7 @@ up_refusal s name = linked_refusal s (λ k. reason_unless (not (is_live (links_o
 
 -- an end of the link gets this metric
 unfoldable pub metric_refusal : State → List ℕ → ℕ → Option Reason
-metric_refusal s name m = linked_refusal s (λ k. reason_unless (nat_le 1 m && nat_le m 16777214) Range) name
+metric_refusal s name m = linked_refusal s (λ k. reason_unless (nat_le 1 m && nat_le m GREATEST_METRIC) Range) name
 
 -- a frame stands at this place of a lane
 unfoldable pub frame_refusal : State → List ℕ → Dir → ℕ → Option Reason
@@ -59,11 +60,11 @@ frame_refusal s name dir place = linked_refusal s (λ k. reason_unless (nat_lt p
 
 -- so many rounds: 1 to 20,000, and together no more
 unfoldable pub round_refusal : State → ℕ → Option Reason
-round_refusal s n = reason_unless (nat_le 1 n && nat_le n 20000) Range or reason_unless (nat_le (s.rounds + n) 20000) TooMany
+round_refusal s n = reason_unless (nat_le 1 n && nat_le n MOST_ROUNDS) Range or reason_unless (nat_le (s.rounds + n) MOST_ROUNDS) TooMany
 
 -- so many deliveries: 1 to 1,000,000, and together at most 100,000,000
 unfoldable pub drain_refusal : State → ℕ → Option Reason
-drain_refusal s n = reason_unless (nat_le 1 n && nat_le n 1000000) Range or reason_unless (nat_le (s.drained + n) 100000000) TooMany
+drain_refusal s n = reason_unless (nat_le 1 n && nat_le n MOST_DELIVERIES) Range or reason_unless (nat_le (s.drained + n) MOST_DELIVERIES_TOGETHER) TooMany
 
 -- of a command; those that aren't named here are never refused
 abbrev pub refusal_of : State → Command → Option Reason

@@ -26,6 +26,7 @@ use Rattle.spb_network.specs.declared.lanes.Lanes.{Lanes}
 use Rattle.spb_network.specs.World.{World, names_of, things_of, Sound}
 use Rattle.spb_network.specs.State.{State, Spare, links_of, is_live, near_end, far_end, way_out, lane_of}
 use Rattle.spb_network.specs.Network.{Fits}
+use Rattle.spb_types.specs.declared.limits.TheConstants.{MOST_FRAMES}
 
 -- ---- what is declared
 
@@ -102,7 +103,7 @@ AllAgree links views lanes = (k : ℕ) (dir : Dir) (l : DeclaredLink) (v w : Bri
 
 -- no lane has more frames than it has room for
 abbrev pub AreShort : List Lanes → Type 0
-AreShort lanes = (k : ℕ) (dir : Dir) → length (lane_of lanes k dir) ≤ 1024
+AreShort lanes = (k : ℕ) (dir : Dir) → length (lane_of lanes k dir) ≤ MOST_FRAMES
 
 -- no frame is on its way over a link that is down
 abbrev pub AreIdle : List DeclaredLink → List Lanes → Type 0

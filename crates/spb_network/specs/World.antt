@@ -13,6 +13,7 @@ use Rattle.spb_network.specs.declared.declaration.DeclaredLink.{DeclaredLink}
 use Rattle.spb_network.specs.declared.declaration.LinkEnd.{LinkEnd}
 use Rattle.spb_types.specs.declared.tables.Tables.{Tables}
 use Rattle.fdb_build.specs.Tables.{ArePlans, unicast_rows}
+use Rattle.spb_types.specs.declared.limits.TheConstants.{GREATEST_METRIC, MOST_BRIDGES, MOST_PORTS, MOST_VIDS}
 
 -- the declared bridges, each with its name, in order of declaration
 abbrev pub Bridges : Type 0
@@ -82,7 +83,7 @@ pub record IsEnd (bridges : Bridges) (e : LinkEnd) : Type 0 where
   pub port_low : 1 ≤ e.port
   pub port_high : e.port ≤ ports_at bridges e.bridge
   pub metric_low : 1 ≤ e.metric
-  pub metric_high : e.metric ≤ 16777214
+  pub metric_high : e.metric ≤ GREATEST_METRIC
 
 -- a link has two ends, at different bridges
 pub record IsLink (bridges : Bridges) (l : DeclaredLink) : Type 0 where
@@ -104,13 +105,13 @@ AllApart (l ∷ ls) = AllByRecursion (AreApart l) ls × AllApart ls
 -- what every world keeps that declarations made: the system ids differ, each link has two ends at ports of different
 -- bridges, no port has two links, no two bridges are linked twice, and the VIDs differ and are in range
 pub record Sound (w : World) : Type 0 where
-  pub few : length w.bridges ≤ 96
-  pub ports : AllByRecursion (λ b. b.ports ≤ 32) (things_of w.bridges)
+  pub few : length w.bridges ≤ MOST_BRIDGES
+  pub ports : AllByRecursion (λ b. b.ports ≤ MOST_PORTS) (things_of w.bridges)
   pub systems : IsDistinct (systems_of (graph_bridges w.bridges))
   pub links : AllByRecursion (IsLink w.bridges) (things_of w.links)
   pub links_apart : AllApart (things_of w.links)
   pub plans : ArePlans w.vids
-  pub few_vids : length w.vids ≤ 16
+  pub few_vids : length w.vids ≤ MOST_VIDS
   pub each_vid : AllByRecursion IsTree w.vids
 
 -- the tables that the wiring gives the bridge at a place

@@ -7,6 +7,7 @@ use crate::limits::METRIC;
 use crate::{DeclaredBridge, DeclaredLink};
 use indexmap::IndexMap;
 use scenario::Command;
+use spb_types::limits::{GREATEST_VID, MOST_PORTS, SOURCE_IDS};
 use spb_types::{Mac, Name, SourceId, VidPlan};
 
 /// Whether nothing of this name is declared.
@@ -41,7 +42,7 @@ pub fn is_new_vid(vids: &[VidPlan], vid: u64) -> bool
 pub fn is_vid_range(vids: &[VidPlan], vid: u64, ect: u64) -> bool
     ensures { result ≡ declare.is_vid_range vids.now vid ect }
 {
-    1 <= vid && vid <= 4094 && ect == 1 && vids.is_empty()
+    1 <= vid && vid <= u64::from(GREATEST_VID) && ect == 1 && vids.is_empty()
 }
 
 #[tactic(auto, unfolding(crate::specs::Declaring::is_new_system))]
@@ -89,7 +90,10 @@ fn is_bridge_address(mac: Mac) -> bool
 pub fn is_bridge_range(priority: u64, system: Mac, source: SourceId, ports: u64) -> bool
     ensures { result ≡ declare.is_bridge_range priority system source ports }
 {
-    priority <= 65535 && is_bridge_address(system) && source.value < 1_048_576 && ports <= 32
+    priority <= 65535
+        && is_bridge_address(system)
+        && source.value < SOURCE_IDS
+        && ports <= u64::from(MOST_PORTS)
 }
 
 /// Whether the link ends at this port of the bridge at a place.

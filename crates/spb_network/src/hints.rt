@@ -1,6 +1,6 @@
 use crate::LinkEnd;
-use crate::limits::BRIDGES;
 use spb_types::NoMemory;
+use spb_types::limits::MOST_BRIDGES;
 use std::alloc::Global;
 
 /// Places for the ports of a bridge, which are numbered from 1 to 32.
@@ -30,7 +30,7 @@ impl Hints {
 
     /// The place of the link that may end at a port of the bridge at a place.
     pub fn link_at(&self, bridge: usize, port: u8) -> usize {
-        if bridge >= BRIDGES {
+        if bridge >= MOST_BRIDGES {
             return 0;
         }
         match self.links.get(bridge * PORTS + usize::from(port)) {
@@ -41,7 +41,7 @@ impl Hints {
 
     /// The link at a place has this end.
     pub fn note(&mut self, end: LinkEnd, link: usize) {
-        if end.bridge >= BRIDGES {
+        if end.bridge >= MOST_BRIDGES {
             return;
         }
         if let Some(hint) = self

@@ -1,10 +1,5 @@
-//! The greatest numbers of what is declared.
-
-/// The most bridges.
-pub(crate) const BRIDGES: usize = 96;
-
-/// The most links.
-pub(crate) const LINKS: usize = 400;
+//! Limits, as the numbers of commands.
+use spb_types::limits::GREATEST_METRIC;
 
 /// The greatest metric of a link.
-pub(crate) const METRIC: u64 = 16_777_214;
+pub(crate) const METRIC: u64 = GREATEST_METRIC as u64;

@@ -3,13 +3,13 @@ ghost use Rattle.spb_network.specs.Declaring.{is_new_name, switched, links_meter
 
 use crate::graph::{graph_bridges, graph_edges, system_at};
 use crate::hints::Hints;
-use crate::limits::{BRIDGES, LINKS};
 use crate::reason::reason_unless;
 use crate::{DeclaredBridge, DeclaredLink, LinkEnd, Reason, Way, check, ways};
 use bridge_api::BridgeConfig;
 use fdb_build::tables_of;
 use indexmap::IndexMap;
 use scenario::Side;
+use spb_types::limits::{MOST_BRIDGES, MOST_LINKS, SOURCE_IDS};
 use spb_types::{
     BridgeId, Graph, GraphBridge, Mac, Name, NoMemory, Seq, SourceId, SystemId, Tables, Vid,
     VidPlan,
@@ -181,7 +181,7 @@ impl World {
         ports: u8,
     ) -> Result<BridgeConfig, NoMemory>
         requires ports { ports ≤ 32 }
-        requires source { source.value < 1048576 }
+        requires source { source.value < SOURCE_IDS }
         requires address { declare.is_bridge_address id.system.mac ≡ true }
         ensures config { IfOk result (λ config. config
             ≡ config_of self.now (record { bridge = record { id = id; source = source }; ports = ports })) }
@@ -230,7 +230,7 @@ impl World {
         reason_unless(is_new_name, Reason::NameTaken)
             .or(reason_unless(is_new_id, Reason::IdTaken))
             .or(reason_unless(is_range, Reason::Range))
-            .or(reason_unless(self.bridges.len() < BRIDGES, Reason::TooMany))
+            .or(reason_unless(self.bridges.len() < MOST_BRIDGES, Reason::TooMany))
     }
 
     /// Why a link between the bridges at two places can't be declared, if it can't.
@@ -252,7 +252,7 @@ impl World {
         reason_unless(is_new_name, Reason::NameTaken)
             .or(reason_unless(are_free, Reason::PortUse))
             .or(reason_unless(is_range, Reason::Range))
-            .or(reason_unless(self.links.len() < LINKS, Reason::TooMany))
+            .or(reason_unless(self.links.len() < MOST_LINKS, Reason::TooMany))
             .or(reason_unless(check::is_unlinked(&self.links, i, j), Reason::AlreadyLinked))
     }
 

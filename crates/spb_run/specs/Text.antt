@@ -5,6 +5,7 @@ use Rattle.spb_run.specs.declared.refusal.Refusal.{Refusal}
 use Rattle.spb_run.specs.declared.status.Status.{Status}
 use Rattle.spb_run.specs.declared.status.Status.TheVariants.{Done, Refused, TooLong}
 use Rattle.spb_run.specs.Play.{Judged, judged}
+use Rattle.spb_run.specs.declared.script.TheConstants.{MOST_BYTES}
 
 -- what some lines do: the bytes that they write, the first that is refused with its number and the reason, and the
 -- network's state after those that are accepted
@@ -30,7 +31,7 @@ played s script = play s 1 (lines script)
 
 -- how many bytes a script may have
 abbrev pub most_bytes : ℕ
-most_bytes = 65536
+most_bytes = MOST_BYTES
 
 abbrev pub is_too_long : List ℕ → Bool
 is_too_long script = nat_lt most_bytes (length script)

@@ -2,7 +2,8 @@ use Rattle.std.proofs.Common.{◌≡◌, ◌∷◌, [], ◌++◌, length, take, 
 use Rattle.std.specs.Option.{option_map, option_copied}
 use Rattle.std.specs.FinMap.{entries}
 use Rattle.lsdb.specs.Database.{Lsps, keyed}
-use Rattle.spb_network.specs.Play.{row_of, rows_of}
+use Rattle.lsdb.specs.Entry.{row_of}
+use Rattle.spb_network.specs.Play.{rows_of}
 use Rattle.spb_network.proofs.ListLemmas.{length-push}
 use Rattle.spb_network.proofs.RowLemmas.{take-next, take-past, within}
 use Rattle.spb_network.proofs.boxes.held_rows.Goals as goal
@@ -11,7 +12,7 @@ pub loop-held-smaller : goal.loop-held-smaller
 loop-held-smaller g c =
     let db : Lsps = (g.B.Bridge.view c.args.bridge.now).database in
     let at : slice_get (entries db) c.len.result ≡ Some (keyed c.in-Some.held.now) = sym c.entry.ensures ∙ ap (λ o. option_map keyed (option_copied o)) c.in-Some.is in
-    omega (arith, c.len.ensures, within row_of (entries db) c.len.result (keyed c.in-Some.held.now) at, ap length c.in_ok-push.ensures.items, length-push c.loop-held.rows.items c.row.result)
+    omega (arith, c.len.ensures, within (λ e. row_of e.0 e.1) (entries db) c.len.result (keyed c.in-Some.held.now) at, ap length c.in_ok-push.ensures.items, length-push c.loop-held.rows.items c.row.result)
 
 pub loop-held-preserved : goal.loop-held-preserved
 loop-held-preserved g c =
@@ -22,7 +23,7 @@ loop-held-preserved g c =
     let count : suc n ≡ length c.push.new.self.items = omega (arith, ap length c.in_ok-push.ensures.items, length-push c.loop-held.rows.items c.row.result) in
     c.in_ok-push.ensures.items
     ∙ ((λ i. c.loop-held.invariant i ++ c.row.ensures i ∷ [])
-    ∙ (sym (take-next row_of (entries db) n (keyed c.in-Some.held.now) at)
+    ∙ (sym (take-next (λ e. row_of e.0 e.1) (entries db) n (keyed c.in-Some.held.now) at)
     ∙ ap (λ (k : ℕ). take k (rows_of db)) count))
 
 pub returns : goal.returns
@@ -31,4 +32,4 @@ returns g c =
     let n : ℕ = length c.loop-held.rows.items in
     let place : n ≡ c.len.result = omega (arith, c.len.ensures, c.loop-held.rows.ok) in
     let past : slice_get (entries db) n ≡ None = ap (slice_get (entries db)) place ∙ (sym c.entry.ensures ∙ ap (λ o. option_map keyed (option_copied o)) c.in_default.is) in
-    c.loop-held.invariant ∙ take-past row_of (entries db) n past
+    c.loop-held.invariant ∙ take-past (λ e. row_of e.0 e.1) (entries db) n past
