@@ -1,5 +1,5 @@
 -- Reading a PDU, with the first rule that the bytes break.
-use Rattle.std.specs.Prelude.{ℕ, ◌+◌, ◌%◌, List, length, Bool, true, ◌&&◌, ◌||◌, ◌==◌, nat_le, if◌then◌else◌, Option, Some, None, Result, Ok, Err, slice_range}
+use Rattle.std.specs.Prelude.{ℕ, ◌%◌, List, length, Bool, true, ◌&&◌, ◌||◌, ◌==◌, nat_le, if◌then◌else◌, Option, Some, None, Result, Ok, Err, slice_range}
 use Rattle.spb_types.specs.Bytes.{u8_at, u16_at, u32_at, system_at, lsp_id_at}
 use Rattle.isis_pdu.specs.declared.kind.Kind.{Kind}
 use Rattle.isis_pdu.specs.declared.kind.Kind.TheVariants as kinds

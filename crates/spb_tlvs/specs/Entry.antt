@@ -1,5 +1,5 @@
 -- The LSP entries TLV of an SNP, code 9 (ISO/IEC 10589, 9.10 to 9.13).
-use Rattle.std.specs.Prelude.{ℕ, ◌+◌, List, ◌++◌, ◌/◌, ◌%◌, length, map, Result, Ok, Err, ◌==◌, if◌then◌else◌}
+use Rattle.std.specs.Prelude.{ℕ, List, ◌++◌, ◌/◌, ◌%◌, length, map, Result, Ok, Err, ◌==◌, if◌then◌else◌}
 use Rattle.std.specs.List.{flat_map}
 use Rattle.std.specs.Simd.{first_chunks}
 use Rattle.spb_types.specs.Bytes.{u16_at, u32_at, lsp_id_bytes, lsp_id_at}
