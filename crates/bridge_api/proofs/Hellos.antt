@@ -36,7 +36,7 @@ use Rattle.adjacency.specs.declared.port.Adjacency.{Adjacency}
 use Rattle.adjacency.specs.Adjacency.{SoundIn, is_up, neighbour_of, said}
 use Rattle.bridge_api.specs.declared.port.BridgePort.{BridgePort}
 use Rattle.bridge_api.specs.View.{BridgeView, port_at, neighbour_at, is_port_up, has_carrier_in, has_carrier_at}
-use Rattle.bridge_api.specs.Judging.{Judged, useless, judged, greeting, is_octets, by_content, by_pdu, by_three_way, by_reading}
+use Rattle.bridge_api.specs.Judging.{useless, judged, greeting, is_octets, by_content, by_pdu, by_three_way, by_reading}
 use Rattle.bridge_api.specs.declared.drop_reason.DropReason.TheVariants as drop
 use Rattle.bridge_api.specs.Ticking.{later, readied, hello_tlvs, hello_at, hello_frame, lsp_frame, csnp_frame, psnp_frame, greetings_at, summaries_at, lsps_at, requests_at, synced_at, sent_at, told_at, sent_from, sent_in_tick, after_tick}
 use Rattle.bridge_api.specs.Laws.{IsSoundPort, IsSent, IsHelloOf, AreOctets, HellosAreHeard, SentWithCarrier}

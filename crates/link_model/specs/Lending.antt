@@ -1,5 +1,5 @@
 -- Lanes that are lent to be changed.
-use Rattle.std.specs.Prelude.{ℕ, List, Option}
+use Rattle.std.specs.Prelude.{List, Option}
 use Rattle.std.specs.Borrow.{Lends, LendsIf, MutBor, Fml}
 use Rattle.spb_types.specs.declared.link.Dir.{Dir}
 use Rattle.link_model.specs.declared.lanes.LinkLanes.{LinkLanes}

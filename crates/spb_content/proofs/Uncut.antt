@@ -1,5 +1,5 @@
 -- The graph of all that is said.
-use Rattle.std.proofs.Common.{◌≡◌, ◌≤◌, Bool, true, false, true≢false, cond, inl, inr, List, [], ◌∷◌, length, filter, Some, is_some, refl, sym, ap, ◌∙◌, subst, arith}
+use Rattle.std.proofs.Common.{◌≡◌, ◌≤◌, Bool, true, false, true≢false, cond, inl, inr, [], ◌∷◌, length, filter, Some, is_some, refl, sym, ap, ◌∙◌, subst, arith}
 use Rattle.std.specs.Prelude.{IsSome}
 use Rattle.std.proofs.lemmas.Bool.{and_parts}
 use Rattle.spb_types.specs.Graph.{IsAmong, IsDistinct}
@@ -10,7 +10,7 @@ use Rattle.spb_content.specs.Laws.{SaidGraphHasAllLinks}
 use Rattle.spb_content.proofs.Members.{Has, has_filter, filter_has}
 use Rattle.spb_content.proofs.Places.{test}
 use Rattle.spb_content.proofs.Links.{same_self, ends_said, some_is}
-use Rattle.spb_content.proofs.Chosen.{AreChosen, among_has, one_content, said_has}
+use Rattle.spb_content.proofs.Chosen.{AreChosen, one_content, said_has}
 use Rattle.spb_content.proofs.Joined.{are_edges, costs, ports}
 use Rattle.spb_content.proofs.Whole.{valid_chosen, valid_for_chosen}
 

@@ -1,6 +1,6 @@
 -- One item of a list is changed.
-use Rattle.std.proofs.Common.{Bor, MutBor, Result, Ok, Err, OnOk, ◌++◌, ◌≡◌, ℕ, zero, suc, ◌<◌, ◌≤◌, List, [], ◌∷◌, map, length, Option, Some, None, slice_get, refl, sym, subst, ap, ◌∙◌, arith}
-use Rattle.std.specs.List.{AllByRecursion, slice_index_or, slice_set, IsItemAtMut, ItemBy}
+use Rattle.std.proofs.Common.{Bor, Result, Ok, Err, OnOk, ◌++◌, ◌≡◌, ℕ, zero, suc, ◌<◌, List, [], ◌∷◌, map, length, Option, Some, None, slice_get, refl, sym, subst, ap, ◌∙◌}
+use Rattle.std.specs.List.{AllByRecursion, slice_index_or, slice_set, ItemBy}
 use Rattle.bridge_api.specs.declared.outbox.Outbox.{Outbox}
 use Rattle.bridge_api.specs.Step.{with_wire}
 use Rattle.spb_types.specs.Places.{changed_at}

@@ -1,4 +1,4 @@
-use Rattle.std.proofs.Common.{refl, ap, ◌∙◌}
+use Rattle.std.proofs.Common.{ap, ◌∙◌}
 use Rattle.spb_types.specs.Places.{changed_at}
 use Rattle.spb_types.proofs.Places.{set-is, none-is, lent, lent-none}
 use Rattle.link_model.specs.contracts.lanes.Lanes.{the_view}
