@@ -90,8 +90,8 @@ fn greet<B: Bridge>(alloc: Global, from: &mut B, to: &mut B) -> Result<(), NoMem
 
 /// Seconds pass at a bridge, and what it sends is lost.
 fn pass<B: Bridge>(alloc: Global, bridge: &mut B, seconds: u16) -> Result<(), NoMemory>
-    requires { B.blank bridge.old ≡ false }
-    ensures { B.blank bridge.new ≡ false }
+    requires { (B.shown bridge.old).blank ≡ false }
+    ensures { (B.shown bridge.new).blank ≡ false }
 {
     'pass: for _ in 0..seconds {
         bridge.tick(&mut Outbox::new(alloc))?;
@@ -101,7 +101,7 @@ fn pass<B: Bridge>(alloc: Global, bridge: &mut B, seconds: u16) -> Result<(), No
 
 /// The version and the lifetime that a bridge holds at a place.
 fn held_at<B: Bridge>(bridge: &B, place: usize) -> (Version, u16)
-    requires { B.blank bridge.now ≡ false }
+    requires { (B.shown bridge.now).blank ≡ false }
 {
     match bridge.entry(place) {
         Some(held) => (held.version, held.lifetime),
@@ -126,17 +126,17 @@ fn tick_at<B: Bridge>(
 
 /// A frame comes to the port 1.
 fn hear<B: Bridge>(bridge: &mut B, frame: &[u8], outbox: &mut Outbox) -> Result<(), NoMemory>
-    requires made { B.blank bridge.old ≡ false }
-    requires port { 1 ≤ length (B.view bridge.old).ports }
-    ensures still_made { B.blank bridge.new ≡ false }
-    ensures still_port { OnOk result (length (B.view bridge.new).ports ≡ length (B.view bridge.old).ports) }
+    requires made { (B.shown bridge.old).blank ≡ false }
+    requires port { 1 ≤ length (B.shown bridge.old).view.ports }
+    ensures still_made { (B.shown bridge.new).blank ≡ false }
+    ensures still_port { OnOk result (length (B.shown bridge.new).view.ports ≡ length (B.shown bridge.old).view.ports) }
 {
     bridge.receive(1, frame, outbox)
 }
 
 /// What is held, in order, but for the bodies.
 fn rows<B: Bridge>(alloc: Global, bridge: &B) -> Result<Vec<DbRow>, NoMemory>
-    requires { B.blank bridge.now ≡ false }
+    requires { (B.shown bridge.now).blank ≡ false }
 {
     let mut rows = Vec::new(alloc);
     for place in 0..2048 {
@@ -149,7 +149,7 @@ fn rows<B: Bridge>(alloc: Global, bridge: &B) -> Result<Vec<DbRow>, NoMemory>
 
 /// Whether what is held at a place is to be sent at the port 1, and is to be acknowledged or asked for there.
 fn flags_at<B: Bridge>(bridge: &B, place: usize) -> (bool, bool)
-    requires { B.blank bridge.now ≡ false }
+    requires { (B.shown bridge.now).blank ≡ false }
 {
     match bridge.entry(place) {
         Some(held) => (held.srm.has(1), held.ssn.has(1)),
@@ -160,10 +160,10 @@ fn flags_at<B: Bridge>(bridge: &B, place: usize) -> (bool, bool)
 /// Whether a frame that comes to the port 1 changes nothing there and nothing that is held, but for the bodies, and nothing is
 /// sent.
 fn is_dropped<B: Bridge>(alloc: Global, bridge: &mut B, frame: &[u8]) -> Result<bool, NoMemory>
-    requires made { B.blank bridge.old ≡ false }
-    requires port { 1 ≤ length (B.view bridge.old).ports }
-    ensures still_made { B.blank bridge.new ≡ false }
-    ensures still_port { OnOk result (length (B.view bridge.new).ports ≡ length (B.view bridge.old).ports) }
+    requires made { (B.shown bridge.old).blank ≡ false }
+    requires port { 1 ≤ length (B.shown bridge.old).view.ports }
+    ensures still_made { (B.shown bridge.new).blank ≡ false }
+    ensures still_port { OnOk result (length (B.shown bridge.new).view.ports ≡ length (B.shown bridge.old).view.ports) }
 {
     let before = (bridge.adjacent(1), bridge.due(1), bridge.has_flag());
     let held_before = rows(alloc, bridge)?;

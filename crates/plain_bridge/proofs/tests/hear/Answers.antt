@@ -5,4 +5,4 @@ use Rattle.plain_bridge.proofs.tests.hear.Goals as goal
 
 pub returns-clause-still_port : goal.returns-clause-still_port
 returns-clause-still_port g c =
-    on_ok_weaker c.receive.result (ports_after (frame 1 c.args.frame.now) (g.B.Bridge.view c.args.bridge.now) (g.B.Bridge.view c.receive.new.self)) c.receive.ensures.view
+    on_ok_weaker c.receive.result (ports_after (frame 1 c.args.frame.now) (g.B.Bridge.shown c.args.bridge.now).view (g.B.Bridge.shown c.receive.new.self).view) c.receive.ensures.view
