@@ -183,7 +183,7 @@ l 0200000000020000 dead 2 srm - ssn -
 ";
 
 /// Runs the program with one word over a script, in pieces of `step` bytes, and asserts how it ends and what it writes.
-fn check(
+pub fn check(
     rt: &impl Abort,
     alloc: Global,
     script: &[u8],
