@@ -3,8 +3,7 @@
 
     bench/bench.py [PROGRAM ..]
 
-Without arguments it measures the program built in this repository (build it first:
-./spbsim run < examples/two-bridges.spb).
+Without arguments it measures the program built in this repository (build it first, by ./build).
 Each further program that takes the word `run` and a script on standard input is measured beside it.
 """
 import os
