@@ -21,8 +21,6 @@ use std::process::ExitCode;
 use std::rt::{Env, HostRuntime};
 
 #[cfg(test)]
-mod example_tests;
-#[cfg(test)]
 mod tests;
 
 /// How many blank boxes the rack has.

@@ -1,7 +1,7 @@
 use Rattle.std.proofs.Common.{true≢false, sym, ◌∙◌, ⊎_elim}
 use Rattle.spb_network.specs.Network.{Fits}
 use Rattle.spbsim.proofs.TwoBridges.{linked_ports}
-use Rattle.spbsim.proofs.tests.declare_two.Goals as goal
+use Rattle.spbsim.proofs.tests.boxes.declare_two.Goals as goal
 
 pub returns-clause-ports : goal.returns-clause-ports
 returns-clause-ports g c =

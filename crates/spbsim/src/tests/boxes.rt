@@ -1,0 +1,171 @@
+//! The boxes of a network: which are taken, and what they answer.
+ghost use Rattle.std.specs.Prelude.{◌≡◌, ℕ, [], OnOk};
+ghost use Rattle.bridge_api.specs.Config.{IsWhole};
+ghost use Rattle.spb_network.specs.Network.{state_of, IsPortAt};
+ghost use Rattle.spb_run.specs.Replying.{IsAlive};
+
+use super::{TWO, words_of};
+use crate::{Status, run};
+use adjacency::Adjacency;
+use bridge_api::{Bridge, BridgeConfig};
+use plain_bridge::PlainBridge;
+use scenario::Command;
+use spb_network::{ApplyError, KindRule, NetworkOf, Reason};
+use spb_outside::{MemorySink, MemorySource};
+use spb_run::Refusal;
+use spb_types::{BridgeId, LspId, Mac, Name, Seq, SourceId, SystemId};
+use std::alloc::Global;
+use std::process::Abort;
+use std::test::Fail;
+
+/// Asserts that two bridges are declared on the network of a rack until it has no blank box for the second.
+fn check_spent<B: Bridge>(rt: &impl Abort, alloc: Global, rack: Vec<B>) -> Result<(), Fail> {
+    let words = words_of(alloc, "run")?;
+    let mut network = NetworkOf::new(alloc, rack);
+    let mut source = MemorySource::new(
+        Vec::from_slice(alloc, TWO.as_bytes())?,
+        Vec::new(alloc),
+        100,
+    );
+    let mut sink = MemorySink::new(alloc, Vec::new(alloc), 100);
+    assert_eq!(rt;
+        run(alloc, &words, &mut network, &mut source, &mut sink),
+        Status::Refused(2, Refusal::Command(Reason::RackSpent))
+    );
+    assert_eq!(rt; sink.bytes(), b"error 2 12 RackSpent\n".as_slice());
+    Ok(())
+}
+
+#[test]
+fn each_bridge_takes_a_box(rt: HostRuntime) -> Result<(), Fail> {
+    let alloc = rt.alloc();
+    let mut rack: Vec<Box<dyn Bridge>> = Vec::new(alloc);
+    rack.push(Box::new(alloc, PlainBridge::blank(alloc))?)?;
+    check_spent(&rt, alloc, rack)
+}
+
+/// What a bridge without ports is configured with.
+fn portless(alloc: Global) -> BridgeConfig
+    ensures { IsWhole result }
+{
+    BridgeConfig {
+        id: BridgeId {
+            priority: 32768,
+            system: SystemId {
+                mac: Mac {
+                    bytes: [2, 0, 0, 0, 0, 9],
+                },
+            },
+        },
+        source: SourceId { value: 9 },
+        ports: 0,
+        vids: Seq::new(alloc),
+        metrics: Seq::new(alloc),
+        attached: Seq::new(alloc),
+    }
+}
+
+#[test]
+fn a_box_that_is_not_blank_is_never_taken(rt: HostRuntime) -> Result<(), Fail> {
+    let alloc = rt.alloc();
+    let mut used = PlainBridge::blank(alloc);
+    used.configure(&portless(alloc))?;
+    let mut rack: Vec<Box<dyn Bridge>> = Vec::new(alloc);
+    rack.push(Box::new(alloc, PlainBridge::blank(alloc))?)?;
+    rack.push(Box::new(alloc, used)?)?;
+    check_spent(&rt, alloc, rack)
+}
+
+/// The address of the bridge of a number.
+fn address(number: u8) -> Mac {
+    Mac {
+        bytes: [2, 0, 0, 0, 0, number],
+    }
+}
+
+/// Declares two bridges of one port each, and a link between them.
+fn declare_two<B: Bridge>(
+    network: &mut NetworkOf<B>,
+    a: Name,
+    b: Name,
+    link: Name,
+) -> Result<(), ApplyError>
+    requires alive { IsAlive B.shown network.old }
+    requires new { (state_of B.shown network.old).world.bridges ≡ [] }
+    ensures alive { OnOk result (IsAlive B.shown network.new) }
+    ensures ports { OnOk result ((i : ℕ) → IsPortAt (state_of B.shown network.new).views i 1) }
+{
+    let _first = network.apply(&Command::Bridge {
+        name: a,
+        priority: 32768,
+        system: address(1),
+        source: SourceId { value: 1 },
+        ports: 1,
+    })?;
+    let _second = network.apply(&Command::Bridge {
+        name: b,
+        priority: 32768,
+        system: address(2),
+        source: SourceId { value: 2 },
+        ports: 1,
+    })?;
+    let _third = network.apply(&Command::Link {
+        name: link,
+        a,
+        port_a: 1,
+        b,
+        port_b: 1,
+        cost: 10,
+    })?;
+    Ok(())
+}
+
+/// What the box of the bridge at a place answers: the adjacency at its first port, and the first LSP that it holds.
+fn asked<B: Bridge>(network: &NetworkOf<B>, place: usize) -> Option<(Adjacency, LspId)>
+    requires alive { IsAlive B.shown network.now }
+    requires port { IsPortAt (state_of B.shown network.now).views place 1 }
+{
+    match network.boxes().get(place) {
+        None => None,
+        Some(bridge) => {
+            let held = bridge.entry(0)?;
+            Some((bridge.adjacent(1), held.id))
+        }
+    }
+}
+
+/// The first LSP of the bridge of a number.
+fn own_id(number: u8) -> LspId {
+    LspId {
+        system: SystemId {
+            mac: address(number),
+        },
+        pseudonode: 0,
+        number: 0,
+    }
+}
+
+/// Asserts what the boxes of two bridges answer, which are declared on the network of a rack after its rule was set.
+fn check_boxes<B: Bridge>(rt: &impl Abort, alloc: Global, rack: Vec<B>) -> Result<(), Fail> {
+    let mut network = NetworkOf::new(alloc, rack);
+    network.set_rule(KindRule::Plain);
+    let a = Name::new(b"A").ok_or("no name")?;
+    let b = Name::new(b"B").ok_or("no name")?;
+    let link = Name::new(b"L1").ok_or("no name")?;
+    declare_two(&mut network, a, b, link)?;
+    let lit = Adjacency::down(true);
+    assert_eq!(rt; asked(&network, 0), Some((lit, own_id(1))));
+    assert_eq!(rt; asked(&network, 1), Some((lit, own_id(2))));
+    assert_eq!(rt; asked(&network, 2), None);
+    Ok(())
+}
+
+#[test]
+fn the_boxes_of_a_network_can_be_asked(rt: HostRuntime) -> Result<(), Fail> {
+    let alloc = rt.alloc();
+    let mut rack: Vec<Box<dyn Bridge>> = Vec::new(alloc);
+    for _ in 0..2 {
+        rack.push(Box::new(alloc, PlainBridge::blank(alloc))?)?;
+    }
+    check_boxes(&rt, alloc, rack)
+}

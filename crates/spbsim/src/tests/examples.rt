@@ -1,0 +1,168 @@
+//! The scripts of `examples/`, word for word, each with the output that stands beside it. That of `link-failure-drill`
+//! is the stored run of the program.
+use super::check;
+use crate::Status;
+use spb_network::Reason;
+use spb_run::Refusal;
+use std::test::Fail;
+
+/// `point-to-point.spb`.
+pub(super) const POINT_TO_POINT: &str =
+    "# Two bridges with one link between them: A reaches B by its port 1.
+vid 10 1
+bridge A 32768 020000000001 00001 1
+bridge B 32768 020000000002 00002 1
+link L1 A 1 B 1 10
+wiring A
+";
+
+/// `point-to-point.out`.
+pub(super) const POINT_TO_POINT_OUT: &str = "wiring A 1 0
+u 10 020000000002 1
+";
+
+/// `equal-cost-paths.spb`.
+pub(super) const EQUAL_COST_PATHS: &str =
+    "# Two ways from A to D cost 30: over B and C in three hops, over X in two. The one of fewer hops is best.
+vid 10 1
+bridge A 32768 020000000001 00001 2
+bridge B 32768 020000000002 00002 2
+bridge C 32768 020000000003 00003 2
+bridge D 32768 020000000004 00004 2
+bridge X 32768 020000000009 00005 2
+link L1 A 1 B 1 10
+link L2 B 2 C 1 10
+link L3 C 2 D 1 10
+link L4 A 2 X 1 10
+link L5 X 2 D 2 20
+wiring A
+";
+
+/// `equal-cost-paths.out`.
+pub(super) const EQUAL_COST_PATHS_OUT: &str = "wiring A 4 0
+u 10 020000000002 1
+u 10 020000000003 1
+u 10 020000000004 2
+u 10 020000000009 2
+";
+
+/// `metro-ring.spb`.
+const METRO_RING: &str =
+    "# Four bridges in a ring: what does north's table become where its link to east fails?
+vid 10 1
+bridge north 32768 020000000001 00001 2
+bridge east 32768 020000000002 00002 2
+bridge south 32768 020000000003 00003 2
+bridge west 32768 020000000004 00004 2
+link ne north 1 east 2 10
+link es east 1 south 2 10
+link sw south 1 west 2 10
+link wn west 1 north 2 10
+wiring north
+down ne
+wiring north
+";
+
+/// `metro-ring.out`.
+const METRO_RING_OUT: &str = "wiring north 3 0
+u 10 020000000002 1
+u 10 020000000003 1
+u 10 020000000004 2
+wiring north 3 0
+u 10 020000000002 2
+u 10 020000000003 2
+u 10 020000000004 2
+";
+
+/// `lost-hellos.spb`.
+const LOST_HELLOS: &str =
+    "# Two bridges come up; A's hellos are lost until B gives A up; the link fails and comes back, and both are up again.
+vid 10 1
+bridge A 32768 020000000001 00001 1
+bridge B 32768 020000000002 00002 1
+link L1 A 1 B 1 10
+adj A
+# B hears A, A hears that B heard it, and B hears that.
+tick A
+deliver L1 ab
+adj B
+tick B
+deliver L1 ba
+adj A
+tick A
+deliver L1 ab
+adj B
+round 5
+# Three seconds in which A's hellos are lost: B's count runs out.
+tick A
+lose L1 ab 0
+tick B
+deliver L1 ba
+tick A
+lose L1 ab 0
+tick B
+deliver L1 ba
+tick A
+lose L1 ab 0
+tick B
+adj A
+adj B
+# The link fails, and comes back.
+down L1
+adj A
+up L1
+round 3
+adj A
+adj B
+";
+
+/// `lost-hellos.out`.
+const LOST_HELLOS_OUT: &str = "adj A 1
+p 1 down
+adj B 1
+p 1 init 020000000001 1 3 -
+adj A 1
+p 1 up 020000000002 1 3 due
+adj B 1
+p 1 up 020000000001 1 3 due
+adj A 1
+p 1 up 020000000002 1 2 -
+adj B 1
+p 1 down
+adj A 1
+p 1 off
+adj A 1
+p 1 up 020000000002 1 3 -
+adj B 1
+p 1 up 020000000001 1 3 -
+";
+
+/// `undeclared-bridge.spb`.
+const UNDECLARED_BRIDGE: &str =
+    "# A link names a bridge that isn't declared: the run ends there, and what came before is written.
+vid 10 1
+bridge A 32768 020000000001 00001 1
+wiring A
+link L1 A 1 B 1 10
+wiring A
+";
+
+/// `undeclared-bridge.out`.
+const UNDECLARED_BRIDGE_OUT: &str = "wiring A 0 0
+error 5 2 NoSuchName
+";
+
+#[test]
+fn each_example_is_answered_as_beside_it(rt: HostRuntime) -> Result<(), Fail> {
+    let undeclared = Status::Refused(5, Refusal::Command(Reason::NoSuchName));
+    for (script, status, text) in [
+        (POINT_TO_POINT, Status::Done, POINT_TO_POINT_OUT),
+        (EQUAL_COST_PATHS, Status::Done, EQUAL_COST_PATHS_OUT),
+        (METRO_RING, Status::Done, METRO_RING_OUT),
+        (LOST_HELLOS, Status::Done, LOST_HELLOS_OUT),
+        (UNDECLARED_BRIDGE, undeclared, UNDECLARED_BRIDGE_OUT),
+    ] {
+        check(&rt, rt.alloc(), script, status, text)?;
+    }
+    Ok(())
+}

@@ -1,0 +1,131 @@
+//! Runs of the program: its words, the pieces in which it reads and writes, and how it ends.
+use super::examples::{EQUAL_COST_PATHS, EQUAL_COST_PATHS_OUT, POINT_TO_POINT, POINT_TO_POINT_OUT};
+use super::{check, check_in_pieces, words_of};
+use crate::{Status, message, play};
+use spb_outside::{MemorySink, MemorySource, Source};
+use spb_run::Refusal;
+use std::alloc::{AllocError, Global};
+use std::test::Fail;
+
+#[test]
+fn scripts_are_answered_in_pieces_of_any_size(rt: HostRuntime) -> Result<(), Fail> {
+    let alloc = rt.alloc();
+    for step in [1, 7, 4096, 100_000] {
+        check_in_pieces(&rt, alloc, step, "", Status::Done, "")?;
+        check_in_pieces(
+            &rt,
+            alloc,
+            step,
+            POINT_TO_POINT,
+            Status::Done,
+            POINT_TO_POINT_OUT,
+        )?;
+        check_in_pieces(
+            &rt,
+            alloc,
+            step,
+            EQUAL_COST_PATHS,
+            Status::Done,
+            EQUAL_COST_PATHS_OUT,
+        )?;
+    }
+    Ok(())
+}
+
+#[test]
+fn a_script_has_at_most_65536_bytes(rt: HostRuntime) -> Result<(), Fail> {
+    let alloc = rt.alloc();
+    let mut script = "\n".repeat(alloc, 65_536)?;
+    check(&rt, alloc, script.as_str(), Status::Done, "")?;
+    script.push('\n')?;
+    check(&rt, alloc, script.as_str(), Status::TooLong, "")
+}
+
+/// A source of the bytes of POINT_TO_POINT, which fails at the reads of these numbers.
+fn source(alloc: Global, failing: &[u32]) -> Result<MemorySource, AllocError> {
+    let bytes = Vec::from_slice(alloc, POINT_TO_POINT.as_bytes())?;
+    Ok(MemorySource::new(bytes, Vec::from_slice(alloc, failing)?, 40))
+}
+
+/// A sink that fails at the writes of these numbers, and takes at most eight bytes at each other.
+fn sink(alloc: Global, failing: &[u32]) -> Result<MemorySink, AllocError> {
+    Ok(MemorySink::new(alloc, Vec::from_slice(alloc, failing)?, 8))
+}
+
+#[test]
+fn other_words_are_refused_and_nothing_is_read_or_written(rt: HostRuntime) -> Result<(), Fail> {
+    let alloc = rt.alloc();
+    for words in ["", "run fast", "Run", "run "] {
+        let words = words_of(alloc, words)?;
+        let (mut source, mut sink) = (source(alloc, &[])?, sink(alloc, &[])?);
+        assert_eq!(rt;
+            play(alloc, &words, &mut source, &mut sink),
+            Ok(Status::Usage)
+        );
+        assert_eq!(rt; sink.bytes(), b"".as_slice());
+        let mut into = [0; 5];
+        assert_eq!(rt; source.read(&mut into), Ok(5));
+        assert_eq!(rt; &into, b"# Two");
+    }
+    Ok(())
+}
+
+#[test]
+fn a_failed_read_leaves_nothing_written(rt: HostRuntime) -> Result<(), Fail> {
+    let alloc = rt.alloc();
+    let words = words_of(alloc, "run")?;
+    for failing in [1, 3] {
+        let (mut source, mut sink) = (source(alloc, &[failing])?, sink(alloc, &[])?);
+        assert_eq!(rt;
+            play(alloc, &words, &mut source, &mut sink),
+            Ok(Status::ReadFault)
+        );
+        assert_eq!(rt; sink.bytes(), b"".as_slice());
+    }
+    Ok(())
+}
+
+#[test]
+fn a_failed_write_leaves_a_front_of_the_answers(rt: HostRuntime) -> Result<(), Fail> {
+    let alloc = rt.alloc();
+    let words = words_of(alloc, "run")?;
+    for (failing, front) in [(1, b"".as_slice()), (3, b"wiring A 1 0\nu 1")] {
+        let (mut source, mut sink) = (source(alloc, &[])?, sink(alloc, &[failing])?);
+        assert_eq!(rt;
+            play(alloc, &words, &mut source, &mut sink),
+            Ok(Status::WriteFault)
+        );
+        assert_eq!(rt; sink.bytes(), front);
+    }
+    Ok(())
+}
+
+#[test]
+fn each_status_has_its_number_and_its_message(rt: HostRuntime) {
+    let refused = Status::Refused(1, Refusal::Words(1));
+    let texts = [
+        (Status::Done, 0, None),
+        (refused, 1, None),
+        (Status::Usage, 2, Some("usage: spbsim run")),
+        (Status::NoMemory, 3, Some("spbsim: out of memory")),
+        (
+            Status::ReadFault,
+            4,
+            Some("spbsim: standard input can't be read"),
+        ),
+        (
+            Status::WriteFault,
+            5,
+            Some("spbsim: standard output can't be written"),
+        ),
+        (
+            Status::TooLong,
+            6,
+            Some("spbsim: the script has more than 65536 bytes"),
+        ),
+    ];
+    for (status, number, text) in texts {
+        assert_eq!(rt; status.number(), number);
+        assert_eq!(rt; message(status), text);
+    }
+}
