@@ -2,7 +2,7 @@
 ghost use Rattle.std.specs.Prelude.{◌≡◌, ◌≤◌, true};
 ghost use Rattle.adjacency.specs.Adjacency.{IsSound};
 
-use crate::{AdjState, Adjacency, Heard};
+use crate::{AdjState, Adjacency, AdjacencyChange};
 use isis_pdu::Hello;
 use spb_tlvs::ThreeWay;
 use spb_types::{Mac, SystemId};
@@ -70,7 +70,8 @@ fn is_discarded(hello: &Hello, way: &ThreeWay) -> bool
     requires { way.now.state ≤ 2 }
 {
     let mut port = port_in(AdjState::Up);
-    port.hear(system(1), 1, hello, way) == Heard::Discarded && port == port_in(AdjState::Up)
+    port.hear(system(1), 1, hello, way) == AdjacencyChange::Discarded
+        && port == port_in(AdjState::Up)
 }
 
 #[test]
@@ -79,15 +80,15 @@ fn the_nine_cells_of_the_table(rt: HostRuntime) {
     let init = AdjState::Initializing;
     let up = AdjState::Up;
     for (state, received, after, heard) in [
-        (down, down, init, Heard::Kept),
-        (down, init, up, Heard::CameUp),
-        (down, up, down, Heard::Kept),
-        (init, down, init, Heard::Kept),
-        (init, init, up, Heard::CameUp),
-        (init, up, up, Heard::CameUp),
-        (up, down, init, Heard::LeftUp),
-        (up, init, up, Heard::Kept),
-        (up, up, up, Heard::Kept),
+        (down, down, init, AdjacencyChange::Kept),
+        (down, init, up, AdjacencyChange::CameUp),
+        (down, up, down, AdjacencyChange::Kept),
+        (init, down, init, AdjacencyChange::Kept),
+        (init, init, up, AdjacencyChange::CameUp),
+        (init, up, up, AdjacencyChange::CameUp),
+        (up, down, init, AdjacencyChange::LeftUp),
+        (up, init, up, AdjacencyChange::Kept),
+        (up, up, up, AdjacencyChange::Kept),
     ] {
         let mut port = port_in(state);
         assert_eq!(rt;
@@ -107,9 +108,9 @@ fn the_nine_cells_of_the_table(rt: HostRuntime) {
 #[test]
 fn holding_time_0_makes_it_down(rt: HostRuntime) {
     for (state, heard) in [
-        (AdjState::Down, Heard::Kept),
-        (AdjState::Initializing, Heard::Kept),
-        (AdjState::Up, Heard::LeftUp),
+        (AdjState::Down, AdjacencyChange::Kept),
+        (AdjState::Initializing, AdjacencyChange::Kept),
+        (AdjState::Up, AdjacencyChange::LeftUp),
     ] {
         let mut port = port_in(state);
         assert_eq!(rt;
@@ -145,7 +146,7 @@ fn another_neighbour_or_circuit_begins_anew(rt: HostRuntime) {
     let mut port = port_in(AdjState::Up);
     assert_eq!(rt;
         port.hear(system(1), 1, &hello(2, 3), &moved),
-        Heard::CameUp
+        AdjacencyChange::CameUp
     );
     assert_eq!(rt;
         (port.state, port.neighbour, port.circuit),
@@ -153,7 +154,7 @@ fn another_neighbour_or_circuit_begins_anew(rt: HostRuntime) {
     );
     assert_eq!(rt;
         port.hear(system(1), 1, &hello(3, 3), &way(AdjState::Down)),
-        Heard::LeftUp
+        AdjacencyChange::LeftUp
     );
     assert_eq!(rt;
         (port.state, port.neighbour, port.circuit),
@@ -161,7 +162,7 @@ fn another_neighbour_or_circuit_begins_anew(rt: HostRuntime) {
     );
     assert_eq!(rt;
         port.hear(system(1), 1, &hello(2, 3), &way(AdjState::Up)),
-        Heard::Kept
+        AdjacencyChange::Kept
     );
     assert_eq!(rt; port, Adjacency::down(true));
 }
@@ -169,18 +170,18 @@ fn another_neighbour_or_circuit_begins_anew(rt: HostRuntime) {
 #[test]
 fn the_neighbour_is_lost_when_the_count_or_the_carrier_ends(rt: HostRuntime) {
     let mut port = port_in(AdjState::Up);
-    assert_eq!(rt; port.tick(), Heard::Kept);
+    assert_eq!(rt; port.tick(), AdjacencyChange::Kept);
     assert_eq!(rt; (port.state, port.hold), (AdjState::Up, 1));
-    assert_eq!(rt; port.tick(), Heard::LeftUp);
+    assert_eq!(rt; port.tick(), AdjacencyChange::LeftUp);
     assert_eq!(rt; port, Adjacency::down(true));
-    assert_eq!(rt; port.tick(), Heard::Kept);
+    assert_eq!(rt; port.tick(), AdjacencyChange::Kept);
 
     let mut port = port_in(AdjState::Up);
-    assert_eq!(rt; port.set_carrier(true), Heard::Kept);
+    assert_eq!(rt; port.set_carrier(true), AdjacencyChange::Kept);
     assert_eq!(rt; port, port_in(AdjState::Up));
-    assert_eq!(rt; port.set_carrier(false), Heard::LeftUp);
+    assert_eq!(rt; port.set_carrier(false), AdjacencyChange::LeftUp);
     assert_eq!(rt; port, Adjacency::down(false));
-    assert_eq!(rt; port.set_carrier(true), Heard::Kept);
+    assert_eq!(rt; port.set_carrier(true), AdjacencyChange::Kept);
     assert_eq!(rt; port, Adjacency::down(true));
 }
 

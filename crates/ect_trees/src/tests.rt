@@ -172,7 +172,7 @@ fn ties_fall_by_masked_ids(rt: HostRuntime) -> Result<(), Fail> {
 }
 
 #[test]
-fn ids_compare_in_ascending_order(rt: HostRuntime) -> Result<(), Fail> {
+fn ids_compare_in_sorted_order(rt: HostRuntime) -> Result<(), Fail> {
     for (priority, mask, want) in [
         (32768, 0x00, [1, 5, 2, 8]),
         (32768, 0x44, [1, 3, 4, 8]),

@@ -106,7 +106,8 @@ fn square(alloc: Global) -> Result<Graph, NoMemory>
     })
 }
 
-/// Bridges 1, 2 and 3, each joined to both others, with a cost of the edge between 1 and 3 and one of 10 for the others.
+/// Bridges 1, 2 and 3, each joined to both others, with a cost of the edge between 1 and 3 and one of 10 for the
+/// others.
 fn triangle(alloc: Global, cost: u32) -> Result<Graph, NoMemory>
     requires low { 1 ≤ cost }
     requires high { cost ≤ 1000 }

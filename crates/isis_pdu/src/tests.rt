@@ -5,6 +5,7 @@ ghost use Rattle.std.specs.Prelude.{◌≤◌, length};
 use super::*;
 use spb_types::{LspId, Mac, NoMemory, SystemId};
 use std::alloc::{AllocError, Global};
+use std::process::Abort;
 use std::test::Fail;
 
 /// A hello with a three-way adjacency that is down.
@@ -52,7 +53,8 @@ const FOREIGN_HELLO: [u8; 53] = [
     0x01, 0x00, 0x00, 0x00, 0x05,
 ];
 
-/// Another implementation's LSP of a pseudonode's second fragment, with TLVs 1, 129, 137, 134, 132, 135, 250 and an empty
+/// Another implementation's LSP of a pseudonode's second fragment, with TLVs 1, 129, 137, 134, 132, 135, 250 and an
+/// empty
 /// 200. Its header says an id length of 6 and 3 areas.
 const FOREIGN_LSP: [u8; 74] = [
     0x83, 0x1b, 0x01, 0x06, 0x12, 0x01, 0x00, 0x03, 0x00, 0x4a, 0x04, 0xa9, 0x19, 0x21, 0x68, 0x00,
@@ -89,6 +91,18 @@ fn lsp_id(system: SystemId) -> LspId {
     }
 }
 
+fn are_bytes(rt: &impl Abort, found: &[u8], want: &[u8]) {
+    assert_eq!(rt; found, want);
+}
+
+fn is_read(rt: &impl Abort, bytes: &[u8], want: Pdu<'_>) {
+    assert_eq!(rt; decode(bytes), Ok(want));
+}
+
+fn is_refused(rt: &impl Abort, bytes: &[u8], want: PduError) {
+    assert_eq!(rt; decode(bytes), Err(want));
+}
+
 #[test]
 #[tactic(auto, unfolding(crate::specs::Tlvs::is_whole_after))]
 fn a_hello_is_written_and_read(rt: HostRuntime) -> Result<(), Fail> {
@@ -99,11 +113,8 @@ fn a_hello_is_written_and_read(rt: HostRuntime) -> Result<(), Fail> {
         circuit: 1,
         tlvs: &[1, 4, 3, 0x49, 0, 1, 0x81, 1, 0xc1, 0xf0, 5, 2, 0, 0, 0, 1],
     };
-    assert_eq!(rt;
-        write_hello(rt.alloc(), &hello)?.as_slice(),
-        HELLO.as_slice()
-    );
-    assert_eq!(rt; decode(&HELLO), Ok(Pdu::Hello(hello)));
+    are_bytes(&rt, &write_hello(rt.alloc(), &hello)?, &HELLO);
+    is_read(&rt, &HELLO, Pdu::Hello(hello));
     Ok(())
 }
 
@@ -119,7 +130,7 @@ fn the_first_lsp_is_read(rt: HostRuntime) {
         flags: 1,
         tlvs,
     };
-    assert_eq!(rt; decode(&FIRST_LSP), Ok(Pdu::Lsp(lsp)));
+    is_read(&rt, &FIRST_LSP, Pdu::Lsp(lsp));
     assert_eq!(rt; lsp_sum(&id, 1, 1, tlvs), 0x4fd7);
     assert!(rt; check_ok(&FIRST_LSP[12..]));
 }
@@ -134,7 +145,7 @@ fn a_dead_lsp_is_read(rt: HostRuntime) {
         flags: 1,
         tlvs: &[],
     };
-    assert_eq!(rt; decode(&DEAD_LSP), Ok(Pdu::Lsp(lsp)));
+    is_read(&rt, &DEAD_LSP, Pdu::Lsp(lsp));
 }
 
 /// Reads a PDU and writes it again. Nothing where it is refused.
@@ -150,49 +161,35 @@ fn written_again(alloc: Global, bytes: &[u8]) -> Result<Vec<u8>, NoMemory>
     }
 }
 
+fn is_written_again(rt: &impl Abort, alloc: Global, bytes: &[u8]) -> Result<(), NoMemory>
+    requires { length bytes.now ≤ 1497 }
+{
+    are_bytes(rt, &written_again(alloc, bytes)?, bytes);
+    Ok(())
+}
+
 #[test]
 fn pdus_are_written_again(rt: HostRuntime) -> Result<(), Fail> {
-    assert_eq!(rt;
-        written_again(rt.alloc(), &HELLO)?.as_slice(),
-        HELLO.as_slice()
-    );
-    assert_eq!(rt;
-        written_again(rt.alloc(), &FIRST_LSP)?.as_slice(),
-        FIRST_LSP.as_slice()
-    );
-    assert_eq!(rt;
-        written_again(rt.alloc(), &DEAD_LSP)?.as_slice(),
-        DEAD_LSP.as_slice()
-    );
-    assert_eq!(rt;
-        written_again(rt.alloc(), &CSNP)?.as_slice(),
-        CSNP.as_slice()
-    );
-    assert_eq!(rt;
-        written_again(rt.alloc(), &PSNP)?.as_slice(),
-        PSNP.as_slice()
-    );
+    is_written_again(&rt, rt.alloc(), &HELLO)?;
+    is_written_again(&rt, rt.alloc(), &FIRST_LSP)?;
+    is_written_again(&rt, rt.alloc(), &DEAD_LSP)?;
+    is_written_again(&rt, rt.alloc(), &CSNP)?;
+    is_written_again(&rt, rt.alloc(), &PSNP)?;
     Ok(())
 }
 
 /// The TLVs of an LSP of a bridge with this source id and a neighbour at port 1 with this metric.
-fn with_neighbour(
-    alloc: Global,
-    source: u8,
-    neighbour: u8,
-    metric: u8,
-) -> Result<Vec<u8>, AllocError> {
-    let mut tlvs = Vec::new(alloc);
-    tlvs.extend_from_slice(&[1, 4, 3, 0x49, 0, 1, 0x81, 1, 0xc1, 0x16, 0x13])?;
-    tlvs.extend_from_slice(&[2, 0, 0, 0, 0, neighbour, 0, 0, 0, metric, 8])?;
-    tlvs.extend_from_slice(&[0x1d, 6, 0, 0, metric, 1, 0, 1])?;
-    tlvs.extend_from_slice(&[0x90, 0x17, 0, 0, 1, 0x13, 0, 0, 0, 0, 0, 0, 0, 0])?;
-    tlvs.extend_from_slice(&[0, 0, 0, 0, 0x80, 0, 0, 0, 0, source, 0])?;
-    Ok(tlvs)
+fn with_neighbour(source: u8, neighbour: u8, metric: u8) -> [u8; 55] {
+    [
+        0x01, 0x04, 0x03, 0x49, 0x00, 0x01, 0x81, 0x01, 0xc1, 0x16, 0x13, 0x02, 0x00, 0x00, 0x00,
+        0x00, neighbour, 0x00, 0x00, 0x00, metric, 0x08, 0x1d, 0x06, 0x00, 0x00, metric, 0x01,
+        0x00, 0x01, 0x90, 0x17, 0x00, 0x00, 0x01, 0x13, 0x00, 0x00, 0x00, 0x00, 0x00, 0x00, 0x00,
+        0x00, 0x00, 0x00, 0x00, 0x00, 0x80, 0x00, 0x00, 0x00, 0x00, source, 0x00,
+    ]
 }
 
 #[test]
-fn checksums(rt: HostRuntime) -> Result<(), Fail> {
+fn checksums(rt: HostRuntime) {
     let wanted = [
         (1, 2, 2, 10, 0xa512),
         (1, 2, 4, 10, 0xa114),
@@ -202,17 +199,20 @@ fn checksums(rt: HostRuntime) -> Result<(), Fail> {
         (2, 1, 3, 20, 0xb6ea),
     ];
     for (own, neighbour, seq, metric, sum) in wanted {
-        let tlvs = with_neighbour(rt.alloc(), own, neighbour, metric)?;
+        let tlvs = with_neighbour(own, neighbour, metric);
         assert_eq!(rt;
             lsp_sum(&lsp_id(bridge(own)), seq, 1, &tlvs),
             sum,
             "of {own} at {seq}"
         );
     }
+}
+
+#[test]
+fn the_checksum_of_another_first_lsp(rt: HostRuntime) {
     let mut other = FIRST_LSP;
     other[59] = 2;
     assert_eq!(rt; lsp_sum(&lsp_id(bridge(2)), 1, 1, &other[27..]), 0x69bb);
-    Ok(())
 }
 
 /// What is answered of the first LSP with the byte at one place changed.
@@ -226,8 +226,6 @@ fn refusal_with(place: usize, byte: u8) -> Option<PduError> {
 
 #[test]
 fn refusals(rt: HostRuntime) {
-    assert_eq!(rt; decode(&FIRST_LSP[..60]), Err(PduError::Length));
-    assert_eq!(rt; decode(&FIRST_LSP[..7]), Err(PduError::Short));
     let wanted = [
         (0, 0x82, PduError::NotIsis),
         (2, 2, PduError::NotIsis),
@@ -245,27 +243,41 @@ fn refusals(rt: HostRuntime) {
     for (place, byte, refusal) in wanted {
         assert_eq!(rt; refusal_with(place, byte), Some(refusal), "at {place}");
     }
+}
+
+#[test]
+fn a_cut_lsp_is_refused(rt: HostRuntime) {
+    is_refused(&rt, &FIRST_LSP[..60], PduError::Length);
+    is_refused(&rt, &FIRST_LSP[..7], PduError::Short);
+}
+
+#[test]
+fn a_checksum_of_0_is_refused_but_for_a_sequence_number_of_0(rt: HostRuntime) {
     let mut bytes = FIRST_LSP;
     bytes[24] = 0;
     bytes[25] = 0;
-    assert_eq!(rt; decode(&bytes), Err(PduError::Sum));
+    is_refused(&rt, &bytes, PduError::Sum);
     bytes[23] = 0;
     assert!(rt; decode(&bytes).is_ok());
+    // another type is refused before another length
     bytes[4] = 0x19;
     bytes[9] = 0xff;
-    assert_eq!(rt; decode(&bytes), Err(PduError::Kind));
+    is_refused(&rt, &bytes, PduError::Kind);
+}
+
+/// Appends a padding TLV with so many bytes of 0.
+fn pad(bytes: &mut Vec<u8>, len: u8) -> Result<(), AllocError> {
+    bytes.extend_from_slice(&[8, len])?;
+    bytes.extend_from_slice(&[0; 255][..usize::from(len)])
 }
 
 #[test]
 fn a_padded_hello_of_another_implementation(rt: HostRuntime) -> Result<(), Fail> {
     let mut bytes = Vec::new(rt.alloc());
     bytes.extend_from_slice(&FOREIGN_HELLO)?;
-    for _ in 0..5 {
-        bytes.extend_from_slice(&[8, 255])?;
-        bytes.extend_from_slice(&[0; 255])?;
+    for len in [255, 255, 255, 255, 255, 157] {
+        pad(&mut bytes, len)?;
     }
-    bytes.extend_from_slice(&[8, 157])?;
-    bytes.extend_from_slice(&[0; 157])?;
     assert_eq!(rt; bytes.len(), 1497);
     let hello = Hello {
         circuit_type: 3,
@@ -274,7 +286,7 @@ fn a_padded_hello_of_another_implementation(rt: HostRuntime) -> Result<(), Fail>
         circuit: 1,
         tlvs: &bytes[20..],
     };
-    assert_eq!(rt; decode(&bytes), Ok(Pdu::Hello(hello)));
+    is_read(&rt, &bytes, Pdu::Hello(hello));
     Ok(())
 }
 
@@ -292,7 +304,7 @@ fn an_lsp_of_another_implementation(rt: HostRuntime) {
         flags: 3,
         tlvs: &FOREIGN_LSP[27..],
     };
-    assert_eq!(rt; decode(&FOREIGN_LSP), Ok(Pdu::Lsp(lsp)));
+    is_read(&rt, &FOREIGN_LSP, Pdu::Lsp(lsp));
 }
 
 #[test]
@@ -310,6 +322,6 @@ fn a_csnp_of_another_implementation(rt: HostRuntime) -> Result<(), Fail> {
     let mut frame = Vec::new(rt.alloc());
     frame.extend_from_slice(&FOREIGN_CSNP)?;
     frame.extend_from_slice(&[0xa5; 4])?;
-    assert_eq!(rt; decode(&frame), Ok(Pdu::Csnp(csnp)));
+    is_read(&rt, &frame, Pdu::Csnp(csnp));
     Ok(())
 }

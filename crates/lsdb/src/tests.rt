@@ -1,10 +1,10 @@
-ghost use Rattle.std.specs.Prelude.{◌≤◌, IfOk};
+ghost use Rattle.std.specs.Prelude.{◌≤◌};
 ghost use Rattle.lsdb.specs.Entry.{CanBeHeld};
 
 use crate::{Database, Held, PutError, Raised, Relation, Version, compare};
 use spb_types::{LspId, Mac, PortSet, Seq, SystemId};
 use std::alloc::{AllocError, Global};
-use std::test::Fail;
+use std::process::Abort;
 
 fn id(system: u16, number: u8) -> LspId {
     let [high, low] = system.to_be_bytes();
@@ -32,206 +32,236 @@ fn absent(alloc: Global, id: LspId) -> Held
     }
 }
 
-fn live(alloc: Global, id: LspId, lifetime: u16) -> Result<Held, AllocError>
+/// An LSP to be sent at port 2, with an acknowledgement at port 3.
+fn live(rt: &impl Abort, alloc: Global, id: LspId, lifetime: u16) -> Held
     requires { 1 ≤ lifetime }
-    ensures { IfOk result (λ h. CanBeHeld h.version h.lifetime h.body) }
+    ensures { CanBeHeld result.version result.lifetime result.body }
 {
-    let mut body = Vec::new(alloc);
-    body.push(1)?;
-    body.push(137)?;
-    Ok(Held {
+    Held {
         id,
         version: Version::Live { seq: 7, sum: 9 },
         lifetime,
-        body: Seq::from_vec(body),
+        body: Seq::from_vec(vec![in alloc; 1, 137].expect(rt, "out of memory")),
         srm: PortSet::none().with(2),
         ssn: PortSet::none().with(3),
-    })
+    }
+}
+
+fn put_absent(rt: &impl Abort, alloc: Global, db: &mut Database, id: LspId) {
+    assert_eq!(*rt; db.put(absent(alloc, id)), Ok(()));
+}
+
+fn put_live(rt: &impl Abort, alloc: Global, db: &mut Database, id: LspId, lifetime: u16)
+    requires { 1 ≤ lifetime }
+{
+    assert_eq!(*rt; db.put(live(rt, alloc, id, lifetime)), Ok(()));
+}
+
+/// What stands under an id: version, lifetime, SRM and SSN in hexadecimal digits, and the body.
+fn text_of(alloc: Global, db: &Database, id: LspId) -> Result<String, AllocError> {
+    match db.find(&id) {
+        None => format!(in alloc; "none"),
+        Some(held) => format!(in alloc;
+            "{:?} for {} srm {:x} ssn {:x} body {:?}",
+            held.version,
+            held.lifetime,
+            held.srm.bits,
+            held.ssn.bits,
+            held.body.as_slice()
+        ),
+    }
+}
+
+fn check(rt: &impl Abort, alloc: Global, db: &Database, id: LspId, expected: &str) {
+    let text = text_of(alloc, db, id).expect(rt, "out of memory");
+    assert_eq!(*rt; text.as_str(), expected);
+}
+
+fn check_place(rt: &impl Abort, db: &Database, place: usize, id: Option<LspId>) {
+    assert_eq!(*rt; db.at(place).map(|held| held.id), id);
+}
+
+fn check_held(rt: &impl Abort, db: &Database, id: LspId, held: bool) {
+    assert!(*rt; db.find(&id).is_some() == held);
+}
+
+fn check_version(rt: &impl Abort, db: &Database, id: LspId, version: Version) {
+    assert_eq!(*rt; db.version_at(&id), version);
+}
+
+fn check_len(rt: &impl Abort, db: &Database, len: usize) {
+    assert_eq!(*rt; db.len(), len);
+    assert!(*rt; db.is_empty() == (len == 0));
 }
 
 #[test]
-fn lsps_stand_in_order_of_id(rt: HostRuntime) -> Result<(), Fail> {
+fn lsps_stand_in_order_of_id(rt: HostRuntime) {
     let mut db = Database::new(rt.alloc());
-    assert!(rt; db.is_empty());
-    for (system, number) in [(2, 0), (1, 5), (3, 0), (1, 0), (2, 0)] {
-        db.put(absent(rt.alloc(), id(system, number)))?;
-    }
-    assert_eq!(rt; (db.len(), db.is_empty()), (4, false));
-    let mut ids = [id(0, 0); 4];
-    for place in 0..4 {
-        if let Some(held) = db.at(place) {
-            ids[place] = held.id;
-        }
-    }
-    assert_eq!(rt; ids, [id(1, 0), id(1, 5), id(2, 0), id(3, 0)]);
-    assert!(rt; db.at(4).is_none());
-    assert!(rt; db.find(&id(1, 5)).is_some());
-    assert!(rt; db.find(&id(1, 6)).is_none());
-    assert_eq!(rt; db.version_at(&id(1, 6)), Version::Absent);
-    Ok(())
+    check_len(&rt, &db, 0);
+    put_absent(&rt, rt.alloc(), &mut db, id(2, 0));
+    put_absent(&rt, rt.alloc(), &mut db, id(1, 5));
+    put_absent(&rt, rt.alloc(), &mut db, id(3, 0));
+    put_absent(&rt, rt.alloc(), &mut db, id(1, 0));
+    put_absent(&rt, rt.alloc(), &mut db, id(2, 0));
+    check_len(&rt, &db, 4);
+    check_place(&rt, &db, 0, Some(id(1, 0)));
+    check_place(&rt, &db, 1, Some(id(1, 5)));
+    check_place(&rt, &db, 2, Some(id(2, 0)));
+    check_place(&rt, &db, 3, Some(id(3, 0)));
+    check_place(&rt, &db, 4, None);
+    check_held(&rt, &db, id(1, 5), true);
+    check_held(&rt, &db, id(1, 6), false);
+    check_version(&rt, &db, id(1, 6), Version::Absent);
 }
 
 #[test]
-fn an_lsp_is_put_over_the_one_under_its_id(rt: HostRuntime) -> Result<(), Fail> {
+fn an_lsp_is_put_over_the_one_under_its_id(rt: HostRuntime) {
     let mut db = Database::new(rt.alloc());
-    db.put(absent(rt.alloc(), id(1, 0)))?;
-    db.put(live(rt.alloc(), id(1, 0), 30)?)?;
-    assert_eq!(rt; db.len(), 1);
-    match db.find(&id(1, 0)) {
-        None => assert!(rt; false),
-        Some(held) => {
-            let row = held.row();
-            assert_eq!(rt; row.version, Version::Live { seq: 7, sum: 9 });
-            assert_eq!(rt; (row.id, row.lifetime), (id(1, 0), 30));
-            assert_eq!(rt; (row.srm.bits, row.ssn.bits), (0b10, 0b100));
-            assert_eq!(rt; held.body.as_slice(), [1, 137].as_slice());
-        }
-    }
-    Ok(())
+    put_absent(&rt, rt.alloc(), &mut db, id(1, 0));
+    put_live(&rt, rt.alloc(), &mut db, id(1, 0), 30);
+    check_len(&rt, &db, 1);
+    let live = "Live { seq: 7, sum: 9 } for 30 srm 2 ssn 4 body [1, 137]";
+    check(&rt, rt.alloc(), &db, id(1, 0), live);
 }
 
 #[test]
-fn the_2049th_id_is_full(rt: HostRuntime) -> Result<(), Fail> {
+fn the_2049th_id_is_full(rt: HostRuntime) {
     let mut db = Database::new(rt.alloc());
     for system in 0..2048 {
-        db.put(absent(rt.alloc(), id(2047 - system, 0)))?;
+        put_absent(&rt, rt.alloc(), &mut db, id(2047 - system, 0));
     }
     let more = db.put(absent(rt.alloc(), id(2048, 0)));
     assert_eq!(rt; more, Err(PutError::Full));
-    let again = db.put(live(rt.alloc(), id(9, 0), 1)?);
-    assert_eq!(rt; again, Ok(()));
-    assert_eq!(rt; db.len(), 2048);
-    Ok(())
+    put_live(&rt, rt.alloc(), &mut db, id(9, 0), 1);
+    check_len(&rt, &db, 2048);
+}
+
+const UP: PortSet = PortSet { bits: 0b1000 };
+
+fn check_told(rt: &impl Abort, db: &Database, flags: bool) {
+    assert!(*rt; db.has_flags() == flags);
+}
+
+/// A second passes, and there are flags or none.
+fn age(rt: &impl Abort, db: &mut Database, up: PortSet, flags: bool) {
+    assert!(*rt; db.age_one(up) == flags);
+}
+
+/// There are flags or none, which a second doesn't change.
+fn check_told_twice(rt: &impl Abort, db: &mut Database, flags: bool) {
+    check_told(rt, db, flags);
+    age(rt, db, UP, flags);
 }
 
 #[test]
-fn the_last_second_makes_an_lsp_dead(rt: HostRuntime) -> Result<(), Fail> {
+fn the_last_second_makes_an_lsp_dead(rt: HostRuntime) {
     let mut db = Database::new(rt.alloc());
-    db.put(live(rt.alloc(), id(1, 0), 2)?)?;
+    put_live(&rt, rt.alloc(), &mut db, id(1, 0), 2);
     let up = PortSet::none().with(1).with(4);
-    assert!(rt; db.age_one(up));
-    match db.find(&id(1, 0)) {
-        None => assert!(rt; false),
-        Some(held) => {
-            let row = held.row();
-            assert_eq!(rt; row.version, Version::Live { seq: 7, sum: 9 });
-            assert_eq!(rt;
-                (row.lifetime, row.srm.bits, row.ssn.bits),
-                (1, 0b10, 0b100)
-            );
-        }
-    }
-    assert!(rt; db.age_one(up));
-    assert!(rt; db.age_one(PortSet::none()));
-    match db.find(&id(1, 0)) {
-        None => assert!(rt; false),
-        Some(held) => {
-            let row = held.row();
-            assert_eq!(rt; row.version, Version::Dead { seq: 7 });
-            assert_eq!(rt;
-                (row.lifetime, row.srm.bits, row.ssn.bits),
-                (0, 0b1001, 0b100)
-            );
-            assert_eq!(rt; held.body.as_slice(), [1].as_slice());
-        }
-    }
-    Ok(())
+    age(&rt, &mut db, up, true);
+    let live = "Live { seq: 7, sum: 9 } for 1 srm 2 ssn 4 body [1, 137]";
+    check(&rt, rt.alloc(), &db, id(1, 0), live);
+    age(&rt, &mut db, up, true);
+    age(&rt, &mut db, PortSet::none(), true);
+    let dead = "Dead { seq: 7 } for 0 srm 9 ssn 4 body [1]";
+    check(&rt, rt.alloc(), &db, id(1, 0), dead);
 }
 
 #[test]
-fn flags_are_told_with_ageing(rt: HostRuntime) -> Result<(), Fail> {
+fn flags_are_told_with_ageing(rt: HostRuntime) {
     let mut db = Database::new(rt.alloc());
-    let up = PortSet::none().with(4);
-    assert_eq!(rt; (db.has_flags(), db.age_one(up)), (false, false));
-    db.put(absent(rt.alloc(), id(2, 0)))?;
-    db.put(live(rt.alloc(), id(1, 0), 9)?)?;
-    assert_eq!(rt; (db.has_flags(), db.age_one(up)), (true, true));
+    check_told_twice(&rt, &mut db, false);
+    put_absent(&rt, rt.alloc(), &mut db, id(2, 0));
+    put_live(&rt, rt.alloc(), &mut db, id(1, 0), 9);
+    check_told_twice(&rt, &mut db, true);
     db.set_flags(&id(1, 0), PortSet::none(), PortSet::none().with(32));
-    assert_eq!(rt; (db.has_flags(), db.age_one(up)), (true, true));
+    check_told_twice(&rt, &mut db, true);
     db.set_ssn(&id(1, 0), 32, false);
-    assert_eq!(rt; (db.has_flags(), db.age_one(up)), (false, false));
+    check_told_twice(&rt, &mut db, false);
     db.set_srm(&id(2, 0), 1, true);
-    assert_eq!(rt; (db.has_flags(), db.age_one(up)), (true, true));
+    check_told_twice(&rt, &mut db, true);
     db.clear_port(1);
     for _ in 0..4 {
-        assert!(rt; !db.age_one(up));
+        age(&rt, &mut db, UP, false);
     }
-    assert!(rt; !db.has_flags());
-    assert!(rt; db.age_one(up));
-    assert!(rt; db.has_flags());
-    Ok(())
+    check_told(&rt, &db, false);
+    age(&rt, &mut db, UP, true);
+    check_told(&rt, &db, true);
+}
+
+/// Raises an LSP to a newer version, which gives this.
+fn raise(
+    rt: &impl Abort,
+    db: &mut Database,
+    id: LspId,
+    to: (Version, u16, Vec<u8>),
+    outcome: Raised,
+)
+    requires { CanBeHeld to.0 to.1 to.2.items }
+{
+    let (version, lifetime, body) = to;
+    match compare(version, db.version_at(&id)) {
+        Relation::Newer => {
+            assert_eq!(*rt; db.raise(&id, version, lifetime, body), outcome);
+        }
+        other => assert!(*rt; false, "{other:?}"),
+    }
 }
 
 #[test]
-fn a_newer_version_takes_the_place_of_an_older(rt: HostRuntime) -> Result<(), Fail> {
+fn a_newer_version_takes_the_place_of_an_older(rt: HostRuntime) {
     let mut db = Database::new(rt.alloc());
-    let own = id(1, 0);
-    db.put(live(rt.alloc(), own, 2)?)?;
+    put_live(&rt, rt.alloc(), &mut db, id(1, 0), 2);
     let to = Version::Live { seq: 8, sum: 5 };
-    let mut body = Vec::new(rt.alloc());
-    body.push(3)?;
-    body.push(4)?;
-    let before = db.version_at(&own);
-    if let Relation::Newer = compare(to, before) {
-        assert_eq!(rt; db.raise(&own, to, 700, body), Raised::Raised);
-    }
-    let held = db.find(&own).ok_or("not held")?;
-    assert_eq!(rt; held.row().version, to);
-    assert_eq!(rt; held.row().lifetime, 700);
-    assert_eq!(rt; held.body.len(), 2);
-    Ok(())
+    let body = vec![in rt.alloc(); 3, 4].expect(&rt, "out of memory");
+    raise(&rt, &mut db, id(1, 0), (to, 700, body), Raised::Raised);
+    let raised = "Live { seq: 8, sum: 5 } for 700 srm 2 ssn 4 body [3, 4]";
+    check(&rt, rt.alloc(), &db, id(1, 0), raised);
 }
 
 #[test]
-fn an_id_that_isnt_held_is_not_raised(rt: HostRuntime) -> Result<(), Fail> {
+fn an_id_that_isnt_held_is_not_raised(rt: HostRuntime) {
     let mut db = Database::new(rt.alloc());
-    db.put(live(rt.alloc(), id(1, 0), 2)?)?;
-    let other = id(2, 0);
+    put_live(&rt, rt.alloc(), &mut db, id(1, 0), 2);
     let to = Version::Dead { seq: 8 };
-    let body = vec![in rt.alloc(); 1]?;
-    let Relation::Newer = compare(to, db.version_at(&other)) else {
-        return Err("not newer".into());
-    };
-    assert_eq!(rt; db.raise(&other, to, 0, body), Raised::NotHeld);
-    assert_eq!(rt; db.len(), 1);
-    assert!(rt; db.find(&other).is_none());
-    Ok(())
+    let body = vec![in rt.alloc(); 1].expect(&rt, "out of memory");
+    raise(&rt, &mut db, id(2, 0), (to, 0, body), Raised::NotHeld);
+    check_len(&rt, &db, 1);
+    check_held(&rt, &db, id(2, 0), false);
 }
 
 #[test]
-fn flags_are_set_and_cleared(rt: HostRuntime) -> Result<(), Fail> {
+fn flags_are_set_and_cleared(rt: HostRuntime) {
     let mut db = Database::new(rt.alloc());
     let own = id(1, 0);
-    db.put(live(rt.alloc(), own, 2)?)?;
+    put_live(&rt, rt.alloc(), &mut db, own, 2);
     db.set_srm(&own, 32, true);
     db.set_ssn(&own, 2, true);
     db.set_ssn(&own, 3, false);
     db.set_srm(&id(9, 0), 1, true);
-    let flags = db.find(&own).map(|held| (held.srm.bits, held.ssn.bits));
-    assert_eq!(rt; flags, Some((0x8000_0002, 0b10)));
+    let flags = "Live { seq: 7, sum: 9 } for 2 srm 80000002 ssn 2 body [1, 137]";
+    check(&rt, rt.alloc(), &db, own, flags);
     db.clear_port(2);
-    let flags = db.find(&own).map(|held| (held.srm.bits, held.ssn.bits));
-    assert_eq!(rt; flags, Some((0x8000_0000, 0)));
+    let flags = "Live { seq: 7, sum: 9 } for 2 srm 80000000 ssn 0 body [1, 137]";
+    check(&rt, rt.alloc(), &db, own, flags);
     db.set_flags(&own, PortSet::none(), PortSet::none().with(5));
-    let flags = db.find(&own).map(|held| (held.srm.bits, held.ssn.bits));
-    assert_eq!(rt; flags, Some((0, 0b1_0000)));
+    let flags = "Live { seq: 7, sum: 9 } for 2 srm 0 ssn 10 body [1, 137]";
+    check(&rt, rt.alloc(), &db, own, flags);
     if let Version::Live { seq, sum: _ } = db.version_at(&own) {
-        db.bury(&own, seq, PortSet::none().with(1));
+        db.purge(&own, seq, PortSet::none().with(1));
     }
-    let flags = db.find(&own).map(|held| (held.srm.bits, held.ssn.bits));
-    assert_eq!(rt; flags, Some((1, 0)));
-    assert_eq!(rt; db.version_at(&own), Version::Dead { seq: 7 });
-    Ok(())
+    let dead = "Dead { seq: 7 } for 0 srm 1 ssn 0 body [1]";
+    check(&rt, rt.alloc(), &db, own, dead);
+    check_version(&rt, &db, own, Version::Dead { seq: 7 });
+}
+
+fn check_text(rt: &impl Abort, alloc: Global, error: PutError, expected: &str) {
+    let text = format!(in alloc; "{error}").expect(rt, "out of memory");
+    assert_eq!(*rt; text.as_str(), expected);
 }
 
 #[test]
-fn errors_say_what_was_missing(rt: HostRuntime) -> Result<(), Fail> {
-    for (error, expected) in [
-        (PutError::Full, "the database is full"),
-        (PutError::NoMemory, "out of memory"),
-    ] {
-        let text = format!(in rt.alloc(); "{error}")?;
-        assert_eq!(rt; text.as_str(), expected);
-    }
-    Ok(())
+fn errors_say_what_was_missing(rt: HostRuntime) {
+    check_text(&rt, rt.alloc(), PutError::Full, "the database is full");
+    check_text(&rt, rt.alloc(), PutError::NoMemory, "out of memory");
 }

@@ -1,6 +1,6 @@
 use super::*;
 use std::alloc::Global;
-use std::test::Fail;
+use std::process::Abort;
 
 // Lines and the commands that they spell: each form in its shortest spelling, and then with tabs, more blanks, leading
 // zeros, digits in upper case and the greatest values.
@@ -209,116 +209,144 @@ const REFUSED_WORDS: &str = "\
 1|tickA
 8|tick A A";
 
-// Lines that are passed over.
-const PASSED_OVER: [&str; 6] = ["", " ", "\t \t", "#", "# tick A", "#tick A\r"];
+// Lines that are ignored.
+const IGNORED: [&str; 6] = ["", " ", "\t \t", "#", "# tick A", "#tick A\r"];
 
-// A carriage return that ends a line is part of its last word.
-const RETURNS: [(&str, usize); 4] = [("state\r", 1), ("tick A\r", 6), ("round 1\r", 7), ("\r", 1)];
+/// What a line gives, under no contract: the tests ask for nothing but what it is.
+fn parsed(alloc: Global, line: &[u8]) -> Result<Option<Command>, LineError> {
+    parse_line(alloc, line)
+}
 
-// Lines and their first words.
-const FIRST_WORDS: [(&str, usize, Option<Keyword>); 6] = [
-    ("tick", 1, Some(Keyword::Tick)),
-    ("  vid x", 3, Some(Keyword::Vid)),
-    ("\twiring A", 2, Some(Keyword::Wiring)),
-    ("drops A", 1, None),
-    (" # tick", 2, None),
-    ("tick\r", 1, None),
-];
-
-fn refused_at(alloc: Global, line: &str) -> Option<usize> {
-    match parse_line(alloc, line.as_bytes()) {
-        Err(LineError::Words(column)) => Some(column),
-        _ => None,
-    }
+/// The row is a line and the command that it spells.
+fn check_spelled(rt: &impl Abort, alloc: Global, row: &str) {
+    let (line, _) = row.split_once('|').expect(rt, "a row");
+    let command = parsed(alloc, line.as_bytes()).expect(rt, line);
+    let command = command.expect(rt, line);
+    let found = format!(in alloc; "{line}|{command:?}").expect(rt, "out of memory");
+    assert_eq!(*rt; found.as_str(), row);
 }
 
 #[test]
-fn spelled_lines_give_their_commands(rt: HostRuntime) -> Result<(), Fail> {
+fn spelled_lines_give_their_commands(rt: HostRuntime) {
     for row in SPELLED.lines() {
-        let (line, expected) = row.split_once('|').ok_or("a row")?;
-        let command = parse_line(rt.alloc(), line.as_bytes())?.ok_or("a command")?;
-        let text = format!(in rt.alloc(); "{command:?}")?;
-        assert_eq!(rt; text.as_str(), expected, "at {line:?}");
+        check_spelled(&rt, rt.alloc(), row);
     }
-    Ok(())
+}
+
+/// The row is a column and a line that is refused there; column 0 stands for a line that is not.
+fn check_refused(rt: &impl Abort, alloc: Global, row: &str) {
+    let (_, line) = row.split_once('|').expect(rt, "a row");
+    let column = match parsed(alloc, line.as_bytes()) {
+        Err(LineError::Words(column)) => column,
+        _ => 0,
+    };
+    let found = format!(in alloc; "{column}|{line}").expect(rt, "out of memory");
+    assert_eq!(*rt; found.as_str(), row);
 }
 
 #[test]
-fn other_lines_are_refused_at_their_column(rt: HostRuntime) -> Result<(), Fail> {
-    for table in [REFUSED_FORMS, REFUSED_WORDS] {
-        for row in table.lines() {
-            let (column, line) = row.split_once('|').ok_or("a row")?;
-            let column = column.parse::<usize>()?;
-            assert_eq!(rt; refused_at(rt.alloc(), line), Some(column), "at {line:?}");
-        }
+fn forms_that_do_not_fit_are_refused_at_their_column(rt: HostRuntime) {
+    for row in REFUSED_FORMS.lines() {
+        check_refused(&rt, rt.alloc(), row);
     }
-    Ok(())
 }
 
+#[test]
+fn words_that_do_not_fit_are_refused_at_their_column(rt: HostRuntime) {
+    for row in REFUSED_WORDS.lines() {
+        check_refused(&rt, rt.alloc(), row);
+    }
+}
+
+/// A carriage return that ends a line is part of its last word.
 #[test]
 fn a_return_ends_no_word(rt: HostRuntime) {
-    for (line, column) in RETURNS {
-        assert_eq!(rt; refused_at(rt.alloc(), line), Some(column), "at {line:?}");
-    }
+    check_refused(&rt, rt.alloc(), "1|state\r");
+    check_refused(&rt, rt.alloc(), "6|tick A\r");
+    check_refused(&rt, rt.alloc(), "7|round 1\r");
+    check_refused(&rt, rt.alloc(), "1|\r");
+}
+
+fn check_ignored(rt: &impl Abort, alloc: Global, line: &str) {
+    let is_ignored = matches!(parsed(alloc, line.as_bytes()), Ok(None));
+    assert!(*rt;
+        is_ignored && head(line.as_bytes()).is_none(),
+        "at {line:?}"
+    );
 }
 
 #[test]
-fn blank_lines_and_comments_are_passed_over(rt: HostRuntime) -> Result<(), Fail> {
-    for line in PASSED_OVER {
-        assert!(rt;
-            parse_line(rt.alloc(), line.as_bytes())?.is_none(),
-            "at {line:?}"
-        );
-        assert_eq!(rt; head(line.as_bytes()), None, "at {line:?}");
+fn blank_lines_and_comments_are_ignored(rt: HostRuntime) {
+    for line in IGNORED {
+        check_ignored(&rt, rt.alloc(), line);
     }
-    Ok(())
 }
 
 fn is_too_long(alloc: Global, line: &[u8]) -> bool {
-    parse_line(alloc, line).err() == Some(LineError::Words(8193)) && head(line).is_none()
+    parsed(alloc, line).err() == Some(LineError::Words(8193)) && head(line).is_none()
+}
+
+/// That 8,192 of this byte are a line, and not one more.
+fn check_longest(rt: &impl Abort, alloc: Global, byte: u8) {
+    let mut line = vec![in alloc; byte; 8192].expect(rt, "out of memory");
+    assert!(*rt; !is_too_long(alloc, line.as_slice()));
+    line.push(byte).expect(rt, "out of memory");
+    assert!(*rt; is_too_long(alloc, line.as_slice()));
 }
 
 #[test]
-fn a_line_has_at_most_8192_bytes(rt: HostRuntime) -> Result<(), Fail> {
-    for byte in *b" #x" {
-        let mut line = vec![in rt.alloc(); byte; 8192]?;
-        assert!(rt; !is_too_long(rt.alloc(), line.as_slice()));
-        line.push(byte)?;
-        assert!(rt; is_too_long(rt.alloc(), line.as_slice()));
-    }
-    let mut line = vec![in rt.alloc(); b' '; 8186]?;
-    line.extend_from_slice(b"tick A")?;
-    let tick = parse_line(rt.alloc(), line.as_slice())?;
-    assert!(rt; matches!(tick, Some(Command::Tick(_))));
-    line.push(b'\r')?;
+fn a_line_has_at_most_8192_bytes(rt: HostRuntime) {
+    check_longest(&rt, rt.alloc(), b' ');
+    check_longest(&rt, rt.alloc(), b'#');
+    check_longest(&rt, rt.alloc(), b'x');
+}
+
+#[test]
+fn the_longest_line_gives_its_command(rt: HostRuntime) {
+    let mut line = vec![in rt.alloc(); b' '; 8186].expect(&rt, "out of memory");
+    line.extend_from_slice(b"tick A")
+        .expect(&rt, "out of memory");
+    let tick = parsed(rt.alloc(), line.as_slice());
+    assert!(rt; matches!(tick, Ok(Some(Command::Tick(_)))));
+    line.push(b'\r').expect(&rt, "out of memory");
     assert!(rt; is_too_long(rt.alloc(), line.as_slice()));
-    Ok(())
+}
+
+fn check_first(rt: &impl Abort, line: &str, column: usize, keyword: Option<Keyword>) {
+    let first = FirstWord { column, keyword };
+    assert_eq!(*rt; head(line.as_bytes()), Some(first), "at {line:?}");
 }
 
 #[test]
 fn the_first_word_tells_the_form(rt: HostRuntime) {
-    for (line, column, keyword) in FIRST_WORDS {
-        let first = FirstWord { column, keyword };
-        assert_eq!(rt; head(line.as_bytes()), Some(first), "at {line:?}");
-    }
+    check_first(&rt, "tick", 1, Some(Keyword::Tick));
+    check_first(&rt, "  vid x", 3, Some(Keyword::Vid));
+    check_first(&rt, "\twiring A", 2, Some(Keyword::Wiring));
+    check_first(&rt, "drops A", 1, None);
+    check_first(&rt, " # tick", 2, None);
+    check_first(&rt, "tick\r", 1, None);
+}
+
+fn check_keyword(rt: &impl Abort, keyword: Keyword, text: &str) {
+    assert!(*rt; Keyword::read(text.as_bytes()) == Some(keyword), "{text}");
+    assert_eq!(*rt; keyword.text(), text.as_bytes());
 }
 
 #[test]
 fn a_keyword_is_read_from_its_text(rt: HostRuntime) {
     for (keyword, text) in KEYWORDS {
-        assert_eq!(rt; Keyword::read(text.as_bytes()), Some(keyword));
-        assert_eq!(rt; keyword.text(), text.as_bytes());
+        check_keyword(&rt, keyword, text);
     }
 }
 
+fn check_error(rt: &impl Abort, alloc: Global, error: LineError, expected: &str) {
+    let text = format!(in alloc; "{error}").expect(rt, "out of memory");
+    assert_eq!(*rt; text.as_str(), expected);
+}
+
 #[test]
-fn errors_name_the_column(rt: HostRuntime) -> Result<(), Fail> {
-    for (error, expected) in [
-        (LineError::Words(17), "no such line, from column 17 on"),
-        (LineError::NoMemory, "out of memory"),
-    ] {
-        let text = format!(in rt.alloc(); "{error}")?;
-        assert_eq!(rt; text.as_str(), expected);
-    }
-    Ok(())
+fn errors_name_the_column(rt: HostRuntime) {
+    let text = "no such line, from column 17 on";
+    check_error(&rt, rt.alloc(), LineError::Words(17), text);
+    check_error(&rt, rt.alloc(), LineError::NoMemory, "out of memory");
 }

@@ -1,6 +1,6 @@
-//! Expected flags are the standard's, but for this project's profile of dead LSPs: an id that isn't held is asked for where
-//! a dead LSP of it is claimed too, and a dead LSP that a CSNP doesn't list is sent. There are three Up ports, of which the
-//! second hears. Checksums and PDUs were made by hand.
+//! Expected flags are the standard's, but for this project's profile of dead LSPs: an id that isn't held is asked for
+//! where a dead LSP of it is claimed too, and a dead LSP that a CSNP doesn't list is sent. There are three Up ports, of
+//! which the second hears. Checksums and PDUs were made by hand.
 ghost use Rattle.std.specs.Prelude.{◌≡◌, ◌≤◌, length, IfOk};
 ghost use Rattle.lsdb.specs.Entry.{CanBeHeld};
 
@@ -11,6 +11,7 @@ use lsdb::{Database, Held, Version};
 use spb_tlvs::{SnpEntry, TlvError};
 use spb_types::{LspId, Mac, PortSet, Seq, SystemId};
 use std::alloc::{AllocError, Global};
+use std::process::Abort;
 use std::test::Fail;
 
 /// The body of bridge 1 with a neighbour at port 1, metric 10.
@@ -261,6 +262,14 @@ fn filled(alloc: Global, count: u16) -> Result<Database, Fail> {
     Ok(db)
 }
 
+/// Asserts at which ports the LSPs of bridges are to be sent.
+fn check_srm(rt: &impl Abort, db: &Database, expected: &[(u16, u32)]) {
+    for (system, srm) in expected {
+        let found = db.find(&lsp_id(*system, 0)).map(|h| h.srm.bits);
+        assert_eq!(rt; found, Some(*srm), "bridge {system}");
+    }
+}
+
 #[test]
 fn entries_without_a_place_are_counted(rt: HostRuntime) -> Result<(), Fail> {
     let alloc = rt.alloc();
@@ -277,15 +286,12 @@ fn entries_without_a_place_are_counted(rt: HostRuntime) -> Result<(), Fail> {
     let full = hear_psnp(alloc, &mut db, up, 2, &entries, &mut own)?;
     assert_eq!(rt; full, 2);
     assert_eq!(rt; db.len(), 2048);
-    assert_eq!(rt; db.find(&lsp_id(7, 0)).map(|h| h.srm.bits), Some(0b010));
+    check_srm(&rt, &db, &[(7, 0b010), (8, 0)]);
     let (start, end) = (lsp_id(8, 0), lsp_id(9, 0));
     let full = hear_csnp(alloc, &mut db, up, 2, &start, &end, &entries, &mut again)?;
     assert_eq!(rt; full, 2);
     assert_eq!(rt; db.len(), 2048);
-    for (system, srm) in [(8, 0b010), (9, 0b010), (10, 0)] {
-        let flags = db.find(&lsp_id(system, 0)).map(|h| h.srm.bits);
-        assert_eq!(rt; flags, Some(srm), "bridge {system}");
-    }
+    check_srm(&rt, &db, &[(7, 0b010), (8, 0b010), (9, 0b010), (10, 0)]);
     Ok(())
 }
 
@@ -313,10 +319,11 @@ fn a_csnp_is_answered_with_what_its_sender_lacks(rt: HostRuntime) -> Result<(), 
     let full = hear_csnp(alloc, &mut db, up, 2, &start, &end, &entries, &mut own)?;
     assert_eq!(rt; full, 0);
     // 2 lies before the range and 7 behind it; 4 is named, and 5 is absent.
-    for (system, srm) in [(2, 0), (3, 0b010), (4, 0), (5, 0), (6, 0b010), (7, 0)] {
-        let flags = db.find(&lsp_id(system, 0)).map(|h| h.srm.bits);
-        assert_eq!(rt; flags, Some(srm), "bridge {system}");
-    }
+    check_srm(
+        &rt,
+        &db,
+        &[(2, 0), (3, 0b010), (4, 0), (5, 0), (6, 0b010), (7, 0)],
+    );
     Ok(())
 }
 
@@ -358,52 +365,57 @@ fn said(alloc: Global, pdu: &[u8]) -> Result<(SystemId, LspId, LspId, Vec<SnpEnt
     Ok((source, start, end, entries_of_snp(alloc, tlvs)?))
 }
 
+/// Asserts that entries name bridges in order from this number on, and says the number behind the last.
+fn check_entries(rt: &impl Abort, entries: &[SnpEntry], from: u16) -> u16 {
+    let mut system = from;
+    for entry in entries {
+        assert_eq!(rt; entry.id, lsp_id(system, 0));
+        system = system.wrapping_add(1);
+    }
+    system
+}
+
+/// The length, the range and the number of entries of each CSNP of bridge 1 about this many LSPs. Together they list
+/// each of them once, in order.
+fn chunks_of(
+    rt: &impl Abort,
+    alloc: Global,
+    count: u16,
+) -> Result<Vec<(usize, LspId, LspId, usize)>, Fail> {
+    let db = filled(alloc, count)?;
+    let mut chunks = Vec::new(alloc);
+    let mut system = 1;
+    for pdu in &csnps(alloc, &db, bridge(1))? {
+        let (source, start, end, entries) = said(alloc, pdu)?;
+        assert_eq!(rt; source, bridge(1));
+        system = check_entries(rt, &entries, system);
+        chunks.push((pdu.len(), start, end, entries.len()))?;
+    }
+    assert_eq!(rt; system, count.wrapping_add(1));
+    Ok(chunks)
+}
+
 #[test]
 fn csnps_list_90_lsps_each(rt: HostRuntime) -> Result<(), Fail> {
-    let alloc = rt.alloc();
-    let me = bridge(1);
     let (first, last) = (ids::FIRST, ids::LAST);
     let (end, next) = (lsp_id(90, 0), lsp_id(90, 1));
     let (second_end, third) = (lsp_id(180, 0), lsp_id(180, 1));
-    for (count, pages, want) in [
-        (0, 1, [Some((33, (me, first, last, 0))), None, None]),
-        (1, 1, [Some((51, (me, first, last, 1))), None, None]),
-        (90, 1, [Some((1485, (me, first, last, 90))), None, None]),
-        (
-            91,
-            2,
-            [
-                Some((1485, (me, first, end, 90))),
-                Some((51, (me, next, last, 1))),
-                None,
-            ],
-        ),
+    for (count, expected) in [
+        (0, [(33, first, last, 0)].as_slice()),
+        (1, &[(51, first, last, 1)]),
+        (90, &[(1485, first, last, 90)]),
+        (91, &[(1485, first, end, 90), (51, next, last, 1)]),
         (
             181,
-            3,
-            [
-                Some((1485, (me, first, end, 90))),
-                Some((1485, (me, next, second_end, 90))),
-                Some((51, (me, third, last, 1))),
+            &[
+                (1485, first, end, 90),
+                (1485, next, second_end, 90),
+                (51, third, last, 1),
             ],
         ),
     ] {
-        let db = filled(alloc, count)?;
-        let pdus = csnps(alloc, &db, me)?;
-        let mut got = [None, None, None];
-        let mut system: u16 = 0;
-        for (place, pdu) in pdus.iter().enumerate() {
-            let (source, start, end, entries) = said(alloc, pdu)?;
-            for entry in &entries {
-                system = system.wrapping_add(1);
-                assert_eq!(rt; entry.id, lsp_id(system, 0));
-            }
-            if place < 3 {
-                got[place] = Some((pdu.len(), (source, start, end, entries.len())));
-            }
-        }
-        assert_eq!(rt; (pdus.len(), got), (pages, want));
-        assert_eq!(rt; system, count);
+        let found = chunks_of(&rt, rt.alloc(), count)?;
+        assert_eq!(rt; found.as_slice(), expected);
     }
     Ok(())
 }

@@ -1,5 +1,9 @@
+ghost use Rattle.std.specs.Prelude.{◌≤◌};
+ghost use Rattle.spb_tlvs.specs.Capability.{IsCapability};
+
 use super::*;
 use spb_types::{Isid, LspId, Mac, Seq, SourceId, SystemId, Vid, VidPlan};
+use std::alloc::Global;
 use std::process::Abort;
 use std::test::Fail;
 
@@ -13,37 +17,62 @@ const B: SystemId = SystemId {
     },
 };
 
-const DOWN: ThreeWay = ThreeWay {
-    state: 2,
-    circuit: 1,
-    neighbour: None,
-};
+/// The bytes of these hexadecimal numbers.
+fn hex(alloc: Global, numbers: &str) -> Result<Vec<u8>, Fail> {
+    let mut bytes = Vec::new(alloc);
+    for number in numbers.split_whitespace() {
+        bytes.push(u8::from_str_radix(number, 16)?)?;
+    }
+    Ok(bytes)
+}
 
-const INITIALIZING: ThreeWay = ThreeWay {
-    state: 1,
-    circuit: 1,
-    neighbour: Some((B, 1)),
-};
+fn are_bytes(rt: &impl Abort, found: &[u8], want: &[u8]) {
+    assert_eq!(rt; found, want);
+}
+
+/// What stands behind the code and the length of a TLV.
+fn value_of(tlv: &[u8]) -> &[u8] {
+    tlv.get(2..).unwrap_or_default()
+}
+
+/// Asserts that the adjacency is written as this TLV, and read from its value.
+fn is_three_way(rt: &impl Abort, alloc: Global, item: &ThreeWay, tlv: &str) -> Result<(), Fail>
+    requires { item.now.state ≤ 2 }
+{
+    let tlv = hex(alloc, tlv)?;
+    let mut out = Vec::new(alloc);
+    write_three_way(&mut out, item)?;
+    are_bytes(rt, &out, &tlv);
+    three_way_is(rt, value_of(&tlv), Ok(*item));
+    Ok(())
+}
+
+/// Asserts what is read from the value of a TLV 240.
+fn three_way_is(rt: &impl Abort, value: &[u8], want: Result<ThreeWay, TlvError>) {
+    assert_eq!(rt; read_three_way(value), want);
+}
 
 #[test]
 fn three_way_adjacencies(rt: HostRuntime) -> Result<(), Fail> {
-    let mut out = Vec::new(rt.alloc());
-    write_three_way(&mut out, &DOWN)?;
-    assert_eq!(rt; out.as_slice(), [0xf0, 5, 2, 0, 0, 0, 1].as_slice());
-    let mut out = Vec::new(rt.alloc());
-    write_three_way(&mut out, &INITIALIZING)?;
-    assert_eq!(rt;
-        out.as_slice(),
-        [0xf0, 15, 1, 0, 0, 0, 1, 2, 0, 0, 0, 0, 2, 0, 0, 0, 1,].as_slice()
-    );
-    assert_eq!(rt; read_three_way(&[2, 0, 0, 0, 1])?, DOWN);
-    assert_eq!(rt;
-        read_three_way(&[1, 0, 0, 0, 1, 2, 0, 0, 0, 0, 2, 0, 0, 0, 1])?,
-        INITIALIZING
-    );
-    assert_eq!(rt; read_three_way(&[3, 0, 0, 0]), Err(TlvError::Cut));
-    assert_eq!(rt; read_three_way(&[3, 0, 0, 0, 1]), Err(TlvError::Range));
-    Ok(())
+    let down = ThreeWay {
+        state: 2,
+        circuit: 1,
+        neighbour: None,
+    };
+    is_three_way(&rt, rt.alloc(), &down, "f0 05 02 00 00 00 01")?;
+    let initializing = ThreeWay {
+        state: 1,
+        circuit: 1,
+        neighbour: Some((B, 1)),
+    };
+    let tlv = "f0 0f 01 00 00 00 01 02 00 00 00 00 02 00 00 00 01";
+    is_three_way(&rt, rt.alloc(), &initializing, tlv)
+}
+
+#[test]
+fn refusals_of_a_three_way_adjacency(rt: HostRuntime) {
+    three_way_is(&rt, &[3, 0, 0, 0], Err(TlvError::Cut));
+    three_way_is(&rt, &[3, 0, 0, 0, 1], Err(TlvError::Range));
 }
 
 #[test]
@@ -58,16 +87,40 @@ fn entries_of_an_snp(rt: HostRuntime) -> Result<(), Fail> {
         seq: 2,
         sum: 0xc2f3,
     };
-    let bytes = [
-        9, 16, 0x04, 0xae, 2, 0, 0, 0, 0, 2, 0, 0, 0, 0, 0, 2, 0xc2, 0xf3,
-    ];
+    let tlv = hex(
+        rt.alloc(),
+        "09 10 04 ae 02 00 00 00 00 02 00 00 00 00 00 02 c2 f3",
+    )?;
     let mut out = Vec::new(rt.alloc());
     write_entries(&mut out, &[entry])?;
-    assert_eq!(rt; out.as_slice(), bytes.as_slice());
-    let read = read_entries(rt.alloc(), &bytes[2..])?;
-    assert_eq!(rt; read.as_slice(), [entry].as_slice());
-    let cut = read_entries(rt.alloc(), &bytes[2..17]);
+    are_bytes(&rt, &out, &tlv);
+    are_entries(&rt, rt.alloc(), value_of(&tlv), &[entry])
+}
+
+/// Asserts that the value of a TLV 9 has these entries.
+fn are_entries(
+    rt: &impl Abort,
+    alloc: Global,
+    value: &[u8],
+    want: &[SnpEntry],
+) -> Result<(), Fail> {
+    let read = read_entries(alloc, value)?;
+    assert_eq!(rt; read.as_slice(), want);
+    Ok(())
+}
+
+#[test]
+fn an_entry_of_15_bytes_is_cut(rt: HostRuntime) -> Result<(), Fail> {
+    let value = hex(rt.alloc(), "04 ae 02 00 00 00 00 02 00 00 00 00 00 02 c2")?;
+    let cut = read_entries(rt.alloc(), &value);
     assert!(rt; matches!(cut, Err(TlvError::Cut)));
+    Ok(())
+}
+
+/// Asserts that the value of a TLV 22 names this neighbour alone.
+fn is_neighbour(rt: &impl Abort, alloc: Global, value: &[u8], want: Neighbour) -> Result<(), Fail> {
+    let read = read_neighbours(alloc, value)?;
+    assert_eq!(rt; read.as_slice(), [want].as_slice());
     Ok(())
 }
 
@@ -78,65 +131,105 @@ fn a_neighbour_with_its_metric(rt: HostRuntime) -> Result<(), Fail> {
         metric: 10,
         port: 1,
     };
-    let bytes = [
-        22, 19, 2, 0, 0, 0, 0, 2, 0, 0, 0, 10, 8, 29, 6, 0, 0, 10, 1, 0, 1,
-    ];
+    let tlv = hex(
+        rt.alloc(),
+        "16 13 02 00 00 00 00 02 00 00 00 0a 08 1d 06 00 00 0a 01 00 01",
+    )?;
     let mut out = Vec::new(rt.alloc());
     write_neighbours(&mut out, &[neighbour])?;
-    assert_eq!(rt; out.as_slice(), bytes.as_slice());
-    let read = read_neighbours(rt.alloc(), &bytes[2..])?;
-    assert_eq!(rt; read.as_slice(), [neighbour].as_slice());
-    Ok(())
+    are_bytes(&rt, &out, &tlv);
+    is_neighbour(&rt, rt.alloc(), value_of(&tlv), neighbour)
 }
 
 // As other implementations send them: an entry with another metric of its own, an unknown sub-TLV before a longer SPB
 // link metric, and a second one after it; an entry of a pseudonode; and one without an SPB link metric.
 #[test]
 fn neighbours_of_another_implementation(rt: HostRuntime) -> Result<(), Fail> {
-    let bytes = [
-        2, 0, 0, 0, 0, 2, 0, 0xff, 0xff, 0xfe, 21, 6, 1, 99, 29, 8, 1, 2, 3, 7, 0x12, 0x34, 0xaa,
-        0xbb, 29, 6, 0, 0, 1, 1, 0, 2, 2, 0, 0, 0, 0, 3, 1, 0, 0, 10, 8, 29, 6, 0, 0, 10, 1, 0, 1,
-        2, 0, 0, 0, 0, 4, 0, 0, 0, 10, 0,
-    ];
-    let read = read_neighbours(rt.alloc(), &bytes)?;
+    let value = hex(
+        rt.alloc(),
+        "02 00 00 00 00 02 00 ff ff fe 15 06 01 63 1d 08 01 02 03 07 12 34 aa bb 1d 06 00 00 01 01 00 02
+         02 00 00 00 00 03 01 00 00 0a 08 1d 06 00 00 0a 01 00 01
+         02 00 00 00 00 04 00 00 00 0a 00",
+    )?;
     let neighbour = Neighbour {
         system: B,
         metric: 0x010203,
         port: 0x1234,
     };
-    assert_eq!(rt; read.as_slice(), [neighbour].as_slice());
-    let short_metric = [2, 0, 0, 0, 0, 2, 1, 0, 0, 10, 7, 29, 5, 0, 0, 10, 1, 0];
-    let cut = read_neighbours(rt.alloc(), &short_metric);
+    is_neighbour(&rt, rt.alloc(), &value, neighbour)
+}
+
+#[test]
+fn a_neighbour_with_a_short_metric(rt: HostRuntime) -> Result<(), Fail> {
+    let value = hex(
+        rt.alloc(),
+        "02 00 00 00 00 02 01 00 00 0a 07 1d 05 00 00 0a 01 00",
+    )?;
+    let cut = read_neighbours(rt.alloc(), &value);
     assert!(rt; matches!(cut, Err(TlvError::Cut)));
     Ok(())
 }
 
-const INST: [u8; 33] = [
-    0x90, 0x1f, 0, 0, 1, 0x1b, 0, 0, 0, 0, 0, 0, 0, 0, 0, 0, 0, 0, 0x80, 0x00, 0, 0, 0, 1, 1, 0x40,
-    0x00, 0x80, 0xc2, 0x01, 0x00, 0xa0, 0x00,
-];
+/// Asserts that the capability is written as this TLV, and gives the only one that is read from its value.
+fn read_again(
+    rt: &impl Abort,
+    alloc: Global,
+    item: &Capability,
+    tlv: &str,
+) -> Result<Capability, Fail>
+    requires { IsCapability item.now }
+{
+    let tlv = hex(alloc, tlv)?;
+    let mut out = Vec::new(alloc);
+    write_capability(&mut out, item)?;
+    are_bytes(rt, &out, &tlv);
+    only_in(rt, read_capability(alloc, value_of(&tlv))?)
+}
 
-const SERVICES: [u8; 18] = [
-    0x90, 0x10, 0, 0, 3, 0x0c, 2, 0, 0, 0, 0, 1, 0, 10, 0xc0, 0, 0, 100,
-];
+fn only_in(rt: &impl Abort, mut read: Vec<Capability>) -> Result<Capability, Fail> {
+    assert_eq!(rt; read.len(), 1);
+    Ok(read.pop().ok_or("nothing")?)
+}
+
+/// The priority, the source id and the trees of an SPB-Inst.
+fn inst_in(read: &Capability) -> Option<(u16, u32, &[VidPlan])> {
+    match read {
+        Capability::Inst {
+            priority,
+            source,
+            trees,
+        } => Some((*priority, source.value, trees.as_slice())),
+        Capability::Services { .. } => None,
+    }
+}
+
+/// The address, the base VID and the services of an SPBM-SI.
+fn services_in(read: &Capability) -> Option<(Mac, u16, &[Service])> {
+    match read {
+        Capability::Services { mac, vid, isids } => Some((*mac, vid.value, isids.as_slice())),
+        Capability::Inst { .. } => None,
+    }
+}
+
+fn is_inst(rt: &impl Abort, read: &Capability, want: (u16, u32, &[VidPlan])) {
+    assert_eq!(rt; inst_in(read), Some(want));
+}
+
+fn is_services(rt: &impl Abort, read: &Capability, want: (Mac, u16, &[Service])) {
+    assert_eq!(rt; services_in(read), Some(want));
+}
 
 // The TLV of a bridge with no base VID, as it stands in its first LSP.
 #[test]
 fn an_instance_without_trees(rt: HostRuntime) -> Result<(), Fail> {
-    let bytes = [
-        0x90, 0x17, 0, 0, 1, 0x13, 0, 0, 0, 0, 0, 0, 0, 0, 0, 0, 0, 0, 0x80, 0x00, 0, 0, 0, 1, 0,
-    ];
-    let mut out = Vec::new(rt.alloc());
     let item = Capability::Inst {
         priority: 32768,
         source: SourceId { value: 1 },
         trees: Seq::new(rt.alloc()),
     };
-    write_capability(&mut out, &item)?;
-    assert_eq!(rt; out.as_slice(), bytes.as_slice());
-    let read = read_capability(rt.alloc(), &bytes[2..])?;
-    assert_eq!(rt; read.len(), 1);
-    is_inst(&rt, &read[0], 32768, 1, &[]);
+    let tlv = "90 17 00 00 01 13 00 00 00 00 00 00 00 00 00 00 00 00 80 00 00 00 00 01 00";
+    let read = read_again(&rt, rt.alloc(), &item, tlv)?;
+    is_inst(&rt, &read, (32768, 1, &[]));
     Ok(())
 }
 
@@ -146,41 +239,16 @@ fn an_instance_and_its_tree(rt: HostRuntime) -> Result<(), Fail> {
         vid: Vid { value: 10 },
         ect: 1,
     };
-    let mut plans = Vec::new(rt.alloc());
-    plans.push(plan)?;
-    let mut out = Vec::new(rt.alloc());
     let item = Capability::Inst {
         priority: 32768,
         source: SourceId { value: 1 },
-        trees: Seq::from_vec(plans),
+        trees: Seq::from_vec(vec![in rt.alloc(); plan]?),
     };
-    write_capability(&mut out, &item)?;
-    assert_eq!(rt; out.as_slice(), INST.as_slice());
-    let read = read_capability(rt.alloc(), &INST[2..])?;
-    assert_eq!(rt; read.len(), 1);
-    is_inst(&rt, &read[0], 32768, 1, &[plan]);
+    let tlv = "90 1f 00 00 01 1b 00 00 00 00 00 00 00 00 00 00 00 00 80 00 00 00 00 01 01
+               40 00 80 c2 01 00 a0 00";
+    let read = read_again(&rt, rt.alloc(), &item, tlv)?;
+    is_inst(&rt, &read, (32768, 1, &[plan]));
     Ok(())
-}
-
-fn is_inst(
-    rt: &impl Abort,
-    read: &Capability,
-    want_priority: u16,
-    want_source: u32,
-    want: &[VidPlan],
-) {
-    match read {
-        Capability::Inst {
-            priority,
-            source,
-            trees,
-        } => {
-            assert_eq!(rt; *priority, want_priority);
-            assert_eq!(rt; source.value, want_source);
-            assert_eq!(rt; trees.as_slice(), want);
-        }
-        Capability::Services { .. } => panic!(rt; "an SPBM-SI"),
-    }
 }
 
 #[test]
@@ -190,101 +258,92 @@ fn services_of_a_vid(rt: HostRuntime) -> Result<(), Fail> {
         transmit: true,
         receive: true,
     };
-    let mut isids = Vec::new(rt.alloc());
-    isids.push(service)?;
-    let mut out = Vec::new(rt.alloc());
     let item = Capability::Services {
         mac: A,
         vid: Vid { value: 10 },
-        isids: Seq::from_vec(isids),
+        isids: Seq::from_vec(vec![in rt.alloc(); service]?),
     };
-    write_capability(&mut out, &item)?;
-    assert_eq!(rt; out.as_slice(), SERVICES.as_slice());
-    let read = read_capability(rt.alloc(), &SERVICES[2..])?;
-    assert_eq!(rt; read.len(), 1);
-    is_services(&rt, &read[0], 10, &[service]);
+    let tlv = "90 10 00 00 03 0c 02 00 00 00 00 01 00 0a c0 00 00 64";
+    let read = read_again(&rt, rt.alloc(), &item, tlv)?;
+    is_services(&rt, &read, (A, 10, &[service]));
     Ok(())
 }
 
-fn is_services(rt: &impl Abort, read: &Capability, want_vid: u16, want: &[Service]) {
-    match read {
-        Capability::Services { mac, vid, isids } => {
-            assert_eq!(rt; *mac, A);
-            assert_eq!(rt; vid.value, want_vid);
-            assert_eq!(rt; isids.as_slice(), want);
-        }
-        Capability::Inst { .. } => panic!(rt; "an SPB-Inst"),
-    }
-}
-
-// Reserved bits set, an unknown sub-TLV, fields that are passed over, a tree of an unknown ECT-ALGORITHM with base VID
+// Reserved bits set, an unknown sub-TLV, fields that are ignored, a tree of an unknown ECT-ALGORITHM with base VID
 // 0, bytes after the trees, and I-SID 0.
 #[test]
 fn capabilities_of_another_implementation(rt: HostRuntime) -> Result<(), Fail> {
-    let bytes = [
-        0xf0, 0, 200, 2, 1, 2, 1, 36, 9, 9, 9, 9, 9, 9, 9, 9, 9, 9, 9, 9, 0, 7, 0xff, 0xf2, 0x34,
-        0x56, 2, 0xff, 0x00, 0x80, 0xc2, 0x11, 0x00, 0x01, 0x23, 0xff, 0x00, 0x80, 0xc2, 0x10,
-        0x01, 0x41, 0x23, 0xab, 3, 16, 2, 0, 0, 0, 0, 1, 0xf0, 20, 0xbf, 0, 0, 5, 0xff, 0, 0, 0,
-    ];
-    let read = read_capability(rt.alloc(), &bytes)?;
+    let value = hex(
+        rt.alloc(),
+        "f0 00 c8 02 01 02
+         01 24 09 09 09 09 09 09 09 09 09 09 09 09 00 07 ff f2 34 56 02
+         ff 00 80 c2 11 00 01 23 ff 00 80 c2 10 01 41 23 ab
+         03 10 02 00 00 00 00 01 f0 14 bf 00 00 05 ff 00 00 00",
+    )?;
+    let read = read_capability(rt.alloc(), &value)?;
     assert_eq!(rt; read.len(), 2);
     let plan = VidPlan {
         vid: Vid { value: 20 },
         ect: 16,
     };
-    is_inst(&rt, &read[0], 7, 0x23456, &[plan]);
+    is_inst(&rt, &read[0], (7, 0x23456, &[plan]));
     let service = Service {
         isid: Isid { value: 5 },
         transmit: true,
         receive: false,
     };
-    is_services(&rt, &read[1], 20, &[service]);
+    is_services(&rt, &read[1], (A, 20, &[service]));
+    Ok(())
+}
+
+/// Asserts that the value of a TLV 144 is refused.
+fn is_refused(rt: &impl Abort, alloc: Global, value: &str, want: TlvError) -> Result<(), Fail> {
+    let refused = read_capability(alloc, &hex(alloc, value)?);
+    assert_eq!(rt; refused.err(), Some(want));
     Ok(())
 }
 
 #[test]
 fn refusals_of_a_capability(rt: HostRuntime) -> Result<(), Fail> {
     let alloc = rt.alloc();
-    let outside = [0, 0, 3, 8, 2, 0, 0, 0, 0, 1, 0xff, 0xff];
-    let refused = read_capability(alloc, &outside);
-    assert!(rt; matches!(refused, Err(TlvError::Range)));
-    let outside_and_cut = [0, 0, 3, 8, 2, 0, 0, 0, 0, 1, 0, 0, 1];
-    let refused = read_capability(alloc, &outside_and_cut);
-    assert!(rt; matches!(refused, Err(TlvError::Cut)));
-    let other_topology = [0, 1, 3, 9];
-    assert_eq!(rt; read_capability(alloc, &other_topology)?.len(), 0);
+    let outside = "00 00 03 08 02 00 00 00 00 01 ff ff";
+    is_refused(&rt, alloc, outside, TlvError::Range)?;
+    let outside_and_cut = "00 00 03 08 02 00 00 00 00 01 00 00 01";
+    is_refused(&rt, alloc, outside_and_cut, TlvError::Cut)?;
     Ok(())
+}
+
+#[test]
+fn another_topology_says_nothing(rt: HostRuntime) -> Result<(), Fail> {
+    let read = read_capability(rt.alloc(), &[0, 1, 3, 9])?;
+    assert_eq!(rt; read.len(), 0);
+    Ok(())
+}
+
+fn is_found(rt: &impl Abort, found: Option<&[u8]>, want: Option<&[u8]>) {
+    assert_eq!(rt; found, want);
 }
 
 #[test]
 fn a_tlv_by_its_code_and_number(rt: HostRuntime) {
     let tlvs = [1, 1, 0x49, 9, 0, 1, 2, 5, 6, 9, 1, 7, 1, 3, 8];
-    is_found(&rt, find_tlv(&tlvs, 1, 0), &[0x49]);
-    is_found(&rt, find_tlv(&tlvs, 1, 1), &[5, 6]);
-    is_found(&rt, find_tlv(&tlvs, 9, 0), &[]);
-    is_found(&rt, find_tlv(&tlvs, 9, 1), &[7]);
-    assert!(rt; find_tlv(&tlvs, 1, 2).is_none());
-    assert!(rt; find_tlv(&tlvs, 240, 0).is_none());
+    is_found(&rt, find_tlv(&tlvs, 1, 0), Some(&[0x49]));
+    is_found(&rt, find_tlv(&tlvs, 1, 1), Some(&[5, 6]));
+    is_found(&rt, find_tlv(&tlvs, 9, 0), Some(&[]));
+    is_found(&rt, find_tlv(&tlvs, 9, 1), Some(&[7]));
+    is_found(&rt, find_tlv(&tlvs, 1, 2), None);
+    is_found(&rt, find_tlv(&tlvs, 240, 0), None);
+}
+
+/// Asserts what the TLV at the front is split into.
+fn is_split(rt: &impl Abort, bytes: &[u8], want: Option<(u8, &[u8], &[u8])>) {
+    assert_eq!(rt; split_tlv(bytes), want);
 }
 
 #[test]
 fn the_tlv_at_the_front(rt: HostRuntime) {
     let bytes = [MT_CAPABILITY, 2, 5, 6, EXTENDED_IS_REACHABILITY, 1];
-    match split_tlv(&bytes) {
-        Some((code, value, after)) => {
-            assert_eq!(rt; code, 144);
-            assert_eq!(rt; value, [5, 6].as_slice());
-            assert_eq!(rt; after, [22, 1].as_slice());
-            assert!(rt; split_tlv(after).is_none());
-        }
-        None => panic!(rt; "no TLV"),
-    }
-    assert!(rt; split_tlv(&bytes[..3]).is_none());
-}
-
-fn is_found(rt: &impl Abort, found: Option<&[u8]>, want: &[u8]) {
-    match found {
-        Some(value) => assert_eq!(rt; value, want),
-        None => panic!(rt; "not found"),
-    }
+    is_split(&rt, &bytes, Some((144, &[5, 6], &[22, 1])));
+    is_split(&rt, &bytes[4..], None);
+    is_split(&rt, &bytes[..3], None);
 }
