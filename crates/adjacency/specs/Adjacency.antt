@@ -5,10 +5,10 @@ use Rattle.isis_pdu.specs.Pdu.{HelloValue}
 use Rattle.spb_tlvs.specs.declared.three_way.ThreeWay.{ThreeWay}
 use Rattle.adjacency.specs.declared.state.AdjState.{AdjState}
 use Rattle.adjacency.specs.declared.state.AdjState.TheVariants.{Down, Initializing, Up}
-use Rattle.adjacency.specs.declared.state.Heard.{Heard}
-use Rattle.adjacency.specs.declared.state.Heard.TheVariants.{Kept, CameUp, LeftUp, Discarded}
+use Rattle.adjacency.specs.declared.state.AdjacencyChange.{AdjacencyChange}
+use Rattle.adjacency.specs.declared.state.AdjacencyChange.TheVariants.{Kept, CameUp, LeftUp, Discarded}
 use Rattle.adjacency.specs.declared.port.Adjacency.{Adjacency}
-use Rattle.adjacency.specs.States.{number_of, state_numbered, next_state}
+use Rattle.adjacency.specs.States.{state_number, state_numbered, next_state}
 use Rattle.adjacency.specs.Hearing.{End, same_end, is_discarded, sender}
 
 abbrev pub no_system : SystemId
@@ -61,15 +61,15 @@ led_to Initializing hello way = keeping Initializing (sender hello way) hello.ho
 led_to Up hello way = keeping Up (sender hello way) hello.holding
 
 -- the adjacency after a hello that isn't discarded: holding time 0 makes it Down, and else the table is followed
-abbrev pub after_heard : HelloValue → ThreeWay → Adjacency → Adjacency
-after_heard hello way a =
+abbrev pub after_hello_heard : HelloValue → ThreeWay → Adjacency → Adjacency
+after_hello_heard hello way a =
     if hello.holding == 0
     then down true
     else led_to (next_state (state_towards (sender hello way) a) (state_numbered way.state)) hello way
 
 -- the adjacency after a hello
 abbrev pub after_hello : SystemId → ℕ → HelloValue → ThreeWay → Adjacency → Adjacency
-after_hello me port hello way a = if is_discarded me port hello way then a else after_heard hello way a
+after_hello me port hello way a = if is_discarded me port hello way then a else after_hello_heard hello way a
 
 -- the adjacency a second later: the holding count falls, and at 0 the neighbour is lost
 abbrev pub after_second : Adjacency → Adjacency
@@ -85,16 +85,17 @@ abbrev pub is_new_up : Adjacency → Adjacency → Bool
 is_new_up a b = is_up a.state && not (is_up b.state && same_end (a.neighbour, a.circuit) (b.neighbour, b.circuit))
 
 -- what a change did
-abbrev pub change_of : Adjacency → Adjacency → Heard
+abbrev pub change_of : Adjacency → Adjacency → AdjacencyChange
 change_of old new =
     if is_new_up new old then CameUp
     else (if is_up old.state && not (is_up new.state) then LeftUp
     else Kept)
 
 -- what a hello did
-abbrev pub heard_of : SystemId → ℕ → HelloValue → ThreeWay → Adjacency → Heard
-heard_of me port hello way a = if is_discarded me port hello way then Discarded else change_of a (after_heard hello way a)
+abbrev pub change_by_hello : SystemId → ℕ → HelloValue → ThreeWay → Adjacency → AdjacencyChange
+change_by_hello me port hello way a =
+    if is_discarded me port hello way then Discarded else change_of a (after_hello_heard hello way a)
 
 -- what the own hello says: the state, the port as the extended local circuit id, and the neighbour that is kept
 abbrev pub said : ℕ → Adjacency → ThreeWay
-said port a = record { state = number_of a.state; circuit = port; neighbour = neighbour_of a }
+said port a = record { state = state_number a.state; circuit = port; neighbour = neighbour_of a }

@@ -24,7 +24,8 @@ names_another this (Some n) = not (same_end n this)
 
 -- a hello is discarded where its sender doesn't speak level 1, is this system, or names another end as its neighbour
 abbrev pub is_discarded : SystemId → ℕ → HelloValue → ThreeWay → Bool
-is_discarded me port hello way = not (has_level_one hello.circuit_type) || same_system hello.source me || names_another (me, port) way.neighbour
+is_discarded me port hello way = not (has_level_one hello.circuit_type) || same_system hello.source me
+    || names_another (me, port) way.neighbour
 
 -- the end that a hello comes from
 abbrev pub sender : HelloValue → ThreeWay → End

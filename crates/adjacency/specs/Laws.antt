@@ -9,7 +9,8 @@ use Rattle.adjacency.specs.Adjacency.{neighbour_of, after_hello, after_second, a
 
 -- the neighbour that is kept after a hello was kept before, or is the hello's sender
 abbrev pub HelloKeeps : Type 0
-HelloKeeps = (me : SystemId) (port : ℕ) (hello : HelloValue) (way : ThreeWay) (a : Adjacency) (n : End) → neighbour_of (after_hello me port hello way a) ≡ Some n → (neighbour_of a ≡ Some n) ⊎ (sender hello way ≡ n)
+HelloKeeps = (me : SystemId) (port : ℕ) (hello : HelloValue) (way : ThreeWay) (a : Adjacency) (n : End)
+    → neighbour_of (after_hello me port hello way a) ≡ Some n → (neighbour_of a ≡ Some n) ⊎ (sender hello way ≡ n)
 
 -- the neighbour that is kept after a second was kept before
 abbrev pub SecondKeeps : Type 0
@@ -17,7 +18,8 @@ SecondKeeps = (a : Adjacency) (n : End) → neighbour_of (after_second a) ≡ So
 
 -- the neighbour that is kept after a change of carrier was kept before
 abbrev pub CarrierKeeps : Type 0
-CarrierKeeps = (on : Bool) (a : Adjacency) (n : End) → neighbour_of (after_carrier on a) ≡ Some n → neighbour_of a ≡ Some n
+CarrierKeeps = (on : Bool) (a : Adjacency) (n : End) → neighbour_of (after_carrier on a) ≡ Some n
+    → neighbour_of a ≡ Some n
 
 -- the own hello names its port, and nobody but the neighbour that is kept
 pub record SaysKept (port : ℕ) (a : Adjacency) : Type 0 where

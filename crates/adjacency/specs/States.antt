@@ -4,10 +4,10 @@ use Rattle.adjacency.specs.declared.state.AdjState.{AdjState}
 use Rattle.adjacency.specs.declared.state.AdjState.TheVariants.{Down, Initializing, Up}
 
 -- the number of a state in a three-way adjacency TLV, and the state of a number of 0 to 2 (RFC 5303, 3)
-abbrev pub number_of : AdjState → ℕ
-number_of Up = 0
-number_of Initializing = 1
-number_of Down = 2
+abbrev pub state_number : AdjState → ℕ
+state_number Up = 0
+state_number Initializing = 1
+state_number Down = 2
 
 abbrev pub state_numbered : ℕ → AdjState
 state_numbered n = if n == 0 then Up else (if n == 1 then Initializing else Down)

@@ -14,8 +14,8 @@ pub fn a_hello_names_nobody_but_the_kept_neighbour()
     ensures { HelloNames }
 {}
 
-/// A neighbour from which nothing more is heard is kept for as many seconds as its holding count says, in the state that
-/// it is in, and is lost then: the state is Down. Where no neighbour is kept, none comes by time alone.
+/// A neighbour from which nothing more is heard is kept for as many seconds as its holding count says, in the state
+/// that it is in, and is lost then: the state is Down. Where no neighbour is kept, none comes by time alone.
 pub fn a_silent_neighbour_is_kept_for_its_count()
     ensures kept { KeptWhileCounting }
     ensures lost { LostAfterCount }

@@ -9,7 +9,7 @@ pub use laws::{
     a_silent_neighbour_is_kept_for_its_count,
 };
 pub use port::Adjacency;
-pub use state::{AdjState, Heard};
+pub use state::{AdjState, AdjacencyChange};
 
 mod laws;
 mod port;

@@ -1,9 +1,9 @@
 ghost use Rattle.std.specs.Prelude.{◌≡◌, ◌≤◌, true};
 ghost use Rattle.isis_pdu.specs.Pdu.{hello_of};
 ghost use Rattle.adjacency.specs.Hearing as hearing;
-ghost use Rattle.adjacency.specs.Adjacency.{IsSound, down, after_hello, after_heard, after_second, after_carrier, state_towards, is_new_up, change_of, heard_of, neighbour_of, said};
+ghost use Rattle.adjacency.specs.Adjacency.{IsSound, down, after_hello, after_hello_heard, after_second, after_carrier, state_towards, is_new_up, change_of, change_by_hello, neighbour_of, said};
 
-use crate::state::{AdjState, Heard};
+use crate::state::{AdjState, AdjacencyChange};
 use isis_pdu::Hello;
 use spb_tlvs::ThreeWay;
 use spb_types::{LEVEL_1, Mac, SystemId};
@@ -50,16 +50,16 @@ impl Adjacency {
     /// circuit as its neighbour. Holding time 0 makes the state Down.
     ///
     /// The port has carrier, and the state in `way` is at most 2.
-    pub fn hear(&mut self, me: SystemId, port: u8, hello: &Hello, way: &ThreeWay) -> Heard
+    pub fn hear(&mut self, me: SystemId, port: u8, hello: &Hello, way: &ThreeWay) -> AdjacencyChange
         requires carrier { self.old.carrier ≡ true }
         requires state { way.now.state ≤ 2 }
         requires sound { IsSound self.old }
         ensures new { self.new ≡ after_hello me port (hello_of hello.now) way.now self.old }
-        ensures heard { result ≡ heard_of me port (hello_of hello.now) way.now self.old }
+        ensures heard { result ≡ change_by_hello me port (hello_of hello.now) way.now self.old }
         ensures still_sound { IsSound self.new }
     {
         if is_discarded(me, port, hello, way) {
-            return Heard::Discarded;
+            return AdjacencyChange::Discarded;
         }
         let before = *self;
         *self = before.after(hello, way);
@@ -69,7 +69,7 @@ impl Adjacency {
     /// The adjacency after a hello that isn't discarded.
     fn after(&self, hello: &Hello, way: &ThreeWay) -> Self
         requires { way.now.state ≤ 2 }
-        ensures new { result ≡ after_heard (hello_of hello.now) way.now self.now }
+        ensures new { result ≡ after_hello_heard (hello_of hello.now) way.now self.now }
         ensures sound { IsSound result }
     {
         if hello.holding == 0 {
@@ -103,14 +103,14 @@ impl Adjacency {
     }
 
     /// Counts a second of the holding count down. At 0 the state becomes Down.
-    pub fn tick(&mut self) -> Heard
+    pub fn tick(&mut self) -> AdjacencyChange
         requires { IsSound self.old }
         ensures new { self.new ≡ after_second self.old }
         ensures heard { result ≡ change_of self.old self.new }
         ensures sound { IsSound self.new }
     {
         if self.state == AdjState::Down {
-            return Heard::Kept;
+            return AdjacencyChange::Kept;
         }
         let before = *self;
         if self.hold == 1 {
@@ -122,7 +122,7 @@ impl Adjacency {
     }
 
     /// Carrier came or went. Without it the state is Down.
-    pub fn set_carrier(&mut self, on: bool) -> Heard
+    pub fn set_carrier(&mut self, on: bool) -> AdjacencyChange
         requires { IsSound self.old }
         ensures new { self.new ≡ after_carrier on self.old }
         ensures heard { result ≡ change_of self.old self.new }
@@ -159,15 +159,15 @@ impl Adjacency {
     }
 
     /// What the change from this adjacency to `new` did.
-    fn change_to(&self, new: &Self) -> Heard
+    fn change_to(&self, new: &Self) -> AdjacencyChange
         ensures { result ≡ change_of self.now new.now }
     {
         if new.is_new_up(self) {
-            Heard::CameUp
+            AdjacencyChange::CameUp
         } else if self.state == AdjState::Up && new.state != AdjState::Up {
-            Heard::LeftUp
+            AdjacencyChange::LeftUp
         } else {
-            Heard::Kept
+            AdjacencyChange::Kept
         }
     }
 

@@ -1,5 +1,5 @@
 ghost use Rattle.std.specs.Prelude.{◌≡◌, ◌≤◌};
-ghost use Rattle.adjacency.specs.States.{number_of, state_numbered, next_state};
+ghost use Rattle.adjacency.specs.States.{state_number, state_numbered, next_state};
 
 /// The state of an adjacency (RFC 5303, 3.1).
 #[derive(Clone, Copy, Debug, PartialEq, Eq, Hash)]
@@ -14,7 +14,7 @@ pub enum AdjState {
 
 /// What a call did to an adjacency.
 #[derive(Clone, Copy, Debug, PartialEq, Eq, Hash)]
-pub enum Heard {
+pub enum AdjacencyChange {
     /// Nothing that the three below name.
     Kept,
     /// The state is Up, and before it wasn't, or it was Up with another neighbour or circuit.
@@ -28,7 +28,7 @@ pub enum Heard {
 impl AdjState {
     /// The number of the state in a three-way adjacency TLV (RFC 5303, 3).
     pub(crate) fn number(self) -> u8
-        ensures { result ≡ number_of self }
+        ensures { result ≡ state_number self }
     {
         match self {
             AdjState::Up => 0,

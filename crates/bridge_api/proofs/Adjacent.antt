@@ -9,11 +9,11 @@ use Rattle.isis_pdu.specs.Pdu.{HelloValue}
 use Rattle.spb_tlvs.specs.declared.three_way.ThreeWay.{ThreeWay}
 use Rattle.adjacency.specs.declared.state.AdjState.{AdjState}
 use Rattle.adjacency.specs.declared.state.AdjState.TheVariants.{Down, Initializing, Up}
-use Rattle.adjacency.specs.declared.state.Heard.TheVariants.{Kept, CameUp, LeftUp, Discarded}
+use Rattle.adjacency.specs.declared.state.AdjacencyChange.TheVariants.{Kept, CameUp, LeftUp, Discarded}
 use Rattle.adjacency.specs.declared.port.Adjacency.{Adjacency}
 use Rattle.adjacency.specs.States.{next_state, state_numbered}
 use Rattle.adjacency.specs.Hearing.{End, same_end, is_discarded, sender}
-use Rattle.adjacency.specs.Adjacency.{down, led_to, state_towards, kept_in, neighbour_of, is_down, is_up, IsSound, after_heard, after_hello, after_second, after_carrier, is_new_up, change_of, heard_of}
+use Rattle.adjacency.specs.Adjacency.{down, led_to, state_towards, kept_in, neighbour_of, is_down, is_up, IsSound, after_hello_heard, after_hello, after_second, after_carrier, is_new_up, change_of, change_by_hello}
 
 -- a second, for each of its cases
 second_keeps_at : (idle ended : Bool) (a : Adjacency) (n : End) → neighbour_of (if idle then a else (if ended then down a.carrier else record a { hold = a.hold - 1 })) ≡ Some n → neighbour_of a ≡ Some n
@@ -51,8 +51,8 @@ kept_whole_at true old new e = refl
 kept_whole_at false old new e = absurd (not_discarded old new e)
 
 -- a hello that is discarded changes nothing
-pub kept_whole : (me : SystemId) (p : ℕ) (h : HelloValue) (way : ThreeWay) (a : Adjacency) → heard_of me p h way a ≡ Discarded → after_hello me p h way a ≡ a
-kept_whole me p h way a e = kept_whole_at (is_discarded me p h way) a (after_heard h way a) e
+pub kept_whole : (me : SystemId) (p : ℕ) (h : HelloValue) (way : ThreeWay) (a : Adjacency) → change_by_hello me p h way a ≡ Discarded → after_hello me p h way a ≡ a
+kept_whole me p h way a e = kept_whole_at (is_discarded me p h way) a (after_hello_heard h way a) e
 
 -- ends that pass the test are equal
 pub same_is : (x y : End) → same_end x y ≡ true → x ≡ y
@@ -111,7 +111,7 @@ heard_sound_at : (b : Bool) (s : AdjState) (h : HelloValue) (way : ThreeWay) →
 heard_sound_at true s h way e = refl
 heard_sound_at false s h way e = led_sound s h way (omega (arith, eqb-false h.holding 0 e))
 
-hello_sound_at : (discarded : Bool) (h : HelloValue) (way : ThreeWay) (a : Adjacency) → IsSound a → IsSound (if discarded then a else after_heard h way a)
+hello_sound_at : (discarded : Bool) (h : HelloValue) (way : ThreeWay) (a : Adjacency) → IsSound a → IsSound (if discarded then a else after_hello_heard h way a)
 hello_sound_at true h way a sound = sound
 hello_sound_at false h way a sound = heard_sound_at (h.holding == 0) (next_state (state_towards (sender h way) a) (state_numbered way.state)) h way refl
 

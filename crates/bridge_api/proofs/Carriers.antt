@@ -11,16 +11,16 @@ use Rattle.adjacency.specs.declared.state.AdjState.TheVariants.{Down, Initializi
 use Rattle.adjacency.specs.declared.port.Adjacency.{Adjacency}
 use Rattle.adjacency.specs.States.{next_state, state_numbered}
 use Rattle.adjacency.specs.Hearing.{sender, is_discarded}
-use Rattle.adjacency.specs.Adjacency.{down, is_down, led_to, state_towards, after_hello, after_carrier, change_of, heard_of}
+use Rattle.adjacency.specs.Adjacency.{down, is_down, led_to, state_towards, after_hello, after_carrier, change_of, change_by_hello}
 use Rattle.bridge_api.specs.declared.port.BridgePort.{BridgePort}
 use Rattle.bridge_api.specs.View.{BridgeView, IsPort, port_in, port_at, has_carrier_in, has_carrier_at}
-use Rattle.bridge_api.specs.Hearing.{with_adjacency, after_receive, carried_at, with_carrier, metered}
-use Rattle.bridge_api.specs.Ports.{greeted_port, carried_port}
+use Rattle.bridge_api.specs.Hearing.{with_adjacency, after_receive, with_carrier_at, with_carrier, with_port_metric}
+use Rattle.bridge_api.specs.Ports.{heard_hello_port, with_carrier_port}
 use Rattle.bridge_api.specs.Ticking.{later}
 use Rattle.bridge_api.specs.Step.{second, frame, carrier, metric}
 use Rattle.bridge_api.specs.Laws.{StepsKeepCarrier}
 use Rattle.bridge_api.proofs.Places.{port_found, got_at}
-use Rattle.bridge_api.proofs.Changes.{found, one_port, frame_ports, greeted_ports, carried_ports, metric_step, metered_ports, ticked, tick_port}
+use Rattle.bridge_api.proofs.Changes.{found, one_port, frame_ports, heard_hello_ports, with_carrier_ports, metric_step, with_metric_ports, ticked, tick_port}
 use Rattle.bridge_api.proofs.Certified.{noted_keeps}
 
 later_carrier_at : (idle ended : Bool) (a : Adjacency) → (if idle then a else (if ended then down a.carrier else record a { hold = a.hold - 1 })).carrier ≡ a.carrier
@@ -33,29 +33,29 @@ pub later_carrier : (port : BridgePort) → (later port).adjacency.carrier ≡ p
 later_carrier port = later_carrier_at (is_down port.adjacency.state) (port.adjacency.hold == 1) port.adjacency
 
 -- after a hello there is carrier, as before
-led_lit : (s : AdjState) (h : HelloValue) (way : ThreeWay) → (led_to s h way).carrier ≡ true
-led_lit Down h way = refl
-led_lit Initializing h way = refl
-led_lit Up h way = refl
+led_with_carrier : (s : AdjState) (h : HelloValue) (way : ThreeWay) → (led_to s h way).carrier ≡ true
+led_with_carrier Down h way = refl
+led_with_carrier Initializing h way = refl
+led_with_carrier Up h way = refl
 
-heard_lit_at : (discarded ended : Bool) (s : AdjState) (h : HelloValue) (way : ThreeWay) (a : Adjacency) → a.carrier ≡ true → (if discarded then a else (if ended then down true else led_to s h way)).carrier ≡ true
-heard_lit_at true ended s h way a lit = lit
-heard_lit_at false true s h way a lit = refl
-heard_lit_at false false s h way a lit = led_lit s h way
+carrier_heard_at : (discarded ended : Bool) (s : AdjState) (h : HelloValue) (way : ThreeWay) (a : Adjacency) → a.carrier ≡ true → (if discarded then a else (if ended then down true else led_to s h way)).carrier ≡ true
+carrier_heard_at true ended s h way a has_carrier = has_carrier
+carrier_heard_at false true s h way a has_carrier = refl
+carrier_heard_at false false s h way a has_carrier = led_with_carrier s h way
 
-greeted_lit : (v : BridgeView) (q : ℕ) (h : HelloValue) (way : ThreeWay) (port : BridgePort) → port.adjacency.carrier ≡ true → (greeted_port v.id.system q h way port).adjacency.carrier ≡ true
-greeted_lit v q h way port lit =
+hello_keeps_carrier : (v : BridgeView) (q : ℕ) (h : HelloValue) (way : ThreeWay) (port : BridgePort) → port.adjacency.carrier ≡ true → (heard_hello_port v.id.system q h way port).adjacency.carrier ≡ true
+hello_keeps_carrier v q h way port has_carrier =
     let a : Adjacency = port.adjacency in
-    ap (λ (b : Adjacency). b.carrier) (noted_keeps (heard_of v.id.system q h way a) (with_adjacency (after_hello v.id.system q h way a) port))
-    ∙ heard_lit_at (is_discarded v.id.system q h way) (h.holding == 0) (next_state (state_towards (sender h way) a) (state_numbered way.state)) h way a lit
+    ap (λ (b : Adjacency). b.carrier) (noted_keeps (change_by_hello v.id.system q h way a) (with_adjacency (after_hello v.id.system q h way a) port))
+    ∙ carrier_heard_at (is_discarded v.id.system q h way) (h.holding == 0) (next_state (state_towards (sender h way) a) (state_numbered way.state)) h way a has_carrier
 
-carried_lit : (on : Bool) (port : BridgePort) → (carried_port on port).adjacency.carrier ≡ on
-carried_lit true port = ap (λ (b : Adjacency). b.carrier) (noted_keeps (change_of port.adjacency (after_carrier true port.adjacency)) (with_adjacency (after_carrier true port.adjacency) port))
-carried_lit false port = ap (λ (b : Adjacency). b.carrier) (noted_keeps (change_of port.adjacency (after_carrier false port.adjacency)) (with_adjacency (after_carrier false port.adjacency) port))
+carrier_stands : (on : Bool) (port : BridgePort) → (with_carrier_port on port).adjacency.carrier ≡ on
+carrier_stands true port = ap (λ (b : Adjacency). b.carrier) (noted_keeps (change_of port.adjacency (after_carrier true port.adjacency)) (with_adjacency (after_carrier true port.adjacency) port))
+carrier_stands false port = ap (λ (b : Adjacency). b.carrier) (noted_keeps (change_of port.adjacency (after_carrier false port.adjacency)) (with_adjacency (after_carrier false port.adjacency) port))
 
-ticked_lit : (o : Option BridgePort) → has_carrier_in (option_map ticked o) ≡ has_carrier_in o
-ticked_lit None = refl
-ticked_lit (Some port) = later_carrier port
+ticked_carrier : (o : Option BridgePort) → has_carrier_in (option_map ticked o) ≡ has_carrier_in o
+ticked_carrier None = refl
+ticked_carrier (Some port) = later_carrier port
 
 -- a port that the bridge has is found
 not_none : (ports : List BridgePort) (i : ℕ) → i < length ports → slice_get ports i ≡ None → ⊥
@@ -67,14 +67,14 @@ is_found : (v : BridgeView) (p : ℕ) → IsPort v p → port_at v p ≡ None �
 is_found v p is e = not_none v.ports (p - 1) (omega (arith, is.low, is.high)) (sym (port_found v p is.low) ∙ e)
 
 -- carrier came or went at port q, which is port p or not
-told_at : (here : Bool) (v : BridgeView) (q : ℕ) (on : Bool) (port : BridgePort) (p : ℕ) → (p == q) ≡ here → port_at v q ≡ Some port → has_carrier_in (port_in (slice_set v.ports (q - 1) (carried_port on port)) p) ≡ (if here then on else has_carrier_in (port_at v p))
-told_at true v q on port p e there =
+carrier_of : (here : Bool) (v : BridgeView) (q : ℕ) (on : Bool) (port : BridgePort) (p : ℕ) → (p == q) ≡ here → port_at v q ≡ Some port → has_carrier_in (port_in (slice_set v.ports (q - 1) (with_carrier_port on port)) p) ≡ (if here then on else has_carrier_in (port_at v p))
+carrier_of true v q on port p e there =
     let at = found v.ports q port there in
     let same : p ≡ q = eqb-true p q e in
-    rw (same, le-leb 1 q at.0) (ap has_carrier_in (got_at v.ports (q - 1) (carried_port on port) (slice_get_within v.ports (q - 1) port at.1)) ∙ carried_lit on port)
-told_at false v q on port p e there =
+    rw (same, le-leb 1 q at.0) (ap has_carrier_in (got_at v.ports (q - 1) (with_carrier_port on port) (slice_get_within v.ports (q - 1) port at.1)) ∙ carrier_stands on port)
+carrier_of false v q on port p e there =
     let at = found v.ports q port there in
-    elim (one_port v.ports q port (carried_port on port) p at.0 at.1) [
+    elim (one_port v.ports q port (with_carrier_port on port) p at.0 at.1) [
       | inl here ↦ absurd (eqb-false p q e here.0)
       | inr same ↦ ap has_carrier_in same
     ]
@@ -83,33 +83,33 @@ untold_at : (here : Bool) (v : BridgeView) (q : ℕ) (on : Bool) (p : ℕ) → (
 untold_at true v q on p e is none = absurd (is_found v p is (ap (port_at v) (eqb-true p q e) ∙ none))
 untold_at false v q on p e is none = refl
 
-told : (o : Option BridgePort) (v : BridgeView) (q : ℕ) (on : Bool) (p : ℕ) → IsPort v p → port_at v q ≡ o → has_carrier_in (port_at (carried_at q on o v) p) ≡ (if p == q then on else has_carrier_in (port_at v p))
-told None v q on p is none = untold_at (p == q) v q on p refl is none
-told (Some port) v q on p is there = ap (λ (ports : List BridgePort). has_carrier_in (port_in ports p)) (carried_ports q on port v there) ∙ told_at (p == q) v q on port p refl there
+carrier_told : (o : Option BridgePort) (v : BridgeView) (q : ℕ) (on : Bool) (p : ℕ) → IsPort v p → port_at v q ≡ o → has_carrier_in (port_at (with_carrier_at q on o v) p) ≡ (if p == q then on else has_carrier_in (port_at v p))
+carrier_told None v q on p is none = untold_at (p == q) v q on p refl is none
+carrier_told (Some port) v q on p is there = ap (λ (ports : List BridgePort). has_carrier_in (port_in ports p)) (with_carrier_ports q on port v there) ∙ carrier_of (p == q) v q on port p refl there
 
 pub steps_keep_carrier : StepsKeepCarrier
 unfolding has_carrier_at with_carrier
-steps_keep_carrier second v p is = ap has_carrier_in (tick_port v p) ∙ ticked_lit (port_at v p)
+steps_keep_carrier second v p is = ap has_carrier_in (tick_port v p) ∙ ticked_carrier (port_at v p)
 steps_keep_carrier (frame q bytes) v p is =
     elim (frame_ports v q bytes) [
       | inl e ↦ ap (λ (list : List BridgePort). has_carrier_in (port_in list p)) e
       | inr g ↦
           let at = found v.ports q g.port g.there in
-          let ports : (after_receive q bytes v).ports ≡ slice_set v.ports (q - 1) (greeted_port v.id.system q g.hello g.way g.port) = ap (λ (u : BridgeView). u.ports) g.after ∙ greeted_ports g.hello g.way q g.port v g.there in
+          let ports : (after_receive q bytes v).ports ≡ slice_set v.ports (q - 1) (heard_hello_port v.id.system q g.hello g.way g.port) = ap (λ (u : BridgeView). u.ports) g.after ∙ heard_hello_ports g.hello g.way q g.port v g.there in
           ap (λ (list : List BridgePort). has_carrier_in (port_in list p)) ports
-          ∙ elim (one_port v.ports q g.port (greeted_port v.id.system q g.hello g.way g.port) p at.0 at.1) [
-            | inl here ↦ ap has_carrier_in here.1 ∙ (greeted_lit v q g.hello g.way g.port g.carrier ∙ sym (ap (λ (k : ℕ). has_carrier_in (port_in v.ports k)) here.0 ∙ (ap has_carrier_in g.there ∙ g.carrier)))
+          ∙ elim (one_port v.ports q g.port (heard_hello_port v.id.system q g.hello g.way g.port) p at.0 at.1) [
+            | inl here ↦ ap has_carrier_in here.1 ∙ (hello_keeps_carrier v q g.hello g.way g.port g.carrier ∙ sym (ap (λ (k : ℕ). has_carrier_in (port_in v.ports k)) here.0 ∙ (ap has_carrier_in g.there ∙ g.carrier)))
             | inr same ↦ ap has_carrier_in same
           ]
     ]
-steps_keep_carrier (carrier q on) v p is = told (port_at v q) v q on p is refl
+steps_keep_carrier (carrier q on) v p is = carrier_told (port_at v q) v q on p is refl
 steps_keep_carrier (metric q m) v p is =
     elim (metric_step v q m) [
       | inl e ↦ ap (λ (u : BridgeView). has_carrier_in (port_at u p)) e
       | inr g ↦
           let at = found v.ports q g.port g.there in
-          ap (λ (list : List BridgePort). has_carrier_in (port_in list p)) (ap (λ (u : BridgeView). u.ports) g.after ∙ metered_ports q m g.port v)
-          ∙ elim (one_port v.ports q g.port (metered m g.port) p at.0 at.1) [
+          ap (λ (list : List BridgePort). has_carrier_in (port_in list p)) (ap (λ (u : BridgeView). u.ports) g.after ∙ with_metric_ports q m g.port v)
+          ∙ elim (one_port v.ports q g.port (with_port_metric m g.port) p at.0 at.1) [
             | inl here ↦ ap has_carrier_in here.1 ∙ sym (ap (λ (k : ℕ). has_carrier_in (port_in v.ports k)) here.0 ∙ ap has_carrier_in g.there)
             | inr same ↦ ap has_carrier_in same
           ]

@@ -18,7 +18,7 @@ use Rattle.spb_tlvs.specs.declared.entries.SnpEntry.{SnpEntry}
 use Rattle.lsdb.specs.declared.version.Version.{Version}
 use Rattle.lsdb.specs.declared.version.Version.TheVariants.{Absent, Live, Dead}
 use Rattle.lsdb.specs.Version.{IsAtMost, is_absent, leq}
-use Rattle.lsdb.specs.Entry.{Entry, made, joined, parted, aged, aged_at}
+use Rattle.lsdb.specs.Entry.{Entry, made, srm_set_at, flags_cleared_at, aged, aged_at}
 use Rattle.lsdb.specs.Database.{Lsps, version_in, version_at, fits, each}
 use Rattle.lsdb.specs.Certificate.{Certificate}
 use Rattle.lsdb.proofs.LookupLemmas.{get-each, fits_held}
@@ -31,9 +31,9 @@ use Rattle.flooding.proofs.SendableEntries.{flags_sendable, lsp_keeps_sendable, 
 use Rattle.flooding.proofs.OwnBodies.{lsp_leaves_own_body, origination_leaves_own_body}
 use Rattle.flooding.proofs.FlagEntries.{lsp_keeps_flags, origination_keeps_flags}
 use Rattle.flooding.proofs.Steps.{hearing_lsp, origination}
-use Rattle.snp_sync.specs.Line.{is_owed}
-use Rattle.snp_sync.specs.Sending.{settled as told_entry, all_settled}
-use Rattle.snp_sync.specs.Sized.{IsLspId, IsSized, IsSizedLine, AreSized}
+use Rattle.snp_sync.specs.SnpEntries.{has_ssn_at}
+use Rattle.snp_sync.specs.Sending.{ssn_cleared as ssn_cleared_entry, all_ssn_cleared}
+use Rattle.snp_sync.specs.Sized.{IsLspId, IsSized, IsSizedEntry, AreSized}
 use Rattle.snp_sync.specs.Hearing.{claims_in, hear_entries_of, hear_csnp_of}
 use Rattle.snp_sync.proofs.Fields.{flags_keep_sized, entries_keep_sized, csnp_keeps_sized, lsp_keeps_sized, origination_keeps_sized, ageing_keeps_sized}
 use Rattle.snp_sync.proofs.Stays.{claims_are_numbered, entries_keep_sendable, csnp_keeps_sendable, entries_keep_flags, csnp_keeps_flags, entries_leave_own_body, csnp_leaves_own_body}
@@ -41,10 +41,10 @@ use Rattle.snp_sync.proofs.Served.{entries_are_certified, csnp_is_certified}
 use Rattle.spb_content.proofs.Members.{Has}
 use Rattle.bridge_api.specs.declared.port.BridgePort.{BridgePort}
 use Rattle.bridge_api.specs.View.{BridgeView, port_in, port_at, with_port_at, is_port_up, is_up_in, up_from, up_ports}
-use Rattle.bridge_api.specs.Own.{body_of, own_of, own_entry, holding_of, is_said, originating, settled}
+use Rattle.bridge_api.specs.Own.{body_of, own_of, own_entry, holding_of, is_said, originating, originated_if_changed}
 use Rattle.bridge_api.specs.Config.{IsOwnMac}
-use Rattle.bridge_api.specs.Hearing.{with_due, left, joined_at, flooded, completed, requested}
-use Rattle.bridge_api.specs.Ticking.{later, leaves, leaving_from, parted_all, counted, expired, is_old, refreshed, told_at, told_from, told}
+use Rattle.bridge_api.specs.Hearing.{with_csnp_due, left_up, all_srm_set_at, heard_lsp, heard_csnp, heard_psnp}
+use Rattle.bridge_api.specs.Ticking.{later, leaves, leaving_from, flags_cleared_at_all, counts_lowered, expired, is_old, refreshed, after_sending_at, after_sending_from, after_sending}
 use Rattle.bridge_api.specs.Laws.{HasDatabase}
 use Rattle.bridge_api.proofs.OwnPorts.{HasApart, empty_apart, own_apart, mapped_apart}
 use Rattle.bridge_api.proofs.Places.{got_at}
@@ -120,9 +120,9 @@ stands_or : (b : Bool) (v : BridgeView) → CanOriginate v → Holds v → Holds
 stands_or true v can held = held
 stands_or false v can held = originating_keeps v can held
 
-pub settled_keeps : (v : BridgeView) → CanOriginate v → Holds v → Holds (settled v)
-unfolding settled
-settled_keeps v can held = stands_or (v.spent || is_said v) v can held
+pub originated_if_changed_keeps : (v : BridgeView) → CanOriginate v → Holds v → Holds (originated_if_changed v)
+unfolding originated_if_changed
+originated_if_changed_keeps v can held = stands_or (v.spent || is_said v) v can held
 
 pub refreshed_keeps : (v : BridgeView) → CanOriginate v → Holds v → Holds (refreshed v)
 unfolding refreshed
@@ -130,7 +130,7 @@ refreshed_keeps v can held = stands_or (v.spent || (is_said v && not (is_old (ow
 
 -- ---- what is heard at an Up port
 
-pub lsp_keeps : (l : LspValue) (p : ℕ) (v : BridgeView) → has (up_ports v) p ≡ true → IsWhole l → IsId l.id.system → HasFields (lsp l) → CanOriginate v → Holds v → Holds (flooded l p v)
+pub lsp_keeps : (l : LspValue) (p : ℕ) (v : BridgeView) → has (up_ports v) p ≡ true → IsWhole l → IsId l.id.system → HasFields (lsp l) → CanOriginate v → Holds v → Holds (heard_lsp l p v)
 lsp_keeps l p v up whole id fields can held =
     let h : Holding = holding_of v in
     let steps : Certificate p (claim_of l ∷ []) (control (up_ports v) h) (control (up_ports v) (hear_lsp_of (up_ports v) p l h)) = hearing_lsp (up_ports v) p l h up in
@@ -146,27 +146,27 @@ all_numbered : (entries : List SnpEntry) → AllByRecursion (λ c. IsNumbered c.
 all_numbered [] = tt
 all_numbered (e ∷ entries) = (claims_are_numbered e, all_numbered entries)
 
-pub csnp_keeps : (c : CsnpValue) (entries : List SnpEntry) (p : ℕ) (v : BridgeView) → has (up_ports v) p ≡ true → AllByRecursion IsSizedLine entries → CanOriginate v → Holds v → Holds (completed c entries p v)
-csnp_keeps c entries p v up lines can held =
+pub csnp_keeps : (c : CsnpValue) (entries : List SnpEntry) (p : ℕ) (v : BridgeView) → has (up_ports v) p ≡ true → AllByRecursion IsSizedEntry entries → CanOriginate v → Holds v → Holds (heard_csnp c entries p v)
+csnp_keeps c entries p v up listed can held =
     let h : Holding = holding_of v in
     let steps : Certificate p (claims_in entries) (control (up_ports v) h) (control (up_ports v) (hear_csnp_of (up_ports v) p c.start c.end (claims_in entries) h)) =
     csnp_is_certified (up_ports v) p c.start c.end (claims_in entries) h up in
     record {
       sendable = csnp_keeps_sendable (up_ports v) p c.start c.end (claims_in entries) h (all_numbered entries) can.body held.sendable;
-      sized = csnp_keeps_sized (up_ports v) p c.start c.end entries h lines held.sized;
+      sized = csnp_keeps_sized (up_ports v) p c.start c.end entries h listed held.sized;
       flags = csnp_keeps_flags (up_ports v) p c.start c.end (claims_in entries) h up held.flags;
       own = risen _ _ (steps.rises (own_id v.id.system)) held.own;
       apart = own_apart h.own (own_entry v) (get (hear_csnp_of (up_ports v) p c.start c.end (claims_in entries) h).db (own_id v.id.system)) can.apart (csnp_leaves_own_body (up_ports v) p c.start c.end (claims_in entries) h (own_id v.id.system) refl) held.apart;
     }
 
-pub psnp_keeps : (entries : List SnpEntry) (p : ℕ) (v : BridgeView) → has (up_ports v) p ≡ true → AllByRecursion IsSizedLine entries → CanOriginate v → Holds v → Holds (requested entries p v)
-psnp_keeps entries p v up lines can held =
+pub psnp_keeps : (entries : List SnpEntry) (p : ℕ) (v : BridgeView) → has (up_ports v) p ≡ true → AllByRecursion IsSizedEntry entries → CanOriginate v → Holds v → Holds (heard_psnp entries p v)
+psnp_keeps entries p v up listed can held =
     let h : Holding = holding_of v in
     let steps : Certificate p (claims_in entries) (control (up_ports v) h) (control (up_ports v) (hear_entries_of (up_ports v) p (claims_in entries) h)) =
     entries_are_certified (up_ports v) p (claims_in entries) h up in
     record {
       sendable = entries_keep_sendable (up_ports v) p (claims_in entries) h (all_numbered entries) can.body held.sendable;
-      sized = entries_keep_sized (up_ports v) p entries h lines held.sized;
+      sized = entries_keep_sized (up_ports v) p entries h listed held.sized;
       flags = entries_keep_flags (up_ports v) p (claims_in entries) h up held.flags;
       own = risen _ _ (steps.rises (own_id v.id.system)) held.own;
       apart = own_apart h.own (own_entry v) (get (hear_entries_of (up_ports v) p (claims_in entries) h).db (own_id v.id.system)) can.apart (entries_leave_own_body (up_ports v) p (claims_in entries) h (own_id v.id.system) refl) held.apart;
@@ -235,14 +235,14 @@ module _ (up next : PortSet) (p : ℕ) (low : 1 ≤ p) (high : p ≤ 32) where
         (λ apart. has-without_other set p q low high apart ∙ none)
         (cases_eq q p)
 
-    parted_flags : (e : Entry) → HasFlagsAt up e → HasFlagsAt next (parted p e)
-    parted_flags e flags = record { srm = without_up e.srm flags.srm; ssn = without_up e.ssn flags.ssn; absent = λ gone q. without_none e.srm q (flags.absent gone q) }
+    flags_cleared_flags : (e : Entry) → HasFlagsAt up e → HasFlagsAt next (flags_cleared_at p e)
+    flags_cleared_flags e flags = record { srm = without_up e.srm flags.srm; ssn = without_up e.ssn flags.ssn; absent = λ gone q. without_none e.srm q (flags.absent gone q) }
 
-    parted_keeps : KeepsEntry up next (λ id e. parted p e)
-    parted_keeps = record {
+    flags_cleared_keeps : KeepsEntry up next (λ id e. flags_cleared_at p e)
+    flags_cleared_keeps = record {
       sendable = λ x e s. flags_sendable (without_port e.srm p) (without_port e.ssn p) x e s;
       sized = λ x e s. flags_keep_sized (without_port e.srm p) (without_port e.ssn p) x e s;
-      flags = λ x e flags. parted_flags e flags;
+      flags = λ x e flags. flags_cleared_flags e flags;
       there = λ x e there. there;
       apart = λ x e apart. apart;
     }
@@ -254,33 +254,33 @@ module _ (up next : PortSet) (p : ℕ) (low : 1 ≤ p) (high : p ≤ 32) where
         (λ apart. stay q (within q (sym (has-with_other set p q low high apart) ∙ on)))
         (cases_eq q p)
 
-    joined_flags : (e : Entry) (b : Bool) → is_absent e.version ≡ b → HasFlagsAt up e → HasFlagsAt next (if b then e else record e { srm = with_port e.srm p })
-    joined_flags e true gone flags = wider up next e stay flags
-    joined_flags e false there flags = record { srm = with_here e.srm flags.srm; ssn = λ q on. stay q (flags.ssn q on); absent = λ gone q. absurd (true≢false (sym (ap is_absent gone) ∙ there)) }
+    srm_set_flags : (e : Entry) (b : Bool) → is_absent e.version ≡ b → HasFlagsAt up e → HasFlagsAt next (if b then e else record e { srm = with_port e.srm p })
+    srm_set_flags e true gone flags = wider up next e stay flags
+    srm_set_flags e false there flags = record { srm = with_here e.srm flags.srm; ssn = λ q on. stay q (flags.ssn q on); absent = λ gone q. absurd (true≢false (sym (ap is_absent gone) ∙ there)) }
 
-    joined_sendable : (x : LspId) (e : Entry) (b : Bool) → IsSendable x e → IsSendable x (if b then e else record e { srm = with_port e.srm p })
-    joined_sendable x e true s = s
-    joined_sendable x e false s = flags_sendable (with_port e.srm p) e.ssn x e s
+    srm_set_sendable : (x : LspId) (e : Entry) (b : Bool) → IsSendable x e → IsSendable x (if b then e else record e { srm = with_port e.srm p })
+    srm_set_sendable x e true s = s
+    srm_set_sendable x e false s = flags_sendable (with_port e.srm p) e.ssn x e s
 
-    joined_sized : (x : LspId) (e : Entry) (b : Bool) → IsSized x e → IsSized x (if b then e else record e { srm = with_port e.srm p })
-    joined_sized x e true s = s
-    joined_sized x e false s = flags_keep_sized (with_port e.srm p) e.ssn x e s
+    srm_set_sized : (x : LspId) (e : Entry) (b : Bool) → IsSized x e → IsSized x (if b then e else record e { srm = with_port e.srm p })
+    srm_set_sized x e true s = s
+    srm_set_sized x e false s = flags_keep_sized (with_port e.srm p) e.ssn x e s
 
-    joined_there : (e : Entry) (b : Bool) → is_absent e.version ≡ false → is_absent (if b then e else record e { srm = with_port e.srm p }).version ≡ false
-    joined_there e true there = there
-    joined_there e false there = there
+    srm_set_there : (e : Entry) (b : Bool) → is_absent e.version ≡ false → is_absent (if b then e else record e { srm = with_port e.srm p }).version ≡ false
+    srm_set_there e true there = there
+    srm_set_there e false there = there
 
-    joined_apart : (e : Entry) (b : Bool) → HasApart e.body → HasApart (if b then e else record e { srm = with_port e.srm p }).body
-    joined_apart e true apart = apart
-    joined_apart e false apart = apart
+    srm_set_apart : (e : Entry) (b : Bool) → HasApart e.body → HasApart (if b then e else record e { srm = with_port e.srm p }).body
+    srm_set_apart e true apart = apart
+    srm_set_apart e false apart = apart
 
-    joined_keeps : KeepsEntry up next (λ id e. joined p e)
-    joined_keeps = record {
-      sendable = λ x e s. joined_sendable x e (is_absent e.version) s;
-      sized = λ x e s. joined_sized x e (is_absent e.version) s;
-      flags = λ x e flags. joined_flags e (is_absent e.version) refl flags;
-      there = λ x e there. joined_there e (is_absent e.version) there;
-      apart = λ x e apart. joined_apart e (is_absent e.version) apart;
+    srm_set_keeps : KeepsEntry up next (λ id e. srm_set_at p e)
+    srm_set_keeps = record {
+      sendable = λ x e s. srm_set_sendable x e (is_absent e.version) s;
+      sized = λ x e s. srm_set_sized x e (is_absent e.version) s;
+      flags = λ x e flags. srm_set_flags e (is_absent e.version) refl flags;
+      there = λ x e there. srm_set_there e (is_absent e.version) there;
+      apart = λ x e apart. srm_set_apart e (is_absent e.version) apart;
     }
 
 -- ---- the Up ports, where one port changes
@@ -329,19 +329,19 @@ moved_keeps v p old new few there stays held =
     let w : BridgeView = with_port_at p new v in
     wider_keeps (up_ports v) (up_ports w) v.id.system v.database (all_stay v p old new few there stays) held
 
-pub left_keeps : (v : BridgeView) (p : ℕ) (old new : BridgePort) → length v.ports ≤ 32 → port_at v p ≡ Some old → Holds v → Holds (left p new v)
+pub left_keeps : (v : BridgeView) (p : ℕ) (old new : BridgePort) → length v.ports ≤ 32 → port_at v p ≡ Some old → Holds v → Holds (left_up p new v)
 left_keeps v p old new few there held =
-    let w : BridgeView = left p new v in
+    let w : BridgeView = left_up p new v in
     let range = port_range v.ports p old few there in
-    each_keeps (up_ports v) (up_ports w) v.id.system (λ id e. parted p e) v.database
-    (parted_keeps (up_ports v) (up_ports w) p range.0 range.1 (others_stay v p old (with_due false new) few there)) held
+    each_keeps (up_ports v) (up_ports w) v.id.system (λ id e. flags_cleared_at p e) v.database
+    (flags_cleared_keeps (up_ports v) (up_ports w) p range.0 range.1 (others_stay v p old (with_csnp_due false new) few there)) held
 
-pub joined_at_keeps : (v : BridgeView) (p : ℕ) (old new : BridgePort) → length v.ports ≤ 32 → port_at v p ≡ Some old → is_port_up new ≡ true → Holds v → Holds (joined_at p new v)
-joined_at_keeps v p old new few there up held =
-    let w : BridgeView = joined_at p new v in
+pub srm_set_at_keeps : (v : BridgeView) (p : ℕ) (old new : BridgePort) → length v.ports ≤ 32 → port_at v p ≡ Some old → is_port_up new ≡ true → Holds v → Holds (all_srm_set_at p new v)
+srm_set_at_keeps v p old new few there up held =
+    let w : BridgeView = all_srm_set_at p new v in
     let range = port_range v.ports p old few there in
-    each_keeps (up_ports v) (up_ports w) v.id.system (λ id e. joined p e) v.database
-    (joined_keeps (up_ports v) (up_ports w) p range.0 range.1 (all_stay v p old (with_due true new) few there (λ was. up)) (up_after v p old (with_due true new) few there up)) held
+    each_keeps (up_ports v) (up_ports w) v.id.system (λ id e. srm_set_at p e) v.database
+    (srm_set_keeps (up_ports v) (up_ports w) p range.0 range.1 (all_stay v p old (with_csnp_due true new) few there (λ was. up)) (up_after v p old (with_csnp_due true new) few there up)) held
 
 -- ---- a second passes
 
@@ -388,33 +388,33 @@ expired_keeps v held =
 abbrev IsPortNumber : ℕ → Type 0
 IsPortNumber p = (1 ≤ p) × (p ≤ 32)
 
-all_parted_flags : (ps : List ℕ) (up next : PortSet) (e : Entry) → AllByRecursion IsPortNumber ps → ((q : ℕ) → has up q ≡ true → Has q ps ⊎ (has next q ≡ true)) → HasFlagsAt up e → HasFlagsAt next (parted_all ps e)
-all_parted_flags [] up next e range stay flags = wider up next e (λ q on. elim (stay q on) [ inl h ↦ absurd h | inr up ↦ up ]) flags
-all_parted_flags (p ∷ ps) up next e range stay flags =
+all_flags_cleared_flags : (ps : List ℕ) (up next : PortSet) (e : Entry) → AllByRecursion IsPortNumber ps → ((q : ℕ) → has up q ≡ true → Has q ps ⊎ (has next q ≡ true)) → HasFlagsAt up e → HasFlagsAt next (flags_cleared_at_all ps e)
+all_flags_cleared_flags [] up next e range stay flags = wider up next e (λ q on. elim (stay q on) [ inl h ↦ absurd h | inr up ↦ up ]) flags
+all_flags_cleared_flags (p ∷ ps) up next e range stay flags =
     let low = range.0.0 in
     let high = range.0.1 in
     let mid : PortSet = without_port up p in
-    let parts : HasFlagsAt mid (parted p e) = parted_flags up mid p low high (λ q apart on. has-without_other up p q low high apart ∙ on) e flags in
-    all_parted_flags ps mid next (parted p e) range.1 (λ q on. ⊎_elim
+    let parts : HasFlagsAt mid (flags_cleared_at p e) = flags_cleared_flags up mid p low high (λ q apart on. has-without_other up p q low high apart ∙ on) e flags in
+    all_flags_cleared_flags ps mid next (flags_cleared_at p e) range.1 (λ q on. ⊎_elim
     (λ here. absurd (true≢false (sym on ∙ (ap (has mid) here ∙ has-without_same up p low high))))
     (λ apart. elim (stay q (sym (has-without_other up p q low high apart) ∙ on)) [ inl h ↦ elim h [ inl here ↦ absurd (apart here) | inr among ↦ inl among ] | inr up ↦ inr up ])
     (cases_eq q p)) parts
 
-all_parted_sendable : (ps : List ℕ) (x : LspId) (e : Entry) → IsSendable x e → IsSendable x (parted_all ps e)
-all_parted_sendable [] x e s = s
-all_parted_sendable (p ∷ ps) x e s = all_parted_sendable ps x (parted p e) (flags_sendable (without_port e.srm p) (without_port e.ssn p) x e s)
+all_flags_cleared_sendable : (ps : List ℕ) (x : LspId) (e : Entry) → IsSendable x e → IsSendable x (flags_cleared_at_all ps e)
+all_flags_cleared_sendable [] x e s = s
+all_flags_cleared_sendable (p ∷ ps) x e s = all_flags_cleared_sendable ps x (flags_cleared_at p e) (flags_sendable (without_port e.srm p) (without_port e.ssn p) x e s)
 
-all_parted_sized : (ps : List ℕ) (x : LspId) (e : Entry) → IsSized x e → IsSized x (parted_all ps e)
-all_parted_sized [] x e s = s
-all_parted_sized (p ∷ ps) x e s = all_parted_sized ps x (parted p e) (flags_keep_sized (without_port e.srm p) (without_port e.ssn p) x e s)
+all_flags_cleared_sized : (ps : List ℕ) (x : LspId) (e : Entry) → IsSized x e → IsSized x (flags_cleared_at_all ps e)
+all_flags_cleared_sized [] x e s = s
+all_flags_cleared_sized (p ∷ ps) x e s = all_flags_cleared_sized ps x (flags_cleared_at p e) (flags_keep_sized (without_port e.srm p) (without_port e.ssn p) x e s)
 
-all_parted_there : (ps : List ℕ) (e : Entry) → is_absent e.version ≡ false → is_absent (parted_all ps e).version ≡ false
-all_parted_there [] e there = there
-all_parted_there (p ∷ ps) e there = all_parted_there ps (parted p e) there
+all_flags_cleared_there : (ps : List ℕ) (e : Entry) → is_absent e.version ≡ false → is_absent (flags_cleared_at_all ps e).version ≡ false
+all_flags_cleared_there [] e there = there
+all_flags_cleared_there (p ∷ ps) e there = all_flags_cleared_there ps (flags_cleared_at p e) there
 
-all_parted_apart : (ps : List ℕ) (e : Entry) → HasApart e.body → HasApart (parted_all ps e).body
-all_parted_apart [] e apart = apart
-all_parted_apart (p ∷ ps) e apart = all_parted_apart ps (parted p e) apart
+all_flags_cleared_apart : (ps : List ℕ) (e : Entry) → HasApart e.body → HasApart (flags_cleared_at_all ps e).body
+all_flags_cleared_apart [] e apart = apart
+all_flags_cleared_apart (p ∷ ps) e apart = all_flags_cleared_apart ps (flags_cleared_at p e) apart
 
 -- a port where the neighbour is lost is among those
 later_has : (b : Bool) (q p : ℕ) (ports : List BridgePort) → Has q (leaving_from (p + 1) ports) → Has q (if b then p ∷ leaving_from (p + 1) ports else leaving_from (p + 1) ports)
@@ -459,25 +459,25 @@ stay_or_leave ports q (Some port) few there up =
       | inr stays ↦ inr (up_at (map later ports) q (omega (arith, few, length-map ports later)) ∙ (ap is_up_in next ∙ stays))
     ]
 
-pub counted_keeps : (v : BridgeView) → length v.ports ≤ 32 → Holds v → Holds (counted v)
-counted_keeps v few held =
+pub counts_lowered_keeps : (v : BridgeView) → length v.ports ≤ 32 → Holds v → Holds (counts_lowered v)
+counts_lowered_keeps v few held =
     let ps : List ℕ = leaving_from 1 v.ports in
-    let w : BridgeView = counted v in
-    let keeps : KeepsEntry (up_ports v) (up_ports w) (λ id e. parted_all ps e) = record {
-      sendable = all_parted_sendable ps;
-      sized = all_parted_sized ps;
-      flags = λ x e flags. all_parted_flags ps (up_ports v) (up_ports w) e (leaving_range 1 v.ports (omega arith) (omega (arith, few)))
+    let w : BridgeView = counts_lowered v in
+    let keeps : KeepsEntry (up_ports v) (up_ports w) (λ id e. flags_cleared_at_all ps e) = record {
+      sendable = all_flags_cleared_sendable ps;
+      sized = all_flags_cleared_sized ps;
+      flags = λ x e flags. all_flags_cleared_flags ps (up_ports v) (up_ports w) e (leaving_range 1 v.ports (omega arith) (omega (arith, few)))
           (λ q up. stay_or_leave v.ports q (port_in v.ports q) few refl (sym (up_at v.ports q few) ∙ up)) flags;
-      there = λ x e there. all_parted_there ps e there;
-      apart = λ x e apart. all_parted_apart ps e apart;
+      there = λ x e there. all_flags_cleared_there ps e there;
+      apart = λ x e apart. all_flags_cleared_apart ps e apart;
     } in
-    each_keeps (up_ports v) (up_ports w) v.id.system (λ id e. parted_all ps e) v.database keeps held
+    each_keeps (up_ports v) (up_ports w) v.id.system (λ id e. flags_cleared_at_all ps e) v.database keeps held
 
--- ---- what was owed was sent
+-- ---- what had SSN was sent
 
-owed_flags : (up : PortSet) (p : ℕ) (e : Entry) (b : Bool) → is_owed p e ≡ b → HasFlagsAt up e → HasFlagsAt up (if b then record e { ssn = without_port e.ssn p } else e)
-owed_flags up p e true owed flags =
-    let range = has_port e.ssn p owed in
+ssn_flags : (up : PortSet) (p : ℕ) (e : Entry) (b : Bool) → has_ssn_at p e ≡ b → HasFlagsAt up e → HasFlagsAt up (if b then record e { ssn = without_port e.ssn p } else e)
+ssn_flags up p e true ssn flags =
+    let range = has_port e.ssn p ssn in
     record {
       srm = flags.srm;
       ssn = λ q on. ⊎_elim
@@ -486,55 +486,55 @@ owed_flags up p e true owed flags =
           (cases_eq q p);
       absent = flags.absent;
     }
-owed_flags up p e false owed flags = flags
+ssn_flags up p e false ssn flags = flags
 
-owed_sendable : (x : LspId) (p : ℕ) (e : Entry) (b : Bool) → IsSendable x e → IsSendable x (if b then record e { ssn = without_port e.ssn p } else e)
-owed_sendable x p e true s = flags_sendable e.srm (without_port e.ssn p) x e s
-owed_sendable x p e false s = s
+ssn_sendable : (x : LspId) (p : ℕ) (e : Entry) (b : Bool) → IsSendable x e → IsSendable x (if b then record e { ssn = without_port e.ssn p } else e)
+ssn_sendable x p e true s = flags_sendable e.srm (without_port e.ssn p) x e s
+ssn_sendable x p e false s = s
 
-owed_sized : (x : LspId) (p : ℕ) (e : Entry) (b : Bool) → IsSized x e → IsSized x (if b then record e { ssn = without_port e.ssn p } else e)
-owed_sized x p e true s = flags_keep_sized e.srm (without_port e.ssn p) x e s
-owed_sized x p e false s = s
+ssn_sized : (x : LspId) (p : ℕ) (e : Entry) (b : Bool) → IsSized x e → IsSized x (if b then record e { ssn = without_port e.ssn p } else e)
+ssn_sized x p e true s = flags_keep_sized e.srm (without_port e.ssn p) x e s
+ssn_sized x p e false s = s
 
-owed_there : (p : ℕ) (e : Entry) (b : Bool) → is_absent e.version ≡ false → is_absent (if b then record e { ssn = without_port e.ssn p } else e).version ≡ false
-owed_there p e true there = there
-owed_there p e false there = there
+ssn_there : (p : ℕ) (e : Entry) (b : Bool) → is_absent e.version ≡ false → is_absent (if b then record e { ssn = without_port e.ssn p } else e).version ≡ false
+ssn_there p e true there = there
+ssn_there p e false there = there
 
-owed_apart : (p : ℕ) (e : Entry) (b : Bool) → HasApart e.body → HasApart (if b then record e { ssn = without_port e.ssn p } else e).body
-owed_apart p e true apart = apart
-owed_apart p e false apart = apart
+ssn_apart : (p : ℕ) (e : Entry) (b : Bool) → HasApart e.body → HasApart (if b then record e { ssn = without_port e.ssn p } else e).body
+ssn_apart p e true apart = apart
+ssn_apart p e false apart = apart
 
-pub all_settled_keeps : (up : PortSet) (system : SystemId) (p : ℕ) (db : Lsps) → IsSoundData up system db → IsSoundData up system (all_settled p db)
-all_settled_keeps up system p db held =
-    let keeps : KeepsEntry up up (λ id e. told_entry p e) = record {
-      sendable = λ x e s. owed_sendable x p e (is_owed p e) s;
-      sized = λ x e s. owed_sized x p e (is_owed p e) s;
-      flags = λ x e flags. owed_flags up p e (is_owed p e) refl flags;
-      there = λ x e there. owed_there p e (is_owed p e) there;
-      apart = λ x e apart. owed_apart p e (is_owed p e) apart;
+pub all_ssn_cleared_keeps : (up : PortSet) (system : SystemId) (p : ℕ) (db : Lsps) → IsSoundData up system db → IsSoundData up system (all_ssn_cleared p db)
+all_ssn_cleared_keeps up system p db held =
+    let keeps : KeepsEntry up up (λ id e. ssn_cleared_entry p e) = record {
+      sendable = λ x e s. ssn_sendable x p e (has_ssn_at p e) s;
+      sized = λ x e s. ssn_sized x p e (has_ssn_at p e) s;
+      flags = λ x e flags. ssn_flags up p e (has_ssn_at p e) refl flags;
+      there = λ x e there. ssn_there p e (has_ssn_at p e) there;
+      apart = λ x e apart. ssn_apart p e (has_ssn_at p e) apart;
     } in
-    each_keeps up up system (λ id e. told_entry p e) db keeps held
+    each_keeps up up system (λ id e. ssn_cleared_entry p e) db keeps held
 
-told_by : (b : Bool) (up : PortSet) (system : SystemId) (p : ℕ) (db : Lsps) → IsSoundData up system db → IsSoundData up system (if b then all_settled p db else db)
-told_by true up system p db held = all_settled_keeps up system p db held
-told_by false up system p db held = held
+after_sending_by : (b : Bool) (up : PortSet) (system : SystemId) (p : ℕ) (db : Lsps) → IsSoundData up system db → IsSoundData up system (if b then all_ssn_cleared p db else db)
+after_sending_by true up system p db held = all_ssn_cleared_keeps up system p db held
+after_sending_by false up system p db held = held
 
-pub told_at_keeps : (up : PortSet) (system : SystemId) (p : ℕ) (port : BridgePort) (db : Lsps) → IsSoundData up system db → IsSoundData up system (told_at p port db)
-told_at_keeps up system p port db held = told_by (is_port_up port) up system p db held
+pub after_sending_at_keeps : (up : PortSet) (system : SystemId) (p : ℕ) (port : BridgePort) (db : Lsps) → IsSoundData up system db → IsSoundData up system (after_sending_at p port db)
+after_sending_at_keeps up system p port db held = after_sending_by (is_port_up port) up system p db held
 
-pub told_from_keeps : (up : PortSet) (system : SystemId) (p : ℕ) (ports : List BridgePort) (db : Lsps) → IsSoundData up system db → IsSoundData up system (told_from p ports db)
-told_from_keeps up system p [] db held = held
-told_from_keeps up system p (port ∷ ports) db held = told_from_keeps up system (p + 1) ports (told_at p port db) (told_at_keeps up system p port db held)
+pub after_sending_from_keeps : (up : PortSet) (system : SystemId) (p : ℕ) (ports : List BridgePort) (db : Lsps) → IsSoundData up system db → IsSoundData up system (after_sending_from p ports db)
+after_sending_from_keeps up system p [] db held = held
+after_sending_from_keeps up system p (port ∷ ports) db held = after_sending_from_keeps up system (p + 1) ports (after_sending_at p port db) (after_sending_at_keeps up system p port db held)
 
 -- CSNPs aren't due any more, and the Up ports are as before
 same_up_at : (b : Bool) (s t : PortSet) (p : ℕ) → s ≡ t → (if b then with_port s p else s) ≡ (if b then with_port t p else t)
 same_up_at b s t p e = ap (λ set. if b then with_port set p else set) e
 
-pub undue_up : (p : ℕ) (ports : List BridgePort) → up_from p (map (with_due false) ports) ≡ up_from p ports
+pub undue_up : (p : ℕ) (ports : List BridgePort) → up_from p (map (with_csnp_due false) ports) ≡ up_from p ports
 undue_up p [] = refl
 undue_up p (port ∷ ports) = same_up_at (is_port_up port) _ _ p (undue_up (p + 1) ports)
 
-pub told_keeps : (v : BridgeView) → Holds v → Holds (told v)
-told_keeps v held =
-    subst (λ (up : PortSet). IsSoundData up v.id.system (told_from 1 v.ports v.database)) (sym (undue_up 1 v.ports))
-    (told_from_keeps (up_ports v) v.id.system 1 v.ports v.database held)
+pub after_sending_keeps : (v : BridgeView) → Holds v → Holds (after_sending v)
+after_sending_keeps v held =
+    subst (λ (up : PortSet). IsSoundData up v.id.system (after_sending_from 1 v.ports v.database)) (sym (undue_up 1 v.ports))
+    (after_sending_from_keeps (up_ports v) v.id.system 1 v.ports v.database held)

@@ -23,29 +23,29 @@ use Rattle.flooding.proofs.Owns.{originated_stands, origination_leaves_others}
 use Rattle.flooding.proofs.SendableEntries.{origination_keeps_sendable}
 use Rattle.flooding.proofs.FlagEntries.{origination_keeps_flags}
 use Rattle.snp_sync.proofs.Fields.{origination_keeps_sized}
-use Rattle.adjacency.specs.declared.state.Heard.{Heard}
-use Rattle.adjacency.specs.declared.state.Heard.TheVariants.{Kept, CameUp, LeftUp, Discarded}
+use Rattle.adjacency.specs.declared.state.AdjacencyChange.{AdjacencyChange}
+use Rattle.adjacency.specs.declared.state.AdjacencyChange.TheVariants.{Kept, CameUp, LeftUp, Discarded}
 use Rattle.adjacency.specs.declared.port.Adjacency.{Adjacency}
 use Rattle.adjacency.specs.Hearing.{is_discarded, sender}
 use Rattle.adjacency.specs.States.{next_state, state_numbered}
-use Rattle.adjacency.specs.Adjacency.{IsSound, state_towards, after_heard, after_carrier, change_of}
+use Rattle.adjacency.specs.Adjacency.{IsSound, state_towards, after_hello_heard, after_carrier, change_of}
 use Rattle.bridge_api.specs.declared.port.BridgePort.{BridgePort}
 use Rattle.bridge_api.specs.declared.config.BridgeConfig.{BridgeConfig}
 use Rattle.bridge_api.specs.View.{BridgeView, port_in, port_at, with_port_at, is_port_up, is_up_in, up_from, up_ports}
-use Rattle.bridge_api.specs.Own.{own_of, own_entry, holding_of, settled}
-use Rattle.bridge_api.specs.Config.{IsWhole, IsMetric, dark, bare, configured}
-use Rattle.bridge_api.specs.Hearing.{with_due, with_adjacency, left, joined_at, changed_at, flooded, completed, requested, greeted, after_receive, carried_at, with_carrier, metered, with_metric}
-use Rattle.bridge_api.specs.Ticking.{later, counted, expired, readied, after_tick}
+use Rattle.bridge_api.specs.Own.{own_of, own_entry, holding_of, originated_if_changed}
+use Rattle.bridge_api.specs.Config.{IsWhole, IsMetric, port_without_carrier, bare, configured}
+use Rattle.bridge_api.specs.Hearing.{with_csnp_due, with_adjacency, left_up, all_srm_set_at, changed_at, heard_lsp, heard_csnp, heard_psnp, heard_hello, after_receive, with_carrier_at, with_carrier, with_port_metric, with_metric}
+use Rattle.bridge_api.specs.Ticking.{later, counts_lowered, expired, readied, after_tick}
 use Rattle.bridge_api.specs.Step.{Input, second, frame, carrier, metric, step}
 use Rattle.bridge_api.specs.Laws.{IsSoundPort, HasConfig, IsSoundView, IsInput, ConfiguredHoldsOwn}
 use Rattle.bridge_api.proofs.Places.{got_at}
 use Rattle.bridge_api.proofs.Adjacent.{came_up, stayed_up, hello_sound, carrier_sound}
-use Rattle.bridge_api.proofs.Changes.{KeepsRest, found, Flooded, Completed, Requested, frame_step, idle, by_hello, by_lsp, by_csnp, by_psnp, carrier_step, metric_step, settled_ports, tick_is}
-use Rattle.bridge_api.proofs.SoundPorts.{AreSoundPorts, all_set, heard_six, carrier_six, metered_sound, sound_at, source_six, all_later, all_dark, config_kept, bare_config}
+use Rattle.bridge_api.proofs.Changes.{KeepsRest, found, LspStep, CsnpStep, PsnpStep, frame_step, idle, by_hello, by_lsp, by_csnp, by_psnp, carrier_step, metric_step, originated_if_changed_ports, tick_is}
+use Rattle.bridge_api.proofs.SoundPorts.{AreSoundPorts, all_set, heard_six, carrier_six, with_metric_sound, sound_at, source_six, all_later, all_without_carrier, config_kept, bare_config}
 use Rattle.bridge_api.proofs.Saying.{has_body, can_say}
 use Rattle.bridge_api.proofs.OwnPorts.{HasApart, body_apart}
-use Rattle.bridge_api.proofs.Data.{Holds, lsps_of, CanOriginate, own_named, up_at, settled_keeps, refreshed_keeps, lsp_keeps, csnp_keeps, psnp_keeps, moved_keeps, left_keeps, joined_at_keeps, counted_keeps, expired_keeps, told_keeps}
-use Rattle.bridge_api.proofs.Reading.{heard_lsp, heard_csnp, heard_psnp}
+use Rattle.bridge_api.proofs.Data.{Holds, lsps_of, CanOriginate, own_named, up_at, originated_if_changed_keeps, refreshed_keeps, lsp_keeps, csnp_keeps, psnp_keeps, moved_keeps, left_keeps, srm_set_at_keeps, counts_lowered_keeps, expired_keeps, after_sending_keeps}
+use Rattle.bridge_api.proofs.Reading.{lsp_heard_at, csnp_heard_at, psnp_heard_at}
 
 -- a configured bridge with sound ports can originate
 pub can_originate : (v : BridgeView) → HasConfig v → length v.ports ≤ 32 → AreSoundPorts v.ports → CanOriginate v
@@ -77,58 +77,58 @@ module _ (v : BridgeView) (was : IsSoundView v) where
       kept_sound : change_of old.adjacency a ≡ Kept → IsSoundPort (with_adjacency a old)
       kept_sound e =
           let before : IsSoundPort old = sound_at v p old was.ports there in
-          record { adjacency = sound; neighbour = six; due = λ due. stayed_up old.adjacency a e (before.due due); metric = before.metric }
+          record { adjacency = sound; neighbour = six; csnp_due = λ due. stayed_up old.adjacency a e (before.csnp_due due); metric = before.metric }
 
-      left_sound : IsSoundPort (with_due false (with_adjacency a old))
-      left_sound = let before : IsSoundPort old = sound_at v p old was.ports there in record { adjacency = sound; neighbour = six; due = λ e. absurd cc; metric = before.metric }
+      left_sound : IsSoundPort (with_csnp_due false (with_adjacency a old))
+      left_sound = let before : IsSoundPort old = sound_at v p old was.ports there in record { adjacency = sound; neighbour = six; csnp_due = λ e. absurd cc; metric = before.metric }
 
-      left_holds : Holds (settled (left p (with_adjacency a old) v))
+      left_holds : Holds (originated_if_changed (left_up p (with_adjacency a old) v))
       left_holds =
-          let w : BridgeView = left p (with_adjacency a old) v in
-          settled_keeps w (can_set w (with_due false (with_adjacency a old)) refl refl left_sound) (left_keeps v p old (with_adjacency a old) was.few there before_holds)
+          let w : BridgeView = left_up p (with_adjacency a old) v in
+          originated_if_changed_keeps w (can_set w (with_csnp_due false (with_adjacency a old)) refl refl left_sound) (left_keeps v p old (with_adjacency a old) was.few there before_holds)
 
-      came_holds : is_port_up (with_adjacency a old) ≡ true → Holds (joined_at p (with_adjacency a old) (settled (left p (with_adjacency a old) v)))
+      came_holds : is_port_up (with_adjacency a old) ≡ true → Holds (all_srm_set_at p (with_adjacency a old) (originated_if_changed (left_up p (with_adjacency a old) v)))
       came_holds up =
-          let w : BridgeView = left p (with_adjacency a old) v in
-          let u : BridgeView = settled w in
+          let w : BridgeView = left_up p (with_adjacency a old) v in
+          let u : BridgeView = originated_if_changed w in
           let at = found v.ports p old there in
-          let undue : BridgePort = with_due false (with_adjacency a old) in
-          let few : length u.ports ≤ 32 = subst (λ (ports : List BridgePort). length ports ≤ 32) (sym (settled_ports w)) (few_set undue) in
+          let undue : BridgePort = with_csnp_due false (with_adjacency a old) in
+          let few : length u.ports ≤ 32 = subst (λ (ports : List BridgePort). length ports ≤ 32) (sym (originated_if_changed_ports w)) (few_set undue) in
           let got : port_in (slice_set v.ports (p - 1) undue) p ≡ Some undue = rw (le-leb 1 p at.0) (got_at v.ports (p - 1) undue (slice_get_within v.ports (p - 1) old at.1)) in
-          let now : port_at u p ≡ Some undue = ap (λ (ports : List BridgePort). port_in ports p) (settled_ports w) ∙ got in
-          joined_at_keeps u p undue (with_adjacency a old) few now up left_holds
+          let now : port_at u p ≡ Some undue = ap (λ (ports : List BridgePort). port_in ports p) (originated_if_changed_ports w) ∙ got in
+          srm_set_at_keeps u p undue (with_adjacency a old) few now up left_holds
 
-      changed_holds : (heard : Heard) → change_of old.adjacency a ≡ heard → Holds (changed_at heard p (with_adjacency a old) v)
+      changed_holds : (heard : AdjacencyChange) → change_of old.adjacency a ≡ heard → Holds (changed_at heard p (with_adjacency a old) v)
       changed_holds Discarded e = before_holds
       changed_holds Kept e =
           let w : BridgeView = with_port_at p (with_adjacency a old) v in
-          settled_keeps w (can_set w (with_adjacency a old) refl refl (kept_sound e)) (moved_keeps v p old (with_adjacency a old) was.few there (stayed_up old.adjacency a e) before_holds)
+          originated_if_changed_keeps w (can_set w (with_adjacency a old) refl refl (kept_sound e)) (moved_keeps v p old (with_adjacency a old) was.few there (stayed_up old.adjacency a e) before_holds)
       changed_holds LeftUp e = left_holds
       changed_holds CameUp e = came_holds (came_up old.adjacency a e)
 
     -- a hello
-    hello_holds : (discarded : Bool) (h : HelloValue) (way : ThreeWay) → IsId h.source → IsSound (if discarded then old.adjacency else after_heard h way old.adjacency)
-        → Holds (changed_at (if discarded then Discarded else change_of old.adjacency (after_heard h way old.adjacency)) p (with_adjacency (if discarded then old.adjacency else after_heard h way old.adjacency) old) v)
+    hello_holds : (discarded : Bool) (h : HelloValue) (way : ThreeWay) → IsId h.source → IsSound (if discarded then old.adjacency else after_hello_heard h way old.adjacency)
+        → Holds (changed_at (if discarded then Discarded else change_of old.adjacency (after_hello_heard h way old.adjacency)) p (with_adjacency (if discarded then old.adjacency else after_hello_heard h way old.adjacency) old) v)
     hello_holds true h way six sound = before_holds
     hello_holds false h way six sound =
-        let a : Adjacency = after_heard h way old.adjacency in
+        let a : Adjacency = after_hello_heard h way old.adjacency in
         changed_holds a sound (heard_six (h.holding == 0) (next_state (state_towards (sender h way) old.adjacency) (state_numbered way.state)) h way six) (change_of old.adjacency a) refl
 
-    greeted_holds : (h : HelloValue) (way : ThreeWay) → IsId h.source → Holds (greeted h way p old v)
-    greeted_holds h way six =
+    heard_hello_holds : (h : HelloValue) (way : ThreeWay) → IsId h.source → Holds (heard_hello h way p old v)
+    heard_hello_holds h way six =
         let before : IsSoundPort old = sound_at v p old was.ports there in
         hello_holds (is_discarded v.id.system p h way) h way six (hello_sound v.id.system p h way old.adjacency before.adjacency)
 
-    carried_holds : (on : Bool) → Holds (carried_at p on (Some old) v)
-    carried_holds on =
+    with_carrier_holds : (on : Bool) → Holds (with_carrier_at p on (Some old) v)
+    with_carrier_holds on =
         let before : IsSoundPort old = sound_at v p old was.ports there in
         let a : Adjacency = after_carrier on old.adjacency in
         changed_holds a (carrier_sound on old.adjacency before.adjacency) (carrier_six on old.adjacency before.neighbour) (change_of old.adjacency a) refl
 
-    metered_holds : (m : ℕ) → IsMetric m → Holds (settled (with_port_at p (metered m old) v))
-    metered_holds m is =
-        let w : BridgeView = with_port_at p (metered m old) v in
-        settled_keeps w (can_set w (metered m old) refl refl (metered_sound m old is (sound_at v p old was.ports there))) (moved_keeps v p old (metered m old) was.few there (λ up. up) before_holds)
+    with_metric_holds : (m : ℕ) → IsMetric m → Holds (originated_if_changed (with_port_at p (with_port_metric m old) v))
+    with_metric_holds m is =
+        let w : BridgeView = with_port_at p (with_port_metric m old) v in
+        originated_if_changed_keeps w (can_set w (with_port_metric m old) refl refl (with_metric_sound m old is (sound_at v p old was.ports there))) (moved_keeps v p old (with_port_metric m old) was.few there (λ up. up) before_holds)
 
     -- the port is among the Up ones
     among_up : is_port_up old ≡ true → has (up_ports v) p ≡ true
@@ -137,58 +137,58 @@ module _ (v : BridgeView) (was : IsSoundView v) where
   can : CanOriginate v
   can = can_originate v was.config was.few was.ports
 
-  flooded_holds : (q : ℕ) (bytes : List ℕ) (w : BridgeView) → Flooded v q bytes w → Holds w
-  flooded_holds q bytes w g =
-      let l = heard_lsp bytes g.lsp g.is in
-      let u : BridgeView = flooded g.lsp q v in
+  heard_lsp_holds : (q : ℕ) (bytes : List ℕ) (w : BridgeView) → LspStep v q bytes w → Holds w
+  heard_lsp_holds q bytes w g =
+      let l = lsp_heard_at bytes g.lsp g.is in
+      let u : BridgeView = heard_lsp g.lsp q v in
       subst Holds (sym g.after)
-      (settled_keeps u (can_after u refl was.few was.ports) (lsp_keeps g.lsp q v (among_up q g.port g.there g.up) l.whole l.id l.fields can before_holds))
+      (originated_if_changed_keeps u (can_after u refl was.few was.ports) (lsp_keeps g.lsp q v (among_up q g.port g.there g.up) l.whole l.id l.fields can before_holds))
 
-  completed_holds : (q : ℕ) (bytes : List ℕ) (w : BridgeView) → Completed v q bytes w → Holds w
-  completed_holds q bytes w g =
-      let u : BridgeView = completed g.csnp g.entries q v in
+  heard_csnp_holds : (q : ℕ) (bytes : List ℕ) (w : BridgeView) → CsnpStep v q bytes w → Holds w
+  heard_csnp_holds q bytes w g =
+      let u : BridgeView = heard_csnp g.csnp g.entries q v in
       subst Holds (sym g.after)
-      (settled_keeps u (can_after u refl was.few was.ports) (csnp_keeps g.csnp g.entries q v (among_up q g.port g.there g.up) (heard_csnp bytes g.csnp g.entries g.is g.read) can before_holds))
+      (originated_if_changed_keeps u (can_after u refl was.few was.ports) (csnp_keeps g.csnp g.entries q v (among_up q g.port g.there g.up) (csnp_heard_at bytes g.csnp g.entries g.is g.read) can before_holds))
 
-  requested_holds : (q : ℕ) (bytes : List ℕ) (w : BridgeView) → Requested v q bytes w → Holds w
-  requested_holds q bytes w g =
-      let u : BridgeView = requested g.entries q v in
+  heard_psnp_holds : (q : ℕ) (bytes : List ℕ) (w : BridgeView) → PsnpStep v q bytes w → Holds w
+  heard_psnp_holds q bytes w g =
+      let u : BridgeView = heard_psnp g.entries q v in
       subst Holds (sym g.after)
-      (settled_keeps u (can_after u refl was.few was.ports) (psnp_keeps g.entries q v (among_up q g.port g.there g.up) (heard_psnp bytes g.psnp g.entries g.is g.read) can before_holds))
+      (originated_if_changed_keeps u (can_after u refl was.few was.ports) (psnp_keeps g.entries q v (among_up q g.port g.there g.up) (psnp_heard_at bytes g.psnp g.entries g.is g.read) can before_holds))
 
   pub frame_holds : (q : ℕ) (bytes : List ℕ) → Holds (after_receive q bytes v)
   frame_holds q bytes =
       elim (frame_step v q bytes) [
         | idle e ↦ subst Holds (sym e) before_holds
-        | by_hello g ↦ subst Holds (sym g.after) (greeted_holds q g.port g.there g.hello g.way (source_six bytes g.hello g.way g.is))
-        | by_lsp g ↦ flooded_holds q bytes (after_receive q bytes v) g
-        | by_csnp g ↦ completed_holds q bytes (after_receive q bytes v) g
-        | by_psnp g ↦ requested_holds q bytes (after_receive q bytes v) g
+        | by_hello g ↦ subst Holds (sym g.after) (heard_hello_holds q g.port g.there g.hello g.way (source_six bytes g.hello g.way g.is))
+        | by_lsp g ↦ heard_lsp_holds q bytes (after_receive q bytes v) g
+        | by_csnp g ↦ heard_csnp_holds q bytes (after_receive q bytes v) g
+        | by_psnp g ↦ heard_psnp_holds q bytes (after_receive q bytes v) g
       ]
 
   pub carrier_holds : (q : ℕ) (on : Bool) → Holds (with_carrier q on v)
   carrier_holds q on =
       elim (carrier_step v q on) [
         | inl e ↦ subst Holds (sym e) before_holds
-        | inr g ↦ subst Holds (sym g.after) (carried_holds q g.port g.there on)
+        | inr g ↦ subst Holds (sym g.after) (with_carrier_holds q g.port g.there on)
       ]
 
   pub metric_holds : (q m : ℕ) → IsMetric m → Holds (with_metric q m v)
   metric_holds q m is =
       elim (metric_step v q m) [
         | inl e ↦ subst Holds (sym e) before_holds
-        | inr g ↦ subst Holds (sym g.after) (metered_holds q g.port g.there m is)
+        | inr g ↦ subst Holds (sym g.after) (with_metric_holds q g.port g.there m is)
       ]
 
   -- a second
   pub readied_holds : Holds (readied v)
   readied_holds =
-      let u : BridgeView = counted v in
+      let u : BridgeView = counts_lowered v in
       let w : BridgeView = expired u in
-      refreshed_keeps w (can_after w refl (omega (arith, length-map v.ports later, was.few)) (all_later v.ports was.ports)) (expired_keeps u (counted_keeps v was.few before_holds))
+      refreshed_keeps w (can_after w refl (omega (arith, length-map v.ports later, was.few)) (all_later v.ports was.ports)) (expired_keeps u (counts_lowered_keeps v was.few before_holds))
 
   pub tick_holds : Holds (after_tick v)
-  tick_holds = subst Holds (sym (tick_is v)) (told_keeps (readied v) readied_holds)
+  tick_holds = subst Holds (sym (tick_is v)) (after_sending_keeps (readied v) readied_holds)
 
 pub step_holds : (input : Input) (v : BridgeView) → IsInput v input → IsSoundView v → Holds (step input v)
 step_holds second v is was = tick_holds v was
@@ -199,7 +199,7 @@ step_holds (metric q m) v is was = metric_holds v was q m is
 -- ---- the configured bridge
 
 -- no port is Up
-none_up : (p : ℕ) (metrics : List ℕ) → up_from p (map dark metrics) ≡ no_ports
+none_up : (p : ℕ) (metrics : List ℕ) → up_from p (map port_without_carrier metrics) ≡ no_ports
 none_up p [] = refl
 none_up p (m ∷ metrics) = none_up (p + 1) metrics
 
@@ -237,7 +237,7 @@ configured_holds c whole =
     let v : BridgeView = bare c in
     let h : Holding = holding_of v in
     let up : PortSet = up_ports v in
-    let can : CanOriginate v = can_originate v (bare_config c whole) (omega (arith, length-map c.metrics dark, whole.metrics, whole.ports)) (all_dark c.metrics whole.each_metric) in
+    let can : CanOriginate v = can_originate v (bare_config c whole) (omega (arith, length-map c.metrics port_without_carrier, whole.metrics, whole.ports)) (all_without_carrier c.metrics whole.each_metric) in
     record {
       sendable = origination_keeps_sendable up h can.body (all_of_none _);
       sized = origination_keeps_sized up h can.named (all_of_none _);

@@ -11,30 +11,31 @@ use Rattle.spb_types.specs.declared.ports.PortSet.{PortSet}
 use Rattle.lsdb.specs.declared.version.Version.{Version}
 use Rattle.lsdb.specs.declared.version.Version.TheVariants.{Absent, Live, Dead}
 use Rattle.lsdb.specs.Version.{number_of, is_absent}
-use Rattle.lsdb.specs.Entry.{Entry, made, with_ssn, flagged, joined, parted, aged_at, aged}
-use Rattle.lsdb.specs.Database.{Lsps, id_cmp, version_in, version_at, fits, placed, each}
+use Rattle.lsdb.specs.Entry.{Entry, made, with_ssn, flagged, srm_set_at, flags_cleared_at, aged_at, aged}
+use Rattle.lsdb.specs.Database.{Lsps, id_cmp, version_in, version_at, fits, put_if_it_fits, each}
 use Rattle.lsdb.proofs.Ids.{ids_total}
 use Rattle.lsdb.proofs.LookupLemmas.{get-each}
-use Rattle.flooding.proofs.Claimed.{get-placed_fit}
+use Rattle.flooding.proofs.Claimed.{get-put_fit}
 use Rattle.flooding.specs.Own.{own_id, last_number, renewed}
 use Rattle.flooding.specs.declared.own.Own.{Own}
 use Rattle.flooding.specs.Hearing.{Holding}
 use Rattle.flooding.specs.Origination.{spent_entry, next_entry, originated_from, originated}
-use Rattle.snp_sync.specs.Line.{is_owed}
-use Rattle.snp_sync.specs.Sending.{settled as told_entry, all_settled}
+use Rattle.snp_sync.specs.SnpEntries.{has_ssn_at}
+use Rattle.snp_sync.specs.Sending.{ssn_cleared as ssn_cleared_entry, all_ssn_cleared}
 use Rattle.isis_pdu.specs.Pdu.{HelloValue}
 use Rattle.spb_tlvs.specs.declared.three_way.ThreeWay.{ThreeWay}
-use Rattle.adjacency.specs.declared.state.Heard.{Heard}
-use Rattle.adjacency.specs.declared.state.Heard.TheVariants.{Discarded, Kept, LeftUp, CameUp}
-use Rattle.adjacency.specs.Adjacency.{after_hello, heard_of, after_carrier, change_of}
+use Rattle.adjacency.specs.declared.state.AdjacencyChange.{AdjacencyChange}
+use Rattle.adjacency.specs.declared.state.AdjacencyChange.TheVariants.{Discarded, Kept, LeftUp, CameUp}
+use Rattle.adjacency.specs.Adjacency.{after_hello, change_by_hello, after_carrier, change_of}
 use Rattle.bridge_api.specs.declared.port.BridgePort.{BridgePort}
 use Rattle.bridge_api.specs.declared.config.BridgeConfig.{BridgeConfig}
 use Rattle.bridge_api.specs.View.{BridgeView, port_at, with_port_at, is_port_up, up_ports}
-use Rattle.bridge_api.specs.Own.{holding_of, is_said, originating, settled, own_entry}
+use Rattle.bridge_api.specs.Own.{holding_of, is_said, originating, originated_if_changed, own_entry}
 use Rattle.bridge_api.specs.Config.{bare, configured}
-use Rattle.bridge_api.specs.Judging.{judged, greeting, link_state, complete, partial}
-use Rattle.bridge_api.specs.Hearing.{with_adjacency, left, changed_at, metered, metered_at, with_metric, carried_at, with_carrier}
-use Rattle.bridge_api.specs.Ticking.{leaving_from, parted_all, counted, expired, is_old, refreshed, readied, told_at, told_from}
+use Rattle.bridge_api.specs.Parsing.{parsed}
+use Rattle.bridge_api.specs.Parsing as parsing
+use Rattle.bridge_api.specs.Hearing.{with_adjacency, left_up, changed_at, with_port_metric, with_metric_at, with_metric, with_carrier_at, with_carrier}
+use Rattle.bridge_api.specs.Ticking.{leaving_from, flags_cleared_at_all, counts_lowered, expired, is_old, refreshed, readied, after_sending_at, after_sending_from}
 use Rattle.bridge_api.specs.Step.{second, frame, carrier, metric, step}
 use Rattle.bridge_api.specs.Few.{Within, HoldsFew, ConfiguredHoldsFew, StepsHoldFew}
 use Rattle.bridge_api.proofs.Changes.{FrameStep, idle, by_hello, by_lsp, by_csnp, by_psnp, frame_step, tick_is, when_false}
@@ -58,17 +59,17 @@ within_each k me f db spent same w =
     let number : number_of (version_at (each f db) id) ≡ number_of (version_at db id) = ap (λ (o : Option Entry). number_of (version_in o)) (get-each f db id) ∙ number_each (f id) (get db id) (same id) in
     record { few = subst (λ (n : ℕ). n ≤ k) (sym (len-each f db)) w.few; number = subst (λ (n : ℕ). n ≤ k) (sym number) w.number; unspent = w.unspent }
 
-number_told : (p : ℕ) (e : Entry) (b : Bool) → number_of (if b then with_ssn p false e else e).version ≡ number_of e.version
-number_told p e true = refl
-number_told p e false = refl
+number_after_sending : (p : ℕ) (e : Entry) (b : Bool) → number_of (if b then with_ssn p false e else e).version ≡ number_of e.version
+number_after_sending p e true = refl
+number_after_sending p e false = refl
 
-number_joined : (p : ℕ) (e : Entry) (b : Bool) → number_of (if b then e else flagged p e).version ≡ number_of e.version
-number_joined p e true = refl
-number_joined p e false = refl
+number_srm_set : (p : ℕ) (e : Entry) (b : Bool) → number_of (if b then e else flagged p e).version ≡ number_of e.version
+number_srm_set p e true = refl
+number_srm_set p e false = refl
 
-number_parted : (ps : List ℕ) (e : Entry) → number_of (parted_all ps e).version ≡ number_of e.version
-number_parted [] e = refl
-number_parted (p ∷ ps) e = number_parted ps (parted p e)
+number_flags_cleared : (ps : List ℕ) (e : Entry) → number_of (flags_cleared_at_all ps e).version ≡ number_of e.version
+number_flags_cleared [] e = refl
+number_flags_cleared (p ∷ ps) e = number_flags_cleared ps (flags_cleared_at p e)
 
 number_dying : (b : Bool) (up : PortSet) (e : Entry) (seq sum lifetime : ℕ) → e.version ≡ Live seq sum → number_of (if b then made (Dead seq) 0 [] up e.ssn else record e { lifetime = lifetime }).version ≡ seq
 number_dying true up e seq sum lifetime is = refl
@@ -85,17 +86,17 @@ len_insert : (b : Bool) (n m : ℕ) → n ≡ cond b m (m + 1) → n ≤ m + 1
 len_insert true n m is = omega (arith, is)
 len_insert false n m is = omega (arith, is)
 
-few_placed : (b : Bool) (db : Lsps) (id : LspId) (e : Entry) → len (if b then insert db id e else db) ≤ len db + 1
-few_placed true db id e = len_insert (contains_key db id) (len (insert db id e)) (len db) (len-insert ids_total db id e)
-few_placed false db id e = omega arith
+few_put : (b : Bool) (db : Lsps) (id : LspId) (e : Entry) → len (if b then insert db id e else db) ≤ len db + 1
+few_put true db id e = len_insert (contains_key db id) (len (insert db id e)) (len db) (len-insert ids_total db id e)
+few_put false db id e = omega arith
 
 number_next : (b : Bool) (k seq : ℕ) (up : PortSet) (own : Own) (held : Option Entry) → seq ≤ k → number_of (if b then renewed up own (seq + 1) else spent_entry up seq held).version ≤ k + 1
 number_next true k seq up own held low = omega (arith, low)
 number_next false k seq up own held low = omega (arith, low)
 
-number_placed : (b : Bool) (k : ℕ) (db : Lsps) (id : LspId) (e : Entry) → fits db id ≡ b → number_of e.version ≤ k → number_of (version_at db id) ≤ k → number_of (version_at (placed db id (Some e)) id) ≤ k
-number_placed true k db id e room new old = subst (λ (o : Option Entry). number_of (version_in o) ≤ k) (sym (get-placed_fit db id e room)) new
-number_placed false k db id e full new old = subst (λ (d : Lsps). number_of (version_at d id) ≤ k) (sym (when_false (fits db id) (insert db id e) db full)) old
+number_put : (b : Bool) (k : ℕ) (db : Lsps) (id : LspId) (e : Entry) → fits db id ≡ b → number_of e.version ≤ k → number_of (version_at db id) ≤ k → number_of (version_at (put_if_it_fits db id (Some e)) id) ≤ k
+number_put true k db id e room new old = subst (λ (o : Option Entry). number_of (version_in o) ≤ k) (sym (get-put_fit db id e room)) new
+number_put false k db id e full new old = subst (λ (d : Lsps). number_of (version_at d id) ≤ k) (sym (when_false (fits db id) (insert db id e) db full)) old
 
 spent_next : (b : Bool) (own : Own) → b ≡ true → (if b then own else record own { spent = true }).spent ≡ own.spent
 spent_next true own below = refl
@@ -109,8 +110,8 @@ within_from false k up h is low w =
     let held : Option Entry = get h.db id in
     let seq : ℕ = number_of (version_in held) in
     record {
-      few = omega (arith, few_placed (fits h.db id) h.db id (next_entry up h.own seq held), w.few);
-      number = number_placed (fits h.db id) (k + 1) h.db id (next_entry up h.own seq held) refl (number_next (nat_lt seq last_number) k seq up h.own held w.number) (omega (arith, w.number));
+      few = omega (arith, few_put (fits h.db id) h.db id (next_entry up h.own seq held), w.few);
+      number = number_put (fits h.db id) (k + 1) h.db id (next_entry up h.own seq held) refl (number_next (nat_lt seq last_number) k seq up h.own held w.number) (omega (arith, w.number));
       unspent = spent_next (nat_lt seq last_number) h.own (lt-ltb seq last_number (omega (arith, w.number, low))) ∙ w.unspent;
     }
 
@@ -125,9 +126,9 @@ few_if : (b : Bool) (k : ℕ) (v : BridgeView) → k < last_number → HoldsFew 
 few_if true k v low w = one_more k v.id.system v.database v.spent w
 few_if false k v low w = few_originating k v low w
 
-few_settled : (k : ℕ) (v : BridgeView) → k < last_number → HoldsFew k v → HoldsFew (k + 1) (settled v)
-unfolding settled
-few_settled k v low w = few_if (v.spent || is_said v) k v low w
+few_originated_if_changed : (k : ℕ) (v : BridgeView) → k < last_number → HoldsFew k v → HoldsFew (k + 1) (originated_if_changed v)
+unfolding originated_if_changed
+few_originated_if_changed k v low w = few_if (v.spent || is_said v) k v low w
 
 few_refreshed : (k : ℕ) (v : BridgeView) → k < last_number → HoldsFew k v → HoldsFew (k + 1) (refreshed v)
 unfolding refreshed
@@ -135,26 +136,26 @@ few_refreshed k v low w = few_if (v.spent || (is_said v && not (is_old (own_entr
 
 -- ---- the steps
 
-few_left : (k p : ℕ) (port : BridgePort) (v : BridgeView) → HoldsFew k v → HoldsFew k (left p port v)
-few_left k p port v w = within_each k v.id.system (λ id e. parted p e) v.database v.spent (λ x e. refl) w
+few_left : (k p : ℕ) (port : BridgePort) (v : BridgeView) → HoldsFew k v → HoldsFew k (left_up p port v)
+few_left k p port v w = within_each k v.id.system (λ id e. flags_cleared_at p e) v.database v.spent (λ x e. refl) w
 
-few_changed : (heard : Heard) (k p : ℕ) (port : BridgePort) (v : BridgeView) → k < last_number → HoldsFew k v → HoldsFew (k + 1) (changed_at heard p port v)
+few_changed : (heard : AdjacencyChange) (k p : ℕ) (port : BridgePort) (v : BridgeView) → k < last_number → HoldsFew k v → HoldsFew (k + 1) (changed_at heard p port v)
 few_changed Discarded k p port v low w = one_more k v.id.system v.database v.spent w
-few_changed Kept k p port v low w = few_settled k (with_port_at p port v) low w
-few_changed LeftUp k p port v low w = few_settled k (left p port v) low (few_left k p port v w)
+few_changed Kept k p port v low w = few_originated_if_changed k (with_port_at p port v) low w
+few_changed LeftUp k p port v low w = few_originated_if_changed k (left_up p port v) low (few_left k p port v w)
 few_changed CameUp k p port v low w =
-    let u : BridgeView = settled (left p port v) in
-    within_each (k + 1) u.id.system (λ id e. joined p e) u.database u.spent (λ x e. number_joined p e (is_absent e.version)) (few_settled k (left p port v) low (few_left k p port v w))
+    let u : BridgeView = originated_if_changed (left_up p port v) in
+    within_each (k + 1) u.id.system (λ id e. srm_set_at p e) u.database u.spent (λ x e. number_srm_set p e (is_absent e.version)) (few_originated_if_changed k (left_up p port v) low (few_left k p port v w))
 
-metric_at : (k p m : ℕ) (o : Option BridgePort) (v : BridgeView) → k < last_number → HoldsFew k v → HoldsFew (k + 1) (metered_at p m o v)
+metric_at : (k p m : ℕ) (o : Option BridgePort) (v : BridgeView) → k < last_number → HoldsFew k v → HoldsFew (k + 1) (with_metric_at p m o v)
 metric_at k p m None v low w = one_more k v.id.system v.database v.spent w
-metric_at k p m (Some port) v low w = few_settled k (with_port_at p (metered m port) v) low w
+metric_at k p m (Some port) v low w = few_originated_if_changed k (with_port_at p (with_port_metric m port) v) low w
 
 few_metric : (k p m : ℕ) (v : BridgeView) → k < last_number → HoldsFew k v → HoldsFew (k + 1) (with_metric p m v)
 unfolding with_metric
 few_metric k p m v low w = metric_at k p m (port_at v p) v low w
 
-carrier_at : (k p : ℕ) (on : Bool) (o : Option BridgePort) (v : BridgeView) → k < last_number → HoldsFew k v → HoldsFew (k + 1) (carried_at p on o v)
+carrier_at : (k p : ℕ) (on : Bool) (o : Option BridgePort) (v : BridgeView) → k < last_number → HoldsFew k v → HoldsFew (k + 1) (with_carrier_at p on o v)
 carrier_at k p on None v low w = one_more k v.id.system v.database v.spent w
 carrier_at k p on (Some port) v low w = few_changed (change_of port.adjacency (after_carrier on port.adjacency)) k p (with_adjacency (after_carrier on port.adjacency) port) v low w
 
@@ -164,34 +165,34 @@ few_carrier k p on v low w = carrier_at k p on (port_at v p) v low w
 
 pub few_readied : (k : ℕ) (v : BridgeView) → k < last_number → HoldsFew k v → HoldsFew (k + 1) (readied v)
 few_readied k v low w =
-    let after : HoldsFew k (counted v) = within_each k v.id.system (λ id e. parted_all (leaving_from 1 v.ports) e) v.database v.spent (λ x e. number_parted (leaving_from 1 v.ports) e) w in
-    few_refreshed k (expired (counted v)) low (within_each k v.id.system (λ id e. aged (up_ports (counted v)) e) (counted v).database v.spent (λ x e. number_aged (up_ports (counted v)) e e.version refl) after)
+    let after : HoldsFew k (counts_lowered v) = within_each k v.id.system (λ id e. flags_cleared_at_all (leaving_from 1 v.ports) e) v.database v.spent (λ x e. number_flags_cleared (leaving_from 1 v.ports) e) w in
+    few_refreshed k (expired (counts_lowered v)) low (within_each k v.id.system (λ id e. aged (up_ports (counts_lowered v)) e) (counts_lowered v).database v.spent (λ x e. number_aged (up_ports (counts_lowered v)) e e.version refl) after)
 
-told_if : (b : Bool) (k : ℕ) (me : SystemId) (p : ℕ) (db : Lsps) (spent : Bool) → Within k me db spent → Within k me (if b then all_settled p db else db) spent
-told_if true k me p db spent w = within_each k me (λ id e. told_entry p e) db spent (λ x e. number_told p e (is_owed p e)) w
-told_if false k me p db spent w = w
+after_sending_if : (b : Bool) (k : ℕ) (me : SystemId) (p : ℕ) (db : Lsps) (spent : Bool) → Within k me db spent → Within k me (if b then all_ssn_cleared p db else db) spent
+after_sending_if true k me p db spent w = within_each k me (λ id e. ssn_cleared_entry p e) db spent (λ x e. number_after_sending p e (has_ssn_at p e)) w
+after_sending_if false k me p db spent w = w
 
-few_told : (k : ℕ) (me : SystemId) (q : ℕ) (ports : List BridgePort) (db : Lsps) (spent : Bool) → Within k me db spent → Within k me (told_from q ports db) spent
-few_told k me q [] db spent w = w
-few_told k me q (port ∷ ports) db spent w = few_told k me (q + 1) ports (told_at q port db) spent (told_if (is_port_up port) k me q db spent w)
+few_after_sending : (k : ℕ) (me : SystemId) (q : ℕ) (ports : List BridgePort) (db : Lsps) (spent : Bool) → Within k me db spent → Within k me (after_sending_from q ports db) spent
+few_after_sending k me q [] db spent w = w
+few_after_sending k me q (port ∷ ports) db spent w = few_after_sending k me (q + 1) ports (after_sending_at q port db) spent (after_sending_if (is_port_up port) k me q db spent w)
 
 few_second : (k : ℕ) (v : BridgeView) → k < last_number → HoldsFew k v → HoldsFew (k + 1) (step second v)
 few_second k v low w =
     let u : BridgeView = readied v in
-    subst (HoldsFew (k + 1)) (sym (tick_is v)) (few_told (k + 1) u.id.system 1 u.ports u.database u.spent (few_readied k v low w))
+    subst (HoldsFew (k + 1)) (sym (tick_is v)) (few_after_sending (k + 1) u.id.system 1 u.ports u.database u.spent (few_readied k v low w))
 
 -- a frame that is heard as a hello
-few_hello : (k p : ℕ) (bytes : List ℕ) (h : HelloValue) (way : ThreeWay) (v : BridgeView) → judged bytes ≡ greeting h way → k < last_number → HoldsFew k v → HoldsFew (k + 1) (step (frame p bytes) v)
+few_hello : (k p : ℕ) (bytes : List ℕ) (h : HelloValue) (way : ThreeWay) (v : BridgeView) → parsed bytes ≡ parsing.hello h way → k < last_number → HoldsFew k v → HoldsFew (k + 1) (step (frame p bytes) v)
 few_hello k p bytes h way v is low w = by (frame_step v p bytes)
   where
     by : FrameStep v p bytes (step (frame p bytes) v) → HoldsFew (k + 1) (step (frame p bytes) v)
     by (idle same) = subst (HoldsFew (k + 1)) (sym same) (one_more k v.id.system v.database v.spent w)
     by (by_hello g) =
         subst (HoldsFew (k + 1)) (sym g.after)
-        (few_changed (heard_of v.id.system p g.hello g.way g.port.adjacency) k p (with_adjacency (after_hello v.id.system p g.hello g.way g.port.adjacency) g.port) v low w)
-    by (by_lsp f) = let wrong : greeting h way ≡ link_state f.lsp = sym is ∙ f.is in absurd cc
-    by (by_csnp f) = let wrong : greeting h way ≡ complete f.csnp = sym is ∙ f.is in absurd cc
-    by (by_psnp f) = let wrong : greeting h way ≡ partial f.psnp = sym is ∙ f.is in absurd cc
+        (few_changed (change_by_hello v.id.system p g.hello g.way g.port.adjacency) k p (with_adjacency (after_hello v.id.system p g.hello g.way g.port.adjacency) g.port) v low w)
+    by (by_lsp f) = let wrong : parsing.hello h way ≡ parsing.lsp f.lsp = sym is ∙ f.is in absurd cc
+    by (by_csnp f) = let wrong : parsing.hello h way ≡ parsing.csnp f.csnp = sym is ∙ f.is in absurd cc
+    by (by_psnp f) = let wrong : parsing.hello h way ≡ parsing.psnp f.psnp = sym is ∙ f.is in absurd cc
 
 few_bare : (c : BridgeConfig) → HoldsFew 0 (bare c)
 few_bare c = record {

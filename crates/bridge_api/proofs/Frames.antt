@@ -30,28 +30,29 @@ use Rattle.flooding.specs.Hearing.{claim_of}
 use Rattle.flooding.specs.Sending.{lsp_in, lsps_to_send}
 use Rattle.flooding.specs.Entries.{IsSendable, AllEntries}
 use Rattle.flooding.proofs.SendableEntries.{sent_is_held}
-use Rattle.snp_sync.specs.Line.{is_owed}
-use Rattle.snp_sync.specs.Parts.{line_tlvs}
+use Rattle.snp_sync.specs.SnpEntries.{has_ssn_at}
+use Rattle.snp_sync.specs.Chunks.{entry_tlvs}
 use Rattle.snp_sync.specs.Reading.{entries_in}
-use Rattle.snp_sync.specs.Sized.{IsLspId, IsSizedLine}
-use Rattle.snp_sync.specs.Sending.{Page, csnp_for, psnp_for, csnp_pages, csnps_of, psnp_parts, psnps_of, settled, all_settled}
+use Rattle.snp_sync.specs.Sized.{IsLspId, IsSizedEntry}
+use Rattle.snp_sync.specs.Sending.{CsnpChunk, csnp_for, psnp_for, csnp_chunks, csnps_of, psnp_chunks, psnps_of, ssn_cleared, all_ssn_cleared}
 use Rattle.snp_sync.specs.Hearing.{claims_in}
-use Rattle.snp_sync.specs.SendingLaws.{ClaimsWhatIsHeld, IsLineOfHeld}
-use Rattle.snp_sync.proofs.Ranges.{of_entries, pages_are_short, pages_end_at_ids, parts_are_short}
-use Rattle.snp_sync.proofs.Said.{page_lines_are_read, page_lines_are_sized, pages_claim_what_is_held, pages_list_what_is_held, part_lines_are_read, part_lines_are_sized, parts_claim_what_is_held, parts_list_what_is_held}
+use Rattle.snp_sync.specs.SendingLaws.{ClaimsWhatIsHeld, IsEntryOfHeld}
+use Rattle.snp_sync.proofs.Ranges.{of_entries, csnp_chunks_are_short, csnp_chunks_end_at_ids, psnp_chunks_are_short}
+use Rattle.snp_sync.proofs.Said.{csnp_entries_are_read, csnp_entries_are_sized, csnp_chunks_claim_what_is_held, csnp_chunks_list_what_is_held, psnp_entries_are_read, psnp_entries_are_sized, psnp_chunks_claim_what_is_held, psnp_chunks_list_what_is_held}
 use Rattle.adjacency.specs.Adjacency.{neighbour_of, said}
 use Rattle.bridge_api.specs.declared.port.BridgePort.{BridgePort}
 use Rattle.bridge_api.specs.View.{BridgeView, port_at, neighbour_at, is_port_up, up_ports}
-use Rattle.bridge_api.specs.Judging.{Judged, useless, greeting, link_state, complete, partial, greeting_in, judged, is_hello, is_octets, by_content}
+use Rattle.bridge_api.specs.Parsing.{Parsed, hello_in, parsed, is_hello, is_octets, by_content}
+use Rattle.bridge_api.specs.Parsing as parsing
 use Rattle.bridge_api.specs.declared.drop_reason.DropReason.{DropReason}
 use Rattle.bridge_api.specs.declared.drop_reason.DropReason.TheVariants as drop
-use Rattle.bridge_api.specs.Hearing.{with_due}
-use Rattle.bridge_api.specs.Ticking.{later, readied, hello_at, hello_frame, lsp_frame, csnp_frame, psnp_frame, greetings_at, summaries_at, lsps_at, requests_at, synced_at, sent_at, told_at, sent_from, told_from, told, after_tick, sent_in_tick}
+use Rattle.bridge_api.specs.Hearing.{with_csnp_due}
+use Rattle.bridge_api.specs.Ticking.{later, readied, hello_at, hello_frame, lsp_frame, csnp_frame, psnp_frame, hellos_at, summaries_at, lsps_at, requests_at, synced_at, sent_at, after_sending_at, sent_from, after_sending_from, after_sending, after_tick, sent_in_tick}
 use Rattle.bridge_api.specs.Step.{second, frame, carrier, metric, step, sent}
 use Rattle.bridge_api.specs.Laws.{IsSoundView, IsSent, IsHelloOf, IsWritten, writes_hello, writes_lsp, writes_csnp, writes_psnp, IsHeldLsp, IsHeldAt, IsFrameOf, claims_or_none, claims_said, SentIsSound}
 use Rattle.bridge_api.proofs.Changes.{readied_ports, readied_rest}
 use Rattle.bridge_api.proofs.Spelled.{lsp_taken, csnp_taken, psnp_taken}
-use Rattle.bridge_api.proofs.Data.{IsSoundData, told_at_keeps}
+use Rattle.bridge_api.proofs.Data.{IsSoundData, after_sending_at_keeps}
 use Rattle.bridge_api.proofs.DataSteps.{readied_holds}
 use Rattle.bridge_api.proofs.Hellos.{hello_content, neighbour_found, hello_of, sent_either}
 
@@ -72,40 +73,40 @@ all_kept P test (x ∷ xs) all = all_kept_at P (test x) x (filter test xs) all.0
 -- ---- what a frame says
 
 -- what a bridge may say by a frame at a port, by what the frame is taken for
-record MaySay (w : BridgeView) (p : ℕ) (j : Judged) : Type 0 where
-  hello : (h : HelloValue) (way : ThreeWay) → j ≡ greeting h way → IsHelloOf w p h way
-  lsp : (l : LspValue) → j ≡ link_state l → IsHeldLsp w l
+record MaySay (w : BridgeView) (p : ℕ) (j : Parsed) : Type 0 where
+  hello : (h : HelloValue) (way : ThreeWay) → j ≡ parsing.hello h way → IsHelloOf w p h way
+  lsp : (l : LspValue) → j ≡ parsing.lsp l → IsHeldLsp w l
   claims : (id : LspId) (a : Version) → IsClaimed (claims_said j) id a → IsHeldAt w id a
 
-say_nothing : (w : BridgeView) (p : ℕ) (reason : DropReason) → MaySay w p (useless reason)
+say_nothing : (w : BridgeView) (p : ℕ) (reason : DropReason) → MaySay w p (parsing.dropped reason)
 say_nothing w p reason = record { hello = λ h way e. absurd cc; lsp = λ l e. absurd cc; claims = λ id a claimed. absurd claimed }
 
-judged_at : (b : Bool) (w : BridgeView) (p : ℕ) (j : Judged) → MaySay w p j → MaySay w p (if b then j else useless drop.Frame)
-judged_at true w p j may = may
-judged_at false w p j may = say_nothing w p drop.Frame
+parsed_at : (b : Bool) (w : BridgeView) (p : ℕ) (j : Parsed) → MaySay w p j → MaySay w p (if b then j else parsing.dropped drop.Frame)
+parsed_at true w p j may = may
+parsed_at false w p j may = say_nothing w p drop.Frame
 
 -- a frame of octets is taken for what it contains, and any other for nothing
-frame_of : (w : BridgeView) (p : ℕ) (bytes : List ℕ) (j : Judged) → by_content (content_in bytes) ≡ j → IsWritten w.id.system.mac bytes → MaySay w p j → IsFrameOf w p bytes
-unfolding judged
+frame_of : (w : BridgeView) (p : ℕ) (bytes : List ℕ) (j : Parsed) → by_content (content_in bytes) ≡ j → IsWritten w.id.system.mac bytes → MaySay w p j → IsFrameOf w p bytes
+unfolding parsed
 frame_of w p bytes j is written may =
-    let says : MaySay w p (if is_octets bytes then by_content (content_in bytes) else useless drop.Frame) = judged_at (is_octets bytes) w p (by_content (content_in bytes)) (subst (λ (k : Judged). MaySay w p k) (sym is) may) in
+    let says : MaySay w p (if is_octets bytes then by_content (content_in bytes) else parsing.dropped drop.Frame) = parsed_at (is_octets bytes) w p (by_content (content_in bytes)) (subst (λ (k : Parsed). MaySay w p k) (sym is) may) in
     record { hello = says.hello; lsp = says.lsp; claims = says.claims; written = written }
 
 -- a frame that is taken for a hello by nobody
-not_hello_at : (b : Bool) (j : Judged) → is_some (greeting_in j) ≡ false → is_some (greeting_in (if b then j else useless drop.Frame)) ≡ false
+not_hello_at : (b : Bool) (j : Parsed) → is_some (hello_in j) ≡ false → is_some (hello_in (if b then j else parsing.dropped drop.Frame)) ≡ false
 not_hello_at true j silent = silent
 not_hello_at false j silent = refl
 
-not_hello : (bytes : List ℕ) (j : Judged) → by_content (content_in bytes) ≡ j → is_some (greeting_in j) ≡ false → is_hello bytes ≡ false
-unfolding judged
-not_hello bytes j is silent = not_hello_at (is_octets bytes) (by_content (content_in bytes)) (ap (λ (k : Judged). is_some (greeting_in k)) is ∙ silent)
+not_hello : (bytes : List ℕ) (j : Parsed) → by_content (content_in bytes) ≡ j → is_some (hello_in j) ≡ false → is_hello bytes ≡ false
+unfolding parsed
+not_hello bytes j is silent = not_hello_at (is_octets bytes) (by_content (content_in bytes)) (ap (λ (k : Parsed). is_some (hello_in k)) is ∙ silent)
 
 -- a frame of the bridge that is no hello
 pub record IsOther (w : BridgeView) (p : ℕ) (bytes : List ℕ) : Type 0 where
   pub frame : IsFrameOf w p bytes
   pub silent : is_hello bytes ≡ false
 
-other_of : (w : BridgeView) (p : ℕ) (bytes : List ℕ) (j : Judged) → by_content (content_in bytes) ≡ j → is_some (greeting_in j) ≡ false → IsWritten w.id.system.mac bytes → MaySay w p j → IsOther w p bytes
+other_of : (w : BridgeView) (p : ℕ) (bytes : List ℕ) (j : Parsed) → by_content (content_in bytes) ≡ j → is_some (hello_in j) ≡ false → IsWritten w.id.system.mac bytes → MaySay w p j → IsOther w p bytes
 other_of w p bytes j is silent written may = record { frame = frame_of w p bytes j is written may; silent = not_hello bytes j is silent }
 
 -- what is held is at most itself
@@ -131,19 +132,19 @@ abbrev pub IsHeldBy : Lsps → BridgeView → Type 0
 IsHeldBy db w = (id : LspId) (e : Entry) → get db id ≡ Some e → (d : Entry) × (get w.database id ≡ Some d) × IsSameLsp e d
 
 -- claims of what is held
-lines_claimed : (db : Lsps) (w : BridgeView) (lines : List SnpEntry) (id : LspId) (a : Version) → IsHeldBy db w → AllByRecursion (ClaimsWhatIsHeld db) lines → AllByRecursion (IsLineOfHeld db) lines → IsClaimed (claims_in lines) id a → IsHeldAt w id a
-lines_claimed db w [] id a same all held claimed = absurd claimed
-lines_claimed db w (line ∷ lines) id a same all held (inl here) =
-    let found = same line.id held.0.0 held.0.1 in
+entries_claimed : (db : Lsps) (w : BridgeView) (entries_listed : List SnpEntry) (id : LspId) (a : Version) → IsHeldBy db w → AllByRecursion (ClaimsWhatIsHeld db) entries_listed → AllByRecursion (IsEntryOfHeld db) entries_listed → IsClaimed (claims_in entries_listed) id a → IsHeldAt w id a
+entries_claimed db w [] id a same all held claimed = absurd claimed
+entries_claimed db w (entry ∷ entries_listed) id a same all held (inl here) =
+    let found = same entry.id held.0.0 held.0.1 in
     let version : a ≡ found.0.version = sym here.1 ∙ (all.0 ∙ (ap version_in held.0.1 ∙ sym found.2.version)) in
     subst (λ (x : LspId). IsHeldAt w x a) here.0 (found.0, found.1, version)
-lines_claimed db w (line ∷ lines) id a same all held (inr there) = lines_claimed db w lines id a same all.1 held.1 there
+entries_claimed db w (entry ∷ entries_listed) id a same all held (inr there) = entries_claimed db w entries_listed id a same all.1 held.1 there
 
 -- the claims of a sequence numbers PDU whose entries are these lines
-claims_of_lines : (w : BridgeView) (db : Lsps) (lines : List SnpEntry) (read : Result (List SnpEntry) TlvError) → IsHeldBy db w → AllByRecursion (ClaimsWhatIsHeld db) lines → AllByRecursion (IsLineOfHeld db) lines → read ≡ Ok lines
+claims_of_entries : (w : BridgeView) (db : Lsps) (entries_listed : List SnpEntry) (read : Result (List SnpEntry) TlvError) → IsHeldBy db w → AllByRecursion (ClaimsWhatIsHeld db) entries_listed → AllByRecursion (IsEntryOfHeld db) entries_listed → read ≡ Ok entries_listed
     → (id : LspId) (a : Version) → IsClaimed (claims_or_none read) id a → IsHeldAt w id a
-claims_of_lines w db lines read same all held is id a claimed =
-    lines_claimed db w lines id a same all held (subst (λ (r : Result (List SnpEntry) TlvError). IsClaimed (claims_or_none r) id a) is claimed)
+claims_of_entries w db entries_listed read same all held is id a claimed =
+    entries_claimed db w entries_listed id a same all held (subst (λ (r : Result (List SnpEntry) TlvError). IsClaimed (claims_or_none r) id a) is claimed)
 
 -- ---- LSPs, CSNPs and PSNPs
 
@@ -169,7 +170,7 @@ module _ (again : ControlAgain) (w : BridgeView) (p : ℕ) (db : Lsps) (mine : I
   lsp_says id e named s held =
       let claim : claim_of (lsp_in id e) ≡ record { id = id; version = e.version } = sent_is_held id e s in
       let found = same id e held in
-      other_of w p (lsp_frame w.id.system (lsp_in id e)) (link_state (lsp_in id e)) (lsp_taken again w.id.system id e mine named s) refl (lsp_written w.id.system (lsp_in id e)) (record {
+      other_of w p (lsp_frame w.id.system (lsp_in id e)) (parsing.lsp (lsp_in id e)) (lsp_taken again w.id.system id e mine named s) refl (lsp_written w.id.system (lsp_in id e)) (record {
         hello = λ h way no. absurd cc;
         lsp = λ l is. let this : lsp_in id e ≡ l = cc in subst (λ (k : LspValue). IsHeldLsp w k) this (found.0, found.1, same_lsp id e found.0 found.2);
         claims = λ x a claimed. elim claimed [
@@ -180,26 +181,26 @@ module _ (again : ControlAgain) (w : BridgeView) (p : ℕ) (db : Lsps) (mine : I
         ];
       })
 
-  csnp_says : (page : Page) → (length page.lines ≤ 90) × (IsLspId page.start × IsLspId page.end) → AllByRecursion IsSizedLine page.lines → entries_in (line_tlvs page.lines) ≡ Ok page.lines → AllByRecursion (ClaimsWhatIsHeld db) page.lines → AllByRecursion (IsLineOfHeld db) page.lines
-      → IsOther w p (csnp_frame w.id.system (csnp_for w.id.system page))
-  csnp_says page sides sized read claims held =
-      let lines : AllByRecursion IsEntry page.lines = weaker IsSizedLine IsEntry page.lines (λ line s. s.line) sized in
-      let c : CsnpValue = csnp_for w.id.system page in
-      other_of w p (csnp_frame w.id.system c) (complete c) (csnp_taken again w.id.system page mine sides.1.0 sides.1.1 lines sides.0) refl (csnp_written w.id.system c) (record {
+  csnp_says : (chunk : CsnpChunk) → (length chunk.entries ≤ 90) × (IsLspId chunk.start × IsLspId chunk.end) → AllByRecursion IsSizedEntry chunk.entries → entries_in (entry_tlvs chunk.entries) ≡ Ok chunk.entries → AllByRecursion (ClaimsWhatIsHeld db) chunk.entries → AllByRecursion (IsEntryOfHeld db) chunk.entries
+      → IsOther w p (csnp_frame w.id.system (csnp_for w.id.system chunk))
+  csnp_says chunk sides sized read claims held =
+      let entries_listed : AllByRecursion IsEntry chunk.entries = weaker IsSizedEntry IsEntry chunk.entries (λ entry s. s.entry) sized in
+      let c : CsnpValue = csnp_for w.id.system chunk in
+      other_of w p (csnp_frame w.id.system c) (parsing.csnp c) (csnp_taken again w.id.system chunk mine sides.1.0 sides.1.1 entries_listed sides.0) refl (csnp_written w.id.system c) (record {
         hello = λ h way no. absurd cc;
         lsp = λ l no. absurd cc;
-        claims = claims_of_lines w db page.lines (entries_in (line_tlvs page.lines)) same claims held read;
+        claims = claims_of_entries w db chunk.entries (entries_in (entry_tlvs chunk.entries)) same claims held read;
       })
 
-  psnp_says : (part : List SnpEntry) → length part ≤ 90 → AllByRecursion IsSizedLine part → entries_in (line_tlvs part) ≡ Ok part → AllByRecursion (ClaimsWhatIsHeld db) part → AllByRecursion (IsLineOfHeld db) part
-      → IsOther w p (psnp_frame w.id.system (psnp_for w.id.system part))
-  psnp_says part few sized read claims held =
-      let lines : AllByRecursion IsEntry part = weaker IsSizedLine IsEntry part (λ line s. s.line) sized in
-      let s : PsnpValue = psnp_for w.id.system part in
-      other_of w p (psnp_frame w.id.system s) (partial s) (psnp_taken again w.id.system part mine lines few) refl (psnp_written w.id.system s) (record {
+  psnp_says : (chunk : List SnpEntry) → length chunk ≤ 90 → AllByRecursion IsSizedEntry chunk → entries_in (entry_tlvs chunk) ≡ Ok chunk → AllByRecursion (ClaimsWhatIsHeld db) chunk → AllByRecursion (IsEntryOfHeld db) chunk
+      → IsOther w p (psnp_frame w.id.system (psnp_for w.id.system chunk))
+  psnp_says chunk few sized read claims held =
+      let entries_listed : AllByRecursion IsEntry chunk = weaker IsSizedEntry IsEntry chunk (λ entry s. s.entry) sized in
+      let s : PsnpValue = psnp_for w.id.system chunk in
+      other_of w p (psnp_frame w.id.system s) (parsing.psnp s) (psnp_taken again w.id.system chunk mine entries_listed few) refl (psnp_written w.id.system s) (record {
         hello = λ h way no. absurd cc;
         lsp = λ l no. absurd cc;
-        claims = claims_of_lines w db part (entries_in (line_tlvs part)) same claims held read;
+        claims = claims_of_entries w db chunk (entries_in (entry_tlvs chunk)) same claims held read;
       })
 
 -- ---- which frames are sent at a port
@@ -226,53 +227,53 @@ lsps_say again w p k db bytes can some =
     (all_kept (λ (e : LspId × Entry). IsOther w p (lsp_frame w.id.system (lsp_in e.0 e.1))) (λ (e : LspId × Entry). has e.1.srm k) (entries db) (of_entries (λ id e. IsOther w p (lsp_frame w.id.system (lsp_in id e))) db each_one)))
     some
 
--- a page, and a part, of which all is so that makes it one of the bridge
-record IsPageOf (db : Lsps) (page : Page) : Type 0 where
-  sides : (length page.lines ≤ 90) × (IsLspId page.start × IsLspId page.end)
-  sized : AllByRecursion IsSizedLine page.lines
-  read : entries_in (line_tlvs page.lines) ≡ Ok page.lines
-  claims : AllByRecursion (ClaimsWhatIsHeld db) page.lines
-  held : AllByRecursion (IsLineOfHeld db) page.lines
+-- a chunk, and a part, of which all is so that makes it one of the bridge
+record IsCsnpChunkOf (db : Lsps) (chunk : CsnpChunk) : Type 0 where
+  sides : (length chunk.entries ≤ 90) × (IsLspId chunk.start × IsLspId chunk.end)
+  sized : AllByRecursion IsSizedEntry chunk.entries
+  read : entries_in (entry_tlvs chunk.entries) ≡ Ok chunk.entries
+  claims : AllByRecursion (ClaimsWhatIsHeld db) chunk.entries
+  held : AllByRecursion (IsEntryOfHeld db) chunk.entries
 
-are_pages : (db : Lsps) (pages : List Page) → AllByRecursion (λ (page : Page). length page.lines ≤ 90) pages → AllByRecursion (λ (page : Page). IsLspId page.start × IsLspId page.end) pages → AllByRecursion (λ (page : Page). AllByRecursion IsSizedLine page.lines) pages
-    → AllByRecursion (λ (page : Page). entries_in (line_tlvs page.lines) ≡ Ok page.lines) pages → AllByRecursion (λ (page : Page). AllByRecursion (ClaimsWhatIsHeld db) page.lines) pages → AllByRecursion (λ (page : Page). AllByRecursion (IsLineOfHeld db) page.lines) pages
-    → AllByRecursion (IsPageOf db) pages
-are_pages db [] few ends sized read claims held = tt
-are_pages db (page ∷ pages) few ends sized read claims held =
-    (record { sides = (few.0, ends.0); sized = sized.0; read = read.0; claims = claims.0; held = held.0 }, are_pages db pages few.1 ends.1 sized.1 read.1 claims.1 held.1)
+are_csnp_chunks : (db : Lsps) (csnp_chunks : List CsnpChunk) → AllByRecursion (λ (chunk : CsnpChunk). length chunk.entries ≤ 90) csnp_chunks → AllByRecursion (λ (chunk : CsnpChunk). IsLspId chunk.start × IsLspId chunk.end) csnp_chunks → AllByRecursion (λ (chunk : CsnpChunk). AllByRecursion IsSizedEntry chunk.entries) csnp_chunks
+    → AllByRecursion (λ (chunk : CsnpChunk). entries_in (entry_tlvs chunk.entries) ≡ Ok chunk.entries) csnp_chunks → AllByRecursion (λ (chunk : CsnpChunk). AllByRecursion (ClaimsWhatIsHeld db) chunk.entries) csnp_chunks → AllByRecursion (λ (chunk : CsnpChunk). AllByRecursion (IsEntryOfHeld db) chunk.entries) csnp_chunks
+    → AllByRecursion (IsCsnpChunkOf db) csnp_chunks
+are_csnp_chunks db [] few ends sized read claims held = tt
+are_csnp_chunks db (chunk ∷ csnp_chunks) few ends sized read claims held =
+    (record { sides = (few.0, ends.0); sized = sized.0; read = read.0; claims = claims.0; held = held.0 }, are_csnp_chunks db csnp_chunks few.1 ends.1 sized.1 read.1 claims.1 held.1)
 
 csnps_say : ControlAgain → (w : BridgeView) (p k : ℕ) (db : Lsps) (bytes : List ℕ) → CanTell w db → IsSent (map (λ c. (k, csnp_frame w.id.system c)) (csnps_of w.id.system db)) p bytes → IsOther w p bytes
 csnps_say again w p k db bytes can some =
-    let pages : List Page = csnp_pages db in
-    let all : AllByRecursion (IsPageOf db) pages =
-    are_pages db pages (pages_are_short db) (pages_end_at_ids db (λ id e at. (can.sound.sized id e at).named)) (page_lines_are_sized db can.sound.sized) (page_lines_are_read db can.sound.sized)
-    (pages_claim_what_is_held db can.sound.sendable) (pages_list_what_is_held db) in
+    let csnp_chunks : List CsnpChunk = csnp_chunks db in
+    let all : AllByRecursion (IsCsnpChunkOf db) csnp_chunks =
+    are_csnp_chunks db csnp_chunks (csnp_chunks_are_short db) (csnp_chunks_end_at_ids db (λ id e at. (can.sound.sized id e at).named)) (csnp_entries_are_sized db can.sound.sized) (csnp_entries_are_read db can.sound.sized)
+    (csnp_chunks_claim_what_is_held db can.sound.sendable) (csnp_chunks_list_what_is_held db) in
     sent_one (IsOther w p) (csnp_frame w.id.system) k (csnps_of w.id.system db) p bytes
-    (all_mapped (csnp_for w.id.system) (λ (c : CsnpValue). IsOther w p (csnp_frame w.id.system c)) pages
-    (weaker (IsPageOf db) (λ (page : Page). IsOther w p (csnp_frame w.id.system (csnp_for w.id.system page))) pages (λ page h. csnp_says again w p db can.mine can.same page h.sides h.sized h.read h.claims h.held) all))
+    (all_mapped (csnp_for w.id.system) (λ (c : CsnpValue). IsOther w p (csnp_frame w.id.system c)) csnp_chunks
+    (weaker (IsCsnpChunkOf db) (λ (chunk : CsnpChunk). IsOther w p (csnp_frame w.id.system (csnp_for w.id.system chunk))) csnp_chunks (λ chunk h. csnp_says again w p db can.mine can.same chunk h.sides h.sized h.read h.claims h.held) all))
     some
 
-record IsPartOf (db : Lsps) (part : List SnpEntry) : Type 0 where
-  few : (1 ≤ length part) × (length part ≤ 90)
-  sized : AllByRecursion IsSizedLine part
-  read : entries_in (line_tlvs part) ≡ Ok part
-  claims : AllByRecursion (ClaimsWhatIsHeld db) part
-  held : AllByRecursion (IsLineOfHeld db) part
+record IsPartOf (db : Lsps) (chunk : List SnpEntry) : Type 0 where
+  few : (1 ≤ length chunk) × (length chunk ≤ 90)
+  sized : AllByRecursion IsSizedEntry chunk
+  read : entries_in (entry_tlvs chunk) ≡ Ok chunk
+  claims : AllByRecursion (ClaimsWhatIsHeld db) chunk
+  held : AllByRecursion (IsEntryOfHeld db) chunk
 
-are_parts : (db : Lsps) (ps : List (List SnpEntry)) → AllByRecursion (λ (part : List SnpEntry). (1 ≤ length part) × (length part ≤ 90)) ps → AllByRecursion (AllByRecursion IsSizedLine) ps → AllByRecursion (λ (part : List SnpEntry). entries_in (line_tlvs part) ≡ Ok part) ps
-    → AllByRecursion (AllByRecursion (ClaimsWhatIsHeld db)) ps → AllByRecursion (AllByRecursion (IsLineOfHeld db)) ps → AllByRecursion (IsPartOf db) ps
-are_parts db [] few sized read claims held = tt
-are_parts db (part ∷ ps) few sized read claims held =
-    (record { few = few.0; sized = sized.0; read = read.0; claims = claims.0; held = held.0 }, are_parts db ps few.1 sized.1 read.1 claims.1 held.1)
+are_psnp_chunks : (db : Lsps) (ps : List (List SnpEntry)) → AllByRecursion (λ (chunk : List SnpEntry). (1 ≤ length chunk) × (length chunk ≤ 90)) ps → AllByRecursion (AllByRecursion IsSizedEntry) ps → AllByRecursion (λ (chunk : List SnpEntry). entries_in (entry_tlvs chunk) ≡ Ok chunk) ps
+    → AllByRecursion (AllByRecursion (ClaimsWhatIsHeld db)) ps → AllByRecursion (AllByRecursion (IsEntryOfHeld db)) ps → AllByRecursion (IsPartOf db) ps
+are_psnp_chunks db [] few sized read claims held = tt
+are_psnp_chunks db (chunk ∷ ps) few sized read claims held =
+    (record { few = few.0; sized = sized.0; read = read.0; claims = claims.0; held = held.0 }, are_psnp_chunks db ps few.1 sized.1 read.1 claims.1 held.1)
 
 psnps_say : ControlAgain → (w : BridgeView) (p k : ℕ) (db : Lsps) (bytes : List ℕ) → CanTell w db → IsSent (requests_at w.id.system k db) p bytes → IsOther w p bytes
 psnps_say again w p k db bytes can some =
-    let ps : List (List SnpEntry) = psnp_parts k db in
+    let ps : List (List SnpEntry) = psnp_chunks k db in
     let all : AllByRecursion (IsPartOf db) ps =
-    are_parts db ps (parts_are_short k db) (part_lines_are_sized k db can.sound.sized) (part_lines_are_read k db can.sound.sized) (parts_claim_what_is_held k db can.sound.sendable) (parts_list_what_is_held k db) in
+    are_psnp_chunks db ps (psnp_chunks_are_short k db) (psnp_entries_are_sized k db can.sound.sized) (psnp_entries_are_read k db can.sound.sized) (psnp_chunks_claim_what_is_held k db can.sound.sendable) (psnp_chunks_list_what_is_held k db) in
     sent_one (IsOther w p) (psnp_frame w.id.system) k (psnps_of w.id.system k db) p bytes
     (all_mapped (psnp_for w.id.system) (λ (s : PsnpValue). IsOther w p (psnp_frame w.id.system s)) ps
-    (weaker (IsPartOf db) (λ (part : List SnpEntry). IsOther w p (psnp_frame w.id.system (psnp_for w.id.system part))) ps (λ part h. psnp_says again w p db can.mine can.same part h.few.1 h.sized h.read h.claims h.held) all))
+    (weaker (IsPartOf db) (λ (chunk : List SnpEntry). IsOther w p (psnp_frame w.id.system (psnp_for w.id.system chunk))) ps (λ chunk h. psnp_says again w p db can.mine can.same chunk h.few.1 h.sized h.read h.claims h.held) all))
     some
 
 where_so : (b : Bool) (w : BridgeView) (p : ℕ) (bytes : List ℕ) (frames : List (ℕ × List ℕ)) → (IsSent frames p bytes → IsOther w p bytes) → IsSent (if b then frames else []) p bytes → IsOther w p bytes
@@ -286,22 +287,22 @@ synced_say again w p k port db bytes can some =
     (λ any. elim (sent_either (summaries_at w.id.system k port db ++ lsps_at w.id.system k db) (requests_at w.id.system k db) p bytes any) [
       | inl first ↦
           elim (sent_either (summaries_at w.id.system k port db) (lsps_at w.id.system k db) p bytes first) [
-            | inl csnp ↦ where_so port.due w p bytes (map (λ c. (k, csnp_frame w.id.system c)) (csnps_of w.id.system db)) (csnps_say again w p k db bytes can) csnp
+            | inl csnp ↦ where_so port.csnp_due w p bytes (map (λ c. (k, csnp_frame w.id.system c)) (csnps_of w.id.system db)) (csnps_say again w p k db bytes can) csnp
             | inr lsp ↦ lsps_say again w p k db bytes can lsp
           ]
       | inr psnp ↦ psnps_say again w p k db bytes can psnp
     ])
     some
 
--- ---- after what was sent at a port nothing is owed there
+-- ---- after what was sent at a port nothing has SSN there
 
-settled_same : (b : Bool) (p : ℕ) (e : Entry) → IsSameLsp e (if b then with_ssn p false e else e)
-settled_same true p e = record { version = refl; lifetime = refl; body = refl }
-settled_same false p e = record { version = refl; lifetime = refl; body = refl }
+originated_if_changed_same : (b : Bool) (p : ℕ) (e : Entry) → IsSameLsp e (if b then with_ssn p false e else e)
+originated_if_changed_same true p e = record { version = refl; lifetime = refl; body = refl }
+originated_if_changed_same false p e = record { version = refl; lifetime = refl; body = refl }
 
-told_by : (b : Bool) (p : ℕ) (db : Lsps) (id : LspId) (e : Entry) → get db id ≡ Some e → (d : Entry) × (get (if b then all_settled p db else db) id ≡ Some d) × IsSameLsp e d
-told_by true p db id e at = (settled p e, get-each (λ (x : LspId) (e : Entry). settled p e) db id ∙ ap (option_map (settled p)) at, settled_same (is_owed p e) p e)
-told_by false p db id e at = (e, at, record { version = refl; lifetime = refl; body = refl })
+after_sending_by : (b : Bool) (p : ℕ) (db : Lsps) (id : LspId) (e : Entry) → get db id ≡ Some e → (d : Entry) × (get (if b then all_ssn_cleared p db else db) id ≡ Some d) × IsSameLsp e d
+after_sending_by true p db id e at = (ssn_cleared p e, get-each (λ (x : LspId) (e : Entry). ssn_cleared p e) db id ∙ ap (option_map (ssn_cleared p)) at, originated_if_changed_same (has_ssn_at p e) p e)
+after_sending_by false p db id e at = (e, at, record { version = refl; lifetime = refl; body = refl })
 
 through_same : (e d c : Entry) → IsSameLsp e d → IsSameLsp d c → IsSameLsp e c
 through_same e d c first next = record { version = next.version ∙ first.version; lifetime = next.lifetime ∙ first.lifetime; body = next.body ∙ first.body }
@@ -310,31 +311,31 @@ back_same : (e d : Entry) → IsSameLsp e d → IsSameLsp d e
 back_same e d same = record { version = sym same.version; lifetime = sym same.lifetime; body = sym same.body }
 
 -- what is held stays so until all is sent
-told_held : (k : ℕ) (ports : List BridgePort) (db : Lsps) (id : LspId) (e : Entry) → get db id ≡ Some e → (d : Entry) × (get (told_from k ports db) id ≡ Some d) × IsSameLsp e d
-told_held k [] db id e at = (e, at, record { version = refl; lifetime = refl; body = refl })
-told_held k (port ∷ ports) db id e at =
-    let first = told_by (is_port_up port) k db id e at in
-    let next = told_held (k + 1) ports (told_at k port db) id first.0 first.1 in
+after_sending_held : (k : ℕ) (ports : List BridgePort) (db : Lsps) (id : LspId) (e : Entry) → get db id ≡ Some e → (d : Entry) × (get (after_sending_from k ports db) id ≡ Some d) × IsSameLsp e d
+after_sending_held k [] db id e at = (e, at, record { version = refl; lifetime = refl; body = refl })
+after_sending_held k (port ∷ ports) db id e at =
+    let first = after_sending_by (is_port_up port) k db id e at in
+    let next = after_sending_held (k + 1) ports (after_sending_at k port db) id first.0 first.1 in
     (next.0, next.1, through_same e first.0 next.0 first.2 next.2)
 
 -- and nothing else is held then
-told_was : (b : Bool) (p : ℕ) (db : Lsps) (id : LspId) (d : Entry) → get (if b then all_settled p db else db) id ≡ Some d → (e : Entry) × (get db id ≡ Some e) × IsSameLsp d e
-told_was true p db id d at = by_held (get db id) refl
+after_sending_was : (b : Bool) (p : ℕ) (db : Lsps) (id : LspId) (d : Entry) → get (if b then all_ssn_cleared p db else db) id ≡ Some d → (e : Entry) × (get db id ≡ Some e) × IsSameLsp d e
+after_sending_was true p db id d at = by_held (get db id) refl
   where
     by_held : (o : Option Entry) → get db id ≡ o → (e : Entry) × (get db id ≡ Some e) × IsSameLsp d e
-    by_held None held = let no : None ≡ Some d = sym (get-each (λ (x : LspId) (e : Entry). settled p e) db id ∙ ap (option_map (settled p)) held) ∙ at in absurd cc
+    by_held None held = let no : None ≡ Some d = sym (get-each (λ (x : LspId) (e : Entry). ssn_cleared p e) db id ∙ ap (option_map (ssn_cleared p)) held) ∙ at in absurd cc
     by_held (Some e) held =
-        let found : Some (settled p e) ≡ Some d = sym (get-each (λ (x : LspId) (e : Entry). settled p e) db id ∙ ap (option_map (settled p)) held) ∙ at in
-        let same : settled p e ≡ d = cc in
-        (e, held, subst (λ (c : Entry). IsSameLsp c e) same (back_same e (settled p e) (settled_same (is_owed p e) p e)))
-told_was false p db id d at = (d, at, record { version = refl; lifetime = refl; body = refl })
+        let found : Some (ssn_cleared p e) ≡ Some d = sym (get-each (λ (x : LspId) (e : Entry). ssn_cleared p e) db id ∙ ap (option_map (ssn_cleared p)) held) ∙ at in
+        let same : ssn_cleared p e ≡ d = cc in
+        (e, held, subst (λ (c : Entry). IsSameLsp c e) same (back_same e (ssn_cleared p e) (originated_if_changed_same (has_ssn_at p e) p e)))
+after_sending_was false p db id d at = (d, at, record { version = refl; lifetime = refl; body = refl })
 
-pub told_can : (w : BridgeView) (k : ℕ) (port : BridgePort) (db : Lsps) → CanTell w db → CanTell w (told_at k port db)
-told_can w k port db can = record {
+pub after_sending_can : (w : BridgeView) (k : ℕ) (port : BridgePort) (db : Lsps) → CanTell w db → CanTell w (after_sending_at k port db)
+after_sending_can w k port db can = record {
   up = can.up;
-  sound = told_at_keeps can.up w.id.system k port db can.sound;
+  sound = after_sending_at_keeps can.up w.id.system k port db can.sound;
   same = λ id d at.
-      let was = told_was (is_port_up port) k db id d at in
+      let was = after_sending_was (is_port_up port) k db id d at in
       let found = can.same id was.0 was.1 in
       (found.0, found.1, through_same d was.0 found.0 was.2 found.2);
   mine = can.mine;
@@ -342,7 +343,7 @@ told_can w k port db can = record {
 
 -- ---- all that is sent
 
-hello_sent : (lit : Bool) (k : ℕ) (bytes : List ℕ) (p : ℕ) (sent : List ℕ) → IsSent (if lit then (k, sent) ∷ [] else []) p bytes → (p ≡ k) × (sent ≡ bytes)
+hello_sent : (has_carrier : Bool) (k : ℕ) (bytes : List ℕ) (p : ℕ) (sent : List ℕ) → IsSent (if has_carrier then (k, sent) ∷ [] else []) p bytes → (p ≡ k) × (sent ≡ bytes)
 hello_sent true k bytes p sent (inl here) = (sym here.0, here.1)
 hello_sent true k bytes p sent (inr none) = absurd none
 hello_sent false k bytes p sent none = absurd none
@@ -353,12 +354,12 @@ sent_says : ControlAgain → (w : BridgeView) (p : ℕ) (bytes : List ℕ) (k : 
     → IsSent (sent_from w.id.system k ports db) p bytes → IsFrameOf w p bytes
 sent_says again w p bytes k [] db can hellos some = absurd some
 sent_says again w p bytes k (port ∷ ports) db can hellos some =
-    elim (sent_either (sent_at w.id.system k port db) (sent_from w.id.system (k + 1) ports (told_at k port db)) p bytes some) [
-      | inr later ↦ sent_says again w p bytes (k + 1) ports (told_at k port db) (told_can w k port db can) (λ i next is same. hellos (suc i) next is (omega (arith, same))) later
+    elim (sent_either (sent_at w.id.system k port db) (sent_from w.id.system (k + 1) ports (after_sending_at k port db)) p bytes some) [
+      | inr later ↦ sent_says again w p bytes (k + 1) ports (after_sending_at k port db) (after_sending_can w k port db can) (λ i next is same. hellos (suc i) next is (omega (arith, same))) later
       | inl here ↦
-          elim (sent_either (greetings_at w.id.system k port) (synced_at w.id.system k port db) p bytes here) [
-            | inl greets ↦
-                let is = hello_sent port.adjacency.carrier k bytes p (hello_frame w.id.system k port) greets in
+          elim (sent_either (hellos_at w.id.system k port) (synced_at w.id.system k port db) p bytes here) [
+            | inl hello_from ↦
+                let is = hello_sent port.adjacency.carrier k bytes p (hello_frame w.id.system k port) hello_from in
                 let frame_is : hello_frame w.id.system p port ≡ bytes = ap (λ (n : ℕ). hello_frame w.id.system n port) is.0 ∙ is.1 in
                 subst (IsFrameOf w p) frame_is (hellos 0 port refl (omega (arith, is.0)))
             | inr synced ↦ (synced_say again w p k port db bytes can synced).frame
@@ -373,7 +374,7 @@ hello_says again w p port there mine low named at same =
     let way : ThreeWay = said p port.adjacency in
     let kept : neighbour_at w p ≡ neighbour_of port.adjacency = neighbour_found w p there at ∙ ap neighbour_of same in
     let own : IsHelloOf w p h way = hello_of w p port there at same in
-    frame_of w p (hello_frame w.id.system p port) (greeting h way) (hello_content again w.id.system p port mine low (subst IsNamed kept named)) (hello_written w.id.system p port) (record {
+    frame_of w p (hello_frame w.id.system p port) (parsing.hello h way) (hello_content again w.id.system p port mine low (subst IsNamed kept named)) (hello_written w.id.system p port) (record {
       hello = λ other name e.
           let same_hello : h ≡ other = cc in
           let same_name : way ≡ name = cc in
@@ -383,20 +384,20 @@ hello_says again w p port there mine low named at same =
     })
 
 -- the port that sends is that afterwards, but for what is due
-kept_told : (r : BridgeView) (p i : ℕ) (port : BridgePort) → slice_get r.ports i ≡ Some port → p ≡ 1 + i → port_at (told r) p ≡ Some (with_due false port)
-kept_told r p i port is same =
+kept_after_sending : (r : BridgeView) (p i : ℕ) (port : BridgePort) → slice_get r.ports i ≡ Some port → p ≡ 1 + i → port_at (after_sending r) p ≡ Some (with_csnp_due false port)
+kept_after_sending r p i port is same =
     let place : p - 1 ≡ i = omega (arith, same) in
     let low : nat_le 1 p ≡ true = le-leb 1 p (omega (arith, same)) in
-    rw (low, place) (slice_get-map (with_due false) r.ports i ∙ ap (λ (o : Option BridgePort). option_map (with_due false) o) is)
+    rw (low, place) (slice_get-map (with_csnp_due false) r.ports i ∙ ap (λ (o : Option BridgePort). option_map (with_csnp_due false) o) is)
 
 -- the bridge that sends can tell what it will hold
-pub readied_can : (v : BridgeView) → IsSoundView v → CanTell (told (readied v)) (readied v).database
+pub readied_can : (v : BridgeView) → IsSoundView v → CanTell (after_sending (readied v)) (readied v).database
 readied_can v was =
     let r : BridgeView = readied v in
     record {
       up = up_ports r;
       sound = readied_holds v was;
-      same = told_held 1 r.ports r.database;
+      same = after_sending_held 1 r.ports r.database;
       mine = ap (λ (u : BridgeView). length u.id.system.mac.bytes) (readied_rest v) ∙ was.config.system.bytes;
     }
 
@@ -404,13 +405,13 @@ second_says : ControlAgain → (v : BridgeView) (p : ℕ) (bytes : List ℕ) →
 unfolding after_tick sent_in_tick
 second_says again v p bytes was named some =
     let r : BridgeView = readied v in
-    let w : BridgeView = told r in
+    let w : BridgeView = after_sending r in
     let can : CanTell w r.database = readied_can v was in
     let many : length r.ports ≡ length v.ports = ap length (readied_ports v) ∙ length-map v.ports later in
     sent_says again w p bytes 1 r.ports r.database can
     (λ i port is same.
     let within = slice_get_within r.ports i port is in
-    hello_says again w p port (with_due false port) can.mine (omega (arith, within, many, was.few, same)) named (kept_told r p i port is same) refl)
+    hello_says again w p port (with_csnp_due false port) can.mine (omega (arith, within, many, was.few, same)) named (kept_after_sending r p i port is same) refl)
     some
 
 pub sent_is_sound : ControlAgain → SentIsSound

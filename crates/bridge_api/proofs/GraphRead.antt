@@ -18,7 +18,7 @@ use Rattle.lsdb.specs.Entry.{Entry}
 use Rattle.lsdb.specs.Database.{Lsps, id_cmp}
 use Rattle.lsdb.proofs.Ids.{tied_same}
 use Rattle.lsdb.proofs.LookupLemmas.{tied_is}
-use Rattle.flooding.specs.Own.{own_id, is_originated, tlvs_in}
+use Rattle.flooding.specs.Own.{own_id, is_originated, tlvs_of_body}
 use Rattle.snp_sync.proofs.Ranges.{of_entries}
 use Rattle.spb_content.specs.declared.content.Content.{Content}
 use Rattle.spb_content.specs.Content.{content_in}
@@ -166,21 +166,21 @@ reads_each_once v = distinct (entries v.database) (true_from_T _ (entries_sorted
 
 -- ---- and itself
 
-lasting : (a : Version) (lifetime : ℕ) (body : List ℕ) → Lasts a lifetime → live_content a body ≡ Some (content_in (tlvs_in body))
+lasting : (a : Version) (lifetime : ℕ) (body : List ℕ) → Lasts a lifetime → live_content a body ≡ Some (content_in (tlvs_of_body body))
 lasting Absent lifetime body lasts = absurd lasts
 lasting (Live seq sum) lifetime body lasts = refl
 lasting (Dead seq) lifetime body lasts = absurd lasts
 
-alive_says : (o : Option Entry) → IsAlive o → content_held o ≡ Some (content_in (tlvs_in (body_in o)))
+alive_says : (o : Option Entry) → IsAlive o → content_held o ≡ Some (content_in (tlvs_of_body (body_in o)))
 alive_says None alive = absurd alive
 alive_says (Some e) alive = lasting e.version e.lifetime e.body alive
 
-pub tlvs_said : (v : BridgeView) → tlvs_in (body_of v) ≡ content_bytes (local_of v)
+pub tlvs_said : (v : BridgeView) → tlvs_of_body (body_of v) ≡ content_bytes (local_of v)
 unfolding body_of
 tlvs_said v = refl
 
 pub reads_itself : ReadsItself
 reads_itself v was fresh =
     let says : content_held (own_entry v) ≡ Some (content_in (content_bytes (local_of v))) =
-    alive_says (own_entry v) (was.own.alive fresh) ∙ ap (λ (body : List ℕ). Some (content_in body)) (ap tlvs_in (was.own.said fresh) ∙ tlvs_said v) in
+    alive_says (own_entry v) (was.own.alive fresh) ∙ ap (λ (body : List ℕ). Some (content_in body)) (ap tlvs_of_body (was.own.said fresh) ∙ tlvs_said v) in
     contains_from_has (v.id.system, content_in (content_bytes (local_of v))) (contents_of v) (held_read v.database v.id.system (content_in (content_bytes (local_of v))) (own_entry v) refl says)

@@ -14,18 +14,19 @@ use Rattle.itag_frames.specs.declared.frame.FrameError.{FrameError}
 use Rattle.itag_frames.specs.declared.frame.FrameError.TheVariants as refusals
 use Rattle.itag_frames.specs.Frame.{Content, content_in, is_control, pdu_of}
 use Rattle.itag_frames.specs.Frame as frames
-use Rattle.bridge_api.specs.Judging.{Judged, useless, greeting, link_state, complete, partial, tenant, is_octets, judged, by_content, by_pdu, by_three_way, by_reading}
+use Rattle.bridge_api.specs.Parsing.{Parsed, is_octets, parsed, by_content, by_pdu, by_three_way, by_reading}
+use Rattle.bridge_api.specs.Parsing as parsing
 use Rattle.bridge_api.specs.declared.drop_reason.DropReason.TheVariants as drop
 use Rattle.bridge_api.proofs.Octets.{AreSmall, small_octets, small_bytes, small_take, small_drop}
 
 -- the PDU that a frame was taken for
-abbrev pub pdu_in : Judged → Option PduValue
-pdu_in (useless reason) = None
-pdu_in (greeting h way) = Some (hello h)
-pdu_in (link_state l) = Some (lsp l)
-pdu_in (complete c) = Some (csnp c)
-pdu_in (partial s) = Some (psnp s)
-pdu_in (tenant da sa vid isid customer) = None
+abbrev pub pdu_in : Parsed → Option PduValue
+pdu_in (parsing.dropped reason) = None
+pdu_in (parsing.hello h way) = Some (hello h)
+pdu_in (parsing.lsp l) = Some (lsp l)
+pdu_in (parsing.csnp c) = Some (csnp c)
+pdu_in (parsing.psnp s) = Some (psnp s)
+pdu_in (parsing.customer da sa vid isid customer) = None
 
 -- the bytes of which it was read, which are octets
 pub record IsHeardPdu (bytes : List ℕ) (p : PduValue) : Type 0 where
@@ -69,10 +70,10 @@ in_content (Ok (frames.Pdu pdu)) bytes p is octets e =
     let read_as : read pdu ≡ Ok p = by_read (read pdu) p e in
     record { pdu = pdu; is = is; octets = small; read_as = read_as; from = read_is_spelled pdu p small read_as }
 
-in_octets : (b : Bool) (bytes : List ℕ) (p : PduValue) → is_octets bytes ≡ b → pdu_in (if b then by_content (content_in bytes) else useless drop.Frame) ≡ Some p → IsHeardPdu bytes p
+in_octets : (b : Bool) (bytes : List ℕ) (p : PduValue) → is_octets bytes ≡ b → pdu_in (if b then by_content (content_in bytes) else parsing.dropped drop.Frame) ≡ Some p → IsHeardPdu bytes p
 in_octets true bytes p octets e = in_content (content_in bytes) bytes p refl octets e
 in_octets false bytes p octets e = absurd cc
 
-pub heard_pdu : (bytes : List ℕ) (p : PduValue) → pdu_in (judged bytes) ≡ Some p → IsHeardPdu bytes p
-unfolding judged
+pub heard_pdu : (bytes : List ℕ) (p : PduValue) → pdu_in (parsed bytes) ≡ Some p → IsHeardPdu bytes p
+unfolding parsed
 heard_pdu bytes p e = in_octets (is_octets bytes) bytes p refl e

@@ -30,15 +30,16 @@ use Rattle.flooding.specs.Sending.{lsps_to_send}
 use Rattle.snp_sync.specs.Sending.{csnps_of, psnps_of}
 use Rattle.adjacency.specs.declared.state.AdjState.{AdjState}
 use Rattle.adjacency.specs.declared.state.AdjState.TheVariants.{Down, Initializing, Up}
-use Rattle.adjacency.specs.States.{number_of}
+use Rattle.adjacency.specs.States.{state_number}
 use Rattle.adjacency.specs.Hearing.{End}
 use Rattle.adjacency.specs.declared.port.Adjacency.{Adjacency}
 use Rattle.adjacency.specs.Adjacency.{SoundIn, is_up, neighbour_of, said}
 use Rattle.bridge_api.specs.declared.port.BridgePort.{BridgePort}
 use Rattle.bridge_api.specs.View.{BridgeView, port_at, neighbour_at, is_port_up, has_carrier_in, has_carrier_at}
-use Rattle.bridge_api.specs.Judging.{useless, judged, greeting, is_octets, by_content, by_pdu, by_three_way, by_reading}
+use Rattle.bridge_api.specs.Parsing.{parsed, is_octets, by_content, by_pdu, by_three_way, by_reading}
+use Rattle.bridge_api.specs.Parsing as parsing
 use Rattle.bridge_api.specs.declared.drop_reason.DropReason.TheVariants as drop
-use Rattle.bridge_api.specs.Ticking.{later, readied, hello_tlvs, hello_at, hello_frame, lsp_frame, csnp_frame, psnp_frame, greetings_at, summaries_at, lsps_at, requests_at, synced_at, sent_at, told_at, sent_from, sent_in_tick, after_tick}
+use Rattle.bridge_api.specs.Ticking.{later, readied, hello_tlvs, hello_at, hello_frame, lsp_frame, csnp_frame, psnp_frame, hellos_at, summaries_at, lsps_at, requests_at, synced_at, sent_at, after_sending_at, sent_from, sent_in_tick, after_tick}
 use Rattle.bridge_api.specs.Laws.{IsSoundPort, IsSent, IsHelloOf, AreOctets, HellosAreHeard, SentWithCarrier}
 use Rattle.bridge_api.proofs.Changes.{found, readied_ports, readied_rest, ticked, tick_port, when_true}
 use Rattle.bridge_api.proofs.Carriers.{later_carrier}
@@ -76,13 +77,13 @@ pub hello_short : (h : HelloValue) → length h.source.mac.bytes ≡ 6 → lengt
 unfolding hello_bytes
 hello_short h six = simp length-append (omega (arith, six))
 
-said_state : (s : AdjState) → number_of s ≤ 2
+said_state : (s : AdjState) → state_number s ≤ 2
 said_state Down = omega arith
 said_state Initializing = omega arith
 said_state Up = omega arith
 
 -- the hello that is read again, by one who looks at no octet
-pub hello_content : ControlAgain → (system : SystemId) (p : ℕ) (port : BridgePort) → length system.mac.bytes ≡ 6 → p ≤ 32 → IsNamed (neighbour_of port.adjacency) → by_content (content_in (hello_frame system p port)) ≡ greeting (hello_at system p port) (said p port.adjacency)
+pub hello_content : ControlAgain → (system : SystemId) (p : ℕ) (port : BridgePort) → length system.mac.bytes ≡ 6 → p ≤ 32 → IsNamed (neighbour_of port.adjacency) → by_content (content_in (hello_frame system p port)) ≡ parsing.hello (hello_at system p port) (said p port.adjacency)
 unfolding hello_frame
 hello_content control_again system p port six low named =
     let h : HelloValue = hello_at system p port in
@@ -159,10 +160,10 @@ hello_small system p port from low named octets =
     control_small system.mac (hello_bytes (hello_at system p port)) own
     (omega arith, (omega arith, (omega arith, (omega arith, (omega arith, (omega arith, (omega arith, (omega arith, (omega arith, whole)))))))))
 
-pub hello_heard : ControlAgain → (system : SystemId) (p : ℕ) (port : BridgePort) → length system.mac.bytes ≡ 6 → IsBytes system.mac.bytes → p ≤ 32 → IsNamed (neighbour_of port.adjacency) → AreOctets (neighbour_of port.adjacency) → judged (hello_frame system p port) ≡ greeting (hello_at system p port) (said p port.adjacency)
-unfolding judged
+pub hello_heard : ControlAgain → (system : SystemId) (p : ℕ) (port : BridgePort) → length system.mac.bytes ≡ 6 → IsBytes system.mac.bytes → p ≤ 32 → IsNamed (neighbour_of port.adjacency) → AreOctets (neighbour_of port.adjacency) → parsed (hello_frame system p port) ≡ parsing.hello (hello_at system p port) (said p port.adjacency)
+unfolding parsed
 hello_heard control_again system p port six from low named octets =
-    when_true (is_octets (hello_frame system p port)) (by_content (content_in (hello_frame system p port))) (useless drop.Frame) (octets_small (hello_frame system p port) (hello_small system p port from low named octets))
+    when_true (is_octets (hello_frame system p port)) (by_content (content_in (hello_frame system p port))) (parsing.dropped drop.Frame) (octets_small (hello_frame system p port) (hello_small system p port from low named octets))
     ∙ hello_content control_again system p port six low named
 
 -- ---- which frames are sent
@@ -192,10 +193,10 @@ numbered q f [] p bytes none = absurd none
 numbered q f (x ∷ xs) p bytes (inl here) = here.0
 numbered q f (x ∷ xs) p bytes (inr after) = numbered q f xs p bytes after
 
-greeted_at : (lit : Bool) (system : SystemId) (q : ℕ) (port : BridgePort) (p : ℕ) (bytes : List ℕ) → IsSent (if lit then (q, hello_frame system q port) ∷ [] else []) p bytes → (q ≡ p) × (lit ≡ true)
-greeted_at true system q port p bytes (inl here) = (here.0, refl)
-greeted_at true system q port p bytes (inr none) = absurd none
-greeted_at false system q port p bytes none = absurd none
+hello_sent_at : (has_carrier : Bool) (system : SystemId) (q : ℕ) (port : BridgePort) (p : ℕ) (bytes : List ℕ) → IsSent (if has_carrier then (q, hello_frame system q port) ∷ [] else []) p bytes → (q ≡ p) × (has_carrier ≡ true)
+hello_sent_at true system q port p bytes (inl here) = (here.0, refl)
+hello_sent_at true system q port p bytes (inr none) = absurd none
+hello_sent_at false system q port p bytes none = absurd none
 
 summed_at : (due : Bool) (system : SystemId) (q : ℕ) (db : Lsps) (p : ℕ) (bytes : List ℕ) → IsSent (if due then map (λ (c : CsnpValue). (q, csnp_frame system c)) (csnps_of system db) else []) p bytes → q ≡ p
 summed_at true system q db p bytes some = numbered q (csnp_frame system) (csnps_of system db) p bytes some
@@ -207,7 +208,7 @@ synced_where true system q port db p bytes some =
     elim (sent_either (summaries_at system q port db ++ lsps_at system q db) (requests_at system q db) p bytes some) [
       | inl first ↦
           elim (sent_either (summaries_at system q port db) (lsps_at system q db) p bytes first) [
-            | inl summary ↦ (summed_at port.due system q db p bytes summary, refl)
+            | inl summary ↦ (summed_at port.csnp_due system q db p bytes summary, refl)
             | inr lsp ↦ (numbered q (lsp_frame system) (lsps_to_send db q) p bytes lsp, refl)
           ]
       | inr request ↦ (numbered q (psnp_frame system) (psnps_of system q db) p bytes request, refl)
@@ -216,8 +217,8 @@ synced_where true system q port db p bytes some =
 -- a frame is sent at a port with carrier, or at one that is Up
 pub at_port : (system : SystemId) (q : ℕ) (port : BridgePort) (db : Lsps) (p : ℕ) (bytes : List ℕ) → IsSent (sent_at system q port db) p bytes → (q ≡ p) × ((port.adjacency.carrier ≡ true) ⊎ (is_port_up port ≡ true))
 at_port system q port db p bytes some =
-    elim (sent_either (greetings_at system q port) (synced_at system q port db) p bytes some) [
-      | inl first ↦ let at = greeted_at port.adjacency.carrier system q port p bytes first in (at.0, inl at.1)
+    elim (sent_either (hellos_at system q port) (synced_at system q port db) p bytes some) [
+      | inl first ↦ let at = hello_sent_at port.adjacency.carrier system q port p bytes first in (at.0, inl at.1)
       | inr synced ↦ let at = synced_where (is_port_up port) system q port db p bytes synced in (at.0, inr at.1)
     ]
 
@@ -227,30 +228,30 @@ pub record SentAt (q : ℕ) (ports : List BridgePort) (p : ℕ) : Type 0 where
   pub place : ℕ
   pub number : p ≡ q + place
   pub found : slice_get ports place ≡ Some port
-  pub lit : (port.adjacency.carrier ≡ true) ⊎ (is_port_up port ≡ true)
+  pub has_carrier : (port.adjacency.carrier ≡ true) ⊎ (is_port_up port ≡ true)
 
 pub sent_where : (system : SystemId) (q : ℕ) (ports : List BridgePort) (db : Lsps) (p : ℕ) (bytes : List ℕ) → IsSent (sent_from system q ports db) p bytes → SentAt q ports p
 sent_where system q [] db p bytes none = absurd none
 sent_where system q (port ∷ ports) db p bytes some =
-    elim (sent_either (sent_at system q port db) (sent_from system (q + 1) ports (told_at q port db)) p bytes some) [
-      | inl here ↦ let at = at_port system q port db p bytes here in record { port = port; place = 0; number = omega (arith, at.0); found = refl; lit = at.1 }
+    elim (sent_either (sent_at system q port db) (sent_from system (q + 1) ports (after_sending_at q port db)) p bytes some) [
+      | inl here ↦ let at = at_port system q port db p bytes here in record { port = port; place = 0; number = omega (arith, at.0); found = refl; has_carrier = at.1 }
       | inr after ↦
-          let at = sent_where system (q + 1) ports (told_at q port db) p bytes after in
-          record { port = at.port; place = suc at.place; number = omega (arith, at.number); found = at.found; lit = at.lit }
+          let at = sent_where system (q + 1) ports (after_sending_at q port db) p bytes after in
+          record { port = at.port; place = suc at.place; number = omega (arith, at.number); found = at.found; has_carrier = at.has_carrier }
     ]
 
 -- Up is a port with carrier alone
-up_lit_in : (s : AdjState) (a : Adjacency) → SoundIn s a → is_up s ≡ true → a.carrier ≡ true
-up_lit_in Down a sound up = absurd cc
-up_lit_in Initializing a sound up = absurd cc
-up_lit_in Up a sound up = sound.1
+up_has_carrier_in : (s : AdjState) (a : Adjacency) → SoundIn s a → is_up s ≡ true → a.carrier ≡ true
+up_has_carrier_in Down a sound up = absurd cc
+up_has_carrier_in Initializing a sound up = absurd cc
+up_has_carrier_in Up a sound up = sound.1
 
-pub up_lit : (port : BridgePort) → IsSoundPort port → is_port_up port ≡ true → port.adjacency.carrier ≡ true
-up_lit port sound up = up_lit_in port.adjacency.state port.adjacency sound.adjacency up
+pub up_has_carrier : (port : BridgePort) → IsSoundPort port → is_port_up port ≡ true → port.adjacency.carrier ≡ true
+up_has_carrier port sound up = up_has_carrier_in port.adjacency.state port.adjacency sound.adjacency up
 
-either_lit : (port : BridgePort) → IsSoundPort port → (port.adjacency.carrier ≡ true) ⊎ (is_port_up port ≡ true) → port.adjacency.carrier ≡ true
-either_lit port sound (inl lit) = lit
-either_lit port sound (inr up) = up_lit port sound up
+either_has_carrier : (port : BridgePort) → IsSoundPort port → (port.adjacency.carrier ≡ true) ⊎ (is_port_up port ≡ true) → port.adjacency.carrier ≡ true
+either_has_carrier port sound (inl has_carrier) = has_carrier
+either_has_carrier port sound (inr up) = up_has_carrier port sound up
 
 -- the port of this number, a second later
 later_port : (v : BridgeView) (p place : ℕ) (port : BridgePort) → p ≡ 1 + place → slice_get (map later v.ports) place ≡ Some port → option_map later (port_at v p) ≡ Some port
@@ -259,9 +260,9 @@ later_port v p place port number at =
     let low : nat_le 1 p ≡ true = le-leb 1 p (omega (arith, number)) in
     rw (low, before) (sym (slice_get-map later v.ports place) ∙ at)
 
-lit_before : (o : Option BridgePort) (port : BridgePort) → option_map later o ≡ Some port → port.adjacency.carrier ≡ true → has_carrier_in o ≡ true
-lit_before None port e lit = absurd cc
-lit_before (Some x) port e lit = let same : later x ≡ port = cc in sym (later_carrier x) ∙ (ap (λ (y : BridgePort). y.adjacency.carrier) same ∙ lit)
+carrier_before : (o : Option BridgePort) (port : BridgePort) → option_map later o ≡ Some port → port.adjacency.carrier ≡ true → has_carrier_in o ≡ true
+carrier_before None port e has_carrier = absurd cc
+carrier_before (Some x) port e has_carrier = let same : later x ≡ port = cc in sym (later_carrier x) ∙ (ap (λ (y : BridgePort). y.adjacency.carrier) same ∙ has_carrier)
 
 pub sent_with_carrier : SentWithCarrier
 unfolding sent_in_tick has_carrier_at
@@ -270,39 +271,39 @@ sent_with_carrier v p bytes was some =
     let at = sent_where w.id.system 1 w.ports w.database p bytes some in
     let there : slice_get (map later v.ports) at.place ≡ Some at.port = subst (λ (ports : List BridgePort). slice_get ports at.place ≡ Some at.port) (readied_ports v) at.found in
     let sound : IsSoundPort at.port = all_at (map later v.ports) at.place at.port (all_later v.ports was.ports) there in
-    lit_before (port_at v p) at.port (later_port v p at.place at.port at.number there) (either_lit at.port sound at.lit)
+    carrier_before (port_at v p) at.port (later_port v p at.place at.port at.number there) (either_has_carrier at.port sound at.has_carrier)
 
 -- ---- and a hello is sent, and heard
 
-greeting_sent : (lit : Bool) (system : SystemId) (q : ℕ) (port : BridgePort) → lit ≡ true → IsSent (if lit then (q, hello_frame system q port) ∷ [] else []) q (hello_frame system q port)
-greeting_sent true system q port e = inl (refl, refl)
-greeting_sent false system q port e = absurd cc
+hello_is_sent : (has_carrier : Bool) (system : SystemId) (q : ℕ) (port : BridgePort) → has_carrier ≡ true → IsSent (if has_carrier then (q, hello_frame system q port) ∷ [] else []) q (hello_frame system q port)
+hello_is_sent true system q port e = inl (refl, refl)
+hello_is_sent false system q port e = absurd cc
 
 hello_sent : (system : SystemId) (q : ℕ) (ports : List BridgePort) (db : Lsps) (place p : ℕ) (port : BridgePort) → p ≡ q + place → slice_get ports place ≡ Some port → port.adjacency.carrier ≡ true → IsSent (sent_from system q ports db) p (hello_frame system p port)
-hello_sent system q [] db place p port number at lit = absurd cc
-hello_sent system q (x ∷ ports) db zero p port number at lit =
+hello_sent system q [] db place p port number at has_carrier = absurd cc
+hello_sent system q (x ∷ ports) db zero p port number at has_carrier =
     let same : x ≡ port = cc in
     let first : p ≡ q = omega (arith, number) in
-    let here : IsSent (greetings_at system q port) q (hello_frame system q port) = greeting_sent port.adjacency.carrier system q port lit in
-    rw (same, first) (sent_left (sent_at system q port db) (sent_from system (q + 1) ports (told_at q port db)) q (hello_frame system q port) (sent_left (greetings_at system q port) (synced_at system q port db) q (hello_frame system q port) here))
-hello_sent system q (x ∷ ports) db (suc place) p port number at lit =
-    sent_right (sent_at system q x db) (sent_from system (q + 1) ports (told_at q x db)) p (hello_frame system p port) (hello_sent system (q + 1) ports (told_at q x db) place p port (omega (arith, number)) at lit)
+    let here : IsSent (hellos_at system q port) q (hello_frame system q port) = hello_is_sent port.adjacency.carrier system q port has_carrier in
+    rw (same, first) (sent_left (sent_at system q port db) (sent_from system (q + 1) ports (after_sending_at q port db)) q (hello_frame system q port) (sent_left (hellos_at system q port) (synced_at system q port db) q (hello_frame system q port) here))
+hello_sent system q (x ∷ ports) db (suc place) p port number at has_carrier =
+    sent_right (sent_at system q x db) (sent_from system (q + 1) ports (after_sending_at q x db)) p (hello_frame system p port) (hello_sent system (q + 1) ports (after_sending_at q x db) place p port (omega (arith, number)) at has_carrier)
 
 -- the port with carrier
-record LitPort (v : BridgeView) (p : ℕ) : Type 0 where
+record PortWithCarrier (v : BridgeView) (p : ℕ) : Type 0 where
   port : BridgePort
   there : port_at v p ≡ Some port
-  lit : port.adjacency.carrier ≡ true
+  has_carrier : port.adjacency.carrier ≡ true
 
-lit_port : (o : Option BridgePort) (v : BridgeView) (p : ℕ) → port_at v p ≡ o → has_carrier_in o ≡ true → LitPort v p
-lit_port None v p there lit = absurd cc
-lit_port (Some port) v p there lit = record { port = port; there = there; lit = lit }
+carrier_port_at : (o : Option BridgePort) (v : BridgeView) (p : ℕ) → port_at v p ≡ o → has_carrier_in o ≡ true → PortWithCarrier v p
+carrier_port_at None v p there has_carrier = absurd cc
+carrier_port_at (Some port) v p there has_carrier = record { port = port; there = there; has_carrier = has_carrier }
 
 pub hellos_are_heard : ControlAgain → HellosAreHeard
 unfolding sent_in_tick after_tick has_carrier_at
 hellos_are_heard control_again v p was carrier named octets =
     let w : BridgeView = readied v in
-    let g = lit_port (port_at v p) v p refl carrier in
+    let g = carrier_port_at (port_at v p) v p refl carrier in
     let at = found v.ports p g.port g.there in
     let port : BridgePort = later g.port in
     let there : slice_get w.ports (p - 1) ≡ Some port =
@@ -315,7 +316,7 @@ hellos_are_heard control_again v p was carrier named octets =
     let from : IsBytes w.id.system.mac.bytes = subst (λ (id : BridgeId). IsBytes id.system.mac.bytes) (sym same) was.config.system.octets in
     record {
       bytes = hello_frame w.id.system p port;
-      sent = hello_sent w.id.system 1 w.ports w.database (p - 1) p port (omega (arith, at.0)) there (later_carrier g.port ∙ g.lit);
+      sent = hello_sent w.id.system 1 w.ports w.database (p - 1) p port (omega (arith, at.0)) there (later_carrier g.port ∙ g.has_carrier);
       hello = hello_at w.id.system p port;
       way = said p port.adjacency;
       heard = hello_heard control_again w.id.system p port six from (omega (arith, at.0, within, was.few)) (subst IsNamed kept named) (subst AreOctets kept octets);

@@ -14,8 +14,8 @@ pub mod Saying
 pub mod Data
 pub mod Reading
 pub mod DataSteps
-pub mod Tended
-pub mod TendedSteps
+pub mod OwnLsp
+pub mod OwnLspSteps
 pub mod Sound
 pub mod StepsCarry
 pub mod Entering

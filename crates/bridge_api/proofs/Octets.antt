@@ -3,7 +3,7 @@ use Rattle.std.proofs.Common.{◌≡◌, ℕ, zero, suc, ◌<◌, true, List, []
 use Rattle.std.specs.Prelude.{nat_lt}
 use Rattle.std.proofs.lemmas.Bool.{and_parts, ltb-true, lt-ltb}
 use Rattle.isis_pdu.specs.Grammar.{IsBytes}
-use Rattle.bridge_api.specs.Judging.{is_octets}
+use Rattle.bridge_api.specs.Parsing.{is_octets}
 
 -- a list of octets, byte by byte
 abbrev pub AreSmall : List ℕ → Type 0

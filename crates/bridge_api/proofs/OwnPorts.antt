@@ -13,7 +13,7 @@ use Rattle.lsdb.specs.declared.version.Version.{Version}
 use Rattle.lsdb.specs.declared.version.Version.TheVariants.{Absent, Live, Dead}
 use Rattle.lsdb.specs.Entry.{Entry}
 use Rattle.flooding.specs.declared.own.Own.{Own}
-use Rattle.flooding.specs.Own.{tlvs_in, body_in}
+use Rattle.flooding.specs.Own.{tlvs_of_body, body_in}
 use Rattle.flooding.specs.Laws.{IsOwnBody, stays, renews, ends}
 use Rattle.spb_content.specs.declared.content.Content.{Content}
 use Rattle.spb_content.specs.Content.{content_in}
@@ -29,7 +29,7 @@ use Rattle.bridge_api.proofs.GraphRead.{reads_what_is_held, tlvs_said}
 
 -- a body that lists each neighbour at a port of its own
 abbrev pub HasApart : List ℕ → Type 0
-HasApart body = HasPorts (content_in (tlvs_in body))
+HasApart body = HasPorts (content_in (tlvs_of_body body))
 
 -- ---- a body without TLVs
 
@@ -113,12 +113,12 @@ said_has x (d ∷ cs) c is = at (is_some d.1.inst && same_system d.0 x) refl is 
         inl (λ i. (record { mac = record { bytes = sym system i } }, sym content i))
     at false t is rest = inr (rest is)
 
-live_is : (a : Version) (body : List ℕ) (c : Content) → live_content a body ≡ Some c → content_in (tlvs_in body) ≡ c
+live_is : (a : Version) (body : List ℕ) (c : Content) → live_content a body ≡ Some c → content_in (tlvs_of_body body) ≡ c
 live_is Absent body c is = absurd cc
 live_is (Live seq sum) body c is = cc
 live_is (Dead seq) body c is = absurd cc
 
-held_is : (o : Option Entry) (c : Content) → content_held o ≡ Some c → content_in (tlvs_in (body_in o)) ≡ c
+held_is : (o : Option Entry) (c : Content) → content_held o ≡ Some c → content_in (tlvs_of_body (body_in o)) ≡ c
 held_is None c is = absurd cc
 held_is (Some e) c is = live_is e.version e.body c is
 

@@ -19,9 +19,10 @@ use Rattle.itag_frames.specs.Frame.{content_in, is_control, control_address, llc
 use Rattle.itag_frames.specs.Frame as frames
 use Rattle.flooding.specs.Laws.{IsWhole}
 use Rattle.flooding.proofs.SendableEntries.{read_is_whole}
-use Rattle.snp_sync.specs.Sized.{IsSizedLine}
+use Rattle.snp_sync.specs.Sized.{IsSizedEntry}
 use Rattle.snp_sync.specs.Reading.{before_others, entries_in_all, entries_in}
-use Rattle.bridge_api.specs.Judging.{link_state, complete, partial, judged}
+use Rattle.bridge_api.specs.Parsing.{parsed}
+use Rattle.bridge_api.specs.Parsing as parsing
 use Rattle.bridge_api.proofs.Octets.{bytes_small, small_bytes, small_take, small_drop}
 use Rattle.bridge_api.proofs.Heard.{pdu_in, IsHeardPdu, heard_pdu}
 
@@ -59,8 +60,8 @@ pub record IsHeardLsp (l : LspValue) : Type 0 where
   pub id : IsId l.id.system
   pub fields : HasFields (lsp l)
 
-pub heard_lsp : (frame : List ℕ) (l : LspValue) → judged frame ≡ link_state l → IsHeardLsp l
-heard_lsp frame l is =
+pub lsp_heard_at : (frame : List ℕ) (l : LspValue) → parsed frame ≡ parsing.lsp l → IsHeardLsp l
+lsp_heard_at frame l is =
     let heard : IsHeardPdu frame (lsp l) = heard_pdu frame (lsp l) (ap pdu_in is) in
     record {
       whole = read_is_whole heard.pdu l heard.octets (pdu_is_short frame heard.pdu heard.is) heard.read_as;
@@ -70,12 +71,12 @@ heard_lsp frame l is =
 
 -- ---- the entries of a sequence numbers PDU
 
-entry_sized : (bytes : List ℕ) → length bytes ≡ 16 → IsBytes bytes → IsSizedLine (entry_at bytes)
+entry_sized : (bytes : List ℕ) → length bytes ≡ 16 → IsBytes bytes → IsSizedEntry (entry_at bytes)
 entry_sized bytes whole octets =
     let six : length (take 6 (drop 2 bytes)) ≡ 6 = length-take-le 6 (drop 2 bytes) (omega (arith, whole, length-drop 2 bytes)) in
     record {
       named = record { system = six; bytes = (octets_take 6 (drop 2 bytes) (octets_drop 2 bytes octets), octets 8, octets 9) };
-      line = record {
+      entry = record {
         lifetime = omega (arith, octets 0, octets 1);
         system = six;
         seq = omega (arith, octets 10, octets 11, octets 12, octets 13);
@@ -83,7 +84,7 @@ entry_sized bytes whole octets =
       };
     }
 
-chunks_sized : (k : ℕ) (bytes : List ℕ) → length bytes ≡ 16 * k → IsBytes bytes → AllByRecursion IsSizedLine (map entry_at (first_chunks 16 k bytes))
+chunks_sized : (k : ℕ) (bytes : List ℕ) → length bytes ≡ 16 * k → IsBytes bytes → AllByRecursion IsSizedEntry (map entry_at (first_chunks 16 k bytes))
 chunks_sized zero bytes whole octets = tt
 chunks_sized (suc k) bytes whole octets = (
   entry_sized (take 16 bytes) (length-take-le 16 bytes (omega (arith, whole))) (octets_take 16 bytes octets),
@@ -97,27 +98,27 @@ entries_chosen : (b : Bool) (es fs : List SnpEntry) → (if b then done fs else 
 entries_chosen true es fs e = (refl, cc)
 entries_chosen false es fs e = absurd cc
 
-value_sized : (value : List ℕ) (es : List SnpEntry) → IsBytes value → entries_of value ≡ Ok es → AllByRecursion IsSizedLine es
+value_sized : (value : List ℕ) (es : List SnpEntry) → IsBytes value → entries_of value ≡ Ok es → AllByRecursion IsSizedEntry es
 value_sized value es octets e =
     let chosen = entries_chosen (length value % 16 == 0) es (map entry_at (first_chunks 16 (length value / 16) value)) e in
     let even : length value % 16 ≡ 0 = eqb-true _ _ chosen.0 in
-    subst (AllByRecursion IsSizedLine) chosen.1 (chunks_sized (length value / 16) value (omega (arith, even)) octets)
+    subst (AllByRecursion IsSizedEntry) chosen.1 (chunks_sized (length value / 16) value (omega (arith, even)) octets)
 
-all_appended : (es fs : List SnpEntry) → AllByRecursion IsSizedLine es → AllByRecursion IsSizedLine fs → AllByRecursion IsSizedLine (es ++ fs)
+all_appended : (es fs : List SnpEntry) → AllByRecursion IsSizedEntry es → AllByRecursion IsSizedEntry fs → AllByRecursion IsSizedEntry (es ++ fs)
 all_appended [] fs all rest = rest
 all_appended (e ∷ es) fs all rest = (all.0, all_appended es fs all.1 rest)
 
-joined_sized : (r others : Result (List SnpEntry) TlvError) (es : List SnpEntry) → ((fs : List SnpEntry) → r ≡ Ok fs → AllByRecursion IsSizedLine fs) → ((fs : List SnpEntry) → others ≡ Ok fs → AllByRecursion IsSizedLine fs) → before_others r others ≡ Ok es → AllByRecursion IsSizedLine es
-joined_sized (Err t) others es first rest e = absurd cc
-joined_sized (Ok fs) (Err t) es first rest e = absurd cc
-joined_sized (Ok fs) (Ok gs) es first rest e =
+srm_set_sized : (r others : Result (List SnpEntry) TlvError) (es : List SnpEntry) → ((fs : List SnpEntry) → r ≡ Ok fs → AllByRecursion IsSizedEntry fs) → ((fs : List SnpEntry) → others ≡ Ok fs → AllByRecursion IsSizedEntry fs) → before_others r others ≡ Ok es → AllByRecursion IsSizedEntry es
+srm_set_sized (Err t) others es first rest e = absurd cc
+srm_set_sized (Ok fs) (Err t) es first rest e = absurd cc
+srm_set_sized (Ok fs) (Ok gs) es first rest e =
     let same : fs ++ gs ≡ es = cc in
-    subst (AllByRecursion IsSizedLine) same (all_appended fs gs (first fs refl) (rest gs refl))
+    subst (AllByRecursion IsSizedEntry) same (all_appended fs gs (first fs refl) (rest gs refl))
 
-values_sized : (values : List (List ℕ)) (es : List SnpEntry) → AllByRecursion IsBytes values → entries_in_all values ≡ Ok es → AllByRecursion IsSizedLine es
-values_sized [] es octets e = let same : [] ≡ es = cc in subst (AllByRecursion IsSizedLine) same tt
+values_sized : (values : List (List ℕ)) (es : List SnpEntry) → AllByRecursion IsBytes values → entries_in_all values ≡ Ok es → AllByRecursion IsSizedEntry es
+values_sized [] es octets e = let same : [] ≡ es = cc in subst (AllByRecursion IsSizedEntry) same tt
 values_sized (value ∷ values) es octets e =
-    joined_sized (entries_of value) (entries_in_all values) es (λ fs is. value_sized value fs octets.0 is) (λ fs is. values_sized values fs octets.1 is) e
+    srm_set_sized (entries_of value) (entries_in_all values) es (λ fs is. value_sized value fs octets.0 is) (λ fs is. values_sized values fs octets.1 is) e
 
 -- the values of TLVs of octets
 pieces_octets : (n : ℕ) (bytes : List ℕ) → IsBytes bytes → AllByRecursion IsBytes (pieces_within n 2 bytes)
@@ -142,11 +143,11 @@ values_octets : (code : ℕ) (bytes : List ℕ) → IsBytes bytes → AllByRecur
 unfolding pieces
 values_octets code bytes octets = chosen_octets code (pieces_within (length bytes) 2 bytes) (pieces_octets (length bytes) bytes octets)
 
-pub entries_sized : (tlvs : List ℕ) (es : List SnpEntry) → IsBytes tlvs → entries_in tlvs ≡ Ok es → AllByRecursion IsSizedLine es
+pub entries_sized : (tlvs : List ℕ) (es : List SnpEntry) → IsBytes tlvs → entries_in tlvs ≡ Ok es → AllByRecursion IsSizedEntry es
 entries_sized tlvs es octets e = values_sized (values_with 9 tlvs) es (values_octets 9 tlvs octets) e
 
-pub heard_csnp : (frame : List ℕ) (c : CsnpValue) (es : List SnpEntry) → judged frame ≡ complete c → entries_in c.tlvs ≡ Ok es → AllByRecursion IsSizedLine es
-heard_csnp frame c es is e = entries_sized c.tlvs es (heard_pdu frame (csnp c) (ap pdu_in is)).from.fields.3 e
+pub csnp_heard_at : (frame : List ℕ) (c : CsnpValue) (es : List SnpEntry) → parsed frame ≡ parsing.csnp c → entries_in c.tlvs ≡ Ok es → AllByRecursion IsSizedEntry es
+csnp_heard_at frame c es is e = entries_sized c.tlvs es (heard_pdu frame (csnp c) (ap pdu_in is)).from.fields.3 e
 
-pub heard_psnp : (frame : List ℕ) (s : PsnpValue) (es : List SnpEntry) → judged frame ≡ partial s → entries_in s.tlvs ≡ Ok es → AllByRecursion IsSizedLine es
-heard_psnp frame s es is e = entries_sized s.tlvs es (heard_pdu frame (psnp s) (ap pdu_in is)).from.fields.1 e
+pub psnp_heard_at : (frame : List ℕ) (s : PsnpValue) (es : List SnpEntry) → parsed frame ≡ parsing.psnp s → entries_in s.tlvs ≡ Ok es → AllByRecursion IsSizedEntry es
+psnp_heard_at frame s es is e = entries_sized s.tlvs es (heard_pdu frame (psnp s) (ap pdu_in is)).from.fields.1 e

@@ -1,26 +1,26 @@
 -- A configured bridge is sound, and stays so.
 use Rattle.std.proofs.Common.{arith}
 use Rattle.bridge_api.specs.View.{BridgeView}
-use Rattle.bridge_api.specs.Own.{IsTended}
+use Rattle.bridge_api.specs.Own.{IsOwnLspCurrent}
 use Rattle.bridge_api.specs.Config.{configured}
 use Rattle.bridge_api.specs.Step.{step}
 use Rattle.bridge_api.specs.Laws.{ConfiguredIsSound, StepsStaySound}
 use Rattle.bridge_api.proofs.Certified.{steps_keep_bridge, step_rest}
 use Rattle.bridge_api.proofs.Data.{Holds, has_lsps}
-use Rattle.bridge_api.proofs.SoundPorts.{ports_stay_sound, config_kept, configured_config, configured_sound, configured_is_dark}
+use Rattle.bridge_api.proofs.SoundPorts.{ports_stay_sound, config_kept, configured_config, configured_sound, configured_has_no_carrier}
 use Rattle.bridge_api.proofs.DataSteps.{step_holds, configured_holds}
-use Rattle.bridge_api.proofs.TendedSteps.{IsSaying, steps_stay_saying, configured_is_saying}
+use Rattle.bridge_api.proofs.OwnLspSteps.{IsSaying, steps_stay_saying, configured_is_saying}
 
-tended_by : (v : BridgeView) → IsSaying v → Holds v → IsTended v
-tended_by v saying held = record { said = saying.said; alive = saying.alive; text = held.apart }
+own_lsp_current_by : (v : BridgeView) → IsSaying v → Holds v → IsOwnLspCurrent v
+own_lsp_current_by v saying held = record { said = saying.said; alive = saying.alive; text = held.apart }
 
 pub configured_is_sound : ConfiguredIsSound
 configured_is_sound c whole = record {
   config = configured_config c whole;
-  few = omega (arith, (configured_is_dark c whole).ports, whole.ports);
+  few = omega (arith, (configured_has_no_carrier c whole).ports, whole.ports);
   ports = configured_sound c whole;
   database = has_lsps (configured c) (configured_holds c whole);
-  own = tended_by (configured c) (configured_is_saying c) (configured_holds c whole);
+  own = own_lsp_current_by (configured c) (configured_is_saying c) (configured_holds c whole);
 }
 
 pub steps_stay_sound : StepsStaySound
@@ -31,5 +31,5 @@ steps_stay_sound input v is was =
       few = omega (arith, (steps_keep_bridge input v).ports, was.few);
       ports = ports_stay_sound input v is was.ports;
       database = has_lsps (step input v) held;
-      own = tended_by (step input v) (steps_stay_saying input v (record { said = was.own.said; alive = was.own.alive })) held;
+      own = own_lsp_current_by (step input v) (steps_stay_saying input v (record { said = was.own.said; alive = was.own.alive })) held;
     }

@@ -9,24 +9,25 @@ use Rattle.isis_pdu.specs.Grammar.{IsId}
 use Rattle.spb_tlvs.specs.declared.three_way.ThreeWay.{ThreeWay}
 use Rattle.adjacency.specs.declared.state.AdjState.{AdjState}
 use Rattle.adjacency.specs.declared.state.AdjState.TheVariants.{Down, Initializing, Up}
-use Rattle.adjacency.specs.declared.state.Heard.{Heard}
-use Rattle.adjacency.specs.declared.state.Heard.TheVariants as did
+use Rattle.adjacency.specs.declared.state.AdjacencyChange.{AdjacencyChange}
+use Rattle.adjacency.specs.declared.state.AdjacencyChange.TheVariants as did
 use Rattle.adjacency.specs.declared.port.Adjacency.{Adjacency}
 use Rattle.adjacency.specs.States.{next_state, state_numbered}
 use Rattle.adjacency.specs.Hearing.{is_discarded, sender}
-use Rattle.adjacency.specs.Adjacency.{IsSound, down, led_to, state_towards, is_down, after_heard, after_second, after_carrier, change_of}
+use Rattle.adjacency.specs.Adjacency.{IsSound, down, led_to, state_towards, is_down, after_hello_heard, after_second, after_carrier, change_of}
 use Rattle.bridge_api.specs.declared.port.BridgePort.{BridgePort}
 use Rattle.bridge_api.specs.declared.config.BridgeConfig.{BridgeConfig}
 use Rattle.bridge_api.specs.View.{BridgeView, port_at, neighbour_at, is_port_up, has_carrier_in, has_carrier_at, metrics_of}
-use Rattle.bridge_api.specs.Config.{IsWhole, IsMetric, dark, bare, configured}
-use Rattle.bridge_api.specs.Judging.{judged, greeting}
-use Rattle.bridge_api.specs.Hearing.{with_due, with_adjacency, after_receive, with_carrier, metered, with_metric}
-use Rattle.bridge_api.specs.Ports.{noted, greeted_port, carried_port}
+use Rattle.bridge_api.specs.Config.{IsWhole, IsMetric, port_without_carrier, bare, configured}
+use Rattle.bridge_api.specs.Parsing.{parsed}
+use Rattle.bridge_api.specs.Parsing as parsing
+use Rattle.bridge_api.specs.Hearing.{with_csnp_due, with_adjacency, after_receive, with_carrier, with_port_metric, with_metric}
+use Rattle.bridge_api.specs.Ports.{noted, heard_hello_port, with_carrier_port}
 use Rattle.bridge_api.specs.Ticking.{later}
 use Rattle.bridge_api.specs.Step.{Input, second, frame, carrier, metric, step}
-use Rattle.bridge_api.specs.Laws.{IsSoundPort, HasConfig, IsInput, ConfiguredIsDark}
+use Rattle.bridge_api.specs.Laws.{IsSoundPort, HasConfig, IsInput, ConfiguredHasNoCarrier}
 use Rattle.bridge_api.proofs.Adjacent.{came_up, stayed_up, hello_sound, second_sound, carrier_sound, not_discarded}
-use Rattle.bridge_api.proofs.Changes.{KeepsRest, found, frame_ports, greeted_ports, carrier_step, carried_ports, metric_step, metered_ports, tick_ports, configured_ports}
+use Rattle.bridge_api.proofs.Changes.{KeepsRest, found, frame_ports, heard_hello_ports, carrier_step, with_carrier_ports, metric_step, with_metric_ports, tick_ports, configured_ports}
 use Rattle.bridge_api.proofs.Certified.{end_in}
 use Rattle.bridge_api.proofs.Heard.{pdu_in, heard_pdu}
 
@@ -52,41 +53,41 @@ carrier_six false a six = refl
 
 -- ---- one port
 
-noted_sound : (heard : Heard) (port : BridgePort) → IsSound port.adjacency → IsId port.adjacency.neighbour → IsMetric port.metric → (heard ≡ did.CameUp → is_port_up port ≡ true) → (heard ≡ did.Kept → port.due ≡ true → is_port_up port ≡ true) → (heard ≡ did.Discarded → port.due ≡ true → is_port_up port ≡ true) → IsSoundPort (noted heard port)
-noted_sound did.Kept port sound six link came kept whole = record { adjacency = sound; neighbour = six; due = kept refl; metric = link }
-noted_sound did.CameUp port sound six link came kept whole = record { adjacency = sound; neighbour = six; due = λ e. came refl; metric = link }
-noted_sound did.LeftUp port sound six link came kept whole = record { adjacency = sound; neighbour = six; due = λ e. absurd cc; metric = link }
-noted_sound did.Discarded port sound six link came kept whole = record { adjacency = sound; neighbour = six; due = whole refl; metric = link }
+noted_sound : (heard : AdjacencyChange) (port : BridgePort) → IsSound port.adjacency → IsId port.adjacency.neighbour → IsMetric port.metric → (heard ≡ did.CameUp → is_port_up port ≡ true) → (heard ≡ did.Kept → port.csnp_due ≡ true → is_port_up port ≡ true) → (heard ≡ did.Discarded → port.csnp_due ≡ true → is_port_up port ≡ true) → IsSoundPort (noted heard port)
+noted_sound did.Kept port sound six link came kept whole = record { adjacency = sound; neighbour = six; csnp_due = kept refl; metric = link }
+noted_sound did.CameUp port sound six link came kept whole = record { adjacency = sound; neighbour = six; csnp_due = λ e. came refl; metric = link }
+noted_sound did.LeftUp port sound six link came kept whole = record { adjacency = sound; neighbour = six; csnp_due = λ e. absurd cc; metric = link }
+noted_sound did.Discarded port sound six link came kept whole = record { adjacency = sound; neighbour = six; csnp_due = whole refl; metric = link }
 
 -- a port that another adjacency is noted at, by what the change from the old one was
 change_sound : (port : BridgePort) (new : Adjacency) → IsSoundPort port → IsSound new → IsId new.neighbour → IsSoundPort (noted (change_of port.adjacency new) (with_adjacency new port))
 change_sound port new was sound six =
-    noted_sound (change_of port.adjacency new) (with_adjacency new port) sound six was.metric (came_up port.adjacency new) (λ e due. stayed_up port.adjacency new e (was.due due)) (λ e. absurd (not_discarded port.adjacency new e))
+    noted_sound (change_of port.adjacency new) (with_adjacency new port) sound six was.metric (came_up port.adjacency new) (λ e due. stayed_up port.adjacency new e (was.csnp_due due)) (λ e. absurd (not_discarded port.adjacency new e))
 
-hello_port_at : (discarded : Bool) (h : HelloValue) (way : ThreeWay) (port : BridgePort) → IsSoundPort port → IsId h.source → IsSound (if discarded then port.adjacency else after_heard h way port.adjacency) → IsSoundPort (noted (if discarded then did.Discarded else change_of port.adjacency (after_heard h way port.adjacency)) (with_adjacency (if discarded then port.adjacency else after_heard h way port.adjacency) port))
+hello_port_at : (discarded : Bool) (h : HelloValue) (way : ThreeWay) (port : BridgePort) → IsSoundPort port → IsId h.source → IsSound (if discarded then port.adjacency else after_hello_heard h way port.adjacency) → IsSoundPort (noted (if discarded then did.Discarded else change_of port.adjacency (after_hello_heard h way port.adjacency)) (with_adjacency (if discarded then port.adjacency else after_hello_heard h way port.adjacency) port))
 hello_port_at true h way port was six sound = was
 hello_port_at false h way port was six sound =
-    change_sound port (after_heard h way port.adjacency) was sound (heard_six (h.holding == 0) (next_state (state_towards (sender h way) port.adjacency) (state_numbered way.state)) h way six)
+    change_sound port (after_hello_heard h way port.adjacency) was sound (heard_six (h.holding == 0) (next_state (state_towards (sender h way) port.adjacency) (state_numbered way.state)) h way six)
 
-pub greeted_sound : (v : BridgeView) (q : ℕ) (h : HelloValue) (way : ThreeWay) (port : BridgePort) → IsSoundPort port → IsId h.source → IsSoundPort (greeted_port v.id.system q h way port)
-greeted_sound v q h way port was six = hello_port_at (is_discarded v.id.system q h way) h way port was six (hello_sound v.id.system q h way port.adjacency was.adjacency)
+pub heard_hello_sound : (v : BridgeView) (q : ℕ) (h : HelloValue) (way : ThreeWay) (port : BridgePort) → IsSoundPort port → IsId h.source → IsSoundPort (heard_hello_port v.id.system q h way port)
+heard_hello_sound v q h way port was six = hello_port_at (is_discarded v.id.system q h way) h way port was six (hello_sound v.id.system q h way port.adjacency was.adjacency)
 
-pub carried_sound : (on : Bool) (port : BridgePort) → IsSoundPort port → IsSoundPort (carried_port on port)
-carried_sound on port was = change_sound port (after_carrier on port.adjacency) was (carrier_sound on port.adjacency was.adjacency) (carrier_six on port.adjacency was.neighbour)
+pub with_carrier_sound : (on : Bool) (port : BridgePort) → IsSoundPort port → IsSoundPort (with_carrier_port on port)
+with_carrier_sound on port was = change_sound port (after_carrier on port.adjacency) was (carrier_sound on port.adjacency was.adjacency) (carrier_six on port.adjacency was.neighbour)
 
-pub metered_sound : (m : ℕ) (port : BridgePort) → IsMetric m → IsSoundPort port → IsSoundPort (metered m port)
-metered_sound m port is was = record { adjacency = was.adjacency; neighbour = was.neighbour; due = was.due; metric = is }
+pub with_metric_sound : (m : ℕ) (port : BridgePort) → IsMetric m → IsSoundPort port → IsSoundPort (with_port_metric m port)
+with_metric_sound m port is was = record { adjacency = was.adjacency; neighbour = was.neighbour; csnp_due = was.csnp_due; metric = is }
 
 pub later_sound : (port : BridgePort) → IsSoundPort port → IsSoundPort (later port)
 later_sound port was = record {
   adjacency = second_sound port.adjacency was.adjacency;
   neighbour = second_six (is_down port.adjacency.state) (port.adjacency.hold == 1) port.adjacency was.neighbour;
-  due = λ e. (and_parts port.due (is_port_up (with_adjacency (after_second port.adjacency) port)) e).1;
+  csnp_due = λ e. (and_parts port.csnp_due (is_port_up (with_adjacency (after_second port.adjacency) port)) e).1;
   metric = was.metric;
 }
 
-pub undue_sound : (port : BridgePort) → IsSoundPort port → IsSoundPort (with_due false port)
-undue_sound port was = record { adjacency = was.adjacency; neighbour = was.neighbour; due = λ e. absurd cc; metric = was.metric }
+pub undue_sound : (port : BridgePort) → IsSoundPort port → IsSoundPort (with_csnp_due false port)
+undue_sound port was = record { adjacency = was.adjacency; neighbour = was.neighbour; csnp_due = λ e. absurd cc; metric = was.metric }
 
 -- ---- all ports
 
@@ -97,7 +98,7 @@ pub all_later : (ports : List BridgePort) → AreSoundPorts ports → AreSoundPo
 all_later [] all = all
 all_later (port ∷ ports) all = (later_sound port all.0, all_later ports all.1)
 
-pub all_undue : (ports : List BridgePort) → AreSoundPorts ports → AreSoundPorts (map (with_due false) ports)
+pub all_undue : (ports : List BridgePort) → AreSoundPorts ports → AreSoundPorts (map (with_csnp_due false) ports)
 all_undue [] all = all
 all_undue (port ∷ ports) all = (undue_sound port all.0, all_undue ports all.1)
 
@@ -115,7 +116,7 @@ pub sound_at : (v : BridgeView) (q : ℕ) (port : BridgePort) → AreSoundPorts 
 sound_at v q port all there = all_at v.ports (q - 1) port all (found v.ports q port there).1
 
 -- the source of a hello that was heard
-pub source_six : (bytes : List ℕ) (h : HelloValue) (way : ThreeWay) → judged bytes ≡ greeting h way → IsId h.source
+pub source_six : (bytes : List ℕ) (h : HelloValue) (way : ThreeWay) → parsed bytes ≡ parsing.hello h way → IsId h.source
 source_six bytes h way is = (heard_pdu bytes (hello h) (ap pdu_in is)).from.pdu.ids
 
 -- one port is sound afterwards, and no other changed
@@ -128,19 +129,19 @@ ports_stay_sound (frame q bytes) v is was =
     elim (frame_ports v q bytes) [
       | inl same ↦ subst AreSoundPorts (sym same) was
       | inr g ↦
-          one_sound v (after_receive q bytes v) q (greeted_port v.id.system q g.hello g.way g.port) was
-          (greeted_sound v q g.hello g.way g.port (sound_at v q g.port was g.there) (source_six bytes g.hello g.way g.is))
-          (ap (λ (u : BridgeView). u.ports) g.after ∙ greeted_ports g.hello g.way q g.port v g.there)
+          one_sound v (after_receive q bytes v) q (heard_hello_port v.id.system q g.hello g.way g.port) was
+          (heard_hello_sound v q g.hello g.way g.port (sound_at v q g.port was g.there) (source_six bytes g.hello g.way g.is))
+          (ap (λ (u : BridgeView). u.ports) g.after ∙ heard_hello_ports g.hello g.way q g.port v g.there)
     ]
 ports_stay_sound (carrier q on) v is was =
     elim (carrier_step v q on) [
       | inl e ↦ subst (λ (u : BridgeView). AreSoundPorts u.ports) (sym e) was
-      | inr g ↦ one_sound v (with_carrier q on v) q (carried_port on g.port) was (carried_sound on g.port (sound_at v q g.port was g.there)) (ap (λ (u : BridgeView). u.ports) g.after ∙ carried_ports q on g.port v g.there)
+      | inr g ↦ one_sound v (with_carrier q on v) q (with_carrier_port on g.port) was (with_carrier_sound on g.port (sound_at v q g.port was g.there)) (ap (λ (u : BridgeView). u.ports) g.after ∙ with_carrier_ports q on g.port v g.there)
     ]
 ports_stay_sound (metric q m) v is was =
     elim (metric_step v q m) [
       | inl e ↦ subst (λ (u : BridgeView). AreSoundPorts u.ports) (sym e) was
-      | inr g ↦ one_sound v (with_metric q m v) q (metered m g.port) was (metered_sound m g.port is (sound_at v q g.port was g.there)) (ap (λ (u : BridgeView). u.ports) g.after ∙ metered_ports q m g.port v)
+      | inr g ↦ one_sound v (with_metric q m v) q (with_port_metric m g.port) was (with_metric_sound m g.port is (sound_at v q g.port was g.there)) (ap (λ (u : BridgeView). u.ports) g.after ∙ with_metric_ports q m g.port v)
     ]
 
 -- ---- the configuration
@@ -176,32 +177,32 @@ pub configured_config : (c : BridgeConfig) → IsWhole c → HasConfig (configur
 unfolding configured
 configured_config c whole = config_kept (bare c) (configured c) refl (bare_config c whole)
 
-pub all_dark : (metrics : List ℕ) → AllByRecursion IsMetric metrics → AreSoundPorts (map dark metrics)
-all_dark [] each = tt
-all_dark (m ∷ ms) each = (record { adjacency = refl; neighbour = refl; due = λ e. absurd cc; metric = each.0 }, all_dark ms each.1)
+pub all_without_carrier : (metrics : List ℕ) → AllByRecursion IsMetric metrics → AreSoundPorts (map port_without_carrier metrics)
+all_without_carrier [] each = tt
+all_without_carrier (m ∷ ms) each = (record { adjacency = refl; neighbour = refl; csnp_due = λ e. absurd cc; metric = each.0 }, all_without_carrier ms each.1)
 
 pub configured_sound : (c : BridgeConfig) → IsWhole c → AreSoundPorts (configured c).ports
-configured_sound c whole = subst AreSoundPorts (sym (configured_ports c)) (all_dark c.metrics whole.each_metric)
+configured_sound c whole = subst AreSoundPorts (sym (configured_ports c)) (all_without_carrier c.metrics whole.each_metric)
 
-dark_metrics : (metrics : List ℕ) → metrics_of (map dark metrics) ≡ metrics
-dark_metrics [] = refl
-dark_metrics (m ∷ ms) = ap (λ (list : List ℕ). m ∷ list) (dark_metrics ms)
+no_carrier_metrics : (metrics : List ℕ) → metrics_of (map port_without_carrier metrics) ≡ metrics
+no_carrier_metrics [] = refl
+no_carrier_metrics (m ∷ ms) = ap (λ (list : List ℕ). m ∷ list) (no_carrier_metrics ms)
 
 -- a port that is found there is dark
-dark_found : {X : Type 0} (f : Option BridgePort → X) (x : X) → f None ≡ x → ((m : ℕ) → f (Some (dark m)) ≡ x) → (metrics : List ℕ) (i : ℕ) → f (slice_get (map dark metrics) i) ≡ x
-dark_found f x none some [] i = none
-dark_found f x none some (m ∷ ms) zero = some m
-dark_found f x none some (m ∷ ms) (suc i) = dark_found f x none some ms i
+no_carrier_found : {X : Type 0} (f : Option BridgePort → X) (x : X) → f None ≡ x → ((m : ℕ) → f (Some (port_without_carrier m)) ≡ x) → (metrics : List ℕ) (i : ℕ) → f (slice_get (map port_without_carrier metrics) i) ≡ x
+no_carrier_found f x none some [] i = none
+no_carrier_found f x none some (m ∷ ms) zero = some m
+no_carrier_found f x none some (m ∷ ms) (suc i) = no_carrier_found f x none some ms i
 
-dark_in : {X : Type 0} (f : Option BridgePort → X) (x : X) → f None ≡ x → ((m : ℕ) → f (Some (dark m)) ≡ x) → (low : Bool) (metrics : List ℕ) (i : ℕ) → f (if low then slice_get (map dark metrics) i else None) ≡ x
-dark_in f x none some true metrics i = dark_found f x none some metrics i
-dark_in f x none some false metrics i = none
+no_carrier_in : {X : Type 0} (f : Option BridgePort → X) (x : X) → f None ≡ x → ((m : ℕ) → f (Some (port_without_carrier m)) ≡ x) → (low : Bool) (metrics : List ℕ) (i : ℕ) → f (if low then slice_get (map port_without_carrier metrics) i else None) ≡ x
+no_carrier_in f x none some true metrics i = no_carrier_found f x none some metrics i
+no_carrier_in f x none some false metrics i = none
 
-pub configured_is_dark : ConfiguredIsDark
+pub configured_has_no_carrier : ConfiguredHasNoCarrier
 unfolding configured has_carrier_at neighbour_at
-configured_is_dark c whole = record {
-  ports = length-map c.metrics dark ∙ whole.metrics;
-  metrics = dark_metrics c.metrics;
-  carrier = λ p. dark_in has_carrier_in false refl (λ m. refl) (nat_le 1 p) c.metrics (p - 1);
-  neighbour = λ p. dark_in end_in None refl (λ m. refl) (nat_le 1 p) c.metrics (p - 1);
+configured_has_no_carrier c whole = record {
+  ports = length-map c.metrics port_without_carrier ∙ whole.metrics;
+  metrics = no_carrier_metrics c.metrics;
+  carrier = λ p. no_carrier_in has_carrier_in false refl (λ m. refl) (nat_le 1 p) c.metrics (p - 1);
+  neighbour = λ p. no_carrier_in end_in None refl (λ m. refl) (nat_le 1 p) c.metrics (p - 1);
 }

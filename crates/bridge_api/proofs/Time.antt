@@ -16,15 +16,16 @@ use Rattle.adjacency.specs.Time.{after_seconds}
 use Rattle.adjacency.proofs.Time.{kept_while_counting, more_seconds, lost_after_count}
 use Rattle.bridge_api.specs.declared.port.BridgePort.{BridgePort}
 use Rattle.bridge_api.specs.View.{BridgeView, port_in, port_at, adjacency_at, neighbour_at, is_up_in, is_up_at}
-use Rattle.bridge_api.specs.Judging.{Judged, greeting, judged, greeting_in}
-use Rattle.bridge_api.specs.Hearing.{after_receive, with_carrier, metered, with_metric}
-use Rattle.bridge_api.specs.Ports.{greeted_port, carried_port}
+use Rattle.bridge_api.specs.Parsing.{Parsed, parsed, hello_in}
+use Rattle.bridge_api.specs.Parsing as parsing
+use Rattle.bridge_api.specs.Hearing.{after_receive, with_carrier, with_port_metric, with_metric}
+use Rattle.bridge_api.specs.Ports.{heard_hello_port, with_carrier_port}
 use Rattle.bridge_api.specs.Step.{Input, second, frame, carrier, metric, step}
-use Rattle.bridge_api.specs.Laws.{IsSoundView, SomeBridge, lit, hearing_from}
+use Rattle.bridge_api.specs.Laws.{IsSoundView, SomeBridge, with_first_carrier, hearing_from}
 use Rattle.bridge_api.specs.Time.{seconds, IsSilentAt, steps, seconds_in, NeighboursAreKept, IsDown, NeighboursAreLost, KeepsSomebody}
 use Rattle.bridge_api.proofs.Adjacent.{up_keeps}
 use Rattle.bridge_api.proofs.Certified.{steps_keep_bridge}
-use Rattle.bridge_api.proofs.Changes.{found, one_port, frame_ports, greeted_ports, carrier_step, carried_ports, metric_step, metered_ports, ticked, tick_port}
+use Rattle.bridge_api.proofs.Changes.{found, one_port, frame_ports, heard_hello_ports, carrier_step, with_carrier_ports, metric_step, with_metric_ports, ticked, tick_port}
 use Rattle.bridge_api.proofs.Meeting.{some_bridge}
 use Rattle.bridge_api.proofs.Sound.{steps_stay_sound}
 use Rattle.bridge_api.proofs.SoundPorts.{AreSoundPorts, sound_at}
@@ -80,8 +81,8 @@ beside v w q p from to there ports here =
       | inr same ↦ ap adjacency_in same
     ])
 
-no_greeting : (h : HelloValue) (way : ThreeWay) (j : Judged) → j ≡ greeting h way → greeting_in j ≡ None → ⊥
-no_greeting h way j is none = true≢false (ap is_some (sym (ap greeting_in is) ∙ none))
+no_hello : (h : HelloValue) (way : ThreeWay) (j : Parsed) → j ≡ parsing.hello h way → hello_in j ≡ None → ⊥
+no_hello h way j is none = true≢false (ap is_some (sym (ap hello_in is) ∙ none))
 
 -- what isn't a second, and doesn't come to the adjacency, leaves it as it is
 frame_silent : (v : BridgeView) (q p : ℕ) (bytes : List ℕ) → IsSilentAt p (frame q bytes) → adjacency_at (step (frame q bytes) v) p ≡ adjacency_at v p
@@ -90,9 +91,9 @@ frame_silent v q p bytes silent =
     elim (frame_ports v q bytes) [
       | inl same ↦ ap (λ (list : List BridgePort). adjacency_in (port_in list p)) same
       | inr g ↦
-          beside v (after_receive q bytes v) q p g.port (greeted_port v.id.system q g.hello g.way g.port) g.there
-          (ap (λ (u : BridgeView). u.ports) g.after ∙ greeted_ports g.hello g.way q g.port v g.there)
-          (λ here. absurd (no_greeting g.hello g.way (judged bytes) g.is (silent (sym here))))
+          beside v (after_receive q bytes v) q p g.port (heard_hello_port v.id.system q g.hello g.way g.port) g.there
+          (ap (λ (u : BridgeView). u.ports) g.after ∙ heard_hello_ports g.hello g.way q g.port v g.there)
+          (λ here. absurd (no_hello g.hello g.way (parsed bytes) g.is (silent (sym here))))
     ]
 
 carrier_silent : (v : BridgeView) (q p : ℕ) (on : Bool) → q ≢ p → adjacency_at (step (carrier q on) v) p ≡ adjacency_at v p
@@ -100,15 +101,15 @@ carrier_silent v q p on apart =
     elim (carrier_step v q on) [
       | inl same ↦ ap (λ (u : BridgeView). adjacency_at u p) same
       | inr g ↦
-          beside v (with_carrier q on v) q p g.port (carried_port on g.port) g.there
-          (ap (λ (u : BridgeView). u.ports) g.after ∙ carried_ports q on g.port v g.there) (λ here. absurd (apart (sym here)))
+          beside v (with_carrier q on v) q p g.port (with_carrier_port on g.port) g.there
+          (ap (λ (u : BridgeView). u.ports) g.after ∙ with_carrier_ports q on g.port v g.there) (λ here. absurd (apart (sym here)))
     ]
 
 metric_silent : (v : BridgeView) (q p m : ℕ) → adjacency_at (step (metric q m) v) p ≡ adjacency_at v p
 metric_silent v q p m =
     elim (metric_step v q m) [
       | inl same ↦ ap (λ (u : BridgeView). adjacency_at u p) same
-      | inr g ↦ beside v (with_metric q m v) q p g.port (metered m g.port) g.there (ap (λ (u : BridgeView). u.ports) g.after ∙ metered_ports q m g.port v) (λ here. refl)
+      | inr g ↦ beside v (with_metric q m v) q p g.port (with_port_metric m g.port) g.there (ap (λ (u : BridgeView). u.ports) g.after ∙ with_metric_ports q m g.port v) (λ here. refl)
     ]
 
 -- so of silent inputs only the seconds count
@@ -178,5 +179,5 @@ pub keeps_somebody : ControlAgain → KeepsSomebody
 unfolding is_up_at
 keeps_somebody again =
     let some : SomeBridge = some_bridge again in
-    let v : BridgeView = hearing_from (hearing_from (lit some.config) (lit some.other)) (lit some.config) in
+    let v : BridgeView = hearing_from (hearing_from (with_first_carrier some.config) (with_first_carrier some.other)) (with_first_carrier some.config) in
     keeping_by v 1 (port_at v 1) some.sound refl some.up

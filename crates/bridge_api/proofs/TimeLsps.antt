@@ -9,7 +9,7 @@ use Rattle.spb_types.specs.declared.ports.PortSet.{PortSet}
 use Rattle.lsdb.specs.declared.version.Version.{Version}
 use Rattle.lsdb.specs.declared.version.Version.TheVariants.{Absent, Live, Dead}
 use Rattle.lsdb.specs.Version.{number_of}
-use Rattle.lsdb.specs.Entry.{Entry, made, parted, aged}
+use Rattle.lsdb.specs.Entry.{Entry, made, flags_cleared_at, aged}
 use Rattle.lsdb.specs.Database.{version_in, version_at, srm_in}
 use Rattle.lsdb.specs.Time.{lifetime_in, is_live}
 use Rattle.lsdb.proofs.LookupLemmas.{get-each}
@@ -19,7 +19,7 @@ use Rattle.flooding.proofs.Owns.{origination_leaves_others}
 use Rattle.bridge_api.specs.View.{BridgeView, up_ports, up_from}
 use Rattle.bridge_api.specs.Own.{holding_of, own_entry, body_in, is_said, originating}
 use Rattle.bridge_api.specs.Duties.{but_for_ssn}
-use Rattle.bridge_api.specs.Ticking.{later, leaving_from, parted_all, counted, expired, is_old, refreshed, readied}
+use Rattle.bridge_api.specs.Ticking.{later, leaving_from, flags_cleared_at_all, counts_lowered, expired, is_old, refreshed, readied}
 use Rattle.bridge_api.specs.Step.{second, step}
 use Rattle.bridge_api.specs.Time.{seconds, AgedFrom, stays, dies as died, SecondsAge, IsLasting, LspsLast, IsDead, LspsExpire}
 use Rattle.bridge_api.proofs.Changes.{tick_is, tick_ports}
@@ -82,12 +82,12 @@ module _ (x y : Option Entry) (same : but_for_ssn x ≡ but_for_ssn y) where
 -- ---- an entry a second later
 
 -- the flags of ports that leave Up are cleared, and else it is as it was
-parted_is : (ps : List ℕ) (e : Entry) → parted_all ps e ≡ record e { srm = (parted_all ps e).srm; ssn = (parted_all ps e).ssn }
-parted_is [] e = refl
-parted_is (p ∷ ps) e = parted_is ps (parted p e)
+flags_cleared_is : (ps : List ℕ) (e : Entry) → flags_cleared_at_all ps e ≡ record e { srm = (flags_cleared_at_all ps e).srm; ssn = (flags_cleared_at_all ps e).ssn }
+flags_cleared_is [] e = refl
+flags_cleared_is (p ∷ ps) e = flags_cleared_is ps (flags_cleared_at p e)
 
 abbrev pub older : PortSet → List ℕ → Entry → Entry
-older up ps e = aged up (parted_all ps e)
+older up ps e = aged up (flags_cleared_at_all ps e)
 
 module _ (up : PortSet) (ps : List ℕ) where
   older_lasts_at : (e left_one : Entry) (left : ℕ) → left_one ≡ record e { srm = left_one.srm; ssn = left_one.ssn } → is_live e.version ≡ true → e.lifetime ≡ left + 1 → 1 ≤ left → IsLasting left (Some e) (Some (aged up left_one))
@@ -103,14 +103,14 @@ module _ (up : PortSet) (ps : List ℕ) where
 
   pub older_lasts : (o : Option Entry) (left : ℕ) → is_live (version_in o) ≡ true → lifetime_in o ≡ left + 1 → 1 ≤ left → IsLasting left o (option_map (older up ps) o)
   older_lasts None left live lasts some = absurd cc
-  older_lasts (Some e) left live lasts some = older_lasts_at e (parted_all ps e) left (parted_is ps e) live lasts some
+  older_lasts (Some e) left live lasts some = older_lasts_at e (flags_cleared_at_all ps e) left (flags_cleared_is ps e) live lasts some
 
   older_dies : (o : Option Entry) (seq sum : ℕ) → version_in o ≡ Live seq sum → lifetime_in o ≤ 1 → IsDead seq up (option_map (older up ps) o)
   older_dies None seq sum is last = absurd cc
   older_dies (Some e) seq sum is last =
-      let f : Entry = parted_all ps e in
-      let version : f.version ≡ Live seq sum = ap (λ (x : Entry). x.version) (parted_is ps e) ∙ is in
-      let lifetime : f.lifetime ≡ e.lifetime = ap (λ (x : Entry). x.lifetime) (parted_is ps e) in
+      let f : Entry = flags_cleared_at_all ps e in
+      let version : f.version ≡ Live seq sum = ap (λ (x : Entry). x.version) (flags_cleared_is ps e) ∙ is in
+      let lifetime : f.lifetime ≡ e.lifetime = ap (λ (x : Entry). x.lifetime) (flags_cleared_is ps e) in
       let next : aged up f ≡ made (Dead seq) 0 [] up f.ssn = dies up f seq sum version (omega (arith, lifetime, last)) in
       record {
         version = ap (λ (x : Entry). x.version) next;
@@ -121,11 +121,11 @@ module _ (up : PortSet) (ps : List ℕ) where
 
   older_stands : (e : Entry) → is_live e.version ≡ false → AgedFrom (Some e) (Some (older up ps e))
   older_stands e gone =
-      let f : Entry = parted_all ps e in
-      let version : f.version ≡ e.version = ap (λ (x : Entry). x.version) (parted_is ps e) in
+      let f : Entry = flags_cleared_at_all ps e in
+      let version : f.version ≡ e.version = ap (λ (x : Entry). x.version) (flags_cleared_is ps e) in
       let next : aged up f ≡ f = stands up f (ap is_live version ∙ gone) in
-      let lifetime : (older up ps e).lifetime ≡ e.lifetime = ap (λ (x : Entry). x.lifetime) next ∙ ap (λ (x : Entry). x.lifetime) (parted_is ps e) in
-      stays (ap (λ (x : Entry). x.version) next ∙ version) (ap (λ (x : Entry). x.body) next ∙ ap (λ (x : Entry). x.body) (parted_is ps e)) (omega (arith, lifetime)) (omega (arith, lifetime))
+      let lifetime : (older up ps e).lifetime ≡ e.lifetime = ap (λ (x : Entry). x.lifetime) next ∙ ap (λ (x : Entry). x.lifetime) (flags_cleared_is ps e) in
+      stays (ap (λ (x : Entry). x.version) next ∙ version) (ap (λ (x : Entry). x.body) next ∙ ap (λ (x : Entry). x.body) (flags_cleared_is ps e)) (omega (arith, lifetime)) (omega (arith, lifetime))
 
   older_live : (e : Entry) (seq sum : ℕ) → e.version ≡ Live seq sum → AgedFrom (Some e) (Some (older up ps e))
   older_live e seq sum is =
@@ -151,19 +151,19 @@ module _ (up : PortSet) (ps : List ℕ) where
 -- ---- what stands under an id a second later
 
 -- the Up ports are those that are left when the counts fell
-pub up_second : (v : BridgeView) → up_ports (step second v) ≡ up_ports (counted v)
+pub up_second : (v : BridgeView) → up_ports (step second v) ≡ up_ports (counts_lowered v)
 up_second v = ap (up_from 1) (tick_ports v) ∙ undue_up 1 (map later v.ports)
 
 twice : (f g : Entry → Entry) (o : Option Entry) → option_map f (option_map g o) ≡ option_map (λ e. f (g e)) o
 twice f g None = refl
 twice f g (Some e) = refl
 
-pub expired_holds : (v : BridgeView) (id : LspId) → get (expired (counted v)).database id ≡ option_map (older (up_ports (counted v)) (leaving_from 1 v.ports)) (get v.database id)
+pub expired_holds : (v : BridgeView) (id : LspId) → get (expired (counts_lowered v)).database id ≡ option_map (older (up_ports (counts_lowered v)) (leaving_from 1 v.ports)) (get v.database id)
 expired_holds v id =
-    let up : PortSet = up_ports (counted v) in
+    let up : PortSet = up_ports (counts_lowered v) in
     let ps : List ℕ = leaving_from 1 v.ports in
-    get-each (λ x e. aged up e) (counted v).database id
-    ∙ (ap (option_map (aged up)) (get-each (λ x e. parted_all ps e) v.database id) ∙ twice (aged up) (parted_all ps) (get v.database id))
+    get-each (λ x e. aged up e) (counts_lowered v).database id
+    ∙ (ap (option_map (aged up)) (get-each (λ x e. flags_cleared_at_all ps e) v.database id) ∙ twice (aged up) (flags_cleared_at_all ps) (get v.database id))
 
 others_by : (b : Bool) (w : BridgeView) (id : LspId) → id ≢ own_id w.id.system → get (if b then w else originating w).database id ≡ get w.database id
 others_by true w id apart = refl
@@ -176,20 +176,20 @@ refreshed_others w id apart = others_by (w.spent || (is_said w && not (is_old (o
 pub second_holds : (v : BridgeView) (id : LspId) → but_for_ssn (get (step second v).database id) ≡ but_for_ssn (get (readied v).database id)
 second_holds v id = ap (λ (w : BridgeView). but_for_ssn (get w.database id)) (tick_is v) ∙ held_from 1 (readied v).ports (readied v).database id
 
-second_ages : (v : BridgeView) (id : LspId) → id ≢ own_id v.id.system → but_for_ssn (get (step second v).database id) ≡ but_for_ssn (option_map (older (up_ports (counted v)) (leaving_from 1 v.ports)) (get v.database id))
-second_ages v id apart = second_holds v id ∙ ap but_for_ssn (refreshed_others (expired (counted v)) id apart ∙ expired_holds v id)
+second_ages : (v : BridgeView) (id : LspId) → id ≢ own_id v.id.system → but_for_ssn (get (step second v).database id) ≡ but_for_ssn (option_map (older (up_ports (counts_lowered v)) (leaving_from 1 v.ports)) (get v.database id))
+second_ages v id apart = second_holds v id ∙ ap but_for_ssn (refreshed_others (expired (counts_lowered v)) id apart ∙ expired_holds v id)
 
 pub seconds_age : SecondsAge
-seconds_age v id apart = aged_same _ _ (second_ages v id apart) (get v.database id) (older_ages (up_ports (counted v)) (leaving_from 1 v.ports) (get v.database id))
+seconds_age v id apart = aged_same _ _ (second_ages v id apart) (get v.database id) (older_ages (up_ports (counts_lowered v)) (leaving_from 1 v.ports) (get v.database id))
 
 second_lasts : (v : BridgeView) (id : LspId) (left : ℕ) → id ≢ own_id v.id.system → is_live (version_at v.database id) ≡ true → lifetime_in (get v.database id) ≡ left + 1 → 1 ≤ left → IsLasting left (get v.database id) (get (step second v).database id)
 second_lasts v id left apart live lasts some =
-    lasting_same _ _ (second_ages v id apart) left (get v.database id) (older_lasts (up_ports (counted v)) (leaving_from 1 v.ports) (get v.database id) left live lasts some)
+    lasting_same _ _ (second_ages v id apart) left (get v.database id) (older_lasts (up_ports (counts_lowered v)) (leaving_from 1 v.ports) (get v.database id) left live lasts some)
 
 second_dies : (v : BridgeView) (id : LspId) (seq sum : ℕ) → id ≢ own_id v.id.system → version_at v.database id ≡ Live seq sum → lifetime_in (get v.database id) ≤ 1 → IsDead seq (up_ports (step second v)) (get (step second v).database id)
 second_dies v id seq sum apart is last =
     subst (λ (up : PortSet). IsDead seq up (get (step second v).database id)) (sym (up_second v))
-    (dead_same _ _ (second_ages v id apart) seq (up_ports (counted v)) (older_dies (up_ports (counted v)) (leaving_from 1 v.ports) (get v.database id) seq sum is last))
+    (dead_same _ _ (second_ages v id apart) seq (up_ports (counts_lowered v)) (older_dies (up_ports (counts_lowered v)) (leaving_from 1 v.ports) (get v.database id) seq sum is last))
 
 -- ---- and many seconds later
 

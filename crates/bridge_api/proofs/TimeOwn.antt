@@ -23,8 +23,8 @@ use Rattle.flooding.specs.Own.{last_number, own_id, renewed}
 use Rattle.flooding.specs.Hearing.{Holding}
 use Rattle.flooding.specs.Origination.{spent_entry, originated_from, originated}
 use Rattle.flooding.proofs.Owns.{originated_stands, origination_is_not_spent}
-use Rattle.snp_sync.specs.Line.{is_owed}
-use Rattle.snp_sync.specs.Sending.{settled as told_entry, all_settled}
+use Rattle.snp_sync.specs.SnpEntries.{has_ssn_at}
+use Rattle.snp_sync.specs.Sending.{ssn_cleared as ssn_cleared_entry, all_ssn_cleared}
 use Rattle.spb_content.specs.Local.{content_bytes}
 use Rattle.adjacency.specs.Adjacency.{neighbour_of, is_up, after_second}
 use Rattle.bridge_api.specs.declared.port.BridgePort.{BridgePort}
@@ -33,19 +33,19 @@ use Rattle.bridge_api.specs.View.{BridgeView, port_at, neighbour_at, is_port_up,
 use Rattle.bridge_api.specs.Own.{neighbour_in, neighbours_from, member_of, body_of, own_of, holding_of, own_entry, body_in, is_said, Lasts, IsAlive, originating}
 use Rattle.bridge_api.specs.Config.{IsWhole, bare, configured}
 use Rattle.bridge_api.specs.Duties.{but_for_ssn}
-use Rattle.bridge_api.specs.Ticking.{later, leaving_from, counted, expired, is_old, refreshed, readied, told_at, told_from}
+use Rattle.bridge_api.specs.Ticking.{later, leaving_from, counts_lowered, expired, is_old, refreshed, readied, after_sending_at, after_sending_from}
 use Rattle.bridge_api.specs.Step.{second, step}
 use Rattle.bridge_api.specs.Laws.{IsSoundView}
 use Rattle.bridge_api.specs.Time.{seconds, AgedFrom, IsLasting, IsDead, own_number, StandsStill, IsRenewed, SecondsStandStill, SecondsRenew, IsSpent, SecondsSpend, SpentStandsStill, SaysTheSame, OwnLspLasts, OwnLspIsRenewed, IsAlone, AloneStaysAlone, IsAtNumber, EveryNineHundred}
 use Rattle.bridge_api.proofs.Adjacent.{second_up, up_keeps}
 use Rattle.bridge_api.proofs.Certified.{steps_keep_bridge}
-use Rattle.bridge_api.proofs.Changes.{with_parts, ticked, tick_is, tick_ports, tick_port, tick_rest, when_true, when_false}
+use Rattle.bridge_api.proofs.Changes.{with_and_parts, ticked, tick_is, tick_ports, tick_port, tick_rest, when_true, when_false}
 use Rattle.bridge_api.proofs.Data.{fits_own}
 use Rattle.bridge_api.proofs.DataSteps.{configured_holds_own}
 use Rattle.bridge_api.proofs.Places.{port_found}
 use Rattle.bridge_api.proofs.Sound.{configured_is_sound}
-use Rattle.bridge_api.proofs.SoundPorts.{configured_is_dark}
-use Rattle.bridge_api.proofs.TendedSteps.{undue_neighbours}
+use Rattle.bridge_api.proofs.SoundPorts.{configured_has_no_carrier}
+use Rattle.bridge_api.proofs.OwnLspSteps.{undue_neighbours}
 use Rattle.bridge_api.proofs.Time.{no_seconds, next_second, seconds_add, seconds_sound}
 use Rattle.bridge_api.proofs.TimeLsps.{older_lasts, older_ages, up_second, expired_holds, second_holds, lasting_same, dead_same, aged_same, lasting_on}
 
@@ -55,14 +55,14 @@ use Rattle.bridge_api.proofs.TimeLsps.{older_lasts, older_ages, up_second, expir
 abbrev says : BridgeView → List Neighbour → List ℕ
 says v list = 1 ∷ content_bytes (record { config = record { id = v.id; source = v.source; vids = v.vids }; neighbours = list; attached = map (member_of v.id.system) v.attached })
 
-parts_say : (ports : List BridgePort) (db : Lsps) (spent : Bool) (v : BridgeView) → body_of (with_parts ports db spent v) ≡ says v (neighbours_from 1 ports)
+psnp_chunks_say : (ports : List BridgePort) (db : Lsps) (spent : Bool) (v : BridgeView) → body_of (with_and_parts ports db spent v) ≡ says v (neighbours_from 1 ports)
 unfolding body_of
-parts_say ports db spent v = refl
+psnp_chunks_say ports db spent v = refl
 
 second_says : (v : BridgeView) → body_of (step second v) ≡ says v (neighbours_from 1 (step second v).ports)
-second_says v = let w : BridgeView = step second v in ap body_of (tick_rest v) ∙ parts_say w.ports w.database w.spent v
+second_says v = let w : BridgeView = step second v in ap body_of (tick_rest v) ∙ psnp_chunks_say w.ports w.database w.spent v
 
-expired_says : (v : BridgeView) → body_of (expired (counted v)) ≡ body_of (step second v)
+expired_says : (v : BridgeView) → body_of (expired (counts_lowered v)) ≡ body_of (step second v)
 unfolding body_of
 expired_says v = sym (second_says v ∙ ap (says v) (ap (neighbours_from 1) (tick_ports v) ∙ undue_neighbours 1 (map later v.ports)))
 
@@ -93,12 +93,12 @@ record Fell (left : ℕ) (v w : BridgeView) : Type 0 where
   old : is_old (own_entry w) ≡ nat_le left 300
   body : body_in (own_entry w) ≡ body_of v
 
-fell : (v : BridgeView) (left : ℕ) → IsSoundView v → v.spent ≡ false → lifetime_in (own_entry v) ≡ left + 1 → Fell left v (expired (counted v))
+fell : (v : BridgeView) (left : ℕ) → IsSoundView v → v.spent ≡ false → lifetime_in (own_entry v) ≡ left + 1 → Fell left v (expired (counts_lowered v))
 fell v left was fresh count =
-    let w : BridgeView = expired (counted v) in
+    let w : BridgeView = expired (counts_lowered v) in
     let alive = live_in (own_entry v) (was.own.alive fresh) in
     let lasts : IsLasting left (own_entry v) (own_entry w) =
-    subst (IsLasting left (own_entry v)) (sym (expired_holds v (own_id v.id.system))) (older_lasts (up_ports (counted v)) (leaving_from 1 v.ports) (own_entry v) left alive.0 count (omega (arith, alive.1, count))) in
+    subst (IsLasting left (own_entry v)) (sym (expired_holds v (own_id v.id.system))) (older_lasts (up_ports (counts_lowered v)) (leaving_from 1 v.ports) (own_entry v) left alive.0 count (omega (arith, alive.1, count))) in
     let live : is_live (version_in (own_entry w)) ≡ true = ap is_live lasts.version ∙ alive.0 in
     record {
       lasts = lasts;
@@ -137,7 +137,7 @@ second_own v = ap (λ id. get (step second v).database (own_id id.system)) (step
 
 pub seconds_stand_still : SecondsStandStill
 seconds_stand_still v left was fresh same count many =
-    let w : BridgeView = expired (counted v) in
+    let w : BridgeView = expired (counts_lowered v) in
     let id : LspId = own_id v.id.system in
     let f : Fell left v w = fell v left was fresh count in
     let said : is_said w ≡ true = said_as w (f.body ∙ (sym same ∙ sym (expired_says v))) in
@@ -174,22 +174,22 @@ originating_renews w fresh live below =
       ap (λ (own : Own). own.spent) (origination_is_not_spent up h below),
     )
 
--- an LSP that isn't owed anywhere is as it was after all was told
+-- an LSP without SSN flags is as it was after all was sent
 untold_entry : (p : ℕ) (e : Entry) (b : Bool) → b ≡ false → (if b then with_ssn p false e else e) ≡ e
-untold_entry p e true owed = absurd cc
-untold_entry p e false owed = refl
+untold_entry p e true ssn = absurd cc
+untold_entry p e false ssn = refl
 
-unowed : (p : ℕ) (e : Entry) → e.ssn ≡ no_ports → is_owed p e ≡ false
+unowed : (p : ℕ) (e : Entry) → e.ssn ≡ no_ports → has_ssn_at p e ≡ false
 unowed p e none = ap (λ (set : PortSet). has set p) none ∙ has-no_ports p
 
-untold_at : (b : Bool) (p : ℕ) (db : Lsps) (id : LspId) (e : Entry) → e.ssn ≡ no_ports → get db id ≡ Some e → get (if b then all_settled p db else db) id ≡ Some e
+untold_at : (b : Bool) (p : ℕ) (db : Lsps) (id : LspId) (e : Entry) → e.ssn ≡ no_ports → get db id ≡ Some e → get (if b then all_ssn_cleared p db else db) id ≡ Some e
 untold_at true p db id e none is =
-    get-each (λ x d. told_entry p d) db id ∙ (ap (option_map (told_entry p)) is ∙ ap (λ (d : Entry). Some d) (untold_entry p e (is_owed p e) (unowed p e none)))
+    get-each (λ x d. ssn_cleared_entry p d) db id ∙ (ap (option_map (ssn_cleared_entry p)) is ∙ ap (λ (d : Entry). Some d) (untold_entry p e (has_ssn_at p e) (unowed p e none)))
 untold_at false p db id e none is = is
 
-untold_from : (p : ℕ) (ports : List BridgePort) (db : Lsps) (id : LspId) (e : Entry) → e.ssn ≡ no_ports → get db id ≡ Some e → get (told_from p ports db) id ≡ Some e
+untold_from : (p : ℕ) (ports : List BridgePort) (db : Lsps) (id : LspId) (e : Entry) → e.ssn ≡ no_ports → get db id ≡ Some e → get (after_sending_from p ports db) id ≡ Some e
 untold_from p [] db id e none is = is
-untold_from p (port ∷ ports) db id e none is = untold_from (p + 1) ports (told_at p port db) id e none (untold_at (is_port_up port) p db id e none is)
+untold_from p (port ∷ ports) db id e none is = untold_from (p + 1) ports (after_sending_at p port db) id e none (untold_at (is_port_up port) p db id e none is)
 
 -- the own LSP at a number is made of the system and the body
 renewed_as : (up other : PortSet) (x y : Own) (n m : ℕ) → up ≡ other → x.system ≡ y.system → x.body ≡ y.body → n ≡ m → renewed up x n ≡ renewed other y m
@@ -210,7 +210,7 @@ why_less v left count (inr changed) = inr changed
 
 renewing : (v : BridgeView) (left : ℕ) → IsSoundView v → v.spent ≡ false → own_number v < last_number → lifetime_in (own_entry v) ≡ left + 1 → (left ≤ 300) ⊎ (body_of (step second v) ≢ body_of v) → IsRenewed v (step second v)
 renewing v left was fresh below count why =
-    let w : BridgeView = expired (counted v) in
+    let w : BridgeView = expired (counts_lowered v) in
     let u : BridgeView = originating w in
     let id : LspId = own_id v.id.system in
     let f : Fell left v w = fell v left was fresh count in
@@ -218,7 +218,7 @@ renewing v left was fresh below count why =
     let number : own_number w ≡ own_number v = ap number_of f.lasts.version in
     let made = originating_renews w fresh f.live (omega (arith, number, below)) in
     let new : Entry = renewed (up_ports w) (own_of w) (own_number w + 1) in
-    let held : get (told_from 1 (readied v).ports (readied v).database) id ≡ Some new =
+    let held : get (after_sending_from 1 (readied v).ports (readied v).database) id ≡ Some new =
     untold_from 1 (readied v).ports (readied v).database id new refl (ap (λ (x : BridgeView). get x.database id) renews ∙ made.0) in
     let system : w.id.system ≡ (step second v).id.system = ap (λ x. x.system) (sym (steps_keep_bridge second v).id) in
     record {
@@ -253,7 +253,7 @@ originating_spends w fresh live past =
 
 spending : (v : BridgeView) (left : ℕ) → IsSoundView v → v.spent ≡ false → last_number ≤ own_number v → lifetime_in (own_entry v) ≡ left + 1 → (left ≤ 300) ⊎ (body_of (step second v) ≢ body_of v) → IsSpent v (step second v)
 spending v left was fresh past count why =
-    let w : BridgeView = expired (counted v) in
+    let w : BridgeView = expired (counts_lowered v) in
     let id : LspId = own_id v.id.system in
     let f : Fell left v w = fell v left was fresh count in
     let spends : readied v ≡ originating w = refreshed_renews w fresh (why_by v w left f (expired_says v) why) in
@@ -282,11 +282,11 @@ refreshed_spent w spent = ap (λ b. if b || (is_said w && not (is_old (own_entry
 
 pub spent_stands_still : SpentStandsStill
 spent_stands_still v spent =
-    let w : BridgeView = expired (counted v) in
+    let w : BridgeView = expired (counts_lowered v) in
     let id : LspId = own_id v.id.system in
     let stands : readied v ≡ w = refreshed_spent w spent in (
       subst (AgedFrom (own_entry v)) (sym (second_own v))
-          (aged_same _ _ (second_holds v id ∙ ap but_for_ssn (ap (λ (u : BridgeView). get u.database id) stands ∙ expired_holds v id)) (own_entry v) (older_ages (up_ports (counted v)) (leaving_from 1 v.ports) (own_entry v))),
+          (aged_same _ _ (second_holds v id ∙ ap but_for_ssn (ap (λ (u : BridgeView). get u.database id) stands ∙ expired_holds v id)) (own_entry v) (older_ages (up_ports (counts_lowered v)) (leaving_from 1 v.ports) (own_entry v))),
       second_spent v ∙ (ap (λ (u : BridgeView). u.spent) stands ∙ spent),
     )
 
@@ -380,7 +380,7 @@ nobody_up (Some port) nobody = by_test (is_port_up port) refl
 
 configured_alone : (c : BridgeConfig) → IsWhole c → IsAlone (configured c)
 unfolding is_up_at neighbour_at
-configured_alone c whole p = nobody_up (port_at (configured c) p) ((configured_is_dark c whole).neighbour p)
+configured_alone c whole p = nobody_up (port_at (configured c) p) ((configured_has_no_carrier c whole).neighbour p)
 
 configured_fresh : (c : BridgeConfig) → (configured c).spent ≡ false
 unfolding configured

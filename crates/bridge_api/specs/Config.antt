@@ -68,8 +68,8 @@ pub record IsWhole (c : BridgeConfig) : Type 0 where
   pub few_isids : length (different (map (λ a. a.isid.value) c.attached)) ≤ MOST_ISIDS
 
 -- a port without carrier, with this metric
-abbrev pub dark : ℕ → BridgePort
-dark metric = record { adjacency = down false; due = false; metric = metric }
+abbrev pub port_without_carrier : ℕ → BridgePort
+port_without_carrier metric = record { adjacency = down false; csnp_due = false; metric = metric }
 
 -- a bridge of this configuration with no carrier, no neighbour, nothing held or learned, and no frame dropped
 abbrev pub bare : BridgeConfig → BridgeView
@@ -77,7 +77,7 @@ bare c = record {
   id = c.id;
   source = c.source;
   vids = c.vids;
-  ports = map dark c.metrics;
+  ports = map port_without_carrier c.metrics;
   database = empty;
   attached = c.attached;
   learned = [];

@@ -10,7 +10,8 @@ use Rattle.flooding.specs.Own.{own_id, last_number}
 use Rattle.bridge_api.specs.declared.config.BridgeConfig.{BridgeConfig}
 use Rattle.bridge_api.specs.View.{BridgeView}
 use Rattle.bridge_api.specs.Config.{configured}
-use Rattle.bridge_api.specs.Judging.{greeting, judged}
+use Rattle.bridge_api.specs.Parsing.{parsed}
+use Rattle.bridge_api.specs.Parsing as parsing
 use Rattle.bridge_api.specs.Step.{Input, second, frame, carrier, metric, step, sent}
 
 -- of a system: at most k LSPs are held, the own one is at number k at most, and the sequence numbers aren't spent
@@ -25,7 +26,7 @@ HoldsFew k v = Within k v.id.system v.database v.spent
 -- a frame that comes in is heard as a hello
 abbrev pub IsHelloAlone : Input → Type 0
 IsHelloAlone second = ⊤
-IsHelloAlone (frame p bytes) = (h : HelloValue) × (way : ThreeWay) × (judged bytes ≡ greeting h way)
+IsHelloAlone (frame p bytes) = (h : HelloValue) × (way : ThreeWay) × (parsed bytes ≡ parsing.hello h way)
 IsHelloAlone (carrier p on) = ⊤
 IsHelloAlone (metric p m) = ⊤
 
@@ -38,8 +39,8 @@ abbrev pub StepsHoldFew : Type 0
 StepsHoldFew = (k : ℕ) (input : Input) (v : BridgeView)
     → k < last_number → IsHelloAlone input → HoldsFew k v → HoldsFew (k + 1) (step input v)
 
--- in a second, a bridge sends at each port at most a hello and a CSNP, and a CSNP, an LSP and a PSNP for each LSP that it
--- holds when it sends: at most one more than before
+-- in a second, a bridge sends at each port at most a hello and a CSNP, and a CSNP, an LSP and a PSNP for each LSP that
+-- it holds when it sends: at most one more than before
 abbrev pub SecondsSendFew : Type 0
 SecondsSendFew = (k : ℕ) (v : BridgeView)
     → k < last_number → HoldsFew k v → length (sent second v) ≤ (3 * k + 5) * length v.ports

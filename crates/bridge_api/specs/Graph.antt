@@ -10,7 +10,7 @@ use Rattle.spb_types.specs.Graph.{IsDistinct}
 use Rattle.lsdb.specs.declared.version.Version.{Version}
 use Rattle.lsdb.specs.declared.version.Version.TheVariants.{Absent, Live, Dead}
 use Rattle.lsdb.specs.Entry.{Entry}
-use Rattle.flooding.specs.Own.{own_id, is_originated, tlvs_in}
+use Rattle.flooding.specs.Own.{own_id, is_originated, tlvs_of_body}
 use Rattle.spb_content.specs.declared.content.Content.{Content}
 use Rattle.spb_content.specs.Content.{content_in}
 use Rattle.spb_content.specs.Local.{content_bytes}
@@ -22,7 +22,7 @@ use Rattle.bridge_api.specs.Laws.{IsSoundView}
 -- what an LSP of this version and body says, if it is live
 abbrev pub live_content : Version → List ℕ → Option Content
 live_content Absent body = None
-live_content (Live seq sum) body = Some (content_in (tlvs_in body))
+live_content (Live seq sum) body = Some (content_in (tlvs_of_body body))
 live_content (Dead seq) body = None
 
 abbrev pub content_held : Option Entry → Option Content
@@ -46,7 +46,8 @@ IsOwnGraph v g = IsGraphOf v.id.system (contents_of v) g
 
 -- it reads of each system what the live LSP says that it holds of that system, and of no other
 abbrev pub ReadsWhatIsHeld : Type 0
-ReadsWhatIsHeld = (v : BridgeView) (x : SystemId) (c : Content) → Contains (contents_of v) (x, c) ↔ (content_held (get v.database (own_id x)) ≡ Some c)
+ReadsWhatIsHeld = (v : BridgeView) (x : SystemId) (c : Content)
+    → Contains (contents_of v) (x, c) ↔ (content_held (get v.database (own_id x)) ≡ Some c)
 
 -- and of each system once
 abbrev pub ReadsEachOnce : Type 0
@@ -54,7 +55,8 @@ ReadsEachOnce = (v : BridgeView) → IsDistinct (systems_in (contents_of v))
 
 -- of itself a sound bridge reads what it has to say, unless its sequence numbers are spent
 abbrev pub ReadsItself : Type 0
-ReadsItself = (v : BridgeView) → IsSoundView v → v.spent ≡ false → Contains (contents_of v) (v.id.system, content_in (content_bytes (local_of v)))
+ReadsItself = (v : BridgeView) → IsSoundView v → v.spent ≡ false
+    → Contains (contents_of v) (v.id.system, content_in (content_bytes (local_of v)))
 
 -- and there each neighbour at a port of its own, also where they are spent
 abbrev pub OwnPortsAreApart : Type 0

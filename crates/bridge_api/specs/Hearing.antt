@@ -8,116 +8,125 @@ use Rattle.spb_tlvs.specs.declared.error.TlvError.{TlvError}
 use Rattle.spb_tlvs.specs.declared.entries.SnpEntry.{SnpEntry}
 use Rattle.spb_tlvs.specs.declared.three_way.ThreeWay.{ThreeWay}
 use Rattle.lsdb.specs.Database.{each}
-use Rattle.lsdb.specs.Entry.{joined, parted}
+use Rattle.lsdb.specs.Entry.{srm_set_at, flags_cleared_at}
 use Rattle.flooding.specs.Hearing.{hear_lsp_of}
 use Rattle.snp_sync.specs.Reading.{entries_in}
 use Rattle.snp_sync.specs.Hearing.{claims_in, hear_entries_of, hear_csnp_of}
-use Rattle.adjacency.specs.declared.state.Heard.{Heard}
-use Rattle.adjacency.specs.declared.state.Heard.TheVariants as did
+use Rattle.adjacency.specs.declared.state.AdjacencyChange.{AdjacencyChange}
+use Rattle.adjacency.specs.declared.state.AdjacencyChange.TheVariants as did
 use Rattle.adjacency.specs.declared.port.Adjacency.{Adjacency}
-use Rattle.adjacency.specs.Adjacency.{after_hello, heard_of, after_carrier, change_of}
+use Rattle.adjacency.specs.Adjacency.{after_hello, change_by_hello, after_carrier, change_of}
 use Rattle.bridge_api.specs.declared.port.BridgePort.{BridgePort}
 use Rattle.bridge_api.specs.View.{BridgeView, port_at, with_port_at, is_port_up, up_ports}
-use Rattle.bridge_api.specs.Own.{holding_of, with_holding, settled}
-use Rattle.bridge_api.specs.Judging.{Judged, useless, greeting, link_state, complete, partial, tenant, judged}
+use Rattle.bridge_api.specs.Own.{holding_of, with_holding, originated_if_changed}
+use Rattle.bridge_api.specs.Parsing.{Parsed, parsed}
+use Rattle.bridge_api.specs.Parsing as parsing
 use Rattle.bridge_api.specs.declared.drop_reason.DropReason.{DropReason}
 use Rattle.bridge_api.specs.declared.drop_reason.DropReason.TheVariants as drop
 
 -- a frame that is dropped changes nothing: the counts aren't kept yet
-abbrev pub dropped : DropReason → BridgeView → BridgeView
-dropped reason v = v
+abbrev pub after_drop : DropReason → BridgeView → BridgeView
+after_drop reason v = v
 
 -- a port with another adjacency, with CSNPs due or not, and with another metric
 abbrev pub with_adjacency : Adjacency → BridgePort → BridgePort
 with_adjacency adjacency port = record port { adjacency = adjacency }
 
-abbrev pub with_due : Bool → BridgePort → BridgePort
-with_due due port = record port { due = due }
+abbrev pub with_csnp_due : Bool → BridgePort → BridgePort
+with_csnp_due due port = record port { csnp_due = due }
 
-abbrev pub metered : ℕ → BridgePort → BridgePort
-metered m port = record port { metric = m }
+abbrev pub with_port_metric : ℕ → BridgePort → BridgePort
+with_port_metric m port = record port { metric = m }
 
 -- on leaving Up, the flags of the port are cleared
-abbrev pub left : ℕ → BridgePort → BridgeView → BridgeView
-left p port v = let w : BridgeView = with_port_at p (with_due false port) v in record w { database = each (λ id e. parted p e) w.database }
+abbrev pub left_up : ℕ → BridgePort → BridgeView → BridgeView
+left_up p port v = let w : BridgeView = with_port_at p (with_csnp_due false port) v in
+    record w { database = each (λ id e. flags_cleared_at p e) w.database }
 
 -- on entering Up, every LSP is to be sent at the port, and CSNPs are due there
-abbrev pub joined_at : ℕ → BridgePort → BridgeView → BridgeView
-joined_at p port v = let w : BridgeView = with_port_at p (with_due true port) v in record w { database = each (λ id e. joined p e) w.database }
+abbrev pub all_srm_set_at : ℕ → BridgePort → BridgeView → BridgeView
+all_srm_set_at p port v = let w : BridgeView = with_port_at p (with_csnp_due true port) v in
+    record w { database = each (λ id e. srm_set_at p e) w.database }
 
 -- entering Up is one operation: the flags of the port, which may have been Up with another neighbour, are cleared
 -- first; then the bridge originates; the flags of entering Up are set last
-abbrev pub entered : ℕ → BridgePort → BridgeView → BridgeView
-entered p port v = joined_at p port (settled (left p port v))
+abbrev pub entered_up : ℕ → BridgePort → BridgeView → BridgeView
+entered_up p port v = all_srm_set_at p port (originated_if_changed (left_up p port v))
 
 -- a bridge at whose port number p, now in this state, this came to pass
-abbrev pub changed_at : Heard → ℕ → BridgePort → BridgeView → BridgeView
-changed_at did.Discarded p port v = dropped drop.Hello v
-changed_at did.Kept p port v = settled (with_port_at p port v)
-changed_at did.LeftUp p port v = settled (left p port v)
-changed_at did.CameUp p port v = entered p port v
+abbrev pub changed_at : AdjacencyChange → ℕ → BridgePort → BridgeView → BridgeView
+changed_at did.Discarded p port v = after_drop drop.Hello v
+changed_at did.Kept p port v = originated_if_changed (with_port_at p port v)
+changed_at did.LeftUp p port v = originated_if_changed (left_up p port v)
+changed_at did.CameUp p port v = entered_up p port v
 
 -- a bridge after a hello at its port number p
-abbrev pub greeted : HelloValue → ThreeWay → ℕ → BridgePort → BridgeView → BridgeView
-greeted h way p port v =
-    changed_at (heard_of v.id.system p h way port.adjacency) p (with_adjacency (after_hello v.id.system p h way port.adjacency) port) v
+abbrev pub heard_hello : HelloValue → ThreeWay → ℕ → BridgePort → BridgeView → BridgeView
+heard_hello h way p port v =
+    changed_at (change_by_hello v.id.system p h way port.adjacency) p
+    (with_adjacency (after_hello v.id.system p h way port.adjacency) port) v
 
 -- a bridge that heard an LSP, or a complete or a partial sequence numbers PDU with these entries, at its port number p
 -- (ISO/IEC 10589, 7.3.15.1 and 7.3.15.2)
-abbrev pub flooded : LspValue → ℕ → BridgeView → BridgeView
-flooded l p v = with_holding (hear_lsp_of (up_ports v) p l (holding_of v)) v
+abbrev pub heard_lsp : LspValue → ℕ → BridgeView → BridgeView
+heard_lsp l p v = with_holding (hear_lsp_of (up_ports v) p l (holding_of v)) v
 
-abbrev pub completed : CsnpValue → List SnpEntry → ℕ → BridgeView → BridgeView
-completed c entries p v = with_holding (hear_csnp_of (up_ports v) p c.start c.end (claims_in entries) (holding_of v)) v
+abbrev pub heard_csnp : CsnpValue → List SnpEntry → ℕ → BridgeView → BridgeView
+heard_csnp c entries p v = with_holding (hear_csnp_of (up_ports v) p c.start c.end (claims_in entries) (holding_of v)) v
 
-abbrev pub requested : List SnpEntry → ℕ → BridgeView → BridgeView
-requested entries p v = with_holding (hear_entries_of (up_ports v) p (claims_in entries) (holding_of v)) v
+abbrev pub heard_psnp : List SnpEntry → ℕ → BridgeView → BridgeView
+heard_psnp entries p v = with_holding (hear_entries_of (up_ports v) p (claims_in entries) (holding_of v)) v
 
 -- a bridge to which a customer's frame came over the backbone, at its port number p. This changes nothing yet
 abbrev pub forwarded : Mac → Mac → Vid → Isid → List ℕ → ℕ → BridgeView → BridgeView
 forwarded da sa vid isid customer p v = v
 
 -- sequence numbers PDUs are dropped where their entries can't be read
-abbrev pub with_complete : CsnpValue → Result (List SnpEntry) TlvError → ℕ → BridgeView → BridgeView
-with_complete c (Err e) p v = dropped drop.Tlv v
-with_complete c (Ok entries) p v = settled (completed c entries p v)
+abbrev pub with_csnp : CsnpValue → Result (List SnpEntry) TlvError → ℕ → BridgeView → BridgeView
+with_csnp c (Err e) p v = after_drop drop.Tlv v
+with_csnp c (Ok entries) p v = originated_if_changed (heard_csnp c entries p v)
 
-abbrev pub with_partial : Result (List SnpEntry) TlvError → ℕ → BridgeView → BridgeView
-with_partial (Err e) p v = dropped drop.Tlv v
-with_partial (Ok entries) p v = settled (requested entries p v)
+abbrev pub with_psnp : Result (List SnpEntry) TlvError → ℕ → BridgeView → BridgeView
+with_psnp (Err e) p v = after_drop drop.Tlv v
+with_psnp (Ok entries) p v = originated_if_changed (heard_psnp entries p v)
 
 -- a bridge after a frame of each kind at a port with carrier. LSPs and sequence numbers PDUs are heard only at a port
 -- that is Up
-abbrev pub heard_as : Judged → ℕ → BridgePort → BridgeView → BridgeView
-heard_as (useless reason) p port v = dropped reason v
-heard_as (greeting h way) p port v = greeted h way p port v
-heard_as (link_state l) p port v = if is_port_up port then settled (flooded l p v) else dropped drop.NotAdjacent v
-heard_as (complete c) p port v = if is_port_up port then with_complete c (entries_in c.tlvs) p v else dropped drop.NotAdjacent v
-heard_as (partial s) p port v = if is_port_up port then with_partial (entries_in s.tlvs) p v else dropped drop.NotAdjacent v
-heard_as (tenant da sa vid isid customer) p port v = forwarded da sa vid isid customer p v
+abbrev pub heard_as : Parsed → ℕ → BridgePort → BridgeView → BridgeView
+heard_as (parsing.dropped reason) p port v = after_drop reason v
+heard_as (parsing.hello h way) p port v = heard_hello h way p port v
+heard_as (parsing.lsp l) p port v =
+    if is_port_up port then originated_if_changed (heard_lsp l p v) else after_drop drop.NotAdjacent v
+heard_as (parsing.csnp c) p port v =
+    if is_port_up port then with_csnp c (entries_in c.tlvs) p v else after_drop drop.NotAdjacent v
+heard_as (parsing.psnp s) p port v =
+    if is_port_up port then with_psnp (entries_in s.tlvs) p v else after_drop drop.NotAdjacent v
+heard_as (parsing.customer da sa vid isid customer) p port v = forwarded da sa vid isid customer p v
 
 -- the first thing that is looked at is the carrier of the port
 abbrev pub heard_at : ℕ → List ℕ → Option BridgePort → BridgeView → BridgeView
 heard_at p frame None v = v
-heard_at p frame (Some port) v = if port.adjacency.carrier then heard_as (judged frame) p port v else dropped drop.NotAdjacent v
+heard_at p frame (Some port) v =
+    if port.adjacency.carrier then heard_as (parsed frame) p port v else after_drop drop.NotAdjacent v
 
 -- a bridge after a frame came in at its port number p
 unfoldable pub after_receive : ℕ → List ℕ → BridgeView → BridgeView
 after_receive p frame v = heard_at p frame (port_at v p) v
 
 -- a bridge after carrier came or went at its port number p
-abbrev pub carried_at : ℕ → Bool → Option BridgePort → BridgeView → BridgeView
-carried_at p on None v = v
-carried_at p on (Some port) v =
-    changed_at (change_of port.adjacency (after_carrier on port.adjacency)) p (with_adjacency (after_carrier on port.adjacency) port) v
+abbrev pub with_carrier_at : ℕ → Bool → Option BridgePort → BridgeView → BridgeView
+with_carrier_at p on None v = v
+with_carrier_at p on (Some port) v =
+    changed_at (change_of port.adjacency (after_carrier on port.adjacency)) p
+    (with_adjacency (after_carrier on port.adjacency) port) v
 
 unfoldable pub with_carrier : ℕ → Bool → BridgeView → BridgeView
-with_carrier p on v = carried_at p on (port_at v p) v
+with_carrier p on v = with_carrier_at p on (port_at v p) v
 
 -- a bridge after the metric of the link at its port number p was set
-abbrev pub metered_at : ℕ → ℕ → Option BridgePort → BridgeView → BridgeView
-metered_at p m None v = v
-metered_at p m (Some port) v = settled (with_port_at p (metered m port) v)
+abbrev pub with_metric_at : ℕ → ℕ → Option BridgePort → BridgeView → BridgeView
+with_metric_at p m None v = v
+with_metric_at p m (Some port) v = originated_if_changed (with_port_at p (with_port_metric m port) v)
 
 unfoldable pub with_metric : ℕ → ℕ → BridgeView → BridgeView
-with_metric p m v = metered_at p m (port_at v p) v
+with_metric p m v = with_metric_at p m (port_at v p) v

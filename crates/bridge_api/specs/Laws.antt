@@ -37,20 +37,21 @@ use Rattle.adjacency.specs.Hearing.{End, sender}
 use Rattle.adjacency.specs.Adjacency.{IsSound, said}
 use Rattle.bridge_api.specs.declared.port.BridgePort.{BridgePort}
 use Rattle.bridge_api.specs.declared.config.BridgeConfig.{BridgeConfig}
-use Rattle.bridge_api.specs.View.{BridgeView, IsPort, port_at, neighbour_at, is_up_at, has_carrier_at, is_due_at, is_port_up, metrics_of, up_ports, control_of}
-use Rattle.bridge_api.specs.Own.{local_of, own_of, own_entry, IsTended}
+use Rattle.bridge_api.specs.View.{BridgeView, IsPort, port_at, neighbour_at, is_up_at, has_carrier_at, is_csnp_due_at, is_port_up, metrics_of, up_ports, control_of}
+use Rattle.bridge_api.specs.Own.{local_of, own_of, own_entry, IsOwnLspCurrent}
 use Rattle.spb_types.specs.declared.limits.TheConstants.{MOST_ISIDS, MOST_PORTS, MOST_VIDS, SOURCE_IDS}
 use Rattle.bridge_api.specs.Config.{IsWhole, IsOwnMac, IsMetric, IsAttachment, AgreesWith, ArePairwise, different, vids_of, bare, configured}
-use Rattle.bridge_api.specs.Judging.{Judged, useless, greeting, link_state, complete, partial, tenant, greeting_in, judged, is_hello}
+use Rattle.bridge_api.specs.Parsing.{Parsed, hello_in, parsed, is_hello}
+use Rattle.bridge_api.specs.Parsing as parsing
 use Rattle.bridge_api.specs.Hearing.{with_carrier}
 use Rattle.bridge_api.specs.Step.{Input, second, frame, carrier, metric, step, sent}
 
--- a port whose adjacency is sound, with a neighbour of six bytes if it keeps one, where CSNPs are due only if it is Up, and
--- whose link has a metric
+-- a port whose adjacency is sound, with a neighbour of six bytes if it keeps one, where CSNPs are due only if it is Up,
+-- and whose link has a metric
 pub record IsSoundPort (port : BridgePort) : Type 0 where
   pub adjacency : IsSound port.adjacency
   pub neighbour : length port.adjacency.neighbour.mac.bytes ≡ 6
-  pub due : port.due ≡ true → is_port_up port ≡ true
+  pub csnp_due : port.csnp_due ≡ true → is_port_up port ≡ true
   pub metric : IsMetric port.metric
 
 -- what a whole configuration gives a bridge, and no step changes
@@ -73,13 +74,13 @@ pub record HasDatabase (v : BridgeView) : Type 0 where
   pub flags : HaveFlagsAt (up_ports v) v.database
   pub own : is_absent (version_at v.database (own_id v.id.system)) ≡ false
 
--- a configured bridge with at most 32 ports, each sound, and a sound database, in which its own LSP is tended
+-- a configured bridge with at most 32 ports, each sound, and a sound database, in which its own LSP is current
 pub record IsSoundView (v : BridgeView) : Type 0 where
   pub config : HasConfig v
   pub few : length v.ports ≤ MOST_PORTS
   pub ports : AllByRecursion IsSoundPort v.ports
   pub database : HasDatabase v
-  pub own : IsTended v
+  pub own : IsOwnLspCurrent v
 
 -- so what it says of itself can be written, and fits one LSP
 pub record CanSay (v : BridgeView) : Type 0 where
@@ -95,14 +96,14 @@ abbrev pub ConfiguredIsSound : Type 0
 ConfiguredIsSound = (c : BridgeConfig) → IsWhole c → IsSoundView (configured c)
 
 -- it has the ports of the configuration with their metrics, and there neither carrier nor neighbour
-pub record IsDark (c : BridgeConfig) (v : BridgeView) : Type 0 where
+pub record IsWithoutCarrier (c : BridgeConfig) (v : BridgeView) : Type 0 where
   pub ports : length v.ports ≡ c.ports
   pub metrics : metrics_of v.ports ≡ c.metrics
   pub carrier : (p : ℕ) → has_carrier_at v p ≡ false
   pub neighbour : (p : ℕ) → neighbour_at v p ≡ None
 
-abbrev pub ConfiguredIsDark : Type 0
-ConfiguredIsDark = (c : BridgeConfig) → IsWhole c → IsDark c (configured c)
+abbrev pub ConfiguredHasNoCarrier : Type 0
+ConfiguredHasNoCarrier = (c : BridgeConfig) → IsWhole c → IsWithoutCarrier c (configured c)
 
 -- its own LSP, alone, is live at number 1 for 1,200 seconds with what it says, and no flag stands
 pub record HoldsOwnAlone (c : BridgeConfig) (v : BridgeView) : Type 0 where
@@ -129,7 +130,8 @@ metrics_after (frame q bytes) metrics = metrics
 metrics_after (carrier q on) metrics = metrics
 metrics_after (metric q m) metrics = if nat_le 1 q then slice_set metrics (q - 1) m else metrics
 
--- the same bridge: its ids, its VIDs, what is attached, the number of its ports, and their metrics but for one that is set
+-- the same bridge: its ids, its VIDs, what is attached, the number of its ports, and their metrics but for one that is
+-- set
 pub record IsSameBridge (input : Input) (v w : BridgeView) : Type 0 where
   pub id : w.id ≡ v.id
   pub source : w.source ≡ v.source
@@ -150,30 +152,32 @@ carrier_after (carrier q on) p was = if p == q then on else was
 carrier_after (metric q m) p was = was
 
 abbrev pub StepsKeepCarrier : Type 0
-StepsKeepCarrier = (input : Input) (v : BridgeView) (p : ℕ) → IsPort v p → has_carrier_at (step input v) p ≡ carrier_after input p (has_carrier_at v p)
+StepsKeepCarrier = (input : Input) (v : BridgeView) (p : ℕ) → IsPort v p
+    → has_carrier_at (step input v) p ≡ carrier_after input p (has_carrier_at v p)
 
 -- the end of which a frame is the hello
-abbrev pub greeter : Judged → Option End
-greeter j = option_map (λ g. sender g.0 g.1) (greeting_in j)
+abbrev pub hello_sender : Parsed → Option End
+hello_sender j = option_map (λ g. sender g.0 g.1) (hello_in j)
 
 -- this end was heard at the port, by the frame that came in
 abbrev pub IsHeard : Input → ℕ → End → Type 0
 IsHeard second p n = ⊥
-IsHeard (frame q bytes) p n = (q ≡ p) × (greeter (judged bytes) ≡ Some n)
+IsHeard (frame q bytes) p n = (q ≡ p) × (hello_sender (parsed bytes) ≡ Some n)
 IsHeard (carrier q on) p n = ⊥
 IsHeard (metric q m) p n = ⊥
 
 -- a neighbour that is kept was kept before, or is the end that was just heard
 abbrev pub StepsKeepNeighbours : Type 0
-StepsKeepNeighbours = (input : Input) (v : BridgeView) (p : ℕ) (n : End) → neighbour_at (step input v) p ≡ Some n → (neighbour_at v p ≡ Some n) ⊎ IsHeard input p n
+StepsKeepNeighbours = (input : Input) (v : BridgeView) (p : ℕ) (n : End) → neighbour_at (step input v) p ≡ Some n
+    → (neighbour_at v p ≡ Some n) ⊎ IsHeard input p n
 
 -- one of the frames sent is this one, at the port
 abbrev pub IsSent : List (ℕ × List ℕ) → ℕ → List ℕ → Type 0
 IsSent [] p bytes = ⊥
 IsSent (s ∷ ss) p bytes = ((s.0 ≡ p) × (s.1 ≡ bytes)) ⊎ IsSent ss p bytes
 
--- a hello of this bridge at the port: of level 1, to be held for three seconds, naming the port, and as its neighbour the
--- one that is kept there, if one is
+-- a hello of this bridge at the port: of level 1, to be held for three seconds, naming the port, and as its neighbour
+-- the one that is kept there, if one is
 pub record IsHelloOf (v : BridgeView) (p : ℕ) (hello : HelloValue) (way : ThreeWay) : Type 0 where
   pub sender : sender hello way ≡ (v.id.system, p)
   pub level : hello.circuit_type ≡ 1
@@ -187,13 +191,13 @@ abbrev pub claims_or_none : Result (List SnpEntry) TlvError → List Claim
 claims_or_none (Ok entries) = claims_in entries
 claims_or_none (Err e) = []
 
-abbrev pub claims_said : Judged → List Claim
-claims_said (useless reason) = []
-claims_said (greeting h way) = []
-claims_said (link_state l) = claim_of l ∷ []
-claims_said (complete c) = claims_or_none (entries_in c.tlvs)
-claims_said (partial s) = claims_or_none (entries_in s.tlvs)
-claims_said (tenant da sa vid isid customer) = []
+abbrev pub claims_said : Parsed → List Claim
+claims_said (parsing.dropped reason) = []
+claims_said (parsing.hello h way) = []
+claims_said (parsing.lsp l) = claim_of l ∷ []
+claims_said (parsing.csnp c) = claims_or_none (entries_in c.tlvs)
+claims_said (parsing.psnp s) = claims_or_none (entries_in s.tlvs)
+claims_said (parsing.customer da sa vid isid customer) = []
 
 -- a frame as the bridge with an address writes it: a PDU in a control frame, or a frame of the backbone
 pub data IsWritten (sa : Mac) (bytes : List ℕ) : Type 0 where
@@ -201,7 +205,8 @@ pub data IsWritten (sa : Mac) (bytes : List ℕ) : Type 0 where
   writes_lsp : (l : LspValue) → bytes ≡ control_bytes sa (lsp_bytes l) → IsWritten sa bytes
   writes_csnp : (c : CsnpValue) → bytes ≡ control_bytes sa (csnp_bytes c) → IsWritten sa bytes
   writes_psnp : (s : PsnpValue) → bytes ≡ control_bytes sa (psnp_bytes s) → IsWritten sa bytes
-  carries : (da ba : Mac) (vid : Vid) (isid : Isid) (customer : List ℕ) → judged bytes ≡ tenant da ba vid isid customer
+  carries : (da ba : Mac) (vid : Vid) (isid : Isid) (customer : List ℕ)
+      → parsed bytes ≡ parsing.customer da ba vid isid customer
       → IsWritten sa bytes
 
 -- the LSP of what a bridge holds under its id
@@ -215,9 +220,9 @@ IsHeldAt v id a = (e : Entry) × (get v.database id ≡ Some e) × (a ≡ e.vers
 -- a frame of this bridge at the port: if it is heard as a hello, as one of this bridge; if as an LSP, as the one that
 -- the bridge holds; what it claims is what the bridge holds; and it is written as this bridge writes
 pub record IsFrameOf (v : BridgeView) (p : ℕ) (bytes : List ℕ) : Type 0 where
-  pub hello : (h : HelloValue) (way : ThreeWay) → judged bytes ≡ greeting h way → IsHelloOf v p h way
-  pub lsp : (l : LspValue) → judged bytes ≡ link_state l → IsHeldLsp v l
-  pub claims : (id : LspId) (a : Version) → IsClaimed (claims_said (judged bytes)) id a → IsHeldAt v id a
+  pub hello : (h : HelloValue) (way : ThreeWay) → parsed bytes ≡ parsing.hello h way → IsHelloOf v p h way
+  pub lsp : (l : LspValue) → parsed bytes ≡ parsing.lsp l → IsHeldLsp v l
+  pub claims : (id : LspId) (a : Version) → IsClaimed (claims_said (parsed bytes)) id a → IsHeldAt v id a
   pub written : IsWritten v.id.system.mac bytes
 
 -- whatever came in, each frame that a bridge sends is such a one, where the neighbour can be named: a circuit id of
@@ -231,12 +236,12 @@ abbrev pub OneHello : Type 0
 OneHello = (v : BridgeView) (p : ℕ) → IsSoundView v → count_by (λ s. (s.0 == p) && is_hello s.1) (sent second v) ≤ 1
 
 -- and at a port with carrier and a neighbour of octets, if it keeps one, a hello is sent that is heard
-pub record IsGreeted (v : BridgeView) (p : ℕ) : Type 0 where
+pub record IsHelloHeard (v : BridgeView) (p : ℕ) : Type 0 where
   pub bytes : List ℕ
   pub sent : IsSent (sent second v) p bytes
   pub hello : HelloValue
   pub way : ThreeWay
-  pub heard : judged bytes ≡ greeting hello way
+  pub heard : parsed bytes ≡ parsing.hello hello way
   pub own : IsHelloOf (step second v) p hello way
 
 abbrev pub AreOctets : Option End → Type 0
@@ -244,22 +249,25 @@ AreOctets None = ⊤
 AreOctets (Some n) = IsBytes n.0.mac.bytes
 
 abbrev pub HellosAreHeard : Type 0
-HellosAreHeard = (v : BridgeView) (p : ℕ) → IsSoundView v → has_carrier_at v p ≡ true → IsNamed (neighbour_at (step second v) p) → AreOctets (neighbour_at (step second v) p) → IsGreeted v p
+HellosAreHeard = (v : BridgeView) (p : ℕ) → IsSoundView v → has_carrier_at v p ≡ true
+    → IsNamed (neighbour_at (step second v) p) → AreOctets (neighbour_at (step second v) p) → IsHelloHeard v p
 
 -- and it is sent at a port with carrier
 abbrev pub SentWithCarrier : Type 0
-SentWithCarrier = (v : BridgeView) (p : ℕ) (bytes : List ℕ) → IsSoundView v → IsSent (sent second v) p bytes → has_carrier_at v p ≡ true
+SentWithCarrier = (v : BridgeView) (p : ℕ) (bytes : List ℕ) → IsSoundView v → IsSent (sent second v) p bytes
+    → has_carrier_at v p ≡ true
 
 -- a port that has just come up: CSNPs are due there, each LSP that is held is to be sent there, and none is to be
 -- acknowledged or asked for
 pub record IsFresh (v : BridgeView) (p : ℕ) : Type 0 where
-  pub due : is_due_at v p ≡ true
+  pub csnp_due : is_csnp_due_at v p ≡ true
   pub flagged : (id : LspId) → (has (srm_in (get v.database id)) p ≡ true) ⊎ (version_in (get v.database id) ≡ Absent)
   pub silent : (id : LspId) → has (ssn_in (get v.database id)) p ≡ false
 
 -- entering Up is one operation: a port that is Up was so before, with the same neighbour, or is fresh
 abbrev pub EnteringUpIsWhole : Type 0
-EnteringUpIsWhole = (input : Input) (v : BridgeView) (p : ℕ) → IsSoundView v → is_up_at (step input v) p ≡ true → ((is_up_at v p ≡ true) × (neighbour_at (step input v) p ≡ neighbour_at v p)) ⊎ IsFresh (step input v) p
+EnteringUpIsWhole = (input : Input) (v : BridgeView) (p : ℕ) → IsSoundView v → is_up_at (step input v) p ≡ true
+    → ((is_up_at v p ≡ true) × (neighbour_at (step input v) p ≡ neighbour_at v p)) ⊎ IsFresh (step input v) p
 
 -- the set of the Up ports has each port that is Up, and no other number
 abbrev pub UpPortsAreUp : Type 0
@@ -274,19 +282,20 @@ port_of (metric p m) = p
 
 abbrev pub claims_of : Input → List Claim
 claims_of second = []
-claims_of (frame p bytes) = claims_said (judged bytes)
+claims_of (frame p bytes) = claims_said (parsed bytes)
 claims_of (carrier p on) = []
 claims_of (metric p m) = []
 
 -- no version falls, and the neighbour at each Up port is no further behind
 abbrev pub StepsCarryDatabase : Type 0
-StepsCarryDatabase = (input : Input) (v : BridgeView) → IsSoundView v → Certificate (port_of input) (claims_of input) (control_of v) (control_of (step input v))
+StepsCarryDatabase = (input : Input) (v : BridgeView) → IsSoundView v
+    → Certificate (port_of input) (claims_of input) (control_of v) (control_of (step input v))
 
 -- ---- bridges come up, so that what is said of Up ports is said of something
 
 -- a bridge just configured, with carrier at its port 1
-abbrev pub lit : BridgeConfig → BridgeView
-lit c = with_carrier 1 true (configured c)
+abbrev pub with_first_carrier : BridgeConfig → BridgeView
+with_first_carrier c = with_carrier 1 true (configured c)
 
 -- the bytes of the first of these frames
 abbrev pub first_of : List (ℕ × List ℕ) → List ℕ
@@ -299,7 +308,9 @@ hearing_from w v = step (frame 1 (first_of (sent second w))) v
 
 -- a bridge that has heard a neighbour which has heard it is Up
 abbrev pub NeighboursComeUp : Type 0
-NeighboursComeUp = (c d : BridgeConfig) → IsWhole c → IsWhole d → 1 ≤ c.ports → 1 ≤ d.ports → c.id.system ≢ d.id.system → is_up_at (hearing_from (hearing_from (lit c) (lit d)) (lit c)) 1 ≡ true
+NeighboursComeUp = (c d : BridgeConfig) → IsWhole c → IsWhole d → 1 ≤ c.ports → 1 ≤ d.ports → c.id.system ≢ d.id.system
+    → is_up_at (hearing_from (hearing_from (with_first_carrier c) (with_first_carrier d)) (with_first_carrier c)) 1
+    ≡ true
 
 -- two configurations by which this is so, and the sound bridge whose port 1 is Up
 pub record SomeBridge : Type 0 where
@@ -307,5 +318,7 @@ pub record SomeBridge : Type 0 where
   pub other : BridgeConfig
   pub whole : IsWhole config
   pub other_whole : IsWhole other
-  pub sound : IsSoundView (hearing_from (hearing_from (lit config) (lit other)) (lit config))
-  pub up : is_up_at (hearing_from (hearing_from (lit config) (lit other)) (lit config)) 1 ≡ true
+  pub sound : IsSoundView (hearing_from (hearing_from (with_first_carrier config) (with_first_carrier other))
+      (with_first_carrier config))
+  pub up : is_up_at (hearing_from (hearing_from (with_first_carrier config) (with_first_carrier other))
+      (with_first_carrier config)) 1 ≡ true

@@ -11,7 +11,7 @@ use Rattle.lsdb.specs.declared.version.Version.TheVariants.{Absent, Live, Dead}
 use Rattle.lsdb.specs.Entry.{Entry}
 use Rattle.flooding.specs.declared.own.Own.{Own}
 pub use Rattle.flooding.specs.Own.{body_in}
-use Rattle.flooding.specs.Own.{own_id, tlvs_in}
+use Rattle.flooding.specs.Own.{own_id, tlvs_of_body}
 use Rattle.flooding.specs.Hearing.{Holding}
 use Rattle.flooding.specs.Origination.{originated}
 use Rattle.spb_content.specs.declared.local.Local.{Local}
@@ -20,7 +20,7 @@ use Rattle.spb_content.specs.Local.{content_bytes}
 use Rattle.spb_content.specs.Graph.{HasPorts}
 use Rattle.bridge_api.specs.declared.port.BridgePort.{BridgePort}
 use Rattle.bridge_api.specs.View.{BridgeView, is_port_up, up_ports}
-use Rattle.flooding.specs.declared.put.TheConstants.{MAX_AGE}
+use Rattle.flooding.specs.declared.origination.TheConstants.{MAX_AGE}
 use Rattle.spb_types.specs.declared.level.TheConstants.{LEVEL_1}
 
 -- ---- what it says
@@ -32,7 +32,8 @@ neighbour_in p port = record { system = port.adjacency.neighbour; metric = port.
 -- the neighbours at the ports that are Up, of those from number p on
 abbrev pub neighbours_from : ℕ → List BridgePort → List Neighbour
 neighbours_from p [] = []
-neighbours_from p (port ∷ ports) = if is_port_up port then neighbour_in p port ∷ neighbours_from (p + 1) ports else neighbours_from (p + 1) ports
+neighbours_from p (port ∷ ports) =
+    if is_port_up port then neighbour_in p port ∷ neighbours_from (p + 1) ports else neighbours_from (p + 1) ports
 
 -- an attached customer port makes the bridge a member of its service
 abbrev pub member_of : SystemId → Attachment → Member
@@ -82,10 +83,10 @@ IsAlive (Some e) = Lasts e.version e.lifetime
 
 -- unless its sequence numbers are spent, the own LSP of a bridge is alive and says what the bridge has to say; and
 -- whatever became of it, it lists each neighbour at a port of its own
-pub record IsTended (v : BridgeView) : Type 0 where
+pub record IsOwnLspCurrent (v : BridgeView) : Type 0 where
   pub said : v.spent ≡ false → body_in (own_entry v) ≡ body_of v
   pub alive : v.spent ≡ false → IsAlive (own_entry v)
-  pub text : HasPorts (content_in (tlvs_in (body_in (own_entry v))))
+  pub text : HasPorts (content_in (tlvs_of_body (body_in (own_entry v))))
 
 -- after an origination
 abbrev pub originating : BridgeView → BridgeView
@@ -93,5 +94,5 @@ originating v = with_holding (originated (up_ports v) (holding_of v)) v
 
 -- a bridge after its own LSP was brought up to its content: it originates where its LSP says something else. One whose
 -- sequence numbers are spent originates no more
-unfoldable pub settled : BridgeView → BridgeView
-settled v = if v.spent || is_said v then v else originating v
+unfoldable pub originated_if_changed : BridgeView → BridgeView
+originated_if_changed v = if v.spent || is_said v then v else originating v

@@ -18,7 +18,7 @@ use Rattle.bridge_api.specs.declared.config.BridgeConfig.{BridgeConfig}
 use Rattle.bridge_api.specs.View.{BridgeView, adjacency_at, neighbour_at, is_up_at, up_ports}
 use Rattle.bridge_api.specs.Own.{body_of, own_of, own_entry, body_in}
 use Rattle.bridge_api.specs.Config.{IsWhole, configured}
-use Rattle.bridge_api.specs.Judging.{judged, greeting_in}
+use Rattle.bridge_api.specs.Parsing.{parsed, hello_in}
 use Rattle.bridge_api.specs.Step.{Input, second, frame, carrier, metric, step}
 use Rattle.bridge_api.specs.Laws.{IsSoundView}
 
@@ -32,7 +32,7 @@ seconds (suc n) v = step second (seconds n v)
 -- nothing comes to the adjacency at a port: no frame there that is taken for a hello, and no change of carrier there
 abbrev pub IsSilentAt : ℕ → Input → Type 0
 IsSilentAt p second = ⊤
-IsSilentAt p (frame q bytes) = q ≡ p → greeting_in (judged bytes) ≡ None
+IsSilentAt p (frame q bytes) = q ≡ p → hello_in (parsed bytes) ≡ None
 IsSilentAt p (carrier q on) = q ≢ p
 IsSilentAt p (metric q m) = ⊤
 

@@ -86,12 +86,12 @@ has_carrier_in (Some port) = port.adjacency.carrier
 unfoldable pub has_carrier_at : BridgeView → ℕ → Bool
 has_carrier_at v p = has_carrier_in (port_at v p)
 
-abbrev pub is_due_in : Option BridgePort → Bool
-is_due_in None = false
-is_due_in (Some port) = port.due
+abbrev pub is_csnp_due_in : Option BridgePort → Bool
+is_csnp_due_in None = false
+is_csnp_due_in (Some port) = port.csnp_due
 
-unfoldable pub is_due_at : BridgeView → ℕ → Bool
-is_due_at v p = is_due_in (port_at v p)
+unfoldable pub is_csnp_due_at : BridgeView → ℕ → Bool
+is_csnp_due_at v p = is_csnp_due_in (port_at v p)
 
 -- the ports that are Up, of those from number p on
 abbrev pub up_from : ℕ → List BridgePort → PortSet
@@ -103,7 +103,7 @@ up_ports v = up_from 1 v.ports
 
 -- whether anything is to be sent, acknowledged or asked for at any port, or CSNPs are due at one
 unfoldable pub has_flags : BridgeView → Bool
-has_flags v = any_flags v.database || list_any (λ port. port.due) v.ports
+has_flags v = any_flags v.database || list_any (λ port. port.csnp_due) v.ports
 
 -- what is held at a place, in order of id
 abbrev pub entry_at : BridgeView → ℕ → Option (LspId × Entry)

@@ -16,7 +16,7 @@ pub trait Bridge: Drop {
     ghost use Rattle.std.specs.Option.{option_map, option_copied};
     ghost use Rattle.lsdb.specs.Database.{keyed};
     ghost use Rattle.bridge_api.specs.Shown.{Shown};
-    ghost use Rattle.bridge_api.specs.View.{IsPort, is_due_at, adjacency_at, has_flags, entry_at};
+    ghost use Rattle.bridge_api.specs.View.{IsPort, is_csnp_due_at, adjacency_at, has_flags, entry_at};
     ghost use Rattle.bridge_api.specs.Config.{IsWhole, IsMetric, configured};
     ghost use Rattle.bridge_api.specs.Hearing.{after_receive, with_carrier, with_metric};
     ghost use Rattle.bridge_api.specs.Ticking.{after_tick, sent_in_tick};
@@ -48,10 +48,10 @@ pub trait Bridge: Drop {
         ensures kind { (shown self.new).kind ≡ (shown self.old).kind };
 
     /// A second passes, in four steps (ISO/IEC 10589, 7.3.15 and 7.3.16). The holding counts fall, and at 0 a port goes
-    /// Down. The lifetimes of what is held fall, and at 0 an LSP is dead and is sent at every Up port. The bridge originates
-    /// where its content changed or where its own lifetime is 300 or less, once for both. Then it sends at each port with
-    /// carrier, in ascending order, a hello, and at an Up one the CSNPs if they are due, the LSPs with SRM there, and PSNPs
-    /// of those with SSN there.
+    /// Down. The lifetimes of what is held fall, and at 0 an LSP is dead and is sent at every Up port. The bridge
+    /// originates where its content changed or where its own lifetime is 300 or less, once for both. Then it sends at
+    /// each port with carrier, in ascending order, a hello, and at an Up one the CSNPs if they are due, the LSPs with
+    /// SRM there, and PSNPs of those with SSN there.
     fn tick(&mut self, outbox: &mut Outbox) -> Result<(), NoMemory>
         requires { (shown self.old).blank ≡ false }
         ensures view { OnOk result ((shown self.new).view ≡ after_tick (shown self.old).view) }
@@ -63,10 +63,11 @@ pub trait Bridge: Drop {
         ensures made { (shown self.new).blank ≡ false }
         ensures kind { (shown self.new).kind ≡ (shown self.old).kind };
 
-    /// Hears a frame, which may be any bytes, at a port. A frame of no use, or at a port without carrier, is dropped and
-    /// changes nothing. A hello moves the adjacency (RFC 5303, 3.2): where the port leaves Up its flags are cleared, and where
-    /// it enters Up every LSP is to be sent there and CSNPs are due. LSPs and sequence numbers PDUs are heard only at a port
-    /// that is Up (ISO/IEC 10589, 7.3.15). Afterwards the bridge originates if it has something else to say.
+    /// Hears a frame, which may be any bytes, at a port. A frame of no use, or at a port without carrier, is dropped
+    /// and changes nothing. A hello moves the adjacency (RFC 5303, 3.2): where the port leaves Up its flags are
+    /// cleared, and where it enters Up every LSP is to be sent there and CSNPs are due. LSPs and sequence numbers PDUs
+    /// are heard only at a port that is Up (ISO/IEC 10589, 7.3.15). Afterwards the bridge originates if it has
+    /// something else to say.
     fn receive(&mut self, port: u8, frame: &[u8], outbox: &mut Outbox) -> Result<(), NoMemory>
         requires made { (shown self.old).blank ≡ false }
         requires port { (shown self.old).view.failed ≡ false → IsPort (shown self.old).view port }
@@ -78,8 +79,8 @@ pub trait Bridge: Drop {
         ensures still_made { (shown self.new).blank ≡ false }
         ensures kind { (shown self.new).kind ≡ (shown self.old).kind };
 
-    /// Carrier comes or goes at a port. Where it goes, the port is Down and its flags are cleared; the bridge originates if it
-    /// has something else to say.
+    /// Carrier comes or goes at a port. Where it goes, the port is Down and its flags are cleared; the bridge
+    /// originates if it has something else to say.
     fn carrier(&mut self, port: u8, on: bool) -> Result<(), NoMemory>
         requires made { (shown self.old).blank ≡ false }
         requires port { (shown self.old).view.failed ≡ false → IsPort (shown self.old).view port }
@@ -90,8 +91,8 @@ pub trait Bridge: Drop {
         ensures still_made { (shown self.new).blank ≡ false }
         ensures kind { (shown self.new).kind ≡ (shown self.old).kind };
 
-    /// Sets the metric of the link at a port, from 1 to 16,777,214 (RFC 5305, 3). The bridge originates if it has something
-    /// else to say.
+    /// Sets the metric of the link at a port, from 1 to 16,777,214 (RFC 5305, 3). The bridge originates if it has
+    /// something else to say.
     fn set_metric(&mut self, port: u8, metric: u32) -> Result<(), NoMemory>
         requires made { (shown self.old).blank ≡ false }
         requires port { (shown self.old).view.failed ≡ false → IsPort (shown self.old).view port }
@@ -113,7 +114,7 @@ pub trait Bridge: Drop {
     fn due(&self, port: u8) -> bool
         requires made { (shown self.now).blank ≡ false }
         requires port { IsPort (shown self.now).view port }
-        ensures { result ≡ is_due_at (shown self.now).view port };
+        ensures { result ≡ is_csnp_due_at (shown self.now).view port };
 
     /// Whether an LSP is to be sent, acknowledged or asked for at any port (SRM and SSN), or CSNPs are due at one.
     fn has_flag(&self) -> bool

@@ -1,25 +1,25 @@
 //! What every step of a bridge keeps, whatever comes to it. Each is the contract of a function that does nothing.
-ghost use Rattle.bridge_api.specs.Laws.{ConfiguredIsSound, ConfiguredIsDark, ConfiguredHoldsOwn, SoundCanSay, StepsStaySound, StepsKeepBridge, StepsKeepCarrier, StepsKeepNeighbours, SentIsSound, OneHello, HellosAreHeard, SentWithCarrier, EnteringUpIsWhole, UpPortsAreUp, StepsCarryDatabase, NeighboursComeUp, SomeBridge};
-ghost use Rattle.bridge_api.specs.Duties.{SecondsServe, SecondsSettle};
+ghost use Rattle.bridge_api.specs.Laws.{ConfiguredIsSound, ConfiguredHasNoCarrier, ConfiguredHoldsOwn, SoundCanSay, StepsStaySound, StepsKeepBridge, StepsKeepCarrier, StepsKeepNeighbours, SentIsSound, OneHello, HellosAreHeard, SentWithCarrier, EnteringUpIsWhole, UpPortsAreUp, StepsCarryDatabase, NeighboursComeUp, SomeBridge};
+ghost use Rattle.bridge_api.specs.Duties.{SecondsServe, SecondsLeaveNothingDue};
 ghost use Rattle.bridge_api.specs.Few.{ConfiguredHoldsFew, StepsHoldFew, SecondsSendFew};
 ghost use Rattle.bridge_api.specs.Graph.{ReadsWhatIsHeld, ReadsEachOnce, ReadsItself, OwnPortsAreApart};
 ghost use Rattle.bridge_api.specs.Time.{NeighboursAreKept, NeighboursAreLost, KeepsSomebody, SecondsAge, LspsLast, LspsExpire, SecondsStandStill, SecondsRenew, SecondsSpend, SpentStandsStill, OwnLspLasts, OwnLspIsRenewed, AloneStaysAlone, EveryNineHundred};
 
 use itag_frames::control_again;
 
-/// A configured bridge is sound, and stays so: unless its sequence numbers are spent, its own LSP is live for 301 to 1,200
-/// seconds and says what the bridge has to say. It has the ports of its configuration and no carrier yet, and holds its own
-/// LSP alone. What a sound bridge says of itself can be written, and fits one LSP.
+/// A configured bridge is sound, and stays so: unless its sequence numbers are spent, its own LSP is live for 301 to
+/// 1,200 seconds and says what the bridge has to say. It has the ports of its configuration and no carrier yet, and
+/// holds its own LSP alone. What a sound bridge says of itself can be written, and fits one LSP.
 pub fn bridges_are_sound()
     ensures configured { ConfiguredIsSound }
-    ensures dark { ConfiguredIsDark }
+    ensures dark { ConfiguredHasNoCarrier }
     ensures own { ConfiguredHoldsOwn }
     ensures says { SoundCanSay }
     ensures steps { StepsStaySound }
 {}
 
-/// A bridge keeps its ids, its VIDs, what is attached, and its ports; and the metric and the carrier of a port change by
-/// setting the metric there, and by a change of carrier there, alone.
+/// A bridge keeps its ids, its VIDs, what is attached, and its ports; and the metric and the carrier of a port change
+/// by setting the metric there, and by a change of carrier there, alone.
 pub fn steps_keep_the_bridge()
     ensures bridge { StepsKeepBridge }
     ensures carrier { StepsKeepCarrier }
@@ -30,9 +30,9 @@ pub fn steps_keep_neighbours()
     ensures { StepsKeepNeighbours }
 {}
 
-/// Each frame that is sent and heard as a hello names its sender and port, the state there, and nobody but the neighbour that
-/// is kept; an LSP that is sent is the one that its sender holds, and what a frame claims is just what its sender holds. In
-/// each second one hello is sent at each port with carrier, and nothing at others.
+/// Each frame that is sent and heard as a hello names its sender and port, the state there, and nobody but the
+/// neighbour that is kept; an LSP that is sent is the one that its sender holds, and what a frame claims is just what
+/// its sender holds. In each second one hello is sent at each port with carrier, and nothing at others.
 pub fn frames_are_heard()
     ensures sound { SentIsSound }
     ensures one_hello { OneHello }
@@ -42,14 +42,15 @@ pub fn frames_are_heard()
     control_again();
 }
 
-/// In each second all is sent that is to be sent at an Up port, and afterwards nothing is owed anywhere.
+/// In each second all is sent that is to be sent at an Up port, and afterwards no SSN flag stands anywhere and no CSNP
+/// is due.
 pub fn seconds_serve_neighbours()
     ensures sent { SecondsServe }
-    ensures settled { SecondsSettle }
+    ensures nothing_due { SecondsLeaveNothingDue }
 {}
 
-/// A bridge reads its graph from the live LSPs that it holds, of each system what that says, and of itself what it has to
-/// say, with each neighbour at a port of its own.
+/// A bridge reads its graph from the live LSPs that it holds, of each system what that says. A sound one reads of
+/// itself what it has to say, unless its sequence numbers are spent, and each neighbour at a port of its own.
 pub fn graphs_are_read_from_what_is_held()
     ensures held { ReadsWhatIsHeld }
     ensures once { ReadsEachOnce }
@@ -57,19 +58,20 @@ pub fn graphs_are_read_from_what_is_held()
     ensures ports { OwnPortsAreApart }
 {}
 
-/// A port that is Up was so before with the same neighbour, or everything is to be sent there and nothing is owed.
+/// A port that is Up was so before with the same neighbour, or everything is to be sent there and nothing has SSN
+/// there.
 pub fn entering_up_is_whole()
     ensures { EnteringUpIsWhole }
 {}
 
-/// No version that is held falls, and the neighbour at each Up port is no further behind. The set of the Up ports has
-/// each port that is Up, and no other number.
+/// In a step of a sound bridge no version that is held falls, and the neighbour at each Up port is no further behind.
+/// The set of the Up ports has each port that is Up, and no other number.
 pub fn steps_carry_the_database()
     ensures steps { StepsCarryDatabase }
     ensures up_ports { UpPortsAreUp }
 {}
 
-/// Bridges that hear each other come up, and there are such bridges.
+/// A bridge that has heard a neighbour which has heard it is Up at that port, and there are such bridges.
 pub fn neighbours_come_up()
     ensures up { NeighboursComeUp }
     ensures some { SomeBridge }
@@ -86,8 +88,8 @@ pub fn few_are_held_and_sent()
 {}
 
 /// A neighbour is kept for as many seconds as its holding count says, in the state that it is in, whatever comes to the
-/// bridge but hellos and changes of carrier at its port. Then the port is Down, and keeps nobody. There are bridges that
-/// keep somebody.
+/// bridge but hellos and changes of carrier at its port. Then the port is Down, and keeps nobody. There are bridges
+/// that keep somebody.
 pub fn silent_neighbours_are_lost()
     ensures kept { NeighboursAreKept }
     ensures lost { NeighboursAreLost }
@@ -96,8 +98,8 @@ pub fn silent_neighbours_are_lost()
     control_again();
 }
 
-/// In a second an LSP of another system keeps its version and body, or is dead at its number. A live one of which nothing
-/// more is heard stays as it is for the seconds of its lifetime, and is then dead, to be sent at every Up port.
+/// In a second an LSP of another system keeps its version and body, or is dead at its number. A live one of which
+/// nothing more is heard stays as it is for the seconds of its lifetime, and is then dead, to be sent at every Up port.
 pub fn silent_lsps_expire()
     ensures age { SecondsAge }
     ensures last { LspsLast }
@@ -105,8 +107,8 @@ pub fn silent_lsps_expire()
 {}
 
 /// A second after which a bridge has the same to say, and its own lifetime is above 300, originates nothing. Each other
-/// originates: the own LSP stands one number further, or past the last one is dead, and then none originates any more. So
-/// a bridge just configured and left to itself originates every 900 seconds.
+/// originates: the own LSP stands one number further, or past the last one is dead, and then none originates any more.
+/// So a bridge just configured and left to itself originates every 900 seconds.
 pub fn own_lsps_are_renewed()
     ensures still { SecondsStandStill }
     ensures renew { SecondsRenew }

@@ -2,9 +2,9 @@
 //! implementation of a bridge has.
 //!
 //! The trait says of each call which bridge it leaves and what it sends, as one step of the machine that `specs/`
-//! defines, so all implementations do the same. A network reaches its bridges through the trait alone. `Box<dyn Bridge>`
-//! is a `Bridge` too, so code over any `B: Bridge` serves boxes of mixed kinds. Its clauses speak of `B.shown`; for a
-//! list of bridges `specs/Among.antt` has the words, and `proofs/Listed.antt` the lemmas.
+//! defines, so all implementations do the same. A network reaches its bridges through the trait alone. `Box<dyn
+//! Bridge>` is a `Bridge` too, so code over any `B: Bridge` serves boxes of mixed kinds. Its clauses speak of
+//! `B.shown`; for a list of bridges `specs/Among.antt` has the words, and `proofs/Listed.antt` the lemmas.
 //!
 //! # Another implementation
 //!
@@ -13,20 +13,22 @@
 //! 1. Write a struct that keeps what it likes, and an `impl Model` for it. The model's value is a record of what the
 //!    fields say, and its invariant what the fields have to meet, such as that each port's adjacency is sound. A
 //!    constructor `blank` gives a bridge that is blank and not failed.
-//! 2. In `impl Bridge`, define `shown` as a function of that value (`specs/Shown.antt`). Its `view` is a `BridgeView`, in
-//!    which a part that isn't kept yet is as after `configure`.
-//! 3. Do the work of each call in a private function, which answers by `?`. Where it answers `Ok`, its contract names the
-//!    view afterwards, such as `after_tick`, and the frames, such as `sent_in_tick`. The trait's call tests first whether
-//!    the bridge is failed, then calls that function, and marks the bridge failed where no memory was found.
-//! 4. What a step makes of the list of ports is said port by port: `later` and `with_due` for a tick, `greeted_port` for a
-//!    hello, `carried_port` for carrier (`specs/Ports.antt`) and `metered` for a metric. What it makes of the LSPs that are
-//!    held is said part by part: `counted`, `expired`, `refreshed` and `told` for a tick (`specs/Ticking.antt`), `changed_at`
-//!    where something came to pass at a port, and `flooded`, `completed` and `requested` for what is heard of other LSPs
-//!    (`specs/Hearing.antt`), each with `settled` after it (`specs/Own.antt`). The lemmas `tick_is`, `heard_is`, `deaf_is`,
-//!    `carried_is` and `metered_is` of `proofs/Changes.antt` say that the steps of a view are these, and `changed_ports`,
-//!    `greeted_ports`, `carried_ports`, `metered_ports` and `tick_ports` what becomes of the ports.
-//! 5. A test makes boxes of it as `Box<dyn Bridge>` and calls them through the trait, since no proof says that memory is
-//!    found.
+//! 2. In `impl Bridge`, define `shown` as a function of that value (`specs/Shown.antt`). Its `view` is a `BridgeView`,
+//!    in which a part that isn't kept yet is as after `configure`.
+//! 3. Do the work of each call in a private function, which answers by `?`. Where it answers `Ok`, its contract names
+//!    the view afterwards, such as `after_tick`, and the frames, such as `sent_in_tick`. The trait's call tests first
+//!    whether the bridge is failed, then calls that function, and marks the bridge failed where no memory was found.
+//! 4. What a step makes of the list of ports is said port by port: `later` and `with_csnp_due` for a tick,
+//!    `heard_hello_port` for a hello, `with_carrier_port` for carrier (`specs/Ports.antt`) and `with_port_metric` for a
+//!    metric. What it makes of the LSPs that are held is said part by part: `counts_lowered`, `expired`, `refreshed`
+//!    and `after_sending` for a tick (`specs/Ticking.antt`), `changed_at` where something came to pass at a port, and
+//!    `heard_lsp`, `heard_csnp` and `heard_psnp` for what is heard of other LSPs (`specs/Hearing.antt`), each with
+//!    `originated_if_changed` after it (`specs/Own.antt`). The lemmas `tick_is`, `heard_is`, `deaf_is`,
+//!    `with_carrier_is` and `with_metric_is` of `proofs/Changes.antt` say that the steps of a view are these, and
+//!    `changed_ports`, `heard_hello_ports`, `with_carrier_ports`, `with_metric_ports` and `tick_ports` what becomes of
+//!    the ports.
+//! 5. A test makes boxes of it as `Box<dyn Bridge>` and calls them through the trait, since no proof says that memory
+//!    is found.
 #![tactic(auto)]
 
 pub use bridge::Bridge;

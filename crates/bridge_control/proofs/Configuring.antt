@@ -12,18 +12,18 @@ use Rattle.spb_content.specs.Local.{IsLocal}
 use Rattle.bridge_api.specs.declared.config.BridgeConfig.{BridgeConfig}
 use Rattle.bridge_api.specs.View.{BridgeView}
 use Rattle.bridge_api.specs.Own.{local_of, own_of, originating}
-use Rattle.bridge_api.specs.Config.{IsWhole, dark, bare, configured}
+use Rattle.bridge_api.specs.Config.{IsWhole, port_without_carrier, bare, configured}
 use Rattle.bridge_api.proofs.Saying.{is_local}
-use Rattle.bridge_api.proofs.SoundPorts.{all_dark, bare_config}
+use Rattle.bridge_api.proofs.SoundPorts.{all_without_carrier, bare_config}
 use Rattle.bridge_control.specs.declared.machine.Machine.{Machine}
 use Rattle.bridge_control.specs.Machine.{view_of, CanOriginate, IsAfter}
 use Rattle.bridge_control.proofs.Owning.{after_same}
 
-few_dark : (c : BridgeConfig) → IsWhole c → length (bare c).ports ≤ 32
-few_dark c whole = omega (arith, length-map c.metrics dark, whole.metrics, whole.ports)
+few_without_carrier : (c : BridgeConfig) → IsWhole c → length (bare c).ports ≤ 32
+few_without_carrier c whole = omega (arith, length-map c.metrics port_without_carrier, whole.metrics, whole.ports)
 
 pub bare_local : (c : BridgeConfig) → IsWhole c → IsLocal (local_of (bare c))
-bare_local c whole = is_local (bare c) (bare_config c whole) (few_dark c whole) (all_dark c.metrics whole.each_metric)
+bare_local c whole = is_local (bare c) (bare_config c whole) (few_without_carrier c whole) (all_without_carrier c.metrics whole.each_metric)
 
 or_right : (a b : Bool) → b ≡ true → (a || b) ≡ true
 or_right true b e = refl
@@ -34,7 +34,7 @@ fits_empty id = or_right (contains_key (empty {X = Entry} {R = id_cmp}) id) _ (a
 
 pub bare_can : (c : BridgeConfig) → IsWhole c → (m : Machine) → view_of m ≡ bare c → CanOriginate m
 bare_can c whole m is = record {
-  few = subst (λ (v : BridgeView). length v.ports ≤ 32) (sym is) (few_dark c whole);
+  few = subst (λ (v : BridgeView). length v.ports ≤ 32) (sym is) (few_without_carrier c whole);
   place = subst (λ (db : Lsps). fits db (own_id m.id.system) ≡ true) (sym (ap (λ (v : BridgeView). v.database) is)) (fits_empty (own_id m.id.system));
 }
 

@@ -9,21 +9,22 @@ use Rattle.isis_pdu.specs.Pdu.{LspValue}
 use Rattle.lsdb.specs.declared.version.Relation.{Relation}
 use Rattle.lsdb.specs.Version.{is_absent, relation}
 use Rattle.lsdb.specs.Entry.{Entry}
-use Rattle.lsdb.specs.Database.{Lsps, version_in, fits, placed, each}
+use Rattle.lsdb.specs.Database.{Lsps, version_in, fits, put_if_it_fits, each}
 use Rattle.lsdb.specs.Certificate.{Claim}
 use Rattle.lsdb.proofs.LookupLemmas.{get-insert_same, get-insert_other, same_or_not, get-each, is_some-option_map}
 use Rattle.flooding.specs.declared.own.Own.{Own}
 use Rattle.flooding.specs.Own.{own_id}
-use Rattle.flooding.specs.Hearing.{Holding, lsp_row, snp_row, claim_of, heard_by, own_after, lacks_place, after_claim, hear_lsp_of, hear_entry_of}
+use Rattle.flooding.specs.Hearing.{Holding, lsp_rule, snp_rule, claim_of, heard_by, own_after, lacks_place, after_claim, hear_lsp_of, hear_entry_of}
 use Rattle.flooding.specs.Placing.{holding}
 use Rattle.flooding.proofs.Owns.{own_stands}
 use Rattle.snp_sync.specs.Hearing.{hear_entries_of, ids_of, is_missed, flag_if, hear_csnp_of}
 use Rattle.snp_sync.proofs.Stays.{entries_leave_own}
 use Rattle.bridge_api.specs.declared.port.BridgePort.{BridgePort}
 use Rattle.bridge_api.specs.View.{BridgeView, IsPort, port_at, is_port_up, up_from, up_ports}
-use Rattle.bridge_api.specs.Own.{holding_of, with_holding, settled}
-use Rattle.bridge_api.specs.Judging.{Judged, link_state, judged}
-use Rattle.bridge_api.specs.Hearing.{heard_as, flooded, after_receive}
+use Rattle.bridge_api.specs.Own.{holding_of, with_holding, originated_if_changed}
+use Rattle.bridge_api.specs.Parsing.{Parsed, parsed}
+use Rattle.bridge_api.specs.Parsing as parsing
+use Rattle.bridge_api.specs.Hearing.{heard_as, heard_lsp, after_receive}
 use Rattle.bridge_api.proofs.Changes.{when_true, heard_is, deaf_is}
 use Rattle.bridge_control.specs.declared.machine.Machine.{Machine}
 use Rattle.bridge_control.specs.Machine.{view_of, IsCurrent, IsReady, CanOriginate, IsAfter, heard_by as heard_in, hears}
@@ -45,24 +46,24 @@ placed_by : (fit : Bool) (db : Lsps) (id : LspId) (e : Entry) (x : LspId) → Is
 placed_by true db id e x held = inserted_held db id e x held
 placed_by false db id e x held = held
 
-placed_held : (db : Lsps) (id : LspId) (o : Option Entry) (x : LspId) → IsHeld db x → IsHeld (placed db id o) x
-placed_held db id None x held = held
-placed_held db id (Some e) x held = placed_by (fits db id) db id e x held
+put_held : (db : Lsps) (id : LspId) (o : Option Entry) (x : LspId) → IsHeld db x → IsHeld (put_if_it_fits db id o) x
+put_held db id None x held = held
+put_held db id (Some e) x held = placed_by (fits db id) db id e x held
 
-entry_by : (lacks : Bool) (h : Holding) (id : LspId) (new : Option Entry) (own : Own) (x : LspId) → IsHeld h.db x → IsHeld (if lacks then h else record { db = placed h.db id new; own = own }).db x
+entry_by : (lacks : Bool) (h : Holding) (id : LspId) (new : Option Entry) (own : Own) (x : LspId) → IsHeld h.db x → IsHeld (if lacks then h else record { db = put_if_it_fits h.db id new; own = own }).db x
 entry_by true h id new own x held = held
-entry_by false h id new own x held = placed_held h.db id new x held
+entry_by false h id new own x held = put_held h.db id new x held
 
-claim_held : (row : Relation → Option Entry → Option Entry) (up : PortSet) (c : Claim) (h : Holding) (x : LspId) → IsHeld h.db x → IsHeld (after_claim row up c h).db x
+claim_held : (rule : Relation → Option Entry → Option Entry) (up : PortSet) (c : Claim) (h : Holding) (x : LspId) → IsHeld h.db x → IsHeld (after_claim rule up c h).db x
 unfolding after_claim
-claim_held row up c h x held =
+claim_held rule up c h x held =
     let r = relation c.version (version_in (get h.db c.id)) in
-    let new = heard_by row up h.own c.id c.version r (get h.db c.id) in
+    let new = heard_by rule up h.own c.id c.version r (get h.db c.id) in
     entry_by (lacks_place h.db c.id new) h c.id new (own_after h.own c.id c.version r) x held
 
 entries_held : (up : PortSet) (p : ℕ) (claims : List Claim) (h : Holding) (x : LspId) → IsHeld h.db x → IsHeld (hear_entries_of up p claims h).db x
 entries_held up p [] h x held = held
-entries_held up p (c ∷ claims) h x held = entries_held up p claims (hear_entry_of up p c h) x (claim_held (snp_row up p c.version) up c h x held)
+entries_held up p (c ∷ claims) h x held = entries_held up p claims (hear_entry_of up p c h) x (claim_held (snp_rule up p c.version) up c h x held)
 
 each_held : (f : LspId → Entry → Entry) (db : Lsps) (x : LspId) → IsHeld db x → IsHeld (each f db) x
 each_held f db x held = ap is_some (get-each f db x) ∙ (is_some-option_map (f x) (get db x) ∙ held)
@@ -99,8 +100,8 @@ heard_current m h db own ready heard is =
 pub lsp_heard : (m : Machine) (up : PortSet) (p : ℕ) (l : LspValue) → IsReady m → HasHeard m (hear_lsp_of up p l (holding m.db m.own))
 lsp_heard m up p l ready =
     let h : Holding = holding m.db m.own in
-    let own = own_stands (lsp_row up p l) up (claim_of l) h in
-    record { held = claim_held (lsp_row up p l) up (claim_of l) h (own_id m.id.system) (own_held m ready); system = own.0; body = own.1 }
+    let own = own_stands (lsp_rule up p l) up (claim_of l) h in
+    record { held = claim_held (lsp_rule up p l) up (claim_of l) h (own_id m.id.system) (own_held m ready); system = own.0; body = own.1 }
 
 pub entries_heard : (m : Machine) (up : PortSet) (p : ℕ) (claims : List Claim) → IsReady m → HasHeard m (hear_entries_of up p claims (holding m.db m.own))
 entries_heard m up p claims ready =
@@ -119,23 +120,23 @@ csnp_heard m up p start end claims ready =
 
 -- ---- by what a frame is taken for
 
-pub hears_is : (j : Judged) (p : ℕ) (v : BridgeView) (port : BridgePort) → port_at v p ≡ Some port → hears j p v ≡ heard_as j p port v
+pub hears_is : (j : Parsed) (p : ℕ) (v : BridgeView) (port : BridgePort) → port_at v p ≡ Some port → hears j p v ≡ heard_as j p port v
 hears_is j p v port there = ap (λ (o : Option BridgePort). heard_in j p o v) there
 
-pub hears_lsp : (l : LspValue) (p : ℕ) (v : BridgeView) (port : BridgePort) → port_at v p ≡ Some port → is_port_up port ≡ true → hears (link_state l) p v ≡ settled (flooded l p v)
-hears_lsp l p v port there up = hears_is (link_state l) p v port there ∙ when_true (is_port_up port) (settled (flooded l p v)) v up
+pub hears_lsp : (l : LspValue) (p : ℕ) (v : BridgeView) (port : BridgePort) → port_at v p ≡ Some port → is_port_up port ≡ true → hears (parsing.lsp l) p v ≡ originated_if_changed (heard_lsp l p v)
+hears_lsp l p v port there up = hears_is (parsing.lsp l) p v port there ∙ when_true (is_port_up port) (originated_if_changed (heard_lsp l p v)) v up
 
 -- the machine that heard an LSP at an Up port
-pub flooded_path : (m : Machine) (up : PortSet) (p : ℕ) (l : LspValue) (db : Lsps) (own : Own) (port : BridgePort) → IsReady m → up ≡ up_from 1 m.ports.items → holding db own ≡ hear_lsp_of up p l (holding m.db m.own) → port_at (view_of m) p ≡ Some port → is_port_up port ≡ true → settled (view_of (record m { db = db; own = own })) ≡ hears (link_state l) p (view_of m)
-flooded_path m up p l db own port ready is_up is there lit =
+pub heard_lsp_path : (m : Machine) (up : PortSet) (p : ℕ) (l : LspValue) (db : Lsps) (own : Own) (port : BridgePort) → IsReady m → up ≡ up_from 1 m.ports.items → holding db own ≡ hear_lsp_of up p l (holding m.db m.own) → port_at (view_of m) p ≡ Some port → is_port_up port ≡ true → originated_if_changed (view_of (record m { db = db; own = own })) ≡ hears (parsing.lsp l) p (view_of m)
+heard_lsp_path m up p l db own port ready is_up is there has_carrier =
     let v : BridgeView = view_of m in
     let whole : holding db own ≡ hear_lsp_of (up_ports v) p l (holding_of v) = is ∙ (λ i. hear_lsp_of (is_up i) p l (holding m.db (ready.current i))) in
-    ap (λ (h : Holding). settled (with_holding h v)) whole ∙ sym (hears_lsp l p v port there lit)
+    ap (λ (h : Holding). originated_if_changed (with_holding h v)) whole ∙ sym (hears_lsp l p v port there has_carrier)
 
 -- a frame is heard at a port with carrier as what it is taken for
-pub received_path : (v : BridgeView) (p : ℕ) (bytes : List ℕ) (j : Judged) (port : BridgePort) → IsPort v p → port_at v p ≡ Some port → port.adjacency.carrier ≡ true → judged bytes ≡ j → hears j p v ≡ after_receive p bytes v
-received_path v p bytes j port is there lit said =
-    hears_is j p v port there ∙ (ap (λ (k : Judged). heard_as k p port v) (sym said) ∙ sym (heard_is v p bytes port is.low (got v p port is there) lit))
+pub received_path : (v : BridgeView) (p : ℕ) (bytes : List ℕ) (j : Parsed) (port : BridgePort) → IsPort v p → port_at v p ≡ Some port → port.adjacency.carrier ≡ true → parsed bytes ≡ j → hears j p v ≡ after_receive p bytes v
+received_path v p bytes j port is there has_carrier said =
+    hears_is j p v port there ∙ (ap (λ (k : Parsed). heard_as k p port v) (sym said) ∙ sym (heard_is v p bytes port is.low (got v p port is there) has_carrier))
 
 pub deaf_after : (m : Machine) (p : ℕ) (bytes : List ℕ) (port : BridgePort) → IsReady m → IsPort (view_of m) p → port_at (view_of m) p ≡ Some port → port.adjacency.carrier ≡ false → IsAfter (after_receive p bytes (view_of m)) m
 deaf_after m p bytes port ready is there dark = record { view = sym (deaf_is (view_of m) p bytes port is.low (got (view_of m) p port is there) dark); current = ready.current }
@@ -149,7 +150,7 @@ not_false true e = refl
 not_false false e = absurd cc
 
 -- a frame that is heard as what changes nothing
-pub idle_after : (m : Machine) (p : ℕ) (bytes : List ℕ) (j : Judged) (port : BridgePort) → IsReady m → IsPort (view_of m) p → port_at (view_of m) p ≡ Some port → port.adjacency.carrier ≡ true → judged bytes ≡ j → heard_as j p port (view_of m) ≡ view_of m → IsAfter (after_receive p bytes (view_of m)) m
-idle_after m p bytes j port ready is there lit said idle =
+pub idle_after : (m : Machine) (p : ℕ) (bytes : List ℕ) (j : Parsed) (port : BridgePort) → IsReady m → IsPort (view_of m) p → port_at (view_of m) p ≡ Some port → port.adjacency.carrier ≡ true → parsed bytes ≡ j → heard_as j p port (view_of m) ≡ view_of m → IsAfter (after_receive p bytes (view_of m)) m
+idle_after m p bytes j port ready is there has_carrier said idle =
     let v : BridgeView = view_of m in
-    record { view = sym (heard_is v p bytes port is.low (got v p port is there) lit ∙ (ap (λ (k : Judged). heard_as k p port v) said ∙ idle)); current = ready.current }
+    record { view = sym (heard_is v p bytes port is.low (got v p port is there) has_carrier ∙ (ap (λ (k : Parsed). heard_as k p port v) said ∙ idle)); current = ready.current }

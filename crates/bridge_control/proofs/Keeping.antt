@@ -8,7 +8,7 @@ use Rattle.spb_types.specs.declared.memory.NoMemory.{NoMemory}
 use Rattle.lsdb.specs.Database.{any_flags}
 use Rattle.bridge_api.specs.declared.port.BridgePort.{BridgePort}
 use Rattle.bridge_api.specs.declared.config.BridgeConfig.{BridgeConfig}
-use Rattle.bridge_api.specs.View.{BridgeView, port_in, adjacency_at, is_due_in, is_due_at, has_flags}
+use Rattle.bridge_api.specs.View.{BridgeView, port_in, adjacency_at, is_csnp_due_in, is_csnp_due_at, has_flags}
 use Rattle.bridge_api.specs.Config.{IsWhole, configured}
 use Rattle.bridge_api.specs.Step.{Input, step}
 use Rattle.bridge_api.specs.Laws.{IsInput, IsSoundView}
@@ -27,9 +27,9 @@ stepped (Err x) input old m ready is after e = absurd cc
 -- after a step
 pub kept_step : {T : Type 0} (r : Result T NoMemory) (input : Input) (blank failed : Bool) (old m : Machine) → blank ≡ false → IsReady old → IsInput (view_of old) input → failed ≡ is_err r → OnOk r (IsAfter (step input (view_of old)) m)
     → IsKept blank failed m
-kept_step r input blank failed old m made ready is told after = record {
+kept_step r input blank failed old m made ready is after_sending after = record {
   unfailed = λ e. absurd (let no : true ≡ false = sym e ∙ made in cc);
-  ready = λ e f. stepped r input old m ready is after (sym told ∙ f);
+  ready = λ e f. stepped r input old m ready is after (sym after_sending ∙ f);
 }
 
 pub kept_configured : (c : BridgeConfig) (failed : Bool) (m : Machine) → IsWhole c → IsAfter (configured c) m → IsKept false failed m
@@ -45,10 +45,10 @@ unfolding adjacency_at
 adjacent_is blank failed m plane p ports port same are there =
     sym (ap (option_map (λ (x : BridgePort). x.adjacency)) (sym (ap (λ (ps : List BridgePort). port_in ps p) (are ∙ ap (λ (x : Plane). x.view.ports) same)) ∙ there))
 
-pub due_is : (blank failed : Bool) (m : Machine) (plane : Plane) (p : ℕ) (ports : List BridgePort) (port : BridgePort) → plane_of blank failed m ≡ plane → ports ≡ m.ports.items → port_in ports p ≡ Some port → port.due ≡ is_due_at plane.view p
-unfolding is_due_at
+pub due_is : (blank failed : Bool) (m : Machine) (plane : Plane) (p : ℕ) (ports : List BridgePort) (port : BridgePort) → plane_of blank failed m ≡ plane → ports ≡ m.ports.items → port_in ports p ≡ Some port → port.csnp_due ≡ is_csnp_due_at plane.view p
+unfolding is_csnp_due_at
 due_is blank failed m plane p ports port same are there =
-    sym (ap is_due_in (sym (ap (λ (ps : List BridgePort). port_in ps p) (are ∙ ap (λ (x : Plane). x.view.ports) same)) ∙ there))
+    sym (ap is_csnp_due_in (sym (ap (λ (ps : List BridgePort). port_in ps p) (are ∙ ap (λ (x : Plane). x.view.ports) same)) ∙ there))
 
 flags_by : (a b c : Bool) → a ≡ b → a ≡ true → a ≡ (b || c)
 flags_by a true c e t = t
@@ -61,11 +61,11 @@ or_by false b e = refl
 pub flags_stand : (blank failed : Bool) (m : Machine) (plane : Plane) (flags : Bool) → plane_of blank failed m ≡ plane → flags ≡ any_flags m.db → flags ≡ true → flags ≡ has_flags plane.view
 unfolding has_flags
 flags_stand blank failed m plane flags same is stand =
-    flags_by flags (any_flags m.db) (list_any (λ port. port.due) m.ports.items) is stand
-    ∙ ap (λ (x : Plane). any_flags x.view.database || list_any (λ port. port.due) x.view.ports) same
+    flags_by flags (any_flags m.db) (list_any (λ port. port.csnp_due) m.ports.items) is stand
+    ∙ ap (λ (x : Plane). any_flags x.view.database || list_any (λ port. port.csnp_due) x.view.ports) same
 
-pub due_stands : (blank failed : Bool) (m : Machine) (plane : Plane) (flags due : Bool) → plane_of blank failed m ≡ plane → flags ≡ any_flags m.db → flags ≡ false → due ≡ list_any (λ port. port.due) m.ports.items → due ≡ has_flags plane.view
+pub due_stands : (blank failed : Bool) (m : Machine) (plane : Plane) (flags due : Bool) → plane_of blank failed m ≡ plane → flags ≡ any_flags m.db → flags ≡ false → due ≡ list_any (λ port. port.csnp_due) m.ports.items → due ≡ has_flags plane.view
 unfolding has_flags
-due_stands blank failed m plane flags due same is none told =
-    (told ∙ or_by (any_flags m.db) (list_any (λ port. port.due) m.ports.items) (sym is ∙ none))
-    ∙ ap (λ (x : Plane). any_flags x.view.database || list_any (λ port. port.due) x.view.ports) same
+due_stands blank failed m plane flags due same is none after_sending =
+    (after_sending ∙ or_by (any_flags m.db) (list_any (λ port. port.csnp_due) m.ports.items) (sym is ∙ none))
+    ∙ ap (λ (x : Plane). any_flags x.view.database || list_any (λ port. port.csnp_due) x.view.ports) same

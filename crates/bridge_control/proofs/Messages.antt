@@ -4,11 +4,12 @@ use Rattle.std.specs.Prelude.{if◌then◌else◌}
 use Rattle.isis_pdu.specs.Grammar.{IsBytes}
 use Rattle.itag_frames.specs.declared.frame.FrameError.{FrameError}
 use Rattle.itag_frames.specs.Frame.{Content, content_in}
-use Rattle.bridge_api.specs.Judging.{useless, by_content, judged}
+use Rattle.bridge_api.specs.Parsing.{by_content, parsed}
+use Rattle.bridge_api.specs.Parsing as parsing
 use Rattle.bridge_api.specs.declared.drop_reason.DropReason.TheVariants as drop
 use Rattle.bridge_api.proofs.Octets.{bytes_small, octets_small}
 
-pub judged_as : (frame : List ℕ) (content : Result Content FrameError) → IsBytes frame → content ≡ content_in frame → by_content content ≡ judged frame
-unfolding judged
-judged_as frame content bytes is =
-    ap by_content is ∙ sym (ap (λ (all : Bool). if all then by_content (content_in frame) else useless drop.Frame) (octets_small frame (bytes_small frame bytes)))
+pub parsed_as : (frame : List ℕ) (content : Result Content FrameError) → IsBytes frame → content ≡ content_in frame → by_content content ≡ parsed frame
+unfolding parsed
+parsed_as frame content bytes is =
+    ap by_content is ∙ sym (ap (λ (all : Bool). if all then by_content (content_in frame) else parsing.dropped drop.Frame) (octets_small frame (bytes_small frame bytes)))

@@ -16,7 +16,7 @@ use Rattle.flooding.proofs.Owns.{origination_leaves_own}
 use Rattle.spb_content.specs.Local.{content_bytes}
 use Rattle.bridge_api.specs.declared.port.BridgePort.{BridgePort}
 use Rattle.bridge_api.specs.View.{BridgeView, up_from, up_ports}
-use Rattle.bridge_api.specs.Own.{neighbours_from, member_of, body_of, holding_of, with_holding, body_in, own_entry, is_said, originating, settled}
+use Rattle.bridge_api.specs.Own.{neighbours_from, member_of, body_of, holding_of, with_holding, body_in, own_entry, is_said, originating, originated_if_changed}
 use Rattle.bridge_api.specs.Ticking.{is_old, refreshed}
 use Rattle.bridge_api.proofs.Data.{fits_own}
 use Rattle.bridge_control.specs.declared.machine.Machine.{Machine}
@@ -89,25 +89,25 @@ still_by : (spent said : Bool) (v w : BridgeView) → (spent ≡ false → said 
 still_by true said v w says = refl
 still_by false said v w says = sym (choice said true v w (says refl))
 
-pub settled_still : (v : BridgeView) → (v.spent ≡ false → body_in (own_entry v) ≡ body_of v) → v ≡ settled v
-unfolding settled is_said
-settled_still v says = still_by v.spent (is_said v) v (originating v) (λ alive. (bytes_eq-Decides (body_in (own_entry v)) (body_of v)).1 (says alive))
+pub originated_if_changed_still : (v : BridgeView) → (v.spent ≡ false → body_in (own_entry v) ≡ body_of v) → v ≡ originated_if_changed v
+unfolding originated_if_changed is_said
+originated_if_changed_still v says = still_by v.spent (is_said v) v (originating v) (λ alive. (bytes_eq-Decides (body_in (own_entry v)) (body_of v)).1 (says alive))
 
-pub settled_spent : (m : Machine) → IsCurrent m → m.own.spent ≡ true → IsAfter (settled (view_of m)) m
-unfolding settled
-settled_spent m current spent =
+pub originated_if_changed_spent : (m : Machine) → IsCurrent m → m.own.spent ≡ true → IsAfter (originated_if_changed (view_of m)) m
+unfolding originated_if_changed
+originated_if_changed_spent m current spent =
     let v = view_of m in
     record { view = sym (choice (v.spent || is_said v) true v (originating v) (or_left v.spent (is_said v) spent)); current = current }
 
-pub settled_said : (m : Machine) → IsCurrent m → true ≡ bytes_eq (body_in (get m.db (own_id m.own.system))) m.own.body → IsAfter (settled (view_of m)) m
-unfolding settled
-settled_said m current said =
+pub originated_if_changed_said : (m : Machine) → IsCurrent m → true ≡ bytes_eq (body_in (get m.db (own_id m.own.system))) m.own.body → IsAfter (originated_if_changed (view_of m)) m
+unfolding originated_if_changed
+originated_if_changed_said m current said =
     let v = view_of m in
     record { view = sym (choice (v.spent || is_said v) true v (originating v) (or_right v.spent (is_said v) (sym (said ∙ code_said m current)))); current = current }
 
-pub settled_anew : (m n : Machine) → IsCurrent m → m.own.spent ≡ false → false ≡ bytes_eq (body_in (get m.db (own_id m.own.system))) m.own.body → IsAfter (originating (view_of m)) n → IsAfter (settled (view_of m)) n
-unfolding settled
-settled_anew m n current spent said is =
+pub originated_if_changed_anew : (m n : Machine) → IsCurrent m → m.own.spent ≡ false → false ≡ bytes_eq (body_in (get m.db (own_id m.own.system))) m.own.body → IsAfter (originating (view_of m)) n → IsAfter (originated_if_changed (view_of m)) n
+unfolding originated_if_changed
+originated_if_changed_anew m n current spent said is =
     let v = view_of m in
     after_same (originating v) (if v.spent || is_said v then v else originating v) n (sym (choice (v.spent || is_said v) false v (originating v) (or_neither v.spent (is_said v) spent (sym (said ∙ code_said m current))))) is
 

@@ -7,14 +7,14 @@ use Rattle.std.specs.FinMap.{get, same_map}
 use Rattle.std.proofs.lemmas.List.{append-nil}
 use Rattle.std.proofs.lemmas.List.Folds.{list_any_more}
 use Rattle.spb_types.specs.declared.address.LspId.{LspId}
-use Rattle.lsdb.specs.Entry.{Entry, parted}
+use Rattle.lsdb.specs.Entry.{Entry, flags_cleared_at}
 use Rattle.lsdb.specs.Database.{Lsps, each}
 use Rattle.lsdb.proofs.Ids.{ids_total, ids_tied}
 use Rattle.lsdb.proofs.LookupLemmas.{get-each}
 use Rattle.bridge_api.specs.declared.port.BridgePort.{BridgePort}
 use Rattle.bridge_api.specs.View.{is_port_up}
 use Rattle.bridge_api.specs.Own.{neighbour_in, neighbours_from}
-use Rattle.bridge_api.specs.Ticking.{leaves, leaving_from, parted_all}
+use Rattle.bridge_api.specs.Ticking.{leaves, leaving_from, flags_cleared_at_all}
 use Rattle.spb_tlvs.specs.declared.neighbours.Neighbour.{Neighbour}
 
 -- what is picked at a port goes behind what was picked before
@@ -84,27 +84,27 @@ pub each_twice : (f g : LspId → Entry → Entry) (db : Lsps) → each f (each 
 each_twice f g db =
     same_map ids_total ids_tied _ _ (λ x. get-each f (each g db) x ∙ (ap (option_map (f x)) (get-each g db x) ∙ (twice_at f g x (get db x) ∙ sym (get-each (λ y e. f y (g y e)) db x))))
 
-parted_behind : (ps : List ℕ) (p : ℕ) (e : Entry) → parted p (parted_all ps e) ≡ parted_all (ps ++ p ∷ []) e
-parted_behind [] p e = refl
-parted_behind (q ∷ ps) p e = parted_behind ps p (parted q e)
+flags_cleared_behind : (ps : List ℕ) (p : ℕ) (e : Entry) → flags_cleared_at p (flags_cleared_at_all ps e) ≡ flags_cleared_at_all (ps ++ p ∷ []) e
+flags_cleared_behind [] p e = refl
+flags_cleared_behind (q ∷ ps) p e = flags_cleared_behind ps p (flags_cleared_at q e)
 
-parted_none : (ps : List ℕ) (e : Entry) → parted_all (ps ++ []) e ≡ parted_all ps e
-parted_none ps e = ap (λ (qs : List ℕ). parted_all qs e) (append-nil ps)
+flags_cleared_none : (ps : List ℕ) (e : Entry) → flags_cleared_at_all (ps ++ []) e ≡ flags_cleared_at_all ps e
+flags_cleared_none ps e = ap (λ (qs : List ℕ). flags_cleared_at_all qs e) (append-nil ps)
 
-cleared_by : (b : Bool) (ps : List ℕ) (p : ℕ) (db : Lsps) → (if b then each (λ id e. parted p e) (each (λ id e. parted_all ps e) db) else each (λ id e. parted_all ps e) db) ≡ each (λ id e. parted_all (ps ++ (if b then p ∷ [] else [])) e) db
-cleared_by true ps p db = each_twice (λ id e. parted p e) (λ id e. parted_all ps e) db ∙ (λ i. each (λ id e. parted_behind ps p e i) db)
-cleared_by false ps p db = λ i. each (λ id e. sym (parted_none ps e) i) db
+cleared_by : (b : Bool) (ps : List ℕ) (p : ℕ) (db : Lsps) → (if b then each (λ id e. flags_cleared_at p e) (each (λ id e. flags_cleared_at_all ps e) db) else each (λ id e. flags_cleared_at_all ps e) db) ≡ each (λ id e. flags_cleared_at_all (ps ++ (if b then p ∷ [] else [])) e) db
+cleared_by true ps p db = each_twice (λ id e. flags_cleared_at p e) (λ id e. flags_cleared_at_all ps e) db ∙ (λ i. each (λ id e. flags_cleared_behind ps p e i) db)
+cleared_by false ps p db = λ i. each (λ id e. sym (flags_cleared_none ps e) i) db
 
 pub cleared_none : (db : Lsps) → db ≡ each (λ id e. e) db
 cleared_none db = sym (each_same (λ id e. e) db (λ x e held. refl))
 
-pub cleared_next : (b : Bool) (ports : List BridgePort) (i : ℕ) (d : BridgePort) (db old new : Lsps) → i < length ports → b ≡ leaves (get_or ports i d) → old ≡ each (λ id e. parted_all (leaving_from 1 (take i ports)) e) db
-    → new ≡ (if b then each (λ id e. parted (i + 1) e) old else old) → new ≡ each (λ id e. parted_all (leaving_from 1 (take (i + 1) ports)) e) db
+pub cleared_next : (b : Bool) (ports : List BridgePort) (i : ℕ) (d : BridgePort) (db old new : Lsps) → i < length ports → b ≡ leaves (get_or ports i d) → old ≡ each (λ id e. flags_cleared_at_all (leaving_from 1 (take i ports)) e) db
+    → new ≡ (if b then each (λ id e. flags_cleared_at (i + 1) e) old else old) → new ≡ each (λ id e. flags_cleared_at_all (leaving_from 1 (take (i + 1) ports)) e) db
 cleared_next b ports i d db old new within is before after =
-    after ∙ (ap (λ (x : Lsps). if b then each (λ id e. parted (i + 1) e) x else x) before
+    after ∙ (ap (λ (x : Lsps). if b then each (λ id e. flags_cleared_at (i + 1) e) x else x) before
     ∙ (cleared_by b (leaving_from 1 (take i ports)) (i + 1) db
-    ∙ (λ j. each (λ id e. parted_all (leaving_from 1 (take i ports) ++ (if is j then (i + 1) ∷ [] else [])) e) db)
-    ∙ (λ j. each (λ id e. parted_all (sym (leaving_next ports i d within) j) e) db)))
+    ∙ (λ j. each (λ id e. flags_cleared_at_all (leaving_from 1 (take i ports) ++ (if is j then (i + 1) ∷ [] else [])) e) db)
+    ∙ (λ j. each (λ id e. flags_cleared_at_all (sym (leaving_next ports i d within) j) e) db)))
 
 or_true : (a : Bool) → (a || true) ≡ true
 or_true true = refl

@@ -9,31 +9,31 @@ use Rattle.spb_types.specs.declared.address.SystemId.{SystemId}
 use Rattle.isis_pdu.specs.Pdu.{HelloValue}
 use Rattle.spb_tlvs.specs.declared.neighbours.Neighbour.{Neighbour}
 use Rattle.spb_tlvs.specs.declared.three_way.ThreeWay.{ThreeWay}
-use Rattle.lsdb.specs.Entry.{parted, joined}
+use Rattle.lsdb.specs.Entry.{flags_cleared_at, srm_set_at}
 use Rattle.lsdb.specs.Database.{Lsps, fits, each}
 use Rattle.lsdb.proofs.LookupLemmas.{fits-each}
 use Rattle.flooding.specs.declared.own.Own.{Own}
 use Rattle.flooding.specs.Own.{own_id}
 use Rattle.spb_content.specs.Local.{IsLocal}
-use Rattle.adjacency.specs.declared.state.Heard.{Heard}
-use Rattle.adjacency.specs.declared.state.Heard.TheVariants.{Kept, CameUp, LeftUp, Discarded}
+use Rattle.adjacency.specs.declared.state.AdjacencyChange.{AdjacencyChange}
+use Rattle.adjacency.specs.declared.state.AdjacencyChange.TheVariants.{Kept, CameUp, LeftUp, Discarded}
 use Rattle.adjacency.specs.declared.port.Adjacency.{Adjacency}
 use Rattle.adjacency.specs.Hearing.{End, same_end, is_discarded}
-use Rattle.adjacency.specs.Adjacency.{is_up, after_heard, after_hello, after_carrier, change_of, heard_of}
+use Rattle.adjacency.specs.Adjacency.{is_up, after_hello_heard, after_hello, after_carrier, change_of, change_by_hello}
 use Rattle.bridge_api.specs.declared.port.BridgePort.{BridgePort}
 use Rattle.bridge_api.specs.View.{BridgeView, IsPort, port_in, port_at, with_port_at, is_port_up, has_carrier_in, has_carrier_at}
-use Rattle.bridge_api.specs.Own.{neighbour_in, neighbours_from, local_of, body_of, settled}
+use Rattle.bridge_api.specs.Own.{neighbour_in, neighbours_from, local_of, body_of, originated_if_changed}
 use Rattle.bridge_api.specs.Config.{IsMetric}
-use Rattle.bridge_api.specs.Hearing.{with_adjacency, with_due, left, joined_at, entered, changed_at, with_carrier, metered, with_metric}
+use Rattle.bridge_api.specs.Hearing.{with_adjacency, with_csnp_due, left_up, all_srm_set_at, entered_up, changed_at, with_carrier, with_port_metric, with_metric}
 use Rattle.bridge_api.specs.Laws.{IsSoundPort}
 use Rattle.bridge_api.proofs.Adjacent.{same_is}
-use Rattle.bridge_api.proofs.Changes.{settled_ports, carried_is, metered_is}
+use Rattle.bridge_api.proofs.Changes.{originated_if_changed_ports, with_carrier_is, with_metric_is}
 use Rattle.bridge_api.proofs.Places.{set_again}
 use Rattle.bridge_api.proofs.Saying.{is_local}
 use Rattle.bridge_api.proofs.SoundPorts.{AreSoundPorts, sound_at}
 use Rattle.bridge_control.specs.declared.machine.Machine.{Machine}
 use Rattle.bridge_control.specs.Machine.{view_of, IsReady, CanOriginate, IsAfter, CanPut, SaysTheSame}
-use Rattle.bridge_control.proofs.Owning.{said_alike, settled_still, current_with, ready_can}
+use Rattle.bridge_control.proofs.Owning.{said_alike, originated_if_changed_still, current_with, ready_can}
 
 -- ---- two ports of which the same is said
 
@@ -70,8 +70,8 @@ hello_kept_at : (discarded : Bool) (port : BridgePort) (new : Adjacency) → (if
 hello_kept_at true port new kept = absurd cc
 hello_kept_at false port new kept = kept_alike port new kept
 
-pub hello_kept : (me : SystemId) (q : ℕ) (h : HelloValue) (way : ThreeWay) (port : BridgePort) → heard_of me q h way port.adjacency ≡ Kept → AreSaidAlike (with_adjacency (after_hello me q h way port.adjacency) port) port
-hello_kept me q h way port kept = hello_kept_at (is_discarded me q h way) port (after_heard h way port.adjacency) kept
+pub hello_kept : (me : SystemId) (q : ℕ) (h : HelloValue) (way : ThreeWay) (port : BridgePort) → change_by_hello me q h way port.adjacency ≡ Kept → AreSaidAlike (with_adjacency (after_hello me q h way port.adjacency) port) port
+hello_kept me q h way port kept = hello_kept_at (is_discarded me q h way) port (after_hello_heard h way port.adjacency) kept
 
 -- ---- a port of a number
 
@@ -118,10 +118,10 @@ local_with m p new ready is =
     }
 
 pub can_put : (m : Machine) (p : ℕ) (new : BridgePort) → IsReady m → IsPort (view_of m) p → IsMetric new.metric → CanPut p new m
-can_put m p new ready is metric = record { port = is; can = ready_can m ready; current = ready.current; local = local_with m p new ready metric; tended = ready.sound.own }
+can_put m p new ready is metric = record { port = is; can = ready_can m ready; current = ready.current; local = local_with m p new ready metric; own_lsp = ready.sound.own }
 
 -- a port that is kept: the own LSP says what the bridge has to say still
-pub kept_after : (m : Machine) (p : ℕ) (new : BridgePort) (ports : Vec BridgePort) → CanPut p new m → SaysTheSame p new m → ports.items ≡ slice_set m.ports.items (p - 1) new → IsAfter (settled (with_port_at p new (view_of m))) (record m { ports = ports })
+pub kept_after : (m : Machine) (p : ℕ) (new : BridgePort) (ports : Vec BridgePort) → CanPut p new m → SaysTheSame p new m → ports.items ≡ slice_set m.ports.items (p - 1) new → IsAfter (originated_if_changed (with_port_at p new (view_of m))) (record m { ports = ports })
 kept_after m p new ports can same is =
     let v : BridgeView = view_of m in
     let w : BridgeView = with_port_at p new v in
@@ -129,18 +129,18 @@ kept_after m p new ports can same is =
     let body = ap (λ (o : Own). o.body) can.current ∙ (sym same ∙ ap body_of (sym now)) in
     let system = ap (λ (o : Own). o.system) can.current in
     record {
-      view = now ∙ settled_still w (λ alive. can.tended.said alive ∙ sym same);
+      view = now ∙ originated_if_changed_still w (λ alive. can.own_lsp.said alive ∙ sym same);
       current = λ i. record { system = system i; body = body i; spent = m.own.spent };
     }
 
 -- ---- leaving and entering Up
 
 -- a port leaves Up
-pub left_local : (m : Machine) (p : ℕ) (new : BridgePort) (ports : Vec BridgePort) (db : Lsps) → CanPut p new m → ports.items ≡ slice_set m.ports.items (p - 1) (with_due false new) → IsLocal (local_of (view_of (record m { ports = ports; db = db })))
+pub left_local : (m : Machine) (p : ℕ) (new : BridgePort) (ports : Vec BridgePort) (db : Lsps) → CanPut p new m → ports.items ≡ slice_set m.ports.items (p - 1) (with_csnp_due false new) → IsLocal (local_of (view_of (record m { ports = ports; db = db })))
 left_local m p new ports db can is =
     let v : BridgeView = view_of m in
     let l = can.local in
-    let same : neighbours_from 1 ports.items ≡ neighbours_from 1 (slice_set v.ports (p - 1) new) = ap (neighbours_from 1) is ∙ alike_neighbours v.ports (p - 1) 1 (with_due false new) new (λ q rest. refl) in
+    let same : neighbours_from 1 ports.items ≡ neighbours_from 1 (slice_set v.ports (p - 1) new) = ap (neighbours_from 1) is ∙ alike_neighbours v.ports (p - 1) 1 (with_csnp_due false new) new (λ q rest. refl) in
     record {
       source = l.source;
       few_vids = l.few_vids;
@@ -152,28 +152,28 @@ left_local m p new ports db can is =
       few_isids = l.few_isids;
     }
 
-pub left_can : (m n : Machine) (p : ℕ) (new : BridgePort) (ports : Vec BridgePort) (db : Lsps) (own : Own) → CanPut p new m → ports.items ≡ slice_set m.ports.items (p - 1) (with_due false new) → db ≡ each (λ id e. parted p e) m.db → n ≡ record m { ports = ports; db = db; own = own } → CanOriginate n
+pub left_can : (m n : Machine) (p : ℕ) (new : BridgePort) (ports : Vec BridgePort) (db : Lsps) (own : Own) → CanPut p new m → ports.items ≡ slice_set m.ports.items (p - 1) (with_csnp_due false new) → db ≡ each (λ id e. flags_cleared_at p e) m.db → n ≡ record m { ports = ports; db = db; own = own } → CanOriginate n
 left_can m n p new ports db own can is parts renewed =
     subst CanOriginate (sym renewed) (record {
-      few = omega (arith, can.can.few, ap length is, length-set m.ports.items (p - 1) (with_due false new));
-      place = ap (λ (d : Lsps). fits d (own_id m.id.system)) parts ∙ (fits-each (λ id e. parted p e) m.db (own_id m.id.system) ∙ can.can.place);
+      few = omega (arith, can.can.few, ap length is, length-set m.ports.items (p - 1) (with_csnp_due false new));
+      place = ap (λ (d : Lsps). fits d (own_id m.id.system)) parts ∙ (fits-each (λ id e. flags_cleared_at p e) m.db (own_id m.id.system) ∙ can.can.place);
     })
 
 -- a port enters Up
-left_ports : (m n : Machine) (p : ℕ) (new : BridgePort) → IsAfter (settled (left p new (view_of m))) n → n.ports.items ≡ slice_set m.ports.items (p - 1) (with_due false new)
-left_ports m n p new after = ap (λ (v : BridgeView). v.ports) after.view ∙ settled_ports (left p new (view_of m))
+left_ports : (m n : Machine) (p : ℕ) (new : BridgePort) → IsAfter (originated_if_changed (left_up p new (view_of m))) n → n.ports.items ≡ slice_set m.ports.items (p - 1) (with_csnp_due false new)
+left_ports m n p new after = ap (λ (v : BridgeView). v.ports) after.view ∙ originated_if_changed_ports (left_up p new (view_of m))
 
-pub left_high : (m n : Machine) (p : ℕ) (new : BridgePort) → IsPort (view_of m) p → IsAfter (settled (left p new (view_of m))) n → p ≤ length n.ports.items
-left_high m n p new is after = omega (arith, is.high, ap length (left_ports m n p new after), length-set m.ports.items (p - 1) (with_due false new))
+pub left_high : (m n : Machine) (p : ℕ) (new : BridgePort) → IsPort (view_of m) p → IsAfter (originated_if_changed (left_up p new (view_of m))) n → p ≤ length n.ports.items
+left_high m n p new is after = omega (arith, is.high, ap length (left_ports m n p new after), length-set m.ports.items (p - 1) (with_csnp_due false new))
 
-pub entered_after : (m n : Machine) (p : ℕ) (new : BridgePort) (ports : Vec BridgePort) (db : Lsps) → IsAfter (settled (left p new (view_of m))) n → ports.items ≡ slice_set n.ports.items (p - 1) (with_due true new) → db ≡ each (λ id e. joined p e) n.db → IsAfter (entered p new (view_of m)) (record n { ports = ports; db = db })
-entered_after m n p new ports db after is joins =
+pub entering_after : (m n : Machine) (p : ℕ) (new : BridgePort) (ports : Vec BridgePort) (db : Lsps) → IsAfter (originated_if_changed (left_up p new (view_of m))) n → ports.items ≡ slice_set n.ports.items (p - 1) (with_csnp_due true new) → db ≡ each (λ id e. srm_set_at p e) n.db → IsAfter (entered_up p new (view_of m)) (record n { ports = ports; db = db })
+entering_after m n p new ports db after is joins =
     let olds : List BridgePort = m.ports.items in
-    let before : n.ports.items ≡ slice_set olds (p - 1) (with_due false new) = left_ports m n p new after in
-    let now : ports.items ≡ slice_set olds (p - 1) (with_due true new) = is ∙ (ap (λ (items : List BridgePort). slice_set items (p - 1) (with_due true new)) before ∙ set-set olds (p - 1) (with_due false new) (with_due true new)) in
+    let before : n.ports.items ≡ slice_set olds (p - 1) (with_csnp_due false new) = left_ports m n p new after in
+    let now : ports.items ≡ slice_set olds (p - 1) (with_csnp_due true new) = is ∙ (ap (λ (items : List BridgePort). slice_set items (p - 1) (with_csnp_due true new)) before ∙ set-set olds (p - 1) (with_csnp_due false new) (with_csnp_due true new)) in
     record {
-      view = (λ i. record (view_of n) { ports = is i; database = joins i }) ∙ ap (joined_at p new) after.view;
-      current = current_with n ports db n.own after.current refl refl (ap (neighbours_from 1) now ∙ (alike_neighbours olds (p - 1) 1 (with_due true new) (with_due false new) (λ q rest. refl) ∙ sym (ap (neighbours_from 1) before)));
+      view = (λ i. record (view_of n) { ports = is i; database = joins i }) ∙ ap (all_srm_set_at p new) after.view;
+      current = current_with n ports db n.own after.current refl refl (ap (neighbours_from 1) now ∙ (alike_neighbours olds (p - 1) 1 (with_csnp_due true new) (with_csnp_due false new) (λ q rest. refl) ∙ sym (ap (neighbours_from 1) before)));
     }
 
 -- ---- a hello, a change of carrier and a metric
@@ -197,15 +197,15 @@ pub kept_says : (m : Machine) (p : ℕ) (port : BridgePort) (new a : Adjacency) 
 kept_says m p port new a is there same alike =
     says_the_same m p port (with_adjacency new port) is there (subst (λ (x : Adjacency). AreSaidAlike (with_adjacency x port) port) (sym same) alike)
 
-pub carried_path : (v : BridgeView) (p : ℕ) (on : Bool) (port : BridgePort) (new : Adjacency) (heard : Heard) → IsPort v p → port_at v p ≡ Some port → new ≡ after_carrier on port.adjacency → heard ≡ change_of port.adjacency new → changed_at heard p (with_adjacency new port) v ≡ with_carrier p on v
-carried_path v p on port new heard is there same did =
+pub with_carrier_path : (v : BridgeView) (p : ℕ) (on : Bool) (port : BridgePort) (new : Adjacency) (heard : AdjacencyChange) → IsPort v p → port_at v p ≡ Some port → new ≡ after_carrier on port.adjacency → heard ≡ change_of port.adjacency new → changed_at heard p (with_adjacency new port) v ≡ with_carrier p on v
+with_carrier_path v p on port new heard is there same did =
     let came : heard ≡ change_of port.adjacency (after_carrier on port.adjacency) = did ∙ ap (change_of port.adjacency) same in
-    (λ i. changed_at (came i) p (with_adjacency (same i) port) v) ∙ sym (carried_is v p on port is.low (got v p port is there))
+    (λ i. changed_at (came i) p (with_adjacency (same i) port) v) ∙ sym (with_carrier_is v p on port is.low (got v p port is there))
 
-pub metered_local : (m : Machine) (p : ℕ) (new : BridgePort) (ports : Vec BridgePort) → IsReady m → IsMetric new.metric → ports.items ≡ slice_set m.ports.items (p - 1) new → IsLocal (local_of (view_of (record m { ports = ports })))
-metered_local m p new ports ready metric is = subst (λ (items : List BridgePort). IsLocal (local_of (record (view_of m) { ports = items }))) (sym is) (local_with m p new ready metric)
+pub with_metric_local : (m : Machine) (p : ℕ) (new : BridgePort) (ports : Vec BridgePort) → IsReady m → IsMetric new.metric → ports.items ≡ slice_set m.ports.items (p - 1) new → IsLocal (local_of (view_of (record m { ports = ports })))
+with_metric_local m p new ports ready metric is = subst (λ (items : List BridgePort). IsLocal (local_of (record (view_of m) { ports = items }))) (sym is) (local_with m p new ready metric)
 
-pub metered_path : (m n : Machine) (p k : ℕ) (port : BridgePort) (ports : Vec BridgePort) (own : Own) → own.spent ≡ m.own.spent → IsPort (view_of m) p → port_at (view_of m) p ≡ Some port → ports.items ≡ slice_set m.ports.items (p - 1) (metered k port) → n ≡ record m { ports = ports; own = own } → settled (view_of n) ≡ with_metric p k (view_of m)
-metered_path m n p k port ports own spent is there put renewed =
+pub with_metric_path : (m n : Machine) (p k : ℕ) (port : BridgePort) (ports : Vec BridgePort) (own : Own) → own.spent ≡ m.own.spent → IsPort (view_of m) p → port_at (view_of m) p ≡ Some port → ports.items ≡ slice_set m.ports.items (p - 1) (with_port_metric k port) → n ≡ record m { ports = ports; own = own } → originated_if_changed (view_of n) ≡ with_metric p k (view_of m)
+with_metric_path m n p k port ports own spent is there put renewed =
     let v : BridgeView = view_of m in
-    ap (λ (x : Machine). settled (view_of x)) renewed ∙ ((λ i. settled (record v { ports = put i; spent = spent i })) ∙ sym (metered_is v p k port is.low (got v p port is there)))
+    ap (λ (x : Machine). originated_if_changed (view_of x)) renewed ∙ ((λ i. originated_if_changed (record v { ports = put i; spent = spent i })) ∙ sym (with_metric_is v p k port is.low (got v p port is there)))

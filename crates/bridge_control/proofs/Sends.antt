@@ -19,22 +19,22 @@ use Rattle.lsdb.proofs.Flags.{without_flags, none_to_send, none_to_ack}
 use Rattle.flooding.specs.Entries.{IsSendable, AreSendable}
 use Rattle.flooding.specs.Sending.{lsp_in}
 use Rattle.flooding.proofs.SendableEntries.{flags_sendable}
-use Rattle.snp_sync.specs.Line.{line_of}
-use Rattle.snp_sync.specs.Parts.{parts}
-use Rattle.snp_sync.specs.Sized.{IsSized, AreSized, HaveIds, IsLspId, IsSizedLine}
-use Rattle.snp_sync.specs.Sending.{Page, bytes_in, csnp_for, psnp_for, csnp_pages, csnps_of, psnp_parts, psnps_of, settled, all_settled}
-use Rattle.snp_sync.proofs.Cuts.{parts_none}
+use Rattle.snp_sync.specs.SnpEntries.{snp_entry_of}
+use Rattle.snp_sync.specs.Chunks.{chunks}
+use Rattle.snp_sync.specs.Sized.{IsSized, AreSized, HaveIds, IsLspId, IsSizedEntry}
+use Rattle.snp_sync.specs.Sending.{CsnpChunk, bytes_in, csnp_for, psnp_for, csnp_chunks, csnps_of, psnp_chunks, psnps_of, ssn_cleared, all_ssn_cleared}
+use Rattle.snp_sync.proofs.Cuts.{chunks_none}
 use Rattle.snp_sync.proofs.Fields.{flags_keep_sized}
-use Rattle.snp_sync.proofs.Ranges.{pages_are_short, pages_end_at_ids, parts_are_short}
-use Rattle.snp_sync.proofs.Said.{page_lines_are_sized, part_lines_are_sized}
+use Rattle.snp_sync.proofs.Ranges.{csnp_chunks_are_short, csnp_chunks_end_at_ids, psnp_chunks_are_short}
+use Rattle.snp_sync.proofs.Said.{csnp_entries_are_sized, psnp_entries_are_sized}
 use Rattle.snp_sync.proofs.Stays.{all_each}
 use Rattle.bridge_api.specs.declared.port.BridgePort.{BridgePort}
 use Rattle.bridge_api.specs.declared.outbox.Outbox.{Outbox}
 use Rattle.bridge_api.specs.View.{is_port_up}
 use Rattle.bridge_api.specs.Step.{with_wire}
-use Rattle.bridge_api.specs.Ticking.{lsp_frame, csnp_frame, psnp_frame, greetings_at, summaries_at, lsps_at, requests_at, synced_at, sent_at, sent_from, told_at, told_from}
-use Rattle.bridge_control.proofs.Wire.{ports_next, told_next}
-use Rattle.bridge_api.proofs.Spelled.{lsp_short, csnp_short, psnp_short, page_short}
+use Rattle.bridge_api.specs.Ticking.{lsp_frame, csnp_frame, psnp_frame, hellos_at, summaries_at, lsps_at, requests_at, synced_at, sent_at, sent_from, after_sending_at, after_sending_from}
+use Rattle.bridge_control.proofs.Wire.{ports_next, after_sending_next}
+use Rattle.bridge_api.proofs.Spelled.{lsp_short, csnp_short, psnp_short, chunk_short}
 use Rattle.bridge_control.specs.Frames.{frames_of, flagged_at}
 use Rattle.bridge_control.proofs.Picked.{each_same}
 
@@ -43,26 +43,26 @@ use Rattle.bridge_control.proofs.Picked.{each_same}
 pub lsp_fits : (id : LspId) (e : Entry) → IsId id.system → IsSendable id e → length (lsp_bytes (lsp_in id e)) ≤ 1497
 lsp_fits id e six s = omega (arith, lsp_short (lsp_in id e) six, s.written.short)
 
-sized_entries : (lines : List SnpEntry) → AllByRecursion IsSizedLine lines → AllByRecursion IsEntry lines
+sized_entries : (entries_listed : List SnpEntry) → AllByRecursion IsSizedEntry entries_listed → AllByRecursion IsEntry entries_listed
 sized_entries [] all = tt
-sized_entries (line ∷ lines) all = (all.0.line, sized_entries lines all.1)
+sized_entries (entry ∷ entries_listed) all = (all.0.entry, sized_entries entries_listed all.1)
 
-csnps_fit : (me : SystemId) (pages : List Page) → IsId me → AllByRecursion (λ page. length page.lines ≤ 90) pages → AllByRecursion (λ page. IsLspId page.start × IsLspId page.end) pages
-    → AllByRecursion (λ page. AllByRecursion IsSizedLine page.lines) pages → AllByRecursion (λ b. length b ≤ 1497) (map csnp_bytes (map (csnp_for me) pages))
+csnps_fit : (me : SystemId) (csnp_chunks : List CsnpChunk) → IsId me → AllByRecursion (λ chunk. length chunk.entries ≤ 90) csnp_chunks → AllByRecursion (λ chunk. IsLspId chunk.start × IsLspId chunk.end) csnp_chunks
+    → AllByRecursion (λ chunk. AllByRecursion IsSizedEntry chunk.entries) csnp_chunks → AllByRecursion (λ b. length b ≤ 1497) (map csnp_bytes (map (csnp_for me) csnp_chunks))
 csnps_fit me [] six short ends sized = tt
-csnps_fit me (page ∷ pages) six short ends sized =
-    let size = csnp_short (csnp_for me page) six ends.0.0.system ends.0.1.system in
-    (omega (arith, size, page_short page.lines (sized_entries page.lines sized.0) short.0), csnps_fit me pages six short.1 ends.1 sized.1)
+csnps_fit me (chunk ∷ csnp_chunks) six short ends sized =
+    let size = csnp_short (csnp_for me chunk) six ends.0.0.system ends.0.1.system in
+    (omega (arith, size, chunk_short chunk.entries (sized_entries chunk.entries sized.0) short.0), csnps_fit me csnp_chunks six short.1 ends.1 sized.1)
 
 have_ids : (db : Lsps) → AreSized db → HaveIds db
 have_ids db sized = λ id e held. (sized id e held).named
 
-psnps_fit : (me : SystemId) (ps : List (List SnpEntry)) → IsId me → AllByRecursion (λ part. (1 ≤ length part) × (length part ≤ 90)) ps → AllByRecursion (AllByRecursion IsSizedLine) ps
+psnps_fit : (me : SystemId) (ps : List (List SnpEntry)) → IsId me → AllByRecursion (λ chunk. (1 ≤ length chunk) × (length chunk ≤ 90)) ps → AllByRecursion (AllByRecursion IsSizedEntry) ps
     → AllByRecursion (λ b. length b ≤ 1497) (map psnp_bytes (map (psnp_for me) ps))
 psnps_fit me [] six short sized = tt
-psnps_fit me (part ∷ ps) six short sized =
-    let size = psnp_short (psnp_for me part) six in
-    (omega (arith, size, page_short part (sized_entries part sized.0) short.0.1), psnps_fit me ps six short.1 sized.1)
+psnps_fit me (chunk ∷ ps) six short sized =
+    let size = psnp_short (psnp_for me chunk) six in
+    (omega (arith, size, chunk_short chunk (sized_entries chunk sized.0) short.0.1), psnps_fit me ps six short.1 sized.1)
 
 fit_bytes : (pdus : List (Vec ℕ)) → AllByRecursion (λ b. length b ≤ 1497) (bytes_in pdus) → AllByRecursion (λ pdu. length pdu.items ≤ 1497) pdus
 fit_bytes [] all = tt
@@ -71,11 +71,11 @@ fit_bytes (pdu ∷ pdus) all = (all.0, fit_bytes pdus all.1)
 pub fitting_csnps : (me : SystemId) (db : Lsps) (pdus got : List (Vec ℕ)) → IsId me → AreSized db → got ≡ pdus → bytes_in pdus ≡ map csnp_bytes (csnps_of me db) → AllByRecursion (λ pdu. length pdu.items ≤ 1497) got
 fitting_csnps me db pdus got six sized same is =
     fit_bytes got (subst (AllByRecursion (λ (b : List ℕ). length b ≤ 1497)) (sym (ap bytes_in same ∙ is))
-    (csnps_fit me (csnp_pages db) six (pages_are_short db) (pages_end_at_ids db (have_ids db sized)) (page_lines_are_sized db sized)))
+    (csnps_fit me (csnp_chunks db) six (csnp_chunks_are_short db) (csnp_chunks_end_at_ids db (have_ids db sized)) (csnp_entries_are_sized db sized)))
 
 pub fitting_psnps : (me : SystemId) (p : ℕ) (db : Lsps) (pdus got : List (Vec ℕ)) → IsId me → AreSized db → got ≡ pdus → bytes_in pdus ≡ map psnp_bytes (psnps_of me p db) → AllByRecursion (λ pdu. length pdu.items ≤ 1497) got
 fitting_psnps me p db pdus got six sized same is =
-    fit_bytes got (subst (AllByRecursion (λ (b : List ℕ). length b ≤ 1497)) (sym (ap bytes_in same ∙ is)) (psnps_fit me (psnp_parts p db) six (parts_are_short p db) (part_lines_are_sized p db sized)))
+    fit_bytes got (subst (AllByRecursion (λ (b : List ℕ). length b ≤ 1497)) (sym (ap bytes_in same ∙ is)) (psnps_fit me (psnp_chunks p db) six (psnp_chunks_are_short p db) (psnp_entries_are_sized p db sized)))
 
 pub fits_at : (pdus : List (Vec ℕ)) (i : ℕ) (d : Vec ℕ) → AllByRecursion (λ pdu. length pdu.items ≤ 1497) pdus → i < length pdus → length (get_or pdus i d).items ≤ 1497
 fits_at [] i d all within = absurd (omega arith)
@@ -94,12 +94,12 @@ unfolding psnp_frame
 psnps_framed me p [] = refl
 psnps_framed me p (s ∷ ss) = ap (λ (fs : List (ℕ × List ℕ)). (p, control_bytes me.mac (psnp_bytes s)) ∷ fs) (psnps_framed me p ss)
 
-pub summaries_are : (me : SystemId) (p : ℕ) (port : BridgePort) (db : Lsps) (pdus got : List (Vec ℕ)) → port.due ≡ true → got ≡ pdus → bytes_in pdus ≡ map csnp_bytes (csnps_of me db) → frames_of me p (bytes_in got) ≡ summaries_at me p port db
+pub summaries_are : (me : SystemId) (p : ℕ) (port : BridgePort) (db : Lsps) (pdus got : List (Vec ℕ)) → port.csnp_due ≡ true → got ≡ pdus → bytes_in pdus ≡ map csnp_bytes (csnps_of me db) → frames_of me p (bytes_in got) ≡ summaries_at me p port db
 summaries_are me p port db pdus got due same is =
     ap (λ (bs : List (List ℕ)). frames_of me p bs) (ap bytes_in same ∙ is)
     ∙ (csnps_framed me p (csnps_of me db) ∙ ap (λ (b : Bool). if b then map (λ c. (p, csnp_frame me c)) (csnps_of me db) else []) (sym due))
 
-pub no_summaries : (me : SystemId) (p : ℕ) (port : BridgePort) (db : Lsps) → port.due ≡ false → [] ≡ summaries_at me p port db
+pub no_summaries : (me : SystemId) (p : ℕ) (port : BridgePort) (db : Lsps) → port.csnp_due ≡ false → [] ≡ summaries_at me p port db
 no_summaries me p port db due = ap (λ (b : Bool). if b then map (λ c. (p, csnp_frame me c)) (csnps_of me db) else []) (sym due)
 
 pub requests_are : (me : SystemId) (p : ℕ) (db : Lsps) (pdus got : List (Vec ℕ)) → got ≡ pdus → bytes_in pdus ≡ map psnp_bytes (psnps_of me p db) → frames_of me p (bytes_in got) ≡ requests_at me p db
@@ -110,78 +110,78 @@ requests_are me p db pdus got same is = ap (λ (bs : List (List ℕ)). frames_of
 no_lsps : (me : SystemId) (p : ℕ) (db : Lsps) → any_flags db ≡ false → lsps_at me p db ≡ []
 no_lsps me p db none = ap (λ (es : List (LspId × Entry)). map (λ l. (p, lsp_frame me l)) (map (λ e. lsp_in e.0 e.1) es)) (none_to_send db none p)
 
-no_requests : (me : SystemId) (p : ℕ) (db : Lsps) → any_flags db ≡ false → requests_at me p db ≡ []
-no_requests me p db none =
-    ap (λ (es : List (LspId × Entry)). map (λ s. (p, psnp_frame me s)) (map (psnp_for me) (parts 90 (map (λ e. line_of e.0 e.1) es)))) (none_to_ack db none p)
-    ∙ ap (λ (ps : List (List SnpEntry)). map (λ s. (p, psnp_frame me s)) (map (psnp_for me) ps)) (parts_none 90)
+no_psnps : (me : SystemId) (p : ℕ) (db : Lsps) → any_flags db ≡ false → requests_at me p db ≡ []
+no_psnps me p db none =
+    ap (λ (es : List (LspId × Entry)). map (λ s. (p, psnp_frame me s)) (map (psnp_for me) (chunks 90 (map (λ e. snp_entry_of e.0 e.1) es)))) (none_to_ack db none p)
+    ∙ ap (λ (ps : List (List SnpEntry)). map (λ s. (p, psnp_frame me s)) (map (psnp_for me) ps)) (chunks_none 90)
 
 pub nothing_flagged : (me : SystemId) (p : ℕ) (db : Lsps) → any_flags db ≡ false → [] ≡ flagged_at me p db
-nothing_flagged me p db none = sym (λ i. no_lsps me p db none i ++ no_requests me p db none i)
+nothing_flagged me p db none = sym (λ i. no_lsps me p db none i ++ no_psnps me p db none i)
 
-pub settled_idle : (p : ℕ) (db : Lsps) → any_flags db ≡ false → db ≡ all_settled p db
-settled_idle p db none =
-    sym (each_same (λ id e. settled p e) db (λ id e held.
+pub originated_if_changed_idle : (p : ℕ) (db : Lsps) → any_flags db ≡ false → db ≡ all_ssn_cleared p db
+originated_if_changed_idle p db none =
+    sym (each_same (λ id e. ssn_cleared p e) db (λ id e held.
     let off : has e.ssn p ≡ false = ap (λ (o : Option Entry). has (ssn_in o) p) (sym held) ∙ (without_flags db none id p).1 in
     ap (λ (b : Bool). if b then with_ssn p false e else e) off))
 
 -- ---- a port
 
-pub told_up : (p : ℕ) (port : BridgePort) (db new : Lsps) → is_port_up port ≡ true → new ≡ all_settled p db → new ≡ told_at p port db
-told_up p port db new up is = is ∙ ap (λ (b : Bool). if b then all_settled p db else db) (sym up)
+pub after_sending_up : (p : ℕ) (port : BridgePort) (db new : Lsps) → is_port_up port ≡ true → new ≡ all_ssn_cleared p db → new ≡ after_sending_at p port db
+after_sending_up p port db new up is = is ∙ ap (λ (b : Bool). if b then all_ssn_cleared p db else db) (sym up)
 
-pub told_down : (p : ℕ) (port : BridgePort) (db : Lsps) → is_port_up port ≡ false → db ≡ told_at p port db
-told_down p port db up = ap (λ (b : Bool). if b then all_settled p db else db) (sym up)
+pub after_sending_down : (p : ℕ) (port : BridgePort) (db : Lsps) → is_port_up port ≡ false → db ≡ after_sending_at p port db
+after_sending_down p port db up = ap (λ (b : Bool). if b then all_ssn_cleared p db else db) (sym up)
 
-pub sent_down : (me : SystemId) (p : ℕ) (port : BridgePort) (db : Lsps) → is_port_up port ≡ false → greetings_at me p port ≡ sent_at me p port db
+pub sent_down : (me : SystemId) (p : ℕ) (port : BridgePort) (db : Lsps) → is_port_up port ≡ false → hellos_at me p port ≡ sent_at me p port db
 sent_down me p port db up =
-    sym (append-nil (greetings_at me p port))
-    ∙ ap (λ (b : Bool). greetings_at me p port ++ (if b then summaries_at me p port db ++ lsps_at me p db ++ requests_at me p db else [])) (sym up)
+    sym (append-nil (hellos_at me p port))
+    ∙ ap (λ (b : Bool). hellos_at me p port ++ (if b then summaries_at me p port db ++ lsps_at me p db ++ requests_at me p db else [])) (sym up)
 
-pub sent_up : (me : SystemId) (p : ℕ) (port : BridgePort) (db : Lsps) → is_port_up port ≡ true → sent_at me p port db ≡ greetings_at me p port ++ (summaries_at me p port db ++ flagged_at me p db)
+pub sent_up : (me : SystemId) (p : ℕ) (port : BridgePort) (db : Lsps) → is_port_up port ≡ true → sent_at me p port db ≡ hellos_at me p port ++ (summaries_at me p port db ++ flagged_at me p db)
 sent_up me p port db up =
-    ap (λ (b : Bool). greetings_at me p port ++ (if b then summaries_at me p port db ++ lsps_at me p db ++ requests_at me p db else [])) up
-    ∙ ap (λ (fs : List (ℕ × List ℕ)). greetings_at me p port ++ fs) (append_assoc (summaries_at me p port db) (lsps_at me p db) (requests_at me p db))
+    ap (λ (b : Bool). hellos_at me p port ++ (if b then summaries_at me p port db ++ lsps_at me p db ++ requests_at me p db else [])) up
+    ∙ ap (λ (fs : List (ℕ × List ℕ)). hellos_at me p port ++ fs) (append_assoc (summaries_at me p port db) (lsps_at me p db) (requests_at me p db))
 
 -- hellos alone come first
-pub sent_greeting : (me : SystemId) (p : ℕ) (port : BridgePort) (db : Lsps) → sent_at me p port db ≡ greetings_at me p port ++ synced_at me p port db
-sent_greeting me p port db = refl
+pub sent_hello : (me : SystemId) (p : ℕ) (port : BridgePort) (db : Lsps) → sent_at me p port db ≡ hellos_at me p port ++ synced_at me p port db
+sent_hello me p port db = refl
 
 -- ---- what stays so of a database
 
-settled_by : (P : Entry → Type 0) (b : Bool) (p : ℕ) (e : Entry) → P e → P (with_ssn p false e) → P (if b then with_ssn p false e else e)
-settled_by P true p e was after = after
-settled_by P false p e was after = was
+originated_if_changed_by : (P : Entry → Type 0) (b : Bool) (p : ℕ) (e : Entry) → P e → P (with_ssn p false e) → P (if b then with_ssn p false e else e)
+originated_if_changed_by P true p e was after = after
+originated_if_changed_by P false p e was after = was
 
-told_by : (P : Lsps → Type 0) (b : Bool) (p : ℕ) (db : Lsps) → P db → P (all_settled p db) → P (if b then all_settled p db else db)
-told_by P true p db was after = after
-told_by P false p db was after = was
+after_sending_by : (P : Lsps → Type 0) (b : Bool) (p : ℕ) (db : Lsps) → P db → P (all_ssn_cleared p db) → P (if b then all_ssn_cleared p db else db)
+after_sending_by P true p db was after = after
+after_sending_by P false p db was after = was
 
-pub told_sendable : (p : ℕ) (port : BridgePort) (db : Lsps) → AreSendable db → AreSendable (told_at p port db)
-told_sendable p port db all =
-    told_by AreSendable (is_port_up port) p db all (all_each IsSendable (λ id e. settled p e) db all (λ id e s. settled_by (IsSendable id) (has e.ssn p) p e s (flags_sendable e.srm (with_ssn p false e).ssn id e s)))
+pub after_sending_sendable : (p : ℕ) (port : BridgePort) (db : Lsps) → AreSendable db → AreSendable (after_sending_at p port db)
+after_sending_sendable p port db all =
+    after_sending_by AreSendable (is_port_up port) p db all (all_each IsSendable (λ id e. ssn_cleared p e) db all (λ id e s. originated_if_changed_by (IsSendable id) (has e.ssn p) p e s (flags_sendable e.srm (with_ssn p false e).ssn id e s)))
 
-pub told_sized : (p : ℕ) (port : BridgePort) (db : Lsps) → AreSized db → AreSized (told_at p port db)
-told_sized p port db all =
-    told_by AreSized (is_port_up port) p db all (all_each IsSized (λ id e. settled p e) db all (λ id e s. settled_by (IsSized id) (has e.ssn p) p e s (flags_keep_sized e.srm (with_ssn p false e).ssn id e s)))
+pub after_sending_sized : (p : ℕ) (port : BridgePort) (db : Lsps) → AreSized db → AreSized (after_sending_at p port db)
+after_sending_sized p port db all =
+    after_sending_by AreSized (is_port_up port) p db all (all_each IsSized (λ id e. ssn_cleared p e) db all (λ id e s. originated_if_changed_by (IsSized id) (has e.ssn p) p e s (flags_keep_sized e.srm (with_ssn p false e).ssn id e s)))
 
-pub told_idle : (p : ℕ) (port : BridgePort) (db : Lsps) → any_flags db ≡ false → any_flags (told_at p port db) ≡ false
-told_idle p port db none = told_by (λ (x : Lsps). any_flags x ≡ false) (is_port_up port) p db none (subst (λ (x : Lsps). any_flags x ≡ false) (settled_idle p db none) none)
+pub after_sending_idle : (p : ℕ) (port : BridgePort) (db : Lsps) → any_flags db ≡ false → any_flags (after_sending_at p port db) ≡ false
+after_sending_idle p port db none = after_sending_by (λ (x : Lsps). any_flags x ≡ false) (is_port_up port) p db none (subst (λ (x : Lsps). any_flags x ≡ false) (originated_if_changed_idle p db none) none)
 
 -- ---- the ports so far
 
-pub record Sending (system : SystemId) (ports : List BridgePort) (db : Lsps) (o : Outbox) (i : ℕ) (busy : Bool) (now : Lsps) (new : Outbox) : Type 0 where
+pub record Sending (system : SystemId) (ports : List BridgePort) (db : Lsps) (o : Outbox) (i : ℕ) (has_flags : Bool) (now : Lsps) (new : Outbox) : Type 0 where
   pub sent : new ≡ with_wire (sent_from system 1 (take i ports) db) o
-  pub told : now ≡ told_from 1 (take i ports) db
+  pub after_sending : now ≡ after_sending_from 1 (take i ports) db
   pub sendable : AreSendable now
   pub sized : AreSized now
-  pub idle : busy ≡ false → any_flags now ≡ false
+  pub idle : has_flags ≡ false → any_flags now ≡ false
 
-pub sending_next : (system : SystemId) (ports : List BridgePort) (db : Lsps) (o : Outbox) (i : ℕ) (d : BridgePort) (busy : Bool) (now then_db : Lsps) (mid new : Outbox) → i < length ports → Sending system ports db o i busy now mid
-    → new ≡ with_wire (sent_at system (i + 1) (get_or ports i d) now) mid → then_db ≡ told_at (i + 1) (get_or ports i d) now → Sending system ports db o (i + 1) busy then_db new
-sending_next system ports db o i d busy now then_db mid new within was sent told = record {
-  sent = ports_next system ports db now i d o mid new within was.sent was.told sent;
-  told = told_next ports db now then_db i d within was.told told;
-  sendable = subst AreSendable (sym told) (told_sendable (i + 1) (get_or ports i d) now was.sendable);
-  sized = subst AreSized (sym told) (told_sized (i + 1) (get_or ports i d) now was.sized);
-  idle = λ e. subst (λ (x : Lsps). any_flags x ≡ false) (sym told) (told_idle (i + 1) (get_or ports i d) now (was.idle e));
+pub sending_next : (system : SystemId) (ports : List BridgePort) (db : Lsps) (o : Outbox) (i : ℕ) (d : BridgePort) (has_flags : Bool) (now then_db : Lsps) (mid new : Outbox) → i < length ports → Sending system ports db o i has_flags now mid
+    → new ≡ with_wire (sent_at system (i + 1) (get_or ports i d) now) mid → then_db ≡ after_sending_at (i + 1) (get_or ports i d) now → Sending system ports db o (i + 1) has_flags then_db new
+sending_next system ports db o i d has_flags now then_db mid new within was sent after_sending = record {
+  sent = ports_next system ports db now i d o mid new within was.sent was.after_sending sent;
+  after_sending = after_sending_next ports db now then_db i d within was.after_sending after_sending;
+  sendable = subst AreSendable (sym after_sending) (after_sending_sendable (i + 1) (get_or ports i d) now was.sendable);
+  sized = subst AreSized (sym after_sending) (after_sending_sized (i + 1) (get_or ports i d) now was.sized);
+  idle = λ e. subst (λ (x : Lsps). any_flags x ≡ false) (sym after_sending) (after_sending_idle (i + 1) (get_or ports i d) now (was.idle e));
 }

@@ -17,7 +17,7 @@ use Rattle.flooding.proofs.Named.{ids_name_lsps}
 use Rattle.snp_sync.specs.Sending.{bytes_in}
 use Rattle.bridge_api.specs.declared.port.BridgePort.{BridgePort}
 use Rattle.bridge_api.specs.declared.outbox.Outbox.{Outbox}
-use Rattle.bridge_api.specs.Ticking.{lsp_frame, lsps_at, sent_at, sent_from, told_at, told_from}
+use Rattle.bridge_api.specs.Ticking.{lsp_frame, lsps_at, sent_at, sent_from, after_sending_at, after_sending_from}
 use Rattle.bridge_api.specs.Step.{with_wire, Gains}
 use Rattle.bridge_api.proofs.Hellos.{hello_short}
 use Rattle.bridge_control.specs.Frames.{frames_of, lsp_frames}
@@ -154,63 +154,63 @@ drop_at (x ∷ xs) zero d within = refl
 drop_at (x ∷ xs) (suc i) d within = drop_at xs i d (omega arith)
 
 ports_suc : (system : SystemId) (q : ℕ) (ports : List BridgePort) (db : Lsps) (i : ℕ) (d : BridgePort) → i < length ports
-    → sent_from system q (take (suc i) ports) db ≡ sent_from system q (take i ports) db ++ sent_at system (q + i) (get_or ports i d) (told_from q (take i ports) db)
+    → sent_from system q (take (suc i) ports) db ≡ sent_from system q (take i ports) db ++ sent_at system (q + i) (get_or ports i d) (after_sending_from q (take i ports) db)
 ports_suc system q [] db i d within = absurd (omega arith)
 ports_suc system q (port ∷ ports) db zero d within = rw add-zero (append-nil (sent_at system q port db))
 ports_suc system q (port ∷ ports) db (suc i) d within =
     let number : (q + 1) + i ≡ q + suc i = omega arith in
-    let next : Lsps = told_at q port db in
+    let next : Lsps = after_sending_at q port db in
     ap (λ (fs : List (ℕ × List ℕ)). sent_at system q port db ++ fs)
     (ports_suc system (q + 1) ports next i d (omega arith)
-    ∙ ap (λ (k : ℕ). sent_from system (q + 1) (take i ports) next ++ sent_at system k (get_or ports i d) (told_from (q + 1) (take i ports) next)) number)
-    ∙ sym (append_assoc (sent_at system q port db) (sent_from system (q + 1) (take i ports) next) (sent_at system (q + suc i) (get_or ports i d) (told_from (q + 1) (take i ports) next)))
+    ∙ ap (λ (k : ℕ). sent_from system (q + 1) (take i ports) next ++ sent_at system k (get_or ports i d) (after_sending_from (q + 1) (take i ports) next)) number)
+    ∙ sym (append_assoc (sent_at system q port db) (sent_from system (q + 1) (take i ports) next) (sent_at system (q + suc i) (get_or ports i d) (after_sending_from (q + 1) (take i ports) next)))
 
-told_suc : (q : ℕ) (ports : List BridgePort) (db : Lsps) (i : ℕ) (d : BridgePort) → i < length ports → told_from q (take (suc i) ports) db ≡ told_at (q + i) (get_or ports i d) (told_from q (take i ports) db)
-told_suc q [] db i d within = absurd (omega arith)
-told_suc q (port ∷ ports) db zero d within = rw add-zero refl
-told_suc q (port ∷ ports) db (suc i) d within =
+after_sending_suc : (q : ℕ) (ports : List BridgePort) (db : Lsps) (i : ℕ) (d : BridgePort) → i < length ports → after_sending_from q (take (suc i) ports) db ≡ after_sending_at (q + i) (get_or ports i d) (after_sending_from q (take i ports) db)
+after_sending_suc q [] db i d within = absurd (omega arith)
+after_sending_suc q (port ∷ ports) db zero d within = rw add-zero refl
+after_sending_suc q (port ∷ ports) db (suc i) d within =
     let number : (q + 1) + i ≡ q + suc i = omega arith in
-    told_suc (q + 1) ports (told_at q port db) i d (omega arith) ∙ ap (λ (k : ℕ). told_at k (get_or ports i d) (told_from (q + 1) (take i ports) (told_at q port db))) number
+    after_sending_suc (q + 1) ports (after_sending_at q port db) i d (omega arith) ∙ ap (λ (k : ℕ). after_sending_at k (get_or ports i d) (after_sending_from (q + 1) (take i ports) (after_sending_at q port db))) number
 
 -- the next port's frames come behind those of the ports before it
-pub ports_next : (system : SystemId) (ports : List BridgePort) (db now : Lsps) (i : ℕ) (d : BridgePort) (o mid new : Outbox) → i < length ports → mid ≡ with_wire (sent_from system 1 (take i ports) db) o → now ≡ told_from 1 (take i ports) db
+pub ports_next : (system : SystemId) (ports : List BridgePort) (db now : Lsps) (i : ℕ) (d : BridgePort) (o mid new : Outbox) → i < length ports → mid ≡ with_wire (sent_from system 1 (take i ports) db) o → now ≡ after_sending_from 1 (take i ports) db
     → new ≡ with_wire (sent_at system (i + 1) (get_or ports i d) now) mid → new ≡ with_wire (sent_from system 1 (take (i + 1) ports) db) o
-ports_next system ports db now i d o mid new within before told after =
+ports_next system ports db now i d o mid new within before after_sending after =
     let number : 1 + i ≡ i + 1 = omega arith in
     let some : List (ℕ × List ℕ) = sent_from system 1 (take i ports) db in
     sent_as _ _ o new
-    (ap (λ (x : Lsps). some ++ sent_at system (i + 1) (get_or ports i d) x) told
-    ∙ (ap (λ (k : ℕ). some ++ sent_at system k (get_or ports i d) (told_from 1 (take i ports) db)) (sym number)
+    (ap (λ (x : Lsps). some ++ sent_at system (i + 1) (get_or ports i d) x) after_sending
+    ∙ (ap (λ (k : ℕ). some ++ sent_at system k (get_or ports i d) (after_sending_from 1 (take i ports) db)) (sym number)
     ∙ sym (rw add-one (ports_suc system 1 ports db i d within))))
     (sent_both some (sent_at system (i + 1) (get_or ports i d) now) o mid new before after)
 
-pub told_next : (ports : List BridgePort) (db now new : Lsps) (i : ℕ) (d : BridgePort) → i < length ports → now ≡ told_from 1 (take i ports) db → new ≡ told_at (i + 1) (get_or ports i d) now → new ≡ told_from 1 (take (i + 1) ports) db
-told_next ports db now new i d within told after =
+pub after_sending_next : (ports : List BridgePort) (db now new : Lsps) (i : ℕ) (d : BridgePort) → i < length ports → now ≡ after_sending_from 1 (take i ports) db → new ≡ after_sending_at (i + 1) (get_or ports i d) now → new ≡ after_sending_from 1 (take (i + 1) ports) db
+after_sending_next ports db now new i d within after_sending after =
     let number : 1 + i ≡ i + 1 = omega arith in
-    after ∙ (ap (told_at (i + 1) (get_or ports i d)) told ∙ (ap (λ (k : ℕ). told_at k (get_or ports i d) (told_from 1 (take i ports) db)) (sym number) ∙ sym (rw add-one (told_suc 1 ports db i d within))))
+    after ∙ (ap (after_sending_at (i + 1) (get_or ports i d)) after_sending ∙ (ap (λ (k : ℕ). after_sending_at k (get_or ports i d) (after_sending_from 1 (take i ports) db)) (sym number) ∙ sym (rw add-one (after_sending_suc 1 ports db i d within))))
 
-ports_split : (system : SystemId) (q : ℕ) (ports : List BridgePort) (db : Lsps) (i : ℕ) → sent_from system q ports db ≡ sent_from system q (take i ports) db ++ sent_from system (q + i) (drop i ports) (told_from q (take i ports) db)
+ports_split : (system : SystemId) (q : ℕ) (ports : List BridgePort) (db : Lsps) (i : ℕ) → sent_from system q ports db ≡ sent_from system q (take i ports) db ++ sent_from system (q + i) (drop i ports) (after_sending_from q (take i ports) db)
 ports_split system q [] db zero = refl
 ports_split system q [] db (suc i) = refl
 ports_split system q (port ∷ ports) db zero = rw add-zero refl
 ports_split system q (port ∷ ports) db (suc i) =
     let number : (q + 1) + i ≡ q + suc i = omega arith in
-    let next : Lsps = told_at q port db in
+    let next : Lsps = after_sending_at q port db in
     ap (λ (fs : List (ℕ × List ℕ)). sent_at system q port db ++ fs)
-    (ports_split system (q + 1) ports next i ∙ ap (λ (k : ℕ). sent_from system (q + 1) (take i ports) next ++ sent_from system k (drop i ports) (told_from (q + 1) (take i ports) next)) number)
-    ∙ sym (append_assoc (sent_at system q port db) (sent_from system (q + 1) (take i ports) next) (sent_from system (q + suc i) (drop i ports) (told_from (q + 1) (take i ports) next)))
+    (ports_split system (q + 1) ports next i ∙ ap (λ (k : ℕ). sent_from system (q + 1) (take i ports) next ++ sent_from system k (drop i ports) (after_sending_from (q + 1) (take i ports) next)) number)
+    ∙ sym (append_assoc (sent_at system q port db) (sent_from system (q + 1) (take i ports) next) (sent_from system (q + suc i) (drop i ports) (after_sending_from (q + 1) (take i ports) next)))
 
 -- some ports' frames, and then the first of those of the next port
-pub ports_some : (system : SystemId) (ports : List BridgePort) (db now : Lsps) (i : ℕ) (d : BridgePort) (o mid new : Outbox) → i < length ports → mid ≡ with_wire (sent_from system 1 (take i ports) db) o → now ≡ told_from 1 (take i ports) db
+pub ports_some : (system : SystemId) (ports : List BridgePort) (db now : Lsps) (i : ℕ) (d : BridgePort) (o mid new : Outbox) → i < length ports → mid ≡ with_wire (sent_from system 1 (take i ports) db) o → now ≡ after_sending_from 1 (take i ports) db
     → Gains (sent_at system (i + 1) (get_or ports i d) now) mid new → Gains (sent_from system 1 ports db) o new
-ports_some system ports db now i d o mid new within before told g =
+ports_some system ports db now i d o mid new within before after_sending g =
     let number : 1 + i ≡ i + 1 = omega arith in
-    let then : Lsps = told_from 1 (take i ports) db in
+    let then : Lsps = after_sending_from 1 (take i ports) db in
     let here : List (ℕ × List ℕ) = sent_at system (i + 1) (get_or ports i d) then in
-    let rest : List (ℕ × List ℕ) = sent_from system ((i + 1) + 1) (drop (suc i) ports) (told_at (i + 1) (get_or ports i d) then) in
+    let rest : List (ℕ × List ℕ) = sent_from system ((i + 1) + 1) (drop (suc i) ports) (after_sending_at (i + 1) (get_or ports i d) then) in
     gained_further (sent_from system 1 (take i ports) db) here rest _ o mid new
     (ports_split system 1 ports db i
     ∙ (ap (λ (k : ℕ). sent_from system 1 (take i ports) db ++ sent_from system k (drop i ports) then) number
     ∙ ap (λ (ps : List BridgePort). sent_from system 1 (take i ports) db ++ sent_from system (i + 1) ps then) (drop_at ports i d within)))
     before
-    (gained_as (sent_at system (i + 1) (get_or ports i d) now) here mid new (ap (sent_at system (i + 1) (get_or ports i d)) told) g)
+    (gained_as (sent_at system (i + 1) (get_or ports i d) now) here mid new (ap (sent_at system (i + 1) (get_or ports i d)) after_sending) g)

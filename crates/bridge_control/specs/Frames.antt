@@ -17,6 +17,6 @@ abbrev pub lsp_frames : SystemId → ℕ → LspId → Option Entry → List (�
 lsp_frames system p id None = []
 lsp_frames system p id (Some e) = (p, lsp_frame system (lsp_in id e)) ∷ []
 
--- the LSPs that are to be sent at a port, and then PSNPs of what is owed there
+-- the LSPs that are to be sent at a port, and then PSNPs of what has SSN there
 abbrev pub flagged_at : SystemId → ℕ → Lsps → List (ℕ × List ℕ)
 flagged_at system p db = lsps_at system p db ++ requests_at system p db

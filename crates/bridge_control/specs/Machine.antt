@@ -6,8 +6,8 @@ use Rattle.lsdb.specs.Database.{fits}
 use Rattle.spb_content.specs.Local.{IsLocal}
 use Rattle.bridge_api.specs.declared.port.BridgePort.{BridgePort}
 use Rattle.bridge_api.specs.View.{BridgeView, IsPort, port_at, with_port_at}
-use Rattle.bridge_api.specs.Own.{local_of, own_of, body_of, IsTended}
-use Rattle.bridge_api.specs.Judging.{Judged}
+use Rattle.bridge_api.specs.Own.{local_of, own_of, body_of, IsOwnLspCurrent}
+use Rattle.bridge_api.specs.Parsing.{Parsed}
 use Rattle.bridge_api.specs.Hearing.{heard_as}
 use Rattle.bridge_api.specs.Laws.{IsSoundView}
 use Rattle.bridge_control.specs.declared.machine.Machine.{Machine}
@@ -52,16 +52,16 @@ pub record CanPut (p : ℕ) (new : BridgePort) (m : Machine) : Type 0 where
   pub can : CanOriginate m
   pub current : IsCurrent m
   pub local : IsLocal (local_of (with_port_at p new (view_of m)))
-  pub tended : IsTended (view_of m)
+  pub own_lsp : IsOwnLspCurrent (view_of m)
 
 -- the bridge says the same of itself with a port of this number in a new state
 abbrev pub SaysTheSame : ℕ → BridgePort → Machine → Type 0
 SaysTheSame p new m = body_of (with_port_at p new (view_of m)) ≡ body_of (view_of m)
 
 -- a bridge that hears this at a port of this number, which has carrier
-abbrev pub heard_by : Judged → ℕ → Option BridgePort → BridgeView → BridgeView
+abbrev pub heard_by : Parsed → ℕ → Option BridgePort → BridgeView → BridgeView
 heard_by j p None v = v
 heard_by j p (Some port) v = heard_as j p port v
 
-abbrev pub hears : Judged → ℕ → BridgeView → BridgeView
+abbrev pub hears : Parsed → ℕ → BridgeView → BridgeView
 hears j p v = heard_by j p (port_at v p) v

@@ -1,14 +1,14 @@
 //! A change at a port: of carrier, of the metric of its link, and of its adjacency.
 ghost use Rattle.std.specs.Prelude.{◌≡◌, OnOk};
-ghost use Rattle.adjacency.specs.declared.state.Heard.TheVariants as did;
+ghost use Rattle.adjacency.specs.declared.state.AdjacencyChange.TheVariants as did;
 ghost use Rattle.bridge_api.specs.View.{IsPort};
 ghost use Rattle.bridge_api.specs.Config.{IsMetric};
 ghost use Rattle.bridge_api.specs.Hearing as api;
 ghost use Rattle.bridge_control.specs.Machine.{view_of, IsReady, IsAfter, CanPut, SaysTheSame};
 
 use crate::machine::Machine;
-use crate::ports::{is_up, join_all, port_at, put_port};
-use adjacency::Heard;
+use crate::ports::{is_up, port_at, put_port, set_srm_for_all};
+use adjacency::AdjacencyChange;
 use bridge_api::BridgePort;
 use spb_types::NoMemory;
 
@@ -39,23 +39,28 @@ impl Machine {
         }
         put_port(&mut self.ports, port, new);
         self.renew_body()?;
-        self.settle()
+        self.originate_if_changed()
     }
 
     /// A port comes into a new state, by which this came to pass.
-    pub(crate) fn change(&mut self, port: u8, new: BridgePort, heard: Heard) -> Result<(), NoMemory>
+    pub(crate) fn change(
+        &mut self,
+        port: u8,
+        new: BridgePort,
+        heard: AdjacencyChange,
+    ) -> Result<(), NoMemory>
         requires can { CanPut port new self.old }
         requires kept { heard ≡ did.Kept → SaysTheSame port new self.old }
         ensures { OnOk result (IsAfter (api.changed_at heard port new (view_of self.old)) self.new) }
     {
         match heard {
-            Heard::Discarded => Ok(()),
-            Heard::Kept => {
+            AdjacencyChange::Discarded => Ok(()),
+            AdjacencyChange::Kept => {
                 self.keep(port, new);
                 Ok(())
             }
-            Heard::LeftUp => self.leave(port, new),
-            Heard::CameUp => self.enter(port, new),
+            AdjacencyChange::LeftUp => self.leave(port, new),
+            AdjacencyChange::CameUp => self.enter(port, new),
         }
     }
 
@@ -73,21 +78,35 @@ impl Machine {
         requires { CanPut port new self.old }
         ensures { OnOk result (IsAfter (api.changed_at did.LeftUp port new (view_of self.old)) self.new) }
     {
-        put_port(&mut self.ports, port, BridgePort { due: false, ..new });
+        put_port(
+            &mut self.ports,
+            port,
+            BridgePort {
+                csnp_due: false,
+                ..new
+            },
+        );
         self.db.clear_port(port);
         self.renew_body()?;
-        self.settle()
+        self.originate_if_changed()
     }
 
-    /// A port enters Up, before which it may have been Up with another neighbour: each LSP is to be sent there, and CSNPs are
-    /// due.
+    /// A port enters Up, before which it may have been Up with another neighbour: each LSP is to be sent there, and
+    /// CSNPs are due.
     fn enter(&mut self, port: u8, new: BridgePort) -> Result<(), NoMemory>
         requires { CanPut port new self.old }
         ensures { OnOk result (IsAfter (api.changed_at did.CameUp port new (view_of self.old)) self.new) }
     {
         self.leave(port, new)?;
-        put_port(&mut self.ports, port, BridgePort { due: true, ..new });
-        join_all(&mut self.db, port);
+        put_port(
+            &mut self.ports,
+            port,
+            BridgePort {
+                csnp_due: true,
+                ..new
+            },
+        );
+        set_srm_for_all(&mut self.db, port);
         Ok(())
     }
 }

@@ -1,7 +1,7 @@
 ghost use Rattle.std.specs.Prelude.{◌≡◌, true, false, ◌↔◌, OnOk, OnErr, IsErr, Some};
 ghost use Rattle.std.specs.Option.{option_map, option_copied};
 ghost use Rattle.lsdb.specs.Database.{keyed};
-ghost use Rattle.bridge_api.specs.View.{IsPort, is_due_at, adjacency_at, has_flags, entry_at};
+ghost use Rattle.bridge_api.specs.View.{IsPort, is_csnp_due_at, adjacency_at, has_flags, entry_at};
 ghost use Rattle.bridge_api.specs.Config.{IsWhole, IsMetric, configured};
 ghost use Rattle.bridge_api.specs.Hearing.{after_receive, with_carrier, with_metric};
 ghost use Rattle.bridge_api.specs.Ticking.{after_tick, sent_in_tick};
@@ -18,10 +18,10 @@ use std::marker::Model;
 
 /// The IS-IS control plane of a bridge: its adjacencies, its LSPs, and what it says of itself.
 ///
-/// Its calls are those of `bridge_api::Bridge`, with the same conditions and answers, so a kind of bridge forwards them.
-/// It is blank until `configure` is called, and each call but `is_blank`, `is_failed` and `configure` has the condition
-/// that it isn't blank. A call that finds no memory leaves it failed: from then on each call that can answer `NoMemory`
-/// answers it and changes nothing.
+/// Its calls are those of `bridge_api::Bridge`, with the same conditions and answers, so a kind of bridge forwards
+/// them. It is blank until `configure` is called, and each call but `is_blank`, `is_failed` and `configure` has the
+/// condition that it isn't blank. A call that finds no memory leaves it failed: from then on each call that can answer
+/// `NoMemory` answers it and changes nothing.
 #[derive(Debug, Drop)]
 pub struct ControlPlane {
     blank: bool,
@@ -99,8 +99,8 @@ impl ControlPlane {
         }
     }
 
-    /// A second passes: counts and lifetimes fall, the bridge originates where it has to, and all that is to be sent goes
-    /// into the outbox.
+    /// A second passes: counts and lifetimes fall, the bridge originates where it has to, and all that is to be sent
+    /// goes into the outbox.
     pub fn tick(&mut self, outbox: &mut Outbox) -> Result<(), NoMemory>
         requires { self.old.blank ≡ false }
         ensures view { OnOk result (self.new.view ≡ after_tick self.old.view) }
@@ -117,7 +117,8 @@ impl ControlPlane {
         ended
     }
 
-    /// Hears a frame, which may be any bytes, at a port. A frame of no use is dropped and changes nothing. Nothing is sent.
+    /// Hears a frame, which may be any bytes, at a port. A frame of no use is dropped and changes nothing. Nothing is
+    /// sent.
     pub fn receive(&mut self, port: u8, frame: &[u8]) -> Result<(), NoMemory>
         requires made { self.old.blank ≡ false }
         requires port { self.old.view.failed ≡ false → IsPort self.old.view port }
@@ -176,9 +177,9 @@ impl ControlPlane {
     pub fn due(&self, port: u8) -> bool
         requires made { self.now.blank ≡ false }
         requires port { IsPort self.now.view port }
-        ensures { result ≡ is_due_at self.now.view port }
+        ensures { result ≡ is_csnp_due_at self.now.view port }
     {
-        port_at(self.machine.ports.as_slice(), port).due
+        port_at(self.machine.ports.as_slice(), port).csnp_due
     }
 
     /// Whether an LSP is to be sent, acknowledged or asked for at any port (SRM and SSN), or CSNPs are due at one.
@@ -186,7 +187,7 @@ impl ControlPlane {
         requires { self.now.blank ≡ false }
         ensures { result ≡ has_flags self.now.view }
     {
-        self.machine.db.has_flags() || self.machine.ports.iter().any(|port| port.due)
+        self.machine.db.has_flags() || self.machine.ports.iter().any(|port| port.csnp_due)
     }
 
     /// What is held at a place, counted from 0, in order of LSP id; None exactly past the last.

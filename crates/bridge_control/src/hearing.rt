@@ -4,13 +4,13 @@ ghost use Rattle.isis_pdu.specs.Pdu.{hello_of, lsp_of, csnp_of, psnp_of};
 ghost use Rattle.flooding.specs.Hearing.{hear_lsp_of};
 ghost use Rattle.flooding.specs.Placing.{holding};
 ghost use Rattle.bridge_api.specs.View.{IsPort, has_carrier_at};
-ghost use Rattle.bridge_api.specs.Own.{settled};
-ghost use Rattle.bridge_api.specs.Judging.{greeting, link_state, complete, partial};
+ghost use Rattle.bridge_api.specs.Own.{originated_if_changed};
+ghost use Rattle.bridge_api.specs.Parsing as parsing;
 ghost use Rattle.bridge_api.specs.Hearing as api;
 ghost use Rattle.bridge_control.specs.Machine.{view_of, IsReady, IsAfter, hears};
 
-use crate::judging::{Message, judge};
 use crate::machine::Machine;
+use crate::parsing::{Message, parse};
 use crate::ports::{is_up, port_at, up_ports};
 use flooding::{FloodError, Own};
 use isis_pdu::{Csnp, Hello, Lsp, Psnp};
@@ -30,23 +30,23 @@ impl Machine {
         if !port_at(self.ports.as_slice(), port).adjacency.carrier {
             return Ok(());
         }
-        match judge(frame) {
-            Message::Greeting(hello, way) => self.greet(port, &hello, &way),
-            Message::LinkState(lsp) => self.hear_lsp(port, &lsp),
-            Message::Complete(csnp) => self.hear_csnp(port, &csnp),
-            Message::Partial(psnp) => self.hear_psnp(port, &psnp),
+        match parse(frame) {
+            Message::Hello(hello, way) => self.hear_hello(port, &hello, &way),
+            Message::Lsp(lsp) => self.hear_lsp(port, &lsp),
+            Message::Csnp(csnp) => self.hear_csnp(port, &csnp),
+            Message::Psnp(psnp) => self.hear_psnp(port, &psnp),
             Message::Dropped(_) => Ok(()),
-            Message::Tenant(_) => Ok(()),
+            Message::Customer(_) => Ok(()),
         }
     }
 
     /// Hears a hello at a port with carrier.
-    fn greet(&mut self, port: u8, hello: &Hello<'_>, way: &ThreeWay) -> Result<(), NoMemory>
+    fn hear_hello(&mut self, port: u8, hello: &Hello<'_>, way: &ThreeWay) -> Result<(), NoMemory>
         requires ready { IsReady self.old }
         requires port { IsPort (view_of self.old) port }
         requires carrier { has_carrier_at (view_of self.old) port ≡ true }
         requires state { way.now.state ≤ 2 }
-        ensures { OnOk result (IsAfter (hears (greeting (hello_of hello.now) way.now) port (view_of self.old)) self.new) }
+        ensures { OnOk result (IsAfter (hears (parsing.hello (hello_of hello.now) way.now) port (view_of self.old)) self.new) }
     {
         let mut new = port_at(self.ports.as_slice(), port);
         let heard = new.adjacency.hear(self.id.system, port, hello, way);
@@ -57,21 +57,21 @@ impl Machine {
     fn hear_lsp(&mut self, port: u8, lsp: &Lsp<'_>) -> Result<(), NoMemory>
         requires ready { IsReady self.old }
         requires port { IsPort (view_of self.old) port }
-        ensures { OnOk result (IsAfter (hears (link_state (lsp_of lsp.now)) port (view_of self.old)) self.new) }
+        ensures { OnOk result (IsAfter (hears (parsing.lsp (lsp_of lsp.now)) port (view_of self.old)) self.new) }
     {
         if !is_up(&port_at(self.ports.as_slice(), port)) {
             return Ok(());
         }
         let up = up_ports(self.ports.as_slice());
-        flood(self.alloc, &mut self.db, up, port, lsp, &mut self.own)?;
-        self.settle()
+        hear_lsp_if_it_fits(self.alloc, &mut self.db, up, port, lsp, &mut self.own)?;
+        self.originate_if_changed()
     }
 
     /// Hears a CSNP at a port with carrier.
     fn hear_csnp(&mut self, port: u8, csnp: &Csnp<'_>) -> Result<(), NoMemory>
         requires ready { IsReady self.old }
         requires port { IsPort (view_of self.old) port }
-        ensures { OnOk result (IsAfter (hears (complete (csnp_of csnp.now)) port (view_of self.old)) self.new) }
+        ensures { OnOk result (IsAfter (hears (parsing.csnp (csnp_of csnp.now)) port (view_of self.old)) self.new) }
     {
         if !is_up(&port_at(self.ports.as_slice(), port)) {
             return Ok(());
@@ -92,7 +92,7 @@ impl Machine {
     ) -> Result<(), NoMemory>
         requires ready { IsReady self.old }
         requires port { IsPort (view_of self.old) port }
-        ensures { OnOk result (IsAfter (settled (api.completed (csnp_of csnp.now) entries.now port (view_of self.old))) self.new) }
+        ensures { OnOk result (IsAfter (originated_if_changed (api.heard_csnp (csnp_of csnp.now) entries.now port (view_of self.old))) self.new) }
     {
         let up = up_ports(self.ports.as_slice());
         hear_csnp(
@@ -105,14 +105,14 @@ impl Machine {
             entries,
             &mut self.own,
         )?;
-        self.settle()
+        self.originate_if_changed()
     }
 
     /// Hears a PSNP at a port with carrier.
     fn hear_psnp(&mut self, port: u8, psnp: &Psnp<'_>) -> Result<(), NoMemory>
         requires ready { IsReady self.old }
         requires port { IsPort (view_of self.old) port }
-        ensures { OnOk result (IsAfter (hears (partial (psnp_of psnp.now)) port (view_of self.old)) self.new) }
+        ensures { OnOk result (IsAfter (hears (parsing.psnp (psnp_of psnp.now)) port (view_of self.old)) self.new) }
     {
         if !is_up(&port_at(self.ports.as_slice(), port)) {
             return Ok(());
@@ -128,16 +128,16 @@ impl Machine {
     fn hear_requests(&mut self, port: u8, entries: &[SnpEntry]) -> Result<(), NoMemory>
         requires ready { IsReady self.old }
         requires port { IsPort (view_of self.old) port }
-        ensures { OnOk result (IsAfter (settled (api.requested entries.now port (view_of self.old))) self.new) }
+        ensures { OnOk result (IsAfter (originated_if_changed (api.heard_psnp entries.now port (view_of self.old))) self.new) }
     {
         let up = up_ports(self.ports.as_slice());
         hear_psnp(self.alloc, &mut self.db, up, port, entries, &mut self.own)?;
-        self.settle()
+        self.originate_if_changed()
     }
 }
 
 /// Hears an LSP. One that finds no place in the database is dropped.
-fn flood(
+fn hear_lsp_if_it_fits(
     alloc: Global,
     db: &mut Database,
     up: PortSet,

@@ -22,7 +22,7 @@ pub(crate) fn send_hello(
     port: &BridgePort,
     outbox: &mut Outbox,
 ) -> Result<(), NoMemory>
-    ensures ok { OnOk result (outbox.new ≡ with_wire (api.greetings_at system number port.now) outbox.old) }
+    ensures ok { OnOk result (outbox.new ≡ with_wire (api.hellos_at system number port.now) outbox.old) }
     ensures err { OnErr result (outbox.new ≡ outbox.old) }
 {
     if !port.adjacency.carrier {

@@ -8,7 +8,7 @@ ghost use Rattle.bridge_api.specs.Config as config_specs;
 ghost use Rattle.bridge_api.specs.Ticking as ticking;
 ghost use Rattle.bridge_api.specs.Own as api;
 
-use crate::ports::{attached_members, dark_ports, neighbours_at, up_ports};
+use crate::ports::{attached_members, bare_ports, neighbours_at, up_ports};
 use bridge_api::{BridgeConfig, BridgePort};
 use flooding::{Own, originate};
 use lsdb::Database;
@@ -80,7 +80,7 @@ impl Machine {
     {
         let vids = Vec::from_slice(alloc, config.vids.as_slice())?;
         let attached = Vec::from_slice(alloc, config.attached.as_slice())?;
-        let ports = dark_ports(alloc, config.metrics.as_slice())?;
+        let ports = bare_ports(alloc, config.metrics.as_slice())?;
         Ok(Machine {
             alloc,
             id: config.id,
@@ -154,10 +154,10 @@ impl Machine {
     }
 
     /// Originates where the own LSP that is held says something else than the bridge.
-    pub(crate) fn settle(&mut self) -> Result<(), NoMemory>
+    pub(crate) fn originate_if_changed(&mut self) -> Result<(), NoMemory>
         requires can { CanOriginate self.old }
         requires current { IsCurrent self.old }
-        ensures { OnOk result (IsAfter (api.settled (view_of self.old)) self.new) }
+        ensures { OnOk result (IsAfter (api.originated_if_changed (view_of self.old)) self.new) }
     {
         if self.own.spent || is_said(&self.db, &self.own) {
             return Ok(());

@@ -1,17 +1,17 @@
 //! Work on the ports of a bridge.
 ghost use Rattle.std.specs.Prelude.{◌≡◌, ◌-◌, ◌≤◌, Bool, true, false, length, map, Some, IfOk, slice_get, slice_set};
 ghost use Rattle.std.specs.List.{AllByRecursion};
-ghost use Rattle.lsdb.specs.Entry.{joined};
+ghost use Rattle.lsdb.specs.Entry.{srm_set_at};
 ghost use Rattle.lsdb.specs.Database.{each};
 ghost use Rattle.bridge_api.specs.View.{is_port_up, up_from, port_in};
-ghost use Rattle.bridge_api.specs.Config.{dark};
+ghost use Rattle.bridge_api.specs.Config.{port_without_carrier};
 ghost use Rattle.bridge_api.specs.Own as own;
 ghost use Rattle.bridge_api.specs.Hearing as api;
 ghost use Rattle.bridge_api.specs.Ticking as ticking;
 ghost use Rattle.bridge_api.specs.Laws.{IsSoundPort};
 ghost use Rattle.bridge_control.specs.Ports.{AreSoundPorts, has_leaving};
 
-use adjacency::{AdjState, Adjacency, Heard};
+use adjacency::{AdjState, Adjacency, AdjacencyChange};
 use bridge_api::BridgePort;
 use lsdb::Database;
 use spb_tlvs::Neighbour;
@@ -19,22 +19,22 @@ use spb_types::{Attachment, Member, NoMemory, PortSet, SystemId};
 use std::alloc::Global;
 
 /// Ports without carrier, with these metrics.
-pub(crate) fn dark_ports(alloc: Global, metrics: &[u32]) -> Result<Vec<BridgePort>, NoMemory>
-    ensures { IfOk result (λ ports. ports.items ≡ map dark metrics.now) }
+pub(crate) fn bare_ports(alloc: Global, metrics: &[u32]) -> Result<Vec<BridgePort>, NoMemory>
+    ensures { IfOk result (λ ports. ports.items ≡ map port_without_carrier metrics.now) }
 {
     let ports = metrics
         .iter()
-        .map(|metric| dark_port(*metric))
+        .map(|metric| bare_port(*metric))
         .collect(alloc)?;
     Ok(ports)
 }
 
-fn dark_port(metric: u32) -> BridgePort
-    ensures { result ≡ dark metric }
+fn bare_port(metric: u32) -> BridgePort
+    ensures { result ≡ port_without_carrier metric }
 {
     BridgePort {
         adjacency: Adjacency::down(false),
-        due: false,
+        csnp_due: false,
         metric,
     }
 }
@@ -126,13 +126,13 @@ fn member_of(system: SystemId, a: &Attachment) -> Member
     }
 }
 
-/// A second passes at each port: the holding counts fall. Where the neighbour at an Up port is lost, the flags of the port are
-/// cleared and nothing is due there any more. Tells whether there is such a port.
+/// A second passes at each port: the holding counts fall. Where the neighbour at an Up port is lost, the flags of the
+/// port are cleared and nothing is due there any more. Tells whether there is such a port.
 pub(crate) fn count_down(ports: &mut Vec<BridgePort>, db: &mut Database) -> bool
     requires few { length ports.old.items ≤ 32 }
     requires sound { AreSoundPorts ports.old.items }
     ensures ports { ports.new.items ≡ map ticking.later ports.old.items }
-    ensures db { db.new ≡ each (λ id e. ticking.parted_all (ticking.leaving_from 1 ports.old.items) e) db.old }
+    ensures db { db.new ≡ each (λ id e. ticking.flags_cleared_at_all (ticking.leaving_from 1 ports.old.items) e) db.old }
     ensures left { result ≡ has_leaving ports.old.items }
 {
     let mut left = false;
@@ -151,25 +151,25 @@ fn pass_second(port: &mut BridgePort) -> bool
     ensures port { port.new ≡ ticking.later port.old }
     ensures left { result ≡ ticking.leaves port.old }
 {
-    let left = port.adjacency.tick() == Heard::LeftUp;
-    port.due = port.due && !left;
+    let left = port.adjacency.tick() == AdjacencyChange::LeftUp;
+    port.csnp_due = port.csnp_due && !left;
     left
 }
 
 /// Nothing is due any more.
-pub(crate) fn clear_due(ports: &mut Vec<BridgePort>)
-    ensures { ports.new.items ≡ map (api.with_due false) ports.old.items }
+pub(crate) fn clear_csnp_due(ports: &mut Vec<BridgePort>)
+    ensures { ports.new.items ≡ map (api.with_csnp_due false) ports.old.items }
 {
     for port in ports.iter_mut() {
-        port.due = false;
+        port.csnp_due = false;
     }
 }
 
 /// Each LSP that is held is to be sent at a port that has come up.
-pub(crate) fn join_all(db: &mut Database, port: u8)
+pub(crate) fn set_srm_for_all(db: &mut Database, port: u8)
     requires low { 1 ≤ port }
     requires high { port ≤ 32 }
-    ensures { db.new ≡ each (λ id e. joined port e) db.old }
+    ensures { db.new ≡ each (λ id e. srm_set_at port e) db.old }
 {
     for place in 0..db.len() {
         if let Some(held) = db.at(place) {

@@ -6,7 +6,7 @@ ghost use Rattle.isis_pdu.specs.Grammar.{IsId};
 ghost use Rattle.lsdb.specs.Database.{any_flags};
 ghost use Rattle.flooding.specs.Entries.{AreSendable};
 ghost use Rattle.snp_sync.specs.Sized.{AreSized};
-ghost use Rattle.snp_sync.specs.Sending.{bytes_in, all_settled};
+ghost use Rattle.snp_sync.specs.Sending.{bytes_in, all_ssn_cleared};
 ghost use Rattle.itag_frames.specs.Frame.{control_bytes};
 ghost use Rattle.bridge_api.specs.Step.{with_wire, Gains};
 ghost use Rattle.bridge_api.specs.Ticking as api;
@@ -22,26 +22,26 @@ use snp_sync::{csnps, psnps};
 use spb_types::{LspId, NoMemory, Seq, SystemId};
 use std::alloc::Global;
 
-/// Puts what is sent at each port into the outbox, port by port. Where `busy` is false no flags stand, and no LSPs and PSNPs
-/// are looked for.
+/// Puts what is sent at each port into the outbox, port by port. Where `has_flags` is false no flags stand, and no LSPs
+/// and PSNPs are looked for.
 pub(crate) fn send_all(
     alloc: Global,
     system: SystemId,
     ports: &[BridgePort],
     db: &mut Database,
-    busy: bool,
+    has_flags: bool,
     outbox: &mut Outbox,
 ) -> Result<(), NoMemory>
     requires few { length ports.now ≤ 32 }
     requires sendable { AreSendable db.old }
     requires sized { AreSized db.old }
-    requires idle { busy ≡ false → any_flags db.old ≡ false }
+    requires idle { has_flags ≡ false → any_flags db.old ≡ false }
     ensures sent { OnOk result (outbox.new ≡ with_wire (api.sent_from system 1 ports.now db.old) outbox.old) }
-    ensures told { OnOk result (db.new ≡ api.told_from 1 ports.now db.old) }
+    ensures after_sending { OnOk result (db.new ≡ api.after_sending_from 1 ports.now db.old) }
     ensures gained { OnErr result (Gains (api.sent_from system 1 ports.now db.old) outbox.old outbox.new) }
 {
     'send: for (place, port) in ports.iter().enumerate() {
-        send_at(alloc, system, place as u8 + 1, port, db, busy, outbox)?;
+        send_at(alloc, system, place as u8 + 1, port, db, has_flags, outbox)?;
     }
     Ok(())
 }
@@ -53,16 +53,16 @@ fn send_at(
     number: u8,
     port: &BridgePort,
     db: &mut Database,
-    busy: bool,
+    has_flags: bool,
     outbox: &mut Outbox,
 ) -> Result<(), NoMemory>
     requires low { 1 ≤ number }
     requires high { number ≤ 32 }
     requires sendable { AreSendable db.old }
     requires sized { AreSized db.old }
-    requires idle { busy ≡ false → any_flags db.old ≡ false }
+    requires idle { has_flags ≡ false → any_flags db.old ≡ false }
     ensures sent { OnOk result (outbox.new ≡ with_wire (api.sent_at system number port.now db.old) outbox.old) }
-    ensures told { OnOk result (db.new ≡ api.told_at number port.now db.old) }
+    ensures after_sending { OnOk result (db.new ≡ api.after_sending_at number port.now db.old) }
     ensures gained { OnErr result (Gains (api.sent_at system number port.now db.old) outbox.old outbox.new) }
 {
     send_hello(alloc, system, number, port, outbox)?;
@@ -70,7 +70,7 @@ fn send_at(
         return Ok(());
     }
     send_summaries(alloc, system, number, port, db, outbox)?;
-    send_flagged(alloc, system, number, db, busy, outbox)
+    send_flagged(alloc, system, number, db, has_flags, outbox)
 }
 
 /// Puts the CSNPs of the whole database into the outbox where they are due.
@@ -86,32 +86,32 @@ fn send_summaries(
     ensures sent { OnOk result (outbox.new ≡ with_wire (api.summaries_at system number port.now db.now) outbox.old) }
     ensures gained { OnErr result (Gains (api.summaries_at system number port.now db.now) outbox.old outbox.new) }
 {
-    if !port.due {
+    if !port.csnp_due {
         return Ok(());
     }
     let pdus = csnps(alloc, db, system)?;
     send_pdus(alloc, system, number, pdus.as_slice(), outbox)
 }
 
-/// Puts the LSPs that are to be sent at a port into the outbox, and then PSNPs of what is owed there.
+/// Puts the LSPs that are to be sent at a port into the outbox, and then PSNPs of what has SSN there.
 fn send_flagged(
     alloc: Global,
     system: SystemId,
     number: u8,
     db: &mut Database,
-    busy: bool,
+    has_flags: bool,
     outbox: &mut Outbox,
 ) -> Result<(), NoMemory>
     requires low { 1 ≤ number }
     requires high { number ≤ 32 }
     requires sendable { AreSendable db.old }
     requires sized { AreSized db.old }
-    requires idle { busy ≡ false → any_flags db.old ≡ false }
+    requires idle { has_flags ≡ false → any_flags db.old ≡ false }
     ensures sent { OnOk result (outbox.new ≡ with_wire (flagged_at system number db.old) outbox.old) }
-    ensures told { OnOk result (db.new ≡ all_settled number db.old) }
+    ensures after_sending { OnOk result (db.new ≡ all_ssn_cleared number db.old) }
     ensures gained { OnErr result (Gains (flagged_at system number db.old) outbox.old outbox.new) }
 {
-    if !busy {
+    if !has_flags {
         return Ok(());
     }
     send_lsps(alloc, system, number, db, outbox)?;

@@ -7,7 +7,7 @@ ghost use Rattle.bridge_api.specs.Ticking as api;
 ghost use Rattle.bridge_control.specs.Machine.{view_of, IsReady, IsAfter};
 
 use crate::machine::Machine;
-use crate::ports::{clear_due, count_down, up_ports};
+use crate::ports::{clear_csnp_due, count_down, up_ports};
 use crate::sending::send_all;
 use bridge_api::Outbox;
 use spb_types::NoMemory;
@@ -20,16 +20,16 @@ impl Machine {
         ensures sent { OnOk result (outbox.new ≡ with_wire (api.sent_in_tick (view_of self.old)) outbox.old) }
         ensures gained { OnErr result (Gains (api.sent_in_tick (view_of self.old)) outbox.old outbox.new) }
     {
-        let busy = self.prepare()?;
+        let has_flags = self.prepare()?;
         send_all(
             self.alloc,
             self.id.system,
             self.ports.as_slice(),
             &mut self.db,
-            busy,
+            has_flags,
             outbox,
         )?;
-        clear_due(&mut self.ports);
+        clear_csnp_due(&mut self.ports);
         Ok(())
     }
 
@@ -37,7 +37,7 @@ impl Machine {
     fn prepare(&mut self) -> Result<bool, NoMemory>
         requires { IsReady self.old }
         ensures after { OnOk result (IsAfter (api.readied (view_of self.old)) self.new) }
-        ensures idle { IfOk result (λ busy. busy ≡ false → any_flags self.new.db ≡ false) }
+        ensures idle { IfOk result (λ has_flags. has_flags ≡ false → any_flags self.new.db ≡ false) }
     {
         self.count()?;
         let up = up_ports(self.ports.as_slice());
@@ -49,7 +49,7 @@ impl Machine {
     /// The holding counts fall. Where a neighbour is lost, the body of the own LSP is made anew.
     fn count(&mut self) -> Result<(), NoMemory>
         requires { IsReady self.old }
-        ensures { OnOk result (IsAfter (api.counted (view_of self.old)) self.new) }
+        ensures { OnOk result (IsAfter (api.counts_lowered (view_of self.old)) self.new) }
     {
         if count_down(&mut self.ports, &mut self.db) {
             self.renew_body()?;

@@ -6,7 +6,7 @@ use Rattle.spb_types.specs.declared.address.SystemId.{SystemId}
 use Rattle.spb_types.specs.declared.graph.GraphBridge.{GraphBridge}
 use Rattle.spb_types.specs.declared.graph.Graph.{Graph}
 use Rattle.ect_trees.specs.Path.{Leads, IsPath, cost_along, cost_of, hops_of}
-use Rattle.ect_trees.specs.Key.{bridge_id_among, masked_id, ascending, key_of, IsBelow}
+use Rattle.ect_trees.specs.Key.{bridge_id_among, masked_id, sorted_ids, key_of, IsBelow}
 use Rattle.ect_trees.specs.Best.{IsBest, best_of}
 use Rattle.ect_trees.specs.Laws.{AreAlike, OrderSaysNothing, IsReached, LookAlike, SameBest, LookAlikeFromEach}
 use Rattle.ect_trees.proofs.Among.{same_is, same_self}
@@ -65,7 +65,7 @@ key_alike : (g h : Graph) (mask : ℕ) (a b : SystemId) (p : List SystemId) → 
 key_alike g h mask a b p s w =
     let cost : cost_of g p ≡ cost_of h p = cost_alike g h a b p s w in
     let ids : map (masked_id g mask) p ≡ map (masked_id h mask) p = map_alike (masked_id g mask) (masked_id h mask) p (λ x i. ap (masked mask) (s.ids x (path_reached g a b x p w i))) in
-    λ i. record { cost = cost i; hops = hops_of p; ids = ascending (ids i) }
+    λ i. record { cost = cost i; hops = hops_of p; ids = sorted_ids (ids i) }
 
 -- graphs with the same paths from a to b, with the same keys, have the same best path
 best_of_same : (g h : Graph) (mask : ℕ) (a b : SystemId) → IsValid g → IsValid h → ((p : List SystemId) → IsPath g a b p ↔ IsPath h a b p) → ((p : List SystemId) → IsPath g a b p → key_of g mask p ≡ key_of h mask p) → best_of g mask a b ≡ best_of h mask a b

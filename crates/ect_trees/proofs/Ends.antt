@@ -15,7 +15,7 @@ use Rattle.ect_trees.specs.Path.{IsPath, cost_of}
 use Rattle.ect_trees.specs.Path as path
 use Rattle.ect_trees.specs.Best.{IsBest, best_of}
 use Rattle.ect_trees.specs.Tree.{ends_at, path_in, best_path}
-use Rattle.ect_trees.specs.Search.{IsAt, IsReady, IsLabel, label_at, AreLabels, HasPath, AreBest, paths_in}
+use Rattle.ect_trees.specs.Search.{IsBridgeAt, IsReady, IsLabel, label_at, AreLabels, HasPath, AreBest, paths_in}
 use Rattle.ect_trees.proofs.Among.{same_is, same_self}
 use Rattle.ect_trees.proofs.Walks.{path_bridges, path_end}
 use Rattle.ect_trees.proofs.Exists.{best_of_cases}
@@ -78,7 +78,7 @@ missed (Some k ∷ ls) to place l h e t = by (ends_at k.bridges.items to) refl h
     by false b m (suc place) f ih = ih m place f
 
 -- the bridge at a place
-stands : (s : Search) (ls : List (Option Label)) (place : ℕ) → AreLabels s ls → place < length ls → (x : SystemId) × IsAt s.graph.now place x
+stands : (s : Search) (ls : List (Option Label)) (place : ℕ) → AreLabels s ls → place < length ls → (x : SystemId) × IsBridgeAt s.graph.now place x
 stands s ls place labels within =
     let long : length (systems_of s.graph.now.bridges) ≡ length s.graph.now.bridges = length-map s.graph.now.bridges _ in
     let here = λ (d : SystemId). slice_get-get_or (systems_of s.graph.now.bridges) place d (omega (arith, within, labels.places, long)) in
@@ -92,13 +92,13 @@ paths_are_best s ls to ready best = by (path_in (paths_in ls) to) refl (best_of_
     g = s.graph.now
 
     -- a path that is found leads to its end
-    leads : (p : Path) → path_in (paths_in ls) to ≡ Some p → (f : Found ls to p) × IsAt s.graph.now f.place to × IsLabel s to f.label
+    leads : (p : Path) → path_in (paths_in ls) to ≡ Some p → (f : Found ls to p) × IsBridgeAt s.graph.now f.place to × IsLabel s to f.label
     leads p h =
         let f = found ls to p h in
         let x = stands s ls f.place best.labels f.within in
         let label = best.labels.each f.place x.0 f.label x.1 f.here in
         let same : x.0 ≡ to = path_once s.graph.now s.source x.0 to f.label.bridges.items label.path f.ends in
-        (f, subst (IsAt s.graph.now f.place) same x.1, subst (λ t. IsLabel s t f.label) same label)
+        (f, subst (IsBridgeAt s.graph.now f.place) same x.1, subst (λ t. IsLabel s t f.label) same label)
 
     by : (o : Option Path) → path_in (paths_in ls) to ≡ o → (((p : List SystemId) → IsPath s.graph.now s.source to p → ⊥) × (best_of s.graph.now s.mask s.source to ≡ None)) ⊎ ((p : List SystemId) × (best_of s.graph.now s.mask s.source to ≡ Some p) × IsBest s.graph.now s.mask s.source to p) → path_in (paths_in ls) to ≡ best_path s.graph.now s.mask s.source to
     by None h (inl n) = h ∙ sym (ap (option_map (λ p. record { cost = cost_of s.graph.now p; bridges = p })) n.1)

@@ -12,12 +12,12 @@ use Rattle.spb_types.specs.declared.graph.Edge.{Edge}
 use Rattle.spb_types.specs.declared.graph.Graph.{Graph}
 use Rattle.ect_trees.specs.declared.key.PathKey.{PathKey}
 use Rattle.ect_trees.specs.declared.search.Label.{Label}
-use Rattle.ect_trees.specs.declared.search.Hop.{Hop}
+use Rattle.ect_trees.specs.declared.search.Arc.{Arc}
 use Rattle.ect_trees.specs.declared.search.Search.{Search}
 use Rattle.ect_trees.specs.Path.{IsPath, cost_along, cost_of, hops_of}
-use Rattle.ect_trees.specs.Key.{masked_id, placed, ascending, key_of, IsBelow}
+use Rattle.ect_trees.specs.Key.{masked_id, inserted, sorted_ids, key_of, IsBelow}
 use Rattle.ect_trees.specs.Best.{IsBest}
-use Rattle.ect_trees.specs.Search.{IsAt, Leads, IsReady, IsLabel, Extends, IsExtended, Improves}
+use Rattle.ect_trees.specs.Search.{IsBridgeAt, Leads, IsReady, IsLabel, Extends, IsExtended, Improves}
 use Rattle.ect_trees.proofs.Among.{same_is, same_self, among_right}
 use Rattle.ect_trees.proofs.Walks.{step, path_snoc, path_distinct, path_length, cost-snoc, hops-snoc, ids-snoc}
 use Rattle.ect_trees.proofs.Least.{best_is_least, lists_eq_or_not}
@@ -56,45 +56,45 @@ label_small s x l r h =
     (omega (arith, small.0, cost), omega (arith, small.1, hops))
 
 -- the key of the label's path with one hop more
-abbrev pub longer_key : Search → Hop → SystemId → Label → PathKey
-longer_key s hop y l = record { cost = l.key.cost + hop.cost; hops = l.key.hops + 1; ids = placed (masked_id s.graph.now s.mask y) l.key.ids }
+abbrev pub longer_key : Search → Arc → SystemId → Label → PathKey
+longer_key s arc y l = record { cost = l.key.cost + arc.cost; hops = l.key.hops + 1; ids = inserted (masked_id s.graph.now s.mask y) l.key.ids }
 
-pub key_of-longer : (s : Search) (hop : Hop) (x y : SystemId) (l : Label) → Leads s.graph.now hop x y → IsLabel s x l → longer_key s hop y l ≡ key_of s.graph.now s.mask (l.bridges.items ++ y ∷ [])
-key_of-longer s hop x y l go h =
+pub key_of-longer : (s : Search) (arc : Arc) (x y : SystemId) (l : Label) → Leads s.graph.now arc x y → IsLabel s x l → longer_key s arc y l ≡ key_of s.graph.now s.mask (l.bridges.items ++ y ∷ [])
+key_of-longer s arc x y l go h =
     let g = s.graph.now in
     let p = l.bridges.items in
     let known : l.key.cost ≡ cost_of g p = ap (λ (k : PathKey). k.cost) h.keyed in
     let more : cost_of g (p ++ y ∷ []) ≡ cost_of g p + step g x y = cost-snoc g s.source x y p h.path in
-    let own : step g x y ≡ hop.cost = ap (λ o. unwrap_or o 0) go.cost in
-    let cost : l.key.cost + hop.cost ≡ cost_of g (p ++ y ∷ []) = omega (arith, known, more, own) in
+    let own : step g x y ≡ arc.cost = ap (λ o. unwrap_or o 0) go.cost in
+    let cost : l.key.cost + arc.cost ≡ cost_of g (p ++ y ∷ []) = omega (arith, known, more, own) in
     let counted : l.key.hops ≡ hops_of p = ap (λ (k : PathKey). k.hops) h.keyed in
     let one : hops_of (p ++ y ∷ []) ≡ suc (hops_of p) = hops-snoc g s.source x y p h.path in
     let hops : l.key.hops + 1 ≡ hops_of (p ++ y ∷ []) = omega (arith, counted, one) in
-    let ids : placed (masked_id g s.mask y) l.key.ids ≡ ascending (map (masked_id g s.mask) (p ++ y ∷ [])) = ap (placed (masked_id g s.mask y)) (ap (λ (k : PathKey). k.ids) h.keyed) ∙ sym (ids-snoc g s.mask y p) in
+    let ids : inserted (masked_id g s.mask y) l.key.ids ≡ sorted_ids (map (masked_id g s.mask) (p ++ y ∷ [])) = ap (inserted (masked_id g s.mask y)) (ap (λ (k : PathKey). k.ids) h.keyed) ∙ sym (ids-snoc g s.mask y p) in
     λ i. record { cost = cost i; hops = hops i; ids = ids i }
 
 -- a place has one bridge
-pub at_same : (g : Graph) (i : ℕ) (x y : SystemId) → IsAt g i x → IsAt g i y → x ≡ y
+pub at_same : (g : Graph) (i : ℕ) (x y : SystemId) → IsBridgeAt g i x → IsBridgeAt g i y → x ≡ y
 at_same g i x y h k = same_Some x y (sym h ∙ k)
 
--- the end of the hop, by the bridge that stands at its place
-pub leads_to : (s : Search) (hop : Hop) (l : Label) (y : SystemId) → Extends s hop l → IsAt s.graph.now hop.to y → (x : SystemId) × Leads s.graph.now hop x y × IsLabel s x l
-leads_to s hop l y e h =
-    let same : e.1 ≡ y = at_same s.graph.now hop.to e.1 y e.2.to h in
-    (e.0, record { from = e.2.from; to = h; cost = subst (λ t. cost_between s.graph.now e.0 t ≡ Some hop.cost) same e.2.cost }, e.3)
+-- the end of the arc, by the bridge that stands at its place
+pub leads_to : (s : Search) (arc : Arc) (l : Label) (y : SystemId) → Extends s arc l → IsBridgeAt s.graph.now arc.to y → (x : SystemId) × Leads s.graph.now arc x y × IsLabel s x l
+leads_to s arc l y e h =
+    let same : e.1 ≡ y = at_same s.graph.now arc.to e.1 y e.2.to h in
+    (e.0, record { from = e.2.from; to = h; cost = subst (λ t. cost_between s.graph.now e.0 t ≡ Some arc.cost) same e.2.cost }, e.3)
 
 -- a path that gets one bridge more that isn't on it is a path with its key
-pub extended_label : (s : Search) (hop : Hop) (y : SystemId) (l new : Label) → Extends s hop l → IsAt s.graph.now hop.to y → (IsAmong y l.bridges.items → ⊥) → IsExtended s hop l new → IsLabel s y new
-extended_label s hop y l new ext here free e =
+pub extended_label : (s : Search) (arc : Arc) (y : SystemId) (l new : Label) → Extends s arc l → IsBridgeAt s.graph.now arc.to y → (IsAmong y l.bridges.items → ⊥) → IsExtended s arc l new → IsLabel s y new
+extended_label s arc y l new ext here free e =
     let g = s.graph.now in
     let p = l.bridges.items in
-    let lead = leads_to s hop l y ext here in
+    let lead = leads_to s arc l y ext here in
     let joined : IsSome (cost_between g lead.0 y) = subst (λ o. IsSome o) (sym lead.1.cost) refl in
     let longer : new.bridges.items ≡ p ++ y ∷ [] = e.longer y here in
-    let path : IsPath g s.source y (p ++ y ∷ []) = path_snoc g s.source lead.0 y p lead.2.path joined (at_among (systems_of g.bridges) hop.to y here) free in
+    let path : IsPath g s.source y (p ++ y ∷ []) = path_snoc g s.source lead.0 y p lead.2.path joined (at_among (systems_of g.bridges) arc.to y here) free in
     record {
       path = subst (IsPath g s.source y) (sym longer) path;
-      keyed = e.keyed y here ∙ (key_of-longer s hop lead.0 y l lead.1 lead.2 ∙ ap (key_of g s.mask) (sym longer));
+      keyed = e.keyed y here ∙ (key_of-longer s arc lead.0 y l lead.1 lead.2 ∙ ap (key_of g s.mask) (sym longer));
     }
 
 then_less : (a b r : Ordering) → ordering_then a b ≡ Less → ordering_then a (ordering_then b r) ≡ Less
@@ -102,14 +102,14 @@ then_less Less b r h = refl
 then_less Equal b r h = ap (λ o. ordering_then o r) h
 then_less Greater b r h = absurd (cc)
 
--- no hop makes a best path where the old label's cost and hops are below
-pub beaten : (s : Search) (hop : Hop) (l o : Label) → Extends s hop l → ((y : SystemId) → IsAt s.graph.now hop.to y → IsLabel s y o) → ordering_then (nat_cmp o.key.cost (l.key.cost + hop.cost)) (nat_cmp o.key.hops (l.key.hops + 1)) ≡ Less → Improves s hop l (Some o) None
-beaten s hop l o ext old less = λ y here best.
+-- no arc makes a best path where the old label's cost and hops are below
+pub beaten : (s : Search) (arc : Arc) (l o : Label) → Extends s arc l → ((y : SystemId) → IsBridgeAt s.graph.now arc.to y → IsLabel s y o) → ordering_then (nat_cmp o.key.cost (l.key.cost + arc.cost)) (nat_cmp o.key.hops (l.key.hops + 1)) ≡ Less → Improves s arc l (Some o) None
+beaten s arc l o ext old less = λ y here best.
     let g = s.graph.now in
-    let lead = leads_to s hop l y ext here in
-    let below : IsBelow o.key (longer_key s hop y l) = then_less (nat_cmp o.key.cost (l.key.cost + hop.cost)) (nat_cmp o.key.hops (l.key.hops + 1)) _ less in
+    let lead = leads_to s arc l y ext here in
+    let below : IsBelow o.key (longer_key s arc y l) = then_less (nat_cmp o.key.cost (l.key.cost + arc.cost)) (nat_cmp o.key.hops (l.key.hops + 1)) _ less in
     let kept = old y here in
-    let right : IsBelow o.key (key_of g s.mask (l.bridges.items ++ y ∷ [])) = subst (IsBelow o.key) (key_of-longer s hop lead.0 y l lead.1 lead.2) below in
+    let right : IsBelow o.key (key_of g s.mask (l.bridges.items ++ y ∷ [])) = subst (IsBelow o.key) (key_of-longer s arc lead.0 y l lead.1 lead.2) below in
     let left : IsBelow (key_of g s.mask o.bridges.items) (key_of g s.mask (l.bridges.items ++ y ∷ [])) = subst (λ k. IsBelow k (key_of g s.mask (l.bridges.items ++ y ∷ []))) kept.keyed right in
     absurd ((best_is_least g s.mask s.source y (l.bridges.items ++ y ∷ []) best).least o.bridges.items kept.path left)
 
@@ -119,9 +119,9 @@ distinct_end (x ∷ xs) y d (inl e) = d.0 (among_right x xs (y ∷ []) (inl (sym
 distinct_end (x ∷ xs) y d (inr h) = distinct_end xs y d.1 h
 
 -- nor where its end is on the path already
-pub visited : (s : Search) (hop : Hop) (l : Label) (old : Option Label) (y : SystemId) → IsAt s.graph.now hop.to y → IsAmong y l.bridges.items → Improves s hop l old None
-visited s hop l old y here on = λ z there best.
-    let same : y ≡ z = at_same s.graph.now hop.to y z here there in
+pub visited : (s : Search) (arc : Arc) (l : Label) (old : Option Label) (y : SystemId) → IsBridgeAt s.graph.now arc.to y → IsAmong y l.bridges.items → Improves s arc l old None
+visited s arc l old y here on = λ z there best.
+    let same : y ≡ z = at_same s.graph.now arc.to y z here there in
     absurd (distinct_end l.bridges.items z (path_distinct s.graph.now s.source z (l.bridges.items ++ z ∷ []) best.path) (subst (λ t. IsAmong t l.bridges.items) same on))
 
 -- a path that the best one isn't below is the best one
@@ -129,8 +129,8 @@ same_as_best : (g : Graph) (mask : ℕ) (a b : SystemId) (p q : List SystemId) �
 same_as_best g mask a b p q best w n = elim (lists_eq_or_not q p) [ inl e ↦ e | inr d ↦ absurd (n (best.below q w d)) ]
 
 -- nor where the longer path isn't below the old label
-pub not_better : (s : Search) (hop : Hop) (l o new : Label) → ((y : SystemId) → IsAt s.graph.now hop.to y → IsLabel s y o) → ((y : SystemId) → IsAt s.graph.now hop.to y → IsLabel s y new) → IsExtended s hop l new → (IsBelow new.key o.key → ⊥) → Improves s hop l (Some o) None
-not_better s hop l o new old longer e n = λ y here best.
+pub not_better : (s : Search) (arc : Arc) (l o new : Label) → ((y : SystemId) → IsBridgeAt s.graph.now arc.to y → IsLabel s y o) → ((y : SystemId) → IsBridgeAt s.graph.now arc.to y → IsLabel s y new) → IsExtended s arc l new → (IsBelow new.key o.key → ⊥) → Improves s arc l (Some o) None
+not_better s arc l o new old longer e n = λ y here best.
     let g = s.graph.now in
     let p = l.bridges.items ++ y ∷ [] in
     let key : new.key ≡ key_of g s.mask p = (longer y here).keyed ∙ ap (key_of g s.mask) (e.longer y here) in
@@ -138,8 +138,8 @@ not_better s hop l o new old longer e n = λ y here best.
     ap Some (same_as_best g s.mask s.source y p o.bridges.items best (old y here).path other)
 
 -- it improves the old label where its path is below
-pub is_improved : (s : Search) (hop : Hop) (l new : Label) (old : Option Label) → ((y : SystemId) → IsAt s.graph.now hop.to y → IsLabel s y new) → IsExtended s hop l new → ((o : Label) → old ≡ Some o → IsBelow new.key o.key) → Improves s hop l old (Some new)
-is_improved s hop l new old longer e below = ((λ y here. (longer y here, e.longer y here)), below)
+pub is_improved : (s : Search) (arc : Arc) (l new : Label) (old : Option Label) → ((y : SystemId) → IsBridgeAt s.graph.now arc.to y → IsLabel s y new) → IsExtended s arc l new → ((o : Label) → old ≡ Some o → IsBelow new.key o.key) → Improves s arc l old (Some new)
+is_improved s arc l new old longer e below = ((λ y here. (longer y here, e.longer y here)), below)
 
 any_among : (x : SystemId) (xs : List SystemId) → list_any (λ y. same_system y x) xs ≡ true → IsAmong x xs
 any_among x [] h = absurd (true≢false (sym h))
@@ -170,6 +170,6 @@ lt_is Equal h = absurd (true≢false (sym h))
 lt_is Greater h = absurd (true≢false (sym h))
 
 -- nor where the longer path isn't below an old label that is there
-pub none_better : (s : Search) (hop : Hop) (l new : Label) (old : Option Label) → ((y : SystemId) (o : Label) → IsAt s.graph.now hop.to y → old ≡ Some o → IsLabel s y o) → ((y : SystemId) → IsAt s.graph.now hop.to y → IsLabel s y new) → IsExtended s hop l new → (MatchOption old ⊤ (λ o. IsBelow new.key o.key) → ⊥) → Improves s hop l old None
-none_better s hop l new None kept longer e n = absurd (n tt)
-none_better s hop l new (Some o) kept longer e n = not_better s hop l o new (λ y here. kept y o here refl) longer e n
+pub none_better : (s : Search) (arc : Arc) (l new : Label) (old : Option Label) → ((y : SystemId) (o : Label) → IsBridgeAt s.graph.now arc.to y → old ≡ Some o → IsLabel s y o) → ((y : SystemId) → IsBridgeAt s.graph.now arc.to y → IsLabel s y new) → IsExtended s arc l new → (MatchOption old ⊤ (λ o. IsBelow new.key o.key) → ⊥) → Improves s arc l old None
+none_better s arc l new None kept longer e n = absurd (n tt)
+none_better s arc l new (Some o) kept longer e n = not_better s arc l o new (λ y here. kept y o here refl) longer e n

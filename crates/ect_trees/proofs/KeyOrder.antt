@@ -13,10 +13,10 @@ use Rattle.spb_types.specs.declared.graph.GraphBridge.{GraphBridge}
 use Rattle.spb_types.specs.declared.graph.Graph.{Graph}
 use Rattle.ect_trees.specs.declared.key.PathKey.{PathKey}
 use Rattle.ect_trees.specs.Path.{IsPath, cost_of, hops_of}
-use Rattle.ect_trees.specs.Key.{id_cmp, bridge_id_among, masked_id, placed, ascending, key_of, key_cmp, IsBelow}
+use Rattle.ect_trees.specs.Key.{id_cmp, bridge_id_among, masked_id, inserted, sorted_ids, key_of, key_cmp, IsBelow}
 use Rattle.ect_trees.proofs.Among.{same_is}
-use Rattle.ect_trees.proofs.Placing.{nat_tied, then_parts, lists_tied, ids_tied, placed_keeps_order, length-ascending}
-use Rattle.ect_trees.proofs.Members.{Has, ascending_has, has_ascending}
+use Rattle.ect_trees.proofs.Placing.{nat_tied, then_parts, lists_tied, ids_tied, inserted_keeps_order, length-sorted}
+use Rattle.ect_trees.proofs.Members.{Has, sorted_has, has_sorted}
 use Rattle.ect_trees.proofs.Walks.{step, cost-snoc, hops-snoc, ids-snoc}
 
 pub keys_total : IsTotalOrder key_cmp
@@ -89,7 +89,7 @@ then_alike Equal r s h = h refl
 then_alike Greater r s h = refl
 
 -- keys that grow by the same cost, a hop and the same id keep their order
-raised : (k l m n : PathKey) (c : ℕ) (z : List ℕ) → m.cost ≡ k.cost + c → n.cost ≡ l.cost + c → m.hops ≡ suc k.hops → n.hops ≡ suc l.hops → m.ids ≡ placed z k.ids → n.ids ≡ placed z l.ids → (k.hops ≡ l.hops → length k.ids ≡ length l.ids) → key_cmp m n ≡ key_cmp k l
+raised : (k l m n : PathKey) (c : ℕ) (z : List ℕ) → m.cost ≡ k.cost + c → n.cost ≡ l.cost + c → m.hops ≡ suc k.hops → n.hops ≡ suc l.hops → m.ids ≡ inserted z k.ids → n.ids ≡ inserted z l.ids → (k.hops ≡ l.hops → length k.ids ≡ length l.ids) → key_cmp m n ≡ key_cmp k l
 raised k l m n c z mc nc mh nh mi ni same =
     let costs : nat_cmp m.cost n.cost ≡ nat_cmp k.cost l.cost = nat_cmp-add k.cost l.cost c m.cost n.cost mc nc in
     let hops : nat_cmp m.hops n.hops ≡ nat_cmp k.hops l.hops = nat_cmp-add k.hops l.hops 1 m.hops n.hops (omega (arith, mh)) (omega (arith, nh)) in
@@ -99,14 +99,14 @@ raised k l m n c z mc nc mh nh mi ni same =
     ap (λ o. ordering_then (nat_cmp k.cost l.cost) o) (then_alike (nat_cmp k.hops l.hops) (slice_cmp id_cmp m.ids n.ids) (slice_cmp id_cmp k.ids l.ids) ids))
   where
     ids_at : k.hops ≡ l.hops → slice_cmp id_cmp m.ids n.ids ≡ slice_cmp id_cmp k.ids l.ids
-    ids_at t = ap (λ s. slice_cmp id_cmp s n.ids) mi ∙ (ap (λ s. slice_cmp id_cmp (placed z k.ids) s) ni ∙ placed_keeps_order z k.ids l.ids (same t))
+    ids_at t = ap (λ s. slice_cmp id_cmp s n.ids) mi ∙ (ap (λ s. slice_cmp id_cmp (inserted z k.ids) s) ni ∙ inserted_keeps_order z k.ids l.ids (same t))
 
 length-map : (f : SystemId → List ℕ) (p : List SystemId) → length (map f p) ≡ length p
 length-map f [] = refl
 length-map f (x ∷ p) = ap suc (length-map f p)
 
 pub length-ids : (g : Graph) (mask : ℕ) (p : List SystemId) → length (key_of g mask p).ids ≡ length p
-length-ids g mask p = length-ascending (map (masked_id g mask) p) ∙ length-map (masked_id g mask) p
+length-ids g mask p = length-sorted (map (masked_id g mask) p) ∙ length-map (masked_id g mask) p
 
 same_length : (g : Graph) (mask : ℕ) (a b x y : SystemId) (p q : List SystemId) → IsPath g a x p → IsPath g b y q → hops_of p ≡ hops_of q → length (key_of g mask p).ids ≡ length (key_of g mask q).ids
 same_length g mask a b x y [] q v w e = absurd v
@@ -182,6 +182,6 @@ map_among f o x (y ∷ p) (inr h) = inr (map_among f o x p h)
 pub same_ids_among : (g : Graph) (mask : ℕ) (x : SystemId) (p q : List SystemId) → key_of g mask p ≡ key_of g mask q → IsAmong x p → IsAmong x q
 same_ids_among g mask x p q e i =
     let f = masked_id g mask in
-    let here : Has (f x) (ascending (map f p)) = ascending_has (f x) (map f p) (among_map f x p i) in
-    let there : Has (f x) (ascending (map f q)) = subst (λ (k : PathKey). Has (f x) k.ids) e here in
-    map_among f (masked_id_once g mask) x q (has_ascending (f x) (map f q) there)
+    let here : Has (f x) (sorted_ids (map f p)) = sorted_has (f x) (map f p) (among_map f x p i) in
+    let there : Has (f x) (sorted_ids (map f q)) = subst (λ (k : PathKey). Has (f x) k.ids) e here in
+    map_among f (masked_id_once g mask) x q (has_sorted (f x) (map f q) there)

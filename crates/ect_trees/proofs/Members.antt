@@ -1,6 +1,6 @@
 -- Members of lists: of an ascending list, of a map, a filter, a flat map.
 use Rattle.std.proofs.Common.{◌≡◌, ℕ, zero, suc, ◌<◌, Bool, true, false, true≢false, ◌⊎◌, inl, inr, List, [], ◌∷◌, ◌++◌, length, map, filter, flat_map, Contains, get_or, if◌then◌else◌, refl, sym, ap, ◌∙◌, subst, arith, is_gt}
-use Rattle.ect_trees.specs.Key.{id_cmp, placed, ascending}
+use Rattle.ect_trees.specs.Key.{id_cmp, inserted, sorted_ids}
 
 -- x is an element of the list
 abbrev pub Has : {X : Type 0} → X → List X → Type 0
@@ -46,41 +46,41 @@ filter_has p x (z ∷ xs) h = filter_has_at (p z) refl h (filter_has p x xs)
     filter_has_at false f i r = r i
 
 -- placing keeps the members
-pub placed_has : (z x : List ℕ) (ys : List (List ℕ)) → Has z (x ∷ ys) → Has z (placed x ys)
-placed_has z x [] h = h
-placed_has z x (y ∷ ys) h = placed_has_at (is_gt (id_cmp x y)) h (placed_has z x ys)
+pub inserted_has : (z x : List ℕ) (ys : List (List ℕ)) → Has z (x ∷ ys) → Has z (inserted x ys)
+inserted_has z x [] h = h
+inserted_has z x (y ∷ ys) h = inserted_has_at (is_gt (id_cmp x y)) h (inserted_has z x ys)
   where
-    placed_has_at : (b : Bool) → Has z (x ∷ y ∷ ys) → (Has z (x ∷ ys) → Has z (placed x ys)) → Has z (if b then y ∷ placed x ys else x ∷ y ∷ ys)
-    placed_has_at true (inl e) r = inr (r (inl e))
-    placed_has_at true (inr (inl e)) r = inl e
-    placed_has_at true (inr (inr i)) r = inr (r (inr i))
-    placed_has_at false i r = i
+    inserted_has_at : (b : Bool) → Has z (x ∷ y ∷ ys) → (Has z (x ∷ ys) → Has z (inserted x ys)) → Has z (if b then y ∷ inserted x ys else x ∷ y ∷ ys)
+    inserted_has_at true (inl e) r = inr (r (inl e))
+    inserted_has_at true (inr (inl e)) r = inl e
+    inserted_has_at true (inr (inr i)) r = inr (r (inr i))
+    inserted_has_at false i r = i
 
-pub has_placed : (z x : List ℕ) (ys : List (List ℕ)) → Has z (placed x ys) → Has z (x ∷ ys)
-has_placed z x [] h = h
-has_placed z x (y ∷ ys) h = has_placed_at (is_gt (id_cmp x y)) h (has_placed z x ys)
+pub has_inserted : (z x : List ℕ) (ys : List (List ℕ)) → Has z (inserted x ys) → Has z (x ∷ ys)
+has_inserted z x [] h = h
+has_inserted z x (y ∷ ys) h = has_inserted_at (is_gt (id_cmp x y)) h (has_inserted z x ys)
   where
-    has_placed_at : (b : Bool) → Has z (if b then y ∷ placed x ys else x ∷ y ∷ ys) → (Has z (placed x ys) → Has z (x ∷ ys)) → Has z (x ∷ y ∷ ys)
-    has_placed_at true (inl e) r = inr (inl e)
-    has_placed_at true (inr i) r = behind (r i)
+    has_inserted_at : (b : Bool) → Has z (if b then y ∷ inserted x ys else x ∷ y ∷ ys) → (Has z (inserted x ys) → Has z (x ∷ ys)) → Has z (x ∷ y ∷ ys)
+    has_inserted_at true (inl e) r = inr (inl e)
+    has_inserted_at true (inr i) r = behind (r i)
       where
         behind : Has z (x ∷ ys) → Has z (x ∷ y ∷ ys)
         behind (inl e) = inl e
         behind (inr j) = inr (inr j)
-    has_placed_at false i r = i
+    has_inserted_at false i r = i
 
-pub ascending_has : (z : List ℕ) (xs : List (List ℕ)) → Has z xs → Has z (ascending xs)
-ascending_has z [] h = h
-ascending_has z (x ∷ xs) (inl e) = placed_has z x (ascending xs) (inl e)
-ascending_has z (x ∷ xs) (inr h) = placed_has z x (ascending xs) (inr (ascending_has z xs h))
+pub sorted_has : (z : List ℕ) (xs : List (List ℕ)) → Has z xs → Has z (sorted_ids xs)
+sorted_has z [] h = h
+sorted_has z (x ∷ xs) (inl e) = inserted_has z x (sorted_ids xs) (inl e)
+sorted_has z (x ∷ xs) (inr h) = inserted_has z x (sorted_ids xs) (inr (sorted_has z xs h))
 
-pub has_ascending : (z : List ℕ) (xs : List (List ℕ)) → Has z (ascending xs) → Has z xs
-has_ascending z [] h = h
-has_ascending z (x ∷ xs) h = has_ascending_at (has_placed z x (ascending xs) h) (has_ascending z xs)
+pub has_sorted : (z : List ℕ) (xs : List (List ℕ)) → Has z (sorted_ids xs) → Has z xs
+has_sorted z [] h = h
+has_sorted z (x ∷ xs) h = has_sorted_at (has_inserted z x (sorted_ids xs) h) (has_sorted z xs)
   where
-    has_ascending_at : Has z (x ∷ ascending xs) → (Has z (ascending xs) → Has z xs) → Has z (x ∷ xs)
-    has_ascending_at (inl e) r = inl e
-    has_ascending_at (inr i) r = inr (r i)
+    has_sorted_at : Has z (x ∷ sorted_ids xs) → (Has z (sorted_ids xs) → Has z xs) → Has z (x ∷ xs)
+    has_sorted_at (inl e) r = inl e
+    has_sorted_at (inr i) r = inr (r i)
 
 -- what a list contains it has, and the other way round
 has_at : {X : Type 0} (xs : List X) (k : ℕ) (x : X) → k < length xs → get_or xs k x ≡ x → Has x xs

@@ -1,4 +1,4 @@
--- Places of bridges in a graph, and the hops between them.
+-- Places of bridges in a graph, and the arcs between them.
 use Rattle.std.proofs.Common.{◌≡◌, ℕ, zero, suc, ◌+◌, ◌<◌, Bool, true, false, true≢false, ◌&&◌, ◌||◌, not, if◌then◌else◌, cond, ◌⊎◌, inl, inr, List, [], ◌∷◌, length, get_or, Some, None, IsSome, option_map, refl, sym, ap, ◌∙◌, subst, arith, lt-ltb}
 use Rattle.std.specs.List.{AllByRecursion, slice_get, position}
 use Rattle.std.proofs.lemmas.Option.{none-some, same_Some, slice_get-map, slice_get_within, slice_get-get_or}
@@ -10,10 +10,10 @@ use Rattle.spb_types.specs.declared.address.SystemId.{SystemId}
 use Rattle.spb_types.specs.declared.graph.GraphBridge.{GraphBridge}
 use Rattle.spb_types.specs.declared.graph.Edge.{Edge}
 use Rattle.spb_types.specs.declared.graph.Graph.{Graph}
-use Rattle.ect_trees.specs.declared.search.Hop.{Hop}
+use Rattle.ect_trees.specs.declared.search.Arc.{Arc}
 use Rattle.ect_trees.specs.declared.search.Search.{Search}
 use Rattle.ect_trees.specs.Key.{bridge_id_among}
-use Rattle.ect_trees.specs.Search.{IsAt, Leads, place_in, hops_of, IsReady}
+use Rattle.ect_trees.specs.Search.{IsBridgeAt, Leads, place_in, arcs_of, IsReady}
 use Rattle.ect_trees.proofs.Among.{same_is, same_self}
 use Rattle.ect_trees.proofs.Walks.{cost_comm}
 
@@ -62,7 +62,7 @@ found_at (c ∷ bs) (suc i) b d h = passed (same_system c.id.system b.id.system)
     passed false e ih = ih
 
 -- a place of a bridge is below the number of bridges
-pub at_within : (g : Graph) (i : ℕ) (x : SystemId) → IsAt g i x → i < length g.bridges
+pub at_within : (g : Graph) (i : ℕ) (x : SystemId) → IsBridgeAt g i x → i < length g.bridges
 at_within g i x h = omega (arith, slice_get_within (systems_of g.bridges) i x h, length-map g.bridges (λ (t : GraphBridge). t.id.system))
 
 all_with : {X : Type 0} (P Q R : X → Type 0) (xs : List X) → ((x : X) → P x → Q x → R x) → AllByRecursion P xs → AllByRecursion Q xs → AllByRecursion R xs
@@ -81,34 +81,34 @@ costs_own (e ∷ es) o = (
       (λ f apart own. ap (λ t. if t then Some e.cost else cost_among es f.a f.b) apart ∙ own) o.0 (costs_own es o.1),
 )
 
--- the hop leads from a bridge to a bridge
-abbrev pub CanGo : Graph → Hop → Type 0
+-- the arc leads from a bridge to a bridge
+abbrev pub CanGo : Graph → Arc → Type 0
 CanGo g h = (x : SystemId) × (y : SystemId) × Leads g h x y
 
-hops_go : (g : Graph) (es : List Edge) → AllByRecursion (λ e. IsEdgeOf g e) es → AllByRecursion (λ e. cost_between g e.a e.b ≡ Some e.cost) es → AllByRecursion (CanGo g) (hops_of g.bridges es)
-hops_go g [] v o = tt
-hops_go g (e ∷ es) v o =
+arcs_go : (g : Graph) (es : List Edge) → AllByRecursion (λ e. IsEdgeOf g e) es → AllByRecursion (λ e. cost_between g e.a e.b ≡ Some e.cost) es → AllByRecursion (CanGo g) (arcs_of g.bridges es)
+arcs_go g [] v o = tt
+arcs_go g (e ∷ es) v o =
     let from = place_at g.bridges e.a v.0.from in
     let to = place_at g.bridges e.b v.0.to in (
       (e.a, e.b, record { from = from; to = to; cost = o.0 }),
       (
         (e.b, e.a, record { from = to; to = from; cost = cost_comm g e.b e.a ∙ o.0 }),
-        hops_go g es v.1 o.1,
+        arcs_go g es v.1 o.1,
       ),
     )
 
 -- each hop leads along an edge
-pub hops_lead : (g : Graph) → IsValid g → AllByRecursion (CanGo g) (hops_of g.bridges g.edges)
-hops_lead g v = hops_go g g.edges v.edges (costs_own g.edges v.one_edge)
+pub arcs_lead : (g : Graph) → IsValid g → AllByRecursion (CanGo g) (arcs_of g.bridges g.edges)
+arcs_lead g v = arcs_go g g.edges v.edges (costs_own g.edges v.one_edge)
 
 -- a hop of the list from x to y at a cost
-pub record GoesAt (g : Graph) (hops : List Hop) (x y : SystemId) (cost : ℕ) : Type 0 where
+pub record GoesAt (g : Graph) (arcs : List Arc) (x y : SystemId) (cost : ℕ) : Type 0 where
   pub at : ℕ
-  pub hop : Hop
-  pub here : slice_get hops at ≡ Some hop
-  pub from : IsAt g hop.from x
-  pub to : IsAt g hop.to y
-  pub cost_is : hop.cost ≡ cost
+  pub arc : Arc
+  pub here : slice_get arcs at ≡ Some arc
+  pub from : IsBridgeAt g arc.from x
+  pub to : IsBridgeAt g arc.to y
+  pub cost_is : arc.cost ≡ cost
 
 and_parts : (a b : Bool) → (a && b) ≡ true → (a ≡ true) × (b ≡ true)
 and_parts true b h = (refl, h)
@@ -118,33 +118,33 @@ or_parts : (a b : Bool) → (a || b) ≡ true → (a ≡ true) ⊎ (b ≡ true)
 or_parts true b h = inl refl
 or_parts false b h = inr h
 
-later : (g : Graph) (h k : Hop) (hops : List Hop) (x y : SystemId) (c : ℕ) → GoesAt g hops x y c → GoesAt g (h ∷ k ∷ hops) x y c
-later g h k hops x y c w = record { at = suc (suc w.at); hop = w.hop; here = w.here; from = w.from; to = w.to; cost_is = w.cost_is }
+later : (g : Graph) (h k : Arc) (arcs : List Arc) (x y : SystemId) (c : ℕ) → GoesAt g arcs x y c → GoesAt g (h ∷ k ∷ arcs) x y c
+later g h k arcs x y c w = record { at = suc (suc w.at); arc = w.arc; here = w.here; from = w.from; to = w.to; cost_is = w.cost_is }
 
-goes_among : (g : Graph) (es : List Edge) (x y : SystemId) (c : ℕ) → AllByRecursion (λ e. IsEdgeOf g e) es → cost_among es x y ≡ Some c → GoesAt g (hops_of g.bridges es) x y c
+goes_among : (g : Graph) (es : List Edge) (x y : SystemId) (c : ℕ) → AllByRecursion (λ e. IsEdgeOf g e) es → cost_among es x y ≡ Some c → GoesAt g (arcs_of g.bridges es) x y c
 goes_among g [] x y c v h = absurd (none-some c h)
 goes_among g (e ∷ es) x y c v h = by (joins e x y) refl h (goes_among g es x y c v.1)
   where
-    from : IsAt g (place_in g.bridges e.a) e.a
+    from : IsBridgeAt g (place_in g.bridges e.a) e.a
     from = place_at g.bridges e.a v.0.from
 
-    to : IsAt g (place_in g.bridges e.b) e.b
+    to : IsBridgeAt g (place_in g.bridges e.b) e.b
     to = place_at g.bridges e.b v.0.to
 
-    joined : e.cost ≡ c → (same_system e.a x && same_system e.b y) ≡ true ⊎ (same_system e.a y && same_system e.b x) ≡ true → GoesAt g (hops_of g.bridges (e ∷ es)) x y c
+    joined : e.cost ≡ c → (same_system e.a x && same_system e.b y) ≡ true ⊎ (same_system e.a y && same_system e.b x) ≡ true → GoesAt g (arcs_of g.bridges (e ∷ es)) x y c
     joined k (inl t) =
         let p = and_parts (same_system e.a x) (same_system e.b y) t in
-        record { at = 0; hop = record { from = place_in g.bridges e.a; to = place_in g.bridges e.b; cost = e.cost }; here = refl; from = subst (IsAt g (place_in g.bridges e.a)) (same_is e.a x p.0) from; to = subst (IsAt g (place_in g.bridges e.b)) (same_is e.b y p.1) to; cost_is = k }
+        record { at = 0; arc = record { from = place_in g.bridges e.a; to = place_in g.bridges e.b; cost = e.cost }; here = refl; from = subst (IsBridgeAt g (place_in g.bridges e.a)) (same_is e.a x p.0) from; to = subst (IsBridgeAt g (place_in g.bridges e.b)) (same_is e.b y p.1) to; cost_is = k }
     joined k (inr t) =
         let p = and_parts (same_system e.a y) (same_system e.b x) t in
-        record { at = 1; hop = record { from = place_in g.bridges e.b; to = place_in g.bridges e.a; cost = e.cost }; here = refl; from = subst (IsAt g (place_in g.bridges e.b)) (same_is e.b x p.1) to; to = subst (IsAt g (place_in g.bridges e.a)) (same_is e.a y p.0) from; cost_is = k }
+        record { at = 1; arc = record { from = place_in g.bridges e.b; to = place_in g.bridges e.a; cost = e.cost }; here = refl; from = subst (IsBridgeAt g (place_in g.bridges e.b)) (same_is e.b x p.1) to; to = subst (IsBridgeAt g (place_in g.bridges e.a)) (same_is e.a y p.0) from; cost_is = k }
 
-    by : (t : Bool) → joins e x y ≡ t → (if t then Some e.cost else cost_among es x y) ≡ Some c → (cost_among es x y ≡ Some c → GoesAt g (hops_of g.bridges es) x y c) → GoesAt g (hops_of g.bridges (e ∷ es)) x y c
+    by : (t : Bool) → joins e x y ≡ t → (if t then Some e.cost else cost_among es x y) ≡ Some c → (cost_among es x y ≡ Some c → GoesAt g (arcs_of g.bridges es) x y c) → GoesAt g (arcs_of g.bridges (e ∷ es)) x y c
     by true j k ih = joined (same_Some e.cost c k) (or_parts (same_system e.a x && same_system e.b y) (same_system e.a y && same_system e.b x) j)
-    by false j k ih = later g _ _ (hops_of g.bridges es) x y c (ih k)
+    by false j k ih = later g _ _ (arcs_of g.bridges es) x y c (ih k)
 
 -- between two bridges that an edge joins there is a hop
-pub goes : (g : Graph) (x y : SystemId) (c : ℕ) → IsValid g → cost_between g x y ≡ Some c → GoesAt g (hops_of g.bridges g.edges) x y c
+pub goes : (g : Graph) (x y : SystemId) (c : ℕ) → IsValid g → cost_between g x y ≡ Some c → GoesAt g (arcs_of g.bridges g.edges) x y c
 goes g x y c v h = goes_among g g.edges x y c v.edges h
 
 -- what a list of bridges, and of edges, is read as past its end
@@ -155,7 +155,7 @@ abbrev pub no_edge : Edge
 no_edge = record { a = record { mac = record { bytes = [] } }; port_a = 0; b = record { mac = record { bytes = [] } }; port_b = 0; cost = 0 }
 
 -- the bridge that is read at the place of y is y, with the id that the graph gives y
-pub read_bridge : (g : Graph) (bs : List GraphBridge) (i : ℕ) (y : SystemId) → IsValid g → bs ≡ g.bridges → IsAt g i y → ((get_or bs i no_bridge).id.system ≡ y) × (bridge_id_among g.bridges y ≡ (get_or bs i no_bridge).id)
+pub read_bridge : (g : Graph) (bs : List GraphBridge) (i : ℕ) (y : SystemId) → IsValid g → bs ≡ g.bridges → IsBridgeAt g i y → ((get_or bs i no_bridge).id.system ≡ y) × (bridge_id_among g.bridges y ≡ (get_or bs i no_bridge).id)
 read_bridge g bs i y v e h =
     let within : i < length g.bridges = at_within g i y h in
     let here : slice_get g.bridges i ≡ Some (get_or g.bridges i no_bridge) = slice_get-get_or g.bridges i no_bridge within in
@@ -174,9 +174,9 @@ place_found g x h =
     let within : place_in g.bridges x < length g.bridges = at_within g (place_in g.bridges x) x (place_at g.bridges x h) in
     subst (λ t. IsSome (cond t (Some (place_in g.bridges x)) None)) (sym (lt-ltb (place_in g.bridges x) (length g.bridges) within)) refl
 
-abbrev pub no_hop : Hop
-no_hop = record { from = 0; to = 0; cost = 0 }
+abbrev pub no_arc : Arc
+no_arc = record { from = 0; to = 0; cost = 0 }
 
 -- each hop that is read leads along an edge
-pub read_hop : (s : Search) (hs : List Hop) (i : ℕ) → IsReady s → hs ≡ s.hops.items → i < length hs → CanGo s.graph.now (get_or hs i no_hop)
-read_hop s hs i r e h = All-from_recursion (CanGo s.graph.now) hs (subst (AllByRecursion (CanGo s.graph.now)) (sym (e ∙ r.hops)) (hops_lead s.graph.now r.valid)) i no_hop h
+pub read_arc : (s : Search) (hs : List Arc) (i : ℕ) → IsReady s → hs ≡ s.arcs.items → i < length hs → CanGo s.graph.now (get_or hs i no_arc)
+read_arc s hs i r e h = All-from_recursion (CanGo s.graph.now) hs (subst (AllByRecursion (CanGo s.graph.now)) (sym (e ∙ r.arcs)) (arcs_lead s.graph.now r.valid)) i no_arc h

@@ -8,20 +8,20 @@ use Rattle.spb_types.specs.Graph.{systems_of, cost_between}
 use Rattle.spb_types.specs.declared.address.SystemId.{SystemId}
 use Rattle.spb_types.specs.declared.graph.Graph.{Graph}
 use Rattle.ect_trees.specs.declared.search.Label.{Label}
-use Rattle.ect_trees.specs.declared.search.Hop.{Hop}
+use Rattle.ect_trees.specs.declared.search.Arc.{Arc}
 use Rattle.ect_trees.specs.declared.search.Search.{Search}
 use Rattle.ect_trees.specs.Path.{IsPath}
 use Rattle.ect_trees.specs.Path as path
 use Rattle.ect_trees.specs.Key.{key_of, IsBelow}
 use Rattle.ect_trees.specs.Best.{IsBest}
-use Rattle.ect_trees.specs.Search.{IsAt, Leads, IsReady, IsLabel, label_at, AreLabels, HasPath, IsSettled, AreBest, KeepsBest, TakesStep, Improves, IsRelaxed, IsRound}
+use Rattle.ect_trees.specs.Search.{IsBridgeAt, Leads, IsReady, IsLabel, label_at, AreLabels, HasPath, IsSettled, AreBest, KeepsBest, TakesStep, Improves, IsRelaxed, IsRound}
 use Rattle.ect_trees.proofs.Walks.{path_length}
 use Rattle.ect_trees.proofs.Least.{best_is_least, best_front}
 use Rattle.ect_trees.proofs.Places.{at_once, at_within, goes}
 
 -- nothing changes where the start of the hop has no label
-pub relaxed_nothing : (s : Search) (hop : Hop) (ls : List (Option Label)) → AreLabels s ls → label_at ls hop.from ≡ None → IsRelaxed s hop ls ls false
-relaxed_nothing s hop ls labels none = record {
+pub relaxed_nothing : (s : Search) (arc : Arc) (ls : List (Option Label)) → AreLabels s ls → label_at ls arc.from ≡ None → IsRelaxed s arc ls ls false
+relaxed_nothing s arc ls labels none = record {
   labels = labels;
   keeps = λ place x p here best has. has;
   step = λ x y p go best has longer. absurd (none-some p (sym (ap (option_map (λ (l : Label). l.bridges.items)) none) ∙ has));
@@ -32,14 +32,14 @@ relaxed_nothing s hop ls labels none = record {
 path_is : (ls : List (Option Label)) (place : ℕ) (l : Label) (p : List SystemId) → label_at ls place ≡ Some l → HasPath ls place p → l.bridges.items ≡ p
 path_is ls place l p e h = same_Some l.bridges.items p (sym (ap (option_map (λ (t : Label). t.bridges.items)) e) ∙ h)
 
--- nor where the hop makes nothing better
-pub relaxed_same : (s : Search) (hop : Hop) (l : Label) (ls : List (Option Label)) → AreLabels s ls → label_at ls hop.from ≡ Some l → Improves s hop l (label_at ls hop.to) None → IsRelaxed s hop ls ls false
-relaxed_same s hop l ls labels from worse = record {
+-- nor where the arc makes nothing better
+pub relaxed_same : (s : Search) (arc : Arc) (l : Label) (ls : List (Option Label)) → AreLabels s ls → label_at ls arc.from ≡ Some l → Improves s arc l (label_at ls arc.to) None → IsRelaxed s arc ls ls false
+relaxed_same s arc l ls labels from worse = record {
   labels = labels;
   keeps = λ place x p here best has. has;
   step = λ x y p go best has longer.
-      let e : l.bridges.items ≡ p = path_is ls hop.from l p from has in
-      subst (λ t. HasPath ls hop.to (t ++ y ∷ [])) e (worse y go.to (subst (λ t. IsBest s.graph.now s.mask s.source y (t ++ y ∷ [])) (sym e) longer));
+      let e : l.bridges.items ≡ p = path_is ls arc.from l p from has in
+      subst (λ t. HasPath ls arc.to (t ++ y ∷ [])) e (worse y go.to (subst (λ t. IsBest s.graph.now s.mask s.source y (t ++ y ∷ [])) (sym e) longer));
   still = λ e. refl;
 }
 
@@ -51,53 +51,53 @@ same_or_not i j = by (eqb i j) refl
     by false e = inr (λ h. true≢false (sym (eq-eqb i j h) ∙ e))
 
 -- a better label takes its place
-pub relaxed_set : (s : Search) (hop : Hop) (l new : Label) (ls : List (Option Label)) → AreLabels s ls → hop.to < length ls → label_at ls hop.from ≡ Some l → Improves s hop l (label_at ls hop.to) (Some new) → IsRelaxed s hop ls (set ls hop.to (Some new)) true
-relaxed_set s hop l new ls labels within from better = record {
-  labels = record { places = length-set ls hop.to (Some new) ∙ labels.places; each = each };
+pub relaxed_set : (s : Search) (arc : Arc) (l new : Label) (ls : List (Option Label)) → AreLabels s ls → arc.to < length ls → label_at ls arc.from ≡ Some l → Improves s arc l (label_at ls arc.to) (Some new) → IsRelaxed s arc ls (set ls arc.to (Some new)) true
+relaxed_set s arc l new ls labels within from better = record {
+  labels = record { places = length-set ls arc.to (Some new) ∙ labels.places; each = each };
   keeps = keeps;
   step = λ x y p go best has longer.
-      let e : l.bridges.items ≡ p = path_is ls hop.from l p from has in
+      let e : l.bridges.items ≡ p = path_is ls arc.from l p from has in
       ap (option_map (λ (t : Label). t.bridges.items)) here ∙ ap Some ((better.0 y go.to).1 ∙ ap (λ t. t ++ y ∷ []) e);
   still = λ e. absurd (true≢false e);
 }
   where
-    here : label_at (set ls hop.to (Some new)) hop.to ≡ Some new
-    here = get_or-set_same ls hop.to (Some new) None within
+    here : label_at (set ls arc.to (Some new)) arc.to ≡ Some new
+    here = get_or-set_same ls arc.to (Some new) None within
 
-    there : (place : ℕ) → place ≢ hop.to → label_at (set ls hop.to (Some new)) place ≡ label_at ls place
-    there place n = get_or-set_other ls hop.to place (Some new) None n
+    there : (place : ℕ) → place ≢ arc.to → label_at (set ls arc.to (Some new)) place ≡ label_at ls place
+    there place n = get_or-set_other ls arc.to place (Some new) None n
 
-    each : (place : ℕ) (x : SystemId) (k : Label) → IsAt s.graph.now place x → label_at (set ls hop.to (Some new)) place ≡ Some k → IsLabel s x k
-    each place x k at e = elim (same_or_not place hop.to) [
+    each : (place : ℕ) (x : SystemId) (k : Label) → IsBridgeAt s.graph.now place x → label_at (set ls arc.to (Some new)) place ≡ Some k → IsLabel s x k
+    each place x k at e = elim (same_or_not place arc.to) [
       | inl same ↦
-          let own : new ≡ k = same_Some new k (sym here ∙ subst (λ t. label_at (set ls hop.to (Some new)) t ≡ Some k) same e) in
-          subst (IsLabel s x) own (better.0 x (subst (λ t. IsAt s.graph.now t x) same at)).0
+          let own : new ≡ k = same_Some new k (sym here ∙ subst (λ t. label_at (set ls arc.to (Some new)) t ≡ Some k) same e) in
+          subst (IsLabel s x) own (better.0 x (subst (λ t. IsBridgeAt s.graph.now t x) same at)).0
       | inr other ↦ labels.each place x k at (sym (there place other) ∙ e)
     ]
 
-    beats : (o : Option Label) (x : SystemId) (p : List SystemId) → label_at ls hop.to ≡ o → IsAt s.graph.now hop.to x → IsBest s.graph.now s.mask s.source x p → option_map (λ (t : Label). t.bridges.items) o ≡ Some p → ⊥
+    beats : (o : Option Label) (x : SystemId) (p : List SystemId) → label_at ls arc.to ≡ o → IsBridgeAt s.graph.now arc.to x → IsBest s.graph.now s.mask s.source x p → option_map (λ (t : Label). t.bridges.items) o ≡ Some p → ⊥
     beats None x p e at best h = none-some p h
     beats (Some o) x p e at best h =
         let g = s.graph.now in
         let same : o.bridges.items ≡ p = same_Some o.bridges.items p h in
         let below : IsBelow new.key o.key = better.1 o e in
-        let kept = labels.each hop.to x o at e in
+        let kept = labels.each arc.to x o at e in
         let fresh = (better.0 x at).0 in
         let left : IsBelow (key_of g s.mask new.bridges.items) o.key = subst (λ k. IsBelow k o.key) fresh.keyed below in
         let right : IsBelow (key_of g s.mask new.bridges.items) (key_of g s.mask p) = subst (IsBelow (key_of g s.mask new.bridges.items)) (kept.keyed ∙ ap (key_of g s.mask) same) left in
         (best_is_least g s.mask s.source x p best).least new.bridges.items fresh.path right
 
-    keeps : KeepsBest s ls (set ls hop.to (Some new))
-    keeps place x p at best has = elim (same_or_not place hop.to) [
-      | inl same ↦ absurd (beats (label_at ls hop.to) x p refl (subst (λ t. IsAt s.graph.now t x) same at) best (subst (λ t. HasPath ls t p) same has))
+    keeps : KeepsBest s ls (set ls arc.to (Some new))
+    keeps place x p at best has = elim (same_or_not place arc.to) [
+      | inl same ↦ absurd (beats (label_at ls arc.to) x p refl (subst (λ t. IsBridgeAt s.graph.now t x) same at) best (subst (λ t. HasPath ls t p) same has))
       | inr other ↦ ap (option_map (λ (t : Label). t.bridges.items)) (there place other) ∙ has
     ]
 
--- what the first k hops of a round did
+-- what the first k arcs of a round did
 pub record SoFar (s : Search) (k : ℕ) (old now : List (Option Label)) (changed : Bool) : Type 0 where
   pub labels : AreLabels s now
   pub keeps : KeepsBest s old now
-  pub steps : (j : ℕ) (h : Hop) → j < k → slice_get s.hops.items j ≡ Some h → TakesStep s h old now
+  pub steps : (j : ℕ) (h : Arc) → j < k → slice_get s.arcs.items j ≡ Some h → TakesStep s h old now
   pub still : changed ≡ false → now ≡ old
 
 pub so_far_none : (s : Search) (ls : List (Option Label)) → AreLabels s ls → SoFar s 0 ls ls false
@@ -109,19 +109,19 @@ so_far_none s ls labels = record {
 }
 
 -- one hop more
-pub so_far_more : (s : Search) (k : ℕ) (hop : Hop) (old now new : List (Option Label)) (changed more both : Bool) → SoFar s k old now changed → slice_get s.hops.items k ≡ Some hop → IsRelaxed s hop now new more → (both ≡ false → (changed ≡ false) × (more ≡ false)) → SoFar s (k + 1) old new both
-so_far_more s k hop old now new changed more both sofar here relaxed parts = record {
+pub so_far_more : (s : Search) (k : ℕ) (arc : Arc) (old now new : List (Option Label)) (changed more both : Bool) → SoFar s k old now changed → slice_get s.arcs.items k ≡ Some arc → IsRelaxed s arc now new more → (both ≡ false → (changed ≡ false) × (more ≡ false)) → SoFar s (k + 1) old new both
+so_far_more s k arc old now new changed more both sofar here relaxed parts = record {
   labels = relaxed.labels;
   keeps = λ place x p at best has. relaxed.keeps place x p at best (sofar.keeps place x p at best has);
   steps = steps;
   still = λ e. relaxed.still (parts e).1 ∙ sofar.still (parts e).0;
 }
   where
-    steps : (j : ℕ) (h : Hop) → j < k + 1 → slice_get s.hops.items j ≡ Some h → TakesStep s h old new
+    steps : (j : ℕ) (h : Arc) → j < k + 1 → slice_get s.arcs.items j ≡ Some h → TakesStep s h old new
     steps j h below at = elim (same_or_not j k) [
       | inl same ↦
-          let own : hop ≡ h = same_Some hop h (sym here ∙ subst (λ t. slice_get s.hops.items t ≡ Some h) same at) in
-          subst (λ t. TakesStep s t old new) own (λ x y p go best has longer. relaxed.step x y p go best (sofar.keeps hop.from x p go.from best has) longer)
+          let own : arc ≡ h = same_Some arc h (sym here ∙ subst (λ t. slice_get s.arcs.items t ≡ Some h) same at) in
+          subst (λ t. TakesStep s t old new) own (λ x y p go best has longer. relaxed.step x y p go best (sofar.keeps arc.from x p go.from best has) longer)
       | inr other ↦ λ x y p go best has longer.
           relaxed.keeps h.to y (p ++ y ∷ []) go.to longer (sofar.steps j h (omega (arith, below, other)) at x y p go best has longer)
     ]
@@ -151,7 +151,7 @@ some_is None h = absurd (true≢false (sym h))
 some_is (Some x) h = (x, refl)
 
 -- after a whole round the best paths of one hop more are there
-pub round_done : (s : Search) (old now : List (Option Label)) (changed : Bool) → IsReady s → SoFar s (length s.hops.items) old now changed → IsRound s old now changed
+pub round_done : (s : Search) (old now : List (Option Label)) (changed : Bool) → IsReady s → SoFar s (length s.arcs.items) old now changed → IsRound s old now changed
 round_done s old now changed ready sofar = record { labels = sofar.labels; further = further; still = sofar.still }
   where
     further : (n : ℕ) → IsSettled s n old → IsSettled s (n + 1) now
@@ -168,15 +168,15 @@ round_done s old now changed ready sofar = record { labels = sofar.labels; furth
           let shorter : length q ≤ n + 1 = omega (arith, counted, long, length-append q (y ∷ [])) in
           let cost = some_is (cost_between g w.last y) w.joined in
           let go = goes g w.last y cost.0 ready.valid cost.1 in
-          let listed : slice_get s.hops.items go.at ≡ Some go.hop = subst (λ t. slice_get t go.at ≡ Some go.hop) (sym ready.hops) go.here in
-          let lead : Leads g go.hop w.last y = record { from = go.from; to = go.to; cost = cost.1 ∙ ap Some (sym go.cost_is) } in
-          let has : HasPath old go.hop.from q = settled go.hop.from w.last q go.from shorter best' in
-          let stepped : HasPath now go.hop.to (q ++ y ∷ []) = sofar.steps go.at go.hop (within (s.hops.items) go.at go.hop listed) listed w.last y q lead best' has (subst (IsBest g s.mask s.source y) w.parts best) in
-          let same : go.hop.to ≡ place = at_once (systems_of g.bridges) go.hop.to place y ready.valid.apart go.to here in
+          let listed : slice_get s.arcs.items go.at ≡ Some go.arc = subst (λ t. slice_get t go.at ≡ Some go.arc) (sym ready.arcs) go.here in
+          let lead : Leads g go.arc w.last y = record { from = go.from; to = go.to; cost = cost.1 ∙ ap Some (sym go.cost_is) } in
+          let has : HasPath old go.arc.from q = settled go.arc.from w.last q go.from shorter best' in
+          let stepped : HasPath now go.arc.to (q ++ y ∷ []) = sofar.steps go.at go.arc (within (s.arcs.items) go.at go.arc listed) listed w.last y q lead best' has (subst (IsBest g s.mask s.source y) w.parts best) in
+          let same : go.arc.to ≡ place = at_once (systems_of g.bridges) go.arc.to place y ready.valid.apart go.to here in
           subst (λ t. HasPath now place t) (sym w.parts) (subst (λ t. HasPath now t (q ++ y ∷ [])) same stepped)
     ]
       where
-        within : (hs : List Hop) (i : ℕ) (h : Hop) → slice_get hs i ≡ Some h → i < length hs
+        within : (hs : List Arc) (i : ℕ) (h : Arc) → slice_get hs i ≡ Some h → i < length hs
         within = Rattle.std.proofs.lemmas.Option.slice_get_within
 
 -- where a round changes nothing, all best paths are there
@@ -204,5 +204,5 @@ settled_whole s ls n labels enough settled = record { labels = labels; settled =
         settled place x p here (omega (arith, within, enough)) best
 
 -- the label that is read at the place of a bridge
-pub read_label : (s : Search) (ls : List (Option Label)) (i : ℕ) (x : SystemId) (o : Option Label) → AreLabels s ls → IsAt s.graph.now i x → o ≡ get_or ls i o → label_at ls i ≡ o
+pub read_label : (s : Search) (ls : List (Option Label)) (i : ℕ) (x : SystemId) (o : Option Label) → AreLabels s ls → IsBridgeAt s.graph.now i x → o ≡ get_or ls i o → label_at ls i ≡ o
 read_label s ls i x o labels here r = sym (get_or_read ls i o (omega (arith, at_within s.graph.now i x here, labels.places)) r None)

@@ -10,7 +10,7 @@ use Rattle.ect_trees.specs.declared.search.Label.{Label}
 use Rattle.ect_trees.specs.declared.search.Search.{Search}
 use Rattle.ect_trees.specs.Path.{IsPath}
 use Rattle.ect_trees.specs.Key.{key_of}
-use Rattle.ect_trees.specs.Search.{IsAt, IsReady, IsLabel, IsFirst, label_at, AreLabels, HasPath, IsSettled}
+use Rattle.ect_trees.specs.Search.{IsBridgeAt, IsReady, IsLabel, IsFirst, label_at, AreLabels, HasPath, IsSettled}
 use Rattle.ect_trees.proofs.Among.{same_is, same_self}
 use Rattle.ect_trees.proofs.Walks.{path_single}
 use Rattle.ect_trees.proofs.Places.{no_bridge, at_among, at_within, read_bridge}
@@ -24,25 +24,25 @@ IsStart s x (Some l) = IsLabel s x l × (l.bridges.items ≡ x ∷ [])
 -- the first n places are made
 pub record Started (s : Search) (n : ℕ) (ls : List (Option Label)) : Type 0 where
   pub long : length ls ≡ n
-  pub each : (place : ℕ) (x : SystemId) → place < n → IsAt s.graph.now place x → IsStart s x (label_at ls place)
+  pub each : (place : ℕ) (x : SystemId) → place < n → IsBridgeAt s.graph.now place x → IsStart s x (label_at ls place)
 
 pub started_none : (s : Search) → Started s 0 []
 started_none s = record { long = refl; each = λ place x below here. absurd (omega (arith, below)) }
 
 -- the next place
-pub started_more : (s : Search) (n : ℕ) (ls : List (Option Label)) (o : Option Label) → Started s n ls → ((x : SystemId) → IsAt s.graph.now n x → IsStart s x o) → Started s (n + 1) (ls ++ o ∷ [])
+pub started_more : (s : Search) (n : ℕ) (ls : List (Option Label)) (o : Option Label) → Started s n ls → ((x : SystemId) → IsBridgeAt s.graph.now n x → IsStart s x o) → Started s (n + 1) (ls ++ o ∷ [])
 started_more s n ls o st next = record { long = length_push ls o ∙ ap (λ t. t + 1) st.long; each = each }
   where
-    each : (place : ℕ) (x : SystemId) → place < n + 1 → IsAt s.graph.now place x → IsStart s x (label_at (ls ++ o ∷ []) place)
+    each : (place : ℕ) (x : SystemId) → place < n + 1 → IsBridgeAt s.graph.now place x → IsStart s x (label_at (ls ++ o ∷ []) place)
     each place x below here = by (same_or_not place n)
       where
         by : (place ≡ n) ⊎ (place ≢ n) → IsStart s x (label_at (ls ++ o ∷ []) place)
-        by (inl e) = subst (IsStart s x) (sym (get_or_push ls o None place (st.long ∙ sym e))) (next x (subst (λ t. IsAt s.graph.now t x) e here))
+        by (inl e) = subst (IsStart s x) (sym (get_or_push ls o None place (st.long ∙ sym e))) (next x (subst (λ t. IsBridgeAt s.graph.now t x) e here))
         by (inr d) = let low : place < n = omega (arith, below, d) in
             subst (IsStart s x) (sym (get_or_append_left ls (o ∷ []) None place (omega (arith, low, st.long)))) (st.each place x low here)
 
 -- the path of the source alone
-pub start_first : (s : Search) (bs : List GraphBridge) (i : ℕ) (l : Label) (x : SystemId) → IsReady s → bs ≡ s.graph.now.bridges → same_system (get_or bs i no_bridge).id.system s.source ≡ true → IsFirst s.mask (get_or bs i no_bridge).id l → IsAt s.graph.now i x → IsStart s x (Some l)
+pub start_first : (s : Search) (bs : List GraphBridge) (i : ℕ) (l : Label) (x : SystemId) → IsReady s → bs ≡ s.graph.now.bridges → same_system (get_or bs i no_bridge).id.system s.source ≡ true → IsFirst s.mask (get_or bs i no_bridge).id l → IsBridgeAt s.graph.now i x → IsStart s x (Some l)
 start_first s bs i l x ready e same first here =
     let g = s.graph.now in
     let read = read_bridge g bs i x ready.valid e here in
@@ -53,7 +53,7 @@ start_first s bs i l x ready e same first here =
     (record { path = subst (IsPath g s.source x) (sym one) path; keyed = key ∙ ap (key_of g s.mask) (sym one) }, one)
 
 -- and none elsewhere
-pub start_none : (s : Search) (bs : List GraphBridge) (i : ℕ) (x : SystemId) → IsReady s → bs ≡ s.graph.now.bridges → same_system (get_or bs i no_bridge).id.system s.source ≡ false → IsAt s.graph.now i x → IsStart s x None
+pub start_none : (s : Search) (bs : List GraphBridge) (i : ℕ) (x : SystemId) → IsReady s → bs ≡ s.graph.now.bridges → same_system (get_or bs i no_bridge).id.system s.source ≡ false → IsBridgeAt s.graph.now i x → IsStart s x None
 start_none s bs i x ready e same here = λ source.
     let read = read_bridge s.graph.now bs i x ready.valid e here in
     true≢false (sym (same_self s.source) ∙ (ap (λ t. same_system t s.source) (sym source ∙ sym read.0) ∙ same))
@@ -66,7 +66,7 @@ started_labels s ls n e st = record { places = st.long ∙ e; each = each }
     is_label x None l h k = absurd (none-some l h)
     is_label x (Some m) l h k = subst (IsLabel s x) (same_Some m l h) k.0
 
-    each : (place : ℕ) (x : SystemId) (l : Label) → IsAt s.graph.now place x → label_at ls place ≡ Some l → IsLabel s x l
+    each : (place : ℕ) (x : SystemId) (l : Label) → IsBridgeAt s.graph.now place x → label_at ls place ≡ Some l → IsLabel s x l
     each place x l here h = is_label x (label_at ls place) l h (st.each place x (omega (arith, at_within s.graph.now place x here, e)) here)
 
 -- and the best path of no hop is there

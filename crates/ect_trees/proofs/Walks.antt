@@ -9,9 +9,9 @@ use Rattle.spb_types.specs.declared.graph.Edge.{Edge}
 use Rattle.spb_types.specs.declared.graph.GraphBridge.{GraphBridge}
 use Rattle.spb_types.specs.declared.graph.Graph.{Graph}
 use Rattle.ect_trees.specs.Path.{Leads, IsPath, cost_along, cost_of, hops_of}
-use Rattle.ect_trees.specs.Key.{masked_id, placed, ascending}
+use Rattle.ect_trees.specs.Key.{masked_id, inserted, sorted_ids}
 use Rattle.ect_trees.proofs.Among.{among_left, distinct_snoc, distinct_back, among_reverse, reverse-cons, length-within}
-use Rattle.ect_trees.proofs.Placing.{ascending-snoc}
+use Rattle.ect_trees.proofs.Placing.{sorted-snoc}
 
 or_comm : (a b : Bool) → (a || b) ≡ (b || a)
 or_comm true true = refl
@@ -166,8 +166,8 @@ pub map-snoc : (f : SystemId → List ℕ) (p : List SystemId) (y : SystemId) �
 map-snoc f [] y = refl
 map-snoc f (x ∷ xs) y = ap (λ t. f x ∷ t) (map-snoc f xs y)
 
-pub ids-snoc : (g : Graph) (mask : ℕ) (y : SystemId) (p : List SystemId) → ascending (map (masked_id g mask) (p ++ y ∷ [])) ≡ placed (masked_id g mask y) (ascending (map (masked_id g mask) p))
-ids-snoc g mask y p = ap ascending (map-snoc (masked_id g mask) p y) ∙ ascending-snoc (map (masked_id g mask) p) (masked_id g mask y)
+pub ids-snoc : (g : Graph) (mask : ℕ) (y : SystemId) (p : List SystemId) → sorted_ids (map (masked_id g mask) (p ++ y ∷ [])) ≡ inserted (masked_id g mask y) (sorted_ids (map (masked_id g mask) p))
+ids-snoc g mask y p = ap sorted_ids (map-snoc (masked_id g mask) p y) ∙ sorted-snoc (map (masked_id g mask) p) (masked_id g mask y)
 
 along_back : (g : Graph) (a x : SystemId) (l r : List SystemId) → cost_along g x r ≤ cost_along g a (l ++ x ∷ r)
 along_back g a x [] r = omega arith
@@ -201,10 +201,10 @@ pub cost-reverse : (g : Graph) (a b : SystemId) (p : List SystemId) → IsPath g
 cost-reverse g a b [] w = refl
 cost-reverse g a b (x ∷ xs) w = cost_reverse_from g x b xs w.1 w.2
 
-pub ids-reverse : (g : Graph) (mask : ℕ) (p : List SystemId) → ascending (map (masked_id g mask) (reverse p)) ≡ ascending (map (masked_id g mask) p)
+pub ids-reverse : (g : Graph) (mask : ℕ) (p : List SystemId) → sorted_ids (map (masked_id g mask) (reverse p)) ≡ sorted_ids (map (masked_id g mask) p)
 ids-reverse g mask [] = refl
 ids-reverse g mask (x ∷ xs) =
-    ap (λ t. ascending (map (masked_id g mask) t)) (reverse-cons x xs) ∙ (ids-snoc g mask x (reverse xs) ∙ ap (placed (masked_id g mask x)) (ids-reverse g mask xs))
+    ap (λ t. sorted_ids (map (masked_id g mask) t)) (reverse-cons x xs) ∙ (ids-snoc g mask x (reverse xs) ∙ ap (inserted (masked_id g mask x)) (ids-reverse g mask xs))
 
 pub hops-reverse : (p : List SystemId) → hops_of (reverse p) ≡ hops_of p
 hops-reverse p = ap (λ n. n - 1) (length-reverse p)

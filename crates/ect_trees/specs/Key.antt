@@ -25,21 +25,22 @@ abbrev pub masked_id : Graph → ℕ → SystemId → List ℕ
 masked_id g mask x = masked mask (bridge_id_among g.bridges x)
 
 -- an id put at its place in an ascending list of ids
-abbrev pub placed : List ℕ → List (List ℕ) → List (List ℕ)
-placed = sorted.placed id_cmp
+abbrev pub inserted : List ℕ → List (List ℕ) → List (List ℕ)
+inserted = sorted.inserted id_cmp
 
 -- ids in ascending order
-abbrev pub ascending : List (List ℕ) → List (List ℕ)
-ascending = sorted.ascending id_cmp
+abbrev pub sorted_ids : List (List ℕ) → List (List ℕ)
+sorted_ids = sorted.ascending_by id_cmp
 
 -- the key of a path: the sum of its costs, its number of hops, and its PATHID, which is the list of its masked
 -- bridge ids in ascending order (IEEE 802.1aq, 28.5 to 28.8)
 abbrev pub key_of : Graph → ℕ → List SystemId → PathKey
-key_of g mask p = record { cost = cost_of g p; hops = hops_of p; ids = ascending (map (masked_id g mask) p) }
+key_of g mask p = record { cost = cost_of g p; hops = hops_of p; ids = sorted_ids (map (masked_id g mask) p) }
 
 -- keys compare by cost, then by hops, then by PATHID
 abbrev pub key_cmp : PathKey → PathKey → Ordering
-key_cmp k l = ordering_then (nat_cmp k.cost l.cost) (ordering_then (nat_cmp k.hops l.hops) (slice_cmp id_cmp k.ids l.ids))
+key_cmp k l = ordering_then (nat_cmp k.cost l.cost)
+    (ordering_then (nat_cmp k.hops l.hops) (slice_cmp id_cmp k.ids l.ids))
 
 -- the first key is below the second
 abbrev pub IsBelow : PathKey → PathKey → Type 0

@@ -10,37 +10,37 @@ use Rattle.spb_types.specs.declared.graph.Edge.{Edge}
 use Rattle.spb_types.specs.declared.graph.Graph.{Graph}
 use Rattle.spb_types.specs.declared.tables.Path.{Path}
 use Rattle.ect_trees.specs.declared.search.Label.{Label}
-use Rattle.ect_trees.specs.declared.search.Hop.{Hop}
+use Rattle.ect_trees.specs.declared.search.Arc.{Arc}
 use Rattle.ect_trees.specs.declared.search.Search.{Search}
 use Rattle.ect_trees.specs.Path.{IsPath}
-use Rattle.ect_trees.specs.Key.{key_of, masked_id, placed, IsBelow}
+use Rattle.ect_trees.specs.Key.{key_of, masked_id, inserted, IsBelow}
 use Rattle.ect_trees.specs.Best.{IsBest}
 
 -- the bridge x stands at this place of the graph
-abbrev pub IsAt : Graph → ℕ → SystemId → Type 0
-IsAt g place x = slice_get (systems_of g.bridges) place ≡ Some x
+abbrev pub IsBridgeAt : Graph → ℕ → SystemId → Type 0
+IsBridgeAt g place x = slice_get (systems_of g.bridges) place ≡ Some x
 
 -- the place of the first bridge with this system id
 abbrev pub place_in : List GraphBridge → SystemId → ℕ
 place_in bridges x = position_or_len (λ b. same_system b.id.system x) bridges
 
 -- both directions of each edge
-abbrev pub hops_of : List GraphBridge → List Edge → List Hop
-hops_of bridges [] = []
-hops_of bridges (e ∷ es) = record { from = place_in bridges e.a; to = place_in bridges e.b; cost = e.cost }
+abbrev pub arcs_of : List GraphBridge → List Edge → List Arc
+arcs_of bridges [] = []
+arcs_of bridges (e ∷ es) = record { from = place_in bridges e.a; to = place_in bridges e.b; cost = e.cost }
     ∷ record { from = place_in bridges e.b; to = place_in bridges e.a; cost = e.cost }
-    ∷ hops_of bridges es
+    ∷ arcs_of bridges es
 
--- the hop leads along an edge of the graph from x to y
-pub record Leads (g : Graph) (hop : Hop) (x y : SystemId) : Type 0 where
-  pub from : IsAt g hop.from x
-  pub to : IsAt g hop.to y
-  pub cost : cost_between g x y ≡ Some hop.cost
+-- the arc leads along an edge of the graph from x to y
+pub record Leads (g : Graph) (arc : Arc) (x y : SystemId) : Type 0 where
+  pub from : IsBridgeAt g arc.from x
+  pub to : IsBridgeAt g arc.to y
+  pub cost : cost_between g x y ≡ Some arc.cost
 
--- the graph of the search is valid, and its hops are both directions of the edges
+-- the graph of the search is valid, and its arcs are both directions of the edges
 pub record IsReady (s : Search) : Type 0 where
   pub valid : IsValid s.graph.now
-  pub hops : s.hops.items ≡ hops_of s.graph.now.bridges s.graph.now.edges
+  pub arcs : s.arcs.items ≡ arcs_of s.graph.now.bridges s.graph.now.edges
 
 -- a search that is ready, for the best paths from this source
 pub record Seeks (g : Graph) (mask : ℕ) (source : SystemId) (s : Search) : Type 0 where
@@ -66,7 +66,8 @@ label_at ls place = slice_index_or ls place None
 -- there is a place for each bridge, and each label is a path to its bridge with its key
 pub record AreLabels (s : Search) (ls : List (Option Label)) : Type 0 where
   pub places : length ls ≡ length s.graph.now.bridges
-  pub each : (place : ℕ) (x : SystemId) (l : Label) → IsAt s.graph.now place x → label_at ls place ≡ Some l → IsLabel s x l
+  pub each : (place : ℕ) (x : SystemId) (l : Label) → IsBridgeAt s.graph.now place x → label_at ls place ≡ Some l
+      → IsLabel s x l
 
 -- the label at this place has the path p
 abbrev pub HasPath : List (Option Label) → ℕ → List SystemId → Type 0
@@ -74,7 +75,8 @@ HasPath ls place p = option_map (λ l. l.bridges.items) (label_at ls place) ≡ 
 
 -- each best path of at most n hops is there
 abbrev pub IsSettled : Search → ℕ → List (Option Label) → Type 0
-IsSettled s n ls = (place : ℕ) (x : SystemId) (p : List SystemId) → IsAt s.graph.now place x → length p ≤ n + 1 → IsBest s.graph.now s.mask s.source x p → HasPath ls place p
+IsSettled s n ls = (place : ℕ) (x : SystemId) (p : List SystemId) → IsBridgeAt s.graph.now place x → length p ≤ n + 1
+    → IsBest s.graph.now s.mask s.source x p → HasPath ls place p
 
 -- each label is a path with its key, and each best path is there
 pub record AreBest (s : Search) (ls : List (Option Label)) : Type 0 where
@@ -83,34 +85,46 @@ pub record AreBest (s : Search) (ls : List (Option Label)) : Type 0 where
 
 -- each best path that was there still is
 abbrev pub KeepsBest : Search → List (Option Label) → List (Option Label) → Type 0
-KeepsBest s old new = (place : ℕ) (x : SystemId) (p : List SystemId) → IsAt s.graph.now place x → IsBest s.graph.now s.mask s.source x p → HasPath old place p → HasPath new place p
+KeepsBest s old new = (place : ℕ) (x : SystemId) (p : List SystemId) → IsBridgeAt s.graph.now place x
+    → IsBest s.graph.now s.mask s.source x p → HasPath old place p → HasPath new place p
 
--- where the hop makes a best path of the best path that its start had, its end has that path now
-abbrev pub TakesStep : Search → Hop → List (Option Label) → List (Option Label) → Type 0
-TakesStep s hop old new = (x y : SystemId) (p : List SystemId) → Leads s.graph.now hop x y → IsBest s.graph.now s.mask s.source x p → HasPath old hop.from p → IsBest s.graph.now s.mask s.source y (p ++ y ∷ []) → HasPath new hop.to (p ++ y ∷ [])
+-- where the arc makes a best path of the best path that its start had, its end has that path now
+abbrev pub TakesStep : Search → Arc → List (Option Label) → List (Option Label) → Type 0
+TakesStep s arc old new = (x y : SystemId) (p : List SystemId) → Leads s.graph.now arc x y
+    → IsBest s.graph.now s.mask s.source x p → HasPath old arc.from p
+    → IsBest s.graph.now s.mask s.source y (p ++ y ∷ []) → HasPath new arc.to (p ++ y ∷ [])
 
--- the hop leads along an edge from the end of the label
-abbrev pub Extends : Search → Hop → Label → Type 0
-Extends s hop l = (x : SystemId) × (y : SystemId) × Leads s.graph.now hop x y × IsLabel s x l
+-- the arc leads along an edge from the end of the label
+abbrev pub Extends : Search → Arc → Label → Type 0
+Extends s arc l = (x : SystemId) × (y : SystemId) × Leads s.graph.now arc x y × IsLabel s x l
 
--- the label's path with the end of the hop, and its key
-pub record IsExtended (s : Search) (hop : Hop) (l new : Label) : Type 0 where
-  pub keyed : (y : SystemId) → IsAt s.graph.now hop.to y → new.key ≡ record { cost = l.key.cost + hop.cost; hops = l.key.hops + 1; ids = placed (masked_id s.graph.now s.mask y) l.key.ids }
-  pub longer : (y : SystemId) → IsAt s.graph.now hop.to y → new.bridges.items ≡ l.bridges.items ++ y ∷ []
+-- the label's path with the end of the arc, and its key
+pub record IsExtended (s : Search) (arc : Arc) (l new : Label) : Type 0 where
+  pub keyed : (y : SystemId) → IsBridgeAt s.graph.now arc.to y
+      → new.key ≡ record {
+        cost = l.key.cost + arc.cost;
+        hops = l.key.hops + 1;
+        ids = inserted (masked_id s.graph.now s.mask y) l.key.ids;
+      }
+  pub longer : (y : SystemId) → IsBridgeAt s.graph.now arc.to y → new.bridges.items ≡ l.bridges.items ++ y ∷ []
 
--- what comes of the hop at its end: a label below the old one, or nothing, where the path is no best one or is there
-abbrev pub Improves : Search → Hop → Label → Option Label → Option Label → Type 0
-Improves s hop l old None = (y : SystemId) → IsAt s.graph.now hop.to y → IsBest s.graph.now s.mask s.source y (l.bridges.items ++ y ∷ []) → option_map (λ o. o.bridges.items) old ≡ Some (l.bridges.items ++ y ∷ [])
-Improves s hop l old (Some new) = ((y : SystemId) → IsAt s.graph.now hop.to y → IsLabel s y new × (new.bridges.items ≡ l.bridges.items ++ y ∷ [])) × ((o : Label) → old ≡ Some o → IsBelow new.key o.key)
+-- what comes of the arc at its end: a label below the old one, or nothing, where the path is no best one or is there
+abbrev pub Improves : Search → Arc → Label → Option Label → Option Label → Type 0
+Improves s arc l old None = (y : SystemId) → IsBridgeAt s.graph.now arc.to y
+    → IsBest s.graph.now s.mask s.source y (l.bridges.items ++ y ∷ [])
+    → option_map (λ o. o.bridges.items) old ≡ Some (l.bridges.items ++ y ∷ [])
+Improves s arc l old (Some new) = ((y : SystemId) → IsBridgeAt s.graph.now arc.to y
+    → IsLabel s y new × (new.bridges.items ≡ l.bridges.items ++ y ∷ []))
+    × ((o : Label) → old ≡ Some o → IsBelow new.key o.key)
 
--- what relaxing one hop does
-pub record IsRelaxed (s : Search) (hop : Hop) (old new : List (Option Label)) (changed : Bool) : Type 0 where
+-- what relaxing one arc does
+pub record IsRelaxed (s : Search) (arc : Arc) (old new : List (Option Label)) (changed : Bool) : Type 0 where
   pub labels : AreLabels s new
   pub keeps : KeepsBest s old new
-  pub step : TakesStep s hop old new
+  pub step : TakesStep s arc old new
   pub still : changed ≡ false → new ≡ old
 
--- what relaxing each hop once does
+-- what relaxing each arc once does
 pub record IsRound (s : Search) (old new : List (Option Label)) (changed : Bool) : Type 0 where
   pub labels : AreLabels s new
   pub further : (n : ℕ) → IsSettled s n old → IsSettled s (n + 1) new

@@ -11,7 +11,7 @@ pub fn one_more_bridge_keeps_order()
     ensures { KeepsOrder }
 {}
 
-/// No tie is least: a path that no other is below is below every other.
+/// No tie is least, in a valid graph: a path that no other is below is below every other.
 pub fn no_tie_is_least()
     ensures { NoTieIsLeast }
 {}
@@ -21,12 +21,12 @@ pub fn best_is_unique()
     ensures { BestIsUnique }
 {}
 
-/// Where there is a path, there is a best one.
+/// Where a valid graph has a path, it has a best one.
 pub fn best_exists()
     ensures { BestExists }
 {}
 
-/// `best_of` gives the best path, and nothing exactly where there is no path.
+/// In a valid graph `best_of` gives the best path, and nothing exactly where there is no path.
 pub fn best_of_is_best()
     ensures none { BestOfNone }
     ensures some { BestOfSome }
@@ -42,30 +42,30 @@ pub fn best_back_is_reverse()
     ensures { BestReversed }
 {}
 
-/// Both parts of a best path at a bridge on it are best.
+/// In a valid graph both parts of a best path at a bridge on it are best.
 pub fn parts_of_best_are_best()
     ensures front { FrontIsBest }
     ensures back { BackIsBest }
 {}
 
-/// Best paths don't depend on the order of a graph's lists, nor on the order of an edge's ends.
+/// In valid graphs best paths don't depend on the order of a graph's lists, nor on the order of an edge's ends.
 pub fn order_says_nothing()
     ensures { OrderSaysNothing }
 {}
 
-/// Graphs that are alike have the same costs and ports, and look alike from every bridge.
+/// Valid graphs that are alike have the same costs and ports, and look alike from every bridge.
 pub fn alike_graphs_look_alike()
     ensures ports { AlikeHaveSamePorts }
     ensures look { LookAlikeFromEach }
 {}
 
-/// Graphs that look alike from a bridge look alike both ways, and from each bridge that it reaches.
+/// Valid graphs that look alike from a bridge look alike both ways, and from each bridge that it reaches.
 pub fn looks_are_shared()
     ensures back { LooksBack }
     ensures on { LooksOn }
 {}
 
-/// Best paths from a bridge are the same in graphs that look alike from it.
+/// Best paths from a bridge are the same in valid graphs that look alike from it.
 pub fn best_is_seen_alike()
     ensures { SameBest }
 {}

@@ -21,7 +21,7 @@ pub struct Label {
 
 /// One direction of an edge: the places of its two bridges in the graph, and its cost.
 #[derive(Clone, Copy)]
-pub struct Hop {
+pub struct Arc {
     pub from: usize,
     pub to: usize,
     pub cost: u32,
@@ -34,7 +34,7 @@ pub struct Search<'a> {
     pub graph: &'a Graph,
     pub source: SystemId,
     pub mask: u8,
-    pub hops: Vec<Hop>,
+    pub arcs: Vec<Arc>,
 }
 
 /// The place of a bridge in the graph.
@@ -48,27 +48,27 @@ fn place_of(graph: &Graph, system: SystemId) -> Option<usize>
 }
 
 /// Both directions of each edge, in the order of the edges.
-fn hops_of(alloc: Global, graph: &Graph) -> Result<Vec<Hop>, NoMemory>
+fn arcs_of(alloc: Global, graph: &Graph) -> Result<Vec<Arc>, NoMemory>
     requires { IsValid graph.now }
-    ensures { IfOk result (λ hops. hops.items ≡ search.hops_of graph.now.bridges graph.now.edges) }
+    ensures { IfOk result (λ arcs. arcs.items ≡ search.arcs_of graph.now.bridges graph.now.edges) }
 {
-    let mut hops = Vec::new(alloc);
+    let mut arcs = Vec::new(alloc);
     for edge in graph.edges.as_slice() {
         let a = place_of(graph, edge.a).unwrap();
         let b = place_of(graph, edge.b).unwrap();
         let cost = edge.cost;
-        hops.push(Hop {
+        arcs.push(Arc {
             from: a,
             to: b,
             cost,
         })?;
-        hops.push(Hop {
+        arcs.push(Arc {
             from: b,
             to: a,
             cost,
         })?;
     }
-    Ok(hops)
+    Ok(arcs)
 }
 
 /// Compares a key's cost and number of hops with these.
@@ -99,16 +99,16 @@ impl<'a> Search<'a> {
         requires { IsValid graph.now }
         ensures { IfOk result (search.Seeks graph.now mask source) }
     {
-        let hops = hops_of(alloc, graph)?;
+        let arcs = arcs_of(alloc, graph)?;
         Ok(Search {
             graph,
             source,
             mask,
-            hops,
+            arcs,
         })
     }
 
-    /// The labels at the start: the path of no hop at the source, and no path to another bridge.
+    /// The labels at the start: the path of no arc at the source, and no path to another bridge.
     pub fn start(&self, alloc: Global) -> Result<Vec<Option<Label>>, NoMemory>
         requires { search.IsReady self.now }
         ensures labels { IfOk result (λ labels. search.AreLabels self.now labels.items) }
@@ -126,7 +126,7 @@ impl<'a> Search<'a> {
         Ok(labels)
     }
 
-    /// The path of no hop.
+    /// The path of no arc.
     fn first(&self, alloc: Global, bridge: &GraphBridge) -> Result<Label, NoMemory>
         ensures { IfOk result (search.IsFirst self.now.mask bridge.now.id) }
     {
@@ -141,18 +141,18 @@ impl<'a> Search<'a> {
         })
     }
 
-    /// The path of the label and a hop from its end.
-    fn extended(&self, alloc: Global, label: &Label, hop: Hop) -> Result<Label, NoMemory>
+    /// The path of the label and an arc from its end.
+    fn extended(&self, alloc: Global, label: &Label, arc: Arc) -> Result<Label, NoMemory>
         requires ready { search.IsReady self.now }
-        requires hop { search.Extends self.now hop label.now }
-        ensures { IfOk result (search.IsExtended self.now hop label.now) }
+        requires arc { search.Extends self.now arc label.now }
+        ensures { IfOk result (search.IsExtended self.now arc label.now) }
     {
-        let bridge = &self.graph.bridges.as_slice()[hop.to];
+        let bridge = &self.graph.bridges.as_slice()[arc.to];
         let mut bridges = Vec::from_slice(alloc, label.bridges.as_slice())?;
         bridges.push(bridge.id.system)?;
         Ok(Label {
             key: PathKey {
-                cost: label.key.cost + u64::from(hop.cost),
+                cost: label.key.cost + u64::from(arc.cost),
                 hops: label.key.hops + 1,
                 ids: with_id(alloc, &label.key.ids, masked_id(bridge.id, self.mask))?,
             },
@@ -160,31 +160,31 @@ impl<'a> Search<'a> {
         })
     }
 
-    /// The path of `label` and a hop from its end, if it is a path and better than the one that `old` has.
+    /// The path of `label` and an arc from its end, if it is a path and better than the one that `old` has.
     fn better(
         &self,
         alloc: Global,
         label: &Label,
-        hop: Hop,
+        arc: Arc,
         old: &Option<Label>,
     ) -> Result<Option<Label>, NoMemory>
         requires ready { search.IsReady self.now }
-        requires hop { search.Extends self.now hop label.now }
-        requires old { (y : SystemId) (l : Label) → search.IsAt self.now.graph.now hop.to y
+        requires arc { search.Extends self.now arc label.now }
+        requires old { (y : SystemId) (l : Label) → search.IsBridgeAt self.now.graph.now arc.to y
             → old.now ≡ Some l → search.IsLabel self.now y l }
-        ensures { IfOk result (search.Improves self.now hop label.now old.now) }
+        ensures { IfOk result (search.Improves self.now arc label.now old.now) }
     {
         if let Some(old) = old {
-            let cost = label.key.cost + u64::from(hop.cost);
+            let cost = label.key.cost + u64::from(arc.cost);
             if compare_lengths(&old.key, cost, label.key.hops + 1).is_lt() {
                 return Ok(None);
             }
         }
-        let system = self.graph.bridges.as_slice()[hop.to].id.system;
+        let system = self.graph.bridges.as_slice()[arc.to].id.system;
         if label.bridges.contains(&system) {
             return Ok(None);
         }
-        let longer = self.extended(alloc, label, hop)?;
+        let longer = self.extended(alloc, label, arc)?;
         if is_better(&longer.key, old) {
             Ok(Some(longer))
         } else {
@@ -192,40 +192,40 @@ impl<'a> Search<'a> {
         }
     }
 
-    /// Gives the hop's end the path by way of the hop, if that is better. Says whether it is.
+    /// Gives the arc's end the path by way of the arc, if that is better. Says whether it is.
     fn relax(
         &self,
         alloc: Global,
         labels: &mut Vec<Option<Label>>,
-        hop: Hop,
+        arc: Arc,
     ) -> Result<bool, NoMemory>
         requires ready { search.IsReady self.now }
-        requires hop { (x : SystemId) × (y : SystemId) × search.Leads self.now.graph.now hop x y }
+        requires arc { (x : SystemId) × (y : SystemId) × search.Leads self.now.graph.now arc x y }
         requires labels { search.AreLabels self.now labels.old.items }
-        ensures { IfOk result (search.IsRelaxed self.now hop labels.old.items labels.new.items) }
+        ensures { IfOk result (search.IsRelaxed self.now arc labels.old.items labels.new.items) }
     {
-        let better = match &labels[hop.from] {
+        let better = match &labels[arc.from] {
             None => None,
-            Some(label) => self.better(alloc, label, hop, &labels[hop.to])?,
+            Some(label) => self.better(alloc, label, arc, &labels[arc.to])?,
         };
         match better {
             None => Ok(false),
             Some(label) => {
-                labels[hop.to] = Some(label);
+                labels[arc.to] = Some(label);
                 Ok(true)
             }
         }
     }
 
-    /// Relaxes each hop once. Says whether a label changed.
+    /// Relaxes each arc once. Says whether a label changed.
     fn round(&self, alloc: Global, labels: &mut Vec<Option<Label>>) -> Result<bool, NoMemory>
         requires ready { search.IsReady self.now }
         requires labels { search.AreLabels self.now labels.old.items }
         ensures { IfOk result (search.IsRound self.now labels.old.items labels.new.items) }
     {
         let mut changed = false;
-        for hop in &self.hops {
-            if self.relax(alloc, labels, *hop)? {
+        for arc in &self.arcs {
+            if self.relax(alloc, labels, *arc)? {
                 changed = true;
             }
         }

@@ -5,7 +5,7 @@ use Rattle.std.proofs.lemmas.List.{take_more}
 use Rattle.std.proofs.lemmas.List.Elements.{filter_map-append}
 use Rattle.std.specs.declared.cmp.Ordering.{Ordering}
 use Rattle.std.specs.Ordering.{is_gt}
-use Rattle.fdb_build.specs.Tables.{placed, ascending}
+use Rattle.fdb_build.specs.Tables.{inserted, ascending_by}
 use Rattle.spb_types.specs.Address.{same_system}
 use Rattle.spb_types.specs.Graph.{joins, port_at, port_among, edges_at, ArePorts}
 use Rattle.spb_types.specs.declared.address.SystemId.{SystemId}
@@ -64,15 +64,15 @@ All-at P [] i d h within = absurd (omega arith)
 All-at P (x ∷ xs) zero d h within = h.0
 All-at P (x ∷ xs) (suc i) d h within = All-at P xs i d h.1 (omega arith)
 
-pub All-placed : {X : Type 0} (P : X → Type 0) (cmp : X → X → Ordering) (x : X) (ys : List X) → P x → AllByRecursion P ys → AllByRecursion P (placed cmp x ys)
-All-placed P cmp x [] p h = (p, tt)
-All-placed P cmp x (y ∷ ys) p h = by (is_gt (cmp x y)) (All-placed P cmp x ys p h.1)
+pub All-inserted : {X : Type 0} (P : X → Type 0) (cmp : X → X → Ordering) (x : X) (ys : List X) → P x → AllByRecursion P ys → AllByRecursion P (inserted cmp x ys)
+All-inserted P cmp x [] p h = (p, tt)
+All-inserted P cmp x (y ∷ ys) p h = by (is_gt (cmp x y)) (All-inserted P cmp x ys p h.1)
   where
-    by : (b : Bool) → AllByRecursion P (placed cmp x ys) → AllByRecursion P (if b then y ∷ placed cmp x ys else x ∷ y ∷ ys)
+    by : (b : Bool) → AllByRecursion P (inserted cmp x ys) → AllByRecursion P (if b then y ∷ inserted cmp x ys else x ∷ y ∷ ys)
     by true rest = (h.0, rest)
     by false rest = (p, h)
 
 -- what holds of each item holds of them in ascending order
-pub All-ascending : {X : Type 0} (P : X → Type 0) (cmp : X → X → Ordering) (xs : List X) → AllByRecursion P xs → AllByRecursion P (ascending cmp xs)
-All-ascending P cmp [] h = tt
-All-ascending P cmp (x ∷ xs) h = All-placed P cmp x (ascending cmp xs) h.0 (All-ascending P cmp xs h.1)
+pub All-ascending_by : {X : Type 0} (P : X → Type 0) (cmp : X → X → Ordering) (xs : List X) → AllByRecursion P xs → AllByRecursion P (ascending_by cmp xs)
+All-ascending_by P cmp [] h = tt
+All-ascending_by P cmp (x ∷ xs) h = All-inserted P cmp x (ascending_by cmp xs) h.0 (All-ascending_by P cmp xs h.1)

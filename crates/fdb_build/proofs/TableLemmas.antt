@@ -18,8 +18,8 @@ use Rattle.ect_trees.proofs.Joining.{same_ports}
 use Rattle.ect_trees.proofs.Reached.{leads_start, leads_bridge, reached_itself, looks_back}
 use Rattle.ect_trees.proofs.Exists.{best_of_some}
 use Rattle.ect_trees.proofs.Members.{Has, has_flat_map, has_from_contains, contains_from_has}
-use Rattle.fdb_build.specs.Tables.{ascending, mac_cmp, system_cmp, vid_cmp, row_cmp, port_towards, unicast_row, rows_of_vid, unicast_rows, IsUnicast, Ascends, RowsAreTable, TableIsOne, SameRows, OrderSaysNothing}
-use Rattle.fdb_build.proofs.AscendLemmas.{ascending_has, has_ascending, Ascends-ascending, Ascends-one, Ascends-filter_map, Ascends-flat_map, filter_map_has, has_filter_map, flat_map_has}
+use Rattle.fdb_build.specs.Tables.{ascending_by, mac_cmp, system_cmp, vid_cmp, row_cmp, port_towards, unicast_row, rows_of_vid, unicast_rows, IsUnicast, AscendsBy, RowsAreTable, TableIsOne, SameRows, OrderSaysNothingOfRows}
+use Rattle.fdb_build.proofs.AscendLemmas.{ascending_has, has_ascending, Ascends-ascending_by, Ascends-one, Ascends-filter_map, Ascends-flat_map, filter_map_has, has_filter_map, flat_map_has}
 use Rattle.fdb_build.proofs.SortLemmas.{systems_total, vids_total, systems_apart, vids_apart}
 
 rows_total : IsTotalOrder row_cmp
@@ -80,7 +80,7 @@ record RowOf (g : Graph) (me : SystemId) (plan : VidPlan) (r : UnicastRow) : Typ
 
 row_of : (g : Graph) (me : SystemId) (plan : VidPlan) (r : UnicastRow) → IsValid g → Has r (rows_of_vid g me plan) → RowOf g me plan r
 row_of g me plan r valid h =
-    let from = filter_map_has (unicast_row g me plan) r (ascending system_cmp (systems_of g.bridges)) h in
+    let from = filter_map_has (unicast_row g me plan) r (ascending_by system_cmp (systems_of g.bridges)) h in
     let row = row_for g me plan from.0 r from.2 in
     record { to = from.0; way = route g (mask_of plan.ect) me from.0 r.port valid row.towards; is = row.is }
 
@@ -88,12 +88,12 @@ of_row : (g : Graph) (me : SystemId) (plan : VidPlan) (r : UnicastRow) → IsVal
 of_row g me plan r valid h =
     let row : unicast_row g me plan h.to ≡ Some r = ap (option_map (λ port. row_with plan h.to port)) (routed g (mask_of plan.ect) me h.to r.port valid h.way) ∙ ap Some (sym h.is) in
     let bridge = has_among h.to (systems_of g.bridges) (leads_bridge g me h.to (h.way.next ∷ h.way.rest) h.way.best.path.1) in
-    has_filter_map (unicast_row g me plan) r (ascending system_cmp (systems_of g.bridges)) h.to (ascending_has system_cmp h.to (systems_of g.bridges) bridge) row
+    has_filter_map (unicast_row g me plan) r (ascending_by system_cmp (systems_of g.bridges)) h.to (ascending_has system_cmp h.to (systems_of g.bridges) bridge) row
 
 rows_are : (g : Graph) (me : SystemId) (vids : List VidPlan) (r : UnicastRow) → IsValid g → Contains (unicast_rows g me vids) r → IsUnicast g me vids r
 unfolding unicast_rows
 rows_are g me vids r valid h =
-    let of_vid = flat_map_has (rows_of_vid g me) r (ascending vid_cmp vids) (has_from_contains _ r h) in
+    let of_vid = flat_map_has (rows_of_vid g me) r (ascending_by vid_cmp vids) (has_from_contains _ r h) in
     let row = row_of g me of_vid.0 r valid of_vid.2 in
     record {
       plan = of_vid.0;
@@ -115,14 +115,14 @@ are_rows g me vids r valid h =
       way = record { next = h.next; rest = h.rest; best = h.best; leads = h.port };
       is = λ i. record { vid = h.vid i; mac = h.mac i; port = r.port };
     }) in
-    contains_from_has _ r (has_flat_map (rows_of_vid g me) h.plan r (ascending vid_cmp vids) (ascending_has vid_cmp h.plan vids (has_from_contains vids h.plan h.planned)) in_vid)
+    contains_from_has _ r (has_flat_map (rows_of_vid g me) h.plan r (ascending_by vid_cmp vids) (ascending_has vid_cmp h.plan vids (has_from_contains vids h.plan h.planned)) in_vid)
 
 same_then : (n : ℕ) (o : Ordering) → ordering_then (nat_cmp n n) o ≡ o
 same_then n o = ap (λ c. ordering_then c o) (tied_itself nat_cmp_total n)
 
-vid_rows_ascend : (g : Graph) (me : SystemId) (p : VidPlan) → IsValid g → Ascends row_cmp (rows_of_vid g me p)
+vid_rows_ascend : (g : Graph) (me : SystemId) (p : VidPlan) → IsValid g → AscendsBy row_cmp (rows_of_vid g me p)
 vid_rows_ascend g me p valid =
-    Ascends-filter_map system_cmp row_cmp (unicast_row g me p) within (ascending system_cmp (systems_of g.bridges)) (Ascends-ascending system_cmp systems_total (systems_of g.bridges) (systems_apart (systems_of g.bridges) valid.apart))
+    Ascends-filter_map system_cmp row_cmp (unicast_row g me p) within (ascending_by system_cmp (systems_of g.bridges)) (Ascends-ascending_by system_cmp systems_total (systems_of g.bridges) (systems_apart (systems_of g.bridges) valid.apart))
   where
     within : (u v : SystemId) (r s : UnicastRow) → system_cmp u v ≡ Less → unicast_row g me p u ≡ Some r → unicast_row g me p v ≡ Some s → row_cmp r s ≡ Less
     within u v r s less hr hs =
@@ -130,13 +130,13 @@ vid_rows_ascend g me p valid =
         let es = (row_for g me p v s hs).is in
         ap (λ z. row_cmp z s) er ∙ ap (λ z. row_cmp (row_with p u r.port) z) es ∙ same_then p.vid.value (system_cmp u v) ∙ less
 
-vids_ascend : (vids : List VidPlan) → AreVidsApart vids → Ascends vid_cmp (ascending vid_cmp vids)
-vids_ascend vids apart = Ascends-ascending vid_cmp vids_total vids (vids_apart vids apart)
+vids_ascend : (vids : List VidPlan) → AreVidsApart vids → AscendsBy vid_cmp (ascending_by vid_cmp vids)
+vids_ascend vids apart = Ascends-ascending_by vid_cmp vids_total vids (vids_apart vids apart)
 
-rows_ascend : (g : Graph) (me : SystemId) (vids : List VidPlan) → IsValid g → AreVidsApart vids → Ascends row_cmp (unicast_rows g me vids)
+rows_ascend : (g : Graph) (me : SystemId) (vids : List VidPlan) → IsValid g → AreVidsApart vids → AscendsBy row_cmp (unicast_rows g me vids)
 unfolding unicast_rows
 rows_ascend g me vids valid apart =
-    Ascends-flat_map vid_cmp row_cmp (rows_of_vid g me) (λ p. vid_rows_ascend g me p valid) across (ascending vid_cmp vids) (vids_ascend vids apart)
+    Ascends-flat_map vid_cmp row_cmp (rows_of_vid g me) (λ p. vid_rows_ascend g me p valid) across (ascending_by vid_cmp vids) (vids_ascend vids apart)
   where
     vid_is : (p : VidPlan) (r : UnicastRow) → Has r (rows_of_vid g me p) → r.vid.value ≡ p.vid.value
     vid_is p r i =
@@ -185,7 +185,7 @@ vid_rows_same g h me plan v w there back =
 
 rows_same : (g h : Graph) (me : SystemId) (vids : List VidPlan) → IsValid g → IsValid h → AreSeenAlike g h me → AreSeenAlike h g me → unicast_rows g me vids ≡ unicast_rows h me vids
 unfolding unicast_rows
-rows_same g h me vids v w there back = λ i. flat_map (λ p. vid_rows_same g h me p v w there back i) (ascending vid_cmp vids)
+rows_same g h me vids v w there back = λ i. flat_map (λ p. vid_rows_same g h me p v w there back i) (ascending_by vid_cmp vids)
 
 seen_alike : (g h : Graph) (me : SystemId) → IsValid g → IsValid h → LookAlike g h me → AreSeenAlike g h me
 seen_alike g h me v w s = record {
@@ -200,7 +200,7 @@ same_rows g h me vids v w s = rows_same g h me vids v w (seen_alike g h me v w s
 vids_same : (g : Graph) (me : SystemId) (vids others : List VidPlan) → AreVidsApart vids → AreVidsApart others → ((p : VidPlan) → Contains vids p ↔ Contains others p) → unicast_rows g me vids ≡ unicast_rows g me others
 unfolding unicast_rows
 vids_same g me vids others a b same =
-    ap (flat_map (rows_of_vid g me)) (Ascends-one vid_cmp vids_total (ascending vid_cmp vids) (ascending vid_cmp others) (vids_ascend vids a) (vids_ascend others b)
+    ap (flat_map (rows_of_vid g me)) (Ascends-one vid_cmp vids_total (ascending_by vid_cmp vids) (ascending_by vid_cmp others) (vids_ascend vids a) (vids_ascend others b)
     (λ p i. ascending_has vid_cmp p others (has_from_contains others p ((same p).0 (contains_from_has vids p (has_ascending vid_cmp p vids i)))))
     (λ p i. ascending_has vid_cmp p vids (has_from_contains vids p ((same p).1 (contains_from_has others p (has_ascending vid_cmp p others i))))))
 
@@ -210,6 +210,6 @@ alike_seen g h me v w s = record {
   ports = λ y i. (same_ports g h me y v w s).1;
 }
 
-pub order_says_nothing : OrderSaysNothing
+pub order_says_nothing : OrderSaysNothingOfRows
 order_says_nothing g h me vids others v w s a b same =
     rows_same g h me vids v w (alike_seen g h me v w s) (alike_seen h g me w v (alike.alike_back g h s)) ∙ vids_same h me vids others a b same

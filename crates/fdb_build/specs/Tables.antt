@@ -3,7 +3,7 @@ use Rattle.std.specs.List.{AllByRecursion, filter_map, flat_map}
 use Rattle.std.specs.declared.cmp.Ordering.{Ordering}
 use Rattle.std.specs.Ordering.{nat_cmp, ordering_then}
 use Rattle.std.specs.Cmp.Lexicographic.{slice_cmp}
-pub use Rattle.spb_types.specs.Sorted.{placed, ascending, Ascends}
+pub use Rattle.spb_types.specs.Sorted.{inserted, ascending_by, AscendsBy}
 use Rattle.spb_types.specs.Ect.{mask_of}
 use Rattle.spb_types.specs.Graph.{systems_of, port_between, IsValid}
 use Rattle.spb_types.specs.Service.{AreVidsApart}
@@ -28,19 +28,21 @@ vid_cmp p q = nat_cmp p.vid.value q.vid.value
 
 -- the port at `me` of the edge to the second bridge of the best path from `me` to d, if there is one
 abbrev pub port_towards : Graph → ℕ → SystemId → SystemId → Option ℕ
-port_towards g mask me d = option_and_then (λ next. port_between g me next) (option_and_then (λ path. slice_get path 1) (best_of g mask me d))
+port_towards g mask me d = option_and_then (λ next. port_between g me next)
+    (option_and_then (λ path. slice_get path 1) (best_of g mask me d))
 
 -- the row of `me` for a VID and the bridge d
 abbrev pub unicast_row : Graph → SystemId → VidPlan → SystemId → Option UnicastRow
-unicast_row g me plan d = option_map (λ port. record { vid = plan.vid; mac = d.mac; port = port }) (port_towards g (mask_of plan.ect) me d)
+unicast_row g me plan d = option_map (λ port. record { vid = plan.vid; mac = d.mac; port = port })
+    (port_towards g (mask_of plan.ect) me d)
 
 -- the rows of `me` for a VID, by ascending address
 abbrev pub rows_of_vid : Graph → SystemId → VidPlan → List UnicastRow
-rows_of_vid g me plan = filter_map (unicast_row g me plan) (ascending system_cmp (systems_of g.bridges))
+rows_of_vid g me plan = filter_map (unicast_row g me plan) (ascending_by system_cmp (systems_of g.bridges))
 
 -- the unicast rows of `me`, by ascending VID and address (IEEE 802.1aq, 8.8 and 28.10)
 unfoldable pub unicast_rows : Graph → SystemId → List VidPlan → List UnicastRow
-unicast_rows g me vids = flat_map (rows_of_vid g me) (ascending vid_cmp vids)
+unicast_rows g me vids = flat_map (rows_of_vid g me) (ascending_by vid_cmp vids)
 
 -- each plan has the number of an ECT algorithm, and no VID stands twice
 pub record ArePlans (vids : List VidPlan) : Type 0 where
@@ -67,7 +69,7 @@ row_cmp r s = ordering_then (nat_cmp r.vid.value s.vid.value) (mac_cmp r.mac s.m
 -- the unicast table of `me`: just its rows, each once, ascending
 pub record IsUnicastTable (g : Graph) (me : SystemId) (vids : List VidPlan) (rows : List UnicastRow) : Type 0 where
   pub members : (r : UnicastRow) → Contains rows r ↔ IsUnicast g me vids r
-  pub ascends : Ascends row_cmp rows
+  pub ascends : AscendsBy row_cmp rows
 
 -- in a valid graph, `unicast_rows` is the unicast table
 abbrev pub RowsAreTable : Type 0
@@ -85,8 +87,8 @@ SameRows = (g h : Graph) (me : SystemId) (vids : List VidPlan)
     → IsValid g → IsValid h → LookAlike g h me → unicast_rows g me vids ≡ unicast_rows h me vids
 
 -- they don't depend on the order of a graph's lists, nor of an edge's ends, nor of the VIDs
-abbrev pub OrderSaysNothing : Type 0
-OrderSaysNothing = (g h : Graph) (me : SystemId) (vids others : List VidPlan)
+abbrev pub OrderSaysNothingOfRows : Type 0
+OrderSaysNothingOfRows = (g h : Graph) (me : SystemId) (vids others : List VidPlan)
     → IsValid g → IsValid h → AreAlike g h
     → AreVidsApart vids → AreVidsApart others → ((p : VidPlan) → Contains vids p ↔ Contains others p)
     → unicast_rows g me vids ≡ unicast_rows h me others

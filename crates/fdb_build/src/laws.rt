@@ -1,7 +1,8 @@
 //! The laws of a bridge's tables. Each is the contract of a function that does nothing.
-ghost use Rattle.fdb_build.specs.Tables.{RowsAreTable, TableIsOne, SameRows, OrderSaysNothing};
+ghost use Rattle.fdb_build.specs.Tables.{RowsAreTable, TableIsOne, SameRows, OrderSaysNothingOfRows};
 
-/// The unicast rows that `unicast_rows` computes are just those of the bridges with a best path, each once, ascending.
+/// In a valid graph the unicast rows that `unicast_rows` computes are just those of the bridges with a best path, each
+/// once, ascending.
 pub fn rows_are_table()
     ensures { RowsAreTable }
 {}
@@ -11,12 +12,12 @@ pub fn table_is_one()
     ensures { TableIsOne }
 {}
 
-/// The rows of a bridge are the same in graphs that look alike from it.
+/// The rows of a bridge are the same in valid graphs that look alike from it.
 pub fn rows_are_seen_alike()
     ensures { SameRows }
 {}
 
-/// They don't depend on the order of the graph's lists, nor of an edge's ends, nor of the VIDs.
+/// In valid graphs they don't depend on the order of the graph's lists, nor of an edge's ends, nor of the VIDs.
 pub fn order_says_nothing()
-    ensures { OrderSaysNothing }
+    ensures { OrderSaysNothingOfRows }
 {}

@@ -9,14 +9,14 @@ use Rattle.spb_types.specs.Address.{same_system}
 use Rattle.lsdb.specs.declared.version.Relation.{Relation}
 use Rattle.lsdb.specs.Version.{number_of, relation}
 use Rattle.lsdb.specs.Entry.{Entry}
-use Rattle.lsdb.specs.Database.{Lsps, version_in, fits, placed}
+use Rattle.lsdb.specs.Database.{Lsps, version_in, fits, put_if_it_fits}
 use Rattle.lsdb.specs.Certificate.{Claim}
 use Rattle.lsdb.proofs.LookupLemmas.{get-insert_same, get-insert_other, same_or_not}
 use Rattle.flooding.specs.Own.{own_id, answered}
 use Rattle.flooding.specs.Hearing.{Holding, is_beyond, is_answered, after_claim}
 use Rattle.flooding.specs.Origination.{next_entry, originated_from, originated}
 use Rattle.flooding.specs.Entries.{AllEntries}
-use Rattle.flooding.proofs.Heard.{Row}
+use Rattle.flooding.proofs.Heard.{Rule}
 use Rattle.flooding.proofs.Claimed.{heard_of, db_after}
 
 module _ (P : LspId → Entry → Type 0) where
@@ -28,41 +28,41 @@ module _ (P : LspId → Entry → Type 0) where
       (λ elsewhere. all x f (sym (get-insert_other db id e x elsewhere) ∙ is))
       (same_or_not x id)
 
-  placed_by : (db : Lsps) (id : LspId) (e : Entry) (b : Bool) → AllEntries P db → P id e → AllEntries P (if b then insert db id e else db)
-  placed_by db id e true all new = inserted db id e all new
-  placed_by db id e false all new = all
+  put_by : (db : Lsps) (id : LspId) (e : Entry) (b : Bool) → AllEntries P db → P id e → AllEntries P (if b then insert db id e else db)
+  put_by db id e true all new = inserted db id e all new
+  put_by db id e false all new = all
 
-  pub all_placed : (db : Lsps) (id : LspId) (new : Option Entry) → AllEntries P db → ((e : Entry) → new ≡ Some e → P id e) → AllEntries P (placed db id new)
-  all_placed db id None all each = all
-  all_placed db id (Some e) all each = placed_by db id e (fits db id) all (each e refl)
+  pub all_put : (db : Lsps) (id : LspId) (new : Option Entry) → AllEntries P db → ((e : Entry) → new ≡ Some e → P id e) → AllEntries P (put_if_it_fits db id new)
+  all_put db id None all each = all
+  all_put db id (Some e) all each = put_by db id e (fits db id) all (each e refl)
 
-  heard_by_test : (row : Row) (up : PortSet) (c : Claim) (h : Holding) (r : Relation) (b : Bool) → relation c.version (version_in (get h.db c.id)) ≡ r
+  heard_by_test : (rule : Rule) (up : PortSet) (c : Claim) (h : Holding) (r : Relation) (b : Bool) → relation c.version (version_in (get h.db c.id)) ≡ r
       → (b ≡ true → is_beyond r ≡ true)
       → (is_beyond (relation c.version (version_in (get h.db c.id))) ≡ true → P c.id (answered up h.own c.id (number_of c.version)))
-      → ((e : Entry) → row r (get h.db c.id) ≡ Some e → P c.id e)
-      → (e : Entry) → (if b then Some (answered up h.own c.id (number_of c.version)) else row r (get h.db c.id)) ≡ Some e → P c.id e
-  heard_by_test row up c h r true is beyond answer rows e found =
+      → ((e : Entry) → rule r (get h.db c.id) ≡ Some e → P c.id e)
+      → (e : Entry) → (if b then Some (answered up h.own c.id (number_of c.version)) else rule r (get h.db c.id)) ≡ Some e → P c.id e
+  heard_by_test rule up c h r true is beyond answer rules e found =
       let same : answered up h.own c.id (number_of c.version) ≡ e = cc in
       subst (λ (g : Entry). P c.id g) same (answer (ap is_beyond is ∙ beyond refl))
-  heard_by_test row up c h r false is beyond answer rows e found = rows e found
+  heard_by_test rule up c h r false is beyond answer rules e found = rules e found
 
   -- after a claim, from what answers it and what its row says
-  pub all_after_claim : (row : Row) (up : PortSet) (c : Claim) (h : Holding) → AllEntries P h.db
+  pub all_after_claim : (rule : Rule) (up : PortSet) (c : Claim) (h : Holding) → AllEntries P h.db
       → (is_beyond (relation c.version (version_in (get h.db c.id))) ≡ true → P c.id (answered up h.own c.id (number_of c.version)))
-      → ((e : Entry) → row (relation c.version (version_in (get h.db c.id))) (get h.db c.id) ≡ Some e → P c.id e)
-      → AllEntries P (after_claim row up c h).db
-  all_after_claim row up c h all answer rows =
+      → ((e : Entry) → rule (relation c.version (version_in (get h.db c.id))) (get h.db c.id) ≡ Some e → P c.id e)
+      → AllEntries P (after_claim rule up c h).db
+  all_after_claim rule up c h all answer rules =
       let r = relation c.version (version_in (get h.db c.id)) in
-      subst (λ (db : Lsps). AllEntries P db) (sym (db_after row up c h))
-      (all_placed h.db c.id (heard_of row up c h) all
-      (heard_by_test row up c h r (is_answered h.own c.id r) refl (λ b. (and_parts (same_system c.id.system h.own.system) (is_beyond r) b).1) answer rows))
+      subst (λ (db : Lsps). AllEntries P db) (sym (db_after rule up c h))
+      (all_put h.db c.id (heard_of rule up c h) all
+      (heard_by_test rule up c h r (is_answered h.own c.id r) refl (λ b. (and_parts (same_system c.id.system h.own.system) (is_beyond r) b).1) answer rules))
 
   originated_by : (up : PortSet) (h : Holding) (b : Bool) → AllEntries P h.db
       → P (own_id h.own.system) (next_entry up h.own (number_of (version_in (get h.db (own_id h.own.system)))) (get h.db (own_id h.own.system)))
       → AllEntries P (if b then h else originated_from up (get h.db (own_id h.own.system)) h).db
   originated_by up h true all next = all
   originated_by up h false all next =
-      all_placed h.db (own_id h.own.system) (Some (next_entry up h.own (number_of (version_in (get h.db (own_id h.own.system)))) (get h.db (own_id h.own.system)))) all
+      all_put h.db (own_id h.own.system) (Some (next_entry up h.own (number_of (version_in (get h.db (own_id h.own.system)))) (get h.db (own_id h.own.system)))) all
       (λ e is. let same : next_entry up h.own (number_of (version_in (get h.db (own_id h.own.system)))) (get h.db (own_id h.own.system)) ≡ e = cc in subst (λ (g : Entry). P (own_id h.own.system) g) same next)
 
   -- after an origination, from the next entry

@@ -13,8 +13,8 @@ use Rattle.lsdb.specs.Entry.{Entry, acked, offered}
 use Rattle.lsdb.specs.Database.{version_in}
 use Rattle.lsdb.proofs.Order.{itself, greater, equal_is, older_is}
 use Rattle.flooding.specs.declared.own.Own.{Own}
-use Rattle.flooding.specs.Own.{last_number, is_originated, renewed, ended, answered}
-use Rattle.flooding.specs.Hearing.{claim_of, unless_absent, lsp_row, is_answered}
+use Rattle.flooding.specs.Own.{last_number, is_originated, renewed, dead_at, answered}
+use Rattle.flooding.specs.Hearing.{claim_of, unless_absent, lsp_rule, is_answered}
 use Rattle.flooding.specs.Laws.{HeardIsAtMostHeld}
 use Rattle.flooding.proofs.Heard.{number-claimed}
 use Rattle.flooding.proofs.Claimed.{lsp_stands}
@@ -33,24 +33,24 @@ acked_version : (port : ℕ) (o : Option Entry) → version_in (option_map (unle
 acked_version port None = refl
 acked_version port (Some e) = sparing (acked port) e (is_absent e.version) refl
 
-at_most_row : (up : PortSet) (port : ℕ) (l : LspValue) (r : Relation) (held : Option Entry) → relation (claim_of l).version (version_in held) ≡ r
-    → IsAtMost (claim_of l).version (version_in (lsp_row up port l r held))
-at_most_row up port l Older held is =
+at_most_rule : (up : PortSet) (port : ℕ) (l : LspValue) (r : Relation) (held : Option Entry) → relation (claim_of l).version (version_in held) ≡ r
+    → IsAtMost (claim_of l).version (version_in (lsp_rule up port l r held))
+at_most_rule up port l Older held is =
     subst (λ (v : Version). IsAtMost (claim_of l).version v) (sym (offered_version port held)) (older_is (claim_of l).version (version_in held) is).0
-at_most_row up port l Equal held is =
+at_most_rule up port l Equal held is =
     subst (λ (v : Version). IsAtMost (claim_of l).version v) (equal_is (claim_of l).version (version_in held) is ∙ sym (acked_version port held)) (itself (claim_of l).version)
-at_most_row up port l Newer held is = itself (claim_of l).version
-at_most_row up port l Confused held is = at_most_dead (claim_of l).version l.seq (subst (λ n. n ≤ l.seq) (sym (number-claimed l.seq l.lifetime l.sum)) (omega arith))
+at_most_rule up port l Newer held is = itself (claim_of l).version
+at_most_rule up port l Confused held is = at_most_dead (claim_of l).version l.seq (subst (λ n. n ≤ l.seq) (sym (number-claimed l.seq l.lifetime l.sum)) (omega arith))
 
-at_most_answer : (up : PortSet) (own : Own) (a : Version) (b : Bool) → IsAtMost a (if b then renewed up own (number_of a + 1) else ended up (number_of a)).version
+at_most_answer : (up : PortSet) (own : Own) (a : Version) (b : Bool) → IsAtMost a (if b then renewed up own (number_of a + 1) else dead_at up (number_of a)).version
 at_most_answer up own a true = greater a (renewed up own (number_of a + 1)).version (omega arith)
 at_most_answer up own a false = at_most_dead a (number_of a) (omega arith)
 
 at_most_heard : (up : PortSet) (port : ℕ) (own : Own) (l : LspValue) (r : Relation) (held : Option Entry) (b : Bool) → relation (claim_of l).version (version_in held) ≡ r
-    → IsAtMost (claim_of l).version (version_in (if b then Some (answered up own l.id (number_of (claim_of l).version)) else lsp_row up port l r held))
+    → IsAtMost (claim_of l).version (version_in (if b then Some (answered up own l.id (number_of (claim_of l).version)) else lsp_rule up port l r held))
 at_most_heard up port own l r held true is =
     at_most_answer up own (claim_of l).version (is_originated own.system l.id && nat_lt (number_of (claim_of l).version) last_number)
-at_most_heard up port own l r held false is = at_most_row up port l r held is
+at_most_heard up port own l r held false is = at_most_rule up port l r held is
 
 pub heard_is_at_most_held : HeardIsAtMostHeld
 heard_is_at_most_held up port l h there =

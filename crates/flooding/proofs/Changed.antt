@@ -8,9 +8,9 @@ use Rattle.lsdb.specs.declared.version.Version.{Version}
 use Rattle.lsdb.specs.declared.version.Version.TheVariants.{Absent, Live, Dead}
 use Rattle.lsdb.specs.Version.{is_absent}
 use Rattle.lsdb.specs.Entry.{Entry}
-use Rattle.lsdb.specs.Database.{Lsps, version_in, placed, changed, changed_to}
+use Rattle.lsdb.specs.Database.{Lsps, version_in, put_if_it_fits, changed, changed_to}
 use Rattle.lsdb.proofs.Ids.{ids_total, ids_tied}
-use Rattle.lsdb.proofs.LookupLemmas.{get-insert_same, get-insert_other, same_or_not, fits_held, placed_held}
+use Rattle.lsdb.proofs.LookupLemmas.{get-insert_same, get-insert_other, same_or_not, fits_held, put_held}
 use Rattle.flooding.specs.Hearing.{unless_absent, lacks_place}
 
 -- what is held, put in again
@@ -29,12 +29,12 @@ pub changed_still : (f : Entry → Entry) (db : Lsps) (id : LspId) → option_ma
 changed_still f db id same = still_at f db id (get db id) refl same
 
 -- a change of what is held is its placing, which needs no place
-placed_at : (f : Entry → Entry) (db : Lsps) (id : LspId) (o : Option Entry) → get db id ≡ o → placed db id (option_map f o) ≡ changed_to db id (option_map f o)
-placed_at f db id None is = refl
-placed_at f db id (Some e) is = placed_held db id e (f e) is
+put_at : (f : Entry → Entry) (db : Lsps) (id : LspId) (o : Option Entry) → get db id ≡ o → put_if_it_fits db id (option_map f o) ≡ changed_to db id (option_map f o)
+put_at f db id None is = refl
+put_at f db id (Some e) is = put_held db id e (f e) is
 
-pub placed_changed : (f : Entry → Entry) (db : Lsps) (id : LspId) → placed db id (option_map f (get db id)) ≡ changed f db id
-placed_changed f db id = placed_at f db id (get db id) refl
+pub put_changed : (f : Entry → Entry) (db : Lsps) (id : LspId) → put_if_it_fits db id (option_map f (get db id)) ≡ changed f db id
+put_changed f db id = put_at f db id (get db id) refl
 
 placeless_at : (f : Entry → Entry) (db : Lsps) (id : LspId) (o : Option Entry) → get db id ≡ o → lacks_place db id (option_map f o) ≡ false
 placeless_at f db id None is = refl

@@ -17,8 +17,8 @@ use Rattle.lsdb.specs.Entry.{Entry, stored, acked, cleared, offered}
 use Rattle.lsdb.specs.Database.{version_in}
 use Rattle.lsdb.proofs.Order.{older_is, newer_is}
 use Rattle.flooding.specs.declared.own.Own.{Own}
-use Rattle.flooding.specs.Own.{last_number, own_id, is_originated, renewed, ended}
-use Rattle.flooding.specs.Hearing.{claim_of, body_of, unless_absent, wanted, lsp_row, snp_row}
+use Rattle.flooding.specs.Own.{last_number, own_id, is_originated, renewed, dead_at}
+use Rattle.flooding.specs.Hearing.{claim_of, body_of, unless_absent, wanted, lsp_rule, snp_rule}
 use Rattle.flooding.specs.Origination.{spent_entry}
 use Rattle.flooding.specs.Entries.{HasFlagsAt}
 use Rattle.flooding.specs.Laws.{LspKeepsFlags, EntryKeepsFlags, OriginationKeepsFlags}
@@ -93,39 +93,39 @@ module _ (up : PortSet) where
   mapped f (Some e) all g is = let same : f e ≡ g = cc in subst (λ (x : Entry). HasFlagsAt up x) same (all e refl)
 
   -- a version that goes to every Up port
-  ended_flagged : (seq : ℕ) → HasFlagsAt up (ended up seq)
-  ended_flagged seq = record { srm = λ p h. h; ssn = none_up; absent = λ a p. absurd (cc) }
+  dead_flagged : (seq : ℕ) → HasFlagsAt up (dead_at up seq)
+  dead_flagged seq = record { srm = λ p h. h; ssn = none_up; absent = λ a p. absurd (cc) }
 
   renewed_flagged : (own : Own) (seq : ℕ) → HasFlagsAt up (renewed up own seq)
   renewed_flagged own seq = record { srm = λ p h. h; ssn = none_up; absent = λ a p. absurd (cc) }
 
-  answered_by : (own : Own) (seq : ℕ) (b : Bool) → HasFlagsAt up (if b then renewed up own (seq + 1) else ended up seq)
+  answered_by : (own : Own) (seq : ℕ) (b : Bool) → HasFlagsAt up (if b then renewed up own (seq + 1) else dead_at up seq)
   answered_by own seq true = renewed_flagged own (seq + 1)
-  answered_by own seq false = ended_flagged seq
+  answered_by own seq false = dead_flagged seq
 
-  ended_is : (seq : ℕ) (g : Entry) → Some (ended up seq) ≡ Some g → HasFlagsAt up g
-  ended_is seq g is = let same : ended up seq ≡ g = cc in subst (λ (x : Entry). HasFlagsAt up x) same (ended_flagged seq)
+  dead_is : (seq : ℕ) (g : Entry) → Some (dead_at up seq) ≡ Some g → HasFlagsAt up g
+  dead_is seq g is = let same : dead_at up seq ≡ g = cc in subst (λ (x : Entry). HasFlagsAt up x) same (dead_flagged seq)
 
   -- what is held of an older claim isn't absent
   older_there : (a : Version) (held : Option Entry) (e : Entry) → relation a (version_in held) ≡ Older → held ≡ Some e → e.version ≡ Absent → ⊥
   older_there a held e is found gone = absent_below (version_in held) a (older_is a (version_in held) is).1 (ap version_in found ∙ gone)
 
-  snp_row_flagged : (port : ℕ) → has up port ≡ true → (a : Version) (r : Relation) (held : Option Entry) → relation a (version_in held) ≡ r
-      → ((e : Entry) → held ≡ Some e → HasFlagsAt up e) → (g : Entry) → snp_row up port a r held ≡ Some g → HasFlagsAt up g
-  snp_row_flagged port is_up a Older held is all g found = mapped (offered port) held (λ e h. offered_flagged port is_up e (older_there a held e is h) (all e h)) g found
-  snp_row_flagged port is_up a Equal held is all g found = mapped (unless_absent (cleared port)) held (λ e h. spared (cleared port) e (is_absent e.version) (all e h) (cleared_flagged port is_up e (all e h))) g found
-  snp_row_flagged port is_up a Newer held is all g found = let same : wanted port held ≡ g = cc in subst (λ (x : Entry). HasFlagsAt up x) same (wanted_flagged port is_up held all)
-  snp_row_flagged port is_up a Confused held is all g found = ended_is (number_of a) g found
+  snp_rule_flagged : (port : ℕ) → has up port ≡ true → (a : Version) (r : Relation) (held : Option Entry) → relation a (version_in held) ≡ r
+      → ((e : Entry) → held ≡ Some e → HasFlagsAt up e) → (g : Entry) → snp_rule up port a r held ≡ Some g → HasFlagsAt up g
+  snp_rule_flagged port is_up a Older held is all g found = mapped (offered port) held (λ e h. offered_flagged port is_up e (older_there a held e is h) (all e h)) g found
+  snp_rule_flagged port is_up a Equal held is all g found = mapped (unless_absent (cleared port)) held (λ e h. spared (cleared port) e (is_absent e.version) (all e h) (cleared_flagged port is_up e (all e h))) g found
+  snp_rule_flagged port is_up a Newer held is all g found = let same : wanted port held ≡ g = cc in subst (λ (x : Entry). HasFlagsAt up x) same (wanted_flagged port is_up held all)
+  snp_rule_flagged port is_up a Confused held is all g found = dead_is (number_of a) g found
 
-  lsp_row_flagged : (port : ℕ) → has up port ≡ true → (l : LspValue) (r : Relation) (held : Option Entry) → relation (claim_of l).version (version_in held) ≡ r
-      → ((e : Entry) → held ≡ Some e → HasFlagsAt up e) → (g : Entry) → lsp_row up port l r held ≡ Some g → HasFlagsAt up g
-  lsp_row_flagged port is_up l Older held is all g found = mapped (offered port) held (λ e h. offered_flagged port is_up e (older_there (claim_of l).version held e is h) (all e h)) g found
-  lsp_row_flagged port is_up l Equal held is all g found = mapped (unless_absent (acked port)) held (λ e h. spared (acked port) e (is_absent e.version) (all e h) (acked_flagged port is_up e (all e h))) g found
-  lsp_row_flagged port is_up l Newer held is all g found =
+  lsp_rule_flagged : (port : ℕ) → has up port ≡ true → (l : LspValue) (r : Relation) (held : Option Entry) → relation (claim_of l).version (version_in held) ≡ r
+      → ((e : Entry) → held ≡ Some e → HasFlagsAt up e) → (g : Entry) → lsp_rule up port l r held ≡ Some g → HasFlagsAt up g
+  lsp_rule_flagged port is_up l Older held is all g found = mapped (offered port) held (λ e h. offered_flagged port is_up e (older_there (claim_of l).version held e is h) (all e h)) g found
+  lsp_rule_flagged port is_up l Equal held is all g found = mapped (unless_absent (acked port)) held (λ e h. spared (acked port) e (is_absent e.version) (all e h) (acked_flagged port is_up e (all e h))) g found
+  lsp_rule_flagged port is_up l Newer held is all g found =
       let same : stored up port (claim_of l).version l.lifetime (body_of l) ≡ g = cc in
       subst (λ (x : Entry). HasFlagsAt up x) same
       (stored_flagged port is_up (claim_of l).version l.lifetime (body_of l) (absent_below (claim_of l).version (version_in held) (newer_is (claim_of l).version (version_in held) is).0))
-  lsp_row_flagged port is_up l Confused held is all g found = ended_is l.seq g found
+  lsp_rule_flagged port is_up l Confused held is all g found = dead_is l.seq g found
 
   next_by : (own : Own) (seq : ℕ) (held : Option Entry) (b : Bool) → ((e : Entry) → held ≡ Some e → HasFlagsAt up e)
       → HasFlagsAt up (if b then renewed up own (seq + 1) else spent_entry up seq held)
@@ -137,15 +137,15 @@ module _ (up : PortSet) where
 
 pub lsp_keeps_flags : LspKeepsFlags
 lsp_keeps_flags up port l h is_up all =
-    all_after_claim (λ id e. HasFlagsAt up e) (lsp_row up port l) up (claim_of l) h all
+    all_after_claim (λ id e. HasFlagsAt up e) (lsp_rule up port l) up (claim_of l) h all
     (λ beyond. answered_by up h.own (number_of (claim_of l).version) (is_originated h.own.system l.id && nat_lt (number_of (claim_of l).version) last_number))
-    (lsp_row_flagged up port is_up l _ (get h.db l.id) refl (all l.id))
+    (lsp_rule_flagged up port is_up l _ (get h.db l.id) refl (all l.id))
 
 pub entry_keeps_flags : EntryKeepsFlags
 entry_keeps_flags up port c h is_up all =
-    all_after_claim (λ id e. HasFlagsAt up e) (snp_row up port c.version) up c h all
+    all_after_claim (λ id e. HasFlagsAt up e) (snp_rule up port c.version) up c h all
     (λ beyond. answered_by up h.own (number_of c.version) (is_originated h.own.system c.id && nat_lt (number_of c.version) last_number))
-    (snp_row_flagged up port is_up c.version _ (get h.db c.id) refl (all c.id))
+    (snp_rule_flagged up port is_up c.version _ (get h.db c.id) refl (all c.id))
 
 pub origination_keeps_flags : OriginationKeepsFlags
 origination_keeps_flags up h all =

@@ -9,7 +9,7 @@ use Rattle.lsdb.specs.declared.version.Version.{Version}
 use Rattle.lsdb.specs.declared.version.Version.TheVariants.{Absent, Live, Dead}
 use Rattle.lsdb.specs.Version.{is_absent}
 use Rattle.lsdb.specs.Entry.{Entry, made, flagged, aged_at}
-use Rattle.flooding.specs.Laws.{HasFlags, StoredFlags, FloodedFlags, EnteredFlags, AckedFlags, ClearedFlags, OfferedFlags, FlaggedFlags, JoinedFlags, PartedFlags, AgedFlags, ExpiredFlags, SpentFlags}
+use Rattle.flooding.specs.Laws.{HasFlags, StoredFlags, FloodedFlags, AskedFlags, AckedFlags, ClearedFlags, OfferedFlags, FlaggedFlags, SetSrmFlags, ClearedPortFlags, AgedFlags, ExpiredFlags, SpentFlags}
 
 -- a set with a port, and without one, read at each port
 module _ (set : PortSet) (port q : ℕ) (low : 1 ≤ port) (high : port ≤ 32) where
@@ -50,8 +50,8 @@ stored_flags up port a lifetime body low high = record { srm_at = λ p. has-with
 pub flooded_flags : FloodedFlags
 flooded_flags up a lifetime body = record { srm_at = λ p. refl; ssn_at = has-no_ports }
 
-pub entered_flags : EnteredFlags
-entered_flags port low high = record { srm_at = has-no_ports; ssn_at = λ p. has-alone port p low high }
+pub asked_flags : AskedFlags
+asked_flags port low high = record { srm_at = has-no_ports; ssn_at = λ p. has-alone port p low high }
 
 pub acked_flags : AckedFlags
 acked_flags port e low high = record { srm_at = λ p. has-without e.srm port p low high; ssn_at = λ p. has-with e.ssn port p low high }
@@ -69,15 +69,15 @@ or_no : (b : Bool) → (b || false) ≡ b
 or_no true = refl
 or_no false = refl
 
-joined_by : (port : ℕ) (e : Entry) → 1 ≤ port → port ≤ 32 → (b : Bool) → HasFlags (if b then e else flagged port e) (λ p. has e.srm p || (not b && (p == port))) (λ p. has e.ssn p)
-joined_by port e low high true = record { srm_at = λ p. sym (or_no (has e.srm p)); ssn_at = λ p. refl }
-joined_by port e low high false = flagged_flags port e low high
+srm_set_by : (port : ℕ) (e : Entry) → 1 ≤ port → port ≤ 32 → (b : Bool) → HasFlags (if b then e else flagged port e) (λ p. has e.srm p || (not b && (p == port))) (λ p. has e.ssn p)
+srm_set_by port e low high true = record { srm_at = λ p. sym (or_no (has e.srm p)); ssn_at = λ p. refl }
+srm_set_by port e low high false = flagged_flags port e low high
 
-pub joined_flags : JoinedFlags
-joined_flags port e low high = joined_by port e low high (is_absent e.version)
+pub srm_set_flags : SetSrmFlags
+srm_set_flags port e low high = srm_set_by port e low high (is_absent e.version)
 
-pub parted_flags : PartedFlags
-parted_flags port e low high = record { srm_at = λ p. has-without e.srm port p low high; ssn_at = λ p. has-without e.ssn port p low high }
+pub port_cleared_flags : ClearedPortFlags
+port_cleared_flags port e low high = record { srm_at = λ p. has-without e.srm port p low high; ssn_at = λ p. has-without e.ssn port p low high }
 
 -- a live LSP after a second, by whether its lifetime ends
 abbrev live_after : PortSet → Entry → ℕ → Bool → Entry

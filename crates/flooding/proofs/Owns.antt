@@ -13,16 +13,16 @@ use Rattle.lsdb.specs.declared.version.Relation.{Relation}
 use Rattle.lsdb.specs.declared.version.Relation.TheVariants.{Older, Equal, Newer, Confused}
 use Rattle.lsdb.specs.Version.{number_of, is_absent, relation}
 use Rattle.lsdb.specs.Entry.{Entry, acked, cleared, offered, with_flags}
-use Rattle.lsdb.specs.Database.{Lsps, version_in, version_at, placed}
+use Rattle.lsdb.specs.Database.{Lsps, version_in, version_at, put_if_it_fits}
 use Rattle.lsdb.specs.Certificate.{Claim}
 use Rattle.lsdb.proofs.LookupLemmas.{fits_held}
 use Rattle.flooding.specs.declared.own.Own.{Own}
-use Rattle.flooding.specs.Own.{last_number, own_id, is_originated, renewed, ended, answered, answering}
-use Rattle.flooding.specs.Hearing.{Holding, claim_of, lsp_row, snp_row, is_beyond, is_answered, lacks_place, after_entry, own_after, after_claim, is_full}
+use Rattle.flooding.specs.Own.{last_number, own_id, is_originated, renewed, dead_at, answered, answering}
+use Rattle.flooding.specs.Hearing.{Holding, claim_of, lsp_rule, snp_rule, is_beyond, is_answered, lacks_place, after_entry, own_after, after_claim, is_full}
 use Rattle.flooding.specs.Origination.{next_entry, originated_from, originated}
 use Rattle.flooding.specs.Laws.{OwnStands, OwnIsNotSpent, OwnEntry, is_kept, is_renewed, LspLeavesOwn, EntryLeavesOwn, OriginatedStands, OriginationLeavesOthers, OriginationLeavesOwn, OriginationIsNotSpent}
-use Rattle.flooding.proofs.Heard.{Row}
-use Rattle.flooding.proofs.Claimed.{heard_of, get-placed_other, get-placed_fit, SaysOfHeld, lsp_row_says, snp_row_says, heard_stands, fitting_is_not_full}
+use Rattle.flooding.proofs.Heard.{Rule}
+use Rattle.flooding.proofs.Claimed.{heard_of, get-put_other, get-put_fit, SaysOfHeld, lsp_rule_says, snp_rule_says, heard_stands, fitting_is_not_full}
 
 -- ---- the system and its body
 
@@ -44,9 +44,9 @@ after_by h db own false same = same
 
 pub own_stands : OwnStands
 unfolding after_claim
-own_stands row up c h =
+own_stands rule up c h =
     let r = relation c.version (version_in (get h.db c.id)) in
-    after_by h _ (own_after h.own c.id c.version r) (lacks_place h.db c.id (heard_of row up c h)) (own_by h.own c.id (number_of c.version) (is_answered h.own c.id r))
+    after_by h _ (own_after h.own c.id c.version r) (lacks_place h.db c.id (heard_of rule up c h)) (own_by h.own c.id (number_of c.version) (is_answered h.own c.id r))
 
 -- ---- spent only at the last number
 
@@ -67,11 +67,11 @@ after_same h db false = refl
 
 pub own_is_not_spent : OwnIsNotSpent
 unfolding after_claim
-own_is_not_spent row up c h below =
+own_is_not_spent rule up c h below =
     let r = relation c.version (version_in (get h.db c.id)) in
     let b = is_answered h.own c.id r in
     let owns : own_after h.own c.id c.version r ≡ h.own = ap (λ (own : Own). if b then own else h.own) (answering_same h.own c.id (number_of c.version) below) ∙ same_by h.own b in
-    ap (λ (own : Own). (after_entry h c.id (heard_of row up c h) own).own) owns ∙ after_same h (placed h.db c.id (heard_of row up c h)) (lacks_place h.db c.id (heard_of row up c h))
+    ap (λ (own : Own). (after_entry h c.id (heard_of rule up c h) own).own) owns ∙ after_same h (put_if_it_fits h.db c.id (heard_of rule up c h)) (lacks_place h.db c.id (heard_of rule up c h))
 
 -- ---- the own LSP that is held
 
@@ -89,37 +89,37 @@ spared_is_kept f old true kept = record { version = refl; lifetime = refl; body 
 spared_is_kept f old false kept = kept
 
 -- a row that keeps what is held of a claim that isn't beyond it
-abbrev pub KeepsHeld : Row → Type 0
-KeepsHeld row = (r : Relation) (old new : Entry) → is_beyond r ≡ false → row r (Some old) ≡ Some new → IsKept old new
+abbrev pub KeepsHeld : Rule → Type 0
+KeepsHeld rule = (r : Relation) (old new : Entry) → is_beyond r ≡ false → rule r (Some old) ≡ Some new → IsKept old new
 
 same_fields : (old : Entry) (srm ssn : PortSet) → IsKept old (with_flags srm ssn old)
 same_fields old srm ssn = record { version = refl; lifetime = refl; body = refl }
 
-lsp_row_keeps : (up : PortSet) (port : ℕ) (l : LspValue) → KeepsHeld (lsp_row up port l)
-lsp_row_keeps up port l Older old new within is = kept_at old (offered port old) new (same_fields old _ _) is
-lsp_row_keeps up port l Equal old new within is = kept_at old _ new (spared_is_kept (acked port) old (is_absent old.version) (same_fields old _ _)) is
-lsp_row_keeps up port l Newer old new within is = absurd (cc)
-lsp_row_keeps up port l Confused old new within is = absurd (cc)
+lsp_rule_keeps : (up : PortSet) (port : ℕ) (l : LspValue) → KeepsHeld (lsp_rule up port l)
+lsp_rule_keeps up port l Older old new within is = kept_at old (offered port old) new (same_fields old _ _) is
+lsp_rule_keeps up port l Equal old new within is = kept_at old _ new (spared_is_kept (acked port) old (is_absent old.version) (same_fields old _ _)) is
+lsp_rule_keeps up port l Newer old new within is = absurd (cc)
+lsp_rule_keeps up port l Confused old new within is = absurd (cc)
 
-snp_row_keeps : (up : PortSet) (port : ℕ) (a : Version) → KeepsHeld (snp_row up port a)
-snp_row_keeps up port a Older old new within is = kept_at old (offered port old) new (same_fields old _ _) is
-snp_row_keeps up port a Equal old new within is = kept_at old _ new (spared_is_kept (cleared port) old (is_absent old.version) (same_fields old _ _)) is
-snp_row_keeps up port a Newer old new within is = absurd (cc)
-snp_row_keeps up port a Confused old new within is = absurd (cc)
+snp_rule_keeps : (up : PortSet) (port : ℕ) (a : Version) → KeepsHeld (snp_rule up port a)
+snp_rule_keeps up port a Older old new within is = kept_at old (offered port old) new (same_fields old _ _) is
+snp_rule_keeps up port a Equal old new within is = kept_at old _ new (spared_is_kept (cleared port) old (is_absent old.version) (same_fields old _ _)) is
+snp_rule_keeps up port a Newer old new within is = absurd (cc)
+snp_rule_keeps up port a Confused old new within is = absurd (cc)
 
 own_entry_of : (up : PortSet) (own : Own) (a : Version) (old new : Entry) → IsKept old new → OwnEntry up own a old new
 own_entry_of up own a old new kept = is_kept kept.version kept.lifetime kept.body
 
-own_entry_by : (row : Row) → KeepsHeld row → (up : PortSet) (own : Own) (id : LspId) (a : Version) (r : Relation) (old new : Entry) (b : Bool)
+own_entry_by : (rule : Rule) → KeepsHeld rule → (up : PortSet) (own : Own) (id : LspId) (a : Version) (r : Relation) (old new : Entry) (b : Bool)
     → is_beyond r ≡ b → is_originated own.system id ≡ true → number_of a < last_number
-    → (if b then Some (answered up own id (number_of a)) else row r (Some old)) ≡ Some new → OwnEntry up own a old new
-own_entry_by row keeps up own id a r old new true beyond mine below is =
+    → (if b then Some (answered up own id (number_of a)) else rule r (Some old)) ≡ Some new → OwnEntry up own a old new
+own_entry_by rule keeps up own id a r old new true beyond mine below is =
     let next : answered up own id (number_of a) ≡ renewed up own (number_of a + 1) =
-    ap (λ b. if b && nat_lt (number_of a) last_number then renewed up own (number_of a + 1) else ended up (number_of a)) mine
-    ∙ ap (λ b. if b then renewed up own (number_of a + 1) else ended up (number_of a)) (lt-ltb (number_of a) last_number below) in
+    ap (λ b. if b && nat_lt (number_of a) last_number then renewed up own (number_of a + 1) else dead_at up (number_of a)) mine
+    ∙ ap (λ b. if b then renewed up own (number_of a + 1) else dead_at up (number_of a)) (lt-ltb (number_of a) last_number below) in
     let same : new ≡ answered up own id (number_of a) = cc in
     is_renewed (same ∙ next)
-own_entry_by row keeps up own id a r old new false within mine below is = own_entry_of up own a old new (keeps r old new within is)
+own_entry_by rule keeps up own id a r old new false within mine below is = own_entry_of up own a old new (keeps r old new within is)
 
 -- the own id has the own system
 system_mine : (own : Own) (id : LspId) → id ≡ own_id own.system → same_system id.system own.system ≡ true
@@ -128,24 +128,24 @@ system_mine own id is = subst (λ (x : LspId). same_system x.system own.system �
 mine_is : (own : Own) (id : LspId) → id ≡ own_id own.system → is_originated own.system id ≡ true
 mine_is own id is = subst (λ (x : LspId). is_originated own.system x ≡ true) (sym is) (ap (λ b. b && true) ((bytes_eq-Decides own.system.mac.bytes own.system.mac.bytes).1 refl))
 
-leaves_own : (row : Row) → KeepsHeld row → SaysOfHeld row → (up : PortSet) (c : Claim) (h : Holding) (old new : Entry) → c.id ≡ own_id h.own.system → number_of c.version < last_number
-    → get h.db c.id ≡ Some old → get (after_claim row up c h).db c.id ≡ Some new → OwnEntry up h.own c.version old new
-leaves_own row keeps says up c h old new mine below before after =
+leaves_own : (rule : Rule) → KeepsHeld rule → SaysOfHeld rule → (up : PortSet) (c : Claim) (h : Holding) (old new : Entry) → c.id ≡ own_id h.own.system → number_of c.version < last_number
+    → get h.db c.id ≡ Some old → get (after_claim rule up c h).db c.id ≡ Some new → OwnEntry up h.own c.version old new
+leaves_own rule keeps says up c h old new mine below before after =
     let r = relation c.version (version_in (get h.db c.id)) in
-    let there : is_full row up c h ≡ false = fitting_is_not_full row up c h (fits_held h.db c.id old before) in
-    let heard : (if is_beyond r then Some (answered up h.own c.id (number_of c.version)) else row r (Some old)) ≡ Some new =
-    sym (ap (λ b. if b && is_beyond r then Some (answered up h.own c.id (number_of c.version)) else row r (Some old)) (system_mine h.own c.id mine))
-    ∙ sym (ap (λ (o : Option Entry). if is_answered h.own c.id r then Some (answered up h.own c.id (number_of c.version)) else row r o) before)
-    ∙ sym (heard_stands row says up c h there) ∙ after in
-    own_entry_by row keeps up h.own c.id c.version r old new (is_beyond r) refl (mine_is h.own c.id mine) below heard
+    let there : is_full rule up c h ≡ false = fitting_is_not_full rule up c h (fits_held h.db c.id old before) in
+    let heard : (if is_beyond r then Some (answered up h.own c.id (number_of c.version)) else rule r (Some old)) ≡ Some new =
+    sym (ap (λ b. if b && is_beyond r then Some (answered up h.own c.id (number_of c.version)) else rule r (Some old)) (system_mine h.own c.id mine))
+    ∙ sym (ap (λ (o : Option Entry). if is_answered h.own c.id r then Some (answered up h.own c.id (number_of c.version)) else rule r o) before)
+    ∙ sym (heard_stands rule says up c h there) ∙ after in
+    own_entry_by rule keeps up h.own c.id c.version r old new (is_beyond r) refl (mine_is h.own c.id mine) below heard
 
 pub lsp_leaves_own : LspLeavesOwn
 lsp_leaves_own up port l h old new mine below before after =
-    leaves_own (lsp_row up port l) (lsp_row_keeps up port l) (lsp_row_says up port l) up (claim_of l) h old new mine below before after
+    leaves_own (lsp_rule up port l) (lsp_rule_keeps up port l) (lsp_rule_says up port l) up (claim_of l) h old new mine below before after
 
 pub entry_leaves_own : EntryLeavesOwn
 entry_leaves_own up port c h old new mine below before after =
-    leaves_own (snp_row up port c.version) (snp_row_keeps up port c.version) (snp_row_says up port c.version) up c h old new mine below before after
+    leaves_own (snp_rule up port c.version) (snp_rule_keeps up port c.version) (snp_rule_says up port c.version) up c h old new mine below before after
 
 -- ---- an origination
 
@@ -159,13 +159,13 @@ originated_stands up h fresh there =
     let id = own_id h.own.system in
     let held = get h.db id in
     ap (λ b. get (if b then h else originated_from up held h).db id) fresh
-    ∙ get-placed_fit h.db id (next_entry up h.own (number_of (version_in held)) held) there
+    ∙ get-put_fit h.db id (next_entry up h.own (number_of (version_in held)) held) there
 
 others_by : (up : PortSet) (h : Holding) (x : LspId) (b : Bool) → x ≢ own_id h.own.system → get (if b then h else originated_from up (get h.db (own_id h.own.system)) h).db x ≡ get h.db x
 others_by up h x true apart = refl
 others_by up h x false apart =
     let held = get h.db (own_id h.own.system) in
-    get-placed_other h.db (own_id h.own.system) (Some (next_entry up h.own (number_of (version_in held)) held)) x apart
+    get-put_other h.db (own_id h.own.system) (Some (next_entry up h.own (number_of (version_in held)) held)) x apart
 
 pub origination_leaves_others : OriginationLeavesOthers
 unfolding originated

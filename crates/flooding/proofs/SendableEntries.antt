@@ -26,8 +26,8 @@ use Rattle.lsdb.specs.Version.{number_of, is_absent, leq, relation, claimed, sum
 use Rattle.lsdb.specs.Entry.{Entry, made, stored, acked, cleared, offered, aged_at, AreKept}
 use Rattle.lsdb.specs.Database.{version_in}
 use Rattle.flooding.specs.declared.own.Own.{Own}
-use Rattle.flooding.specs.Own.{last_number, own_id, is_originated, renewed, ended, answered}
-use Rattle.flooding.specs.Hearing.{claim_of, body_of, unless_absent, wanted, lsp_row, snp_row, is_beyond}
+use Rattle.flooding.specs.Own.{last_number, own_id, is_originated, renewed, dead_at, answered}
+use Rattle.flooding.specs.Hearing.{claim_of, body_of, unless_absent, wanted, lsp_rule, snp_rule, is_beyond}
 use Rattle.flooding.specs.Origination.{spent_entry}
 use Rattle.flooding.specs.Sending.{lsp_in}
 use Rattle.flooding.specs.Entries.{IsNumbered, IsSendable}
@@ -94,7 +94,7 @@ own_is system id is =
     λ i. record { system = record { mac = record { bytes = bytes i } }; pseudonode = pseudonode i; number = number i }
 
 answered_by : (up : PortSet) (own : Own) (id : LspId) (seq : ℕ) (b d : Bool) → is_originated own.system id ≡ b → HasBody own → 1 ≤ seq
-    → IsSendable id (if b && d then renewed up own (seq + 1) else ended up seq)
+    → IsSendable id (if b && d then renewed up own (seq + 1) else dead_at up seq)
 answered_by up own id seq true true mine has_body numbered =
     subst (λ (x : LspId). IsSendable x (renewed up own (seq + 1))) (own_is own.system id mine) (renewed_sendable up own seq has_body)
 answered_by up own id seq true false mine has_body numbered = dead_sendable id seq up _ numbered
@@ -133,16 +133,16 @@ wanted_sendable : (port : ℕ) (id : LspId) (held : Option Entry) → ((e : Entr
 wanted_sendable port id None all = absent_sendable id _ _
 wanted_sendable port id (Some e) all = flags_sendable _ _ id e (all e refl)
 
-ended_sendable : (up : PortSet) (id : LspId) (seq : ℕ) (g : Entry) → 1 ≤ seq → Some (ended up seq) ≡ Some g → IsSendable id g
-ended_sendable up id seq g numbered is = let same : ended up seq ≡ g = cc in subst (λ (x : Entry). IsSendable id x) same (dead_sendable id seq up _ numbered)
+dead_here_sendable : (up : PortSet) (id : LspId) (seq : ℕ) (g : Entry) → 1 ≤ seq → Some (dead_at up seq) ≡ Some g → IsSendable id g
+dead_here_sendable up id seq g numbered is = let same : dead_at up seq ≡ g = cc in subst (λ (x : Entry). IsSendable id x) same (dead_sendable id seq up _ numbered)
 
-snp_row_sendable : (up : PortSet) (port : ℕ) (id : LspId) (a : Version) (r : Relation) (held : Option Entry) → IsNumbered a → relation a (version_in held) ≡ r
-    → ((e : Entry) → held ≡ Some e → IsSendable id e) → (g : Entry) → snp_row up port a r held ≡ Some g → IsSendable id g
-snp_row_sendable up port id a Older held numbered is all g found = mapped_sendable (offered port) id held all (offered_sendable port id) g found
-snp_row_sendable up port id a Equal held numbered is all g found = mapped_sendable (unless_absent (cleared port)) id held all (cleared_sendable port id) g found
-snp_row_sendable up port id a Newer held numbered is all g found = let same : wanted port held ≡ g = cc in subst (λ (x : Entry). IsSendable id x) same (wanted_sendable port id held all)
-snp_row_sendable up port id a Confused held numbered is all g found =
-    ended_sendable up id (number_of a) g (beyond_numbered a (version_in held) numbered (beyond_is a (version_in held) Confused is refl)) found
+snp_rule_sendable : (up : PortSet) (port : ℕ) (id : LspId) (a : Version) (r : Relation) (held : Option Entry) → IsNumbered a → relation a (version_in held) ≡ r
+    → ((e : Entry) → held ≡ Some e → IsSendable id e) → (g : Entry) → snp_rule up port a r held ≡ Some g → IsSendable id g
+snp_rule_sendable up port id a Older held numbered is all g found = mapped_sendable (offered port) id held all (offered_sendable port id) g found
+snp_rule_sendable up port id a Equal held numbered is all g found = mapped_sendable (unless_absent (cleared port)) id held all (cleared_sendable port id) g found
+snp_rule_sendable up port id a Newer held numbered is all g found = let same : wanted port held ≡ g = cc in subst (λ (x : Entry). IsSendable id x) same (wanted_sendable port id held all)
+snp_rule_sendable up port id a Confused held numbered is all g found =
+    dead_here_sendable up id (number_of a) g (beyond_numbered a (version_in held) numbered (beyond_is a (version_in held) Confused is refl)) found
 
 -- a stored LSP
 stored_by : (up : PortSet) (port : ℕ) (l : LspValue) (b d : Bool) → (l.seq == 0) ≡ b → (l.lifetime == 0) ≡ d → IsWhole l
@@ -156,15 +156,15 @@ stored_by up port l false false number life whole = record {
   sound = whole.sound;
 }
 
-lsp_row_sendable : (up : PortSet) (port : ℕ) (l : LspValue) (r : Relation) (held : Option Entry) → IsWhole l → relation (claim_of l).version (version_in held) ≡ r
-    → ((e : Entry) → held ≡ Some e → IsSendable l.id e) → (g : Entry) → lsp_row up port l r held ≡ Some g → IsSendable l.id g
-lsp_row_sendable up port l Older held whole is all g found = mapped_sendable (offered port) l.id held all (offered_sendable port l.id) g found
-lsp_row_sendable up port l Equal held whole is all g found = mapped_sendable (unless_absent (acked port)) l.id held all (acked_sendable port l.id) g found
-lsp_row_sendable up port l Newer held whole is all g found =
+lsp_rule_sendable : (up : PortSet) (port : ℕ) (l : LspValue) (r : Relation) (held : Option Entry) → IsWhole l → relation (claim_of l).version (version_in held) ≡ r
+    → ((e : Entry) → held ≡ Some e → IsSendable l.id e) → (g : Entry) → lsp_rule up port l r held ≡ Some g → IsSendable l.id g
+lsp_rule_sendable up port l Older held whole is all g found = mapped_sendable (offered port) l.id held all (offered_sendable port l.id) g found
+lsp_rule_sendable up port l Equal held whole is all g found = mapped_sendable (unless_absent (acked port)) l.id held all (acked_sendable port l.id) g found
+lsp_rule_sendable up port l Newer held whole is all g found =
     let same : stored up port (claim_of l).version l.lifetime (body_of l) ≡ g = cc in
     subst (λ (x : Entry). IsSendable l.id x) same (stored_by up port l (l.seq == 0) (l.lifetime == 0) refl refl whole)
-lsp_row_sendable up port l Confused held whole is all g found =
-    ended_sendable up l.id l.seq g
+lsp_rule_sendable up port l Confused held whole is all g found =
+    dead_here_sendable up l.id l.seq g
     (subst (λ n. 1 ≤ n) (number-claimed l.seq l.lifetime l.sum) (beyond_numbered (claim_of l).version (version_in held) (claimed_numbered l) (beyond_is (claim_of l).version (version_in held) Confused is refl)))
     found
 
@@ -172,15 +172,15 @@ lsp_row_sendable up port l Confused held whole is all g found =
 
 pub lsp_keeps_sendable : LspKeepsSendable
 lsp_keeps_sendable up port l h whole has_body all =
-    all_after_claim IsSendable (lsp_row up port l) up (claim_of l) h all
+    all_after_claim IsSendable (lsp_rule up port l) up (claim_of l) h all
     (answered_sendable up h.own l.id (claim_of l).version (version_in (get h.db l.id)) has_body (claimed_numbered l))
-    (lsp_row_sendable up port l _ (get h.db l.id) whole refl (all l.id))
+    (lsp_rule_sendable up port l _ (get h.db l.id) whole refl (all l.id))
 
 pub entry_keeps_sendable : EntryKeepsSendable
 entry_keeps_sendable up port c h numbered has_body all =
-    all_after_claim IsSendable (snp_row up port c.version) up c h all
+    all_after_claim IsSendable (snp_rule up port c.version) up c h all
     (answered_sendable up h.own c.id c.version (version_in (get h.db c.id)) has_body numbered)
-    (snp_row_sendable up port c.id c.version _ (get h.db c.id) numbered refl (all c.id))
+    (snp_rule_sendable up port c.id c.version _ (get h.db c.id) numbered refl (all c.id))
 
 next_by : (up : PortSet) (own : Own) (seq : ℕ) (held : Option Entry) (b : Bool) → nat_lt seq last_number ≡ b → HasBody own
     → IsSendable (own_id own.system) (if b then renewed up own (seq + 1) else spent_entry up seq held)

@@ -19,15 +19,15 @@ use Rattle.lsdb.specs.Entry.{Entry, acked, cleared, offered}
 use Rattle.lsdb.specs.Database.{Lsps, version_in}
 use Rattle.lsdb.specs.Certificate.{Claim, IsClaimed, is_flagged, EntryCertificate, Certificate}
 use Rattle.lsdb.proofs.Order.{itself, greater, not_at_most, newer_is, equal_is, confused_is, confused_are_live}
-use Rattle.lsdb.proofs.Certified.{standing, storing, acking, clearing, entering, offering, flooding, placing}
+use Rattle.lsdb.proofs.Certified.{standing, storing, acking, clearing, asking, offering, flooding, putting}
 use Rattle.flooding.specs.declared.own.Own.{Own}
-use Rattle.flooding.specs.Own.{last_number, own_id, is_originated, renewed, ended, answered}
-use Rattle.flooding.specs.Hearing.{Holding, claim_of, body_of, unless_absent, wanted, lsp_row, snp_row, is_beyond, is_answered, after_claim}
+use Rattle.flooding.specs.Own.{last_number, own_id, is_originated, renewed, dead_at, answered}
+use Rattle.flooding.specs.Hearing.{Holding, claim_of, body_of, unless_absent, wanted, lsp_rule, snp_rule, is_beyond, is_answered, after_claim}
 use Rattle.flooding.specs.Origination.{next_entry, spent_entry, originated_from, originated}
 use Rattle.flooding.specs.Laws.{control, HearingLspIsCertified, HearingEntryIsCertified, AnsweringIsCertified, OriginationIsCertified}
-use Rattle.flooding.proofs.Heard.{Row, number-claimed}
+use Rattle.flooding.proofs.Heard.{Rule, number-claimed}
 use Rattle.flooding.proofs.Claimed.{heard_of, db_after}
-use Rattle.flooding.specs.declared.put.TheConstants.{MAX_AGE}
+use Rattle.flooding.specs.declared.origination.TheConstants.{MAX_AGE}
 
 -- ---- versions
 
@@ -52,7 +52,7 @@ beyond_number a h beyond = (not_at_most a h (beyond_is a h (relation a h) refl b
 
 -- the answer to a claim whose number isn't below that of what is held
 answering_by : (up : PortSet) (port : ℕ) (claims : List Claim) (own : Own) (id : LspId) (held : Option Entry) (seq : ℕ) (b : Bool) → number_of (version_in held) ≤ seq
-    → EntryCertificate port claims up up id held (Some (if b then renewed up own (seq + 1) else ended up seq))
+    → EntryCertificate port claims up up id held (Some (if b then renewed up own (seq + 1) else dead_at up seq))
 answering_by up port claims own id held seq true below =
     let further = renewed up own (seq + 1) in
     flooding up port claims id further.version MAX_AGE own.body held (greater (version_in held) further.version (omega arith))
@@ -80,7 +80,7 @@ module _ (up : PortSet) (port : ℕ) (claims : List Claim) (id : LspId) (a : Ver
   offering_of None same = same
   offering_of (Some e) same = let range = has_port up port is_up in offering up port port claims id e range.0 range.1
 
-  ending_of : (held : Option Entry) (seq : ℕ) → relation a (version_in held) ≡ Confused → seq ≡ number_of a → EntryCertificate port claims up up id held (Some (ended up seq))
+  ending_of : (held : Option Entry) (seq : ℕ) → relation a (version_in held) ≡ Confused → seq ≡ number_of a → EntryCertificate port claims up up id held (Some (dead_at up seq))
   ending_of held seq is seq_is = flooding up port claims id (Dead seq) 0 [] held (subst (λ n. IsAtMost (version_in held) (Dead n)) (sym seq_is) (confused_below a (version_in held) is))
 
   acking_of : (held : Option Entry) → a ≡ version_in held → EntryCertificate port claims up up id held held → EntryCertificate port claims up up id held (option_map (unless_absent (acked port)) held)
@@ -92,10 +92,10 @@ module _ (up : PortSet) (port : ℕ) (claims : List Claim) (id : LspId) (a : Ver
   clearing_of (Some e) is same = sparing (cleared port) e (is_absent e.version) same (clearing up port claims id a e is_up (subst (λ (v : Version). IsAtMost v a) is (itself a)) claimed_it)
 
   wanting_of : (held : Option Entry) → relation a (version_in held) ≡ Newer → EntryCertificate port claims up up id held (Some (wanted port held))
-  wanting_of None is = entering up up port claims id
+  wanting_of None is = asking up up port claims id
   wanting_of (Some e) is = acking up port claims id a e is_up (newer_is a e.version is).1 claimed_it
 
-  snp_step : (r : Relation) (held : Option Entry) → relation a (version_in held) ≡ r → EntryCertificate port claims up up id held held → EntryCertificate port claims up up id held (snp_row up port a r held)
+  snp_step : (r : Relation) (held : Option Entry) → relation a (version_in held) ≡ r → EntryCertificate port claims up up id held held → EntryCertificate port claims up up id held (snp_rule up port a r held)
   snp_step Older held is same = offering_of held same
   snp_step Equal held is same = clearing_of held (equal_is a (version_in held) is) same
   snp_step Newer held is same = wanting_of held is
@@ -103,7 +103,7 @@ module _ (up : PortSet) (port : ℕ) (claims : List Claim) (id : LspId) (a : Ver
 
 lsp_step : (up : PortSet) (port : ℕ) (claims : List Claim) (l : LspValue) → has up port ≡ true → IsClaimed claims l.id (claim_of l).version
     → (r : Relation) (held : Option Entry) → relation (claim_of l).version (version_in held) ≡ r → EntryCertificate port claims up up l.id held held
-    → EntryCertificate port claims up up l.id held (lsp_row up port l r held)
+    → EntryCertificate port claims up up l.id held (lsp_rule up port l r held)
 lsp_step up port claims l is_up claimed_it Older held is same = offering_of up port claims l.id (claim_of l).version is_up claimed_it held same
 lsp_step up port claims l is_up claimed_it Equal held is same = acking_of up port claims l.id (claim_of l).version is_up claimed_it held (equal_is (claim_of l).version (version_in held) is) same
 lsp_step up port claims l is_up claimed_it Newer held is same =
@@ -120,28 +120,28 @@ same_at up port claims db id =
     record { rises = step.rises id; kept = λ p u. step.kept id p u }
 
 -- a claim that is answered, or that a certified row decides
-claim_by : (row : Row) (up : PortSet) (port : ℕ) (c : Claim) (h : Holding) (r : Relation) (b : Bool) → relation c.version (version_in (get h.db c.id)) ≡ r
-    → (b ≡ true → is_beyond r ≡ true) → EntryCertificate port (c ∷ []) up up c.id (get h.db c.id) (row r (get h.db c.id))
-    → EntryCertificate port (c ∷ []) up up c.id (get h.db c.id) (if b then Some (answered up h.own c.id (number_of c.version)) else row r (get h.db c.id))
-claim_by row up port c h r true is beyond step = answering up port (c ∷ []) h.own c.id c.version (get h.db c.id) (ap is_beyond is ∙ beyond refl)
-claim_by row up port c h r false is beyond step = step
+claim_by : (rule : Rule) (up : PortSet) (port : ℕ) (c : Claim) (h : Holding) (r : Relation) (b : Bool) → relation c.version (version_in (get h.db c.id)) ≡ r
+    → (b ≡ true → is_beyond r ≡ true) → EntryCertificate port (c ∷ []) up up c.id (get h.db c.id) (rule r (get h.db c.id))
+    → EntryCertificate port (c ∷ []) up up c.id (get h.db c.id) (if b then Some (answered up h.own c.id (number_of c.version)) else rule r (get h.db c.id))
+claim_by rule up port c h r true is beyond step = answering up port (c ∷ []) h.own c.id c.version (get h.db c.id) (ap is_beyond is ∙ beyond refl)
+claim_by rule up port c h r false is beyond step = step
 
-claim_step : (row : Row) (up : PortSet) (port : ℕ) (c : Claim) (h : Holding)
-    → EntryCertificate port (c ∷ []) up up c.id (get h.db c.id) (row (relation c.version (version_in (get h.db c.id))) (get h.db c.id))
-    → Certificate port (c ∷ []) (control up h) (control up (after_claim row up c h))
-claim_step row up port c h step =
+claim_step : (rule : Rule) (up : PortSet) (port : ℕ) (c : Claim) (h : Holding)
+    → EntryCertificate port (c ∷ []) up up c.id (get h.db c.id) (rule (relation c.version (version_in (get h.db c.id))) (get h.db c.id))
+    → Certificate port (c ∷ []) (control up h) (control up (after_claim rule up c h))
+claim_step rule up port c h step =
     let r = relation c.version (version_in (get h.db c.id)) in
-    subst (λ (db : Lsps). Certificate port (c ∷ []) (control up h) (record { up = up; db = db })) (sym (db_after row up c h))
-    (placing port (c ∷ []) up h.db c.id (heard_of row up c h) (claim_by row up port c h r (is_answered h.own c.id r) refl (λ b. (and_parts (same_system c.id.system h.own.system) (is_beyond r) b).1) step))
+    subst (λ (db : Lsps). Certificate port (c ∷ []) (control up h) (record { up = up; db = db })) (sym (db_after rule up c h))
+    (putting port (c ∷ []) up h.db c.id (heard_of rule up c h) (claim_by rule up port c h r (is_answered h.own c.id r) refl (λ b. (and_parts (same_system c.id.system h.own.system) (is_beyond r) b).1) step))
 
 pub hearing_lsp : HearingLspIsCertified
 hearing_lsp up port l h is_up =
-    claim_step (lsp_row up port l) up port (claim_of l) h
+    claim_step (lsp_rule up port l) up port (claim_of l) h
     (lsp_step up port (claim_of l ∷ []) l is_up (inl (refl, refl)) _ (get h.db l.id) refl (same_at up port (claim_of l ∷ []) h.db l.id))
 
 pub hearing_entry : HearingEntryIsCertified
 hearing_entry up port c h is_up =
-    claim_step (snp_row up port c.version) up port c h
+    claim_step (snp_rule up port c.version) up port c h
     (snp_step up port (c ∷ []) c.id c.version is_up (inl (refl, refl)) _ (get h.db c.id) refl (same_at up port (c ∷ []) h.db c.id))
 
 -- ---- an origination
@@ -158,7 +158,7 @@ originated_by : (up : PortSet) (port : ℕ) (claims : List Claim) (h : Holding) 
 originated_by up port claims h true = standing port claims (control up h)
 originated_by up port claims h false =
     let held = get h.db (own_id h.own.system) in
-    placing port claims up h.db (own_id h.own.system) (Some (next_entry up h.own (number_of (version_in held)) held))
+    putting port claims up h.db (own_id h.own.system) (Some (next_entry up h.own (number_of (version_in held)) held))
     (next_by up port claims h.own (own_id h.own.system) held (nat_lt (number_of (version_in held)) last_number))
 
 pub origination : OriginationIsCertified

@@ -11,7 +11,7 @@ use Rattle.lsdb.specs.declared.version.Version.{Version}
 use Rattle.lsdb.specs.declared.version.Version.TheVariants.{Absent, Live, Dead}
 use Rattle.lsdb.specs.Entry.{Entry, IsClean}
 use Rattle.lsdb.specs.Database.{Lsps}
-use Rattle.flooding.specs.Own.{tlvs_in}
+use Rattle.flooding.specs.Own.{tlvs_of_body}
 use Rattle.flooding.specs.Sending.{lsp_in}
 
 -- a version that a PDU can say: any but an absent one has a number of at least 1
@@ -24,7 +24,7 @@ IsNumbered (Dead seq) = 1 ≤ seq
 pub record IsSendable (id : LspId) (e : Entry) : Type 0 where
   pub numbered : IsNumbered e.version
   pub clean : IsClean e
-  pub written : CanWrite kinds.Lsp (tlvs_in e.body)
+  pub written : CanWrite kinds.Lsp (tlvs_of_body e.body)
   pub sound : IsTrue (is_sound_lsp (lsp_in id e))
 
 -- flags stand only at Up ports, and nothing is to be sent of an absent entry

@@ -10,11 +10,11 @@ use Rattle.lsdb.specs.declared.version.Version.{Version}
 use Rattle.lsdb.specs.declared.version.Relation.{Relation}
 use Rattle.lsdb.specs.declared.version.Relation.TheVariants.{Older, Equal, Newer, Confused}
 use Rattle.lsdb.specs.Version.{number_of, is_absent, relation, claimed}
-use Rattle.lsdb.specs.Entry.{Entry, stored, entered, acked, cleared, offered}
-use Rattle.lsdb.specs.Database.{Lsps, version_in, fits, placed}
+use Rattle.lsdb.specs.Entry.{Entry, stored, absent_with_ssn, acked, cleared, offered}
+use Rattle.lsdb.specs.Database.{Lsps, version_in, fits, put_if_it_fits}
 use Rattle.lsdb.specs.Certificate.{Claim}
 use Rattle.flooding.specs.declared.own.Own.{Own}
-use Rattle.flooding.specs.Own.{ended, answered, answering}
+use Rattle.flooding.specs.Own.{dead_at, answered, answering}
 
 -- what an LSP says of its sender: it holds this version of this id
 abbrev pub claim_of : LspValue → Claim
@@ -28,28 +28,29 @@ body_of l = l.flags ∷ l.tlvs
 abbrev pub unless_absent : (Entry → Entry) → Entry → Entry
 unless_absent f e = if is_absent e.version then e else f e
 
--- what an LSP heard at a port makes of what is held under its id, by the relation of its version to the held one:
--- a newer one is stored, also a dead one of an id that isn't held (*profile*); the same one is acknowledged; of an older one
--- the neighbour gets what is held; and confused ones can't stand, so the dead one of their number goes to every Up port
-abbrev pub lsp_row : PortSet → ℕ → LspValue → Relation → Option Entry → Option Entry
-lsp_row up port l Newer held = Some (stored up port (claimed l.seq l.lifetime l.sum) l.lifetime (body_of l))
-lsp_row up port l Equal held = option_map (unless_absent (acked port)) held
-lsp_row up port l Older held = option_map (offered port) held
-lsp_row up port l Confused held = Some (ended up l.seq)
+-- what an LSP heard at a port makes of what is held under its id, by the relation of its version to the held one: a
+-- newer one is stored, also a dead one of an id that isn't held (*profile*); the same one is acknowledged; of an older
+-- one the neighbour gets what is held; and confused ones can't stand, so the dead one of their number goes to every Up
+-- port
+abbrev pub lsp_rule : PortSet → ℕ → LspValue → Relation → Option Entry → Option Entry
+lsp_rule up port l Newer held = Some (stored up port (claimed l.seq l.lifetime l.sum) l.lifetime (body_of l))
+lsp_rule up port l Equal held = option_map (unless_absent (acked port)) held
+lsp_rule up port l Older held = option_map (offered port) held
+lsp_rule up port l Confused held = Some (dead_at up l.seq)
 
--- a newer version that a neighbour has is asked for at its port; an id that isn't held is entered as absent for it, also
--- where the neighbour's is dead (*profile*)
+-- a newer version that a neighbour has is asked for at its port; an id that isn't held is entered as absent for it,
+-- also where the neighbour's is dead (*profile*)
 abbrev pub wanted : ℕ → Option Entry → Entry
-wanted port None = entered port
+wanted port None = absent_with_ssn port
 wanted port (Some e) = acked port e
 
 -- what an entry of an SNP heard at a port makes of what is held under its id: a newer version is asked for; the same
 -- one needn't be sent there; of an older one the neighbour gets what is held; and confused ones end as above
-abbrev pub snp_row : PortSet → ℕ → Version → Relation → Option Entry → Option Entry
-snp_row up port a Newer held = Some (wanted port held)
-snp_row up port a Equal held = option_map (unless_absent (cleared port)) held
-snp_row up port a Older held = option_map (offered port) held
-snp_row up port a Confused held = Some (ended up (number_of a))
+abbrev pub snp_rule : PortSet → ℕ → Version → Relation → Option Entry → Option Entry
+snp_rule up port a Newer held = Some (wanted port held)
+snp_rule up port a Equal held = option_map (unless_absent (cleared port)) held
+snp_rule up port a Older held = option_map (offered port) held
+snp_rule up port a Confused held = Some (dead_at up (number_of a))
 
 -- a claim that isn't equal to what is held, nor older
 abbrev pub is_beyond : Relation → Bool
@@ -63,9 +64,10 @@ is_beyond Confused = true
 abbrev pub is_answered : Own → LspId → Relation → Bool
 is_answered own id r = same_system id.system own.system && is_beyond r
 
--- what a claim makes of what is held under its id: the answer to it, or what its row says
-abbrev pub heard_by : (Relation → Option Entry → Option Entry) → PortSet → Own → LspId → Version → Relation → Option Entry → Option Entry
-heard_by row up own id a r held = if is_answered own id r then Some (answered up own id (number_of a)) else row r held
+-- what a claim makes of what is held under its id: the answer to it, or what its rule says
+abbrev pub heard_by : (Relation → Option Entry → Option Entry) → PortSet → Own → LspId → Version → Relation
+    → Option Entry → Option Entry
+heard_by rule up own id a r held = if is_answered own id r then Some (answered up own id (number_of a)) else rule r held
 
 -- the part of a bridge that hearing changes
 pub record Holding : Type 0 where
@@ -79,33 +81,33 @@ lacks_place db id (Some e) = not (fits db id)
 
 -- after a claim: the entry under its id is what was heard, and no other changes. Where there is no place, nothing does
 abbrev pub after_entry : Holding → LspId → Option Entry → Own → Holding
-after_entry h id new own = if lacks_place h.db id new then h else record { db = placed h.db id new; own = own }
+after_entry h id new own = if lacks_place h.db id new then h else record { db = put_if_it_fits h.db id new; own = own }
 
 abbrev pub own_after : Own → LspId → Version → Relation → Own
 own_after own id a r = if is_answered own id r then answering own id (number_of a) else own
 
 unfoldable pub after_claim : (Relation → Option Entry → Option Entry) → PortSet → Claim → Holding → Holding
-after_claim row up c h =
+after_claim rule up c h =
     let held = get h.db c.id in
     let r = relation c.version (version_in held) in
-    after_entry h c.id (heard_by row up h.own c.id c.version r held) (own_after h.own c.id c.version r)
+    after_entry h c.id (heard_by rule up h.own c.id c.version r held) (own_after h.own c.id c.version r)
 
 -- whether a claim needs a place for its id, and there is none
 unfoldable pub is_full : (Relation → Option Entry → Option Entry) → PortSet → Claim → Holding → Bool
-is_full row up c h =
+is_full rule up c h =
     let held = get h.db c.id in
-    lacks_place h.db c.id (heard_by row up h.own c.id c.version (relation c.version (version_in held)) held)
+    lacks_place h.db c.id (heard_by rule up h.own c.id c.version (relation c.version (version_in held)) held)
 
 -- after an LSP heard at a port, and whether it needed a place that there wasn't
 abbrev pub hear_lsp_of : PortSet → ℕ → LspValue → Holding → Holding
-hear_lsp_of up port l h = after_claim (lsp_row up port l) up (claim_of l) h
+hear_lsp_of up port l h = after_claim (lsp_rule up port l) up (claim_of l) h
 
 abbrev pub is_full_for_lsp : PortSet → ℕ → LspValue → Holding → Bool
-is_full_for_lsp up port l h = is_full (lsp_row up port l) up (claim_of l) h
+is_full_for_lsp up port l h = is_full (lsp_rule up port l) up (claim_of l) h
 
 -- after an entry of an SNP heard at a port, and whether it needed a place that there wasn't
 abbrev pub hear_entry_of : PortSet → ℕ → Claim → Holding → Holding
-hear_entry_of up port c h = after_claim (snp_row up port c.version) up c h
+hear_entry_of up port c h = after_claim (snp_rule up port c.version) up c h
 
 abbrev pub is_full_for_entry : PortSet → ℕ → Claim → Holding → Bool
-is_full_for_entry up port c h = is_full (snp_row up port c.version) up c h
+is_full_for_entry up port c h = is_full (snp_rule up port c.version) up c h

@@ -12,12 +12,12 @@ use Rattle.isis_pdu.specs.Grammar.{IsId, IsBytes, is_sound_lsp}
 use Rattle.lsdb.specs.declared.version.Version.{Version}
 use Rattle.lsdb.specs.declared.version.Relation.{Relation}
 use Rattle.lsdb.specs.Version.{number_of, is_absent, IsAtMost, relation, claimed}
-use Rattle.lsdb.specs.Entry.{Entry, stored, flooded, entered, acked, cleared, offered, flagged, joined, parted, with_flags, aged}
+use Rattle.lsdb.specs.Entry.{Entry, stored, flooded, absent_with_ssn, acked, cleared, offered, flagged, srm_set_at, flags_cleared_at, with_flags, aged}
 use Rattle.lsdb.specs.Database.{Lsps, version_in, version_at, ssn_in, fits}
 use Rattle.lsdb.specs.Certificate.{Claim, Control, EntryCertificate, Certificate}
 use Rattle.flooding.specs.declared.own.Own.{Own}
-use Rattle.flooding.specs.Own.{last_number, own_id, tlvs_in, body_in, renewed, answered}
-use Rattle.flooding.specs.Hearing.{Holding, claim_of, lsp_row, snp_row, is_beyond, heard_by, after_claim, is_full, hear_lsp_of, is_full_for_lsp, hear_entry_of, is_full_for_entry}
+use Rattle.flooding.specs.Own.{last_number, own_id, tlvs_of_body, body_in, renewed, answered}
+use Rattle.flooding.specs.Hearing.{Holding, claim_of, lsp_rule, snp_rule, is_beyond, heard_by, after_claim, is_full, hear_lsp_of, is_full_for_lsp, hear_entry_of, is_full_for_entry}
 use Rattle.flooding.specs.Origination.{spent_entry, next_entry, originated}
 use Rattle.flooding.specs.Sending.{lsp_in, ids_to_send, lsps_to_send}
 use Rattle.flooding.specs.Entries.{IsNumbered, IsSendable, AreSendable, HaveFlagsAt}
@@ -39,38 +39,46 @@ HearingEntryIsCertified = (up : PortSet) (port : ℕ) (c : Claim) (h : Holding) 
 
 -- the answer to a claim that is newer or confused
 abbrev pub AnsweringIsCertified : Type 0
-AnsweringIsCertified = (up : PortSet) (port : ℕ) (claims : List Claim) (own : Own) (id : LspId) (a : Version) (held : Option Entry)
-    → is_beyond (relation a (version_in held)) ≡ true → EntryCertificate port claims up up id held (Some (answered up own id (number_of a)))
+AnsweringIsCertified = (up : PortSet) (port : ℕ) (claims : List Claim) (own : Own) (id : LspId) (a : Version)
+    (held : Option Entry)
+    → is_beyond (relation a (version_in held)) ≡ true
+    → EntryCertificate port claims up up id held (Some (answered up own id (number_of a)))
 
 -- an origination is a certified step
 abbrev pub OriginationIsCertified : Type 0
-OriginationIsCertified = (up : PortSet) (port : ℕ) (claims : List Claim) (h : Holding) → Certificate port claims (control up h) (control up (originated up h))
+OriginationIsCertified = (up : PortSet) (port : ℕ) (claims : List Claim) (h : Holding)
+    → Certificate port claims (control up h) (control up (originated up h))
 
 -- ---- what a claim changes
 
 -- no other id
 abbrev pub OthersStand : Type 0
-OthersStand = (row : Relation → Option Entry → Option Entry) (up : PortSet) (c : Claim) (h : Holding) (x : LspId) → x ≢ c.id
-    → get (after_claim row up c h).db x ≡ get h.db x
+OthersStand = (rule : Relation → Option Entry → Option Entry) (up : PortSet) (c : Claim) (h : Holding) (x : LspId)
+    → x ≢ c.id
+    → get (after_claim rule up c h).db x ≡ get h.db x
 
 -- its id, where there is a place if it needs one: what was heard stands under it
 abbrev pub LspStands : Type 0
 LspStands = (up : PortSet) (port : ℕ) (l : LspValue) (h : Holding) → is_full_for_lsp up port l h ≡ false
     → get (hear_lsp_of up port l h).db l.id
-    ≡ heard_by (lsp_row up port l) up h.own l.id (claim_of l).version (relation (claim_of l).version (version_at h.db l.id)) (get h.db l.id)
+    ≡ heard_by (lsp_rule up port l) up h.own l.id (claim_of l).version
+    (relation (claim_of l).version (version_at h.db l.id)) (get h.db l.id)
 
 abbrev pub EntryStands : Type 0
 EntryStands = (up : PortSet) (port : ℕ) (c : Claim) (h : Holding) → is_full_for_entry up port c h ≡ false
     → get (hear_entry_of up port c h).db c.id
-    ≡ heard_by (snp_row up port c.version) up h.own c.id c.version (relation c.version (version_at h.db c.id)) (get h.db c.id)
+    ≡ heard_by (snp_rule up port c.version) up h.own c.id c.version (relation c.version (version_at h.db c.id))
+    (get h.db c.id)
 
 -- where there is none, nothing
 abbrev pub FullStands : Type 0
-FullStands = (row : Relation → Option Entry → Option Entry) (up : PortSet) (c : Claim) (h : Holding) → is_full row up c h ≡ true → after_claim row up c h ≡ h
+FullStands = (rule : Relation → Option Entry → Option Entry) (up : PortSet) (c : Claim) (h : Holding)
+    → is_full rule up c h ≡ true → after_claim rule up c h ≡ h
 
 -- there is a place for an id that is held, or while fewer than 2,048 ids are
 abbrev pub FittingIsNotFull : Type 0
-FittingIsNotFull = (row : Relation → Option Entry → Option Entry) (up : PortSet) (c : Claim) (h : Holding) → fits h.db c.id ≡ true → is_full row up c h ≡ false
+FittingIsNotFull = (rule : Relation → Option Entry → Option Entry) (up : PortSet) (c : Claim) (h : Holding)
+    → fits h.db c.id ≡ true → is_full rule up c h ≡ false
 
 -- an LSP that was heard is at most what is held after it
 abbrev pub HeardIsAtMostHeld : Type 0
@@ -90,69 +98,82 @@ StoredFlags = (up : PortSet) (port : ℕ) (a : Version) (lifetime : ℕ) (body :
     → HasFlags (stored up port a lifetime body) (λ p. has up p && not (p == port)) (λ p. p == port)
 
 abbrev pub FloodedFlags : Type 0
-FloodedFlags = (up : PortSet) (a : Version) (lifetime : ℕ) (body : List ℕ) → HasFlags (flooded up a lifetime body) (λ p. has up p) (λ p. false)
+FloodedFlags = (up : PortSet) (a : Version) (lifetime : ℕ) (body : List ℕ)
+    → HasFlags (flooded up a lifetime body) (λ p. has up p) (λ p. false)
 
-abbrev pub EnteredFlags : Type 0
-EnteredFlags = (port : ℕ) → 1 ≤ port → port ≤ 32 → HasFlags (entered port) (λ p. false) (λ p. p == port)
+abbrev pub AskedFlags : Type 0
+AskedFlags = (port : ℕ) → 1 ≤ port → port ≤ 32 → HasFlags (absent_with_ssn port) (λ p. false) (λ p. p == port)
 
 abbrev pub AckedFlags : Type 0
-AckedFlags = (port : ℕ) (e : Entry) → 1 ≤ port → port ≤ 32 → HasFlags (acked port e) (λ p. has e.srm p && not (p == port)) (λ p. has e.ssn p || (p == port))
+AckedFlags = (port : ℕ) (e : Entry) → 1 ≤ port → port ≤ 32
+    → HasFlags (acked port e) (λ p. has e.srm p && not (p == port)) (λ p. has e.ssn p || (p == port))
 
 abbrev pub ClearedFlags : Type 0
-ClearedFlags = (port : ℕ) (e : Entry) → 1 ≤ port → port ≤ 32 → HasFlags (cleared port e) (λ p. has e.srm p && not (p == port)) (λ p. has e.ssn p)
+ClearedFlags = (port : ℕ) (e : Entry) → 1 ≤ port → port ≤ 32
+    → HasFlags (cleared port e) (λ p. has e.srm p && not (p == port)) (λ p. has e.ssn p)
 
 abbrev pub OfferedFlags : Type 0
-OfferedFlags = (port : ℕ) (e : Entry) → 1 ≤ port → port ≤ 32 → HasFlags (offered port e) (λ p. has e.srm p || (p == port)) (λ p. has e.ssn p && not (p == port))
+OfferedFlags = (port : ℕ) (e : Entry) → 1 ≤ port → port ≤ 32
+    → HasFlags (offered port e) (λ p. has e.srm p || (p == port)) (λ p. has e.ssn p && not (p == port))
 
 abbrev pub FlaggedFlags : Type 0
-FlaggedFlags = (port : ℕ) (e : Entry) → 1 ≤ port → port ≤ 32 → HasFlags (flagged port e) (λ p. has e.srm p || (p == port)) (λ p. has e.ssn p)
+FlaggedFlags = (port : ℕ) (e : Entry) → 1 ≤ port → port ≤ 32
+    → HasFlags (flagged port e) (λ p. has e.srm p || (p == port)) (λ p. has e.ssn p)
 
 -- a port comes up: to be sent there too, unless it is absent
-abbrev pub JoinedFlags : Type 0
-JoinedFlags = (port : ℕ) (e : Entry) → 1 ≤ port → port ≤ 32
-    → HasFlags (joined port e) (λ p. has e.srm p || (not (is_absent e.version) && (p == port))) (λ p. has e.ssn p)
+abbrev pub SetSrmFlags : Type 0
+SetSrmFlags = (port : ℕ) (e : Entry) → 1 ≤ port → port ≤ 32
+    → HasFlags (srm_set_at port e) (λ p. has e.srm p || (not (is_absent e.version) && (p == port))) (λ p. has e.ssn p)
 
 -- a port is no longer Up: neither to be sent nor to be acknowledged there
-abbrev pub PartedFlags : Type 0
-PartedFlags = (port : ℕ) (e : Entry) → 1 ≤ port → port ≤ 32
-    → HasFlags (parted port e) (λ p. has e.srm p && not (p == port)) (λ p. has e.ssn p && not (p == port))
+abbrev pub ClearedPortFlags : Type 0
+ClearedPortFlags = (port : ℕ) (e : Entry) → 1 ≤ port → port ≤ 32
+    → HasFlags (flags_cleared_at port e) (λ p. has e.srm p && not (p == port)) (λ p. has e.ssn p && not (p == port))
 
--- a second passes: an LSP whose version changes by it, since its lifetime ends, is to be sent at every Up port; where any
--- other is to be sent stays, and where any is to be acknowledged
+-- a second passes: an LSP whose version changes by it, since its lifetime ends, is to be sent at every Up port; where
+-- any other is to be sent stays, and where any is to be acknowledged
 abbrev pub AgedFlags : Type 0
-AgedFlags = (up : PortSet) (e : Entry) → (aged up e).version ≡ e.version → HasFlags (aged up e) (λ p. has e.srm p) (λ p. has e.ssn p)
+AgedFlags = (up : PortSet) (e : Entry) → (aged up e).version ≡ e.version
+    → HasFlags (aged up e) (λ p. has e.srm p) (λ p. has e.ssn p)
 
 abbrev pub ExpiredFlags : Type 0
-ExpiredFlags = (up : PortSet) (e : Entry) → (aged up e).version ≢ e.version → HasFlags (aged up e) (λ p. has up p) (λ p. has e.ssn p)
+ExpiredFlags = (up : PortSet) (e : Entry) → (aged up e).version ≢ e.version
+    → HasFlags (aged up e) (λ p. has up p) (λ p. has e.ssn p)
 
 -- the own LSP past the last number: to be sent at every Up port; where it is to be acknowledged stays
 abbrev pub SpentFlags : Type 0
-SpentFlags = (up : PortSet) (seq : ℕ) (held : Option Entry) → HasFlags (spent_entry up seq held) (λ p. has up p) (λ p. has (ssn_in held) p)
+SpentFlags = (up : PortSet) (seq : ℕ) (held : Option Entry)
+    → HasFlags (spent_entry up seq held) (λ p. has up p) (λ p. has (ssn_in held) p)
 
 -- ---- the own LSP
 
 -- hearing changes of the own LSP at most that the system is spent, and that only at the last number
 abbrev pub OwnStands : Type 0
-OwnStands = (row : Relation → Option Entry → Option Entry) (up : PortSet) (c : Claim) (h : Holding)
-    → ((after_claim row up c h).own.system ≡ h.own.system) × ((after_claim row up c h).own.body ≡ h.own.body)
+OwnStands = (rule : Relation → Option Entry → Option Entry) (up : PortSet) (c : Claim) (h : Holding)
+    → ((after_claim rule up c h).own.system ≡ h.own.system) × ((after_claim rule up c h).own.body ≡ h.own.body)
 
 abbrev pub OwnIsNotSpent : Type 0
-OwnIsNotSpent = (row : Relation → Option Entry → Option Entry) (up : PortSet) (c : Claim) (h : Holding) → number_of c.version < last_number
-    → (after_claim row up c h).own ≡ h.own
+OwnIsNotSpent = (rule : Relation → Option Entry → Option Entry) (up : PortSet) (c : Claim) (h : Holding)
+    → number_of c.version < last_number
+    → (after_claim rule up c h).own ≡ h.own
 
--- what a claim makes of the own LSP that is held, below the last number: it has the version, lifetime and body that it had,
--- or the present body at the number after the claim's
+-- what a claim makes of the own LSP that is held, below the last number: it has the version, lifetime and body that it
+-- had, or the present body at the number after the claim's
 pub data OwnEntry (up : PortSet) (own : Own) (a : Version) (old new : Entry) : Type 0 where
   is_kept : new.version ≡ old.version → new.lifetime ≡ old.lifetime → new.body ≡ old.body → OwnEntry up own a old new
   is_renewed : new ≡ renewed up own (number_of a + 1) → OwnEntry up own a old new
 
 abbrev pub LspLeavesOwn : Type 0
-LspLeavesOwn = (up : PortSet) (port : ℕ) (l : LspValue) (h : Holding) (old new : Entry) → l.id ≡ own_id h.own.system → number_of (claim_of l).version < last_number
-    → get h.db l.id ≡ Some old → get (hear_lsp_of up port l h).db l.id ≡ Some new → OwnEntry up h.own (claim_of l).version old new
+LspLeavesOwn = (up : PortSet) (port : ℕ) (l : LspValue) (h : Holding) (old new : Entry) → l.id ≡ own_id h.own.system
+    → number_of (claim_of l).version < last_number
+    → get h.db l.id ≡ Some old → get (hear_lsp_of up port l h).db l.id ≡ Some new
+    → OwnEntry up h.own (claim_of l).version old new
 
 abbrev pub EntryLeavesOwn : Type 0
-EntryLeavesOwn = (up : PortSet) (port : ℕ) (c : Claim) (h : Holding) (old new : Entry) → c.id ≡ own_id h.own.system → number_of c.version < last_number
-    → get h.db c.id ≡ Some old → get (hear_entry_of up port c h).db c.id ≡ Some new → OwnEntry up h.own c.version old new
+EntryLeavesOwn = (up : PortSet) (port : ℕ) (c : Claim) (h : Holding) (old new : Entry) → c.id ≡ own_id h.own.system
+    → number_of c.version < last_number
+    → get h.db c.id ≡ Some old → get (hear_entry_of up port c h).db c.id ≡ Some new
+    → OwnEntry up h.own c.version old new
 
 -- the body under an id of the own system, after a claim or an origination: the one that was held, the own one, or that
 -- of a dead LSP. What others send is never held there
@@ -173,39 +194,45 @@ abbrev pub OriginationLeavesOwnBody : Type 0
 OriginationLeavesOwnBody = (up : PortSet) (h : Holding) (id : LspId)
     → IsOwnBody h.own (get h.db id) (get (originated up h).db id)
 
--- after an origination the next entry stands under the own id and no other changes. The system and its body stay, and below
--- the last number it isn't spent
+-- after an origination the next entry stands under the own id and no other changes. The system and its body stay, and
+-- below the last number it isn't spent
 abbrev pub OriginatedStands : Type 0
 OriginatedStands = (up : PortSet) (h : Holding) → h.own.spent ≡ false → fits h.db (own_id h.own.system) ≡ true
     → get (originated up h).db (own_id h.own.system)
     ≡ Some (next_entry up h.own (number_of (version_at h.db (own_id h.own.system))) (get h.db (own_id h.own.system)))
 
 abbrev pub OriginationLeavesOthers : Type 0
-OriginationLeavesOthers = (up : PortSet) (h : Holding) (x : LspId) → x ≢ own_id h.own.system → get (originated up h).db x ≡ get h.db x
+OriginationLeavesOthers = (up : PortSet) (h : Holding) (x : LspId) → x ≢ own_id h.own.system
+    → get (originated up h).db x ≡ get h.db x
 
 abbrev pub OriginationLeavesOwn : Type 0
-OriginationLeavesOwn = (up : PortSet) (h : Holding) → ((originated up h).own.system ≡ h.own.system) × ((originated up h).own.body ≡ h.own.body)
+OriginationLeavesOwn = (up : PortSet) (h : Holding)
+    → ((originated up h).own.system ≡ h.own.system) × ((originated up h).own.body ≡ h.own.body)
 
 abbrev pub OriginationIsNotSpent : Type 0
-OriginationIsNotSpent = (up : PortSet) (h : Holding) → number_of (version_at h.db (own_id h.own.system)) < last_number → (originated up h).own ≡ h.own
+OriginationIsNotSpent = (up : PortSet) (h : Holding) → number_of (version_at h.db (own_id h.own.system)) < last_number
+    → (originated up h).own ≡ h.own
 
 -- ---- what is sent
 
 -- an LSP that is sent claims exactly what is held
 abbrev pub SentIsHeld : Type 0
-SentIsHeld = (id : LspId) (e : Entry) → IsSendable id e → claim_of (lsp_in id e) ≡ record { id = id; version = e.version }
+SentIsHeld = (id : LspId) (e : Entry) → IsSendable id e
+    → claim_of (lsp_in id e) ≡ record { id = id; version = e.version }
 
 -- the ids that are to be sent name the LSPs that are
 abbrev pub IdsNameLsps : Type 0
-IdsNameLsps = (db : Lsps) (port : ℕ) → map (λ id. option_map (lsp_in id) (get db id)) (ids_to_send db port) ≡ map (λ l. Some l) (lsps_to_send db port)
+IdsNameLsps = (db : Lsps) (port : ℕ) → map (λ id. option_map (lsp_in id) (get db id)) (ids_to_send db port)
+    ≡ map (λ l. Some l) (lsps_to_send db port)
 
 -- the bytes of an LSP that is sent are read as that LSP
 abbrev pub SentIsRead : Type 0
-SentIsRead = (id : LspId) (e : Entry) → IsId id.system → IsSendable id e → read (lsp_bytes (lsp_in id e)) ≡ Ok (lsp (lsp_in id e))
+SentIsRead = (id : LspId) (e : Entry) → IsId id.system → IsSendable id e
+    → read (lsp_bytes (lsp_in id e)) ≡ Ok (lsp (lsp_in id e))
 
 -- an own LSP that can be written, and an LSP that can be written and whose checksum holds if it must
 abbrev pub HasBody : Own → Type 0
-HasBody own = (1 ≤ length own.body) × CanWrite kinds.Lsp (tlvs_in own.body)
+HasBody own = (1 ≤ length own.body) × CanWrite kinds.Lsp (tlvs_of_body own.body)
 
 pub record IsWhole (l : LspValue) : Type 0 where
   pub written : CanWrite kinds.Lsp l.tlvs
@@ -213,7 +240,8 @@ pub record IsWhole (l : LspValue) : Type 0 where
 
 -- an LSP that was read from at most 1,497 bytes is so
 abbrev pub ReadIsWhole : Type 0
-ReadIsWhole = (bytes : List ℕ) (l : LspValue) → IsBytes bytes → length bytes ≤ 1497 → read bytes ≡ Ok (lsp l) → IsWhole l
+ReadIsWhole = (bytes : List ℕ) (l : LspValue) → IsBytes bytes → length bytes ≤ 1497 → read bytes ≡ Ok (lsp l)
+    → IsWhole l
 
 -- what an LSP claims has a number, unless it is absent
 abbrev pub ClaimIsNumbered : Type 0
@@ -221,26 +249,32 @@ ClaimIsNumbered = (seq lifetime sum : ℕ) → IsNumbered (claimed seq lifetime 
 
 -- what is held stays sendable
 abbrev pub LspKeepsSendable : Type 0
-LspKeepsSendable = (up : PortSet) (port : ℕ) (l : LspValue) (h : Holding) → IsWhole l → HasBody h.own → AreSendable h.db → AreSendable (hear_lsp_of up port l h).db
+LspKeepsSendable = (up : PortSet) (port : ℕ) (l : LspValue) (h : Holding) → IsWhole l → HasBody h.own → AreSendable h.db
+    → AreSendable (hear_lsp_of up port l h).db
 
 abbrev pub EntryKeepsSendable : Type 0
-EntryKeepsSendable = (up : PortSet) (port : ℕ) (c : Claim) (h : Holding) → IsNumbered c.version → HasBody h.own → AreSendable h.db → AreSendable (hear_entry_of up port c h).db
+EntryKeepsSendable = (up : PortSet) (port : ℕ) (c : Claim) (h : Holding) → IsNumbered c.version → HasBody h.own
+    → AreSendable h.db → AreSendable (hear_entry_of up port c h).db
 
 abbrev pub OriginationKeepsSendable : Type 0
-OriginationKeepsSendable = (up : PortSet) (h : Holding) → HasBody h.own → AreSendable h.db → AreSendable (originated up h).db
+OriginationKeepsSendable = (up : PortSet) (h : Holding) → HasBody h.own → AreSendable h.db
+    → AreSendable (originated up h).db
 
 abbrev pub AgeingKeepsSendable : Type 0
 AgeingKeepsSendable = (up : PortSet) (id : LspId) (e : Entry) → IsSendable id e → IsSendable id (aged up e)
 
 abbrev pub FlagsKeepSendable : Type 0
-FlagsKeepSendable = (srm ssn : PortSet) (id : LspId) (e : Entry) → IsSendable id e → IsSendable id (with_flags srm ssn e)
+FlagsKeepSendable = (srm ssn : PortSet) (id : LspId) (e : Entry) → IsSendable id e
+    → IsSendable id (with_flags srm ssn e)
 
 -- flags stay at Up ports
 abbrev pub LspKeepsFlags : Type 0
-LspKeepsFlags = (up : PortSet) (port : ℕ) (l : LspValue) (h : Holding) → has up port ≡ true → HaveFlagsAt up h.db → HaveFlagsAt up (hear_lsp_of up port l h).db
+LspKeepsFlags = (up : PortSet) (port : ℕ) (l : LspValue) (h : Holding) → has up port ≡ true → HaveFlagsAt up h.db
+    → HaveFlagsAt up (hear_lsp_of up port l h).db
 
 abbrev pub EntryKeepsFlags : Type 0
-EntryKeepsFlags = (up : PortSet) (port : ℕ) (c : Claim) (h : Holding) → has up port ≡ true → HaveFlagsAt up h.db → HaveFlagsAt up (hear_entry_of up port c h).db
+EntryKeepsFlags = (up : PortSet) (port : ℕ) (c : Claim) (h : Holding) → has up port ≡ true → HaveFlagsAt up h.db
+    → HaveFlagsAt up (hear_entry_of up port c h).db
 
 abbrev pub OriginationKeepsFlags : Type 0
 OriginationKeepsFlags = (up : PortSet) (h : Holding) → HaveFlagsAt up h.db → HaveFlagsAt up (originated up h).db

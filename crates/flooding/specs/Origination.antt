@@ -5,7 +5,7 @@ use Rattle.spb_types.specs.declared.ports.PortSet.{PortSet}
 use Rattle.lsdb.specs.declared.version.Version.TheVariants.{Dead}
 use Rattle.lsdb.specs.Version.{number_of}
 use Rattle.lsdb.specs.Entry.{Entry, made}
-use Rattle.lsdb.specs.Database.{version_in, ssn_in, placed}
+use Rattle.lsdb.specs.Database.{version_in, ssn_in, put_if_it_fits}
 use Rattle.flooding.specs.declared.own.Own.{Own}
 use Rattle.flooding.specs.Own.{last_number, own_id, renewed}
 use Rattle.flooding.specs.Hearing.{Holding}
@@ -24,7 +24,7 @@ next_own own seq = if nat_lt seq last_number then own else record own { spent = 
 -- an origination from what is held under the own id
 abbrev pub originated_from : PortSet → Option Entry → Holding → Holding
 originated_from up held h = record {
-  db = placed h.db (own_id h.own.system) (Some (next_entry up h.own (number_of (version_in held)) held));
+  db = put_if_it_fits h.db (own_id h.own.system) (Some (next_entry up h.own (number_of (version_in held)) held));
   own = next_own h.own (number_of (version_in held));
 }
 

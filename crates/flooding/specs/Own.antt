@@ -9,7 +9,7 @@ use Rattle.lsdb.specs.declared.version.Version.TheVariants.{Live, Dead}
 use Rattle.lsdb.specs.Entry.{Entry, flooded}
 use Rattle.flooding.specs.declared.own.Own.{Own}
 use Rattle.spb_types.specs.declared.level.TheConstants.{LEVEL_1}
-use Rattle.flooding.specs.declared.put.TheConstants.{MAX_AGE}
+use Rattle.flooding.specs.declared.origination.TheConstants.{MAX_AGE}
 
 -- the greatest sequence number (ISO/IEC 10589, 7.3.16.1)
 abbrev pub last_number : ℕ
@@ -28,9 +28,9 @@ abbrev pub flags_in : List ℕ → ℕ
 flags_in [] = LEVEL_1
 flags_in (flags ∷ tlvs) = flags
 
-abbrev pub tlvs_in : List ℕ → List ℕ
-tlvs_in [] = []
-tlvs_in (flags ∷ tlvs) = tlvs
+abbrev pub tlvs_of_body : List ℕ → List ℕ
+tlvs_of_body [] = []
+tlvs_of_body (flags ∷ tlvs) = tlvs
 
 -- the body of what is held under an id, and of nothing none
 abbrev pub body_in : Option Entry → List ℕ
@@ -40,18 +40,20 @@ body_in (Some e) = e.body
 -- the own LSP at a number: live with the present body for 1,200 seconds, to be sent at every Up port
 abbrev pub renewed : PortSet → Own → ℕ → Entry
 renewed up own seq =
-    flooded up (Live seq (lsp_sum_of (own_id own.system) seq (flags_in own.body) (tlvs_in own.body))) MAX_AGE own.body
+    flooded up (Live seq (lsp_sum_of (own_id own.system) seq (flags_in own.body) (tlvs_of_body own.body)))
+    MAX_AGE own.body
 
 -- an LSP that is dead at a number, to be sent at every Up port
-abbrev pub ended : PortSet → ℕ → Entry
-ended up seq = flooded up (Dead seq) 0 []
+abbrev pub dead_at : PortSet → ℕ → Entry
+dead_at up seq = flooded up (Dead seq) 0 []
 
 -- the entry that answers a claim of an own id at a number: the originated LSP goes one number further, and at the last
 -- number it is dead; every other is dead at the claim's number (ISO/IEC 10589, 7.3.16.1)
 abbrev pub answered : PortSet → Own → LspId → ℕ → Entry
 answered up own id seq =
-    if is_originated own.system id && nat_lt seq last_number then renewed up own (seq + 1) else ended up seq
+    if is_originated own.system id && nat_lt seq last_number then renewed up own (seq + 1) else dead_at up seq
 
 -- a system whose originated LSP had to go past the last number is spent
 abbrev pub answering : Own → LspId → ℕ → Own
-answering own id seq = if is_originated own.system id && not (nat_lt seq last_number) then record own { spent = true } else own
+answering own id seq =
+    if is_originated own.system id && not (nat_lt seq last_number) then record own { spent = true } else own

@@ -7,7 +7,7 @@ use Rattle.isis_pdu.specs.Pdu.{LspValue}
 use Rattle.lsdb.specs.Version.{number_of, sum_of}
 use Rattle.lsdb.specs.Entry.{Entry}
 use Rattle.lsdb.specs.Database.{Lsps}
-use Rattle.flooding.specs.Own.{flags_in, tlvs_in}
+use Rattle.flooding.specs.Own.{flags_in, tlvs_of_body}
 
 -- the ids of the entries that are to be sent at a port, in the order of the entries
 abbrev pub ids_among : ℕ → List (LspId × Entry) → List LspId
@@ -25,7 +25,7 @@ lsp_in id e = record {
   seq = number_of e.version;
   sum = sum_of e.version;
   flags = flags_in e.body;
-  tlvs = tlvs_in e.body;
+  tlvs = tlvs_of_body e.body;
 }
 
 -- the LSPs that are to be sent at a port, in order of id

@@ -8,7 +8,7 @@ ghost use Rattle.flooding.specs.Hearing.{unless_absent, hear_lsp_of, is_full_for
 ghost use Rattle.flooding.specs.Placing.{Puts, Hears, holding};
 
 use crate::put::put;
-use crate::rows::{acknowledge, offer};
+use crate::rules::{acknowledge, offer};
 use crate::{FloodError, Own};
 use isis_pdu::Lsp;
 use lsdb::{Database, Held, Relation, Version, compare};
@@ -18,16 +18,16 @@ use std::alloc::{AllocError, Global};
 
 /// Hears an LSP at a port, 1 to 32 (ISO/IEC 10589, 7.3.15.1 and 7.3.16), where `up` are the Up ports:
 ///
-/// - a newer one is stored, to be sent at the other Up ports and acknowledged at this one; that a dead one of an id that
-///   isn't held is stored too is *profile*;
+/// - a newer one is stored, to be sent at the other Up ports and acknowledged at this one; that a dead one of an id
+///   that isn't held is stored too is *profile*;
 /// - the same one is acknowledged at this port, and needn't be sent there;
 /// - of an older one the neighbour gets what is held;
-/// - one that is live with the number of the held one and another checksum makes the LSP dead at that number, to be sent
-///   at every Up port;
+/// - one that is live with the number of the held one and another checksum makes the LSP dead at that number, to be
+///   sent at every Up port;
 /// - a newer or confused one of the system's own is answered instead.
 ///
-/// `own.body` has at least one byte. Where the id needs a place and 2,048 ids are held the answer is `Full` or `NoMemory`,
-/// and else never `Full`. After an error nothing changed.
+/// `own.body` has at least one byte. Where the id needs a place and 2,048 ids are held the answer is `Full` or
+/// `NoMemory`, and else never `Full`. After an error nothing changed.
 pub fn hear_lsp(
     alloc: Global,
     db: &mut Database,
@@ -50,7 +50,7 @@ pub fn hear_lsp(
         Relation::Newer => return store(alloc, db, up, port, lsp),
         Relation::Equal => acknowledge_held(db, port, &lsp.id),
         Relation::Older => offer(db, port, &lsp.id),
-        Relation::Confused => db.bury(&lsp.id, lsp.seq, up),
+        Relation::Confused => db.purge(&lsp.id, lsp.seq, up),
     }
     Ok(())
 }

@@ -1,5 +1,5 @@
 //! The laws of flooding. Each is the contract of a function that does nothing.
-ghost use Rattle.flooding.specs.Laws.{HearingLspIsCertified, HearingEntryIsCertified, AnsweringIsCertified, OriginationIsCertified, OthersStand, LspStands, EntryStands, FullStands, FittingIsNotFull, HeardIsAtMostHeld, StoredFlags, FloodedFlags, EnteredFlags, AckedFlags, ClearedFlags, OfferedFlags, FlaggedFlags, JoinedFlags, PartedFlags, AgedFlags, ExpiredFlags, SpentFlags, OwnStands, OwnIsNotSpent, LspLeavesOwn, EntryLeavesOwn, LspLeavesOwnBody, EntryLeavesOwnBody, OriginationLeavesOwnBody, OriginatedStands, OriginationLeavesOthers, OriginationLeavesOwn, OriginationIsNotSpent, IdsNameLsps, SentIsHeld, SentIsRead, ReadIsWhole, ClaimIsNumbered, LspKeepsSendable, EntryKeepsSendable, OriginationKeepsSendable, AgeingKeepsSendable, FlagsKeepSendable, LspKeepsFlags, EntryKeepsFlags, OriginationKeepsFlags};
+ghost use Rattle.flooding.specs.Laws.{HearingLspIsCertified, HearingEntryIsCertified, AnsweringIsCertified, OriginationIsCertified, OthersStand, LspStands, EntryStands, FullStands, FittingIsNotFull, HeardIsAtMostHeld, StoredFlags, FloodedFlags, AskedFlags, AckedFlags, ClearedFlags, OfferedFlags, FlaggedFlags, SetSrmFlags, ClearedPortFlags, AgedFlags, ExpiredFlags, SpentFlags, OwnStands, OwnIsNotSpent, LspLeavesOwn, EntryLeavesOwn, LspLeavesOwnBody, EntryLeavesOwnBody, OriginationLeavesOwnBody, OriginatedStands, OriginationLeavesOthers, OriginationLeavesOwn, OriginationIsNotSpent, IdsNameLsps, SentIsHeld, SentIsRead, ReadIsWhole, ClaimIsNumbered, LspKeepsSendable, EntryKeepsSendable, OriginationKeepsSendable, AgeingKeepsSendable, FlagsKeepSendable, LspKeepsFlags, EntryKeepsFlags, OriginationKeepsFlags};
 
 /// What is heard at an Up port, answered and originated is a certified step.
 pub fn flooding_is_certified()
@@ -27,13 +27,13 @@ pub fn what_is_held_is_no_older_than_what_was_heard()
 pub fn flags_are_read_port_by_port()
     ensures stored { StoredFlags }
     ensures flooded { FloodedFlags }
-    ensures entered { EnteredFlags }
+    ensures asked { AskedFlags }
     ensures acked { AckedFlags }
     ensures cleared { ClearedFlags }
     ensures offered { OfferedFlags }
     ensures flagged { FlaggedFlags }
-    ensures joined { JoinedFlags }
-    ensures parted { PartedFlags }
+    ensures srm_set { SetSrmFlags }
+    ensures port_cleared { ClearedPortFlags }
     ensures aged { AgedFlags }
     ensures expired { ExpiredFlags }
     ensures spent { SpentFlags }
@@ -58,16 +58,16 @@ pub fn own_bodies_are_the_systems()
     ensures originated { OriginationLeavesOwnBody }
 {}
 
-/// What is to be sent at a port by its ids is what the database says; an LSP that is sent claims what is held, and its bytes
-/// are read as that LSP.
+/// What is to be sent at a port by its ids is what the database says; an LSP that is sent claims what is held, and its
+/// bytes are read as that LSP.
 pub fn what_is_sent_is_what_is_held()
     ensures ids { IdsNameLsps }
     ensures claim { SentIsHeld }
     ensures read { SentIsRead }
 {}
 
-/// Every entry stays one whose LSP can be written and is read again, where what is heard was read and the own LSP can be
-/// written.
+/// Every entry stays one whose LSP can be written and is read again, where what is heard was read and the own LSP can
+/// be written.
 pub fn what_is_held_can_be_sent()
     ensures read { ReadIsWhole }
     ensures numbered { ClaimIsNumbered }

@@ -1,5 +1,5 @@
-//! Flooding (ISO/IEC 10589, 7.3.15): what an LSP changes where it is heard, which LSPs are to be sent at a port, and what
-//! a system originates.
+//! Flooding (ISO/IEC 10589, 7.3.15): what an LSP changes where it is heard, which LSPs are to be sent at a port, and
+//! what a system originates.
 //!
 //! A change finds its id in the database by binary search and copies at most one body. No call copies the database.
 #![tactic(auto)]
@@ -8,7 +8,7 @@ pub use error::FloodError;
 pub use hear::hear_lsp;
 pub use origination::originate;
 pub use own::Own;
-pub use rows::{acknowledge, offer};
+pub use rules::{acknowledge, offer};
 pub use send::{lsp_of, to_send, write_held};
 
 mod error;
@@ -17,7 +17,7 @@ pub mod laws;
 mod origination;
 mod own;
 mod put;
-mod rows;
+mod rules;
 mod send;
 #[cfg(test)]
 mod tests;

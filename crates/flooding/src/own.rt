@@ -2,13 +2,14 @@ ghost use Rattle.std.specs.Prelude.{◌≡◌, ◌≤◌, Some, length};
 ghost use Rattle.flooding.specs.Hearing as hearing;
 
 use crate::FloodError;
-use crate::put::{put_dead, renew};
+use crate::origination::renew;
+use crate::put::put_dead;
 use lsdb::{Database, Relation};
 use spb_types::{LspId, PortSet, Seq, SystemId};
 use std::alloc::Global;
 
-/// A system and what it says of itself: the present body of its own LSP, the flags octet and then the TLVs, at least one
-/// byte; and whether it is spent, which it is once its LSP would have passed sequence number 4,294,967,295. A spent
+/// A system and what it says of itself: the present body of its own LSP, the flags octet and then the TLVs, at least
+/// one byte; and whether it is spent, which it is once its LSP would have passed sequence number 4,294,967,295. A spent
 /// system originates no more.
 #[derive(Debug, Drop)]
 pub struct Own {
@@ -40,8 +41,8 @@ impl Own {
         id.system == self.system && id.pseudonode == 0 && id.number == 0
     }
 
-    /// Whether the system answers a claim of this id, by the relation of the claim to what is held: the id is one of its
-    /// own, and the claim is newer or confused (ISO/IEC 10589, 7.3.16.1).
+    /// Whether the system answers a claim of this id, by the relation of the claim to what is held: the id is one of
+    /// its own, and the claim is newer or confused (ISO/IEC 10589, 7.3.16.1).
     pub fn answers(&self, id: &LspId, relation: Relation) -> bool
         ensures { result ≡ is_answered self.now id.now relation }
     {
@@ -49,11 +50,11 @@ impl Own {
     }
 
     /// Answers a claim of one of the system's own ids at this sequence number (ISO/IEC 10589, 7.3.16.1). The originated
-    /// LSP goes one number further, with the present body; at the last number it is dead and the system spent. Every other
-    /// LSP is dead at the claim's number. Each goes to every Up port.
+    /// LSP goes one number further, with the present body; at the last number it is dead and the system spent. Every
+    /// other LSP is dead at the claim's number. Each goes to every Up port.
     ///
-    /// `body` has at least one byte. Where the id isn't held and 2,048 ids are the answer is `Full` or `NoMemory`, and else
-    /// never `Full`. After an error nothing changed.
+    /// `body` has at least one byte. Where the id isn't held and 2,048 ids are the answer is `Full` or `NoMemory`, and
+    /// else never `Full`. After an error nothing changed.
     pub fn answer(
         &mut self,
         alloc: Global,

@@ -3,7 +3,7 @@ ghost use Rattle.isis_pdu.specs.declared.kind.Kind.TheVariants as kinds;
 ghost use Rattle.isis_pdu.specs.Pdu as pdu;
 ghost use Rattle.isis_pdu.specs.Spelling.{CanWrite, lsp_bytes};
 ghost use Rattle.lsdb.specs.Entry.{entry_of};
-ghost use Rattle.flooding.specs.Own.{tlvs_in};
+ghost use Rattle.flooding.specs.Own.{tlvs_of_body};
 ghost use Rattle.flooding.specs.Sending.{ids_to_send, lsp_in};
 
 use isis_pdu::{Lsp, write_lsp};
@@ -29,8 +29,8 @@ pub fn to_send(alloc: Global, db: &Database, port: u8) -> Result<Vec<LspId>, NoM
     Ok(ids)
 }
 
-/// The LSP of what is held under an id (ISO/IEC 10589, 9.8). A dead one is the header alone, with lifetime 0, checksum 0
-/// and flags 01.
+/// The LSP of what is held under an id (ISO/IEC 10589, 9.8). A dead one is the header alone, with lifetime 0, checksum
+/// 0 and flags 01.
 pub fn lsp_of(held: &Held) -> Lsp<'_>
     ensures { pdu.lsp_of result ≡ lsp_in held.now.id (entry_of held.now) }
 {
@@ -50,7 +50,7 @@ pub fn lsp_of(held: &Held) -> Lsp<'_>
 
 /// The bytes of the LSP of what is held under an id. Its TLVs are whole, and the LSP has at most 1,497 bytes.
 pub fn write_held(alloc: Global, held: &Held) -> Result<Vec<u8>, NoMemory>
-    requires { CanWrite kinds.Lsp (tlvs_in held.now.body) }
+    requires { CanWrite kinds.Lsp (tlvs_of_body held.now.body) }
     ensures { IfOk result (λ out. out.items ≡ lsp_bytes (lsp_in held.now.id (entry_of held.now))) }
 {
     write_lsp(alloc, &lsp_of(held))

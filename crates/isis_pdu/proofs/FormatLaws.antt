@@ -9,7 +9,7 @@ use Rattle.isis_pdu.specs.declared.pdu.PduError.TheVariants as refusals
 use Rattle.isis_pdu.specs.Pdu.{LspValue, PduValue, hello, lsp, csnp, psnp, pdu_of}
 use Rattle.isis_pdu.specs.Tlvs.{is_whole, is_whole_after}
 use Rattle.isis_pdu.specs.Checksum.{lsp_sum_of, is_checked, covered, HasCheckBytes}
-use Rattle.isis_pdu.specs.Spelling.{PassedOver, IsPassedOver, zeros, pdu_with, hello_bytes, lsp_bytes, csnp_bytes, psnp_bytes, pdu_bytes}
+use Rattle.isis_pdu.specs.Spelling.{Ignored, AreIgnored, zeros, pdu_with, hello_bytes, lsp_bytes, csnp_bytes, psnp_bytes, pdu_bytes}
 use Rattle.isis_pdu.specs.Reading.{read, answer_of}
 use Rattle.isis_pdu.specs.Grammar.{length_of, IsPdu, is_sound, is_sound_lsp, IsBytes, IsReadFrom, IsCanonical}
 use Rattle.isis_pdu.proofs.Sums.{lsp_sum-bytes, lsp_sum-holds}
@@ -17,7 +17,7 @@ use Rattle.isis_pdu.proofs.Written.{spelled_is_read}
 use Rattle.isis_pdu.proofs.TlvWalk.{past_value, cut_value}
 use Rattle.isis_pdu.proofs.Read.{read_is_spelled}
 
-zeros_allowed : IsPassedOver zeros
+zeros_allowed : AreIgnored zeros
 zeros_allowed = record { id_length = refl; max_areas = refl }
 
 pdu_bytes-zeros : (p : PduValue) → pdu_bytes p ≡ pdu_with zeros p
@@ -33,7 +33,7 @@ written_again p fits = ap read (pdu_bytes-zeros p ∙ sym (append-nil (pdu_with 
 pub same_bytes : (bytes : List ℕ) (p : PduValue) → IsReadFrom bytes p → IsCanonical bytes p → pdu_bytes p ≡ bytes
 same_bytes bytes p h c =
     let nothing : drop (length_of p) bytes ≡ [] = drop_all (length_of p) bytes (omega (arith, c.end)) in
-    let whole : bytes ≡ pdu_with zeros p = h.parts ∙ ap (λ (o : PassedOver). pdu_with o p ++ drop (length_of p) bytes) c.over ∙ ap (λ (xs : List ℕ). pdu_with zeros p ++ xs) nothing ∙ append-nil (pdu_with zeros p) in
+    let whole : bytes ≡ pdu_with zeros p = h.parts ∙ ap (λ (o : Ignored). pdu_with o p ++ drop (length_of p) bytes) c.over ∙ ap (λ (xs : List ℕ). pdu_with zeros p ++ xs) nothing ∙ append-nil (pdu_with zeros p) in
     pdu_bytes-zeros p ∙ sym whole
 
 pub canonical_again : (bytes : List ℕ) (p : PduValue) → IsBytes bytes → read bytes ≡ Ok p → IsCanonical bytes p → pdu_bytes p ≡ bytes

@@ -1,4 +1,4 @@
--- What is read as a PDU is spelled as it, but for what is passed over.
+-- What is read as a PDU is spelled as it, but for what is ignored.
 use Rattle.std.proofs.Common.{◌≡◌, ℕ, zero, suc, ◌+◌, ◌*◌, ◌-◌, ◌/◌, ◌%◌, ◌<◌, ◌≤◌, List, [], ◌∷◌, ◌++◌, length, drop, Bool, true, false, Option, Some, None, Result, Ok, refl, sym, ap, ◌∙◌, subst, arith, drop-cons, inl, inr, take}
 use Rattle.std.specs.Prelude.{IsTrue, ◌&&◌, ◌||◌, ◌==◌, nat_le, slice_range, if◌then◌else◌}
 use Rattle.std.proofs.lemmas.Bool.{leb-true, eqb-true, cases_lt}
@@ -9,13 +9,13 @@ use Rattle.spb_types.specs.declared.address.SystemId.{SystemId}
 use Rattle.isis_pdu.specs.declared.kind.Kind.{Kind}
 use Rattle.isis_pdu.specs.declared.kind.Kind.TheVariants as kinds
 use Rattle.isis_pdu.specs.declared.pdu.PduError.{PduError}
-use Rattle.isis_pdu.specs.Header.{kind_of, number_of, fixed_length}
+use Rattle.isis_pdu.specs.Header.{kind_of, type_of, fixed_length}
 use Rattle.isis_pdu.specs.Pdu.{PduValue, LspValue, hello, lsp, csnp, psnp}
 use Rattle.isis_pdu.specs.Tlvs.{is_whole}
-use Rattle.isis_pdu.specs.Spelling.{PassedOver, IsPassedOver, pdu_with}
-use Rattle.isis_pdu.specs.Reading.{is_isis, kind_at, pdu_length, has_length, has_sum, tlvs_in, value_in, unless, read_as, read}
+use Rattle.isis_pdu.specs.Spelling.{Ignored, AreIgnored, pdu_with}
+use Rattle.isis_pdu.specs.Reading.{is_isis, kind_at, pdu_length, has_length, has_sum, tlvs_of_pdu, value_in, unless, read_as, read}
 use Rattle.isis_pdu.proofs.Written.{lsp_laid}
-use Rattle.isis_pdu.specs.Grammar.{length_of, IsId, is_sound_lsp, passed_over_in, IsBytes, IsLspIdOfBytes, HasFields, IsReadFrom}
+use Rattle.isis_pdu.specs.Grammar.{length_of, IsId, is_sound_lsp, ignored_in, IsBytes, IsLspIdOfBytes, HasFields, IsReadFrom}
 
 -- ---- what the tests say
 
@@ -42,23 +42,23 @@ found_is a b e = cc
 -- what holds of bytes that are read
 pub record IsAccepted (bytes : List ℕ) (k : Kind) : Type 0 where
   pub isis : is_isis bytes ≡ true
-  pub number : u8_at bytes 4 % 32 ≡ number_of k
+  pub number : u8_at bytes 4 % 32 ≡ type_of k
   pub header : u8_at bytes 1 ≡ fixed_length k
   pub long : fixed_length k ≤ length bytes
   pub low : fixed_length k ≤ pdu_length k bytes
   pub high : pdu_length k bytes ≤ length bytes
-  pub whole : is_whole (tlvs_in k bytes) ≡ true
+  pub whole : is_whole (tlvs_of_pdu k bytes) ≡ true
   pub sum : has_sum k bytes ≡ true
 
-kind_number : (n : ℕ) (k : Kind) → kind_of n ≡ Some k → n ≡ number_of k
+kind_number : (n : ℕ) (k : Kind) → kind_of n ≡ Some k → n ≡ type_of k
 kind_number n k h = first (n == 17) (n == 18) (n == 24) (n == 26) refl refl refl refl h
   where
     first : (a b c d : Bool) → (n == 17) ≡ a → (n == 18) ≡ b → (n == 24) ≡ c → (n == 26) ≡ d
-        → (if a then Some kinds.Hello else if b then Some kinds.Lsp else if c then Some kinds.Csnp else if d then Some kinds.Psnp else None) ≡ Some k → n ≡ number_of k
-    first true b c d p q r s e = eqb-true n 17 p ∙ ap number_of (found_is _ _ e)
-    first false true c d p q r s e = eqb-true n 18 q ∙ ap number_of (found_is _ _ e)
-    first false false true d p q r s e = eqb-true n 24 r ∙ ap number_of (found_is _ _ e)
-    first false false false true p q r s e = eqb-true n 26 s ∙ ap number_of (found_is _ _ e)
+        → (if a then Some kinds.Hello else if b then Some kinds.Lsp else if c then Some kinds.Csnp else if d then Some kinds.Psnp else None) ≡ Some k → n ≡ type_of k
+    first true b c d p q r s e = eqb-true n 17 p ∙ ap type_of (found_is _ _ e)
+    first false true c d p q r s e = eqb-true n 18 q ∙ ap type_of (found_is _ _ e)
+    first false false true d p q r s e = eqb-true n 24 r ∙ ap type_of (found_is _ _ e)
+    first false false false true p q r s e = eqb-true n 26 s ∙ ap type_of (found_is _ _ e)
     first false false false false p q r s e = absurd cc
 
 accepted : (bytes : List ℕ) (p : PduValue) → read bytes ≡ Ok p → (k : Kind) × IsAccepted bytes k × (value_in k bytes ≡ p)
@@ -73,7 +73,7 @@ accepted bytes p h =
     of_kind (Some k) e isis h =
         let a = unless_ok _ (u8_at bytes 1 == fixed_length k) _ p h in
         let b = unless_ok _ (has_length k bytes) _ p a.1 in
-        let c = unless_ok _ (is_whole (tlvs_in k bytes)) _ p b.1 in
+        let c = unless_ok _ (is_whole (tlvs_of_pdu k bytes)) _ p b.1 in
         let d = unless_ok _ (has_sum k bytes) _ p c.1 in
         let high = and_true _ _ b.0 in
         let low = and_true _ _ high.0 in (
@@ -140,7 +140,7 @@ pub record IsHeader (bytes : List ℕ) (k : Kind) : Type 0 where
   pub length_octet : u8_at bytes 1 ≡ fixed_length k
   pub version : u8_at bytes 2 ≡ 1
   pub id_length : IsTrue ((u8_at bytes 3 == 0) || (u8_at bytes 3 == 6))
-  pub type : u8_at bytes 4 / 32 * 32 + number_of k ≡ u8_at bytes 4
+  pub type : u8_at bytes 4 / 32 * 32 + type_of k ≡ u8_at bytes 4
   pub second_version : u8_at bytes 5 ≡ 1
   pub max_areas : IsTrue ((u8_at bytes 7 == 0) || (u8_at bytes 7 == 3))
 
@@ -161,12 +161,12 @@ header_of bytes k h =
     }
 
 -- the TLVs end at the PDU length
-tlvs_end : (k : Kind) (bytes : List ℕ) → IsAccepted bytes k → fixed_length k + length (tlvs_in k bytes) ≡ pdu_length k bytes
+tlvs_end : (k : Kind) (bytes : List ℕ) → IsAccepted bytes k → fixed_length k + length (tlvs_of_pdu k bytes) ≡ pdu_length k bytes
 tlvs_end k bytes h = omega (arith, length-take (pdu_length k bytes - fixed_length k) (drop (fixed_length k) bytes), length-drop (fixed_length k) bytes, h.low, h.high)
 
 -- the bytes are the PDU, and what follows it
 abbrev AreParts : List ℕ → PduValue → Type 0
-AreParts bytes p = bytes ≡ pdu_with (passed_over_in p bytes) p ++ drop (length_of p) bytes
+AreParts bytes p = bytes ≡ pdu_with (ignored_in p bytes) p ++ drop (length_of p) bytes
 
 -- a system id of these bytes
 abbrev id_of : List ℕ → SystemId
@@ -179,7 +179,7 @@ hello_in bytes xs = hello (record {
   source = id_of xs;
   holding = u16_at bytes 15;
   circuit = u8_at bytes 19;
-  tlvs = tlvs_in kinds.Hello bytes;
+  tlvs = tlvs_of_pdu kinds.Hello bytes;
 })
 
 abbrev lsp_in : List ℕ → List ℕ → PduValue
@@ -189,7 +189,7 @@ lsp_in bytes xs = lsp (record {
   seq = u32_at bytes 20;
   sum = u16_at bytes 24;
   flags = u8_at bytes 26;
-  tlvs = tlvs_in kinds.Lsp bytes;
+  tlvs = tlvs_of_pdu kinds.Lsp bytes;
 })
 
 abbrev csnp_in : List ℕ → List ℕ → List ℕ → List ℕ → PduValue
@@ -197,28 +197,28 @@ csnp_in bytes xs ys zs = csnp (record {
   source = id_of xs;
   start = record { system = id_of ys; pseudonode = u8_at bytes 23; number = u8_at bytes 24 };
   end = record { system = id_of zs; pseudonode = u8_at bytes 31; number = u8_at bytes 32 };
-  tlvs = tlvs_in kinds.Csnp bytes;
+  tlvs = tlvs_of_pdu kinds.Csnp bytes;
 })
 
 abbrev psnp_in : List ℕ → List ℕ → PduValue
-psnp_in bytes xs = psnp (record { source = id_of xs; tlvs = tlvs_in kinds.Psnp bytes })
+psnp_in bytes xs = psnp (record { source = id_of xs; tlvs = tlvs_of_pdu kinds.Psnp bytes })
 
 hello_cells : (bytes : List ℕ) → IsBytes bytes → IsAccepted bytes kinds.Hello → AreParts bytes (hello_in bytes (cells 6 9 bytes))
 unfolding pdu_with cells
 hello_cells bytes fits h =
     let head = header_of bytes kinds.Hello h in
-    let len : 20 + length (tlvs_in kinds.Hello bytes) ≡ pdu_length kinds.Hello bytes = tlvs_end kinds.Hello bytes h in
+    let len : 20 + length (tlvs_of_pdu kinds.Hello bytes) ≡ pdu_length kinds.Hello bytes = tlvs_end kinds.Hello bytes h in
     let e15 : u16_at bytes 15 / 256 ≡ u8_at bytes 15 = high_byte _ _ (fits 16) in
     let e16 : u16_at bytes 15 % 256 ≡ u8_at bytes 16 = low_byte _ _ (fits 16) in
-    let e17 : (20 + length (tlvs_in kinds.Hello bytes)) / 256 ≡ u8_at bytes 17 = rw len (high_byte _ _ (fits 18)) in
-    let e18 : (20 + length (tlvs_in kinds.Hello bytes)) % 256 ≡ u8_at bytes 18 = rw len (low_byte _ _ (fits 18)) in
+    let e17 : (20 + length (tlvs_of_pdu kinds.Hello bytes)) / 256 ≡ u8_at bytes 17 = rw len (high_byte _ _ (fits 18)) in
+    let e18 : (20 + length (tlvs_of_pdu kinds.Hello bytes)) % 256 ≡ u8_at bytes 18 = rw len (low_byte _ _ (fits 18)) in
     in_parts 20 (pdu_length kinds.Hello bytes) bytes h.low h.high ∙ cc
 
 lsp_cells : (bytes : List ℕ) → IsBytes bytes → IsAccepted bytes kinds.Lsp → AreParts bytes (lsp_in bytes (cells 6 12 bytes))
 unfolding pdu_with cells
 lsp_cells bytes fits h =
     let head = header_of bytes kinds.Lsp h in
-    let len : 27 + length (tlvs_in kinds.Lsp bytes) ≡ pdu_length kinds.Lsp bytes = tlvs_end kinds.Lsp bytes h in
+    let len : 27 + length (tlvs_of_pdu kinds.Lsp bytes) ≡ pdu_length kinds.Lsp bytes = tlvs_end kinds.Lsp bytes h in
     let e10 : u16_at bytes 10 / 256 ≡ u8_at bytes 10 = high_byte _ _ (fits 11) in
     let e11 : u16_at bytes 10 % 256 ≡ u8_at bytes 11 = low_byte _ _ (fits 11) in
     let e24 : u16_at bytes 24 / 256 ≡ u8_at bytes 24 = high_byte _ _ (fits 25) in
@@ -227,26 +227,26 @@ lsp_cells bytes fits h =
     let e21 : u32_at bytes 20 / 65536 % 256 ≡ u8_at bytes 21 = second_byte (u8_at bytes 20) (u8_at bytes 21) (u8_at bytes 22) (u8_at bytes 23) (fits 21) (fits 22) (fits 23) in
     let e22 : u32_at bytes 20 / 256 % 256 ≡ u8_at bytes 22 = third_byte (u8_at bytes 20) (u8_at bytes 21) (u8_at bytes 22) (u8_at bytes 23) (fits 22) (fits 23) in
     let e23 : u32_at bytes 20 % 256 ≡ u8_at bytes 23 = low_byte _ _ (fits 23) in
-    let e8 : (27 + length (tlvs_in kinds.Lsp bytes)) / 256 ≡ u8_at bytes 8 = rw len (high_byte _ _ (fits 9)) in
-    let e9 : (27 + length (tlvs_in kinds.Lsp bytes)) % 256 ≡ u8_at bytes 9 = rw len (low_byte _ _ (fits 9)) in
+    let e8 : (27 + length (tlvs_of_pdu kinds.Lsp bytes)) / 256 ≡ u8_at bytes 8 = rw len (high_byte _ _ (fits 9)) in
+    let e9 : (27 + length (tlvs_of_pdu kinds.Lsp bytes)) % 256 ≡ u8_at bytes 9 = rw len (low_byte _ _ (fits 9)) in
     in_parts 27 (pdu_length kinds.Lsp bytes) bytes h.low h.high ∙ cc
 
 csnp_cells : (bytes : List ℕ) → IsBytes bytes → IsAccepted bytes kinds.Csnp → AreParts bytes (csnp_in bytes (cells 6 10 bytes) (cells 6 17 bytes) (cells 6 25 bytes))
 unfolding pdu_with cells
 csnp_cells bytes fits h =
     let head = header_of bytes kinds.Csnp h in
-    let len : 33 + length (tlvs_in kinds.Csnp bytes) ≡ pdu_length kinds.Csnp bytes = tlvs_end kinds.Csnp bytes h in
-    let e8 : (33 + length (tlvs_in kinds.Csnp bytes)) / 256 ≡ u8_at bytes 8 = rw len (high_byte _ _ (fits 9)) in
-    let e9 : (33 + length (tlvs_in kinds.Csnp bytes)) % 256 ≡ u8_at bytes 9 = rw len (low_byte _ _ (fits 9)) in
+    let len : 33 + length (tlvs_of_pdu kinds.Csnp bytes) ≡ pdu_length kinds.Csnp bytes = tlvs_end kinds.Csnp bytes h in
+    let e8 : (33 + length (tlvs_of_pdu kinds.Csnp bytes)) / 256 ≡ u8_at bytes 8 = rw len (high_byte _ _ (fits 9)) in
+    let e9 : (33 + length (tlvs_of_pdu kinds.Csnp bytes)) % 256 ≡ u8_at bytes 9 = rw len (low_byte _ _ (fits 9)) in
     in_parts 33 (pdu_length kinds.Csnp bytes) bytes h.low h.high ∙ cc
 
 psnp_cells : (bytes : List ℕ) → IsBytes bytes → IsAccepted bytes kinds.Psnp → AreParts bytes (psnp_in bytes (cells 6 10 bytes))
 unfolding pdu_with cells
 psnp_cells bytes fits h =
     let head = header_of bytes kinds.Psnp h in
-    let len : 17 + length (tlvs_in kinds.Psnp bytes) ≡ pdu_length kinds.Psnp bytes = tlvs_end kinds.Psnp bytes h in
-    let e8 : (17 + length (tlvs_in kinds.Psnp bytes)) / 256 ≡ u8_at bytes 8 = rw len (high_byte _ _ (fits 9)) in
-    let e9 : (17 + length (tlvs_in kinds.Psnp bytes)) % 256 ≡ u8_at bytes 9 = rw len (low_byte _ _ (fits 9)) in
+    let len : 17 + length (tlvs_of_pdu kinds.Psnp bytes) ≡ pdu_length kinds.Psnp bytes = tlvs_end kinds.Psnp bytes h in
+    let e8 : (17 + length (tlvs_of_pdu kinds.Psnp bytes)) / 256 ≡ u8_at bytes 8 = rw len (high_byte _ _ (fits 9)) in
+    let e9 : (17 + length (tlvs_of_pdu kinds.Psnp bytes)) % 256 ≡ u8_at bytes 9 = rw len (low_byte _ _ (fits 9)) in
     in_parts 17 (pdu_length kinds.Psnp bytes) bytes h.low h.high ∙ cc
 
 hello_parts : (bytes : List ℕ) → IsBytes bytes → IsAccepted bytes kinds.Hello → AreParts bytes (value_in kinds.Hello bytes)
@@ -290,7 +290,7 @@ IsBytes-take n bytes fits i =
       | inr le ↦ rw (get_or_past (take n bytes) i 0 (omega (arith, length-take n bytes))) (omega arith)
     ]
 
-tlvs_fit : (k : Kind) (bytes : List ℕ) → IsBytes bytes → IsBytes (tlvs_in k bytes)
+tlvs_fit : (k : Kind) (bytes : List ℕ) → IsBytes bytes → IsBytes (tlvs_of_pdu k bytes)
 tlvs_fit k bytes fits = IsBytes-take _ _ (IsBytes-drop (fixed_length k) bytes fits)
 
 system_fits : (bytes : List ℕ) (i : ℕ) → IsBytes bytes → IsBytes (system_at bytes i).mac.bytes
@@ -308,7 +308,7 @@ fields_of kinds.Psnp bytes fits = (system_fits bytes 10 fits, tlvs_fit kinds.Psn
 
 -- ---- the law
 
-lsp_sound : (o : PassedOver) (l : LspValue) (after bytes : List ℕ) → IsPassedOver o → IsId l.id.system → bytes ≡ pdu_with o (lsp l) ++ after → has_sum kinds.Lsp bytes ≡ true → IsTrue (is_sound_lsp l)
+lsp_sound : (o : Ignored) (l : LspValue) (after bytes : List ℕ) → AreIgnored o → IsId l.id.system → bytes ≡ pdu_with o (lsp l) ++ after → has_sum kinds.Lsp bytes ≡ true → IsTrue (is_sound_lsp l)
 unfolding pdu_with
 lsp_sound o l after bytes over id parts h = sym (lsp_laid o l after over id).1 ∙ subst (λ (xs : List ℕ). has_sum kinds.Lsp xs ≡ true) parts h
 
@@ -326,9 +326,9 @@ read_from kinds.Hello bytes fits h =
     }
 read_from kinds.Lsp bytes fits h =
     let head = header_of bytes kinds.Lsp h in
-    let l : LspValue = record { lifetime = u16_at bytes 10; id = lsp_id_at bytes 12; seq = u32_at bytes 20; sum = u16_at bytes 24; flags = u8_at bytes 26; tlvs = tlvs_in kinds.Lsp bytes } in
-    let o : PassedOver = passed_over_in (lsp l) bytes in
-    let over : IsPassedOver o = record { id_length = head.id_length; max_areas = head.max_areas } in
+    let l : LspValue = record { lifetime = u16_at bytes 10; id = lsp_id_at bytes 12; seq = u32_at bytes 20; sum = u16_at bytes 24; flags = u8_at bytes 26; tlvs = tlvs_of_pdu kinds.Lsp bytes } in
+    let o : Ignored = ignored_in (lsp l) bytes in
+    let over : AreIgnored o = record { id_length = head.id_length; max_areas = head.max_areas } in
     let parts : bytes ≡ pdu_with o (lsp l) ++ drop (length_of (lsp l)) bytes = lsp_parts bytes fits h in
     let six : IsId l.id.system = six_long bytes 12 (omega (arith, h.long)) in
     record {

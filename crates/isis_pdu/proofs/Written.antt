@@ -13,8 +13,8 @@ use Rattle.isis_pdu.specs.Header.{fixed_length}
 use Rattle.isis_pdu.specs.Pdu.{PduValue, HelloValue, LspValue, CsnpValue, PsnpValue, hello, lsp, csnp, psnp}
 use Rattle.isis_pdu.specs.Tlvs.{is_whole}
 use Rattle.isis_pdu.specs.Checksum.{covered}
-use Rattle.isis_pdu.specs.Spelling.{PassedOver, IsPassedOver, hello_with, lsp_with, csnp_with, psnp_with, pdu_with}
-use Rattle.isis_pdu.specs.Reading.{is_isis, kind_at, pdu_length, has_length, has_sum, tlvs_in, value_in, read_as, read}
+use Rattle.isis_pdu.specs.Spelling.{Ignored, AreIgnored, hello_with, lsp_with, csnp_with, psnp_with, pdu_with}
+use Rattle.isis_pdu.specs.Reading.{is_isis, kind_at, pdu_length, has_length, has_sum, tlvs_of_pdu, value_in, read_as, read}
 use Rattle.isis_pdu.specs.Grammar.{kind_of_pdu, tlvs_of, length_of, IsId, IsPdu, is_sound_lsp, is_sound}
 
 -- bytes that begin with a PDU, up to the check of its sum
@@ -46,7 +46,7 @@ laid_out_is_read bytes p h whole =
     let long : nat_le 8 (length bytes) ≡ true = le-leb 8 (length bytes) (omega (arith, fixed_above k, h.long)) in
     let header : (u8_at bytes 1 == fixed_length k) ≡ true = rw h.header (eqb_same _) in
     let len : has_length k bytes ≡ true = has_length-true k bytes (length_of p) h.len (omega arith) h.long in
-    let tlvs : is_whole (tlvs_in k bytes) ≡ true = rw (h.len, h.tlvs) whole in
+    let tlvs : is_whole (tlvs_of_pdu k bytes) ≡ true = rw (h.len, h.tlvs) whole in
     rw (long, h.isis, h.kind, header, len, tlvs, h.value) refl
 
 -- ---- cells
@@ -83,7 +83,7 @@ kind_back bits n h = omega arith
 tlvs_back : (k : ℕ) (tlvs after : List ℕ) → take (k + length tlvs - k) (tlvs ++ after) ≡ tlvs
 tlvs_back k tlvs after = take_at tlvs after (k + length tlvs - k) (omega arith)
 
-hello_cells : (o : PassedOver) (ct hold circ a b c d e f : ℕ) (tlvs after : List ℕ) → IsPassedOver o
+hello_cells : (o : Ignored) (ct hold circ a b c d e f : ℕ) (tlvs after : List ℕ) → AreIgnored o
     → let v : HelloValue = record { circuit_type = ct; source = id_of a b c d e f; holding = hold; circuit = circ; tlvs = tlvs } in IsLaidOut (hello_with o v ++ after) (hello v)
 unfolding value_in
 hello_cells o ct hold circ a b c d e f tlvs after ok = record {
@@ -99,7 +99,7 @@ hello_cells o ct hold circ a b c d e f tlvs after ok = record {
 abbrev lsp_id_of : ℕ → ℕ → ℕ → ℕ → ℕ → ℕ → ℕ → ℕ → LspId
 lsp_id_of a b c d e f n m = record { system = id_of a b c d e f; pseudonode = n; number = m }
 
-lsp_cells : (o : PassedOver) (life a b c d e f n m seq sum flags : ℕ) (tlvs after : List ℕ) → IsPassedOver o
+lsp_cells : (o : Ignored) (life a b c d e f n m seq sum flags : ℕ) (tlvs after : List ℕ) → AreIgnored o
     → let v : LspValue = record { lifetime = life; id = lsp_id_of a b c d e f n m; seq = seq; sum = sum; flags = flags; tlvs = tlvs } in
     IsLaidOut (lsp_with o v ++ after) (lsp v) × (has_sum kinds.Lsp (lsp_with o v ++ after) ≡ is_sound_lsp v)
 unfolding value_in is_sound_lsp
@@ -122,7 +122,7 @@ lsp_cells o life a b c d e f n m seq sum flags tlvs after ok = (
   ) refl,
 )
 
-csnp_cells : (o : PassedOver) (a b c d e f : ℕ) (a' b' c' d' e' f' n' m' : ℕ) (a'' b'' c'' d'' e'' f'' n'' m'' : ℕ) (tlvs after : List ℕ) → IsPassedOver o
+csnp_cells : (o : Ignored) (a b c d e f : ℕ) (a' b' c' d' e' f' n' m' : ℕ) (a'' b'' c'' d'' e'' f'' n'' m'' : ℕ) (tlvs after : List ℕ) → AreIgnored o
     → let v : CsnpValue = record { source = id_of a b c d e f; start = lsp_id_of a' b' c' d' e' f' n' m'; end = lsp_id_of a'' b'' c'' d'' e'' f'' n'' m''; tlvs = tlvs } in
     IsLaidOut (csnp_with o v ++ after) (csnp v)
 unfolding value_in
@@ -136,7 +136,7 @@ csnp_cells o a b c d e f a' b' c' d' e' f' n' m' a'' b'' c'' d'' e'' f'' n'' m''
   value = rw (u16_back (33 + length tlvs), tlvs_back 33 tlvs after) refl;
 }
 
-psnp_cells : (o : PassedOver) (a b c d e f : ℕ) (tlvs after : List ℕ) → IsPassedOver o
+psnp_cells : (o : Ignored) (a b c d e f : ℕ) (tlvs after : List ℕ) → AreIgnored o
     → let v : PsnpValue = record { source = id_of a b c d e f; tlvs = tlvs } in IsLaidOut (psnp_with o v ++ after) (psnp v)
 unfolding value_in
 psnp_cells o a b c d e f tlvs after ok = record {
@@ -154,22 +154,22 @@ psnp_cells o a b c d e f tlvs after ok = record {
 abbrev with_bytes : List ℕ → SystemId
 with_bytes bytes = record { mac = record { bytes = bytes } }
 
-hello_laid : (o : PassedOver) (h : HelloValue) (after : List ℕ) → IsPassedOver o → IsId h.source → IsLaidOut (hello_with o h ++ after) (hello h)
+hello_laid : (o : Ignored) (h : HelloValue) (after : List ℕ) → AreIgnored o → IsId h.source → IsLaidOut (hello_with o h ++ after) (hello h)
 hello_laid o h after ok id =
     let xs : List ℕ = h.source.mac.bytes in
     subst (λ (ys : List ℕ). IsLaidOut (hello_with o (record h { source = with_bytes ys }) ++ after) (hello (record h { source = with_bytes ys }))) (sym (six xs id))
     (hello_cells o h.circuit_type h.holding h.circuit _ _ _ _ _ _ h.tlvs after ok)
 
-abbrev pub LspLaid : PassedOver → LspValue → List ℕ → Type 0
+abbrev pub LspLaid : Ignored → LspValue → List ℕ → Type 0
 LspLaid o l after = IsLaidOut (lsp_with o l ++ after) (lsp l) × (has_sum kinds.Lsp (lsp_with o l ++ after) ≡ is_sound_lsp l)
 
-pub lsp_laid : (o : PassedOver) (l : LspValue) (after : List ℕ) → IsPassedOver o → IsId l.id.system → LspLaid o l after
+pub lsp_laid : (o : Ignored) (l : LspValue) (after : List ℕ) → AreIgnored o → IsId l.id.system → LspLaid o l after
 lsp_laid o l after ok id =
     let xs : List ℕ = l.id.system.mac.bytes in
     subst (λ (ys : List ℕ). LspLaid o (record l { id = record l.id { system = with_bytes ys } }) after) (sym (six xs id))
     (lsp_cells o l.lifetime _ _ _ _ _ _ l.id.pseudonode l.id.number l.seq l.sum l.flags l.tlvs after ok)
 
-csnp_laid : (o : PassedOver) (c : CsnpValue) (after : List ℕ) → IsPassedOver o → IsId c.source → IsId c.start.system → IsId c.end.system → IsLaidOut (csnp_with o c ++ after) (csnp c)
+csnp_laid : (o : Ignored) (c : CsnpValue) (after : List ℕ) → AreIgnored o → IsId c.source → IsId c.start.system → IsId c.end.system → IsLaidOut (csnp_with o c ++ after) (csnp c)
 csnp_laid o c after ok i j k =
     let xs : List ℕ = c.source.mac.bytes in
     let ys : List ℕ = c.start.system.mac.bytes in
@@ -189,14 +189,14 @@ csnp_laid o c after ok i j k =
     let second : laid (six_of xs) ys zs = subst (λ (w : List ℕ). laid (six_of xs) w zs) (sym (six ys j)) third in
     subst (λ (w : List ℕ). laid w ys zs) (sym (six xs i)) second
 
-psnp_laid : (o : PassedOver) (p : PsnpValue) (after : List ℕ) → IsPassedOver o → IsId p.source → IsLaidOut (psnp_with o p ++ after) (psnp p)
+psnp_laid : (o : Ignored) (p : PsnpValue) (after : List ℕ) → AreIgnored o → IsId p.source → IsLaidOut (psnp_with o p ++ after) (psnp p)
 psnp_laid o p after ok id =
     let xs : List ℕ = p.source.mac.bytes in
     subst (λ (ys : List ℕ). IsLaidOut (psnp_with o (record p { source = with_bytes ys }) ++ after) (psnp (record p { source = with_bytes ys }))) (sym (six xs id))
     (psnp_cells o _ _ _ _ _ _ p.tlvs after ok)
 
 -- what is spelled is read, or its sum is wrong
-pub spelled_is_read : (o : PassedOver) (p : PduValue) (after : List ℕ) → IsPassedOver o → IsPdu p → read (pdu_with o p ++ after) ≡ (if is_sound p then Ok p else Err refusals.Sum)
+pub spelled_is_read : (o : Ignored) (p : PduValue) (after : List ℕ) → AreIgnored o → IsPdu p → read (pdu_with o p ++ after) ≡ (if is_sound p then Ok p else Err refusals.Sum)
 unfolding pdu_with
 spelled_is_read o (hello h) after ok fits = laid_out_is_read _ (hello h) (hello_laid o h after ok fits.ids) fits.whole
 spelled_is_read o (lsp l) after ok fits =

@@ -1,4 +1,4 @@
--- Which values are PDUs, and what in the bytes of a PDU is passed over.
+-- Which values are PDUs, and what in the bytes of a PDU is ignored.
 use Rattle.std.specs.Prelude.{◌≡◌, ℕ, ◌+◌, ◌/◌, ◌<◌, List, ◌++◌, length, drop, ◌≤◌, Bool, true, ◌&&◌, ◌||◌, ◌==◌, nat_le, IsTrue}
 use Rattle.spb_types.specs.declared.address.SystemId.{SystemId}
 use Rattle.spb_types.specs.declared.address.LspId.{LspId}
@@ -9,7 +9,7 @@ use Rattle.isis_pdu.specs.Header.{fixed_length}
 use Rattle.isis_pdu.specs.Pdu.{PduValue, LspValue, hello, lsp, csnp, psnp}
 use Rattle.isis_pdu.specs.Tlvs.{is_whole}
 use Rattle.isis_pdu.specs.Checksum.{is_checked, covered}
-use Rattle.isis_pdu.specs.Spelling.{PassedOver, IsPassedOver, zeros, pdu_with}
+use Rattle.isis_pdu.specs.Spelling.{Ignored, AreIgnored, zeros, pdu_with}
 
 abbrev pub kind_of_pdu : PduValue → Kind
 kind_of_pdu (hello h) = kinds.Hello
@@ -53,9 +53,9 @@ is_sound (lsp l) = is_sound_lsp l
 is_sound (csnp c) = true
 is_sound (psnp p) = true
 
--- what the bytes of a PDU have in the places that are passed over
-abbrev pub passed_over_in : PduValue → List ℕ → PassedOver
-passed_over_in p bytes = record {
+-- what the bytes of a PDU have in the places that are ignored
+abbrev pub ignored_in : PduValue → List ℕ → Ignored
+ignored_in p bytes = record {
   id_length = u8_at bytes 3;
   type_bits = u8_at bytes 4 / 32;
   reserved = u8_at bytes 6;
@@ -81,21 +81,22 @@ abbrev pub HasFields : PduValue → Type 0
 HasFields (hello h) =
     (h.circuit_type < 256) × IsBytes h.source.mac.bytes × (h.holding < 65536) × (h.circuit < 256) × IsBytes h.tlvs
 HasFields (lsp l) =
-    (l.lifetime < 65536) × IsLspIdOfBytes l.id × (l.seq < 4294967296) × (l.sum < 65536) × (l.flags < 256) × IsBytes l.tlvs
+    (l.lifetime < 65536) × IsLspIdOfBytes l.id × (l.seq < 4294967296) × (l.sum < 65536) × (l.flags < 256)
+    × IsBytes l.tlvs
 HasFields (csnp c) = IsBytes c.source.mac.bytes × IsLspIdOfBytes c.start × IsLspIdOfBytes c.end × IsBytes c.tlvs
 HasFields (psnp p) = IsBytes p.source.mac.bytes × IsBytes p.tlvs
 
--- what the bytes are, of which p was read: p with what is passed over, and after it bytes of no PDU. p is a PDU, whose
+-- what the bytes are, of which p was read: p with what is ignored, and after it bytes of no PDU. p is a PDU, whose
 -- checksum holds if it must
 pub record IsReadFrom (bytes : List ℕ) (p : PduValue) : Type 0 where
-  pub allowed : IsPassedOver (passed_over_in p bytes)
-  pub parts : bytes ≡ pdu_with (passed_over_in p bytes) p ++ drop (length_of p) bytes
+  pub allowed : AreIgnored (ignored_in p bytes)
+  pub parts : bytes ≡ pdu_with (ignored_in p bytes) p ++ drop (length_of p) bytes
   pub within : length_of p ≤ length bytes
   pub pdu : IsPdu p
   pub sound : IsTrue (is_sound p)
   pub fields : HasFields p
 
--- the bytes are as a writer makes them: 0 in each place that is passed over, and nothing after the PDU
+-- the bytes are as a writer makes them: 0 in each place that is ignored, and nothing after the PDU
 pub record IsCanonical (bytes : List ℕ) (p : PduValue) : Type 0 where
-  pub over : passed_over_in p bytes ≡ zeros
+  pub over : ignored_in p bytes ≡ zeros
   pub end : length bytes ≡ length_of p

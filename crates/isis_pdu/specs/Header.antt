@@ -4,15 +4,16 @@ use Rattle.isis_pdu.specs.declared.kind.Kind.{Kind}
 use Rattle.isis_pdu.specs.declared.kind.Kind.TheVariants.{Hello, Lsp, Csnp, Psnp}
 
 -- the type's number
-abbrev pub number_of : Kind → ℕ
-number_of Hello = 17
-number_of Lsp = 18
-number_of Csnp = 24
-number_of Psnp = 26
+abbrev pub type_of : Kind → ℕ
+type_of Hello = 17
+type_of Lsp = 18
+type_of Csnp = 24
+type_of Psnp = 26
 
 -- the type with a number
 abbrev pub kind_of : ℕ → Option Kind
-kind_of n = if n == 17 then Some Hello else if n == 18 then Some Lsp else if n == 24 then Some Csnp else if n == 26 then Some Psnp else None
+kind_of n = if n == 17 then Some Hello else if n == 18 then Some Lsp else if n == 24 then Some Csnp else if n == 26
+    then Some Psnp else None
 
 -- how many bytes stand before the TLVs, which is what the header length says
 abbrev pub fixed_length : Kind → ℕ

@@ -42,7 +42,13 @@ pub data PduValue : Type 0 where
 
 -- the value of each PDU of the code
 abbrev pub hello_of : Hello → HelloValue
-hello_of h = record { circuit_type = h.circuit_type; source = h.source; holding = h.holding; circuit = h.circuit; tlvs = h.tlvs.now }
+hello_of h = record {
+  circuit_type = h.circuit_type;
+  source = h.source;
+  holding = h.holding;
+  circuit = h.circuit;
+  tlvs = h.tlvs.now;
+}
 
 abbrev pub lsp_of : Lsp → LspValue
 lsp_of l = record { lifetime = l.lifetime; id = l.id; seq = l.seq; sum = l.sum; flags = l.flags; tlvs = l.tlvs.now }

@@ -31,8 +31,8 @@ has_length kind bytes =
     && nat_le (fixed_length kind) (pdu_length kind bytes) && nat_le (pdu_length kind bytes) (length bytes)
 
 -- the TLVs, which end with the PDU
-abbrev pub tlvs_in : Kind → List ℕ → List ℕ
-tlvs_in kind bytes = slice_range bytes (fixed_length kind) (pdu_length kind bytes)
+abbrev pub tlvs_of_pdu : Kind → List ℕ → List ℕ
+tlvs_of_pdu kind bytes = slice_range bytes (fixed_length kind) (pdu_length kind bytes)
 
 -- an LSP with a lifetime and a sequence number has a checksum that isn't 0 and that holds from its id to its end
 abbrev pub has_sum : Kind → List ℕ → Bool
@@ -50,7 +50,7 @@ value_in kinds.Hello bytes = hello (record {
   source = system_at bytes 9;
   holding = u16_at bytes 15;
   circuit = u8_at bytes 19;
-  tlvs = tlvs_in kinds.Hello bytes;
+  tlvs = tlvs_of_pdu kinds.Hello bytes;
 })
 value_in kinds.Lsp bytes = lsp (record {
   lifetime = u16_at bytes 10;
@@ -58,15 +58,15 @@ value_in kinds.Lsp bytes = lsp (record {
   seq = u32_at bytes 20;
   sum = u16_at bytes 24;
   flags = u8_at bytes 26;
-  tlvs = tlvs_in kinds.Lsp bytes;
+  tlvs = tlvs_of_pdu kinds.Lsp bytes;
 })
 value_in kinds.Csnp bytes = csnp (record {
   source = system_at bytes 10;
   start = lsp_id_at bytes 17;
   end = lsp_id_at bytes 25;
-  tlvs = tlvs_in kinds.Csnp bytes;
+  tlvs = tlvs_of_pdu kinds.Csnp bytes;
 })
-value_in kinds.Psnp bytes = psnp (record { source = system_at bytes 10; tlvs = tlvs_in kinds.Psnp bytes })
+value_in kinds.Psnp bytes = psnp (record { source = system_at bytes 10; tlvs = tlvs_of_pdu kinds.Psnp bytes })
 
 -- the refusal, unless the test holds
 abbrev pub unless : PduError → Bool → Result PduValue PduError → Result PduValue PduError
@@ -78,13 +78,14 @@ read_as None bytes = Err refusals.Kind
 read_as (Some kind) bytes =
     unless refusals.Kind (u8_at bytes 1 == fixed_length kind)
     (unless refusals.Length (has_length kind bytes)
-    (unless refusals.TlvCut (is_whole (tlvs_in kind bytes))
+    (unless refusals.TlvCut (is_whole (tlvs_of_pdu kind bytes))
     (unless refusals.Sum (has_sum kind bytes) (Ok (value_in kind bytes)))))
 
 -- the PDU in bytes, or the first rule that they break
 unfoldable pub read : List ℕ → Result PduValue PduError
 read bytes =
-    unless refusals.Short (nat_le 8 (length bytes)) (unless refusals.NotIsis (is_isis bytes) (read_as (kind_at bytes) bytes))
+    unless refusals.Short (nat_le 8 (length bytes))
+    (unless refusals.NotIsis (is_isis bytes) (read_as (kind_at bytes) bytes))
 
 -- the code's answer, seen without where the TLVs lie
 abbrev pub answer_of : Result Pdu PduError → Result PduValue PduError

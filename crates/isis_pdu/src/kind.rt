@@ -1,5 +1,5 @@
 ghost use Rattle.std.specs.Prelude.{◌≡◌};
-ghost use Rattle.isis_pdu.specs.Header.{number_of, kind_of, fixed_length, length_place};
+ghost use Rattle.isis_pdu.specs.Header.{type_of, kind_of, fixed_length, length_place};
 
 /// The types of PDU that are read and written, each of level 1.
 #[derive(Clone, Copy)]
@@ -26,7 +26,7 @@ impl Kind {
 
     /// The number of the PDU type.
     pub fn number(self) -> u8
-        ensures { result ≡ number_of self }
+        ensures { result ≡ type_of self }
     {
         match self {
             Kind::Hello => 17,

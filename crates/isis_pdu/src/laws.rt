@@ -5,7 +5,7 @@ ghost use Rattle.isis_pdu.specs.Checksum.{lsp_sum_of};
 ghost use Rattle.isis_pdu.specs.Grammar.{IsBytes, IsPdu, IsReadFrom, IsCanonical, is_sound, is_sound_lsp};
 ghost use Rattle.isis_pdu.specs.Pdu.{HelloValue, LspValue, CsnpValue, PsnpValue, PduValue, hello, lsp, csnp, psnp};
 ghost use Rattle.isis_pdu.specs.Reading.{read};
-ghost use Rattle.isis_pdu.specs.Spelling.{PassedOver, IsPassedOver, pdu_with, hello_bytes, lsp_bytes, csnp_bytes, psnp_bytes, pdu_bytes};
+ghost use Rattle.isis_pdu.specs.Spelling.{Ignored, AreIgnored, pdu_with, hello_bytes, lsp_bytes, csnp_bytes, psnp_bytes, pdu_bytes};
 ghost use Rattle.isis_pdu.specs.Tlvs.{is_whole};
 
 use crate::pdu::PduError;
@@ -13,7 +13,7 @@ use crate::pdu::PduError;
 /// A PDU in any of its spellings is read, whatever bytes follow it. Only an LSP whose checksum must hold and doesn't is
 /// refused.
 pub fn spelled_is_read()
-    ensures { (over : PassedOver) (pdu : PduValue) (after : List ℕ) → IsPassedOver over → IsPdu pdu
+    ensures { (over : Ignored) (pdu : PduValue) (after : List ℕ) → AreIgnored over → IsPdu pdu
         → read (pdu_with over pdu ++ after) ≡ (if is_sound pdu then Ok pdu else Err PduError.Sum) }
 {}
 
@@ -22,8 +22,8 @@ pub fn read_is_spelled()
     ensures { (bytes : List ℕ) (pdu : PduValue) → IsBytes bytes → read bytes ≡ Ok pdu → IsReadFrom bytes pdu }
 {}
 
-/// What a writer writes is read again. An LSP is so exactly where its checksum isn't 0 and holds, or its lifetime or its
-/// sequence number is 0.
+/// What a writer writes is read again. An LSP is so exactly where its checksum isn't 0 and holds, or its lifetime or
+/// its sequence number is 0.
 pub fn written_is_read()
     ensures hellos { (h : HelloValue) → IsPdu (hello h) → read (hello_bytes h) ≡ Ok (hello h) }
     ensures lsps { (l : LspValue) → IsPdu (lsp l)
@@ -43,8 +43,8 @@ pub fn made_sums_hold()
     ensures { (l : LspValue) → l.sum ≡ lsp_sum_of l.id l.seq l.flags l.tlvs → IsTrue (is_sound_lsp l) }
 {}
 
-/// Whole TLVs, one by one: a TLV is whole, those that begin with one go on behind its value, and whole ones before others
-/// change nothing of these.
+/// Whole TLVs, one by one: a TLV is whole, those that begin with one go on behind its value, and whole ones before
+/// others change nothing of these.
 pub fn whole_tlvs()
     ensures next { (code len : ℕ) (bytes : List ℕ)
         → is_whole (code ∷ len ∷ bytes) ≡ (nat_le len (length bytes) && is_whole (drop len bytes)) }

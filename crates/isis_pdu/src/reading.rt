@@ -4,7 +4,7 @@ ghost use Rattle.isis_pdu.specs.Grammar.{IsReadFrom, IsCanonical};
 ghost use Rattle.isis_pdu.specs.Pdu.{pdu_of};
 ghost use Rattle.isis_pdu.specs.Spelling.{pdu_bytes};
 ghost use Rattle.isis_pdu.specs.Reading as layout;
-ghost use Rattle.isis_pdu.specs.Reading.{pdu_length, tlvs_in, value_in, read_as, read, answer_of};
+ghost use Rattle.isis_pdu.specs.Reading.{pdu_length, tlvs_of_pdu, value_in, read_as, read, answer_of};
 
 use crate::checksum::check_ok;
 use crate::kind::Kind;
@@ -56,7 +56,7 @@ fn has_sum(kind: Kind, bytes: &[u8]) -> bool
 #[tactic(auto, unfolding(crate::specs::Reading::value_in))]
 fn value<'a>(kind: Kind, bytes: &'a [u8], tlvs: &'a [u8]) -> Pdu<'a>
     requires long { fixed_length kind ≤ length bytes.now }
-    requires tlvs { tlvs.now ≡ tlvs_in kind bytes.now }
+    requires tlvs { tlvs.now ≡ tlvs_of_pdu kind bytes.now }
     ensures { pdu_of result ≡ value_in kind bytes.now }
 {
     match kind {
@@ -128,12 +128,12 @@ fn first_pdu(bytes: &[u8]) -> Result<Pdu<'_>, PduError>
     }
 }
 
-/// The PDU that the bytes begin with, up to its PDU length. Bytes after that are passed over.
+/// The PDU that the bytes begin with, up to its PDU length. Bytes after that are ignored.
 ///
 /// A refusal names the first rule that the bytes break, in the order of [`PduError`].
 pub fn decode(bytes: &[u8]) -> Result<Pdu<'_>, PduError>
     ensures exact { answer_of result ≡ read bytes.now }
-    // What is read is a PDU, and is spelled in the bytes but for what is passed over.
+    // What is read is a PDU, and is spelled in the bytes but for what is ignored.
     ensures spelled { IfOk result (λ pdu. IsReadFrom bytes.now (pdu_of pdu)) }
     // Bytes that are as a writer makes them are written again.
     ensures again { IfOk result (λ pdu. IsCanonical bytes.now (pdu_of pdu) → pdu_bytes (pdu_of pdu) ≡ bytes.now) }

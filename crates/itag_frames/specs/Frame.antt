@@ -11,7 +11,8 @@ use Rattle.itag_frames.specs.declared.frame.Frame.TheVariants as frames
 use Rattle.itag_frames.specs.declared.frame.FrameError.{FrameError}
 use Rattle.itag_frames.specs.declared.frame.FrameError.TheVariants.{Short, NotBackbone}
 
--- what a frame carries, without where it lies in memory: a PDU, or the fields and the customer frame of a backbone frame
+-- what a frame carries, without where it lies in memory: a PDU, or the fields and the customer frame of a backbone
+-- frame
 pub data Content : Type 0 where
   Pdu : List ℕ → Content
   Customer : Mac → Mac → Vid → Isid → List ℕ → Content
@@ -44,15 +45,15 @@ control_bytes sa pdu = control_address ++ sa.bytes ++ to_be_bytes w16 (3 + lengt
 abbrev pub length_of : List ℕ → ℕ
 length_of frame = u16_at frame 12
 
--- whether a frame of at least 17 bytes is a control frame: the group address, a length of the LLC bytes up to 1,500 that
--- the frame has, and the LLC bytes
+-- whether a frame of at least 17 bytes is a control frame: the group address, a length of the LLC bytes up to 1,500
+-- that the frame has, and the LLC bytes
 abbrev pub is_control : List ℕ → Bool
 is_control frame =
     bytes_eq (take 6 frame) control_address
     && (nat_le 3 (length_of frame) && nat_le (length_of frame) 1500 && nat_le (length_of frame) (length frame - 14))
     && bytes_eq (take 3 (drop 14 frame)) llc
 
--- its PDU; bytes after the length are passed over
+-- its PDU; bytes after the length are ignored
 abbrev pub pdu_of : List ℕ → List ℕ
 pdu_of frame = take (length_of frame - 3) (drop 17 frame)
 
@@ -67,4 +68,5 @@ content_in frame =
 -- ---- what is written is read again, whatever follows it
 
 abbrev pub ControlAgain : Type 0
-ControlAgain = (sa : Mac) (pdu more : List ℕ) → length sa.bytes ≡ 6 → length pdu ≤ 1497 → content_in (control_bytes sa pdu ++ more) ≡ Ok (Pdu pdu)
+ControlAgain = (sa : Mac) (pdu more : List ℕ) → length sa.bytes ≡ 6 → length pdu ≤ 1497
+    → content_in (control_bytes sa pdu ++ more) ≡ Ok (Pdu pdu)

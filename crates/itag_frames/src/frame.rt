@@ -48,9 +48,10 @@ pub(crate) const CONTROL_ADDRESS: [u8; 6] = [0x01, 0x80, 0xc2, 0x00, 0x00, 0x14]
 /// The LLC bytes before a PDU (ISO/IEC 10589, 8.4.8).
 pub(crate) const LLC: [u8; 3] = [0xfe, 0xfe, 0x03];
 
-/// What a frame is. `Short` where it has fewer than 17 bytes. A frame to 01-80-C2-00-00-14 is `Control` where its length
-/// is 3 to 1,500 and at most the number of the bytes after the length field, and the LLC bytes are fe fe 03
-/// (ISO/IEC 10589, 8.4.8); bytes after the length are passed over. Every other frame is `NotBackbone`, one with a B-TAG too.
+/// What a frame is. `Short` where it has fewer than 17 bytes. A frame to 01-80-C2-00-00-14 is `Control` where its
+/// length is 3 to 1,500 and at most the number of the bytes after the length field, and the LLC bytes are fe fe 03
+/// (ISO/IEC 10589, 8.4.8); bytes after the length are ignored. Every other frame is `NotBackbone`, one with a B-TAG
+/// too.
 pub fn classify(frame: &[u8]) -> Result<Frame<'_>, FrameError>
     ensures { spec.contents result ≡ spec.content_in frame.now }
 {

@@ -1,8 +1,8 @@
-//! The frames of the backbone: control frames, which carry a PDU of IS-IS. Frames with an I-TAG, which carry a customer's
-//! frame (IEEE 802.1ah), have a type, but are neither read nor written yet.
+//! The frames of the backbone: control frames, which carry a PDU of IS-IS. Frames with an I-TAG, which carry a
+//! customer's frame (IEEE 802.1ah), have a type, but are neither read nor written yet.
 //!
-//! [`classify`] looks at no more than the header of a frame, copies nothing and takes no memory. [`control_frame`] takes
-//! memory for the frame that it makes.
+//! [`classify`] looks at no more than the header of a frame, copies nothing and takes no memory. [`control_frame`]
+//! takes memory for the frame that it makes.
 #![tactic(auto)]
 
 pub use control::control_frame;

@@ -1,5 +1,5 @@
-//! The lanes of links. A [`Lane`] is one direction of a link: a queue of frames, first in first out. [`Lanes`] are those
-//! of all links of a network.
+//! The lanes of links. A [`Lane`] is one direction of a link: a queue of frames, first in first out. [`Lanes`] are
+//! those of all links of a network.
 //!
 //! Pushing, popping and looking take constant time; losing or doubling a frame moves at most the frames on the
 //! shorter side of it, and doubling copies that frame.

@@ -11,10 +11,10 @@ use Rattle.spb_types.proofs.PortLemmas.{has_port, has-with_same, has-with_other,
 use Rattle.lsdb.specs.declared.version.Version.{Version}
 use Rattle.lsdb.specs.declared.version.Version.TheVariants.{Absent, Live, Dead}
 use Rattle.lsdb.specs.Version.{IsAtMost, is_absent}
-use Rattle.lsdb.specs.Entry.{Entry, made, acked, cleared, offered, flagged, parted, aged_at}
+use Rattle.lsdb.specs.Entry.{Entry, made, acked, cleared, offered, flagged, flags_cleared_at, aged_at}
 use Rattle.lsdb.specs.Database.{Lsps, version_in, srm_in, version_at, fits, changed_to, each}
 use Rattle.lsdb.specs.Certificate.{Claim, IsClaimed, Kept, is_flagged, is_absent as is_gone, is_as_before, is_claimed, EntryCertificate, Certificate}
-use Rattle.lsdb.specs.CertificateLaws.{StandingIsCertified, StepsCompose, SilenceServesAll, StoringIsCertified, AckingIsCertified, ClearingIsCertified, EnteringIsCertified, OfferingIsCertified, FlaggingIsCertified, FloodingIsCertified, AgeingIsCertified, PartingIsCertified, JoiningIsCertified, EntryStepsCompose, PlacingIsCertified, ChangingIsCertified, ChangingEachIsCertified}
+use Rattle.lsdb.specs.CertificateLaws.{StandingIsCertified, StepsCompose, SilenceServesAll, StoringIsCertified, AckingIsCertified, ClearingIsCertified, AskingIsCertified, OfferingIsCertified, FlaggingIsCertified, FloodingIsCertified, AgeingIsCertified, ClearingPortIsCertified, SettingSrmIsCertified, EntryStepsCompose, PuttingIsCertified, ChangingIsCertified, ChangingEachIsCertified}
 use Rattle.lsdb.proofs.Order.{itself, through, live_dead}
 use Rattle.lsdb.proofs.LookupLemmas.{get-insert_same, get-insert_other, same_or_not, get-each}
 
@@ -115,8 +115,8 @@ acking up port claims id a e is_up below claimed = claim_clears up port claims i
 pub clearing : ClearingIsCertified
 clearing up port claims id a e is_up below claimed = claim_clears up port claims id a e (cleared port e) is_up below claimed refl refl
 
-pub entering : EnteringIsCertified
-entering before after port claims id = record { rises = itself Absent; kept = λ p h. is_gone refl }
+pub asking : AskingIsCertified
+asking before after port claims id = record { rises = itself Absent; kept = λ p h. is_gone refl }
 
 -- SRM was set at a port
 port_set : (before after : PortSet) (port at : ℕ) (claims : List Claim) (id : LspId) (e n : Entry) → 1 ≤ port → port ≤ 32 → ((p : ℕ) → (p ≡ port → ⊥) → has after p ≡ true → has before p ≡ true) → n.version ≡ e.version → n.srm ≡ with_port e.srm port → EntryCertificate at claims before after id (Some e) (Some n)
@@ -152,22 +152,22 @@ ageing_at up port claims id e (Dead seq) v = same_entry port claims up id (Some 
 pub ageing : AgeingIsCertified
 ageing up port claims id e = ageing_at up port claims id e e.version refl
 
-pub parting : PartingIsCertified
-parting up port at claims id e low high = record {
+pub clearing_port : ClearingPortIsCertified
+clearing_port up port at claims id e low high = record {
   rises = itself e.version;
   kept = λ p u. ⊎_elim
       (λ here. absurd (false≢true (sym (has-without_same up port low high) ∙ ap (λ q. has (without_port up port) q) (sym here) ∙ u)))
-      (λ elsewhere. kept_same at claims up id p (Some e) (Some (parted port e)) (sym (has-without_other up port p low high elsewhere) ∙ u) (has-without_other e.srm port p low high elsewhere) refl)
+      (λ elsewhere. kept_same at claims up id p (Some e) (Some (flags_cleared_at port e)) (sym (has-without_other up port p low high elsewhere) ∙ u) (has-without_other e.srm port p low high elsewhere) refl)
       (cases_eq p port);
 }
 
-joining_at : (up : PortSet) (port at : ℕ) (claims : List Claim) (id : LspId) (e : Entry) → 1 ≤ port → port ≤ 32 → (a : Version) → e.version ≡ a → EntryCertificate at claims up (with_port up port) id (Some e) (Some (if is_absent a then e else flagged port e))
-joining_at up port at claims id e low high Absent v = record { rises = itself e.version; kept = λ p u. is_gone v }
-joining_at up port at claims id e low high (Live seq sum) v = port_set up (with_port up port) port at claims id e (flagged port e) low high (λ p other u. sym (has-with_other up port p low high other) ∙ u) refl refl
-joining_at up port at claims id e low high (Dead seq) v = port_set up (with_port up port) port at claims id e (flagged port e) low high (λ p other u. sym (has-with_other up port p low high other) ∙ u) refl refl
+setting_srm_at : (up : PortSet) (port at : ℕ) (claims : List Claim) (id : LspId) (e : Entry) → 1 ≤ port → port ≤ 32 → (a : Version) → e.version ≡ a → EntryCertificate at claims up (with_port up port) id (Some e) (Some (if is_absent a then e else flagged port e))
+setting_srm_at up port at claims id e low high Absent v = record { rises = itself e.version; kept = λ p u. is_gone v }
+setting_srm_at up port at claims id e low high (Live seq sum) v = port_set up (with_port up port) port at claims id e (flagged port e) low high (λ p other u. sym (has-with_other up port p low high other) ∙ u) refl refl
+setting_srm_at up port at claims id e low high (Dead seq) v = port_set up (with_port up port) port at claims id e (flagged port e) low high (λ p other u. sym (has-with_other up port p low high other) ∙ u) refl refl
 
-pub joining : JoiningIsCertified
-joining up port at claims id e low high = joining_at up port at claims id e low high e.version refl
+pub setting_srm : SettingSrmIsCertified
+setting_srm up port at claims id e low high = setting_srm_at up port at claims id e low high e.version refl
 
 -- ---- a change of one entry is a change of the database
 
@@ -185,13 +185,13 @@ inserting port claims up db id e one =
     (λ elsewhere. let kept : get (insert db id e) x ≡ get db x = get-insert_other db id e x elsewhere in same_entry port claims up x (get db x) (get (insert db id e) x) (ap version_in kept) (ap srm_in kept))
     (same_or_not x id))
 
-placing_at : (port : ℕ) (claims : List Claim) (up : PortSet) (db : Lsps) (id : LspId) (e : Entry) (b : Bool) → EntryCertificate port claims up up id (get db id) (Some e) → Certificate port claims (record { up = up; db = db }) (record { up = up; db = if b then insert db id e else db })
-placing_at port claims up db id e true one = inserting port claims up db id e one
-placing_at port claims up db id e false one = standing port claims (record { up = up; db = db })
+putting_at : (port : ℕ) (claims : List Claim) (up : PortSet) (db : Lsps) (id : LspId) (e : Entry) (b : Bool) → EntryCertificate port claims up up id (get db id) (Some e) → Certificate port claims (record { up = up; db = db }) (record { up = up; db = if b then insert db id e else db })
+putting_at port claims up db id e true one = inserting port claims up db id e one
+putting_at port claims up db id e false one = standing port claims (record { up = up; db = db })
 
-pub placing : PlacingIsCertified
-placing port claims up db id None one = standing port claims (record { up = up; db = db })
-placing port claims up db id (Some e) one = placing_at port claims up db id e (fits db id) one
+pub putting : PuttingIsCertified
+putting port claims up db id None one = standing port claims (record { up = up; db = db })
+putting port claims up db id (Some e) one = putting_at port claims up db id e (fits db id) one
 
 changing_to : (port : ℕ) (claims : List Claim) (up : PortSet) (db : Lsps) (id : LspId) (n : Option Entry) → EntryCertificate port claims up up id (get db id) n → Certificate port claims (record { up = up; db = db }) (record { up = up; db = changed_to db id n })
 changing_to port claims up db id None one = standing port claims (record { up = up; db = db })

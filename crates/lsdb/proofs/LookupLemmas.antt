@@ -11,7 +11,7 @@ use Rattle.std.specs.FinMap.{find, is_sorted, get, insert, entries, entries_sort
 use Rattle.std.specs.FinMap.Entries.{below_all}
 use Rattle.spb_types.specs.declared.address.LspId.{LspId}
 use Rattle.lsdb.specs.Entry.{Entry}
-use Rattle.lsdb.specs.Database.{Lsps, id_cmp, fits, placed, changed, changed_to, each}
+use Rattle.lsdb.specs.Database.{Lsps, id_cmp, fits, put_if_it_fits, changed, changed_to, each}
 use Rattle.lsdb.proofs.Ids.{ids_total, ids_tied, tied_same}
 use Rattle.spb_types.specs.declared.limits.TheConstants.{MOST_LSPS}
 
@@ -123,5 +123,5 @@ changed_missing f db id is = ap (λ o. changed_to db id (option_map f o)) is
 pub fits_held : (db : Lsps) (id : LspId) (e : Entry) → get db id ≡ Some e → fits db id ≡ true
 fits_held db id e is = ap (λ o. is_some o || nat_lt (len db) MOST_LSPS) is
 
-pub placed_held : (db : Lsps) (id : LspId) (e new : Entry) → get db id ≡ Some e → placed db id (Some new) ≡ insert db id new
-placed_held db id e new is = ap (λ b. if b then insert db id new else db) (fits_held db id e is)
+pub put_held : (db : Lsps) (id : LspId) (e new : Entry) → get db id ≡ Some e → put_if_it_fits db id (Some new) ≡ insert db id new
+put_held db id e new is = ap (λ b. if b then insert db id new else db) (fits_held db id e is)

@@ -27,15 +27,19 @@ pub record Control : Type 0 where
 -- why the neighbour at an Up port is no further behind in one id after a step than it was before: the new entry is to
 -- be sent there, or is absent, or has the version that it had and wasn't to be sent there, or is at most what the
 -- neighbour claimed in this very step
-pub data Kept (port : ℕ) (claims : List Claim) (up : PortSet) (id : LspId) (p : ℕ) (old new : Option Entry) : Type 0 where
+pub data Kept (port : ℕ) (claims : List Claim) (up : PortSet) (id : LspId) (p : ℕ)
+    (old new : Option Entry) : Type 0 where
   is_flagged : has (srm_in new) p ≡ true → Kept port claims up id p old new
   is_absent : version_in new ≡ Absent → Kept port claims up id p old new
-  is_as_before : has up p ≡ true → has (srm_in old) p ≡ false → version_in new ≡ version_in old → Kept port claims up id p old new
-  is_claimed : p ≡ port → (a : Version) → IsClaimed claims id a → IsAtMost (version_in new) a → Kept port claims up id p old new
+  is_as_before : has up p ≡ true → has (srm_in old) p ≡ false → version_in new ≡ version_in old
+      → Kept port claims up id p old new
+  is_claimed : p ≡ port → (a : Version) → IsClaimed claims id a → IsAtMost (version_in new) a
+      → Kept port claims up id p old new
 
 -- one id in a step in which these claims were heard at this port, from the Up ports before to those after: its version
 -- doesn't fall, and the neighbour at each port that is Up afterwards is no further behind
-pub record EntryCertificate (port : ℕ) (claims : List Claim) (before after : PortSet) (id : LspId) (old new : Option Entry) : Type 0 where
+pub record EntryCertificate (port : ℕ) (claims : List Claim) (before after : PortSet) (id : LspId)
+    (old new : Option Entry) : Type 0 where
   pub rises : IsAtMost (version_in old) (version_in new)
   pub kept : (p : ℕ) → has after p ≡ true → Kept port claims before id p old new
 

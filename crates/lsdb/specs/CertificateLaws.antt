@@ -6,8 +6,8 @@ use Rattle.spb_types.specs.declared.ports.PortSet.{PortSet}
 use Rattle.spb_types.specs.Ports.{has, with_port, without_port}
 use Rattle.lsdb.specs.declared.version.Version.{Version}
 use Rattle.lsdb.specs.Version.{IsAtMost}
-use Rattle.lsdb.specs.Entry.{Entry, stored, flooded, entered, acked, cleared, offered, flagged, joined, parted, aged}
-use Rattle.lsdb.specs.Database.{Lsps, version_in, placed, changed, each}
+use Rattle.lsdb.specs.Entry.{Entry, stored, flooded, absent_with_ssn, acked, cleared, offered, flagged, srm_set_at, flags_cleared_at, aged}
+use Rattle.lsdb.specs.Database.{Lsps, version_in, put_if_it_fits, changed, each}
 use Rattle.lsdb.specs.Certificate.{Claim, IsClaimed, Control, EntryCertificate, Certificate}
 use Rattle.spb_types.specs.declared.limits.TheConstants.{MOST_PORTS}
 
@@ -17,15 +17,18 @@ StandingIsCertified = (port : ℕ) (claims : List Claim) (v : Control) → Certi
 
 -- two certified steps at one port are one certified step, in which the claims of both were heard
 abbrev pub StepsCompose : Type 0
-StepsCompose = (port : ℕ) (claims more : List Claim) (v u w : Control) → Certificate port claims v u → Certificate port more u w → Certificate port (claims ++ more) v w
+StepsCompose = (port : ℕ) (claims more : List Claim) (v u w : Control) → Certificate port claims v u
+    → Certificate port more u w → Certificate port (claims ++ more) v w
 
 -- a step without claims is certified at every port and with all claims
 abbrev pub SilenceServesAll : Type 0
-SilenceServesAll = (port other : ℕ) (claims : List Claim) (v w : Control) → Certificate port [] v w → Certificate other claims v w
+SilenceServesAll = (port other : ℕ) (claims : List Claim) (v w : Control) → Certificate port [] v w
+    → Certificate other claims v w
 
 -- an LSP claimed at an Up port, and not older than what is held, is stored
 abbrev pub StoringIsCertified : Type 0
-StoringIsCertified = (up : PortSet) (port : ℕ) (claims : List Claim) (id : LspId) (a : Version) (lifetime : ℕ) (body : List ℕ) (old : Option Entry)
+StoringIsCertified = (up : PortSet) (port : ℕ) (claims : List Claim) (id : LspId) (a : Version) (lifetime : ℕ)
+    (body : List ℕ) (old : Option Entry)
     → has up port ≡ true → IsAtMost (version_in old) a → IsClaimed claims id a
     → EntryCertificate port claims up up id old (Some (stored up port a lifetime body))
 
@@ -41,8 +44,9 @@ ClearingIsCertified = (up : PortSet) (port : ℕ) (claims : List Claim) (id : Ls
     → EntryCertificate port claims up up id (Some e) (Some (cleared port e))
 
 -- an id that isn't held is entered as absent
-abbrev pub EnteringIsCertified : Type 0
-EnteringIsCertified = (before after : PortSet) (port : ℕ) (claims : List Claim) (id : LspId) → EntryCertificate port claims before after id None (Some (entered port))
+abbrev pub AskingIsCertified : Type 0
+AskingIsCertified = (before after : PortSet) (port : ℕ) (claims : List Claim) (id : LspId)
+    → EntryCertificate port claims before after id None (Some (absent_with_ssn port))
 
 -- an LSP is to be sent at a port
 abbrev pub OfferingIsCertified : Type 0
@@ -55,34 +59,39 @@ FlaggingIsCertified = (up : PortSet) (port at : ℕ) (claims : List Claim) (id :
 
 -- a version that isn't older than what is held goes to every Up port
 abbrev pub FloodingIsCertified : Type 0
-FloodingIsCertified = (up : PortSet) (port : ℕ) (claims : List Claim) (id : LspId) (a : Version) (lifetime : ℕ) (body : List ℕ) (old : Option Entry)
+FloodingIsCertified = (up : PortSet) (port : ℕ) (claims : List Claim) (id : LspId) (a : Version) (lifetime : ℕ)
+    (body : List ℕ) (old : Option Entry)
     → IsAtMost (version_in old) a → EntryCertificate port claims up up id old (Some (flooded up a lifetime body))
 
 -- a second passes
 abbrev pub AgeingIsCertified : Type 0
-AgeingIsCertified = (up : PortSet) (port : ℕ) (claims : List Claim) (id : LspId) (e : Entry) → EntryCertificate port claims up up id (Some e) (Some (aged up e))
+AgeingIsCertified = (up : PortSet) (port : ℕ) (claims : List Claim) (id : LspId) (e : Entry)
+    → EntryCertificate port claims up up id (Some e) (Some (aged up e))
 
 -- a port leaves the Up ports, and its flags are cleared
-abbrev pub PartingIsCertified : Type 0
-PartingIsCertified = (up : PortSet) (port at : ℕ) (claims : List Claim) (id : LspId) (e : Entry)
-    → 1 ≤ port → port ≤ MOST_PORTS → EntryCertificate at claims up (without_port up port) id (Some e) (Some (parted port e))
+abbrev pub ClearingPortIsCertified : Type 0
+ClearingPortIsCertified = (up : PortSet) (port at : ℕ) (claims : List Claim) (id : LspId) (e : Entry)
+    → 1 ≤ port → port ≤ MOST_PORTS → EntryCertificate at claims up (without_port up port) id (Some e)
+    (Some (flags_cleared_at port e))
 
 -- a port comes up, and every LSP that isn't absent is to be sent there
-abbrev pub JoiningIsCertified : Type 0
-JoiningIsCertified = (up : PortSet) (port at : ℕ) (claims : List Claim) (id : LspId) (e : Entry)
-    → 1 ≤ port → port ≤ MOST_PORTS → EntryCertificate at claims up (with_port up port) id (Some e) (Some (joined port e))
+abbrev pub SettingSrmIsCertified : Type 0
+SettingSrmIsCertified = (up : PortSet) (port at : ℕ) (claims : List Claim) (id : LspId) (e : Entry)
+    → 1 ≤ port → port ≤ MOST_PORTS → EntryCertificate at claims up (with_port up port) id (Some e)
+    (Some (srm_set_at port e))
 
 -- two certified steps of one entry are one
 abbrev pub EntryStepsCompose : Type 0
-EntryStepsCompose = (port : ℕ) (claims more : List Claim) (before mid after : PortSet) (id : LspId) (old between new : Option Entry)
+EntryStepsCompose = (port : ℕ) (claims more : List Claim) (before mid after : PortSet) (id : LspId)
+    (old between new : Option Entry)
     → EntryCertificate port claims before mid id old between → EntryCertificate port more mid after id between new
     → EntryCertificate port (claims ++ more) before after id old new
 
 -- what is certified of one entry is certified of the database in which no other changes
-abbrev pub PlacingIsCertified : Type 0
-PlacingIsCertified = (port : ℕ) (claims : List Claim) (up : PortSet) (db : Lsps) (id : LspId) (new : Option Entry)
+abbrev pub PuttingIsCertified : Type 0
+PuttingIsCertified = (port : ℕ) (claims : List Claim) (up : PortSet) (db : Lsps) (id : LspId) (new : Option Entry)
     → EntryCertificate port claims up up id (get db id) new
-    → Certificate port claims (record { up = up; db = db }) (record { up = up; db = placed db id new })
+    → Certificate port claims (record { up = up; db = db }) (record { up = up; db = put_if_it_fits db id new })
 
 abbrev pub ChangingIsCertified : Type 0
 ChangingIsCertified = (port : ℕ) (claims : List Claim) (up : PortSet) (db : Lsps) (id : LspId) (f : Entry → Entry)
@@ -91,6 +100,7 @@ ChangingIsCertified = (port : ℕ) (claims : List Claim) (up : PortSet) (db : Ls
 
 -- what is certified of every entry is certified of the database
 abbrev pub ChangingEachIsCertified : Type 0
-ChangingEachIsCertified = (port : ℕ) (claims : List Claim) (before after : PortSet) (db : Lsps) (f : LspId → Entry → Entry)
+ChangingEachIsCertified = (port : ℕ) (claims : List Claim) (before after : PortSet) (db : Lsps)
+    (f : LspId → Entry → Entry)
     → ((id : LspId) (e : Entry) → EntryCertificate port claims before after id (Some e) (Some (f id e)))
     → Certificate port claims (record { up = before; db = db }) (record { up = after; db = each f db })

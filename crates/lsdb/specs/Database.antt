@@ -52,9 +52,9 @@ abbrev pub fits : Lsps → LspId → Bool
 fits db id = contains_key db id || nat_lt (len db) MOST_LSPS
 
 -- the entry put under the id, if there is one and a place for it
-abbrev pub placed : Lsps → LspId → Option Entry → Lsps
-placed db id None = db
-placed db id (Some e) = if fits db id then insert db id e else db
+abbrev pub put_if_it_fits : Lsps → LspId → Option Entry → Lsps
+put_if_it_fits db id None = db
+put_if_it_fits db id (Some e) = if fits db id then insert db id e else db
 
 -- the entry under the id changed, if the id is held
 abbrev pub changed_to : Lsps → LspId → Option Entry → Lsps

@@ -32,7 +32,13 @@ body_at (Dead seq) body = LEVEL_1 ∷ []
 
 -- the entry of a version with this lifetime, body and flags
 abbrev pub made : Version → ℕ → List ℕ → PortSet → PortSet → Entry
-made version lifetime body srm ssn = record { version = version; lifetime = lifetime_at version lifetime; body = body_at version body; srm = srm; ssn = ssn }
+made version lifetime body srm ssn = record {
+  version = version;
+  lifetime = lifetime_at version lifetime;
+  body = body_at version body;
+  srm = srm;
+  ssn = ssn;
+}
 
 -- what can be held: a live LSP has a lifetime left, and all but an absent one have a body
 abbrev pub CanBeHeld : Version → ℕ → List ℕ → Type 0
@@ -100,8 +106,8 @@ abbrev pub flooded : PortSet → Version → ℕ → List ℕ → Entry
 flooded up version lifetime body = made version lifetime body up no_ports
 
 -- an id is entered as absent, and asked for at a port
-abbrev pub entered : ℕ → Entry
-entered port = made Absent 0 [] no_ports (with_port no_ports port)
+abbrev pub absent_with_ssn : ℕ → Entry
+absent_with_ssn port = made Absent 0 [] no_ports (with_port no_ports port)
 
 -- the neighbour at a port has the LSP, and is told so
 abbrev pub acked : ℕ → Entry → Entry
@@ -120,22 +126,23 @@ abbrev pub flagged : ℕ → Entry → Entry
 flagged port e = record e { srm = with_port e.srm port }
 
 -- the LSP is to be sent at a port that has come up, unless it is absent
-abbrev pub joined : ℕ → Entry → Entry
-joined port e = if is_absent e.version then e else flagged port e
+abbrev pub srm_set_at : ℕ → Entry → Entry
+srm_set_at port e = if is_absent e.version then e else flagged port e
 
 -- an LSP that is dead at this number, and goes to every port of a set
-abbrev pub buried : ℕ → PortSet → Entry → Entry
-buried seq ports e = flooded ports (Dead seq) 0 []
+abbrev pub purged : ℕ → PortSet → Entry → Entry
+purged seq ports e = flooded ports (Dead seq) 0 []
 
 -- the flags of a port that is no longer Up are cleared
-abbrev pub parted : ℕ → Entry → Entry
-parted port e = record e { srm = without_port e.srm port; ssn = without_port e.ssn port }
+abbrev pub flags_cleared_at : ℕ → Entry → Entry
+flags_cleared_at port e = record e { srm = without_port e.srm port; ssn = without_port e.ssn port }
 
 -- an entry of this version after a second: a live one's lifetime falls by one, and at 0 it is dead and goes to every Up
 -- port, its SSN flags as they were (ISO/IEC 10589, 7.3.16.4)
 abbrev pub aged_at : PortSet → Entry → Version → Entry
 aged_at up e Absent = e
-aged_at up e (Live seq sum) = if nat_le e.lifetime 1 then made (Dead seq) 0 [] up e.ssn else record e { lifetime = e.lifetime - 1 }
+aged_at up e (Live seq sum) =
+    if nat_le e.lifetime 1 then made (Dead seq) 0 [] up e.ssn else record e { lifetime = e.lifetime - 1 }
 aged_at up e (Dead seq) = e
 
 abbrev pub aged : PortSet → Entry → Entry

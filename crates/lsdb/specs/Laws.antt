@@ -71,7 +71,8 @@ GreaterNumberIsAbove = (a h : Version) → number_of a < number_of h → IsAtMos
 
 -- at one number, a version that isn't absent is below no other but the dead one
 abbrev pub AtOneNumber : Type 0
-AtOneNumber = (a h : Version) → number_of a ≡ number_of h → a ≢ Absent → IsAtMost a h ↔ ((a ≡ h) ⊎ (h ≡ Dead (number_of a)))
+AtOneNumber = (a h : Version) → number_of a ≡ number_of h → a ≢ Absent
+    → IsAtMost a h ↔ ((a ≡ h) ⊎ (h ≡ Dead (number_of a)))
 
 -- a version that isn't at most another has no lower number, and isn't the other
 abbrev pub NotAtMost : Type 0
@@ -79,8 +80,10 @@ NotAtMost = (a h : Version) → leq a h ≡ false → (number_of h ≤ number_of
 
 -- where no flags stand, no LSP is to be sent, acknowledged or asked for at any port
 abbrev pub WithoutFlagsNoneIsDue : Type 0
-WithoutFlagsNoneIsDue = (db : Lsps) → any_flags db ≡ false → (id : LspId) (p : ℕ) → (has (srm_in (get db id)) p ≡ false) × (has (ssn_in (get db id)) p ≡ false)
+WithoutFlagsNoneIsDue = (db : Lsps) → any_flags db ≡ false → (id : LspId) (p : ℕ)
+    → (has (srm_in (get db id)) p ≡ false) × (has (ssn_in (get db id)) p ≡ false)
 
 -- and where none is, no flags stand
 abbrev pub WhereNoneIsDueNoFlags : Type 0
-WhereNoneIsDueNoFlags = (db : Lsps) → ((id : LspId) (p : ℕ) → (has (srm_in (get db id)) p ≡ false) × (has (ssn_in (get db id)) p ≡ false)) → any_flags db ≡ false
+WhereNoneIsDueNoFlags = (db : Lsps) → ((id : LspId) (p : ℕ)
+    → (has (srm_in (get db id)) p ≡ false) × (has (ssn_in (get db id)) p ≡ false)) → any_flags db ≡ false

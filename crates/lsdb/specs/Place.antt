@@ -31,4 +31,5 @@ pub record IsGap (held : List Held) (id : LspId) (place : ℕ) : Type 0 where
 
 -- a held LSP with another entry under its id
 abbrev pub with_entry : (Entry → Entry) → Held → Held
-with_entry f h = let e = f (entry_of h) in record { id = h.id; version = e.version; lifetime = e.lifetime; body = e.body; srm = e.srm; ssn = e.ssn }
+with_entry f h = let e = f (entry_of h) in
+    record { id = h.id; version = e.version; lifetime = e.lifetime; body = e.body; srm = e.srm; ssn = e.ssn }

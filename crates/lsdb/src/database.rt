@@ -3,7 +3,7 @@ ghost use Rattle.std.specs.Option.{option_map, option_copied};
 ghost use Rattle.std.specs.FinMap as finite;
 ghost use Rattle.std.specs.List.{AllByRecursion, list_any};
 ghost use Rattle.lsdb.specs.Version.{relation, is_absent};
-ghost use Rattle.lsdb.specs.Entry.{entry_of, CanBeHeld, IsClean, cleaned, with_flags, with_srm, with_ssn, raised, buried, parted, aged, has_flags};
+ghost use Rattle.lsdb.specs.Entry.{entry_of, CanBeHeld, IsClean, cleaned, with_flags, with_srm, with_ssn, raised, purged, flags_cleared_at, aged, has_flags};
 ghost use Rattle.lsdb.specs.Database.{keyed, fits, version_at, changed, each, any_flags};
 ghost use Rattle.lsdb.specs.Place.{AreSorted, IsAt, IsGap, with_entry};
 
@@ -82,13 +82,13 @@ fn age_all(held: &mut Vec<Held>, up: PortSet) -> bool
 }
 
 // Changes every LSP by `item::part`.
-fn part_all(held: &mut Vec<Held>, port: u8)
+fn clear_all_flags(held: &mut Vec<Held>, port: u8)
     requires low { 1 ≤ port }
     requires high { port ≤ MOST_PORTS }
-    ensures { held.new.items ≡ map (with_entry (parted port)) held.old.items }
+    ensures { held.new.items ≡ map (with_entry (flags_cleared_at port)) held.old.items }
 {
     for h in held.iter_mut() {
-        item::part(h, port);
+        item::clear_flags(h, port);
     }
 }
 
@@ -160,8 +160,9 @@ impl Database {
         }
     }
 
-    /// Puts an LSP in, in place of the one that is held under its id. A dead one is kept with lifetime 0 and the body 01,
-    /// and an absent one with neither. A live one has a lifetime of at least 1, and all but an absent one have a body.
+    /// Puts an LSP in, in place of the one that is held under its id. A dead one is kept with lifetime 0 and the body
+    /// 01, and an absent one with neither. A live one has a lifetime of at least 1, and all but an absent one have a
+    /// body.
     ///
     /// `Full` exactly where the id is new and 2,048 ids are held. After an error the database is as it was.
     pub fn put(&mut self, held: Held) -> Result<(), PutError>
@@ -215,20 +216,20 @@ impl Database {
         }
     }
 
-    /// Makes the LSP under an id dead at this number, to be sent at these ports and acknowledged at none. The id is held,
-    /// and not as absent. Takes no memory.
-    pub fn bury(&mut self, id: &LspId, seq: u32, srm: PortSet)
+    /// Makes the LSP under an id dead at this number, to be sent at these ports and acknowledged at none. The id is
+    /// held, and not as absent. Takes no memory.
+    pub fn purge(&mut self, id: &LspId, seq: u32, srm: PortSet)
         requires { is_absent (version_at self.old id.now) ≡ false }
-        ensures { self.new ≡ changed (buried seq srm) self.old id.now }
+        ensures { self.new ≡ changed (purged seq srm) self.old id.now }
     {
         match place_of(&self.held, id) {
-            Ok(place) => item::bury(&mut self.held[place], seq, srm),
+            Ok(place) => item::purge(&mut self.held[place], seq, srm),
             Err(_) => {}
         }
     }
 
-    /// Puts a port, 1 to 32, into the ports at which the LSP under an id is to be sent, or takes it out of them. Nothing
-    /// happens where the id isn't held.
+    /// Puts a port, 1 to 32, into the ports at which the LSP under an id is to be sent, or takes it out of them.
+    /// Nothing happens where the id isn't held.
     pub fn set_srm(&mut self, id: &LspId, port: u8, on: bool)
         requires low { 1 ≤ port }
         requires high { port ≤ MOST_PORTS }
@@ -240,8 +241,8 @@ impl Database {
         }
     }
 
-    /// Puts a port, 1 to 32, into the ports at which the LSP under an id is to be acknowledged, or takes it out of them.
-    /// Nothing happens where the id isn't held.
+    /// Puts a port, 1 to 32, into the ports at which the LSP under an id is to be acknowledged, or takes it out of
+    /// them. Nothing happens where the id isn't held.
     pub fn set_ssn(&mut self, id: &LspId, port: u8, on: bool)
         requires low { 1 ≤ port }
         requires high { port ≤ MOST_PORTS }
@@ -257,15 +258,15 @@ impl Database {
     pub fn clear_port(&mut self, port: u8)
         requires low { 1 ≤ port }
         requires high { port ≤ MOST_PORTS }
-        ensures { self.new ≡ each (λ id e. parted port e) self.old }
+        ensures { self.new ≡ each (λ id e. flags_cleared_at port e) self.old }
     {
-        part_all(&mut self.held, port);
+        clear_all_flags(&mut self.held, port);
     }
 
-    /// A second passes: each live lifetime falls by one. At 0 the LSP is dead at its number, with lifetime 0 and the body
-    /// 01, and is to be sent at every Up port; where it is to be acknowledged stays. That a dead LSP is kept as long as the
-    /// bridge runs, and not for a minute alone (ISO/IEC 10589, 7.3.16.4), is *profile*. Tells, as `has_flags`, whether any
-    /// flag stands afterwards, in the same walk. Takes no memory.
+    /// A second passes: each live lifetime falls by one. At 0 the LSP is dead at its number, with lifetime 0 and the
+    /// body 01, and is to be sent at every Up port; where it is to be acknowledged stays. That a dead LSP is kept as
+    /// long as the bridge runs, and not for a minute alone (ISO/IEC 10589, 7.3.16.4), is *profile*. Tells, as
+    /// `has_flags`, whether any flag stands afterwards, in the same walk. Takes no memory.
     pub fn age_one(&mut self, up: PortSet) -> bool
         ensures aged { self.new ≡ each (λ id e. aged up e) self.old }
         ensures flags { result ≡ any_flags self.new }

@@ -1,7 +1,7 @@
 //! Changes of one held LSP. None takes memory.
 ghost use Rattle.std.specs.Prelude.{◌≡◌, ◌≤◌, ◌∷◌, [], ℕ, length};
 ghost use Rattle.lsdb.specs.Entry as entry;
-ghost use Rattle.lsdb.specs.Entry.{entry_of, CanBeHeld, IsClean, cleaned, raised, with_flags, buried, with_srm, with_ssn, parted, aged, has_flags};
+ghost use Rattle.lsdb.specs.Entry.{entry_of, CanBeHeld, IsClean, cleaned, raised, with_flags, purged, with_srm, with_ssn, flags_cleared_at, aged, has_flags};
 ghost use Rattle.lsdb.specs.Place.{with_entry};
 
 use crate::{Held, Version};
@@ -55,9 +55,9 @@ pub fn set_flags(held: &mut Held, srm: PortSet, ssn: PortSet)
 }
 
 /// Makes the LSP dead at this number, to be sent at these ports.
-pub fn bury(held: &mut Held, seq: u32, srm: PortSet)
+pub fn purge(held: &mut Held, seq: u32, srm: PortSet)
     requires { 1 ≤ length held.old.body }
-    ensures { held.new ≡ with_entry (buried seq srm) held.old }
+    ensures { held.new ≡ with_entry (purged seq srm) held.old }
 {
     held.version = Version::Dead { seq };
     clean(held);
@@ -95,10 +95,10 @@ pub fn set_ssn(held: &mut Held, port: u8, on: bool)
 }
 
 /// Takes a port out of the flags.
-pub fn part(held: &mut Held, port: u8)
+pub fn clear_flags(held: &mut Held, port: u8)
     requires low { 1 ≤ port }
     requires high { port ≤ MOST_PORTS }
-    ensures { held.new ≡ with_entry (parted port) held.old }
+    ensures { held.new ≡ with_entry (flags_cleared_at port) held.old }
 {
     held.srm = held.srm.without(port);
     held.ssn = held.ssn.without(port);

@@ -1,5 +1,5 @@
 //! The laws of versions and of databases. Each is the contract of a function that does nothing.
-ghost use Rattle.lsdb.specs.CertificateLaws.{StandingIsCertified, StepsCompose, SilenceServesAll, StoringIsCertified, AckingIsCertified, ClearingIsCertified, EnteringIsCertified, OfferingIsCertified, FlaggingIsCertified, FloodingIsCertified, AgeingIsCertified, PartingIsCertified, JoiningIsCertified, EntryStepsCompose, PlacingIsCertified, ChangingIsCertified, ChangingEachIsCertified};
+ghost use Rattle.lsdb.specs.CertificateLaws.{StandingIsCertified, StepsCompose, SilenceServesAll, StoringIsCertified, AckingIsCertified, ClearingIsCertified, AskingIsCertified, OfferingIsCertified, FlaggingIsCertified, FloodingIsCertified, AgeingIsCertified, ClearingPortIsCertified, SettingSrmIsCertified, EntryStepsCompose, PuttingIsCertified, ChangingIsCertified, ChangingEachIsCertified};
 ghost use Rattle.lsdb.specs.MapLaws.{EachIsRead, ChangedIsRead, ChangingLeavesOthers, InsertedIsRead, InsertingLeavesOthers, IdsAreOrdered, TiedIdsAreOne};
 ghost use Rattle.lsdb.specs.Laws.{AtMostItself, SameBothWays, AtMostThrough, AbsentIsLeast, JoinIsAbove, JoinIsLeast, OlderIsBelow, NewerIsAbove, EqualIsSame, ConfusedIsNeither, ConfusedAreLive, ConfusedJoinIsDead, NumbersFollow, GreaterNumberIsAbove, AtOneNumber, NotAtMost, WithoutFlagsNoneIsDue, WhereNoneIsDueNoFlags};
 ghost use Rattle.lsdb.specs.Time.{LivesForItsLifetime, DiesAfterIt, OthersDontAge};
@@ -49,18 +49,18 @@ pub fn changes_of_an_entry_are_certified()
     ensures storing { StoringIsCertified }
     ensures acking { AckingIsCertified }
     ensures clearing { ClearingIsCertified }
-    ensures entering { EnteringIsCertified }
+    ensures asking { AskingIsCertified }
     ensures offering { OfferingIsCertified }
     ensures flagging { FlaggingIsCertified }
     ensures flooding { FloodingIsCertified }
     ensures ageing { AgeingIsCertified }
-    ensures parting { PartingIsCertified }
-    ensures joining { JoiningIsCertified }
+    ensures clearing_port { ClearingPortIsCertified }
+    ensures setting_srm { SettingSrmIsCertified }
 {}
 
 /// What is certified of entries is certified of the database.
 pub fn changes_of_a_database_are_certified()
-    ensures placing { PlacingIsCertified }
+    ensures putting { PuttingIsCertified }
     ensures changing { ChangingIsCertified }
     ensures each { ChangingEachIsCertified }
 {}
@@ -82,8 +82,9 @@ pub fn flags_are_at_ports()
     ensures all { WhereNoneIsDueNoFlags }
 {}
 
-/// A live LSP of which nothing more is heard stays as it is for the seconds of its lifetime, which falls. After them it is
-/// dead at its number, with lifetime 0 and the body 01, and is to be sent at every port that is Up then. No other ages.
+/// A live LSP of which nothing more is heard stays as it is for the seconds of its lifetime, which falls. After them it
+/// is dead at its number, with lifetime 0 and the body 01, and is to be sent at every port that is Up then. No other
+/// ages.
 pub fn a_silent_lsp_lives_for_its_lifetime()
     ensures lives { LivesForItsLifetime }
     ensures dies { DiesAfterIt }

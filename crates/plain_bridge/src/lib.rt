@@ -1,4 +1,5 @@
-//! A bridge of the kind [`Kind::Plain`](bridge_api::Kind): a control plane of `bridge_control`, to which each call is forwarded.
+//! A bridge of the kind [`Kind::Plain`](bridge_api::Kind): a control plane of `bridge_control`, to which each call is
+//! forwarded.
 #![tactic(auto)]
 
 pub use bridge::PlainBridge;

@@ -1,5 +1,4 @@
-//! Bridges, called through their trait, and some of them in boxes: A and B, each with one port, at the two ends of a
-//! link. The number of A is 1, that of B 2.
+//! Bridges in boxes, called through the trait alone: A and B, each with one port, at the two ends of a link.
 ghost use Rattle.std.specs.Prelude.{◌≡◌, ◌≤◌, ◌<◌, true, false, length, vec_len, All, IfOk, OnOk};
 ghost use Rattle.bridge_api.specs.Config.{IsWhole};
 ghost use Rattle.bridge_api.specs.Step.{second, with_wire};
@@ -12,7 +11,6 @@ use bridge_api::{Bridge, BridgeConfig, Kind, Outbox};
 use lsdb::{DbRow, Version};
 use spb_types::{BridgeId, Mac, NoMemory, Seq, SourceId, SystemId};
 use std::alloc::Global;
-use std::process::Abort;
 use std::test::Fail;
 
 // A's first hello, as the whole control frame.
@@ -22,25 +20,18 @@ const FIRST_HELLO: [u8; 53] = [
     0xf0, 5, 2, 0, 0, 0, 1,
 ];
 
+// A's hello when it has heard B's circuit 1: it names that neighbour, in state Initializing.
+const INITIALIZING_HELLO: [u8; 63] = [
+    0x01, 0x80, 0xc2, 0x00, 0x00, 0x14, 2, 0, 0, 0, 0, 1, 0x00, 0x31, 0xfe, 0xfe, 0x03, 0x83, 0x14,
+    1, 0, 0x11, 1, 0, 0, 1, 2, 0, 0, 0, 0, 1, 0, 3, 0, 0x2e, 1, 1, 4, 3, 0x49, 0, 1, 0x81, 1, 0xc1,
+    0xf0, 0x0f, 1, 0, 0, 0, 1, 2, 0, 0, 0, 0, 2, 0, 0, 0, 1,
+];
+
 // An LSP of A at number 9 that says nothing, as a frame from B.
 const OLD_LSP: [u8; 44] = [
     0x01, 0x80, 0xc2, 0x00, 0x00, 0x14, 2, 0, 0, 0, 0, 2, 0x00, 0x1e, 0xfe, 0xfe, 0x03, 0x83, 0x1b,
     1, 0, 0x12, 1, 0, 0, 0, 0x1b, 3, 0xe8, 2, 0, 0, 0, 0, 1, 0, 0, 0, 0, 0, 9, 0xcc, 0x26, 1,
 ];
-
-/// The hello of the bridge of a number when it has heard the circuit 1 of another: it names that neighbour, in state
-/// Initializing.
-fn initializing_hello(from: u8, to: u8) -> [u8; 63] {
-    [
-        0x01, 0x80, 0xc2, 0x00, 0x00, 0x14, 2, 0, 0, 0, 0, from, 0x00, 0x31, 0xfe, 0xfe, 0x03,
-        0x83, 0x14, 1, 0, 0x11, 1, 0, 0, 1, 2, 0, 0, 0, 0, from, 0, 3, 0, 0x2e, 1, 1, 4, 3, 0x49,
-        0, 1, 0x81, 1, 0xc1, 0xf0, 0x0f, 1, 0, 0, 0, 1, 2, 0, 0, 0, 0, to, 0, 0, 0, 1,
-    ]
-}
-
-fn live(seq: u32, sum: u16) -> Version {
-    Version::Live { seq, sum }
-}
 
 /// The configuration of a bridge with one port and no VID; its address ends in this number, which is its source too.
 fn config(alloc: Global, last: u8) -> Result<BridgeConfig, NoMemory>
@@ -77,16 +68,6 @@ fn make<B: Bridge>(alloc: Global, bridge: &mut B, last: u8) -> Result<(), NoMemo
     let config = config(alloc, last)?;
     bridge.configure(&config)?;
     bridge.carrier(1, true)
-}
-
-/// The bridge of a number, with carrier at its port.
-fn bridge_of(alloc: Global, number: u8) -> Result<PlainBridge, NoMemory>
-    ensures made { IfOk result (λ b. b.blank ≡ false) }
-    ensures port { IfOk result (λ b. 1 ≤ length b.view.ports) }
-{
-    let mut bridge = PlainBridge::blank(alloc);
-    make(alloc, &mut bridge, number)?;
-    Ok(bridge)
 }
 
 /// A second passes at `from`, and all that it sends comes to the port 1 of `to`.
@@ -194,32 +175,38 @@ fn is_dropped<B: Bridge>(alloc: Global, bridge: &mut B, frame: &[u8]) -> Result<
     Ok(outbox.wire.is_empty() && after == before && same_rows)
 }
 
-/// Asserts that one frame was sent, at the port 1.
-fn check_sent(rt: &impl Abort, outbox: &Outbox, frame: &[u8]) {
-    assert_eq!(rt; outbox.wire.len(), 1);
-    let (port, sent) = &outbox.wire.as_slice()[0];
-    assert_eq!(rt; (*port, sent.as_slice()), (1, frame));
-}
-
 #[test]
 fn the_first_hello_names_nobody(rt: HostRuntime) -> Result<(), Fail> {
     let alloc = rt.alloc();
-    let mut a = bridge_of(alloc, 1)?;
+    let mut a: Box<dyn Bridge> = Box::new(alloc, PlainBridge::blank(alloc))?;
+    make(alloc, &mut a, 1)?;
     a.set_metric(1, 20)?;
     let mut outbox = Outbox::new(alloc);
     a.tick(&mut outbox)?;
-    check_sent(&rt, &outbox, &FIRST_HELLO);
+    match outbox.wire.as_slice() {
+        [sent] => {
+            assert_eq!(rt; sent.0, 1);
+            assert_eq!(rt; sent.1.as_slice(), FIRST_HELLO.as_slice());
+        }
+        _ => panic!(rt; "not one frame"),
+    }
     Ok(())
 }
 
 #[test]
 fn the_next_hello_names_the_neighbour_that_was_heard(rt: HostRuntime) -> Result<(), Fail> {
     let alloc = rt.alloc();
-    let (mut a, mut b) = (bridge_of(alloc, 1)?, bridge_of(alloc, 2)?);
+    let mut a = PlainBridge::blank(alloc);
+    let mut b = PlainBridge::blank(alloc);
+    make(alloc, &mut a, 1)?;
+    make(alloc, &mut b, 2)?;
     greet(alloc, &mut b, &mut a)?;
     let mut outbox = Outbox::new(alloc);
     a.tick(&mut outbox)?;
-    check_sent(&rt, &outbox, &initializing_hello(1, 2));
+    match outbox.wire.as_slice() {
+        [sent] => assert_eq!(rt; sent.1.as_slice(), INITIALIZING_HELLO.as_slice()),
+        _ => panic!(rt; "not one frame"),
+    }
     Ok(())
 }
 
@@ -227,10 +214,13 @@ fn the_next_hello_names_the_neighbour_that_was_heard(rt: HostRuntime) -> Result<
 fn two_boxes_come_up_with_each_other(rt: HostRuntime) -> Result<(), Fail> {
     let alloc = rt.alloc();
     let mut a: Box<dyn Bridge> = Box::new(alloc, PlainBridge::blank(alloc))?;
-    let blank = (a.kind(), a.is_blank(), a.is_failed());
-    assert_eq!(rt; blank, (Kind::Plain, true, false));
+    assert_eq!(rt;
+        (a.kind(), a.is_blank(), a.is_failed()),
+        (Kind::Plain, true, false)
+    );
     make(alloc, &mut a, 1)?;
-    let mut b: Box<dyn Bridge> = Box::new(alloc, bridge_of(alloc, 2)?)?;
+    let mut b: Box<dyn Bridge> = Box::new(alloc, PlainBridge::blank(alloc))?;
+    make(alloc, &mut b, 2)?;
     assert_eq!(rt; (a.is_blank(), a.is_failed()), (false, false));
     assert_eq!(rt;
         (a.adjacent(1).state, a.has_flag()),
@@ -251,9 +241,15 @@ fn two_boxes_come_up_with_each_other(rt: HostRuntime) -> Result<(), Fail> {
 #[test]
 fn two_boxes_come_to_hold_the_same(rt: HostRuntime) -> Result<(), Fail> {
     let alloc = rt.alloc();
-    let mut a: Box<dyn Bridge> = Box::new(alloc, bridge_of(alloc, 1)?)?;
-    let mut b: Box<dyn Bridge> = Box::new(alloc, bridge_of(alloc, 2)?)?;
-    assert_eq!(rt; held_at(&a, 0), (live(1, 0x4fd7), 1200));
+    let mut a: Box<dyn Bridge> = Box::new(alloc, PlainBridge::blank(alloc))?;
+    make(alloc, &mut a, 1)?;
+    let mut b: Box<dyn Bridge> = Box::new(alloc, PlainBridge::blank(alloc))?;
+    make(alloc, &mut b, 2)?;
+    let alone = Version::Live {
+        seq: 1,
+        sum: 0x4fd7,
+    };
+    assert_eq!(rt; held_at(&a, 0), (alone, 1200));
     greet(alloc, &mut a, &mut b)?;
     greet(alloc, &mut b, &mut a)?;
     assert!(rt; a.has_flag());
@@ -261,7 +257,14 @@ fn two_boxes_come_to_hold_the_same(rt: HostRuntime) -> Result<(), Fail> {
     greet(alloc, &mut b, &mut a)?;
     greet(alloc, &mut a, &mut b)?;
     assert_eq!(rt; (a.has_flag(), b.has_flag()), (false, false));
-    let (of_a, of_b) = (live(2, 0xa512), live(2, 0xc2f3));
+    let of_a = Version::Live {
+        seq: 2,
+        sum: 0xa512,
+    };
+    let of_b = Version::Live {
+        seq: 2,
+        sum: 0xc2f3,
+    };
     assert_eq!(rt; (held_at(&a, 0).0, held_at(&b, 0).0), (of_a, of_a));
     assert_eq!(rt; (held_at(&a, 1).0, held_at(&b, 1).0), (of_b, of_b));
     assert!(rt; a.entry(2).is_none());
@@ -273,20 +276,32 @@ fn another_neighbour_at_an_up_port_gets_all_and_is_owed_nothing(
     rt: HostRuntime,
 ) -> Result<(), Fail> {
     let alloc = rt.alloc();
-    let (mut a, mut b) = (bridge_of(alloc, 1)?, bridge_of(alloc, 2)?);
+    let mut a: Box<dyn Bridge> = Box::new(alloc, PlainBridge::blank(alloc))?;
+    make(alloc, &mut a, 1)?;
+    let mut b: Box<dyn Bridge> = Box::new(alloc, PlainBridge::blank(alloc))?;
+    make(alloc, &mut b, 2)?;
     greet(alloc, &mut a, &mut b)?;
     greet(alloc, &mut b, &mut a)?;
     greet(alloc, &mut a, &mut b)?;
     greet(alloc, &mut b, &mut a)?;
     assert_eq!(rt; (a.adjacent(1).state, a.due(1)), (AdjState::Up, false));
-    assert_eq!(rt; flags_at(&a, 0), (false, false));
-    assert_eq!(rt; flags_at(&a, 1), (false, true));
+    assert_eq!(rt;
+        (flags_at(&a, 0), flags_at(&a, 1)),
+        ((false, false), (false, true))
+    );
     assert_eq!(rt; held_at(&a, 0).0.number(), 2);
-    hear(&mut a, &initializing_hello(3, 1), &mut Outbox::new(alloc))?;
+    // C's hello when it has heard A's circuit 1.
+    let mut hello = INITIALIZING_HELLO;
+    hello[11] = 3;
+    hello[31] = 3;
+    hello[58] = 1;
+    hear(&mut a, &hello, &mut Outbox::new(alloc))?;
     assert_eq!(rt; a.adjacent(1).neighbour.mac.bytes, [2, 0, 0, 0, 0, 3]);
     assert_eq!(rt; (a.adjacent(1).state, a.due(1)), (AdjState::Up, true));
-    assert_eq!(rt; flags_at(&a, 0), (true, false));
-    assert_eq!(rt; flags_at(&a, 1), (true, false));
+    assert_eq!(rt;
+        (flags_at(&a, 0), flags_at(&a, 1)),
+        ((true, false), (true, false))
+    );
     assert_eq!(rt; held_at(&a, 0).0.number(), 3);
     Ok(())
 }
@@ -294,13 +309,16 @@ fn another_neighbour_at_an_up_port_gets_all_and_is_owed_nothing(
 #[test]
 fn a_greater_number_of_an_own_lsp_is_answered(rt: HostRuntime) -> Result<(), Fail> {
     let alloc = rt.alloc();
-    let (mut a, mut b) = (bridge_of(alloc, 1)?, bridge_of(alloc, 2)?);
+    let mut a: Box<dyn Bridge> = Box::new(alloc, PlainBridge::blank(alloc))?;
+    make(alloc, &mut a, 1)?;
+    let mut b: Box<dyn Bridge> = Box::new(alloc, PlainBridge::blank(alloc))?;
+    make(alloc, &mut b, 2)?;
     // It isn't Up yet.
     assert!(rt; is_dropped(alloc, &mut a, &OLD_LSP)?);
     assert_eq!(rt; held_at(&a, 0).0.number(), 1);
     greet(alloc, &mut a, &mut b)?;
     greet(alloc, &mut b, &mut a)?;
-    hear(&mut a, &OLD_LSP, &mut Outbox::new(alloc))?;
+    a.receive(1, &OLD_LSP, &mut Outbox::new(alloc))?;
     assert_eq!(rt; held_at(&a, 0).0.number(), 10);
     Ok(())
 }
@@ -308,19 +326,24 @@ fn a_greater_number_of_an_own_lsp_is_answered(rt: HostRuntime) -> Result<(), Fai
 #[test]
 fn an_own_lsp_of_lifetime_300_is_originated_anew(rt: HostRuntime) -> Result<(), Fail> {
     let alloc = rt.alloc();
-    let mut a = bridge_of(alloc, 1)?;
+    let mut a: Box<dyn Bridge> = Box::new(alloc, PlainBridge::blank(alloc))?;
+    make(alloc, &mut a, 1)?;
     pass(alloc, &mut a, 899)?;
-    assert_eq!(rt; held_at(&a, 0), (live(1, 0x4fd7), 301));
+    let before = held_at(&a, 0);
+    assert_eq!(rt; (before.0.number(), before.1), (1, 301));
     pass(alloc, &mut a, 1)?;
-    let (version, lifetime) = held_at(&a, 0);
-    assert_eq!(rt; (version.number(), lifetime), (2, 1200));
+    let after = held_at(&a, 0);
+    assert_eq!(rt; (after.0.number(), after.1), (2, 1200));
     Ok(())
 }
 
 #[test]
-fn a_bridge_drops_garbage_and_stays_as_it_was(rt: HostRuntime) -> Result<(), Fail> {
+fn a_box_drops_garbage_and_stays_as_it_was(rt: HostRuntime) -> Result<(), Fail> {
     let alloc = rt.alloc();
-    let (mut a, mut b) = (bridge_of(alloc, 1)?, bridge_of(alloc, 2)?);
+    let mut a: Box<dyn Bridge> = Box::new(alloc, PlainBridge::blank(alloc))?;
+    make(alloc, &mut a, 1)?;
+    let mut b: Box<dyn Bridge> = Box::new(alloc, PlainBridge::blank(alloc))?;
+    make(alloc, &mut b, 2)?;
     greet(alloc, &mut a, &mut b)?;
     greet(alloc, &mut b, &mut a)?;
     assert!(rt; is_dropped(alloc, &mut a, &[])?);
@@ -338,11 +361,16 @@ fn a_bridge_drops_garbage_and_stays_as_it_was(rt: HostRuntime) -> Result<(), Fai
 #[test]
 fn one_box_of_several_ticks(rt: HostRuntime) -> Result<(), Fail> {
     let alloc = rt.alloc();
-    let b: Box<dyn Bridge> = Box::new(alloc, bridge_of(alloc, 2)?)?;
-    let a: Box<dyn Bridge> = Box::new(alloc, bridge_of(alloc, 1)?)?;
-    let mut boxes = vec![in alloc; b, a]?;
+    let mut a: Box<dyn Bridge> = Box::new(alloc, PlainBridge::blank(alloc))?;
+    make(alloc, &mut a, 2)?;
+    let mut b: Box<dyn Bridge> = Box::new(alloc, PlainBridge::blank(alloc))?;
+    make(alloc, &mut b, 1)?;
+    let mut boxes = vec![in alloc; a, b]?;
     let mut outbox = Outbox::new(alloc);
     tick_at(&mut boxes, 1, &mut outbox)?;
-    check_sent(&rt, &outbox, &FIRST_HELLO);
+    match outbox.wire.as_slice() {
+        [sent] => assert_eq!(rt; sent.1.as_slice(), FIRST_HELLO.as_slice()),
+        _ => panic!(rt; "not one frame"),
+    }
     Ok(())
 }

@@ -15,8 +15,8 @@ due_text due = if due then codes "due" else codes "-"
 abbrev pub neighbour_words : Adjacency → List (List ℕ)
 neighbour_words a = encode_lower a.neighbour.mac.bytes ∷ decimal a.circuit ∷ decimal a.hold ∷ []
 
--- a port with carrier, by its state: `down`, or `init` or `up` with the neighbour and, of a port that is up, whether CSNPs
--- are due
+-- a port with carrier, by its state: `down`, or `init` or `up` with the neighbour and, of a port that is up, whether
+-- CSNPs are due
 abbrev pub state_words : AdjState → Adjacency → Bool → List (List ℕ)
 state_words Down a due = codes "down" ∷ []
 state_words Initializing a due = codes "init" ∷ neighbour_words a ++ codes "-" ∷ []

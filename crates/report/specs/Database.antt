@@ -26,7 +26,8 @@ version_words (Dead seq) lifetime = codes "dead" ∷ decimal seq ∷ []
 
 -- what is held under an id: `l ID`, the version, and the ports with SRM and with SSN
 unfoldable pub held_line : DbRow → List ℕ
-held_line r = line (codes "l") (id_text r.id ∷ version_words r.version r.lifetime ++ codes "srm" ∷ ports_text r.srm ∷ codes "ssn" ∷ ports_text r.ssn ∷ [])
+held_line r = line (codes "l") (id_text r.id ∷ version_words r.version r.lifetime
+    ++ codes "srm" ∷ ports_text r.srm ∷ codes "ssn" ∷ ports_text r.ssn ∷ [])
 
 -- the text of a database: the bridge's name and the number of ids, and a line for each id, in order
 unfoldable pub db_text : List ℕ → List DbRow → List ℕ

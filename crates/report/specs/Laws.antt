@@ -40,7 +40,8 @@ pub record HasLines (count : ℕ) (text : List ℕ) : Type 0 where
 
 -- tables have a line for each row, and one before
 abbrev pub TablesHaveLines : Type 0
-TablesHaveLines = (word name : List ℕ) (quiet : Option Bool) (tables : Tables) → LacksNewline word → IsName name → HasLines (1 + length tables.unicast + length tables.group) (tables_text word name quiet tables)
+TablesHaveLines = (word name : List ℕ) (quiet : Option Bool) (tables : Tables) → LacksNewline word → IsName name
+    → HasLines (1 + length tables.unicast + length tables.group) (tables_text word name quiet tables)
 
 -- a database has a line for each id, and one before
 abbrev pub DatabaseHasLines : Type 0
@@ -48,11 +49,13 @@ DatabaseHasLines = (name : List ℕ) (rows : List DbRow) → IsName name → Has
 
 -- adjacencies have a line for each port, and one before
 abbrev pub AdjacenciesHaveLines : Type 0
-AdjacenciesHaveLines = (name : List ℕ) (ports : List (Adjacency × Bool)) → IsName name → HasLines (1 + length ports) (adj_text name ports)
+AdjacenciesHaveLines = (name : List ℕ) (ports : List (Adjacency × Bool)) → IsName name
+    → HasLines (1 + length ports) (adj_text name ports)
 
 -- the other answers are one line
 abbrev pub PathIsLine : Type 0
-PathIsLine = (from to : List ℕ) (vid cost : ℕ) (names : List (List ℕ)) → IsName from → IsName to → All IsName names → HasLines 1 (path_text from to vid cost names)
+PathIsLine = (from to : List ℕ) (vid cost : ℕ) (names : List (List ℕ)) → IsName from → IsName to → All IsName names
+    → HasLines 1 (path_text from to vid cost names)
 
 abbrev pub OutIsLine : Type 0
 OutIsLine = (name : List ℕ) (port : ℕ) (frame : List ℕ) → IsName name → HasLines 1 (out_text name port frame)
@@ -61,4 +64,5 @@ abbrev pub StateIsLine : Type 0
 StateIsLine = (failing : List ℕ) → HasLines 1 (state_text failing)
 
 abbrev pub ErrorIsLine : Type 0
-ErrorIsLine = (at number : ℕ) (name : List ℕ) (column : Option ℕ) → LacksNewline name → HasLines 1 (error_text at number name column)
+ErrorIsLine = (at number : ℕ) (name : List ℕ) (column : Option ℕ) → LacksNewline name
+    → HasLines 1 (error_text at number name column)

@@ -24,8 +24,10 @@ quiet_words (Some false) = codes "busy" ∷ []
 
 -- the first line of tables: a word, the bridge's name, what is said of quiet, and the numbers of unicast and group rows
 unfoldable pub tables_head : List ℕ → List ℕ → Option Bool → Tables → List ℕ
-tables_head word name quiet tables = line word (name ∷ quiet_words quiet ++ decimal (length tables.unicast) ∷ decimal (length tables.group) ∷ [])
+tables_head word name quiet tables = line word
+    (name ∷ quiet_words quiet ++ decimal (length tables.unicast) ∷ decimal (length tables.group) ∷ [])
 
 -- the text of tables: the first line, a line for each unicast row, and a line for each group row, in order
 unfoldable pub tables_text : List ℕ → List ℕ → Option Bool → Tables → List ℕ
-tables_text word name quiet tables = tables_head word name quiet tables ++ flat_map unicast_line tables.unicast ++ flat_map group_line tables.group
+tables_text word name quiet tables = tables_head word name quiet tables ++ flat_map unicast_line tables.unicast
+    ++ flat_map group_line tables.group

@@ -99,8 +99,8 @@ fn put_conditions(text: &mut Text, failing: &[u8]) -> Result<(), NoMemory>
     Ok(())
 }
 
-/// The answer to a refused line: `error LINE NUMBER NAME`, with the number of the line from 1, and the number and name of
-/// the reason; behind it the column, from 1, of the first word that doesn't fit, where one is given.
+/// The answer to a refused line: `error LINE NUMBER NAME`, with the number of the line from 1, and the number and name
+/// of the reason; behind it the column, from 1, of the first word that doesn't fit, where one is given.
 #[tactic(auto, unfolding(crate::specs::Lines::error_text))]
 pub fn error_text(
     alloc: Global,

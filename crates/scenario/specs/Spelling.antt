@@ -65,7 +65,8 @@ EndsWord (byte ∷ bytes) = IsTrue (is_blank byte)
 abbrev pub AreWords : List (List ℕ) → List ℕ → Type 0
 AreWords [] bytes = AreBlank bytes
 AreWords (word ∷ words) bytes =
-    (before after : List ℕ) × AreBlank before × IsWord word × EndsWord after × (bytes ≡ before ++ (word ++ after)) × AreWords words after
+    (before after : List ℕ) × AreBlank before × IsWord word × EndsWord after × (bytes ≡ before ++ (word ++ after))
+    × AreWords words after
 
 -- The line spells the command: it has at most 8,192 bytes, and its words are a keyword and what its form takes.
 pub record Spells (line : List ℕ) (command : Command) : Type 0 where
@@ -75,9 +76,9 @@ pub record Spells (line : List ℕ) (command : Command) : Type 0 where
   pub apart : AreWords (text_of keyword ∷ words) line
   pub form : SpellsForm (form_of keyword) command words
 
--- The line is passed over: it has at most 8,192 bytes, and it is blank or a comment.
-abbrev pub IsPassedOver : List ℕ → Type 0
-IsPassedOver line = (length line ≤ LINE_LIMIT) × (AreBlank line ⊎ IsTrue (is_comment line))
+-- The line is ignored: it has at most 8,192 bytes, and it is blank or a comment.
+abbrev pub IsBlankOrComment : List ℕ → Type 0
+IsBlankOrComment line = (length line ≤ LINE_LIMIT) × (AreBlank line ⊎ IsTrue (is_comment line))
 
 -- ---- Where a line goes wrong
 
@@ -115,4 +116,5 @@ pub record Misses (words : List Word) : Type 0 where
 pub data IsRefusedAt (line : List ℕ) (column : ℕ) : Type 0 where
   too_long : LINE_LIMIT < length line → column ≡ LINE_LIMIT + 1 → IsRefusedAt line column
   misfits : length line ≤ LINE_LIMIT → Misfits (words_in is_blank false 1 line) column → IsRefusedAt line column
-  misses : length line ≤ LINE_LIMIT → Misses (words_in is_blank false 1 line) → column ≡ length line + 1 → IsRefusedAt line column
+  misses : length line ≤ LINE_LIMIT → Misses (words_in is_blank false 1 line) → column ≡ length line + 1
+      → IsRefusedAt line column

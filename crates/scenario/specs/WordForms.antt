@@ -44,7 +44,8 @@ system word = if (length word == 12) && list_all is_hex_digit word then Some (re
 
 -- 5 hexadecimal digits
 unfoldable pub source : List ℕ → Option SourceId
-source word = if (length word == 5) && list_all is_hex_digit word then Some (record { value = hexadecimal word }) else None
+source word =
+    if (length word == 5) && list_all is_hex_digit word then Some (record { value = hexadecimal word }) else None
 
 -- a positive even number of hexadecimal digits
 unfoldable pub frame : List ℕ → Option (List ℕ)

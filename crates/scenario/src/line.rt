@@ -1,7 +1,7 @@
 ghost use Rattle.std.specs.Prelude.{◌≡◌, ◌≤◌, ◌↔◌, length};
 ghost use Rattle.scenario.specs.Grammar.{read, form_of, is_comment as is_comment_line, line_of, head_of};
 ghost use Rattle.scenario.specs.Answers.{Gives, Reads};
-ghost use Rattle.scenario.specs.Spelling.{Spells, IsPassedOver, IsRefusedAt};
+ghost use Rattle.scenario.specs.Spelling.{Spells, IsBlankOrComment, IsRefusedAt};
 
 use crate::command::Command;
 use crate::error::LineError;
@@ -110,7 +110,7 @@ pub fn parse_line(alloc: Global, line: &[u8]) -> Result<Option<Command>, LineErr
     ensures only { (command : _) → Spells line.now command → Reads result (Ok (Some command)) }
     ensures one { (a b : _) → Spells line.now a → Spells line.now b → a ≡ b }
 
-    ensures passed_over { (result ≡ Ok None) ↔ IsPassedOver line.now }
+    ensures ignored { (result ≡ Ok None) ↔ IsBlankOrComment line.now }
     // The column is that of the first word that doesn't fit, or right behind the line where words are missing.
     ensures refused { (column : _) → result ≡ Err (LineError.Words column) → IsRefusedAt line.now column }
 {

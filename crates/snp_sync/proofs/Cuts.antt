@@ -1,4 +1,4 @@
--- Lists cut into parts.
+-- Lists cut into chunks.
 use Rattle.std.specs.Prelude.{◌≡◌, ℕ, zero, suc, ◌+◌, ◌*◌, ◌≤◌, min, IsTrue, List, [], ◌∷◌, ◌++◌, length, take, drop}
 use Rattle.std.proofs.Common.{refl, sym, ap, ◌∙◌, arith, lit≤, append_assoc, append-nil}
 use Rattle.std.specs.List.{flat_map}
@@ -10,53 +10,53 @@ use Rattle.spb_tlvs.specs.Tlv.{tlv}
 use Rattle.spb_tlvs.specs.Entry.{entries_value}
 use Rattle.isis_pdu.specs.Tlvs.{is_whole, is_whole_after}
 use Rattle.isis_pdu.proofs.FormatLaws.{whole_one, whole_both}
-use Rattle.snp_sync.specs.Parts.{parts_within, parts, line_tlvs}
+use Rattle.snp_sync.specs.Chunks.{chunks_within, chunks, entry_tlvs}
 
--- how many parts there may be says nothing, if they are enough
-parts_enough : {A : Type 0} (most : ℕ) (n k : ℕ) (xs : List A) → 1 ≤ n → length xs ≤ most → length xs ≤ k → parts_within most n xs ≡ parts_within k n xs
-unfolding parts_within
-parts_enough zero n zero xs some le more = refl
-parts_enough zero n (suc k) [] some le more = refl
-parts_enough zero n (suc k) (x ∷ xs) some le more = absurd (omega arith)
-parts_enough (suc most) n zero [] some le more = refl
-parts_enough (suc most) n zero (x ∷ xs) some le more = absurd (omega arith)
-parts_enough (suc most) n (suc k) [] some le more = refl
-parts_enough (suc most) n (suc k) (x ∷ xs) some le more =
-    ap (λ ps. take n (x ∷ xs) ∷ ps) (parts_enough most n k (drop n (x ∷ xs)) some (omega (arith, length-drop n (x ∷ xs))) (omega (arith, length-drop n (x ∷ xs))))
+-- how many chunks there may be says nothing, if they are enough
+chunks_enough : {A : Type 0} (most : ℕ) (n k : ℕ) (xs : List A) → 1 ≤ n → length xs ≤ most → length xs ≤ k → chunks_within most n xs ≡ chunks_within k n xs
+unfolding chunks_within
+chunks_enough zero n zero xs some le more = refl
+chunks_enough zero n (suc k) [] some le more = refl
+chunks_enough zero n (suc k) (x ∷ xs) some le more = absurd (omega arith)
+chunks_enough (suc most) n zero [] some le more = refl
+chunks_enough (suc most) n zero (x ∷ xs) some le more = absurd (omega arith)
+chunks_enough (suc most) n (suc k) [] some le more = refl
+chunks_enough (suc most) n (suc k) (x ∷ xs) some le more =
+    ap (λ ps. take n (x ∷ xs) ∷ ps) (chunks_enough most n k (drop n (x ∷ xs)) some (omega (arith, length-drop n (x ∷ xs))) (omega (arith, length-drop n (x ∷ xs))))
 
-pub parts_none : {A : Type 0} (n : ℕ) → parts {A = A} n [] ≡ []
-unfolding parts parts_within
-parts_none n = refl
+pub chunks_none : {A : Type 0} (n : ℕ) → chunks {A = A} n [] ≡ []
+unfolding chunks chunks_within
+chunks_none n = refl
 
--- the first part, and those of the rest
-pub parts_first : {A : Type 0} (n : ℕ) (xs : List A) → 1 ≤ n → 1 ≤ length xs → parts n xs ≡ take n xs ∷ parts n (drop n xs)
-unfolding parts parts_within
-parts_first n [] some full = absurd (omega arith)
-parts_first n (x ∷ xs) some full =
-    ap (λ ps. take n (x ∷ xs) ∷ ps) (parts_enough (length xs) n (length (drop n (x ∷ xs))) (drop n (x ∷ xs)) some (omega (arith, length-drop n (x ∷ xs))) (omega arith))
+-- the first chunk, and those of the rest
+pub chunks_first : {A : Type 0} (n : ℕ) (xs : List A) → 1 ≤ n → 1 ≤ length xs → chunks n xs ≡ take n xs ∷ chunks n (drop n xs)
+unfolding chunks chunks_within
+chunks_first n [] some full = absurd (omega arith)
+chunks_first n (x ∷ xs) some full =
+    ap (λ ps. take n (x ∷ xs) ∷ ps) (chunks_enough (length xs) n (length (drop n (x ∷ xs))) (drop n (x ∷ xs)) some (omega (arith, length-drop n (x ∷ xs))) (omega arith))
 
--- a part at the front, as long as it can be
-pub front_is : {A : Type 0} (n : ℕ) (xs part rest : List A) → xs ≡ part ++ rest → length part ≡ min n (length xs) → (take n xs ≡ part) × (drop n xs ≡ rest)
-front_is {A} n xs part rest is size =
-    let front : take n xs ≡ part = sym (take_min n xs) ∙ ap (λ k. take k xs) (sym size) ∙ ap (λ (ys : List A). take (length part) ys) is ∙ take-append_seam part rest in
-    (front, append_cancel_left part (drop n xs) rest (ap (λ (ys : List A). ys ++ drop n xs) (sym front) ∙ take-append-drop n xs ∙ is))
+-- a chunk at the front, as long as it can be
+pub front_is : {A : Type 0} (n : ℕ) (xs chunk rest : List A) → xs ≡ chunk ++ rest → length chunk ≡ min n (length xs) → (take n xs ≡ chunk) × (drop n xs ≡ rest)
+front_is {A} n xs chunk rest is size =
+    let front : take n xs ≡ chunk = sym (take_min n xs) ∙ ap (λ k. take k xs) (sym size) ∙ ap (λ (ys : List A). take (length chunk) ys) is ∙ take-append_seam chunk rest in
+    (front, append_cancel_left chunk (drop n xs) rest (ap (λ (ys : List A). ys ++ drop n xs) (sym front) ∙ take-append-drop n xs ∙ is))
 
--- the first part, and those of the rest, by what a cut gives
-pub parts_cut : {A : Type 0} (n : ℕ) (xs part rest : List A) → 1 ≤ n → xs ≡ part ++ rest → length part ≡ min n (length xs) → 1 ≤ length xs → parts n xs ≡ part ∷ parts n rest
-parts_cut {A} n xs part rest some is size full =
-    let cut = front_is n xs part rest is size in
-    parts_first n xs some full ∙ λ j. cut.0 j ∷ parts n (cut.1 j)
+-- the first chunk, and those of the rest, by what a cut gives
+pub chunks_cut : {A : Type 0} (n : ℕ) (xs chunk rest : List A) → 1 ≤ n → xs ≡ chunk ++ rest → length chunk ≡ min n (length xs) → 1 ≤ length xs → chunks n xs ≡ chunk ∷ chunks n rest
+chunks_cut {A} n xs chunk rest some is size full =
+    let cut = front_is n xs chunk rest is size in
+    chunks_first n xs some full ∙ λ j. cut.0 j ∷ chunks n (cut.1 j)
 
--- the TLVs of lines, part by part
-pub tlvs_none : line_tlvs [] ≡ []
-unfolding line_tlvs
-tlvs_none = ap (flat_map (λ (part : List SnpEntry). tlv 9 (entries_value part))) (parts_none 15)
+-- the TLVs of entries, chunk by chunk
+pub tlvs_none : entry_tlvs [] ≡ []
+unfolding entry_tlvs
+tlvs_none = ap (flat_map (λ (chunk : List SnpEntry). tlv 9 (entries_value chunk))) (chunks_none 15)
 
-pub tlvs_first : (lines part rest : List SnpEntry) → lines ≡ part ++ rest → length part ≡ min 15 (length lines) → 1 ≤ length lines → line_tlvs lines ≡ tlv 9 (entries_value part) ++ line_tlvs rest
-unfolding line_tlvs
-tlvs_first lines part rest is size full =
-    ap (flat_map (λ (p : List SnpEntry). tlv 9 (entries_value p))) (parts_cut 15 lines part rest (lit≤ tt) is size full)
-    ∙ flat_map-cons (λ (p : List SnpEntry). tlv 9 (entries_value p)) part (parts 15 rest)
+pub tlvs_first : (entries chunk rest : List SnpEntry) → entries ≡ chunk ++ rest → length chunk ≡ min 15 (length entries) → 1 ≤ length entries → entry_tlvs entries ≡ tlv 9 (entries_value chunk) ++ entry_tlvs rest
+unfolding entry_tlvs
+tlvs_first entries chunk rest is size full =
+    ap (flat_map (λ (p : List SnpEntry). tlv 9 (entries_value p))) (chunks_cut 15 entries chunk rest (lit≤ tt) is size full)
+    ∙ flat_map-cons (λ (p : List SnpEntry). tlv 9 (entries_value p)) chunk (chunks 15 rest)
 
 -- they are whole
 whole_all : (ps : List (List SnpEntry)) → IsTrue (is_whole (flat_map (λ p. tlv 9 (entries_value p)) ps))
@@ -66,11 +66,11 @@ whole_all (p ∷ ps) =
     ap is_whole (flat_map-cons (λ (q : List SnpEntry). tlv 9 (entries_value q)) p ps)
     ∙ whole_both (tlv 9 (entries_value p)) (flat_map (λ q. tlv 9 (entries_value q)) ps) (whole_one 9 (entries_value p)) ∙ whole_all ps
 
-pub tlvs_whole : (lines : List SnpEntry) → IsTrue (is_whole (line_tlvs lines))
-unfolding line_tlvs
-tlvs_whole lines = whole_all (parts 15 lines)
+pub tlvs_whole : (entries : List SnpEntry) → IsTrue (is_whole (entry_tlvs entries))
+unfolding entry_tlvs
+tlvs_whole entries = whole_all (chunks 15 entries)
 
--- how long they are: 2 bytes and 16 for each line in a TLV, and all TLVs but the last are full
+-- how long they are: 2 bytes and 16 for each entry in a TLV, and all TLVs but the last are full
 record Sized (all left len : ℕ) : Type 0 where
   pub more : 1 ≤ left → 15 * len + 242 * left ≤ 242 * all
   pub last : 15 * len + 242 * left ≤ 242 * all + 28
@@ -78,30 +78,30 @@ record Sized (all left len : ℕ) : Type 0 where
 sized_none : (all len : ℕ) → len ≡ 0 → Sized all all len
 sized_none all len e = record { more = λ some. omega arith; last = omega arith }
 
-sized_more : (all left len part rest new : ℕ) → Sized all left len → left ≡ part + rest → part ≡ min 15 left → 1 ≤ left → new ≡ len + (2 + 16 * part) → Sized all rest new
-sized_more all left len part rest new sized is size full e =
+sized_more : (all left len chunk rest new : ℕ) → Sized all left len → left ≡ chunk + rest → chunk ≡ min 15 left → 1 ≤ left → new ≡ len + (2 + 16 * chunk) → Sized all rest new
+sized_more all left len chunk rest new sized is size full e =
     let h = sized.more full in record { more = λ some. omega arith; last = omega arith }
 
--- the TLVs so far, of lines of which the rest is still to come
-pub record Written (lines rest : List SnpEntry) (tlvs : List ℕ) : Type 0 where
-  bytes : tlvs ++ line_tlvs rest ≡ line_tlvs lines
-  sized : Sized (length lines) (length rest) (length tlvs)
+-- the TLVs so far, of entries of which the rest is still to come
+pub record Written (entries rest : List SnpEntry) (tlvs : List ℕ) : Type 0 where
+  bytes : tlvs ++ entry_tlvs rest ≡ entry_tlvs entries
+  sized : Sized (length entries) (length rest) (length tlvs)
 
-pub written_none : (lines rest : List SnpEntry) (tlvs : List ℕ) → tlvs ≡ [] → rest ≡ lines → Written lines rest tlvs
-written_none lines rest tlvs none is = record {
+pub written_none : (entries rest : List SnpEntry) (tlvs : List ℕ) → tlvs ≡ [] → rest ≡ entries → Written entries rest tlvs
+written_none entries rest tlvs none is = record {
   bytes = rw (none, is) refl;
-  sized = rw is (sized_none (length lines) (length tlvs) (ap length none));
+  sized = rw is (sized_none (length entries) (length tlvs) (ap length none));
 }
 
-pub written_more : (lines old part rest : List SnpEntry) (tlvs new : List ℕ) → Written lines old tlvs → old ≡ part ++ rest → length part ≡ min 15 (length old) → 1 ≤ length old → length (entries_value part) ≡ 16 * length part → new ≡ tlvs ++ tlv 9 (entries_value part) → Written lines rest new
-written_more lines old part rest tlvs new so_far is size full len e = record {
-  bytes = ap (λ (b : List ℕ). b ++ line_tlvs rest) e ∙ append_assoc tlvs (tlv 9 (entries_value part)) (line_tlvs rest)
-      ∙ ap (λ (b : List ℕ). tlvs ++ b) (sym (tlvs_first old part rest is size full)) ∙ so_far.bytes;
-  sized = sized_more (length lines) (length old) (length tlvs) (length part) (length rest) (length new) so_far.sized (ap length is ∙ length-append part rest) size full (ap length e ∙ length-append tlvs (tlv 9 (entries_value part)) ∙ ap (λ n. length tlvs + suc (suc n)) len ∙ omega arith);
+pub written_more : (entries old chunk rest : List SnpEntry) (tlvs new : List ℕ) → Written entries old tlvs → old ≡ chunk ++ rest → length chunk ≡ min 15 (length old) → 1 ≤ length old → length (entries_value chunk) ≡ 16 * length chunk → new ≡ tlvs ++ tlv 9 (entries_value chunk) → Written entries rest new
+written_more entries old chunk rest tlvs new so_far is size full len e = record {
+  bytes = ap (λ (b : List ℕ). b ++ entry_tlvs rest) e ∙ append_assoc tlvs (tlv 9 (entries_value chunk)) (entry_tlvs rest)
+      ∙ ap (λ (b : List ℕ). tlvs ++ b) (sym (tlvs_first old chunk rest is size full)) ∙ so_far.bytes;
+  sized = sized_more (length entries) (length old) (length tlvs) (length chunk) (length rest) (length new) so_far.sized (ap length is ∙ length-append chunk rest) size full (ap length e ∙ length-append tlvs (tlv 9 (entries_value chunk)) ∙ ap (λ n. length tlvs + suc (suc n)) len ∙ omega arith);
 }
 
-pub written_all : (lines rest : List SnpEntry) (tlvs : List ℕ) → Written lines rest tlvs → length rest ≡ 0 → (tlvs ≡ line_tlvs lines) × (15 * length tlvs ≤ 242 * length lines + 28)
-written_all lines rest tlvs so_far none =
+pub written_all : (entries rest : List SnpEntry) (tlvs : List ℕ) → Written entries rest tlvs → length rest ≡ 0 → (tlvs ≡ entry_tlvs entries) × (15 * length tlvs ≤ 242 * length entries + 28)
+written_all entries rest tlvs so_far none =
     let no_rest : rest ≡ [] = nil_from_length rest none in
     let h = so_far.sized.last in
-    (sym (append-nil tlvs) ∙ ap (λ (b : List ℕ). tlvs ++ b) (sym (ap line_tlvs no_rest ∙ tlvs_none)) ∙ so_far.bytes, omega arith)
+    (sym (append-nil tlvs) ∙ ap (λ (b : List ℕ). tlvs ++ b) (sym (ap entry_tlvs no_rest ∙ tlvs_none)) ∙ so_far.bytes, omega arith)

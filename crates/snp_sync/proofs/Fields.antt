@@ -1,4 +1,4 @@
--- The line of every entry can be written, whatever was heard, originated or aged.
+-- What a PDU says of every LSP can be written, whatever was heard, originated or aged.
 use Rattle.std.specs.Prelude.{◌≡◌, ℕ, ◌+◌, ◌-◌, ◌<◌, ◌^◌, Bool, true, false, ◌&&◌, ◌==◌, List, [], ◌∷◌, Option, Some, None, nat_lt, nat_le, if◌then◌else◌}
 use Rattle.std.proofs.Common.{refl, sym, subst, arith, lit<}
 use Rattle.std.proofs.lemmas.Bool.{and_parts, ltb-true}
@@ -14,15 +14,15 @@ use Rattle.lsdb.specs.declared.version.Version.TheVariants.{Absent, Live, Dead}
 use Rattle.lsdb.specs.declared.version.Relation.{Relation}
 use Rattle.lsdb.specs.declared.version.Relation.TheVariants.{Older, Equal, Newer, Confused}
 use Rattle.lsdb.specs.Version.{number_of, is_absent, claimed, sum_of}
-use Rattle.lsdb.specs.Entry.{Entry, made, stored, entered, acked, cleared, offered, aged_at}
+use Rattle.lsdb.specs.Entry.{Entry, made, stored, absent_with_ssn, acked, cleared, offered, aged_at}
 use Rattle.lsdb.specs.Database.{version_in}
 use Rattle.flooding.specs.declared.own.Own.{Own}
-use Rattle.flooding.specs.Own.{last_number, own_id, flags_in, tlvs_in, is_originated, renewed, ended, answered}
-use Rattle.flooding.specs.Hearing.{Holding, claim_of, body_of, unless_absent, wanted, lsp_row, snp_row, hear_entry_of}
+use Rattle.flooding.specs.Own.{last_number, own_id, flags_in, tlvs_of_body, is_originated, renewed, dead_at, answered}
+use Rattle.flooding.specs.Hearing.{Holding, claim_of, body_of, unless_absent, wanted, lsp_rule, snp_rule, hear_entry_of}
 use Rattle.flooding.specs.Origination.{next_entry, spent_entry}
 use Rattle.flooding.proofs.Heard.{number-claimed}
 use Rattle.flooding.proofs.AllEntries.{all_after_claim, all_originated}
-use Rattle.snp_sync.specs.Sized.{IsLspId, IsSized, IsSizedLine}
+use Rattle.snp_sync.specs.Sized.{IsLspId, IsSized, IsSizedEntry}
 use Rattle.snp_sync.specs.Hearing.{claim_in, claims_in, hear_entries_of, ids_of, is_missed, flag_if}
 use Rattle.snp_sync.specs.HearingLaws.{EntriesKeepSized, CsnpKeepsSized, LspKeepsSized, OriginationKeepsSized, AgeingKeepsSized, FlagsKeepSized}
 use Rattle.snp_sync.proofs.Stays.{all_each}
@@ -31,31 +31,31 @@ use Rattle.snp_sync.proofs.Stays.{all_each}
 
 -- an entry of a version, by its numbers
 sized_by : (id : LspId) (e : Entry) → IsLspId id → e.lifetime < 2 ^ 16 → number_of e.version < 2 ^ 32 → sum_of e.version < 2 ^ 16 → IsSized id e
-sized_by id e named lifetime seq sum = record { named = named; line = record { lifetime = lifetime; system = named.system; seq = seq; sum = sum } }
+sized_by id e named lifetime seq sum = record { named = named; entry = record { lifetime = lifetime; system = named.system; seq = seq; sum = sum } }
 
 dead_sized : (id : LspId) (seq : ℕ) (srm ssn : PortSet) → IsLspId id → seq < 2 ^ 32 → IsSized id (made (Dead seq) 0 [] srm ssn)
 dead_sized id seq srm ssn named h = sized_by id (made (Dead seq) 0 [] srm ssn) named (lit< tt) h (lit< tt)
 
-entered_sized : (id : LspId) (port : ℕ) → IsLspId id → IsSized id (entered port)
-entered_sized id port named = sized_by id (entered port) named (lit< tt) (lit< tt) (lit< tt)
+absent_sized : (id : LspId) (port : ℕ) → IsLspId id → IsSized id (absent_with_ssn port)
+absent_sized id port named = sized_by id (absent_with_ssn port) named (lit< tt) (lit< tt) (lit< tt)
 
 renewed_sized : (up : PortSet) (own : Own) (id : LspId) (seq : ℕ) → IsLspId id → seq < last_number → IsSized id (renewed up own (seq + 1))
 renewed_sized up own id seq named h =
-    let sum = lsp_sum-bytes (own_id own.system) (seq + 1) (flags_in own.body) (tlvs_in own.body) in
+    let sum = lsp_sum-bytes (own_id own.system) (seq + 1) (flags_in own.body) (tlvs_of_body own.body) in
     sized_by id (renewed up own (seq + 1)) named (lit< tt) (omega arith) (omega (arith, sum.first_fits))
 
 answered_sized : (up : PortSet) (own : Own) (id : LspId) (seq : ℕ) → IsLspId id → seq < 2 ^ 32 → IsSized id (answered up own id seq)
 answered_sized up own id seq named h = by_test (is_originated own.system id && nat_lt seq last_number) refl
   where
-    by_test : (b : Bool) → (is_originated own.system id && nat_lt seq last_number) ≡ b → IsSized id (if b then renewed up own (seq + 1) else ended up seq)
+    by_test : (b : Bool) → (is_originated own.system id && nat_lt seq last_number) ≡ b → IsSized id (if b then renewed up own (seq + 1) else dead_at up seq)
     by_test true t = renewed_sized up own id seq named (ltb-true seq last_number (and_parts (is_originated own.system id) (nat_lt seq last_number) t).1)
     by_test false t = dead_sized id seq up _ named h
 
--- ---- rows
+-- ---- rules
 
 -- other flags
 pub flags_keep_sized : FlagsKeepSized
-flags_keep_sized srm ssn id e s = record { named = s.named; line = s.line }
+flags_keep_sized srm ssn id e s = record { named = s.named; entry = s.entry }
 
 spared_sized : (f : Entry → Entry) (id : LspId) (e : Entry) (b : Bool) → IsSized id e → IsSized id (f e) → IsSized id (if b then e else f e)
 spared_sized f id e true same changed = same
@@ -68,53 +68,53 @@ mapped_sized f id (Some e) each n is = let same : f e ≡ n = cc in subst (λ (g
 
 module _ (up : PortSet) (port : ℕ) (id : LspId) (named : IsLspId id) (held : Option Entry) (all : (e : Entry) → held ≡ Some e → IsSized id e) where
   acked_sized : (e : Entry) → held ≡ Some e → IsSized id (acked port e)
-  acked_sized e is = let s = all e is in record { named = s.named; line = s.line }
+  acked_sized e is = let s = all e is in record { named = s.named; entry = s.entry }
 
   offered_sized : (e : Entry) → held ≡ Some e → IsSized id (offered port e)
-  offered_sized e is = let s = all e is in record { named = s.named; line = s.line }
+  offered_sized e is = let s = all e is in record { named = s.named; entry = s.entry }
 
   cleared_sized : (e : Entry) → held ≡ Some e → IsSized id (unless_absent (cleared port) e)
-  cleared_sized e is = let s = all e is in spared_sized (cleared port) id e (is_absent e.version) s (record { named = s.named; line = s.line })
+  cleared_sized e is = let s = all e is in spared_sized (cleared port) id e (is_absent e.version) s (record { named = s.named; entry = s.entry })
 
-  told_sized : (e : Entry) → held ≡ Some e → IsSized id (unless_absent (acked port) e)
-  told_sized e is = spared_sized (acked port) id e (is_absent e.version) (all e is) (acked_sized e is)
+  written_sized : (e : Entry) → held ≡ Some e → IsSized id (unless_absent (acked port) e)
+  written_sized e is = spared_sized (acked port) id e (is_absent e.version) (all e is) (acked_sized e is)
 
   wanted_sized : (o : Option Entry) → held ≡ o → IsSized id (wanted port o)
-  wanted_sized None is = entered_sized id port named
+  wanted_sized None is = absent_sized id port named
   wanted_sized (Some e) is = acked_sized e is
 
-  ended_sized : (seq : ℕ) → seq < 2 ^ 32 → (n : Entry) → Some (ended up seq) ≡ Some n → IsSized id n
-  ended_sized seq h n is = let same : ended up seq ≡ n = cc in subst (λ (g : Entry). IsSized id g) same (dead_sized id seq up _ named h)
+  dead_anywhere_sized : (seq : ℕ) → seq < 2 ^ 32 → (n : Entry) → Some (dead_at up seq) ≡ Some n → IsSized id n
+  dead_anywhere_sized seq h n is = let same : dead_at up seq ≡ n = cc in subst (λ (g : Entry). IsSized id g) same (dead_sized id seq up _ named h)
 
-  snp_row_sized : (a : Version) (r : Relation) → number_of a < 2 ^ 32 → (n : Entry) → snp_row up port a r held ≡ Some n → IsSized id n
-  snp_row_sized a Newer h n is = let same : wanted port held ≡ n = cc in subst (λ (g : Entry). IsSized id g) same (wanted_sized held refl)
-  snp_row_sized a Equal h n is = mapped_sized (unless_absent (cleared port)) id held cleared_sized n is
-  snp_row_sized a Older h n is = mapped_sized (offered port) id held offered_sized n is
-  snp_row_sized a Confused h n is = ended_sized (number_of a) h n is
+  snp_rule_sized : (a : Version) (r : Relation) → number_of a < 2 ^ 32 → (n : Entry) → snp_rule up port a r held ≡ Some n → IsSized id n
+  snp_rule_sized a Newer h n is = let same : wanted port held ≡ n = cc in subst (λ (g : Entry). IsSized id g) same (wanted_sized held refl)
+  snp_rule_sized a Equal h n is = mapped_sized (unless_absent (cleared port)) id held cleared_sized n is
+  snp_rule_sized a Older h n is = mapped_sized (offered port) id held offered_sized n is
+  snp_rule_sized a Confused h n is = dead_anywhere_sized (number_of a) h n is
 
-  lsp_row_sized : (l : LspValue) (r : Relation) → l.seq < 2 ^ 32 → IsSized id (stored up port (claimed l.seq l.lifetime l.sum) l.lifetime (body_of l)) → (n : Entry) → lsp_row up port l r held ≡ Some n → IsSized id n
-  lsp_row_sized l Newer h new n is =
+  lsp_rule_sized : (l : LspValue) (r : Relation) → l.seq < 2 ^ 32 → IsSized id (stored up port (claimed l.seq l.lifetime l.sum) l.lifetime (body_of l)) → (n : Entry) → lsp_rule up port l r held ≡ Some n → IsSized id n
+  lsp_rule_sized l Newer h new n is =
       let same : stored up port (claimed l.seq l.lifetime l.sum) l.lifetime (body_of l) ≡ n = cc in subst (λ (g : Entry). IsSized id g) same new
-  lsp_row_sized l Equal h new n is = mapped_sized (unless_absent (acked port)) id held told_sized n is
-  lsp_row_sized l Older h new n is = mapped_sized (offered port) id held offered_sized n is
-  lsp_row_sized l Confused h new n is = ended_sized l.seq h n is
+  lsp_rule_sized l Equal h new n is = mapped_sized (unless_absent (acked port)) id held written_sized n is
+  lsp_rule_sized l Older h new n is = mapped_sized (offered port) id held offered_sized n is
+  lsp_rule_sized l Confused h new n is = dead_anywhere_sized l.seq h n is
 
 -- ---- what is heard
 
-entry_keeps_sized : (up : PortSet) (port : ℕ) (e : SnpEntry) (h : Holding) → IsSizedLine e → ((id : LspId) (f : Entry) → get h.db id ≡ Some f → IsSized id f)
+entry_keeps_sized : (up : PortSet) (port : ℕ) (e : SnpEntry) (h : Holding) → IsSizedEntry e → ((id : LspId) (f : Entry) → get h.db id ≡ Some f → IsSized id f)
     → (id : LspId) (f : Entry) → get (hear_entry_of up port (claim_in e) h).db id ≡ Some f → IsSized id f
 entry_keeps_sized up port e h sized all =
     let c = claim_in e in
-    let low : number_of c.version < 2 ^ 32 = subst (λ n. n < 2 ^ 32) (sym (number-claimed e.seq e.lifetime e.sum)) sized.line.seq in
-    all_after_claim IsSized (snp_row up port c.version) up c h all (λ beyond. answered_sized up h.own c.id (number_of c.version) sized.named low)
-    (λ n is. snp_row_sized up port c.id sized.named (get h.db c.id) (λ f at. all c.id f at) c.version _ low n is)
+    let low : number_of c.version < 2 ^ 32 = subst (λ n. n < 2 ^ 32) (sym (number-claimed e.seq e.lifetime e.sum)) sized.entry.seq in
+    all_after_claim IsSized (snp_rule up port c.version) up c h all (λ beyond. answered_sized up h.own c.id (number_of c.version) sized.named low)
+    (λ n is. snp_rule_sized up port c.id sized.named (get h.db c.id) (λ f at. all c.id f at) c.version _ low n is)
 
 pub entries_keep_sized : EntriesKeepSized
 entries_keep_sized up port [] h sized all = all
 entries_keep_sized up port (e ∷ es) h sized all = entries_keep_sized up port es (hear_entry_of up port (claim_in e) h) sized.1 (entry_keeps_sized up port e h sized.0 all)
 
 flag_sized : (port : ℕ) (id : LspId) (e : Entry) (b : Bool) → IsSized id e → IsSized id (flag_if b port e)
-flag_sized port id e true s = record { named = s.named; line = s.line }
+flag_sized port id e true s = record { named = s.named; entry = s.entry }
 flag_sized port id e false s = s
 
 pub csnp_keeps_sized : CsnpKeepsSized
@@ -134,8 +134,8 @@ pub lsp_keeps_sized : LspKeepsSized
 lsp_keeps_sized up port l h system fields all =
     let named : IsLspId l.id = record { system = system; bytes = fields.1 } in
     let low : number_of (claim_of l).version < 2 ^ 32 = subst (λ n. n < 2 ^ 32) (sym (number-claimed l.seq l.lifetime l.sum)) fields.2 in
-    all_after_claim IsSized (lsp_row up port l) up (claim_of l) h all (λ beyond. answered_sized up h.own l.id (number_of (claim_of l).version) named low)
-    (λ n is. lsp_row_sized up port l.id named (get h.db l.id) (λ f at. all l.id f at) l _ fields.2 (stored_sized up port l.id l.seq l.lifetime l.sum (body_of l) named fields.2 fields.0 fields.3) n is)
+    all_after_claim IsSized (lsp_rule up port l) up (claim_of l) h all (λ beyond. answered_sized up h.own l.id (number_of (claim_of l).version) named low)
+    (λ n is. lsp_rule_sized up port l.id named (get h.db l.id) (λ f at. all l.id f at) l _ fields.2 (stored_sized up port l.id l.seq l.lifetime l.sum (body_of l) named fields.2 fields.0 fields.3) n is)
 
 -- ---- what is originated, and aged
 
@@ -148,7 +148,7 @@ next_sized up own seq held named h = by_test (nat_lt seq last_number) refl
 
 number_sized : (id : LspId) (held : Option Entry) → ((e : Entry) → held ≡ Some e → IsSized id e) → number_of (version_in held) < 2 ^ 32
 number_sized id None all = lit< tt
-number_sized id (Some e) all = (all e refl).line.seq
+number_sized id (Some e) all = (all e refl).entry.seq
 
 pub origination_keeps_sized : OriginationKeepsSized
 origination_keeps_sized up h named all =
@@ -161,8 +161,8 @@ aged_by up id e Absent is s = s
 aged_by up id e (Live seq sum) is s = by_test (nat_le e.lifetime 1)
   where
     by_test : (b : Bool) → IsSized id (if b then made (Dead seq) 0 [] up e.ssn else record e { lifetime = e.lifetime - 1 })
-    by_test true = dead_sized id seq up e.ssn s.named (subst (λ (v : Version). number_of v < 2 ^ 32) is s.line.seq)
-    by_test false = record { named = s.named; line = record { lifetime = omega (arith, s.line.lifetime); system = s.line.system; seq = s.line.seq; sum = s.line.sum } }
+    by_test true = dead_sized id seq up e.ssn s.named (subst (λ (v : Version). number_of v < 2 ^ 32) is s.entry.seq)
+    by_test false = record { named = s.named; entry = record { lifetime = omega (arith, s.entry.lifetime); system = s.entry.system; seq = s.entry.seq; sum = s.entry.sum } }
 aged_by up id e (Dead seq) is s = s
 
 pub ageing_keeps_sized : AgeingKeepsSized

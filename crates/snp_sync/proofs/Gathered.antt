@@ -1,4 +1,4 @@
--- The lines of LSPs that pass a test, gathered place by place.
+-- The entries of LSPs that pass a test, gathered place by place.
 use Rattle.std.specs.Prelude.{◌≡◌, ℕ, zero, suc, ◌+◌, ◌≤◌, Bool, true, false, List, [], ◌∷◌, ◌++◌, map, filter, take, Option, Some, None, slice_get, if◌then◌else◌}
 use Rattle.std.proofs.Common.{refl, sym, ap, subst, ◌∙◌, add-one, append-nil}
 use Rattle.std.specs.FinMap.{entries, len, len-entries}
@@ -7,23 +7,23 @@ use Rattle.spb_types.specs.declared.address.LspId.{LspId}
 use Rattle.spb_tlvs.specs.declared.entries.SnpEntry.{SnpEntry}
 use Rattle.lsdb.specs.Entry.{Entry}
 use Rattle.lsdb.specs.Database.{Lsps}
-use Rattle.snp_sync.specs.Line.{line_of, lines_where}
+use Rattle.snp_sync.specs.SnpEntries.{snp_entry_of, snp_entries_where}
 
--- the lines of those entries that pass the test
+-- the entries of those LSPs that pass the test
 abbrev pub gathered : (Entry → Bool) → List (LspId × Entry) → List SnpEntry
-gathered test es = map (λ e. line_of e.0 e.1) (filter (λ e. test e.1) es)
+gathered test es = map (λ e. snp_entry_of e.0 e.1) (filter (λ e. test e.1) es)
 
 -- what the entry at a place adds
 abbrev added : (Entry → Bool) → Option (LspId × Entry) → List SnpEntry
 added test None = []
-added test (Some e) = if test e.1 then line_of e.0 e.1 ∷ [] else []
+added test (Some e) = if test e.1 then snp_entry_of e.0 e.1 ∷ [] else []
 
 -- an entry that fails the test adds nothing
 add_first : (test : Entry → Bool) (e : LspId × Entry) (es fs : List (LspId × Entry)) (more : List SnpEntry) → gathered test fs ≡ gathered test es ++ more → gathered test (e ∷ fs) ≡ gathered test (e ∷ es) ++ more
 add_first test e es fs more h = by_test (test e.1) refl
   where
     by_test : (b : Bool) → test e.1 ≡ b → gathered test (e ∷ fs) ≡ gathered test (e ∷ es) ++ more
-    by_test true t = rw t (ap (λ (ls : List SnpEntry). line_of e.0 e.1 ∷ ls) h)
+    by_test true t = rw t (ap (λ (ls : List SnpEntry). snp_entry_of e.0 e.1 ∷ ls) h)
     by_test false t = rw t h
 
 add_one : (test : Entry → Bool) (e : LspId × Entry) → gathered test (e ∷ []) ≡ added test (Some e)
@@ -40,20 +40,20 @@ gathered_more test (e ∷ es) zero o is = add_one test e ∙ ap (added test) is
 gathered_more test (e ∷ es) (suc k) o is = add_first test e (take k es) (take (suc k) es) (added test o) (gathered_more test es k o is)
 
 -- the next entry passes the test, or fails it, or there is none
-pub take_line : (test : Entry → Bool) (es : List (LspId × Entry)) (k : ℕ) (e : LspId × Entry) → Some e ≡ slice_get es k → true ≡ test e.1 → (old new : List SnpEntry) → old ≡ gathered test (take k es) → new ≡ old ++ line_of e.0 e.1 ∷ [] → new ≡ gathered test (take (k + 1) es)
-take_line test es k e at passes old new before is =
-    is ∙ ap (λ (ls : List SnpEntry). ls ++ line_of e.0 e.1 ∷ []) before
-    ∙ sym (ap (λ n. gathered test (take n es)) (add-one k) ∙ gathered_more test es k (Some e) (sym at) ∙ ap (λ b. gathered test (take k es) ++ (if b then line_of e.0 e.1 ∷ [] else [])) (sym passes))
+pub take_entry : (test : Entry → Bool) (es : List (LspId × Entry)) (k : ℕ) (e : LspId × Entry) → Some e ≡ slice_get es k → true ≡ test e.1 → (old new : List SnpEntry) → old ≡ gathered test (take k es) → new ≡ old ++ snp_entry_of e.0 e.1 ∷ [] → new ≡ gathered test (take (k + 1) es)
+take_entry test es k e at passes old new before is =
+    is ∙ ap (λ (ls : List SnpEntry). ls ++ snp_entry_of e.0 e.1 ∷ []) before
+    ∙ sym (ap (λ n. gathered test (take n es)) (add-one k) ∙ gathered_more test es k (Some e) (sym at) ∙ ap (λ b. gathered test (take k es) ++ (if b then snp_entry_of e.0 e.1 ∷ [] else [])) (sym passes))
 
-pub pass_line : (test : Entry → Bool) (es : List (LspId × Entry)) (k : ℕ) (e : LspId × Entry) → Some e ≡ slice_get es k → false ≡ test e.1 → (old new : List SnpEntry) → old ≡ gathered test (take k es) → new ≡ old → new ≡ gathered test (take (k + 1) es)
-pass_line test es k e at fails old new before is =
+pub pass_entry : (test : Entry → Bool) (es : List (LspId × Entry)) (k : ℕ) (e : LspId × Entry) → Some e ≡ slice_get es k → false ≡ test e.1 → (old new : List SnpEntry) → old ≡ gathered test (take k es) → new ≡ old → new ≡ gathered test (take (k + 1) es)
+pass_entry test es k e at fails old new before is =
     is ∙ before
-    ∙ sym (ap (λ n. gathered test (take n es)) (add-one k) ∙ gathered_more test es k (Some e) (sym at) ∙ ap (λ b. gathered test (take k es) ++ (if b then line_of e.0 e.1 ∷ [] else [])) (sym fails) ∙ append-nil (gathered test (take k es)))
+    ∙ sym (ap (λ n. gathered test (take n es)) (add-one k) ∙ gathered_more test es k (Some e) (sym at) ∙ ap (λ b. gathered test (take k es) ++ (if b then snp_entry_of e.0 e.1 ∷ [] else [])) (sym fails) ∙ append-nil (gathered test (take k es)))
 
-pub no_line : (test : Entry → Bool) (es : List (LspId × Entry)) (k : ℕ) → None ≡ slice_get es k → (old new : List SnpEntry) → old ≡ gathered test (take k es) → new ≡ old → new ≡ gathered test (take (k + 1) es)
-no_line test es k at old new before is =
+pub no_entry : (test : Entry → Bool) (es : List (LspId × Entry)) (k : ℕ) → None ≡ slice_get es k → (old new : List SnpEntry) → old ≡ gathered test (take k es) → new ≡ old → new ≡ gathered test (take (k + 1) es)
+no_entry test es k at old new before is =
     is ∙ before ∙ sym (ap (λ n. gathered test (take n es)) (add-one k) ∙ gathered_more test es k None (sym at) ∙ append-nil (gathered test (take k es)))
 
 -- all of them
-pub all_lines : (test : Entry → Bool) (db : Lsps) (n : ℕ) → len db ≤ n → (lines : List SnpEntry) → lines ≡ gathered test (take n (entries db)) → lines ≡ lines_where test db
-all_lines test db n past lines is = is ∙ ap (gathered test) (take_all n (entries db) (subst (λ k. k ≤ n) (len-entries db) past))
+pub all_entries : (test : Entry → Bool) (db : Lsps) (n : ℕ) → len db ≤ n → (listed : List SnpEntry) → listed ≡ gathered test (take n (entries db)) → listed ≡ snp_entries_where test db
+all_entries test db n past listed is = is ∙ ap (gathered test) (take_all n (entries db) (subst (λ k. k ≤ n) (len-entries db) past))

@@ -35,7 +35,7 @@ nine_in_front code value values others split is = grind arith
 pub other_in_front : (code : ℕ) (value : List ℕ) (values others : List (List ℕ)) → values ≡ (if code == 9 then value ∷ others else others) → (code ≡ 9 → ⊥) → values ≡ others
 other_in_front code value values others split is = grind arith
 
--- another TLV is passed over
+-- another TLV is ignored
 pub gleaned_other : (tlvs rest after : List ℕ) (entries : List SnpEntry) → Gleaned tlvs rest entries → values_with 9 rest ≡ values_with 9 after → Gleaned tlvs after entries
 gleaned_other tlvs rest after entries so_far here = record { so_far = said_by tlvs rest entries _ so_far here }
 

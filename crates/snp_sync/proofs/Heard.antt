@@ -10,7 +10,7 @@ use Rattle.lsdb.specs.Entry.{Entry, acked}
 use Rattle.lsdb.specs.Database.{Lsps, fits, changed}
 use Rattle.lsdb.specs.Certificate.{Claim}
 use Rattle.lsdb.proofs.LookupLemmas.{changed_held, fits_held}
-use Rattle.flooding.specs.Hearing.{Holding, wanted, snp_row, hear_entry_of, is_full_for_entry}
+use Rattle.flooding.specs.Hearing.{Holding, wanted, snp_rule, hear_entry_of, is_full_for_entry}
 use Rattle.flooding.proofs.Owns.{own_stands}
 use Rattle.snp_sync.specs.Hearing.{claim_in, claims_in, hear_entries_of, full_count, HeardSome}
 
@@ -22,7 +22,7 @@ wanted_held db new id port (Some e) is held changed_is = (fits_held db id e (sym
 -- hearing leaves the system's body
 pub entries_body : (up : PortSet) (port : ℕ) (claims : List Claim) (h : Holding) → (hear_entries_of up port claims h).own.body ≡ h.own.body
 entries_body up port [] h = refl
-entries_body up port (c ∷ claims) h = entries_body up port claims (hear_entry_of up port c h) ∙ (own_stands (snp_row up port c.version) up c h).1
+entries_body up port (c ∷ claims) h = entries_body up port claims (hear_entry_of up port c h) ∙ (own_stands (snp_rule up port c.version) up c h).1
 
 -- one claim more
 hear_push : (up : PortSet) (port : ℕ) (claims : List Claim) (c : Claim) (h : Holding) → hear_entries_of up port (claims ++ c ∷ []) h ≡ hear_entry_of up port c (hear_entries_of up port claims h)

@@ -1,6 +1,6 @@
 pub mod Gathered
 pub mod Cuts
-pub mod Pages
+pub mod CsnpChunks
 pub mod Places
 pub mod Heard
 pub mod Named

@@ -39,8 +39,8 @@ find_at (f ∷ es) zero e sorted at =
     let here : f ≡ e = cc in
     subst (λ (g : LspId × Entry). find id_cmp g.0 (f ∷ es) ≡ Some g.1) here (ap (λ r. cond (is_eq r) (Some f.1) (find id_cmp f.0 es)) (tied_same f.0 f.0 refl))
 find_at (f ∷ es) (suc k) e sorted at =
-    let parts = and_parts (below_all id_cmp f.0 es) (is_sorted id_cmp es) sorted in
-    ap (λ r. cond (is_eq r) (Some f.1) (find id_cmp e.0 es)) (turned_less f.0 e.0 (below_at f.0 es k e parts.0 at)) ∙ find_at es k e parts.1 at
+    let chunks = and_parts (below_all id_cmp f.0 es) (is_sorted id_cmp es) sorted in
+    ap (λ r. cond (is_eq r) (Some f.1) (find id_cmp e.0 es)) (turned_less f.0 e.0 (below_at f.0 es k e chunks.0 at)) ∙ find_at es k e chunks.1 at
 
 put_at : (es : List (LspId × Entry)) (k : ℕ) (e : LspId × Entry) (v : Entry) → is_sorted id_cmp es ≡ true → slice_get es k ≡ Some e → put id_cmp e.0 v es ≡ set es k (e.0, v)
 put_at [] k e v sorted at = absurd (cc)
@@ -48,9 +48,9 @@ put_at (f ∷ es) zero e v sorted at =
     let here : f ≡ e = cc in
     subst (λ (g : LspId × Entry). put id_cmp g.0 v (f ∷ es) ≡ (g.0, v) ∷ es) here (ap (λ r. by_order r ((f.0, v) ∷ f ∷ es) ((f.0, v) ∷ es) (f ∷ put id_cmp f.0 v es)) (tied_same f.0 f.0 refl))
 put_at (f ∷ es) (suc k) e v sorted at =
-    let parts = and_parts (below_all id_cmp f.0 es) (is_sorted id_cmp es) sorted in
-    ap (λ r. by_order r ((e.0, v) ∷ f ∷ es) ((f.0, v) ∷ es) (f ∷ put id_cmp e.0 v es)) (turned_less f.0 e.0 (below_at f.0 es k e parts.0 at))
-    ∙ ap (λ (gs : List (LspId × Entry)). f ∷ gs) (put_at es k e v parts.1 at)
+    let chunks = and_parts (below_all id_cmp f.0 es) (is_sorted id_cmp es) sorted in
+    ap (λ r. by_order r ((e.0, v) ∷ f ∷ es) ((f.0, v) ∷ es) (f ∷ put id_cmp e.0 v es)) (turned_less f.0 e.0 (below_at f.0 es k e chunks.0 at))
+    ∙ ap (λ (gs : List (LspId × Entry)). f ∷ gs) (put_at es k e v chunks.1 at)
 
 pub get_place : (db : Lsps) (k : ℕ) (e : LspId × Entry) → slice_get (entries db) k ≡ Some e → get db e.0 ≡ Some e.1
 get_place db k e at = get-entries db e.0 ∙ find_at (entries db) k e (true_from_T _ (entries_sorted db)) at

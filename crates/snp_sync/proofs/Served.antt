@@ -14,7 +14,7 @@ use Rattle.lsdb.specs.declared.version.Version.TheVariants.{Absent}
 use Rattle.lsdb.specs.declared.version.Relation.{Relation}
 use Rattle.lsdb.specs.declared.version.Relation.TheVariants.{Older, Equal, Newer, Confused}
 use Rattle.lsdb.specs.Version.{IsAtMost, number_of, is_absent, relation}
-use Rattle.lsdb.specs.Entry.{Entry, acked, cleared, offered, flagged, entered}
+use Rattle.lsdb.specs.Entry.{Entry, acked, cleared, offered, flagged, absent_with_ssn}
 use Rattle.lsdb.specs.Database.{id_cmp, version_in, srm_in, ssn_in}
 use Rattle.lsdb.specs.Certificate.{Claim, EntryCertificate, Certificate}
 use Rattle.lsdb.proofs.Ids.{tied_same}
@@ -22,8 +22,8 @@ use Rattle.lsdb.proofs.Order.{least, greater, older_is, newer_is, confused_is}
 use Rattle.lsdb.proofs.Certified.{standing, steps_compose, flagging, changing_each}
 use Rattle.lsdb.proofs.LookupLemmas.{get-each}
 use Rattle.flooding.specs.declared.own.Own.{Own}
-use Rattle.flooding.specs.Own.{last_number, is_originated, renewed, ended, answered}
-use Rattle.flooding.specs.Hearing.{Holding, unless_absent, snp_row, is_answered, hear_entry_of}
+use Rattle.flooding.specs.Own.{last_number, is_originated, renewed, dead_at, answered}
+use Rattle.flooding.specs.Hearing.{Holding, unless_absent, snp_rule, is_answered, hear_entry_of}
 use Rattle.flooding.specs.Laws.{control}
 use Rattle.flooding.proofs.Steps.{hearing_entry, at_most_dead}
 use Rattle.flooding.proofs.Claimed.{others_stand, entry_stands}
@@ -62,9 +62,9 @@ neither false b e = (refl, e)
 pub unnamed_stands : UnnamedStands
 unnamed_stands up port [] h x none = refl
 unnamed_stands up port (c ∷ claims) h x none =
-    let parts = neither (is_eq (id_cmp c.id x)) (is_among (ids_of claims) x) none in
-    let other : x ≢ c.id = λ same. true≢false (sym (ap is_eq (tied_same c.id x (sym same))) ∙ parts.0) in
-    unnamed_stands up port claims (hear_entry_of up port c h) x parts.1 ∙ others_stand (snp_row up port c.version) up c h x other
+    let chunks = neither (is_eq (id_cmp c.id x)) (is_among (ids_of claims) x) none in
+    let other : x ≢ c.id = λ same. true≢false (sym (ap is_eq (tied_same c.id x (sym same))) ∙ chunks.0) in
+    unnamed_stands up port claims (hear_entry_of up port c h) x chunks.1 ∙ others_stand (snp_rule up port c.version) up c h x other
 
 heard_both : (up : PortSet) (port : ℕ) (before after : List Claim) (h : Holding) → hear_entries_of up port (before ++ after) h ≡ hear_entries_of up port after (hear_entries_of up port before h)
 heard_both up port [] after h = refl
@@ -103,27 +103,27 @@ cleared_version port (Some e) = spared_version (cleared port) e (is_absent e.ver
 none_older : (a : Version) → relation a Absent ≡ Older → ⊥
 none_older a e = true≢false (sym (least a) ∙ (older_is a Absent e).1)
 
-served_row : (up : PortSet) (port : ℕ) (a : Version) (r : Relation) (held : Option Entry) → has up port ≡ true → relation a (version_in held) ≡ r → IsServed port a (snp_row up port a r held)
-served_row up port a Newer None is_up is =
-    served_same port a Newer None (Some (entered port)) is refl (λ e. has-with_same no_ports port (has_port up port is_up).0 (has_port up port is_up).1) (λ e. absurd (cc)) (λ e. cc)
-served_row up port a Newer (Some e) is_up is =
+served_rule : (up : PortSet) (port : ℕ) (a : Version) (r : Relation) (held : Option Entry) → has up port ≡ true → relation a (version_in held) ≡ r → IsServed port a (snp_rule up port a r held)
+served_rule up port a Newer None is_up is =
+    served_same port a Newer None (Some (absent_with_ssn port)) is refl (λ e. has-with_same no_ports port (has_port up port is_up).0 (has_port up port is_up).1) (λ e. absurd (cc)) (λ e. cc)
+served_rule up port a Newer (Some e) is_up is =
     served_same port a Newer (Some e) (Some (acked port e)) is refl (λ r. has-with_same e.ssn port (has_port up port is_up).0 (has_port up port is_up).1) (λ r. absurd (cc)) (λ r. cc)
-served_row up port a Equal held is_up is =
+served_rule up port a Equal held is_up is =
     served_same port a Equal held (option_map (unless_absent (cleared port)) held) is (cleared_version port held) (λ e. absurd (cc)) (λ e. absurd (cc)) (λ e. cc)
-served_row up port a Older None is_up is = absurd (none_older a is)
-served_row up port a Older (Some e) is_up is =
+served_rule up port a Older None is_up is = absurd (none_older a is)
+served_rule up port a Older (Some e) is_up is =
     served_same port a Older (Some e) (Some (offered port e)) is refl (λ r. absurd (cc)) (λ r. has-with_same e.srm port (has_port up port is_up).0 (has_port up port is_up).1) (λ r. cc)
-served_row up port a Confused held is_up is = served_above port a (Some (ended up (number_of a))) (at_most_dead a (number_of a) (omega arith)) is_up
+served_rule up port a Confused held is_up is = served_above port a (Some (dead_at up (number_of a))) (at_most_dead a (number_of a) (omega arith)) is_up
 
-served_answer : (up : PortSet) (port : ℕ) (own : Own) (a : Version) (b : Bool) → has up port ≡ true → IsServed port a (Some (if b then renewed up own (number_of a + 1) else ended up (number_of a)))
+served_answer : (up : PortSet) (port : ℕ) (own : Own) (a : Version) (b : Bool) → has up port ≡ true → IsServed port a (Some (if b then renewed up own (number_of a + 1) else dead_at up (number_of a)))
 served_answer up port own a true is_up =
     let n = renewed up own (number_of a + 1) in served_above port a (Some n) (greater a n.version (omega arith)) is_up
-served_answer up port own a false is_up = served_above port a (Some (ended up (number_of a))) (at_most_dead a (number_of a) (omega arith)) is_up
+served_answer up port own a false is_up = served_above port a (Some (dead_at up (number_of a))) (at_most_dead a (number_of a) (omega arith)) is_up
 
 served_by : (up : PortSet) (port : ℕ) (own : Own) (id : LspId) (a : Version) (r : Relation) (held : Option Entry) (b : Bool) → has up port ≡ true → relation a (version_in held) ≡ r
-    → IsServed port a (if b then Some (answered up own id (number_of a)) else snp_row up port a r held)
+    → IsServed port a (if b then Some (answered up own id (number_of a)) else snp_rule up port a r held)
 served_by up port own id a r held true is_up is = served_answer up port own a (is_originated own.system id && nat_lt (number_of a) last_number) is_up
-served_by up port own id a r held false is_up is = served_row up port a r held is_up is
+served_by up port own id a r held false is_up is = served_rule up port a r held is_up is
 
 pub entry_is_served : EntryIsServed
 entry_is_served up port c h is_up place =

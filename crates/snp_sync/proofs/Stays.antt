@@ -16,8 +16,8 @@ use Rattle.lsdb.specs.Entry.{Entry}
 use Rattle.lsdb.specs.Database.{Lsps, each}
 use Rattle.lsdb.proofs.LookupLemmas.{get-each}
 use Rattle.flooding.specs.declared.own.Own.{Own}
-use Rattle.flooding.specs.Own.{tlvs_in, body_in}
-use Rattle.flooding.specs.Hearing.{Holding, snp_row, hear_entry_of}
+use Rattle.flooding.specs.Own.{tlvs_of_body, body_in}
+use Rattle.flooding.specs.Hearing.{Holding, snp_rule, hear_entry_of}
 use Rattle.flooding.specs.Entries.{AllEntries, IsSendable, HasFlagsAt}
 use Rattle.flooding.specs.Laws.{IsOwnBody, stays, renews, ends}
 use Rattle.flooding.proofs.Owns.{own_stands, own_is_not_spent}
@@ -33,14 +33,14 @@ use Rattle.snp_sync.specs.HearingLaws.{EntriesLeaveOwn, EntriesDontSpend, Entrie
 pub entries_leave_own : EntriesLeaveOwn
 entries_leave_own up port [] h = (refl, refl)
 entries_leave_own up port (c ∷ claims) h =
-    let first = own_stands (snp_row up port c.version) up c h in
+    let first = own_stands (snp_rule up port c.version) up c h in
     let rest = entries_leave_own up port claims (hear_entry_of up port c h) in
     (rest.0 ∙ first.0, rest.1 ∙ first.1)
 
 pub entries_dont_spend : EntriesDontSpend
 entries_dont_spend up port [] h low = refl
 entries_dont_spend up port (c ∷ claims) h low =
-    entries_dont_spend up port claims (hear_entry_of up port c h) low.1 ∙ own_is_not_spent (snp_row up port c.version) up c h low.0
+    entries_dont_spend up port claims (hear_entry_of up port c h) low.1 ∙ own_is_not_spent (snp_rule up port c.version) up c h low.0
 
 -- one claim after another: the body is still the own one
 body_after : (own next : Own) (old mid new : Option Entry) → next.body ≡ own.body → IsOwnBody own old mid → IsOwnBody next mid new → IsOwnBody own old new
@@ -54,7 +54,7 @@ pub entries_leave_own_body : EntriesLeaveOwnBody
 entries_leave_own_body up port [] h id mine = stays refl
 entries_leave_own_body up port (c ∷ claims) h id mine =
     let g : Holding = hear_entry_of up port c h in
-    let stands = own_stands (snp_row up port c.version) up c h in
+    let stands = own_stands (snp_rule up port c.version) up c h in
     body_after h.own g.own (get h.db id) (get g.db id) (get (hear_entries_of up port claims g).db id) stands.1
     (entry_leaves_own_body up port c h id mine) (entries_leave_own_body up port claims g id (mine ∙ sym stands.0))
 
@@ -93,9 +93,9 @@ claims_are_numbered e = claim_is_numbered e.seq e.lifetime e.sum
 pub entries_keep_sendable : EntriesKeepSendable
 entries_keep_sendable up port [] h numbered has_body all = all
 entries_keep_sendable up port (c ∷ claims) h numbered has_body all =
-    let body = (own_stands (snp_row up port c.version) up c h).1 in
+    let body = (own_stands (snp_rule up port c.version) up c h).1 in
     entries_keep_sendable up port claims (hear_entry_of up port c h) numbered.1
-    (subst (λ (b : List ℕ). (1 ≤ length b) × CanWrite kinds.Lsp (tlvs_in b)) (sym body) has_body) (entry_keeps_sendable up port c h numbered.0 has_body all)
+    (subst (λ (b : List ℕ). (1 ≤ length b) × CanWrite kinds.Lsp (tlvs_of_body b)) (sym body) has_body) (entry_keeps_sendable up port c h numbered.0 has_body all)
 
 flag_sendable : (port : ℕ) (x : LspId) (e : Entry) (b : Bool) → IsSendable x e → IsSendable x (flag_if b port e)
 flag_sendable port x e true s = flags_sendable (with_port e.srm port) e.ssn x e s

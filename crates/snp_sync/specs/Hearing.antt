@@ -27,7 +27,8 @@ hear_entries_of up port (c ∷ claims) h = hear_entries_of up port claims (hear_
 -- and how many of them needed a place that there wasn't
 abbrev pub full_count : PortSet → ℕ → List Claim → Holding → ℕ
 full_count up port [] h = 0
-full_count up port (c ∷ claims) h = (if is_full_for_entry up port c h then 1 else 0) + full_count up port claims (hear_entry_of up port c h)
+full_count up port (c ∷ claims) h = (if is_full_for_entry up port c h then 1 else 0)
+    + full_count up port claims (hear_entry_of up port c h)
 
 -- the first of them were heard
 abbrev pub HeardSome : PortSet → ℕ → List Claim → Holding → Holding → Type 0
@@ -40,8 +41,8 @@ ids_of claims = map (λ c. c.id) claims
 abbrev pub is_among : List LspId → LspId → Bool
 is_among ids id = list_any (λ x. is_eq (id_cmp x id)) ids
 
--- whether the sender of a CSNP of a range, which names ids, lacks an LSP: its id lies in the range and isn't named, and it
--- isn't absent
+-- whether the sender of a CSNP of a range, which names ids, lacks an LSP: its id lies in the range and isn't named, and
+-- it isn't absent
 abbrev pub is_missed : LspId → LspId → List LspId → LspId → Entry → Bool
 is_missed start end ids id e = is_between start end id && not (is_among ids id) && not (is_absent e.version)
 
@@ -55,4 +56,5 @@ flag_missed port start end ids db = each (λ id e. flag_if (is_missed start end 
 -- after a CSNP of a range heard at a port: its claims, and then what its sender lacks
 abbrev pub hear_csnp_of : PortSet → ℕ → LspId → LspId → List Claim → Holding → Holding
 hear_csnp_of up port start end claims h =
-    let heard = hear_entries_of up port claims h in record { db = flag_missed port start end (ids_of claims) heard.db; own = heard.own }
+    let heard = hear_entries_of up port claims h in
+    record { db = flag_missed port start end (ids_of claims) heard.db; own = heard.own }

@@ -20,7 +20,7 @@ use Rattle.flooding.specs.Hearing.{Holding, hear_lsp_of, hear_entry_of, is_full_
 use Rattle.flooding.specs.Origination.{originated}
 use Rattle.flooding.specs.Entries.{IsNumbered, AreSendable, HaveFlagsAt}
 use Rattle.flooding.specs.Laws.{control, HasBody, IsOwnBody}
-use Rattle.snp_sync.specs.Sized.{IsLspId, IsSized, AreSized, IsSizedLine}
+use Rattle.snp_sync.specs.Sized.{IsLspId, IsSized, AreSized, IsSizedEntry}
 use Rattle.snp_sync.specs.Hearing.{claim_in, claims_in, hear_entries_of, ids_of, is_among, is_missed, flag_if, hear_csnp_of}
 
 -- ---- steps
@@ -38,13 +38,16 @@ CsnpIsCertified = (up : PortSet) (port : ℕ) (start end : LspId) (claims : List
 
 -- what stood there, if no claim names it
 abbrev pub UnnamedStands : Type 0
-UnnamedStands = (up : PortSet) (port : ℕ) (claims : List Claim) (h : Holding) (x : LspId) → is_among (ids_of claims) x ≡ false
+UnnamedStands = (up : PortSet) (port : ℕ) (claims : List Claim) (h : Holding) (x : LspId)
+    → is_among (ids_of claims) x ≡ false
     → get (hear_entries_of up port claims h).db x ≡ get h.db x
 
 -- and else what the last claim that names it made
 abbrev pub LastClaimStands : Type 0
-LastClaimStands = (up : PortSet) (port : ℕ) (before after : List Claim) (c : Claim) (h : Holding) → is_among (ids_of after) c.id ≡ false
-    → get (hear_entries_of up port (before ++ c ∷ after) h).db c.id ≡ get (hear_entry_of up port c (hear_entries_of up port before h)).db c.id
+LastClaimStands = (up : PortSet) (port : ℕ) (before after : List Claim) (c : Claim) (h : Holding)
+    → is_among (ids_of after) c.id ≡ false
+    → get (hear_entries_of up port (before ++ c ∷ after) h).db c.id
+    ≡ get (hear_entry_of up port c (hear_entries_of up port before h)).db c.id
 
 -- the sender of a claim is served: where the claim is newer than what is held, it is asked for at the port; where it is
 -- older, what is held is to be sent there; and the two aren't confused
@@ -55,17 +58,20 @@ pub record IsServed (port : ℕ) (a : Version) (held : Option Entry) : Type 0 wh
 
 -- so it is after an entry was heard at an Up port and found a place if it needed one
 abbrev pub EntryIsServed : Type 0
-EntryIsServed = (up : PortSet) (port : ℕ) (c : Claim) (h : Holding) → has up port ≡ true → is_full_for_entry up port c h ≡ false
+EntryIsServed = (up : PortSet) (port : ℕ) (c : Claim) (h : Holding) → has up port ≡ true
+    → is_full_for_entry up port c h ≡ false
     → IsServed port c.version (get (hear_entry_of up port c h).db c.id)
 
 -- after a CSNP what its sender lacks is to be sent at the port, and all else is as its entries made it
 abbrev pub CsnpStands : Type 0
 CsnpStands = (up : PortSet) (port : ℕ) (start end : LspId) (claims : List Claim) (h : Holding) (x : LspId)
     → get (hear_csnp_of up port start end claims h).db x
-    ≡ option_map (λ e. flag_if (is_missed start end (ids_of claims) x e) port e) (get (hear_entries_of up port claims h).db x)
+    ≡ option_map (λ e. flag_if (is_missed start end (ids_of claims) x e) port e)
+    (get (hear_entries_of up port claims h).db x)
 
 abbrev pub MissedIsSent : Type 0
-MissedIsSent = (up : PortSet) (port : ℕ) (start end : LspId) (claims : List Claim) (h : Holding) (x : LspId) (e : Entry) → has up port ≡ true
+MissedIsSent = (up : PortSet) (port : ℕ) (start end : LspId) (claims : List Claim) (h : Holding) (x : LspId) (e : Entry)
+    → has up port ≡ true
     → get (hear_entries_of up port claims h).db x ≡ Some e → is_missed start end (ids_of claims) x e ≡ true
     → has (srm_in (get (hear_csnp_of up port start end claims h).db x)) port ≡ true
 
@@ -74,10 +80,12 @@ MissedIsSent = (up : PortSet) (port : ℕ) (start end : LspId) (claims : List Cl
 -- the system and its body stay, and below the last number it isn't spent
 abbrev pub EntriesLeaveOwn : Type 0
 EntriesLeaveOwn = (up : PortSet) (port : ℕ) (claims : List Claim) (h : Holding)
-    → ((hear_entries_of up port claims h).own.system ≡ h.own.system) × ((hear_entries_of up port claims h).own.body ≡ h.own.body)
+    → ((hear_entries_of up port claims h).own.system ≡ h.own.system)
+    × ((hear_entries_of up port claims h).own.body ≡ h.own.body)
 
 abbrev pub EntriesDontSpend : Type 0
-EntriesDontSpend = (up : PortSet) (port : ℕ) (claims : List Claim) (h : Holding) → AllByRecursion (λ c. number_of c.version < last_number) claims
+EntriesDontSpend = (up : PortSet) (port : ℕ) (claims : List Claim) (h : Holding)
+    → AllByRecursion (λ c. number_of c.version < last_number) claims
     → (hear_entries_of up port claims h).own ≡ h.own
 
 -- nor do they bring a body under an id of the own system
@@ -97,34 +105,42 @@ ClaimsAreNumbered = (e : SnpEntry) → IsNumbered (claim_in e).version
 
 -- its LSP can be written
 abbrev pub EntriesKeepSendable : Type 0
-EntriesKeepSendable = (up : PortSet) (port : ℕ) (claims : List Claim) (h : Holding) → AllByRecursion (λ c. IsNumbered c.version) claims
+EntriesKeepSendable = (up : PortSet) (port : ℕ) (claims : List Claim) (h : Holding)
+    → AllByRecursion (λ c. IsNumbered c.version) claims
     → HasBody h.own → AreSendable h.db → AreSendable (hear_entries_of up port claims h).db
 
 abbrev pub CsnpKeepsSendable : Type 0
-CsnpKeepsSendable = (up : PortSet) (port : ℕ) (start end : LspId) (claims : List Claim) (h : Holding) → AllByRecursion (λ c. IsNumbered c.version) claims
+CsnpKeepsSendable = (up : PortSet) (port : ℕ) (start end : LspId) (claims : List Claim) (h : Holding)
+    → AllByRecursion (λ c. IsNumbered c.version) claims
     → HasBody h.own → AreSendable h.db → AreSendable (hear_csnp_of up port start end claims h).db
 
 -- its flags stand at Up ports
 abbrev pub EntriesKeepFlags : Type 0
-EntriesKeepFlags = (up : PortSet) (port : ℕ) (claims : List Claim) (h : Holding) → has up port ≡ true → HaveFlagsAt up h.db → HaveFlagsAt up (hear_entries_of up port claims h).db
+EntriesKeepFlags = (up : PortSet) (port : ℕ) (claims : List Claim) (h : Holding) → has up port ≡ true
+    → HaveFlagsAt up h.db → HaveFlagsAt up (hear_entries_of up port claims h).db
 
 abbrev pub CsnpKeepsFlags : Type 0
-CsnpKeepsFlags = (up : PortSet) (port : ℕ) (start end : LspId) (claims : List Claim) (h : Holding) → has up port ≡ true → HaveFlagsAt up h.db → HaveFlagsAt up (hear_csnp_of up port start end claims h).db
+CsnpKeepsFlags = (up : PortSet) (port : ℕ) (start end : LspId) (claims : List Claim) (h : Holding) → has up port ≡ true
+    → HaveFlagsAt up h.db → HaveFlagsAt up (hear_csnp_of up port start end claims h).db
 
--- its line can be written: after what was heard, if that could be
+-- a PDU can tell of it: after what was heard, if that could be
 abbrev pub EntriesKeepSized : Type 0
-EntriesKeepSized = (up : PortSet) (port : ℕ) (es : List SnpEntry) (h : Holding) → AllByRecursion IsSizedLine es → AreSized h.db → AreSized (hear_entries_of up port (claims_in es) h).db
+EntriesKeepSized = (up : PortSet) (port : ℕ) (es : List SnpEntry) (h : Holding) → AllByRecursion IsSizedEntry es
+    → AreSized h.db → AreSized (hear_entries_of up port (claims_in es) h).db
 
 abbrev pub CsnpKeepsSized : Type 0
-CsnpKeepsSized = (up : PortSet) (port : ℕ) (start end : LspId) (es : List SnpEntry) (h : Holding) → AllByRecursion IsSizedLine es
+CsnpKeepsSized = (up : PortSet) (port : ℕ) (start end : LspId) (es : List SnpEntry) (h : Holding)
+    → AllByRecursion IsSizedEntry es
     → AreSized h.db → AreSized (hear_csnp_of up port start end (claims_in es) h).db
 
 abbrev pub LspKeepsSized : Type 0
-LspKeepsSized = (up : PortSet) (port : ℕ) (l : LspValue) (h : Holding) → IsId l.id.system → HasFields (lsp l) → AreSized h.db → AreSized (hear_lsp_of up port l h).db
+LspKeepsSized = (up : PortSet) (port : ℕ) (l : LspValue) (h : Holding) → IsId l.id.system → HasFields (lsp l)
+    → AreSized h.db → AreSized (hear_lsp_of up port l h).db
 
 -- after an origination and a second, and with other flags
 abbrev pub OriginationKeepsSized : Type 0
-OriginationKeepsSized = (up : PortSet) (h : Holding) → IsLspId (own_id h.own.system) → AreSized h.db → AreSized (originated up h).db
+OriginationKeepsSized = (up : PortSet) (h : Holding) → IsLspId (own_id h.own.system) → AreSized h.db
+    → AreSized (originated up h).db
 
 abbrev pub AgeingKeepsSized : Type 0
 AgeingKeepsSized = (up : PortSet) (id : LspId) (e : Entry) → IsSized id e → IsSized id (aged up e)

@@ -20,10 +20,18 @@ successor id = id_of ((id_number id + 1) % 2 ^ 64)
 
 -- 16 zero digits, and 16 digits f
 abbrev pub first_id : LspId
-first_id = record { system = record { mac = record { bytes = 0 ∷ 0 ∷ 0 ∷ 0 ∷ 0 ∷ 0 ∷ [] } }; pseudonode = 0; number = 0 }
+first_id = record {
+  system = record { mac = record { bytes = 0 ∷ 0 ∷ 0 ∷ 0 ∷ 0 ∷ 0 ∷ [] } };
+  pseudonode = 0;
+  number = 0;
+}
 
 abbrev pub last_id : LspId
-last_id = record { system = record { mac = record { bytes = 255 ∷ 255 ∷ 255 ∷ 255 ∷ 255 ∷ 255 ∷ [] } }; pseudonode = 255; number = 255 }
+last_id = record {
+  system = record { mac = record { bytes = 255 ∷ 255 ∷ 255 ∷ 255 ∷ 255 ∷ 255 ∷ [] } };
+  pseudonode = 255;
+  number = 255;
+}
 
 -- whether an id lies in a range, its ends included
 abbrev pub is_between : LspId → LspId → LspId → Bool

@@ -1,5 +1,5 @@
-pub mod Line
-pub mod Parts
+pub mod SnpEntries
+pub mod Chunks
 pub mod Ids
 pub mod Sized
 pub mod Sending

@@ -6,7 +6,8 @@ use Rattle.spb_tlvs.specs.Entry.{entries_of}
 use Rattle.spb_tlvs.specs.Tlv.{values_with}
 
 -- the entries of one TLV before those of the others. One that can't be read refuses all
-abbrev pub before_others : Result (List SnpEntry) TlvError → Result (List SnpEntry) TlvError → Result (List SnpEntry) TlvError
+abbrev pub before_others : Result (List SnpEntry) TlvError → Result (List SnpEntry) TlvError
+    → Result (List SnpEntry) TlvError
 before_others (Err e) others = Err e
 before_others (Ok es) (Err e) = Err e
 before_others (Ok es) (Ok fs) = Ok (es ++ fs)

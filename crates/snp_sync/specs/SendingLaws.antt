@@ -18,11 +18,11 @@ use Rattle.lsdb.specs.Entry.{Entry, IsClean}
 use Rattle.lsdb.specs.Database.{Lsps, id_cmp, version_at}
 use Rattle.lsdb.specs.Certificate.{Claim, Certificate}
 use Rattle.flooding.specs.Entries.{IsNumbered, AreSendable}
-use Rattle.snp_sync.specs.Line.{line_of, lines_where, is_listed, is_owed}
-use Rattle.snp_sync.specs.Parts.{line_tlvs}
+use Rattle.snp_sync.specs.SnpEntries.{snp_entry_of, snp_entries_where, is_listed, has_ssn_at}
+use Rattle.snp_sync.specs.Chunks.{entry_tlvs}
 use Rattle.snp_sync.specs.Ids.{successor, last_id, is_between}
-use Rattle.snp_sync.specs.Sending.{Page, csnp_for, psnp_for, csnp_pages, psnp_parts, all_settled}
-use Rattle.snp_sync.specs.Sized.{IsLspId, HaveIds, AreSized, IsSizedLine}
+use Rattle.snp_sync.specs.Sending.{CsnpChunk, csnp_for, psnp_for, csnp_chunks, psnp_chunks, all_ssn_cleared}
+use Rattle.snp_sync.specs.Sized.{IsLspId, HaveIds, AreSized, IsSizedEntry}
 use Rattle.snp_sync.specs.Reading.{entries_in}
 use Rattle.snp_sync.specs.Hearing.{claim_in}
 
@@ -30,91 +30,109 @@ use Rattle.snp_sync.specs.Hearing.{claim_in}
 
 -- no id lies between an id and its successor
 abbrev pub SuccessorIsNext : Type 0
-SuccessorIsNext = (x y : LspId) → IsLspId x → IsLspId y → id_cmp x last_id ≡ Less → is_lt (id_cmp x y) ≡ is_le (id_cmp (successor x) y)
+SuccessorIsNext = (x y : LspId) → IsLspId x → IsLspId y → id_cmp x last_id ≡ Less
+    → is_lt (id_cmp x y) ≡ is_le (id_cmp (successor x) y)
 
 abbrev pub SuccessorIsId : Type 0
 SuccessorIsId = (x : LspId) → IsLspId (successor x)
 
--- ---- lines
+-- ---- what is said of what is held
 
--- the line of what is held claims it
-abbrev pub LineClaimsWhatIsHeld : Type 0
-LineClaimsWhatIsHeld = (id : LspId) (e : Entry) → IsNumbered e.version → IsClean e → claim_in (line_of id e) ≡ record { id = id; version = e.version }
+-- what is said of what is held claims it
+abbrev pub EntryClaimsWhatIsHeld : Type 0
+EntryClaimsWhatIsHeld = (id : LspId) (e : Entry) → IsNumbered e.version → IsClean e
+    → claim_in (snp_entry_of id e) ≡ record { id = id; version = e.version }
 
 abbrev pub ClaimsWhatIsHeld : Lsps → SnpEntry → Type 0
-ClaimsWhatIsHeld db line = (claim_in line).version ≡ version_at db line.id
+ClaimsWhatIsHeld db entry = (claim_in entry).version ≡ version_at db entry.id
 
--- a line of what is held: its id is held, and it is the line of the entry there
-abbrev pub IsLineOfHeld : Lsps → SnpEntry → Type 0
-IsLineOfHeld db line = (e : Entry) × (get db line.id ≡ Some e) × (line ≡ line_of line.id e)
+-- an entry of a PDU that is of what is held: its id is held, and it says what is held there
+abbrev pub IsEntryOfHeld : Lsps → SnpEntry → Type 0
+IsEntryOfHeld db entry = (e : Entry) × (get db entry.id ≡ Some e) × (entry ≡ snp_entry_of entry.id e)
 
 -- ---- CSNPs
 
 -- each id lies in the range of one CSNP, and of no other
 abbrev pub RangesCoverOnce : Type 0
 RangesCoverOnce = (db : Lsps) → HaveIds db → (x : LspId) → IsLspId x
-    → count_by (λ page. is_between page.start page.end x) (csnp_pages db) ≡ 1
+    → count_by (λ chunk. is_between chunk.start chunk.end x) (csnp_chunks db) ≡ 1
 
--- each CSNP lists those of the lines of all LSPs but the absent ones whose ids lie in its range
-abbrev pub PagesListTheirRanges : Type 0
-PagesListTheirRanges = (db : Lsps) → HaveIds db
-    → AllByRecursion (λ page. page.lines ≡ filter (λ line. is_between page.start page.end line.id) (lines_where is_listed db)) (csnp_pages db)
+-- each CSNP lists all LSPs but the absent ones whose ids lie in its range
+abbrev pub CsnpChunksListTheirRanges : Type 0
+CsnpChunksListTheirRanges = (db : Lsps) → HaveIds db
+    → AllByRecursion (λ chunk. chunk.entries
+    ≡ filter (λ entry. is_between chunk.start chunk.end entry.id) (snp_entries_where is_listed db)) (csnp_chunks db)
 
 -- and so at most 90
-abbrev pub PagesAreShort : Type 0
-PagesAreShort = (db : Lsps) → AllByRecursion (λ page. length page.lines ≤ 90) (csnp_pages db)
+abbrev pub CsnpChunksAreShort : Type 0
+CsnpChunksAreShort = (db : Lsps) → AllByRecursion (λ chunk. length chunk.entries ≤ 90) (csnp_chunks db)
 
 -- its ends are ids
-abbrev pub PagesEndAtIds : Type 0
-PagesEndAtIds = (db : Lsps) → HaveIds db → AllByRecursion (λ page. IsLspId page.start × IsLspId page.end) (csnp_pages db)
+abbrev pub CsnpChunksEndAtIds : Type 0
+CsnpChunksEndAtIds = (db : Lsps) → HaveIds db
+    → AllByRecursion (λ chunk. IsLspId chunk.start × IsLspId chunk.end) (csnp_chunks db)
 
 -- what it claims is what is held
-abbrev pub PagesClaimWhatIsHeld : Type 0
-PagesClaimWhatIsHeld = (db : Lsps) → AreSendable db → AllByRecursion (λ page. AllByRecursion (ClaimsWhatIsHeld db) page.lines) (csnp_pages db)
+abbrev pub CsnpChunksClaimWhatIsHeld : Type 0
+CsnpChunksClaimWhatIsHeld = (db : Lsps) → AreSendable db
+    → AllByRecursion (λ chunk. AllByRecursion (ClaimsWhatIsHeld db) chunk.entries) (csnp_chunks db)
 
 -- it lists nothing but what is held
-abbrev pub PagesListWhatIsHeld : Type 0
-PagesListWhatIsHeld = (db : Lsps) → AllByRecursion (λ page. AllByRecursion (IsLineOfHeld db) page.lines) (csnp_pages db)
+abbrev pub CsnpChunksListWhatIsHeld : Type 0
+CsnpChunksListWhatIsHeld = (db : Lsps) → AllByRecursion (λ chunk. AllByRecursion (IsEntryOfHeld db) chunk.entries)
+    (csnp_chunks db)
 
-abbrev pub PageLinesAreSized : Type 0
-PageLinesAreSized = (db : Lsps) → AreSized db → AllByRecursion (λ page. AllByRecursion IsSizedLine page.lines) (csnp_pages db)
+abbrev pub CsnpEntriesAreSized : Type 0
+CsnpEntriesAreSized = (db : Lsps) → AreSized db
+    → AllByRecursion (λ chunk. AllByRecursion IsSizedEntry chunk.entries) (csnp_chunks db)
 
--- it is read as it was written, and its entries are its lines
+-- it is read as it was written, with its entries
 abbrev pub CsnpIsRead : Type 0
-CsnpIsRead = (me : SystemId) (page : Page) → IsId me → IsLspId page.start → IsLspId page.end → read (csnp_bytes (csnp_for me page)) ≡ Ok (csnp (csnp_for me page))
+CsnpIsRead = (me : SystemId) (chunk : CsnpChunk) → IsId me → IsLspId chunk.start → IsLspId chunk.end
+    → read (csnp_bytes (csnp_for me chunk)) ≡ Ok (csnp (csnp_for me chunk))
 
-abbrev pub LinesAreRead : Type 0
-LinesAreRead = (lines : List SnpEntry) → AllByRecursion IsEntry lines → entries_in (line_tlvs lines) ≡ Ok lines
+abbrev pub EntriesAreRead : Type 0
+EntriesAreRead = (entries : List SnpEntry) → AllByRecursion IsEntry entries
+    → entries_in (entry_tlvs entries) ≡ Ok entries
 
-abbrev pub PageLinesAreRead : Type 0
-PageLinesAreRead = (db : Lsps) → AreSized db → AllByRecursion (λ page. entries_in (line_tlvs page.lines) ≡ Ok page.lines) (csnp_pages db)
+abbrev pub CsnpEntriesAreRead : Type 0
+CsnpEntriesAreRead = (db : Lsps) → AreSized db
+    → AllByRecursion (λ chunk. entries_in (entry_tlvs chunk.entries) ≡ Ok chunk.entries) (csnp_chunks db)
 
 -- ---- PSNPs
 
--- the PSNPs at a port together have the lines of what is owed there, each of them at least one and at most 90
-abbrev pub PartsAreWhole : Type 0
-PartsAreWhole = (port : ℕ) (db : Lsps) → flat_map (λ part. part) (psnp_parts port db) ≡ lines_where (is_owed port) db
+-- the PSNPs at a port together list what has SSN there, each of them at least one LSP and at most 90
+abbrev pub PsnpChunksAreWhole : Type 0
+PsnpChunksAreWhole = (port : ℕ) (db : Lsps)
+    → flat_map (λ chunk. chunk) (psnp_chunks port db) ≡ snp_entries_where (has_ssn_at port) db
 
-abbrev pub PartsAreShort : Type 0
-PartsAreShort = (port : ℕ) (db : Lsps) → AllByRecursion (λ part. (1 ≤ length part) × (length part ≤ 90)) (psnp_parts port db)
+abbrev pub PsnpChunksAreShort : Type 0
+PsnpChunksAreShort = (port : ℕ) (db : Lsps)
+    → AllByRecursion (λ chunk. (1 ≤ length chunk) × (length chunk ≤ 90)) (psnp_chunks port db)
 
-abbrev pub PartsClaimWhatIsHeld : Type 0
-PartsClaimWhatIsHeld = (port : ℕ) (db : Lsps) → AreSendable db → AllByRecursion (λ part. AllByRecursion (ClaimsWhatIsHeld db) part) (psnp_parts port db)
+abbrev pub PsnpChunksClaimWhatIsHeld : Type 0
+PsnpChunksClaimWhatIsHeld = (port : ℕ) (db : Lsps) → AreSendable db
+    → AllByRecursion (λ chunk. AllByRecursion (ClaimsWhatIsHeld db) chunk) (psnp_chunks port db)
 
-abbrev pub PartsListWhatIsHeld : Type 0
-PartsListWhatIsHeld = (port : ℕ) (db : Lsps) → AllByRecursion (AllByRecursion (IsLineOfHeld db)) (psnp_parts port db)
+abbrev pub PsnpChunksListWhatIsHeld : Type 0
+PsnpChunksListWhatIsHeld = (port : ℕ) (db : Lsps)
+    → AllByRecursion (AllByRecursion (IsEntryOfHeld db)) (psnp_chunks port db)
 
-abbrev pub PartLinesAreSized : Type 0
-PartLinesAreSized = (port : ℕ) (db : Lsps) → AreSized db → AllByRecursion (AllByRecursion IsSizedLine) (psnp_parts port db)
+abbrev pub PsnpEntriesAreSized : Type 0
+PsnpEntriesAreSized = (port : ℕ) (db : Lsps) → AreSized db
+    → AllByRecursion (AllByRecursion IsSizedEntry) (psnp_chunks port db)
 
 abbrev pub PsnpIsRead : Type 0
-PsnpIsRead = (me : SystemId) (part : List SnpEntry) → IsId me → read (psnp_bytes (psnp_for me part)) ≡ Ok (psnp (psnp_for me part))
+PsnpIsRead = (me : SystemId) (chunk : List SnpEntry) → IsId me
+    → read (psnp_bytes (psnp_for me chunk)) ≡ Ok (psnp (psnp_for me chunk))
 
-abbrev pub PartLinesAreRead : Type 0
-PartLinesAreRead = (port : ℕ) (db : Lsps) → AreSized db → AllByRecursion (λ part. entries_in (line_tlvs part) ≡ Ok part) (psnp_parts port db)
+abbrev pub PsnpEntriesAreRead : Type 0
+PsnpEntriesAreRead = (port : ℕ) (db : Lsps) → AreSized db
+    → AllByRecursion (λ chunk. entries_in (entry_tlvs chunk) ≡ Ok chunk) (psnp_chunks port db)
 
--- what is held under an id, and afterwards: it isn't to be acknowledged or asked for at the port, and all else of it stands
-pub record IsSettledEntry (port : ℕ) (e new : Entry) : Type 0 where
+-- what is held under an id, and afterwards: it isn't to be acknowledged or asked for at the port, and all else of it
+-- stands
+pub record IsSsnClearedEntry (port : ℕ) (e new : Entry) : Type 0 where
   pub version : new.version ≡ e.version
   pub lifetime : new.lifetime ≡ e.lifetime
   pub body : new.body ≡ e.body
@@ -122,14 +140,16 @@ pub record IsSettledEntry (port : ℕ) (e new : Entry) : Type 0 where
   pub ssn : (q : ℕ) → has new.ssn q ≡ (has e.ssn q && not (q == port))
 
 -- an id that isn't held stays so
-abbrev pub IsSettledUnder : ℕ → Option Entry → Option Entry → Type 0
-IsSettledUnder port None new = new ≡ None
-IsSettledUnder port (Some e) None = ⊥
-IsSettledUnder port (Some e) (Some new) = IsSettledEntry port e new
+abbrev pub IsSsnClearedUnder : ℕ → Option Entry → Option Entry → Type 0
+IsSsnClearedUnder port None new = new ≡ None
+IsSsnClearedUnder port (Some e) None = ⊥
+IsSsnClearedUnder port (Some e) (Some new) = IsSsnClearedEntry port e new
 
--- afterwards nothing is owed there, and all else stands
-abbrev pub SettledOwesNothing : Type 0
-SettledOwesNothing = (port : ℕ) (db : Lsps) → 1 ≤ port → port ≤ 32 → (id : LspId) → IsSettledUnder port (get db id) (get (all_settled port db) id)
+-- afterwards nothing has SSN there, and all else stands
+abbrev pub SsnIsCleared : Type 0
+SsnIsCleared = (port : ℕ) (db : Lsps) → 1 ≤ port → port ≤ 32 → (id : LspId)
+    → IsSsnClearedUnder port (get db id) (get (all_ssn_cleared port db) id)
 
-abbrev pub SettlingIsCertified : Type 0
-SettlingIsCertified = (up : PortSet) (port at : ℕ) (claims : List Claim) (db : Lsps) → Certificate at claims (record { up = up; db = db }) (record { up = up; db = all_settled port db })
+abbrev pub ClearingSsnIsCertified : Type 0
+ClearingSsnIsCertified = (up : PortSet) (port at : ℕ) (claims : List Claim) (db : Lsps)
+    → Certificate at claims (record { up = up; db = db }) (record { up = up; db = all_ssn_cleared port db })

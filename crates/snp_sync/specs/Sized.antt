@@ -6,7 +6,7 @@ use Rattle.spb_tlvs.specs.RoundTrip.{IsEntry}
 use Rattle.lsdb.specs.Entry.{Entry}
 use Rattle.lsdb.specs.Database.{Lsps}
 use Rattle.flooding.specs.Entries.{AllEntries}
-use Rattle.snp_sync.specs.Line.{line_of}
+use Rattle.snp_sync.specs.SnpEntries.{snp_entry_of}
 
 -- an LSP id of eight bytes
 pub record IsLspId (id : LspId) : Type 0 where
@@ -16,15 +16,15 @@ pub record IsLspId (id : LspId) : Type 0 where
 abbrev pub HaveIds : Lsps → Type 0
 HaveIds db = AllEntries (λ id e. IsLspId id) db
 
--- an entry of which the line can be written: its id has eight bytes, and its numbers fit the fields
+-- an entry of which a PDU can tell: its id has eight bytes, and its numbers fit the fields
 pub record IsSized (id : LspId) (e : Entry) : Type 0 where
   pub named : IsLspId id
-  pub line : IsEntry (line_of id e)
+  pub entry : IsEntry (snp_entry_of id e)
 
 abbrev pub AreSized : Lsps → Type 0
 AreSized db = AllEntries IsSized db
 
 -- an entry of an SNP whose numbers fit its fields, of an id of eight bytes
-pub record IsSizedLine (e : SnpEntry) : Type 0 where
+pub record IsSizedEntry (e : SnpEntry) : Type 0 where
   pub named : IsLspId e.id
-  pub line : IsEntry e
+  pub entry : IsEntry e

@@ -77,7 +77,7 @@ fn hear_entry(
         Relation::Newer => return want(alloc, db, port, &entry.id),
         Relation::Equal => clear(db, port, &entry.id),
         Relation::Older => offer(db, port, &entry.id),
-        Relation::Confused => db.bury(&entry.id, entry.seq, up),
+        Relation::Confused => db.purge(&entry.id, entry.seq, up),
     }
     Ok(())
 }
@@ -105,20 +105,21 @@ fn count_entry(
     }
 }
 
-/// Hears the entries of a PSNP at a port, 1 to 32, one after another (ISO/IEC 10589, 7.3.15.2), where `up` are the Up ports:
+/// Hears the entries of a PSNP at a port, 1 to 32, one after another (ISO/IEC 10589, 7.3.15.2), where `up` are the Up
+/// ports:
 ///
-/// - what is newer than what is held is asked for at the port, and needn't be sent there; an id that isn't held is entered
-///   as absent for that. It is entered whatever the entry's lifetime and checksum are, by a rule of this project's
-///   *profile*; the standard enters it only where neither is 0;
+/// - what is newer than what is held is asked for at the port, and needn't be sent there; an id that isn't held is
+///   entered as absent for that. It is entered whatever the entry's lifetime and checksum are, by a rule of this
+///   project's *profile*; the standard enters it only where neither is 0;
 /// - what is the same needn't be sent there;
 /// - of what is older the neighbour gets what is held;
-/// - one that is live with the number of the held one and another checksum makes the LSP dead at that number, to be sent
-///   at every Up port;
+/// - one that is live with the number of the held one and another checksum makes the LSP dead at that number, to be
+///   sent at every Up port;
 /// - a newer or confused one of the system's own is answered instead.
 ///
-/// `own.body` has at least one byte. The answer is the number of entries that needed a place while 2,048 ids were held; such
-/// an entry changes nothing, and the others are heard. After `NoMemory` some of the entries, from the first on, have been
-/// heard.
+/// `own.body` has at least one byte. The answer is the number of entries that needed a place while 2,048 ids were held;
+/// such an entry changes nothing, and the others are heard. After `NoMemory` some of the entries, from the first on,
+/// have been heard.
 pub fn hear_psnp(
     alloc: Global,
     db: &mut Database,
@@ -141,10 +142,10 @@ pub fn hear_psnp(
     Ok(full)
 }
 
-/// Hears a CSNP of a range at a port, 1 to 32 (ISO/IEC 10589, 7.3.15.2), where `up` are the Up ports: its entries as those
-/// of a PSNP, and then every LSP but the absent ones whose id lies in the range, its ends included, and isn't among the
-/// entries is to be sent at the port. A dead LSP is sent there as a live one is, by a rule of this project's *profile*; the
-/// standard sends none that is dead.
+/// Hears a CSNP of a range at a port, 1 to 32 (ISO/IEC 10589, 7.3.15.2), where `up` are the Up ports: its entries as
+/// those of a PSNP, and then every LSP but the absent ones whose id lies in the range, its ends included, and isn't
+/// among the entries is to be sent at the port. A dead LSP is sent there as a live one is, by a rule of this project's
+/// *profile*; the standard sends none that is dead.
 ///
 /// `own.body` has at least one byte. The answer is the number of entries that needed a place while 2,048 ids were held.
 /// After `NoMemory` some of the entries, from the first on, have been heard, and nothing else changed.

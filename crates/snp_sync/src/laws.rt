@@ -1,6 +1,6 @@
 //! The laws of sequence numbers PDUs. Each is the contract of a function that does nothing.
 ghost use Rattle.snp_sync.specs.HearingLaws.{EntriesAreCertified, CsnpIsCertified, UnnamedStands, LastClaimStands, EntryIsServed, CsnpStands, MissedIsSent, EntriesLeaveOwn, EntriesDontSpend, EntriesLeaveOwnBody, CsnpLeavesOwnBody, ClaimsAreNumbered, EntriesKeepSendable, CsnpKeepsSendable, EntriesKeepFlags, CsnpKeepsFlags, EntriesKeepSized, CsnpKeepsSized, LspKeepsSized, OriginationKeepsSized, AgeingKeepsSized, FlagsKeepSized};
-ghost use Rattle.snp_sync.specs.SendingLaws.{SuccessorIsNext, SuccessorIsId, LineClaimsWhatIsHeld, RangesCoverOnce, PagesListTheirRanges, PagesAreShort, PagesEndAtIds, PagesClaimWhatIsHeld, PagesListWhatIsHeld, CsnpIsRead, LinesAreRead, PageLinesAreRead, PageLinesAreSized, PartsAreWhole, PartsAreShort, PartsClaimWhatIsHeld, PartsListWhatIsHeld, PsnpIsRead, PartLinesAreRead, PartLinesAreSized, SettledOwesNothing, SettlingIsCertified};
+ghost use Rattle.snp_sync.specs.SendingLaws.{SuccessorIsNext, SuccessorIsId, EntryClaimsWhatIsHeld, RangesCoverOnce, CsnpChunksListTheirRanges, CsnpChunksAreShort, CsnpChunksEndAtIds, CsnpChunksClaimWhatIsHeld, CsnpChunksListWhatIsHeld, CsnpIsRead, EntriesAreRead, CsnpEntriesAreRead, CsnpEntriesAreSized, PsnpChunksAreWhole, PsnpChunksAreShort, PsnpChunksClaimWhatIsHeld, PsnpChunksListWhatIsHeld, PsnpIsRead, PsnpEntriesAreRead, PsnpEntriesAreSized, SsnIsCleared, ClearingSsnIsCertified};
 
 /// No LSP id lies between an id and its successor.
 pub fn the_successor_is_next()
@@ -11,37 +11,37 @@ pub fn the_successor_is_next()
 /// Each LSP id lies in the range of just one CSNP, which lists the LSPs in its range but the absent ones.
 pub fn csnps_cover_each_id_once()
     ensures once { RangesCoverOnce }
-    ensures lists { PagesListTheirRanges }
-    ensures short { PagesAreShort }
-    ensures ends { PagesEndAtIds }
+    ensures lists { CsnpChunksListTheirRanges }
+    ensures short { CsnpChunksAreShort }
+    ensures ends { CsnpChunksEndAtIds }
 {}
 
-/// The PSNPs at a port have what is owed there, and afterwards nothing is, and all else stands under every id.
-pub fn psnps_say_what_is_owed()
-    ensures whole { PartsAreWhole }
-    ensures short { PartsAreShort }
-    ensures settled { SettledOwesNothing }
-    ensures certified { SettlingIsCertified }
+/// The PSNPs at a port list what has SSN there, and afterwards nothing has, and all else stands under every id.
+pub fn psnps_list_all_with_ssn()
+    ensures whole { PsnpChunksAreWhole }
+    ensures short { PsnpChunksAreShort }
+    ensures ssn_cleared { SsnIsCleared }
+    ensures certified { ClearingSsnIsCertified }
 {}
 
 /// An entry that is sent is one of an LSP that is held, and claims exactly what is held.
 pub fn what_is_said_is_what_is_held()
-    ensures line { LineClaimsWhatIsHeld }
-    ensures pages { PagesClaimWhatIsHeld }
-    ensures parts { PartsClaimWhatIsHeld }
-    ensures pages_held { PagesListWhatIsHeld }
-    ensures parts_held { PartsListWhatIsHeld }
+    ensures entry { EntryClaimsWhatIsHeld }
+    ensures csnp_chunks { CsnpChunksClaimWhatIsHeld }
+    ensures chunks { PsnpChunksClaimWhatIsHeld }
+    ensures csnp_chunks_held { CsnpChunksListWhatIsHeld }
+    ensures psnp_chunks_held { PsnpChunksListWhatIsHeld }
 {}
 
 /// A PDU that is sent is read as it was written.
 pub fn what_is_written_is_read()
     ensures csnp { CsnpIsRead }
     ensures psnp { PsnpIsRead }
-    ensures lines { LinesAreRead }
-    ensures pages { PageLinesAreRead }
-    ensures parts { PartLinesAreRead }
-    ensures sized_pages { PageLinesAreSized }
-    ensures sized_parts { PartLinesAreSized }
+    ensures entries { EntriesAreRead }
+    ensures csnp_chunks { CsnpEntriesAreRead }
+    ensures chunks { PsnpEntriesAreRead }
+    ensures sized_csnp_chunks { CsnpEntriesAreSized }
+    ensures sized_psnp_chunks { PsnpEntriesAreSized }
 {}
 
 /// The entries of a PSNP, and a CSNP, heard at an Up port are a certified step.
@@ -50,7 +50,8 @@ pub fn hearing_is_certified()
     ensures csnp { CsnpIsCertified }
 {}
 
-/// Under each id stands what the last claim of it made; the sender of a claim gets what it lacks and is asked for what it has.
+/// Under each id stands what the last claim of it made; where there was a place, the sender
+/// of a claim gets what it lacks and is asked for what it has.
 pub fn the_sender_is_served()
     ensures unnamed { UnnamedStands }
     ensures last { LastClaimStands }
@@ -67,7 +68,7 @@ pub fn hearing_leaves_the_own_lsp()
     ensures csnp_body { CsnpLeavesOwnBody }
 {}
 
-/// What is so of every entry before entries are heard is so afterwards.
+/// Whatever is heard, every LSP that is held stays one that can be written, and flags stay at Up ports.
 pub fn entries_stay_sound()
     ensures numbered { ClaimsAreNumbered }
     ensures sendable { EntriesKeepSendable }
@@ -76,8 +77,8 @@ pub fn entries_stay_sound()
     ensures csnp_flags { CsnpKeepsFlags }
 {}
 
-/// Every entry stays one whose line can be written, whatever is heard, originated or aged.
-pub fn lines_stay_sized()
+/// Of every LSP that is held a PDU can tell, whatever is heard, originated or aged.
+pub fn entries_stay_writable()
     ensures entries { EntriesKeepSized }
     ensures csnp { CsnpKeepsSized }
     ensures lsp { LspKeepsSized }

@@ -4,8 +4,8 @@ ghost use Rattle.snp_sync.specs.Reading.{entries_in};
 use spb_tlvs::{LSP_ENTRIES, SnpEntry, TlvError, read_entries, split_tlv};
 use std::alloc::Global;
 
-/// The entries of a sequence numbers PDU by its TLVs: those of each of its TLVs 9, in order. The first that can't be read
-/// refuses all. The TLVs are gone over once.
+/// The entries of a sequence numbers PDU by its TLVs: those of each of its TLVs 9, in order. The first that can't be
+/// read refuses all. The TLVs are gone over once.
 pub fn entries_of_snp(alloc: Global, tlvs: &[u8]) -> Result<Vec<SnpEntry>, TlvError>
     ensures { Reads result (entries_in tlvs.now) }
 {

@@ -1,11 +1,11 @@
 ghost use Rattle.std.specs.Prelude.{◌≡◌, ◌≤◌, ◌<◌, IfOk, OnOk, OnErr, map, length};
 ghost use Rattle.isis_pdu.specs.Spelling.{csnp_bytes, psnp_bytes};
-ghost use Rattle.snp_sync.specs.Parts.{parts};
+ghost use Rattle.snp_sync.specs.Chunks.{chunks};
 ghost use Rattle.snp_sync.specs.Sending as sending;
-ghost use Rattle.snp_sync.specs.Sending.{bytes_in, csnp_for, psnp_for, csnps_of, all_settled};
+ghost use Rattle.snp_sync.specs.Sending.{bytes_in, csnp_for, psnp_for, csnps_of, all_ssn_cleared};
 
+use crate::entries::{entries_with_ssn, listed, tlvs_of};
 use crate::ids::{FIRST, LAST, successor};
-use crate::lines::{listed, owed, tlvs_of};
 use isis_pdu::{Csnp, Psnp, write_csnp, write_psnp};
 use lsdb::Database;
 use spb_tlvs::SnpEntry;
@@ -13,21 +13,21 @@ use spb_types::limits::MOST_PORTS;
 use spb_types::{LspId, NoMemory, SystemId};
 use std::alloc::Global;
 
-/// The most lines in a PDU.
-const PDU_LINES: usize = 90;
+/// The most entries in a PDU.
+const ENTRIES_PER_PDU: usize = 90;
 
-/// The CSNP of a range, with at most 90 lines.
+/// The CSNP of a range, with at most 90 entries.
 fn csnp(
     alloc: Global,
     me: SystemId,
     start: LspId,
     end: LspId,
-    lines: &[SnpEntry],
+    entries: &[SnpEntry],
 ) -> Result<Vec<u8>, NoMemory>
-    requires { length lines.now ≤ 90 }
-    ensures { IfOk result (λ v. v.items ≡ csnp_bytes (csnp_for me (record { start = start; end = end; lines = lines.now }))) }
+    requires { length entries.now ≤ 90 }
+    ensures { IfOk result (λ v. v.items ≡ csnp_bytes (csnp_for me (record { start = start; end = end; entries = entries.now }))) }
 {
-    let tlvs = tlvs_of(alloc, lines)?;
+    let tlvs = tlvs_of(alloc, entries)?;
     write_csnp(
         alloc,
         &Csnp {
@@ -39,12 +39,12 @@ fn csnp(
     )
 }
 
-/// The PSNP of at most 90 lines.
-fn psnp(alloc: Global, me: SystemId, lines: &[SnpEntry]) -> Result<Vec<u8>, NoMemory>
-    requires { length lines.now ≤ 90 }
-    ensures { IfOk result (λ v. v.items ≡ psnp_bytes (psnp_for me lines.now)) }
+/// The PSNP of at most 90 entries.
+fn psnp(alloc: Global, me: SystemId, entries: &[SnpEntry]) -> Result<Vec<u8>, NoMemory>
+    requires { length entries.now ≤ 90 }
+    ensures { IfOk result (λ v. v.items ≡ psnp_bytes (psnp_for me entries.now)) }
 {
-    let tlvs = tlvs_of(alloc, lines)?;
+    let tlvs = tlvs_of(alloc, entries)?;
     write_psnp(
         alloc,
         &Psnp {
@@ -54,21 +54,21 @@ fn psnp(alloc: Global, me: SystemId, lines: &[SnpEntry]) -> Result<Vec<u8>, NoMe
     )
 }
 
-/// The CSNPs of the whole database (ISO/IEC 10589, 7.3.15.3), the bytes of each: they list every LSP that is held but the
-/// absent ones, in order of id, at most 90 in each. The first starts at the least id, and each further one at the successor
-/// of the end of the one before. The last ends at the greatest id, and each other one at its last entry. Where nothing is
-/// listed there is one without entries.
+/// The CSNPs of the whole database (ISO/IEC 10589, 7.3.15.3), the bytes of each: they list every LSP that is held but
+/// the absent ones, in order of id, at most 90 in each. The first starts at the least id, and each further one at the
+/// successor of the end of the one before. The last ends at the greatest id, and each other one at its last entry.
+/// Where nothing is listed there is one without entries.
 pub fn csnps(alloc: Global, db: &Database, me: SystemId) -> Result<Vec<Vec<u8>>, NoMemory>
     ensures { IfOk result (λ pdus. bytes_in pdus.items ≡ map csnp_bytes (csnps_of me db.now)) }
 {
-    let lines = listed(alloc, db)?;
+    let entries = listed(alloc, db)?;
     let mut pdus = Vec::new(alloc);
     let mut start = FIRST;
-    let mut rest = lines.as_slice();
-    while rest.len() > PDU_LINES {
-        let (page, more) = rest.split_at(PDU_LINES);
-        let end = page[PDU_LINES - 1].id;
-        pdus.push(csnp(alloc, me, start, end, page)?)?;
+    let mut rest = entries.as_slice();
+    while rest.len() > ENTRIES_PER_PDU {
+        let (chunk, more) = rest.split_at(ENTRIES_PER_PDU);
+        let end = chunk[ENTRIES_PER_PDU - 1].id;
+        pdus.push(csnp(alloc, me, start, end, chunk)?)?;
         start = successor(end);
         rest = more;
     }
@@ -76,22 +76,22 @@ pub fn csnps(alloc: Global, db: &Database, me: SystemId) -> Result<Vec<Vec<u8>>,
     Ok(pdus)
 }
 
-/// The PSNPs of lines.
-fn psnps_of(alloc: Global, lines: &[SnpEntry], me: SystemId) -> Result<Vec<Vec<u8>>, NoMemory>
-    ensures { IfOk result (λ pdus. bytes_in pdus.items ≡ map psnp_bytes (map (psnp_for me) (parts 90 lines.now))) }
+/// The PSNPs of entries.
+fn psnps_of(alloc: Global, entries: &[SnpEntry], me: SystemId) -> Result<Vec<Vec<u8>>, NoMemory>
+    ensures { IfOk result (λ pdus. bytes_in pdus.items ≡ map psnp_bytes (map (psnp_for me) (chunks 90 entries.now))) }
 {
     let mut pdus = Vec::new(alloc);
-    for page in lines.chunks(PDU_LINES) {
-        pdus.push(psnp(alloc, me, page)?)?;
+    for chunk in entries.chunks(ENTRIES_PER_PDU) {
+        pdus.push(psnp(alloc, me, chunk)?)?;
     }
     Ok(pdus)
 }
 
 /// Nothing is to be acknowledged or asked for at a port any longer.
-fn settle(db: &mut Database, port: u8)
+fn clear_ssn(db: &mut Database, port: u8)
     requires low { 1 ≤ port }
     requires high { port ≤ MOST_PORTS }
-    ensures { db.new ≡ all_settled port db.old }
+    ensures { db.new ≡ all_ssn_cleared port db.old }
 {
     for place in 0..db.len() {
         if let Some(held) = db.at(place) {
@@ -103,9 +103,9 @@ fn settle(db: &mut Database, port: u8)
     }
 }
 
-/// The PSNPs at a port, 1 to 32 (ISO/IEC 10589, 7.3.15.4), the bytes of each: they list what is to be acknowledged or asked
-/// for there, in order of id, at most 90 in each. Where nothing is, there is none. Those flags are cleared there; after
-/// `NoMemory` nothing changed.
+/// The PSNPs at a port, 1 to 32 (ISO/IEC 10589, 7.3.15.4), the bytes of each: they list what is to be acknowledged or
+/// asked for there, in order of id, at most 90 in each. Where nothing is, there is none. Those flags are cleared there;
+/// after `NoMemory` nothing changed.
 pub fn psnps(
     alloc: Global,
     db: &mut Database,
@@ -115,11 +115,11 @@ pub fn psnps(
     requires low { 1 ≤ port }
     requires high { port ≤ MOST_PORTS }
     ensures ok { IfOk result (λ pdus. bytes_in pdus.items ≡ map psnp_bytes (sending.psnps_of me port db.old)) }
-    ensures settled { OnOk result (db.new ≡ all_settled port db.old) }
+    ensures ssn_cleared { OnOk result (db.new ≡ all_ssn_cleared port db.old) }
     ensures err { OnErr result (db.new ≡ db.old) }
 {
-    let lines = owed(alloc, db, port)?;
-    let pdus = psnps_of(alloc, &lines, me)?;
-    settle(db, port);
+    let entries = entries_with_ssn(alloc, db, port)?;
+    let pdus = psnps_of(alloc, &entries, me)?;
+    clear_ssn(db, port);
     Ok(pdus)
 }

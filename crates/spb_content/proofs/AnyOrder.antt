@@ -10,7 +10,7 @@ use Rattle.spb_types.specs.declared.service.VidPlan.{VidPlan}
 use Rattle.spb_tlvs.specs.declared.capability.Service.{Service}
 use Rattle.spb_content.specs.declared.local.Local.{Local}
 use Rattle.spb_content.specs.Local.{own_mac, trees_of, vids_in, isids_in, in_vid, services_in, service_with, plan_number, vid_number, isid_number, said_by}
-use Rattle.spb_content.specs.Laws.{OrderSaysNothing}
+use Rattle.spb_content.specs.Laws.{OrderSaysNothingOfContent}
 use Rattle.spb_content.proofs.Members.{Has, has_map, has_filter, filter_has, has_from_contains, contains_from_has}
 use Rattle.spb_content.proofs.Ascended.{ascending_ascends, has_ascending, numbered_ascending, ascends_once}
 use Rattle.spb_content.proofs.Sorted.{one_plan}
@@ -68,7 +68,7 @@ listed mac v ss = map (λ s. (mac, v, s)) ss
 abbrev services_of : Local → Vid → List (Mac × Vid × Service)
 services_of l v = listed (own_mac l) v (services_in v l.attached)
 
-pub order_says_nothing : OrderSaysNothing
+pub order_says_nothing : OrderSaysNothingOfContent
 order_says_nothing l m h k like =
     let to : Within l.attached m.attached = within l.attached m.attached (λ a. (like.attached a).0) in
     let from : Within m.attached l.attached = within m.attached l.attached (λ a. (like.attached a).1) in

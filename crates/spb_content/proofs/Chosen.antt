@@ -7,7 +7,7 @@ use Rattle.spb_types.specs.Graph.{IsAmong, IsDistinct}
 use Rattle.spb_types.specs.declared.address.SystemId.{SystemId}
 use Rattle.spb_content.specs.declared.content.Content.{Content}
 use Rattle.spb_content.specs.Graph.{Contents, systems_in, said_of, link_said, IsReached}
-use Rattle.spb_content.specs.Building.{mark_at, IsAt, Reaches, kept}
+use Rattle.spb_content.specs.Building.{mark_at, IsListedAt, Reaches, kept}
 use Rattle.spb_content.proofs.Members.{Has, has_from_contains}
 use Rattle.spb_content.proofs.Places.{test, found_at, place_for}
 use Rattle.spb_content.proofs.Links.{same_is, reached_said, reached_more}
@@ -111,7 +111,7 @@ record Reached (list : Contents) (me : SystemId) (c : SystemId × Content) : Typ
 kept_reached : (list : Contents) (me : SystemId) (marks : List Bool) (c : SystemId × Content) → Reaches list me marks → Place list marks c → Reached list me c
 kept_reached list me marks c h p = at (h.found p.place p.marked)
   where
-    at : (x : SystemId) × IsAt list p.place x × IsReached list me x → Reached list me c
+    at : (x : SystemId) × IsListedAt list p.place x × IsReached list me x → Reached list me c
     at (x, here, reached) =
         let f = found_at p.place list x c here in
         let t = and_parts _ _ (subst (λ d. test d x ≡ true) p.here f.passes) in

@@ -12,7 +12,7 @@ use Rattle.spb_tlvs.specs.declared.neighbours.Neighbour.{Neighbour}
 use Rattle.spb_content.specs.declared.content.Content.{Content}
 use Rattle.spb_content.specs.declared.walk.Walk.{Walk}
 use Rattle.spb_content.specs.Graph.{Contents, said_of, link_said, Leads, IsReached}
-use Rattle.spb_content.specs.Building.{place_from, place_beyond, mark_at, IsAt, IsMarked, IsFound, IsWalk, IsClosed, Grows, Marks, Starts, Visits, Reaches}
+use Rattle.spb_content.specs.Building.{place_from, place_beyond, mark_at, IsListedAt, IsMarked, IsFound, IsWalk, IsClosed, Grows, Marks, Starts, Visits, Reaches}
 use Rattle.spb_content.proofs.Members.{all_has, weaker, has_from_contains, all_append}
 use Rattle.spb_content.proofs.Places.{found_at, place_high, place_said, place_for}
 use Rattle.spb_content.proofs.Links.{same_is, reached_more, listed_in, ends_said}
@@ -49,7 +49,7 @@ marks_grow u w v p lt g m = record {
 found_still : (list : Contents) (w v : Walk) (p : ℕ) → v.source ≡ w.source → IsFound list w p → IsFound list v p
 found_still list w v p e (x, here, reached) = (x, here, subst (λ s. IsReached list s x) (sym e) reached)
 
-pub marks_walk : (list : Contents) (w v : Walk) (p : ℕ) (x : SystemId) → IsWalk list w → p < length list → IsAt list p x → IsReached list w.source x → Marks p w v → IsWalk list v
+pub marks_walk : (list : Contents) (w v : Walk) (p : ℕ) (x : SystemId) → IsWalk list w → p < length list → IsListedAt list p x → IsReached list w.source x → Marks p w v → IsWalk list v
 marks_walk list w v p x h within here reached m = at (mark_at w.marks.items p) refl m.queue
   where
     lt : p < length w.marks.items
@@ -102,7 +102,7 @@ empty_walk list w marks queue = record {
 pub starts_nowhere : (list : Contents) (me : SystemId) (w : Walk) → w.source ≡ me → w.marks.items ≡ replicate (length list) false → w.queue.items ≡ [] → place_from 0 list me ≡ None → Starts list me w
 starts_nowhere list me w source marks queue none = record { walk = empty_walk list w marks queue; source = source; start = λ p h. absurd cc }
 
-pub starts_here : (list : Contents) (me : SystemId) (w v : Walk) (p : ℕ) → w.source ≡ me → w.marks.items ≡ replicate (length list) false → w.queue.items ≡ [] → IsAt list p me → Marks p w v → Starts list me v
+pub starts_here : (list : Contents) (me : SystemId) (w v : Walk) (p : ℕ) → w.source ≡ me → w.marks.items ≡ replicate (length list) false → w.queue.items ≡ [] → IsListedAt list p me → Marks p w v → Starts list me v
 starts_here list me w v p source marks queue here m =
     let high : p < length list = omega (arith, place_high 0 p list me here) in
     let h = empty_walk list w marks queue in
@@ -128,7 +128,7 @@ passed_still list w v x ns still all = weaker (IsPassed list w x) (IsPassed list
 -- a place beyond a link has a bridge
 record Beyond (list : Contents) (x y : SystemId) (q : ℕ) : Type 0 where
   link : IsSome (link_said list x y)
-  here : IsAt list q y
+  here : IsListedAt list q y
 
 beyond : (list : Contents) (x y : SystemId) (q : ℕ) → place_beyond list x y ≡ Some q → Beyond list x y q
 beyond list x y q h = at (is_some (link_said list x y)) refl h
@@ -138,7 +138,7 @@ beyond list x y q h = at (is_some (link_said list x y)) refl h
     at false e k = absurd cc
 
 -- bridges at one place are one
-pub one_at : (list : Contents) (p : ℕ) (x y : SystemId) → IsAt list p x → IsAt list p y → x ≡ y
+pub one_at : (list : Contents) (p : ℕ) (x y : SystemId) → IsListedAt list p x → IsListedAt list p y → x ≡ y
 one_at [] p x y h k = absurd cc
 one_at (c ∷ cs) p x y h k =
     let f = found_at p (c ∷ cs) x c h in
@@ -178,7 +178,7 @@ visiting_mark list x u w v ns more n q is h reached there m =
     same_place a b e = cc
 
 -- after all of its neighbours, what lies beyond any link is marked
-pub visits : (list : Contents) (p : ℕ) (x : SystemId) (c : Content) (u w : Walk) → said_of list x ≡ Some c → IsAt list p x → Visiting list x u w c.neighbours → Visits list p u w
+pub visits : (list : Contents) (p : ℕ) (x : SystemId) (c : Content) (u w : Walk) → said_of list x ≡ Some c → IsListedAt list p x → Visiting list x u w c.neighbours → Visits list p u w
 visits list p x c u w said here h = record { walk = h.walk; grows = h.grows; closed = closed }
   where
     closed : IsClosed list w p
@@ -190,7 +190,7 @@ visits list p x c u w said here h = record { walk = h.walk; grows = h.grows; clo
 
 -- what stands at a place of the queue
 pub record Queued (list : Contents) (w : Walk) (p : ℕ) (e : SystemId × Content) : Type 0 where
-  pub here : IsAt list p e.0
+  pub here : IsListedAt list p e.0
   pub reached : IsReached list w.source e.0
   pub said : said_of list e.0 ≡ Some e.1
 
@@ -202,7 +202,7 @@ queued list w p d h c = at (all_has (IsFound list w) p w.queue.items h.found (ha
         let f = found_at p list x d there in
         let same : x ≡ (get_or list p d).0 = sym (same_is (get_or list p d).0 x (and_parts _ _ f.passes).1) in
         record {
-          here = subst (λ y. IsAt list p y) same there;
+          here = subst (λ y. IsListedAt list p y) same there;
           reached = subst (λ y. IsReached list w.source y) same reached;
           said = ap (said_of list) (sym same) ∙ f.said;
         }
@@ -216,7 +216,7 @@ closed_still list w v ps still all = weaker (IsClosed list w) (IsClosed list v) 
 pub record Walking (list : Contents) (me : SystemId) (w : Walk) (next : ℕ) : Type 0 where
   pub walk : IsWalk list w
   pub source : w.source ≡ me
-  pub start : (p : ℕ) → IsAt list p me → IsMarked w p
+  pub start : (p : ℕ) → IsListedAt list p me → IsMarked w p
   pub within : next ≤ length w.queue.items
   pub closed : AllByRecursion (IsClosed list w) (take next w.queue.items)
 
@@ -241,12 +241,12 @@ walking_more list me w v next p h lt is done =
 pub queue_within : (list : Contents) (w : Walk) → IsWalk list w → length w.queue.items ≤ length list
 queue_within list w h = omega (arith, h.left)
 
-marked_along : (list : Contents) (w : Walk) (a b : SystemId) (xs : List SystemId) → ((p : ℕ) → IsMarked w p → IsClosed list w p) → Leads list a xs b → ((p : ℕ) → IsAt list p a → IsMarked w p) → (q : ℕ) → IsAt list q b → IsMarked w q
-marked_along list w a b [] closed h first q at = first q (subst (λ z. IsAt list q z) (sym h.1) at)
+marked_along : (list : Contents) (w : Walk) (a b : SystemId) (xs : List SystemId) → ((p : ℕ) → IsMarked w p → IsClosed list w p) → Leads list a xs b → ((p : ℕ) → IsListedAt list p a → IsMarked w p) → (q : ℕ) → IsListedAt list q b → IsMarked w q
+marked_along list w a b [] closed h first q at = first q (subst (λ z. IsListedAt list q z) (sym h.1) at)
 marked_along list w a b (x ∷ xs) closed h first q at =
     marked_along list w x b xs closed h.1 (λ p here. next p here (place_for 0 list a (ends_said list a x h.0).0)) q at
   where
-    next : (p : ℕ) → IsAt list p x → (r : ℕ) × IsAt list r a → IsMarked w p
+    next : (p : ℕ) → IsListedAt list p x → (r : ℕ) × IsListedAt list r a → IsMarked w p
     next p here r = closed r.0 (first r.0 r.1) a x p r.1 (rw h.0 here)
 
 pub reaches : (list : Contents) (me : SystemId) (w : Walk) (next : ℕ) → Walking list me w next → length w.queue.items ≤ next → Reaches list me w.marks.items

@@ -26,8 +26,8 @@ place_from i [] x = None
 place_from i (c ∷ cs) x = if is_some c.1.inst && same_system c.0 x then Some i else place_from (i + 1) cs x
 
 -- the bridge x stands at place p
-abbrev pub IsAt : Contents → ℕ → SystemId → Type 0
-IsAt list p x = place_from 0 list x ≡ Some p
+abbrev pub IsListedAt : Contents → ℕ → SystemId → Type 0
+IsListedAt list p x = place_from 0 list x ≡ Some p
 
 -- the map has the place of each bridge
 abbrev pub IsIndexed : Backbone → Type 0
@@ -47,7 +47,7 @@ IsMarked w p = mark_at w.marks.items p ≡ true
 
 -- a bridge that the source reaches stands at this place
 abbrev pub IsFound : Contents → Walk → ℕ → Type 0
-IsFound list w p = (x : SystemId) × IsAt list p x × IsReached list w.source x
+IsFound list w p = (x : SystemId) × IsListedAt list p x × IsReached list w.source x
 
 -- the marked places are those in the queue, each once, and the bridges there are reached
 pub record IsWalk (list : Contents) (w : Walk) : Type 0 where
@@ -59,7 +59,7 @@ pub record IsWalk (list : Contents) (w : Walk) : Type 0 where
 
 -- what lies beyond a link from the bridge at this place is marked
 abbrev pub IsClosed : Contents → Walk → ℕ → Type 0
-IsClosed list w p = (x y : SystemId) (q : ℕ) → IsAt list p x → place_beyond list x y ≡ Some q → IsMarked w q
+IsClosed list w p = (x y : SystemId) (q : ℕ) → IsListedAt list p x → place_beyond list x y ≡ Some q → IsMarked w q
 
 -- marks stay, and what was in the queue stays at its place
 pub record Grows (w v : Walk) : Type 0 where
@@ -77,7 +77,7 @@ pub record Marks (p : ℕ) (w v : Walk) : Type 0 where
 pub record Starts (list : Contents) (me : SystemId) (w : Walk) : Type 0 where
   pub walk : IsWalk list w
   pub source : w.source ≡ me
-  pub start : (p : ℕ) → IsAt list p me → IsMarked w p
+  pub start : (p : ℕ) → IsListedAt list p me → IsMarked w p
 
 -- what visiting a bridge does
 pub record Visits (list : Contents) (p : ℕ) (w v : Walk) : Type 0 where
@@ -88,8 +88,8 @@ pub record Visits (list : Contents) (p : ℕ) (w v : Walk) : Type 0 where
 -- the marked places are those of the bridges that the source reaches
 pub record Reaches (list : Contents) (me : SystemId) (marks : List Bool) : Type 0 where
   pub places : length marks ≡ length list
-  pub found : (p : ℕ) → mark_at marks p ≡ true → (x : SystemId) × IsAt list p x × IsReached list me x
-  pub marked : (p : ℕ) (x : SystemId) → IsAt list p x → IsReached list me x → mark_at marks p ≡ true
+  pub found : (p : ℕ) → mark_at marks p ≡ true → (x : SystemId) × IsListedAt list p x × IsReached list me x
+  pub marked : (p : ℕ) (x : SystemId) → IsListedAt list p x → IsReached list me x → mark_at marks p ≡ true
 
 -- ---- the graph
 
@@ -112,7 +112,8 @@ edge_for list x earlier y = if is_listed earlier y then None else edge_said list
 -- the edges that are made at x for the entries after the earlier ones
 abbrev pub edges_after : Contents → SystemId → List Neighbour → List Neighbour → List Edge
 edges_after list x earlier [] = []
-edges_after list x earlier (n ∷ ns) = option_to_list (edge_for list x earlier n.system) ++ edges_after list x (earlier ++ n ∷ []) ns
+edges_after list x earlier (n ∷ ns) = option_to_list (edge_for list x earlier n.system)
+    ++ edges_after list x (earlier ++ n ∷ []) ns
 
 abbrev pub edges_from : Contents → SystemId × Content → List Edge
 edges_from list c = edges_after list c.0 [] c.1.neighbours

@@ -14,7 +14,7 @@ use Rattle.spb_content.specs.declared.content.Content.{Content}
 use Rattle.spb_content.specs.declared.content.Inst.{Inst}
 use Rattle.spb_tlvs.specs.declared.codes.TheConstants.{EXTENDED_IS_REACHABILITY, MT_CAPABILITY}
 
--- a value that can't be read is passed over
+-- a value that can't be read is ignored
 abbrev pub or_nothing : {A : Type 0} → Result (List A) TlvError → List A
 or_nothing (Ok xs) = xs
 or_nothing (Err e) = []
@@ -30,7 +30,8 @@ capabilities_in tlvs = flat_map (λ value. or_nothing (capabilities_of value)) (
 -- the first SPB-Inst among them
 abbrev pub first_inst : List Capability → Option Inst
 first_inst [] = None
-first_inst (said.Inst priority source trees ∷ cs) = Some (record { priority = priority; source = source; trees = trees })
+first_inst (said.Inst priority source trees ∷ cs) =
+    Some (record { priority = priority; source = source; trees = trees })
 first_inst (said.Services mac vid services ∷ cs) = first_inst cs
 
 -- the services of one of them, each with its B-MAC and base VID

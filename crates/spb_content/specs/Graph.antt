@@ -31,7 +31,8 @@ said_of (c ∷ cs) x = if is_some c.1.inst && same_system c.0 x then Some c.1 el
 
 -- the bridge that a system is by what it says
 abbrev pub bridge_of : SystemId × Content → Option GraphBridge
-bridge_of c = option_map (λ i. record { id = record { priority = i.priority; system = c.0 }; source = i.source }) c.1.inst
+bridge_of c = option_map (λ i. record { id = record { priority = i.priority; system = c.0 }; source = i.source })
+    c.1.inst
 
 -- ---- edges
 
@@ -94,11 +95,13 @@ IsReached list me x = (walk : List SystemId) × Leads list me walk x
 -- the graph of `me`: the bridges that `me` reaches, their links and their members; nothing where `me` is no bridge. The
 -- order of its lists, which end of an edge is which, and how often a member stands there are left open
 pub record IsGraphOf (me : SystemId) (list : Contents) (g : Graph) : Type 0 where
-  pub bridges : (b : GraphBridge) → Contains g.bridges b ↔ (Contains (filter_map bridge_of list) b × IsReached list me b.id.system)
+  pub bridges : (b : GraphBridge) → Contains g.bridges b
+      ↔ (Contains (filter_map bridge_of list) b × IsReached list me b.id.system)
   pub costs : (x y : SystemId) → IsReached list me x → cost_between g x y ≡ cost_said list x y
   pub ports : (x y : SystemId) → IsReached list me x → port_between g x y ≡ port_said list x y
   pub within : (x y : SystemId) → IsSome (cost_between g x y) → IsReached list me x
-  pub members : (m : Member) → Contains g.members m ↔ (Contains (flat_map members_of list) m × IsReached list me m.system)
+  pub members : (m : Member) → Contains g.members m
+      ↔ (Contains (flat_map members_of list) m × IsReached list me m.system)
 
 -- ---- the ports of one bridge
 

@@ -33,7 +33,8 @@ abbrev pub SameIsWritten : Type 0
 SameIsWritten = (l m : Local) → said_by l ≡ said_by m → content_bytes l ≡ content_bytes m
 
 abbrev pub WrittenIsSame : Type 0
-WrittenIsSame = (l m : Local) → IsLocal l → HasFields l → IsLocal m → HasFields m → content_bytes l ≡ content_bytes m → said_by l ≡ said_by m
+WrittenIsSame = (l m : Local) → IsLocal l → HasFields l → IsLocal m → HasFields m → content_bytes l ≡ content_bytes m
+    → said_by l ≡ said_by m
 
 -- two bridges have the same configuration and neighbours, and the same ports attached, but for the order of the VIDs
 -- and of the ports, and for how many ports are attached alike
@@ -45,8 +46,8 @@ pub record IsLike (l m : Local) : Type 0 where
   pub attached : (a : Member) → Contains l.attached a ↔ Contains m.attached a
 
 -- they say the same
-abbrev pub OrderSaysNothing : Type 0
-OrderSaysNothing = (l m : Local) → IsLocal l → IsLocal m → IsLike l m → said_by l ≡ said_by m
+abbrev pub OrderSaysNothingOfContent : Type 0
+OrderSaysNothingOfContent = (l m : Local) → IsLocal l → IsLocal m → IsLike l m → said_by l ≡ said_by m
 
 -- ys ascends, its items are items of xs, and its numbers are those of xs: so each of these stands once
 pub record IsAscendingOf {A : Type 0} (number : A → ℕ) (xs ys : List A) : Type 0 where
@@ -77,7 +78,8 @@ pub record Fits (bytes : List ℕ) : Type 0 where
 
 -- with at most 32 ports, the LSP of a bridge has at most 1,267 bytes
 abbrev pub OwnFits : Type 0
-OwnFits = (l : Local) → IsLocal l → HasFields l → AreConfigured l → length l.neighbours ≤ MOST_PORTS → Fits (content_bytes l)
+OwnFits = (l : Local) → IsLocal l → HasFields l → AreConfigured l → length l.neighbours ≤ MOST_PORTS
+    → Fits (content_bytes l)
 
 -- the graph of all that is said: it is valid, also for each bridge that lists its neighbours at ports of their own, and
 -- its costs and ports are those that are said

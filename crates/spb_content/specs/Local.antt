@@ -79,7 +79,8 @@ protocols = tlv PROTOCOLS_SUPPORTED (0xc1 ∷ [])
 
 -- the neighbours, 13 in a TLV and the rest in the last one
 abbrev pub neighbour_tlvs : List Neighbour → List ℕ
-neighbour_tlvs ns = flat_map (λ few. tlv EXTENDED_IS_REACHABILITY (neighbours_value few)) (first_chunks 13 ((length ns + 12) / 13) ns)
+neighbour_tlvs ns = flat_map (λ few. tlv EXTENDED_IS_REACHABILITY (neighbours_value few))
+    (first_chunks 13 ((length ns + 12) / 13) ns)
 
 abbrev pub capability_tlv : Capability → List ℕ
 capability_tlv c = tlv MT_CAPABILITY (capability_value c)

@@ -36,7 +36,7 @@ pub struct Content {
 }
 
 /// Reads the TLVs of an LSP (RFC 6329, 13 to 16): the neighbours of all TLVs 22 and the services of all TLVs 144 in
-/// order, and the first SPB-Inst. A TLV that can't be read is passed over, and so is every other TLV.
+/// order, and the first SPB-Inst. A TLV that can't be read is ignored, and so is every other TLV.
 #[tactic(auto, unfolding(crate::specs::Content::content_in))]
 pub fn read_content(alloc: Global, tlvs: &[u8]) -> Result<Content, NoMemory>
     ensures { IfOk result (λ content. content ≡ spec.content_in tlvs.now) }

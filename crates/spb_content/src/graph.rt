@@ -163,16 +163,16 @@ fn graph_among(alloc: Global, backbone: &Backbone<'_>, marks: &[bool]) -> Result
 
 /// The graph that the contents of some systems make, as far as `me` reaches it (RFC 6329, 15 and 16; IEEE 802.1aq, 28).
 ///
-/// A system with an SPB-Inst is a bridge. An edge joins two different bridges that list each other with a metric of 1 to
-/// 16,777,214, where the first entry for a neighbour counts; its cost is the greater metric, and its ports are those
-/// listed. A service makes its system a member where it stands at the system's own B-MAC, with T and R set. The graph is
-/// empty where `me` is no bridge.
+/// A system with an SPB-Inst is a bridge. An edge joins two different bridges that list each other with a metric of 1
+/// to 16,777,214, where the first entry for a neighbour counts; its cost is the greater metric, and its ports are those
+/// listed. A service makes its system a member where it stands at the system's own B-MAC, with T and R set. The graph
+/// is empty where `me` is no bridge.
 ///
-/// The system ids differ, and there are at most 65,535. The graph is valid, and it is valid for `me` where the ports that
-/// `me` lists differ and are 1 to 32.
+/// The system ids differ, and there are at most 65,535. The graph is valid, and it is valid for `me` where the ports
+/// that `me` lists differ and are 1 to 32.
 ///
-/// It puts each bridge into a map, and for each entry of a reached bridge looks up both ends there and searches the entries
-/// of both.
+/// It puts each bridge into a map, and for each entry of a reached bridge looks up both ends there and searches the
+/// entries of both.
 pub fn graph_of(
     alloc: Global,
     me: SystemId,

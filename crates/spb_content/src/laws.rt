@@ -1,5 +1,6 @@
-//! The laws of what is written and read, and of the graph of all that is said. Each is the contract of a function that does nothing.
-ghost use Rattle.spb_content.specs.Laws.{ReadAgain, SameIsWritten, WrittenIsSame, OrderSaysNothing, TreesAscend, VidsAscend, IsidsAscend, OwnFits, SaidGraphHasAllLinks};
+//! The laws of what is written and read, and of the graph of all that is said. Each is the contract of a function that
+//! does nothing.
+ghost use Rattle.spb_content.specs.Laws.{ReadAgain, SameIsWritten, WrittenIsSame, OrderSaysNothingOfContent, TreesAscend, VidsAscend, IsidsAscend, OwnFits, SaidGraphHasAllLinks};
 
 /// What is written is read as what the bridge says.
 pub fn content_again()
@@ -14,7 +15,7 @@ pub fn same_content_is_written_alike()
 
 /// What a bridge says doesn't depend on the order of its VIDs and attached ports.
 pub fn order_says_nothing()
-    ensures { OrderSaysNothing }
+    ensures { OrderSaysNothingOfContent }
 {}
 
 /// The trees, the base VIDs in use and the I-SIDs that a bridge says are those that it has, each once and ascending.

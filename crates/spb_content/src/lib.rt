@@ -3,13 +3,13 @@
 //! [`content_of`] writes the TLVs of the own LSP, [`read_content`] reads those of any LSP, and [`graph_of`] makes the
 //! graph of what the systems of a backbone say.
 //!
-//! The first two take time in proportion to the bytes. Before it writes them, `content_of` sorts the VIDs and I-SIDs, and
-//! goes over all attached ports once for each base VID in use: for m attached ports in v base VIDs, and t trees, that
-//! takes O(m (v + log m) + t log t).
+//! The first two take time in proportion to the bytes. Before it writes them, `content_of` sorts the VIDs and I-SIDs,
+//! and goes over all attached ports once for each base VID in use: for m attached ports in v base VIDs, and t trees,
+//! that takes O(m (v + log m) + t log t).
 //!
-//! The graph of n systems takes O(n log n) for a map of the bridges; then O(k + log n) for each entry of a reached bridge,
-//! where k is how many neighbours it and the one that it lists have, as both ends of a link are searched and an entry is
-//! compared with the earlier ones; and O(1) for each of its services.
+//! The graph of n systems takes O(n log n) for a map of the bridges; then O(k + log n) for each entry of a reached
+//! bridge, where k is how many neighbours it and the one that it lists have, as both ends of a link are searched and an
+//! entry is compared with the earlier ones; and O(1) for each of its services.
 #![tactic(auto)]
 
 pub use content::{Content, Inst, read_content};

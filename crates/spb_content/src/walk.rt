@@ -6,8 +6,8 @@ use crate::backbone::Backbone;
 use spb_types::{NoMemory, SystemId};
 use std::alloc::Global;
 
-/// A walk over the links of a backbone: the bridges that it has reached are marked by place, and stand in the queue in the
-/// order in which they were reached.
+/// A walk over the links of a backbone: the bridges that it has reached are marked by place, and stand in the queue in
+/// the order in which they were reached.
 #[derive(Drop)]
 pub struct Walk {
     /// The bridge at which the walk begins.

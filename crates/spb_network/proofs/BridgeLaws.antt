@@ -1,20 +1,20 @@
 -- The laws of a step of a bridge, on which what is sound of a network rests.
 use Rattle.itag_frames.proofs.ControlLaws.{control_again}
-use Rattle.bridge_api.specs.Laws.{ConfiguredIsSound, ConfiguredIsDark, StepsStaySound, StepsKeepBridge, StepsKeepCarrier, StepsKeepNeighbours, SentIsSound, HellosAreHeard, UpPortsAreUp, StepsCarryDatabase}
+use Rattle.bridge_api.specs.Laws.{ConfiguredIsSound, ConfiguredHasNoCarrier, StepsStaySound, StepsKeepBridge, StepsKeepCarrier, StepsKeepNeighbours, SentIsSound, HellosAreHeard, UpPortsAreUp, StepsCarryDatabase}
 use Rattle.bridge_api.proofs.Certified as certified
 use Rattle.bridge_api.proofs.Carriers as carriers
 use Rattle.bridge_api.proofs.Frames as frames
 use Rattle.bridge_api.proofs.Hellos as hellos
 use Rattle.bridge_api.proofs.Sound as stays
 use Rattle.bridge_api.proofs.SoundPorts as ports
-use Rattle.bridge_api.proofs.StepsCarry as carry
+use Rattle.bridge_api.proofs.StepsCarry as set_carrier
 use Rattle.bridge_api.proofs.UpPorts as up
 
 pub configured_is_sound : ConfiguredIsSound
 configured_is_sound = stays.configured_is_sound
 
-pub configured_is_dark : ConfiguredIsDark
-configured_is_dark = ports.configured_is_dark
+pub configured_has_no_carrier : ConfiguredHasNoCarrier
+configured_has_no_carrier = ports.configured_has_no_carrier
 
 pub steps_stay_sound : StepsStaySound
 steps_stay_sound = stays.steps_stay_sound
@@ -38,4 +38,4 @@ pub up_ports_are_up : UpPortsAreUp
 up_ports_are_up = up.up_ports_are_up
 
 pub steps_carry_database : StepsCarryDatabase
-steps_carry_database = carry.steps_carry_database
+steps_carry_database = set_carrier.steps_carry_database

@@ -5,7 +5,7 @@ use Rattle.std.proofs.lemmas.Bool.Decides.{not_from_Decides}
 use Rattle.scenario.specs.declared.command.Command.{Command}
 use Rattle.spb_network.specs.declared.reason.Reason.{Reason}
 use Rattle.spb_network.specs.declared.reason.Reason.TheVariants.{NoSuchName}
-use Rattle.spb_network.specs.Reason.{number_of, reason_unless, ◌or◌}
+use Rattle.spb_network.specs.Reason.{reason_number, reason_unless, ◌or◌}
 use Rattle.spb_network.specs.State.{State}
 use Rattle.spb_network.specs.Refusing.{refusal_of}
 use Rattle.spb_network.specs.Holding.{Holds, IsFirst, IsRefusedForTheFirst}
@@ -35,39 +35,39 @@ Tests H (c ∷ cs) = Decides (not c.0) (H c.1) × Tests H cs
 -- the numbers are above n, and they rise
 abbrev pub Rises : ℕ → List (Bool × Reason) → Type 0
 Rises n [] = ⊤
-Rises n (c ∷ cs) = (n < number_of c.1) × Rises (number_of c.1) cs
+Rises n (c ∷ cs) = (n < reason_number c.1) × Rises (reason_number c.1) cs
 
 -- what is given is the first that holds, and the only one of its number; where none is given none holds
 abbrev pub Said : (Reason → Type 0) → Option Reason → Type 0
 Said H None = (q : Reason) → ¬ H q
-Said H (Some r) = H r × ((q : Reason) → H q → (q ≡ r) ⊎ (number_of r < number_of q))
+Said H (Some r) = H r × ((q : Reason) → H q → (q ≡ r) ⊎ (reason_number r < reason_number q))
 
-above : (n : ℕ) (q : Reason) (cs : List (Bool × Reason)) → Rises n cs → In q cs → n < number_of q
+above : (n : ℕ) (q : Reason) (cs : List (Bool × Reason)) → Rises n cs → In q cs → n < reason_number q
 above n q [] rises i = absurd i
-above n q (c ∷ cs) rises (inl e) = subst (λ r. n < number_of r) (sym e) rises.0
-above n q (c ∷ cs) rises (inr i) = let more = above (number_of c.1) q cs rises.1 i in let low = rises.0 in omega arith
+above n q (c ∷ cs) rises (inl e) = subst (λ r. n < reason_number r) (sym e) rises.0
+above n q (c ∷ cs) rises (inr i) = let more = above (reason_number c.1) q cs rises.1 i in let low = rises.0 in omega arith
 
-step : (H : Reason → Type 0) (t : Bool) (r : Reason) (cs : List (Bool × Reason)) → Decides (not t) (H r) → Rises (number_of r) cs → ((q : Reason) → H q → (q ≡ r) ⊎ In q cs) → (((q : Reason) → H q → In q cs) → Said H (chain cs)) → Said H (after (None or reason_unless t r) cs)
+step : (H : Reason → Type 0) (t : Bool) (r : Reason) (cs : List (Bool × Reason)) → Decides (not t) (H r) → Rises (reason_number r) cs → ((q : Reason) → H q → (q ≡ r) ⊎ In q cs) → (((q : Reason) → H q → In q cs) → Said H (chain cs)) → Said H (after (None or reason_unless t r) cs)
 unfolding reason_unless
 step H true r cs d rises covers rest =
     rest (λ q h. ⊎_elim (λ e. absurd (not_from_Decides false d refl (subst H e h))) (λ i. i) (covers q h))
 step H false r cs d rises covers rest =
-    subst (Said H) (sym (after-some r cs)) (d.0 refl, λ q h. ⊎_elim (λ e. inl e) (λ i. inr (above (number_of r) q cs rises i)) (covers q h))
+    subst (Said H) (sym (after-some r cs)) (d.0 refl, λ q h. ⊎_elim (λ e. inl e) (λ i. inr (above (reason_number r) q cs rises i)) (covers q h))
 
 -- so it is of a chain that has every reason that may hold
 pub chain_said : (H : Reason → Type 0) (n : ℕ) (cs : List (Bool × Reason)) → Tests H cs → Rises n cs → ((q : Reason) → H q → In q cs) → Said H (chain cs)
 chain_said H n [] tests rises covers = covers
-chain_said H n (c ∷ cs) tests rises covers = step H c.0 c.1 cs tests.0 rises.1 covers (λ more. chain_said H (number_of c.1) cs tests.1 rises.1 more)
+chain_said H n (c ∷ cs) tests rises covers = step H c.0 c.1 cs tests.0 rises.1 covers (λ more. chain_said H (reason_number c.1) cs tests.1 rises.1 more)
 
 -- no reason has a lower number than this one
-pub lowest : (q : Reason) → (q ≡ NoSuchName) ⊎ (number_of NoSuchName < number_of q)
+pub lowest : (q : Reason) → (q ≡ NoSuchName) ⊎ (reason_number NoSuchName < reason_number q)
 lowest NoSuchName = inl refl
 lowest _ = inr (omega arith)
 
 first_of : (s : State) (c : Command) (r : Reason) → Said (Holds s c) (Some r) → IsFirst s c r
 first_of s c r said = record {
   holds = said.0;
-  first = λ q h. ⊎_elim (λ e. subst (λ p. number_of r ≤ number_of p) (sym e) (omega arith)) (λ below. omega (arith, below)) (said.1 q h);
+  first = λ q h. ⊎_elim (λ e. subst (λ p. reason_number r ≤ reason_number p) (sym e) (omega arith)) (λ below. omega (arith, below)) (said.1 q h);
 }
 
 is_given : (s : State) (c : Command) (o : Option Reason) (r : Reason) → Said (Holds s c) o → IsFirst s c r → o ≡ Some r

@@ -11,11 +11,11 @@ use Rattle.spb_network.specs.World.{place_of, things_of}
 use Rattle.link_model.specs.Lanes.{no_frames}
 use Rattle.spb_network.specs.Declaring.{bridge_of, link_of, with_bridge, with_link}
 use Rattle.spb_network.specs.State.{State}
-use Rattle.spb_network.specs.Events.{metered, metered_over}
+use Rattle.spb_network.specs.Events.{with_metric_at_end, with_metrics_over}
 use Rattle.spb_network.specs.Refusing.{box_for, declared_refusal, refusal_of}
-use Rattle.spb_network.specs.Play.{boxed, declared, linked, placed_link, named_link, next_state}
+use Rattle.spb_network.specs.Play.{boxed, declared, linked, link_between_found, named_link, next_state}
 use Rattle.spb_network.specs.Network.{Fits, IsPortAt}
-use Rattle.spb_network.proofs.FitsLemmas.{IsAlike, alike_then, alike_metered, alike_switched_on}
+use Rattle.spb_network.proofs.FitsLemmas.{IsAlike, alike_then, alike_with_metric, alike_switched_on}
 use Rattle.spb_network.proofs.SoundNames.{last_none, passes}
 
 boxed_bridges : (s : State) (name : List ℕ) (b : DeclaredBridge) (place : Option ℕ) → is_some place ≡ true → (boxed s name b place).world.bridges ≡ s.world.bridges ++ (name, b) ∷ []
@@ -33,18 +33,18 @@ linked_bridges : (s : State) (name : List ℕ) (l : DeclaredLink) → (linked s 
 unfolding linked with_link
 linked_bridges s name l =
     let t : State = record s { world = with_link s.world name l; lanes = s.lanes ++ no_frames ∷ [] } in
-    let alike : IsAlike t (metered_over t l) = alike_then t (metered t l.a) (metered_over t l) (alike_metered t l.a) (alike_metered (metered t l.a) l.b) in
-    (alike_switched_on (metered_over t l) (length s.lanes)).bridges ∙ alike.bridges
+    let alike : IsAlike t (with_metrics_over t l) = alike_then t (with_metric_at_end t l.a) (with_metrics_over t l) (alike_with_metric t l.a) (alike_with_metric (with_metric_at_end t l.a) l.b) in
+    (alike_switched_on (with_metrics_over t l) (length s.lanes)).bridges ∙ alike.bridges
 
-placed_bridges : (s : State) (name : List ℕ) (a b : Option ℕ) (port_a port_b cost : ℕ) → (placed_link s name a port_a b port_b cost).world.bridges ≡ s.world.bridges
-placed_bridges s name None b port_a port_b cost = refl
-placed_bridges s name (Some i) None port_a port_b cost = refl
-placed_bridges s name (Some i) (Some j) port_a port_b cost = linked_bridges s name (link_of i port_a j port_b cost)
+bridges_at_found : (s : State) (name : List ℕ) (a b : Option ℕ) (port_a port_b cost : ℕ) → (link_between_found s name a port_a b port_b cost).world.bridges ≡ s.world.bridges
+bridges_at_found s name None b port_a port_b cost = refl
+bridges_at_found s name (Some i) None port_a port_b cost = refl
+bridges_at_found s name (Some i) (Some j) port_a port_b cost = linked_bridges s name (link_of i port_a j port_b cost)
 
 -- a link leaves the bridges as they were declared
 pub link_declared : (s : State) (name a b : List ℕ) (port_a port_b cost : ℕ) → (next_state s (command.Link name a port_a b port_b cost)).world.bridges ≡ s.world.bridges
 unfolding next_state named_link
-link_declared s name a b port_a port_b cost = placed_bridges s name (place_of a s.world.bridges) (place_of b s.world.bridges) port_a port_b cost
+link_declared s name a b port_a port_b cost = bridges_at_found s name (place_of a s.world.bridges) (place_of b s.world.bridges) port_a port_b cost
 
 -- each of two bridges has a port where one was declared of each
 pub two_have_port : (s : State) (n m : List ℕ) (b c : DeclaredBridge) → s.world.bridges ≡ (n, b) ∷ (m, c) ∷ [] → b.ports ≡ 1 → c.ports ≡ 1 → Fits s → (i : ℕ) → IsPortAt s.views i 1

@@ -16,7 +16,7 @@ use Rattle.spb_network.specs.World.{place_of, IsLink}
 use Rattle.link_model.specs.Lanes.{changed_lane, rest}
 use Rattle.spb_network.specs.State.{State, links_of, near_end, far_end, lane_at, with_frames}
 use Rattle.spb_network.specs.Events.{stepped, heard_over, delivered_front, delivered}
-use Rattle.spb_network.specs.Refusing.{placed_refusal, frame_refusal}
+use Rattle.spb_network.specs.Refusing.{refusal_at_found, frame_refusal}
 use Rattle.spb_network.specs.Play.{at_place, at_link}
 use Rattle.spb_network.specs.Sound.{IsSoundState}
 use Rattle.spb_network.specs.DeliveryLaws.{frames_at, pushed_all, IsOneStep, AreSent, IsDelivery, FramesAreDelivered, IsDeliveryOf, DeliverDelivers}
@@ -108,10 +108,10 @@ named : (s : State) (name : List ℕ) (dir : Dir) (k : ℕ) (lane : List Frame) 
 named s name dir k [] sound at is some = absurd cc
 named s name dir k (bytes ∷ behind) sound at is some = record { place = k; named = at; bytes = bytes; behind = behind; delivery = is_delivered s k dir bytes behind sound is }
 
-placed : (s : State) (name : List ℕ) (dir : Dir) (o : Option ℕ) → IsSoundState s → place_of name s.world.links ≡ o → placed_refusal (λ k. reason_unless (nat_lt 0 (length (lane_at s k dir))) NoFrame) o ≡ None → IsDeliveryOf s (at_place (λ t k. delivered t k dir) s o) name dir
-placed s name dir None sound at none = absurd cc
-placed s name dir (Some k) sound at none = named s name dir k (lane_at s k dir) sound at refl (passed (nat_lt 0 (length (lane_at s k dir))) NoFrame none)
+delivered_at_found : (s : State) (name : List ℕ) (dir : Dir) (o : Option ℕ) → IsSoundState s → place_of name s.world.links ≡ o → refusal_at_found (λ k. reason_unless (nat_lt 0 (length (lane_at s k dir))) NoFrame) o ≡ None → IsDeliveryOf s (at_place (λ t k. delivered t k dir) s o) name dir
+delivered_at_found s name dir None sound at none = absurd cc
+delivered_at_found s name dir (Some k) sound at none = named s name dir k (lane_at s k dir) sound at refl (passed (nat_lt 0 (length (lane_at s k dir))) NoFrame none)
 
 pub deliver_delivers : DeliverDelivers
 unfolding frame_refusal at_link
-deliver_delivers s name dir sound none = placed s name dir (place_of name s.world.links) sound refl none
+deliver_delivers s name dir sound none = delivered_at_found s name dir (place_of name s.world.links) sound refl none

@@ -10,13 +10,13 @@ use Rattle.spb_types.specs.declared.link.Dir.{Dir}
 use Rattle.spb_types.specs.declared.link.Side.{Side}
 use Rattle.spb_network.specs.declared.reason.Reason.{Reason}
 use Rattle.spb_network.specs.declared.reason.Reason.TheVariants.{NoSuchName, NameTaken, IdTaken, PortUse, Range, TooMany, AlreadyLinked, AlreadyUp, AlreadyDown, Attached, NotAttached, NoFrame, RackSpent, TooLate}
-use Rattle.spb_network.specs.Reason.{number_of, reason_unless}
+use Rattle.spb_network.specs.Reason.{reason_number, reason_unless}
 use Rattle.spb_network.specs.World.{World, things_of, place_of}
 use Rattle.spb_network.specs.Declaring.{is_new_vid, is_vid_range, is_before_bridges, is_new_name, is_new_system, is_new_source, is_bridge_range, has_bridge_room, is_free_port, is_link_range, has_link_room, is_unlinked, vid_refusal, bridge_refusal, link_refusal}
 use Rattle.spb_network.specs.State.{State, is_live, lane_at, kind_at}
 use Rattle.spb_network.specs.Questions.{Question, question_of}
-use Rattle.spb_network.specs.Refusing.{box_for, asked_refusal, declared_refusal, placed_link_refusal, named_link_refusal, unnamed_refusal, placed_refusal, down_refusal, up_refusal, metric_refusal, frame_refusal, round_refusal, drain_refusal, refusal_of}
-use Rattle.spb_network.specs.Holding.{IsNamed, IsAt, AsksUnknown, Holds, TheFirstReasonIsGiven}
+use Rattle.spb_network.specs.Refusing.{box_for, asked_refusal, declared_refusal, link_refusal_at_found, named_link_refusal, unnamed_refusal, refusal_at_found, down_refusal, up_refusal, metric_refusal, frame_refusal, round_refusal, drain_refusal, refusal_of}
+use Rattle.spb_network.specs.Holding.{IsNamed, HoldsAt, AsksUnknown, Holds, TheFirstReasonIsGiven}
 use Rattle.spb_network.proofs.Chains.{chain_said, Said, lowest, refused_for_the_first}
 use Rattle.spb_network.proofs.Tested.{true-is, false-is, fails, opposes, not-lt, not-le, named, known, unknown, at-is, both-at, taken_vid, wrong_vid, late, taken_name, taken_id, wrong_bridge, full_of_bridges, spent_rack, taken_port, wrong_metric, wrong_link, full_of_links, joined, wrong_count}
 
@@ -35,7 +35,7 @@ asked H w (Some question) from to covers = unnamed H w question.bridge from to c
 
 -- ---- what names a link
 
-linked : (H : Reason → Type 0) (w : World) (name : List ℕ) (test : ℕ → Bool) (r : Reason) → 2 < number_of r → (¬ IsNamed name w.links → H NoSuchName) → (H NoSuchName → ¬ IsNamed name w.links) → ((k : ℕ) → place_of name w.links ≡ Some k → Decides (not (test k)) (H r)) → ((q : Reason) → H q → (q ≡ NoSuchName) ⊎ (q ≡ r)) → (o : Option ℕ) → place_of name w.links ≡ o → Said H (placed_refusal (λ k. reason_unless (test k) r) o)
+linked : (H : Reason → Type 0) (w : World) (name : List ℕ) (test : ℕ → Bool) (r : Reason) → 2 < reason_number r → (¬ IsNamed name w.links → H NoSuchName) → (H NoSuchName → ¬ IsNamed name w.links) → ((k : ℕ) → place_of name w.links ≡ Some k → Decides (not (test k)) (H r)) → ((q : Reason) → H q → (q ≡ NoSuchName) ⊎ (q ≡ r)) → (o : Option ℕ) → place_of name w.links ≡ o → Said H (refusal_at_found (λ k. reason_unless (test k) r) o)
 linked H w name test r low from to d covers None at = (from (unknown name w.links at), λ q h. lowest q)
 linked H w name test r low from to d covers (Some k) at =
     chain_said H 2 ((test k, r) ∷ []) (d k at, tt) (low, tt) (λ q h. ⊎_elim (λ e. absurd (to (subst H e h) (known name w.links k at))) (λ e. inl e) (covers q h))
@@ -87,11 +87,11 @@ tick_said s name = unnamed (Holds s (command.Tick name)) s.world name (λ n. n) 
     covers _ h = absurd h
 
 -- of a link, by the places that were found for the names
-placed_said : (s : State) (name a b : List ℕ) (port_a port_b cost : ℕ) (o p : Option ℕ) → place_of a s.world.bridges ≡ o → place_of b s.world.bridges ≡ p → Said (Holds s (command.Link name a port_a b port_b cost)) (placed_link_refusal s.world name o port_a p port_b cost)
+said_at_found : (s : State) (name a b : List ℕ) (port_a port_b cost : ℕ) (o p : Option ℕ) → place_of a s.world.bridges ≡ o → place_of b s.world.bridges ≡ p → Said (Holds s (command.Link name a port_a b port_b cost)) (link_refusal_at_found s.world name o port_a p port_b cost)
 unfolding link_refusal
-placed_said s name a b port_a port_b cost None p at bt = (inl (unknown a s.world.bridges at), λ q h. lowest q)
-placed_said s name a b port_a port_b cost (Some i) None at bt = (inr (unknown b s.world.bridges bt), λ q h. lowest q)
-placed_said s name a b port_a port_b cost (Some i) (Some j) at bt =
+said_at_found s name a b port_a port_b cost None p at bt = (inl (unknown a s.world.bridges at), λ q h. lowest q)
+said_at_found s name a b port_a port_b cost (Some i) None at bt = (inr (unknown b s.world.bridges bt), λ q h. lowest q)
+said_at_found s name a b port_a port_b cost (Some i) (Some j) at bt =
     let w : World = s.world in
     chain_said (Holds s (command.Link name a port_a b port_b cost)) 0
     ((is_new_name name w.links, NameTaken)
@@ -129,7 +129,7 @@ placed_said s name a b port_a port_b cost (Some i) (Some j) at bt =
 
 link_said : (s : State) (name a b : List ℕ) (port_a port_b cost : ℕ) → Said (Holds s (command.Link name a port_a b port_b cost)) (named_link_refusal s.world name a port_a b port_b cost)
 unfolding named_link_refusal
-link_said s name a b port_a port_b cost = placed_said s name a b port_a port_b cost (place_of a s.world.bridges) (place_of b s.world.bridges) refl refl
+link_said s name a b port_a port_b cost = said_at_found s name a b port_a port_b cost (place_of a s.world.bridges) (place_of b s.world.bridges) refl refl
 
 metric_said : (s : State) (name : List ℕ) (side : Side) (m : ℕ) → Said (Holds s (command.Metric name side m)) (metric_refusal s.world name m)
 unfolding metric_refusal
@@ -163,7 +163,7 @@ frame_said : (H : Reason → Type 0) (s : State) (name : List ℕ) (dir : Dir) (
 unfolding frame_refusal
 frame_said H s name dir place from to d covers = linked H s.world name (λ k. nat_lt place (length (lane_at s k dir))) NoFrame (omega arith) from to d covers (place_of name s.world.links) refl
 
-lacking : (s : State) (name : List ℕ) (dir : Dir) (place k : ℕ) → place_of name s.world.links ≡ Some k → Decides (not (nat_lt place (length (lane_at s k dir)))) (IsAt name s.world.links (λ j. length (lane_at s j dir) ≤ place))
+lacking : (s : State) (name : List ℕ) (dir : Dir) (place k : ℕ) → place_of name s.world.links ≡ Some k → Decides (not (nat_lt place (length (lane_at s k dir)))) (HoldsAt name s.world.links (λ j. length (lane_at s j dir) ≤ place))
 lacking s name dir place k at = at-is name s.world.links _ k _ at (not-lt place (length (lane_at s k dir)))
 
 deliver_said : (s : State) (name : List ℕ) (dir : Dir) → Said (Holds s (command.Deliver name dir)) (frame_refusal s name dir 0)

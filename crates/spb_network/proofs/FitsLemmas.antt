@@ -16,10 +16,10 @@ use Rattle.link_model.specs.declared.lanes.LaneId.{LaneId}
 use Rattle.spb_network.specs.World.{Bridges, Links, things_of, ports_at, IsEnd, IsLink, Sound}
 use Rattle.link_model.specs.Lanes.{rest, first_full_from}
 use Rattle.spb_types.specs.declared.link.Side.{Side}
-use Rattle.spb_network.specs.Declaring.{switched, with_live, links_metered, with_end_metric}
+use Rattle.spb_network.specs.Declaring.{switched, with_live, links_with_metric, with_end_metric}
 use Rattle.spb_types.specs.Places.{changed_at}
-use Rattle.spb_network.specs.State.{State, links_of, is_live, near_end, far_end, way_out, lane_at, with_frames}
-use Rattle.spb_network.specs.Events.{sent_over, sent_all, stepped, ticked, heard_over, delivered_front, delivered, lost, doubled, carried, carried_over, metered, flushed, switched_off, switched_on, ticked_from, delivered_times, lane_served, served_from, one_round, rounds, delivered_over, delivered_first, drained}
+use Rattle.spb_network.specs.State.{State, links_of, is_live, near_end, far_end, lane_out, lane_at, with_frames}
+use Rattle.spb_network.specs.Events.{sent_over, sent_all, stepped, ticked, heard_over, delivered_front, delivered, lost, doubled, with_carrier_at_end, with_carrier_over, with_metric_at_end, flushed, switched_off, switched_on, ticked_from, delivered_times, lane_served, served_from, one_round, rounds, delivered_over, delivered_first, drained}
 use Rattle.spb_network.specs.Network.{Fits, IsPortAt}
 use Rattle.spb_network.proofs.BoxLemmas.{get-map, All-get}
 
@@ -76,19 +76,19 @@ length-switched on (l ∷ ls) (suc k) = grind (arith, length-switched on ls k)
 pub alike_with_frames : (f : List Frame → List Frame) (s : State) (k : ℕ) (dir : Dir) → IsAlike s (with_frames f s k dir)
 alike_with_frames f s k dir = record { bridges = refl; links = refl; ports = refl; lanes = length-changed _ s.lanes k }
 
-pub alike_sent_over : (s : State) (way : Option LaneId) (frame : Frame) → IsAlike s (sent_over s way frame)
+pub alike_sent_over : (s : State) (lane : Option LaneId) (frame : Frame) → IsAlike s (sent_over s lane frame)
 alike_sent_over s None frame = alike_itself s
-alike_sent_over s (Some way) frame = by (is_live (links_of s) way.link)
+alike_sent_over s (Some lane) frame = by (is_live (links_of s) lane.link)
   where
-    by : (live : Bool) → IsAlike s (if live then with_frames (λ frames. pushed frames frame) s way.link way.dir else s)
-    by true = alike_with_frames (λ frames. pushed frames frame) s way.link way.dir
+    by : (live : Bool) → IsAlike s (if live then with_frames (λ frames. pushed frames frame) s lane.link lane.dir else s)
+    by true = alike_with_frames (λ frames. pushed frames frame) s lane.link lane.dir
     by false = alike_itself s
 
 pub alike_sent_all : (s : State) (i : ℕ) (fs : List (ℕ × List ℕ)) → IsAlike s (sent_all s i fs)
 alike_sent_all s i [] = alike_itself s
 alike_sent_all s i (f ∷ fs) =
-    let next : State = sent_over s (way_out (links_of s) i f.0) f.1 in
-    alike_then s next (sent_all next i fs) (alike_sent_over s (way_out (links_of s) i f.0) f.1) (alike_sent_all next i fs)
+    let next : State = sent_over s (lane_out (links_of s) i f.0) f.1 in
+    alike_then s next (sent_all next i fs) (alike_sent_over s (lane_out (links_of s) i f.0) f.1) (alike_sent_all next i fs)
 
 alike_views : (input : Input) (s : State) (i : ℕ) → IsAlike s (record s { views = changed_at (step input) s.views i })
 alike_views input s i = record { bridges = refl; links = refl; ports = map-changed (λ v. length v.ports) (step input) s.views i (λ v. (steps_keep_bridge input v).ports); lanes = refl }
@@ -104,14 +104,14 @@ pub alike_with_live : (on : Bool) (s : State) (k : ℕ) → IsAlike s (record s 
 unfolding with_live
 alike_with_live on s k = record { bridges = refl; links = length-switched on s.world.links k; ports = refl; lanes = refl }
 
-length-metered : (on : Side) (m : ℕ) (ls : Links) (k : ℕ) → length (links_metered on m ls k) ≡ length ls
-length-metered on m [] k = refl
-length-metered on m (l ∷ ls) zero = refl
-length-metered on m (l ∷ ls) (suc k) = grind (arith, length-metered on m ls k)
+length-with_metric : (on : Side) (m : ℕ) (ls : Links) (k : ℕ) → length (links_with_metric on m ls k) ≡ length ls
+length-with_metric on m [] k = refl
+length-with_metric on m (l ∷ ls) zero = refl
+length-with_metric on m (l ∷ ls) (suc k) = grind (arith, length-with_metric on m ls k)
 
 pub Fits-with_end_metric : (on : Side) (m : ℕ) (s : State) (k : ℕ) → Fits s → Fits (record s { world = with_end_metric on m s.world k })
 unfolding with_end_metric
-Fits-with_end_metric on m s k fits = record { bridges = fits.bridges; lanes = fits.lanes ∙ sym (length-metered on m s.world.links k); ports = fits.ports }
+Fits-with_end_metric on m s k fits = record { bridges = fits.bridges; lanes = fits.lanes ∙ sym (length-with_metric on m s.world.links k); ports = fits.ports }
 
 pub alike_flushed : (s : State) (k : ℕ) → IsAlike s (flushed s k)
 alike_flushed s k = record { bridges = refl; links = refl; ports = refl; lanes = length-changed _ s.lanes k }
@@ -141,15 +141,15 @@ alike_lost s k dir place = alike_with_frames (λ frames. after_lose frames place
 pub alike_doubled : (s : State) (k : ℕ) (dir : Dir) (place : ℕ) → IsAlike s (doubled s k dir place)
 alike_doubled s k dir place = alike_with_frames (λ frames. after_double frames place (slice_get frames place)) s k dir
 
-pub alike_carried : (on : Bool) (s : State) (e : LinkEnd) → IsAlike s (carried on s e)
-alike_carried on s e = alike_stepped (comes.carrier e.port on) s e.bridge
+pub alike_with_carrier : (on : Bool) (s : State) (e : LinkEnd) → IsAlike s (with_carrier_at_end on s e)
+alike_with_carrier on s e = alike_stepped (comes.carrier e.port on) s e.bridge
 
-pub alike_carried_over : (on : Bool) (s : State) (o : Option DeclaredLink) → IsAlike s (carried_over on s o)
-alike_carried_over on s None = alike_itself s
-alike_carried_over on s (Some l) = alike_then s (carried on s l.a) (carried on (carried on s l.a) l.b) (alike_carried on s l.a) (alike_carried on (carried on s l.a) l.b)
+pub alike_with_carrier_over : (on : Bool) (s : State) (o : Option DeclaredLink) → IsAlike s (with_carrier_over on s o)
+alike_with_carrier_over on s None = alike_itself s
+alike_with_carrier_over on s (Some l) = alike_then s (with_carrier_at_end on s l.a) (with_carrier_at_end on (with_carrier_at_end on s l.a) l.b) (alike_with_carrier on s l.a) (alike_with_carrier on (with_carrier_at_end on s l.a) l.b)
 
-pub alike_metered : (s : State) (e : LinkEnd) → IsAlike s (metered s e)
-alike_metered s e = alike_stepped (comes.metric e.port e.metric) s e.bridge
+pub alike_with_metric : (s : State) (e : LinkEnd) → IsAlike s (with_metric_at_end s e)
+alike_with_metric s e = alike_stepped (comes.metric e.port e.metric) s e.bridge
 
 pub alike_switched_off : (s : State) (k : ℕ) → IsAlike s (switched_off s k)
 unfolding switched_off
@@ -157,13 +157,13 @@ alike_switched_off s k =
     let t : State = flushed s k in
     let u : State = record t { world = with_live false t.world k } in
     alike_then s t (switched_off s k) (alike_flushed s k)
-    (alike_then t u (switched_off s k) (alike_with_live false t k) (alike_carried_over false u (slice_get (links_of s) k)))
+    (alike_then t u (switched_off s k) (alike_with_live false t k) (alike_with_carrier_over false u (slice_get (links_of s) k)))
 
 pub alike_switched_on : (s : State) (k : ℕ) → IsAlike s (switched_on s k)
 unfolding switched_on
 alike_switched_on s k =
     let t : State = record s { world = with_live true s.world k } in
-    alike_then s t (switched_on s k) (alike_with_live true s k) (alike_carried_over true t (slice_get (links_of s) k))
+    alike_then s t (switched_on s k) (alike_with_live true s k) (alike_with_carrier_over true t (slice_get (links_of s) k))
 
 pub alike_ticked_from : (n i : ℕ) (s : State) → IsAlike s (ticked_from n i s)
 alike_ticked_from zero i s = alike_itself s
@@ -195,9 +195,9 @@ pub alike_rounds : (n : ℕ) (s : State) → IsAlike s (rounds n s)
 alike_rounds zero s = alike_itself s
 alike_rounds (suc n) s = alike_then s (one_round s) (rounds (suc n) s) (alike_one_round s) (alike_rounds n (one_round s))
 
-pub alike_delivered_over : (s : State) (way : Option LaneId) → IsAlike s (delivered_over s way)
+pub alike_delivered_over : (s : State) (lane : Option LaneId) → IsAlike s (delivered_over s lane)
 alike_delivered_over s None = alike_itself s
-alike_delivered_over s (Some way) = alike_delivered s way.link way.dir
+alike_delivered_over s (Some lane) = alike_delivered s lane.link lane.dir
 
 pub alike_delivered_first : (s : State) → IsAlike s (delivered_first s)
 unfolding delivered_first
@@ -236,8 +236,8 @@ Fits-lost s k dir place fits = Fits-alike s (lost s k dir place) (alike_lost s k
 pub Fits-doubled : (s : State) (k : ℕ) (dir : Dir) (place : ℕ) → Fits s → Fits (doubled s k dir place)
 Fits-doubled s k dir place fits = Fits-alike s (doubled s k dir place) (alike_doubled s k dir place) fits
 
-pub Fits-carried : (on : Bool) (s : State) (e : LinkEnd) → Fits s → Fits (carried on s e)
-Fits-carried on s e fits = Fits-alike s (carried on s e) (alike_carried on s e) fits
+pub Fits-carried : (on : Bool) (s : State) (e : LinkEnd) → Fits s → Fits (with_carrier_at_end on s e)
+Fits-carried on s e fits = Fits-alike s (with_carrier_at_end on s e) (alike_with_carrier on s e) fits
 
 pub Fits-switched_off : (s : State) (k : ℕ) → Fits s → Fits (switched_off s k)
 Fits-switched_off s k fits = Fits-alike s (switched_off s k) (alike_switched_off s k) fits

@@ -5,13 +5,13 @@ pub mod WorldLemmas
 pub mod RefusalLemmas
 pub mod ValidLemmas
 pub mod BoxLemmas
-pub mod WayLemmas
+pub mod LaneLemmas
 pub mod SendLemmas
 pub mod BridgeLaws
 pub mod FitsLemmas
 pub mod SoundLaws
 pub mod SoundLane
-pub mod SoundWays
+pub mod SoundLaneIds
 pub mod SoundMoves
 pub mod SoundSteps
 pub mod SoundCarrier
@@ -20,7 +20,7 @@ pub mod SoundAttached
 pub mod SoundEvents
 pub mod SoundDeclaring
 pub mod SoundLinks
-pub mod SoundMetering
+pub mod SoundSetMetrics
 pub mod SoundConfigured
 pub mod SoundNames
 pub mod SoundPlay

@@ -5,12 +5,12 @@ use Rattle.std.specs.Option.{option_map}
 use Rattle.adjacency.specs.declared.port.Adjacency.{Adjacency}
 use Rattle.bridge_api.specs.declared.kind.Kind.{Kind}
 use Rattle.bridge_api.specs.declared.port.BridgePort.{BridgePort}
-use Rattle.bridge_api.specs.View.{BridgeView, port_in, is_due_in}
+use Rattle.bridge_api.specs.View.{BridgeView, port_in, is_csnp_due_in}
 use Rattle.spb_network.specs.declared.declaration.DeclaredBridge.{DeclaredBridge}
 use Rattle.spb_network.specs.World.{Bridges, things_of, ports_at}
 use Rattle.spb_network.specs.State.{State, Spare, serves, box_from}
 use Rattle.spb_network.specs.Network.{Fits}
-use Rattle.spb_network.specs.Questions.{told_ports}
+use Rattle.spb_network.specs.Questions.{adjacencies_of}
 
 pub some-is : {X : Type 0} (x y : X) → Some x ≡ Some y → x ≡ y
 some-is x y h = cc
@@ -27,14 +27,14 @@ less-one p = omega arith
 port-next : (ports : List BridgePort) (p : ℕ) → port_in ports (p + 1) ≡ slice_get ports p
 port-next ports p = rw (one-at-most p, less-one p) refl
 
-told-at : (ports : List BridgePort) (p : ℕ) (a : Adjacency) (due : Bool) → Some a ≡ option_map (λ port. port.adjacency) (slice_get ports p) → due ≡ is_due_in (slice_get ports p) → take (suc p) (told_ports ports) ≡ take p (told_ports ports) ++ (a, due) ∷ []
-told-at [] p a due h e = cc
-told-at (q ∷ qs) zero a due h e = λ i. (sym (some-is a q.adjacency h) i, sym e i) ∷ []
-told-at (q ∷ qs) (suc p) a due h e = ap (λ l. (q.adjacency, q.due) ∷ l) (told-at qs p a due h e)
+shown-at : (ports : List BridgePort) (p : ℕ) (a : Adjacency) (due : Bool) → Some a ≡ option_map (λ port. port.adjacency) (slice_get ports p) → due ≡ is_csnp_due_in (slice_get ports p) → take (suc p) (adjacencies_of ports) ≡ take p (adjacencies_of ports) ++ (a, due) ∷ []
+shown-at [] p a due h e = cc
+shown-at (q ∷ qs) zero a due h e = λ i. (sym (some-is a q.adjacency h) i, sym e i) ∷ []
+shown-at (q ∷ qs) (suc p) a due h e = ap (λ l. (q.adjacency, q.csnp_due) ∷ l) (shown-at qs p a due h e)
 
 -- one port more
-pub told-more : (ports : List BridgePort) (p : ℕ) (a : Adjacency) (due : Bool) → Some a ≡ option_map (λ port. port.adjacency) (port_in ports (p + 1)) → due ≡ is_due_in (port_in ports (p + 1)) → take (p + 1) (told_ports ports) ≡ take p (told_ports ports) ++ (a, due) ∷ []
-told-more ports p a due h e = ap (λ n. take n (told_ports ports)) (suc-is p) ∙ told-at ports p a due (h ∙ ap (option_map (λ port. port.adjacency)) (port-next ports p)) (e ∙ ap is_due_in (port-next ports p))
+pub shown-more : (ports : List BridgePort) (p : ℕ) (a : Adjacency) (due : Bool) → Some a ≡ option_map (λ port. port.adjacency) (port_in ports (p + 1)) → due ≡ is_csnp_due_in (port_in ports (p + 1)) → take (p + 1) (adjacencies_of ports) ≡ take p (adjacencies_of ports) ++ (a, due) ∷ []
+shown-more ports p a due h e = ap (λ n. take n (adjacencies_of ports)) (suc-is p) ∙ shown-at ports p a due (h ∙ ap (option_map (λ port. port.adjacency)) (port-next ports p)) (e ∙ ap is_csnp_due_in (port-next ports p))
 
 take-length : {X : Type 0} (xs : List X) (n : ℕ) → n ≡ length xs → take n xs ≡ xs
 take-length [] zero h = refl
@@ -42,12 +42,12 @@ take-length [] (suc n) h = absurd (omega (arith, h))
 take-length (x ∷ xs) zero h = absurd (omega (arith, h))
 take-length (x ∷ xs) (suc n) h = ap (λ l. x ∷ l) (take-length xs n (omega (arith, h)))
 
-length-told : (ports : List BridgePort) → length (told_ports ports) ≡ length ports
-length-told [] = refl
-length-told (p ∷ ps) = grind (arith, length-told ps)
+length-shown : (ports : List BridgePort) → length (adjacencies_of ports) ≡ length ports
+length-shown [] = refl
+length-shown (p ∷ ps) = grind (arith, length-shown ps)
 
-pub told-all : (ports : List BridgePort) (n : ℕ) → n ≡ length ports → take n (told_ports ports) ≡ told_ports ports
-told-all ports n h = take-length (told_ports ports) n (h ∙ sym (length-told ports))
+pub shown-all : (ports : List BridgePort) (n : ℕ) → n ≡ length ports → take n (adjacencies_of ports) ≡ adjacencies_of ports
+shown-all ports n h = take-length (adjacencies_of ports) n (h ∙ sym (length-shown ports))
 
 declared-at : (bs : Bridges) (i : ℕ) → i < length bs → (b : DeclaredBridge) × (slice_get (things_of bs) i ≡ Some b) × (ports_at bs i ≡ b.ports)
 declared-at [] i h = absurd (omega arith)
@@ -88,6 +88,6 @@ pub box-none : (wanted : Kind) (rack : List Spare) (k : ℕ) → length rack ≤
 box-none wanted rack k h = ap (box_from k wanted) (drop-length rack k h)
 
 -- what holds of an answer that is Ok
-pub told-ok : {T E : Type 0} {P Q : T → Type 0} (r : Result T E) → ((x : T) → P x → Q x) → IfOk r P → IfOk r Q
-told-ok (Ok x) f p = f x p
-told-ok (Err e) f p = p
+pub shown-ok : {T E : Type 0} {P Q : T → Type 0} (r : Result T E) → ((x : T) → P x → Q x) → IfOk r P → IfOk r Q
+shown-ok (Ok x) f p = f x p
+shown-ok (Err e) f p = p

@@ -10,7 +10,7 @@ use Rattle.spb_network.specs.declared.reason.Reason.{Reason}
 use Rattle.spb_network.specs.declared.reason.Reason.TheVariants.{Range}
 use Rattle.bridge_api.specs.Config.{IsMetric}
 use Rattle.spb_network.specs.Reason.{reason_unless, ◌or◌}
-use Rattle.spb_network.specs.Refusing.{placed_refusal, metric_refusal, declared_refusal, round_refusal, drain_refusal}
+use Rattle.spb_network.specs.Refusing.{refusal_at_found, metric_refusal, declared_refusal, round_refusal, drain_refusal}
 use Rattle.spb_network.specs.State.{State}
 use Rattle.spb_network.specs.World.{World, things_of, place_of, ports_at, is_between, is_at_port, AreApart}
 use Rattle.spb_network.specs.Declaring.{vid_refusal, bridge_refusal, link_refusal, is_vid_range, is_new_name, is_new_system, is_new_source, is_bridge_range, is_bridge_address, has_bridge_room, is_free_port, is_link_range, is_unlinked, bridge_of, link_of}
@@ -53,7 +53,7 @@ empty_list xs h = empty_from xs (eq-true (length xs) 0 h)
 pub metric_refusal_none : (w : World) (name : List ℕ) (m k : ℕ) → place_of name w.links ≡ Some k → metric_refusal w name m ≡ None → IsMetric m
 unfolding metric_refusal
 metric_refusal_none w name m k at none =
-    let range = reason_unless-none (nat_le 1 m && nat_le m GREATEST_METRIC) _ (ap (placed_refusal (λ j. reason_unless (nat_le 1 m && nat_le m GREATEST_METRIC) Range)) (sym at) ∙ none) in
+    let range = reason_unless-none (nat_le 1 m && nat_le m GREATEST_METRIC) _ (ap (refusal_at_found (λ j. reason_unless (nat_le 1 m && nat_le m GREATEST_METRIC) Range)) (sym at) ∙ none) in
     record { low = le-true 1 m (and-left _ _ range); high = le-true m GREATEST_METRIC (and-right _ _ range) }
 
 -- what the tests of a VID say

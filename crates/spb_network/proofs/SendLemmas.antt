@@ -10,20 +10,20 @@ use Rattle.link_model.specs.declared.lanes.LinkLanes.{LinkLanes}
 use Rattle.link_model.specs.declared.lanes.LaneId.{LaneId}
 use Rattle.link_model.specs.Lanes.{lane_in, changed_lane, rest}
 use Rattle.spb_types.specs.Places.{changed_at}
-use Rattle.spb_network.specs.State.{State, links_of, is_live, live_way, with_frames}
+use Rattle.spb_network.specs.State.{State, links_of, is_live, live_lane, with_frames}
 use Rattle.spb_network.specs.Events.{sent_over, sent_all, stepped}
 
-same-way : (s : State) (v w : LaneId) (f : Frame) (b : Bool) → (if b then Some v else None) ≡ Some w → (if b then with_frames (λ frames. pushed frames f) s v.link v.dir else s) ≡ with_frames (λ frames. pushed frames f) s w.link w.dir
-same-way s v w f true e = ap (λ x. with_frames (λ frames. pushed frames f) s x.link x.dir) (some-is v w e)
+same-lane : (s : State) (v w : LaneId) (f : Frame) (b : Bool) → (if b then Some v else None) ≡ Some w → (if b then with_frames (λ frames. pushed frames f) s v.link v.dir else s) ≡ with_frames (λ frames. pushed frames f) s w.link w.dir
+same-lane s v w f true e = ap (λ x. with_frames (λ frames. pushed frames f) s x.link x.dir) (some-is v w e)
   where
     some-is : (v w : LaneId) → Some v ≡ Some w → v ≡ w
     some-is v w h = cc
-same-way s v w f false e = cc
+same-lane s v w f false e = cc
 
 -- a frame goes over the way that is live
-pub sent-live : (s : State) (o : Option LaneId) (w : LaneId) (f : Frame) → live_way (links_of s) o ≡ Some w → sent_over s o f ≡ with_frames (λ frames. pushed frames f) s w.link w.dir
+pub sent-live : (s : State) (o : Option LaneId) (w : LaneId) (f : Frame) → live_lane (links_of s) o ≡ Some w → sent_over s o f ≡ with_frames (λ frames. pushed frames f) s w.link w.dir
 sent-live s None w f e = cc
-sent-live s (Some v) w f e = same-way s v w f (is_live (links_of s) v.link) e
+sent-live s (Some v) w f e = same-lane s v w f (is_live (links_of s) v.link) e
 
 -- what comes to a bridge, once its box shows what became of it and told what it sends
 pub stepped-is : (input : Input) (s : State) (i : ℕ) (views : List BridgeView) (frames : List (ℕ × Frame)) → views ≡ changed_at (step input) s.views i → frames ≡ option_map_or (sent input) (slice_get s.views i) [] → sent_all (record s { views = views }) i frames ≡ stepped input s i

@@ -13,12 +13,12 @@ use Rattle.link_model.specs.declared.lanes.LaneId.{LaneId}
 use Rattle.spb_network.specs.World.{World, things_of, AllApart}
 use Rattle.link_model.specs.Lanes.{changed_lane, lane_of}
 use Rattle.spb_types.specs.Places.{changed_at}
-use Rattle.spb_network.specs.State.{State, links_of, is_live, near_end, way_out, with_frames}
+use Rattle.spb_network.specs.State.{State, links_of, is_live, near_end, lane_out, with_frames}
 use Rattle.spb_network.specs.Events.{sent_over, sent_all, stepped}
 use Rattle.spb_network.specs.DeliveryLaws.{frames_at, pushed_all, IsOneStep}
 use Rattle.spb_network.proofs.FitsLemmas.{alike_sent_over}
 use Rattle.spb_network.proofs.SoundLane.{some-is}
-use Rattle.spb_network.proofs.SoundWays.{way_of_end, LeadsFrom, way_leads}
+use Rattle.spb_network.proofs.SoundLaneIds.{lane_of_end, LeadsFrom, lane_leads}
 use Rattle.spb_network.proofs.SoundSteps.{lane_changed, world-sent_over}
 use Rattle.spb_network.proofs.SoundEvents.{stepped_views}
 
@@ -51,19 +51,19 @@ over_here true s k dir x within live = ap (λ (b : Bool). lane_of (if b then wit
 over_here false s k dir x within live = ap (λ (b : Bool). lane_of (if b then with_frames (λ frames. pushed frames x) s k dir else s).lanes k dir) live
 
 -- and into no other
-over_beside : (s : State) (o : Option LaneId) (x : Frame) (k : ℕ) (dir : Dir) → ((way : LaneId) → o ≡ Some way → (way.link ≡ k) × (way.dir ≡ dir) → ⊥) → lane_of (sent_over s o x).lanes k dir ≡ lane_of s.lanes k dir
+over_beside : (s : State) (o : Option LaneId) (x : Frame) (k : ℕ) (dir : Dir) → ((lane : LaneId) → o ≡ Some lane → (lane.link ≡ k) × (lane.dir ≡ dir) → ⊥) → lane_of (sent_over s o x).lanes k dir ≡ lane_of s.lanes k dir
 over_beside s None x k dir apart = refl
-over_beside s (Some way) x k dir apart = by (is_live (links_of s) way.link)
+over_beside s (Some lane) x k dir apart = by (is_live (links_of s) lane.link)
   where
-    by : (live : Bool) → lane_of (if live then with_frames (λ frames. pushed frames x) s way.link way.dir else s).lanes k dir ≡ lane_of s.lanes k dir
-    by true = lane_beside (λ frames. pushed frames x) s.lanes way.link way.dir k dir (apart way refl)
+    by : (live : Bool) → lane_of (if live then with_frames (λ frames. pushed frames x) s lane.link lane.dir else s).lanes k dir ≡ lane_of s.lanes k dir
+    by true = lane_beside (λ frames. pushed frames x) s.lanes lane.link lane.dir k dir (apart lane refl)
     by false = refl
 
 module _ (links : List DeclaredLink) (i k : ℕ) (dir : Dir) (l : DeclaredLink) (there : slice_get links k ≡ Some l) where
   -- a way into this lane leads from this end
-  leads_here : (q : ℕ) (way : LaneId) → way_out links i q ≡ Some way → (way.link ≡ k) × (way.dir ≡ dir) → ((near_end dir l).bridge ≡ i) × ((near_end dir l).port ≡ q)
-  leads_here q way out same =
-      let leads : LeadsFrom links i q way.link way.dir = way_leads links i q way out in
+  leads_here : (q : ℕ) (lane : LaneId) → lane_out links i q ≡ Some lane → (lane.link ≡ k) × (lane.dir ≡ dir) → ((near_end dir l).bridge ≡ i) × ((near_end dir l).port ≡ q)
+  leads_here q lane out same =
+      let leads : LeadsFrom links i q lane.link lane.dir = lane_leads links i q lane out in
       let link : leads.link ≡ l = some-is leads.link l (sym leads.there ∙ (ap (slice_get links) same.0 ∙ there)) in
       (sym (λ j. (near_end (same.1 j) (link j)).bridge) ∙ leads.bridge, sym (λ j. (near_end (same.1 j) (link j)).port) ∙ leads.port)
 
@@ -72,25 +72,25 @@ module _ (links : List DeclaredLink) (i k : ℕ) (dir : Dir) (l : DeclaredLink) 
   pub sent_beside : (s : State) (fs : List (ℕ × Frame)) → links_of s ≡ links → (near_end dir l).bridge ≢ i → lane_of (sent_all s i fs).lanes k dir ≡ lane_of s.lanes k dir
   sent_beside s [] same apart = refl
   sent_beside s (x ∷ fs) same apart =
-      let way : Option LaneId = way_out (links_of s) i x.0 in
-      sent_beside (sent_over s way x.1) fs (ap (λ (w : World). things_of w.links) (world-sent_over s way x.1) ∙ same) apart
-      ∙ over_beside s way x.1 k dir (λ w out is. apart (leads_here x.0 w (ap (λ (ls : List DeclaredLink). way_out ls i x.0) (sym same) ∙ out) is).0)
+      let lane : Option LaneId = lane_out (links_of s) i x.0 in
+      sent_beside (sent_over s lane x.1) fs (ap (λ (w : World). things_of w.links) (world-sent_over s lane x.1) ∙ same) apart
+      ∙ over_beside s lane x.1 k dir (λ w out is. apart (leads_here x.0 w (ap (λ (ls : List DeclaredLink). lane_out ls i x.0) (sym same) ∙ out) is).0)
 
   -- ---- and in a lane that leads from it
 
   module _ (all_apart : AllApart links) (ends : l.a.bridge ≢ l.b.bridge) (near : (near_end dir l).bridge ≡ i) where
-    out_here : (q : ℕ) → (near_end dir l).port ≡ q → way_out links i q ≡ Some (record { link = k; dir = dir })
-    out_here q port = sym (λ j. way_out links (near j) (port j)) ∙ way_of_end links k l dir all_apart ends there
+    out_here : (q : ℕ) → (near_end dir l).port ≡ q → lane_out links i q ≡ Some (record { link = k; dir = dir })
+    out_here q port = sym (λ j. lane_out links (near j) (port j)) ∙ lane_of_end links k l dir all_apart ends there
 
     one_sent : (s : State) (x : ℕ × Frame) (b : Bool) → links_of s ≡ links → k < length s.lanes → (x.0 == (near_end dir l).port) ≡ b
-        → lane_of (sent_over s (way_out (links_of s) i x.0) x.1).lanes k dir ≡ (if b && l.live then pushed (lane_of s.lanes k dir) x.1 else lane_of s.lanes k dir)
+        → lane_of (sent_over s (lane_out (links_of s) i x.0) x.1).lanes k dir ≡ (if b && l.live then pushed (lane_of s.lanes k dir) x.1 else lane_of s.lanes k dir)
     one_sent s x true same within at =
-        let out : way_out (links_of s) i x.0 ≡ Some (record { link = k; dir = dir }) = ap (λ (ls : List DeclaredLink). way_out ls i x.0) same ∙ out_here x.0 (sym (eqb-true x.0 (near_end dir l).port at)) in
+        let out : lane_out (links_of s) i x.0 ≡ Some (record { link = k; dir = dir }) = ap (λ (ls : List DeclaredLink). lane_out ls i x.0) same ∙ out_here x.0 (sym (eqb-true x.0 (near_end dir l).port at)) in
         ap (λ (o : Option LaneId). lane_of (sent_over s o x.1).lanes k dir) out
         ∙ over_here l.live s k dir x.1 within (ap (λ (ls : List DeclaredLink). is_live ls k) same ∙ live_of links k l there)
     one_sent s x false same within at =
-        over_beside s (way_out (links_of s) i x.0) x.1 k dir (λ w out is.
-        true≢false (sym (eq-eqb x.0 (near_end dir l).port (sym (leads_here x.0 w (ap (λ (ls : List DeclaredLink). way_out ls i x.0) (sym same) ∙ out) is).1)) ∙ at))
+        over_beside s (lane_out (links_of s) i x.0) x.1 k dir (λ w out is.
+        true≢false (sym (eq-eqb x.0 (near_end dir l).port (sym (leads_here x.0 w (ap (λ (ls : List DeclaredLink). lane_out ls i x.0) (sym same) ∙ out) is).1)) ∙ at))
 
     nothing_sent : (live : Bool) (lane : List Frame) → lane ≡ pushed_all lane (if live then [] else [])
     nothing_sent true lane = refl
@@ -106,10 +106,10 @@ module _ (links : List DeclaredLink) (i k : ℕ) (dir : Dir) (l : DeclaredLink) 
         → lane_of (sent_all s i fs).lanes k dir ≡ pushed_all (lane_of s.lanes k dir) (if l.live then frames_at (near_end dir l).port fs else [])
     sent_here s [] same within = nothing_sent l.live (lane_of s.lanes k dir)
     sent_here s (x ∷ fs) same within =
-        let way : Option LaneId = way_out (links_of s) i x.0 in
-        let next : State = sent_over s way x.1 in
+        let lane : Option LaneId = lane_out (links_of s) i x.0 in
+        let next : State = sent_over s lane x.1 in
         let more : List Frame = frames_at (near_end dir l).port fs in
-        sent_here next fs (ap (λ (w : World). things_of w.links) (world-sent_over s way x.1) ∙ same) (subst (λ (n : ℕ). k < n) (sym (alike_sent_over s way x.1).lanes) within)
+        sent_here next fs (ap (λ (w : World). things_of w.links) (world-sent_over s lane x.1) ∙ same) (subst (λ (n : ℕ). k < n) (sym (alike_sent_over s lane x.1).lanes) within)
         ∙ (ap (λ (lane : List Frame). pushed_all lane (if l.live then more else [])) (one_sent s x (x.0 == (near_end dir l).port) same within refl)
         ∙ in_order l.live (x.0 == (near_end dir l).port) (lane_of s.lanes k dir) x.1 more)
 
@@ -117,17 +117,17 @@ module _ (links : List DeclaredLink) (i k : ℕ) (dir : Dir) (l : DeclaredLink) 
 
 over_rest : (s : State) (o : Option LaneId) (x : Frame) → sent_over s o x ≡ record s { lanes = (sent_over s o x).lanes }
 over_rest s None x = refl
-over_rest s (Some way) x = by (is_live (links_of s) way.link)
+over_rest s (Some lane) x = by (is_live (links_of s) lane.link)
   where
-    by : (live : Bool) → (if live then with_frames (λ frames. pushed frames x) s way.link way.dir else s) ≡ record s { lanes = (if live then with_frames (λ frames. pushed frames x) s way.link way.dir else s).lanes }
+    by : (live : Bool) → (if live then with_frames (λ frames. pushed frames x) s lane.link lane.dir else s) ≡ record s { lanes = (if live then with_frames (λ frames. pushed frames x) s lane.link lane.dir else s).lanes }
     by true = refl
     by false = refl
 
 sent_rest : (s : State) (i : ℕ) (fs : List (ℕ × Frame)) → sent_all s i fs ≡ record s { lanes = (sent_all s i fs).lanes }
 sent_rest s i [] = refl
 sent_rest s i (x ∷ fs) =
-    let next : State = sent_over s (way_out (links_of s) i x.0) x.1 in
-    sent_rest next i fs ∙ ap (λ (t : State). record t { lanes = (sent_all next i fs).lanes }) (over_rest s (way_out (links_of s) i x.0) x.1)
+    let next : State = sent_over s (lane_out (links_of s) i x.0) x.1 in
+    sent_rest next i fs ∙ ap (λ (t : State). record t { lanes = (sent_all next i fs).lanes }) (over_rest s (lane_out (links_of s) i x.0) x.1)
 
 -- ---- one bridge steps
 

@@ -13,12 +13,12 @@ use Rattle.link_model.specs.declared.lanes.LaneId.{LaneId}
 use Rattle.spb_network.specs.World.{Links, things_of, AllApart}
 use Rattle.spb_network.specs.Declaring.{switched}
 use Rattle.spb_types.specs.Places.{changed_at}
-use Rattle.spb_network.specs.State.{is_live, near_end, is_at, direction, way_from, way_out}
-use Rattle.spb_network.specs.Sound.{is_lit}
+use Rattle.spb_network.specs.State.{is_live, near_end, is_at, direction, lane_out_from, lane_out}
+use Rattle.spb_network.specs.Sound.{ends_live_link}
 use Rattle.spb_network.proofs.BridgeLaws.{steps_keep_bridge}
-use Rattle.spb_network.proofs.SoundLaws.{is_carrier, carrier_kept, carrier_set, carrier_beside}
+use Rattle.spb_network.proofs.SoundLaws.{is_carrier, carrier_kept, carrier_is_set, carrier_beside}
 use Rattle.spb_network.proofs.SoundLane.{some-is}
-use Rattle.spb_network.proofs.SoundWays.{at_itself, at_parts, away, way_of_end, LeadsFrom, way_leads}
+use Rattle.spb_network.proofs.SoundLaneIds.{at_itself, at_parts, away, lane_of_end, LeadsFrom, lane_leads}
 use Rattle.spb_network.proofs.SoundSteps.{live-switched}
 
 -- ---- one item of a list was changed
@@ -49,14 +49,14 @@ got_changed f (x ∷ xs) (suc i) (suc j) y at =
 
 -- each port has carrier as told
 abbrev pub HaveCarrier : List BridgeView → (ℕ → ℕ → Bool) → Type 0
-HaveCarrier views lit = (i : ℕ) (v : BridgeView) (p : ℕ) → slice_get views i ≡ Some v → IsPort v p → has_carrier_at v p ≡ lit i p
+HaveCarrier views carriers = (i : ℕ) (v : BridgeView) (p : ℕ) → slice_get views i ≡ Some v → IsPort v p → has_carrier_at v p ≡ carriers i p
 
 port_before : (x : Input) (v : BridgeView) (p : ℕ) → IsPort (step x v) p → IsPort v p
 port_before x v p port = record { low = port.low; high = subst (λ (n : ℕ). p ≤ n) (steps_keep_bridge x v).ports port.high }
 
 -- only a change of carrier changes it
-pub lit_stepped : (x : Input) (views : List BridgeView) (i : ℕ) (lit : ℕ → ℕ → Bool) → is_carrier x ≡ false → HaveCarrier views lit → HaveCarrier (changed_at (step x) views i) lit
-lit_stepped x views i lit other have j v p at port =
+pub carriers_stepped : (x : Input) (views : List BridgeView) (i : ℕ) (carriers : ℕ → ℕ → Bool) → is_carrier x ≡ false → HaveCarrier views carriers → HaveCarrier (changed_at (step x) views i) carriers
+carriers_stepped x views i carriers other have j v p at port =
     let was = got_changed (step x) views i j v at in
     elim was.is [
       | inl here ↦
@@ -82,39 +82,39 @@ when_away true on other e = absurd cc
 when_away false on other e = refl
 
 -- carrier comes to an end of a link, or goes
-pub lit_carried : (on : Bool) (views : List BridgeView) (e : LinkEnd) (lit : ℕ → ℕ → Bool) → HaveCarrier views lit → HaveCarrier (changed_at (step (carrier e.port on)) views e.bridge) (λ i p. if is_at e i p then on else lit i p)
-lit_carried on views e lit have j v p at port =
+pub carriers_with_carrier : (on : Bool) (views : List BridgeView) (e : LinkEnd) (carriers : ℕ → ℕ → Bool) → HaveCarrier views carriers → HaveCarrier (changed_at (step (carrier e.port on)) views e.bridge) (λ i p. if is_at e i p then on else carriers i p)
+carriers_with_carrier on views e carriers have j v p at port =
     let was = got_changed (step (carrier e.port on)) views e.bridge j v at in
     elim was.is [
       | inl here ↦ ap (λ (u : BridgeView). has_carrier_at u p) here.1 ∙ changed was.was was.there here.0 (port_before (carrier e.port on) was.was p (subst (λ (u : BridgeView). IsPort u p) here.1 port))
       | inr same ↦
           ap (λ (u : BridgeView). has_carrier_at u p) same.1
           ∙ (have j was.was p was.there (subst (λ (u : BridgeView). IsPort u p) same.1 port)
-          ∙ when_away (is_at e j p) on (lit j p) (away e j p (λ is. same.0 (sym is))))
+          ∙ when_away (is_at e j p) on (carriers j p) (away e j p (λ is. same.0 (sym is))))
     ]
   where
-    changed : (u : BridgeView) → slice_get views j ≡ Some u → j ≡ e.bridge → IsPort u p → has_carrier_at (step (carrier e.port on) u) p ≡ (if is_at e j p then on else lit j p)
+    changed : (u : BridgeView) → slice_get views j ≡ Some u → j ≡ e.bridge → IsPort u p → has_carrier_at (step (carrier e.port on) u) p ≡ (if is_at e j p then on else carriers j p)
     changed u there place is =
         elim (cases_eq p e.port) [
           | inl here ↦
               ap (λ (q : ℕ). has_carrier_at (step (carrier e.port on) u) q) here
-              ∙ (carrier_set u e.port on (subst (λ (q : ℕ). IsPort u q) here is)
-              ∙ when_at (is_at e j p) on (lit j p) (at_itself e j p (sym place) (sym here)))
+              ∙ (carrier_is_set u e.port on (subst (λ (q : ℕ). IsPort u q) here is)
+              ∙ when_at (is_at e j p) on (carriers j p) (at_itself e j p (sym place) (sym here)))
           | inr beside ↦
               carrier_beside u e.port on p is beside
               ∙ (have j u p there is
-              ∙ when_away (is_at e j p) on (lit j p) (away_port e j p (λ same. beside (sym same))))
+              ∙ when_away (is_at e j p) on (carriers j p) (away_port e j p (λ same. beside (sym same))))
         ]
 
 -- ---- which ports are ends of links that are up
 
-out-switched_from : (n : ℕ) (on : Bool) (ls : Links) (k i p : ℕ) → way_from n (things_of (switched on ls k)) i p ≡ way_from n (things_of ls) i p
+out-switched_from : (n : ℕ) (on : Bool) (ls : Links) (k i p : ℕ) → lane_out_from n (things_of (switched on ls k)) i p ≡ lane_out_from n (things_of ls) i p
 out-switched_from n on [] k i p = refl
 out-switched_from n on (l ∷ ls) zero i p = refl
 out-switched_from n on (l ∷ ls) (suc k) i p = ap (λ (o : Option LaneId). option_or (option_map (λ dir. record { link = n; dir = dir }) (direction l.1 i p)) o) (out-switched_from (n + 1) on ls k i p)
 
-out-switched : (on : Bool) (ls : Links) (k i p : ℕ) → way_out (things_of (switched on ls k)) i p ≡ way_out (things_of ls) i p
-unfolding way_out
+out-switched : (on : Bool) (ls : Links) (k i p : ℕ) → lane_out (things_of (switched on ls k)) i p ≡ lane_out (things_of ls) i p
+unfolding lane_out
 out-switched on ls k i p = out-switched_from 0 on ls k i p
 
 live-here : (on : Bool) (ls : Links) (k : ℕ) (l : DeclaredLink) → slice_get (things_of ls) k ≡ Some l → is_live (things_of (switched on ls k)) k ≡ on
@@ -122,38 +122,38 @@ live-here on [] k l at = absurd cc
 live-here on (h ∷ ls) zero l at = refl
 live-here on (h ∷ ls) (suc k) l at = live-here on ls k l at
 
-abbrev pub lit_by : List DeclaredLink → Option LaneId → Bool
-lit_by links way = option_map_or (λ w. is_live links w.link) way false
+abbrev pub carriers_by : List DeclaredLink → Option LaneId → Bool
+carriers_by links lane = option_map_or (λ w. is_live links w.link) lane false
 
 -- the ends of a link that is switched, and every other port
-pub lit-switched : (on : Bool) (ls : Links) (k : ℕ) (l : DeclaredLink) → AllApart (things_of ls) → l.a.bridge ≢ l.b.bridge → slice_get (things_of ls) k ≡ Some l → (i p : ℕ) → (if is_at l.b i p then on else (if is_at l.a i p then on else is_lit (things_of ls) i p)) ≡ is_lit (things_of (switched on ls k)) i p
-lit-switched on ls k l apart ends at i p =
-    by (is_at l.b i p) (is_at l.a i p) refl refl ∙ sym (ap (lit_by (things_of (switched on ls k))) (out-switched on ls k i p))
+pub carrier-switched : (on : Bool) (ls : Links) (k : ℕ) (l : DeclaredLink) → AllApart (things_of ls) → l.a.bridge ≢ l.b.bridge → slice_get (things_of ls) k ≡ Some l → (i p : ℕ) → (if is_at l.b i p then on else (if is_at l.a i p then on else ends_live_link (things_of ls) i p)) ≡ ends_live_link (things_of (switched on ls k)) i p
+carrier-switched on ls k l apart ends at i p =
+    by (is_at l.b i p) (is_at l.a i p) refl refl ∙ sym (ap (carriers_by (things_of (switched on ls k))) (out-switched on ls k i p))
   where
-    end : (dir : Dir) → is_at (near_end dir l) i p ≡ true → on ≡ lit_by (things_of (switched on ls k)) (way_out (things_of ls) i p)
+    end : (dir : Dir) → is_at (near_end dir l) i p ≡ true → on ≡ carriers_by (things_of (switched on ls k)) (lane_out (things_of ls) i p)
     end dir is =
         let parts = at_parts (near_end dir l) i p is in
-        let out : way_out (things_of ls) i p ≡ Some (record { link = k; dir = dir }) =
-        sym (λ j. way_out (things_of ls) (parts.0 j) (parts.1 j)) ∙ way_of_end (things_of ls) k l dir apart ends at in
-        sym (ap (lit_by (things_of (switched on ls k))) out ∙ live-here on ls k l at)
+        let out : lane_out (things_of ls) i p ≡ Some (record { link = k; dir = dir }) =
+        sym (λ j. lane_out (things_of ls) (parts.0 j) (parts.1 j)) ∙ lane_of_end (things_of ls) k l dir apart ends at in
+        sym (ap (carriers_by (things_of (switched on ls k))) out ∙ live-here on ls k l at)
 
     not_here : (dir : Dir) → is_at l.a i p ≡ false → is_at l.b i p ≡ false → is_at (near_end dir l) i p ≡ false
     not_here Ab a b = a
     not_here Ba a b = b
 
-    other : (o : Option LaneId) → way_out (things_of ls) i p ≡ o → is_at l.a i p ≡ false → is_at l.b i p ≡ false → lit_by (things_of ls) o ≡ lit_by (things_of (switched on ls k)) o
+    other : (o : Option LaneId) → lane_out (things_of ls) i p ≡ o → is_at l.a i p ≡ false → is_at l.b i p ≡ false → carriers_by (things_of ls) o ≡ carriers_by (things_of (switched on ls k)) o
     other None out a b = refl
-    other (Some way) out a b =
-        elim (live-switched on ls k way.link) [
+    other (Some lane) out a b =
+        elim (live-switched on ls k lane.link) [
           | inl here ↦
-              let leads : LeadsFrom (things_of ls) i p way.link way.dir = way_leads (things_of ls) i p way out in
+              let leads : LeadsFrom (things_of ls) i p lane.link lane.dir = lane_leads (things_of ls) i p lane out in
               let link : leads.link ≡ l = some-is leads.link l (sym leads.there ∙ (ap (slice_get (things_of ls)) here.0 ∙ at)) in
-              let is : is_at (near_end way.dir l) i p ≡ true = subst (λ (h : DeclaredLink). is_at (near_end way.dir h) i p ≡ true) link (at_itself (near_end way.dir leads.link) i p leads.bridge leads.port) in
-              absurd (true≢false (sym is ∙ not_here way.dir a b))
+              let is : is_at (near_end lane.dir l) i p ≡ true = subst (λ (h : DeclaredLink). is_at (near_end lane.dir h) i p ≡ true) link (at_itself (near_end lane.dir leads.link) i p leads.bridge leads.port) in
+              absurd (true≢false (sym is ∙ not_here lane.dir a b))
           | inr same ↦ sym same
         ]
 
-    by : (b a : Bool) → is_at l.b i p ≡ b → is_at l.a i p ≡ a → (if b then on else (if a then on else is_lit (things_of ls) i p)) ≡ lit_by (things_of (switched on ls k)) (way_out (things_of ls) i p)
+    by : (b a : Bool) → is_at l.b i p ≡ b → is_at l.a i p ≡ a → (if b then on else (if a then on else ends_live_link (things_of ls) i p)) ≡ carriers_by (things_of (switched on ls k)) (lane_out (things_of ls) i p)
     by true a is_b is_a = end Ba is_b
     by false true is_b is_a = end Ab is_a
-    by false false is_b is_a = other (way_out (things_of ls) i p) refl is_a is_b
+    by false false is_b is_a = other (lane_out (things_of ls) i p) refl is_a is_b

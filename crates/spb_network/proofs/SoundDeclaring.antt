@@ -18,18 +18,18 @@ use Rattle.link_model.specs.declared.lanes.LaneId.{LaneId}
 use Rattle.spb_network.specs.World.{World, Bridges, Links, names_of, things_of, attached_at, is_at_port, IsLink, AreApart, Sound}
 use Rattle.link_model.specs.Lanes.{no_frames, lane_of}
 use Rattle.spb_network.specs.Declaring.{with_vid, with_bridge, with_link}
-use Rattle.spb_network.specs.State.{State, Spare, links_of, is_live, near_end, far_end, is_at, way_of, way_from, way_out}
+use Rattle.spb_network.specs.State.{State, Spare, links_of, is_live, near_end, far_end, is_at, lane_of_link, lane_out_from, lane_out}
 use Rattle.spb_network.specs.Network.{HasPorts, Fits}
-use Rattle.spb_network.specs.Sound.{AreDistinct, IsShown, AreShown, AreAttached, is_lit, AreLit, Agrees, AllAgree, IsSoundState}
+use Rattle.spb_network.specs.Sound.{AreDistinct, IsShown, AreShown, AreAttached, ends_live_link, HaveCarrierOfLinks, LinkAgrees, AllAgree, IsSoundState}
 use Rattle.spb_network.proofs.BoxLemmas.{All-get}
 use Rattle.spb_network.proofs.ListLemmas.{All-push, things_of-push, length-push}
 use Rattle.spb_network.proofs.WorldLemmas.{IsNewBridge, Sound-with_bridge, IsNewLink, Sound-with_link}
 use Rattle.spb_network.proofs.FitsLemmas.{end_is_port, link_there}
 use Rattle.spb_network.proofs.SoundLaws.{dark}
 use Rattle.spb_network.proofs.SoundLane.{some-is}
-use Rattle.spb_network.proofs.SoundWays.{at_itself, way_of_end, LeadsFrom, way_leads}
+use Rattle.spb_network.proofs.SoundLaneIds.{at_itself, lane_of_end, LeadsFrom, lane_leads}
 use Rattle.spb_network.proofs.SoundMoves.{IsCore}
-use Rattle.spb_network.proofs.SoundCarrier.{lit_by}
+use Rattle.spb_network.proofs.SoundCarrier.{carriers_by}
 
 -- ---- the last item of a list
 
@@ -102,17 +102,17 @@ far_within : (s : State) (k : ℕ) (dir : Dir) (l : DeclaredLink) → Sound s.wo
 far_within s k Ab l sound fits at = omega (arith, (link_there s k l sound at).b.bridge, fits.bridges)
 far_within s k Ba l sound fits at = omega (arith, (link_there s k l sound at).a.bridge, fits.bridges)
 
-unlit : (s : State) (p : ℕ) (o : Option LaneId) → Sound s.world → Fits s → way_out (links_of s) (length s.views) p ≡ o → false ≡ lit_by (links_of s) o
+unlit : (s : State) (p : ℕ) (o : Option LaneId) → Sound s.world → Fits s → lane_out (links_of s) (length s.views) p ≡ o → false ≡ carriers_by (links_of s) o
 unlit s p None sound fits out = refl
-unlit s p (Some way) sound fits out =
-    let leads : LeadsFrom (links_of s) (length s.views) p way.link way.dir = way_leads (links_of s) (length s.views) p way out in
-    absurd (omega (arith, near_within s way.link way.dir leads.link sound fits leads.there, leads.bridge))
+unlit s p (Some lane) sound fits out =
+    let leads : LeadsFrom (links_of s) (length s.views) p lane.link lane.dir = lane_leads (links_of s) (length s.views) p lane out in
+    absurd (omega (arith, near_within s lane.link lane.dir leads.link sound fits leads.there, leads.bridge))
 
-lit_bridge : (s : State) (v : BridgeView) → Sound s.world → Fits s → AreLit (links_of s) s.views → ((p : ℕ) → has_carrier_at v p ≡ false) → AreLit (links_of s) (s.views ++ v ∷ [])
-lit_bridge s v sound fits lit none i u p at port =
+carriers_bridge : (s : State) (v : BridgeView) → Sound s.world → Fits s → HaveCarrierOfLinks (links_of s) s.views → ((p : ℕ) → has_carrier_at v p ≡ false) → HaveCarrierOfLinks (links_of s) (s.views ++ v ∷ [])
+carriers_bridge s v sound fits carriers none i u p at port =
     elim (got_push s.views v i u at) [
-      | inl old ↦ lit i u p old.1 port
-      | inr new ↦ ap (λ (x : BridgeView). has_carrier_at x p) (sym new.1) ∙ (none p ∙ (unlit s p (way_out (links_of s) (length s.views) p) sound fits refl ∙ ap (λ (j : ℕ). is_lit (links_of s) j p) (sym new.0)))
+      | inl old ↦ carriers i u p old.1 port
+      | inr new ↦ ap (λ (x : BridgeView). has_carrier_at x p) (sym new.1) ∙ (none p ∙ (unlit s p (lane_out (links_of s) (length s.views) p) sound fits refl ∙ ap (λ (j : ℕ). ends_live_link (links_of s) j p) (sym new.0)))
     ]
 
 -- what is there within the old bridges
@@ -135,8 +135,8 @@ Sound-new_bridge s rack name b v sound declared distinct new = record {
   fits = fits_bridge s rack name b v sound.fits new.ports;
   shown = shown_bridge s name b v sound.fits sound.shown new.shown;
   views = All-push IsSoundView s.views v sound.views new.sound;
-  lit = lit_bridge s v sound.world sound.fits sound.lit new.dark;
-  metered = λ k dir l u at at_u. sound.metered k dir l u at (old_view s.views v (near_end dir l).bridge u (near_within s k dir l sound.world sound.fits at) at_u);
+  carriers = carriers_bridge s v sound.world sound.fits sound.carriers new.dark;
+  metrics = λ k dir l u at at_u. sound.metrics k dir l u at (old_view s.views v (near_end dir l).bridge u (near_within s k dir l sound.world sound.fits at) at_u);
   attached = attached_bridge s name b v sound.fits sound.attached new.attached;
   short = sound.short;
   idle = sound.idle;
@@ -169,44 +169,44 @@ fits_link s name l fits = record {
   ports = fits.ports;
 }
 
-out-push_by : (o rest more : Option LaneId) (way : LaneId) → (rest ≡ Some way → more ≡ Some way) → option_or o rest ≡ Some way → option_or o more ≡ Some way
-out-push_by (Some w) rest more way later out = out
-out-push_by None rest more way later out = later out
+out-push_by : (o rest more : Option LaneId) (lane : LaneId) → (rest ≡ Some lane → more ≡ Some lane) → option_or o rest ≡ Some lane → option_or o more ≡ Some lane
+out-push_by (Some w) rest more lane later out = out
+out-push_by None rest more lane later out = later out
 
-out-push_from : (n : ℕ) (links : List DeclaredLink) (l : DeclaredLink) (i p : ℕ) (way : LaneId) → way_from n links i p ≡ Some way → way_from n (links ++ l ∷ []) i p ≡ Some way
-out-push_from n [] l i p way out = absurd cc
-out-push_from n (h ∷ links) l i p way out = out-push_by (way_of n h i p) (way_from (n + 1) links i p) (way_from (n + 1) (links ++ l ∷ []) i p) way (out-push_from (n + 1) links l i p way) out
+out-push_from : (n : ℕ) (links : List DeclaredLink) (l : DeclaredLink) (i p : ℕ) (lane : LaneId) → lane_out_from n links i p ≡ Some lane → lane_out_from n (links ++ l ∷ []) i p ≡ Some lane
+out-push_from n [] l i p lane out = absurd cc
+out-push_from n (h ∷ links) l i p lane out = out-push_by (lane_of_link n h i p) (lane_out_from (n + 1) links i p) (lane_out_from (n + 1) (links ++ l ∷ []) i p) lane (out-push_from (n + 1) links l i p lane) out
 
-out-push : (links : List DeclaredLink) (l : DeclaredLink) (i p : ℕ) (way : LaneId) → way_out links i p ≡ Some way → way_out (links ++ l ∷ []) i p ≡ Some way
-unfolding way_out
-out-push links l i p way out = out-push_from 0 links l i p way out
+out-push : (links : List DeclaredLink) (l : DeclaredLink) (i p : ℕ) (lane : LaneId) → lane_out links i p ≡ Some lane → lane_out (links ++ l ∷ []) i p ≡ Some lane
+unfolding lane_out
+out-push links l i p lane out = out-push_from 0 links l i p lane out
 
 past_dead : (links : List DeclaredLink) → is_live links (length links) ≡ false
 past_dead [] = refl
 past_dead (h ∷ links) = past_dead links
 
 -- a link that isn't up lights no port
-dark_way : (s : State) (l : DeclaredLink) (i p : ℕ) (o : Option LaneId) → Sound s.world → l.live ≡ false → way_out (links_of s) i p ≡ None → way_out (links_of s ++ l ∷ []) i p ≡ o → false ≡ lit_by (links_of s ++ l ∷ []) o
-dark_way s l i p None sound dead none out = refl
-dark_way s l i p (Some way) sound dead none out = by (got_push (links_of s) l way.link leads.link leads.there)
+no_carrier_way : (s : State) (l : DeclaredLink) (i p : ℕ) (o : Option LaneId) → Sound s.world → l.live ≡ false → lane_out (links_of s) i p ≡ None → lane_out (links_of s ++ l ∷ []) i p ≡ o → false ≡ carriers_by (links_of s ++ l ∷ []) o
+no_carrier_way s l i p None sound dead none out = refl
+no_carrier_way s l i p (Some lane) sound dead none out = by (got_push (links_of s) l lane.link leads.link leads.there)
   where
-    leads : LeadsFrom (links_of s ++ l ∷ []) i p way.link way.dir
-    leads = way_leads (links_of s ++ l ∷ []) i p way out
+    leads : LeadsFrom (links_of s ++ l ∷ []) i p lane.link lane.dir
+    leads = lane_leads (links_of s ++ l ∷ []) i p lane out
 
-    by : ((way.link < length (links_of s)) × (slice_get (links_of s) way.link ≡ Some leads.link)) ⊎ ((way.link ≡ length (links_of s)) × (l ≡ leads.link)) → false ≡ is_live (links_of s ++ l ∷ []) way.link
+    by : ((lane.link < length (links_of s)) × (slice_get (links_of s) lane.link ≡ Some leads.link)) ⊎ ((lane.link ≡ length (links_of s)) × (l ≡ leads.link)) → false ≡ is_live (links_of s ++ l ∷ []) lane.link
     by (inl old) =
-        let there : way_out (links_of s) (near_end way.dir leads.link).bridge (near_end way.dir leads.link).port ≡ Some (record { link = way.link; dir = way.dir }) =
-        way_of_end (links_of s) way.link leads.link way.dir sound.links_apart (link_there s way.link leads.link sound old.1).apart old.1 in
-        let here : way_out (links_of s) i p ≡ Some (record { link = way.link; dir = way.dir }) = sym (λ j. way_out (links_of s) (leads.bridge j) (leads.port j)) ∙ there in
+        let there : lane_out (links_of s) (near_end lane.dir leads.link).bridge (near_end lane.dir leads.link).port ≡ Some (record { link = lane.link; dir = lane.dir }) =
+        lane_of_end (links_of s) lane.link leads.link lane.dir sound.links_apart (link_there s lane.link leads.link sound old.1).apart old.1 in
+        let here : lane_out (links_of s) i p ≡ Some (record { link = lane.link; dir = lane.dir }) = sym (λ j. lane_out (links_of s) (leads.bridge j) (leads.port j)) ∙ there in
         absurd cc
-    by (inr new) = sym (live-push (links_of s) l way.link dead ∙ (ap (is_live (links_of s)) new.0 ∙ past_dead (links_of s)))
+    by (inr new) = sym (live-push (links_of s) l lane.link dead ∙ (ap (is_live (links_of s)) new.0 ∙ past_dead (links_of s)))
 
-lit_link_by : (s : State) (l : DeclaredLink) (i p : ℕ) (o : Option LaneId) → Sound s.world → l.live ≡ false → way_out (links_of s) i p ≡ o → lit_by (links_of s) o ≡ is_lit (links_of s ++ l ∷ []) i p
-lit_link_by s l i p None sound dead out = dark_way s l i p (way_out (links_of s ++ l ∷ []) i p) sound dead out refl
-lit_link_by s l i p (Some way) sound dead out = sym (live-push (links_of s) l way.link dead) ∙ ap (lit_by (links_of s ++ l ∷ [])) (sym (out-push (links_of s) l i p way out))
+carriers_link_by : (s : State) (l : DeclaredLink) (i p : ℕ) (o : Option LaneId) → Sound s.world → l.live ≡ false → lane_out (links_of s) i p ≡ o → carriers_by (links_of s) o ≡ ends_live_link (links_of s ++ l ∷ []) i p
+carriers_link_by s l i p None sound dead out = no_carrier_way s l i p (lane_out (links_of s ++ l ∷ []) i p) sound dead out refl
+carriers_link_by s l i p (Some lane) sound dead out = sym (live-push (links_of s) l lane.link dead) ∙ ap (carriers_by (links_of s ++ l ∷ [])) (sym (out-push (links_of s) l i p lane out))
 
-lit_link : (s : State) (l : DeclaredLink) → Sound s.world → l.live ≡ false → AreLit (links_of s) s.views → AreLit (links_of s ++ l ∷ []) s.views
-lit_link s l sound dead lit i v p at port = lit i v p at port ∙ lit_link_by s l i p (way_out (links_of s) i p) sound dead refl
+carriers_link : (s : State) (l : DeclaredLink) → Sound s.world → l.live ≡ false → HaveCarrierOfLinks (links_of s) s.views → HaveCarrierOfLinks (links_of s ++ l ∷ []) s.views
+carriers_link s l sound dead carriers i v p at port = carriers i v p at port ∙ carriers_link_by s l i p (lane_out (links_of s) i p) sound dead refl
 
 -- no link ends at an end of the new one
 or-true : (b : Bool) → (b || true) ≡ true
@@ -221,22 +221,22 @@ apart_end : (dir : Dir) (m l : DeclaredLink) → AreApart m l → is_at_port m (
 apart_end Ab m l apart = apart.port_a
 apart_end Ba m l apart = apart.port_b
 
-free_end : (links : List DeclaredLink) (dir : Dir) (l : DeclaredLink) (o : Option LaneId) → AllByRecursion (λ m. AreApart m l) links → way_out links (near_end dir l).bridge (near_end dir l).port ≡ o → lit_by links o ≡ false
+free_end : (links : List DeclaredLink) (dir : Dir) (l : DeclaredLink) (o : Option LaneId) → AllByRecursion (λ m. AreApart m l) links → lane_out links (near_end dir l).bridge (near_end dir l).port ≡ o → carriers_by links o ≡ false
 free_end links dir l None apart out = refl
-free_end links dir l (Some way) apart out =
-    let leads : LeadsFrom links (near_end dir l).bridge (near_end dir l).port way.link way.dir = way_leads links (near_end dir l).bridge (near_end dir l).port way out in
-    let two : AreApart leads.link l = All-get (λ m. AreApart m l) links way.link leads.link apart leads.there in
-    absurd (true≢false (sym (at_end way.dir leads.link (near_end dir l).bridge (near_end dir l).port leads.bridge leads.port) ∙ apart_end dir leads.link l two))
+free_end links dir l (Some lane) apart out =
+    let leads : LeadsFrom links (near_end dir l).bridge (near_end dir l).port lane.link lane.dir = lane_leads links (near_end dir l).bridge (near_end dir l).port lane out in
+    let two : AreApart leads.link l = All-get (λ m. AreApart m l) links lane.link leads.link apart leads.there in
+    absurd (true≢false (sym (at_end lane.dir leads.link (near_end dir l).bridge (near_end dir l).port leads.bridge leads.port) ∙ apart_end dir leads.link l two))
 
 near_port : (s : State) (dir : Dir) (l : DeclaredLink) (v : BridgeView) → Fits s → IsLink s.world.bridges l → slice_get s.views (near_end dir l).bridge ≡ Some v → IsPort v (near_end dir l).port
 near_port s Ab l v fits link at = end_is_port s l.a fits link.a v at
 near_port s Ba l v fits link at = end_is_port s l.b fits link.b v at
 
 -- the new link, over which nothing is on its way, between ports without carrier
-new_agrees : (s : State) (dir : Dir) (l : DeclaredLink) (v w : BridgeView) → IsSoundState s → IsNewLink s.world l → slice_get s.views (near_end dir l).bridge ≡ Some v → Agrees v (near_end dir l).port w (far_end dir l).port []
+new_agrees : (s : State) (dir : Dir) (l : DeclaredLink) (v w : BridgeView) → IsSoundState s → IsNewLink s.world l → slice_get s.views (near_end dir l).bridge ≡ Some v → LinkAgrees v (near_end dir l).port w (far_end dir l).port []
 new_agrees s dir l v w sound new at =
     let none : has_carrier_at v (near_end dir l).port ≡ false =
-    sound.lit (near_end dir l).bridge v (near_end dir l).port at (near_port s dir l v sound.fits new.link at) ∙ free_end (links_of s) dir l (way_out (links_of s) (near_end dir l).bridge (near_end dir l).port) new.apart refl in
+    sound.carriers (near_end dir l).bridge v (near_end dir l).port at (near_port s dir l v sound.fits new.link at) ∙ free_end (links_of s) dir l (lane_out (links_of s) (near_end dir l).bridge (near_end dir l).port) new.apart refl in
     let is = dark v (near_end dir l).port (All-get IsSoundView s.views (near_end dir l).bridge v sound.views at) none in
     let nobody : neighbour_at v (near_end dir l).port ≡ None = is.0 in
     let not_up : is_up_at v (near_end dir l).port ≡ false = is.1 in
@@ -248,20 +248,20 @@ new_agrees s dir l v w sound new at =
 
 agree_link : (s : State) (l : DeclaredLink) → IsSoundState s → IsNewLink s.world l → AllAgree (links_of s ++ l ∷ []) s.views (s.lanes ++ no_frames ∷ [])
 agree_link s l sound new k dir m v w at at_v at_w =
-    subst (Agrees v (near_end dir m).port w (far_end dir m).port) (sym (lane-push s.lanes k dir)) (by (got_push (links_of s) l k m at))
+    subst (LinkAgrees v (near_end dir m).port w (far_end dir m).port) (sym (lane-push s.lanes k dir)) (by (got_push (links_of s) l k m at))
   where
-    by : ((k < length (links_of s)) × (slice_get (links_of s) k ≡ Some m)) ⊎ ((k ≡ length (links_of s)) × (l ≡ m)) → Agrees v (near_end dir m).port w (far_end dir m).port (lane_of s.lanes k dir)
+    by : ((k < length (links_of s)) × (slice_get (links_of s) k ≡ Some m)) ⊎ ((k ≡ length (links_of s)) × (l ≡ m)) → LinkAgrees v (near_end dir m).port w (far_end dir m).port (lane_of s.lanes k dir)
     by (inl old) = sound.agree k dir m v w old.1 at_v at_w
     by (inr is) =
         let empty : lane_of s.lanes k dir ≡ [] = sound.idle k dir (ap (is_live (links_of s)) is.0 ∙ past_dead (links_of s)) in
         let at_near : slice_get s.views (near_end dir l).bridge ≡ Some v = ap (λ (h : DeclaredLink). slice_get s.views (near_end dir h).bridge) is.1 ∙ at_v in
-        subst (Agrees v (near_end dir m).port w (far_end dir m).port) (sym empty)
-        (subst (λ (h : DeclaredLink). Agrees v (near_end dir h).port w (far_end dir h).port []) is.1 (new_agrees s dir l v w sound new at_near))
+        subst (LinkAgrees v (near_end dir m).port w (far_end dir m).port) (sym empty)
+        (subst (λ (h : DeclaredLink). LinkAgrees v (near_end dir h).port w (far_end dir h).port []) is.1 (new_agrees s dir l v w sound new at_near))
 
 -- all that is sound, but that its ends have their metrics
-pub lit_new_link : (s : State) (name : List ℕ) (l : DeclaredLink) → IsSoundState s → l.live ≡ false → AreLit (things_of (with_link s.world name l).links) s.views
+pub carriers_new_link : (s : State) (name : List ℕ) (l : DeclaredLink) → IsSoundState s → l.live ≡ false → HaveCarrierOfLinks (things_of (with_link s.world name l).links) s.views
 unfolding with_link
-lit_new_link s name l sound dead = subst (λ (links : List DeclaredLink). AreLit links s.views) (sym (things_of-push s.world.links name l)) (lit_link s l sound.world dead sound.lit)
+carriers_new_link s name l sound dead = subst (λ (links : List DeclaredLink). HaveCarrierOfLinks links s.views) (sym (things_of-push s.world.links name l)) (carriers_link s l sound.world dead sound.carriers)
 
 pub core_new_link : (s : State) (name : List ℕ) (l : DeclaredLink) → IsSoundState s → IsNewLink s.world l → AreDistinct (with_link s.world name l) → l.live ≡ false → IsCore (record s { world = with_link s.world name l; lanes = s.lanes ++ no_frames ∷ [] })
 unfolding with_link
@@ -296,8 +296,8 @@ Sound-new_vid s plan sound none world =
       fits = record { bridges = sound.fits.bridges; lanes = sound.fits.lanes; ports = sound.fits.ports };
       shown = λ i v b at declared. absurd (none_within s.views i v no_views at);
       views = sound.views;
-      lit = sound.lit;
-      metered = sound.metered;
+      carriers = sound.carriers;
+      metrics = sound.metrics;
       attached = sound.attached;
       short = sound.short;
       idle = sound.idle;
@@ -315,8 +315,8 @@ Sound-nothing s world bridges links views lanes =
       fits = record { bridges = ap length views ∙ sym (ap length bridges); lanes = ap length lanes ∙ sym (ap length links); ports = λ i v b at declared. absurd (none_within s.views i v views at) };
       shown = λ i v b at declared. absurd (none_within s.views i v views at);
       views = subst (λ (vs : List BridgeView). AllByRecursion IsSoundView vs) (sym views) tt;
-      lit = λ i v p at port. absurd (none_within s.views i v views at);
-      metered = λ k dir l v at at_v. absurd (none_within s.views (near_end dir l).bridge v views at_v);
+      carriers = λ i v p at port. absurd (none_within s.views i v views at);
+      metrics = λ k dir l v at at_v. absurd (none_within s.views (near_end dir l).bridge v views at_v);
       attached = λ i v at. absurd (none_within s.views i v views at);
       short = λ k dir. subst (λ (fs : List Frame). length fs ≤ 1024) (sym (no_lane k dir)) (omega arith);
       idle = λ k dir dead. no_lane k dir;

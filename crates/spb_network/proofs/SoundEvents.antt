@@ -16,25 +16,25 @@ use Rattle.spb_network.specs.World.{World, things_of, Sound}
 use Rattle.link_model.specs.Lanes.{changed_lane, rest, no_frames, lane_of, first_full_from}
 use Rattle.spb_network.specs.Declaring.{with_live}
 use Rattle.spb_types.specs.Places.{changed_at}
-use Rattle.spb_network.specs.State.{State, links_of, far_end, is_at, way_out, lane_at, with_frames}
-use Rattle.spb_network.specs.Events.{stepped, ticked, heard_over, delivered_front, delivered, lost, doubled, carried, carried_over, flushed, switched_off, switched_on, ticked_from, delivered_times, lane_served, served_from, one_round, rounds, delivered_over, delivered_first, drained}
-use Rattle.spb_network.specs.Sound.{AreShort, is_lit, AreLit, AreMetered, AreAttached, IsSoundState}
+use Rattle.spb_network.specs.State.{State, links_of, far_end, is_at, lane_out, lane_at, with_frames}
+use Rattle.spb_network.specs.Events.{stepped, ticked, heard_over, delivered_front, delivered, lost, doubled, with_carrier_at_end, with_carrier_over, flushed, switched_off, switched_on, ticked_from, delivered_times, lane_served, served_from, one_round, rounds, delivered_over, delivered_first, drained}
+use Rattle.spb_network.specs.Sound.{AreShort, ends_live_link, HaveCarrierOfLinks, HaveLinkMetrics, AreAttached, IsSoundState}
 use Rattle.spb_network.proofs.WorldLemmas.{switched-none}
 use Rattle.spb_network.proofs.FitsLemmas.{IsAlike, alike_itself, alike_with_frames, alike_flushed, link_there}
 use Rattle.spb_network.proofs.SoundLaws.{is_carrier}
-use Rattle.spb_network.proofs.SoundWays.{turned, near-turned, way_of_end}
+use Rattle.spb_network.proofs.SoundLaneIds.{turned, near-turned, lane_of_end}
 use Rattle.spb_network.proofs.SoundMoves.{IsCore, Comes}
 use Rattle.spb_network.proofs.SoundSteps.{short_rest, short_lost, short_doubled, short_flushed, in_got, in_rest, in_lost, in_doubled, in_changed, in_flushed, flushed_lane, world-sent_all, views-sent_all, IsInputAt, core_stepped, core_fewer, core_with_live}
-use Rattle.spb_network.proofs.SoundCarrier.{HaveCarrier, lit_stepped, lit_carried, lit-switched}
-use Rattle.spb_network.proofs.SoundMetrics.{is_metric, metered_stepped, metered_switched}
+use Rattle.spb_network.proofs.SoundCarrier.{HaveCarrier, carriers_stepped, carriers_with_carrier, carrier-switched}
+use Rattle.spb_network.proofs.SoundMetrics.{is_metric, with_metric_stepped, with_metric_switched}
 use Rattle.spb_network.proofs.SoundAttached.{attached_stepped}
 
 -- the parts of what is sound
 pub core_of : (s : State) → IsSoundState s → IsCore s
 core_of s sound = record { world = sound.world; distinct = sound.distinct; fits = sound.fits; shown = sound.shown; views = sound.views; short = sound.short; idle = sound.idle; agree = sound.agree }
 
-pub sound_from : (s : State) → IsCore s → AreLit (links_of s) s.views → AreMetered (links_of s) s.views → AreAttached s.world s.views → IsSoundState s
-sound_from s core lit metered attached = record { world = core.world; distinct = core.distinct; fits = core.fits; shown = core.shown; views = core.views; lit = lit; metered = metered; attached = attached; short = core.short; idle = core.idle; agree = core.agree }
+pub sound_from : (s : State) → IsCore s → HaveCarrierOfLinks (links_of s) s.views → HaveLinkMetrics (links_of s) s.views → AreAttached s.world s.views → IsSoundState s
+sound_from s core carriers metrics attached = record { world = core.world; distinct = core.distinct; fits = core.fits; shown = core.shown; views = core.views; carriers = carriers; metrics = metrics; attached = attached; short = core.short; idle = core.idle; agree = core.agree }
 
 -- ---- one bridge steps
 
@@ -47,17 +47,17 @@ unfolding stepped
 stepped_views x s i = views-sent_all (record s { views = changed_at (step x) s.views i }) i (option_map_or (sent x) (slice_get s.views i) [])
 
 -- an input that doesn't change carrier, or set a metric
-pub stepped_lit : (x : Input) (s : State) (i : ℕ) → is_carrier x ≡ false → AreLit (links_of s) s.views → AreLit (links_of (stepped x s i)) (stepped x s i).views
-stepped_lit x s i other lit =
-    subst (λ (w : World). AreLit (things_of w.links) (stepped x s i).views) (sym (stepped_world x s i))
-    (subst (λ (views : List BridgeView). AreLit (links_of s) views) (sym (stepped_views x s i))
-    (lit_stepped x s.views i (is_lit (links_of s)) other lit))
+pub stepped_carriers : (x : Input) (s : State) (i : ℕ) → is_carrier x ≡ false → HaveCarrierOfLinks (links_of s) s.views → HaveCarrierOfLinks (links_of (stepped x s i)) (stepped x s i).views
+stepped_carriers x s i other carriers =
+    subst (λ (w : World). HaveCarrierOfLinks (things_of w.links) (stepped x s i).views) (sym (stepped_world x s i))
+    (subst (λ (views : List BridgeView). HaveCarrierOfLinks (links_of s) views) (sym (stepped_views x s i))
+    (carriers_stepped x s.views i (ends_live_link (links_of s)) other carriers))
 
-stepped_metered : (x : Input) (s : State) (i : ℕ) → is_metric x ≡ false → AreMetered (links_of s) s.views → AreMetered (links_of (stepped x s i)) (stepped x s i).views
-stepped_metered x s i other metered =
-    subst (λ (w : World). AreMetered (things_of w.links) (stepped x s i).views) (sym (stepped_world x s i))
-    (subst (λ (views : List BridgeView). AreMetered (links_of s) views) (sym (stepped_views x s i))
-    (metered_stepped x (links_of s) s.views i other metered))
+stepped_with_metric : (x : Input) (s : State) (i : ℕ) → is_metric x ≡ false → HaveLinkMetrics (links_of s) s.views → HaveLinkMetrics (links_of (stepped x s i)) (stepped x s i).views
+stepped_with_metric x s i other metrics =
+    subst (λ (w : World). HaveLinkMetrics (things_of w.links) (stepped x s i).views) (sym (stepped_world x s i))
+    (subst (λ (views : List BridgeView). HaveLinkMetrics (links_of s) views) (sym (stepped_views x s i))
+    (with_metric_stepped x (links_of s) s.views i other metrics))
 
 pub stepped_attached : (x : Input) (s : State) (i : ℕ) → AreAttached s.world s.views → AreAttached (stepped x s i).world (stepped x s i).views
 stepped_attached x s i attached =
@@ -69,8 +69,8 @@ stepped_attached x s i attached =
 stays_stepped : (x : Input) (s : State) (lanes : List LinkLanes) (i : ℕ) → IsInputAt s.views i x → is_carrier x ≡ false → is_metric x ≡ false → IsSoundState s → IsAlike s (record s { lanes = lanes }) → AreShort lanes → ((k : ℕ) (dir : Dir) (f : Frame) → IsIn f (lane_of lanes k dir) → IsIn f (lane_of s.lanes k dir)) → ((p : ℕ) (f : Frame) → x ≡ comes.frame p f → Comes (links_of s) s.lanes i p f) → IsSoundState (stepped x (record s { lanes = lanes }) i)
 stays_stepped x s lanes i is_input same_carrier same_metric sound alike short fewer from =
     sound_from (stepped x (record s { lanes = lanes }) i) (core_stepped x s lanes i is_input (core_of s sound) alike short fewer from)
-    (stepped_lit x (record s { lanes = lanes }) i same_carrier sound.lit)
-    (stepped_metered x (record s { lanes = lanes }) i same_metric sound.metered)
+    (stepped_carriers x (record s { lanes = lanes }) i same_carrier sound.carriers)
+    (stepped_with_metric x (record s { lanes = lanes }) i same_metric sound.metrics)
     (stepped_attached x (record s { lanes = lanes }) i sound.attached)
 
 pub Sound-ticked : (s : State) (i : ℕ) → IsSoundState s → IsSoundState (ticked s i)
@@ -87,11 +87,11 @@ front_comes : (s : State) (k : ℕ) (dir : Dir) (l : DeclaredLink) (bytes : Fram
 front_comes s k dir l bytes core at front p f is =
     let port : (far_end dir l).port ≡ p = cc in
     let same : bytes ≡ f = cc in
-    let out : way_out (links_of s) (far_end dir l).bridge (far_end dir l).port ≡ Some (record { link = k; dir = turned dir }) =
-    subst (λ (e : LinkEnd). way_out (links_of s) e.bridge e.port ≡ Some (record { link = k; dir = turned dir })) (near-turned dir l) (way_of_end (links_of s) k l (turned dir) core.world.links_apart (link_there s k l core.world at).apart at) in
+    let out : lane_out (links_of s) (far_end dir l).bridge (far_end dir l).port ≡ Some (record { link = k; dir = turned dir }) =
+    subst (λ (e : LinkEnd). lane_out (links_of s) e.bridge e.port ≡ Some (record { link = k; dir = turned dir })) (near-turned dir l) (lane_of_end (links_of s) k l (turned dir) core.world.links_apart (link_there s k l core.world at).apart at) in
     record {
-      way = record { link = k; dir = turned dir };
-      out = subst (λ (q : ℕ). way_out (links_of s) (far_end dir l).bridge q ≡ Some (record { link = k; dir = turned dir })) port out;
+      lane = record { link = k; dir = turned dir };
+      out = subst (λ (q : ℕ). lane_out (links_of s) (far_end dir l).bridge q ≡ Some (record { link = k; dir = turned dir })) port out;
       among = subst (λ (d : Dir). IsIn f (lane_of s.lanes k d)) (sym (turned-turned dir)) (subst (λ (g : Frame). IsIn g (lane_of s.lanes k dir)) same (in_got bytes (lane_of s.lanes k dir) 0 front));
     }
 
@@ -100,7 +100,7 @@ fewer_rest s j d k dir f among = in_changed rest in_rest s.lanes j d k dir f amo
 
 -- frames are lost, doubled or taken
 stays_fewer : (s : State) (lanes : List LinkLanes) → IsSoundState s → IsAlike s (record s { lanes = lanes }) → AreShort lanes → ((k : ℕ) (dir : Dir) (f : Frame) → IsIn f (lane_of lanes k dir) → IsIn f (lane_of s.lanes k dir)) → IsSoundState (record s { lanes = lanes })
-stays_fewer s lanes sound alike short fewer = sound_from (record s { lanes = lanes }) (core_fewer s lanes (core_of s sound) alike short fewer) sound.lit sound.metered sound.attached
+stays_fewer s lanes sound alike short fewer = sound_from (record s { lanes = lanes }) (core_fewer s lanes (core_of s sound) alike short fewer) sound.carriers sound.metrics sound.attached
 
 heard_sound : (s : State) (k : ℕ) (dir : Dir) (bytes : Frame) (o : Option DeclaredLink) → slice_get (links_of s) k ≡ o → slice_get (lane_at s k dir) 0 ≡ Some bytes → IsSoundState s → IsSoundState (heard_over (with_frames rest s k dir) dir bytes o)
 heard_sound s k dir bytes None at front sound = stays_fewer s (changed_at (changed_lane dir rest) s.lanes k) sound (alike_with_frames rest s k dir) (short_rest s.lanes k dir sound.short) (fewer_rest s k dir)
@@ -132,37 +132,37 @@ Sound-flushed s k sound = stays_fewer s (changed_at (λ lanes. no_frames) s.lane
 
 -- ---- a link is switched
 
-core_carried : (on : Bool) (s : State) (e : LinkEnd) → IsCore s → IsCore (carried on s e)
-core_carried on s e core = core_stepped (comes.carrier e.port on) s s.lanes e.bridge (λ v at. tt) core (alike_itself s) core.short (λ k dir f among. among) (λ p f is. absurd cc)
+core_with_carrier : (on : Bool) (s : State) (e : LinkEnd) → IsCore s → IsCore (with_carrier_at_end on s e)
+core_with_carrier on s e core = core_stepped (comes.carrier e.port on) s s.lanes e.bridge (λ v at. tt) core (alike_itself s) core.short (λ k dir f among. among) (λ p f is. absurd cc)
 
-carried_world : (on : Bool) (s : State) (e : LinkEnd) → (carried on s e).world ≡ s.world
-carried_world on s e = stepped_world (comes.carrier e.port on) s e.bridge
+with_carrier_world : (on : Bool) (s : State) (e : LinkEnd) → (with_carrier_at_end on s e).world ≡ s.world
+with_carrier_world on s e = stepped_world (comes.carrier e.port on) s e.bridge
 
-carried_lit : (on : Bool) (s : State) (e : LinkEnd) (lit : ℕ → ℕ → Bool) → HaveCarrier s.views lit → HaveCarrier (carried on s e).views (λ i p. if is_at e i p then on else lit i p)
-carried_lit on s e lit have = subst (λ (views : List BridgeView). HaveCarrier views (λ i p. if is_at e i p then on else lit i p)) (sym (stepped_views (comes.carrier e.port on) s e.bridge)) (lit_carried on s.views e lit have)
+carrier_stands : (on : Bool) (s : State) (e : LinkEnd) (carriers : ℕ → ℕ → Bool) → HaveCarrier s.views carriers → HaveCarrier (with_carrier_at_end on s e).views (λ i p. if is_at e i p then on else carriers i p)
+carrier_stands on s e carriers have = subst (λ (views : List BridgeView). HaveCarrier views (λ i p. if is_at e i p then on else carriers i p)) (sym (stepped_views (comes.carrier e.port on) s e.bridge)) (carriers_with_carrier on s.views e carriers have)
 
 -- the link at a place is switched, and both ends learn it
-switched_sound : (on : Bool) (s t : State) (k : ℕ) (o : Option DeclaredLink) → t.world ≡ with_live on s.world k → t.views ≡ s.views → IsCore t → AreLit (links_of s) s.views → AreMetered (links_of t) t.views → AreAttached t.world t.views → Sound s.world → slice_get (links_of s) k ≡ o → IsSoundState (carried_over on t o)
+switched_sound : (on : Bool) (s t : State) (k : ℕ) (o : Option DeclaredLink) → t.world ≡ with_live on s.world k → t.views ≡ s.views → IsCore t → HaveCarrierOfLinks (links_of s) s.views → HaveLinkMetrics (links_of t) t.views → AreAttached t.world t.views → Sound s.world → slice_get (links_of s) k ≡ o → IsSoundState (with_carrier_over on t o)
 unfolding with_live
-switched_sound on s t k None world views core lit metered attached sound at =
+switched_sound on s t k None world views core carriers metrics attached sound at =
     let same : things_of s.world.links ≡ things_of t.world.links = ap things_of (switched-none on s.world.links k at) ∙ sym (ap (λ (w : World). things_of w.links) world) in
-    sound_from t core (subst (λ (vs : List BridgeView). AreLit (links_of t) vs) (sym views) (subst (λ (ls : List DeclaredLink). AreLit ls s.views) same lit)) metered attached
-switched_sound on s t k (Some l) world views core lit metered attached sound at =
-    let u : State = carried on t l.a in
-    let x : State = carried on u l.b in
+    sound_from t core (subst (λ (vs : List BridgeView). HaveCarrierOfLinks (links_of t) vs) (sym views) (subst (λ (ls : List DeclaredLink). HaveCarrierOfLinks ls s.views) same carriers)) metrics attached
+switched_sound on s t k (Some l) world views core carriers metrics attached sound at =
+    let u : State = with_carrier_at_end on t l.a in
+    let x : State = with_carrier_at_end on u l.b in
     let link = link_there s k l sound at in
-    let first : HaveCarrier u.views (λ i p. if is_at l.a i p then on else is_lit (links_of s) i p) = carried_lit on t l.a (is_lit (links_of s)) (subst (λ (vs : List BridgeView). HaveCarrier vs (is_lit (links_of s))) (sym views) lit) in
-    let both : HaveCarrier x.views (λ i p. if is_at l.b i p then on else (if is_at l.a i p then on else is_lit (links_of s) i p)) = carried_lit on u l.b (λ i p. if is_at l.a i p then on else is_lit (links_of s) i p) first in
-    let there : x.world ≡ with_live on s.world k = carried_world on u l.b ∙ (carried_world on t l.a ∙ world) in
-    sound_from x (core_carried on u l.b (core_carried on t l.a core))
-    (subst (λ (w : World). AreLit (things_of w.links) x.views) (sym there)
-    (λ i v p at_v port. both i v p at_v port ∙ lit-switched on s.world.links k l sound.links_apart link.apart at i p))
-    (stepped_metered (comes.carrier l.b.port on) u l.b.bridge refl (stepped_metered (comes.carrier l.a.port on) t l.a.bridge refl metered))
+    let first : HaveCarrier u.views (λ i p. if is_at l.a i p then on else ends_live_link (links_of s) i p) = carrier_stands on t l.a (ends_live_link (links_of s)) (subst (λ (vs : List BridgeView). HaveCarrier vs (ends_live_link (links_of s))) (sym views) carriers) in
+    let both : HaveCarrier x.views (λ i p. if is_at l.b i p then on else (if is_at l.a i p then on else ends_live_link (links_of s) i p)) = carrier_stands on u l.b (λ i p. if is_at l.a i p then on else ends_live_link (links_of s) i p) first in
+    let there : x.world ≡ with_live on s.world k = with_carrier_world on u l.b ∙ (with_carrier_world on t l.a ∙ world) in
+    sound_from x (core_with_carrier on u l.b (core_with_carrier on t l.a core))
+    (subst (λ (w : World). HaveCarrierOfLinks (things_of w.links) x.views) (sym there)
+    (λ i v p at_v port. both i v p at_v port ∙ carrier-switched on s.world.links k l sound.links_apart link.apart at i p))
+    (stepped_with_metric (comes.carrier l.b.port on) u l.b.bridge refl (stepped_with_metric (comes.carrier l.a.port on) t l.a.bridge refl metrics))
     (stepped_attached (comes.carrier l.b.port on) u l.b.bridge (stepped_attached (comes.carrier l.a.port on) t l.a.bridge attached))
 
-live_metered : (on : Bool) (s : State) (k : ℕ) → AreMetered (links_of s) s.views → AreMetered (things_of (with_live on s.world k).links) s.views
+live_with_metric : (on : Bool) (s : State) (k : ℕ) → HaveLinkMetrics (links_of s) s.views → HaveLinkMetrics (things_of (with_live on s.world k).links) s.views
 unfolding with_live
-live_metered on s k metered = metered_switched on s.world.links k s.views metered
+live_with_metric on s k metrics = with_metric_switched on s.world.links k s.views metrics
 
 live_attached : (on : Bool) (s : State) (k : ℕ) → AreAttached s.world s.views → AreAttached (with_live on s.world k) s.views
 unfolding with_live
@@ -171,13 +171,13 @@ live_attached on s k attached = attached
 pub Sound-switched_on : (s : State) (k : ℕ) → IsSoundState s → IsSoundState (switched_on s k)
 unfolding switched_on
 Sound-switched_on s k sound =
-    switched_sound true s (record s { world = with_live true s.world k }) k (slice_get (links_of s) k) refl refl (core_with_live true s k (core_of s sound) (λ is dir. absurd cc)) sound.lit (live_metered true s k sound.metered) (live_attached true s k sound.attached) sound.world refl
+    switched_sound true s (record s { world = with_live true s.world k }) k (slice_get (links_of s) k) refl refl (core_with_live true s k (core_of s sound) (λ is dir. absurd cc)) sound.carriers (live_with_metric true s k sound.metrics) (live_attached true s k sound.attached) sound.world refl
 
 pub Sound-switched_off : (s : State) (k : ℕ) → IsSoundState s → IsSoundState (switched_off s k)
 unfolding switched_off
 Sound-switched_off s k sound =
     let t : State = flushed s k in
-    switched_sound false s (record t { world = with_live false t.world k }) k (slice_get (links_of s) k) refl refl (core_with_live false t k (core_of t (Sound-flushed s k sound)) (λ is dir. flushed_lane s.lanes k dir)) sound.lit (live_metered false t k sound.metered) (live_attached false t k sound.attached) sound.world refl
+    switched_sound false s (record t { world = with_live false t.world k }) k (slice_get (links_of s) k) refl refl (core_with_live false t k (core_of t (Sound-flushed s k sound)) (λ is dir. flushed_lane s.lanes k dir)) sound.carriers (live_with_metric false t k sound.metrics) (live_attached false t k sound.attached) sound.world refl
 
 -- ---- rounds and drains
 
@@ -209,9 +209,9 @@ pub Sound-rounds : (n : ℕ) (s : State) → IsSoundState s → IsSoundState (ro
 Sound-rounds zero s sound = sound
 Sound-rounds (suc n) s sound = Sound-rounds n (one_round s) (Sound-one_round s sound)
 
-delivered_over_sound : (s : State) (way : Option LaneId) → IsSoundState s → IsSoundState (delivered_over s way)
+delivered_over_sound : (s : State) (lane : Option LaneId) → IsSoundState s → IsSoundState (delivered_over s lane)
 delivered_over_sound s None sound = sound
-delivered_over_sound s (Some way) sound = Sound-delivered s way.link way.dir sound
+delivered_over_sound s (Some lane) sound = Sound-delivered s lane.link lane.dir sound
 
 pub Sound-delivered_first : (s : State) → IsSoundState s → IsSoundState (delivered_first s)
 unfolding delivered_first

@@ -14,11 +14,12 @@ use Rattle.lsdb.specs.Certificate.{IsClaimed, is_flagged, is_absent, is_as_befor
 use Rattle.lsdb.proofs.Order.{itself, through, least}
 use Rattle.adjacency.specs.Hearing.{End}
 use Rattle.bridge_api.specs.View.{BridgeView, neighbour_at, is_up_at}
-use Rattle.bridge_api.specs.Judging.{Judged, useless, greeting, link_state, complete, partial, tenant, judged}
+use Rattle.bridge_api.specs.Parsing.{Parsed, parsed}
+use Rattle.bridge_api.specs.Parsing as parsing
 use Rattle.bridge_api.specs.Step.{Input, second, frame, carrier, metric, step, sent}
-use Rattle.bridge_api.specs.Laws.{IsInput, IsSoundView, IsHeard, IsSent, IsHelloOf, IsWritten, IsFrameOf, greeter, port_of, claims_of}
+use Rattle.bridge_api.specs.Laws.{IsInput, IsSoundView, IsHeard, IsSent, IsHelloOf, IsWritten, IsFrameOf, hello_sender, port_of, claims_of}
 use Rattle.bridge_api.proofs.Frames.{at_most_held}
-use Rattle.spb_network.specs.Sound.{end_at, IsHelloTo, IsSaid, IsFollowed, Agrees}
+use Rattle.spb_network.specs.Sound.{end_at, IsHelloTo, IsFrameFrom, IsFloodedOrHeld, LinkAgrees}
 use Rattle.spb_network.proofs.BridgeLaws.{steps_keep_bridge, steps_keep_neighbours, steps_stay_sound, sent_is_sound, up_ports_are_up, steps_carry_database}
 
 pub All-in : (P : Frame → Type 0) (fs : List Frame) (f : Frame) → AllByRecursion P fs → IsIn f fs → P f
@@ -79,22 +80,22 @@ pub record IsMove (v : BridgeView) (p : ℕ) (w : BridgeView) (q : ℕ) (x y : O
   pub first : IsSoundView v
   pub second : IsSoundView w
   pub port : q ≤ 32
-  pub there : Agrees v p w q lane
-  pub towards : AllByRecursion (IsSaid w q v p) back
+  pub there : LinkAgrees v p w q lane
+  pub towards : AllByRecursion (IsFrameFrom w q v p) back
   pub heard : (f : Frame) → x ≡ Some (frame p f) → IsIn f back
   pub sends : (f : Frame) → IsIn f after → IsIn f lane ⊎ IsSent (sent_by x v) p f
 
 -- a frame that was heard as a hello is one of the far end
-said_by : (j : Judged) (from to : End) (n : End) → ((h : HelloValue) (way : ThreeWay) → j ≡ greeting h way → IsHelloTo from to h way) → greeter j ≡ Some n → n ≡ from
-said_by (useless reason) from to n said is = absurd cc
-said_by (greeting h way) from to n said is = sym (some-is _ _ is) ∙ (said h way refl).sender
-said_by (link_state l) from to n said is = absurd cc
-said_by (complete c) from to n said is = absurd cc
-said_by (partial s) from to n said is = absurd cc
-said_by (tenant da sa vid isid customer) from to n said is = absurd cc
+said_by : (j : Parsed) (from to : End) (n : End) → ((h : HelloValue) (way : ThreeWay) → j ≡ parsing.hello h way → IsHelloTo from to h way) → hello_sender j ≡ Some n → n ≡ from
+said_by (parsing.dropped reason) from to n said is = absurd cc
+said_by (parsing.hello h way) from to n said is = sym (some-is _ _ is) ∙ (said h way refl).sender
+said_by (parsing.lsp l) from to n said is = absurd cc
+said_by (parsing.csnp c) from to n said is = absurd cc
+said_by (parsing.psnp s) from to n said is = absurd cc
+said_by (parsing.customer da sa vid isid customer) from to n said is = absurd cc
 
-said_sender : (v : BridgeView) (p : ℕ) (w : BridgeView) (q : ℕ) (f : Frame) (n : End) → IsSaid w q v p f → greeter (judged f) ≡ Some n → n ≡ end_at w q
-said_sender v p w q f n said is = said_by (judged f) (end_at w q) (end_at v p) n said.hello is
+said_sender : (v : BridgeView) (p : ℕ) (w : BridgeView) (q : ℕ) (f : Frame) (n : End) → IsFrameFrom w q v p f → hello_sender (parsed f) ≡ Some n → n ≡ end_at w q
+said_sender v p w q f n said is = said_by (parsed f) (end_at w q) (end_at v p) n said.hello is
 
 moved_keeps : (v : BridgeView) (p : ℕ) (w : BridgeView) (q : ℕ) (x y : Option Input) (lane back after : List Frame) → IsMove v p w q x y lane back after → (n : End) → neighbour_at (moved x v) p ≡ Some n → n ≡ end_at w q
 moved_keeps v p w q None y lane back after move n kept = move.there.keeps n kept
@@ -106,7 +107,7 @@ moved_keeps v p w q (Some input) y lane back after move n kept =
   where
     by : (i : Input) → ((f : Frame) → i ≡ frame p f → IsIn f back) → IsHeard i p n → n ≡ end_at w q
     by second from heard = absurd heard
-    by (frame r f) from heard = said_sender v p w q f n (All-in (IsSaid w q v p) back f move.towards (from f (ap (λ (k : ℕ). frame k f) heard.0))) heard.1
+    by (frame r f) from heard = said_sender v p w q f n (All-in (IsFrameFrom w q v p) back f move.towards (from f (ap (λ (k : ℕ). frame k f) heard.0))) heard.1
     by (carrier r on) from heard = absurd heard
     by (metric r m) from heard = absurd heard
 
@@ -126,7 +127,7 @@ hello_to v p to h way is keeps = record {
 }
 
 -- what was on its way is still said
-still_said : (v : BridgeView) (p : ℕ) (w : BridgeView) (q : ℕ) (x y : Option Input) (f : Frame) → IsSoundView v → IsSaid v p w q f → IsSaid (moved x v) p (moved y w) q f
+still_said : (v : BridgeView) (p : ℕ) (w : BridgeView) (q : ℕ) (x y : Option Input) (f : Frame) → IsSoundView v → IsFrameFrom v p w q f → IsFrameFrom (moved x v) p (moved y w) q f
 still_said v p w q x y f sound was = record {
   hello = λ h way heard. subst (λ (to : End). IsHelloTo (end_at (moved x v) p) to h way) (sym (moved_end y w q)) (subst (λ (from : End). IsHelloTo from (end_at w q) h way) (sym (moved_end x v p)) (was.hello h way heard));
   claims = λ id a claimed. through a (version_at v.database id) (version_at (moved x v).database id) (was.claims id a claimed) (moved_rises x v id sound);
@@ -134,7 +135,7 @@ still_said v p w q x y f sound was = record {
 }
 
 -- what is sent is said
-newly_said : (v : BridgeView) (p : ℕ) (w : BridgeView) (q : ℕ) (x y : Option Input) (lane back after : List Frame) (f : Frame) → IsMove v p w q x y lane back after → IsSent (sent_by x v) p f → IsSaid (moved x v) p (moved y w) q f
+newly_said : (v : BridgeView) (p : ℕ) (w : BridgeView) (q : ℕ) (x y : Option Input) (lane back after : List Frame) (f : Frame) → IsMove v p w q x y lane back after → IsSent (sent_by x v) p f → IsFrameFrom (moved x v) p (moved y w) q f
 newly_said v p w q None y lane back after f move some = absurd some
 newly_said v p w q (Some input) y lane back after f move some =
     let next : BridgeView = step input v in
@@ -147,7 +148,7 @@ newly_said v p w q (Some input) y lane back after f move some =
     }
 
 -- whoever is no further behind stays so
-moved_ready : (v : BridgeView) (p : ℕ) (w : BridgeView) (q : ℕ) (x y : Option Input) (lane back after : List Frame) → IsMove v p w q x y lane back after → (id : LspId) → is_up_at (moved x v) p ≡ true → IsFollowed (moved x v) p (moved y w) id
+moved_ready : (v : BridgeView) (p : ℕ) (w : BridgeView) (q : ℕ) (x y : Option Input) (lane back after : List Frame) → IsMove v p w q x y lane back after → (id : LspId) → is_up_at (moved x v) p ≡ true → IsFloodedOrHeld (moved x v) p (moved y w) id
 moved_ready v p w q None y lane back after move id up =
     elim (move.there.ready id up) [
       | inl flagged ↦ inl flagged
@@ -173,18 +174,18 @@ moved_ready v p w q (Some input) y lane back after move id up =
     by second from here a claimed = absurd claimed
     by (frame r f) from here a claimed =
         let same : frame r f ≡ frame p f = ap (λ (k : ℕ). frame k f) (sym here) in
-        (All-in (IsSaid w q v p) back f move.towards (from f same)).claims id a (subst (λ (i : Input). IsClaimed (claims_of i) id a) same claimed)
+        (All-in (IsFrameFrom w q v p) back f move.towards (from f same)).claims id a (subst (λ (i : Input). IsClaimed (claims_of i) id a) same claimed)
     by (carrier r on) from here a claimed = absurd claimed
     by (metric r m) from here a claimed = absurd claimed
 
 -- both bridges may have stepped, and the direction agrees
-pub agrees_moved : (v : BridgeView) (p : ℕ) (w : BridgeView) (q : ℕ) (x y : Option Input) (lane back after : List Frame) → IsMove v p w q x y lane back after → Agrees (moved x v) p (moved y w) q after
+pub agrees_moved : (v : BridgeView) (p : ℕ) (w : BridgeView) (q : ℕ) (x y : Option Input) (lane back after : List Frame) → IsMove v p w q x y lane back after → LinkAgrees (moved x v) p (moved y w) q after
 agrees_moved v p w q x y lane back after move = record {
-  said = All-from (IsSaid (moved x v) p (moved y w) q) after (λ f among. said f (move.sends f among));
+  said = All-from (IsFrameFrom (moved x v) p (moved y w) q) after (λ f among. said f (move.sends f among));
   keeps = λ n kept. moved_keeps v p w q x y lane back after move n kept ∙ sym (moved_end y w q);
   ready = moved_ready v p w q x y lane back after move;
 }
   where
-    said : (f : Frame) → IsIn f lane ⊎ IsSent (sent_by x v) p f → IsSaid (moved x v) p (moved y w) q f
-    said f (inl old) = still_said v p w q x y f move.first (All-in (IsSaid v p w q) lane f move.there.said old)
+    said : (f : Frame) → IsIn f lane ⊎ IsSent (sent_by x v) p f → IsFrameFrom (moved x v) p (moved y w) q f
+    said f (inl old) = still_said v p w q x y f move.first (All-in (IsFrameFrom v p w q) lane f move.there.said old)
     said f (inr new) = newly_said v p w q x y lane back after f move new

@@ -34,26 +34,26 @@ pub carrier_kept : (input : Input) (v : BridgeView) (p : ℕ) → IsPort v p →
 carrier_kept input v p is other = steps_keep_carrier input v p is ∙ no_other input p (has_carrier_at v p) other
 
 -- a change of carrier sets it, and leaves the other ports
-pub carrier_set : (v : BridgeView) (q : ℕ) (on : Bool) → IsPort v q → has_carrier_at (step (carrier q on) v) q ≡ on
-carrier_set v q on is = steps_keep_carrier (carrier q on) v q is ∙ ap (λ (b : Bool). if b then on else has_carrier_at v q) (eq-eqb q q refl)
+pub carrier_is_set : (v : BridgeView) (q : ℕ) (on : Bool) → IsPort v q → has_carrier_at (step (carrier q on) v) q ≡ on
+carrier_is_set v q on is = steps_keep_carrier (carrier q on) v q is ∙ ap (λ (b : Bool). if b then on else has_carrier_at v q) (eq-eqb q q refl)
 
 pub carrier_beside : (v : BridgeView) (q : ℕ) (on : Bool) (p : ℕ) → IsPort v p → p ≢ q → has_carrier_at (step (carrier q on) v) p ≡ has_carrier_at v p
 carrier_beside v q on p is apart = steps_keep_carrier (carrier q on) v p is ∙ ap (λ (b : Bool). if b then on else has_carrier_at v p) (ne_eqb p q apart)
 
 -- ---- a port without carrier
 
-dark_in : (s : AdjState) (a : Adjacency) → SoundIn s a → a.carrier ≡ false → (kept_in s (a.neighbour, a.circuit) ≡ None) × (is_up s ≡ false)
-dark_in Down a sound dark = (refl, refl)
-dark_in Initializing a sound dark = absurd (true≢false (sym sound.1 ∙ dark))
-dark_in Up a sound dark = absurd (true≢false (sym sound.1 ∙ dark))
+no_carrier_in : (s : AdjState) (a : Adjacency) → SoundIn s a → a.carrier ≡ false → (kept_in s (a.neighbour, a.circuit) ≡ None) × (is_up s ≡ false)
+no_carrier_in Down a sound dark = (refl, refl)
+no_carrier_in Initializing a sound dark = absurd (true≢false (sym sound.1 ∙ dark))
+no_carrier_in Up a sound dark = absurd (true≢false (sym sound.1 ∙ dark))
 
-dark_at : (b : Bool) (ports : List BridgePort) (i : ℕ) → AllByRecursion IsSoundPort ports → has_carrier_in (if b then slice_get ports i else None) ≡ false → (option_and_then (λ port. neighbour_of port.adjacency) (if b then slice_get ports i else None) ≡ None) × (is_up_in (if b then slice_get ports i else None) ≡ false)
-dark_at false ports i sound none = (refl, refl)
-dark_at true [] i sound none = (refl, refl)
-dark_at true (port ∷ ports) zero sound none = dark_in port.adjacency.state port.adjacency sound.0.adjacency none
-dark_at true (port ∷ ports) (suc i) sound none = dark_at true ports i sound.1 none
+no_carrier_at : (b : Bool) (ports : List BridgePort) (i : ℕ) → AllByRecursion IsSoundPort ports → has_carrier_in (if b then slice_get ports i else None) ≡ false → (option_and_then (λ port. neighbour_of port.adjacency) (if b then slice_get ports i else None) ≡ None) × (is_up_in (if b then slice_get ports i else None) ≡ false)
+no_carrier_at false ports i sound none = (refl, refl)
+no_carrier_at true [] i sound none = (refl, refl)
+no_carrier_at true (port ∷ ports) zero sound none = no_carrier_in port.adjacency.state port.adjacency sound.0.adjacency none
+no_carrier_at true (port ∷ ports) (suc i) sound none = no_carrier_at true ports i sound.1 none
 
 -- keeps no neighbour, and isn't Up
 pub dark : (v : BridgeView) (p : ℕ) → IsSoundView v → has_carrier_at v p ≡ false → (neighbour_at v p ≡ None) × (is_up_at v p ≡ false)
 unfolding neighbour_at is_up_at has_carrier_at
-dark v p sound none = dark_at (nat_le 1 p) v.ports (p - 1) sound.ports none
+dark v p sound none = no_carrier_at (nat_le 1 p) v.ports (p - 1) sound.ports none

@@ -23,7 +23,7 @@ use Rattle.lsdb.specs.Version.{number_of, sum_of, is_absent}
 use Rattle.lsdb.specs.Entry.{Entry}
 use Rattle.lsdb.specs.Database.{version_at, srm_in}
 use Rattle.lsdb.specs.Certificate.{Claim, is_flagged, is_absent as is_none, is_as_before, is_claimed}
-use Rattle.flooding.specs.Own.{own_id, flags_in, tlvs_in}
+use Rattle.flooding.specs.Own.{own_id, flags_in, tlvs_of_body}
 use Rattle.flooding.specs.Hearing.{claim_of}
 use Rattle.flooding.specs.Entries.{IsSendable}
 use Rattle.flooding.proofs.SendableEntries.{sent_is_held}
@@ -36,12 +36,13 @@ use Rattle.adjacency.specs.Adjacency.{down, keeping, is_up, neighbour_of, after_
 use Rattle.bridge_api.specs.declared.port.BridgePort.{BridgePort}
 use Rattle.bridge_api.specs.View.{BridgeView, metrics_of, port_in, neighbour_at, is_port_up, is_up_in, is_up_at, has_carrier_in, has_carrier_at}
 use Rattle.bridge_api.specs.Own.{neighbours_from, member_of, local_of, body_of, body_in, Lasts, IsAlive}
-use Rattle.bridge_api.specs.Judging.{judged, greeting, link_state, useless, is_octets, by_content}
+use Rattle.bridge_api.specs.Parsing.{parsed, is_octets, by_content}
+use Rattle.bridge_api.specs.Parsing as parsing
 use Rattle.bridge_api.specs.declared.drop_reason.DropReason.TheVariants as drop
-use Rattle.bridge_api.specs.Hearing.{with_due}
+use Rattle.bridge_api.specs.Hearing.{with_csnp_due}
 use Rattle.bridge_api.specs.Ticking.{later, readied, hello_frame, lsp_frame, sent_from, sent_in_tick}
 use Rattle.bridge_api.specs.Step.{second, frame, step, sent}
-use Rattle.bridge_api.specs.Laws.{IsSoundView, IsSent, IsGreeted, IsFresh, AreOctets, first_of, hearing_from}
+use Rattle.bridge_api.specs.Laws.{IsSoundView, IsSent, IsHelloHeard, IsFresh, AreOctets, first_of, hearing_from}
 use Rattle.bridge_api.specs.Duties.{but_for_ssn}
 use Rattle.bridge_api.specs.Few.{HoldsFew}
 use Rattle.bridge_api.proofs.Octets.{AreSmall, small_octets, octets_small, small_bytes, small_both}
@@ -49,9 +50,9 @@ use Rattle.bridge_api.proofs.Changes.{readied_ports, readied_rest, tick_ports, w
 use Rattle.bridge_api.proofs.Hellos.{control_small}
 use Rattle.bridge_api.proofs.Spelled.{lsp_taken}
 use Rattle.bridge_api.proofs.DataSteps.{readied_holds}
-use Rattle.bridge_api.proofs.Meeting.{Starts, heard_down, greets, hears}
+use Rattle.bridge_api.proofs.Meeting.{Starts, heard_down, hello_from, hears}
 use Rattle.bridge_api.proofs.Entering.{entering_up_is_whole}
-use Rattle.bridge_api.proofs.Serving.{seconds_serve, seconds_settle}
+use Rattle.bridge_api.proofs.Serving.{seconds_serve, seconds_leave_nothing_due}
 use Rattle.bridge_api.proofs.FewHeld.{steps_hold_few}
 use Rattle.bridge_api.proofs.FewSent.{seconds_send_few}
 use Rattle.spb_network.proofs.BridgeLaws.{steps_stay_sound, steps_keep_bridge, hellos_are_heard, up_ports_are_up, steps_carry_database}
@@ -69,10 +70,10 @@ readied_starts s a v from = record {
 
 second_starts : (s : SystemId) (a : Adjacency) (v : BridgeView) → Starts s a v → Starts s (after_second a) (step second v)
 second_starts s a v from = record {
-  port = with_due false (later from.port);
-  rest = map (with_due false) (map later from.rest);
+  port = with_csnp_due false (later from.port);
+  rest = map (with_csnp_due false) (map later from.rest);
   id = ap (λ (id : BridgeId). id.system) (steps_keep_bridge second v).id ∙ from.id;
-  is = tick_ports v ∙ ap (λ (ports : List BridgePort). map (with_due false) (map later ports)) from.is;
+  is = tick_ports v ∙ ap (λ (ports : List BridgePort). map (with_csnp_due false) (map later ports)) from.is;
   adjacency = ap after_second from.adjacency;
 }
 
@@ -98,30 +99,30 @@ only_port s a v from one = from.is ∙ ap (λ (rest : List BridgePort). from.por
 
 -- ---- a port that isn't Up: a hello is sent there, and nothing else
 
-only_greeting : (lit up : Bool) (s : ℕ × List ℕ) (more : List (ℕ × List ℕ)) → lit ≡ true → up ≡ false → ((if lit then s ∷ [] else []) ++ (if up then more else [])) ++ [] ≡ s ∷ []
-only_greeting true false s more is none = refl
-only_greeting true true s more is none = absurd (true≢false none)
-only_greeting false up s more is none = absurd (true≢false (sym is))
+only_hello : (carriers up : Bool) (s : ℕ × List ℕ) (more : List (ℕ × List ℕ)) → carriers ≡ true → up ≡ false → ((if carriers then s ∷ [] else []) ++ (if up then more else [])) ++ [] ≡ s ∷ []
+only_hello true false s more is none = refl
+only_hello true true s more is none = absurd (true≢false none)
+only_hello false up s more is none = absurd (true≢false (sym is))
 
 hello_alone : (v : BridgeView) (port : BridgePort) → v.ports ≡ port ∷ [] → (later port).adjacency.carrier ≡ true → is_port_up (later port) ≡ false → sent second v ≡ (1, first_of (sent second v)) ∷ []
 unfolding sent_in_tick
-hello_alone v port is lit down =
+hello_alone v port is carriers down =
     let u : BridgeView = readied v in
     let bytes : List ℕ = hello_frame u.id.system 1 (later port) in
     let e : sent second v ≡ (1, bytes) ∷ [] =
     ap (λ (ports : List BridgePort). sent_from u.id.system 1 ports u.database) (readied_ports v ∙ ap (map later) is)
-    ∙ only_greeting (later port).adjacency.carrier (is_port_up (later port)) (1, bytes) _ lit down in
+    ∙ only_hello (later port).adjacency.carrier (is_port_up (later port)) (1, bytes) _ carriers down in
     e ∙ ap (λ (s : List ℕ). (1, s) ∷ []) (sym (ap first_of e))
 
 says_hello : (s : SystemId) (a : Adjacency) (v : BridgeView) → Starts s a v → length v.ports ≡ 1 → (after_second a).carrier ≡ true → is_up (after_second a).state ≡ false → sent second v ≡ (1, first_of (sent second v)) ∷ []
-says_hello s a v from one lit down =
-    hello_alone v from.port (only_port s a v from one) (ap (λ (x : Adjacency). (after_second x).carrier) from.adjacency ∙ lit) (ap (λ (x : Adjacency). is_up (after_second x).state) from.adjacency ∙ down)
+says_hello s a v from one carriers down =
+    hello_alone v from.port (only_port s a v from one) (ap (λ (x : Adjacency). (after_second x).carrier) from.adjacency ∙ carriers) (ap (λ (x : Adjacency). is_up (after_second x).state) from.adjacency ∙ down)
 
 -- and that is heard
-greets_at : (s : SystemId) (a : Adjacency) (v : BridgeView) → IsSoundView v → Starts s a v → a.carrier ≡ true → IsNamed (neighbour_of (after_second a)) → AreOctets (neighbour_of (after_second a)) → IsGreeted v 1
-greets_at s a v sound from lit named octets =
+hello_from_at : (s : SystemId) (a : Adjacency) (v : BridgeView) → IsSoundView v → Starts s a v → a.carrier ≡ true → IsNamed (neighbour_of (after_second a)) → AreOctets (neighbour_of (after_second a)) → IsHelloHeard v 1
+hello_from_at s a v sound from carriers named octets =
     let kept : neighbour_at (step second v) 1 ≡ neighbour_of (after_second a) = neighbour_is s (after_second a) (step second v) (second_starts s a v from) in
-    hellos_are_heard v 1 sound (carrier_is s a v from ∙ lit) (subst IsNamed (sym kept) named) (subst AreOctets (sym kept) octets)
+    hellos_are_heard v 1 sound (carrier_is s a v from ∙ carriers) (subst IsNamed (sym kept) named) (subst AreOctets (sym kept) octets)
 
 only_sent : (fs : List (ℕ × List ℕ)) (bytes other : List ℕ) → fs ≡ (1, bytes) ∷ [] → IsSent fs 1 other → other ≡ bytes
 only_sent fs bytes other is some = elim (subst (λ (s : List (ℕ × List ℕ)). IsSent s 1 other) is some) [
@@ -141,7 +142,7 @@ octets : (n : ℕ) → n < 256 → IsBytes (system n).mac.bytes
 octets n low = small_bytes (system n).mac.bytes (address_small n low)
 
 -- two bridges, of one port each with carrier, that were heard by nobody yet
-pub record AreLit (v w : BridgeView) : Type 0 where
+pub record HaveFirstCarriers (v w : BridgeView) : Type 0 where
   pub first : Starts (system 1) (down true) v
   pub other : Starts (system 2) (down true) w
   pub sound : IsSoundView v
@@ -157,7 +158,7 @@ pub record AreLit (v w : BridgeView) : Type 0 where
 
 -- ---- the frame of an LSP of octets
 
-flags_small : (body : List ℕ) → AreSmall body → (flags_in body < 256) × AreSmall (tlvs_in body)
+flags_small : (body : List ℕ) → AreSmall body → (flags_in body < 256) × AreSmall (tlvs_of_body body)
 flags_small [] small = (omega arith, tt)
 flags_small (flags ∷ tlvs) small = (small.0, small.1)
 
@@ -195,11 +196,11 @@ lsp_small n e low fit small =
     let flagged_small : AreSmall flagged = small_both summed (l.flags ∷ []) summed_small (body.0, tt) in
     control_small (system n).mac (lsp_bytes l) (address_small n low) (small_both flagged l.tlvs flagged_small body.1)
 
-lsp_heard : (n : ℕ) (e : Entry) → n < 256 → IsSendable (own_id (system n)) e → Fit (lsp_in (own_id (system n)) e) → AreSmall e.body → judged (lsp_frame (system n) (lsp_in (own_id (system n)) e)) ≡ link_state (lsp_in (own_id (system n)) e)
-unfolding judged
+lsp_heard : (n : ℕ) (e : Entry) → n < 256 → IsSendable (own_id (system n)) e → Fit (lsp_in (own_id (system n)) e) → AreSmall e.body → parsed (lsp_frame (system n) (lsp_in (own_id (system n)) e)) ≡ parsing.lsp (lsp_in (own_id (system n)) e)
+unfolding parsed
 lsp_heard n e low sendable fit small =
     let bytes : List ℕ = lsp_frame (system n) (lsp_in (own_id (system n)) e) in
-    when_true (is_octets bytes) (by_content (content_in bytes)) (useless drop.Frame) (octets_small bytes (lsp_small n e low fit small))
+    when_true (is_octets bytes) (by_content (content_in bytes)) (parsing.dropped drop.Frame) (octets_small bytes (lsp_small n e low fit small))
     ∙ lsp_taken control_again (system n) (own_id (system n)) e refl refl sendable
 
 -- ---- what is held, but for its SSN flags
@@ -224,7 +225,7 @@ pub record SaysLsp (v : BridgeView) : Type 0 where
   pub bytes : List ℕ
   pub sent : IsSent (sent second v) 1 bytes
   pub lsp : LspValue
-  pub heard : judged bytes ≡ link_state lsp
+  pub heard : parsed bytes ≡ parsing.lsp lsp
   pub number : ℕ
   pub sum : ℕ
   pub live : (claim_of lsp).version ≡ Live number sum
@@ -244,7 +245,7 @@ own_small = small_octets (1 ∷ content_bytes own_local) refl
 one_metric : (port : BridgePort) → metrics_of (port ∷ []) ≡ 10 ∷ [] → port.metric ≡ 10
 one_metric port is = cc
 
-module _ (v w : BridgeView) (lit : AreLit v w) where
+module _ (v w : BridgeView) (carriers : HaveFirstCarriers v w) where
   -- the first says a hello, and the other hears it
   abbrev pub asked : BridgeView
   asked = step second v
@@ -257,18 +258,18 @@ module _ (v w : BridgeView) (lit : AreLit v w) where
   met = hearing_from asking asked
 
   pub says_first : sent second v ≡ (1, first_of (sent second v)) ∷ []
-  says_first = says_hello (system 1) (down true) v lit.first lit.one refl refl
+  says_first = says_hello (system 1) (down true) v carriers.first carriers.one refl refl
 
   asked_starts : Starts (system 1) (down true) asked
-  asked_starts = second_starts (system 1) (down true) v lit.first
+  asked_starts = second_starts (system 1) (down true) v carriers.first
 
   asking_starts : Starts (system 2) (keeping Initializing (system 1, 1) 3) asking
   asking_starts =
-      subst (λ (a : Adjacency). Starts (system 2) a asking) (heard_down (system 2) (greets (system 1) (down true)) (said 1 (down true)) Initializing refl refl refl)
-      (hears control_again (system 2) (system 1) (down true) (down true) w v lit.other lit.first refl refl refl (octets 1 (omega arith)) tt tt)
+      subst (λ (a : Adjacency). Starts (system 2) a asking) (heard_down (system 2) (hello_from (system 1) (down true)) (said 1 (down true)) Initializing refl refl refl)
+      (hears control_again (system 2) (system 1) (down true) (down true) w v carriers.other carriers.first refl refl refl (octets 1 (omega arith)) tt tt)
 
   asking_one : length asking.ports ≡ 1
-  asking_one = (steps_keep_bridge (frame 1 (first_of (sent second v))) w).ports ∙ lit.other_one
+  asking_one = (steps_keep_bridge (frame 1 (first_of (sent second v))) w).ports ∙ carriers.other_one
 
   pub says_second : sent second asking ≡ (1, first_of (sent second asking)) ∷ []
   says_second = says_hello (system 2) (keeping Initializing (system 1, 1) 3) asking asking_starts asking_one refl refl
@@ -276,27 +277,27 @@ module _ (v w : BridgeView) (lit : AreLit v w) where
   met_starts : Starts (system 1) (keeping Up (system 2, 1) 3) met
   met_starts =
       let waits : Adjacency = keeping Initializing (system 1, 1) 2 in
-      subst (λ (a : Adjacency). Starts (system 1) a met) (heard_down (system 1) (greets (system 2) waits) (said 1 waits) Up refl refl refl)
+      subst (λ (a : Adjacency). Starts (system 1) a met) (heard_down (system 1) (hello_from (system 2) waits) (said 1 waits) Up refl refl refl)
       (hears control_again (system 1) (system 2) (down true) (keeping Initializing (system 1, 1) 3) asked asking asked_starts asking_starts refl refl refl (octets 2 (omega arith)) (refl, omega arith) (octets 1 (omega arith)))
 
   asked_sound : IsSoundView asked
-  asked_sound = steps_stay_sound second v tt lit.sound
+  asked_sound = steps_stay_sound second v tt carriers.sound
 
   asking_sound : IsSoundView asking
-  asking_sound = steps_stay_sound (frame 1 (first_of (sent second v))) w tt lit.other_sound
+  asking_sound = steps_stay_sound (frame 1 (first_of (sent second v))) w tt carriers.other_sound
 
   met_sound : IsSoundView met
   met_sound = steps_stay_sound (frame 1 (first_of (sent second asking))) asked tt asked_sound
 
   met_one : length met.ports ≡ 1
-  met_one = (steps_keep_bridge (frame 1 (first_of (sent second asking))) asked).ports ∙ ((steps_keep_bridge second v).ports ∙ lit.one)
+  met_one = (steps_keep_bridge (frame 1 (first_of (sent second asking))) asked).ports ∙ ((steps_keep_bridge second v).ports ∙ carriers.one)
 
   met_few : HoldsFew 5 met
   met_few =
-      let said_so : IsGreeted asking 1 = greets_at (system 2) (keeping Initializing (system 1, 1) 3) asking asking_sound asking_starts refl (refl, omega arith) (octets 1 (omega arith)) in
+      let said_so : IsHelloHeard asking 1 = hello_from_at (system 2) (keeping Initializing (system 1, 1) 3) asking asking_sound asking_starts refl (refl, omega arith) (octets 1 (omega arith)) in
       let bytes : List ℕ = first_of (sent second asking) in
-      let heard : judged bytes ≡ greeting said_so.hello said_so.way = ap judged (sym (only_sent (sent second asking) bytes said_so.bytes says_second said_so.sent)) ∙ said_so.heard in
-      steps_hold_few 4 (frame 1 bytes) asked (omega arith) (said_so.hello, said_so.way, heard) (steps_hold_few 3 second v (omega arith) tt lit.few)
+      let heard : parsed bytes ≡ parsing.hello said_so.hello said_so.way = ap parsed (sym (only_sent (sent second asking) bytes said_so.bytes says_second said_so.sent)) ∙ said_so.heard in
+      steps_hold_few 4 (frame 1 bytes) asked (omega arith) (said_so.hello, said_so.way, heard) (steps_hold_few 3 second v (omega arith) tt carriers.few)
 
   -- the port is Up, also after the next second
   pub met_up : is_up_at (step second met) 1 ≡ true
@@ -306,8 +307,8 @@ module _ (v w : BridgeView) (lit : AreLit v w) where
   pub few_sent : length (sent second met) ≤ 20
   few_sent = omega (arith, seconds_send_few 5 met (omega arith) met_few, met_one)
 
-  pub hello_sent : IsGreeted met 1
-  hello_sent = greets_at (system 1) (keeping Up (system 2, 1) 3) met met_sound met_starts refl (refl, omega arith) (octets 2 (omega arith))
+  pub hello_sent : IsHelloHeard met 1
+  hello_sent = hello_from_at (system 1) (keeping Up (system 2, 1) 3) met met_sound met_starts refl (refl, omega arith) (octets 2 (omega arith))
 
   -- ---- its own LSP
 
@@ -353,11 +354,11 @@ module _ (v w : BridgeView) (lit : AreLit v w) where
         | is_claimed here a claimed below ↦ absurd (omega (arith, here))
       ]
 
-  settles : but_for_ssn (get after.database id) ≡ but_for_ssn (get (readied met).database id)
-  settles = (seconds_settle met met_sound).held id
+  originates : but_for_ssn (get after.database id) ≡ but_for_ssn (get (readied met).database id)
+  originates = (seconds_leave_nothing_due met met_sound).held id
 
   ready_flagged : has (srm_in (get (readied met).database id)) 1 ≡ true
-  ready_flagged = ap (λ (set : PortSet). has set 1) (sym (srm_but (get (readied met).database id)) ∙ (ap srm_in (sym settles) ∙ srm_but (get after.database id))) ∙ still_flagged
+  ready_flagged = ap (λ (set : PortSet). has set 1) (sym (srm_but (get (readied met).database id)) ∙ (ap srm_in (sym originates) ∙ srm_but (get after.database id))) ∙ still_flagged
 
   -- it says what the bridge has to say, and is alive
   unspent : after.spent ≡ false
@@ -368,11 +369,11 @@ module _ (v w : BridgeView) (lit : AreLit v w) where
       let to_met = steps_keep_bridge (frame 1 (first_of (sent second asking))) asked in
       let first = steps_keep_bridge second v in
       let last = steps_keep_bridge second met in
-      let own : after.id ≡ record { priority = 32768; system = system 1 } = last.id ∙ (to_met.id ∙ (first.id ∙ lit.id)) in
-      let source : after.source ≡ record { value = 1 } = last.source ∙ (to_met.source ∙ (first.source ∙ lit.source)) in
-      let vids : after.vids ≡ record { vid = record { value = 100 }; ect = 1 } ∷ [] = last.vids ∙ (to_met.vids ∙ (first.vids ∙ lit.vids)) in
-      let attached : after.attached ≡ [] = last.attached ∙ (to_met.attached ∙ (first.attached ∙ lit.attached)) in
-      let metrics : metrics_of after.ports ≡ 10 ∷ [] = last.metrics ∙ (to_met.metrics ∙ (first.metrics ∙ lit.metrics)) in
+      let own : after.id ≡ record { priority = 32768; system = system 1 } = last.id ∙ (to_met.id ∙ (first.id ∙ carriers.id)) in
+      let source : after.source ≡ record { value = 1 } = last.source ∙ (to_met.source ∙ (first.source ∙ carriers.source)) in
+      let vids : after.vids ≡ record { vid = record { value = 100 }; ect = 1 } ∷ [] = last.vids ∙ (to_met.vids ∙ (first.vids ∙ carriers.vids)) in
+      let attached : after.attached ≡ [] = last.attached ∙ (to_met.attached ∙ (first.attached ∙ carriers.attached)) in
+      let metrics : metrics_of after.ports ≡ 10 ∷ [] = last.metrics ∙ (to_met.metrics ∙ (first.metrics ∙ carriers.metrics)) in
       let ports : after.ports ≡ after_starts.port ∷ [] = only_port (system 1) (keeping Up (system 2, 1) 2) after after_starts (last.ports ∙ met_one) in
       let metric : after_starts.port.metric ≡ 10 = one_metric after_starts.port (ap metrics_of (sym ports) ∙ metrics) in
       let neighbours : neighbours_from 1 after.ports ≡ record { system = system 2; metric = 10; port = 1 } ∷ [] =
@@ -387,12 +388,12 @@ module _ (v w : BridgeView) (lit : AreLit v w) where
   ready_body : body_in (get (readied met).database id) ≡ 1 ∷ content_bytes own_local
   unfolding body_of
   ready_body =
-      sym (body_but (get (readied met).database id)) ∙ (ap body_in (sym settles) ∙ (body_but (get after.database id)
+      sym (body_but (get (readied met).database id)) ∙ (ap body_in (sym originates) ∙ (body_but (get after.database id)
       ∙ (ap (λ (s : SystemId). body_in (get after.database (own_id s))) (sym after_starts.id)
       ∙ (after_sound.own.said unspent ∙ ap (λ (l : Local). 1 ∷ content_bytes l) after_local))))
 
   ready_alive : IsAlive (but_for_ssn (get (readied met).database id))
-  ready_alive = subst IsAlive settles (alive_but (get after.database id) (subst (λ (s : SystemId). IsAlive (get after.database (own_id s))) after_starts.id (after_sound.own.alive unspent)))
+  ready_alive = subst IsAlive originates (alive_but (get after.database id) (subst (λ (s : SystemId). IsAlive (get after.database (own_id s))) after_starts.id (after_sound.own.alive unspent)))
 
   -- so it is sent, and heard as a live LSP
   own_sent : (o : Option Entry) → get (readied met).database id ≡ o → has (srm_in o) 1 ≡ true → body_in o ≡ 1 ∷ content_bytes own_local → IsAlive (but_for_ssn o) → SaysLsp met
@@ -405,7 +406,7 @@ module _ (v w : BridgeView) (lit : AreLit v w) where
       let sized = database.sized id e held in
       let l : LspValue = lsp_in id e in
       let served = seconds_serve met 1 met_sound (up_is (system 1) (keeping Up (system 2, 1) 2) u from) in
-      let fit : Fit l = record { lifetime = sized.line.lifetime; seq = sized.line.seq; sum = sized.line.sum; short = sendable.written.short } in
+      let fit : Fit l = record { lifetime = sized.entry.lifetime; seq = sized.entry.seq; sum = sized.entry.sum; short = sendable.written.short } in
       let small : AreSmall e.body = subst AreSmall (sym body) own_small in
       record {
         bytes = lsp_frame (system 1) l;

@@ -12,7 +12,7 @@ use Rattle.adjacency.specs.Adjacency.{down}
 use Rattle.bridge_api.specs.declared.config.BridgeConfig.{BridgeConfig}
 use Rattle.bridge_api.specs.View.{BridgeView, metrics_of}
 use Rattle.bridge_api.specs.Config.{configured}
-use Rattle.bridge_api.specs.Judging.{Judged}
+use Rattle.bridge_api.specs.Parsing.{Parsed}
 use Rattle.bridge_api.specs.Step.{second, frame, carrier, metric, step, sent}
 use Rattle.bridge_api.specs.Laws.{IsSoundView, IsSent, claims_said, first_of}
 use Rattle.bridge_api.specs.Few.{HoldsFew}
@@ -24,7 +24,7 @@ use Rattle.spb_network.specs.Reason.{reason_unless}
 use Rattle.spb_network.specs.World.{World, things_of}
 use Rattle.spb_network.specs.Declaring.{is_vid_range, is_new_name, is_new_system, is_new_source, is_bridge_range, is_free_port, is_link_range, is_unlinked, vid_refusal, bridge_refusal, link_refusal, plan_of, bridge_of, with_vid, with_bridge, with_link, with_live}
 use Rattle.link_model.specs.Lanes.{lane_of}
-use Rattle.spb_network.specs.State.{State, is_live, next_box, way_out}
+use Rattle.spb_network.specs.State.{State, is_live, next_box, lane_out}
 use Rattle.spb_network.specs.Events.{sent_all, stepped, delivered, switched_on}
 use Rattle.spb_network.specs.Refusing.{declared_refusal, named_link_refusal, unnamed_refusal, frame_refusal, refusal_of}
 use Rattle.spb_network.specs.Play.{config_of, with_vid_more, declared, linked, named_link, at_bridge, at_link, next_count, counted, next_state, played_all}
@@ -32,8 +32,8 @@ use Rattle.spb_network.specs.SoundLaws.{AreAccepted}
 use Rattle.spb_network.specs.DeliveryLaws.{frames_at, pushed_all}
 use Rattle.spb_network.specs.MeetingLaws.{HaveMet, SomeBridgesMeet}
 use Rattle.spb_network.proofs.ListLemmas.{length-push}
-use Rattle.spb_network.proofs.SoundConfigured.{lit, lit_port, lit_ports, lit_still, lit_attached}
-use Rattle.spb_network.proofs.SoundMeeting.{system, AreLit, SaysLsp, met, says_first, says_second, met_up, few_sent, hello_sent, lsp_sent}
+use Rattle.spb_network.proofs.SoundConfigured.{with_first_carrier, first_port, first_ports, first_still, first_attached}
+use Rattle.spb_network.proofs.SoundMeeting.{system, HaveFirstCarriers, SaysLsp, met, says_first, says_second, met_up, few_sent, hello_sent, lsp_sent}
 use Rattle.spb_network.proofs.SoundPlay.{networks_are_sound}
 use Rattle.spb_network.proofs.SoundWitness.{source, box, start, declarations, address, all_declared}
 use Rattle.spb_network.proofs.SentLanes.{stepped_once, stepped_here}
@@ -107,13 +107,13 @@ world = record {
 abbrev at : BridgeView → BridgeView → List Frame → List Frame → ℕ → State
 at v w ab ba n = record { rule = rule.Plain; rack = []; world = world; views = v ∷ w ∷ []; lanes = record { ab = ab; ba = ba } ∷ []; rounds = 0; drained = 0; accepted = n }
 
-out_there : way_out (link ∷ []) 0 1 ≡ Some (record { link = 0; dir = Ab })
-unfolding way_out
+out_there : lane_out (link ∷ []) 0 1 ≡ Some (record { link = 0; dir = Ab })
+unfolding lane_out
 out_there = refl
 
 -- what each command makes of it
 ticks_first : (v w : BridgeView) (n : ℕ) (bytes : Frame) → sent second v ≡ (1, bytes) ∷ [] → next_state (at v w [] [] n) (command.Tick (97 ∷ [])) ≡ at (step second v) w (bytes ∷ []) [] (next_count n)
-unfolding next_state at_bridge stepped way_out
+unfolding next_state at_bridge stepped lane_out
 ticks_first v w n bytes says = ap (λ (fs : List (ℕ × Frame)). counted (sent_all (at (step second v) w [] [] n) 0 fs)) says
 
 delivers_ab : (v w : BridgeView) (n : ℕ) (bytes : Frame) → next_state (at v w (bytes ∷ []) [] n) (command.Deliver (108 ∷ []) Ab) ≡ at v (step (frame 1 bytes) w) [] [] (next_count n)
@@ -121,7 +121,7 @@ unfolding next_state at_link delivered stepped
 delivers_ab v w n bytes = refl
 
 ticks_second : (v w : BridgeView) (n : ℕ) (bytes : Frame) → sent second w ≡ (1, bytes) ∷ [] → next_state (at v w [] [] n) (command.Tick (98 ∷ [])) ≡ at v (step second w) [] (bytes ∷ []) (next_count n)
-unfolding next_state at_bridge stepped way_out
+unfolding next_state at_bridge stepped lane_out
 ticks_second v w n bytes says = ap (λ (fs : List (ℕ × Frame)). counted (sent_all (at v (step second w) [] [] n) 1 fs)) says
 
 delivers_ba : (v w : BridgeView) (n : ℕ) (bytes : Frame) → next_state (at v w [] (bytes ∷ []) n) (command.Deliver (108 ∷ []) Ba) ≡ at (step (frame 1 bytes) v) w [] [] (next_count n)
@@ -151,25 +151,25 @@ played_then s t c cs none next leads =
 abbrev conversation : List Command
 conversation = command.Tick (97 ∷ []) ∷ command.Deliver (108 ∷ []) Ab ∷ command.Tick (98 ∷ []) ∷ command.Deliver (108 ∷ []) Ba ∷ command.Tick (97 ∷ []) ∷ []
 
-module _ (v w : BridgeView) (lit : AreLit v w) where
+module _ (v w : BridgeView) (with_first_carrier : HaveFirstCarriers v w) where
   -- the first bridge says what it has to say, when it has met the other
-  meets : (n : ℕ) (z : BridgeView) → HaveMet (next_state (at (met v w lit) z [] [] n) (command.Tick (97 ∷ [])))
+  meets : (n : ℕ) (z : BridgeView) → HaveMet (next_state (at (met v w with_first_carrier) z [] [] n) (command.Tick (97 ∷ [])))
   unfolding next_state at_bridge
   meets n z =
-      let u : BridgeView = met v w lit in
+      let u : BridgeView = met v w with_first_carrier in
       let s : State = at u z [] [] n in
       let fs : List (ℕ × Frame) = sent second u in
-      let room : 0 + length (frames_at 1 fs) ≤ 1024 = omega (arith, few_frames fs 1, few_sent v w lit) in
+      let room : 0 + length (frames_at 1 fs) ≤ 1024 = omega (arith, few_frames fs 1, few_sent v w with_first_carrier) in
       let lane : lane_of (stepped second s 0).lanes 0 Ab ≡ pushed_all [] (frames_at 1 fs) =
       stepped_here second s 0 u 0 Ab link refl refl (tt, tt) (λ e. absurd (omega (arith, e))) refl (omega arith) in
-      let hello = hello_sent v w lit in
-      let own : SaysLsp u = lsp_sent v w lit in
+      let hello = hello_sent v w with_first_carrier in
+      let own : SaysLsp u = lsp_sent v w with_first_carrier in
       record {
         live = ap (λ (x : World). is_live (things_of x.links) 0) (stepped_world second s 0);
-        out = ap (λ (x : World). way_out (things_of x.links) 0 1) (stepped_world second s 0) ∙ out_there;
+        out = ap (λ (x : World). lane_out (things_of x.links) 0 1) (stepped_world second s 0) ∙ out_there;
         view = step second u;
         there = (stepped_once second s 0 u refl).after;
-        up = met_up v w lit;
+        up = met_up v w with_first_carrier;
         hello = record {
           bytes = hello.bytes;
           among = subst (IsIn hello.bytes) (sym lane) (goes_in hello.bytes [] (frames_at 1 fs) room (in_frames fs 1 hello.bytes hello.sent));
@@ -184,7 +184,7 @@ module _ (v w : BridgeView) (lit : AreLit v w) where
           heard = own.heard;
           number = own.number;
           sum = own.sum;
-          claimed = subst (λ (j : Judged). IsClaimed (claims_said j) own.lsp.id (Live own.number own.sum)) (sym own.heard) (inl (refl, own.live));
+          claimed = subst (λ (j : Parsed). IsClaimed (claims_said j) own.lsp.id (Live own.number own.sum)) (sym own.heard) (inl (refl, own.live));
         };
       }
 
@@ -200,56 +200,56 @@ module _ (v w : BridgeView) (lit : AreLit v w) where
       let n2 : ℕ = next_count n1 in
       let n3 : ℕ = next_count n2 in
       let n4 : ℕ = next_count n3 in
-      played_then (at v w [] [] n) (at v1 w (h ∷ []) [] n1) _ _ (tick_none v w [] [] n).0 (ticks_first v w n h (says_first v w lit))
+      played_then (at v w [] [] n) (at v1 w (h ∷ []) [] n1) _ _ (tick_none v w [] [] n).0 (ticks_first v w n h (says_first v w with_first_carrier))
       (played_then (at v1 w (h ∷ []) [] n1) (at v1 w1 [] [] n2) _ _ (deliver_none v1 w h n1).0 (delivers_ab v1 w n1 h)
-      (played_then (at v1 w1 [] [] n2) (at v1 w2 [] (g ∷ []) n3) _ _ (tick_none v1 w1 [] [] n2).1 (ticks_second v1 w1 n2 g (says_second v w lit))
+      (played_then (at v1 w1 [] [] n2) (at v1 w2 [] (g ∷ []) n3) _ _ (tick_none v1 w1 [] [] n2).1 (ticks_second v1 w1 n2 g (says_second v w with_first_carrier))
       (played_then (at v1 w2 [] (g ∷ []) n3) (at v2 w2 [] [] n4) _ _ (deliver_none v1 w2 g n3).1 (delivers_ba v1 w2 n3 g)
       (record { accepted = ((tick_none v2 w2 [] [] n4).0, tt); met = meets n4 w2 }))))
 
 -- ---- the two bridges, when their link has come up
 
-starts_lit : (c : BridgeConfig) (m n : ℕ) → c.metrics ≡ m ∷ [] → Starts c.id.system (down true) (lit c n)
-starts_lit c m n is = record { port = lit_port n; rest = []; id = ap (λ (id : BridgeId). id.system) (lit_still c n).id; is = lit_ports c m n is; adjacency = refl }
+starts_with_carrier : (c : BridgeConfig) (m n : ℕ) → c.metrics ≡ m ∷ [] → Starts c.id.system (down true) (with_first_carrier c n)
+starts_with_carrier c m n is = record { port = first_port n; rest = []; id = ap (λ (id : BridgeId). id.system) (first_still c n).id; is = first_ports c m n is; adjacency = refl }
 
-few_lit : (c : BridgeConfig) (n : ℕ) → HoldsFew 3 (lit c n)
-few_lit c n = steps_hold_few 2 (carrier 1 true) (step (metric 1 n) (configured c)) (omega arith) tt (steps_hold_few 1 (metric 1 n) (configured c) (omega arith) tt (configured_holds_few c))
+few_with_carrier : (c : BridgeConfig) (n : ℕ) → HoldsFew 3 (with_first_carrier c n)
+few_with_carrier c n = steps_hold_few 2 (carrier 1 true) (step (metric 1 n) (configured c)) (omega arith) tt (steps_hold_few 1 (metric 1 n) (configured c) (omega arith) tt (configured_holds_few c))
 
 abbrev config : ℕ → BridgeConfig
 config n = config_of (record { vids = plan_of 100 1 ∷ []; bridges = []; links = [] }) (bridge_of 32768 (system n).mac (source n) 1)
 
-both_sound : IsSoundView (lit (config 1) 10) × IsSoundView (lit (config 2) 10)
-unfolding next_state vid_refusal with_vid with_bridge with_link with_live next_box way_out stepped switched_on with_vid_more declared linked named_link
+both_sound : IsSoundView (with_first_carrier (config 1) 10) × IsSoundView (with_first_carrier (config 2) 10)
+unfolding next_state vid_refusal with_vid with_bridge with_link with_live next_box lane_out stepped switched_on with_vid_more declared linked named_link
 both_sound =
     let views = (networks_are_sound rule.Plain (box ∷ box ∷ []) declarations (tt, (address 1 (omega arith), (address 2 (omega arith), (tt, tt)))) all_declared).views in
     (views.0, views.1.0)
 
-are_lit : AreLit (lit (config 1) 10) (lit (config 2) 10)
-are_lit =
-    let first = lit_still (config 1) 10 in
+have_first_carriers : HaveFirstCarriers (with_first_carrier (config 1) 10) (with_first_carrier (config 2) 10)
+have_first_carriers =
+    let first = first_still (config 1) 10 in
     record {
-      first = starts_lit (config 1) 1 10 refl;
-      other = starts_lit (config 2) 1 10 refl;
+      first = starts_with_carrier (config 1) 1 10 refl;
+      other = starts_with_carrier (config 2) 1 10 refl;
       sound = both_sound.0;
       other_sound = both_sound.1;
-      one = ap length (lit_ports (config 1) 1 10 refl);
-      other_one = ap length (lit_ports (config 2) 1 10 refl);
-      few = few_lit (config 1) 10;
+      one = ap length (first_ports (config 1) 1 10 refl);
+      other_one = ap length (first_ports (config 2) 1 10 refl);
+      few = few_with_carrier (config 1) 10;
       id = first.id;
       source = first.source;
       vids = first.vids;
-      attached = lit_attached (config 1) 10;
-      metrics = ap metrics_of (lit_ports (config 1) 1 10 refl);
+      attached = first_attached (config 1) 10;
+      metrics = ap metrics_of (first_ports (config 1) 1 10 refl);
     }
 
-all_met : Leads (at (lit (config 1) 10) (lit (config 2) 10) [] [] 4) conversation
-all_met = converse (lit (config 1) 10) (lit (config 2) 10) are_lit 4
+all_met : Leads (at (with_first_carrier (config 1) 10) (with_first_carrier (config 2) 10) [] [] 4) conversation
+all_met = converse (with_first_carrier (config 1) 10) (with_first_carrier (config 2) 10) have_first_carriers 4
 
 accepted : AreAccepted start (declarations ++ conversation)
-unfolding next_state reason_unless vid_refusal bridge_refusal link_refusal is_vid_range is_new_name is_new_system is_new_source is_bridge_range is_free_port is_link_range is_unlinked with_vid with_bridge with_link with_live next_box way_out stepped switched_on with_vid_more declared_refusal named_link_refusal declared linked named_link
+unfolding next_state reason_unless vid_refusal bridge_refusal link_refusal is_vid_range is_new_name is_new_system is_new_source is_bridge_range is_free_port is_link_range is_unlinked with_vid with_bridge with_link with_live next_box lane_out stepped switched_on with_vid_more declared_refusal named_link_refusal declared linked named_link
 accepted = (refl, (refl, (refl, (refl, all_met.accepted))))
 
 have_met : HaveMet (played_all start (declarations ++ conversation))
-unfolding next_state vid_refusal with_vid with_bridge with_link with_live next_box way_out stepped switched_on with_vid_more declared linked named_link
+unfolding next_state vid_refusal with_vid with_bridge with_link with_live next_box lane_out stepped switched_on with_vid_more declared linked named_link
 have_met = all_met.met
 
 pub bridges_meet : SomeBridgesMeet

@@ -17,9 +17,9 @@ use Rattle.spb_network.specs.Declaring.{switched}
 use Rattle.spb_types.specs.Places.{changed_at}
 use Rattle.spb_network.specs.State.{near_end, is_at}
 use Rattle.spb_network.specs.Network.{IsPortAt}
-use Rattle.spb_network.specs.Sound.{metric_at, AreMetered}
+use Rattle.spb_network.specs.Sound.{metric_at, HaveLinkMetrics}
 use Rattle.spb_network.proofs.BridgeLaws.{steps_keep_bridge}
-use Rattle.spb_network.proofs.SoundWays.{at_itself}
+use Rattle.spb_network.proofs.SoundLaneIds.{at_itself}
 use Rattle.spb_network.proofs.SoundSteps.{switched_link, same_near}
 use Rattle.spb_network.proofs.SoundCarrier.{got_changed}
 
@@ -57,8 +57,8 @@ metric_kept x v p other =
     ∙ sym (seen v p))
 
 -- it sets that of one port, and leaves the others
-metric_set : (v : BridgeView) (q m : ℕ) → IsPort v q → metric_at (step (metric q m) v) q ≡ Some m
-metric_set v q m is =
+metric_is_set : (v : BridgeView) (q m : ℕ) → IsPort v q → metric_at (step (metric q m) v) q ≡ Some m
+metric_is_set v q m is =
     seen (step (metric q m) v) q
     ∙ (ap (λ (ms : List ℕ). metric_of ms q) (steps_keep_bridge (metric q m) v).metrics
     ∙ rw (le-leb 1 q is.low) (got_at (metrics_of v.ports) (q - 1) m (omega (arith, is.low, is.high, length-map v.ports (λ (port : BridgePort). port.metric)))))
@@ -77,8 +77,8 @@ metric_beside v q m p apart =
 
 -- ---- the bridges of a network
 
-pub metered_stepped : (x : Input) (links : List DeclaredLink) (views : List BridgeView) (i : ℕ) → is_metric x ≡ false → AreMetered links views → AreMetered links (changed_at (step x) views i)
-metered_stepped x links views i other have k dir l v at at_v =
+pub with_metric_stepped : (x : Input) (links : List DeclaredLink) (views : List BridgeView) (i : ℕ) → is_metric x ≡ false → HaveLinkMetrics links views → HaveLinkMetrics links (changed_at (step x) views i)
+with_metric_stepped x links views i other have k dir l v at at_v =
     let p : ℕ = (near_end dir l).port in
     let was = got_changed (step x) views i (near_end dir l).bridge v at_v in
     elim was.is [
@@ -86,8 +86,8 @@ metered_stepped x links views i other have k dir l v at at_v =
       | inr same ↦ ap (λ (u : BridgeView). metric_at u p) same.1 ∙ have k dir l was.was at was.there
     ]
 
-pub metered_switched : (on : Bool) (ls : Links) (k : ℕ) (views : List BridgeView) → AreMetered (things_of ls) views → AreMetered (things_of (switched on ls k)) views
-metered_switched on ls k views have j dir l v at at_v =
+pub with_metric_switched : (on : Bool) (ls : Links) (k : ℕ) (views : List BridgeView) → HaveLinkMetrics (things_of ls) views → HaveLinkMetrics (things_of (switched on ls k)) views
+with_metric_switched on ls k views have j dir l v at at_v =
     let was = switched_link on ls k j l at in
     let near : near_end dir was.link ≡ near_end dir l = same_near dir was.link l was.a was.b in
     subst (λ (e : LinkEnd). metric_at v e.port ≡ Some e.metric) near
@@ -107,16 +107,16 @@ port_stepped x views i j p port v at =
 abbrev pub after_end : List BridgeView → LinkEnd → List BridgeView
 after_end views e = changed_at (step (metric e.port e.metric)) views e.bridge
 
-pub metered_end : (views : List BridgeView) (e : LinkEnd) (v : BridgeView) → IsPortAt views e.bridge e.port → slice_get (after_end views e) e.bridge ≡ Some v → metric_at v e.port ≡ Some e.metric
-metered_end views e v port at =
+pub with_metric_end : (views : List BridgeView) (e : LinkEnd) (v : BridgeView) → IsPortAt views e.bridge e.port → slice_get (after_end views e) e.bridge ≡ Some v → metric_at v e.port ≡ Some e.metric
+with_metric_end views e v port at =
     let was = got_changed (step (metric e.port e.metric)) views e.bridge e.bridge v at in
     elim was.is [
-      | inl here ↦ ap (λ (u : BridgeView). metric_at u e.port) here.1 ∙ metric_set was.was e.port e.metric (port was.was was.there)
+      | inl here ↦ ap (λ (u : BridgeView). metric_at u e.port) here.1 ∙ metric_is_set was.was e.port e.metric (port was.was was.there)
       | inr other ↦ absurd (other.0 refl)
     ]
 
-pub metered_away : (views : List BridgeView) (e : LinkEnd) (i p : ℕ) (v : BridgeView) (o : Option ℕ) → is_at e i p ≡ false → ((u : BridgeView) → slice_get views i ≡ Some u → metric_at u p ≡ o) → slice_get (after_end views e) i ≡ Some v → metric_at v p ≡ o
-metered_away views e i p v o apart have at =
+pub with_metric_away : (views : List BridgeView) (e : LinkEnd) (i p : ℕ) (v : BridgeView) (o : Option ℕ) → is_at e i p ≡ false → ((u : BridgeView) → slice_get views i ≡ Some u → metric_at u p ≡ o) → slice_get (after_end views e) i ≡ Some v → metric_at v p ≡ o
+with_metric_away views e i p v o apart have at =
     let was = got_changed (step (metric e.port e.metric)) views e.bridge i v at in
     elim was.is [
       | inl here ↦

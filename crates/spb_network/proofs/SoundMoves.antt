@@ -13,13 +13,13 @@ use Rattle.link_model.specs.declared.lanes.LinkLanes.{LinkLanes}
 use Rattle.link_model.specs.declared.lanes.LaneId.{LaneId}
 use Rattle.spb_network.specs.World.{World, things_of, Sound}
 use Rattle.link_model.specs.Lanes.{lane_of}
-use Rattle.spb_network.specs.State.{State, links_of, is_live, near_end, far_end, way_out}
+use Rattle.spb_network.specs.State.{State, links_of, is_live, near_end, far_end, lane_out}
 use Rattle.spb_network.specs.Network.{Fits}
-use Rattle.spb_network.specs.Sound.{AreDistinct, AreShort, IsShown, AreShown, IsSaid, Agrees, AllAgree, AreIdle}
+use Rattle.spb_network.specs.Sound.{AreDistinct, AreShort, IsShown, AreShown, IsFrameFrom, LinkAgrees, AllAgree, AreIdle}
 use Rattle.spb_network.proofs.BoxLemmas.{All-get}
 use Rattle.spb_network.proofs.FitsLemmas.{IsAlike, Fits-alike, link_there, far_is_port}
 use Rattle.spb_network.proofs.SoundLane.{some-is, moved, sent_by, moved_same, AreInputs, moved_sound, IsMove, agrees_moved}
-use Rattle.spb_network.proofs.SoundWays.{turned, way_of_end, LeadsFrom, way_leads}
+use Rattle.spb_network.proofs.SoundLaneIds.{turned, lane_of_end, LeadsFrom, lane_leads}
 
 -- what is sound of a state, but for carrier, which comes and goes at one end of a link after the other
 pub record IsCore (s : State) : Type 0 where
@@ -34,16 +34,16 @@ pub record IsCore (s : State) : Type 0 where
 
 -- a frame that comes to a port was on its way there
 pub record Comes (links : List DeclaredLink) (lanes : List LinkLanes) (i p : ℕ) (f : Frame) : Type 0 where
-  pub way : LaneId
-  pub out : way_out links i p ≡ Some way
-  pub among : IsIn f (lane_of lanes way.link (turned way.dir))
+  pub lane : LaneId
+  pub out : lane_out links i p ≡ Some lane
+  pub among : IsIn f (lane_of lanes lane.link (turned lane.dir))
 
 -- a frame is sent in a move, over a link that is up
 pub record GoesOut (links : List DeclaredLink) (o : ℕ → Option Input) (views : List BridgeView) (k : ℕ) (dir : Dir) (f : Frame) : Type 0 where
   pub place : ℕ
   pub port : ℕ
   pub view : BridgeView
-  pub out : way_out links place port ≡ Some (record { link = k; dir = dir })
+  pub out : lane_out links place port ≡ Some (record { link = k; dir = dir })
   pub live : is_live links k ≡ true
   pub from : slice_get views place ≡ Some view
   pub sent : IsSent (sent_by (o place) view) port f
@@ -91,7 +91,7 @@ moves_idle links o views views' lanes lanes' move idle k dir dead =
     ])
 
 -- the other direction of a link
-agree_back : (links : List DeclaredLink) (views : List BridgeView) (lanes : List LinkLanes) → AllAgree links views lanes → (k : ℕ) (dir : Dir) (l : DeclaredLink) (v w : BridgeView) → slice_get links k ≡ Some l → slice_get views (near_end dir l).bridge ≡ Some v → slice_get views (far_end dir l).bridge ≡ Some w → AllByRecursion (IsSaid w (far_end dir l).port v (near_end dir l).port) (lane_of lanes k (turned dir))
+agree_back : (links : List DeclaredLink) (views : List BridgeView) (lanes : List LinkLanes) → AllAgree links views lanes → (k : ℕ) (dir : Dir) (l : DeclaredLink) (v w : BridgeView) → slice_get links k ≡ Some l → slice_get views (near_end dir l).bridge ≡ Some v → slice_get views (far_end dir l).bridge ≡ Some w → AllByRecursion (IsFrameFrom w (far_end dir l).port v (near_end dir l).port) (lane_of lanes k (turned dir))
 agree_back links views lanes agree k Ab l v w at at_v at_w = (agree k Ba l w v at at_w at_v).said
 agree_back links views lanes agree k Ba l v w at at_v at_w = (agree k Ab l w v at at_w at_v).said
 
@@ -101,13 +101,13 @@ link-apart s k l core at = (link_there s k l core.world at).apart
 -- what a bridge hears at an end of a link came over that link
 heard_there : (s : State) (k : ℕ) (dir : Dir) (l : DeclaredLink) (f : Frame) → IsCore s → slice_get (links_of s) k ≡ Some l → Comes (links_of s) s.lanes (near_end dir l).bridge (near_end dir l).port f → IsIn f (lane_of s.lanes k (turned dir))
 heard_there s k dir l f core at comes =
-    let same : comes.way ≡ record { link = k; dir = dir } = some-is comes.way (record { link = k; dir = dir }) (sym comes.out ∙ way_of_end (links_of s) k l dir core.world.links_apart (link-apart s k l core at) at) in
-    subst (λ (way : LaneId). IsIn f (lane_of s.lanes way.link (turned way.dir))) same comes.among
+    let same : comes.lane ≡ record { link = k; dir = dir } = some-is comes.lane (record { link = k; dir = dir }) (sym comes.out ∙ lane_of_end (links_of s) k l dir core.world.links_apart (link-apart s k l core at) at) in
+    subst (λ (lane : LaneId). IsIn f (lane_of s.lanes lane.link (turned lane.dir))) same comes.among
 
 -- what goes out over a link is sent by the bridge at the near end
 sent_there : (links : List DeclaredLink) (o : ℕ → Option Input) (views : List BridgeView) (k : ℕ) (dir : Dir) (l : DeclaredLink) (v : BridgeView) (f : Frame) → slice_get links k ≡ Some l → slice_get views (near_end dir l).bridge ≡ Some v → GoesOut links o views k dir f → IsSent (sent_by (o (near_end dir l).bridge) v) (near_end dir l).port f
 sent_there links o views k dir l v f at at_v new =
-    let leads : LeadsFrom links new.place new.port k dir = way_leads links new.place new.port (record { link = k; dir = dir }) new.out in
+    let leads : LeadsFrom links new.place new.port k dir = lane_leads links new.place new.port (record { link = k; dir = dir }) new.out in
     let link : leads.link ≡ l = some-is leads.link l (sym leads.there ∙ at) in
     let place : new.place ≡ (near_end dir l).bridge = sym leads.bridge ∙ ap (λ (h : DeclaredLink). (near_end dir h).bridge) link in
     let port : new.port ≡ (near_end dir l).port = sym leads.port ∙ ap (λ (h : DeclaredLink). (near_end dir h).port) link in
@@ -134,8 +134,8 @@ moves_agree s o views' lanes' core move k dir l v' w' at at_v at_w =
       heard = λ f is. heard_there s k dir l f core at (move.heard near (near_end dir l).port f is);
       sends = λ f among. sends f was_v.0 was_v.1 (move.frames k dir f among);
     } in
-    subst (λ (v : BridgeView). Agrees v (near_end dir l).port w' (far_end dir l).port (lane_of lanes' k dir)) (sym was_v.2)
-    (subst (λ (w : BridgeView). Agrees (moved (o near) was_v.0) (near_end dir l).port w (far_end dir l).port (lane_of lanes' k dir)) (sym was_w.2)
+    subst (λ (v : BridgeView). LinkAgrees v (near_end dir l).port w' (far_end dir l).port (lane_of lanes' k dir)) (sym was_v.2)
+    (subst (λ (w : BridgeView). LinkAgrees (moved (o near) was_v.0) (near_end dir l).port w (far_end dir l).port (lane_of lanes' k dir)) (sym was_w.2)
     (agrees_moved was_v.0 (near_end dir l).port was_w.0 (far_end dir l).port (o near) (o far) (lane_of s.lanes k dir) (lane_of s.lanes k (turned dir)) (lane_of lanes' k dir) here))
   where
     sends : (f : Frame) (v : BridgeView) → slice_get s.views (near_end dir l).bridge ≡ Some v → IsIn f (lane_of s.lanes k dir) ⊎ GoesOut (links_of s) o s.views k dir f → IsIn f (lane_of s.lanes k dir) ⊎ IsSent (sent_by (o (near_end dir l).bridge) v) (near_end dir l).port f

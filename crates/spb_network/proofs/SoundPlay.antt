@@ -18,12 +18,12 @@ use Rattle.spb_network.specs.World.{World, place_of, Sound}
 use Rattle.link_model.specs.Lanes.{no_frames}
 use Rattle.spb_network.specs.Declaring.{bridge_refusal, vid_refusal, link_refusal, plan_of, bridge_of, link_of, with_link}
 use Rattle.spb_network.specs.State.{State, Spare}
-use Rattle.spb_network.specs.Events.{ticked, delivered, lost, doubled, metered_over, remetered, switched_off, switched_on, rounds, drained}
-use Rattle.spb_network.specs.Refusing.{box_for, declared_refusal, placed_link_refusal, named_link_refusal, metric_refusal, refusal_of}
-use Rattle.spb_network.specs.Play.{config_of, boxed, declared, linked, placed_link, named_link, at_place, at_bridge, at_link, with_vid_more, with_rounds, with_drain, played, counted, next_state, played_all}
+use Rattle.spb_network.specs.Events.{ticked, delivered, lost, doubled, with_metrics_over, with_metric_changed, switched_off, switched_on, rounds, drained}
+use Rattle.spb_network.specs.Refusing.{box_for, declared_refusal, link_refusal_at_found, named_link_refusal, metric_refusal, refusal_of}
+use Rattle.spb_network.specs.Play.{config_of, boxed, declared, linked, link_between_found, named_link, at_place, at_bridge, at_link, with_vid_more, with_rounds, with_drain, played, counted, next_state, played_all}
 use Rattle.spb_network.specs.Sound.{IsSoundState, opening}
 use Rattle.spb_network.specs.SoundLaws.{Keeps, EventsKeepSound, IsAddress, IsAddressed, CommandsKeepSound, AreAccepted, NetworksAreSound}
-use Rattle.spb_network.proofs.BridgeLaws.{configured_is_sound, configured_is_dark}
+use Rattle.spb_network.proofs.BridgeLaws.{configured_is_sound, configured_has_no_carrier}
 use Rattle.spb_network.proofs.ConfigLemmas.{whole-config}
 use Rattle.spb_network.proofs.WorldLemmas.{Sound-with_vid}
 use Rattle.spb_network.proofs.RefusalLemmas.{metric_refusal_none, vid_refusal_none, IsFreeBridge, bridge_refusal_none, link_refusal_none}
@@ -31,7 +31,7 @@ use Rattle.spb_network.proofs.SoundNames.{first_none, last_none, passes, distinc
 use Rattle.spb_network.proofs.SoundEvents.{Sound-ticked, Sound-delivered, Sound-lost, Sound-doubled, Sound-switched_off, Sound-switched_on, Sound-rounds, Sound-drained}
 use Rattle.spb_network.proofs.SoundDeclaring.{empty_from, IsNewView, Sound-new_bridge, Sound-new_vid, Sound-nothing}
 use Rattle.spb_network.proofs.SoundLinks.{Sound-new_link}
-use Rattle.spb_network.proofs.SoundMetering.{Sound-remetered}
+use Rattle.spb_network.proofs.SoundSetMetrics.{Sound-metric_changed}
 use Rattle.spb_network.proofs.SoundLane.{IsStill}
 use Rattle.spb_network.proofs.SoundConfigured.{configured_still, configured_attached}
 
@@ -41,7 +41,7 @@ events_keep_sound = record {
   deliver = λ k dir s sound. Sound-delivered s k dir sound;
   lose = λ k dir place s sound. Sound-lost s k dir place sound;
   double = λ k dir place s sound. Sound-doubled s k dir place sound;
-  metric = λ k side m is s sound. Sound-remetered s k side m is sound;
+  metric = λ k side m is s sound. Sound-metric_changed s k side m is sound;
   down = λ k s sound. Sound-switched_off s k sound;
   up = λ k s sound. Sound-switched_on s k sound;
   round = λ n s sound. Sound-rounds n s sound;
@@ -61,8 +61,8 @@ sound_again s t world views lanes sound =
       fits = record { bridges = same.fits.bridges; lanes = same.fits.lanes; ports = same.fits.ports };
       shown = same.shown;
       views = same.views;
-      lit = same.lit;
-      metered = same.metered;
+      carriers = same.carriers;
+      metrics = same.metrics;
       attached = same.attached;
       short = same.short;
       idle = same.idle;
@@ -88,9 +88,9 @@ new_view : (w : World) (name : List ℕ) (priority : ℕ) (system : Mac) (source
 new_view w name priority system source ports sound six new = record {
   shown = record { id = still.id; source = still.source; vids = still.vids };
   attached = configured_attached c;
-  ports = record { ports = (configured_is_dark c whole).ports };
+  ports = record { ports = (configured_has_no_carrier c whole).ports };
   sound = configured_is_sound c whole;
-  dark = (configured_is_dark c whole).carrier;
+  dark = (configured_has_no_carrier c whole).carrier;
 }
   where
     c : BridgeConfig
@@ -120,16 +120,16 @@ unfolding linked
 linked_sound s name i port_a j port_b cost sound none =
     let l : DeclaredLink = link_of i port_a j port_b cost in
     let new = link_refusal_none s.world name i port_a j port_b cost none in
-    Sound-switched_on (metered_over (record s { world = with_link s.world name l; lanes = s.lanes ++ no_frames ∷ [] }) l) (length s.lanes) (Sound-new_link s name l sound new.new (distinct_link s.world name l sound.distinct new.name_new) refl)
+    Sound-switched_on (with_metrics_over (record s { world = with_link s.world name l; lanes = s.lanes ++ no_frames ∷ [] }) l) (length s.lanes) (Sound-new_link s name l sound new.new (distinct_link s.world name l sound.distinct new.name_new) refl)
 
-placed_sound : (s : State) (name : List ℕ) (a b : Option ℕ) (port_a port_b cost : ℕ) → IsSoundState s → placed_link_refusal s.world name a port_a b port_b cost ≡ None → IsSoundState (placed_link s name a port_a b port_b cost)
-placed_sound s name None b port_a port_b cost sound none = sound
-placed_sound s name (Some i) None port_a port_b cost sound none = sound
-placed_sound s name (Some i) (Some j) port_a port_b cost sound none = linked_sound s name i port_a j port_b cost sound none
+sound_at_found : (s : State) (name : List ℕ) (a b : Option ℕ) (port_a port_b cost : ℕ) → IsSoundState s → link_refusal_at_found s.world name a port_a b port_b cost ≡ None → IsSoundState (link_between_found s name a port_a b port_b cost)
+sound_at_found s name None b port_a port_b cost sound none = sound
+sound_at_found s name (Some i) None port_a port_b cost sound none = sound
+sound_at_found s name (Some i) (Some j) port_a port_b cost sound none = linked_sound s name i port_a j port_b cost sound none
 
 link_sound : (s : State) (name a b : List ℕ) (port_a port_b cost : ℕ) → IsSoundState s → named_link_refusal s.world name a port_a b port_b cost ≡ None → IsSoundState (named_link s name a port_a b port_b cost)
 unfolding named_link_refusal named_link
-link_sound s name a b port_a port_b cost sound none = placed_sound s name (place_of a s.world.bridges) (place_of b s.world.bridges) port_a port_b cost sound none
+link_sound s name a b port_a port_b cost sound none = sound_at_found s name (place_of a s.world.bridges) (place_of b s.world.bridges) port_a port_b cost sound none
 
 -- ---- what happens at a named place
 
@@ -147,13 +147,13 @@ at_link_sound event s name keeps sound = place_sound event s (place_of name s.wo
 
 -- ---- a metric
 
-placed_metric_sound : (s : State) (name : List ℕ) (side : Side) (m : ℕ) (o : Option ℕ) → place_of name s.world.links ≡ o → IsSoundState s → metric_refusal s.world name m ≡ None → IsSoundState (at_place (λ t k. remetered t k side m) s o)
-placed_metric_sound s name side m None at sound none = sound
-placed_metric_sound s name side m (Some k) at sound none = Sound-remetered s k side m (metric_refusal_none s.world name m k at none) sound
+metric_sound_at_found : (s : State) (name : List ℕ) (side : Side) (m : ℕ) (o : Option ℕ) → place_of name s.world.links ≡ o → IsSoundState s → metric_refusal s.world name m ≡ None → IsSoundState (at_place (λ t k. with_metric_changed t k side m) s o)
+metric_sound_at_found s name side m None at sound none = sound
+metric_sound_at_found s name side m (Some k) at sound none = Sound-metric_changed s k side m (metric_refusal_none s.world name m k at none) sound
 
-metric_sound : (s : State) (name : List ℕ) (side : Side) (m : ℕ) → IsSoundState s → metric_refusal s.world name m ≡ None → IsSoundState (at_link (λ t k. remetered t k side m) s name)
+metric_sound : (s : State) (name : List ℕ) (side : Side) (m : ℕ) → IsSoundState s → metric_refusal s.world name m ≡ None → IsSoundState (at_link (λ t k. with_metric_changed t k side m) s name)
 unfolding at_link
-metric_sound s name side m sound none = placed_metric_sound s name side m (place_of name s.world.links) refl sound none
+metric_sound s name side m sound none = metric_sound_at_found s name side m (place_of name s.world.links) refl sound none
 
 -- ---- the commands
 

@@ -21,9 +21,9 @@ use Rattle.spb_network.specs.World.{World, Links, names_of, things_of}
 use Rattle.link_model.specs.Lanes.{lane_in, changed_lane, rest, no_frames, lane_of}
 use Rattle.spb_network.specs.Declaring.{switched, with_live}
 use Rattle.spb_types.specs.Places.{changed_at}
-use Rattle.spb_network.specs.State.{State, links_of, is_live, near_end, far_end, way_out, with_frames}
+use Rattle.spb_network.specs.State.{State, links_of, is_live, near_end, far_end, lane_out, with_frames}
 use Rattle.spb_network.specs.Events.{sent_over, sent_all, stepped}
-use Rattle.spb_network.specs.Sound.{AreShort, Agrees, AllAgree, AreIdle}
+use Rattle.spb_network.specs.Sound.{AreShort, LinkAgrees, AllAgree, AreIdle}
 use Rattle.spb_network.proofs.ListLemmas.{length-push}
 use Rattle.spb_network.proofs.WorldLemmas.{Sound-with_live}
 use Rattle.spb_network.proofs.FitsLemmas.{IsAlike, alike_then, alike_stepped, Fits-with_live}
@@ -209,37 +209,37 @@ short_flushed (x ∷ lanes) (suc j) (suc k) dir short = short_flushed lanes j k 
 -- a frame of these is sent by the bridge at place i into a lane of a link that is up
 pub record IsSentOver (links : List DeclaredLink) (i : ℕ) (fs : List (ℕ × List ℕ)) (k : ℕ) (dir : Dir) (f : Frame) : Type 0 where
   pub port : ℕ
-  pub out : way_out links i port ≡ Some (record { link = k; dir = dir })
+  pub out : lane_out links i port ≡ Some (record { link = k; dir = dir })
   pub live : is_live links k ≡ true
   pub sent : IsSent fs port f
 
-pub world-sent_over : (s : State) (way : Option LaneId) (x : Frame) → (sent_over s way x).world ≡ s.world
+pub world-sent_over : (s : State) (lane : Option LaneId) (x : Frame) → (sent_over s lane x).world ≡ s.world
 world-sent_over s None x = refl
-world-sent_over s (Some way) x = by (is_live (links_of s) way.link)
+world-sent_over s (Some lane) x = by (is_live (links_of s) lane.link)
   where
-    by : (live : Bool) → (if live then with_frames (λ frames. pushed frames x) s way.link way.dir else s).world ≡ s.world
+    by : (live : Bool) → (if live then with_frames (λ frames. pushed frames x) s lane.link lane.dir else s).world ≡ s.world
     by true = refl
     by false = refl
 
-pub views-sent_over : (s : State) (way : Option LaneId) (x : Frame) → (sent_over s way x).views ≡ s.views
+pub views-sent_over : (s : State) (lane : Option LaneId) (x : Frame) → (sent_over s lane x).views ≡ s.views
 views-sent_over s None x = refl
-views-sent_over s (Some way) x = by (is_live (links_of s) way.link)
+views-sent_over s (Some lane) x = by (is_live (links_of s) lane.link)
   where
-    by : (live : Bool) → (if live then with_frames (λ frames. pushed frames x) s way.link way.dir else s).views ≡ s.views
+    by : (live : Bool) → (if live then with_frames (λ frames. pushed frames x) s lane.link lane.dir else s).views ≡ s.views
     by true = refl
     by false = refl
 
-in_sent_over : (s : State) (way : Option LaneId) (x : Frame) (k : ℕ) (dir : Dir) (f : Frame) → IsIn f (lane_of (sent_over s way x).lanes k dir) → IsIn f (lane_of s.lanes k dir) ⊎ ((way ≡ Some (record { link = k; dir = dir })) × (is_live (links_of s) k ≡ true) × (f ≡ x))
+in_sent_over : (s : State) (lane : Option LaneId) (x : Frame) (k : ℕ) (dir : Dir) (f : Frame) → IsIn f (lane_of (sent_over s lane x).lanes k dir) → IsIn f (lane_of s.lanes k dir) ⊎ ((lane ≡ Some (record { link = k; dir = dir })) × (is_live (links_of s) k ≡ true) × (f ≡ x))
 in_sent_over s None x k dir f among = inl among
-in_sent_over s (Some way) x k dir f among = by (is_live (links_of s) way.link) refl among
+in_sent_over s (Some lane) x k dir f among = by (is_live (links_of s) lane.link) refl among
   where
-    new : way.link ≡ k → way.dir ≡ dir → is_live (links_of s) way.link ≡ true → IsIn f (lane_of s.lanes k dir) ⊎ (f ≡ x) → IsIn f (lane_of s.lanes k dir) ⊎ ((Some way ≡ Some (record { link = k; dir = dir })) × (is_live (links_of s) k ≡ true) × (f ≡ x))
+    new : lane.link ≡ k → lane.dir ≡ dir → is_live (links_of s) lane.link ≡ true → IsIn f (lane_of s.lanes k dir) ⊎ (f ≡ x) → IsIn f (lane_of s.lanes k dir) ⊎ ((Some lane ≡ Some (record { link = k; dir = dir })) × (is_live (links_of s) k ≡ true) × (f ≡ x))
     new link to live (inl old) = inl old
     new link to live (inr is) = inr (λ i. Some (record { link = link i; dir = to i }), ap (is_live (links_of s)) (sym link) ∙ live, is)
 
-    by : (live : Bool) → is_live (links_of s) way.link ≡ live → IsIn f (lane_of (if live then with_frames (λ frames. pushed frames x) s way.link way.dir else s).lanes k dir) → IsIn f (lane_of s.lanes k dir) ⊎ ((Some way ≡ Some (record { link = k; dir = dir })) × (is_live (links_of s) k ≡ true) × (f ≡ x))
+    by : (live : Bool) → is_live (links_of s) lane.link ≡ live → IsIn f (lane_of (if live then with_frames (λ frames. pushed frames x) s lane.link lane.dir else s).lanes k dir) → IsIn f (lane_of s.lanes k dir) ⊎ ((Some lane ≡ Some (record { link = k; dir = dir })) × (is_live (links_of s) k ≡ true) × (f ≡ x))
     by true live among =
-        elim (lane_changed (λ frames. pushed frames x) s.lanes way.link way.dir k dir) [
+        elim (lane_changed (λ frames. pushed frames x) s.lanes lane.link lane.dir k dir) [
           | inl here ↦ new here.0 here.1 live (in_pushed f x (lane_of s.lanes k dir) (subst (IsIn f) here.2 among))
           | inr same ↦ inl (subst (IsIn f) same among)
         ]
@@ -247,37 +247,37 @@ in_sent_over s (Some way) x k dir f among = by (is_live (links_of s) way.link) r
 
 pub world-sent_all : (s : State) (i : ℕ) (fs : List (ℕ × List ℕ)) → (sent_all s i fs).world ≡ s.world
 world-sent_all s i [] = refl
-world-sent_all s i (x ∷ fs) = world-sent_all (sent_over s (way_out (links_of s) i x.0) x.1) i fs ∙ world-sent_over s (way_out (links_of s) i x.0) x.1
+world-sent_all s i (x ∷ fs) = world-sent_all (sent_over s (lane_out (links_of s) i x.0) x.1) i fs ∙ world-sent_over s (lane_out (links_of s) i x.0) x.1
 
 pub views-sent_all : (s : State) (i : ℕ) (fs : List (ℕ × List ℕ)) → (sent_all s i fs).views ≡ s.views
 views-sent_all s i [] = refl
-views-sent_all s i (x ∷ fs) = views-sent_all (sent_over s (way_out (links_of s) i x.0) x.1) i fs ∙ views-sent_over s (way_out (links_of s) i x.0) x.1
+views-sent_all s i (x ∷ fs) = views-sent_all (sent_over s (lane_out (links_of s) i x.0) x.1) i fs ∙ views-sent_over s (lane_out (links_of s) i x.0) x.1
 
-short_sent_over : (s : State) (way : Option LaneId) (x : Frame) → AreShort s.lanes → AreShort (sent_over s way x).lanes
+short_sent_over : (s : State) (lane : Option LaneId) (x : Frame) → AreShort s.lanes → AreShort (sent_over s lane x).lanes
 short_sent_over s None x short = short
-short_sent_over s (Some way) x short = by (is_live (links_of s) way.link)
+short_sent_over s (Some lane) x short = by (is_live (links_of s) lane.link)
   where
-    by : (live : Bool) → AreShort (if live then with_frames (λ frames. pushed frames x) s way.link way.dir else s).lanes
-    by true = short_changed (λ frames. pushed frames x) (pushed_short x) s.lanes way.link way.dir short
+    by : (live : Bool) → AreShort (if live then with_frames (λ frames. pushed frames x) s lane.link lane.dir else s).lanes
+    by true = short_changed (λ frames. pushed frames x) (pushed_short x) s.lanes lane.link lane.dir short
     by false = short
 
 short_sent_all : (s : State) (i : ℕ) (fs : List (ℕ × List ℕ)) → AreShort s.lanes → AreShort (sent_all s i fs).lanes
 short_sent_all s i [] short = short
-short_sent_all s i (x ∷ fs) short = short_sent_all (sent_over s (way_out (links_of s) i x.0) x.1) i fs (short_sent_over s (way_out (links_of s) i x.0) x.1 short)
+short_sent_all s i (x ∷ fs) short = short_sent_all (sent_over s (lane_out (links_of s) i x.0) x.1) i fs (short_sent_over s (lane_out (links_of s) i x.0) x.1 short)
 
 in_sent_all : (s : State) (i : ℕ) (fs : List (ℕ × List ℕ)) (k : ℕ) (dir : Dir) (f : Frame) → IsIn f (lane_of (sent_all s i fs).lanes k dir) → IsIn f (lane_of s.lanes k dir) ⊎ IsSentOver (links_of s) i fs k dir f
 in_sent_all s i [] k dir f among = inl among
 in_sent_all s i (x ∷ fs) k dir f among =
-    let way : Option LaneId = way_out (links_of s) i x.0 in
-    let next : State = sent_over s way x.1 in
+    let lane : Option LaneId = lane_out (links_of s) i x.0 in
+    let next : State = sent_over s lane x.1 in
     elim (in_sent_all next i fs k dir f among) [
       | inl before ↦
-          elim (in_sent_over s way x.1 k dir f before) [
+          elim (in_sent_over s lane x.1 k dir f before) [
             | inl old ↦ inl old
             | inr new ↦ inr (record { port = x.0; out = new.0; live = new.1; sent = inl (refl, sym new.2) })
           ]
       | inr later ↦
-          let over : IsSentOver (links_of s) i fs k dir f = subst (λ (w : World). IsSentOver (things_of w.links) i fs k dir f) (world-sent_over s way x.1) later in
+          let over : IsSentOver (links_of s) i fs k dir f = subst (λ (w : World). IsSentOver (things_of w.links) i fs k dir f) (world-sent_over s lane x.1) later in
           inr (record { port = over.port; out = over.out; live = over.live; sent = inr over.sent })
     ]
 
@@ -431,8 +431,8 @@ agree_switched on ls k views lanes agree j dir l v w at at_v at_w =
     let was = switched_link on ls k j l at in
     let near : near_end dir was.link ≡ near_end dir l = same_near dir was.link l was.a was.b in
     let far : far_end dir was.link ≡ far_end dir l = same_far dir was.link l was.a was.b in
-    subst (λ (e : LinkEnd). Agrees v (near_end dir l).port w e.port (lane_of lanes j dir)) far
-    (subst (λ (e : LinkEnd). Agrees v e.port w (far_end dir was.link).port (lane_of lanes j dir)) near
+    subst (λ (e : LinkEnd). LinkAgrees v (near_end dir l).port w e.port (lane_of lanes j dir)) far
+    (subst (λ (e : LinkEnd). LinkAgrees v e.port w (far_end dir was.link).port (lane_of lanes j dir)) near
     (agree j dir was.link v w was.there (ap (λ (e : LinkEnd). slice_get views e.bridge) near ∙ at_v) (ap (λ (e : LinkEnd). slice_get views e.bridge) far ∙ at_w)))
 
 idle_switched : (on : Bool) (ls : Links) (k : ℕ) (lanes : List LinkLanes) → AreIdle (things_of ls) lanes → (on ≡ false → (dir : Dir) → lane_of lanes k dir ≡ []) → AreIdle (things_of (switched on ls k)) lanes

@@ -13,13 +13,13 @@ use Rattle.spb_network.specs.declared.kind_rule.KindRule.TheVariants as rule
 use Rattle.spb_network.specs.Reason.{reason_unless}
 use Rattle.spb_network.specs.Declaring.{is_vid_range, is_new_name, is_new_system, is_new_source, is_bridge_range, is_free_port, is_link_range, is_unlinked, vid_refusal, bridge_refusal, link_refusal, plan_of, bridge_of, with_vid, with_bridge, with_link, with_live}
 use Rattle.spb_types.specs.Places.{changed_at}
-use Rattle.spb_network.specs.State.{State, Spare, next_box, way_out}
+use Rattle.spb_network.specs.State.{State, Spare, next_box, lane_out}
 use Rattle.spb_network.specs.Events.{sent_all, stepped, switched_on}
 use Rattle.spb_network.specs.Refusing.{declared_refusal, named_link_refusal, unnamed_refusal}
 use Rattle.spb_network.specs.Play.{config_of, with_vid_more, declared, linked, named_link, at_bridge, counted, next_state, played_all}
 use Rattle.spb_network.specs.Sound.{opening}
 use Rattle.spb_network.specs.SoundLaws.{IsAddress, AreAccepted, IsBusy, SomeNetworkIsBusy}
-use Rattle.spb_network.proofs.SoundConfigured.{lit, first_hello, IsHello, first_heard}
+use Rattle.spb_network.proofs.SoundConfigured.{with_first_carrier, first_hello, IsHello, first_heard}
 use Rattle.spb_network.proofs.SoundPlay.{networks_are_sound}
 
 abbrev system : ℕ → Mac
@@ -60,7 +60,7 @@ address n low = record { bytes = refl; octets = octets }
     octets (suc (suc (suc (suc (suc (suc i)))))) = omega arith
 
 accepted : AreAccepted start script
-unfolding next_state reason_unless vid_refusal bridge_refusal link_refusal is_vid_range is_new_name is_new_system is_new_source is_bridge_range is_free_port is_link_range is_unlinked with_vid with_bridge with_link with_live next_box way_out stepped switched_on with_vid_more declared_refusal named_link_refusal unnamed_refusal declared linked named_link at_bridge
+unfolding next_state reason_unless vid_refusal bridge_refusal link_refusal is_vid_range is_new_name is_new_system is_new_source is_bridge_range is_free_port is_link_range is_unlinked with_vid with_bridge with_link with_live next_box lane_out stepped switched_on with_vid_more declared_refusal named_link_refusal unnamed_refusal declared linked named_link at_bridge
 accepted = (refl, (refl, (refl, (refl, (refl, tt)))))
 
 -- what the first bridge is configured with
@@ -72,19 +72,19 @@ abbrev sending : List (ℕ × List ℕ) → State
 sending fs = let s : State = played_all start declarations in counted (sent_all (record s { views = changed_at (step second) s.views 0 }) 0 fs)
 
 one_frame : (bytes : List ℕ) → IsHello bytes → IsBusy (sending ((1, bytes) ∷ []))
-unfolding next_state vid_refusal with_vid with_bridge with_link with_live next_box way_out stepped switched_on with_vid_more declared linked named_link
+unfolding next_state vid_refusal with_vid with_bridge with_link with_live next_box lane_out stepped switched_on with_vid_more declared linked named_link
 one_frame bytes is = record { live = refl; bytes = bytes; waiting = refl; hello = is.hello; way = is.way; heard = is.heard }
 
 pub all_declared : AreAccepted start declarations
-unfolding next_state reason_unless vid_refusal bridge_refusal link_refusal is_vid_range is_new_name is_new_system is_new_source is_bridge_range is_free_port is_link_range is_unlinked with_vid with_bridge with_link with_live next_box way_out stepped switched_on with_vid_more declared_refusal named_link_refusal unnamed_refusal declared linked named_link
+unfolding next_state reason_unless vid_refusal bridge_refusal link_refusal is_vid_range is_new_name is_new_system is_new_source is_bridge_range is_free_port is_link_range is_unlinked with_vid with_bridge with_link with_live next_box lane_out stepped switched_on with_vid_more declared_refusal named_link_refusal unnamed_refusal declared linked named_link
 all_declared = (refl, (refl, (refl, (refl, tt))))
 
-sound : IsSoundView (lit first 10)
-unfolding next_state vid_refusal with_vid with_bridge with_link with_live next_box way_out stepped switched_on with_vid_more declared linked named_link
+sound : IsSoundView (with_first_carrier first 10)
+unfolding next_state vid_refusal with_vid with_bridge with_link with_live next_box lane_out stepped switched_on with_vid_more declared linked named_link
 sound = (networks_are_sound rule.Plain (box ∷ box ∷ []) declarations (tt, (address 1 (omega arith), (address 2 (omega arith), (tt, tt)))) all_declared).views.0
 
 shown : IsBusy (played_all start script)
-unfolding next_state vid_refusal with_vid with_bridge with_link with_live next_box way_out stepped switched_on with_vid_more declared linked named_link at_bridge
+unfolding next_state vid_refusal with_vid with_bridge with_link with_live next_box lane_out stepped switched_on with_vid_more declared linked named_link at_bridge
 shown =
     let hello = first_hello first 1 10 refl in
     subst (λ (fs : List (ℕ × List ℕ)). IsBusy (sending fs)) (sym hello.1) (one_frame hello.0 (first_heard first 1 10 refl sound))

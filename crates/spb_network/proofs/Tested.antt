@@ -17,7 +17,7 @@ use Rattle.spb_network.specs.declared.declaration.LinkEnd.{LinkEnd}
 use Rattle.spb_network.specs.World.{World, Bridges, Links, names_of, things_of, place_of, ports_at, is_between, is_at_port}
 use Rattle.spb_network.specs.Declaring.{has_vid, is_new_vid, is_vid_range, is_before_bridges, is_new_name, is_new_system, is_new_source, is_bridge_address, is_bridge_range, has_bridge_room, is_free_port, is_port, is_link_range, has_link_room, is_unlinked}
 use Rattle.spb_network.specs.State.{Spare, same_kind, serves, box_from, next_box}
-use Rattle.spb_network.specs.Holding.{IsNamed, IsAt, AreAt, HasLink, IsEndAt, IsVid, IsOwnAddress, IsBridgeInRange, HasPort, IsLinkInRange, IsFromTo}
+use Rattle.spb_network.specs.Holding.{IsNamed, HoldsAt, HoldsAtBoth, HasLink, IsEndAt, IsVid, IsOwnAddress, IsBridgeInRange, HasPort, IsLinkInRange, IsFromTo}
 
 -- ---- tests
 
@@ -104,11 +104,11 @@ unknown name entries at is = true≢false (sym ((named name entries).1 is) ∙ a
 some-is : (x y : ℕ) → Some x ≡ Some y → x ≡ y
 some-is x y h = cc
 
-pub at-is : {T : Type 0} (name : List ℕ) (entries : List (List ℕ × T)) (P : ℕ → Type 0) (k : ℕ) (b : Bool) → place_of name entries ≡ Some k → Decides b (P k) → Decides b (IsAt name entries P)
+pub at-is : {T : Type 0} (name : List ℕ) (entries : List (List ℕ × T)) (P : ℕ → Type 0) (k : ℕ) (b : Bool) → place_of name entries ≡ Some k → Decides b (P k) → Decides b (HoldsAt name entries P)
 at-is name entries P k b at d = Decides-like b (λ p. (k, at, p)) (λ h. subst P (some-is h.0 k (sym h.1 ∙ at)) h.2) d
 
-pub both-at : (a b : List ℕ) (bridges : Bridges) (P : ℕ → ℕ → Type 0) (i j : ℕ) (t : Bool) → place_of a bridges ≡ Some i → place_of b bridges ≡ Some j → Decides t (P i j) → Decides t (AreAt a b bridges P)
-both-at a b bridges P i j t at bt d = at-is a bridges (λ k. IsAt b bridges (λ l. P k l)) i t at (at-is b bridges (λ l. P i l) j t bt d)
+pub both-at : (a b : List ℕ) (bridges : Bridges) (P : ℕ → ℕ → Type 0) (i j : ℕ) (t : Bool) → place_of a bridges ≡ Some i → place_of b bridges ≡ Some j → Decides t (P i j) → Decides t (HoldsAtBoth a b bridges P)
+both-at a b bridges P i j t at bt d = at-is a bridges (λ k. HoldsAt b bridges (λ l. P k l)) i t at (at-is b bridges (λ l. P i l) j t bt d)
 
 -- ---- a base VID
 

@@ -13,7 +13,7 @@ use Rattle.spb_tlvs.specs.Capability.{IsTree}
 use Rattle.spb_types.specs.declared.link.Side.{Side}
 use Rattle.spb_types.specs.declared.link.Side.TheVariants as side
 use Rattle.bridge_api.specs.Config.{IsMetric}
-use Rattle.spb_network.specs.Declaring.{with_vid, with_bridge, with_link, with_live, switched, end_on, link_metered, links_metered, with_end_metric}
+use Rattle.spb_network.specs.Declaring.{with_vid, with_bridge, with_link, with_live, switched, end_on, link_with_metric, links_with_metric, with_end_metric}
 use Rattle.indexmap.specs.Layout.{set_value_at}
 use Rattle.spb_network.specs.World.{World, Bridges, Links, things_of, graph_bridges, system_at, ports_at, IsEnd, IsLink, AreApart, AllApart, Sound}
 use Rattle.spb_network.proofs.ListLemmas.{All-map, All-push, things_of-push, length-push}
@@ -160,35 +160,35 @@ switched-none on (m ∷ ls) (suc k) h = ap (λ x. m ∷ x) (switched-none on ls 
 
 -- ---- an end of a link gets another metric, and is the same otherwise
 
-metered-end : (bs : Bridges) (m : ℕ) (e : LinkEnd) → IsMetric m → IsEnd bs e → IsEnd bs (record e { metric = m })
-metered-end bs m e is h = record { bridge = h.bridge; port_low = h.port_low; port_high = h.port_high; metric_low = is.low; metric_high = is.high }
+with_metric-end : (bs : Bridges) (m : ℕ) (e : LinkEnd) → IsMetric m → IsEnd bs e → IsEnd bs (record e { metric = m })
+with_metric-end bs m e is h = record { bridge = h.bridge; port_low = h.port_low; port_high = h.port_high; metric_low = is.low; metric_high = is.high }
 
-metered-link : (on : Side) (bs : Bridges) (m : ℕ) (l : DeclaredLink) → IsMetric m → IsLink bs l → IsLink bs (link_metered on m l)
-metered-link side.A bs m l is h = record { a = metered-end bs m l.a is h.a; b = h.b; apart = h.apart }
-metered-link side.B bs m l is h = record { a = h.a; b = metered-end bs m l.b is h.b; apart = h.apart }
+with_metric-link : (on : Side) (bs : Bridges) (m : ℕ) (l : DeclaredLink) → IsMetric m → IsLink bs l → IsLink bs (link_with_metric on m l)
+with_metric-link side.A bs m l is h = record { a = with_metric-end bs m l.a is h.a; b = h.b; apart = h.apart }
+with_metric-link side.B bs m l is h = record { a = h.a; b = with_metric-end bs m l.b is h.b; apart = h.apart }
 
-metered-links : (on : Side) (bs : Bridges) (m : ℕ) (ls : Links) (k : ℕ) → IsMetric m → AllByRecursion (IsLink bs) (things_of ls) → AllByRecursion (IsLink bs) (things_of (links_metered on m ls k))
-metered-links on bs m [] k is h = h
-metered-links on bs m (l ∷ ls) zero is h = (metered-link on bs m l.1 is h.0, h.1)
-metered-links on bs m (l ∷ ls) (suc k) is h = (h.0, metered-links on bs m ls k is h.1)
+with_metric-links : (on : Side) (bs : Bridges) (m : ℕ) (ls : Links) (k : ℕ) → IsMetric m → AllByRecursion (IsLink bs) (things_of ls) → AllByRecursion (IsLink bs) (things_of (links_with_metric on m ls k))
+with_metric-links on bs m [] k is h = h
+with_metric-links on bs m (l ∷ ls) zero is h = (with_metric-link on bs m l.1 is h.0, h.1)
+with_metric-links on bs m (l ∷ ls) (suc k) is h = (h.0, with_metric-links on bs m ls k is h.1)
 
-metered-apart_to : (on : Side) (m : ℕ) (h l : DeclaredLink) → AreApart h l → AreApart h (link_metered on m l)
-metered-apart_to side.A m h l a = record { bridges = a.bridges; port_a = a.port_a; port_b = a.port_b }
-metered-apart_to side.B m h l a = record { bridges = a.bridges; port_a = a.port_a; port_b = a.port_b }
+with_metric-apart_to : (on : Side) (m : ℕ) (h l : DeclaredLink) → AreApart h l → AreApart h (link_with_metric on m l)
+with_metric-apart_to side.A m h l a = record { bridges = a.bridges; port_a = a.port_a; port_b = a.port_b }
+with_metric-apart_to side.B m h l a = record { bridges = a.bridges; port_a = a.port_a; port_b = a.port_b }
 
-metered-apart_of : (on : Side) (m : ℕ) (h l : DeclaredLink) → AreApart h l → AreApart (link_metered on m h) l
-metered-apart_of side.A m h l a = record { bridges = a.bridges; port_a = a.port_a; port_b = a.port_b }
-metered-apart_of side.B m h l a = record { bridges = a.bridges; port_a = a.port_a; port_b = a.port_b }
+with_metric-apart_of : (on : Side) (m : ℕ) (h l : DeclaredLink) → AreApart h l → AreApart (link_with_metric on m h) l
+with_metric-apart_of side.A m h l a = record { bridges = a.bridges; port_a = a.port_a; port_b = a.port_b }
+with_metric-apart_of side.B m h l a = record { bridges = a.bridges; port_a = a.port_a; port_b = a.port_b }
 
-metered-apart_from : (on : Side) (m : ℕ) (h : DeclaredLink) (ls : Links) (k : ℕ) → AllByRecursion (AreApart h) (things_of ls) → AllByRecursion (AreApart h) (things_of (links_metered on m ls k))
-metered-apart_from on m h [] k a = a
-metered-apart_from on m h (l ∷ ls) zero a = (metered-apart_to on m h l.1 a.0, a.1)
-metered-apart_from on m h (l ∷ ls) (suc k) a = (a.0, metered-apart_from on m h ls k a.1)
+with_metric-apart_from : (on : Side) (m : ℕ) (h : DeclaredLink) (ls : Links) (k : ℕ) → AllByRecursion (AreApart h) (things_of ls) → AllByRecursion (AreApart h) (things_of (links_with_metric on m ls k))
+with_metric-apart_from on m h [] k a = a
+with_metric-apart_from on m h (l ∷ ls) zero a = (with_metric-apart_to on m h l.1 a.0, a.1)
+with_metric-apart_from on m h (l ∷ ls) (suc k) a = (a.0, with_metric-apart_from on m h ls k a.1)
 
-metered-apart : (on : Side) (m : ℕ) (ls : Links) (k : ℕ) → AllApart (things_of ls) → AllApart (things_of (links_metered on m ls k))
-metered-apart on m [] k a = a
-metered-apart on m (l ∷ ls) zero a = (All-map (AreApart l.1) (AreApart (link_metered on m l.1)) (things_of ls) (λ h apart. metered-apart_of on m l.1 h apart) a.0, a.1)
-metered-apart on m (l ∷ ls) (suc k) a = (metered-apart_from on m l.1 ls k a.0, metered-apart on m ls k a.1)
+with_metric-apart : (on : Side) (m : ℕ) (ls : Links) (k : ℕ) → AllApart (things_of ls) → AllApart (things_of (links_with_metric on m ls k))
+with_metric-apart on m [] k a = a
+with_metric-apart on m (l ∷ ls) zero a = (All-map (AreApart l.1) (AreApart (link_with_metric on m l.1)) (things_of ls) (λ h apart. with_metric-apart_of on m l.1 h apart) a.0, a.1)
+with_metric-apart on m (l ∷ ls) (suc k) a = (with_metric-apart_from on m l.1 ls k a.0, with_metric-apart on m ls k a.1)
 
 -- each end of a link is one
 pub end_on-is : (on : Side) (bs : Bridges) (l : DeclaredLink) → IsLink bs l → IsEnd bs (end_on on l)
@@ -201,19 +201,19 @@ Sound-with_end_metric on m w k is sound = record {
   few = sound.few;
   ports = sound.ports;
   systems = sound.systems;
-  links = metered-links on w.bridges m w.links k is sound.links;
-  links_apart = metered-apart on m w.links k sound.links_apart;
+  links = with_metric-links on w.bridges m w.links k is sound.links;
+  links_apart = with_metric-apart on m w.links k sound.links_apart;
   plans = sound.plans;
   few_vids = sound.few_vids;
   each_vid = sound.each_vid;
 }
 
-pub metered-set : (on : Side) (m : ℕ) (ls : Links) (k : ℕ) (l : DeclaredLink) → slice_get (things_of ls) k ≡ Some l → set_value_at ls k (link_metered on m l) ≡ links_metered on m ls k
-metered-set on m [] k l h = cc
-metered-set on m (n ∷ ls) zero l h = ap (λ x. (n.0, link_metered on m x) ∷ ls) (sym (some-is n.1 l h))
-metered-set on m (n ∷ ls) (suc k) l h = ap (λ x. n ∷ x) (metered-set on m ls k l h)
+pub with_metric-set : (on : Side) (m : ℕ) (ls : Links) (k : ℕ) (l : DeclaredLink) → slice_get (things_of ls) k ≡ Some l → set_value_at ls k (link_with_metric on m l) ≡ links_with_metric on m ls k
+with_metric-set on m [] k l h = cc
+with_metric-set on m (n ∷ ls) zero l h = ap (λ x. (n.0, link_with_metric on m x) ∷ ls) (sym (some-is n.1 l h))
+with_metric-set on m (n ∷ ls) (suc k) l h = ap (λ x. n ∷ x) (with_metric-set on m ls k l h)
 
-pub metered-none : (on : Side) (m : ℕ) (ls : Links) (k : ℕ) → slice_get (things_of ls) k ≡ None → ls ≡ links_metered on m ls k
-metered-none on m [] k h = refl
-metered-none on m (n ∷ ls) zero h = cc
-metered-none on m (n ∷ ls) (suc k) h = ap (λ x. n ∷ x) (metered-none on m ls k h)
+pub with_metric-none : (on : Side) (m : ℕ) (ls : Links) (k : ℕ) → slice_get (things_of ls) k ≡ None → ls ≡ links_with_metric on m ls k
+with_metric-none on m [] k h = refl
+with_metric-none on m (n ∷ ls) zero h = cc
+with_metric-none on m (n ∷ ls) (suc k) h = ap (λ x. n ∷ x) (with_metric-none on m ls k h)

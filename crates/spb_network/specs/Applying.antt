@@ -19,7 +19,7 @@ pub record Plays (old : State) (c : Command) (answer : Answer) (new : State) : T
   pub state : new ≡ next_state old c
 
 module _ {B : Type 0} (shown : B → Shown) where
-  -- a network at which no command found want of memory: its boxes are made, and its state is sound
+  -- a network at which no command ran out of memory: its boxes are made, and its state is sound
   pub record IsSoundNetwork (n : NetworkOf B) : Type 0 where
     pub made : AreMade shown n.boxes.items
     pub state : IsSoundState (state_of shown n)
@@ -28,8 +28,8 @@ module _ {B : Type 0} (shown : B → Shown) where
   abbrev pub IsReady : NetworkOf B → Type 0
   IsReady n = (n.halted ≡ true) ⊎ IsSoundNetwork n
 
-  -- what `apply` answers and leaves. It halts exactly where an earlier command found no memory; a command that is refused
-  -- changes nothing, and one that is accepted is one step of play
+  -- what `apply` answers and leaves. It halts exactly where an earlier command found no memory; a command that is
+  -- refused changes nothing, and one that is accepted is one step of play
   abbrev pub Applies : NetworkOf B → Command → Result Answer ApplyError → NetworkOf B → Type 0
   Applies old c (Ok answer) new =
       (old.halted ≡ false) × Plays (state_of shown old) c answer (state_of shown new) × (new.halted ≡ false)

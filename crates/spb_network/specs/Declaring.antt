@@ -40,7 +40,8 @@ is_new_name name entries = is_none (place_of name entries)
 
 -- no bridge has this system id
 unfoldable pub is_new_system : Mac → Bridges → Bool
-is_new_system system bridges = not (list_any (λ b. bytes_eq b.bridge.id.system.mac.bytes system.bytes) (things_of bridges))
+is_new_system system bridges = not (list_any (λ b. bytes_eq b.bridge.id.system.mac.bytes system.bytes)
+    (things_of bridges))
 
 -- no bridge has this source id
 unfoldable pub is_new_source : SourceId → Bridges → Bool
@@ -52,7 +53,8 @@ is_bridge_address mac = (slice_index mac.bytes 0 % 2 == 0) && not (bytes_eq mac.
 
 -- a priority, an address, a source of 20 bits and a number of ports that a bridge can have
 unfoldable pub is_bridge_range : ℕ → Mac → SourceId → ℕ → Bool
-is_bridge_range priority system source ports = nat_le priority 65535 && is_bridge_address system && nat_lt source.value SOURCE_IDS && nat_le ports MOST_PORTS
+is_bridge_range priority system source ports =
+    nat_le priority 65535 && is_bridge_address system && nat_lt source.value SOURCE_IDS && nat_le ports MOST_PORTS
 
 -- one bridge more can be declared
 abbrev pub has_bridge_room : World → Bool
@@ -68,7 +70,8 @@ is_port bridges i port = nat_le 1 port && nat_le port (ports_at bridges i)
 
 -- two different bridges, a port of each, and a cost that a link can have
 unfoldable pub is_link_range : Bridges → ℕ → ℕ → ℕ → ℕ → ℕ → Bool
-is_link_range bridges i port_a j port_b cost = not (i == j) && is_port bridges i port_a && is_port bridges j port_b && nat_le 1 cost && nat_le cost GREATEST_METRIC
+is_link_range bridges i port_a j port_b cost =
+    not (i == j) && is_port bridges i port_a && is_port bridges j port_b && nat_le 1 cost && nat_le cost GREATEST_METRIC
 
 -- one link more can be declared
 abbrev pub has_link_room : World → Bool
@@ -81,15 +84,23 @@ is_unlinked links i j = not (list_any (λ l. is_between l i j) (things_of links)
 -- Why a declaration is refused: the first of its reasons, in order of number, whose test fails.
 
 unfoldable pub vid_refusal : World → ℕ → ℕ → Option Reason
-vid_refusal w vid ect = reason_unless (is_new_vid w.vids vid) NameTaken or reason_unless (is_vid_range w.vids vid ect) Range or reason_unless (is_before_bridges w) TooLate
+vid_refusal w vid ect = reason_unless (is_new_vid w.vids vid) NameTaken
+    or reason_unless (is_vid_range w.vids vid ect) Range or reason_unless (is_before_bridges w) TooLate
 
--- but for want of a box
+-- but for the lack of a box
 unfoldable pub bridge_refusal : World → List ℕ → ℕ → Mac → SourceId → ℕ → Option Reason
-bridge_refusal w name priority system source ports = reason_unless (is_new_name name w.bridges) NameTaken or reason_unless (is_new_system system w.bridges && is_new_source source w.bridges) IdTaken or reason_unless (is_bridge_range priority system source ports) Range or reason_unless (has_bridge_room w) TooMany
+bridge_refusal w name priority system source ports =
+    reason_unless (is_new_name name w.bridges) NameTaken
+    or reason_unless (is_new_system system w.bridges && is_new_source source w.bridges) IdTaken
+    or reason_unless (is_bridge_range priority system source ports) Range or reason_unless (has_bridge_room w) TooMany
 
 -- of a link between the bridges at two places
 unfoldable pub link_refusal : World → List ℕ → ℕ → ℕ → ℕ → ℕ → ℕ → Option Reason
-link_refusal w name i port_a j port_b cost = reason_unless (is_new_name name w.links) NameTaken or reason_unless (is_free_port w.links i port_a && is_free_port w.links j port_b) PortUse or reason_unless (is_link_range w.bridges i port_a j port_b cost) Range or reason_unless (has_link_room w) TooMany or reason_unless (is_unlinked w.links i j) AlreadyLinked
+link_refusal w name i port_a j port_b cost =
+    reason_unless (is_new_name name w.links) NameTaken
+    or reason_unless (is_free_port w.links i port_a && is_free_port w.links j port_b) PortUse
+    or reason_unless (is_link_range w.bridges i port_a j port_b cost) Range or reason_unless (has_link_room w) TooMany
+    or reason_unless (is_unlinked w.links i j) AlreadyLinked
 
 -- What an accepted declaration makes.
 
@@ -99,11 +110,24 @@ plan_of vid ect = record { vid = record { value = vid }; ect = ect }
 
 -- a bridge of these ids and ports
 abbrev pub bridge_of : ℕ → Mac → SourceId → ℕ → DeclaredBridge
-bridge_of priority system source ports = record { bridge = record { id = record { priority = priority; system = record { mac = system } }; source = source }; ports = ports }
+bridge_of priority system source ports = record {
+  bridge = record {
+    id = record {
+      priority = priority;
+      system = record { mac = system };
+    };
+    source = source;
+  };
+  ports = ports;
+}
 
 -- a link that isn't up yet, whose cost is the metric of both ends
 abbrev pub link_of : ℕ → ℕ → ℕ → ℕ → ℕ → DeclaredLink
-link_of i port_a j port_b cost = record { a = record { bridge = i; port = port_a; metric = cost }; b = record { bridge = j; port = port_b; metric = cost }; live = false }
+link_of i port_a j port_b cost = record {
+  a = record { bridge = i; port = port_a; metric = cost };
+  b = record { bridge = j; port = port_b; metric = cost };
+  live = false;
+}
 
 -- one base VID more
 unfoldable pub with_vid : World → VidPlan → World
@@ -132,16 +156,16 @@ end_on side.A l = l.a
 end_on side.B l = l.b
 
 -- the link whose end on this side has this metric
-abbrev pub link_metered : Side → ℕ → DeclaredLink → DeclaredLink
-link_metered side.A m l = record l { a = record l.a { metric = m } }
-link_metered side.B m l = record l { b = record l.b { metric = m } }
+abbrev pub link_with_metric : Side → ℕ → DeclaredLink → DeclaredLink
+link_with_metric side.A m l = record l { a = record l.a { metric = m } }
+link_with_metric side.B m l = record l { b = record l.b { metric = m } }
 
 -- an end of the link at a place has this metric
-abbrev pub links_metered : Side → ℕ → Links → ℕ → Links
-links_metered on m [] k = []
-links_metered on m (l ∷ ls) zero = (l.0, link_metered on m l.1) ∷ ls
-links_metered on m (l ∷ ls) (suc k) = l ∷ links_metered on m ls k
+abbrev pub links_with_metric : Side → ℕ → Links → ℕ → Links
+links_with_metric on m [] k = []
+links_with_metric on m (l ∷ ls) zero = (l.0, link_with_metric on m l.1) ∷ ls
+links_with_metric on m (l ∷ ls) (suc k) = l ∷ links_with_metric on m ls k
 
 -- so has one in what is declared
 unfoldable pub with_end_metric : Side → ℕ → World → ℕ → World
-with_end_metric on m w k = record w { links = links_metered on m w.links k }
+with_end_metric on m w k = record w { links = links_with_metric on m w.links k }

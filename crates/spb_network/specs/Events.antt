@@ -13,21 +13,24 @@ use Rattle.link_model.specs.declared.lanes.LaneId.{LaneId}
 use Rattle.link_model.specs.Lanes.{rest, no_frames, first_full_from}
 use Rattle.spb_network.specs.Declaring.{end_on, with_live, with_end_metric}
 use Rattle.spb_types.specs.Places.{changed_at}
-use Rattle.spb_network.specs.State.{State, links_of, is_live, far_end, way_out, lane_at, with_frames}
+use Rattle.spb_network.specs.State.{State, links_of, is_live, far_end, lane_out, lane_at, with_frames}
 
--- a frame goes into the lane of a way whose link is up; it is lost where there is no such way, and where the lane is full
+-- a frame goes into a lane whose link is up; it is lost where there is no such lane, and where the lane is
+-- full
 abbrev pub sent_over : State → Option LaneId → Frame → State
 sent_over s None frame = s
-sent_over s (Some way) frame = if is_live (links_of s) way.link then with_frames (λ frames. pushed frames frame) s way.link way.dir else s
+sent_over s (Some lane) frame =
+    if is_live (links_of s) lane.link then with_frames (λ frames. pushed frames frame) s lane.link lane.dir else s
 
 -- the bridge at place i sends frames, each at a port
 abbrev pub sent_all : State → ℕ → List (ℕ × Frame) → State
 sent_all s i [] = s
-sent_all s i (f ∷ fs) = sent_all (sent_over s (way_out (links_of s) i f.0) f.1) i fs
+sent_all s i (f ∷ fs) = sent_all (sent_over s (lane_out (links_of s) i f.0) f.1) i fs
 
 -- something comes to the bridge at place i, and what it sends is on its way at once
 unfoldable pub stepped : Input → State → ℕ → State
-stepped input s i = sent_all (record s { views = changed_at (step input) s.views i }) i (option_map_or (sent input) (slice_get s.views i) [])
+stepped input s i = sent_all (record s { views = changed_at (step input) s.views i }) i
+    (option_map_or (sent input) (slice_get s.views i) [])
 
 -- a second of the bridge at place i
 abbrev pub ticked : State → ℕ → State
@@ -54,30 +57,31 @@ abbrev pub doubled : State → ℕ → Dir → ℕ → State
 doubled s k dir place = with_frames (λ frames. after_double frames place (slice_get frames place)) s k dir
 
 -- carrier comes to an end of a link, or goes
-abbrev pub carried : Bool → State → LinkEnd → State
-carried on s e = stepped (comes.carrier e.port on) s e.bridge
+abbrev pub with_carrier_at_end : Bool → State → LinkEnd → State
+with_carrier_at_end on s e = stepped (comes.carrier e.port on) s e.bridge
 
 -- and so at end a, then at end b
-abbrev pub carried_over : Bool → State → Option DeclaredLink → State
-carried_over on s None = s
-carried_over on s (Some l) = carried on (carried on s l.a) l.b
+abbrev pub with_carrier_over : Bool → State → Option DeclaredLink → State
+with_carrier_over on s None = s
+with_carrier_over on s (Some l) = with_carrier_at_end on (with_carrier_at_end on s l.a) l.b
 
 -- an end of a link gets its metric
-abbrev pub metered : State → LinkEnd → State
-metered s e = stepped (comes.metric e.port e.metric) s e.bridge
+abbrev pub with_metric_at_end : State → LinkEnd → State
+with_metric_at_end s e = stepped (comes.metric e.port e.metric) s e.bridge
 
 -- and so do both, end a before end b
-abbrev pub metered_over : State → DeclaredLink → State
-metered_over s l = metered (metered s l.a) l.b
+abbrev pub with_metrics_over : State → DeclaredLink → State
+with_metrics_over s l = with_metric_at_end (with_metric_at_end s l.a) l.b
 
 -- the bridge at an end of a link is told the metric there
-abbrev pub metered_on : Side → State → Option DeclaredLink → State
-metered_on side s None = s
-metered_on side s (Some l) = metered s (end_on side l)
+abbrev pub with_metric_on : Side → State → Option DeclaredLink → State
+with_metric_on side s None = s
+with_metric_on side s (Some l) = with_metric_at_end s (end_on side l)
 
 -- an end of the link at place k gets this metric, and its bridge is told it
-unfoldable pub remetered : State → ℕ → Side → ℕ → State
-remetered s k side m = let t : State = record s { world = with_end_metric side m s.world k } in metered_on side t (slice_get (links_of t) k)
+unfoldable pub with_metric_changed : State → ℕ → Side → ℕ → State
+with_metric_changed s k side m = let t : State = record s { world = with_end_metric side m s.world k } in
+    with_metric_on side t (slice_get (links_of t) k)
 
 -- both lanes of the link at place k lose their frames
 abbrev pub flushed : State → ℕ → State
@@ -85,11 +89,12 @@ flushed s k = record s { lanes = changed_at (λ lanes. no_frames) s.lanes k }
 
 -- the link at place k goes down: its lanes are empty, and both ends lose carrier
 unfoldable pub switched_off : State → ℕ → State
-switched_off s k = let t : State = flushed s k in carried_over false (record t { world = with_live false t.world k }) (slice_get (links_of s) k)
+switched_off s k = let t : State = flushed s k in
+    with_carrier_over false (record t { world = with_live false t.world k }) (slice_get (links_of s) k)
 
 -- the link at place k comes up: both ends get carrier
 unfoldable pub switched_on : State → ℕ → State
-switched_on s k = carried_over true (record s { world = with_live true s.world k }) (slice_get (links_of s) k)
+switched_on s k = with_carrier_over true (record s { world = with_live true s.world k }) (slice_get (links_of s) k)
 
 -- so many bridges tick, from place i on
 abbrev pub ticked_from : ℕ → ℕ → State → State
@@ -132,7 +137,7 @@ rounds (suc n) s = rounds n (one_round s)
 
 abbrev pub delivered_over : State → Option LaneId → State
 delivered_over s None = s
-delivered_over s (Some way) = delivered s way.link way.dir
+delivered_over s (Some lane) = delivered s lane.link lane.dir
 
 -- one delivery from the first lane that isn't empty
 unfoldable pub delivered_first : State → State

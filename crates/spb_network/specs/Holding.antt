@@ -11,7 +11,7 @@ use Rattle.spb_network.specs.declared.declaration.DeclaredLink.{DeclaredLink}
 use Rattle.spb_network.specs.declared.declaration.LinkEnd.{LinkEnd}
 use Rattle.spb_network.specs.declared.reason.Reason.{Reason}
 use Rattle.spb_network.specs.declared.reason.Reason.TheVariants.{NoSuchName, NameTaken, IdTaken, PortUse, Range, TooMany, AlreadyLinked, AlreadyUp, AlreadyDown, Attached, NotAttached, NoFrame, RackSpent, TooLate}
-use Rattle.spb_network.specs.Reason.{number_of}
+use Rattle.spb_network.specs.Reason.{reason_number}
 use Rattle.spb_network.specs.World.{World, Bridges, Links, names_of, things_of, place_of, ports_at}
 use Rattle.spb_network.specs.State.{State, is_live, lane_at, kind_at}
 use Rattle.spb_network.specs.Questions.{Question, question_of}
@@ -22,12 +22,12 @@ abbrev pub IsNamed : {T : Type 0} → List ℕ → List (List ℕ × T) → Type
 IsNamed name entries = Contains (names_of entries) name
 
 -- the thing of this name is declared, and P holds of its place
-abbrev pub IsAt : {T : Type 0} → List ℕ → List (List ℕ × T) → (ℕ → Type 0) → Type 0
-IsAt name entries P = (k : ℕ) × (place_of name entries ≡ Some k) × P k
+abbrev pub HoldsAt : {T : Type 0} → List ℕ → List (List ℕ × T) → (ℕ → Type 0) → Type 0
+HoldsAt name entries P = (k : ℕ) × (place_of name entries ≡ Some k) × P k
 
 -- the bridges of two names are declared, and P holds of their places
-abbrev pub AreAt : List ℕ → List ℕ → Bridges → (ℕ → ℕ → Type 0) → Type 0
-AreAt a b bridges P = IsAt a bridges (λ i. IsAt b bridges (λ j. P i j))
+abbrev pub HoldsAtBoth : List ℕ → List ℕ → Bridges → (ℕ → ℕ → Type 0) → Type 0
+HoldsAtBoth a b bridges P = HoldsAt a bridges (λ i. HoldsAt b bridges (λ j. P i j))
 
 -- 2: a name isn't declared
 
@@ -72,7 +72,7 @@ HasLink links i port = Any (λ l. IsEndAt l.a i port ⊎ IsEndAt l.b i port) (th
 
 abbrev pub TakesPort : World → Command → Type 0
 TakesPort w (command.Link name a port_a b port_b cost) =
-    AreAt a b w.bridges (λ i j. HasLink w.links i port_a ⊎ HasLink w.links j port_b)
+    HoldsAtBoth a b w.bridges (λ i j. HasLink w.links i port_a ⊎ HasLink w.links j port_b)
 TakesPort w _ = ⊥
 
 -- 6: a number is out of its range
@@ -102,7 +102,7 @@ abbrev pub IsOutOfRange : World → Command → Type 0
 IsOutOfRange w (command.Vid vid ect) = ¬ IsVid w vid ect
 IsOutOfRange w (command.Bridge name priority system source ports) = ¬ IsBridgeInRange priority system source ports
 IsOutOfRange w (command.Link name a port_a b port_b cost) =
-    AreAt a b w.bridges (λ i j. ¬ IsLinkInRange w.bridges i port_a j port_b cost)
+    HoldsAtBoth a b w.bridges (λ i j. ¬ IsLinkInRange w.bridges i port_a j port_b cost)
 IsOutOfRange w (command.Metric link side m) = ¬ IsMetric m
 IsOutOfRange w (command.Round n) = ¬ ((1 ≤ n) × (n ≤ MOST_ROUNDS))
 IsOutOfRange w (command.Drain n) = ¬ ((1 ≤ n) × (n ≤ MOST_DELIVERIES))
@@ -112,7 +112,7 @@ IsOutOfRange w _ = ⊥
 abbrev pub IsTooMany : State → Command → Type 0
 IsTooMany s (command.Bridge name priority system source ports) = MOST_BRIDGES ≤ length s.world.bridges
 IsTooMany s (command.Link name a port_a b port_b cost) =
-    AreAt a b s.world.bridges (λ i j. MOST_LINKS ≤ length s.world.links)
+    HoldsAtBoth a b s.world.bridges (λ i j. MOST_LINKS ≤ length s.world.links)
 IsTooMany s (command.Round n) = MOST_ROUNDS < s.rounds + n
 IsTooMany s (command.Drain n) = MOST_DELIVERIES_TOGETHER < s.drained + n
 IsTooMany s _ = ⊥
@@ -125,21 +125,21 @@ IsFromTo l i j = (l.a.bridge ≡ i) × (l.b.bridge ≡ j)
 
 abbrev pub LinksAgain : World → Command → Type 0
 LinksAgain w (command.Link name a port_a b port_b cost) =
-    AreAt a b w.bridges (λ i j. Any (λ l. IsFromTo l i j ⊎ IsFromTo l j i) (things_of w.links))
+    HoldsAtBoth a b w.bridges (λ i j. Any (λ l. IsFromTo l i j ⊎ IsFromTo l j i) (things_of w.links))
 LinksAgain w _ = ⊥
 
 -- 9: the link is up already, or down already
 abbrev pub RaisesAgain : World → Command → Type 0
-RaisesAgain w (command.Up link) = IsAt link w.links (λ k. is_live (things_of w.links) k ≡ true)
+RaisesAgain w (command.Up link) = HoldsAt link w.links (λ k. is_live (things_of w.links) k ≡ true)
 RaisesAgain w _ = ⊥
 
 abbrev pub CutsAgain : World → Command → Type 0
-CutsAgain w (command.Down link) = IsAt link w.links (λ k. is_live (things_of w.links) k ≡ false)
+CutsAgain w (command.Down link) = HoldsAt link w.links (λ k. is_live (things_of w.links) k ≡ false)
 CutsAgain w _ = ⊥
 
 -- 11: no frame stands at that place of the lane
 abbrev pub LacksFrame : State → List ℕ → Dir → ℕ → Type 0
-LacksFrame s link dir place = IsAt link s.world.links (λ k. length (lane_at s k dir) ≤ place)
+LacksFrame s link dir place = HoldsAt link s.world.links (λ k. length (lane_at s k dir) ≤ place)
 
 abbrev pub NamesNoFrame : State → Command → Type 0
 NamesNoFrame s (command.Deliver link dir) = LacksFrame s link dir 0
@@ -178,7 +178,7 @@ Holds s c TooLate = ComesLate s.world c
 -- a reason holds, and none of a lower number does
 pub record IsFirst (s : State) (c : Command) (r : Reason) : Type 0 where
   pub holds : Holds s c r
-  pub first : (q : Reason) → Holds s c q → number_of r ≤ number_of q
+  pub first : (q : Reason) → Holds s c q → reason_number r ≤ reason_number q
 
 -- a command is refused for its first reason, and accepted where none holds
 pub record IsRefusedForTheFirst (s : State) (c : Command) : Type 0 where

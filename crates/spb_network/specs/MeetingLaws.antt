@@ -9,10 +9,11 @@ use Rattle.lsdb.specs.Certificate.{IsClaimed}
 use Rattle.scenario.specs.declared.command.Command.{Command}
 use Rattle.spb_types.specs.declared.link.Dir.TheVariants.{Ab}
 use Rattle.bridge_api.specs.View.{BridgeView, is_up_at}
-use Rattle.bridge_api.specs.Judging.{greeting, link_state, judged}
+use Rattle.bridge_api.specs.Parsing.{parsed}
+use Rattle.bridge_api.specs.Parsing as parsing
 use Rattle.bridge_api.specs.Laws.{claims_said}
 use Rattle.spb_network.specs.declared.kind_rule.KindRule.{KindRule}
-use Rattle.spb_network.specs.State.{State, Spare, links_of, is_live, way_out, lane_at}
+use Rattle.spb_network.specs.State.{State, Spare, links_of, is_live, lane_out, lane_at}
 use Rattle.spb_network.specs.Play.{played_all}
 use Rattle.spb_network.specs.Sound.{opening}
 use Rattle.spb_network.specs.SoundLaws.{IsAddressed, AreAccepted}
@@ -23,23 +24,23 @@ pub record HasHello (lane : List Frame) : Type 0 where
   pub among : IsIn bytes lane
   pub hello : HelloValue
   pub way : ThreeWay
-  pub heard : judged bytes ≡ greeting hello way
+  pub heard : parsed bytes ≡ parsing.hello hello way
 
 -- a frame of a lane that is heard as an LSP, which claims that it is live
 pub record HasLiveLsp (lane : List Frame) : Type 0 where
   pub bytes : Frame
   pub among : IsIn bytes lane
   pub lsp : LspValue
-  pub heard : judged bytes ≡ link_state lsp
+  pub heard : parsed bytes ≡ parsing.lsp lsp
   pub number : ℕ
   pub sum : ℕ
-  pub claimed : IsClaimed (claims_said (judged bytes)) lsp.id (Live number sum)
+  pub claimed : IsClaimed (claims_said (parsed bytes)) lsp.id (Live number sum)
 
 -- port 1 of the first bridge, where the first link leads away in direction ab, is Up; and a hello and a live LSP are on
 -- their way from there
 pub record HaveMet (s : State) : Type 0 where
   pub live : is_live (links_of s) 0 ≡ true
-  pub out : way_out (links_of s) 0 1 ≡ Some (record { link = 0; dir = Ab })
+  pub out : lane_out (links_of s) 0 1 ≡ Some (record { link = 0; dir = Ab })
   pub view : BridgeView
   pub there : slice_get s.views 0 ≡ Some view
   pub up : is_up_at view 1 ≡ true

@@ -34,7 +34,8 @@ pub record HasPorts (v : BridgeView) (b : DeclaredBridge) : Type 0 where
 pub record Fits (s : State) : Type 0 where
   pub bridges : length s.views ≡ length s.world.bridges
   pub lanes : length s.lanes ≡ length s.world.links
-  pub ports : (i : ℕ) (v : BridgeView) (b : DeclaredBridge) → slice_get s.views i ≡ Some v → slice_get (things_of s.world.bridges) i ≡ Some b → HasPorts v b
+  pub ports : (i : ℕ) (v : BridgeView) (b : DeclaredBridge) → slice_get s.views i ≡ Some v
+      → slice_get (things_of s.world.bridges) i ≡ Some b → HasPorts v b
 
 -- the network's boxes are no blanks
 abbrev pub AreMade : {B : Type 0} → (B → Shown) → List B → Type 0

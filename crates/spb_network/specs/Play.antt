@@ -12,34 +12,47 @@ use Rattle.spb_network.specs.World.{World, place_of}
 use Rattle.spb_network.specs.Declaring.{plan_of, bridge_of, link_of, with_vid, with_bridge, with_link}
 use Rattle.link_model.specs.Lanes.{no_frames}
 use Rattle.spb_network.specs.State.{State}
-use Rattle.spb_network.specs.Events.{ticked, delivered, lost, doubled, metered_over, remetered, switched_on, switched_off, rounds, drained}
+use Rattle.spb_network.specs.Events.{ticked, delivered, lost, doubled, with_metrics_over, with_metric_changed, switched_on, switched_off, rounds, drained}
 use Rattle.spb_network.specs.Questions.{Question, question_of, answer_at}
 use Rattle.spb_network.specs.Refusing.{box_for}
 
 -- what a declared bridge is configured with: no port has a link yet, and none is attached
 abbrev pub config_of : World → DeclaredBridge → BridgeConfig
-config_of w b = record { id = b.bridge.id; source = b.bridge.source; ports = b.ports; vids = w.vids; metrics = replicate b.ports 1; attached = [] }
+config_of w b = record {
+  id = b.bridge.id;
+  source = b.bridge.source;
+  ports = b.ports;
+  vids = w.vids;
+  metrics = replicate b.ports 1;
+  attached = [];
+}
 
 -- a bridge more, in the box at a place of the rack
 abbrev pub boxed : State → List ℕ → DeclaredBridge → Option ℕ → State
 boxed s name b None = s
-boxed s name b (Some place) = record s { rack = remove s.rack place; world = with_bridge s.world name b; views = s.views ++ configured (config_of s.world b) ∷ [] }
+boxed s name b (Some place) = record s {
+  rack = remove s.rack place;
+  world = with_bridge s.world name b;
+  views = s.views ++ configured (config_of s.world b) ∷ [];
+}
 
 unfoldable pub declared : State → List ℕ → DeclaredBridge → State
 declared s name b = boxed s name b (box_for s)
 
 -- a link more: its ends get their metrics, and it comes up at once
 unfoldable pub linked : State → List ℕ → DeclaredLink → State
-linked s name l = switched_on (metered_over (record s { world = with_link s.world name l; lanes = s.lanes ++ no_frames ∷ [] }) l) (length s.lanes)
+linked s name l = switched_on (with_metrics_over
+    (record s { world = with_link s.world name l; lanes = s.lanes ++ no_frames ∷ [] }) l) (length s.lanes)
 
 -- a link more between two bridges, by the places that were found for their names
-abbrev pub placed_link : State → List ℕ → Option ℕ → ℕ → Option ℕ → ℕ → ℕ → State
-placed_link s name None port_a b port_b cost = s
-placed_link s name (Some i) port_a None port_b cost = s
-placed_link s name (Some i) port_a (Some j) port_b cost = linked s name (link_of i port_a j port_b cost)
+abbrev pub link_between_found : State → List ℕ → Option ℕ → ℕ → Option ℕ → ℕ → ℕ → State
+link_between_found s name None port_a b port_b cost = s
+link_between_found s name (Some i) port_a None port_b cost = s
+link_between_found s name (Some i) port_a (Some j) port_b cost = linked s name (link_of i port_a j port_b cost)
 
 unfoldable pub named_link : State → List ℕ → List ℕ → ℕ → List ℕ → ℕ → ℕ → State
-named_link s name a port_a b port_b cost = placed_link s name (place_of a s.world.bridges) port_a (place_of b s.world.bridges) port_b cost
+named_link s name a port_a b port_b cost =
+    link_between_found s name (place_of a s.world.bridges) port_a (place_of b s.world.bridges) port_b cost
 
 -- what becomes of a network at the place that was found for a name
 abbrev pub at_place : (State → ℕ → State) → State → Option ℕ → State
@@ -69,7 +82,7 @@ abbrev pub played : State → Command → State
 played s (command.Vid vid ect) = with_vid_more s vid ect
 played s (command.Bridge name priority system source ports) = declared s name (bridge_of priority system source ports)
 played s (command.Link name a port_a b port_b cost) = named_link s name a port_a b port_b cost
-played s (command.Metric name side m) = at_link (λ t k. remetered t k side m) s name
+played s (command.Metric name side m) = at_link (λ t k. with_metric_changed t k side m) s name
 played s (command.Down name) = at_link switched_off s name
 played s (command.Up name) = at_link switched_on s name
 played s (command.Tick name) = at_bridge ticked s name
@@ -93,14 +106,14 @@ unfoldable pub next_state : State → Command → State
 next_state s c = counted (played s c)
 
 -- the answer by the place that was found for the name of the bridge
-abbrev pub placed_answer : State → Option Question → Option ℕ → Answer
-placed_answer s question None = Silent
-placed_answer s question (Some i) = answer_at s i question
+abbrev pub answer_at_found : State → Option Question → Option ℕ → Answer
+answer_at_found s question None = Silent
+answer_at_found s question (Some i) = answer_at s i question
 
 -- the answer to a question about a bridge; nothing to what is none
 abbrev pub answer_to : State → Option Question → Answer
 answer_to s None = Silent
-answer_to s (Some q) = placed_answer s (Some q) (place_of q.bridge s.world.bridges)
+answer_to s (Some q) = answer_at_found s (Some q) (place_of q.bridge s.world.bridges)
 
 -- no customer frame leaves
 abbrev pub no_outs : Answer

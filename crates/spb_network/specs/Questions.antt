@@ -23,11 +23,11 @@ abbrev pub db_at : State → ℕ → List DbRow
 db_at s i = option_map_or (λ v. rows_of v.database) (slice_get s.views i) []
 
 -- the ports of a bridge as they are told: the adjacency, and whether CSNPs are due
-abbrev pub told_ports : List BridgePort → List (Adjacency × Bool)
-told_ports ports = map (λ port. (port.adjacency, port.due)) ports
+abbrev pub adjacencies_of : List BridgePort → List (Adjacency × Bool)
+adjacencies_of ports = map (λ port. (port.adjacency, port.csnp_due)) ports
 
 abbrev pub adj_at : State → ℕ → List (Adjacency × Bool)
-adj_at s i = option_map_or (λ v. told_ports v.ports) (slice_get s.views i) []
+adj_at s i = option_map_or (λ v. adjacencies_of v.ports) (slice_get s.views i) []
 
 -- a question about a bridge: its name, and the answer about the bridge at a place
 pub record Question : Type 0 where

@@ -5,21 +5,21 @@ use Rattle.spb_network.specs.declared.reason.Reason.{Reason}
 use Rattle.spb_network.specs.declared.reason.Reason.TheVariants.{NoSuchName, NameTaken, IdTaken, PortUse, Range, TooMany, AlreadyLinked, AlreadyUp, AlreadyDown, Attached, NotAttached, NoFrame, RackSpent, TooLate}
 
 -- the number of a reason: reasons are tested in this order
-abbrev pub number_of : Reason → ℕ
-number_of NoSuchName = 2
-number_of NameTaken = 3
-number_of IdTaken = 4
-number_of PortUse = 5
-number_of Range = 6
-number_of TooMany = 7
-number_of AlreadyLinked = 8
-number_of AlreadyUp = 9
-number_of AlreadyDown = 9
-number_of Attached = 10
-number_of NotAttached = 10
-number_of NoFrame = 11
-number_of RackSpent = 12
-number_of TooLate = 13
+abbrev pub reason_number : Reason → ℕ
+reason_number NoSuchName = 2
+reason_number NameTaken = 3
+reason_number IdTaken = 4
+reason_number PortUse = 5
+reason_number Range = 6
+reason_number TooMany = 7
+reason_number AlreadyLinked = 8
+reason_number AlreadyUp = 9
+reason_number AlreadyDown = 9
+reason_number Attached = 10
+reason_number NotAttached = 10
+reason_number NoFrame = 11
+reason_number RackSpent = 12
+reason_number TooLate = 13
 
 -- how a reason is written
 abbrev pub name_of : Reason → List ℕ

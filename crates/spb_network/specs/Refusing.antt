@@ -20,29 +20,30 @@ box_for s = next_box (kind_at s.rule (length s.world.bridges)) s.rack
 
 -- of a bridge
 unfoldable pub declared_refusal : State → List ℕ → ℕ → Mac → SourceId → ℕ → Option Reason
-declared_refusal s name priority system source ports = bridge_refusal s.world name priority system source ports or reason_unless (is_some (box_for s)) RackSpent
+declared_refusal s name priority system source ports =
+    bridge_refusal s.world name priority system source ports or reason_unless (is_some (box_for s)) RackSpent
 
 -- of a link between two bridges, by the places that were found for their names
-abbrev pub placed_link_refusal : World → List ℕ → Option ℕ → ℕ → Option ℕ → ℕ → ℕ → Option Reason
-placed_link_refusal w name None port_a b port_b cost = Some NoSuchName
-placed_link_refusal w name (Some i) port_a None port_b cost = Some NoSuchName
-placed_link_refusal w name (Some i) port_a (Some j) port_b cost = link_refusal w name i port_a j port_b cost
+abbrev pub link_refusal_at_found : World → List ℕ → Option ℕ → ℕ → Option ℕ → ℕ → ℕ → Option Reason
+link_refusal_at_found w name None port_a b port_b cost = Some NoSuchName
+link_refusal_at_found w name (Some i) port_a None port_b cost = Some NoSuchName
+link_refusal_at_found w name (Some i) port_a (Some j) port_b cost = link_refusal w name i port_a j port_b cost
 
 unfoldable pub named_link_refusal : World → List ℕ → List ℕ → ℕ → List ℕ → ℕ → ℕ → Option Reason
 named_link_refusal w name a port_a b port_b cost =
-    placed_link_refusal w name (place_of a w.bridges) port_a (place_of b w.bridges) port_b cost
+    link_refusal_at_found w name (place_of a w.bridges) port_a (place_of b w.bridges) port_b cost
 
 -- of what names a bridge
 unfoldable pub unnamed_refusal : World → List ℕ → Option Reason
 unnamed_refusal w name = reason_unless (is_some (place_of name w.bridges)) NoSuchName
 
 -- of what names a link, by the place that was found for its name
-abbrev pub placed_refusal : (ℕ → Option Reason) → Option ℕ → Option Reason
-placed_refusal refusal None = Some NoSuchName
-placed_refusal refusal (Some k) = refusal k
+abbrev pub refusal_at_found : (ℕ → Option Reason) → Option ℕ → Option Reason
+refusal_at_found refusal None = Some NoSuchName
+refusal_at_found refusal (Some k) = refusal k
 
 abbrev pub linked_refusal : World → (ℕ → Option Reason) → List ℕ → Option Reason
-linked_refusal w refusal name = placed_refusal refusal (place_of name w.links)
+linked_refusal w refusal name = refusal_at_found refusal (place_of name w.links)
 
 -- the link goes down
 unfoldable pub down_refusal : World → List ℕ → Option Reason
@@ -63,11 +64,13 @@ frame_refusal s name dir place =
 
 -- so many rounds: 1 to 20,000, and together no more
 unfoldable pub round_refusal : State → ℕ → Option Reason
-round_refusal s n = reason_unless (nat_le 1 n && nat_le n MOST_ROUNDS) Range or reason_unless (nat_le (s.rounds + n) MOST_ROUNDS) TooMany
+round_refusal s n = reason_unless (nat_le 1 n && nat_le n MOST_ROUNDS) Range
+    or reason_unless (nat_le (s.rounds + n) MOST_ROUNDS) TooMany
 
 -- so many deliveries: 1 to 1,000,000, and together at most 100,000,000
 unfoldable pub drain_refusal : State → ℕ → Option Reason
-drain_refusal s n = reason_unless (nat_le 1 n && nat_le n MOST_DELIVERIES) Range or reason_unless (nat_le (s.drained + n) MOST_DELIVERIES_TOGETHER) TooMany
+drain_refusal s n = reason_unless (nat_le 1 n && nat_le n MOST_DELIVERIES) Range
+    or reason_unless (nat_le (s.drained + n) MOST_DELIVERIES_TOGETHER) TooMany
 
 -- of what may be a question about a bridge
 abbrev pub asked_refusal : World → Option Question → Option Reason

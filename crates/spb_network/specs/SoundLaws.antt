@@ -12,11 +12,12 @@ use Rattle.spb_types.specs.declared.link.Dir.{Dir}
 use Rattle.spb_types.specs.declared.link.Dir.TheVariants.{Ab}
 use Rattle.spb_types.specs.declared.link.Side.{Side}
 use Rattle.bridge_api.specs.Config.{IsMetric}
-use Rattle.bridge_api.specs.Judging.{greeting, judged}
+use Rattle.bridge_api.specs.Parsing.{parsed}
+use Rattle.bridge_api.specs.Parsing as parsing
 use Rattle.spb_network.specs.declared.kind_rule.KindRule.{KindRule}
 use Rattle.link_model.specs.Lanes.{lane_of}
 use Rattle.spb_network.specs.State.{State, Spare, links_of, is_live}
-use Rattle.spb_network.specs.Events.{ticked, delivered, lost, doubled, remetered, switched_off, switched_on, rounds, drained}
+use Rattle.spb_network.specs.Events.{ticked, delivered, lost, doubled, with_metric_changed, switched_off, switched_on, rounds, drained}
 use Rattle.spb_network.specs.Refusing.{refusal_of}
 use Rattle.spb_network.specs.Play.{next_state, played_all}
 use Rattle.spb_network.specs.Sound.{IsSoundState, opening}
@@ -33,7 +34,7 @@ pub record EventsKeepSound : Type 0 where
   pub deliver : (k : ℕ) (dir : Dir) → Keeps (λ s. delivered s k dir)
   pub lose : (k : ℕ) (dir : Dir) (place : ℕ) → Keeps (λ s. lost s k dir place)
   pub double : (k : ℕ) (dir : Dir) (place : ℕ) → Keeps (λ s. doubled s k dir place)
-  pub metric : (k : ℕ) (side : Side) (m : ℕ) → IsMetric m → Keeps (λ s. remetered s k side m)
+  pub metric : (k : ℕ) (side : Side) (m : ℕ) → IsMetric m → Keeps (λ s. with_metric_changed s k side m)
   pub down : (k : ℕ) → Keeps (λ s. switched_off s k)
   pub up : (k : ℕ) → Keeps (λ s. switched_on s k)
   pub round : (n : ℕ) → Keeps (rounds n)
@@ -53,7 +54,8 @@ IsAddressed _ = ⊤
 
 -- a command that isn't refused leaves the network sound
 abbrev pub CommandsKeepSound : Type 0
-CommandsKeepSound = (s : State) (c : Command) → IsSoundState s → IsAddressed c → refusal_of s c ≡ None → IsSoundState (next_state s c)
+CommandsKeepSound = (s : State) (c : Command) → IsSoundState s → IsAddressed c → refusal_of s c ≡ None
+    → IsSoundState (next_state s c)
 
 -- each of the commands is accepted, one after another
 abbrev pub AreAccepted : State → List Command → Type 0
@@ -62,7 +64,8 @@ AreAccepted s (c ∷ cs) = (refusal_of s c ≡ None) × AreAccepted (next_state 
 
 -- whatever commands were accepted, the network is sound
 abbrev pub NetworksAreSound : Type 0
-NetworksAreSound = (rule : KindRule) (rack : List Spare) (cs : List Command) → AllByRecursion IsAddressed cs → AreAccepted (opening rule rack) cs → IsSoundState (played_all (opening rule rack) cs)
+NetworksAreSound = (rule : KindRule) (rack : List Spare) (cs : List Command) → AllByRecursion IsAddressed cs
+    → AreAccepted (opening rule rack) cs → IsSoundState (played_all (opening rule rack) cs)
 
 -- a link is up, and a frame is on its way over it that is heard as a hello
 pub record IsBusy (s : State) : Type 0 where
@@ -71,7 +74,7 @@ pub record IsBusy (s : State) : Type 0 where
   pub waiting : lane_of s.lanes 0 Ab ≡ bytes ∷ []
   pub hello : HelloValue
   pub way : ThreeWay
-  pub heard : judged bytes ≡ greeting hello way
+  pub heard : parsed bytes ≡ parsing.hello hello way
 
 -- some commands lead to such a network
 pub record SomeNetworkIsBusy : Type 0 where

@@ -22,8 +22,8 @@ pub record Spare : Type 0 where
   pub blank : Bool
 
 -- a network: by which rule bridges take boxes, the rack that is left, what is declared, the bridges in order of
--- declaration, the lanes of the links in order of declaration, the rounds and deliveries that were asked for, and how many
--- commands were accepted
+-- declaration, the lanes of the links in order of declaration, the rounds and deliveries that were asked for, and how
+-- many commands were accepted
 pub record State : Type 0 where
   pub rule : KindRule
   pub rack : List Spare
@@ -60,23 +60,23 @@ is_at e i port = (e.bridge == i) && (e.port == port)
 abbrev pub direction : DeclaredLink → ℕ → ℕ → Option Dir
 direction l i port = if is_at l.a i port then Some Ab else (if is_at l.b i port then Some Ba else None)
 
--- the way that the link at place k makes out of a port, if it ends there
-abbrev pub way_of : ℕ → DeclaredLink → ℕ → ℕ → Option LaneId
-way_of k l i port = option_map (λ dir. record { link = k; dir = dir }) (direction l i port)
+-- the lane of the link at place k that leads out of a port, if it ends there
+abbrev pub lane_of_link : ℕ → DeclaredLink → ℕ → ℕ → Option LaneId
+lane_of_link k l i port = option_map (λ dir. record { link = k; dir = dir }) (direction l i port)
 
--- the way out of a port, over the links from place k on
-abbrev pub way_from : ℕ → List DeclaredLink → ℕ → ℕ → Option LaneId
-way_from k [] i port = None
-way_from k (l ∷ ls) i port = option_or (way_of k l i port) (way_from (k + 1) ls i port)
+-- the lane out of a port, over the links from place k on
+abbrev pub lane_out_from : ℕ → List DeclaredLink → ℕ → ℕ → Option LaneId
+lane_out_from k [] i port = None
+lane_out_from k (l ∷ ls) i port = option_or (lane_of_link k l i port) (lane_out_from (k + 1) ls i port)
 
--- the way out of a port of the bridge at place i, if a link ends there
-unfoldable pub way_out : List DeclaredLink → ℕ → ℕ → Option LaneId
-way_out links i port = way_from 0 links i port
+-- the lane out of a port of the bridge at place i, if a link ends there
+unfoldable pub lane_out : List DeclaredLink → ℕ → ℕ → Option LaneId
+lane_out links i port = lane_out_from 0 links i port
 
 -- and if that link is up
-abbrev pub live_way : List DeclaredLink → Option LaneId → Option LaneId
-live_way links None = None
-live_way links (Some way) = if is_live links way.link then Some way else None
+abbrev pub live_lane : List DeclaredLink → Option LaneId → Option LaneId
+live_lane links None = None
+live_lane links (Some lane) = if is_live links lane.link then Some lane else None
 
 -- the frames on their way in a direction of the link at place k
 abbrev pub lane_at : State → ℕ → Dir → List Frame

@@ -64,7 +64,13 @@ attached_at w i = []
 
 -- the edge that a link makes: its cost is the greater of the metrics of its ends
 abbrev pub edge_of : Bridges → DeclaredLink → Edge
-edge_of bridges l = record { a = system_at bridges l.a.bridge; port_a = l.a.port; b = system_at bridges l.b.bridge; port_b = l.b.port; cost = max l.a.metric l.b.metric }
+edge_of bridges l = record {
+  a = system_at bridges l.a.bridge;
+  port_a = l.a.port;
+  b = system_at bridges l.b.bridge;
+  port_b = l.b.port;
+  cost = max l.a.metric l.b.metric;
+}
 
 -- the edge of a link that is up
 abbrev pub live_edge : Bridges → DeclaredLink → Option Edge
@@ -72,7 +78,11 @@ live_edge bridges l = if l.live then Some (edge_of bridges l) else None
 
 -- the actual wiring: all bridges, and an edge for each link that is up
 abbrev pub world_graph : World → Graph
-world_graph w = record { bridges = graph_bridges w.bridges; edges = filter_map (live_edge w.bridges) (things_of w.links); members = [] }
+world_graph w = record {
+  bridges = graph_bridges w.bridges;
+  edges = filter_map (live_edge w.bridges) (things_of w.links);
+  members = [];
+}
 
 -- whether the link joins the bridges at two places, whichever of its ends is which
 abbrev pub is_between : DeclaredLink → ℕ → ℕ → Bool

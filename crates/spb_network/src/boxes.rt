@@ -51,7 +51,12 @@ pub fn hear<B: Bridge>(
 }
 
 /// Carrier comes to a port of a bridge, or goes.
-pub fn carry<B: Bridge>(boxes: &mut Vec<B>, i: usize, port: u8, on: bool) -> Result<(), NoMemory>
+pub fn set_carrier<B: Bridge>(
+    boxes: &mut Vec<B>,
+    i: usize,
+    port: u8,
+    on: bool,
+) -> Result<(), NoMemory>
     requires made { AreMade B.shown boxes.old.items }
     requires port { IsPortAt (views_of B.shown boxes.old.items) i port }
     ensures views { OnOk result (views_of B.shown boxes.new.items
@@ -85,7 +90,7 @@ pub fn set_metric<B: Bridge>(
 }
 
 /// The ports of a bridge that has so many, from port 1 on: the adjacency, and whether CSNPs are due.
-pub fn told_ports<B: Bridge>(
+pub fn adjacencies_of<B: Bridge>(
     alloc: Global,
     bridge: &B,
     count: u8,
@@ -93,7 +98,7 @@ pub fn told_ports<B: Bridge>(
     requires made { (B.shown bridge.now).blank ≡ false }
     requires count { length (B.shown bridge.now).view.ports ≡ count }
     requires few { count ≤ 32 }
-    ensures { IfOk result (λ ports. ports.items ≡ question.told_ports (B.shown bridge.now).view.ports) }
+    ensures { IfOk result (λ ports. ports.items ≡ question.adjacencies_of (B.shown bridge.now).view.ports) }
 {
     let mut ports = Vec::new(alloc);
     for place in 0..count {

@@ -3,11 +3,11 @@ ghost use Rattle.std.specs.Prelude.{◌≡◌, slice_get, OnOk, IfSome};
 ghost use Rattle.bridge_api.specs.Config.{IsMetric};
 ghost use Rattle.bridge_api.specs.Step as comes;
 ghost use Rattle.spb_network.specs.World.{IsEnd, IsLink};
-ghost use Rattle.spb_network.specs.State.{links_of, way_out};
+ghost use Rattle.spb_network.specs.State.{links_of, lane_out};
 ghost use Rattle.spb_network.specs.Events as event;
 ghost use Rattle.spb_network.specs.Network.{state_of, IsInOrder};
 
-use crate::{DeclaredLink, LinkEnd, NetworkOf, boxes, ways};
+use crate::{DeclaredLink, LinkEnd, NetworkOf, boxes, link_ends};
 use bridge_api::{Bridge, Outbox};
 use link_model::LaneId;
 use scenario::Side;
@@ -18,12 +18,12 @@ impl<B: Bridge> NetworkOf<B> {
     fn send_over(&mut self, i: usize, port: u8, frame: Vec<u8>) -> Result<(), NoMemory>
         ensures state { OnOk result (state_of B.shown self.new
             ≡ event.sent_over (state_of B.shown self.old)
-            (way_out (links_of (state_of B.shown self.old)) i port) frame.items) }
+            (lane_out (links_of (state_of B.shown self.old)) i port) frame.items) }
         ensures boxes { self.new.boxes ≡ self.old.boxes }
     {
-        match self.world.live_way(i, port) {
+        match self.world.live_lane(i, port) {
             None => Ok(()),
-            Some(way) => self.lanes.push(way, frame),
+            Some(lane) => self.lanes.push(lane, frame),
         }
     }
 
@@ -65,40 +65,40 @@ impl<B: Bridge> NetworkOf<B> {
     }
 
     /// Carrier comes to an end of a link, or goes.
-    fn carry(&mut self, end: LinkEnd, on: bool) -> Result<(), NoMemory>
+    fn set_carrier(&mut self, end: LinkEnd, on: bool) -> Result<(), NoMemory>
         requires order { IsInOrder B.shown self.old }
         requires end { IsEnd self.old.world.bridges end }
         ensures state { OnOk result (state_of B.shown self.new
-            ≡ event.carried on (state_of B.shown self.old) end) }
+            ≡ event.with_carrier_at_end on (state_of B.shown self.old) end) }
         ensures order { OnOk result (IsInOrder B.shown self.new) }
         ensures world { self.new.world ≡ self.old.world }
     {
-        boxes::carry(&mut self.boxes, end.bridge, end.port, on)
+        boxes::set_carrier(&mut self.boxes, end.bridge, end.port, on)
     }
 
     /// Carrier comes to both ends of the link that was at a place, or goes.
-    fn carry_over(&mut self, link: Option<DeclaredLink>, on: bool) -> Result<(), NoMemory>
+    fn set_carriers(&mut self, link: Option<DeclaredLink>, on: bool) -> Result<(), NoMemory>
         requires order { IsInOrder B.shown self.old }
         requires ends { IfSome link (IsLink self.old.world.bridges) }
         ensures state { OnOk result (state_of B.shown self.new
-            ≡ event.carried_over on (state_of B.shown self.old) link) }
+            ≡ event.with_carrier_over on (state_of B.shown self.old) link) }
         ensures order { OnOk result (IsInOrder B.shown self.new) }
     {
         match link {
             None => Ok(()),
             Some(link) => {
-                self.carry(link.a, on)?;
-                self.carry(link.b, on)
+                self.set_carrier(link.a, on)?;
+                self.set_carrier(link.b, on)
             }
         }
     }
 
     /// An end of a link gets its metric.
-    fn meter(&mut self, end: LinkEnd) -> Result<(), NoMemory>
+    fn set_end_metric(&mut self, end: LinkEnd) -> Result<(), NoMemory>
         requires order { IsInOrder B.shown self.old }
         requires end { IsEnd self.old.world.bridges end }
         ensures state { OnOk result (state_of B.shown self.new
-            ≡ event.metered (state_of B.shown self.old) end) }
+            ≡ event.with_metric_at_end (state_of B.shown self.old) end) }
         ensures order { OnOk result (IsInOrder B.shown self.new) }
         ensures world { self.new.world ≡ self.old.world }
     {
@@ -106,19 +106,19 @@ impl<B: Bridge> NetworkOf<B> {
     }
 
     /// Both ends of a link get their metrics.
-    pub(crate) fn meter_over(&mut self, link: DeclaredLink) -> Result<(), NoMemory>
+    pub(crate) fn set_end_metrics(&mut self, link: DeclaredLink) -> Result<(), NoMemory>
         requires order { IsInOrder B.shown self.old }
         requires link { IsLink self.old.world.bridges link }
         ensures state { OnOk result (state_of B.shown self.new
-            ≡ event.metered_over (state_of B.shown self.old) link) }
+            ≡ event.with_metrics_over (state_of B.shown self.old) link) }
         ensures order { OnOk result (IsInOrder B.shown self.new) }
     {
-        self.meter(link.a)?;
-        self.meter(link.b)
+        self.set_end_metric(link.a)?;
+        self.set_end_metric(link.b)
     }
 
     /// An end of the link at a place gets another metric, which its bridge is told.
-    #[tactic(auto, unfolding(crate::specs::Events::remetered))]
+    #[tactic(auto, unfolding(crate::specs::Events::with_metric_changed))]
     pub(crate) fn set_metric(
         &mut self,
         place: usize,
@@ -128,13 +128,13 @@ impl<B: Bridge> NetworkOf<B> {
         requires order { IsInOrder B.shown self.old }
         requires metric { IsMetric metric }
         ensures state { OnOk result (state_of B.shown self.new
-            ≡ event.remetered (state_of B.shown self.old) place side metric) }
+            ≡ event.with_metric_changed (state_of B.shown self.old) place side metric) }
         ensures order { OnOk result (IsInOrder B.shown self.new) }
     {
         self.world.set_metric(place, side, metric);
         match self.world.link(place) {
             None => Ok(()),
-            Some(link) => self.meter(ways::end_on(&link, side)),
+            Some(link) => self.set_end_metric(link_ends::end_on(&link, side)),
         }
     }
 
@@ -148,7 +148,7 @@ impl<B: Bridge> NetworkOf<B> {
     {
         let link = self.world.link(place);
         self.world.set_live(place, true);
-        self.carry_over(link, true)
+        self.set_carriers(link, true)
     }
 
     /// The link at a place goes down.
@@ -162,54 +162,54 @@ impl<B: Bridge> NetworkOf<B> {
         let link = self.world.link(place);
         self.lanes.flush(place);
         self.world.set_live(place, false);
-        self.carry_over(link, false)
+        self.set_carriers(link, false)
     }
 
     /// The frame at the front of a lane is delivered. Nothing happens where there is none.
     #[tactic(auto, unfolding(crate::specs::Events::delivered))]
-    pub(crate) fn deliver(&mut self, way: LaneId) -> Result<(), NoMemory>
+    pub(crate) fn deliver(&mut self, lane: LaneId) -> Result<(), NoMemory>
         requires { IsInOrder B.shown self.old }
         ensures state { OnOk result (state_of B.shown self.new
-            ≡ event.delivered (state_of B.shown self.old) way.link way.dir) }
+            ≡ event.delivered (state_of B.shown self.old) lane.link lane.dir) }
         ensures order { OnOk result (IsInOrder B.shown self.new) }
     {
-        match self.lanes.pop(way) {
+        match self.lanes.pop(lane) {
             None => Ok(()),
-            Some(frame) => self.hear_over(way, frame.as_slice()),
+            Some(frame) => self.hear_over(lane, frame.as_slice()),
         }
     }
 
-    /// A frame comes to the far end of a way.
-    fn hear_over(&mut self, way: LaneId, frame: &[u8]) -> Result<(), NoMemory>
+    /// A frame comes to the far end of a lane.
+    fn hear_over(&mut self, lane: LaneId, frame: &[u8]) -> Result<(), NoMemory>
         requires { IsInOrder B.shown self.old }
         ensures state { OnOk result (state_of B.shown self.new
-            ≡ event.heard_over (state_of B.shown self.old) way.dir frame.now
-            (slice_get (links_of (state_of B.shown self.old)) way.link)) }
+            ≡ event.heard_over (state_of B.shown self.old) lane.dir frame.now
+            (slice_get (links_of (state_of B.shown self.old)) lane.link)) }
         ensures order { OnOk result (IsInOrder B.shown self.new) }
     {
-        match self.world.link(way.link) {
+        match self.world.link(lane.link) {
             None => Ok(()),
-            Some(link) => self.hear(ways::far_end(link, way.dir), frame),
+            Some(link) => self.hear(link_ends::far_end(link, lane.dir), frame),
         }
     }
 
     /// The frame at a place of a lane is lost. Nothing happens where there is none.
-    pub(crate) fn lose(&mut self, way: LaneId, place: usize)
+    pub(crate) fn lose(&mut self, lane: LaneId, place: usize)
         requires { IsInOrder B.shown self.old }
         ensures state { state_of B.shown self.new
-            ≡ event.lost (state_of B.shown self.old) way.link way.dir place }
+            ≡ event.lost (state_of B.shown self.old) lane.link lane.dir place }
         ensures order { IsInOrder B.shown self.new }
     {
-        self.lanes.lose(way, place);
+        self.lanes.lose(lane, place);
     }
 
     /// The frame at a place of a lane is doubled. Nothing happens where there is none.
-    pub(crate) fn double(&mut self, way: LaneId, place: usize) -> Result<(), NoMemory>
+    pub(crate) fn double(&mut self, lane: LaneId, place: usize) -> Result<(), NoMemory>
         requires { IsInOrder B.shown self.old }
         ensures state { OnOk result (state_of B.shown self.new
-            ≡ event.doubled (state_of B.shown self.old) way.link way.dir place) }
+            ≡ event.doubled (state_of B.shown self.old) lane.link lane.dir place) }
         ensures order { OnOk result (IsInOrder B.shown self.new) }
     {
-        self.lanes.double(way, place)
+        self.lanes.double(lane, place)
     }
 }

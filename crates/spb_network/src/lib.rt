@@ -1,10 +1,10 @@
 //! The network of bridges and links that commands declare and play.
 //!
 //! A [`Network`] owns a box for each declared bridge and reaches it through the trait `Bridge` alone; it names no
-//! implementation. What is declared stands in a [`World`]; beside it stand the boxes and, by the same place as the links,
-//! the two lanes of each link. [`NetworkOf::apply`] is one step of play, as `specs/Play.antt` says: a command that is
-//! refused names the first reason in order of number and changes nothing. What holds of a network at every moment stands
-//! in `specs/Sound.antt`, and is a clause of each call.
+//! implementation. What is declared stands in a [`World`]; beside it stand the boxes and, by the same place as the
+//! links, the two lanes of each link. [`NetworkOf::apply`] is one step of play, as `specs/Play.antt` says: a command
+//! that is refused names the first reason in order of number and changes nothing. What holds of a network at every
+//! moment stands in `specs/Sound.antt`, and is a clause of each call.
 //!
 //! **Costs.** A frame that is sent finds its link in constant time, and a name is found so on average. A
 //! round takes a call of each bridge and one for each frame that stands in a lane. A delivery of `drain` looks for the
@@ -31,6 +31,7 @@ mod graph;
 mod hints;
 mod kind_rule;
 mod laws;
+mod link_ends;
 mod network;
 mod play;
 mod questions;
@@ -38,5 +39,4 @@ mod rack;
 mod reason;
 mod refusing;
 mod rounds;
-mod ways;
 mod world;

@@ -68,8 +68,8 @@ impl<B: Bridge> NetworkOf<B> {
         self.rule = rule;
     }
 
-    /// The boxes of the declared bridges, in order of declaration: the network's own, and none is blank unless the network
-    /// halted. Takes no memory.
+    /// The boxes of the declared bridges, in order of declaration: the network's own, and none is blank unless the
+    /// network halted. Takes no memory.
     pub fn boxes(&self) -> &[B]
         ensures same { result.now ≡ self.now.boxes.items }
         ensures views { views_of B.shown result.now ≡ (state_of B.shown self.now).views }
@@ -80,11 +80,12 @@ impl<B: Bridge> NetworkOf<B> {
 
     /// Applies a command: one step of play from the present state.
     ///
-    /// `Halted` exactly where an earlier command found no memory, and `Refused` with the first reason that holds exactly
-    /// where one does. After both nothing is changed, and no memory was taken. After `NoMemory` the network is halted,
-    /// and nothing is said of its boxes and lanes.
+    /// `Halted` exactly where an earlier command found no memory, and `Refused` with the first reason that holds
+    /// exactly where one does. After both nothing is changed, and no memory was taken. After `NoMemory` the network is
+    /// halted, and nothing is said of its boxes and lanes.
     ///
-    /// A form that isn't played yet is accepted: it changes nothing but the count of accepted commands, and answers `Silent`.
+    /// A form that isn't played yet is accepted: it changes nothing but the count of accepted commands, and answers
+    /// `Silent`.
     pub fn apply(&mut self, command: &Command) -> Result<Answer, ApplyError>
         requires { IsReady B.shown self.old }
         ensures applies { Applies B.shown self.old command.now result self.new }

@@ -103,7 +103,7 @@ impl<B: Bridge> NetworkOf<B> {
         let place = self.lanes.links();
         let link = self.world.declare_link(name, i, port_a, j, port_b, cost)?;
         self.lanes.add_link()?;
-        self.meter_over(link)?;
+        self.set_end_metrics(link)?;
         self.switch_on(place)
     }
 
@@ -139,7 +139,7 @@ impl<B: Bridge> NetworkOf<B> {
         requires order { IsInOrder B.shown self.old }
         requires accepted { refuse.metric_refusal self.old.world name metric ≡ None }
         ensures state { OnOk result (state_of B.shown self.new
-            ≡ play.at_link (λ s k. event.remetered s k side metric) (state_of B.shown self.old) name) }
+            ≡ play.at_link (λ s k. event.with_metric_changed s k side metric) (state_of B.shown self.old) name) }
         ensures made { OnOk result (AreMade B.shown self.new.boxes.items) }
     {
         match self.world.link_place(name) {

@@ -138,7 +138,7 @@ impl<B: Bridge> NetworkOf<B> {
         let count = self.world.ports(place);
         match self.boxes.get(place) {
             None => Ok(Vec::new(self.alloc)),
-            Some(bridge) => boxes::told_ports(self.alloc, bridge, count),
+            Some(bridge) => boxes::adjacencies_of(self.alloc, bridge, count),
         }
     }
 }

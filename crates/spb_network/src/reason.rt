@@ -42,7 +42,7 @@ pub enum Reason {
 impl Reason {
     /// The number of the reason, 2 to 13.
     pub fn number(&self) -> u8
-        ensures { result ≡ reasons.number_of self.now }
+        ensures { result ≡ reasons.reason_number self.now }
     {
         match self {
             Reason::NoSuchName => 2,

@@ -25,14 +25,14 @@ impl<B: Bridge> NetworkOf<B> {
 
     /// As many frames of a lane are delivered as it holds.
     #[tactic(auto, unfolding(crate::specs::Events::lane_served))]
-    fn serve_lane(&mut self, way: LaneId) -> Result<(), NoMemory>
+    fn serve_lane(&mut self, lane: LaneId) -> Result<(), NoMemory>
         requires { IsInOrder B.shown self.old }
         ensures state { OnOk result (state_of B.shown self.new
-            ≡ event.lane_served (state_of B.shown self.old) way.link way.dir) }
+            ≡ event.lane_served (state_of B.shown self.old) lane.link lane.dir) }
         ensures order { OnOk result (IsInOrder B.shown self.new) }
     {
-        for _ in 0..self.lanes.frames(way) {
-            self.deliver(way)?;
+        for _ in 0..self.lanes.frames(lane) {
+            self.deliver(lane)?;
         }
         Ok(())
     }
@@ -94,10 +94,10 @@ impl<B: Bridge> NetworkOf<B> {
         ensures order { OnOk result (IsInOrder B.shown self.new) }
     {
         for _ in 0..n {
-            let Some(way) = self.lanes.first_full() else {
+            let Some(lane) = self.lanes.first_full() else {
                 return Ok(());
             };
-            self.deliver(way)?;
+            self.deliver(lane)?;
         }
         Ok(())
     }

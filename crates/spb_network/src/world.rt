@@ -1,10 +1,10 @@
 ghost use Rattle.std.specs.Prelude.{◌≡◌, [], ◌∷◌, ◌++◌, true, None, OnOk, OnErr};
-ghost use Rattle.spb_network.specs.Declaring.{is_new_name, switched, links_metered};
+ghost use Rattle.spb_network.specs.Declaring.{is_new_name, switched, links_with_metric};
 
 use crate::graph::{graph_bridges, graph_edges, system_at};
 use crate::hints::Hints;
 use crate::reason::reason_unless;
-use crate::{DeclaredBridge, DeclaredLink, LinkEnd, Reason, check, ways};
+use crate::{DeclaredBridge, DeclaredLink, LinkEnd, Reason, check, link_ends};
 use bridge_api::BridgeConfig;
 use fdb_build::tables_of;
 use indexmap::IndexMap;
@@ -42,7 +42,7 @@ impl World {
     ghost use Rattle.spb_network.specs.World as state;
     ghost use Rattle.spb_network.specs.World.{place_of, things_of};
     ghost use Rattle.spb_network.specs.Declaring as declare;
-    ghost use Rattle.spb_network.specs.State.{way_out, live_way, is_live};
+    ghost use Rattle.spb_network.specs.State.{lane_out, live_lane, is_live};
     ghost use Rattle.spb_network.specs.Play.{config_of};
     ghost use Rattle.bridge_api.specs.Config.{IsWhole, IsMetric};
 
@@ -97,30 +97,30 @@ impl World {
         }
     }
 
-    /// The way that the hint of a port gives, where that link ends there.
-    fn hinted_way(&self, bridge: usize, port: u8) -> Option<LaneId>
-        ensures { IfSome result (λ way. way_out (things_of self.now.links) bridge port ≡ Some way) }
+    /// The lane that the hint of a port gives, where that link ends there.
+    fn hinted_lane(&self, bridge: usize, port: u8) -> Option<LaneId>
+        ensures { IfSome result (λ lane. lane_out (things_of self.now.links) bridge port ≡ Some lane) }
     {
         let place = self.hints.link_at(bridge, port);
         match self.link(place) {
             None => None,
-            Some(link) => ways::way_of(place, &link, bridge, port),
+            Some(link) => link_ends::lane_of_link(place, &link, bridge, port),
         }
     }
 
-    /// The way out of a port of the bridge at a place, over a link that is up. None exactly where there is none.
-    pub fn live_way(&self, bridge: usize, port: u8) -> Option<LaneId>
-        ensures { result ≡ live_way (things_of self.now.links) (way_out (things_of self.now.links) bridge port) }
+    /// The lane out of a port of the bridge at a place, over a link that is up. None exactly where there is none.
+    pub fn live_lane(&self, bridge: usize, port: u8) -> Option<LaneId>
+        ensures { result ≡ live_lane (things_of self.now.links) (lane_out (things_of self.now.links) bridge port) }
     {
-        let way = match self.hinted_way(bridge, port) {
-            Some(way) => Some(way),
-            None => ways::way_out(&self.links, bridge, port),
+        let lane = match self.hinted_lane(bridge, port) {
+            Some(lane) => Some(lane),
+            None => link_ends::lane_out(&self.links, bridge, port),
         };
-        match way {
+        match lane {
             None => None,
-            Some(way) => {
-                if ways::is_live(&self.links, way.link) {
-                    Some(way)
+            Some(lane) => {
+                if link_ends::is_live(&self.links, lane.link) {
+                    Some(lane)
                 } else {
                     None
                 }
@@ -155,7 +155,7 @@ impl World {
     pub fn is_live(&self, place: usize) -> bool
         ensures { result ≡ is_live (things_of self.now.links) place }
     {
-        ways::is_live(&self.links, place)
+        link_ends::is_live(&self.links, place)
     }
 
     /// How many ports the bridge at a place has, 0 to 32; 0 past the last bridge.
@@ -206,7 +206,7 @@ impl World {
             .or(reason_unless(self.bridges.len() == 0, Reason::TooLate))
     }
 
-    /// Why a bridge can't be declared, if it can't, but for want of a box.
+    /// Why a bridge can't be declared, if it can't, but for the lack of a box.
     #[tactic(auto, unfolding(crate::specs::Declaring::bridge_refusal))]
     pub fn bridge_refusal(
         &self,
@@ -290,8 +290,8 @@ impl World {
         Ok(())
     }
 
-    /// Declares a link between the bridges at two places, which isn't refused and isn't up yet, and answers it. Its cost
-    /// is the metric of both ends. After NoMemory nothing changed.
+    /// Declares a link between the bridges at two places, which isn't refused and isn't up yet, and answers it. Its
+    /// cost is the metric of both ends. After NoMemory nothing changed.
     pub fn declare_link(
         &mut self,
         name: Name,
@@ -340,7 +340,7 @@ impl World {
         requires { IsMetric metric }
         ensures { self.new ≡ declare.with_end_metric side metric self.old place }
     {
-        meter(&mut self.links, place, side, metric);
+        set_end_metric(&mut self.links, place, side, metric);
     }
 }
 
@@ -365,11 +365,11 @@ fn switch(links: &mut IndexMap<Name, DeclaredLink>, place: usize, on: bool)
 }
 
 /// An end of the link at a place gets this metric.
-fn meter(links: &mut IndexMap<Name, DeclaredLink>, place: usize, side: Side, metric: u32)
-    ensures { links.new.entries ≡ links_metered side metric links.old.entries place }
+fn set_end_metric(links: &mut IndexMap<Name, DeclaredLink>, place: usize, side: Side, metric: u32)
+    ensures { links.new.entries ≡ links_with_metric side metric links.old.entries place }
 {
     match links.get_index_mut(place) {
         None => {}
-        Some(link) => ways::set_metric(link, side, metric),
+        Some(link) => link_ends::set_metric(link, side, metric),
     }
 }

@@ -8,7 +8,7 @@ use Rattle.scenario.specs.declared.line.FirstWord.{FirstWord}
 use Rattle.scenario.specs.Grammar.{head_of, line_of}
 use Rattle.spb_network.specs.declared.reason.Reason.{Reason}
 use Rattle.spb_network.specs.Play.{next_state, answer_of}
-use Rattle.spb_network.specs.Reason.{number_of, name_of}
+use Rattle.spb_network.specs.Reason.{reason_number, name_of}
 use Rattle.spb_network.specs.Refusing.{refusal_of}
 use Rattle.spb_network.specs.State.{State}
 use Rattle.spb_run.specs.Answer.{text_of_answer}
@@ -40,12 +40,25 @@ pub record Judged : Type 0 where
 
 -- a line that is outside the grammar at a column
 abbrev pub misspelled : State → ℕ → ℕ → Judged
-misspelled s number column = record { text = error_text number 1 (codes "Words") (Some column); refused = Some (refusal.Words column); state = s }
+misspelled s number column = record {
+  text = error_text number 1 (codes "Words") (Some column);
+  refused = Some (refusal.Words column);
+  state = s;
+}
 
 -- a command, by the reason for which it is refused
 abbrev pub judged_by : State → ℕ → Command → Option Reason → Judged
-judged_by s number command (Some reason) = record { text = error_text number (number_of reason) (name_of reason) None; refused = Some (refusal.Command reason); state = s }
-judged_by s number command None = record { text = text_of_answer (answer_of s command); refused = None; state = next_state s command }
+judged_by s number command (Some reason) =
+    record {
+      text = error_text number (reason_number reason) (name_of reason) None;
+      refused = Some (refusal.Command reason);
+      state = s;
+    }
+judged_by s number command None = record {
+  text = text_of_answer (answer_of s command);
+  refused = None;
+  state = next_state s command;
+}
 
 -- a line, by what it was read as
 abbrev pub judged_as : State → ℕ → Result (Option Command) ℕ → Judged
@@ -56,7 +69,8 @@ judged_as s number (Ok (Some command)) = judged_by s number command (refusal_of 
 -- a line, by its first word: one that begins no line that is played is refused, whatever follows
 abbrev pub judged_from : State → ℕ → List ℕ → Option FirstWord → Judged
 judged_from s number line None = judged_as s number (line_of line)
-judged_from s number line (Some first) = if is_played_word first.keyword then judged_as s number (line_of line) else misspelled s number first.column
+judged_from s number line (Some first) =
+    if is_played_word first.keyword then judged_as s number (line_of line) else misspelled s number first.column
 
 -- the line of this number, counted from 1, without its end
 unfoldable pub judged : State → ℕ → List ℕ → Judged

@@ -39,7 +39,7 @@ is_ended ReadFault = false
 is_ended WriteFault = false
 is_ended TooLong = false
 
--- whether the run was cut short while it wrote, or by want of memory
+-- whether the run was cut short while it wrote, or ran out of memory
 abbrev pub is_cut : Status → Bool
 is_cut NoMemory = true
 is_cut WriteFault = true

@@ -23,9 +23,10 @@ joined number line (Some why) rest = record { text = line.text; refused = Some (
 abbrev pub play : State → ℕ → List (List ℕ) → Played
 play s number [] = record { text = []; refused = None; state = s }
 play s number (line ∷ rest) =
-    joined number (judged s number line) (judged s number line).refused (play (judged s number line).state (number + 1) rest)
+    joined number (judged s number line) (judged s number line).refused
+    (play (judged s number line).state (number + 1) rest)
 
--- the lines of a script. A line ends with LF, and a CR right before that is passed over. The last may lack its LF
+-- the lines of a script. A line ends with LF, and a CR right before that is ignored. The last may lack its LF
 abbrev pub played : State → List ℕ → Played
 played s script = play s 1 (lines script)
 
@@ -45,7 +46,7 @@ status_of (Some stop) = Refused stop.0 stop.1
 abbrev pub text_of : State → List ℕ → List ℕ
 text_of s script = if is_too_long script then [] else (played s script).text
 
--- the status of a script, faults and want of memory aside
+-- the status of a script, faults and running out of memory aside
 abbrev pub fate_of : State → List ℕ → Status
 fate_of s script = if is_too_long script then TooLong else status_of (played s script).refused
 

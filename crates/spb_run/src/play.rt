@@ -51,7 +51,7 @@ fn misspelled(alloc: Global, number: u32, column: usize) -> Result<Reply, NoMemo
 
 /// The reply to a command that is refused.
 fn refused(alloc: Global, number: u32, reason: Reason) -> Result<Reply, NoMemory>
-    ensures { IfOk result (λ reply. (reply.text.items ≡ texts.error_text number (reasons.number_of reason) (reasons.name_of reason) None)
+    ensures { IfOk result (λ reply. (reply.text.items ≡ texts.error_text number (reasons.reason_number reason) (reasons.name_of reason) None)
         × (reply.refused ≡ Some (refusal.Command reason))) }
 {
     Ok(Reply {

@@ -173,7 +173,7 @@ pub fn run<B: Bridge, S: Source, K: Sink>(
     ensures reliable_source { IsTrue (S.is_reliable source.old) → result ≢ Status.ReadFault }
     ensures reliable_sink { IsTrue (K.is_reliable sink.old) → result ≢ Status.WriteFault }
 
-    // So over a source and a sink that don't fail, only memory can be wanting.
+    // So over a source and a sink that don't fail, only memory can run out.
     ensures complete { IsTrue (forms.is_run (map string_bytes words.now)) → IsTrue (S.is_reliable source.old) →
         IsTrue (K.is_reliable sink.old) → IfSome (S.left source.old) (λ script.
         (result ≡ fate_of (state_of B.shown network.old) script) ⊎ (result ≡ Status.NoMemory)) }

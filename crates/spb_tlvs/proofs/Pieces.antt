@@ -3,7 +3,7 @@ use Rattle.std.proofs.Common.{◌≡◌, ℕ, zero, suc, ◌+◌, ◌-◌, ◌�
 use Rattle.std.proofs.lemmas.List.{length-drop, length-append, length-take-le, get_or_append_left, get_or-take, take_at, drop_at, take-append-drop, append_assoc, nil_from_length}
 use Rattle.std.proofs.lemmas.Bool.{cases_Bool}
 use Rattle.std.proofs.lemmas.Bool.Decides.{nat_tests}
-use Rattle.spb_tlvs.specs.Piece.{piece_len, starts_whole, first_piece, after_first, pieces_within, left_within, pieces, left, ends_whole}
+use Rattle.spb_tlvs.specs.Piece.{piece_len, starts_whole, first_piece, after_first, pieces_within, after_pieces_within, pieces, after_pieces, ends_whole}
 
 -- a whole piece has its head, so the bytes after it are fewer
 pub len_of_whole : (head : ℕ) (bytes : List ℕ) → starts_whole head bytes ≡ true → (head ≤ length bytes) × (piece_len head bytes ≤ length bytes)
@@ -32,8 +32,8 @@ same_pieces (suc n) (suc m) head bytes low p q =
       | inr e ↦ rw e refl
     ]
 
-same_left : (n m head : ℕ) (bytes : List ℕ) → 1 ≤ head → length bytes ≤ n → length bytes ≤ m → left_within n head bytes ≡ left_within m head bytes
-unfolding left_within
+same_left : (n m head : ℕ) (bytes : List ℕ) → 1 ≤ head → length bytes ≤ n → length bytes ≤ m → after_pieces_within n head bytes ≡ after_pieces_within m head bytes
+unfolding after_pieces_within
 same_left zero zero head bytes low p q = refl
 same_left zero (suc m) head bytes low p q = rw (none_in_few head bytes (omega arith)) refl
 same_left (suc n) zero head bytes low p q = rw (none_in_few head bytes (omega arith)) refl
@@ -47,9 +47,9 @@ pieces_within-suc : (n head : ℕ) (bytes : List ℕ) → starts_whole head byte
 unfolding pieces_within
 pieces_within-suc n head bytes e = rw e refl
 
-left_within-suc : (n head : ℕ) (bytes : List ℕ) → starts_whole head bytes ≡ true → left_within (suc n) head bytes ≡ left_within n head (after_first head bytes)
-unfolding left_within
-left_within-suc n head bytes e = rw e refl
+after_pieces_within-suc : (n head : ℕ) (bytes : List ℕ) → starts_whole head bytes ≡ true → after_pieces_within (suc n) head bytes ≡ after_pieces_within n head (after_first head bytes)
+unfolding after_pieces_within
+after_pieces_within-suc n head bytes e = rw e refl
 
 -- where a whole piece stands at the front
 pub pieces_more : (head : ℕ) (bytes : List ℕ) → 1 ≤ head → starts_whole head bytes ≡ true → pieces head bytes ≡ first_piece head bytes ∷ pieces head (after_first head bytes)
@@ -58,11 +58,11 @@ pieces_more head bytes low e =
     let h = after_is_shorter head bytes low e in
     same_pieces (length bytes) (suc (length bytes)) head bytes low (omega arith) (omega arith) ∙ pieces_within-suc (length bytes) head bytes e ∙ ap (λ (ps : List (List ℕ)). first_piece head bytes ∷ ps) (same_pieces (length bytes) (length (after_first head bytes)) head (after_first head bytes) low (omega arith) (omega arith))
 
-pub left_more : (head : ℕ) (bytes : List ℕ) → 1 ≤ head → starts_whole head bytes ≡ true → left head bytes ≡ left head (after_first head bytes)
-unfolding left
-left_more head bytes low e =
+pub after_pieces_more : (head : ℕ) (bytes : List ℕ) → 1 ≤ head → starts_whole head bytes ≡ true → after_pieces head bytes ≡ after_pieces head (after_first head bytes)
+unfolding after_pieces
+after_pieces_more head bytes low e =
     let h = after_is_shorter head bytes low e in
-    same_left (length bytes) (suc (length bytes)) head bytes low (omega arith) (omega arith) ∙ left_within-suc (length bytes) head bytes e ∙ same_left (length bytes) (length (after_first head bytes)) head (after_first head bytes) low (omega arith) (omega arith)
+    same_left (length bytes) (suc (length bytes)) head bytes low (omega arith) (omega arith) ∙ after_pieces_within-suc (length bytes) head bytes e ∙ same_left (length bytes) (length (after_first head bytes)) head (after_first head bytes) low (omega arith) (omega arith)
 
 -- where none stands there
 pieces_within-none : (n head : ℕ) (bytes : List ℕ) → starts_whole head bytes ≡ false → pieces_within n head bytes ≡ []
@@ -70,18 +70,18 @@ unfolding pieces_within
 pieces_within-none zero head bytes e = refl
 pieces_within-none (suc n) head bytes e = rw e refl
 
-left_within-none : (n head : ℕ) (bytes : List ℕ) → starts_whole head bytes ≡ false → left_within n head bytes ≡ bytes
-unfolding left_within
-left_within-none zero head bytes e = refl
-left_within-none (suc n) head bytes e = rw e refl
+after_pieces_within-none : (n head : ℕ) (bytes : List ℕ) → starts_whole head bytes ≡ false → after_pieces_within n head bytes ≡ bytes
+unfolding after_pieces_within
+after_pieces_within-none zero head bytes e = refl
+after_pieces_within-none (suc n) head bytes e = rw e refl
 
 pub pieces_none : (head : ℕ) (bytes : List ℕ) → starts_whole head bytes ≡ false → pieces head bytes ≡ []
 unfolding pieces
 pieces_none head bytes e = pieces_within-none (length bytes) head bytes e
 
-pub left_none : (head : ℕ) (bytes : List ℕ) → starts_whole head bytes ≡ false → left head bytes ≡ bytes
-unfolding left
-left_none head bytes e = left_within-none (length bytes) head bytes e
+pub after_pieces_none : (head : ℕ) (bytes : List ℕ) → starts_whole head bytes ≡ false → after_pieces head bytes ≡ bytes
+unfolding after_pieces
+after_pieces_none head bytes e = after_pieces_within-none (length bytes) head bytes e
 
 -- no bytes have no pieces, and are whole
 pub nothing_is_piece : (head : ℕ) → 1 ≤ head → pieces head [] ≡ []
@@ -89,7 +89,7 @@ nothing_is_piece head low = pieces_none head [] (none_in_few head [] (omega arit
 
 pub nothing_is_whole : (head : ℕ) → 1 ≤ head → ends_whole head [] ≡ true
 unfolding ends_whole
-nothing_is_whole head low = rw (left_none head [] (none_in_few head [] (omega arith))) refl
+nothing_is_whole head low = rw (after_pieces_none head [] (none_in_few head [] (omega arith))) refl
 
 -- ---- pieces joined
 
@@ -108,14 +108,14 @@ pieces_before head piece rest low long len =
     let p = piece_before head piece rest low long len in
     pieces_more head (piece ++ rest) low p.0 ∙ rw (p.1, p.2) refl
 
-pub left_before : (head : ℕ) (piece rest : List ℕ) → 1 ≤ head → head ≤ length piece → piece_len head piece ≡ length piece → left head (piece ++ rest) ≡ left head rest
-left_before head piece rest low long len =
+pub after_pieces_before : (head : ℕ) (piece rest : List ℕ) → 1 ≤ head → head ≤ length piece → piece_len head piece ≡ length piece → after_pieces head (piece ++ rest) ≡ after_pieces head rest
+after_pieces_before head piece rest low long len =
     let p = piece_before head piece rest low long len in
-    left_more head (piece ++ rest) low p.0 ∙ ap (left head) p.2
+    after_pieces_more head (piece ++ rest) low p.0 ∙ ap (after_pieces head) p.2
 
 pub whole_before : (head : ℕ) (piece rest : List ℕ) → 1 ≤ head → head ≤ length piece → piece_len head piece ≡ length piece → ends_whole head (piece ++ rest) ≡ ends_whole head rest
 unfolding ends_whole
-whole_before head piece rest low long len = ap (λ (xs : List ℕ). eqb (length xs) 0) (left_before head piece rest low long len)
+whole_before head piece rest low long len = ap (λ (xs : List ℕ). eqb (length xs) 0) (after_pieces_before head piece rest low long len)
 
 -- the piece at the front is a piece by itself
 front_is_piece : (head : ℕ) (bytes : List ℕ) → 1 ≤ head → starts_whole head bytes ≡ true → (head ≤ length (first_piece head bytes)) × (piece_len head (first_piece head bytes) ≡ length (first_piece head bytes))
@@ -129,7 +129,7 @@ front_is_piece head bytes low e =
 joined_empty : (head : ℕ) (front rest : List ℕ) → 1 ≤ head → front ≡ [] → pieces head (front ++ rest) ≡ pieces head front ++ pieces head rest
 joined_empty head front rest low e = rw (e, pieces_none head [] (none_in_few head [] (omega arith))) refl
 
-joined_within : (n head : ℕ) (front rest : List ℕ) → 1 ≤ head → length front ≤ n → length (left head front) ≡ 0 → pieces head (front ++ rest) ≡ pieces head front ++ pieces head rest
+joined_within : (n head : ℕ) (front rest : List ℕ) → 1 ≤ head → length front ≤ n → length (after_pieces head front) ≡ 0 → pieces head (front ++ rest) ≡ pieces head front ++ pieces head rest
 joined_within zero head front rest low bound whole = joined_empty head front rest low (nil_from_length front (omega arith))
 joined_within (suc n) head front rest low bound whole =
     elim (cases_Bool (starts_whole head front)) [
@@ -139,10 +139,10 @@ joined_within (suc n) head front rest low bound whole =
           let parts : front ≡ first_piece head front ++ after_first head front = sym (take-append-drop (piece_len head front) front) in
           let more : pieces head (front ++ rest) ≡ first_piece head front ∷ pieces head (after_first head front ++ rest) =
           ap (λ (xs : List ℕ). pieces head (xs ++ rest)) parts ∙ ap (pieces head) (append_assoc (first_piece head front) (after_first head front) rest) ∙ pieces_before head (first_piece head front) (after_first head front ++ rest) low p.0 p.1 in
-          let later = joined_within n head (after_first head front) rest low (omega arith) (ap length (sym (left_more head front low e)) ∙ whole) in
+          let later = joined_within n head (after_first head front) rest low (omega arith) (ap length (sym (after_pieces_more head front low e)) ∙ whole) in
           more ∙ rw (later, pieces_more head front low e) refl
-      | inr e ↦ joined_empty head front rest low (nil_from_length front (ap length (sym (left_none head front e)) ∙ whole))
+      | inr e ↦ joined_empty head front rest low (nil_from_length front (ap length (sym (after_pieces_none head front e)) ∙ whole))
     ]
 
-pub pieces_join : (head : ℕ) (front rest : List ℕ) → 1 ≤ head → length (left head front) ≡ 0 → pieces head (front ++ rest) ≡ pieces head front ++ pieces head rest
+pub pieces_join : (head : ℕ) (front rest : List ℕ) → 1 ≤ head → length (after_pieces head front) ≡ 0 → pieces head (front ++ rest) ≡ pieces head front ++ pieces head rest
 pieces_join head front rest low whole = joined_within (length front) head front rest low (omega arith) whole

@@ -2,15 +2,15 @@
 use Rattle.std.proofs.Common.{◌≡◌, ℕ, ◌≤◌, Bool, true, false, ◌&&◌, eqb, List, length, refl, sym, ◌∙◌, arith}
 use Rattle.spb_tlvs.specs.Piece.{starts_whole, first_piece, after_first, ends_whole}
 use Rattle.spb_tlvs.specs.Tlv.{Tlv, tlv_of, are_whole}
-use Rattle.spb_tlvs.proofs.Pieces.{pieces_more, pieces_none, left_more, left_none}
+use Rattle.spb_tlvs.proofs.Pieces.{pieces_more, pieces_none, after_pieces_more, after_pieces_none}
 
 pub whole_more : (head : ℕ) (bytes : List ℕ) → 1 ≤ head → starts_whole head bytes ≡ true → ends_whole head bytes ≡ ends_whole head (after_first head bytes)
 unfolding ends_whole
-whole_more head bytes low e = rw (left_more head bytes low e) refl
+whole_more head bytes low e = rw (after_pieces_more head bytes low e) refl
 
 pub whole_none : (head : ℕ) (bytes : List ℕ) → starts_whole head bytes ≡ false → ends_whole head bytes ≡ eqb (length bytes) 0
 unfolding ends_whole
-whole_none head bytes e = rw (left_none head bytes e) refl
+whole_none head bytes e = rw (after_pieces_none head bytes e) refl
 
 -- the first TLV passes, the first one fails, or there is none
 pub passes : (test : Tlv → Bool) (bytes piece after : List ℕ) (r : Bool) → starts_whole 2 bytes ≡ true → piece ≡ first_piece 2 bytes → after ≡ after_first 2 bytes → test (tlv_of piece) ≡ true → are_whole test bytes ≡ r → are_whole test after ≡ r

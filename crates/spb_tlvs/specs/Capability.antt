@@ -40,16 +40,18 @@ trees_in value = first_chunks 8 (u8_at value 18) (drop 19 value)
 abbrev pub base_vid_of : List ℕ → ℕ
 base_vid_of tree = u24_at tree 5 / 4096
 
--- whether the ECT-ALGORITHM is 00-80-C2-01 to 00-80-C2-10; other trees are passed over
+-- whether the ECT-ALGORITHM is 00-80-C2-01 to 00-80-C2-10; other trees are ignored
 abbrev pub is_known : List ℕ → Bool
 is_known tree = nat_le 0x0080c201 (u32_at tree 1) && nat_le (u32_at tree 1) 0x0080c210
 
 abbrev pub plan_of : List ℕ → Option VidPlan
-plan_of tree = if is_known tree then Some (record { vid = record { value = base_vid_of tree }; ect = u32_at tree 1 - 0x0080c200 }) else None
+plan_of tree = if is_known tree then Some
+    (record { vid = record { value = base_vid_of tree }; ect = u32_at tree 1 - 0x0080c200 }) else None
 
--- what a value says: the reserved bits, the V bit, and the CIST fields are passed over
+-- what a value says: the reserved bits, the V bit, and the CIST fields are ignored
 abbrev pub inst_of : List ℕ → Capability
-inst_of value = Inst (u16_at value 12) (record { value = u32_at value 14 % SOURCE_IDS }) (filter_map plan_of (trees_in value))
+inst_of value = Inst (u16_at value 12) (record { value = u32_at value 14 % SOURCE_IDS })
+    (filter_map plan_of (trees_in value))
 
 -- ---- SPBM-SI
 
@@ -71,15 +73,20 @@ services_value mac vid services = services_fields mac vid ++ flat_map service_by
 abbrev pub service_vid_of : List ℕ → ℕ
 service_vid_of value = u16_at value 6 % 4096
 
--- a service by its four bytes. I-SID 0 is passed over
+-- a service by its four bytes. I-SID 0 is ignored
 abbrev pub service_of : List ℕ → Option Service
 service_of bytes =
     if u24_at bytes 1 == 0
     then None
-    else Some (record { isid = record { value = u24_at bytes 1 }; transmit = nat_le 128 (u8_at bytes 0); receive = nat_le 64 (u8_at bytes 0 % 128) })
+    else Some (record {
+      isid = record { value = u24_at bytes 1 };
+      transmit = nat_le 128 (u8_at bytes 0);
+      receive = nat_le 64 (u8_at bytes 0 % 128);
+    })
 
 abbrev pub services_of : List ℕ → Capability
-services_of value = Services (mac_at value 0) (record { value = service_vid_of value }) (filter_map service_of (first_chunks 4 ((length value - 8) / 4) (drop 8 value)))
+services_of value = Services (mac_at value 0) (record { value = service_vid_of value })
+    (filter_map service_of (first_chunks 4 ((length value - 8) / 4) (drop 8 value)))
 
 -- ---- the TLV
 
@@ -100,7 +107,7 @@ capability_value c = 0 ∷ 0 ∷ sub_tlv c
 abbrev pub mt_id_of : List ℕ → ℕ
 mt_id_of value = u16_at value 0 % 4096
 
--- whether a sub-TLV has room for its fields; one of another code is passed over
+-- whether a sub-TLV has room for its fields; one of another code is ignored
 abbrev pub is_sub_whole : Tlv → Bool
 is_sub_whole t =
     if t.code == 1 then nat_le 19 (length t.value) && nat_le (19 + 8 * u8_at t.value 18) (length t.value)
@@ -114,7 +121,7 @@ is_outside vid = not (nat_le 1 vid && nat_le vid GREATEST_VID)
 abbrev pub is_tree_outside : List ℕ → Bool
 is_tree_outside tree = is_known tree && is_outside (base_vid_of tree)
 
--- whether a sub-TLV has such a base VID, in an SPBM-SI or in a tree that isn't passed over
+-- whether a sub-TLV has such a base VID, in an SPBM-SI or in a tree that isn't ignored
 abbrev pub has_outside : Tlv → Bool
 has_outside t =
     if t.code == 1 then list_any is_tree_outside (trees_in t.value)

@@ -13,7 +13,12 @@ abbrev pub entry_bytes : SnpEntry → List ℕ
 entry_bytes e = two e.lifetime ++ lsp_id_bytes e.id ++ four e.seq ++ two e.sum
 
 abbrev pub entry_at : List ℕ → SnpEntry
-entry_at bytes = record { lifetime = u16_at bytes 0; id = lsp_id_at bytes 2; seq = u32_at bytes 10; sum = u16_at bytes 14 }
+entry_at bytes = record {
+  lifetime = u16_at bytes 0;
+  id = lsp_id_at bytes 2;
+  seq = u32_at bytes 10;
+  sum = u16_at bytes 14;
+}
 
 -- the value of entries: one after another
 abbrev pub entries_value : List SnpEntry → List ℕ
@@ -21,4 +26,5 @@ entries_value es = flat_map entry_bytes es
 
 -- what a value says: so many whole entries, and nothing else
 abbrev pub entries_of : List ℕ → Result (List SnpEntry) TlvError
-entries_of value = if length value % 16 == 0 then Ok (map entry_at (first_chunks 16 (length value / 16) value)) else Err Cut
+entries_of value =
+    if length value % 16 == 0 then Ok (map entry_at (first_chunks 16 (length value / 16) value)) else Err Cut

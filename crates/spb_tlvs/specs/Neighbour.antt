@@ -40,7 +40,7 @@ abbrev pub is_entry_whole : List ℕ → Bool
 is_entry_whole entry = are_whole is_metric_whole (sub_tlvs_of entry)
 
 -- the neighbour that an entry names by its first SPB link metric. An entry without one, or of a pseudonode, is
--- passed over; so is the entry's own metric
+-- ignored; so is the entry's own metric
 abbrev pub neighbour_at : List ℕ → List ℕ → Neighbour
 neighbour_at entry metric = record { system = system_at entry 0; metric = u24_at metric 0; port = u16_at metric 4 }
 

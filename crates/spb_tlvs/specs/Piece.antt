@@ -21,20 +21,22 @@ after_first head bytes = drop (piece_len head bytes) bytes
 -- the whole pieces from the front on, of at most n, and the bytes after them
 unfoldable pub pieces_within : ℕ → ℕ → List ℕ → List (List ℕ)
 pieces_within zero head bytes = []
-pieces_within (suc n) head bytes = if starts_whole head bytes then first_piece head bytes ∷ pieces_within n head (after_first head bytes) else []
+pieces_within (suc n) head bytes =
+    if starts_whole head bytes then first_piece head bytes ∷ pieces_within n head (after_first head bytes) else []
 
-unfoldable pub left_within : ℕ → ℕ → List ℕ → List ℕ
-left_within zero head bytes = bytes
-left_within (suc n) head bytes = if starts_whole head bytes then left_within n head (after_first head bytes) else bytes
+unfoldable pub after_pieces_within : ℕ → ℕ → List ℕ → List ℕ
+after_pieces_within zero head bytes = bytes
+after_pieces_within (suc n) head bytes =
+    if starts_whole head bytes then after_pieces_within n head (after_first head bytes) else bytes
 
 -- all the whole pieces from the front on: there are no more of them than bytes
 unfoldable pub pieces : ℕ → List ℕ → List (List ℕ)
 pieces head bytes = pieces_within (length bytes) head bytes
 
 -- the bytes after them, at whose front no whole piece stands
-unfoldable pub left : ℕ → List ℕ → List ℕ
-left head bytes = left_within (length bytes) head bytes
+unfoldable pub after_pieces : ℕ → List ℕ → List ℕ
+after_pieces head bytes = after_pieces_within (length bytes) head bytes
 
 -- whether the bytes are whole pieces and nothing else
 unfoldable pub ends_whole : ℕ → List ℕ → Bool
-ends_whole head bytes = length (left head bytes) == 0
+ends_whole head bytes = length (after_pieces head bytes) == 0

@@ -62,13 +62,14 @@ NeighboursAgain = (ns : List Neighbour) → AllByRecursion IsNeighbour ns → ne
 abbrev pub CapabilityAgain : Type 0
 CapabilityAgain = (c : Capability) → IsCapability c → IsHeld c → capabilities_of (capability_value c) ≡ Ok (c ∷ [])
 
--- ---- what was read is written to the same bytes: each value of these two TLVs, since no byte of it is passed over
+-- ---- what was read is written to the same bytes: each value of these two TLVs, since no byte of it is ignored
 
 abbrev pub ThreeWaySame : Type 0
 ThreeWaySame = (value : List ℕ) (w : ThreeWay) → AreBytes value → three_way_of value ≡ Ok w → three_way_value w ≡ value
 
 abbrev pub EntriesSame : Type 0
-EntriesSame = (value : List ℕ) (es : List SnpEntry) → AreBytes value → entries_of value ≡ Ok es → entries_value es ≡ value
+EntriesSame = (value : List ℕ) (es : List SnpEntry) → AreBytes value → entries_of value ≡ Ok es
+    → entries_value es ≡ value
 
 -- and of the others each value that a writer appends
 
@@ -88,11 +89,13 @@ TlvHere = (code : ℕ) (value rest : List ℕ) → values_with code (tlv code va
 
 -- and not by another code
 abbrev pub TlvElsewhere : Type 0
-TlvElsewhere = (code other : ℕ) (value rest : List ℕ) → code ≢ other → values_with other (tlv code value ++ rest) ≡ values_with other rest
+TlvElsewhere = (code other : ℕ) (value rest : List ℕ) → code ≢ other
+    → values_with other (tlv code value ++ rest) ≡ values_with other rest
 
 -- the TLVs of whole TLVs and what follows them are the TLVs of both
 abbrev pub TlvsJoin : Type 0
-TlvsJoin = (code : ℕ) (front rest : List ℕ) → ends_whole 2 front ≡ true → values_with code (front ++ rest) ≡ values_with code front ++ values_with code rest
+TlvsJoin = (code : ℕ) (front rest : List ℕ) → ends_whole 2 front ≡ true
+    → values_with code (front ++ rest) ≡ values_with code front ++ values_with code rest
 
 -- TLVs one after another are whole
 abbrev pub TlvIsWhole : Type 0

@@ -24,5 +24,6 @@ neighbour_in value = if length value == 15 then Some (system_at value 5, u32_at 
 abbrev pub three_way_of : List ℕ → Result ThreeWay TlvError
 three_way_of value =
     if length value == 5 || length value == 15
-    then (if nat_le (u8_at value 0) 2 then Ok (record { state = u8_at value 0; circuit = u32_at value 1; neighbour = neighbour_in value }) else Err Range)
+    then (if nat_le (u8_at value 0) 2 then Ok
+    (record { state = u8_at value 0; circuit = u32_at value 1; neighbour = neighbour_in value }) else Err Range)
     else Err Cut

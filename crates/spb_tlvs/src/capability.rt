@@ -51,7 +51,7 @@ const SPBM_SI: u8 = 3;
 const ECT_BASE: u32 = 0x0080_c200;
 
 /// Reads the value of a TLV 144 (RFC 6329, 14): its SPB-Inst and SPBM-SI sub-TLVs in order. Other sub-TLVs, trees of
-/// another ECT-ALGORITHM than 00-80-C2-01 to 00-80-C2-10, and I-SID 0 are passed over, and so is the whole value where
+/// another ECT-ALGORITHM than 00-80-C2-01 to 00-80-C2-10, and I-SID 0 are ignored, and so is the whole value where
 /// its MT id isn't 0. `Cut` where the value has fewer than 2 bytes, a sub-TLV isn't whole, an SPB-Inst has fewer than
 /// 19 bytes and 8 for each tree, or an SPBM-SI has fewer than 8 bytes or a rest that is no multiple of 4; else `Range`
 /// where a base VID is 0 or 4095.

@@ -1,3 +1,5 @@
+//! The laws of TLVs: what is written is read, and what is read is written to the same bytes. Each is the contract of a
+//! function that does nothing.
 ghost use Rattle.spb_tlvs.specs.RoundTrip as law;
 
 /// A TLV 240 that was written is read as what was written.

@@ -2,7 +2,7 @@
 //! neighbours of a bridge, and its SPB capabilities.
 //!
 //! What is written has one spelling. A reader answers with the value or with the first refusal that holds, on every
-//! byte string, and passes over what it doesn't know.
+//! byte string, and ignores what it doesn't know.
 //!
 //! A reader takes time in proportion to the bytes, and memory for the list that it answers. A writer takes memory
 //! for the bytes that it appends alone. [`split_tlv`], [`find_tlv`] and [`read_three_way`] take none.

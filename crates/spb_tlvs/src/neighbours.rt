@@ -33,7 +33,7 @@ const ENTRY_HEAD: usize = 11;
 const METRIC_LEN: usize = 6;
 
 /// Reads the value of a TLV 22 (RFC 5305, 3): in order, the neighbours that its entries name by an SPB link metric, the
-/// first of the entry (RFC 6329, 15.1). An entry without one, or of a pseudonode, is passed over. `Cut` exactly where
+/// first of the entry (RFC 6329, 15.1). An entry without one, or of a pseudonode, is ignored. `Cut` exactly where
 /// an entry or one of its sub-TLVs isn't whole, or an SPB link metric has fewer than 6 bytes.
 pub fn read_neighbours(alloc: Global, value: &[u8]) -> Result<Vec<Neighbour>, TlvError>
     ensures { Reads result (spec.neighbours_of value.now) }

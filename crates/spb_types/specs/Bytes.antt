@@ -24,7 +24,11 @@ abbrev pub system_at : List ℕ → ℕ → SystemId
 system_at bytes i = record { mac = mac_at bytes i }
 
 abbrev pub lsp_id_at : List ℕ → ℕ → LspId
-lsp_id_at bytes i = record { system = system_at bytes i; pseudonode = u8_at bytes (i + 6); number = u8_at bytes (i + 7) }
+lsp_id_at bytes i = record {
+  system = system_at bytes i;
+  pseudonode = u8_at bytes (i + 6);
+  number = u8_at bytes (i + 7);
+}
 
 -- the bytes of an LSP id: the system, its pseudonode, and the number of the fragment (ISO/IEC 10589, 9.8)
 abbrev pub lsp_id_bytes : LspId → List ℕ

@@ -16,7 +16,8 @@ pub record IsPadded (bytes : List ℕ) (len : ℕ) : Type 0 where
 pub padded_len : (bytes : List ℕ) (len : ℕ) → IsPadded bytes len → length (take len bytes) ≡ len
 padded_len bytes len h = length-take-le len bytes (omega (arith, h.full, h.within))
 
-pub padded_bytes : (bytes : List ℕ) (len : ℕ) → IsPadded bytes len → take len bytes ++ replicate (16 - length (take len bytes)) 0 ≡ bytes
+pub padded_bytes : (bytes : List ℕ) (len : ℕ) → IsPadded bytes len
+    → take len bytes ++ replicate (16 - length (take len bytes)) 0 ≡ bytes
 padded_bytes bytes len h = rw (padded_len bytes len h) (sym h.zeros)
 
 -- a name has at most 16 bytes
@@ -25,7 +26,8 @@ name_len [] h = omega arith
 name_len (byte ∷ bytes) h = grind (arith, nat_tests)
 
 -- a name with zeros behind it is kept so
-pub IsPadded-made : (name : List ℕ) → IsTrue (is_name name) → IsPadded (name ++ drop (length name) (replicate 16 0)) (length name)
+pub IsPadded-made : (name : List ℕ) → IsTrue (is_name name)
+    → IsPadded (name ++ drop (length name) (replicate 16 0)) (length name)
 IsPadded-made name h =
     let within : length name ≤ 16 = name_len name h in
     let front : take (length name) (name ++ drop (length name) (replicate 16 0)) ≡ name = take-append_seam name _ in

@@ -4,7 +4,7 @@ ghost use Rattle.spb_types.specs.Ect.{mask_of};
 use crate::limits::GREATEST_ECT;
 
 /// The mask of an ECT algorithm by its number, 1 to 16: each byte of a bridge id is XORed with it before path
-/// ids are compared (IEEE 802.1aq, 28.8). The masks stand in the order of RFC 6329, 4.2.
+/// ids are compared (IEEE 802.1aq, 28.8). The masks stand in the order of RFC 6329, 12.
 pub fn ect_mask(number: u8) -> u8
     requires low { 1 ≤ number }
     requires high { number ≤ GREATEST_ECT }

@@ -63,15 +63,26 @@ pub fn lsp_id_in(bytes: &[u8], at: usize) -> LspId
 #[cfg(test)]
 mod tests {
     use super::*;
+    use std::process::Abort;
+
+    fn check(rt: &impl Abort, found: u32, expected: u32) {
+        assert_eq!(*rt; found, expected);
+    }
+
+    fn check_mac(rt: &impl Abort, mac: Mac, expected: [u8; 6]) {
+        assert_eq!(*rt; mac.bytes, expected);
+    }
 
     #[test]
     fn fields_are_read_from_their_place_on(rt: HostRuntime) {
         let bytes = [9, 1, 2, 3, 4, 5, 6, 7, 8];
-        assert_eq!(rt; (u16_in(&bytes, 1), u24_in(&bytes, 1)), (0x0102, 0x01_0203));
-        assert_eq!(rt; u32_in(&bytes, 5), 0x0506_0708);
+        check(&rt, u32::from(u16_in(&bytes, 1)), 0x0102);
+        check(&rt, u24_in(&bytes, 1), 0x01_0203);
+        check(&rt, u32_in(&bytes, 5), 0x0506_0708);
         let id = lsp_id_in(&bytes, 1);
-        assert_eq!(rt; id.system.mac.bytes, [1, 2, 3, 4, 5, 6]);
-        assert_eq!(rt; (id.pseudonode, id.number), (7, 8));
-        assert_eq!(rt; mac_in(&bytes, 0).bytes, [9, 1, 2, 3, 4, 5]);
+        check_mac(&rt, id.system.mac, [1, 2, 3, 4, 5, 6]);
+        check(&rt, u32::from(id.pseudonode), 7);
+        check(&rt, u32::from(id.number), 8);
+        check_mac(&rt, mac_in(&bytes, 0), [9, 1, 2, 3, 4, 5]);
     }
 }

@@ -1,8 +1,8 @@
 //! The laws of sets of ports. Each is the contract of a function that does nothing.
 ghost use Rattle.spb_types.specs.PortLaws.{NoneIsInTheEmpty, PutInIsThere, PuttingInLeavesOthers, TakenOutIsGone, TakingOutLeavesOthers, MembersArePorts, SamePortsAreOneSet};
 
-/// A port that is put into a set is there, one that is taken out isn't, and every other is where it was. The empty set has
-/// no port, what is in a set is 1 to 32, and sets with the same ports are one.
+/// A port that is put into a set is there, one that is taken out isn't, and every other is where it was. The empty set
+/// has no port, what is in a set is 1 to 32, and sets with the same ports are one.
 pub fn sets_of_ports_are_sets()
     ensures empty { NoneIsInTheEmpty }
     ensures put_in { PutInIsThere }

@@ -1,7 +1,7 @@
 //! Identities, the graph of a backbone and the tables of a bridge: the words that every other crate uses.
 //!
-//! A value is `Copy` where it is small, and each list is a [`Seq`], which contracts see as the list of its items.
-//! Only `Seq::push` takes memory, and moves the items where there is no room left. `Name::new` reads its at most 16 bytes,
+//! A value is `Copy` where it is small, and each list is a [`Seq`], which contracts see as the list of its items. Only
+//! `Seq::push` takes memory, and moves the items where there is no room left. `Name::new` reads its at most 16 bytes,
 //! and `Seq::truncate` drops items; each other call takes constant time.
 #![tactic(auto)]
 

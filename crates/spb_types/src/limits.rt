@@ -15,7 +15,7 @@ pub const MOST_CUSTOMER_PORTS: u16 = 64;
 /// The most service instances that a bridge has attached ports in.
 pub const MOST_ISIDS: usize = 60;
 
-/// The most base VIDs of a bridge: the SPB Instance sub-TLV has 16 trees at the most (RFC 6329, 16).
+/// The most base VIDs of a bridge: the SPB Instance sub-TLV has 16 trees at the most (RFC 6329, 14.1).
 pub const MOST_VIDS: usize = 16;
 
 /// The greatest base VID; 4095 is reserved (IEEE 802.1Q, 9.6).

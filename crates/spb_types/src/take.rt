@@ -54,17 +54,28 @@ pub fn take_u32(input: &[u8], at: usize) -> Result<u32, Short>
 #[cfg(test)]
 mod tests {
     use super::*;
+    use std::fmt::Debug;
+    use std::process::Abort;
+
+    const BYTES: &[u8] = b"\x83\x14\x01\x00\x11";
+
+    fn check<T: PartialEq + Debug + Drop>(
+        rt: &impl Abort,
+        found: Result<T, Short>,
+        expected: Result<T, Short>,
+    ) {
+        assert_eq!(*rt; found, expected);
+    }
 
     #[test]
     fn numbers_are_big_endian(rt: HostRuntime) {
-        let bytes = [0x83, 0x14, 0x01, 0x00, 0x11];
-        assert_eq!(rt; take_u8(&bytes, 4), Ok(0x11));
-        assert_eq!(rt; take_u8(&bytes, 5), Err(Short));
-        assert_eq!(rt; take_u16(&bytes, 0), Ok(0x8314));
-        assert_eq!(rt; take_u16(&bytes, 4), Err(Short));
-        assert_eq!(rt; take_u24(&bytes, 2), Ok(0x01_0011));
-        assert_eq!(rt; take_u24(&bytes, usize::MAX), Err(Short));
-        assert_eq!(rt; take_u32(&bytes, 1), Ok(0x1401_0011));
-        assert_eq!(rt; take_u32(&bytes, 2), Err(Short));
+        check(&rt, take_u8(BYTES, 4), Ok(0x11));
+        check(&rt, take_u8(BYTES, 5), Err(Short));
+        check(&rt, take_u16(BYTES, 0), Ok(0x8314));
+        check(&rt, take_u16(BYTES, 4), Err(Short));
+        check(&rt, take_u24(BYTES, 2), Ok(0x01_0011));
+        check(&rt, take_u24(BYTES, usize::MAX), Err(Short));
+        check(&rt, take_u32(BYTES, 1), Ok(0x1401_0011));
+        check(&rt, take_u32(BYTES, 2), Err(Short));
     }
 }

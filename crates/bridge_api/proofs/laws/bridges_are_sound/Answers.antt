@@ -1,14 +1,14 @@
 use Rattle.bridge_api.proofs.DataSteps.{configured_holds_own}
 use Rattle.bridge_api.proofs.Saying.{sound_can_say}
 use Rattle.bridge_api.proofs.Sound.{configured_is_sound, steps_stay_sound}
-use Rattle.bridge_api.proofs.SoundPorts.{configured_is_dark}
+use Rattle.bridge_api.proofs.SoundPorts.{configured_has_no_carrier}
 use Rattle.bridge_api.proofs.laws.bridges_are_sound.Goals as goal
 
 pub returns-clause-configured : goal.returns-clause-configured
 returns-clause-configured c = configured_is_sound
 
 pub returns-clause-dark : goal.returns-clause-dark
-returns-clause-dark c = configured_is_dark
+returns-clause-dark c = configured_has_no_carrier
 
 pub returns-clause-own : goal.returns-clause-own
 returns-clause-own c = configured_holds_own

@@ -5,15 +5,15 @@ use Rattle.snp_sync.specs.Sending.{bytes_in}
 use Rattle.bridge_api.specs.Ticking.{lsps_at, requests_at}
 use Rattle.bridge_control.specs.Frames.{frames_of, flagged_at}
 use Rattle.bridge_control.proofs.Wire.{sent_none, sent_as, sent_both, gained_first, gained_further, on_err}
-use Rattle.bridge_control.proofs.Sends.{nothing_flagged, settled_idle, fitting_psnps, requests_are}
+use Rattle.bridge_control.proofs.Sends.{nothing_flagged, originated_if_changed_idle, fitting_psnps, requests_are}
 use Rattle.bridge_control.proofs.sending.send_flagged.Goals as goal
 
-pub returns-then-not-busy-clause-sent : goal.returns-then-not-busy-clause-sent
-returns-then-not-busy-clause-sent c =
-    sent_as [] (flagged_at c.args.system c.args.number c.args.db.now) c.args.outbox.now c.args.outbox.now (nothing_flagged c.args.system c.args.number c.args.db.now (c.requires.idle c.if-not-busy.true)) (sent_none c.args.outbox.now)
+pub returns-then-not-has_flags-clause-sent : goal.returns-then-not-has_flags-clause-sent
+returns-then-not-has_flags-clause-sent c =
+    sent_as [] (flagged_at c.args.system c.args.number c.args.db.now) c.args.outbox.now c.args.outbox.now (nothing_flagged c.args.system c.args.number c.args.db.now (c.requires.idle c.if-not-has_flags.true)) (sent_none c.args.outbox.now)
 
-pub returns-then-not-busy-clause-told : goal.returns-then-not-busy-clause-told
-returns-then-not-busy-clause-told c = settled_idle c.args.number c.args.db.now (c.requires.idle c.if-not-busy.true)
+pub returns-then-not-has_flags-clause-after_sending : goal.returns-then-not-has_flags-clause-after_sending
+returns-then-not-has_flags-clause-after_sending c = originated_if_changed_idle c.args.number c.args.db.now (c.requires.idle c.if-not-has_flags.true)
 
 pub returns-in_err-send_lsps-clause-gained : goal.returns-in_err-send_lsps-clause-gained
 returns-in_err-send_lsps-clause-gained c =

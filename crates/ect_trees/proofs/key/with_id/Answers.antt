@@ -2,7 +2,7 @@ use Rattle.std.proofs.Common.{◌≡◌, ◌∙◌, ap, length, unwrap_or}
 use Rattle.std.specs.Ordering.{is_le}
 use Rattle.std.specs.List.{insert, position}
 use Rattle.ect_trees.specs.Key.{id_cmp}
-use Rattle.ect_trees.proofs.Placed.{placed_at}
+use Rattle.ect_trees.proofs.Placed.{inserted_at}
 use Rattle.ect_trees.proofs.key.with_id.Goals as goal
 
 pub returns : goal.returns
@@ -11,4 +11,4 @@ returns c =
     let copied : c.in_ok-longer.longer.items ≡ ids = c.in_ok-longer.ensures.items ∙ c.as_slice.ensures in
     let found : c.place_among.result ≡ position (λ y. is_le (id_cmp c.args.id y)) ids = c.place_among.ensures ∙ ap (position (λ y. is_le (id_cmp c.args.id y))) c.as_slice-2.ensures in
     let place : c.unwrap_or-place.result ≡ unwrap_or (position (λ y. is_le (id_cmp c.args.id y)) ids) (length ids) = c.unwrap_or-place.ensures ∙ (ap (λ n. unwrap_or c.place_among.result n) c.len.ensures ∙ ap (λ o. unwrap_or o (length ids)) found) in
-    c.from_vec.ensures ∙ (c.in_ok-insert.ensures.items ∙ (ap (λ t. insert t c.unwrap_or-place.result c.args.id) copied ∙ (ap (λ n. insert ids n c.args.id) place ∙ placed_at c.args.id ids)))
+    c.from_vec.ensures ∙ (c.in_ok-insert.ensures.items ∙ (ap (λ t. insert t c.unwrap_or-place.result c.args.id) copied ∙ (ap (λ n. insert ids n c.args.id) place ∙ inserted_at c.args.id ids)))

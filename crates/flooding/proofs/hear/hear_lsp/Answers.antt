@@ -4,12 +4,12 @@ use Rattle.isis_pdu.specs.Pdu.{lsp_of}
 use Rattle.lsdb.specs.declared.version.Version.{Version}
 use Rattle.lsdb.specs.declared.version.Relation.{Relation}
 use Rattle.lsdb.specs.Version.{relation}
-use Rattle.lsdb.specs.Entry.{acked, offered, buried}
+use Rattle.lsdb.specs.Entry.{acked, offered, purged}
 use Rattle.lsdb.specs.Database.{version_in}
 use Rattle.flooding.specs.Own.{answered, answering}
-use Rattle.flooding.specs.Hearing.{unless_absent, lsp_row, claim_of, lacks_place, after_entry}
+use Rattle.flooding.specs.Hearing.{unless_absent, lsp_rule, claim_of, lacks_place, after_entry}
 use Rattle.flooding.specs.Placing.{Hears, holding}
-use Rattle.flooding.proofs.Heard.{hears_answer, hears_put, hears_change, number-claimed, confused_held, ended_held}
+use Rattle.flooding.proofs.Heard.{hears_answer, hears_put, hears_change, number-claimed, confused_held, dead_held}
 use Rattle.flooding.proofs.hear.hear_lsp.Goals as goal
 
 -- the relation that was found is that of what the LSP claims to what is held
@@ -20,22 +20,22 @@ pub returns-in-Newer : goal.returns-in-Newer
 returns-in-Newer c =
     let l = lsp_of c.args.lsp.now in
     let is : relation (claim_of l).version (version_in (get c.args.db.now l.id)) ≡ c.compare-relation.result = stands c.compare-relation.ensures c.version_of.ensures c.version_at.ensures in
-    let row_is = ap (λ (q : Relation). lsp_row c.args.up c.args.port l q (get c.args.db.now l.id)) c.in-Newer.is in
-    hears_put (lsp_row c.args.up c.args.port l) c.args.up (claim_of l) c.args.db.now c.args.own.now c.compare-relation.result _ c.store.result c.store.new.db is (sym c.answers.ensures ∙ c.if-answers.false) row_is c.store.ensures
+    let rule_is = ap (λ (q : Relation). lsp_rule c.args.up c.args.port l q (get c.args.db.now l.id)) c.in-Newer.is in
+    hears_put (lsp_rule c.args.up c.args.port l) c.args.up (claim_of l) c.args.db.now c.args.own.now c.compare-relation.result _ c.store.result c.store.new.db is (sym c.answers.ensures ∙ c.if-answers.false) rule_is c.store.ensures
 
 pub returns-in-Equal : goal.returns-in-Equal
 returns-in-Equal c =
     let l = lsp_of c.args.lsp.now in
     let is : relation (claim_of l).version (version_in (get c.args.db.now l.id)) ≡ c.compare-relation.result = stands c.compare-relation.ensures c.version_of.ensures c.version_at.ensures in
-    let row_is = ap (λ (q : Relation). lsp_row c.args.up c.args.port l q (get c.args.db.now l.id)) c.in-Equal.is in
-    hears_change (lsp_row c.args.up c.args.port l) c.args.up (claim_of l) c.args.db.now c.args.own.now c.compare-relation.result (unless_absent (acked c.args.port)) c.acknowledge_held.new.db is (sym c.answers.ensures ∙ c.if-answers.false) row_is c.acknowledge_held.ensures
+    let rule_is = ap (λ (q : Relation). lsp_rule c.args.up c.args.port l q (get c.args.db.now l.id)) c.in-Equal.is in
+    hears_change (lsp_rule c.args.up c.args.port l) c.args.up (claim_of l) c.args.db.now c.args.own.now c.compare-relation.result (unless_absent (acked c.args.port)) c.acknowledge_held.new.db is (sym c.answers.ensures ∙ c.if-answers.false) rule_is c.acknowledge_held.ensures
 
 pub returns-in-Older : goal.returns-in-Older
 returns-in-Older c =
     let l = lsp_of c.args.lsp.now in
     let is : relation (claim_of l).version (version_in (get c.args.db.now l.id)) ≡ c.compare-relation.result = stands c.compare-relation.ensures c.version_of.ensures c.version_at.ensures in
-    let row_is = ap (λ (q : Relation). lsp_row c.args.up c.args.port l q (get c.args.db.now l.id)) c.in-Older.is in
-    hears_change (lsp_row c.args.up c.args.port l) c.args.up (claim_of l) c.args.db.now c.args.own.now c.compare-relation.result (offered c.args.port) c.offer.new.db is (sym c.answers.ensures ∙ c.if-answers.false) row_is c.offer.ensures
+    let rule_is = ap (λ (q : Relation). lsp_rule c.args.up c.args.port l q (get c.args.db.now l.id)) c.in-Older.is in
+    hears_change (lsp_rule c.args.up c.args.port l) c.args.up (claim_of l) c.args.db.now c.args.own.now c.compare-relation.result (offered c.args.port) c.offer.new.db is (sym c.answers.ensures ∙ c.if-answers.false) rule_is c.offer.ensures
 
 pub returns-then-answers : goal.returns-then-answers
 returns-then-answers c =
@@ -43,18 +43,18 @@ returns-then-answers c =
     let is : relation (claim_of l).version (version_in (get c.args.db.now l.id)) ≡ c.compare-relation.result = stands c.compare-relation.ensures c.version_of.ensures c.version_at.ensures in
     let h = holding c.args.db.now c.args.own.now in
     let at : ℕ → Type 0 = λ n. Hears c.answer.result (lacks_place h.db l.id (Some (answered c.args.up h.own l.id n))) h (after_entry h l.id (Some (answered c.args.up h.own l.id n)) (answering h.own l.id n)) (holding c.answer.new.db c.answer.new.self) in
-    hears_answer (lsp_row c.args.up c.args.port l) c.args.up (claim_of l) h c.compare-relation.result c.answer.result (holding c.answer.new.db c.answer.new.self) is (sym c.answers.ensures ∙ c.if-answers.true)
+    hears_answer (lsp_rule c.args.up c.args.port l) c.args.up (claim_of l) h c.compare-relation.result c.answer.result (holding c.answer.new.db c.answer.new.self) is (sym c.answers.ensures ∙ c.if-answers.true)
     (subst at (sym (number-claimed l.seq l.lifetime l.sum)) c.answer.ensures)
 
-pub bury-requires : goal.bury-requires
-bury-requires c =
+pub purge-requires : goal.purge-requires
+purge-requires c =
     confused_held c.version_of.result _ (sym (c.in-Confused.ensures ∙ (λ i. relation c.version_of.result (c.version_at.ensures i))))
 
 pub returns-in-Confused : goal.returns-in-Confused
 returns-in-Confused c =
     let l = lsp_of c.args.lsp.now in
     let is : relation (claim_of l).version (version_in (get c.args.db.now l.id)) ≡ c.compare-relation.result = stands c.compare-relation.ensures c.version_of.ensures c.version_at.ensures in
-    let row_is = ap (λ (q : Relation). lsp_row c.args.up c.args.port l q (get c.args.db.now l.id)) c.in-Confused.is in
+    let rule_is = ap (λ (q : Relation). lsp_rule c.args.up c.args.port l q (get c.args.db.now l.id)) c.in-Confused.is in
     let there = confused_held (claim_of l).version (version_in (get c.args.db.now l.id)) (is ∙ c.in-Confused.is) in
-    hears_change (lsp_row c.args.up c.args.port l) c.args.up (claim_of l) c.args.db.now c.args.own.now c.compare-relation.result (buried l.seq c.args.up) c.bury.new.self is (sym c.answers.ensures ∙ c.if-answers.false)
-    (row_is ∙ ended_held c.args.up l.seq (get c.args.db.now l.id) there) c.bury.ensures
+    hears_change (lsp_rule c.args.up c.args.port l) c.args.up (claim_of l) c.args.db.now c.args.own.now c.compare-relation.result (purged l.seq c.args.up) c.purge.new.self is (sym c.answers.ensures ∙ c.if-answers.false)
+    (rule_is ∙ dead_held c.args.up l.seq (get c.args.db.now l.id) there) c.purge.ensures

@@ -4,7 +4,7 @@ use Rattle.std.specs.Prelude.{if◌then◌else◌}
 use Rattle.std.specs.FinMap.{get, insert}
 use Rattle.spb_types.specs.declared.address.LspId.{LspId}
 use Rattle.lsdb.specs.Version.{number_of}
-use Rattle.lsdb.specs.Database.{Lsps, version_at, placed}
+use Rattle.lsdb.specs.Database.{Lsps, version_at, put_if_it_fits}
 use Rattle.flooding.specs.Own.{own_id, renewed}
 use Rattle.flooding.specs.Origination.{spent_entry}
 use Rattle.flooding.specs.Placing.{holding}
@@ -28,6 +28,6 @@ pub returns-clause-ok : goal.returns-clause-ok
 returns-clause-ok c =
     let h = holding c.args.db.now c.args.own.now in
     let seq_is = c.number-seq.ensures ∙ ap number_of (c.version_at.ensures ∙ ap (λ (x : LspId). version_at c.args.db.now x) c.id-id.ensures) in
-    let put_in = c.spend.ensures ∙ ap (λ (x : LspId). placed c.args.db.now x (Some (spent_entry c.args.up c.number-seq.result (get c.args.db.now x)))) c.id-id.ensures in
+    let put_in = c.spend.ensures ∙ ap (λ (x : LspId). put_if_it_fits c.args.db.now x (Some (spent_entry c.args.up c.number-seq.result (get c.args.db.now x)))) c.id-id.ensures in
     ap (λ (d : Lsps). holding d (record c.args.own.now { spent = true })) put_in
     ∙ sym (originated_last c.args.up h c.number-seq.result c.if-own.false seq_is (le-ltb _ _ c.if-seq-lt4294967295.false))

@@ -1,5 +1,5 @@
-use Rattle.lsdb.proofs.Certified.{placing, changing, changing_each}
+use Rattle.lsdb.proofs.Certified.{putting, changing, changing_each}
 use Rattle.lsdb.proofs.laws.changes_of_a_database_are_certified.Goals as goal
 
 pub returns : goal.returns
-returns c = record { placing = placing; changing = changing; each = changing_each }
+returns c = record { putting = putting; changing = changing; each = changing_each }

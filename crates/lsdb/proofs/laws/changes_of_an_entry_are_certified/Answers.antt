@@ -1,4 +1,4 @@
-use Rattle.lsdb.proofs.Certified.{storing, acking, clearing, entering, offering, flagging, flooding, ageing, parting, joining}
+use Rattle.lsdb.proofs.Certified.{storing, acking, clearing, asking, offering, flagging, flooding, ageing, clearing_port, setting_srm}
 use Rattle.lsdb.proofs.laws.changes_of_an_entry_are_certified.Goals as goal
 
 pub returns : goal.returns
@@ -6,11 +6,11 @@ returns c = record {
   storing = storing;
   acking = acking;
   clearing = clearing;
-  entering = entering;
+  asking = asking;
   offering = offering;
   flagging = flagging;
   flooding = flooding;
   ageing = ageing;
-  parting = parting;
-  joining = joining;
+  clearing_port = clearing_port;
+  setting_srm = setting_srm;
 }

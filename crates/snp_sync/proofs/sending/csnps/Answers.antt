@@ -1,9 +1,9 @@
 use Rattle.std.proofs.Common.{refl, ◌∙◌}
-use Rattle.snp_sync.proofs.Pages.{ranged_none, ranged_more, ranged_all}
+use Rattle.snp_sync.proofs.CsnpChunks.{ranged_none, ranged_more, ranged_all}
 use Rattle.snp_sync.proofs.sending.csnps.Goals as goal
 
 pub loop-rest-init : goal.loop-rest-init
-loop-rest-init c = ranged_none _ _ _ _ _ c.new-pdus.ensures.items refl (c.as_slice-rest.ensures.value ∙ c.in_ok-lines.ensures)
+loop-rest-init c = ranged_none _ _ _ _ _ c.new-pdus.ensures.items refl (c.as_slice-rest.ensures.value ∙ c.in_ok-entries.ensures)
 
 pub loop-rest-preserved : goal.loop-rest-preserved
 loop-rest-preserved c =

@@ -1,17 +1,17 @@
 use Rattle.std.proofs.Common.{rules, ◌≡◌, length, min, ap, ◌∙◌}
 use Rattle.std.specs.Slice.Iter.{chunks_rest}
-use Rattle.snp_sync.proofs.Pages.{paged_none, paged_more, paged_all}
+use Rattle.snp_sync.proofs.CsnpChunks.{paged_none, paged_more, paged_all}
 use Rattle.snp_sync.proofs.sending.psnps_of.Goals as goal
 
-pub loop-page-init : goal.loop-page-init
-loop-page-init c = (search rules, tt, search rules, paged_none _ _ _ _ c.new-pdus.ensures.items (search rules))
+pub loop-chunk-init : goal.loop-chunk-init
+loop-chunk-init c = (search rules, tt, search rules, paged_none _ _ _ _ c.new-pdus.ensures.items (search rules))
 
-pub loop-page-preserved : goal.loop-page-preserved
-loop-page-preserved c =
+pub loop-chunk-preserved : goal.loop-chunk-preserved
+loop-chunk-preserved c =
     let steps = c.in-Some.ensures.steps in
-    let rest = chunks_rest c.loop-page.page-iterator in
-    let size : length c.in-Some.page.now ≡ min 90 (length rest) = steps.1.1 ∙ ap (λ n. min n (length rest)) c.loop-page.invariant.2 in
-    (search rules, tt, search rules, paged_more _ _ rest c.in-Some.page.now _ _ _ c.in_ok-psnp.field-0 c.loop-page.invariant.3 steps.1.0 size steps.1.2 c.in_ok-psnp.ensures c.in_ok-push.ensures.items)
+    let rest = chunks_rest c.loop-chunk.chunk-iterator in
+    let size : length c.in-Some.chunk.now ≡ min 90 (length rest) = steps.1.1 ∙ ap (λ n. min n (length rest)) c.loop-chunk.invariant.2 in
+    (search rules, tt, search rules, paged_more _ _ rest c.in-Some.chunk.now _ _ _ c.in_ok-psnp.field-0 c.loop-chunk.invariant.3 steps.1.0 size steps.1.2 c.in_ok-psnp.ensures c.in_ok-push.ensures.items)
 
 pub returns : goal.returns
-returns c = paged_all _ _ _ _ c.loop-page.invariant.3 c.in-None.ensures.steps.1.0
+returns c = paged_all _ _ _ _ c.loop-chunk.invariant.3 c.in-None.ensures.steps.1.0

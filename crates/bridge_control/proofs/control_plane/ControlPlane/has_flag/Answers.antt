@@ -14,4 +14,4 @@ pub returns-else-has_flags : goal.returns-else-has_flags
 returns-else-has_flags c =
     let all = YieldsList-from_slice c.deref.result.now c.iter.ensures.rest in
     due_stands c.self.inside.blank c.self.inside.failed c.self.inside.machine c.args.self.now c.has_flags.result c.any.result c.self.view_is c.has_flags.ensures c.if-has_flags.false
-    (any_from_yields_List (λ (port : BridgePort). port.due) _ _ c.any.result c.any.ensures.ran all (λ x b q k. search (rules, tests)) ∙ ap (list_any (λ (port : BridgePort). port.due)) c.deref.ensures.value)
+    (any_from_yields_List (λ (port : BridgePort). port.csnp_due) _ _ c.any.result c.any.ensures.ran all (λ x b q k. search (rules, tests)) ∙ ap (list_any (λ (port : BridgePort). port.csnp_due)) c.deref.ensures.value)

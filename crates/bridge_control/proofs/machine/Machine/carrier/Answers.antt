@@ -3,7 +3,7 @@ use Rattle.std.proofs.lemmas.Result.{on_ok_weaker}
 use Rattle.adjacency.specs.declared.port.Adjacency.{Adjacency}
 use Rattle.bridge_control.specs.Machine.{view_of}
 use Rattle.bridge_control.proofs.Owning.{after_same}
-use Rattle.bridge_control.proofs.Putting.{there_at, can_change, kept_alike, kept_says, carried_path}
+use Rattle.bridge_control.proofs.Putting.{there_at, can_change, kept_alike, kept_says, with_carrier_path}
 use Rattle.bridge_control.proofs.machine.Machine.carrier.Goals as goal
 
 pub change-requires-clause-can : goal.change-requires-clause-can
@@ -24,5 +24,5 @@ returns c =
     let port = c.port_at-new.result in
     let there = there_at c.args.self.now c.as_slice.result.now c.args.port port c.as_slice.ensures.value c.port_at-new.ensures in
     on_ok_weaker c.change.result
-    (after_same _ _ c.change.new.self (carried_path (view_of c.args.self.now) c.args.port c.args.on port c.set_carrier-heard.new.self c.set_carrier-heard.result c.requires.port there c.set_carrier-heard.ensures.new c.set_carrier-heard.ensures.heard))
+    (after_same _ _ c.change.new.self (with_carrier_path (view_of c.args.self.now) c.args.port c.args.on port c.set_carrier-heard.new.self c.set_carrier-heard.result c.requires.port there c.set_carrier-heard.ensures.new c.set_carrier-heard.ensures.heard))
     c.change.ensures

@@ -6,30 +6,30 @@ use Rattle.flooding.specs.Placing.{holding}
 use Rattle.bridge_api.specs.View.{up_from}
 use Rattle.bridge_control.proofs.Owning.{some_body, after_same}
 use Rattle.bridge_control.proofs.Putting.{there_at}
-use Rattle.bridge_control.proofs.Heeding.{lsp_heard, heard_can, heard_current, flooded_path}
+use Rattle.bridge_control.proofs.Heeding.{lsp_heard, heard_can, heard_current, heard_lsp_path}
 use Rattle.bridge_control.proofs.machine.Machine.hear_lsp.Goals as goal
 
-pub flood-requires-clause-body : goal.flood-requires-clause-body
-flood-requires-clause-body c = some_body c.args.self.now c.requires.ready.current
+pub hear_lsp_if_it_fits-requires-clause-body : goal.hear_lsp_if_it_fits-requires-clause-body
+hear_lsp_if_it_fits-requires-clause-body c = some_body c.args.self.now c.requires.ready.current
 
-pub settle-requires-clause-can : goal.settle-requires-clause-can
-settle-requires-clause-can c =
+pub originate_if_changed-requires-clause-can : goal.originate_if_changed-requires-clause-can
+originate_if_changed-requires-clause-can c =
     let m = c.args.self.now in
     let up = c.up_ports-up.result in
     let l = lsp_of c.args.lsp.now in
-    heard_can m (hear_lsp_of up c.args.port l (holding m.db m.own)) c.flood.new.db c.flood.new.own c.requires.ready (lsp_heard m up c.args.port l c.requires.ready) c.in_ok-flood.ensures
+    heard_can m (hear_lsp_of up c.args.port l (holding m.db m.own)) c.hear_lsp_if_it_fits.new.db c.hear_lsp_if_it_fits.new.own c.requires.ready (lsp_heard m up c.args.port l c.requires.ready) c.in_ok-hear_lsp_if_it_fits.ensures
 
-pub settle-requires-clause-current : goal.settle-requires-clause-current
-settle-requires-clause-current c =
+pub originate_if_changed-requires-clause-current : goal.originate_if_changed-requires-clause-current
+originate_if_changed-requires-clause-current c =
     let m = c.args.self.now in
     let up = c.up_ports-up.result in
     let l = lsp_of c.args.lsp.now in
-    heard_current m (hear_lsp_of up c.args.port l (holding m.db m.own)) c.flood.new.db c.flood.new.own c.requires.ready (lsp_heard m up c.args.port l c.requires.ready) c.in_ok-flood.ensures
+    heard_current m (hear_lsp_of up c.args.port l (holding m.db m.own)) c.hear_lsp_if_it_fits.new.db c.hear_lsp_if_it_fits.new.own c.requires.ready (lsp_heard m up c.args.port l c.requires.ready) c.in_ok-hear_lsp_if_it_fits.ensures
 
 pub returns : goal.returns
 returns c =
     let m = c.args.self.now in
     let there = there_at m c.as_slice.result.now c.args.port c.port_at.result c.as_slice.ensures.value c.port_at.ensures in
-    on_ok_weaker c.settle.result
-    (after_same _ _ c.settle.new.self (flooded_path m c.up_ports-up.result c.args.port (lsp_of c.args.lsp.now) c.flood.new.db c.flood.new.own c.port_at.result c.requires.ready (c.up_ports-up.ensures ∙ ap (up_from 1) c.as_slice-2.ensures.value) c.in_ok-flood.ensures there (sym c.is_up.ensures ∙ c.if-not-is_up.false)))
-    c.settle.ensures
+    on_ok_weaker c.originate_if_changed.result
+    (after_same _ _ c.originate_if_changed.new.self (heard_lsp_path m c.up_ports-up.result c.args.port (lsp_of c.args.lsp.now) c.hear_lsp_if_it_fits.new.db c.hear_lsp_if_it_fits.new.own c.port_at.result c.requires.ready (c.up_ports-up.ensures ∙ ap (up_from 1) c.as_slice-2.ensures.value) c.in_ok-hear_lsp_if_it_fits.ensures there (sym c.is_up.ensures ∙ c.if-not-is_up.false)))
+    c.originate_if_changed.ensures

@@ -7,15 +7,15 @@ use Rattle.bridge_control.proofs.machine.Machine.hear_requests.Goals as goal
 pub hear_psnp-requires-clause-body : goal.hear_psnp-requires-clause-body
 hear_psnp-requires-clause-body c = some_body c.args.self.now c.requires.ready.current
 
-pub settle-requires-clause-can : goal.settle-requires-clause-can
-settle-requires-clause-can c =
+pub originate_if_changed-requires-clause-can : goal.originate_if_changed-requires-clause-can
+originate_if_changed-requires-clause-can c =
     let m = c.args.self.now in
     let up = c.up_ports-up.result in
     let claims = claims_in c.args.entries.now in
     heard_can m (hear_entries_of up c.args.port claims (holding m.db m.own)) c.hear_psnp.new.db c.hear_psnp.new.own c.requires.ready (entries_heard m up c.args.port claims c.requires.ready) c.in_ok-hear_psnp.ensures.heard
 
-pub settle-requires-clause-current : goal.settle-requires-clause-current
-settle-requires-clause-current c =
+pub originate_if_changed-requires-clause-current : goal.originate_if_changed-requires-clause-current
+originate_if_changed-requires-clause-current c =
     let m = c.args.self.now in
     let up = c.up_ports-up.result in
     let claims = claims_in c.args.entries.now in

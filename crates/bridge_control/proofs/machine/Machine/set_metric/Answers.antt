@@ -1,38 +1,38 @@
 use Rattle.std.proofs.Common.{sym, ◌∙◌, refl, false, ◌≡◌}
 use Rattle.std.proofs.lemmas.Result.{on_ok_weaker}
 use Rattle.bridge_api.specs.View.{is_port_up}
-use Rattle.bridge_api.specs.Hearing.{metered}
-use Rattle.bridge_api.proofs.Changes.{metered_is}
+use Rattle.bridge_api.specs.Hearing.{with_port_metric}
+use Rattle.bridge_api.proofs.Changes.{with_metric_is}
 use Rattle.bridge_control.specs.Machine.{view_of}
 use Rattle.bridge_control.proofs.Owning.{after_same}
-use Rattle.bridge_control.proofs.Putting.{there_at, got, can_put, both_down, says_the_same, metered_local, metered_path}
+use Rattle.bridge_control.proofs.Putting.{there_at, got, can_put, both_down, says_the_same, with_metric_local, with_metric_path}
 use Rattle.bridge_control.proofs.machine.Machine.set_metric.Goals as goal
 
 pub keep-requires-clause-can : goal.keep-requires-clause-can
-keep-requires-clause-can c = can_put c.args.self.now c.args.port (metered c.args.metric c.port_at-new.result) c.requires.ready c.requires.port c.requires.metric
+keep-requires-clause-can c = can_put c.args.self.now c.args.port (with_port_metric c.args.metric c.port_at-new.result) c.requires.ready c.requires.port c.requires.metric
 
 pub keep-requires-clause-same : goal.keep-requires-clause-same
 keep-requires-clause-same c =
     let port = c.port_at-new.result in
     let there = there_at c.args.self.now c.as_slice.result.now c.args.port port c.as_slice.ensures.value c.port_at-new.ensures in
     let down : is_port_up port ≡ false = sym c.is_up.ensures ∙ c.if-not-is_up.true in
-    says_the_same c.args.self.now c.args.port port (metered c.args.metric port) c.requires.port there (both_down (metered c.args.metric port) port down down)
+    says_the_same c.args.self.now c.args.port port (with_port_metric c.args.metric port) c.requires.port there (both_down (with_port_metric c.args.metric port) port down down)
 
 pub returns-then-not-is_up : goal.returns-then-not-is_up
 returns-then-not-is_up c =
     let v = view_of c.args.self.now in
     let port = c.port_at-new.result in
     let there = there_at c.args.self.now c.as_slice.result.now c.args.port port c.as_slice.ensures.value c.port_at-new.ensures in
-    after_same _ _ c.keep.new.self (sym (metered_is v c.args.port c.args.metric port c.requires.port.low (got v c.args.port port c.requires.port there))) c.keep.ensures
+    after_same _ _ c.keep.new.self (sym (with_metric_is v c.args.port c.args.metric port c.requires.port.low (got v c.args.port port c.requires.port there))) c.keep.ensures
 
 pub renew_body-requires-clause-local : goal.renew_body-requires-clause-local
-renew_body-requires-clause-local c = metered_local c.args.self.now c.args.port (metered c.args.metric c.port_at-new.result) c.put_port.new.ports c.requires.ready c.requires.metric c.put_port.ensures
+renew_body-requires-clause-local c = with_metric_local c.args.self.now c.args.port (with_port_metric c.args.metric c.port_at-new.result) c.put_port.new.ports c.requires.ready c.requires.metric c.put_port.ensures
 
 pub returns : goal.returns
 returns c =
     let m = c.args.self.now in
     let port = c.port_at-new.result in
     let there = there_at m c.as_slice.result.now c.args.port port c.as_slice.ensures.value c.port_at-new.ensures in
-    on_ok_weaker c.settle.result
-    (after_same _ _ c.settle.new.self (metered_path m c.renew_body.new.self c.args.port c.args.metric port c.put_port.new.ports _ refl c.requires.port there c.put_port.ensures c.in_ok-renew_body.ensures))
-    c.settle.ensures
+    on_ok_weaker c.originate_if_changed.result
+    (after_same _ _ c.originate_if_changed.new.self (with_metric_path m c.renew_body.new.self c.args.port c.args.metric port c.put_port.new.ports _ refl c.requires.port there c.put_port.ensures c.in_ok-renew_body.ensures))
+    c.originate_if_changed.ensures

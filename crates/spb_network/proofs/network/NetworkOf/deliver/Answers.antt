@@ -13,20 +13,20 @@ hear_over-requires g c =
     let s : State = state_of g.B.Bridge.shown c.args.self.now in
     record {
       made = c.requires.made;
-      fits = subst Fits (ap (λ l. record s { lanes = l }) (sym c.pop.ensures.rest)) (Fits-with_frames rest s c.args.way.link c.args.way.dir c.requires.fits);
+      fits = subst Fits (ap (λ l. record s { lanes = l }) (sym c.pop.ensures.rest)) (Fits-with_frames rest s c.args.lane.link c.args.lane.dir c.requires.fits);
     }
 
 pub returns-in-None-clause-state : goal.returns-in-None-clause-state
 unfolding delivered
 returns-in-None-clause-state g c =
     let s : State = state_of g.B.Bridge.shown c.args.self.now in
-    let none : slice_get (lane_at s c.args.way.link c.args.way.dir) 0 ≡ None = sym c.pop.ensures.frame ∙ ap (option_map (λ frame. frame.items)) c.in-None.is in
-    ap (λ l. record s { lanes = l }) (c.pop.ensures.rest ∙ sym (rest-none c.args.way.dir s.lanes c.args.way.link none)) ∙ sym (ap (delivered_front s c.args.way.link c.args.way.dir) none)
+    let none : slice_get (lane_at s c.args.lane.link c.args.lane.dir) 0 ≡ None = sym c.pop.ensures.frame ∙ ap (option_map (λ frame. frame.items)) c.in-None.is in
+    ap (λ l. record s { lanes = l }) (c.pop.ensures.rest ∙ sym (rest-none c.args.lane.dir s.lanes c.args.lane.link none)) ∙ sym (ap (delivered_front s c.args.lane.link c.args.lane.dir) none)
 
 pub returns-in-None-clause-order : goal.returns-in-None-clause-order
 returns-in-None-clause-order g c =
     let s : State = state_of g.B.Bridge.shown c.args.self.now in
     record {
       made = c.requires.made;
-      fits = subst Fits (ap (λ l. record s { lanes = l }) (sym c.pop.ensures.rest)) (Fits-with_frames rest s c.args.way.link c.args.way.dir c.requires.fits);
+      fits = subst Fits (ap (λ l. record s { lanes = l }) (sym c.pop.ensures.rest)) (Fits-with_frames rest s c.args.lane.link c.args.lane.dir c.requires.fits);
     }

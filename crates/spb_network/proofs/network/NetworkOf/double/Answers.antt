@@ -10,5 +10,5 @@ pub returns-clause-order : goal.returns-clause-order
 returns-clause-order g c =
     on_ok c.double.result (λ e. record {
       made = c.requires.made;
-      fits = subst Fits (ap (λ l. record (state_of g.B.Bridge.shown c.args.self.now) { lanes = l }) (sym e)) (Fits-with_frames (λ frames. after_double frames c.args.place (slice_get frames c.args.place)) (state_of g.B.Bridge.shown c.args.self.now) c.args.way.link c.args.way.dir c.requires.fits);
+      fits = subst Fits (ap (λ l. record (state_of g.B.Bridge.shown c.args.self.now) { lanes = l }) (sym e)) (Fits-with_frames (λ frames. after_double frames c.args.place (slice_get frames c.args.place)) (state_of g.B.Bridge.shown c.args.self.now) c.args.lane.link c.args.lane.dir c.requires.fits);
     }) c.double.ensures.ok

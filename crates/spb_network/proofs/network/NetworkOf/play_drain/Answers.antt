@@ -6,7 +6,7 @@ use Rattle.spb_network.proofs.network.NetworkOf.play_drain.Goals as goal
 
 pub loop-preserved : goal.loop-preserved
 loop-preserved g c =
-    (c.in_ok-deliver.ensures.order, omega (arith, c.loop-test.true), ap (drained (c.args.n - (c.loop.counter + 1))) c.in_ok-deliver.ensures.state ∙ sym (drained-found (state_of g.B.Bridge.shown c.loop.self) c.args.n c.loop.counter c.in-Some.way (omega (arith, c.loop-test.true)) (sym c.first_full.ensures ∙ c.in-Some.is)) ∙ c.loop.invariant.2)
+    (c.in_ok-deliver.ensures.order, omega (arith, c.loop-test.true), ap (drained (c.args.n - (c.loop.counter + 1))) c.in_ok-deliver.ensures.state ∙ sym (drained-found (state_of g.B.Bridge.shown c.loop.self) c.args.n c.loop.counter c.in-Some.lane (omega (arith, c.loop-test.true)) (sym c.first_full.ensures ∙ c.in-Some.is)) ∙ c.loop.invariant.2)
 
 pub returns-in_default-clause-state : goal.returns-in_default-clause-state
 returns-in_default-clause-state g c =

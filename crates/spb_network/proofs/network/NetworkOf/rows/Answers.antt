@@ -3,7 +3,7 @@ use Rattle.std.specs.Option.{option_map_or}
 use Rattle.bridge_api.specs.Shown.{view_in, views_of}
 use Rattle.spb_network.specs.Questions.{rows_of}
 use Rattle.spb_network.proofs.BoxLemmas.{get-map, get-map-none, seen, seen-none}
-use Rattle.spb_network.proofs.PortLemmas.{told-ok}
+use Rattle.spb_network.proofs.PortLemmas.{shown-ok}
 use Rattle.spb_network.proofs.network.NetworkOf.rows.Goals as goal
 
 pub returns-in-None : goal.returns-in-None
@@ -14,4 +14,4 @@ returns-in-None g c =
 pub returns-in-Some : goal.returns-in-Some
 returns-in-Some g c =
     let at = get-map (view_in g.B.Bridge.shown) _ c.args.place c.in-Some.bridge.now (seen _ c.args.place c.get.result c.in-Some.bridge c.get.ensures.lookup c.in-Some.is) in
-    told-ok c.held_rows.result (λ x e. e ∙ ap (λ o. option_map_or (λ v. rows_of v.database) o []) (sym (subst (λ bs. slice_get (views_of g.B.Bridge.shown bs) c.args.place ≡ Some ((view_in g.B.Bridge.shown) c.in-Some.bridge.now)) c.deref.ensures.value at))) c.held_rows.ensures
+    shown-ok c.held_rows.result (λ x e. e ∙ ap (λ o. option_map_or (λ v. rows_of v.database) o []) (sym (subst (λ bs. slice_get (views_of g.B.Bridge.shown bs) c.args.place ≡ Some ((view_in g.B.Bridge.shown) c.in-Some.bridge.now)) c.deref.ensures.value at))) c.held_rows.ensures

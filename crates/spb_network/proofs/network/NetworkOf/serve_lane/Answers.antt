@@ -6,4 +6,4 @@ use Rattle.spb_network.proofs.network.NetworkOf.serve_lane.Goals as goal
 
 pub loop-preserved : goal.loop-preserved
 loop-preserved g c =
-    (c.in_ok-deliver.ensures.order, omega (arith, c.loop-test.true), ap (delivered_times (_ - (c.loop.counter + 1)) c.args.way.link c.args.way.dir) c.in_ok-deliver.ensures.state ∙ sym (delivered-step (state_of g.B.Bridge.shown c.loop.self) c.args.way.link c.args.way.dir _ c.loop.counter (omega (arith, c.loop-test.true))) ∙ c.loop.invariant.2)
+    (c.in_ok-deliver.ensures.order, omega (arith, c.loop-test.true), ap (delivered_times (_ - (c.loop.counter + 1)) c.args.lane.link c.args.lane.dir) c.in_ok-deliver.ensures.state ∙ sym (delivered-step (state_of g.B.Bridge.shown c.loop.self) c.args.lane.link c.args.lane.dir _ c.loop.counter (omega (arith, c.loop-test.true))) ∙ c.loop.invariant.2)

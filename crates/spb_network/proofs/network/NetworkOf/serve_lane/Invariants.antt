@@ -7,4 +7,4 @@ abbrev pub invariant-loop : goal.invariant-loop
 invariant-loop g l =
     (IsInOrder g.B.Bridge.shown l.self) ×
     (l.counter ≤ l.end) ×
-    (delivered_times (l.end - l.counter) l.way.link l.way.dir (state_of g.B.Bridge.shown l.self) ≡ lane_served (state_of g.B.Bridge.shown l.fn.self) l.way.link l.way.dir)
+    (delivered_times (l.end - l.counter) l.lane.link l.lane.dir (state_of g.B.Bridge.shown l.self) ≡ lane_served (state_of g.B.Bridge.shown l.fn.self) l.lane.link l.lane.dir)

@@ -1,0 +1,102 @@
+//! What a frame brings, before the bridge that hears it is looked at.
+ghost use Rattle.std.specs.Prelude.{◌≡◌, slice_get};
+ghost use Rattle.isis_pdu.specs.Pdu.{hello_of};
+ghost use Rattle.isis_pdu.specs.Reading.{read};
+ghost use Rattle.spb_tlvs.specs.Tlv.{values_with};
+ghost use Rattle.itag_frames.specs.Frame.{contents};
+ghost use Rattle.bridge_api.specs.Parsing as api;
+ghost use Rattle.bridge_control.specs.Message.{Says};
+
+use bridge_api::DropReason;
+use isis_pdu::{Csnp, Hello, Lsp, Pdu, Psnp, decode};
+use itag_frames::{Backbone, Frame, FrameError, classify};
+use spb_tlvs::{THREE_WAY_ADJACENCY, ThreeWay, find_tlv, read_three_way};
+
+/// What a frame brings to a bridge.
+#[derive(Clone, Copy, Debug)]
+pub(crate) enum Message<'a> {
+    /// Nothing: every bridge drops it, for this reason.
+    Dropped(DropReason),
+    /// A hello and its three-way adjacency.
+    Hello(Hello<'a>, ThreeWay),
+    Lsp(Lsp<'a>),
+    Csnp(Csnp<'a>),
+    Psnp(Psnp<'a>),
+    /// A customer's frame over the backbone.
+    Customer(Backbone<'a>),
+}
+
+/// What a frame brings. It may be any bytes.
+pub(crate) fn parse(frame: &[u8]) -> Message<'_>
+    ensures { Says result (api.parsed frame.now) }
+{
+    parse_content(classify(frame))
+}
+
+/// A control frame is heard by its PDU.
+fn parse_content(content: Result<Frame<'_>, FrameError>) -> Message<'_>
+    ensures { Says result (api.by_content (contents content.entry)) }
+{
+    match content {
+        Ok(Frame::Control(pdu)) => parse_pdu(pdu),
+        Ok(Frame::Backbone(frame)) => Message::Customer(frame),
+        Err(_) => Message::Dropped(DropReason::Frame),
+    }
+}
+
+fn parse_pdu(pdu: &[u8]) -> Message<'_>
+    ensures { Says result (api.by_pdu (read pdu.now)) }
+{
+    match decode(pdu) {
+        Ok(Pdu::Hello(hello)) => parse_hello(&hello),
+        Ok(Pdu::Lsp(lsp)) => Message::Lsp(lsp),
+        Ok(Pdu::Csnp(csnp)) => Message::Csnp(csnp),
+        Ok(Pdu::Psnp(psnp)) => Message::Psnp(psnp),
+        Err(_) => Message::Dropped(DropReason::Pdu),
+    }
+}
+
+/// A hello is heard by its three-way adjacency, where that can be read.
+fn parse_hello<'a>(hello: &Hello<'a>) -> Message<'a>
+    ensures { Says result (api.by_three_way (hello_of hello.now) (slice_get (values_with 240 hello.now.tlvs.now) 0)) }
+{
+    let Some(value) = find_tlv(hello.tlvs, THREE_WAY_ADJACENCY, 0) else {
+        return Message::Dropped(DropReason::Tlv);
+    };
+    match read_three_way(value) {
+        Ok(way) => Message::Hello(*hello, way),
+        Err(_) => Message::Dropped(DropReason::Tlv),
+    }
+}
+
+#[cfg(test)]
+mod tests {
+    use super::{Message, parse};
+    use bridge_api::DropReason;
+    use std::test::Fail;
+
+    // A hello without a three-way adjacency, as a frame.
+    const ALONE: [u8; 46] = [
+        0x01, 0x80, 0xc2, 0x00, 0x00, 0x14, 2, 0, 0, 0, 0, 1, 0x00, 0x20, 0xfe, 0xfe, 0x03, 0x83,
+        0x14, 1, 0, 0x11, 1, 0, 0, 1, 2, 0, 0, 0, 0, 1, 0, 3, 0, 0x1d, 1, 1, 4, 3, 0x49, 0, 1,
+        0x81, 1, 0xc1,
+    ];
+
+    /// Why a frame is dropped.
+    fn reason(frame: &[u8]) -> Option<DropReason> {
+        match parse(frame) {
+            Message::Dropped(reason) => Some(reason),
+            _ => None,
+        }
+    }
+
+    #[test]
+    fn a_frame_that_is_dropped_says_why(rt: HostRuntime) -> Result<(), Fail> {
+        assert_eq!(rt; reason(&ALONE[..45]), Some(DropReason::Frame));
+        let mut other_protocol = ALONE;
+        other_protocol[17] = 0x82;
+        assert_eq!(rt; reason(&other_protocol), Some(DropReason::Pdu));
+        assert_eq!(rt; reason(&ALONE), Some(DropReason::Tlv));
+        Ok(())
+    }
+}

@@ -1,0 +1,81 @@
+ghost use Rattle.std.specs.Prelude.{◌≡◌, ◌≤◌, ◌+◌, ◌*◌, IfOk, length};
+ghost use Rattle.lsdb.specs.Entry.{entry_of};
+ghost use Rattle.snp_sync.specs.SnpEntries as snp;
+ghost use Rattle.snp_sync.specs.SnpEntries.{snp_entries_where, has_ssn_at};
+ghost use Rattle.snp_sync.specs.Chunks.{entry_tlvs};
+
+use lsdb::{Database, Held, Version};
+use spb_tlvs::{SnpEntry, write_entries};
+use spb_types::NoMemory;
+use spb_types::limits::MOST_PORTS;
+use std::alloc::Global;
+
+/// The most entries in a TLV.
+const ENTRIES_PER_TLV: usize = 15;
+
+/// What an SNP says of an LSP.
+fn snp_entry(held: &Held) -> SnpEntry
+    ensures { result ≡ snp.snp_entry_of held.now.id (entry_of held.now) }
+{
+    SnpEntry {
+        lifetime: held.lifetime,
+        id: held.id,
+        seq: held.version.number(),
+        sum: held.version.sum(),
+    }
+}
+
+/// Whether CSNPs list an LSP: all but the absent ones.
+pub fn is_listed(held: &Held) -> bool
+    ensures { result ≡ snp.is_listed (entry_of held.now) }
+{
+    match held.version {
+        Version::Absent => false,
+        Version::Live { seq: _, sum: _ } => true,
+        Version::Dead { seq: _ } => true,
+    }
+}
+
+/// The entries of all LSPs but the absent ones, in order of id.
+pub fn listed(alloc: Global, db: &Database) -> Result<Vec<SnpEntry>, NoMemory>
+    ensures { IfOk result (λ v. v.items ≡ snp_entries_where snp.is_listed db.now) }
+{
+    let mut entries = Vec::new(alloc);
+    for place in 0..db.len() {
+        if let Some(held) = db.at(place) {
+            if is_listed(held) {
+                entries.push(snp_entry(held))?;
+            }
+        }
+    }
+    Ok(entries)
+}
+
+/// The entries of the LSPs that are to be acknowledged or asked for at a port, in order of id.
+pub fn entries_with_ssn(alloc: Global, db: &Database, port: u8) -> Result<Vec<SnpEntry>, NoMemory>
+    requires low { 1 ≤ port }
+    requires high { port ≤ MOST_PORTS }
+    ensures { IfOk result (λ v. v.items ≡ snp_entries_where (has_ssn_at port) db.now) }
+{
+    let mut entries = Vec::new(alloc);
+    for place in 0..db.len() {
+        if let Some(held) = db.at(place) {
+            if held.ssn.has(port) {
+                entries.push(snp_entry(held))?;
+            }
+        }
+    }
+    Ok(entries)
+}
+
+/// The TLVs of entries.
+pub fn tlvs_of(alloc: Global, entries: &[SnpEntry]) -> Result<Vec<u8>, NoMemory>
+    ensures tlvs { IfOk result (λ v. v.items ≡ entry_tlvs entries.now) }
+    ensures short { IfOk result (λ v. 15 * length v.items ≤ 242 * length entries.now + 28) }
+{
+    let mut tlvs = Vec::new(alloc);
+    for chunk in entries.chunks(ENTRIES_PER_TLV) {
+        write_entries(&mut tlvs, chunk)?;
+    }
+    Ok(tlvs)
+}
