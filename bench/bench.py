@@ -1,16 +1,22 @@
 #!/usr/bin/env python3
 """Runs spbsim on made workloads, and prints what each takes in one table.
 
-    bench/bench.py [PROGRAM ..]
+    bench/bench.py [--count] [PROGRAM ..]
 
 Without arguments it measures the program built in this repository (build it first, by ./build).
 Each further program that takes the word `run` and a script on standard input is measured beside it.
+
+Processor time depends on the machine and on what else it does. With --count there is a column of instructions, which
+valgrind counts (Debian's package of that name); that takes some fifty times as long, so the longest workload has none.
 """
 import os
 import random
+import re
+import shutil
 import subprocess
 import sys
 import tempfile
+import time
 
 HERE = os.path.dirname(os.path.abspath(__file__))
 BUILT = os.path.join(HERE, "..", "crates", "spbsim", "out", "spbsim")
@@ -72,25 +78,65 @@ def workloads():
     yield "32,768 lines", ["#"] * 32768, 0
 
 
+def high_water(pid):
+    """The most memory that a process has had so far, in MB; None once it has ended."""
+    try:
+        with open(f"/proc/{pid}/status") as status:
+            found = re.search(r"VmHWM:\s*(\d+) kB", status.read())
+    except OSError:
+        return None
+    return int(found.group(1)) / 1024 if found else None
+
+
 def measure(program, path):
-    """Processor seconds, peak memory in MB and exit status of one run."""
+    """Processor seconds, peak memory in MB and exit status of one run.
+
+    What the system tells of a child after its end counts the memory of the process that it was forked from as well, so
+    the peak is read off the program while it runs.
+    """
+    peak = 0.0
     with open(path, "rb") as script, open(os.devnull, "wb") as nowhere:
         process = subprocess.Popen([program, "run"], stdin=script, stdout=nowhere, stderr=nowhere)
-        _, status, usage = os.wait4(process.pid, 0)
-    return usage.ru_utime + usage.ru_stime, usage.ru_maxrss / 1024, os.waitstatus_to_exitcode(status)
+        while True:
+            peak = max(peak, high_water(process.pid) or 0.0)
+            pid, status, usage = os.wait4(process.pid, os.WNOHANG)
+            if pid:
+                return usage.ru_utime + usage.ru_stime, peak, os.waitstatus_to_exitcode(status)
+            time.sleep(0.0005)
+
+
+def instructions(program, path):
+    """How many instructions a run takes, by valgrind."""
+    words = ["valgrind", "--tool=callgrind", f"--callgrind-out-file={os.devnull}", program, "run"]
+    with open(path, "rb") as script:
+        run = subprocess.run(words, stdin=script, stdout=subprocess.DEVNULL, stderr=subprocess.PIPE, text=True)
+    found = re.search(r"Collected : (\d+)", run.stderr)
+    return int(found.group(1)) if found else None
+
+
+# the processor seconds from which on instructions aren't counted
+LONG = 5.0
 
 
 def main():
-    programs = [BUILT] + sys.argv[1:]
-    print(f"{'workload':44} {'program':24} {'cpu s':>8} {'peak MB':>8} {'hellos/s':>13}")
+    words = sys.argv[1:]
+    counts = "--count" in words
+    if counts and not shutil.which("valgrind"):
+        sys.exit("bench: --count needs valgrind on the path")
+    programs = [BUILT] + [word for word in words if word != "--count"]
+    head = f"{'workload':44} {'program':16} {'cpu s':>8} {'peak MB':>8} {'hellos/s':>13}"
+    print(head + (f" {'10^6 instr.':>12}" if counts else ""))
     for name, lines, hellos in workloads():
         with tempfile.NamedTemporaryFile("w", suffix=".spb", delete=False) as script:
             script.write("\n".join(lines) + "\n")
         for program in programs:
             seconds, memory, status = measure(program, script.name)
             rate = f"{hellos / seconds:,.0f}" if hellos and seconds else "-"
-            note = "" if status == 0 else f"  status {status}"
-            print(f"{name:44} {os.path.basename(program):24} {seconds:8.2f} {memory:8.1f} {rate:>13}{note}")
+            row = f"{name:44} {os.path.basename(program):16} {seconds:8.2f} {memory:8.1f} {rate:>13}"
+            if counts:
+                count = instructions(program, script.name) if seconds < LONG else None
+                row += f" {count / 1e6:12,.1f}" if count else f" {'-':>12}"
+            print(row + ("" if status == 0 else f"  status {status}"), flush=True)
         os.unlink(script.name)
 
 
