@@ -4,22 +4,21 @@ use Rattle.std.specs.List.{slice_get}
 use Rattle.std.proofs.lemmas.List.{length-map}
 use Rattle.std.proofs.lemmas.Option.{same_Some, none-some, slice_get-get_or}
 use Rattle.spb_types.specs.Address.{same_system}
-use Rattle.spb_types.specs.Graph.{IsBridge, systems_of}
+use Rattle.spb_types.specs.Graph.{IsValid, systems_of}
 use Rattle.spb_types.specs.declared.address.SystemId.{SystemId}
 use Rattle.spb_types.specs.declared.graph.Graph.{Graph}
 use Rattle.spb_types.specs.declared.tables.Path.{Path}
-use Rattle.ect_trees.specs.declared.key.PathKey.{PathKey}
 use Rattle.ect_trees.specs.declared.search.Label.{Label}
 use Rattle.ect_trees.specs.declared.search.Search.{Search}
 use Rattle.ect_trees.specs.Path.{IsPath, cost_of}
 use Rattle.ect_trees.specs.Path as path
 use Rattle.ect_trees.specs.Best.{IsBest, best_of}
 use Rattle.ect_trees.specs.Tree.{ends_at, path_in, best_path}
-use Rattle.ect_trees.specs.Search.{IsBridgeAt, IsReady, IsLabel, label_at, AreLabels, HasPath, AreBest, paths_in}
+use Rattle.ect_trees.specs.Roads.{IsBridgeAt, place_in}
+use Rattle.ect_trees.specs.Search.{graph_of, IsLabel, label_at, AreLabels, AreBest, paths_in}
 use Rattle.ect_trees.proofs.Among.{same_is, same_self}
-use Rattle.ect_trees.proofs.Walks.{path_bridges, path_end}
 use Rattle.ect_trees.proofs.Exists.{best_of_cases}
-use Rattle.ect_trees.proofs.Places.{among_at}
+use Rattle.ect_trees.proofs.Places.{place_is}
 
 leads_ends : (g : Graph) (a b : SystemId) (xs : List SystemId) → path.Leads g a xs b → ends_at (a ∷ xs) b ≡ true
 leads_ends g a b [] l = subst (λ t. same_system a t ≡ true) l.1 (same_self a)
@@ -35,13 +34,13 @@ leads_once g a b c [] l h = sym l.1 ∙ same_is a c h
 leads_once g a b c (x ∷ xs) l h = leads_once g x b c xs l.2 h
 
 -- and at no other
-path_once : (g : Graph) (a b c : SystemId) (p : List SystemId) → IsPath g a b p → ends_at p c ≡ true → b ≡ c
+pub path_once : (g : Graph) (a b c : SystemId) (p : List SystemId) → IsPath g a b p → ends_at p c ≡ true → b ≡ c
 path_once g a b c [] w h = absurd w
 path_once g a b c (x ∷ xs) w h = leads_once g x b c xs w.1 h
 
 -- the path of a label
-abbrev path_of : Label → Path
-path_of l = record { cost = l.key.cost; bridges = l.bridges.items }
+abbrev pub path_of : Label → Path
+path_of l = record { cost = l.cost; bridges = l.bridges.items }
 
 -- a label whose path is found
 pub record Found (ls : List (Option Label)) (to : SystemId) (p : Path) : Type 0 where
@@ -52,11 +51,11 @@ pub record Found (ls : List (Option Label)) (to : SystemId) (p : Path) : Type 0 
   pub path_is : path_of label ≡ p
   pub ends : ends_at label.bridges.items to ≡ true
 
-found_later : (o : Option Label) (ls : List (Option Label)) (to : SystemId) (p : Path) → Found ls to p → Found (o ∷ ls) to p
+pub found_later : (o : Option Label) (ls : List (Option Label)) (to : SystemId) (p : Path) → Found ls to p → Found (o ∷ ls) to p
 found_later o ls to p f = record { place = suc f.place; label = f.label; within = omega (arith, f.within); here = f.here; path_is = f.path_is; ends = f.ends }
 
 -- what path_in finds is the path of a label that ends there
-found : (ls : List (Option Label)) (to : SystemId) (p : Path) → path_in (paths_in ls) to ≡ Some p → Found ls to p
+pub found : (ls : List (Option Label)) (to : SystemId) (p : Path) → path_in (paths_in ls) to ≡ Some p → Found ls to p
 found [] to p h = absurd (none-some p h)
 found (None ∷ ls) to p h = found_later None ls to p (found ls to p h)
 found (Some l ∷ ls) to p h = by (ends_at l.bridges.items to) refl h (found ls to p)
@@ -66,7 +65,7 @@ found (Some l ∷ ls) to p h = by (ends_at l.bridges.items to) refl h (found ls 
     by false e k ih = found_later (Some l) ls to p (ih k)
 
 -- where path_in finds nothing, no label's path ends there
-missed : (ls : List (Option Label)) (to : SystemId) (place : ℕ) (l : Label) → path_in (paths_in ls) to ≡ None → label_at ls place ≡ Some l → ends_at l.bridges.items to ≡ true → ⊥
+pub missed : (ls : List (Option Label)) (to : SystemId) (place : ℕ) (l : Label) → path_in (paths_in ls) to ≡ None → label_at ls place ≡ Some l → ends_at l.bridges.items to ≡ true → ⊥
 missed [] to place l h e t = none-some l e
 missed (None ∷ ls) to zero l h e t = none-some l e
 missed (None ∷ ls) to (suc place) l h e t = missed ls to place l h e t
@@ -78,47 +77,43 @@ missed (Some k ∷ ls) to place l h e t = by (ends_at k.bridges.items to) refl h
     by false b m (suc place) f ih = ih m place f
 
 -- the bridge at a place
-stands : (s : Search) (ls : List (Option Label)) (place : ℕ) → AreLabels s ls → place < length ls → (x : SystemId) × IsBridgeAt s.graph.now place x
+pub stands : (s : Search) (ls : List (Option Label)) (place : ℕ) → AreLabels s ls → place < length ls → (x : SystemId) × IsBridgeAt (graph_of s) place x
 stands s ls place labels within =
-    let long : length (systems_of s.graph.now.bridges) ≡ length s.graph.now.bridges = length-map s.graph.now.bridges _ in
-    let here = λ (d : SystemId). slice_get-get_or (systems_of s.graph.now.bridges) place d (omega (arith, within, labels.places, long)) in
+    let long : length (systems_of (graph_of s).bridges) ≡ length (graph_of s).bridges = length-map (graph_of s).bridges _ in
+    let here = λ (d : SystemId). slice_get-get_or (systems_of (graph_of s).bridges) place d (omega (arith, within, labels.places, long)) in
     (_, here s.source)
 
 -- the map has the best path from the source to each system id that has one, and nothing else
-pub paths_are_best : (s : Search) (ls : List (Option Label)) (to : SystemId) → IsReady s → AreBest s ls → path_in (paths_in ls) to ≡ best_path s.graph.now s.mask s.source to
-paths_are_best s ls to ready best = by (path_in (paths_in ls) to) refl (best_of_cases g s.mask s.source to ready.valid)
+pub paths_are_best : (s : Search) (ls : List (Option Label)) (to : SystemId) → IsValid (graph_of s) → AreBest s ls → path_in (paths_in ls) to ≡ best_path (graph_of s) s.mask s.source to
+paths_are_best s ls to valid best = by (path_in (paths_in ls) to) refl (best_of_cases (graph_of s) s.mask s.source to valid)
   where
-    g : Graph
-    g = s.graph.now
-
     -- a path that is found leads to its end
-    leads : (p : Path) → path_in (paths_in ls) to ≡ Some p → (f : Found ls to p) × IsBridgeAt s.graph.now f.place to × IsLabel s to f.label
+    leads : (p : Path) → path_in (paths_in ls) to ≡ Some p → (f : Found ls to p) × IsBridgeAt (graph_of s) f.place to × IsLabel s to f.label
     leads p h =
         let f = found ls to p h in
         let x = stands s ls f.place best.labels f.within in
         let label = best.labels.each f.place x.0 f.label x.1 f.here in
-        let same : x.0 ≡ to = path_once s.graph.now s.source x.0 to f.label.bridges.items label.path f.ends in
-        (f, subst (IsBridgeAt s.graph.now f.place) same x.1, subst (λ t. IsLabel s t f.label) same label)
+        let same : x.0 ≡ to = path_once (graph_of s) s.source x.0 to f.label.bridges.items label.path f.ends in
+        (f, subst (IsBridgeAt (graph_of s) f.place) same x.1, subst (λ t. IsLabel s t f.label) same label)
 
-    by : (o : Option Path) → path_in (paths_in ls) to ≡ o → (((p : List SystemId) → IsPath s.graph.now s.source to p → ⊥) × (best_of s.graph.now s.mask s.source to ≡ None)) ⊎ ((p : List SystemId) × (best_of s.graph.now s.mask s.source to ≡ Some p) × IsBest s.graph.now s.mask s.source to p) → path_in (paths_in ls) to ≡ best_path s.graph.now s.mask s.source to
-    by None h (inl n) = h ∙ sym (ap (option_map (λ p. record { cost = cost_of s.graph.now p; bridges = p })) n.1)
+    by : (o : Option Path) → path_in (paths_in ls) to ≡ o → (((p : List SystemId) → IsPath (graph_of s) s.source to p → ⊥) × (best_of (graph_of s) s.mask s.source to ≡ None)) ⊎ ((p : List SystemId) × (best_of (graph_of s) s.mask s.source to ≡ Some p) × IsBest (graph_of s) s.mask s.source to p) → path_in (paths_in ls) to ≡ best_path (graph_of s) s.mask s.source to
+    by None h (inl n) = h ∙ sym (ap (option_map (λ p. record { cost = cost_of (graph_of s) p; bridges = p })) n.1)
     by (Some p) h (inl n) = let l = leads p h in absurd (n.0 l.0.label.bridges.items l.2.path)
     by None h (inr b) =
-        let bridge : IsBridge s.graph.now to = path_bridges s.graph.now s.source to to b.0 b.2.path (path_end s.graph.now s.source to b.0 b.2.path) in
-        let at = among_at to (systems_of s.graph.now.bridges) bridge in
-        let has : HasPath ls at.0 b.0 = best.settled (length b.0) at.0 to b.0 at.1 (omega arith) b.2 in
-        absurd (lost (label_at ls at.0) at.0 b.0 refl b.2.path has)
+        let place : ℕ = place_in (graph_of s).bridges to in
+        absurd (lost (label_at ls place) place b.0 refl b.2.path (best.best to ∙ b.1))
       where
-        lost : (o : Option Label) (place : ℕ) (p : List SystemId) → label_at ls place ≡ o → IsPath s.graph.now s.source to p → option_map (λ (l : Label). l.bridges.items) o ≡ Some p → ⊥
+        lost : (o : Option Label) (place : ℕ) (p : List SystemId) → label_at ls place ≡ o → IsPath (graph_of s) s.source to p → option_map (λ (l : Label). l.bridges.items) o ≡ Some p → ⊥
         lost None place p e w k = none-some p k
-        lost (Some l) place p e w k = missed ls to place l h e (subst (λ t. ends_at t to ≡ true) (sym (same_Some l.bridges.items p k)) (path_ends s.graph.now s.source to p w))
+        lost (Some l) place p e w k = missed ls to place l h e (subst (λ t. ends_at t to ≡ true) (sym (same_Some l.bridges.items p k)) (path_ends (graph_of s) s.source to p w))
     by (Some p) h (inr b) =
         let l = leads p h in
-        let has : HasPath ls l.0.place b.0 = best.settled (length b.0) l.0.place to b.0 l.1 (omega arith) b.2 in
-        let same : l.0.label.bridges.items ≡ b.0 = same_Some l.0.label.bridges.items b.0 (sym (ap (option_map (λ (t : Label). t.bridges.items)) l.0.here) ∙ has) in
-        let cost : l.0.label.key.cost ≡ cost_of s.graph.now b.0 = ap (λ (k : PathKey). k.cost) l.2.keyed ∙ ap (cost_of s.graph.now) same in
-        let whole : path_of l.0.label ≡ record { cost = cost_of s.graph.now b.0; bridges = b.0 } = λ i. record { cost = cost i; bridges = same i } in
-        h ∙ (ap Some (sym l.0.path_is ∙ whole) ∙ sym (ap (option_map (λ p. record { cost = cost_of s.graph.now p; bridges = p })) b.1))
+        let place : place_in (graph_of s).bridges to ≡ l.0.place = place_is (graph_of s) l.0.place to valid l.1 in
+        let here : label_at ls (place_in (graph_of s).bridges to) ≡ Some l.0.label = ap (label_at ls) place ∙ l.0.here in
+        let same : l.0.label.bridges.items ≡ b.0 = same_Some l.0.label.bridges.items b.0 (sym (ap (option_map (λ (t : Label). t.bridges.items)) here) ∙ (best.best to ∙ b.1)) in
+        let cost : l.0.label.cost ≡ cost_of (graph_of s) b.0 = l.2.cost_is ∙ ap (cost_of (graph_of s)) same in
+        let whole : path_of l.0.label ≡ record { cost = cost_of (graph_of s) b.0; bridges = b.0 } = λ i. record { cost = cost i; bridges = same i } in
+        h ∙ (ap Some (sym l.0.path_is ∙ whole) ∙ sym (ap (option_map (λ p. record { cost = cost_of (graph_of s) p; bridges = p })) b.1))
 
 -- a list that has a last element ends there alone
 pub ends_at_last : (xs : List SystemId) (z x : SystemId) → slice_get xs (length xs - 1) ≡ Some z → ends_at xs x ≡ same_system z x

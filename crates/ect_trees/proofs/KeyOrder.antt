@@ -78,7 +78,7 @@ cmp_from m n i j Equal Greater e f x y a b c = let h = b x in absurd (omega (ari
 cmp_from m n i j Greater Less e f x y a b c = let h = c x in absurd (omega (arith, h, y))
 cmp_from m n i j Greater Equal e f x y a b c = let h = c x in absurd (omega (arith, h, y))
 
-nat_cmp-add : (m n c i j : ℕ) → i ≡ m + c → j ≡ n + c → nat_cmp i j ≡ nat_cmp m n
+pub nat_cmp-add : (m n c i j : ℕ) → i ≡ m + c → j ≡ n + c → nat_cmp i j ≡ nat_cmp m n
 nat_cmp-add m n c i j e f =
     cmp_from m n i j (nat_cmp m n) (nat_cmp i j) refl refl (ranked m n (nat_cmp m n) refl) (ranked i j (nat_cmp i j) refl) (λ h. omega (arith, e, f, h)) (λ h. omega (arith, e, f, h)) (λ h. omega (arith, e, f, h))
 

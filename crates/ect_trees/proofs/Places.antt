@@ -1,7 +1,8 @@
 -- Places of bridges in a graph, and the arcs between them.
-use Rattle.std.proofs.Common.{◌≡◌, ℕ, zero, suc, ◌+◌, ◌<◌, Bool, true, false, true≢false, ◌&&◌, ◌||◌, not, if◌then◌else◌, cond, ◌⊎◌, inl, inr, List, [], ◌∷◌, length, get_or, Some, None, IsSome, option_map, refl, sym, ap, ◌∙◌, subst, arith, lt-ltb}
+use Rattle.std.proofs.Common.{◌≡◌, ℕ, zero, suc, ◌+◌, ◌<◌, Bool, true, false, true≢false, ◌&&◌, ◌||◌, not, if◌then◌else◌, cond, ◌⊎◌, inl, inr, List, [], ◌∷◌, length, get_or, Some, None, IsSome, option_map, ◌≢◌, refl, sym, ap, ◌∙◌, subst, arith, lt-ltb, ltb}
 use Rattle.std.specs.List.{AllByRecursion, slice_get, position}
 use Rattle.std.proofs.lemmas.Option.{none-some, same_Some, slice_get-map, slice_get_within, slice_get-get_or}
+use Rattle.std.proofs.lemmas.Bool.{ltb-true}
 use Rattle.std.proofs.lemmas.List.{length-map}
 use Rattle.std.proofs.lemmas.List.Elements.{All-from_recursion}
 use Rattle.spb_types.specs.Address.{same_system}
@@ -10,10 +11,9 @@ use Rattle.spb_types.specs.declared.address.SystemId.{SystemId}
 use Rattle.spb_types.specs.declared.graph.GraphBridge.{GraphBridge}
 use Rattle.spb_types.specs.declared.graph.Edge.{Edge}
 use Rattle.spb_types.specs.declared.graph.Graph.{Graph}
-use Rattle.ect_trees.specs.declared.search.Arc.{Arc}
-use Rattle.ect_trees.specs.declared.search.Search.{Search}
+use Rattle.ect_trees.specs.declared.roads.Arc.{Arc}
 use Rattle.ect_trees.specs.Key.{bridge_id_among}
-use Rattle.ect_trees.specs.Search.{IsBridgeAt, Leads, place_in, arcs_of, IsReady}
+use Rattle.ect_trees.specs.Roads.{IsBridgeAt, CanGo, place_in, arcs_of}
 use Rattle.ect_trees.proofs.Among.{same_is, same_self}
 use Rattle.ect_trees.proofs.Walks.{cost_comm}
 
@@ -80,10 +80,6 @@ costs_own (e ∷ es) o = (
   all_with (λ f. joins e f.a f.b ≡ false) (λ f. cost_among es f.a f.b ≡ Some f.cost) (λ f. cost_among (e ∷ es) f.a f.b ≡ Some f.cost) es
       (λ f apart own. ap (λ t. if t then Some e.cost else cost_among es f.a f.b) apart ∙ own) o.0 (costs_own es o.1),
 )
-
--- the arc leads from a bridge to a bridge
-abbrev pub CanGo : Graph → Arc → Type 0
-CanGo g h = (x : SystemId) × (y : SystemId) × Leads g h x y
 
 arcs_go : (g : Graph) (es : List Edge) → AllByRecursion (λ e. IsEdgeOf g e) es → AllByRecursion (λ e. cost_between g e.a e.b ≡ Some e.cost) es → AllByRecursion (CanGo g) (arcs_of g.bridges es)
 arcs_go g [] v o = tt
@@ -174,9 +170,50 @@ place_found g x h =
     let within : place_in g.bridges x < length g.bridges = at_within g (place_in g.bridges x) x (place_at g.bridges x h) in
     subst (λ t. IsSome (cond t (Some (place_in g.bridges x)) None)) (sym (lt-ltb (place_in g.bridges x) (length g.bridges) within)) refl
 
+-- the bridge that stands at the place of x is x
+pub place_once : (bs : List GraphBridge) (x y : SystemId) → slice_get (systems_of bs) (place_in bs x) ≡ Some y → x ≡ y
+place_once [] x y h = absurd (none-some y h)
+place_once (b ∷ bs) x y h = found (same_system b.id.system x) refl h (place_once bs x y)
+  where
+    found : (t : Bool) → same_system b.id.system x ≡ t → slice_get (systems_of (b ∷ bs)) (cond (not t) (1 + place_in bs x) 0) ≡ Some y → (slice_get (systems_of bs) (place_in bs x) ≡ Some y → x ≡ y) → x ≡ y
+    found true e h ih = sym (same_is b.id.system x e) ∙ same_Some b.id.system y h
+    found false e h ih = let one : 1 + place_in bs x ≡ suc (place_in bs x) = omega arith in
+        ih (subst (λ n. slice_get (systems_of (b ∷ bs)) n ≡ Some y) one h)
+
+-- where x stands is its place
+pub place_is : (g : Graph) (i : ℕ) (x : SystemId) → IsValid g → IsBridgeAt g i x → place_in g.bridges x ≡ i
+place_is g i x v h = at_once (systems_of g.bridges) (place_in g.bridges x) i x v.apart (place_at g.bridges x (at_among (systems_of g.bridges) i x h)) h
+
+-- and no other bridge has that place
+pub place_apart : (g : Graph) (i : ℕ) (x z : SystemId) → IsBridgeAt g i x → z ≢ x → place_in g.bridges z ≢ i
+place_apart g i x z h n e = n (place_once g.bridges z x (subst (λ t. slice_get (systems_of g.bridges) t ≡ Some x) (sym e) h))
+
+-- the place where it stands is found
+pub place_found_at : (g : Graph) (i : ℕ) (x : SystemId) → IsValid g → IsBridgeAt g i x → position (λ b. same_system b.id.system x) g.bridges ≡ Some i
+place_found_at g i x v h =
+    let same : place_in g.bridges x ≡ i = place_is g i x v h in
+    let within : i < length g.bridges = at_within g i x h in
+    ap (λ t. cond t (Some (place_in g.bridges x)) None) (lt-ltb (place_in g.bridges x) (length g.bridges) (omega (arith, within, same))) ∙ ap Some same
+
+-- where a place is found, the bridge stands there
+pub found_place : (g : Graph) (x : SystemId) (i : ℕ) → position (λ b. same_system b.id.system x) g.bridges ≡ Some i → IsBridgeAt g i x
+found_place g x i h = by (ltb (place_in g.bridges x) (length g.bridges)) refl h
+  where
+    by : (t : Bool) → ltb (place_in g.bridges x) (length g.bridges) ≡ t → cond t (Some (place_in g.bridges x)) None ≡ Some i → IsBridgeAt g i x
+    by true e k =
+        let within : place_in g.bridges x < length g.bridges = ltb-true (place_in g.bridges x) (length g.bridges) e in
+        let long : length (systems_of g.bridges) ≡ length g.bridges = length-map g.bridges (λ (t : GraphBridge). t.id.system) in
+        let read = slice_get-get_or (systems_of g.bridges) (place_in g.bridges x) x (omega (arith, within, long)) in
+        let own : x ≡ get_or (systems_of g.bridges) (place_in g.bridges x) x = place_once g.bridges x _ read in
+        subst (λ n. IsBridgeAt g n x) (same_Some (place_in g.bridges x) i k) (read ∙ ap Some (sym own))
+    by false e k = absurd (none-some i k)
+
+-- where a bridge is read whose system id is that of x, x stands
+pub reads_at : (g : Graph) (bs : List GraphBridge) (i : ℕ) (x : SystemId) → bs ≡ g.bridges → i < length bs → same_system (get_or bs i no_bridge).id.system x ≡ true → IsBridgeAt g i x
+reads_at g bs i x e within same =
+    let here : slice_get bs i ≡ Some (get_or bs i no_bridge) = slice_get-get_or bs i no_bridge within in
+    let read : slice_get (systems_of bs) i ≡ Some (get_or bs i no_bridge).id.system = slice_get-map (λ (t : GraphBridge). t.id.system) bs i ∙ ap (option_map (λ (t : GraphBridge). t.id.system)) here in
+    subst (λ t. slice_get (systems_of t) i ≡ Some x) e (read ∙ ap Some (same_is (get_or bs i no_bridge).id.system x same))
+
 abbrev pub no_arc : Arc
 no_arc = record { from = 0; to = 0; cost = 0 }
-
--- each hop that is read leads along an edge
-pub read_arc : (s : Search) (hs : List Arc) (i : ℕ) → IsReady s → hs ≡ s.arcs.items → i < length hs → CanGo s.graph.now (get_or hs i no_arc)
-read_arc s hs i r e h = All-from_recursion (CanGo s.graph.now) hs (subst (AllByRecursion (CanGo s.graph.now)) (sym (e ∙ r.arcs)) (arcs_lead s.graph.now r.valid)) i no_arc h

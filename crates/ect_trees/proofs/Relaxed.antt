@@ -1,208 +1,156 @@
--- What relaxing does to the labels: a hop, a round, and rounds until all best paths are there.
-use Rattle.std.proofs.Common.{◌≡◌, ℕ, zero, suc, ◌+◌, ◌<◌, ◌≤◌, ◌≢◌, Bool, true, false, true≢false, ◌⊎◌, inl, inr, List, [], ◌∷◌, ◌++◌, length, get_or, eqb, eqb-true, eq-eqb, Option, Some, None, IsSome, option_map, refl, sym, ap, ◌∙◌, subst, arith, append_assoc}
-use Rattle.std.proofs.Math.ListN.{set, length-set}
-use Rattle.std.specs.List.{slice_get}
-use Rattle.std.proofs.lemmas.List.{get_or-set_same, get_or-set_other, get_or_read, length-append}
-use Rattle.std.proofs.lemmas.Option.{same_Some, none-some}
-use Rattle.spb_types.specs.Graph.{systems_of, cost_between}
+-- What relaxing the arcs from a place does.
+use Rattle.std.proofs.Common.{◌≡◌, ◌≢◌, true, ℕ, ◌+◌, ◌<◌, ◌≤◌, ◌⊎◌, inl, inr, List, [], ◌∷◌, ◌++◌, length, Option, Some, None, IsSome, option_map, get_or, refl, sym, ap, ◌∙◌, subst, arith}
+use Rattle.std.specs.BTreeSet.{BTreeSet}
+use Rattle.std.proofs.lemmas.List.{get_or_read}
+use Rattle.std.proofs.lemmas.Option.{same_Some, none-some, slice_get_within}
+use Rattle.spb_types.specs.Graph.{IsAmong, cost_between}
 use Rattle.spb_types.specs.declared.address.SystemId.{SystemId}
 use Rattle.spb_types.specs.declared.graph.Graph.{Graph}
+use Rattle.ect_trees.specs.declared.roads.Arc.{Arc}
 use Rattle.ect_trees.specs.declared.search.Label.{Label}
-use Rattle.ect_trees.specs.declared.search.Arc.{Arc}
 use Rattle.ect_trees.specs.declared.search.Search.{Search}
-use Rattle.ect_trees.specs.Path.{IsPath}
-use Rattle.ect_trees.specs.Path as path
+use Rattle.ect_trees.specs.declared.waiting.Waiting.{Waiting}
 use Rattle.ect_trees.specs.Key.{key_of, IsBelow}
-use Rattle.ect_trees.specs.Best.{IsBest}
-use Rattle.ect_trees.specs.Search.{IsBridgeAt, Leads, IsReady, IsLabel, label_at, AreLabels, HasPath, IsSettled, AreBest, KeepsBest, TakesStep, Improves, IsRelaxed, IsRound}
-use Rattle.ect_trees.proofs.Walks.{path_length}
-use Rattle.ect_trees.proofs.Least.{best_is_least, best_front}
-use Rattle.ect_trees.proofs.Places.{at_once, at_within, goes}
+use Rattle.ect_trees.specs.Low.{LowAt}
+use Rattle.ect_trees.specs.Frontier.{During, WithOne, WithWay}
+use Rattle.ect_trees.specs.Roads.{IsBridgeAt, Leads, IsArcAt, AreReady, place_in, rows_of}
+use Rattle.ect_trees.specs.Search.{graph_of, label_at, AreLabels, way_of, waits_of, entry_of, IsState, IsLow, IsLower, Improves, IsRelaxed, IsLeft, RelaxesAll}
+use Rattle.ect_trees.specs.Search.IsRelaxed.{none, same, lower}
+use Rattle.ect_trees.specs.Waits.{waits}
+use Rattle.ect_trees.proofs.Places.{at_within, place_is, place_once, place_apart}
+use Rattle.ect_trees.proofs.Extended.{at_same}
+use Rattle.ect_trees.proofs.Grouped.{same_or_not}
+use Rattle.ect_trees.proofs.Entries.{set_own, set_other, set_state}
+use Rattle.ect_trees.proofs.Frontier.{relaxed_same, relaxed_lower, x_done}
 
--- nothing changes where the start of the hop has no label
-pub relaxed_nothing : (s : Search) (arc : Arc) (ls : List (Option Label)) → AreLabels s ls → label_at ls arc.from ≡ None → IsRelaxed s arc ls ls false
-relaxed_nothing s arc ls labels none = record {
-  labels = labels;
-  keeps = λ place x p here best has. has;
-  step = λ x y p go best has longer. absurd (none-some p (sym (ap (option_map (λ (l : Label). l.bridges.items)) none) ∙ has));
-  still = λ e. refl;
-}
+-- the way to the bridge at a place is the path of the label there
+pub way_at : (s : Search) (ls : List (Option Label)) (place : ℕ) (x : SystemId) → AreReady s.roads.now → IsBridgeAt (graph_of s) place x → way_of s ls x ≡ option_map (λ (l : Label). l.bridges.items) (label_at ls place)
+way_at s ls place x ready here = ap (λ n. option_map (λ (l : Label). l.bridges.items) (label_at ls n)) (place_is (graph_of s) place x ready.valid here)
 
--- the path of a label
-path_is : (ls : List (Option Label)) (place : ℕ) (l : Label) (p : List SystemId) → label_at ls place ≡ Some l → HasPath ls place p → l.bridges.items ≡ p
-path_is ls place l p e h = same_Some l.bridges.items p (sym (ap (option_map (λ (t : Label). t.bridges.items)) e) ∙ h)
+pub way_is : (s : Search) (ls : List (Option Label)) (place : ℕ) (x : SystemId) (l : Label) → AreReady s.roads.now → IsBridgeAt (graph_of s) place x → label_at ls place ≡ Some l → way_of s ls x ≡ Some l.bridges.items
+way_is s ls place x l ready here e = way_at s ls place x ready here ∙ ap (option_map (λ (t : Label). t.bridges.items)) e
 
--- nor where the arc makes nothing better
-pub relaxed_same : (s : Search) (arc : Arc) (l : Label) (ls : List (Option Label)) → AreLabels s ls → label_at ls arc.from ≡ Some l → Improves s arc l (label_at ls arc.to) None → IsRelaxed s arc ls ls false
-relaxed_same s arc l ls labels from worse = record {
-  labels = labels;
-  keeps = λ place x p here best has. has;
-  step = λ x y p go best has longer.
-      let e : l.bridges.items ≡ p = path_is ls arc.from l p from has in
-      subst (λ t. HasPath ls arc.to (t ++ y ∷ [])) e (worse y go.to (subst (λ t. IsBest s.graph.now s.mask s.source y (t ++ y ∷ [])) (sym e) longer));
-  still = λ e. refl;
-}
+-- the labels and the frontier once the first k arcs from a place are relaxed
+pub record Relaxing (s : Search) (place k : ℕ) (old now : List (Option Label)) (front since : BTreeSet Waiting) : Type 0 where
+  pub state : IsState s now since
+  pub during : (done : List SystemId) (x : SystemId) (p : List SystemId) → IsBridgeAt (graph_of s) place x → During (graph_of s) s.mask s.source done x p (waits_of s front) (IsLeft s place 0) (way_of s old) → During (graph_of s) s.mask s.source done x p (waits_of s since) (IsLeft s place k) (way_of s now)
 
-pub same_or_not : (i j : ℕ) → (i ≡ j) ⊎ (i ≢ j)
-same_or_not i j = by (eqb i j) refl
+pub relaxing_none : (s : Search) (place : ℕ) (ls : List (Option Label)) (front : BTreeSet Waiting) → IsState s ls front → Relaxing s place 0 ls ls front front
+relaxing_none s place ls front state = record { state = state; during = λ done x p here d. d }
+
+-- the next arc
+pub relaxing_more : (s : Search) (place k : ℕ) (arc : Arc) (old now next : List (Option Label)) (front since then : BTreeSet Waiting) → AreReady s.roads.now → IsArcAt (rows_of s.roads.now) place k arc → Relaxing s place k old now front since → IsRelaxed s arc now next since then → Relaxing s place (k + 1) old next front then
+relaxing_more s place k arc old now next front since then ready here r relaxed = record { state = state relaxed; during = λ done x p at d. during done x p at (r.during done x p at d) relaxed }
   where
-    by : (t : Bool) → eqb i j ≡ t → (i ≡ j) ⊎ (i ≢ j)
-    by true e = inl (eqb-true i j e)
-    by false e = inr (λ h. true≢false (sym (eq-eqb i j h) ∙ e))
+    g : Graph
+    g = graph_of s
 
--- a better label takes its place
-pub relaxed_set : (s : Search) (arc : Arc) (l new : Label) (ls : List (Option Label)) → AreLabels s ls → arc.to < length ls → label_at ls arc.from ≡ Some l → Improves s arc l (label_at ls arc.to) (Some new) → IsRelaxed s arc ls (set ls arc.to (Some new)) true
-relaxed_set s arc l new ls labels within from better = record {
-  labels = record { places = length-set ls arc.to (Some new) ∙ labels.places; each = each };
-  keeps = keeps;
-  step = λ x y p go best has longer.
-      let e : l.bridges.items ≡ p = path_is ls arc.from l p from has in
-      ap (option_map (λ (t : Label). t.bridges.items)) here ∙ ap Some ((better.0 y go.to).1 ∙ ap (λ t. t ++ y ∷ []) e);
-  still = λ e. absurd (true≢false e);
-}
-  where
-    here : label_at (set ls arc.to (Some new)) arc.to ≡ Some new
-    here = get_or-set_same ls arc.to (Some new) None within
+    from : arc.from ≡ place
+    from = (ready.lead place k arc here).0
 
-    there : (place : ℕ) → place ≢ arc.to → label_at (set ls arc.to (Some new)) place ≡ label_at ls place
-    there place n = get_or-set_other ls arc.to place (Some new) None n
+    y : SystemId
+    y = (ready.lead place k arc here).1.1
 
-    each : (place : ℕ) (x : SystemId) (k : Label) → IsBridgeAt s.graph.now place x → label_at (set ls arc.to (Some new)) place ≡ Some k → IsLabel s x k
-    each place x k at e = elim (same_or_not place arc.to) [
-      | inl same ↦
-          let own : new ≡ k = same_Some new k (sym here ∙ subst (λ t. label_at (set ls arc.to (Some new)) t ≡ Some k) same e) in
-          subst (IsLabel s x) own (better.0 x (subst (λ t. IsBridgeAt s.graph.now t x) same at)).0
-      | inr other ↦ labels.each place x k at (sym (there place other) ∙ e)
-    ]
+    lead : Leads (graph_of s) arc (ready.lead place k arc here).1.0 (ready.lead place k arc here).1.1
+    lead = (ready.lead place k arc here).1.2
 
-    beats : (o : Option Label) (x : SystemId) (p : List SystemId) → label_at ls arc.to ≡ o → IsBridgeAt s.graph.now arc.to x → IsBest s.graph.now s.mask s.source x p → option_map (λ (t : Label). t.bridges.items) o ≡ Some p → ⊥
-    beats None x p e at best h = none-some p h
-    beats (Some o) x p e at best h =
-        let g = s.graph.now in
-        let same : o.bridges.items ≡ p = same_Some o.bridges.items p h in
-        let below : IsBelow new.key o.key = better.1 o e in
-        let kept = labels.each arc.to x o at e in
-        let fresh = (better.0 x at).0 in
-        let left : IsBelow (key_of g s.mask new.bridges.items) o.key = subst (λ k. IsBelow k o.key) fresh.keyed below in
-        let right : IsBelow (key_of g s.mask new.bridges.items) (key_of g s.mask p) = subst (IsBelow (key_of g s.mask new.bridges.items)) (kept.keyed ∙ ap (key_of g s.mask) same) left in
-        (best_is_least g s.mask s.source x p best).least new.bridges.items fresh.path right
+    within : arc.to < length now
+    within = let below = at_within (graph_of s) arc.to (ready.lead place k arc here).1.1 lead.to in omega (arith, below, r.state.labels.places)
 
-    keeps : KeepsBest s ls (set ls arc.to (Some new))
-    keeps place x p at best has = elim (same_or_not place arc.to) [
-      | inl same ↦ absurd (beats (label_at ls arc.to) x p refl (subst (λ t. IsBridgeAt s.graph.now t x) same at) best (subst (λ t. HasPath ls t p) same has))
-      | inr other ↦ ap (option_map (λ (t : Label). t.bridges.items)) (there place other) ∙ has
-    ]
+    state : IsRelaxed s arc now next since then → IsState s next then
+    state (none e f n) = subst (λ t. IsState s t then) (sym e) (subst (IsState s now) (sym f) r.state)
+    state (same e f l n i) = subst (λ t. IsState s t then) (sym e) (subst (IsState s now) (sym f) r.state)
+    state (lower l e new better done) = set_state s arc.to (ready.lead place k arc here).1.1 new now next since then lead.to within (better (ready.lead place k arc here).1.1 lead.to).label r.state done
 
--- what the first k arcs of a round did
-pub record SoFar (s : Search) (k : ℕ) (old now : List (Option Label)) (changed : Bool) : Type 0 where
-  pub labels : AreLabels s now
-  pub keeps : KeepsBest s old now
-  pub steps : (j : ℕ) (h : Arc) → j < k → slice_get s.arcs.items j ≡ Some h → TakesStep s h old now
-  pub still : changed ≡ false → now ≡ old
-
-pub so_far_none : (s : Search) (ls : List (Option Label)) → AreLabels s ls → SoFar s 0 ls ls false
-so_far_none s ls labels = record {
-  labels = labels;
-  keeps = λ place x p here best has. has;
-  steps = λ j h below here. absurd (omega (arith, below));
-  still = λ e. refl;
-}
-
--- one hop more
-pub so_far_more : (s : Search) (k : ℕ) (arc : Arc) (old now new : List (Option Label)) (changed more both : Bool) → SoFar s k old now changed → slice_get s.arcs.items k ≡ Some arc → IsRelaxed s arc now new more → (both ≡ false → (changed ≡ false) × (more ≡ false)) → SoFar s (k + 1) old new both
-so_far_more s k arc old now new changed more both sofar here relaxed parts = record {
-  labels = relaxed.labels;
-  keeps = λ place x p at best has. relaxed.keeps place x p at best (sofar.keeps place x p at best has);
-  steps = steps;
-  still = λ e. relaxed.still (parts e).1 ∙ sofar.still (parts e).0;
-}
-  where
-    steps : (j : ℕ) (h : Arc) → j < k + 1 → slice_get s.arcs.items j ≡ Some h → TakesStep s h old new
-    steps j h below at = elim (same_or_not j k) [
-      | inl same ↦
-          let own : arc ≡ h = same_Some arc h (sym here ∙ subst (λ t. slice_get s.arcs.items t ≡ Some h) same at) in
-          subst (λ t. TakesStep s t old new) own (λ x y p go best has longer. relaxed.step x y p go best (sofar.keeps arc.from x p go.from best has) longer)
-      | inr other ↦ λ x y p go best has longer.
-          relaxed.keeps h.to y (p ++ y ∷ []) go.to longer (sofar.steps j h (omega (arith, below, other)) at x y p go best has longer)
-    ]
-
--- a path has one bridge, or one more than a path to a bridge from which an edge leads to its end
-pub record Longer (g : Graph) (b : SystemId) (p : List SystemId) : Type 0 where
-  pub front : List SystemId
-  pub last : SystemId
-  pub parts : p ≡ (front ++ last ∷ []) ++ b ∷ []
-  pub joined : IsSome (cost_between g last b)
-
-leads_parts : (g : Graph) (a b : SystemId) (xs : List SystemId) → path.Leads g a xs b → (a ∷ xs ≡ b ∷ []) ⊎ Longer g b (a ∷ xs)
-leads_parts g a b [] l = inl (ap (λ t. t ∷ []) l.1)
-leads_parts g a b (x ∷ xs) l = by (leads_parts g x b xs l.2)
-  where
-    by : (x ∷ xs ≡ b ∷ []) ⊎ Longer g b (x ∷ xs) → (a ∷ x ∷ xs ≡ b ∷ []) ⊎ Longer g b (a ∷ x ∷ xs)
-    by (inl e) = let first : x ≡ b = cc in
-        inr (record { front = []; last = a; parts = ap (λ t. a ∷ t) e; joined = subst (λ t. IsSome (cost_between g a t)) first l.1 })
-    by (inr w) = inr (record { front = a ∷ w.front; last = w.last; parts = ap (λ t. a ∷ t) w.parts; joined = w.joined })
-
-path_parts : (g : Graph) (a b : SystemId) (p : List SystemId) → IsPath g a b p → (p ≡ b ∷ []) ⊎ Longer g b p
-path_parts g a b [] w = absurd w
-path_parts g a b (x ∷ xs) w = leads_parts g x b xs w.1
-
-some_is : {X : Type 0} (o : Option X) → IsSome o → (x : X) × (o ≡ Some x)
-some_is None h = absurd (true≢false (sym h))
-some_is (Some x) h = (x, refl)
-
--- after a whole round the best paths of one hop more are there
-pub round_done : (s : Search) (old now : List (Option Label)) (changed : Bool) → IsReady s → SoFar s (length s.arcs.items) old now changed → IsRound s old now changed
-round_done s old now changed ready sofar = record { labels = sofar.labels; further = further; still = sofar.still }
-  where
-    further : (n : ℕ) → IsSettled s n old → IsSettled s (n + 1) now
-    further n settled place y p here long best = elim (path_parts s.graph.now s.source y p best.path) [
-      | inl e ↦
-          let short : length p ≡ 1 = ap length e in
-          sofar.keeps place y p here best (settled place y p here (omega (arith, short)) best)
-      | inr w ↦
-          let g = s.graph.now in
-          let q = w.front ++ w.last ∷ [] in
-          let whole : p ≡ w.front ++ w.last ∷ y ∷ [] = w.parts ∙ append_assoc w.front (w.last ∷ []) (y ∷ []) in
-          let best' : IsBest g s.mask s.source w.last q = best_front g s.mask s.source y w.last w.front (y ∷ []) ready.valid (subst (IsBest g s.mask s.source y) whole best) in
-          let counted : length p ≡ length (q ++ y ∷ []) = ap length w.parts in
-          let shorter : length q ≤ n + 1 = omega (arith, counted, long, length-append q (y ∷ [])) in
-          let cost = some_is (cost_between g w.last y) w.joined in
-          let go = goes g w.last y cost.0 ready.valid cost.1 in
-          let listed : slice_get s.arcs.items go.at ≡ Some go.arc = subst (λ t. slice_get t go.at ≡ Some go.arc) (sym ready.arcs) go.here in
-          let lead : Leads g go.arc w.last y = record { from = go.from; to = go.to; cost = cost.1 ∙ ap Some (sym go.cost_is) } in
-          let has : HasPath old go.arc.from q = settled go.arc.from w.last q go.from shorter best' in
-          let stepped : HasPath now go.arc.to (q ++ y ∷ []) = sofar.steps go.at go.arc (within (s.arcs.items) go.at go.arc listed) listed w.last y q lead best' has (subst (IsBest g s.mask s.source y) w.parts best) in
-          let same : go.arc.to ≡ place = at_once (systems_of g.bridges) go.arc.to place y ready.valid.apart go.to here in
-          subst (λ t. HasPath now place t) (sym w.parts) (subst (λ t. HasPath now t (q ++ y ∷ [])) same stepped)
-    ]
+    during : (done : List SystemId) (x : SystemId) (p : List SystemId) → IsBridgeAt (graph_of s) place x → During (graph_of s) s.mask s.source done x p (waits_of s since) (IsLeft s place k) (way_of s now) → IsRelaxed s arc now next since then → During (graph_of s) s.mask s.source done x p (waits_of s then) (IsLeft s place (k + 1)) (way_of s next)
+    during done x p at d = by
       where
-        within : (hs : List Arc) (i : ℕ) (h : Arc) → slice_get hs i ≡ Some h → i < length hs
-        within = Rattle.std.proofs.lemmas.Option.slice_get_within
+        start : IsBridgeAt (graph_of s) arc.from x
+        start = subst (λ t. IsBridgeAt (graph_of s) t x) (sym from) at
 
--- where a round changes nothing, all best paths are there
-pub settled_still : (s : Search) (old now : List (Option Label)) (n : ℕ) → IsRound s old now false → IsSettled s n old → AreBest s now
-settled_still s old now n round settled = record { labels = round.labels; settled = all }
-  where
-    more : (m : ℕ) → IsSettled s m now → IsSettled s (m + 1) now
-    more m h = round.further m (subst (IsSettled s m) (round.still refl) h)
+        own : (l : Label) → label_at now arc.from ≡ Some l → l.bridges.items ≡ p
+        own l e = same_Some l.bridges.items p (sym (way_is s now arc.from x l ready start e) ∙ d.own)
 
-    zero_first : IsSettled s 0 now
-    zero_first place x p here short best = subst (λ t. HasPath t place p) (sym (round.still refl)) (settled place x p here (omega (arith, short)) best)
+        strike : (v : SystemId) → IsLeft s place k v → (v ≡ y) ⊎ IsLeft s place (k + 1) v
+        strike v (number, a, low, listed, to) = elim (same_or_not number k) [
+          | inl e ↦
+              let arcs : a ≡ arc = same_Some a arc (sym (subst (λ t. IsArcAt (rows_of s.roads.now) place t a) e listed) ∙ here) in
+              inl (at_same (graph_of s) arc.to v y (subst (λ (t : Arc). IsBridgeAt (graph_of s) t.to v) arcs to) lead.to)
+          | inr other ↦ inr (number, a, omega (arith, low, other), listed, to)
+        ]
 
-    all : (m : ℕ) → IsSettled s m now
-    all zero = zero_first
-    all (suc m) = λ place x p here long best. more m (all m) place x p here (omega (arith, long)) best
+        low_at : (l : Label) → label_at now arc.from ≡ Some l → Improves s arc l (label_at now arc.to) None → (IsAmong y p → ⊥) → LowAt (graph_of s) s.mask (way_of s now) y (p ++ y ∷ [])
+        low_at l e i free =
+            let path : l.bridges.items ≡ p = own l e in
+            let low : IsLow s l y (label_at now arc.to) = i y lead.to (λ on. free (subst (IsAmong y) path on)) in
+            (low.0.bridges.items, way_is s now arc.to y low.0 ready lead.to low.1, subst (λ t. IsBelow (key_of (graph_of s) s.mask (t ++ y ∷ [])) (key_of (graph_of s) s.mask low.0.bridges.items) → ⊥) path low.2)
 
--- so are they where as many rounds are made as a path can have hops
-pub settled_whole : (s : Search) (ls : List (Option Label)) (n : ℕ) → AreLabels s ls → length s.graph.now.bridges ≤ n + 1 → IsSettled s n ls → AreBest s ls
-settled_whole s ls n labels enough settled = record { labels = labels; settled = all }
-  where
-    all : (m : ℕ) → IsSettled s m ls
-    all m place x p here long best =
-        let g = s.graph.now in
-        let within : length p ≤ length g.bridges = path_length g s.source x p best.path in
-        settled place x p here (omega (arith, within, enough)) best
+        by : IsRelaxed s arc now next since then → During (graph_of s) s.mask s.source done x p (waits_of s then) (IsLeft s place (k + 1)) (way_of s next)
+        by (none e f n) = absurd (none-some p (sym (way_at s now arc.from x ready start ∙ ap (option_map (λ (t : Label). t.bridges.items)) n) ∙ d.own))
+        by (same e f l n i) =
+            let after = relaxed_same (graph_of s) s.mask s.source done x p (waits_of s since) (IsLeft s place k) (IsLeft s place (k + 1)) (way_of s now) y d strike (low_at l n i) in
+            subst (λ t. During (graph_of s) s.mask s.source done x p (waits_of s then) (IsLeft s place (k + 1)) (way_of s t)) (sym e)
+            (subst (λ t. During (graph_of s) s.mask s.source done x p (waits_of s t) (IsLeft s place (k + 1)) (way_of s now)) (sym f) after)
+        by (lower l e new better set) =
+            relaxed_lower (graph_of s) s.mask s.source done x p (waits_of s since) (waits_of s then) (IsLeft s place k) (IsLeft s place (k + 1)) (way_of s now) (way_of s next) y ready.valid d strike joined
+            (λ on. improved.free (subst (IsAmong y) (sym (own l e)) on)) below with_way with_one
+          where
+            improved : IsLower s l y (label_at now arc.to) new
+            improved = better y lead.to
+
+            joined : IsSome (cost_between (graph_of s) x y)
+            joined =
+                let first : (ready.lead place k arc here).1.0 ≡ x = at_same (graph_of s) arc.from (ready.lead place k arc here).1.0 x lead.from start in
+                subst (λ t. IsSome (cost_between (graph_of s) t y)) first (subst (λ o. IsSome o) (sym lead.cost) refl)
+
+            below_at : (o : Option Label) (q : List SystemId) → label_at now arc.to ≡ o → option_map (λ (t : Label). t.bridges.items) o ≡ Some q → IsBelow (key_of (graph_of s) s.mask (p ++ y ∷ [])) (key_of (graph_of s) s.mask q)
+            below_at None q h w = absurd (none-some q w)
+            below_at (Some o) q h w =
+                subst (λ t. IsBelow (key_of (graph_of s) s.mask (p ++ y ∷ [])) (key_of (graph_of s) s.mask t)) (same_Some o.bridges.items q w)
+                (subst (λ t. IsBelow (key_of (graph_of s) s.mask (t ++ y ∷ [])) (key_of (graph_of s) s.mask o.bridges.items)) (own l e) (improved.below o h))
+
+            below : (q : List SystemId) → way_of s now y ≡ Some q → IsBelow (key_of (graph_of s) s.mask (p ++ y ∷ [])) (key_of (graph_of s) s.mask q)
+            below q w = below_at (label_at now arc.to) q refl (sym (way_at s now arc.to y ready lead.to) ∙ w)
+
+            label_is : label_at next arc.to ≡ Some new
+            label_is = ap (λ t. label_at t arc.to) set.labels ∙ set_own now arc.to new within
+
+            with_way : WithWay y (p ++ y ∷ []) (way_of s now) (way_of s next)
+            with_way = record {
+              here = way_is s next arc.to y new ready lead.to label_is ∙ ap Some (improved.longer ∙ ap (λ t. t ++ y ∷ []) (own l e));
+              others = λ z other.
+                  ap (option_map (λ (t : Label). t.bridges.items)) (ap (λ t. label_at t (place_in (graph_of s).bridges z)) set.labels ∙ set_other now arc.to (place_in (graph_of s).bridges z) new (place_apart (graph_of s) arc.to y z lead.to other));
+            }
+
+            own_place : place_in (graph_of s).bridges y ≡ arc.to
+            own_place = place_is (graph_of s) arc.to y ready.valid lead.to
+
+            others_at : (z : SystemId) (w : Waiting) → waits then w ≡ true → w.place ≡ place_in (graph_of s).bridges z → (z ≡ y) ⊎ waits_of s since z
+            others_at z w t at = elim (set.those w t) [
+              | inl entry ↦
+                  let there : place_in (graph_of s).bridges z ≡ arc.to = sym at ∙ ap (λ (u : Waiting). u.place) entry in
+                  inl (place_once (graph_of s).bridges z y (subst (λ n. IsBridgeAt (graph_of s) n y) (sym there) lead.to))
+              | inr old ↦ inr (w, old.1, at)
+            ]
+
+            kept_at : (z : SystemId) (w : Waiting) → waits since w ≡ true → w.place ≡ place_in (graph_of s).bridges z → (w.place ≡ arc.to) ⊎ (w.place ≢ arc.to) → waits_of s then z
+            kept_at z w t at (inl e) = (entry_of new arc.to, set.here, sym e ∙ at)
+            kept_at z w t at (inr other) = (w, set.kept w other t, at)
+
+            with_one : WithOne y (waits_of s since) (waits_of s then)
+            with_one = record {
+              here = (entry_of new arc.to, set.here, sym own_place);
+              others = λ z w. others_at z w.0 w.1 w.2;
+              kept = λ z w. kept_at z w.0 w.1 w.2 (same_or_not w.0.place arc.to);
+            }
+
+-- all arcs of the place are relaxed
+pub relaxed_all : (s : Search) (place k : ℕ) (old now : List (Option Label)) (front since : BTreeSet Waiting) → length (get_or (rows_of s.roads.now) place []) ≤ k → Relaxing s place k old now front since → RelaxesAll s place old now front since
+relaxed_all s place k old now front since whole r = λ done x p here d.
+    x_done (graph_of s) s.mask s.source done x p (waits_of s since) (IsLeft s place k) (way_of s now) (r.during done x p here d) (λ v w.
+    let below : w.0 < length (get_or (rows_of s.roads.now) place []) = slice_get_within (get_or (rows_of s.roads.now) place []) w.0 w.1 w.3 in
+    omega (arith, below, whole, w.2))
 
 -- the label that is read at the place of a bridge
-pub read_label : (s : Search) (ls : List (Option Label)) (i : ℕ) (x : SystemId) (o : Option Label) → AreLabels s ls → IsBridgeAt s.graph.now i x → o ≡ get_or ls i o → label_at ls i ≡ o
-read_label s ls i x o labels here r = sym (get_or_read ls i o (omega (arith, at_within s.graph.now i x here, labels.places)) r None)
+pub read_label : (s : Search) (ls : List (Option Label)) (i : ℕ) (x : SystemId) (o : Option Label) → AreLabels s ls → IsBridgeAt (graph_of s) i x → o ≡ get_or ls i o → label_at ls i ≡ o
+read_label s ls i x o labels here r = sym (get_or_read ls i o (omega (arith, at_within (graph_of s) i x here, labels.places)) r None)

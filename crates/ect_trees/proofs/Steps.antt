@@ -2,16 +2,17 @@
 use Rattle.std.proofs.Common.{◌↔◌, ◌≡◌, ℕ, ◌+◌, ◌*◌, ◌^◌, ◌<◌, ◌≤◌, Bool, true, false, true≢false, ◌&&◌, ◌||◌, ◌⊎◌, inl, inr, List, [], ◌∷◌, ◌++◌, length, Some, IsSome, unwrap_or, if◌then◌else◌, refl, sym, ap, ◌∙◌, subst, arith, append_assoc}
 use Rattle.std.specs.List.{AllByRecursion}
 use Rattle.spb_types.specs.Address.{same_system}
-use Rattle.spb_types.specs.Graph.{IsAmong, IsBridge, IsValid, IsEdgeOf, OneEdge, joins, cost_among, cost_between}
+use Rattle.spb_types.specs.Graph.{IsAmong, IsDistinct, IsBridge, IsValid, IsEdgeOf, OneEdge, joins, cost_among, cost_between}
 use Rattle.spb_types.specs.declared.address.SystemId.{SystemId}
 use Rattle.spb_types.specs.declared.graph.Edge.{Edge}
 use Rattle.spb_types.specs.declared.graph.Graph.{Graph}
 use Rattle.ect_trees.specs.Path.{Leads, IsPath, cost_along, cost_of, hops_of}
+use Rattle.ect_trees.specs.Key.{key_of, IsBelow}
 use Rattle.ect_trees.specs.Best.{IsBest}
-use Rattle.ect_trees.proofs.Among.{same_is, same_self}
+use Rattle.ect_trees.proofs.Among.{same_is, same_self, among_right}
 use Rattle.ect_trees.proofs.Members.{Has}
 use Rattle.ect_trees.proofs.Walks.{leads_end, path_single, step, path_length}
-use Rattle.ect_trees.proofs.Least.{best_front}
+use Rattle.ect_trees.proofs.Least.{best_front, lists_eq_or_not}
 use Rattle.spb_types.specs.declared.limits.TheConstants.{GREATEST_METRIC, MOST_GRAPH_BRIDGES}
 
 -- a list that isn't empty has a last element
@@ -173,3 +174,13 @@ best_to_itself g mask a p h = ((λ k. path_to_itself g a p k.path), (λ e. subst
   where
     alone : IsBest g mask a a (a ∷ [])
     alone = record { path = path_single g a h; below = λ q w d. absurd (d (path_to_itself g a q w)) }
+
+-- the last of distinct bridges is none of the others
+pub distinct_end : (xs : List SystemId) (y : SystemId) → IsDistinct (xs ++ y ∷ []) → IsAmong y xs → ⊥
+distinct_end [] y d h = h
+distinct_end (x ∷ xs) y d (inl e) = d.0 (among_right x xs (y ∷ []) (inl (sym e)))
+distinct_end (x ∷ xs) y d (inr h) = distinct_end xs y d.1 h
+
+-- a path that the best one isn't below is the best one
+pub same_as_best : (g : Graph) (mask : ℕ) (a b : SystemId) (p q : List SystemId) → IsBest g mask a b p → IsPath g a b q → (IsBelow (key_of g mask p) (key_of g mask q) → ⊥) → q ≡ p
+same_as_best g mask a b p q best w n = elim (lists_eq_or_not q p) [ inl e ↦ e | inr d ↦ absurd (n (best.below q w d)) ]

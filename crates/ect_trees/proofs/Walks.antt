@@ -65,7 +65,7 @@ pub path_distinct : (g : Graph) (a b : SystemId) (p : List SystemId) → IsPath 
 path_distinct g a b [] w = absurd w
 path_distinct g a b (x ∷ xs) w = w.2
 
-length-systems : (bs : List GraphBridge) → length (systems_of bs) ≡ length bs
+pub length-systems : (bs : List GraphBridge) → length (systems_of bs) ≡ length bs
 length-systems [] = refl
 length-systems (b ∷ bs) = ap suc (length-systems bs)
 

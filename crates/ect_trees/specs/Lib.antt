@@ -2,5 +2,9 @@ pub mod Path
 pub mod Key
 pub mod Best
 pub mod Laws
+pub mod Low
+pub mod Frontier
+pub mod Roads
 pub mod Tree
+pub mod Waits
 pub mod Search

@@ -1,137 +1,172 @@
 -- What the search for the best paths keeps true.
-use Rattle.std.specs.Prelude.{◌≡◌, ℕ, ◌+◌, ◌≤◌, List, [], ◌∷◌, ◌++◌, length, Bool, false, Option, Some, None, option_map, slice_get}
-use Rattle.std.specs.List.{position_or_len, slice_index_or}
-use Rattle.spb_types.specs.Address.{same_system, masked}
-use Rattle.spb_types.specs.Graph.{systems_of, cost_between, IsValid}
+use Rattle.std.specs.Prelude.{◌≡◌, ℕ, ◌-◌, List, [], ◌∷◌, ◌++◌, length, Bool, true, false, Option, Some, None, option_map, slice_set, map, take, ◌⊎◌, ◌≤◌}
+use Rattle.std.specs.List.{slice_index_or}
+use Rattle.std.specs.Ordering.{is_lt}
+use Rattle.std.specs.Cmp.Lexicographic.{slice_cmp}
+use Rattle.std.specs.BTreeSet.{BTreeSet}
+use Rattle.spb_types.specs.Graph.{IsAmong}
 use Rattle.spb_types.specs.declared.address.SystemId.{SystemId}
-use Rattle.spb_types.specs.declared.address.BridgeId.{BridgeId}
-use Rattle.spb_types.specs.declared.graph.GraphBridge.{GraphBridge}
-use Rattle.spb_types.specs.declared.graph.Edge.{Edge}
 use Rattle.spb_types.specs.declared.graph.Graph.{Graph}
 use Rattle.spb_types.specs.declared.tables.Path.{Path}
+use Rattle.ect_trees.specs.declared.key.PathKey.{PathKey}
+use Rattle.ect_trees.specs.declared.roads.Arc.{Arc}
 use Rattle.ect_trees.specs.declared.search.Label.{Label}
-use Rattle.ect_trees.specs.declared.search.Arc.{Arc}
 use Rattle.ect_trees.specs.declared.search.Search.{Search}
-use Rattle.ect_trees.specs.Path.{IsPath}
-use Rattle.ect_trees.specs.Key.{key_of, masked_id, inserted, IsBelow}
-use Rattle.ect_trees.specs.Best.{IsBest}
+use Rattle.ect_trees.specs.declared.waiting.Waiting.{Waiting}
+use Rattle.ect_trees.specs.Path.{IsPath, cost_of}
+use Rattle.ect_trees.specs.Key.{key_of, id_cmp, masked_id, sorted_ids, IsBelow}
+use Rattle.ect_trees.specs.Best.{best_of}
+use Rattle.ect_trees.specs.Roads.{IsBridgeAt, Leads, IsArcAt, rows_of, place_in}
+use Rattle.ect_trees.specs.Waits.{waits}
+use Rattle.ect_trees.specs.Frontier.{Front, During}
 
--- the bridge x stands at this place of the graph
-abbrev pub IsBridgeAt : Graph → ℕ → SystemId → Type 0
-IsBridgeAt g place x = slice_get (systems_of g.bridges) place ≡ Some x
+-- the graph that is searched
+abbrev pub graph_of : Search → Graph
+graph_of s = s.roads.now.graph.now
 
--- the place of the first bridge with this system id
-abbrev pub place_in : List GraphBridge → SystemId → ℕ
-place_in bridges x = position_or_len (λ b. same_system b.id.system x) bridges
-
--- both directions of each edge
-abbrev pub arcs_of : List GraphBridge → List Edge → List Arc
-arcs_of bridges [] = []
-arcs_of bridges (e ∷ es) = record { from = place_in bridges e.a; to = place_in bridges e.b; cost = e.cost }
-    ∷ record { from = place_in bridges e.b; to = place_in bridges e.a; cost = e.cost }
-    ∷ arcs_of bridges es
-
--- the arc leads along an edge of the graph from x to y
-pub record Leads (g : Graph) (arc : Arc) (x y : SystemId) : Type 0 where
-  pub from : IsBridgeAt g arc.from x
-  pub to : IsBridgeAt g arc.to y
-  pub cost : cost_between g x y ≡ Some arc.cost
-
--- the graph of the search is valid, and its arcs are both directions of the edges
-pub record IsReady (s : Search) : Type 0 where
-  pub valid : IsValid s.graph.now
-  pub arcs : s.arcs.items ≡ arcs_of s.graph.now.bridges s.graph.now.edges
-
--- a search that is ready, for the best paths from this source
-pub record Seeks (g : Graph) (mask : ℕ) (source : SystemId) (s : Search) : Type 0 where
-  pub ready : IsReady s
-  pub graph_is : s.graph.now ≡ g
-  pub mask_is : s.mask ≡ mask
-  pub source_is : s.source ≡ source
-
--- the label is a path to x with its key
+-- the label is a path to x with its cost
 pub record IsLabel (s : Search) (x : SystemId) (l : Label) : Type 0 where
-  pub path : IsPath s.graph.now s.source x l.bridges.items
-  pub keyed : l.key ≡ key_of s.graph.now s.mask l.bridges.items
-
--- the path of this one bridge, with its key
-pub record IsFirst (mask : ℕ) (b : BridgeId) (l : Label) : Type 0 where
-  pub keyed : l.key ≡ record { cost = 0; hops = 0; ids = masked mask b ∷ [] }
-  pub one : l.bridges.items ≡ b.system ∷ []
+  pub path : IsPath (graph_of s) s.source x l.bridges.items
+  pub cost_is : l.cost ≡ cost_of (graph_of s) l.bridges.items
 
 -- the label at a place
 abbrev pub label_at : List (Option Label) → ℕ → Option Label
 label_at ls place = slice_index_or ls place None
 
--- there is a place for each bridge, and each label is a path to its bridge with its key
+-- there is a place for each bridge, and each label is a path to its bridge with its cost
 pub record AreLabels (s : Search) (ls : List (Option Label)) : Type 0 where
-  pub places : length ls ≡ length s.graph.now.bridges
-  pub each : (place : ℕ) (x : SystemId) (l : Label) → IsBridgeAt s.graph.now place x → label_at ls place ≡ Some l
+  pub places : length ls ≡ length (graph_of s).bridges
+  pub each : (place : ℕ) (x : SystemId) (l : Label) → IsBridgeAt (graph_of s) place x → label_at ls place ≡ Some l
       → IsLabel s x l
 
--- the label at this place has the path p
-abbrev pub HasPath : List (Option Label) → ℕ → List SystemId → Type 0
-HasPath ls place p = option_map (λ l. l.bridges.items) (label_at ls place) ≡ Some p
+-- the path of the label at the place of x
+abbrev pub way_of : Search → List (Option Label) → SystemId → Option (List SystemId)
+way_of s ls x = option_map (λ l. l.bridges.items) (label_at ls (place_in (graph_of s).bridges x))
 
--- each best path of at most n hops is there
-abbrev pub IsSettled : Search → ℕ → List (Option Label) → Type 0
-IsSettled s n ls = (place : ℕ) (x : SystemId) (p : List SystemId) → IsBridgeAt s.graph.now place x → length p ≤ n + 1
-    → IsBest s.graph.now s.mask s.source x p → HasPath ls place p
-
--- each label is a path with its key, and each best path is there
+-- the labels are the best paths
 pub record AreBest (s : Search) (ls : List (Option Label)) : Type 0 where
   pub labels : AreLabels s ls
-  pub settled : (n : ℕ) → IsSettled s n ls
+  pub best : (x : SystemId) → way_of s ls x ≡ best_of (graph_of s) s.mask s.source x
 
--- each best path that was there still is
-abbrev pub KeepsBest : Search → List (Option Label) → List (Option Label) → Type 0
-KeepsBest s old new = (place : ℕ) (x : SystemId) (p : List SystemId) → IsBridgeAt s.graph.now place x
-    → IsBest s.graph.now s.mask s.source x p → HasPath old place p → HasPath new place p
+-- the entry of a label in the frontier
+abbrev pub entry_of : Label → ℕ → Waiting
+entry_of l place = record { cost = l.cost; hops = length l.bridges.items - 1; place = place }
 
--- where the arc makes a best path of the best path that its start had, its end has that path now
-abbrev pub TakesStep : Search → Arc → List (Option Label) → List (Option Label) → Type 0
-TakesStep s arc old new = (x y : SystemId) (p : List SystemId) → Leads s.graph.now arc x y
-    → IsBest s.graph.now s.mask s.source x p → HasPath old arc.from p
-    → IsBest s.graph.now s.mask s.source y (p ++ y ∷ []) → HasPath new arc.to (p ++ y ∷ [])
+-- a label waits at this place
+abbrev pub WaitsAt : BTreeSet Waiting → ℕ → Type 0
+WaitsAt front place = (e : Waiting) × (waits front e ≡ true) × (e.place ≡ place)
+
+-- what waits is the label at its place
+abbrev pub AreEntries : List (Option Label) → BTreeSet Waiting → Type 0
+AreEntries ls front = (e : Waiting) → waits front e ≡ true
+    → (l : Label) × (label_at ls e.place ≡ Some l) × (e ≡ entry_of l e.place)
+
+-- labels, and those of them that wait
+pub record IsState (s : Search) (ls : List (Option Label)) (front : BTreeSet Waiting) : Type 0 where
+  pub labels : AreLabels s ls
+  pub entries : AreEntries ls front
 
 -- the arc leads along an edge from the end of the label
 abbrev pub Extends : Search → Arc → Label → Type 0
-Extends s arc l = (x : SystemId) × (y : SystemId) × Leads s.graph.now arc x y × IsLabel s x l
+Extends s arc l = (x : SystemId) × (y : SystemId) × Leads (graph_of s) arc x y × IsLabel s x l
 
--- the label's path with the end of the arc, and its key
-pub record IsExtended (s : Search) (arc : Arc) (l new : Label) : Type 0 where
-  pub keyed : (y : SystemId) → IsBridgeAt s.graph.now arc.to y
-      → new.key ≡ record {
-        cost = l.key.cost + arc.cost;
-        hops = l.key.hops + 1;
-        ids = inserted (masked_id s.graph.now s.mask y) l.key.ids;
-      }
-  pub longer : (y : SystemId) → IsBridgeAt s.graph.now arc.to y → new.bridges.items ≡ l.bridges.items ++ y ∷ []
+-- the path of one bridge
+pub record IsFirst (x : SystemId) (l : Label) : Type 0 where
+  pub one : l.bridges.items ≡ x ∷ []
+  pub cost_is : l.cost ≡ 0
 
--- what comes of the arc at its end: a label below the old one, or nothing, where the path is no best one or is there
+-- the path with y, at this cost
+pub record IsExtended (l : Label) (y : SystemId) (cost : ℕ) (new : Label) : Type 0 where
+  pub longer : new.bridges.items ≡ l.bridges.items ++ y ∷ []
+  pub cost_is : new.cost ≡ cost
+
+-- the key of the label's path with y, and the cost of that path
+abbrev pub longer_key : Search → Label → SystemId → PathKey
+longer_key s l y = key_of (graph_of s) s.mask (l.bridges.items ++ y ∷ [])
+
+abbrev pub longer_cost : Search → Label → SystemId → ℕ
+longer_cost s l y = cost_of (graph_of s) (l.bridges.items ++ y ∷ [])
+
+-- the masked ids of bridges in ascending order
+abbrev pub ids_of : Search → List SystemId → List (List ℕ)
+ids_of s bridges = sorted_ids (map (masked_id (graph_of s) s.mask) bridges)
+
+-- whether the label's ids are below those of the old one's bridges but the last
+abbrev pub HasLowerIds : Search → Label → Label → Bool → Type 0
+HasLowerIds s l old lower = lower
+    ≡ is_lt (slice_cmp id_cmp (ids_of s l.bridges.items) (ids_of s (take (length l.bridges.items) old.bridges.items)))
+
+-- the key of the label's path with y is not below that of the label o
+abbrev pub IsLow : Search → Label → SystemId → Option Label → Type 0
+IsLow s l y old = (o : Label) × (old ≡ Some o)
+    × (IsBelow (longer_key s l y) (key_of (graph_of s) s.mask o.bridges.items) → ⊥)
+
+-- it is below that of the label o
+abbrev pub IsUnder : Search → Label → SystemId → Option Label → Type 0
+IsUnder s l y old = (o : Label) → old ≡ Some o
+    → IsBelow (longer_key s l y) (key_of (graph_of s) s.mask o.bridges.items)
+
+-- whether the label's path with y is a path and better than the old one
+abbrev pub Tells : Search → Label → SystemId → Option Label → Bool → Type 0
+Tells s l y old true = (IsAmong y l.bridges.items → ⊥) × IsUnder s l y old
+Tells s l y old false = (IsAmong y l.bridges.items → ⊥) → IsLow s l y old
+
+-- x waits: its label does
+abbrev pub waits_of : Search → BTreeSet Waiting → SystemId → Type 0
+waits_of s front x = WaitsAt front (place_in (graph_of s).bridges x)
+
+-- the labels and those that wait are a frontier, with these bridges done
+abbrev pub IsFront : Search → List (Option Label) → BTreeSet Waiting → List SystemId → Type 0
+IsFront s ls front done = Front (graph_of s) s.mask s.source done (waits_of s front) (way_of s ls)
+
+-- an arc from this place to v, of this number or a later one, is still to be looked at
+abbrev pub IsLeft : Search → ℕ → ℕ → SystemId → Type 0
+IsLeft s place k v = (number : ℕ) × (arc : Arc) × (k ≤ number)
+    × IsArcAt (rows_of s.roads.now) place number arc × IsBridgeAt (graph_of s) arc.to v
+
+-- a bridge whose arcs were to be looked at is done once they are relaxed
+abbrev pub RelaxesAll : Search → ℕ → List (Option Label) → List (Option Label) → BTreeSet Waiting → BTreeSet Waiting
+    → Type 0
+RelaxesAll s place ls ls' front front' = (done : List SystemId) (x : SystemId) (p : List SystemId)
+    → IsBridgeAt (graph_of s) place x
+    → During (graph_of s) s.mask s.source done x p (waits_of s front) (IsLeft s place 0) (way_of s ls)
+    → IsFront s ls' front' done
+
+-- the label's path with y is the new one, and below the old one, if there is one
+pub record IsLower (s : Search) (l : Label) (y : SystemId) (old : Option Label) (new : Label) : Type 0 where
+  pub label : IsLabel s y new
+  pub longer : new.bridges.items ≡ l.bridges.items ++ y ∷ []
+  pub free : IsAmong y l.bridges.items → ⊥
+  pub below : IsUnder s l y old
+
+-- what comes of the arc at its end: a lower label, or none, where its path is low or passes the end
 abbrev pub Improves : Search → Arc → Label → Option Label → Option Label → Type 0
-Improves s arc l old None = (y : SystemId) → IsBridgeAt s.graph.now arc.to y
-    → IsBest s.graph.now s.mask s.source y (l.bridges.items ++ y ∷ [])
-    → option_map (λ o. o.bridges.items) old ≡ Some (l.bridges.items ++ y ∷ [])
-Improves s arc l old (Some new) = ((y : SystemId) → IsBridgeAt s.graph.now arc.to y
-    → IsLabel s y new × (new.bridges.items ≡ l.bridges.items ++ y ∷ []))
-    × ((o : Label) → old ≡ Some o → IsBelow new.key o.key)
+Improves s arc l old None = (y : SystemId) → IsBridgeAt (graph_of s) arc.to y
+    → (IsAmong y l.bridges.items → ⊥) → IsLow s l y old
+Improves s arc l old (Some new) = (y : SystemId) → IsBridgeAt (graph_of s) arc.to y → IsLower s l y old new
 
--- what relaxing one arc does
-pub record IsRelaxed (s : Search) (arc : Arc) (old new : List (Option Label)) (changed : Bool) : Type 0 where
-  pub labels : AreLabels s new
-  pub keeps : KeepsBest s old new
-  pub step : TakesStep s arc old new
-  pub still : changed ≡ false → new ≡ old
+-- the new label stands at the place, and waits in place of the old one
+pub record IsSet (place : ℕ) (new : Label) (ls ls' : List (Option Label)) (front front' : BTreeSet Waiting)
+    : Type 0 where
+  pub labels : ls' ≡ slice_set ls place (Some new)
+  pub those : (e : Waiting) → waits front' e ≡ true
+      → (e ≡ entry_of new place) ⊎ ((e.place ≡ place → ⊥) × (waits front e ≡ true))
+  pub kept : (e : Waiting) → (e.place ≡ place → ⊥) → waits front e ≡ true → waits front' e ≡ true
+  pub here : waits front' (entry_of new place) ≡ true
 
--- what relaxing each arc once does
-pub record IsRound (s : Search) (old new : List (Option Label)) (changed : Bool) : Type 0 where
-  pub labels : AreLabels s new
-  pub further : (n : ℕ) → IsSettled s n old → IsSettled s (n + 1) new
-  pub still : changed ≡ false → new ≡ old
+-- what relaxing an arc does: nothing where no label is at its start, or where its path is low or passes the end;
+-- otherwise the end gets that path
+pub data IsRelaxed (s : Search) (arc : Arc) (ls ls' : List (Option Label)) (front front' : BTreeSet Waiting)
+    : Type 0 where
+  none : ls' ≡ ls → front' ≡ front → label_at ls arc.from ≡ None → IsRelaxed s arc ls ls' front front'
+  same : ls' ≡ ls → front' ≡ front → (l : Label) → label_at ls arc.from ≡ Some l
+      → Improves s arc l (label_at ls arc.to) None → IsRelaxed s arc ls ls' front front'
+  lower : (l : Label) → label_at ls arc.from ≡ Some l → (new : Label)
+      → Improves s arc l (label_at ls arc.to) (Some new) → IsSet arc.to new ls ls' front front'
+      → IsRelaxed s arc ls ls' front front'
 
 -- the paths of the labels
 abbrev pub paths_in : List (Option Label) → List Path
 paths_in [] = []
 paths_in (None ∷ ls) = paths_in ls
-paths_in (Some l ∷ ls) = record { cost = l.key.cost; bridges = l.bridges.items } ∷ paths_in ls
+paths_in (Some l ∷ ls) = record { cost = l.cost; bridges = l.bridges.items } ∷ paths_in ls

@@ -1,4 +1,4 @@
-use Rattle.std.specs.Prelude.{◌≡◌, ℕ, List, [], ◌∷◌, Bool, false, Option, option_map, find}
+use Rattle.std.specs.Prelude.{◌≡◌, ℕ, List, [], ◌∷◌, Bool, false, Option, Some, true, option_map, option_and_then, find, slice_get}
 use Rattle.spb_types.specs.Address.{same_system}
 use Rattle.spb_types.specs.declared.address.SystemId.{SystemId}
 use Rattle.spb_types.specs.declared.graph.Graph.{Graph}
@@ -20,6 +20,15 @@ ends_at (y ∷ z ∷ zs) x = ends_at (z ∷ zs) x
 -- the first of the paths that ends at x
 abbrev pub path_in : List Path → SystemId → Option Path
 path_in ps x = find (λ p. ends_at p.bridges x) ps
+
+-- each of the paths is the one that is found at its end
+abbrev pub EndOnce : List Path → Type 0
+EndOnce ps = (place : ℕ) (p : Path) (x : SystemId) → slice_get ps place ≡ Some p → ends_at p.bridges x ≡ true
+    → path_in ps x ≡ Some p
+
+-- the second bridge of the first of the paths that ends at x
+abbrev pub second_in : List Path → SystemId → Option SystemId
+second_in ps x = option_and_then (λ p. slice_get p.bridges 1) (path_in ps x)
 
 -- the best path from a to b with its cost, if there is a path
 abbrev pub best_path : Graph → ℕ → SystemId → SystemId → Option Path

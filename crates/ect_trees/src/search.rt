@@ -1,163 +1,163 @@
-ghost use Rattle.std.specs.Prelude.{◌≡◌, ◌↔◌, ⊤, IsTrue, IfOk, OnOk, MatchOption, position};
+ghost use Rattle.std.specs.Prelude.{◌≡◌, ◌+◌, ◌-◌, ◌<◌, ◌∷◌, [], length, replicate, None, IfOk, OnOk, MatchBool};
 ghost use Rattle.std.specs.Ordering.{nat_cmp, ordering_then};
-ghost use Rattle.spb_types.specs.Address.{same_system};
-ghost use Rattle.spb_types.specs.Graph.{IsValid};
+ghost use Rattle.spb_types.specs.Graph.{IsAmong, IsValid};
 ghost use Rattle.spb_types.specs.declared.address.SystemId.{SystemId};
-ghost use Rattle.ect_trees.specs.Key.{IsBelow};
 ghost use Rattle.ect_trees.specs.declared.search.Label.{Label};
+ghost use Rattle.ect_trees.specs.Roads.{AreReady, IsBridgeAt, CanGo};
 ghost use Rattle.ect_trees.specs.Search as search;
 
-use crate::key::{PathKey, compare_keys, masked_id, with_id};
-use spb_types::{Graph, GraphBridge, NoMemory, Path, Seq, SystemId};
+use crate::fork::compare_ids;
+use crate::roads::{Arc, Roads};
+use crate::waiting::{Waiting, drop_one, put, take_first};
+use spb_types::{NoMemory, Path, Seq, SystemId};
 use std::alloc::Global;
 use std::cmp::Ordering;
+use std::collections::BTreeSet;
 
-/// A path from the source that was found, with its key.
+/// A path from the source that was found, with its cost.
 #[derive(Drop)]
 pub struct Label {
-    pub key: PathKey,
+    pub cost: u64,
     pub bridges: Vec<SystemId>,
-}
-
-/// One direction of an edge: the places of its two bridges in the graph, and its cost.
-#[derive(Clone, Copy)]
-pub struct Arc {
-    pub from: usize,
-    pub to: usize,
-    pub cost: u32,
 }
 
 /// The search for the best paths from a source to each bridge of a graph. It keeps a label at the place of each
 /// bridge that it has reached.
 #[derive(Drop)]
 pub struct Search<'a> {
-    pub graph: &'a Graph,
+    pub roads: &'a Roads<'a>,
     pub source: SystemId,
     pub mask: u8,
-    pub arcs: Vec<Arc>,
 }
 
-/// The place of a bridge in the graph.
-fn place_of(graph: &Graph, system: SystemId) -> Option<usize>
-    ensures { result ≡ position (λ b. same_system b.id.system system) graph.now.bridges }
-{
-    graph
-        .bridges
-        .iter()
-        .position(|bridge| bridge.id.system == system)
-}
-
-/// Both directions of each edge, in the order of the edges.
-fn arcs_of(alloc: Global, graph: &Graph) -> Result<Vec<Arc>, NoMemory>
-    requires { IsValid graph.now }
-    ensures { IfOk result (λ arcs. arcs.items ≡ search.arcs_of graph.now.bridges graph.now.edges) }
-{
-    let mut arcs = Vec::new(alloc);
-    for edge in graph.edges.as_slice() {
-        let a = place_of(graph, edge.a).unwrap();
-        let b = place_of(graph, edge.b).unwrap();
-        let cost = edge.cost;
-        arcs.push(Arc {
-            from: a,
-            to: b,
-            cost,
-        })?;
-        arcs.push(Arc {
-            from: b,
-            to: a,
-            cost,
-        })?;
+impl Label {
+    /// Whether the bridge is on the path.
+    fn passes(&self, system: SystemId) -> bool
+        ensures { MatchBool result (IsAmong system self.now.bridges.items)
+            (IsAmong system self.now.bridges.items → ⊥) }
+    {
+        self.bridges.contains(&system)
     }
-    Ok(arcs)
-}
 
-/// Compares a key's cost and number of hops with these.
-fn compare_lengths(key: &PathKey, cost: u64, hops: u32) -> Ordering
-    ensures { result ≡ ordering_then (nat_cmp key.now.cost cost) (nat_cmp key.now.hops hops) }
-{
-    key.cost.cmp(&cost).then(key.hops.cmp(&hops))
-}
-
-/// Whether there is no old label, or the key is below its key.
-fn is_better(key: &PathKey, old: &Option<Label>) -> bool
-    ensures { IsTrue result ↔ MatchOption old.now ⊤ (λ label. IsBelow key.now label.key) }
-{
-    match old {
-        None => true,
-        Some(label) => compare_keys(key, &label.key).is_lt(),
+    /// The label's entry in the frontier.
+    fn entry(&self, place: usize) -> Waiting
+        ensures { result ≡ search.entry_of self.now place }
+    {
+        Waiting {
+            cost: self.cost,
+            hops: self.bridges.len().saturating_sub(1),
+            place,
+        }
     }
+
+    /// The path with one bridge more, at this cost.
+    fn extended(&self, alloc: Global, system: SystemId, cost: u64) -> Result<Label, NoMemory>
+        ensures { IfOk result (search.IsExtended self.now system cost) }
+    {
+        let mut bridges = Vec::with_capacity(alloc, self.bridges.len() + 1)?;
+        bridges.extend_from_slice(self.bridges.as_slice())?;
+        bridges.push(system)?;
+        Ok(Label { cost, bridges })
+    }
+}
+
+/// No label, at as many places.
+fn no_labels(alloc: Global, places: usize) -> Result<Vec<Option<Label>>, NoMemory>
+    ensures { IfOk result (λ labels. labels.items ≡ replicate places None) }
+{
+    let mut labels = Vec::with_capacity(alloc, places)?;
+    for _place in 0..places {
+        labels.push(None)?;
+    }
+    Ok(labels)
+}
+
+/// Gives a place a new label, which waits in place of the old one.
+fn set_label(
+    labels: &mut Vec<Option<Label>>,
+    front: &mut BTreeSet<Waiting>,
+    place: usize,
+    new: Label,
+) -> Result<(), NoMemory>
+    requires within { place < length labels.old.items }
+    requires entries { search.AreEntries labels.old.items front.old }
+    ensures { OnOk result (search.IsSet place new labels.old.items labels.new.items front.old front.new) }
+{
+    if let Some(old) = &labels[place] {
+        drop_one(front, old.entry(place));
+    }
+    put(front, new.entry(place))?;
+    labels[place] = Some(new);
+    Ok(())
+}
+
+/// Compares this cost, and this number of bridges, with a label's.
+fn compare_lengths(cost: u64, bridges: usize, label: &Label) -> Ordering
+    ensures { result ≡ ordering_then (nat_cmp cost label.now.cost)
+        (nat_cmp bridges (length label.now.bridges.items)) }
+{
+    cost.cmp(&label.cost)
+        .then(bridges.cmp(&label.bridges.len()))
 }
 
 impl<'a> Search<'a> {
-    /// The search from this source, with the keys that this mask gives.
-    pub fn new(
-        alloc: Global,
-        graph: &'a Graph,
-        source: SystemId,
-        mask: u8,
-    ) -> Result<Self, NoMemory>
-        requires { IsValid graph.now }
-        ensures { IfOk result (search.Seeks graph.now mask source) }
+    /// The path of the source alone.
+    fn first(&self, alloc: Global) -> Result<Label, NoMemory>
+        ensures { IfOk result (search.IsFirst self.now.source) }
     {
-        let arcs = arcs_of(alloc, graph)?;
-        Ok(Search {
-            graph,
-            source,
-            mask,
-            arcs,
+        Ok(Label {
+            cost: 0,
+            bridges: Vec::from_slice(alloc, &[self.source])?,
         })
     }
 
-    /// The labels at the start: the path of no arc at the source, and no path to another bridge.
-    pub fn start(&self, alloc: Global) -> Result<Vec<Option<Label>>, NoMemory>
-        requires { search.IsReady self.now }
-        ensures labels { IfOk result (λ labels. search.AreLabels self.now labels.items) }
-        ensures settled { IfOk result (λ labels. search.IsSettled self.now 0 labels.items) }
+    /// Whether the label's path has lower ids than the old one without its last bridge.
+    fn wins_tie(&self, alloc: Global, label: &Label, old: &Label) -> Result<bool, NoMemory>
+        requires valid { IsValid (search.graph_of self.now) }
+        requires long { length old.now.bridges.items ≡ length label.now.bridges.items + 1 }
+        ensures { IfOk result (search.HasLowerIds self.now label.now old.now) }
     {
-        let mut labels = Vec::new(alloc);
-        for bridge in self.graph.bridges.as_slice() {
-            let label = if bridge.id.system == self.source {
-                Some(self.first(alloc, bridge)?)
-            } else {
-                None
-            };
-            labels.push(label)?;
-        }
-        Ok(labels)
-    }
-
-    /// The path of no arc.
-    fn first(&self, alloc: Global, bridge: &GraphBridge) -> Result<Label, NoMemory>
-        ensures { IfOk result (search.IsFirst self.now.mask bridge.now.id) }
-    {
-        let ids = Vec::from_slice(alloc, &[masked_id(bridge.id, self.mask)])?;
-        Ok(Label {
-            key: PathKey {
-                cost: 0,
-                hops: 0,
-                ids: Seq::from_vec(ids),
-            },
-            bridges: Vec::from_slice(alloc, &[bridge.id.system])?,
-        })
-    }
-
-    /// The path of the label and an arc from its end.
-    fn extended(&self, alloc: Global, label: &Label, arc: Arc) -> Result<Label, NoMemory>
-        requires ready { search.IsReady self.now }
-        requires arc { search.Extends self.now arc label.now }
-        ensures { IfOk result (search.IsExtended self.now arc label.now) }
-    {
-        let bridge = &self.graph.bridges.as_slice()[arc.to];
-        let mut bridges = Vec::from_slice(alloc, label.bridges.as_slice())?;
-        bridges.push(bridge.id.system)?;
-        Ok(Label {
-            key: PathKey {
-                cost: label.key.cost + u64::from(arc.cost),
-                hops: label.key.hops + 1,
-                ids: with_id(alloc, &label.key.ids, masked_id(bridge.id, self.mask))?,
-            },
+        let bridges = label.bridges.as_slice();
+        let order = compare_ids(
+            alloc,
+            self.roads,
+            self.mask,
             bridges,
-        })
+            &old.bridges.as_slice()[..bridges.len()],
+        )?;
+        Ok(order.is_lt())
+    }
+
+    /// Whether the label's path with one bridge more, at this cost, is a path and better than the old one. Ids are
+    /// compared only where cost and hops tie.
+    fn is_lower(
+        &self,
+        alloc: Global,
+        label: &Label,
+        system: SystemId,
+        cost: u64,
+        old: &Option<Label>,
+    ) -> Result<bool, NoMemory>
+        requires valid { IsValid (search.graph_of self.now) }
+        requires label { (x : SystemId) × search.IsLabel self.now x label.now
+            × (cost ≡ search.longer_cost self.now label.now system) }
+        requires old { (o : Label) → old.now ≡ Some o → search.IsLabel self.now system o }
+        ensures { IfOk result (search.Tells self.now label.now system old.now) }
+    {
+        let Some(old) = old else {
+            return Ok(!label.passes(system));
+        };
+        match compare_lengths(cost, label.bridges.len() + 1, old) {
+            Ordering::Less => Ok(!label.passes(system)),
+            Ordering::Greater => Ok(false),
+            Ordering::Equal => {
+                if label.passes(system) {
+                    Ok(false)
+                } else {
+                    self.wins_tie(alloc, label, old)
+                }
+            }
+        }
     }
 
     /// The path of `label` and an arc from its end, if it is a path and better than the one that `old` has.
@@ -168,84 +168,97 @@ impl<'a> Search<'a> {
         arc: Arc,
         old: &Option<Label>,
     ) -> Result<Option<Label>, NoMemory>
-        requires ready { search.IsReady self.now }
+        requires ready { AreReady self.now.roads.now }
         requires arc { search.Extends self.now arc label.now }
-        requires old { (y : SystemId) (l : Label) → search.IsBridgeAt self.now.graph.now arc.to y
+        requires old { (y : SystemId) (l : Label) → IsBridgeAt (search.graph_of self.now) arc.to y
             → old.now ≡ Some l → search.IsLabel self.now y l }
         ensures { IfOk result (search.Improves self.now arc label.now old.now) }
     {
-        if let Some(old) = old {
-            let cost = label.key.cost + u64::from(arc.cost);
-            if compare_lengths(&old.key, cost, label.key.hops + 1).is_lt() {
-                return Ok(None);
-            }
-        }
-        let system = self.graph.bridges.as_slice()[arc.to].id.system;
-        if label.bridges.contains(&system) {
-            return Ok(None);
-        }
-        let longer = self.extended(alloc, label, arc)?;
-        if is_better(&longer.key, old) {
-            Ok(Some(longer))
+        let system = self.roads.graph.bridges.as_slice()[arc.to].id.system;
+        let cost = label.cost + u64::from(arc.cost);
+        if self.is_lower(alloc, label, system, cost, old)? {
+            Ok(Some(label.extended(alloc, system, cost)?))
         } else {
             Ok(None)
         }
     }
 
-    /// Gives the arc's end the path by way of the arc, if that is better. Says whether it is.
+    /// Gives the arc's end the path by way of the arc, if that is better.
     fn relax(
         &self,
         alloc: Global,
         labels: &mut Vec<Option<Label>>,
+        front: &mut BTreeSet<Waiting>,
         arc: Arc,
-    ) -> Result<bool, NoMemory>
-        requires ready { search.IsReady self.now }
-        requires arc { (x : SystemId) × (y : SystemId) × search.Leads self.now.graph.now arc x y }
-        requires labels { search.AreLabels self.now labels.old.items }
-        ensures { IfOk result (search.IsRelaxed self.now arc labels.old.items labels.new.items) }
+    ) -> Result<(), NoMemory>
+        requires ready { AreReady self.now.roads.now }
+        requires arc { CanGo (search.graph_of self.now) arc }
+        requires state { search.IsState self.now labels.old.items front.old }
+        ensures { OnOk result (search.IsRelaxed self.now arc labels.old.items labels.new.items front.old front.new) }
     {
         let better = match &labels[arc.from] {
             None => None,
             Some(label) => self.better(alloc, label, arc, &labels[arc.to])?,
         };
         match better {
-            None => Ok(false),
-            Some(label) => {
-                labels[arc.to] = Some(label);
-                Ok(true)
-            }
+            None => Ok(()),
+            Some(new) => set_label(labels, front, arc.to, new),
         }
     }
 
-    /// Relaxes each arc once. Says whether a label changed.
-    fn round(&self, alloc: Global, labels: &mut Vec<Option<Label>>) -> Result<bool, NoMemory>
-        requires ready { search.IsReady self.now }
-        requires labels { search.AreLabels self.now labels.old.items }
-        ensures { IfOk result (search.IsRound self.now labels.old.items labels.new.items) }
+    /// Relaxes each arc from a place.
+    fn relax_all(
+        &self,
+        alloc: Global,
+        labels: &mut Vec<Option<Label>>,
+        front: &mut BTreeSet<Waiting>,
+        place: usize,
+    ) -> Result<(), NoMemory>
+        requires ready { AreReady self.now.roads.now }
+        requires within { place < length labels.old.items }
+        requires state { search.IsState self.now labels.old.items front.old }
+        ensures state { OnOk result (search.IsState self.now labels.new.items front.new) }
+        ensures done { OnOk result
+            (search.RelaxesAll self.now place labels.old.items labels.new.items front.old front.new) }
     {
-        let mut changed = false;
-        for arc in &self.arcs {
-            if self.relax(alloc, labels, *arc)? {
-                changed = true;
-            }
-        }
-        Ok(changed)
-    }
-
-    /// Relaxes in rounds until no label changes. A path has fewer hops than there are bridges, so that many rounds
-    /// are enough.
-    pub fn settle(&self, alloc: Global, labels: &mut Vec<Option<Label>>) -> Result<(), NoMemory>
-        requires ready { search.IsReady self.now }
-        requires labels { search.AreLabels self.now labels.old.items }
-        requires settled { search.IsSettled self.now 0 labels.old.items }
-        ensures { OnOk result (search.AreBest self.now labels.new.items) }
-    {
-        for _hops in 1..self.graph.bridges.len() {
-            if !self.round(alloc, labels)? {
-                return Ok(());
-            }
+        for arc in &self.roads.arcs[place] {
+            self.relax(alloc, labels, front, *arc)?;
         }
         Ok(())
+    }
+
+    /// Settles the bridges that wait, in order of cost, until none waits. Says how many were settled.
+    fn settle(
+        &self,
+        alloc: Global,
+        labels: &mut Vec<Option<Label>>,
+        front: &mut BTreeSet<Waiting>,
+    ) -> Result<usize, NoMemory>
+        requires ready { AreReady self.now.roads.now }
+        requires state { search.IsState self.now labels.old.items front.old }
+        requires front { search.IsFront self.now labels.old.items front.old [] }
+        ensures { OnOk result (search.AreBest self.now labels.new.items) }
+    {
+        let mut settled = 0;
+        while let Some(first) = take_first(front) {
+            self.relax_all(alloc, labels, front, first.place)?;
+            settled += 1;
+        }
+        Ok(settled)
+    }
+
+    /// The labels of the best paths.
+    pub fn labels(&self, alloc: Global) -> Result<Vec<Option<Label>>, NoMemory>
+        requires { AreReady self.now.roads.now }
+        ensures { IfOk result (λ labels. search.AreBest self.now labels.items) }
+    {
+        let mut labels = no_labels(alloc, self.roads.graph.bridges.len())?;
+        let mut front = BTreeSet::new(alloc);
+        if let Some(place) = self.roads.place_of(self.source) {
+            set_label(&mut labels, &mut front, place, self.first(alloc)?)?;
+            self.settle(alloc, &mut labels, &mut front)?;
+        }
+        Ok(labels)
     }
 }
 
@@ -253,11 +266,11 @@ impl<'a> Search<'a> {
 pub fn paths_of(alloc: Global, labels: Vec<Option<Label>>) -> Result<Vec<Path>, NoMemory>
     ensures { IfOk result (λ paths. paths.items ≡ search.paths_in labels.items) }
 {
-    let mut paths = Vec::new(alloc);
+    let mut paths = Vec::with_capacity(alloc, labels.len())?;
     for label in labels {
-        if let Some(Label { key, bridges }) = label {
+        if let Some(Label { cost, bridges }) = label {
             paths.push(Path {
-                cost: key.cost,
+                cost,
                 bridges: Seq::from_vec(bridges),
             })?;
         }

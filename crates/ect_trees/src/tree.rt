@@ -3,6 +3,7 @@ ghost use Rattle.std.specs.Option.{option_copied};
 ghost use Rattle.spb_types.specs.Graph.{IsValid};
 ghost use Rattle.ect_trees.specs.Tree as tree;
 
+use crate::roads::Roads;
 use crate::search::{Search, paths_of};
 use spb_types::{Graph, NoMemory, Path, Seq, SystemId};
 use std::alloc::Global;
@@ -16,11 +17,13 @@ pub struct Tree {
 }
 
 impl Model for Tree {
-    ghost use Rattle.ect_trees.specs.Tree.{Paths};
+    ghost use Rattle.ect_trees.specs.Tree.{Paths, EndOnce};
 
     ghost Value = { Paths };
 
     ghost view = { λ t. record { source = t.source; paths = t.paths.items } };
+
+    ghost invariant = { λ t. EndOnce t.paths.items };
 }
 
 /// Whether the path ends at this bridge.
@@ -38,9 +41,13 @@ pub fn tree_from(alloc: Global, graph: &Graph, source: SystemId, mask: u8) -> Re
     requires { IsValid graph.now }
     ensures { IfOk result (tree.GivesBest graph.now mask source) }
 {
-    let search = Search::new(alloc, graph, source, mask)?;
-    let mut labels = search.start(alloc)?;
-    search.settle(alloc, &mut labels)?;
+    let roads = Roads::new(alloc, graph)?;
+    let search = Search {
+        roads: &roads,
+        source,
+        mask,
+    };
+    let labels = search.labels(alloc)?;
     Ok(Tree {
         source,
         paths: paths_of(alloc, labels)?,
@@ -60,6 +67,30 @@ impl Tree {
         ensures { option_copied result ≡ tree.path_in self.now.paths to }
     {
         self.paths.iter().find(|path| ends_at(path, to))
+    }
+
+    /// The same path, which is looked for at this place first.
+    fn find_near(&self, place: usize, to: SystemId) -> Option<&Path>
+        ensures { option_copied result ≡ tree.path_in self.now.paths to }
+    {
+        if let Some(path) = self.paths.get(place)
+            && ends_at(path, to)
+        {
+            return Some(path);
+        }
+        self.find(to)
+    }
+
+    /// The second bridge of the best path to a bridge: where the way there goes first. None where there is no path, or
+    /// no second bridge. The path is looked for at `place` first, which is that of the bridge in the graph's list where
+    /// each bridge has a path.
+    pub fn next_hop(&self, place: usize, to: SystemId) -> Option<SystemId>
+        ensures { result ≡ tree.second_in self.now.paths to }
+    {
+        match self.find_near(place, to) {
+            None => None,
+            Some(path) => path.bridges.as_slice().get(1).copied(),
+        }
     }
 
     /// The best path to a bridge. None exactly where there is no path.

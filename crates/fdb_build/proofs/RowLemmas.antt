@@ -1,15 +1,28 @@
-use Rattle.std.proofs.Common.{◌≡◌, ℕ, zero, suc, ◌+◌, ◌≤◌, ◌<◌, Bool, true, false, true≢false, ◌&&◌, ◌||◌, List, [], ◌∷◌, ◌++◌, length, take, get_or, Option, Some, None, refl, sym, ap, ◌∙◌, arith, if◌then◌else◌}
+use Rattle.std.proofs.Common.{◌≡◌, ℕ, zero, suc, ◌+◌, ◌≤◌, ◌<◌, Bool, true, false, true≢false, ◌&&◌, ◌||◌, List, [], ◌∷◌, ◌++◌, length, map, take, get_or, find, Option, Some, None, option_map, option_and_then, slice_get, refl, sym, ap, ◌∙◌, subst, append_assoc, take_all, arith, if◌then◌else◌}
 use Rattle.std.specs.List.{AllByRecursion, filter_map}
 use Rattle.std.specs.Option.{option_to_list}
-use Rattle.std.proofs.lemmas.List.{take_more}
+use Rattle.std.specs.List.{cons_option}
+use Rattle.std.proofs.lemmas.List.{take_more, map-append}
 use Rattle.std.proofs.lemmas.List.Elements.{filter_map-append}
 use Rattle.std.specs.declared.cmp.Ordering.{Ordering}
 use Rattle.std.specs.Ordering.{is_gt}
 use Rattle.fdb_build.specs.Tables.{inserted, ascending_by}
 use Rattle.spb_types.specs.Address.{same_system}
-use Rattle.spb_types.specs.Graph.{joins, port_at, port_among, edges_at, ArePorts}
+use Rattle.spb_types.specs.Graph.{joins, port_at, port_among, port_between, edges_at, systems_of, ArePorts, IsEdgeOf, IsValid}
 use Rattle.spb_types.specs.declared.address.SystemId.{SystemId}
 use Rattle.spb_types.specs.declared.graph.Edge.{Edge}
+use Rattle.spb_types.specs.declared.graph.Graph.{Graph}
+use Rattle.spb_types.specs.declared.graph.GraphBridge.{GraphBridge}
+use Rattle.spb_types.specs.declared.tables.Path.{Path}
+use Rattle.spb_types.specs.declared.tables.UnicastRow.{UnicastRow}
+use Rattle.ect_trees.specs.Path.{cost_of}
+use Rattle.ect_trees.specs.Best.{best_of}
+use Rattle.ect_trees.specs.Tree.{Paths, GivesBest, second_in}
+use Rattle.ect_trees.proofs.Among.{same_is, same_self}
+use Rattle.fdb_build.specs.declared.surroundings.Neighbour.{Neighbour}
+use Rattle.fdb_build.specs.declared.surroundings.Placed.{Placed}
+use Rattle.fdb_build.specs.declared.surroundings.Surroundings.{Surroundings}
+use Rattle.fdb_build.specs.Surroundings.{neighbour_by, AreKnown}
 
 either : (p q r s : Bool) → ((p && q) || (r && s)) ≡ true → (p || s) ≡ true
 either true q r s h = refl
@@ -76,3 +89,113 @@ All-inserted P cmp x (y ∷ ys) p h = by (is_gt (cmp x y)) (All-inserted P cmp x
 pub All-ascending_by : {X : Type 0} (P : X → Type 0) (cmp : X → X → Ordering) (xs : List X) → AllByRecursion P xs → AllByRecursion P (ascending_by cmp xs)
 All-ascending_by P cmp [] h = tt
 All-ascending_by P cmp (x ∷ xs) h = All-inserted P cmp x (ascending_by cmp xs) h.0 (All-ascending_by P cmp xs h.1)
+
+-- the second bridge of the path that a tree gives is that of the best path
+pub second_best : (g : Graph) (mask : ℕ) (me to : SystemId) (tree : Paths) → GivesBest g mask me tree
+    → second_in tree.paths to ≡ option_and_then (λ path. slice_get path 1) (best_of g mask me to)
+second_best g mask me to tree gives = ap (option_and_then (λ (p : Path). slice_get p.bridges 1)) (gives.best to) ∙ by (best_of g mask me to)
+  where
+    by : (o : Option (List SystemId)) → option_and_then (λ (p : Path). slice_get p.bridges 1) (option_map (λ p. record { cost = cost_of g p; bridges = p }) o) ≡ option_and_then (λ path. slice_get path 1) o
+    by None = refl
+    by (Some p) = refl
+
+-- ---- neighbours
+
+-- the port towards a neighbour
+abbrev pub port_by : List Neighbour → SystemId → Option ℕ
+port_by ns y = option_map (λ n. n.port) (find (λ n. same_system n.system y) ns)
+
+-- an edge at `me` leads to one other bridge
+one_end : (e : Edge) (me : SystemId) → same_system e.a e.b ≡ false → same_system e.a me ≡ true → same_system e.b me ≡ false
+one_end e me apart at = by (same_system e.b me) refl
+  where
+    by : (b : Bool) → same_system e.b me ≡ b → same_system e.b me ≡ false
+    by false h = h
+    by true h =
+        let same : e.a ≡ e.b = same_is e.a me at ∙ sym (same_is e.b me h) in
+        absurd (true≢false (sym (same_self e.b) ∙ (ap (λ z. same_system z e.b) (sym same) ∙ apart)))
+
+first_is : (n : Neighbour) (ns : List Neighbour) (y : SystemId) (b : Bool) → same_system n.system y ≡ b → port_by (n ∷ ns) y ≡ (if b then Some n.port else port_by ns y)
+first_is n ns y true h = ap (λ t. option_map (λ (m : Neighbour). m.port) (if t then Some n else find (λ m. same_system m.system y) ns)) h
+first_is n ns y false h = ap (λ t. option_map (λ (m : Neighbour). m.port) (if t then Some n else find (λ m. same_system m.system y) ns)) h
+
+-- the ports towards neighbours are those of the edges
+pub port_by_neighbours : (es : List Edge) (me y : SystemId) → AllByRecursion (λ e. same_system e.a e.b ≡ false) es
+    → port_by (filter_map (neighbour_by me) es) y ≡ port_among es me y
+port_by_neighbours [] me y apart = refl
+port_by_neighbours (e ∷ es) me y apart =
+    by (same_system e.a me) (same_system e.b me) (same_system e.a y) (same_system e.b y) (one_end e me apart.0) refl refl (port_by_neighbours es me y apart.1)
+  where
+    rest : List Neighbour
+    rest = filter_map (neighbour_by me) es
+
+    by : (t u p q : Bool) → (t ≡ true → u ≡ false) → same_system e.a y ≡ p → same_system e.b y ≡ q → port_by rest y ≡ port_among es me y
+        → port_by (cons_option (if t then Some (record { system = e.b; port = e.port_a }) else (if u then Some (record { system = e.a; port = e.port_b }) else None)) rest) y
+        ≡ (if (t && q) || (p && u) then Some (if t then e.port_a else e.port_b) else port_among es me y)
+    by true true p q one hp hq ih = absurd (true≢false (one refl))
+    by true false p true one hp hq ih = first_is (record { system = e.b; port = e.port_a }) rest y true hq
+    by true false true false one hp hq ih = first_is (record { system = e.b; port = e.port_a }) rest y false hq ∙ ih
+    by true false false false one hp hq ih = first_is (record { system = e.b; port = e.port_a }) rest y false hq ∙ ih
+    by false true true q one hp hq ih = first_is (record { system = e.a; port = e.port_b }) rest y true hp
+    by false true false q one hp hq ih = first_is (record { system = e.a; port = e.port_b }) rest y false hp ∙ ih
+    by false false true q one hp hq ih = ih
+    by false false false q one hp hq ih = ih
+
+-- in a valid graph no edge joins a bridge to itself
+edges_apart : (g : Graph) → IsValid g → AllByRecursion (λ e. same_system e.a e.b ≡ false) g.edges
+edges_apart g valid = All-map (λ e. IsEdgeOf g e) (λ e. same_system e.a e.b ≡ false) g.edges (λ e i. i.apart) valid.edges
+
+-- what the list of neighbours gives is the port of the edge
+pub port_known : (s : Surroundings) (y : SystemId) → AreKnown s → port_by s.neighbours.items y ≡ port_between s.graph.now s.me y
+port_known s y known = ap (λ ns. port_by ns y) known.neighbours ∙ port_by_neighbours s.graph.now.edges s.me y (edges_apart s.graph.now known.valid.valid)
+
+-- ---- bridges by ascending address
+
+module _ {X Y : Type 0} (f : X → Y) (cmp : Y → Y → Ordering) where
+  inserted-map : (x : X) (ys : List X) → map f (inserted (λ a b. cmp (f a) (f b)) x ys) ≡ inserted cmp (f x) (map f ys)
+  inserted-map x [] = refl
+  inserted-map x (y ∷ ys) = by (is_gt (cmp (f x) (f y))) (inserted-map x ys)
+    where
+      by : (b : Bool) → map f (inserted (λ a b. cmp (f a) (f b)) x ys) ≡ inserted cmp (f x) (map f ys) → map f (if b then y ∷ inserted (λ a b. cmp (f a) (f b)) x ys else x ∷ y ∷ ys) ≡ (if b then f y ∷ inserted cmp (f x) (map f ys) else f x ∷ f y ∷ map f ys)
+      by true h = ap (λ t. f y ∷ t) h
+      by false h = refl
+
+  -- items in the order of what they are mapped to, mapped, are in order
+  pub ascending-map : (xs : List X) → map f (ascending_by (λ a b. cmp (f a) (f b)) xs) ≡ ascending_by cmp (map f xs)
+  ascending-map [] = refl
+  ascending-map (x ∷ xs) = inserted-map x (ascending_by (λ a b. cmp (f a) (f b)) xs) ∙ ap (inserted cmp (f x)) (ascending-map xs)
+
+pub filter_map-map : {X Y Z : Type 0} (f : Y → Option Z) (h : X → Y) (xs : List X) → filter_map (λ x. f (h x)) xs ≡ filter_map f (map h xs)
+filter_map-map f h [] = refl
+filter_map-map f h (x ∷ xs) = ap (cons_option (f (h x))) (filter_map-map f h xs)
+
+-- one more bridge with its place
+pub systems-more : (bs : List GraphBridge) (ps qs : List Placed) (p : Placed) (i : ℕ) (d : GraphBridge) → i < length bs → qs ≡ ps ++ p ∷ [] → p.system ≡ (get_or bs i d).id.system
+    → map (λ (b : Placed). b.system) ps ≡ systems_of (take i bs) → map (λ (b : Placed). b.system) qs ≡ systems_of (take (i + 1) bs)
+systems-more bs ps qs p i d low pushed same before =
+    ap (map (λ (b : Placed). b.system)) pushed ∙
+    (map-append (λ (b : Placed). b.system) ps (p ∷ []) ∙
+    (ap (λ s. map (λ (b : Placed). b.system) ps ++ s ∷ []) same ∙
+    (ap (λ s. s ++ (get_or bs i d).id.system ∷ []) before ∙
+    sym (ap systems_of (take_more bs i d low) ∙ map-append (λ (b : GraphBridge). b.id.system) (take i bs) (get_or bs i d ∷ [])))))
+
+-- ---- rows, one after another
+
+-- the row for the next of the bridges is put behind the others
+pub rows-more : (f : SystemId → Option UnicastRow) (old rows new : List UnicastRow) (row : Option UnicastRow) (bs items : List Placed) (i : ℕ) (d : Placed)
+    → i < length items → items ≡ bs → row ≡ f (get_or items i d).system → new ≡ rows ++ option_to_list row
+    → rows ≡ old ++ filter_map (λ (b : Placed). f b.system) (take i bs) → new ≡ old ++ filter_map (λ (b : Placed). f b.system) (take (i + 1) bs)
+rows-more f old rows new row bs items i d low same is pushed before =
+    let within : i < length bs = subst (λ (t : List Placed). i < length t) same low in
+    let here : row ≡ f (get_or bs i d).system = is ∙ ap (λ t. f (get_or {A = Placed} t i d).system) same in
+    pushed ∙ (ap (λ r. rows ++ option_to_list r) here ∙ (ap (λ t. t ++ option_to_list (f (get_or bs i d).system)) before ∙
+    (append_assoc old (filter_map (λ (b : Placed). f b.system) (take i bs)) (option_to_list (f (get_or bs i d).system)) ∙
+    ap (λ t. old ++ t) (sym (filter_map-take_more (λ (b : Placed). f b.system) bs i d within)))))
+
+-- the rows for all bridges
+pub rows-all : (f : SystemId → Option UnicastRow) (old rows : List UnicastRow) (bs items : List Placed) (ys : List SystemId) (i : ℕ)
+    → length items ≤ i → items ≡ bs → map (λ (b : Placed). b.system) bs ≡ ys
+    → rows ≡ old ++ filter_map (λ (b : Placed). f b.system) (take i bs) → rows ≡ old ++ filter_map f ys
+rows-all f old rows bs items ys i low same ascends before =
+    let all : length bs ≤ i = subst (λ (t : List Placed). length t ≤ i) same low in
+    before ∙ ap (λ t. old ++ t) (ap (filter_map (λ (b : Placed). f b.system)) (take_all i bs all) ∙ (filter_map-map f (λ (b : Placed). b.system) bs ∙ ap (filter_map f) ascends))

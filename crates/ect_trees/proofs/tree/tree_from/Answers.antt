@@ -1,15 +1,20 @@
-use Rattle.std.proofs.Common.{refl, ap, ◌∙◌}
-use Rattle.ect_trees.specs.Tree.{path_in, best_path}
+use Rattle.std.proofs.Common.{refl, sym, ap, subst, ◌∙◌}
+use Rattle.ect_trees.specs.Tree.{path_in, best_path, EndOnce}
+use Rattle.ect_trees.proofs.EndOnce.{end_once}
 use Rattle.ect_trees.proofs.Ends.{paths_are_best}
 use Rattle.ect_trees.proofs.tree.tree_from.Goals as goal
 
 pub returns : goal.returns
 returns c =
-    let seeks = c.in_ok-search.ensures in
+    let leads = c.in_ok-roads.ensures in
     record {
       from = refl;
       best = λ to.
           ap (λ t. path_in t to) c.in_ok-paths_of.ensures
-          ∙ (paths_are_best c.in_ok-search.search c.settle.new.labels.items to seeks.ready c.in_ok-settle.ensures
-          ∙ (λ i. best_path (seeks.graph_is i) (seeks.mask_is i) (seeks.source_is i) to));
+          ∙ (paths_are_best _ c.in_ok-labels.labels.items to leads.ready.valid c.in_ok-labels.ensures
+          ∙ (λ i. best_path (leads.graph_is i) c.args.mask c.args.source to));
     }
+
+pub invariant_of-result : goal.invariant_of-result
+invariant_of-result c =
+    subst EndOnce (sym c.in_ok-paths_of.ensures) (end_once _ c.in_ok-labels.labels.items c.in_ok-roads.ensures.ready.valid c.in_ok-labels.ensures.labels)
