@@ -1,2 +1,3 @@
 pub mod Neighbours
+pub mod Refreshing
 pub mod Time

@@ -1,5 +1,5 @@
 -- The adjacency at a port, and what each call makes of it (RFC 5303, 3).
-use Rattle.std.specs.Prelude.{◌≡◌, ℕ, ◌-◌, ◌≤◌, replicate, Bool, true, false, ◌&&◌, not, Option, Some, None, ◌==◌, if◌then◌else◌}
+use Rattle.std.specs.Prelude.{◌≡◌, ℕ, ◌-◌, ◌≤◌, replicate, Bool, true, false, ◌&&◌, not, Option, Some, None, ◌==◌, nat_lt, if◌then◌else◌}
 use Rattle.spb_types.specs.declared.address.SystemId.{SystemId}
 use Rattle.isis_pdu.specs.Pdu.{HelloValue}
 use Rattle.spb_tlvs.specs.declared.three_way.ThreeWay.{ThreeWay}
@@ -95,6 +95,12 @@ change_of old new =
 abbrev pub change_by_hello : SystemId → ℕ → HelloValue → ThreeWay → Adjacency → AdjacencyChange
 change_by_hello me port hello way a =
     if is_discarded me port hello way then Discarded else change_of a (after_hello_heard hello way a)
+
+-- whether a hello only begins the holding count anew: the state is Up, and the kept neighbour hears this system still
+abbrev pub is_refreshed : SystemId → ℕ → HelloValue → ThreeWay → Adjacency → Bool
+is_refreshed me port hello way a =
+    is_up a.state && nat_lt way.state 2 && nat_lt 0 hello.holding && same_end (a.neighbour, a.circuit) (sender hello way)
+    && not (is_discarded me port hello way)
 
 -- what the own hello says: the state, the port as the extended local circuit id, and the neighbour that is kept
 abbrev pub said : ℕ → Adjacency → ThreeWay

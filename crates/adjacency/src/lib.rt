@@ -14,5 +14,3 @@ pub use state::{AdjState, AdjacencyChange};
 mod laws;
 mod port;
 mod state;
-#[cfg(test)]
-mod tests;

@@ -1,7 +1,9 @@
-ghost use Rattle.std.specs.Prelude.{◌≡◌, ◌≤◌, true};
+ghost use Rattle.std.specs.Prelude.{◌≡◌, ◌≤◌, true, if◌then◌else◌};
 ghost use Rattle.isis_pdu.specs.Pdu.{hello_of};
 ghost use Rattle.adjacency.specs.Hearing as hearing;
-ghost use Rattle.adjacency.specs.Adjacency.{IsSound, down, after_hello, after_hello_heard, after_second, after_carrier, state_towards, is_new_up, change_of, change_by_hello, neighbour_of, said};
+ghost use Rattle.adjacency.specs.Hearing.{same_end};
+ghost use Rattle.adjacency.specs.declared.state.AdjacencyChange.TheVariants as did;
+ghost use Rattle.adjacency.specs.Adjacency.{IsSound, down, after_hello, after_hello_heard, after_second, after_carrier, state_towards, is_new_up, change_of, change_by_hello, is_refreshed, neighbour_of, said};
 
 use crate::state::{AdjState, AdjacencyChange};
 use isis_pdu::Hello;
@@ -66,6 +68,40 @@ impl Adjacency {
         before.change_to(self)
     }
 
+    /// Hears a hello if it only begins the holding count anew, and tells whether it does: the state is Up, and the
+    /// neighbour that is kept hears this system still. Otherwise nothing changes.
+    ///
+    /// It's [`hear`](Self::hear) for the hello that comes each second.
+    pub fn refresh(&mut self, me: SystemId, port: u8, hello: &Hello, way: &ThreeWay) -> bool
+        requires { IsSound self.old }
+        ensures new { self.new ≡ (if result then record self.old { hold = hello.now.holding } else self.old) }
+        ensures heard { result ≡ true → self.new ≡ after_hello me port (hello_of hello.now) way.now self.old }
+        ensures kept { result ≡ true → change_by_hello me port (hello_of hello.now) way.now self.old ≡ did.Kept }
+        ensures sound { IsSound self.new }
+    {
+        if !self.is_refreshed(me, port, hello, way) {
+            return false;
+        }
+        self.hold = hello.holding;
+        true
+    }
+
+    fn is_refreshed(&self, me: SystemId, port: u8, hello: &Hello, way: &ThreeWay) -> bool
+        ensures { result ≡ is_refreshed me port (hello_of hello.now) way.now self.now }
+    {
+        self.state == AdjState::Up
+            && way.state < 2
+            && hello.holding > 0
+            && self.is_kept(hello.source, way.circuit)
+            && !is_discarded(me, port, hello, way)
+    }
+
+    fn is_kept(&self, system: SystemId, circuit: u32) -> bool
+        ensures { result ≡ same_end (self.now.neighbour, self.now.circuit) (system, circuit) }
+    {
+        self.neighbour.is(system) && self.circuit == circuit
+    }
+
     /// The adjacency after a hello that isn't discarded.
     fn after(&self, hello: &Hello, way: &ThreeWay) -> Self
         requires { way.now.state ≤ 2 }
@@ -95,7 +131,7 @@ impl Adjacency {
     fn state_towards(&self, system: SystemId, circuit: u32) -> AdjState
         ensures { result ≡ state_towards (system, circuit) self.now }
     {
-        if self.neighbour == system && self.circuit == circuit {
+        if self.is_kept(system, circuit) {
             self.state
         } else {
             AdjState::Down
@@ -175,7 +211,7 @@ impl Adjacency {
     fn is_new_up(&self, before: &Self) -> bool
         ensures { result ≡ is_new_up self.now before.now }
     {
-        let same_end = self.neighbour == before.neighbour && self.circuit == before.circuit;
+        let same_end = self.is_kept(before.neighbour, before.circuit);
         self.state == AdjState::Up && !(before.state == AdjState::Up && same_end)
     }
 }
@@ -185,7 +221,7 @@ impl Adjacency {
 fn is_discarded(me: SystemId, port: u8, hello: &Hello, way: &ThreeWay) -> bool
     ensures { result ≡ hearing.is_discarded me port (hello_of hello.now) way.now }
 {
-    !has_level_one(hello.circuit_type) || hello.source == me || names_another(me, port, way)
+    !has_level_one(hello.circuit_type) || hello.source.is(me) || names_another(me, port, way)
 }
 
 fn has_level_one(circuit_type: u8) -> bool
@@ -200,6 +236,6 @@ fn names_another(me: SystemId, port: u8, way: &ThreeWay) -> bool
 {
     match way.neighbour {
         None => false,
-        Some((system, circuit)) => !(system == me && circuit == u32::from(port)),
+        Some((system, circuit)) => !(system.is(me) && circuit == u32::from(port)),
     }
 }

@@ -1,14 +1,16 @@
 -- What the two running sums of the checksum are modulo 255, and that the two check bytes make them 0.
-use Rattle.std.proofs.Common.{◌≡◌, ℕ, ◌⊎◌, ◌+◌, ◌*◌, ◌-◌, ◌/◌, ◌%◌, ◌<◌, ◌≤◌, List, [], ◌∷◌, ◌++◌, length, Bool, true, false, cond, refl, sym, ap, ◌∙◌, subst, arith, inl, inr, append_assoc, lit<}
+use Rattle.std.proofs.Common.{◌≡◌, ℕ, ◌⊎◌, ◌+◌, ◌*◌, ◌-◌, ◌/◌, ◌%◌, ◌<◌, ◌≤◌, List, [], ◌∷◌, ◌++◌, length, Bool, true, false, cond, refl, sym, ap, ◌∙◌, subst, arith, inl, inr, zero, suc, drop, get_or, append_assoc, lit<}
 use Rattle.std.specs.Prelude.{IsTrue, ◌&&◌, ◌==◌}
 use Rattle.std.proofs.lemmas.List.Sums.{fold-append}
 use Rattle.std.proofs.lemmas.Bool.{eqb-true}
+use Rattle.std.proofs.lemmas.Nat.{mul-le}
 use Rattle.std.proofs.lemmas.Bool.Decides.{nat_tests}
 use Rattle.spb_types.specs.declared.address.LspId.{LspId}
 use Rattle.isis_pdu.specs.declared.checksum.Sums.{Sums}
 use Rattle.spb_types.specs.Bytes.{lsp_id_bytes}
 use Rattle.isis_pdu.specs.Bytes.{u32_bytes}
-use Rattle.isis_pdu.specs.Checksum.{summed, sums_from, sums_of, is_checked, covered, check_byte, first_check, second_check, check_field, lsp_sum_of, HasCheckBytes}
+use Rattle.isis_pdu.specs.Grammar.{IsBytes}
+use Rattle.isis_pdu.specs.Checksum.{IsReduced, total, weight, summed, sums_from, sums_of, is_checked, covered, check_byte, first_check, second_check, check_field, lsp_sum_of, HasCheckBytes}
 
 -- two numbers are the same modulo 255
 pub record IsCongruent (a b : ℕ) : Type 0 where
@@ -44,15 +46,6 @@ congruent_is a b e = record { p = 0; q = 0; same = omega (arith, e) }
 congruent_zero : (n : ℕ) → n < 255 → IsCongruent n 0 → n ≡ 0
 congruent_zero n lt h = omega (arith, h.same)
 
--- the sum of bytes, and the sum of each byte times its place counted from the end
-abbrev pub total : List ℕ → ℕ
-total [] = 0
-total (b ∷ bs) = b + total bs
-
-abbrev pub weight : List ℕ → ℕ
-weight [] = 0
-weight (b ∷ bs) = b * (1 + length bs) + weight bs
-
 -- the running sums e, which were s before the bytes, are these, modulo 255
 pub record IsAfter (s e : Sums) (bytes : List ℕ) : Type 0 where
   pub c0 : IsCongruent e.c0 (s.c0 + total bytes)
@@ -78,13 +71,49 @@ sums_after s (b ∷ bs) =
     }
 
 -- both sums stay below 255
-pub record IsReduced (s : Sums) : Type 0 where
-  pub c0 : s.c0 < 255
-  pub c1 : s.c1 < 255
-
-sums_reduced : (s : Sums) (bytes : List ℕ) → IsReduced s → IsReduced (sums_from s bytes)
+pub sums_reduced : (s : Sums) (bytes : List ℕ) → IsReduced s → IsReduced (sums_from s bytes)
 sums_reduced s [] h = h
 sums_reduced s (b ∷ bs) h = sums_reduced (summed s b) bs (record { c0 = omega arith; c1 = omega arith })
+
+-- numbers below 255 that are the same modulo 255 are the same
+congruent_same : (a b : ℕ) → a < 255 → b < 255 → IsCongruent a b → a ≡ b
+congruent_same a b ha hb h = omega (arith, h.same)
+
+-- the sums that the totals of a block make
+pub reduced_is : (s : Sums) (bytes : List ℕ) → IsReduced s → (record { c0 = (s.c0 + total bytes) % 255; c1 = (s.c1 + length bytes * s.c0 + weight bytes) % 255 }) ≡ sums_from s bytes
+reduced_is s bytes h =
+    let e : Sums = sums_from s bytes in
+    let after : IsAfter s e bytes = sums_after s bytes in
+    let low : IsReduced e = sums_reduced s bytes h in
+    let c0 : (s.c0 + total bytes) % 255 ≡ e.c0 = congruent_same _ _ (omega arith) low.c0 (congruent_trans _ _ _ (congruent_mod _) (congruent_sym _ _ after.c0)) in
+    let c1 : (s.c1 + length bytes * s.c0 + weight bytes) % 255 ≡ e.c1 = congruent_same _ _ (omega arith) low.c1 (congruent_trans _ _ _ (congruent_mod _) (congruent_sym _ _ after.c1)) in
+    sums_are _ _ e c0 c1
+  where
+    sums_are : (x y : ℕ) (e : Sums) → x ≡ e.c0 → y ≡ e.c1 → (record { c0 = x; c1 = y }) ≡ e
+    sums_are x y e p q = rw (p, q) refl
+
+-- ---- how great the totals of a block are
+
+pub total_high : (bytes : List ℕ) → IsBytes bytes → total bytes ≤ 255 * length bytes
+total_high [] fits = omega arith
+total_high (b ∷ bs) fits = omega (arith, fits 0, total_high bs (λ i. fits (suc i)))
+
+pub weight_high : (bytes : List ℕ) → IsBytes bytes → length bytes ≤ 4096 → weight bytes ≤ 1044480 * length bytes
+weight_high [] fits short = omega arith
+weight_high (b ∷ bs) fits short =
+    let first : b * (1 + length bs) ≤ 255 * 4096 = mul-le b (1 + length bs) 255 4096 (omega (arith, fits 0)) (omega arith) in
+    omega (arith, first, weight_high bs (λ i. fits (suc i)) (omega arith))
+
+-- the next byte is a part of what is left to add
+pub next_total : (bytes : List ℕ) (i : ℕ) → i < length bytes → get_or bytes i 0 ≤ total (drop i bytes)
+next_total [] i within = absurd (omega arith)
+next_total (b ∷ bs) zero within = omega arith
+next_total (b ∷ bs) (suc i) within = next_total bs i (omega arith)
+
+pub next_weight : (bytes : List ℕ) (i : ℕ) → i < length bytes → get_or bytes i 0 * length (drop i bytes) ≤ weight (drop i bytes)
+next_weight [] i within = absurd (omega arith)
+next_weight (b ∷ bs) zero within = omega arith
+next_weight (b ∷ bs) (suc i) within = next_weight bs i (omega arith)
 
 -- a check byte is in 1 to 255, and congruent to what it was made of
 pub record IsCheckByte (x n : ℕ) : Type 0 where

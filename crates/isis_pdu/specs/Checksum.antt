@@ -1,5 +1,5 @@
 -- The checksum of an LSP (ISO/IEC 10589, 7.3.11; ISO 8473-1, annex C).
-use Rattle.std.specs.Prelude.{ℕ, ◌+◌, ◌*◌, ◌-◌, ◌/◌, ◌%◌, ◌≤◌, List, [], ◌∷◌, ◌++◌, length, fold, Bool, ◌&&◌, ◌==◌, if◌then◌else◌}
+use Rattle.std.specs.Prelude.{ℕ, ◌+◌, ◌*◌, ◌-◌, ◌/◌, ◌%◌, ◌<◌, ◌≤◌, List, [], ◌∷◌, ◌++◌, length, fold, Bool, ◌&&◌, ◌==◌, if◌then◌else◌}
 use Rattle.spb_types.specs.declared.address.LspId.{LspId}
 use Rattle.isis_pdu.specs.declared.checksum.Sums.{Sums}
 use Rattle.spb_types.specs.Bytes.{lsp_id_bytes}
@@ -15,6 +15,20 @@ sums_from s bytes = fold summed s bytes
 
 abbrev pub sums_of : List ℕ → Sums
 sums_of bytes = sums_from (record { c0 = 0; c1 = 0 }) bytes
+
+-- both sums are below 255
+pub record IsReduced (s : Sums) : Type 0 where
+  pub c0 : s.c0 < 255
+  pub c1 : s.c1 < 255
+
+-- the sum of bytes, and the sum of each byte times its place counted from the end: modulo 255, what they add to the sums
+abbrev pub total : List ℕ → ℕ
+total [] = 0
+total (b ∷ bs) = b + total bs
+
+abbrev pub weight : List ℕ → ℕ
+weight [] = 0
+weight (b ∷ bs) = b * (1 + length bs) + weight bs
 
 -- whether both sums of the bytes are 0
 abbrev pub is_checked : List ℕ → Bool

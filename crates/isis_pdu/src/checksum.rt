@@ -1,10 +1,13 @@
-ghost use Rattle.std.specs.Prelude.{◌≡◌, ℕ, IsTrue};
+ghost use Rattle.std.specs.Prelude.{◌≡◌, ◌≤◌, ℕ, length, IsTrue};
 ghost use Rattle.isis_pdu.specs.Checksum as field;
-ghost use Rattle.isis_pdu.specs.Checksum.{summed, sums_from, sums_of, check_byte, is_checked, covered, lsp_sum_of, HasCheckBytes};
+ghost use Rattle.isis_pdu.specs.Checksum.{IsReduced, total, weight, sums_from, sums_of, check_byte, is_checked, covered, lsp_sum_of, HasCheckBytes};
 
 use spb_types::LspId;
 
-/// The two running sums of the checksum (ISO 8473-1, annex C).
+/// How many bytes are added up before the sums are reduced modulo 255: so many that the sums fit.
+const BLOCK: usize = 4_096;
+
+/// The two running sums of the checksum (ISO 8473-1, annex C), each below 255.
 #[derive(Clone, Copy)]
 struct Sums {
     c0: u8,
@@ -14,22 +17,55 @@ struct Sums {
 impl Sums {
     const NONE: Sums = Sums { c0: 0, c1: 0 };
 
-    fn with(self, byte: u8) -> Sums
-        ensures { result ≡ summed self byte }
+    fn over(self, bytes: &[u8]) -> Sums
+        requires { IsReduced self }
+        ensures sums { result ≡ sums_from self bytes.now }
+        ensures reduced { IsReduced result }
     {
-        let c0 = (u16::from(self.c0) + u16::from(byte)) % 255;
-        let c1 = (u16::from(self.c1) + c0) % 255;
-        Sums {
-            c0: c0 as u8,
-            c1: c1 as u8,
+        let mut sums = self;
+        let mut rest = bytes;
+        while rest.len() > BLOCK {
+            let (block, after) = rest.split_at(BLOCK);
+            sums = sums.over_block(block);
+            rest = after;
         }
+        sums.over_block(rest)
     }
 
-    fn over(self, bytes: &[u8]) -> Sums
-        ensures { result ≡ sums_from self bytes.now }
+    /// The sums after one block. The first sum enters the second once for each byte, and so does each byte for itself
+    /// and each byte after it.
+    fn over_block(self, bytes: &[u8]) -> Sums
+        requires reduced { IsReduced self }
+        requires short { length bytes.now ≤ 4096 }
+        ensures sums { result ≡ sums_from self bytes.now }
+        ensures reduced { IsReduced result }
     {
-        bytes.iter().fold(self, |sums, byte| sums.with(*byte))
+        let len = bytes.len() as u32;
+        let c0 = u32::from(self.c0);
+        let (total, weight) = totals(bytes);
+        Sums {
+            c0: ((c0 + total) % 255) as u8,
+            c1: ((u32::from(self.c1) + len * c0 + weight) % 255) as u8,
+        }
     }
+}
+
+/// The sum of the bytes, and the sum of each byte times its place counted from the end.
+fn totals(bytes: &[u8]) -> (u32, u32)
+    requires { length bytes.now ≤ 4096 }
+    ensures total { result.0 ≡ total bytes.now }
+    ensures weight { result.1 ≡ weight bytes.now }
+{
+    let mut total = 0;
+    let mut weight = 0;
+    let mut place = bytes.len() as u32;
+    for byte in bytes {
+        let byte = u32::from(*byte);
+        total += byte;
+        weight += byte * place;
+        place -= 1;
+    }
+    (total, weight)
 }
 
 /// The number in 1 to 255 that is `number` modulo 255.

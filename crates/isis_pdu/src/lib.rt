@@ -19,7 +19,5 @@ mod kind;
 mod laws;
 mod pdu;
 mod reading;
-#[cfg(test)]
-mod tests;
 mod tlvs;
 mod writing;

@@ -88,7 +88,9 @@ fn value<'a>(kind: Kind, bytes: &'a [u8], tlvs: &'a [u8]) -> Pdu<'a>
     }
 }
 
-/// The PDU of this type, or the first rule that the bytes break.
+/// The PDU of this type, or the first rule that the bytes break. It's inlined, so that the places and lengths are
+/// constants for each type.
+#[inline(always)]
 #[tactic(auto, unfolding(crate::specs::Reading::read_as))]
 fn decode_as(kind: Kind, bytes: &[u8]) -> Result<Pdu<'_>, PduError>
     requires { 8 ≤ length bytes.now }
@@ -123,7 +125,10 @@ fn first_pdu(bytes: &[u8]) -> Result<Pdu<'_>, PduError>
         return Err(PduError::NotIsis);
     }
     match Kind::of_number(bytes[4] % 32) {
-        Some(kind) => decode_as(kind, bytes),
+        Some(Kind::Hello) => decode_as(Kind::Hello, bytes),
+        Some(Kind::Lsp) => decode_as(Kind::Lsp, bytes),
+        Some(Kind::Csnp) => decode_as(Kind::Csnp, bytes),
+        Some(Kind::Psnp) => decode_as(Kind::Psnp, bytes),
         None => Err(PduError::Kind),
     }
 }

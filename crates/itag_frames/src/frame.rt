@@ -1,7 +1,7 @@
 ghost use Rattle.std.specs.Prelude.{◌≡◌, ◌≤◌, length};
 ghost use Rattle.itag_frames.specs.Frame as spec;
 
-use spb_types::{Isid, Mac, Vid, take_u16};
+use spb_types::{Isid, Mac, Vid, mac_in, u16_in};
 use thiserror::Error;
 
 /// A frame of the backbone.
@@ -70,7 +70,7 @@ fn is_control(frame: &[u8]) -> bool
     ensures { result ≡ spec.is_control frame.now }
 {
     let len = length_of(frame);
-    &frame[..6] == CONTROL_ADDRESS.as_slice()
+    mac_in(frame, 0).bytes == CONTROL_ADDRESS
         && (3 <= len && len <= 1500 && len <= frame.len() - 14)
         && &frame[14..17] == LLC.as_slice()
 }
@@ -79,5 +79,5 @@ fn length_of(frame: &[u8]) -> usize
     requires { 17 ≤ length frame.now }
     ensures { result ≡ spec.length_of frame.now }
 {
-    usize::from(take_u16(frame, 12).unwrap())
+    usize::from(u16_in(frame, 12))
 }

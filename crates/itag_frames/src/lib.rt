@@ -12,5 +12,3 @@ pub use laws::control_again;
 mod control;
 mod frame;
 mod laws;
-#[cfg(test)]
-mod tests;

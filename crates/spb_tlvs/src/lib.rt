@@ -31,7 +31,5 @@ mod error;
 mod laws;
 mod neighbours;
 mod piece;
-#[cfg(test)]
-mod tests;
 mod three_way;
 mod tlv;

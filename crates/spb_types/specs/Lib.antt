@@ -10,3 +10,4 @@ pub mod Ascending
 pub mod Sorted
 pub mod Service
 pub mod Places
+pub mod Tables

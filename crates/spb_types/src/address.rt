@@ -1,4 +1,5 @@
 ghost use Rattle.std.specs.Prelude.{◌≡◌, ◌==◌, ◌%◌, slice_index};
+ghost use Rattle.spb_types.specs.Address.{same_system, system_number, HasSixBytes};
 
 /// A MAC address: six bytes, as they stand in a frame (IEEE 802).
 #[derive(Clone, Copy, Debug, PartialEq, Eq, PartialOrd, Ord, Hash)]
@@ -23,6 +24,26 @@ pub struct SystemId {
     pub mac: Mac,
 }
 
+impl SystemId {
+    /// Whether both are the same system, which `==` tells too: the six bytes are compared as one number.
+    #[tactic(auto, using(crate::proofs::SystemNumbers::same_numbers))]
+    pub fn is(self, other: SystemId) -> bool
+        ensures { result ≡ same_system self other }
+    {
+        self.number() == other.number()
+    }
+
+    /// The six bytes as a number, the first one the greatest.
+    #[tactic(auto, unfolding(crate::specs::Address::system_number))]
+    fn number(self) -> u64
+        ensures number { result ≡ system_number self }
+        ensures bytes { HasSixBytes self }
+    {
+        let [a, b, c, d, e, f] = self.mac.bytes;
+        u64::from_be_bytes([0, 0, a, b, c, d, e, f])
+    }
+}
+
 /// A bridge id: the priority, 0 to 65,535, and then the system id (IEEE 802.1aq, 28.5).
 #[derive(Clone, Copy, Debug, PartialEq, Eq, PartialOrd, Ord, Hash)]
 pub struct BridgeId {
@@ -38,48 +59,4 @@ pub struct LspId {
     pub system: SystemId,
     pub pseudonode: u8,
     pub number: u8,
-}
-
-#[cfg(test)]
-mod tests {
-    use super::*;
-
-    #[test]
-    fn group_addresses_have_the_lowest_bit_of_the_first_byte(rt: HostRuntime) {
-        for (first, is_group) in [
-            (0x00, false),
-            (0x01, true),
-            (0x02, false),
-            (0x03, true),
-            (0xff, true),
-        ] {
-            let mac = Mac {
-                bytes: [first, 0, 0, 0, 0, 1],
-            };
-            assert_eq!(rt; mac.is_group(), is_group, "first byte {first}");
-        }
-    }
-
-    #[test]
-    fn lsp_ids_are_ordered_as_their_bytes(rt: HostRuntime) {
-        let low = LspId {
-            system: SystemId {
-                mac: Mac {
-                    bytes: [2, 0, 0, 0, 0, 1],
-                },
-            },
-            pseudonode: 0,
-            number: 9,
-        };
-        let high = LspId {
-            system: SystemId {
-                mac: Mac {
-                    bytes: [2, 0, 0, 0, 0, 1],
-                },
-            },
-            pseudonode: 1,
-            number: 0,
-        };
-        assert!(rt; low < high);
-    }
 }

@@ -16,22 +16,3 @@ pub fn ect_mask(number: u8) -> u8
 const MASKS: [u8; GREATEST_ECT as usize] = [
     0x00, 0xff, 0x88, 0x77, 0x44, 0x33, 0xcc, 0xbb, 0x22, 0x11, 0x66, 0x55, 0xaa, 0x99, 0xdd, 0xee,
 ];
-
-#[cfg(test)]
-mod tests {
-    use super::*;
-
-    #[test]
-    fn masks_stand_in_their_order(rt: HostRuntime) {
-        for (number, mask) in [
-            (1, 0x00),
-            (2, 0xff),
-            (3, 0x88),
-            (9, 0x22),
-            (15, 0xdd),
-            (16, 0xee),
-        ] {
-            assert_eq!(rt; ect_mask(number), mask, "mask of {number}");
-        }
-    }
-}

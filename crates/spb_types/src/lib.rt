@@ -2,7 +2,8 @@
 //!
 //! A value is `Copy` where it is small, and each list is a [`Seq`], which contracts see as the list of its items. Only
 //! `Seq::push` takes memory, and moves the items where there is no room left. `Name::new` reads its at most 16 bytes,
-//! and `Seq::truncate` drops items; each other call takes constant time.
+//! and `Seq::truncate` drops items. `unicast_of` and `ingress_ok` go over the unicast rows until they find theirs. Each
+//! other call takes constant time.
 #![tactic(auto)]
 
 pub use address::{BridgeId, LspId, Mac, SystemId};
@@ -16,7 +17,7 @@ pub use name::Name;
 pub use ports::PortSet;
 pub use seq::Seq;
 pub use service::{Attachment, Isid, SourceId, Vid, VidPlan};
-pub use tables::{GroupRow, Path, Tables, UnicastRow};
+pub use tables::{GroupRow, Path, Tables, UnicastRow, ingress_ok, unicast_of};
 pub use take::{Short, take_u8, take_u16, take_u24, take_u32};
 
 mod address;

@@ -119,33 +119,3 @@ impl fmt::Debug for Name {
         Ok(())
     }
 }
-
-#[cfg(test)]
-mod tests {
-    use super::*;
-    use std::process::Abort;
-
-    fn check_name(rt: &impl Abort, word: &str) {
-        let name = Name::new(word.as_bytes()).expect(rt, word);
-        assert_eq!(*rt; name.bytes(), word.as_bytes());
-    }
-
-    fn check_no_name(rt: &impl Abort, word: &str) {
-        assert!(*rt; Name::new(word.as_bytes()).is_none(), "{word}");
-    }
-
-    #[test]
-    fn names_are_letters_digits_dashes_and_underscores(rt: HostRuntime) {
-        check_name(&rt, "A");
-        check_name(&rt, "z9");
-        check_name(&rt, "b-1_c");
-        check_name(&rt, "abcdefghijklmnop");
-    }
-
-    #[test]
-    fn other_words_are_no_names(rt: HostRuntime) {
-        for word in ["", "9a", "_a", "-", "a b", "a.b", "abcdefghijklmnopq"] {
-            check_no_name(&rt, word);
-        }
-    }
-}

@@ -52,22 +52,3 @@ impl PortSet {
         }
     }
 }
-
-#[cfg(test)]
-mod tests {
-    use super::*;
-    use std::process::Abort;
-
-    fn check(rt: &impl Abort, set: PortSet, bits: u32) {
-        assert_eq!(*rt; set.bits, bits);
-    }
-
-    #[test]
-    fn ports_enter_and_leave_a_set(rt: HostRuntime) {
-        let set = PortSet::none().with(1).with(32).with(9);
-        check(&rt, set, 0x8000_0101);
-        assert!(rt; set.has(1) && !set.has(2) && set.has(9) && set.has(32));
-        check(&rt, set.without(32).without(2), 0x101);
-        check(&rt, PortSet::none(), 0);
-    }
-}

@@ -97,33 +97,3 @@ impl<T: Drop> Seq<T> {
         Ok(())
     }
 }
-
-#[cfg(test)]
-mod tests {
-    use super::*;
-    use std::process::Abort;
-
-    fn check_items(rt: &impl Abort, found: &[u8], expected: &[u8]) {
-        assert_eq!(*rt; found, expected);
-    }
-
-    #[test]
-    fn a_list_gives_back_its_items(rt: HostRuntime) {
-        assert!(rt; Seq::<u8>::new(rt.alloc()).is_empty());
-        let list = Seq::from_vec(vec![in rt.alloc(); 7, 8].expect(&rt, "out of memory"));
-        assert!(rt; list.len() == 2 && !list.is_empty());
-        check_items(&rt, list.as_slice(), &[7, 8]);
-        assert_eq!(rt; list.iter().count(), 2);
-        check_items(&rt, list.into_vec().as_slice(), &[7, 8]);
-    }
-
-    #[test]
-    fn a_list_is_cut_changed_and_lengthened(rt: HostRuntime) {
-        let mut list = Seq::from_vec(vec![in rt.alloc(); 7, 8].expect(&rt, "out of memory"));
-        list.truncate(1);
-        assert_eq!(rt; list.len(), 1);
-        list.set(0, 9);
-        list.push(6).expect(&rt, "out of memory");
-        check_items(&rt, list.into_vec().as_slice(), &[9, 6]);
-    }
-}

@@ -1,3 +1,7 @@
+ghost use Rattle.std.specs.Prelude.{◌≡◌, ◌↔◌, IsTrue, find};
+ghost use Rattle.std.specs.Option.{option_copied};
+ghost use Rattle.spb_types.specs.Tables.{is_row_for, unicast_in, IsIngress};
+
 use crate::{Mac, PortSet, Seq, SystemId, Vid};
 
 /// A unicast entry of the filtering database: frames to `mac` in `vid` leave by `port`, 1 to 32 (IEEE 802.1aq, 8.8).
@@ -28,4 +32,36 @@ pub struct Tables {
 pub struct Path {
     pub cost: u64,
     pub bridges: Seq<SystemId>,
+}
+
+/// The first unicast row for a VID and an address.
+fn row_for(tables: &Tables, vid: Vid, mac: Mac) -> Option<&UnicastRow>
+    ensures { option_copied result ≡ find (is_row_for vid mac) tables.now.unicast }
+{
+    tables
+        .unicast
+        .iter()
+        .find(|row| row.vid == vid && row.mac == mac)
+}
+
+/// The port by which frames to an address in a VID leave: that of the first unicast row for both. None exactly where
+/// there is no such row (IEEE 802.1aq, 8.8).
+pub fn unicast_of(tables: &Tables, vid: Vid, mac: Mac) -> Option<u8>
+    ensures { result ≡ unicast_in tables.now.unicast vid mac }
+{
+    match row_for(tables, vid, mac) {
+        None => None,
+        Some(row) => Some(row.port),
+    }
+}
+
+/// Whether a frame from an address in a VID may come in at a port: where frames to that address leave by this port, by
+/// the ingress check of IEEE 802.1aq. A frame from an address without a row may come in nowhere.
+pub fn ingress_ok(tables: &Tables, vid: Vid, sa: Mac, port: u8) -> bool
+    ensures { IsTrue result ↔ IsIngress tables.now.unicast vid sa port }
+{
+    match unicast_of(tables, vid, sa) {
+        None => false,
+        Some(found) => found == port,
+    }
 }

@@ -2,6 +2,7 @@ ghost use Rattle.std.specs.Prelude.{◌≡◌, ◌+◌, ◌≤◌, ◌<◌, leng
 ghost use Rattle.std.specs.Result.{OkIff};
 ghost use Rattle.spb_types.specs.Bytes.{u8_at, u16_at, u24_at, u32_at};
 
+use crate::fields::{u16_in, u24_in, u32_in};
 use thiserror::Error;
 
 /// Too few bytes stand at the place where a number was to be read.
@@ -26,7 +27,7 @@ pub fn take_u16(input: &[u8], at: usize) -> Result<u16, Short>
     if input.len() < 2 || at > input.len() - 2 {
         return Err(Short);
     }
-    Ok(u16::from(input[at]) * 256 + u16::from(input[at + 1]))
+    Ok(u16_in(input, at))
 }
 
 /// The big-endian number in the three bytes from place `at` on. `Short` exactly where fewer than three stand there.
@@ -36,8 +37,7 @@ pub fn take_u24(input: &[u8], at: usize) -> Result<u32, Short>
     if input.len() < 3 || at > input.len() - 3 {
         return Err(Short);
     }
-    let high = u32::from(input[at]);
-    Ok((high * 256 + u32::from(input[at + 1])) * 256 + u32::from(input[at + 2]))
+    Ok(u24_in(input, at))
 }
 
 /// The big-endian number in the four bytes from place `at` on. `Short` exactly where fewer than four stand there.
@@ -47,35 +47,5 @@ pub fn take_u32(input: &[u8], at: usize) -> Result<u32, Short>
     if input.len() < 4 || at > input.len() - 4 {
         return Err(Short);
     }
-    let high = u32::from(input[at]) * 256 + u32::from(input[at + 1]);
-    Ok((high * 256 + u32::from(input[at + 2])) * 256 + u32::from(input[at + 3]))
-}
-
-#[cfg(test)]
-mod tests {
-    use super::*;
-    use std::fmt::Debug;
-    use std::process::Abort;
-
-    const BYTES: &[u8] = b"\x83\x14\x01\x00\x11";
-
-    fn check<T: PartialEq + Debug + Drop>(
-        rt: &impl Abort,
-        found: Result<T, Short>,
-        expected: Result<T, Short>,
-    ) {
-        assert_eq!(*rt; found, expected);
-    }
-
-    #[test]
-    fn numbers_are_big_endian(rt: HostRuntime) {
-        check(&rt, take_u8(BYTES, 4), Ok(0x11));
-        check(&rt, take_u8(BYTES, 5), Err(Short));
-        check(&rt, take_u16(BYTES, 0), Ok(0x8314));
-        check(&rt, take_u16(BYTES, 4), Err(Short));
-        check(&rt, take_u24(BYTES, 2), Ok(0x01_0011));
-        check(&rt, take_u24(BYTES, usize::MAX), Err(Short));
-        check(&rt, take_u32(BYTES, 1), Ok(0x1401_0011));
-        check(&rt, take_u32(BYTES, 2), Err(Short));
-    }
+    Ok(u32_in(input, at))
 }
