@@ -1,16 +1,16 @@
 -- Changes of what is held under one id.
-use Rattle.std.specs.Prelude.{◌≡◌, true, false, not, Option, Some, None, if◌then◌else◌}
+use Rattle.std.specs.Prelude.{◌≡◌, ℕ, true, false, not, Option, Some, None, slice_get, if◌then◌else◌}
 use Rattle.std.proofs.Common.{refl, sym, ap, subst, ◌∙◌, ⊎_elim}
 use Rattle.std.specs.Option.{option_map}
-use Rattle.std.specs.FinMap.{get, insert, same_map}
+use Rattle.std.specs.FinMap.{get, insert, entries, same_map}
 use Rattle.spb_types.specs.declared.address.LspId.{LspId}
 use Rattle.lsdb.specs.declared.version.Version.{Version}
 use Rattle.lsdb.specs.declared.version.Version.TheVariants.{Absent, Live, Dead}
 use Rattle.lsdb.specs.Version.{is_absent}
 use Rattle.lsdb.specs.Entry.{Entry}
-use Rattle.lsdb.specs.Database.{Lsps, version_in, put_if_it_fits, changed, changed_to}
+use Rattle.lsdb.specs.Database.{Lsps, version_in, version_if_held, put_if_it_fits, changed, changed_to, changed_under, changed_if_held}
 use Rattle.lsdb.proofs.Ids.{ids_total, ids_tied}
-use Rattle.lsdb.proofs.LookupLemmas.{get-insert_same, get-insert_other, same_or_not, fits_held, put_held}
+use Rattle.lsdb.proofs.LookupLemmas.{get-insert_same, get-insert_other, same_or_not, fits_held, put_held, get_place}
 use Rattle.flooding.specs.Hearing.{unless_absent, lacks_place}
 
 -- what is held, put in again
@@ -67,3 +67,20 @@ pub not_absent : (a : Version) → (a ≡ Absent → ⊥) → is_absent a ≡ fa
 not_absent Absent other = absurd (other refl)
 not_absent (Live seq sum) other = refl
 not_absent (Dead seq) other = refl
+
+-- the same at a place
+at_spared : (f : Entry → Entry) (db : Lsps) (k : ℕ) (o : Option (LspId × Entry)) → slice_get (entries db) k ≡ o → version_in (option_map (λ e. e.1) o) ≡ Absent → changed_under (unless_absent f) db o ≡ db
+at_spared f db k None at is = refl
+at_spared f db k (Some e) at is = changed_spared f db e.0 (ap version_in (get_place db k e at) ∙ is)
+
+pub held_spared : (f : Entry → Entry) (db : Lsps) (o : Option ℕ) → version_if_held db o ≡ Absent → changed_if_held (unless_absent f) db o ≡ db
+held_spared f db None is = refl
+held_spared f db (Some place) is = at_spared f db place (slice_get (entries db) place) refl is
+
+at_unspared : (f : Entry → Entry) (db : Lsps) (k : ℕ) (o : Option (LspId × Entry)) → slice_get (entries db) k ≡ o → is_absent (version_in (option_map (λ e. e.1) o)) ≡ false → changed_under (unless_absent f) db o ≡ changed_under f db o
+at_unspared f db k None at is = refl
+at_unspared f db k (Some e) at is = changed_unspared f db e.0 (ap (λ (o : Option Entry). is_absent (version_in o)) (get_place db k e at) ∙ is)
+
+pub held_unspared : (f : Entry → Entry) (db : Lsps) (o : Option ℕ) → is_absent (version_if_held db o) ≡ false → changed_if_held (unless_absent f) db o ≡ changed_if_held f db o
+held_unspared f db None is = refl
+held_unspared f db (Some place) is = at_unspared f db place (slice_get (entries db) place) refl is

@@ -1,5 +1,5 @@
 -- The own LSP of a system: what the system originates, and how it answers a claim of one of its ids.
-use Rattle.std.specs.Prelude.{ℕ, ◌+◌, List, [], ◌∷◌, Bool, true, ◌&&◌, not, ◌==◌, Option, Some, None, nat_lt, if◌then◌else◌}
+use Rattle.std.specs.Prelude.{◌≡◌, ◌<◌, ℕ, ◌+◌, List, [], ◌∷◌, Bool, true, ◌&&◌, not, ◌==◌, Option, Some, None, nat_lt, if◌then◌else◌}
 use Rattle.spb_types.specs.declared.address.SystemId.{SystemId}
 use Rattle.spb_types.specs.declared.address.LspId.{LspId}
 use Rattle.spb_types.specs.declared.ports.PortSet.{PortSet}
@@ -18,6 +18,20 @@ last_number = 4294967295
 -- the id that a system originates: its pseudonode and its number are 0
 abbrev pub own_id : SystemId → LspId
 own_id system = record { system = system; pseudonode = 0; number = 0 }
+
+-- the numbers of the LSPs that a system originates are those below this one (ISO/IEC 10589, 7.3.7)
+abbrev pub own_numbers : ℕ
+own_numbers = 1
+
+-- the id of a system's own LSP of a number: its pseudonode is 0
+abbrev pub own_number : SystemId → ℕ → LspId
+own_number system number = record { system = system; pseudonode = 0; number = number }
+
+-- an id that a system originates
+pub record IsOwnNumber (system : SystemId) (id : LspId) : Type 0 where
+  pub number : ℕ
+  pub below : number < own_numbers
+  pub is : id ≡ own_number system number
 
 -- whether an id is the one that a system originates
 abbrev pub is_originated : SystemId → LspId → Bool

@@ -2,7 +2,7 @@ ghost use Rattle.std.specs.Prelude.{◌≡◌, ◌≤◌, length, IfOk};
 ghost use Rattle.isis_pdu.specs.Pdu.{lsp_of};
 ghost use Rattle.lsdb.specs.Version.{claimed};
 ghost use Rattle.lsdb.specs.Entry.{stored, acked};
-ghost use Rattle.lsdb.specs.Database.{changed};
+ghost use Rattle.lsdb.specs.Database.{changed_if_held};
 ghost use Rattle.flooding.specs.Hearing as hearing;
 ghost use Rattle.flooding.specs.Hearing.{unless_absent, hear_lsp_of, is_full_for_lsp};
 ghost use Rattle.flooding.specs.Placing.{Puts, Hears, holding};
@@ -13,7 +13,7 @@ use crate::{FloodError, Own};
 use isis_pdu::Lsp;
 use lsdb::{Database, Held, Relation, Version, compare};
 use spb_types::limits::MOST_PORTS;
-use spb_types::{LspId, PortSet, Seq};
+use spb_types::{PortSet, Seq};
 use std::alloc::{AllocError, Global};
 
 /// Hears an LSP at a port, 1 to 32 (ISO/IEC 10589, 7.3.15.1 and 7.3.16), where `up` are the Up ports:
@@ -42,14 +42,15 @@ pub fn hear_lsp(
     ensures { Hears result (is_full_for_lsp up port (lsp_of lsp.now) (holding db.old own.old)) (holding db.old own.old)
         (hear_lsp_of up port (lsp_of lsp.now) (holding db.old own.old)) (holding db.new own.new) }
 {
-    let relation = compare(version_of(lsp), db.version_at(&lsp.id));
+    let found = db.look_up(&lsp.id);
+    let relation = compare(version_of(lsp), found.version);
     if own.answers(&lsp.id, relation) {
         return own.answer(alloc, db, up, &lsp.id, lsp.seq);
     }
     match relation {
         Relation::Newer => return store(alloc, db, up, port, lsp),
-        Relation::Equal => acknowledge_held(db, port, &lsp.id),
-        Relation::Older => offer(db, port, &lsp.id),
+        Relation::Equal => acknowledge_held(db, port, found.place),
+        Relation::Older => offer(db, port, found.place),
         Relation::Confused => db.purge(&lsp.id, lsp.seq, up),
     }
     Ok(())
@@ -99,13 +100,13 @@ fn store(
     )
 }
 
-/// The neighbour at a port has the LSP that is held, and is told so. Nothing happens where it is absent.
-fn acknowledge_held(db: &mut Database, port: u8, id: &LspId)
+/// The neighbour at a port has the LSP at a place, and is told so. Nothing happens where it is absent.
+fn acknowledge_held(db: &mut Database, port: u8, place: Option<usize>)
     requires low { 1 ≤ port }
     requires high { port ≤ MOST_PORTS }
-    ensures { db.new ≡ changed (unless_absent (acked port)) db.old id.now }
+    ensures { db.new ≡ changed_if_held (unless_absent (acked port)) db.old place }
 {
-    if !db.version_at(id).is_absent() {
-        acknowledge(db, port, id);
+    if !db.version_if_held(place).is_absent() {
+        acknowledge(db, port, place);
     }
 }

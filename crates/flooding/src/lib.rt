@@ -1,7 +1,9 @@
 //! Flooding (ISO/IEC 10589, 7.3.15): what an LSP changes where it is heard, which LSPs are to be sent at a port, and
 //! what a system originates.
 //!
-//! A change finds its id in the database by binary search and copies at most one body. No call copies the database.
+//! An LSP that is heard takes one binary search, and a second one where it is put into the database or purged; its body
+//! is copied once, and only where it is stored. Originating takes two, and copies the own body once. No call copies the
+//! database.
 #![tactic(auto)]
 
 pub use error::FloodError;
@@ -19,5 +21,3 @@ mod own;
 mod put;
 mod rules;
 mod send;
-#[cfg(test)]
-mod tests;

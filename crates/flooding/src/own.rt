@@ -46,7 +46,7 @@ impl Own {
     pub fn answers(&self, id: &LspId, relation: Relation) -> bool
         ensures { result ≡ is_answered self.now id.now relation }
     {
-        id.system == self.system && is_beyond(relation)
+        is_beyond(relation) && id.system == self.system
     }
 
     /// Answers a claim of one of the system's own ids at this sequence number (ISO/IEC 10589, 7.3.16.1). The originated

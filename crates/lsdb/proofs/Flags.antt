@@ -1,10 +1,10 @@
 -- Whether flags stand in a set of ports, in a list of LSPs and in a database.
-use Rattle.std.specs.Prelude.{◌≡◌, ℕ, zero, suc, ◌+◌, ◌-◌, ◌*◌, ◌/◌, ◌%◌, ◌^◌, ◌<◌, Bool, true, false, not, ◌||◌, ◌&&◌, ◌==◌, nat_le, cond, List, [], ◌∷◌, ◌++◌, map, filter, length, take, drop, Option, Some, None}
+use Rattle.std.specs.Prelude.{◌≡◌, ℕ, zero, suc, ◌+◌, ◌-◌, ◌*◌, ◌/◌, ◌%◌, ◌^◌, ◌<◌, Bool, true, false, not, ◌||◌, ◌&&◌, ◌==◌, nat_le, max, bit_or, cond, List, [], ◌∷◌, ◌++◌, map, filter, length, take, drop, Option, Some, None}
 use Rattle.std.proofs.Common.{refl, sym, ap, subst, ◌∙◌, arith, get_or, ⊎_elim}
 use Rattle.std.proofs.lemmas.Bool.{and_parts, cases_lt}
 use Rattle.std.proofs.lemmas.Bool.Decides.{nat_tests}
 use Rattle.std.proofs.lemmas.Nat.{mod_below}
-use Rattle.std.proofs.lemmas.Nat.Bits.{bit_at_cat_low}
+use Rattle.std.proofs.lemmas.Nat.Bits.{bit_at_cat_low, bit_at_or, bit_at-lt}
 use Rattle.std.proofs.lemmas.List.Folds.{list_any_more}
 use Rattle.std.proofs.Math.Nat.{mod-eq_of_lt}
 use Rattle.std.specs.Int.{bit_at}
@@ -20,11 +20,12 @@ use Rattle.spb_types.specs.Ports.{has, no_ports}
 use Rattle.spb_types.proofs.PortLemmas.{has_high, has-no_ports, same_ports}
 use Rattle.lsdb.specs.declared.held.Held.{Held}
 use Rattle.lsdb.specs.Entry.{Entry, entry_of, has_ports, has_flags}
-use Rattle.lsdb.specs.Database.{Lsps, id_cmp, keyed, srm_in, ssn_in, any_flags}
+use Rattle.lsdb.specs.Database.{Lsps, id_cmp, keyed, srm_in, ssn_in, any_flags, is_srm_at, is_ssn_at, each}
 use Rattle.lsdb.specs.Place.{AreSorted, with_entry}
 use Rattle.lsdb.specs.Laws.{WithoutFlagsNoneIsDue, WhereNoneIsDueNoFlags}
 use Rattle.lsdb.proofs.Ids.{tied_same}
-use Rattle.lsdb.proofs.Maps.{true_from_T, entries_map}
+use Rattle.lsdb.proofs.LookupLemmas.{true_from_T, entries-each}
+use Rattle.lsdb.proofs.Maps.{entries_map}
 use Rattle.lsdb.proofs.LookupLemmas.{tied_is}
 
 -- ---- a set of ports
@@ -63,6 +64,22 @@ pub no_ports_from : (set : PortSet) → ((p : ℕ) → has set p ≡ false) → 
 unfolding has_ports low_bits no_ports
 no_ports_from set none =
     ap (λ (s : PortSet). not (s.bits == 0)) (same_ports (low_bits set) no_ports (mod_below set.bits (2 ^ 32) (omega arith)) (omega arith) (λ q. sym (has-low_bits set q) ∙ none q ∙ sym (has-no_ports q)))
+
+-- ---- the ports of two sets
+
+either_bit : (x y : ℕ) → x < 2 → y < 2 → (max x y == 1) ≡ ((x == 1) || (y == 1))
+either_bit x y lx ly = grind (arith, nat_tests)
+
+and_or : (w x y : Bool) → (w && (x || y)) ≡ ((w && x) || (w && y))
+and_or true x y = refl
+and_or false x y = refl
+
+pub has_either : (a b p : ℕ) → has (record { bits = bit_or a b }) p ≡ (has (record { bits = a }) p || has (record { bits = b }) p)
+unfolding has
+has_either a b p =
+    ap (λ n. (nat_le 1 p && nat_le p 32) && (n == 1)) (bit_at_or a b (p - 1))
+    ∙ ap (λ c. (nat_le 1 p && nat_le p 32) && c) (either_bit (bit_at a (p - 1)) (bit_at b (p - 1)) (bit_at-lt a (p - 1)) (bit_at-lt b (p - 1)))
+    ∙ and_or (nat_le 1 p && nat_le p 32) (bit_at a (p - 1) == 1) (bit_at b (p - 1) == 1)
 
 -- ---- entries
 
@@ -170,3 +187,57 @@ pub flags_more : (f : Entry → Entry) (hs ys : List Held) (i : ℕ) (h : Held) 
 flags_more f hs ys i h within e here =
     ap (λ (g : Held). list_any (λ x. has_flags (f (entry_of x))) (take i hs) || has_flags (f (entry_of g))) (next_at f hs ys i h within e here)
     ∙ sym (list_any_more (λ g. has_flags (f (entry_of g))) hs i h within)
+
+-- ---- the ports in flags
+
+srm_keyed : (p : ℕ) (hs : List Held) → list_any (λ e. has e.1.srm p) (map keyed hs) ≡ list_any (λ h. has h.srm p) hs
+srm_keyed p [] = refl
+srm_keyed p (h ∷ hs) = ap (λ b. has h.srm p || b) (srm_keyed p hs)
+
+pub srm_map : (p : ℕ) (hs : List Held) → AreSorted hs → is_srm_at p (from_sorted (map keyed hs)) ≡ list_any (λ h. has h.srm p) hs
+srm_map p hs s = ap (list_any (λ (e : LspId × Entry). has e.1.srm p)) (entries_map hs s) ∙ srm_keyed p hs
+
+ssn_keyed : (p : ℕ) (hs : List Held) → list_any (λ e. has e.1.ssn p) (map keyed hs) ≡ list_any (λ h. has h.ssn p) hs
+ssn_keyed p [] = refl
+ssn_keyed p (h ∷ hs) = ap (λ b. has h.ssn p || b) (ssn_keyed p hs)
+
+pub ssn_map : (p : ℕ) (hs : List Held) → AreSorted hs → is_ssn_at p (from_sorted (map keyed hs)) ≡ list_any (λ h. has h.ssn p) hs
+ssn_map p hs s = ap (list_any (λ (e : LspId × Entry). has e.1.ssn p)) (entries_map hs s) ∙ ssn_keyed p hs
+
+-- ---- a port at which no flags stand
+
+none_pass : (test : LspId × Entry → Bool) (es : List (LspId × Entry)) → list_any test es ≡ false → filter test es ≡ []
+none_pass test [] none = refl
+none_pass test (e ∷ es) none =
+    let parts = or_parts (test e) (list_any test es) none in
+    ap (λ b. cond b (e ∷ filter test es) (filter test es)) parts.0 ∙ none_pass test es parts.1
+
+pub none_to_send_at : (db : Lsps) (p : ℕ) → is_srm_at p db ≡ false → filter (λ e. has e.1.srm p) (entries db) ≡ []
+none_to_send_at db p none = none_pass (λ e. has e.1.srm p) (entries db) none
+
+pub none_to_ack_at : (db : Lsps) (p : ℕ) → is_ssn_at p db ≡ false → filter (λ e. has e.1.ssn p) (entries db) ≡ []
+none_to_ack_at db p none = none_pass (λ e. has e.1.ssn p) (entries db) none
+
+-- where no flags stand at all, and where entries were changed
+unflagged_all : (test : Entry → Bool) → ((e : Entry) → has_flags e ≡ false → test e ≡ false) → (es : List (LspId × Entry)) → list_any (λ e. has_flags e.1) es ≡ false → list_any (λ (e : LspId × Entry). test e.1) es ≡ false
+unflagged_all test off [] none = refl
+unflagged_all test off (e ∷ es) none =
+    let parts = or_parts (has_flags e.1) (list_any (λ d. has_flags d.1) es) none in
+    or_false (test e.1) (list_any (λ (d : LspId × Entry). test d.1) es) (off e.1 parts.0) (unflagged_all test off es parts.1)
+
+pub no_srm_at : (db : Lsps) → any_flags db ≡ false → (p : ℕ) → is_srm_at p db ≡ false
+no_srm_at db none p = unflagged_all (λ e. has e.srm p) (λ e off. (clear e off p).0) (entries db) none
+
+pub no_ssn_at : (db : Lsps) → any_flags db ≡ false → (p : ℕ) → is_ssn_at p db ≡ false
+no_ssn_at db none p = unflagged_all (λ e. has e.ssn p) (λ e off. (clear e off p).1) (entries db) none
+
+still_none : (test : Entry → Bool) (f : Entry → Entry) → ((e : Entry) → test e ≡ false → test (f e) ≡ false)
+    → (es : List (LspId × Entry)) → list_any (λ (e : LspId × Entry). test e.1) es ≡ false → list_any (λ (e : LspId × Entry). test e.1) (map (λ (e : LspId × Entry). (e.0, f e.1)) es) ≡ false
+still_none test f keeps [] none = refl
+still_none test f keeps (e ∷ es) none =
+    let parts = or_parts (test e.1) (list_any (λ (d : LspId × Entry). test d.1) es) none in
+    or_false (test (f e.1)) (list_any (λ (d : LspId × Entry). test d.1) (map (λ (d : LspId × Entry). (d.0, f d.1)) es)) (keeps e.1 parts.0) (still_none test f keeps es parts.1)
+
+pub none_each : (test : Entry → Bool) (f : Entry → Entry) → ((e : Entry) → test e ≡ false → test (f e) ≡ false)
+    → (db : Lsps) → list_any (λ (e : LspId × Entry). test e.1) (entries db) ≡ false → list_any (λ (e : LspId × Entry). test e.1) (entries (each (λ _ e. f e) db)) ≡ false
+none_each test f keeps db none = ap (list_any (λ (e : LspId × Entry). test e.1)) (entries-each (λ _ e. f e) db) ∙ still_none test f keeps (entries db) none

@@ -1,7 +1,7 @@
 -- What stands under an id after a change of the map.
-use Rattle.std.specs.Prelude.{◌≡◌, Bool, true, false, ◌&&◌, ◌||◌, cond, T, List, [], ◌∷◌, map, Option, Some, None, length, nat_lt, is_some, if◌then◌else◌}
+use Rattle.std.specs.Prelude.{◌≡◌, ℕ, zero, suc, slice_get, Bool, true, false, ◌&&◌, ◌||◌, cond, T, List, [], ◌∷◌, map, Option, Some, None, length, nat_lt, is_some, if◌then◌else◌}
 use Rattle.std.proofs.Common.{refl, sym, ap, subst, ◌∙◌, ◌⊎◌, inl, inr, ⊎_elim}
-use Rattle.std.proofs.lemmas.Bool.{false≢true}
+use Rattle.std.proofs.lemmas.Bool.{false≢true, and_parts}
 use Rattle.std.proofs.lemmas.List.{length-map}
 use Rattle.std.specs.declared.cmp.Ordering.{Ordering}
 use Rattle.std.specs.declared.cmp.Ordering.TheVariants.{Less, Equal, Greater}
@@ -11,8 +11,8 @@ use Rattle.std.specs.FinMap.{find, is_sorted, get, insert, entries, entries_sort
 use Rattle.std.specs.FinMap.Entries.{below_all}
 use Rattle.spb_types.specs.declared.address.LspId.{LspId}
 use Rattle.lsdb.specs.Entry.{Entry}
-use Rattle.lsdb.specs.Database.{Lsps, id_cmp, fits, put_if_it_fits, changed, changed_to, each}
-use Rattle.lsdb.proofs.Ids.{ids_total, ids_tied, tied_same}
+use Rattle.lsdb.specs.Database.{Lsps, id_cmp, fits, put_if_it_fits, changed, changed_to, changed_under, changed_at_place, changed_if_held, StandsAt, each}
+use Rattle.lsdb.proofs.Ids.{ids_total, ids_tied, tied_same, turned_less, less_is}
 use Rattle.spb_types.specs.declared.limits.TheConstants.{MOST_LSPS}
 
 pub tied_is : (x y : LspId) → is_eq (id_cmp x y) ≡ true → x ≡ y
@@ -58,6 +58,11 @@ find_each_at f e x m o rest false t = rest
 find_each : (f : LspId → Entry → Entry) (es : List (LspId × Entry)) (x : LspId) → find id_cmp x (map (λ e. (e.0, f e.0 e.1)) es) ≡ option_map (f x) (find id_cmp x es)
 find_each f [] x = refl
 find_each f (e ∷ es) x = find_each_at f e x (find id_cmp x (map (λ d. (d.0, f d.0 d.1)) es)) (find id_cmp x es) (find_each f es x) (is_eq (id_cmp x e.0)) refl
+
+pub entries-each : (f : LspId → Entry → Entry) (db : Lsps) → entries (each f db) ≡ map (λ (e : LspId × Entry). (e.0, f e.0 e.1)) (entries db)
+unfolding each
+entries-each f db =
+    entries-from_sorted id_cmp (map (λ (e : LspId × Entry). (e.0, f e.0 e.1)) (entries db)) (subst T (sym (sorted_each f (entries db))) (entries_sorted db))
 
 pub get-each : (f : LspId → Entry → Entry) (db : Lsps) (x : LspId) → get (each f db) x ≡ option_map (f x) (get db x)
 unfolding each
@@ -125,3 +130,36 @@ fits_held db id e is = ap (λ o. is_some o || nat_lt (len db) MOST_LSPS) is
 
 pub put_held : (db : Lsps) (id : LspId) (e new : Entry) → get db id ≡ Some e → put_if_it_fits db id (Some new) ≡ insert db id new
 put_held db id e new is = ap (λ b. if b then insert db id new else db) (fits_held db id e is)
+
+-- ---- the entry at a place is that under its id
+
+pub true_from_T : (b : Bool) → T b → b ≡ true
+true_from_T true h = refl
+true_from_T false h = absurd h
+
+pub below_at : (x : LspId) (es : List (LspId × Entry)) (k : ℕ) (e : LspId × Entry) → below_all id_cmp x es ≡ true → slice_get es k ≡ Some e → id_cmp x e.0 ≡ Less
+below_at x [] k e below at = absurd (cc)
+below_at x (f ∷ es) zero e below at =
+    let here : f ≡ e = cc in
+    subst (λ (g : LspId × Entry). id_cmp x g.0 ≡ Less) here (less_is _ (and_parts (is_lt (id_cmp x f.0)) _ below).0)
+below_at x (f ∷ es) (suc k) e below at = below_at x es k e (and_parts (is_lt (id_cmp x f.0)) _ below).1 at
+
+find_at : (es : List (LspId × Entry)) (k : ℕ) (e : LspId × Entry) → is_sorted id_cmp es ≡ true → slice_get es k ≡ Some e → find id_cmp e.0 es ≡ Some e.1
+find_at [] k e sorted at = absurd (cc)
+find_at (f ∷ es) zero e sorted at =
+    let here : f ≡ e = cc in
+    subst (λ (g : LspId × Entry). find id_cmp g.0 (f ∷ es) ≡ Some g.1) here (ap (λ r. cond (is_eq r) (Some f.1) (find id_cmp f.0 es)) (tied_same f.0 f.0 refl))
+find_at (f ∷ es) (suc k) e sorted at =
+    let chunks = and_parts (below_all id_cmp f.0 es) (is_sorted id_cmp es) sorted in
+    ap (λ r. cond (is_eq r) (Some f.1) (find id_cmp e.0 es)) (turned_less f.0 e.0 (below_at f.0 es k e chunks.0 at)) ∙ find_at es k e chunks.1 at
+
+pub get_place : (db : Lsps) (k : ℕ) (e : LspId × Entry) → slice_get (entries db) k ≡ Some e → get db e.0 ≡ Some e.1
+get_place db k e at = get-entries db e.0 ∙ find_at (entries db) k e (true_from_T _ (entries_sorted db)) at
+
+-- an entry at a place changed is that under its id
+pub changed_place : (f : Entry → Entry) (db : Lsps) (k : ℕ) (e : LspId × Entry) → slice_get (entries db) k ≡ Some e → changed_at_place f db k ≡ changed f db e.0
+changed_place f db k e at = ap (changed_under f db) at
+
+pub changed_standing : (f : Entry → Entry) (db : Lsps) (id : LspId) (o : Option ℕ) → StandsAt db id o → changed_if_held f db o ≡ changed f db id
+changed_standing f db id None is = sym (changed_missing f db id is)
+changed_standing f db id (Some place) is = changed_place f db place (id, is.entry) is.stands

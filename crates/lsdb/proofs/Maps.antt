@@ -1,5 +1,5 @@
 -- The map that a list of LSPs in order of id stands for, and what an edit of the list does to it.
-use Rattle.std.specs.Prelude.{◌≡◌, ℕ, zero, suc, ◌-◌, ◌<◌, ◌≤◌, Bool, true, false, ◌&&◌, ◌||◌, cond, T, List, [], ◌∷◌, ◌++◌, map, length, take, drop, Some, None, nat_lt, nat_le, if◌then◌else◌, is_some, slice_get}
+use Rattle.std.specs.Prelude.{◌≡◌, ℕ, zero, suc, ◌-◌, ◌<◌, ◌≤◌, Bool, true, false, ◌&&◌, ◌||◌, cond, List, [], ◌∷◌, ◌++◌, map, length, take, drop, Some, None, nat_lt, nat_le, if◌then◌else◌, is_some, slice_get}
 use Rattle.std.proofs.Common.{refl, sym, ap, subst, ◌∙◌, arith, get_or, set, inl, inr}
 use Rattle.std.specs.List.{insert as inserted, AllByRecursion}
 use Rattle.std.specs.declared.cmp.Ordering.{Ordering}
@@ -19,15 +19,12 @@ use Rattle.lsdb.specs.declared.version.Version.{Version}
 use Rattle.lsdb.specs.declared.version.Version.TheVariants.{Absent, Live, Dead}
 use Rattle.lsdb.specs.Version.{is_absent}
 use Rattle.lsdb.specs.Entry.{Entry, made, cleaned, aged, CanBeHeld, AreKept, entry_of, IsClean}
-use Rattle.lsdb.specs.Database.{Lsps, id_cmp, keyed, fits, changed, changed_to, each}
+use Rattle.lsdb.specs.Database.{Lsps, id_cmp, keyed, version_at, version_in, fits, changed, changed_to, changed_under, changed_at_place, IsHeldAt, each}
 use Rattle.lsdb.specs.Place.{AreSorted, IsSound, IsAt, IsGap, with_entry}
 use Rattle.lsdb.proofs.Ids.{ids_total, ids_tied, tied_same, turned_less, turned_greater}
+use Rattle.lsdb.proofs.LookupLemmas.{true_from_T}
 use Rattle.lsdb.proofs.Searched.{ids_rise}
 use Rattle.spb_types.specs.declared.limits.TheConstants.{MOST_LSPS}
-
-pub true_from_T : (b : Bool) → T b → b ≡ true
-true_from_T true h = refl
-true_from_T false h = absurd h
 
 -- ---- what a search and an edit find in the list of entries
 
@@ -324,6 +321,47 @@ pub past_keyed : (hs : List Held) (i : ℕ) → length hs ≤ i → slice_get (m
 past_keyed [] i past = refl
 past_keyed (g ∷ hs) zero past = absurd (omega arith)
 past_keyed (g ∷ hs) (suc i) past = past_keyed hs i (omega arith)
+
+-- what stands at a place
+placed_map : (hs : List Held) → AreSorted hs → (i : ℕ) (h : Held) → i < length hs → h ≡ get_or hs i h → (db : Lsps) → from_sorted (map keyed hs) ≡ db → slice_get (entries db) i ≡ Some (keyed h)
+placed_map hs s i h within here db view =
+    ap (λ (m : Lsps). slice_get (entries m) i) (sym view) ∙ ap (λ es. slice_get es i) (entries_map hs s) ∙ get_keyed hs i h within here
+
+pub held_at : (hs ls : List Held) → ls ≡ hs → (id : LspId) (i : ℕ) → IsAt ls id i → IsSound hs → (h : Held) → h ≡ get_or hs i h → (db : Lsps) → from_sorted (map keyed hs) ≡ db → IsHeldAt db id i
+held_at hs ls same id i at sound h here db view =
+    let there : IsAt hs id i = at_in hs ls same id i at in
+    let named : h.id ≡ id = ap (λ (g : Held). g.id) here ∙ there.same h in
+    record {
+      entry = entry_of h;
+      held = found_map hs ls same id i at sound h here db view;
+      stands = placed_map hs sound.sorted i h there.within here db view ∙ ap (λ (x : LspId). Some (x, entry_of h)) named;
+    }
+
+pub version_held : (hs ls : List Held) → ls ≡ hs → (id : LspId) (i : ℕ) → IsAt ls id i → IsSound hs → (h : Held) → h ≡ get_or hs i h → (db : Lsps) → from_sorted (map keyed hs) ≡ db → h.version ≡ version_at db id
+version_held hs ls same id i at sound h here db view = sym (ap version_in (found_map hs ls same id i at sound h here db view))
+
+pub version_missing : (hs ls : List Held) → ls ≡ hs → (id : LspId) (i : ℕ) → IsGap ls id i → IsSound hs → (db : Lsps) → from_sorted (map keyed hs) ≡ db → Absent ≡ version_at db id
+version_missing hs ls same id i gap sound db view = sym (ap version_in (missing_map hs ls same id i gap sound db view))
+
+-- the LSP at a place changed
+same_at : (hs : List Held) (i : ℕ) (h d : Held) → i < length hs → h ≡ get_or hs i h → (get_or hs i d).id ≡ h.id
+same_at [] i h d within here = absurd (omega arith)
+same_at (g ∷ hs) zero h d within here = ap (λ (x : Held). x.id) (sym here)
+same_at (g ∷ hs) (suc i) h d within here = same_at hs i h d (omega arith) here
+
+at_itself : (hs : List Held) (i : ℕ) (h : Held) → i < length hs → h ≡ get_or hs i h → IsAt hs h.id i
+at_itself hs i h within here = record { within = within; same = λ d. same_at hs i h d within here }
+
+pub place_sound : (hs : List Held) (i : ℕ) → i < length hs → IsSound hs → (f : Entry → Entry) (h new : Held) → h ≡ get_or hs i h → new ≡ with_entry f h → (IsClean (entry_of h) → IsClean (f (entry_of h))) → IsSound (set hs i new)
+place_sound hs i within sound f h new here is keeps = write_sound hs hs refl h.id i (at_itself hs i h within here) sound f h new here is keeps
+
+pub place_map : (hs : List Held) (i : ℕ) → i < length hs → IsSound hs → (f : Entry → Entry) (h new : Held) → h ≡ get_or hs i h → new ≡ with_entry f h → (db : Lsps) → from_sorted (map keyed hs) ≡ db → from_sorted {R = id_cmp} (map keyed (set hs i new)) ≡ changed_at_place f db i
+place_map hs i within sound f h new here is db view =
+    write_map hs hs refl h.id i (at_itself hs i h within here) sound f h new here is db view ∙ sym (ap (changed_under f db) (placed_map hs sound.sorted i h within here db view))
+
+pub past_map : (hs : List Held) (i : ℕ) → length hs ≤ i → IsSound hs → (f : Entry → Entry) (db : Lsps) → from_sorted (map keyed hs) ≡ db → db ≡ changed_at_place f db i
+past_map hs i past sound f db view =
+    sym (ap (changed_under f db) (ap (λ (m : Lsps). slice_get (entries m) i) (sym view) ∙ ap (λ es. slice_get es i) (entries_map hs sound.sorted) ∙ past_keyed hs i past))
 
 pub empty_map : (hs : List Held) → hs ≡ [] → from_sorted {R = id_cmp} (map keyed hs) ≡ empty
 empty_map hs none =

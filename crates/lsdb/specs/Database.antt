@@ -1,4 +1,4 @@
-use Rattle.std.specs.Prelude.{Bool, ◌||◌, map, Option, Some, None, if◌then◌else◌, nat_lt}
+use Rattle.std.specs.Prelude.{◌≡◌, ℕ, Bool, ◌||◌, map, Option, Some, None, if◌then◌else◌, nat_lt, slice_get}
 use Rattle.std.specs.declared.cmp.Ordering.{Ordering}
 use Rattle.std.specs.Ordering.{nat_cmp, ordering_then}
 use Rattle.std.specs.Cmp.Lexicographic.{slice_cmp}
@@ -7,7 +7,7 @@ use Rattle.std.specs.List.{list_any}
 use Rattle.std.specs.FinMap.{FinMap, get, insert, entries, from_sorted, contains_key, len}
 use Rattle.spb_types.specs.declared.address.LspId.{LspId}
 use Rattle.spb_types.specs.declared.ports.PortSet.{PortSet}
-use Rattle.spb_types.specs.Ports.{no_ports}
+use Rattle.spb_types.specs.Ports.{no_ports, has}
 use Rattle.lsdb.specs.declared.version.Version.{Version}
 use Rattle.lsdb.specs.declared.version.Version.TheVariants.{Absent}
 use Rattle.lsdb.specs.declared.held.Held.{Held}
@@ -64,6 +64,37 @@ changed_to db id (Some e) = insert db id e
 abbrev pub changed : (Entry → Entry) → Lsps → LspId → Lsps
 changed f db id = changed_to db id (option_map f (get db id))
 
+-- the entry at a place, counted from 0 in order of id, changed, if there is one
+abbrev pub changed_under : (Entry → Entry) → Lsps → Option (LspId × Entry) → Lsps
+changed_under f db None = db
+changed_under f db (Some e) = changed f db e.0
+
+abbrev pub changed_at_place : (Entry → Entry) → Lsps → ℕ → Lsps
+changed_at_place f db place = changed_under f db (slice_get (entries db) place)
+
+abbrev pub changed_if_held : (Entry → Entry) → Lsps → Option ℕ → Lsps
+changed_if_held f db None = db
+changed_if_held f db (Some place) = changed_at_place f db place
+
+-- the version of the entry at a place, and where there is none absent
+abbrev pub version_at_place : Lsps → ℕ → Version
+version_at_place db place = version_in (option_map (λ e. e.1) (slice_get (entries db) place))
+
+abbrev pub version_if_held : Lsps → Option ℕ → Version
+version_if_held db None = Absent
+version_if_held db (Some place) = version_at_place db place
+
+-- an id is held, at this place
+pub record IsHeldAt (db : Lsps) (id : LspId) (place : ℕ) : Type 0 where
+  pub entry : Entry
+  pub held : get db id ≡ Some entry
+  pub stands : slice_get (entries db) place ≡ Some (id, entry)
+
+-- where an id is held, if it is
+abbrev pub StandsAt : Lsps → LspId → Option ℕ → Type 0
+StandsAt db id None = get db id ≡ None
+StandsAt db id (Some place) = IsHeldAt db id place
+
 -- every entry changed
 unfoldable pub each : (LspId → Entry → Entry) → Lsps → Lsps
 each f db = from_sorted (map (λ e. (e.0, f e.0 e.1)) (entries db))
@@ -71,3 +102,10 @@ each f db = from_sorted (map (λ e. (e.0, f e.0 e.1)) (entries db))
 -- whether an SRM or SSN flag stands anywhere: some LSP is to be sent, or to be acknowledged or asked for, at some port
 abbrev pub any_flags : Lsps → Bool
 any_flags db = list_any (λ e. has_flags e.1) (entries db)
+
+-- whether some LSP is to be sent at a port, and whether some is to be acknowledged or asked for there
+abbrev pub is_srm_at : ℕ → Lsps → Bool
+is_srm_at port db = list_any (λ e. has e.1.srm port) (entries db)
+
+abbrev pub is_ssn_at : ℕ → Lsps → Bool
+is_ssn_at port db = list_any (λ e. has e.1.ssn port) (entries db)

@@ -92,6 +92,11 @@ with_srm port on e = record e { srm = switched on e.srm port }
 abbrev pub with_ssn : ℕ → Bool → Entry → Entry
 with_ssn port on e = record e { ssn = switched on e.ssn port }
 
+-- a port put into, or taken out of, the ports at which the LSP is to be sent and those at which it is to be
+-- acknowledged
+abbrev pub with_flags_at : ℕ → Bool → Bool → Entry → Entry
+with_flags_at port srm ssn e = record e { srm = switched srm e.srm port; ssn = switched ssn e.ssn port }
+
 -- another version with its lifetime and body, at the flags that stand
 abbrev pub raised : Version → ℕ → List ℕ → Entry → Entry
 raised version lifetime body e = made version lifetime body e.srm e.ssn

@@ -7,3 +7,4 @@ pub mod CertificateLaws
 pub mod MapLaws
 pub mod Laws
 pub mod Time
+pub mod Ids

@@ -3,10 +3,12 @@ ghost use Rattle.std.specs.Option.{option_map, option_copied};
 ghost use Rattle.std.specs.FinMap as finite;
 ghost use Rattle.std.specs.List.{AllByRecursion, list_any};
 ghost use Rattle.lsdb.specs.Version.{relation, is_absent};
-ghost use Rattle.lsdb.specs.Entry.{entry_of, CanBeHeld, IsClean, cleaned, with_flags, with_srm, with_ssn, raised, purged, flags_cleared_at, aged, has_flags};
-ghost use Rattle.lsdb.specs.Database.{keyed, fits, version_at, changed, each, any_flags};
-ghost use Rattle.lsdb.specs.Place.{AreSorted, IsAt, IsGap, with_entry};
+ghost use Rattle.lsdb.specs.Entry.{entry_of, CanBeHeld, IsClean, cleaned, with_flags, with_srm, with_ssn, with_flags_at, raised, purged, flags_cleared_at, aged, has_flags};
+ghost use Rattle.lsdb.specs.Database.{keyed, fits, version_at, changed, changed_at_place, version_at_place, version_if_held, StandsAt, each, any_flags, is_srm_at, is_ssn_at};
+ghost use Rattle.spb_types.specs.Ports.{has};
+ghost use Rattle.lsdb.specs.Place.{with_entry};
 
+use crate::search::{place_near, place_of};
 use crate::{Held, Relation, Version, item};
 use spb_types::limits::{MOST_LSPS, MOST_PORTS};
 use spb_types::{LspId, PortSet};
@@ -67,6 +69,14 @@ pub enum Raised {
     NotHeld,
 }
 
+/// An id that was looked up: where it stands, counted from 0 in order of id, if it is held, and its version, which is
+/// absent where it isn't held.
+#[derive(Clone, Copy, Debug)]
+pub struct Found {
+    pub place: Option<usize>,
+    pub version: Version,
+}
+
 // Changes every LSP by `item::age`, and tells whether one then has flags.
 fn age_all(held: &mut Vec<Held>, up: PortSet) -> bool
     requires { AllByRecursion (λ h. IsClean (entry_of h)) held.old.items }
@@ -92,13 +102,26 @@ fn clear_all_flags(held: &mut Vec<Held>, port: u8)
     }
 }
 
-// Where the id stands, or where it would go.
-fn place_of(held: &[Held], id: &LspId) -> Result<usize, usize>
-    requires { AreSorted held.now }
-    ensures found { IfOk result (IsAt held.now id.now) }
-    ensures absent { IfErr result (IsGap held.now id.now) }
+// The ports at which some LSP is to be sent.
+fn srm_ports(held: &[Held]) -> PortSet
+    ensures { (p : ℕ) → has result p ≡ list_any (λ h. has h.srm p) held.now }
 {
-    held.binary_search_by_key(id, |h| h.id)
+    let mut ports = PortSet::none();
+    for h in held {
+        ports = item::either(ports, h.srm);
+    }
+    ports
+}
+
+// The ports at which some LSP is to be acknowledged or asked for.
+fn ssn_ports(held: &[Held]) -> PortSet
+    ensures { (p : ℕ) → has result p ≡ list_any (λ h. has h.ssn p) held.now }
+{
+    let mut ports = PortSet::none();
+    for h in held {
+        ports = item::either(ports, h.ssn);
+    }
+    ports
 }
 
 impl Database {
@@ -155,6 +178,50 @@ impl Database {
         ensures { result ≡ version_at self.now id.now }
     {
         match self.find(id) {
+            Some(held) => held.version,
+            None => Version::Absent,
+        }
+    }
+
+    /// Looks an id up.
+    pub fn look_up(&self, id: &LspId) -> Found
+        ensures place { StandsAt self.now id.now result.place }
+        ensures version { result.version ≡ version_at self.now id.now }
+    {
+        self.look_up_near(self.held.len(), id)
+    }
+
+    /// Looks an id up, at the place `near` before any other: where it stands there, that takes one comparison.
+    pub fn look_up_near(&self, near: usize, id: &LspId) -> Found
+        ensures place { StandsAt self.now id.now result.place }
+        ensures version { result.version ≡ version_at self.now id.now }
+    {
+        match place_near(&self.held, near, id) {
+            Ok(place) => Found {
+                place: Some(place),
+                version: self.held[place].version,
+            },
+            Err(_) => Found {
+                place: None,
+                version: Version::Absent,
+            },
+        }
+    }
+
+    /// The version of the LSP at a place, absent where there is none.
+    pub fn version_if_held(&self, place: Option<usize>) -> Version
+        ensures { result ≡ version_if_held self.now place }
+    {
+        match place {
+            Some(place) => self.version_at_place(place),
+            None => Version::Absent,
+        }
+    }
+
+    fn version_at_place(&self, place: usize) -> Version
+        ensures { result ≡ version_at_place self.now place }
+    {
+        match self.at(place) {
             Some(held) => held.version,
             None => Version::Absent,
         }
@@ -254,6 +321,42 @@ impl Database {
         }
     }
 
+    /// Puts a port, 1 to 32, into the ports at which the LSP at a place is to be sent, or takes it out of them. Nothing
+    /// happens where the place is past the last.
+    pub fn set_srm_at(&mut self, place: usize, port: u8, on: bool)
+        requires low { 1 ≤ port }
+        requires high { port ≤ MOST_PORTS }
+        ensures { self.new ≡ changed_at_place (with_srm port on) self.old place }
+    {
+        if place < self.held.len() {
+            item::set_srm(&mut self.held[place], port, on);
+        }
+    }
+
+    /// Puts a port, 1 to 32, into the ports at which the LSP at a place is to be acknowledged, or takes it out of them.
+    /// Nothing happens where the place is past the last.
+    pub fn set_ssn_at(&mut self, place: usize, port: u8, on: bool)
+        requires low { 1 ≤ port }
+        requires high { port ≤ MOST_PORTS }
+        ensures { self.new ≡ changed_at_place (with_ssn port on) self.old place }
+    {
+        if place < self.held.len() {
+            item::set_ssn(&mut self.held[place], port, on);
+        }
+    }
+
+    /// Puts a port, 1 to 32, into the ports at which the LSP at a place is to be sent, or takes it out of them, and the
+    /// same for those at which it is to be acknowledged. Nothing happens where the place is past the last.
+    pub fn set_flags_at(&mut self, place: usize, port: u8, srm: bool, ssn: bool)
+        requires low { 1 ≤ port }
+        requires high { port ≤ MOST_PORTS }
+        ensures { self.new ≡ changed_at_place (with_flags_at port srm ssn) self.old place }
+    {
+        if place < self.held.len() {
+            item::set_flags_at(&mut self.held[place], port, srm, ssn);
+        }
+    }
+
     /// Takes a port, 1 to 32, out of the flags of every LSP.
     pub fn clear_port(&mut self, port: u8)
         requires low { 1 ≤ port }
@@ -272,6 +375,20 @@ impl Database {
         ensures flags { result ≡ any_flags self.new }
     {
         age_all(&mut self.held, up)
+    }
+
+    /// The ports at which some LSP is to be sent.
+    pub fn srm_ports(&self) -> PortSet
+        ensures { (p : ℕ) → has result p ≡ is_srm_at p self.now }
+    {
+        srm_ports(&self.held)
+    }
+
+    /// The ports at which some LSP is to be acknowledged or asked for.
+    pub fn ssn_ports(&self) -> PortSet
+        ensures { (p : ℕ) → has result p ≡ is_ssn_at p self.now }
+    {
+        ssn_ports(&self.held)
     }
 
     /// Whether any LSP is to be sent, or to be acknowledged or asked for, at some port.

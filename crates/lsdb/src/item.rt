@@ -1,7 +1,8 @@
 //! Changes of one held LSP. None takes memory.
-ghost use Rattle.std.specs.Prelude.{◌≡◌, ◌≤◌, ◌∷◌, [], ℕ, length};
+ghost use Rattle.std.specs.Prelude.{◌≡◌, ◌≤◌, ◌∷◌, [], ℕ, ◌||◌, length};
+ghost use Rattle.spb_types.specs.Ports.{has};
 ghost use Rattle.lsdb.specs.Entry as entry;
-ghost use Rattle.lsdb.specs.Entry.{entry_of, CanBeHeld, IsClean, cleaned, raised, with_flags, purged, with_srm, with_ssn, flags_cleared_at, aged, has_flags};
+ghost use Rattle.lsdb.specs.Entry.{entry_of, CanBeHeld, IsClean, cleaned, raised, with_flags, purged, with_srm, with_ssn, with_flags_at, flags_cleared_at, aged, has_flags};
 ghost use Rattle.lsdb.specs.Place.{with_entry};
 
 use crate::{Held, Version};
@@ -94,6 +95,17 @@ pub fn set_ssn(held: &mut Held, port: u8, on: bool)
     held.ssn = switched(held.ssn, port, on);
 }
 
+/// Puts a port into the ports at which the LSP is to be sent, or takes it out, and the same for those at which it is to
+/// be acknowledged.
+pub fn set_flags_at(held: &mut Held, port: u8, srm: bool, ssn: bool)
+    requires low { 1 ≤ port }
+    requires high { port ≤ MOST_PORTS }
+    ensures { held.new ≡ with_entry (with_flags_at port srm ssn) held.old }
+{
+    held.srm = switched(held.srm, port, srm);
+    held.ssn = switched(held.ssn, port, ssn);
+}
+
 /// Takes a port out of the flags.
 pub fn clear_flags(held: &mut Held, port: u8)
     requires low { 1 ≤ port }
@@ -126,6 +138,16 @@ fn has_ports(set: PortSet) -> bool
     ensures { result ≡ entry.has_ports set }
 {
     set.bits != 0
+}
+
+/// The ports of two sets.
+#[tactic(auto, using(crate::proofs::Flags::has_either))]
+pub fn either(a: PortSet, b: PortSet) -> PortSet
+    ensures { (p : ℕ) → has result p ≡ (has a p || has b p) }
+{
+    PortSet {
+        bits: a.bits | b.bits,
+    }
 }
 
 /// Whether the LSP is to be sent, or to be acknowledged or asked for, at some port.

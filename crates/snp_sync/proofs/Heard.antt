@@ -7,17 +7,22 @@ use Rattle.spb_types.specs.declared.address.LspId.{LspId}
 use Rattle.spb_types.specs.declared.ports.PortSet.{PortSet}
 use Rattle.spb_tlvs.specs.declared.entries.SnpEntry.{SnpEntry}
 use Rattle.lsdb.specs.Entry.{Entry, acked}
-use Rattle.lsdb.specs.Database.{Lsps, fits, changed}
+use Rattle.lsdb.specs.Database.{Lsps, fits, changed, changed_if_held, StandsAt}
 use Rattle.lsdb.specs.Certificate.{Claim}
-use Rattle.lsdb.proofs.LookupLemmas.{changed_held, fits_held}
+use Rattle.lsdb.proofs.LookupLemmas.{changed_held, changed_standing, fits_held}
 use Rattle.flooding.specs.Hearing.{Holding, wanted, snp_rule, hear_entry_of, is_full_for_entry}
 use Rattle.flooding.proofs.Owns.{own_stands}
 use Rattle.snp_sync.specs.Hearing.{claim_in, claims_in, hear_entries_of, full_count, HeardSome}
 
 -- an id that is held is asked for in place
-pub wanted_held : (db new : Lsps) (id : LspId) (port : ℕ) (o : Option Entry) → o ≡ get db id → is_some o ≡ true → new ≡ changed (acked port) db id → (fits db id ≡ true) × (new ≡ insert db id (wanted port (get db id)))
+wanted_held : (db new : Lsps) (id : LspId) (port : ℕ) (o : Option Entry) → o ≡ get db id → is_some o ≡ true → new ≡ changed (acked port) db id → (fits db id ≡ true) × (new ≡ insert db id (wanted port (get db id)))
 wanted_held db new id port None is held changed_is = absurd (cc)
 wanted_held db new id port (Some e) is held changed_is = (fits_held db id e (sym is), changed_is ∙ changed_held (acked port) db id e (sym is) ∙ ap (λ o. insert db id (wanted port o)) is)
+
+pub wanted_at : (db new : Lsps) (id : LspId) (port : ℕ) (o : Option ℕ) → StandsAt db id o → is_some o ≡ true → new ≡ changed_if_held (acked port) db o → (fits db id ≡ true) × (new ≡ insert db id (wanted port (get db id)))
+wanted_at db new id port None is held changed_is = absurd (cc)
+wanted_at db new id port (Some place) is held changed_is =
+    wanted_held db new id port (Some is.entry) (sym is.held) refl (changed_is ∙ changed_standing (acked port) db id (Some place) is)
 
 -- hearing leaves the system's body
 pub entries_body : (up : PortSet) (port : ℕ) (claims : List Claim) (h : Holding) → (hear_entries_of up port claims h).own.body ≡ h.own.body

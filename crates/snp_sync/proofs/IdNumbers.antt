@@ -1,121 +1,45 @@
 -- LSP ids are ordered as numbers of eight bytes.
-use Rattle.std.specs.Prelude.{◌≡◌, ℕ, zero, suc, ◌+◌, ◌-◌, ◌*◌, ◌%◌, ◌^◌, ◌<◌, ◌&&◌, List, [], ◌∷◌, ◌++◌, length, nat_lt, nat_le}
+use Rattle.std.specs.Prelude.{◌≡◌, ℕ, zero, suc, ◌+◌, ◌-◌, ◌%◌, ◌^◌, ◌<◌, ◌&&◌, List, [], ◌∷◌, ◌++◌, length, nat_lt, nat_le}
 use Rattle.std.proofs.Common.{refl, sym, ap, ◌∙◌, arith, lit<, inl, inr}
-use Rattle.std.specs.declared.cmp.Ordering.{Ordering}
-use Rattle.std.specs.declared.cmp.Ordering.TheVariants.{Less, Equal, Greater}
-use Rattle.std.specs.Ordering.{nat_cmp, ordering_then, is_lt, is_le}
-use Rattle.std.specs.Cmp.{nat_cmp_is}
-use Rattle.std.specs.Cmp.Lexicographic.{slice_cmp}
+use Rattle.std.specs.declared.cmp.Ordering.TheVariants.{Less}
+use Rattle.std.specs.Ordering.{nat_cmp, is_lt, is_le}
 use Rattle.std.specs.Int.{w64, from_be_bytes}
 use Rattle.std.proofs.lemmas.Bool.{cases_order, le-leb, lt-leb, lt-ltb, le-ltb, ltb-true}
 use Rattle.std.proofs.lemmas.Bool.Decides.{nat_tests}
-use Rattle.std.proofs.lemmas.List.{length-append}
 use Rattle.std.proofs.lemmas.Nat.{from_be_bytes-to_be_bytes_8}
 use Rattle.spb_types.specs.declared.address.LspId.{LspId}
 use Rattle.isis_pdu.specs.Grammar.{IsBytes}
 use Rattle.spb_types.specs.Bytes.{lsp_id_bytes}
 use Rattle.spb_tlvs.proofs.Numbers.{six}
 use Rattle.lsdb.specs.Database.{id_cmp}
+use Rattle.lsdb.specs.Ids.{HasEightBytes}
+use Rattle.lsdb.proofs.IdNumbers.{Small, cmp_less, cmp_equal, cmp_greater, ids_as_numbers as as_numbers}
 use Rattle.snp_sync.specs.Ids.{id_number, id_of, successor, first_id, last_id, is_between}
 use Rattle.snp_sync.specs.Sized.{IsLspId}
 use Rattle.snp_sync.specs.SendingLaws.{SuccessorIsNext, SuccessorIsId}
 
--- ---- bytes as a number, digit by digit
-
-digits : ℕ → List ℕ → ℕ
-digits n [] = n
-digits n (b ∷ bs) = digits (n * 256 + b) bs
-
-then_same : (o : Ordering) → ordering_then o Equal ≡ o
-then_same Less = refl
-then_same Equal = refl
-then_same Greater = refl
-
-then_then : (o p q : Ordering) → ordering_then (ordering_then o p) q ≡ ordering_then o (ordering_then p q)
-then_then Less p q = refl
-then_then Equal p q = refl
-then_then Greater p q = refl
-
-cmp_less : (a b : ℕ) → a < b → nat_cmp a b ≡ Less
-cmp_less a b h = sym (nat_cmp_is a b Less h)
-
-cmp_equal : (a b : ℕ) → a ≡ b → nat_cmp a b ≡ Equal
-cmp_equal a b h = sym (nat_cmp_is a b Equal h)
-
-cmp_greater : (a b : ℕ) → b < a → nat_cmp a b ≡ Greater
-cmp_greater a b h = sym (nat_cmp_is a b Greater h)
-
-digit_cmp : (p q x y : ℕ) → x < 256 → y < 256 → nat_cmp (p * 256 + x) (q * 256 + y) ≡ ordering_then (nat_cmp p q) (nat_cmp x y)
-digit_cmp p q x y lx ly =
-    elim (cases_order p q) [
-      | inl same ↦ elim (cases_order x y) [
-        | inl tied ↦ cmp_equal (p * 256 + x) (q * 256 + y) (omega arith) ∙ sym (λ i. ordering_then (cmp_equal p q same i) (cmp_equal x y tied i))
-        | inr (inl less) ↦ cmp_less (p * 256 + x) (q * 256 + y) (omega arith) ∙ sym (λ i. ordering_then (cmp_equal p q same i) (cmp_less x y less i))
-        | inr (inr more) ↦ cmp_greater (p * 256 + x) (q * 256 + y) (omega arith) ∙ sym (λ i. ordering_then (cmp_equal p q same i) (cmp_greater x y more i))
-      ]
-      | inr (inl less) ↦ cmp_less (p * 256 + x) (q * 256 + y) (omega arith) ∙ sym (ap (λ o. ordering_then o (nat_cmp x y)) (cmp_less p q less))
-      | inr (inr more) ↦ cmp_greater (p * 256 + x) (q * 256 + y) (omega arith) ∙ sym (ap (λ o. ordering_then o (nat_cmp x y)) (cmp_greater p q more))
-    ]
-
-Small : List ℕ → Type 0
-Small [] = Unit {0}
-Small (b ∷ bs) = (b < 256) × Small bs
-
-digits_cmp : (xs ys : List ℕ) (p q : ℕ) → length xs ≡ length ys → Small xs → Small ys → nat_cmp (digits p xs) (digits q ys) ≡ ordering_then (nat_cmp p q) (slice_cmp nat_cmp xs ys)
-unfolding digits Small
-digits_cmp [] [] p q len sx sy = sym (then_same (nat_cmp p q))
-digits_cmp [] (y ∷ ys) p q len sx sy = absurd (omega arith)
-digits_cmp (x ∷ xs) [] p q len sx sy = absurd (omega arith)
-digits_cmp (x ∷ xs) (y ∷ ys) p q len sx sy =
-    digits_cmp xs ys (p * 256 + x) (q * 256 + y) (omega arith) sx.1 sy.1
-    ∙ ap (λ o. ordering_then o (slice_cmp nat_cmp xs ys)) (digit_cmp p q x y sx.0 sy.0)
-    ∙ then_then (nat_cmp p q) (nat_cmp x y) (slice_cmp nat_cmp xs ys)
-
--- the eight bytes compare as the system ids and then the last two
-last_two : (xs ys : List ℕ) (a b c d : ℕ) → length xs ≡ length ys → slice_cmp nat_cmp (xs ++ a ∷ b ∷ []) (ys ++ c ∷ d ∷ []) ≡ ordering_then (slice_cmp nat_cmp xs ys) (ordering_then (nat_cmp a c) (nat_cmp b d))
-last_two [] [] a b c d len = ap (λ o. ordering_then (nat_cmp a c) o) (then_same (nat_cmp b d))
-last_two [] (y ∷ ys) a b c d len = absurd (omega arith)
-last_two (x ∷ xs) [] a b c d len = absurd (omega arith)
-last_two (x ∷ xs) (y ∷ ys) a b c d len =
-    ap (λ o. ordering_then (nat_cmp x y) o) (last_two xs ys a b c d (omega arith))
-    ∙ sym (then_then (nat_cmp x y) (slice_cmp nat_cmp xs ys) (ordering_then (nat_cmp a c) (nat_cmp b d)))
-
 -- ---- ids
 
 small_from : (bs : List ℕ) → IsBytes bs → Small bs
-unfolding Small
 small_from [] h = tt
 small_from (b ∷ bs) h = (h 0, small_from bs (λ i. h (suc i)))
 
 small_both : (xs ys : List ℕ) → Small xs → Small ys → Small (xs ++ ys)
-unfolding Small
 small_both [] ys p q = q
 small_both (x ∷ xs) ys p q = (p.0, small_both xs ys p.1 q)
 
 small_id : (x : LspId) → IsLspId x → Small (lsp_id_bytes x)
-unfolding Small
 small_id x id = small_both x.system.mac.bytes (x.pseudonode ∷ x.number ∷ []) (small_from x.system.mac.bytes id.bytes.0) (id.bytes.1, (id.bytes.2, tt))
 
--- an id's number, digit by digit
-number_digits : (x : LspId) → IsLspId x → id_number x ≡ digits 0 (lsp_id_bytes x)
-unfolding digits id_number
-number_digits x id =
-    six (λ (m : List ℕ). from_be_bytes w64 (m ++ x.pseudonode ∷ x.number ∷ []) ≡ digits 0 (m ++ x.pseudonode ∷ x.number ∷ [])) x.system.mac.bytes id.system (λ a b c d e f. omega arith)
-
-length_two : (xs ys : List ℕ) → length xs ≡ length ys → (a b c d : ℕ) → length (xs ++ a ∷ b ∷ []) ≡ length (ys ++ c ∷ d ∷ [])
-length_two xs ys e a b c d = omega (arith, length-append xs (a ∷ b ∷ []), length-append ys (c ∷ d ∷ []))
+eight : (x : LspId) → IsLspId x → HasEightBytes x
+eight x id = record { six = id.system; bytes = small_id x id }
 
 -- ids compare as their numbers
 pub ids_as_numbers : (x y : LspId) → IsLspId x → IsLspId y → id_cmp x y ≡ nat_cmp (id_number x) (id_number y)
-ids_as_numbers x y ix iy =
-    let same : length x.system.mac.bytes ≡ length y.system.mac.bytes = ix.system ∙ sym iy.system in
-    sym ((λ i. nat_cmp (number_digits x ix i) (number_digits y iy i))
-    ∙ digits_cmp (lsp_id_bytes x) (lsp_id_bytes y) 0 0 (length_two _ _ same x.pseudonode x.number y.pseudonode y.number) (small_id x ix) (small_id y iy)
-    ∙ last_two x.system.mac.bytes y.system.mac.bytes x.pseudonode x.number y.pseudonode y.number same)
+ids_as_numbers x y ix iy = as_numbers x y (eight x ix) (eight y iy)
 
 -- an id's number has eight bytes
 bound_at : (m : List ℕ) (y z : ℕ) → length m ≡ 6 → Small (m ++ y ∷ z ∷ []) → from_be_bytes w64 (m ++ y ∷ z ∷ []) < 2 ^ 64
-unfolding Small
 bound_at m y z len = six (λ (l : List ℕ). Small (l ++ y ∷ z ∷ []) → from_be_bytes w64 (l ++ y ∷ z ∷ []) < 2 ^ 64) m len (λ a b c d e f s. omega arith)
 
 pub number_bound : (x : LspId) → IsLspId x → id_number x < 2 ^ 64
@@ -128,13 +52,11 @@ unfolding id_number
 number-of n h = from_be_bytes-to_be_bytes_8 n h
 
 bytes_from : (bs : List ℕ) → Small bs → IsBytes bs
-unfolding Small
 bytes_from [] s i = omega arith
 bytes_from (b ∷ bs) s zero = s.0
 bytes_from (b ∷ bs) s (suc i) = bytes_from bs s.1 i
 
 of_is_id : (n : ℕ) → IsLspId (id_of n)
-unfolding Small
 of_is_id n = record {
   system = refl;
   bytes = (bytes_from (id_of n).system.mac.bytes (omega arith, (omega arith, (omega arith, (omega arith, (omega arith, (omega arith, tt)))))), omega arith, omega arith);
@@ -153,11 +75,9 @@ successor_number x h =
     number-of ((n + 1) % 2 ^ 64) (omega arith) ∙ small
 
 pub first_is_id : IsLspId first_id
-unfolding Small
 first_is_id = record { system = refl; bytes = (bytes_from first_id.system.mac.bytes (lit< tt, (lit< tt, (lit< tt, (lit< tt, (lit< tt, (lit< tt, tt)))))), lit< tt, lit< tt) }
 
 pub last_is_id : IsLspId last_id
-unfolding Small
 last_is_id = record { system = refl; bytes = (bytes_from last_id.system.mac.bytes (lit< tt, (lit< tt, (lit< tt, (lit< tt, (lit< tt, (lit< tt, tt)))))), lit< tt, lit< tt) }
 
 pub number-first : id_number first_id ≡ 0

@@ -12,3 +12,4 @@ pub mod Served
 pub mod Stays
 pub mod Fields
 pub mod Gleaned
+pub mod Silent

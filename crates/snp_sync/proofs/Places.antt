@@ -1,9 +1,7 @@
 -- Every entry of a database changed, place by place.
-use Rattle.std.specs.Prelude.{◌≡◌, ℕ, zero, suc, ◌+◌, ◌<◌, ◌≤◌, Bool, true, false, cond, T, List, [], ◌∷◌, ◌++◌, map, length, take, drop, Some, None, slice_get}
+use Rattle.std.specs.Prelude.{◌≡◌, ℕ, zero, suc, ◌+◌, ◌<◌, ◌≤◌, true, T, List, [], ◌∷◌, ◌++◌, map, length, take, drop, Some, None, slice_get}
 use Rattle.std.proofs.Common.{refl, sym, ap, subst, ◌∙◌, arith, append-nil, set}
-use Rattle.std.specs.declared.cmp.Ordering.TheVariants.{Less}
-use Rattle.std.specs.Ordering.{is_lt, is_eq}
-use Rattle.std.specs.FinMap.{find, put, is_sorted, get, entries, entries_sorted, from_sorted, len, len-entries, entries-from_sorted, entries-insert, same_entries_map, get-entries}
+use Rattle.std.specs.FinMap.{put, is_sorted, entries, entries_sorted, from_sorted, len, len-entries, entries-from_sorted, entries-insert, same_entries_map}
 use Rattle.std.specs.FinMap.Entries.{below_all, by_order}
 use Rattle.std.proofs.lemmas.Bool.{and_parts}
 use Rattle.std.proofs.lemmas.List.{set-get_or, take_all, length-append, length-take, length-drop, length-map}
@@ -12,35 +10,15 @@ use Rattle.std.proofs.lemmas.List.Edits.{map_over_more}
 use Rattle.std.proofs.lemmas.Option.{get_or_from_slice_get}
 use Rattle.spb_types.specs.declared.address.LspId.{LspId}
 use Rattle.lsdb.specs.Entry.{Entry}
-use Rattle.lsdb.specs.Database.{Lsps, id_cmp, changed, each}
-use Rattle.lsdb.proofs.Ids.{ids_total, tied_same, turned_less, less_is}
-use Rattle.lsdb.proofs.LookupLemmas.{changed_held}
+use Rattle.lsdb.specs.Database.{Lsps, id_cmp, changed, changed_at_place, each}
+use Rattle.lsdb.proofs.Ids.{ids_total, tied_same, turned_less}
+use Rattle.lsdb.proofs.LookupLemmas.{changed_held, true_from_T, below_at, get_place, changed_place}
 
 -- an entry with its id, changed
 abbrev pub changed_pair : (LspId → Entry → Entry) → LspId × Entry → LspId × Entry
 changed_pair f e = (e.0, f e.0 e.1)
 
 -- ---- the entry at a place is that under its id
-
-true_from_T : (b : Bool) → T b → b ≡ true
-true_from_T true h = refl
-true_from_T false h = absurd h
-
-below_at : (x : LspId) (es : List (LspId × Entry)) (k : ℕ) (e : LspId × Entry) → below_all id_cmp x es ≡ true → slice_get es k ≡ Some e → id_cmp x e.0 ≡ Less
-below_at x [] k e below at = absurd (cc)
-below_at x (f ∷ es) zero e below at =
-    let here : f ≡ e = cc in
-    subst (λ (g : LspId × Entry). id_cmp x g.0 ≡ Less) here (less_is _ (and_parts (is_lt (id_cmp x f.0)) _ below).0)
-below_at x (f ∷ es) (suc k) e below at = below_at x es k e (and_parts (is_lt (id_cmp x f.0)) _ below).1 at
-
-find_at : (es : List (LspId × Entry)) (k : ℕ) (e : LspId × Entry) → is_sorted id_cmp es ≡ true → slice_get es k ≡ Some e → find id_cmp e.0 es ≡ Some e.1
-find_at [] k e sorted at = absurd (cc)
-find_at (f ∷ es) zero e sorted at =
-    let here : f ≡ e = cc in
-    subst (λ (g : LspId × Entry). find id_cmp g.0 (f ∷ es) ≡ Some g.1) here (ap (λ r. cond (is_eq r) (Some f.1) (find id_cmp f.0 es)) (tied_same f.0 f.0 refl))
-find_at (f ∷ es) (suc k) e sorted at =
-    let chunks = and_parts (below_all id_cmp f.0 es) (is_sorted id_cmp es) sorted in
-    ap (λ r. cond (is_eq r) (Some f.1) (find id_cmp e.0 es)) (turned_less f.0 e.0 (below_at f.0 es k e chunks.0 at)) ∙ find_at es k e chunks.1 at
 
 put_at : (es : List (LspId × Entry)) (k : ℕ) (e : LspId × Entry) (v : Entry) → is_sorted id_cmp es ≡ true → slice_get es k ≡ Some e → put id_cmp e.0 v es ≡ set es k (e.0, v)
 put_at [] k e v sorted at = absurd (cc)
@@ -51,9 +29,6 @@ put_at (f ∷ es) (suc k) e v sorted at =
     let chunks = and_parts (below_all id_cmp f.0 es) (is_sorted id_cmp es) sorted in
     ap (λ r. by_order r ((e.0, v) ∷ f ∷ es) ((f.0, v) ∷ es) (f ∷ put id_cmp e.0 v es)) (turned_less f.0 e.0 (below_at f.0 es k e chunks.0 at))
     ∙ ap (λ (gs : List (LspId × Entry)). f ∷ gs) (put_at es k e v chunks.1 at)
-
-pub get_place : (db : Lsps) (k : ℕ) (e : LspId × Entry) → slice_get (entries db) k ≡ Some e → get db e.0 ≡ Some e.1
-get_place db k e at = get-entries db e.0 ∙ find_at (entries db) k e (true_from_T _ (entries_sorted db)) at
 
 pub entries-changed : (f : Entry → Entry) (db : Lsps) (k : ℕ) (e : LspId × Entry) → slice_get (entries db) k ≡ Some e → entries (changed f db e.0) ≡ set (entries db) k (e.0, f e.1)
 entries-changed f db k e at =
@@ -73,10 +48,10 @@ changed_next f old now new k e so_far within at is = record {
 }
 
 -- the next entry is changed, or is as it is to be
-pub changed_more : (f : LspId → Entry → Entry) (g : Entry → Entry) (old now new : Lsps) (k : ℕ) (e : LspId × Entry) → ChangedTo f old k now → k < len old → Some e ≡ slice_get (entries now) k → f e.0 e.1 ≡ g e.1 → new ≡ changed g now e.0 → ChangedTo f old (k + 1) new
+pub changed_more : (f : LspId → Entry → Entry) (g : Entry → Entry) (old now new : Lsps) (k : ℕ) (e : LspId × Entry) → ChangedTo f old k now → k < len old → Some e ≡ slice_get (entries now) k → f e.0 e.1 ≡ g e.1 → new ≡ changed_at_place g now k → ChangedTo f old (k + 1) new
 changed_more f g old now new k e so_far within at same is =
     changed_next f old now new k e so_far within (sym at)
-    (ap entries is ∙ entries-changed g now k e (sym at) ∙ ap (λ (v : Entry). set (entries now) k (e.0, v)) (sym same))
+    (ap entries (is ∙ changed_place g now k e (sym at)) ∙ entries-changed g now k e (sym at) ∙ ap (λ (v : Entry). set (entries now) k (e.0, v)) (sym same))
 
 pub changed_kept : (f : LspId → Entry → Entry) (old now new : Lsps) (k : ℕ) (e : LspId × Entry) → ChangedTo f old k now → k < len old → Some e ≡ slice_get (entries now) k → f e.0 e.1 ≡ e.1 → new ≡ now → ChangedTo f old (k + 1) new
 changed_kept f old now new k e so_far within at same is =

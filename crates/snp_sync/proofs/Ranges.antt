@@ -25,7 +25,7 @@ use Rattle.snp_sync.specs.SendingLaws.{RangesCoverOnce, CsnpChunksListTheirRange
 use Rattle.snp_sync.proofs.Gathered.{gathered}
 use Rattle.spb_tlvs.proofs.Numbers.{weaker}
 use Rattle.snp_sync.proofs.CsnpChunks.{chunks_some}
-use Rattle.snp_sync.proofs.Places.{get_place}
+use Rattle.lsdb.proofs.LookupLemmas.{get_place}
 use Rattle.snp_sync.proofs.IdNumbers.{number_bound, successor_number, successor_is_id, number-first, number-last, first_is_id, last_is_id, between_as_numbers, less_numbers}
 
 true_from_T : (b : Bool) → T b → b ≡ true

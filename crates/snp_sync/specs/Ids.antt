@@ -1,14 +1,11 @@
 -- LSP ids as numbers of eight bytes (ISO/IEC 10589, 9.8).
 use Rattle.std.specs.Prelude.{ℕ, ◌+◌, ◌%◌, ◌^◌, ◌∷◌, [], Bool, ◌&&◌}
-use Rattle.std.specs.Int.{w64, to_be_bytes, from_be_bytes}
+use Rattle.std.specs.Int.{w64, to_be_bytes}
 use Rattle.std.specs.Ordering.{is_le}
 use Rattle.spb_types.specs.declared.address.LspId.{LspId}
-use Rattle.spb_types.specs.Bytes.{lsp_id_bytes, lsp_id_at}
+use Rattle.spb_types.specs.Bytes.{lsp_id_at}
 use Rattle.lsdb.specs.Database.{id_cmp}
-
--- an id as a number, the greatest byte first
-unfoldable pub id_number : LspId → ℕ
-id_number id = from_be_bytes w64 (lsp_id_bytes id)
+unfoldable pub use Rattle.lsdb.specs.Ids.{id_number}
 
 -- the id of a number
 abbrev pub id_of : ℕ → LspId

@@ -13,6 +13,9 @@ use std::alloc::Global;
 /// The most entries in a TLV.
 const ENTRIES_PER_TLV: usize = 15;
 
+/// The most bytes that an entry takes in TLVs: its own, and the code and length of a TLV for it alone.
+const MOST_ENTRY_BYTES: usize = 18;
+
 /// What an SNP says of an LSP.
 fn snp_entry(held: &Held) -> SnpEntry
     ensures { result ≡ snp.snp_entry_of held.now.id (entry_of held.now) }
@@ -40,7 +43,7 @@ pub fn is_listed(held: &Held) -> bool
 pub fn listed(alloc: Global, db: &Database) -> Result<Vec<SnpEntry>, NoMemory>
     ensures { IfOk result (λ v. v.items ≡ snp_entries_where snp.is_listed db.now) }
 {
-    let mut entries = Vec::new(alloc);
+    let mut entries = Vec::with_capacity(alloc, db.len())?;
     for place in 0..db.len() {
         if let Some(held) = db.at(place) {
             if is_listed(held) {
@@ -68,12 +71,13 @@ pub fn entries_with_ssn(alloc: Global, db: &Database, port: u8) -> Result<Vec<Sn
     Ok(entries)
 }
 
-/// The TLVs of entries.
+/// The TLVs of at most 90 entries.
 pub fn tlvs_of(alloc: Global, entries: &[SnpEntry]) -> Result<Vec<u8>, NoMemory>
+    requires { length entries.now ≤ 90 }
     ensures tlvs { IfOk result (λ v. v.items ≡ entry_tlvs entries.now) }
     ensures short { IfOk result (λ v. 15 * length v.items ≤ 242 * length entries.now + 28) }
 {
-    let mut tlvs = Vec::new(alloc);
+    let mut tlvs = Vec::with_capacity(alloc, MOST_ENTRY_BYTES * entries.len())?;
     for chunk in entries.chunks(ENTRIES_PER_TLV) {
         write_entries(&mut tlvs, chunk)?;
     }

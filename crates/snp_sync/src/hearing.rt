@@ -2,7 +2,7 @@ ghost use Rattle.std.specs.Prelude.{◌≡◌, ◌≤◌, length, if◌then◌el
 ghost use Rattle.std.specs.FinMap.{get};
 ghost use Rattle.lsdb.specs.Version.{claimed};
 ghost use Rattle.lsdb.specs.Entry.{cleared};
-ghost use Rattle.lsdb.specs.Database.{changed};
+ghost use Rattle.lsdb.specs.Database.{changed_if_held, StandsAt};
 ghost use Rattle.flooding.specs.Hearing.{wanted, unless_absent, hear_entry_of, is_full_for_entry};
 ghost use Rattle.flooding.specs.Placing.{Puts, Hears, holding};
 ghost use Rattle.snp_sync.specs.Hearing.{claim_in, claims_in, hear_entries_of, full_count, HeardSome, hear_csnp_of};
@@ -15,6 +15,14 @@ use spb_types::limits::MOST_PORTS;
 use spb_types::{LspId, NoMemory, PortSet, Seq};
 use std::alloc::Global;
 
+/// The place behind the one where an id was found; `near` where it wasn't.
+fn behind(place: Option<usize>, near: usize) -> usize {
+    match place {
+        Some(place) => place.saturating_add(1),
+        None => near,
+    }
+}
+
 fn version_of(entry: &SnpEntry) -> Version
     ensures { result ≡ claimed entry.now.seq entry.now.lifetime entry.now.sum }
 {
@@ -22,13 +30,20 @@ fn version_of(entry: &SnpEntry) -> Version
 }
 
 /// The neighbour at a port has a newer LSP, which is asked for. An id that isn't held is entered as absent.
-fn want(alloc: Global, db: &mut Database, port: u8, id: &LspId) -> Result<(), FloodError>
+fn want(
+    alloc: Global,
+    db: &mut Database,
+    port: u8,
+    id: &LspId,
+    place: Option<usize>,
+) -> Result<(), FloodError>
     requires low { 1 ≤ port }
     requires high { port ≤ MOST_PORTS }
+    requires place { StandsAt db.old id.now place }
     ensures { Puts result id.now (wanted port (get db.old id.now)) db.old db.new }
 {
-    if db.find(id).is_some() {
-        acknowledge(db, port, id);
+    if place.is_some() {
+        acknowledge(db, port, place);
         return Ok(());
     }
     db.put(Held {
@@ -42,19 +57,22 @@ fn want(alloc: Global, db: &mut Database, port: u8, id: &LspId) -> Result<(), Fl
     Ok(())
 }
 
-/// The neighbour at a port has the LSP. Nothing happens where it is absent.
-fn clear(db: &mut Database, port: u8, id: &LspId)
+/// The neighbour at a port has the LSP at a place. Nothing happens where it is absent.
+fn clear(db: &mut Database, port: u8, place: Option<usize>)
     requires low { 1 ≤ port }
     requires high { port ≤ MOST_PORTS }
-    ensures { db.new ≡ changed (unless_absent (cleared port)) db.old id.now }
+    ensures { db.new ≡ changed_if_held (unless_absent (cleared port)) db.old place }
 {
-    if let Version::Absent = db.version_at(id) {
+    if db.version_if_held(place).is_absent() {
         return;
     }
-    db.set_srm(id, port, false);
+    if let Some(place) = place {
+        db.set_srm_at(place, port, false);
+    }
 }
 
-/// Hears an entry at a port.
+/// Hears an entry at a port. Its id is looked for at the place `near` first, which is then the place behind the one
+/// where it was found.
 fn hear_entry(
     alloc: Global,
     db: &mut Database,
@@ -62,6 +80,7 @@ fn hear_entry(
     port: u8,
     entry: &SnpEntry,
     own: &mut Own,
+    near: &mut usize,
 ) -> Result<(), FloodError>
     requires low { 1 ≤ port }
     requires high { port ≤ MOST_PORTS }
@@ -69,14 +88,16 @@ fn hear_entry(
     ensures { Hears result (is_full_for_entry up port (claim_in entry.now) (holding db.old own.old)) (holding db.old own.old)
         (hear_entry_of up port (claim_in entry.now) (holding db.old own.old)) (holding db.new own.new) }
 {
-    let relation = compare(version_of(entry), db.version_at(&entry.id));
+    let found = db.look_up_near(*near, &entry.id);
+    *near = behind(found.place, *near);
+    let relation = compare(version_of(entry), found.version);
     if own.answers(&entry.id, relation) {
         return own.answer(alloc, db, up, &entry.id, entry.seq);
     }
     match relation {
-        Relation::Newer => return want(alloc, db, port, &entry.id),
-        Relation::Equal => clear(db, port, &entry.id),
-        Relation::Older => offer(db, port, &entry.id),
+        Relation::Newer => return want(alloc, db, port, &entry.id, found.place),
+        Relation::Equal => clear(db, port, found.place),
+        Relation::Older => offer(db, port, found.place),
         Relation::Confused => db.purge(&entry.id, entry.seq, up),
     }
     Ok(())
@@ -90,6 +111,7 @@ fn count_entry(
     port: u8,
     entry: &SnpEntry,
     own: &mut Own,
+    near: &mut usize,
 ) -> Result<u64, NoMemory>
     requires low { 1 ≤ port }
     requires high { port ≤ MOST_PORTS }
@@ -98,7 +120,7 @@ fn count_entry(
     ensures heard { OnOk result (holding db.new own.new ≡ hear_entry_of up port (claim_in entry.now) (holding db.old own.old)) }
     ensures err { OnErr result (holding db.new own.new ≡ holding db.old own.old) }
 {
-    match hear_entry(alloc, db, up, port, entry, own) {
+    match hear_entry(alloc, db, up, port, entry, own, near) {
         Ok(()) => Ok(0),
         Err(FloodError::Full) => Ok(1),
         Err(FloodError::NoMemory) => Err(NoMemory),
@@ -136,8 +158,9 @@ pub fn hear_psnp(
     ensures err { OnErr result (HeardSome up port (claims_in entries.now) (holding db.old own.old) (holding db.new own.new)) }
 {
     let mut full = 0;
+    let mut near = 0;
     for entry in entries {
-        full += count_entry(alloc, db, up, port, entry, own)?;
+        full += count_entry(alloc, db, up, port, entry, own, &mut near)?;
     }
     Ok(full)
 }

@@ -1,11 +1,12 @@
 //! The sequence numbers PDUs of a bridge (ISO/IEC 10589, 7.3.15.2 to 7.3.15.4): the CSNPs and PSNPs that it sends of
 //! its database, and what one that it hears changes there.
 //!
-//! A PDU has at most 90 entries, in TLVs of 15. CSNPs go over the database once, to list it. PSNPs go over it twice, to
-//! list what has SSN and to clear it, where each flag that is cleared takes a binary search. [`entries_of_snp`] goes
-//! over the TLVs of a PDU once. Each entry that is heard takes a binary search too. After the entries of a CSNP one
-//! pass over the database finds what its sender lacks, with a binary search among the ids that it named for each LSP in
-//! its range. Memory is taken for the entries that are listed and the PDUs that are made of them, for the entries that
+//! A PDU has at most 90 entries, in TLVs of 15. CSNPs go over the database once, to list it. PSNPs go over it once, to
+//! list what has SSN, and once more to clear it where there is any. [`entries_of_snp`] goes over the TLVs of a PDU once.
+//! An entry that is heard takes one comparison where its id stands behind that of the entry before it, and else a binary
+//! search; a second search where it is put into the database or purged. After the entries of a CSNP one pass over the
+//! database finds what its sender lacks, with a binary search among the ids that it named for each LSP in its range.
+//! Memory is taken for the entries that are listed and the PDUs that are made of them, for the entries that
 //! [`entries_of_snp`] reads, for the sorted ids of a CSNP, and for ids that are entered or answered.
 #![tactic(auto)]
 
@@ -21,5 +22,3 @@ pub mod laws;
 mod missed;
 mod reading;
 mod sending;
-#[cfg(test)]
-mod tests;

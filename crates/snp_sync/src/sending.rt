@@ -96,8 +96,7 @@ fn clear_ssn(db: &mut Database, port: u8)
     for place in 0..db.len() {
         if let Some(held) = db.at(place) {
             if held.ssn.has(port) {
-                let id = held.id;
-                db.set_ssn(&id, port, false);
+                db.set_ssn_at(place, port, false);
             }
         }
     }
@@ -119,6 +118,9 @@ pub fn psnps(
     ensures err { OnErr result (db.new ≡ db.old) }
 {
     let entries = entries_with_ssn(alloc, db, port)?;
+    if entries.is_empty() {
+        return Ok(Vec::new(alloc));
+    }
     let pdus = psnps_of(alloc, &entries, me)?;
     clear_ssn(db, port);
     Ok(pdus)

@@ -4,7 +4,7 @@ use Rattle.snp_sync.proofs.Cuts.{written_none, written_more, written_all}
 use Rattle.snp_sync.proofs.entries.tlvs_of.Goals as goal
 
 pub loop-chunk-init : goal.loop-chunk-init
-loop-chunk-init c = (search rules, tt, search rules, written_none _ _ _ c.new-tlvs.ensures.items (search rules))
+loop-chunk-init c = (search rules, tt, search rules, written_none _ _ _ c.in_ok-tlvs.ensures.items (search rules))
 
 pub loop-chunk-preserved : goal.loop-chunk-preserved
 loop-chunk-preserved c =

@@ -18,7 +18,7 @@ loop-place-preserved c =
     elim c.match-at.branch [
       | in-Some+then-has w ↦
           let e = entry_of w.in-Some.held.now in
-          changed_more f (with_ssn c.args.port false) _ _ _ c.loop-place.place (keyed w.in-Some.held.now) c.loop-place.invariant within w.in-Some.ensures.entry (ap (λ b. if b then with_ssn c.args.port false e else e) (sym w.if-has.ensures)) (w.db-is ∙ w.set_ssn.ensures)
+          changed_more f (with_ssn c.args.port false) _ _ _ c.loop-place.place (keyed w.in-Some.held.now) c.loop-place.invariant within w.in-Some.ensures.entry (ap (λ b. if b then with_ssn c.args.port false e else e) (sym w.if-has.ensures)) (w.db-is ∙ w.set_ssn_at.ensures)
       | in-Some+else-has w ↦
           let e = entry_of w.in-Some.held.now in
           changed_kept f _ _ _ c.loop-place.place (keyed w.in-Some.held.now) c.loop-place.invariant within w.in-Some.ensures.entry (ap (λ b. if b then with_ssn c.args.port false e else e) (sym w.if-has.ensures)) w.db-is
