@@ -4,3 +4,4 @@ pub mod PortLines
 pub mod PortsListed
 pub mod Newlines
 pub mod LineCounts
+pub mod DecimalText

@@ -16,6 +16,4 @@ mod database;
 mod laws;
 mod lines;
 mod tables;
-#[cfg(test)]
-mod tests;
 mod text;

@@ -7,6 +7,15 @@ use crate::text::Text;
 use spb_types::{GroupRow, Name, NoMemory, Tables, UnicastRow};
 use std::alloc::Global;
 
+/// Bytes that the line of a unicast row takes, at most.
+const UNICAST_ROW: usize = 23;
+
+/// Bytes that the line of a group row takes, mostly.
+const GROUP_ROW: usize = 40;
+
+/// Bytes that the first line takes, mostly.
+const HEAD: usize = 64;
+
 /// The answer that shows tables: a line of the word, the bridge's name, `quiet` or `busy` if that was asked, and the
 /// numbers of rows; then a line `u VID MAC PORT` for each unicast row, and a line `g VID MAC PORTS` for each group row.
 #[tactic(auto, unfolding(crate::specs::Tables::tables_text))]
@@ -20,7 +29,12 @@ pub fn tables_text(
     ensures { IfOk result
         (λ bytes. bytes.items ≡ texts.tables_text word.now name quiet tables.now) }
 {
-    let mut text = Text::new(alloc);
+    let rows = tables
+        .unicast
+        .len()
+        .saturating_mul(UNICAST_ROW)
+        .saturating_add(tables.group.len().saturating_mul(GROUP_ROW));
+    let mut text = Text::with_room(alloc, rows.saturating_add(HEAD))?;
     put_head(&mut text, word, name, quiet, tables)?;
     put_unicast_rows(&mut text, tables.unicast.as_slice())?;
     put_group_rows(&mut text, tables.group.as_slice())?;

@@ -1,6 +1,6 @@
-ghost use Rattle.std.specs.Prelude.{◌≡◌, ◌++◌, ◌∷◌, [], ◌≤◌, codes, decimal, if◌then◌else◌, IfOk, OnOk};
+ghost use Rattle.std.specs.Prelude.{◌≡◌, ◌++◌, ◌∷◌, [], ◌<◌, ◌≤◌, codes, decimal, slice_index, if◌then◌else◌, IfOk, OnOk};
 ghost use Rattle.spb_types.specs.Ports.{has};
-ghost use Rattle.hex.specs.Hex.{encode_lower};
+ghost use Rattle.hex.specs.Hex.{encode_lower, lower_digits};
 ghost use Rattle.report.specs.Words.{spaced};
 ghost use Rattle.report.specs.Ports.{ports_among, ports_text};
 ghost use Rattle.report.specs.Listing.{comma, separated, separator_after};
@@ -25,6 +25,17 @@ impl Model for Text {
     ghost view = { λ t. t.bytes.items };
 }
 
+/// The hexadecimal digits, in lower case.
+static HEX_DIGITS: [u8; 16] = *b"0123456789abcdef";
+
+/// The hexadecimal digit of this value.
+fn hex_digit(value: u8) -> u8
+    requires { value < 16 }
+    ensures { result ≡ slice_index lower_digits value }
+{
+    HEX_DIGITS[usize::from(value)]
+}
+
 impl Text {
     /// The empty text, which takes no memory.
     pub(crate) fn new(alloc: Global) -> Self
@@ -33,6 +44,15 @@ impl Text {
         Text {
             bytes: Vec::new(alloc),
         }
+    }
+
+    /// The empty text, with room for this many bytes.
+    pub(crate) fn with_room(alloc: Global, bytes: usize) -> Result<Self, NoMemory>
+        ensures { IfOk result (λ text. text ≡ []) }
+    {
+        Ok(Text {
+            bytes: Vec::with_capacity(alloc, bytes)?,
+        })
     }
 
     /// The bytes of the text.
@@ -50,25 +70,40 @@ impl Text {
         Ok(())
     }
 
+    /// A byte as it is.
+    fn byte(&mut self, byte: u8) -> Result<(), NoMemory>
+        ensures { OnOk result (self.new ≡ self.old ++ byte ∷ []) }
+    {
+        self.bytes.push(byte)?;
+        Ok(())
+    }
+
     /// The end of a line.
     pub(crate) fn end(&mut self) -> Result<(), NoMemory>
         ensures { OnOk result (self.new ≡ self.old ++ codes "\n") }
     {
-        self.push(b"\n")
+        self.byte(b'\n')
     }
 
     /// A space and a word.
     pub(crate) fn word(&mut self, word: &[u8]) -> Result<(), NoMemory>
         ensures { OnOk result (self.new ≡ self.old ++ spaced word.now) }
     {
-        self.push(b" ")?;
+        self.byte(b' ')?;
         self.push(word)
     }
 
-    /// A number without leading zeros.
+    /// A number without leading zeros. Those of one or two digits, as most are, need no buffer.
     pub(crate) fn decimal(&mut self, number: u64) -> Result<(), NoMemory>
         ensures { OnOk result (self.new ≡ self.old ++ decimal number) }
     {
+        if number < 10 {
+            return self.byte(b'0' + number as u8);
+        }
+        if number < 100 {
+            self.byte(b'0' + (number / 10) as u8)?;
+            return self.byte(b'0' + (number % 10) as u8);
+        }
         let mut buffer = Buffer::new();
         self.push(buffer.format(number).as_bytes())
     }
@@ -77,7 +112,7 @@ impl Text {
     pub(crate) fn number(&mut self, number: u64) -> Result<(), NoMemory>
         ensures { OnOk result (self.new ≡ self.old ++ spaced (decimal number)) }
     {
-        self.push(b" ")?;
+        self.byte(b' ')?;
         self.decimal(number)
     }
 
@@ -85,19 +120,19 @@ impl Text {
     pub(crate) fn hex(&mut self, bytes: &[u8]) -> Result<(), NoMemory>
         ensures { OnOk result (self.new ≡ self.old ++ spaced (encode_lower bytes.now)) }
     {
-        self.push(b" ")?;
+        self.byte(b' ')?;
         for byte in bytes {
             self.hex_byte(*byte)?;
         }
         Ok(())
     }
 
+    #[tactic(auto, unfolding(hex::specs::Hex::encode_with))]
     fn hex_byte(&mut self, byte: u8) -> Result<(), NoMemory>
         ensures { OnOk result (self.new ≡ self.old ++ encode_lower (byte ∷ [])) }
     {
-        let mut digits = [0; 2];
-        hex::encode_to_slice([byte].as_slice(), &mut digits).unwrap();
-        self.push(&digits)
+        self.byte(hex_digit(byte / 16))?;
+        self.byte(hex_digit(byte % 16))
     }
 
     /// A space and the ports of a set, ascending with commas, or `-` where there is none.
