@@ -222,38 +222,3 @@ impl Lanes {
         None
     }
 }
-
-#[cfg(test)]
-mod tests {
-    use super::*;
-    use std::test::Fail;
-
-    #[test]
-    fn frames_stand_in_the_lane_of_their_link_and_direction(rt: HostRuntime) -> Result<(), Fail> {
-        let mut lanes = Lanes::new(rt.alloc());
-        lanes.add_link()?;
-        lanes.add_link()?;
-        assert_eq!(rt; lanes.links(), 2);
-        let there = LaneId {
-            link: 1,
-            dir: Dir::Ab,
-        };
-        let back = LaneId {
-            link: 1,
-            dir: Dir::Ba,
-        };
-        lanes.push(back, vec![in rt.alloc(); 7]?)?;
-        assert_eq!(rt; lanes.first_full(), Some(back));
-        lanes.push(there, vec![in rt.alloc(); 8]?)?;
-        lanes.push(there, vec![in rt.alloc(); 9]?)?;
-        lanes.double(there, 1)?;
-        lanes.lose(there, 0);
-        assert_eq!(rt; (lanes.frames(there), lanes.frames(back)), (2, 1));
-        assert_eq!(rt; lanes.first_full(), Some(there));
-        assert_eq!(rt; lanes.pop(there).ok_or("empty")?.as_slice(), [9].as_slice());
-        lanes.flush(1);
-        assert_eq!(rt; lanes.first_full(), None);
-        assert!(rt; lanes.pop(back).is_none());
-        Ok(())
-    }
-}

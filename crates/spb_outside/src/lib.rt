@@ -18,5 +18,3 @@ mod plan;
 mod sink;
 mod source;
 mod standard;
-#[cfg(test)]
-mod tests;

@@ -1,4 +1,5 @@
-use crate::{Failed, MemorySink, MemorySource, Sink, Source, StdSink, StdSource, WriteError};
+//! Tests of `spb_outside`.
+use spb_outside::{Failed, MemorySink, MemorySource, Sink, Source, StdSink, StdSource, WriteError};
 use std::test::Fail;
 
 #[test]

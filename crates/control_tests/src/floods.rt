@@ -1,0 +1,287 @@
+//! Tests of `flooding`. Expected flags are the standard's, at three Up ports, of which the second hears; those of a
+//! dead LSP of an id that isn't held are *profile*. Checksums and PDUs were made by hand.
+ghost use Rattle.std.specs.Prelude.{◌≡◌, ◌≤◌};
+ghost use Rattle.isis_pdu.specs.declared.kind.Kind.TheVariants as kinds;
+ghost use Rattle.isis_pdu.specs.Spelling.{CanWrite};
+
+use crate::fixtures::{UP, WITH_NEIGHBOUR, dead, live, lsp_id, own, put, seq, system};
+use flooding::{FloodError, Own, hear_lsp, lsp_of, originate, to_send, write_held};
+use isis_pdu::{Lsp, Pdu, decode};
+use lsdb::{Database, Held, Version};
+use spb_types::limits::MOST_PORTS;
+use spb_types::{LspId, PortSet};
+use std::alloc::Global;
+use std::process::Abort;
+
+/// A bridge's first LSP, with lifetime 1200 and without a neighbour.
+const FIRST_LSP: &[u8] = b"\
+    \x83\x1b\x01\x00\x12\x01\x00\x00\x00\x3d\x04\xb0\x02\x00\x00\x00\x00\x01\x00\x00\x00\x00\x00\x01\
+    \x4f\xd7\x01\x01\x04\x03\x49\x00\x01\x81\x01\xc1\x90\x17\x00\x00\x01\x13\x00\x00\x00\x00\x00\x00\
+    \x00\x00\x00\x00\x00\x00\x80\x00\x00\x00\x00\x01\x00";
+
+/// A dead LSP: the fixed part alone.
+const DEAD_LSP: &[u8] = b"\
+    \x83\x1b\x01\x00\x12\x01\x00\x00\x00\x1b\x00\x00\x02\x00\x00\x00\x00\x02\x00\x00\x00\x00\x00\x02\
+    \x00\x00\x01";
+
+/// Puts an LSP, to be sent at the ports 1 and 2 and acknowledged at 2 and 3.
+fn put_held(rt: &impl Abort, alloc: Global, db: &mut Database, id: LspId, version: Version) {
+    put(rt, alloc, db, id, version, 500, (0b011, 0b110));
+}
+
+/// Version, lifetime, length of body, SRM and SSN of what stands under an id, if anything does.
+type Row = Option<(Version, u16, usize, u32, u32)>;
+
+fn row(version: Version, lifetime: u16, len: usize, srm: u32, ssn: u32) -> Row {
+    Some((version, lifetime, len, srm, ssn))
+}
+
+fn row_of(db: &Database, id: &LspId) -> Row {
+    match db.find(id) {
+        Some(h) => row(h.version, h.lifetime, h.body.len(), h.srm.bits, h.ssn.bits),
+        None => None,
+    }
+}
+
+fn check_row(rt: &impl Abort, db: &Database, id: &LspId, expected: Row) {
+    assert_eq!(*rt; row_of(db, id), expected);
+}
+
+fn check_body(rt: &impl Abort, db: &Database, id: &LspId, expected: &[u8]) {
+    assert_eq!(*rt;
+        db.find(id).map(|held| held.body.as_slice()),
+        Some(expected)
+    );
+}
+
+/// An LSP of this sequence number, lifetime and checksum, with a body of three bytes.
+fn lsp(id: LspId, (seq, lifetime, sum): (u32, u16, u16)) -> Lsp<'static> {
+    Lsp {
+        lifetime,
+        id,
+        seq,
+        sum,
+        flags: 3,
+        tlvs: b"\x89\x00",
+    }
+}
+
+/// The bridge hears an LSP at a port, which gives this.
+fn hear(
+    rt: &impl Abort,
+    alloc: Global,
+    db: &mut Database,
+    up: PortSet,
+    port: u8,
+    lsp: &Lsp<'_>,
+    own: &mut Own,
+) -> Result<(), FloodError>
+    requires low { 1 ≤ port }
+    requires high { port ≤ MOST_PORTS }
+{
+    assert!(*rt; !own.body.is_empty());
+    hear_lsp(alloc, db, up, port, lsp, own)
+}
+
+/// That bridge 1, where this version is held, if any, hears this claim of the id at port 2, after which this stands
+/// under the id, and the bridge is spent or not.
+fn check_heard(
+    rt: &impl Abort,
+    alloc: Global,
+    before: Option<Version>,
+    (id, claim): (LspId, (u32, u16, u16)),
+    (outcome, spent): (Row, bool),
+) {
+    let mut db = Database::new(alloc);
+    if let Some(version) = before {
+        put_held(rt, alloc, &mut db, id, version);
+    }
+    let mut own = own(rt, alloc, b"\x01\x09\x01\x07");
+    let heard = hear(rt, alloc, &mut db, UP, 2, &lsp(id, claim), &mut own);
+    assert!(*rt; heard.is_ok(), "{before:?} and {claim:?}");
+    assert!(*rt; row_of(&db, &id) == outcome, "{before:?} and {claim:?}");
+    assert!(*rt; own.spent == spent, "{before:?} and {claim:?}");
+}
+
+#[test]
+fn each_row_of_the_table_gives_its_version_and_flags(rt: HostRuntime) {
+    let id = lsp_id(2, 0);
+    let (none, lived, died) = (Some(Version::Absent), Some(live(7, 9)), Some(dead(7)));
+    for (before, claim, outcome) in [
+        // Newer: stored, also where it is dead, and where nothing is held (for a dead one that is *profile*).
+        (lived, (8, 30, 5), row(live(8, 5), 30, 3, 0b101, 0b010)),
+        (lived, (7, 0, 0), row(dead(7), 0, 1, 0b101, 0b010)),
+        (none, (1, 30, 5), row(live(1, 5), 30, 3, 0b101, 0b010)),
+        (None, (1, 0, 5), row(dead(1), 0, 1, 0b101, 0b010)),
+        // Equal: acknowledged, but not where it is absent; lifetime and body aren't taken.
+        (lived, (7, 30, 9), row(live(7, 9), 500, 3, 0b001, 0b110)),
+        (died, (7, 0, 9), row(dead(7), 0, 1, 0b001, 0b110)),
+        (none, (0, 30, 9), row(Version::Absent, 0, 0, 0b011, 0b110)),
+        (None, (0, 30, 9), None),
+        // Older: the neighbour gets what is held.
+        (lived, (6, 30, 9), row(live(7, 9), 500, 3, 0b011, 0b100)),
+        (died, (7, 30, 9), row(dead(7), 0, 1, 0b011, 0b100)),
+        // Confused: dead, and sent to all.
+        (lived, (7, 30, 5), row(dead(7), 0, 1, 0b111, 0)),
+    ] {
+        check_heard(&rt, rt.alloc(), before, (id, claim), (outcome, false));
+    }
+}
+
+/// The own LSP renewed, and a dead one, each sent to all. The body is 01 09 01 07.
+fn renewed(seq: u32, sum: u16) -> Row {
+    row(live(seq, sum), 1200, 4, 0b111, 0)
+}
+
+fn dead_at(seq: u32) -> Row {
+    row(dead(seq), 0, 1, 0b111, 0)
+}
+
+#[test]
+fn claims_of_own_ids_are_answered(rt: HostRuntime) {
+    let (own, other) = (lsp_id(1, 0), lsp_id(1, 5));
+    let (lived, last) = (Some(live(7, 9)), u32::MAX);
+    for (before, claimed, outcome) in [
+        // The own LSP goes past the claim.
+        (lived, (own, (9, 30, 5)), (renewed(10, 0xfbe4), false)),
+        (lived, (own, (7, 30, 5)), (renewed(8, 0xffe2), false)),
+        (lived, (own, (7, 0, 0)), (renewed(8, 0xffe2), false)),
+        (None, (own, (3, 0, 0)), (renewed(4, 0x08de), false)),
+        // At the last number it is dead.
+        (lived, (own, (last, 30, 5)), (dead_at(last), true)),
+        // Every other own id is dead at the claim's number.
+        (lived, (other, (9, 30, 5)), (dead_at(9), false)),
+        (None, (other, (last, 30, 5)), (dead_at(last), false)),
+        // An equal and an older claim are as of any id.
+        (
+            lived,
+            (own, (7, 30, 9)),
+            (row(live(7, 9), 500, 3, 0b001, 0b110), false),
+        ),
+        (
+            lived,
+            (own, (6, 30, 9)),
+            (row(live(7, 9), 500, 3, 0b011, 0b100), false),
+        ),
+    ] {
+        check_heard(&rt, rt.alloc(), before, claimed, outcome);
+    }
+}
+
+/// That these are the ids of what is to be sent at the port.
+fn check_to_send(rt: &impl Abort, alloc: Global, db: &Database, port: u8, ids: &[LspId])
+    requires low { 1 ≤ port }
+    requires high { port ≤ MOST_PORTS }
+{
+    let found = to_send(alloc, db, port).expect(rt, "out of memory");
+    assert_eq!(*rt; found.as_slice(), ids);
+}
+
+fn check_heard_and_sent_on(rt: &impl Abort, alloc: Global, lsp: &Lsp<'_>) {
+    let up = PortSet { bits: 0b11 };
+    let mut db = Database::new(alloc);
+    let mut own = own(rt, alloc, &[1]);
+    own.system = system(2);
+    let heard = hear(rt, alloc, &mut db, up, 1, lsp, &mut own);
+    assert_eq!(*rt; heard, Ok(()));
+    check_row(rt, &db, &lsp.id, row(live(1, 0x4fd7), 1200, 35, 0b10, 0b01));
+    check_body(rt, &db, &lsp.id, &FIRST_LSP[26..]);
+    assert_eq!(*rt; db.find(&lsp.id).map(|held| lsp_of(held)), Some(*lsp));
+    check_to_send(rt, alloc, &db, 2, &[lsp.id]);
+    check_to_send(rt, alloc, &db, 1, &[]);
+}
+
+#[test]
+fn an_lsp_is_heard_and_sent_on(rt: HostRuntime) {
+    match decode(FIRST_LSP) {
+        Ok(Pdu::Lsp(lsp)) => check_heard_and_sent_on(&rt, rt.alloc(), &lsp),
+        other => assert!(rt; false, "{other:?}"),
+    }
+}
+
+/// Originates where there is a place and a body.
+fn originate_in(rt: &impl Abort, alloc: Global, db: &mut Database, up: PortSet, own: &mut Own) {
+    assert!(*rt; db.len() < 2048);
+    assert!(*rt; !own.body.is_empty());
+    assert!(*rt; originate(alloc, db, up, own).is_ok());
+}
+
+#[test]
+fn each_origination_goes_one_number_further(rt: HostRuntime) {
+    let alloc = rt.alloc();
+    let id = lsp_id(1, 0);
+    let mut db = Database::new(alloc);
+    let mut first = own(&rt, alloc, &FIRST_LSP[26..]);
+    originate_in(&rt, alloc, &mut db, PortSet::none(), &mut first);
+    assert!(rt; first.id() == id && db.version_at(&id) == live(1, 0x4fd7));
+    let mut second = own(&rt, alloc, WITH_NEIGHBOUR);
+    originate_in(&rt, alloc, &mut db, PortSet { bits: 0b1000 }, &mut second);
+    check_row(&rt, &db, &id, row(live(2, 0xa512), 1200, 56, 0b1000, 0));
+    check_body(&rt, &db, &id, WITH_NEIGHBOUR);
+}
+
+#[test]
+fn no_number_comes_after_the_last(rt: HostRuntime) {
+    let alloc = rt.alloc();
+    let id = lsp_id(1, 0);
+    let mut db = Database::new(alloc);
+    let mut own = own(&rt, alloc, &[1]);
+    put_held(&rt, alloc, &mut db, id, live(u32::MAX, 9));
+    originate_in(&rt, alloc, &mut db, UP, &mut own);
+    check_row(&rt, &db, &id, row(dead(u32::MAX), 0, 1, 0b111, 0b110));
+    assert!(rt; own.spent);
+    originate_in(&rt, alloc, &mut db, PortSet::none(), &mut own);
+    check_row(&rt, &db, &id, row(dead(u32::MAX), 0, 1, 0b111, 0b110));
+}
+
+/// A database without a place: 2,048 live LSPs.
+fn full(rt: &impl Abort, alloc: Global) -> Database {
+    let mut db = Database::new(alloc);
+    for number in 0..2048 {
+        put_held(rt, alloc, &mut db, lsp_id(number, 1), live(7, 9));
+    }
+    db
+}
+
+#[test]
+fn a_full_database_takes_no_new_id(rt: HostRuntime) {
+    let alloc = rt.alloc();
+    let up = PortSet { bits: 0b11 };
+    let mut db = full(&rt, alloc);
+    let mut own = own(&rt, alloc, &[1]);
+    let more = lsp(lsp_id(9, 0), (1, 30, 5));
+    assert!(rt; hear(&rt, alloc, &mut db, up, 1, &more, &mut own) == Err(FloodError::Full));
+    let mine = lsp(own.id(), (u32::MAX, 30, 5));
+    assert!(rt; hear(&rt, alloc, &mut db, up, 1, &mine, &mut own) == Err(FloodError::Full));
+    assert!(rt; !own.spent && db.len() == 2048);
+    let known = lsp(lsp_id(0, 1), (8, 30, 5));
+    assert!(rt; hear(&rt, alloc, &mut db, up, 1, &known, &mut own).is_ok());
+    assert!(rt; db.version_at(&known.id) == live(8, 5));
+}
+
+#[test]
+fn what_is_to_be_sent_stands_in_order_of_id(rt: HostRuntime) {
+    let alloc = rt.alloc();
+    let mut db = Database::new(alloc);
+    put_held(&rt, alloc, &mut db, lsp_id(3, 0), live(7, 9));
+    put_held(&rt, alloc, &mut db, lsp_id(1, 0), live(7, 9));
+    put_held(&rt, alloc, &mut db, lsp_id(2, 0), live(7, 9));
+    db.set_srm(&lsp_id(2, 0), 1, false);
+    check_to_send(&rt, alloc, &db, 1, &[lsp_id(1, 0), lsp_id(3, 0)]);
+    check_to_send(&rt, alloc, &db, 3, &[]);
+}
+
+#[test]
+#[tactic(auto, unfolding(isis_pdu::specs::Tlvs::is_whole_after))]
+fn a_dead_lsp_is_its_header_alone(rt: HostRuntime) {
+    let held = Held {
+        id: lsp_id(2, 0),
+        version: dead(2),
+        lifetime: 0,
+        body: seq(&rt, rt.alloc(), &[1]),
+        srm: PortSet::none(),
+        ssn: PortSet::none(),
+    };
+    let bytes = write_held(rt.alloc(), &held).expect(&rt, "out of memory");
+    assert_eq!(rt; bytes.as_slice(), DEAD_LSP);
+}

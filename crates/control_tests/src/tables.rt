@@ -1,0 +1,132 @@
+//! Tests of `fdb_build`.
+ghost use Rattle.std.specs.Prelude.{◌≤◌, [], ◌∷◌, IfOk};
+ghost use Rattle.spb_types.specs.Graph.{IsValidFor};
+ghost use Rattle.fdb_build.specs.Tables.{ArePlans};
+
+use fdb_build::tables_of;
+use spb_types::{
+    BridgeId, Edge, Graph, GraphBridge, Mac, NoMemory, Seq, SourceId, SystemId, UnicastRow, Vid,
+    VidPlan,
+};
+use std::alloc::Global;
+use std::process::Abort;
+use std::test::Fail;
+
+macro_rules! plan {
+    ($vid:expr, $ect:expr) => {
+        VidPlan {
+            vid: Vid { value: $vid },
+            ect: $ect,
+        }
+    };
+}
+
+/// The tables have these unicast rows, by VID, last byte of the address and port, and no group rows.
+fn assert_rows(
+    rt: &impl Abort,
+    alloc: Global,
+    graph: &Graph,
+    me: SystemId,
+    vids: &[VidPlan],
+    want: &[(u16, u8, u8)],
+) -> Result<(), NoMemory>
+    requires graph { IsValidFor graph.now me }
+    requires vids { ArePlans vids.now }
+{
+    let tables = tables_of(alloc, graph, me, vids)?;
+    assert_eq!(rt; tables.unicast.len(), want.len());
+    for (row, (vid, last, port)) in tables.unicast.iter().zip(want) {
+        let want = UnicastRow {
+            vid: Vid { value: *vid },
+            mac: mac!(*last),
+            port: *port,
+        };
+        assert_eq!(rt; *row, want);
+    }
+    assert!(rt; tables.group.is_empty());
+    Ok(())
+}
+
+/// Bridges 1, 2, 4, 3 in a square, whose two ways from corner to corner tie, and bridge 9, which has no edge.
+fn square(alloc: Global) -> Result<Graph, NoMemory>
+    ensures one { IfOk result (λ g. IsValidFor g (record { mac = record { bytes = 2 ∷ 0 ∷ 0 ∷ 0 ∷ 0 ∷ 1 ∷ [] } })) }
+    ensures four { IfOk result (λ g. IsValidFor g (record { mac = record { bytes = 2 ∷ 0 ∷ 0 ∷ 0 ∷ 0 ∷ 4 ∷ [] } })) }
+    ensures nine { IfOk result (λ g. IsValidFor g (record { mac = record { bytes = 2 ∷ 0 ∷ 0 ∷ 0 ∷ 0 ∷ 9 ∷ [] } })) }
+{
+    let bridges = vec![in alloc; bridge!(4), bridge!(9), bridge!(1), bridge!(3), bridge!(2)]?;
+    let edges = vec![in alloc;
+        edge!(1, 5, 2, 1, 10),
+        edge!(4, 8, 2, 2, 10),
+        edge!(3, 1, 1, 32, 10),
+        edge!(3, 2, 4, 6, 10),
+    ]?;
+    Ok(Graph {
+        bridges: Seq::from_vec(bridges),
+        edges: Seq::from_vec(edges),
+        members: Seq::new(alloc),
+    })
+}
+
+/// Bridges 1, 2 and 3, each joined to both others, with a cost of the edge between 1 and 3 and one of 10 for the
+/// others.
+fn triangle(alloc: Global, cost: u32) -> Result<Graph, NoMemory>
+    requires low { 1 ≤ cost }
+    requires high { cost ≤ 1000 }
+    ensures { IfOk result (λ g. IsValidFor g (record { mac = record { bytes = 2 ∷ 0 ∷ 0 ∷ 0 ∷ 0 ∷ 1 ∷ [] } })) }
+{
+    let bridges = vec![in alloc; bridge!(3), bridge!(2), bridge!(1)]?;
+    let edges = vec![in alloc;
+        edge!(1, 2, 2, 1, 10),
+        edge!(2, 3, 3, 2, 10),
+        edge!(3, 1, 1, 3, cost),
+    ]?;
+    Ok(Graph {
+        bridges: Seq::from_vec(bridges),
+        edges: Seq::from_vec(edges),
+        members: Seq::new(alloc),
+    })
+}
+
+#[test]
+fn ties_fall_by_the_mask_of_the_vid(rt: HostRuntime) -> Result<(), Fail> {
+    let graph = square(rt.alloc())?;
+    let vids = [plan!(20, 2), plan!(10, 1)];
+    let rows = [
+        (10, 2, 5),
+        (10, 3, 32),
+        (10, 4, 5),
+        (20, 2, 5),
+        (20, 3, 32),
+        (20, 4, 32),
+    ];
+    assert_rows(&rt, rt.alloc(), &graph, system!(1), &vids, &rows)?;
+    let back = [
+        (10, 1, 8),
+        (10, 2, 8),
+        (10, 3, 6),
+        (20, 1, 6),
+        (20, 2, 8),
+        (20, 3, 6),
+    ];
+    assert_rows(&rt, rt.alloc(), &graph, system!(4), &vids, &back)?;
+    Ok(())
+}
+
+#[test]
+fn a_bridge_without_edges_has_no_rows(rt: HostRuntime) -> Result<(), Fail> {
+    let graph = square(rt.alloc())?;
+    assert_rows(&rt, rt.alloc(), &graph, system!(9), &[plan!(10, 1)], &[])?;
+    assert_rows(&rt, rt.alloc(), &graph, system!(1), &[], &[])?;
+    Ok(())
+}
+
+#[test]
+fn rows_lead_to_the_second_bridge(rt: HostRuntime) -> Result<(), Fail> {
+    for (cost, port) in [(19, 3), (20, 3), (21, 2)] {
+        let graph = triangle(rt.alloc(), cost)?;
+        let vids = [plan!(4094, 16), plan!(1, 2)];
+        let rows = [(1, 2, 2), (1, 3, port), (4094, 2, 2), (4094, 3, port)];
+        assert_rows(&rt, rt.alloc(), &graph, system!(1), &vids, &rows)?;
+    }
+    Ok(())
+}

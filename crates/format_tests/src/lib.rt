@@ -1,0 +1,27 @@
+//! The tests of the crates that make bytes, texts and values of one another: `spb_types`, `spb_outside`, `isis_pdu`,
+//! `spb_tlvs`, `itag_frames`, `spb_content`, `scenario`, `adjacency` and `report`. One module tests one crate.
+//!
+//! Nothing else stands here, and nothing stands on this crate. A crate with tests is proved twice, with and without
+//! them; so those of the lower crates, which see them from outside, stand above them.
+#![tactic(auto)]
+
+#[cfg(test)]
+mod adjacencies;
+#[cfg(test)]
+mod contents;
+#[cfg(test)]
+mod fixtures;
+#[cfg(test)]
+mod frames;
+#[cfg(test)]
+mod lines;
+#[cfg(test)]
+mod pdus;
+#[cfg(test)]
+mod streams;
+#[cfg(test)]
+mod texts;
+#[cfg(test)]
+mod tlvs;
+#[cfg(test)]
+mod values;
