@@ -6,3 +6,4 @@ pub mod WordLaws
 pub mod LineLaws
 pub mod ColumnLaws
 pub mod Rows
+pub mod Octets

@@ -4,3 +4,4 @@ pub mod Keywords
 pub mod Grammar
 pub mod Answers
 pub mod Spelling
+pub mod Laws

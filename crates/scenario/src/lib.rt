@@ -12,14 +12,13 @@ mod field;
 #[tactic(auto, unfolding(crate::specs::Grammar::form_of))]
 mod forms;
 mod keyword;
+mod laws;
 mod line;
 mod words;
 
 pub use command::Command;
 pub use error::LineError;
 pub use keyword::{KEYWORDS, Keyword};
+pub use laws::system_ids_are_octets;
 pub use line::{FirstWord, LINE_LIMIT, head, parse_line};
 pub use spb_types::{Dir, Side};
-
-#[cfg(test)]
-mod tests;

@@ -96,7 +96,7 @@ bridges_few (c ∷ cs) = at (bridge_of c) (bridges_few cs)
     at (Some b) h = omega (arith, h)
 
 -- where P holds is a bridge of the graph
-is_bridge : (list : Contents) (P : SystemId → Type 0) (ks : Contents) (x : SystemId) → AreChosen list P ks → P x → IsBridge (graph_among list ks) x
+pub is_bridge : (list : Contents) (P : SystemId → Type 0) (ks : Contents) (x : SystemId) → AreChosen list P ks → P x → IsBridge (graph_among list ks) x
 is_bridge list P ks x h holds =
     let c = some_is (said_of list x) (h.said x holds) in
     let k = h.all (x, c.0) (said_has list x c.0 c.1) holds in

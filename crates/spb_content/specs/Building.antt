@@ -140,6 +140,10 @@ graph_among list some = record {
   members = flat_map members_of some;
 }
 
+-- whether a system is a bridge by what it says
+abbrev pub has_inst : SystemId × Content → Bool
+has_inst c = is_some c.1.inst
+
 -- the graph of all that is said, reached or not
 abbrev pub said_graph : Contents → Graph
-said_graph list = graph_among list (filter (λ c. is_some c.1.inst) list)
+said_graph list = graph_among list (filter has_inst list)

@@ -1,4 +1,4 @@
-ghost use Rattle.std.specs.Prelude.{◌≡◌, ◌≤◌, ◌++◌, length, IfOk, OnOk};
+ghost use Rattle.std.specs.Prelude.{◌≡◌, ◌≤◌, ◌++◌, length, map, IfOk, OnOk};
 ghost use Rattle.std.specs.Option.{option_to_list};
 ghost use Rattle.spb_types.specs.Graph.{IsDistinct, IsValid, IsValidFor};
 ghost use Rattle.spb_content.specs.Graph as spec;
@@ -187,4 +187,40 @@ pub fn graph_of(
     let backbone = Backbone::new(alloc, list)?;
     let walk = walk_from(alloc, &backbone, me)?;
     graph_among(alloc, &backbone, walk.marks.as_slice())
+}
+
+/// Whether the system is a bridge.
+fn is_bridge(said: &(SystemId, Content)) -> bool
+    ensures { result ≡ building.has_inst said.now }
+{
+    said.1.inst.is_some()
+}
+
+/// A mark at the place of each system that is a bridge.
+fn marked_bridges(alloc: Global, list: &[(SystemId, Content)]) -> Result<Vec<bool>, NoMemory>
+    ensures { IfOk result (λ marks. marks.items ≡ map building.has_inst list.now) }
+{
+    let mut marks = Vec::new(alloc);
+    for said in list {
+        marks.push(is_bridge(said))?;
+    }
+    Ok(marks)
+}
+
+/// The graph that the contents of some systems make, reached or not: that of [`graph_of`] without the cut.
+///
+/// The system ids differ, and there are at most 65,535. The graph is valid, and it is valid for each bridge whose ports
+/// differ and are 1 to 32.
+///
+/// It costs what `graph_of` does where all is reached, but for the walk.
+pub fn said_graph_of(alloc: Global, list: &[(SystemId, Content)]) -> Result<Graph, NoMemory>
+    requires apart { IsDistinct (spec.systems_in list.now) }
+    requires few { length list.now ≤ MOST_GRAPH_BRIDGES }
+    ensures graph { IfOk result (λ g. g ≡ building.said_graph list.now) }
+    ensures valid { IfOk result IsValid }
+    ensures valid_for { IfOk result (λ g. (x : SystemId) → HasOwnPorts list.now x → IsValidFor g x) }
+{
+    let backbone = Backbone::new(alloc, list)?;
+    let marks = marked_bridges(alloc, list)?;
+    graph_among(alloc, &backbone, marks.as_slice())
 }
