@@ -27,7 +27,7 @@ use Rattle.spb_content.specs.Graph.{Contents, systems_in}
 use Rattle.spb_content.proofs.Members.{Has, has_from_contains, contains_from_has, all_has}
 use Rattle.bridge_api.specs.View.{BridgeView}
 use Rattle.bridge_api.specs.Own.{local_of, own_entry, body_in, body_of, Lasts, IsAlive}
-use Rattle.bridge_api.specs.Graph.{live_content, content_held, read_entry, contents_of, ReadsWhatIsHeld, ReadsEachOnce, ReadsItself}
+use Rattle.bridge_api.specs.Graph.{live_content, content_in_entry, read_entry, contents_of, ReadsWhatIsHeld, ReadsEachOnce, ReadsItself}
 
 -- ---- what is held under an id stands among the entries, and nothing else
 
@@ -109,13 +109,13 @@ reads x c e says =
 
 -- ---- it reads what is held
 
-read_held : (db : Lsps) (x : SystemId) (c : Content) → Has (x, c) (filter_map read_entry (entries db)) → content_held (get db (own_id x)) ≡ Some c
+read_held : (db : Lsps) (x : SystemId) (c : Content) → Has (x, c) (filter_map read_entry (entries db)) → content_in_entry (get db (own_id x)) ≡ Some c
 read_held db x c has =
     let r = read_has read_entry (x, c) (entries db) has in
     let was : WasRead r.0 x c = was_read r.0 x c r.2 in
-    ap (λ id. content_held (get db id)) (sym was.id) ∙ (ap content_held (has_get db r.0.0 r.0.1 r.1) ∙ was.content)
+    ap (λ id. content_in_entry (get db id)) (sym was.id) ∙ (ap content_in_entry (has_get db r.0.0 r.0.1 r.1) ∙ was.content)
 
-held_read : (db : Lsps) (x : SystemId) (c : Content) (o : Option Entry) → get db (own_id x) ≡ o → content_held o ≡ Some c → Has (x, c) (filter_map read_entry (entries db))
+pub held_read : (db : Lsps) (x : SystemId) (c : Content) (o : Option Entry) → get db (own_id x) ≡ o → content_in_entry o ≡ Some c → Has (x, c) (filter_map read_entry (entries db))
 held_read db x c None is says = cc
 held_read db x c (Some e) is says = has_read read_entry (own_id x, e) (x, c) (entries db) (get_has db (own_id x) e is) (reads x c e says)
 
@@ -171,7 +171,7 @@ lasting Absent lifetime body lasts = absurd lasts
 lasting (Live seq sum) lifetime body lasts = refl
 lasting (Dead seq) lifetime body lasts = absurd lasts
 
-alive_says : (o : Option Entry) → IsAlive o → content_held o ≡ Some (content_in (tlvs_of_body (body_in o)))
+alive_says : (o : Option Entry) → IsAlive o → content_in_entry o ≡ Some (content_in (tlvs_of_body (body_in o)))
 alive_says None alive = absurd alive
 alive_says (Some e) alive = lasting e.version e.lifetime e.body alive
 
@@ -181,6 +181,6 @@ tlvs_said v = refl
 
 pub reads_itself : ReadsItself
 reads_itself v was fresh =
-    let says : content_held (own_entry v) ≡ Some (content_in (content_bytes (local_of v))) =
+    let says : content_in_entry (own_entry v) ≡ Some (content_in (content_bytes (local_of v))) =
     alive_says (own_entry v) (was.own.alive fresh) ∙ ap (λ (body : List ℕ). Some (content_in body)) (ap tlvs_of_body (was.own.said fresh) ∙ tlvs_said v) in
     contains_from_has (v.id.system, content_in (content_bytes (local_of v))) (contents_of v) (held_read v.database v.id.system (content_in (content_bytes (local_of v))) (own_entry v) refl says)

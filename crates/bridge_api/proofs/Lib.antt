@@ -26,8 +26,16 @@ pub mod GraphRead
 pub mod ServingPorts
 pub mod Serving
 pub mod OwnPorts
+pub mod Growing
+pub mod OwnTables
 pub mod FewHeld
 pub mod FewSent
 pub mod Time
 pub mod TimeLsps
 pub mod TimeOwn
+pub mod HeldIds
+pub mod Learning
+pub mod Answering
+pub mod Originating
+pub mod OthersRead
+pub mod SaidNeighbours

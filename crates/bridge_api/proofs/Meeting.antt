@@ -157,7 +157,7 @@ neighbours_come_up again c d whole_c whole_d ports_c ports_d apart =
 -- ---- two bridges
 
 -- a bridge of one port, with this last byte of its address
-abbrev small : ℕ → BridgeConfig
+abbrev pub small : ℕ → BridgeConfig
 small n = record {
   id = record { priority = 32768; system = record { mac = record { bytes = 2 ∷ 0 ∷ 0 ∷ 0 ∷ 0 ∷ n ∷ [] } } };
   source = record { value = n };
@@ -167,7 +167,7 @@ small n = record {
   attached = [];
 }
 
-small_whole : (n : ℕ) → n < 256 → IsWhole (small n)
+pub small_whole : (n : ℕ) → n < 256 → IsWhole (small n)
 small_whole n low = record {
   ports = omega arith;
   metrics = refl;

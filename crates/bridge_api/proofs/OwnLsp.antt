@@ -98,10 +98,10 @@ heard_alive rule leaves up own id a r held false within mine alive fresh = leave
 own_system : (system : SystemId) → same_system system system ≡ true
 own_system system = (bytes_eq-Decides system.mac.bytes system.mac.bytes).1 refl
 
-system_mine : (own : Own) (id : LspId) → id ≡ own_id own.system → same_system id.system own.system ≡ true
+pub system_mine : (own : Own) (id : LspId) → id ≡ own_id own.system → same_system id.system own.system ≡ true
 system_mine own id is = subst (λ (x : LspId). same_system x.system own.system ≡ true) (sym is) (own_system own.system)
 
-originated_mine : (own : Own) (id : LspId) → id ≡ own_id own.system → is_originated own.system id ≡ true
+pub originated_mine : (own : Own) (id : LspId) → id ≡ own_id own.system → is_originated own.system id ≡ true
 originated_mine own id is = subst (λ (x : LspId). is_originated own.system x ≡ true) (sym is) (ap (λ b. b && true) (own_system own.system))
 
 -- where there is a place, the own LSP is as the claim makes it

@@ -54,12 +54,12 @@ Lives v = v.spent ≡ false → IsAlive (own_entry v)
 -- ---- what the bridge has to say
 
 -- it isn't changed by what is held
-held_body : (h : Holding) (v : BridgeView) → body_of (with_holding h v) ≡ body_of v
+pub held_body : (h : Holding) (v : BridgeView) → body_of (with_holding h v) ≡ body_of v
 unfolding body_of
 held_body h v = refl
 
 -- nor by ports with the same neighbours
-moved_body : (ports : List BridgePort) (db : Lsps) (v : BridgeView) → neighbours_from 1 ports ≡ neighbours_from 1 v.ports → body_of (record v { ports = ports; database = db }) ≡ body_of v
+pub moved_body : (ports : List BridgePort) (db : Lsps) (v : BridgeView) → neighbours_from 1 ports ≡ neighbours_from 1 v.ports → body_of (record v { ports = ports; database = db }) ≡ body_of v
 unfolding body_of
 moved_body ports db v same =
     ap (λ (list : List Neighbour). 1 ∷ content_bytes (record { config = record { id = v.id; source = v.source; vids = v.vids }; neighbours = list; attached = map (member_of v.id.system) v.attached })) same

@@ -23,7 +23,7 @@ use Rattle.spb_content.proofs.Members.{Has, contains_from_has}
 use Rattle.bridge_api.specs.declared.port.BridgePort.{BridgePort}
 use Rattle.bridge_api.specs.View.{BridgeView, is_port_up}
 use Rattle.bridge_api.specs.Own.{neighbour_in, neighbours_from, local_of, own_entry, body_of}
-use Rattle.bridge_api.specs.Graph.{live_content, content_held, contents_of, OwnPortsAreApart}
+use Rattle.bridge_api.specs.Graph.{live_content, content_in_entry, contents_of, OwnPortsAreApart}
 use Rattle.bridge_api.specs.Laws.{CanSay}
 use Rattle.bridge_api.proofs.GraphRead.{reads_what_is_held, tlvs_said}
 
@@ -118,11 +118,11 @@ live_is Absent body c is = absurd cc
 live_is (Live seq sum) body c is = cc
 live_is (Dead seq) body c is = absurd cc
 
-held_is : (o : Option Entry) (c : Content) → content_held o ≡ Some c → content_in (tlvs_of_body (body_in o)) ≡ c
+held_is : (o : Option Entry) (c : Content) → content_in_entry o ≡ Some c → content_in (tlvs_of_body (body_in o)) ≡ c
 held_is None c is = absurd cc
 held_is (Some e) c is = live_is e.version e.body c is
 
 pub own_ports_are_apart : OwnPortsAreApart
 own_ports_are_apart v was c is =
-    let held : content_held (own_entry v) ≡ Some c = (reads_what_is_held v v.id.system c).0 (contains_from_has (v.id.system, c) (contents_of v) (said_has v.id.system (contents_of v) c is)) in
+    let held : content_in_entry (own_entry v) ≡ Some c = (reads_what_is_held v v.id.system c).0 (contains_from_has (v.id.system, c) (contents_of v) (said_has v.id.system (contents_of v) c is)) in
     subst HasPorts (held_is (own_entry v) c held) was.own.text

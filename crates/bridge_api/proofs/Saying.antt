@@ -57,7 +57,7 @@ has_different n (m ∷ ns) h = different_at n m ns (list_any (nat_eq m) ns) refl
 
 -- ---- base VIDs
 
-vids_are_apart : (plans : List VidPlan) → ArePairwise (λ x y. x ≢ y) (vids_of plans) → AreVidsApart plans
+pub vids_are_apart : (plans : List VidPlan) → ArePairwise (λ x y. x ≢ y) (vids_of plans) → AreVidsApart plans
 vids_are_apart [] apart = tt
 vids_are_apart (p ∷ plans) apart = (unmapped _ (λ plan. plan.vid.value) plans apart.0, vids_are_apart plans apart.1)
 

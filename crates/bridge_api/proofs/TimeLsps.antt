@@ -176,7 +176,7 @@ refreshed_others w id apart = others_by (w.spent || (is_said w && not (is_old (o
 pub second_holds : (v : BridgeView) (id : LspId) → but_for_ssn (get (step second v).database id) ≡ but_for_ssn (get (readied v).database id)
 second_holds v id = ap (λ (w : BridgeView). but_for_ssn (get w.database id)) (tick_is v) ∙ held_from 1 (readied v).ports (readied v).database id
 
-second_ages : (v : BridgeView) (id : LspId) → id ≢ own_id v.id.system → but_for_ssn (get (step second v).database id) ≡ but_for_ssn (option_map (older (up_ports (counts_lowered v)) (leaving_from 1 v.ports)) (get v.database id))
+pub second_ages : (v : BridgeView) (id : LspId) → id ≢ own_id v.id.system → but_for_ssn (get (step second v).database id) ≡ but_for_ssn (option_map (older (up_ports (counts_lowered v)) (leaving_from 1 v.ports)) (get v.database id))
 second_ages v id apart = second_holds v id ∙ ap but_for_ssn (refreshed_others (expired (counts_lowered v)) id apart ∙ expired_holds v id)
 
 pub seconds_age : SecondsAge

@@ -36,7 +36,7 @@ use Rattle.bridge_api.specs.Duties.{but_for_ssn}
 use Rattle.bridge_api.specs.Ticking.{later, leaving_from, counts_lowered, expired, is_old, refreshed, readied, after_sending_at, after_sending_from}
 use Rattle.bridge_api.specs.Step.{second, step}
 use Rattle.bridge_api.specs.Laws.{IsSoundView}
-use Rattle.bridge_api.specs.Time.{seconds, AgedFrom, IsLasting, IsDead, own_number, StandsStill, IsRenewed, SecondsStandStill, SecondsRenew, IsSpent, SecondsSpend, SpentStandsStill, SaysTheSame, OwnLspLasts, OwnLspIsRenewed, IsAlone, AloneStaysAlone, IsAtNumber, EveryNineHundred}
+use Rattle.bridge_api.specs.Time.{seconds, AgedFrom, IsLasting, IsDead, own_sequence_number, StandsStill, IsRenewed, SecondsStandStill, SecondsRenew, IsSpent, SecondsSpend, SpentStandsStill, SaysTheSame, OwnLspLasts, OwnLspIsRenewed, IsAlone, AloneStaysAlone, IsAtNumber, EveryNineHundred}
 use Rattle.bridge_api.proofs.Adjacent.{second_up, up_keeps}
 use Rattle.bridge_api.proofs.Certified.{steps_keep_bridge}
 use Rattle.bridge_api.proofs.Changes.{with_and_parts, ticked, tick_is, tick_ports, tick_port, tick_rest, when_true, when_false}
@@ -73,7 +73,7 @@ live_by Absent lifetime lasts = absurd lasts
 live_by (Live seq sum) lifetime lasts = (refl, lasts.0)
 live_by (Dead seq) lifetime lasts = absurd lasts
 
-live_in : (o : Option Entry) → IsAlive o → (is_live (version_in o) ≡ true) × (301 ≤ lifetime_in o)
+pub live_in : (o : Option Entry) → IsAlive o → (is_live (version_in o) ≡ true) × (301 ≤ lifetime_in o)
 live_in None alive = absurd alive
 live_in (Some e) alive = live_by e.version e.lifetime alive
 
@@ -109,7 +109,7 @@ fell v left was fresh count =
 
 -- ---- a second that originates nothing
 
-said_as : (w : BridgeView) → body_in (own_entry w) ≡ body_of w → is_said w ≡ true
+pub said_as : (w : BridgeView) → body_in (own_entry w) ≡ body_of w → is_said w ≡ true
 unfolding is_said
 said_as w same = (bytes_eq-Decides (body_in (own_entry w)) (body_of w)).1 same
 
@@ -164,13 +164,13 @@ unfolding refreshed
 refreshed_renews w fresh why =
     when_false (w.spent || (is_said w && not (is_old (own_entry w)))) w (originating w) (renews_at w.spent (is_said w) (is_old (own_entry w)) fresh why)
 
-originating_renews : (w : BridgeView) → w.spent ≡ false → is_live (version_in (own_entry w)) ≡ true → own_number w < last_number
-    → (own_entry (originating w) ≡ Some (renewed (up_ports w) (own_of w) (own_number w + 1))) × ((originating w).spent ≡ w.spent)
+originating_renews : (w : BridgeView) → w.spent ≡ false → is_live (version_in (own_entry w)) ≡ true → own_sequence_number w < last_number
+    → (own_entry (originating w) ≡ Some (renewed (up_ports w) (own_of w) (own_sequence_number w + 1))) × ((originating w).spent ≡ w.spent)
 originating_renews w fresh live below =
     let up : PortSet = up_ports w in
     let h : Holding = holding_of w in
     let there : fits w.database (own_id w.id.system) ≡ true = fits_own w (present_by (version_in (own_entry w)) live) in (
-      originated_stands up h fresh there ∙ ap (λ b. Some (if b then renewed up h.own (own_number w + 1) else spent_entry up (own_number w) (own_entry w))) (lt-ltb (own_number w) last_number below),
+      originated_stands up h fresh there ∙ ap (λ b. Some (if b then renewed up h.own (own_sequence_number w + 1) else spent_entry up (own_sequence_number w) (own_entry w))) (lt-ltb (own_sequence_number w) last_number below),
       ap (λ (own : Own). own.spent) (origination_is_not_spent up h below),
     )
 
@@ -208,16 +208,16 @@ why_less : (v : BridgeView) (left : ℕ) → lifetime_in (own_entry v) ≡ left 
 why_less v left count (inl few) = inl (omega (arith, count, few))
 why_less v left count (inr changed) = inr changed
 
-renewing : (v : BridgeView) (left : ℕ) → IsSoundView v → v.spent ≡ false → own_number v < last_number → lifetime_in (own_entry v) ≡ left + 1 → (left ≤ 300) ⊎ (body_of (step second v) ≢ body_of v) → IsRenewed v (step second v)
+renewing : (v : BridgeView) (left : ℕ) → IsSoundView v → v.spent ≡ false → own_sequence_number v < last_number → lifetime_in (own_entry v) ≡ left + 1 → (left ≤ 300) ⊎ (body_of (step second v) ≢ body_of v) → IsRenewed v (step second v)
 renewing v left was fresh below count why =
     let w : BridgeView = expired (counts_lowered v) in
     let u : BridgeView = originating w in
     let id : LspId = own_id v.id.system in
     let f : Fell left v w = fell v left was fresh count in
     let renews : readied v ≡ u = refreshed_renews w fresh (why_by v w left f (expired_says v) why) in
-    let number : own_number w ≡ own_number v = ap number_of f.lasts.version in
+    let number : own_sequence_number w ≡ own_sequence_number v = ap number_of f.lasts.version in
     let made = originating_renews w fresh f.live (omega (arith, number, below)) in
-    let new : Entry = renewed (up_ports w) (own_of w) (own_number w + 1) in
+    let new : Entry = renewed (up_ports w) (own_of w) (own_sequence_number w + 1) in
     let held : get (after_sending_from 1 (readied v).ports (readied v).database) id ≡ Some new =
     untold_from 1 (readied v).ports (readied v).database id new refl (ap (λ (x : BridgeView). get x.database id) renews ∙ made.0) in
     let system : w.id.system ≡ (step second v).id.system = ap (λ x. x.system) (sym (steps_keep_bridge second v).id) in
@@ -226,7 +226,7 @@ renewing v left was fresh below count why =
           second_own v
           ∙ (ap (λ (x : BridgeView). get x.database id) (tick_is v)
           ∙ (held
-          ∙ ap (λ (e : Entry). Some e) (renewed_as (up_ports w) (up_ports (step second v)) (own_of w) (own_of (step second v)) (own_number w + 1) (own_number v + 1) (sym (up_second v)) system (expired_says v) (ap (λ n. n + 1) number))));
+          ∙ ap (λ (e : Entry). Some e) (renewed_as (up_ports w) (up_ports (step second v)) (own_of w) (own_of (step second v)) (own_sequence_number w + 1) (own_sequence_number v + 1) (sym (up_second v)) system (expired_says v) (ap (λ n. n + 1) number))));
       spent = second_spent v ∙ (ap (λ (x : BridgeView). x.spent) renews ∙ made.1);
     }
 
@@ -239,33 +239,33 @@ seconds_renew v was fresh below why =
 
 -- ---- the last number
 
-originating_spends : (w : BridgeView) → w.spent ≡ false → is_live (version_in (own_entry w)) ≡ true → last_number ≤ own_number w
-    → (own_entry (originating w) ≡ Some (spent_entry (up_ports w) (own_number w) (own_entry w))) × ((originating w).spent ≡ true)
+originating_spends : (w : BridgeView) → w.spent ≡ false → is_live (version_in (own_entry w)) ≡ true → last_number ≤ own_sequence_number w
+    → (own_entry (originating w) ≡ Some (spent_entry (up_ports w) (own_sequence_number w) (own_entry w))) × ((originating w).spent ≡ true)
 unfolding originated
 originating_spends w fresh live past =
     let up : PortSet = up_ports w in
     let h : Holding = holding_of w in
     let there : fits w.database (own_id w.id.system) ≡ true = fits_own w (present_by (version_in (own_entry w)) live) in
-    let last : nat_lt (own_number w) last_number ≡ false = le-ltb (own_number w) last_number past in (
-      originated_stands up h fresh there ∙ ap (λ b. Some (if b then renewed up h.own (own_number w + 1) else spent_entry up (own_number w) (own_entry w))) last,
+    let last : nat_lt (own_sequence_number w) last_number ≡ false = le-ltb (own_sequence_number w) last_number past in (
+      originated_stands up h fresh there ∙ ap (λ b. Some (if b then renewed up h.own (own_sequence_number w + 1) else spent_entry up (own_sequence_number w) (own_entry w))) last,
       ap (λ b. (if b then h else originated_from up (own_entry w) h).own.spent) fresh ∙ ap (λ b. (if b then h.own else record h.own { spent = true }).spent) last,
     )
 
-spending : (v : BridgeView) (left : ℕ) → IsSoundView v → v.spent ≡ false → last_number ≤ own_number v → lifetime_in (own_entry v) ≡ left + 1 → (left ≤ 300) ⊎ (body_of (step second v) ≢ body_of v) → IsSpent v (step second v)
+spending : (v : BridgeView) (left : ℕ) → IsSoundView v → v.spent ≡ false → last_number ≤ own_sequence_number v → lifetime_in (own_entry v) ≡ left + 1 → (left ≤ 300) ⊎ (body_of (step second v) ≢ body_of v) → IsSpent v (step second v)
 spending v left was fresh past count why =
     let w : BridgeView = expired (counts_lowered v) in
     let id : LspId = own_id v.id.system in
     let f : Fell left v w = fell v left was fresh count in
     let spends : readied v ≡ originating w = refreshed_renews w fresh (why_by v w left f (expired_says v) why) in
-    let number : own_number w ≡ own_number v = ap number_of f.lasts.version in
+    let number : own_sequence_number w ≡ own_sequence_number v = ap number_of f.lasts.version in
     let made = originating_spends w fresh f.live (omega (arith, number, past)) in
-    let new : Option Entry = Some (spent_entry (up_ports w) (own_number w) (own_entry w)) in
+    let new : Option Entry = Some (spent_entry (up_ports w) (own_sequence_number w) (own_entry w)) in
     let held : but_for_ssn (get (step second v).database id) ≡ but_for_ssn new =
     second_holds v id ∙ ap but_for_ssn (ap (λ (x : BridgeView). get x.database id) spends ∙ made.0) in
-    let dead : IsDead (own_number w) (up_ports w) (get (step second v).database id) =
-    dead_same (get (step second v).database id) new held (own_number w) (up_ports w) (record { version = refl; lifetime = refl; body = refl; srm = refl }) in
+    let dead : IsDead (own_sequence_number w) (up_ports w) (get (step second v).database id) =
+    dead_same (get (step second v).database id) new held (own_sequence_number w) (up_ports w) (record { version = refl; lifetime = refl; body = refl; srm = refl }) in
     record {
-      own = subst (IsDead (own_number v) (up_ports (step second v))) (sym (second_own v)) (subst (λ n. IsDead n (up_ports (step second v)) (get (step second v).database id)) number (subst (λ (up : PortSet). IsDead (own_number w) up (get (step second v).database id)) (sym (up_second v)) dead));
+      own = subst (IsDead (own_sequence_number v) (up_ports (step second v))) (sym (second_own v)) (subst (λ n. IsDead n (up_ports (step second v)) (get (step second v).database id)) number (subst (λ (up : PortSet). IsDead (own_sequence_number w) up (get (step second v).database id)) (sym (up_second v)) dead));
       spent = second_spent v ∙ (ap (λ (x : BridgeView). x.spent) spends ∙ made.1);
     }
 
@@ -312,7 +312,7 @@ pub own_lsp_is_renewed : OwnLspIsRenewed
 own_lsp_is_renewed v k was fresh same count below =
     let u : BridgeView = seconds k v in
     let before : StandsStill 301 v u = own_lsp_lasts v k 301 was fresh same count (omega arith) in
-    let number : own_number u ≡ own_number v = ap number_of before.own.version in
+    let number : own_sequence_number u ≡ own_sequence_number v = ap number_of before.own.version in
     let renews : IsRenewed u (step second u) =
     seconds_renew u (seconds_sound k v was) (before.spent ∙ fresh) (omega (arith, number, below)) (inl (omega (arith, before.own.lifetime))) in
     subst (λ (w : BridgeView). IsRenewed v w) (sym (next_second k v)) (record {

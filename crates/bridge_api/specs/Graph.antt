@@ -1,21 +1,28 @@
 -- The graph that a bridge reads from the LSPs that it holds (RFC 6329, 15 and 16; IEEE 802.1aq, 28).
-use Rattle.std.specs.Prelude.{◌≡◌, ◌↔◌, ℕ, List, false, Option, Some, None, if◌then◌else◌, Contains}
+use Rattle.std.specs.Prelude.{◌≡◌, ◌↔◌, ℕ, ◌≤◌, List, [], length, true, false, Option, Some, None, if◌then◌else◌, Contains, ◌-◌, slice_get}
 use Rattle.std.specs.Option.{option_map}
 use Rattle.std.specs.List.{filter_map}
 use Rattle.std.specs.FinMap.{get, entries}
 use Rattle.spb_types.specs.declared.address.SystemId.{SystemId}
 use Rattle.spb_types.specs.declared.address.LspId.{LspId}
 use Rattle.spb_types.specs.declared.graph.Graph.{Graph}
-use Rattle.spb_types.specs.Graph.{IsDistinct}
+use Rattle.spb_types.specs.declared.tables.Tables.{Tables}
+use Rattle.spb_types.specs.declared.limits.TheConstants.{MOST_GRAPH_BRIDGES}
+use Rattle.spb_types.specs.Graph.{IsDistinct, IsValid}
+use Rattle.spb_tlvs.specs.declared.neighbours.Neighbour.{Neighbour}
 use Rattle.lsdb.specs.declared.version.Version.{Version}
 use Rattle.lsdb.specs.declared.version.Version.TheVariants.{Absent, Live, Dead}
 use Rattle.lsdb.specs.Entry.{Entry}
+use Rattle.lsdb.specs.Database.{Lsps, version_at}
+use Rattle.lsdb.specs.Time.{is_live}
 use Rattle.flooding.specs.Own.{own_id, is_originated, tlvs_of_body}
 use Rattle.spb_content.specs.declared.content.Content.{Content}
 use Rattle.spb_content.specs.Content.{content_in}
-use Rattle.spb_content.specs.Local.{content_bytes}
+use Rattle.spb_content.specs.Local.{content_bytes, said_by}
 use Rattle.spb_content.specs.Graph.{Contents, systems_in, IsGraphOf, HasOwnPorts}
-use Rattle.bridge_api.specs.View.{BridgeView}
+use Rattle.spb_content.specs.Building.{said_graph}
+use Rattle.fdb_build.specs.Tables.{unicast_rows}
+use Rattle.bridge_api.specs.View.{BridgeView, metrics_of, is_up_at, neighbour_at}
 use Rattle.bridge_api.specs.Own.{local_of}
 use Rattle.bridge_api.specs.Laws.{IsSoundView}
 
@@ -25,9 +32,13 @@ live_content Absent body = None
 live_content (Live seq sum) body = Some (content_in (tlvs_of_body body))
 live_content (Dead seq) body = None
 
-abbrev pub content_held : Option Entry → Option Content
-content_held None = None
-content_held (Some e) = live_content e.version e.body
+abbrev pub content_in_entry : Option Entry → Option Content
+content_in_entry None = None
+content_in_entry (Some e) = live_content e.version e.body
+
+-- what is held of a system says, if its LSP is live
+abbrev pub content_held : Lsps → SystemId → Option Content
+content_held db x = content_in_entry (get db (own_id x))
 
 -- of what is held, the LSPs that systems originate are read: pseudonode and number are 0
 abbrev pub read_entry : LspId × Entry → Option (SystemId × Content)
@@ -47,7 +58,7 @@ IsOwnGraph v g = IsGraphOf v.id.system (contents_of v) g
 -- it reads of each system what the live LSP says that it holds of that system, and of no other
 abbrev pub ReadsWhatIsHeld : Type 0
 ReadsWhatIsHeld = (v : BridgeView) (x : SystemId) (c : Content)
-    → Contains (contents_of v) (x, c) ↔ (content_held (get v.database (own_id x)) ≡ Some c)
+    → Contains (contents_of v) (x, c) ↔ (content_held v.database x ≡ Some c)
 
 -- and of each system once
 abbrev pub ReadsEachOnce : Type 0
@@ -58,6 +69,54 @@ abbrev pub ReadsItself : Type 0
 ReadsItself = (v : BridgeView) → IsSoundView v → v.spent ≡ false
     → Contains (contents_of v) (v.id.system, content_in (content_bytes (local_of v)))
 
--- and there each neighbour at a port of its own, also where they are spent
+-- a bridge holds of the system of another what that one holds: the same versions, and the same bodies of what is live
+pub record HoldsAs (v w : BridgeView) : Type 0 where
+  pub versions : (id : LspId) → id.system ≡ w.id.system → version_at v.database id ≡ version_at w.database id
+  pub bodies : (id : LspId) (d e : Entry) → id.system ≡ w.id.system → get v.database id ≡ Some d
+      → get w.database id ≡ Some e → is_live e.version ≡ true → d.body ≡ e.body
+
+-- and then it reads of that one what it has to say, if that one is sound and its sequence numbers aren't spent
+abbrev pub ReadsOthers : Type 0
+ReadsOthers = (v w : BridgeView) → IsSoundView w → w.spent ≡ false → HoldsAs v w
+    → Contains (contents_of v) (w.id.system, said_by (local_of w))
+
+-- of itself a sound bridge reads each neighbour at a port of its own, also where they are spent
 abbrev pub OwnPortsAreApart : Type 0
 OwnPortsAreApart = (v : BridgeView) → IsSoundView v → HasOwnPorts (contents_of v) v.id.system
+
+-- ---- whom it says to be its neighbours
+
+-- at the port that is named the bridge is Up, keeps a neighbour of the system, and has the metric
+pub record IsUpNeighbour (v : BridgeView) (n : Neighbour) : Type 0 where
+  pub up : is_up_at v n.port ≡ true
+  pub circuit : ℕ
+  pub kept : neighbour_at v n.port ≡ Some (n.system, circuit)
+  pub metric : slice_get (metrics_of v.ports) (n.port - 1) ≡ Some n.metric
+
+-- a bridge says those to be its neighbours, and no others
+abbrev pub SaysItsNeighbours : Type 0
+SaysItsNeighbours = (v : BridgeView) (n : Neighbour) → Contains (local_of v).neighbours n ↔ IsUpNeighbour v n
+
+-- ---- its tables
+
+-- the graph of all that it reads, reached or not
+abbrev pub read_graph : BridgeView → Graph
+read_graph v = said_graph (contents_of v)
+
+-- the tables of a bridge: its unicast rows in that graph (IEEE 802.1aq, 8.8 and 28.10). There are no group rows yet
+unfoldable pub own_tables : BridgeView → Tables
+own_tables v = record { unicast = unicast_rows (read_graph v) v.id.system v.vids; group = [] }
+
+-- what it doesn't reach says nothing: the rows are those in its own graph
+abbrev pub CutSaysNothing : Type 0
+CutSaysNothing = (v : BridgeView) (g : Graph)
+    → length (contents_of v) ≤ MOST_GRAPH_BRIDGES → IsOwnGraph v g → IsValid g
+    → unicast_rows g v.id.system v.vids ≡ unicast_rows (read_graph v) v.id.system v.vids
+
+-- there are such a bridge and graph
+pub record SomeGraphIsOwn : Type 0 where
+  pub bridge : BridgeView
+  pub graph : Graph
+  pub few : length (contents_of bridge) ≤ MOST_GRAPH_BRIDGES
+  pub own : IsOwnGraph bridge graph
+  pub valid : IsValid graph

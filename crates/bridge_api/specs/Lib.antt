@@ -13,3 +13,4 @@ pub mod Duties
 pub mod Graph
 pub mod Few
 pub mod Time
+pub mod Counting

@@ -119,8 +119,8 @@ LspsExpire = (v : BridgeView) (id : LspId) (seq sum k : ℕ) → id ≢ own_id v
 -- ---- the own LSP
 
 -- the number of the own LSP
-abbrev pub own_number : BridgeView → ℕ
-own_number v = number_of (version_in (own_entry v))
+abbrev pub own_sequence_number : BridgeView → ℕ
+own_sequence_number v = number_of (version_in (own_entry v))
 
 -- nothing was originated: the own LSP is as it was, with so much of its lifetime left
 pub record StandsStill (left : ℕ) (v w : BridgeView) : Type 0 where
@@ -130,7 +130,7 @@ pub record StandsStill (left : ℕ) (v w : BridgeView) : Type 0 where
 -- the own LSP was originated: it stands one number further, says for 1,200 seconds what the bridge then has to say, and
 -- is to be sent at every Up port
 pub record IsRenewed (v w : BridgeView) : Type 0 where
-  pub own : own_entry w ≡ Some (renewed (up_ports w) (own_of w) (own_number v + 1))
+  pub own : own_entry w ≡ Some (renewed (up_ports w) (own_of w) (own_sequence_number v + 1))
   pub spent : w.spent ≡ v.spent
 
 -- a second after which the bridge has the same to say, and the own lifetime is above 300, originates nothing
@@ -141,16 +141,16 @@ SecondsStandStill = (v : BridgeView) (left : ℕ) → IsSoundView v → v.spent 
 
 -- every other originates, unless the sequence numbers are spent
 abbrev pub SecondsRenew : Type 0
-SecondsRenew = (v : BridgeView) → IsSoundView v → v.spent ≡ false → own_number v < last_number
+SecondsRenew = (v : BridgeView) → IsSoundView v → v.spent ≡ false → own_sequence_number v < last_number
     → (lifetime_in (own_entry v) ≤ 301) ⊎ (body_of (step second v) ≢ body_of v) → IsRenewed v (step second v)
 
 -- past the last number its own LSP is dead instead, and its sequence numbers are spent
 pub record IsSpent (v w : BridgeView) : Type 0 where
-  pub own : IsDead (own_number v) (up_ports w) (own_entry w)
+  pub own : IsDead (own_sequence_number v) (up_ports w) (own_entry w)
   pub spent : w.spent ≡ true
 
 abbrev pub SecondsSpend : Type 0
-SecondsSpend = (v : BridgeView) → IsSoundView v → v.spent ≡ false → last_number ≤ own_number v
+SecondsSpend = (v : BridgeView) → IsSoundView v → v.spent ≡ false → last_number ≤ own_sequence_number v
     → (lifetime_in (own_entry v) ≤ 301) ⊎ (body_of (step second v) ≢ body_of v) → IsSpent v (step second v)
 
 -- and from then on no second originates
@@ -169,7 +169,7 @@ OwnLspLasts = (v : BridgeView) (k left : ℕ) → IsSoundView v → v.spent ≡ 
 
 abbrev pub OwnLspIsRenewed : Type 0
 OwnLspIsRenewed = (v : BridgeView) (k : ℕ) → IsSoundView v → v.spent ≡ false → SaysTheSame k v
-    → lifetime_in (own_entry v) ≡ 301 + k → own_number v < last_number → IsRenewed v (seconds (k + 1) v)
+    → lifetime_in (own_entry v) ≡ 301 + k → own_sequence_number v < last_number → IsRenewed v (seconds (k + 1) v)
 
 -- a bridge of which no port is Up
 abbrev pub IsAlone : BridgeView → Type 0
@@ -182,7 +182,7 @@ AloneStaysAlone = (v : BridgeView) (k : ℕ) → IsAlone v → IsAlone (seconds 
 -- so a bridge just configured and left to itself originates every 900 seconds: after 900 j and fewer than 900 seconds
 -- more, its own LSP is at number j + 1, and what is left of its lifetime is 1,200 less those seconds
 pub record IsAtNumber (seq left : ℕ) (v : BridgeView) : Type 0 where
-  pub number : own_number v ≡ seq
+  pub number : own_sequence_number v ≡ seq
   pub lifetime : lifetime_in (own_entry v) ≡ left
   pub spent : v.spent ≡ false
 

@@ -3,17 +3,19 @@ use crate::kind::Kind;
 use crate::outbox::Outbox;
 use adjacency::Adjacency;
 use lsdb::Held;
-use spb_types::NoMemory;
+use spb_types::{Mac, NoMemory, Tables, Vid};
 
 /// A bridge of the backbone, with its IS-IS control.
 ///
 /// A bridge is blank until `configure` is called, and each call but `kind`, `is_blank`, `is_failed` and `configure`
 /// has the condition that it isn't blank. A call that finds no memory leaves the bridge failed: from then on each call
 /// that can answer `NoMemory` answers it and changes nothing. What else a failed bridge's view says isn't told, and
-/// the outbox may have gained the first of that call's frames.
+/// the outbox may have gained the first of that call's frames. A question that finds no memory, which `tables` and
+/// `unicast_port` can, leaves the bridge as it was.
 pub trait Bridge: Drop {
-    ghost use Rattle.std.specs.Prelude.{◌≡◌, true, false, OnOk, OnErr, IsErr, Some};
+    ghost use Rattle.std.specs.Prelude.{◌≡◌, true, false, IfOk, OnOk, OnErr, IsErr, Some};
     ghost use Rattle.std.specs.Option.{option_map, option_copied};
+    ghost use Rattle.spb_types.specs.Tables.{unicast_in};
     ghost use Rattle.lsdb.specs.Database.{keyed};
     ghost use Rattle.bridge_api.specs.Shown.{Shown};
     ghost use Rattle.bridge_api.specs.View.{IsPort, is_csnp_due_at, adjacency_at, has_flags, entry_at};
@@ -21,6 +23,7 @@ pub trait Bridge: Drop {
     ghost use Rattle.bridge_api.specs.Hearing.{after_receive, with_carrier, with_metric};
     ghost use Rattle.bridge_api.specs.Ticking.{after_tick, sent_in_tick};
     ghost use Rattle.bridge_api.specs.Step.{with_wire, Gains};
+    ghost use Rattle.bridge_api.specs.Graph.{own_tables};
 
     /// What is seen of the box: its kind, whether it is blank, and the bridge in it.
     ghost shown: { Self → Shown };
@@ -125,6 +128,23 @@ pub trait Bridge: Drop {
     fn entry(&self, place: usize) -> Option<&Held>
         requires { (shown self.now).blank ≡ false }
         ensures { option_map keyed (option_copied result) ≡ entry_at (shown self.now).view place };
+
+    /// The tables of the bridge: for each of its base VIDs and each other bridge that it reaches over the LSPs that it
+    /// holds, the port towards that bridge, by ascending VID and address (IEEE 802.1aq, 8.8 and 28.10). There are no
+    /// group rows yet. It answers `NoMemory` where it finds none, and where the bridge is failed.
+    fn tables(&self) -> Result<Tables, NoMemory>
+        requires { (shown self.now).blank ≡ false }
+        ensures tables { IfOk result (λ t. t ≡ own_tables (shown self.now).view) }
+        ensures failed { (shown self.now).view.failed ≡ true → IsErr result };
+
+    /// The port by which frames to an address in a base VID leave, by the tables of the bridge; None exactly where they
+    /// have no row for both (IEEE 802.1aq, 8.8). It answers `NoMemory` where it finds none, and where the bridge is
+    /// failed.
+    fn unicast_port(&self, vid: Vid, mac: Mac) -> Result<Option<u8>, NoMemory>
+        requires { (shown self.now).blank ≡ false }
+        ensures port { IfOk result (λ port.
+            port ≡ unicast_in (own_tables (shown self.now).view).unicast vid mac) }
+        ensures failed { (shown self.now).view.failed ≡ true → IsErr result };
 }
 
 impl Bridge for Box<dyn Bridge> {
@@ -176,5 +196,13 @@ impl Bridge for Box<dyn Bridge> {
 
     fn entry(&self, place: usize) -> Option<&Held> {
         (**self).entry(place)
+    }
+
+    fn tables(&self) -> Result<Tables, NoMemory> {
+        (**self).tables()
+    }
+
+    fn unicast_port(&self, vid: Vid, mac: Mac) -> Result<Option<u8>, NoMemory> {
+        (**self).unicast_port(vid, mac)
     }
 }

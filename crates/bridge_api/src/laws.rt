@@ -2,8 +2,9 @@
 ghost use Rattle.bridge_api.specs.Laws.{ConfiguredIsSound, ConfiguredHasNoCarrier, ConfiguredHoldsOwn, SoundCanSay, StepsStaySound, StepsKeepBridge, StepsKeepCarrier, StepsKeepNeighbours, SentIsSound, OneHello, HellosAreHeard, SentWithCarrier, EnteringUpIsWhole, UpPortsAreUp, StepsCarryDatabase, NeighboursComeUp, SomeBridge};
 ghost use Rattle.bridge_api.specs.Duties.{SecondsServe, SecondsLeaveNothingDue};
 ghost use Rattle.bridge_api.specs.Few.{ConfiguredHoldsFew, StepsHoldFew, SecondsSendFew};
-ghost use Rattle.bridge_api.specs.Graph.{ReadsWhatIsHeld, ReadsEachOnce, ReadsItself, OwnPortsAreApart};
+ghost use Rattle.bridge_api.specs.Graph.{ReadsWhatIsHeld, ReadsEachOnce, ReadsItself, ReadsOthers, OwnPortsAreApart, SaysItsNeighbours, CutSaysNothing, SomeGraphIsOwn};
 ghost use Rattle.bridge_api.specs.Time.{NeighboursAreKept, NeighboursAreLost, KeepsSomebody, SecondsAge, LspsLast, LspsExpire, SecondsStandStill, SecondsRenew, SecondsSpend, SpentStandsStill, OwnLspLasts, OwnLspIsRenewed, AloneStaysAlone, EveryNineHundred};
+ghost use Rattle.bridge_api.specs.Counting.{StepsHoldIds, StepsLearn, StepsLearnVersions, StepsAnswer, StepsOriginate, StepsDontSpend, ConfiguredIsFar, SomeIsFar};
 
 use itag_frames::control_again;
 
@@ -50,12 +51,23 @@ pub fn seconds_serve_neighbours()
 {}
 
 /// A bridge reads its graph from the live LSPs that it holds, of each system what that says. A sound one reads of
-/// itself what it has to say, unless its sequence numbers are spent, and each neighbour at a port of its own.
+/// itself what it has to say, unless its sequence numbers are spent, and each neighbour at a port of its own. Of
+/// another sound one whose numbers aren't spent it reads what that one has to say, where it holds the same of its
+/// system. It says each neighbour at a port that is Up, with the metric there, and no other.
 pub fn graphs_are_read_from_what_is_held()
     ensures held { ReadsWhatIsHeld }
     ensures once { ReadsEachOnce }
     ensures own { ReadsItself }
+    ensures others { ReadsOthers }
+    ensures neighbours { SaysItsNeighbours }
     ensures ports { OwnPortsAreApart }
+{}
+
+/// What a bridge doesn't reach says nothing of its rows: in the graph that it reaches they are those of the graph of all
+/// that it reads. There are such bridges and graphs.
+pub fn cut_says_nothing()
+    ensures rows { CutSaysNothing }
+    ensures some { SomeGraphIsOwn }
 {}
 
 /// A port that is Up was so before with the same neighbour, or everything is to be sent there and nothing has SSN
@@ -118,4 +130,19 @@ pub fn own_lsps_are_renewed()
     ensures renewed { OwnLspIsRenewed }
     ensures alone { AloneStaysAlone }
     ensures every { EveryNineHundred }
+{}
+
+/// Sequence numbers rise by what is heard alone, but for what a bridge originates. An id is held by being claimed, or
+/// is an own one. An LSP of another system stays, is the one that came in, or is dead where confused ones met. An own
+/// one stands at most one number past what it answers, or else is originated once at most. Below the last number
+/// nothing spends it; there are such bridges.
+pub fn numbers_rise_by_what_is_heard()
+    ensures ids { StepsHoldIds }
+    ensures learn { StepsLearn }
+    ensures versions { StepsLearnVersions }
+    ensures answer { StepsAnswer }
+    ensures originate { StepsOriginate }
+    ensures fresh { StepsDontSpend }
+    ensures configured { ConfiguredIsFar }
+    ensures some { SomeIsFar }
 {}

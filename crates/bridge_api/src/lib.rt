@@ -17,7 +17,8 @@
 //!    in which a part that isn't kept yet is as after `configure`.
 //! 3. Do the work of each call in a private function, which answers by `?`. Where it answers `Ok`, its contract names
 //!    the view afterwards, such as `after_tick`, and the frames, such as `sent_in_tick`. The trait's call tests first
-//!    whether the bridge is failed, then calls that function, and marks the bridge failed where no memory was found.
+//!    whether the bridge is failed, then calls that function, and marks the bridge failed where no memory was found. A
+//!    question about tables tests the same, and marks nothing (`own_tables` of `specs/Graph.antt`).
 //! 4. What a step makes of the list of ports is said port by port: `later` and `with_csnp_due` for a tick,
 //!    `heard_hello_port` for a hello, `with_carrier_port` for carrier (`specs/Ports.antt`) and `with_port_metric` for a
 //!    metric. What it makes of the LSPs that are held is said part by part: `counts_lowered`, `expired`, `refreshed`
@@ -36,10 +37,11 @@ pub use config::BridgeConfig;
 pub use drop_reason::DropReason;
 pub use kind::Kind;
 pub use laws::{
-    bridges_are_sound, entering_up_is_whole, few_are_held_and_sent, frames_are_heard,
-    graphs_are_read_from_what_is_held, neighbours_come_up, own_lsps_are_renewed,
-    seconds_serve_neighbours, silent_lsps_expire, silent_neighbours_are_lost,
-    steps_carry_the_database, steps_keep_neighbours, steps_keep_the_bridge,
+    bridges_are_sound, cut_says_nothing, entering_up_is_whole, few_are_held_and_sent,
+    frames_are_heard, graphs_are_read_from_what_is_held, neighbours_come_up,
+    numbers_rise_by_what_is_heard, own_lsps_are_renewed, seconds_serve_neighbours,
+    silent_lsps_expire, silent_neighbours_are_lost, steps_carry_the_database,
+    steps_keep_neighbours, steps_keep_the_bridge,
 };
 pub use outbox::Outbox;
 pub use port::BridgePort;

@@ -28,6 +28,7 @@ use Rattle.bridge_api.specs.Hearing.{heard_as, heard_lsp, after_receive}
 use Rattle.bridge_api.proofs.Changes.{when_true, heard_is, deaf_is}
 use Rattle.bridge_control.specs.declared.machine.Machine.{Machine}
 use Rattle.bridge_control.specs.Machine.{view_of, IsCurrent, IsReady, CanOriginate, IsAfter, heard_by as heard_in, hears}
+use Rattle.bridge_control.proofs.Following.{alike_refl}
 use Rattle.bridge_control.proofs.Owning.{current_with}
 use Rattle.bridge_control.proofs.Putting.{got}
 
@@ -95,7 +96,7 @@ heard_can m h db own ready heard is = record {
 
 pub heard_current : (m : Machine) (h : Holding) (db : Lsps) (own : Own) → IsReady m → HasHeard m h → holding db own ≡ h → IsCurrent (record m { db = db; own = own })
 heard_current m h db own ready heard is =
-    current_with m m.ports db own ready.current (ap (λ (x : Holding). x.own.system) is ∙ heard.system) (ap (λ (x : Holding). x.own.body) is ∙ heard.body) refl
+    current_with m m.ports db own ready.current (ap (λ (x : Holding). x.own.system) is ∙ heard.system) (ap (λ (x : Holding). x.own.body) is ∙ heard.body) refl (alike_refl m.id.system 1 m.ports.items)
 
 pub lsp_heard : (m : Machine) (up : PortSet) (p : ℕ) (l : LspValue) → IsReady m → HasHeard m (hear_lsp_of up p l (holding m.db m.own))
 lsp_heard m up p l ready =
@@ -130,7 +131,7 @@ hears_lsp l p v port there up = hears_is (parsing.lsp l) p v port there ∙ when
 pub heard_lsp_path : (m : Machine) (up : PortSet) (p : ℕ) (l : LspValue) (db : Lsps) (own : Own) (port : BridgePort) → IsReady m → up ≡ up_from 1 m.ports.items → holding db own ≡ hear_lsp_of up p l (holding m.db m.own) → port_at (view_of m) p ≡ Some port → is_port_up port ≡ true → originated_if_changed (view_of (record m { db = db; own = own })) ≡ hears (parsing.lsp l) p (view_of m)
 heard_lsp_path m up p l db own port ready is_up is there has_carrier =
     let v : BridgeView = view_of m in
-    let whole : holding db own ≡ hear_lsp_of (up_ports v) p l (holding_of v) = is ∙ (λ i. hear_lsp_of (is_up i) p l (holding m.db (ready.current i))) in
+    let whole : holding db own ≡ hear_lsp_of (up_ports v) p l (holding_of v) = is ∙ (λ i. hear_lsp_of (is_up i) p l (holding m.db (ready.current.own i))) in
     ap (λ (h : Holding). originated_if_changed (with_holding h v)) whole ∙ sym (hears_lsp l p v port there has_carrier)
 
 -- a frame is heard at a port with carrier as what it is taken for

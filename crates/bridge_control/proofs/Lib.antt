@@ -1,11 +1,15 @@
 pub mod Loops
 pub mod Picked
 pub mod Wire
+pub mod Following
 pub mod Owning
 pub mod Configuring
 pub mod Sends
 pub mod Seconds
 pub mod Putting
+pub mod Foreign
 pub mod Heeding
+pub mod Refreshed
 pub mod Messages
 pub mod Keeping
+pub mod OwnTables

@@ -2,7 +2,6 @@
 use Rattle.std.proofs.Common.{◌≡◌, ◌<◌, ◌+◌, ℕ, zero, suc, Bool, List, [], ◌∷◌, ◌++◌, map, length, take, drop, refl, sym, ap, ◌∙◌, subst, arith, get_or, add-one}
 use Rattle.std.specs.Prelude.{slice_set}
 use Rattle.bridge_api.specs.declared.port.BridgePort.{BridgePort}
-use Rattle.bridge_api.specs.Ticking.{leaves}
 use Rattle.bridge_api.specs.Laws.{IsSoundPort}
 use Rattle.bridge_control.specs.Ports.{AreSoundPorts}
 
@@ -23,8 +22,8 @@ sound_nth (x ∷ ports) (suc i) d all within = sound_nth ports i d all.1 (omega 
 pub sound_next : (f : BridgePort → BridgePort) (ports list : List BridgePort) (i : ℕ) (d : BridgePort) → AreSoundPorts ports → i < length ports → list ≡ map f (take i ports) ++ drop i ports → IsSoundPort (get_or list i d)
 sound_next f ports list i d all within e = subst IsSoundPort (sym (still_next f ports list i d within e)) (sound_nth ports i d all within)
 
-pub leaves_next : (f : BridgePort → BridgePort) (ports list : List BridgePort) (i : ℕ) (d : BridgePort) (left : Bool) → i < length ports → list ≡ map f (take i ports) ++ drop i ports → left ≡ leaves (get_or list i d) → left ≡ leaves (get_or ports i d)
-leaves_next f ports list i d left within e is = is ∙ ap leaves (still_next f ports list i d within e)
+pub there_next : {X : Type 0} (g : BridgePort → X) (f : BridgePort → BridgePort) (ports list : List BridgePort) (i : ℕ) (d : BridgePort) (x : X) → i < length ports → list ≡ map f (take i ports) ++ drop i ports → x ≡ g (get_or list i d) → x ≡ g (get_or ports i d)
+there_next g f ports list i d x within e is = is ∙ ap g (still_next f ports list i d within e)
 
 -- changing it takes the loop one port on
 changed_suc : (f : BridgePort → BridgePort) (ports list : List BridgePort) (i : ℕ) (d : BridgePort) → i < length ports → list ≡ map f (take i ports) ++ drop i ports → slice_set list i (f (get_or list i d)) ≡ map f (take (suc i) ports) ++ drop (suc i) ports

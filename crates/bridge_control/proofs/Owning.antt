@@ -1,5 +1,5 @@
 -- What a machine says of itself, and what originating makes of it.
-use Rattle.std.proofs.Common.{◌≡◌, ◌≤◌, Bool, true, false, List, ◌∷◌, map, length, refl, sym, ap, ◌∙◌, arith}
+use Rattle.std.proofs.Common.{◌≡◌, ◌≤◌, Bool, true, false, List, ◌∷◌, map, length, refl, sym, ap, ◌∙◌, subst, arith}
 use Rattle.std.specs.Prelude.{not, ◌||◌, ◌&&◌, if◌then◌else◌}
 use Rattle.std.specs.Str.{bytes_eq}
 use Rattle.std.specs.FinMap.{get}
@@ -16,11 +16,12 @@ use Rattle.flooding.proofs.Owns.{origination_leaves_own}
 use Rattle.spb_content.specs.Local.{content_bytes}
 use Rattle.bridge_api.specs.declared.port.BridgePort.{BridgePort}
 use Rattle.bridge_api.specs.View.{BridgeView, up_from, up_ports}
-use Rattle.bridge_api.specs.Own.{neighbours_from, member_of, body_of, holding_of, with_holding, body_in, own_entry, is_said, originating, originated_if_changed}
+use Rattle.bridge_api.specs.Own.{neighbours_from, member_of, body_of, own_of, holding_of, with_holding, body_in, own_entry, is_said, originating, originated_if_changed}
 use Rattle.bridge_api.specs.Ticking.{is_old, refreshed}
 use Rattle.bridge_api.proofs.Data.{fits_own}
 use Rattle.bridge_control.specs.declared.machine.Machine.{Machine}
-use Rattle.bridge_control.specs.Machine.{view_of, IsCurrent, IsReady, CanOriginate, IsAfter}
+use Rattle.bridge_control.specs.Machine.{view_of, FollowsPorts, IsCurrent, IsReady, CanOriginate, IsAfter}
+use Rattle.bridge_control.proofs.Following.{AreAlike, alike_refl, follow_with}
 
 -- ---- what is said
 
@@ -32,15 +33,22 @@ said_alike v ports db spent same =
 
 pub some_body : (m : Machine) → IsCurrent m → 1 ≤ length m.own.body
 unfolding body_of
-some_body m current = let long : length m.own.body ≡ length (body_of (view_of m)) = ap (λ (o : Own). length o.body) current in omega (arith, long)
+some_body m current = let long : length m.own.body ≡ length (body_of (view_of m)) = ap (λ (o : Own). length o.body) current.own in omega (arith, long)
 
--- the body is kept where the neighbours are the same
+-- what is kept stays where the neighbours are the same, and hellos say the same
 pub current_with : (m : Machine) (ports : Vec BridgePort) (db : Lsps) (own : Own) → IsCurrent m → own.system ≡ m.own.system → own.body ≡ m.own.body → neighbours_from 1 ports.items ≡ neighbours_from 1 m.ports.items
-    → IsCurrent (record m { ports = ports; db = db; own = own })
-current_with m ports db own current system body same =
-    let s = system ∙ ap (λ (o : Own). o.system) current in
-    let b = body ∙ (ap (λ (o : Own). o.body) current ∙ sym (said_alike (view_of m) ports.items db own.spent same)) in
-    λ i. record { system = s i; body = b i; spent = own.spent }
+    → AreAlike m.id.system 1 m.ports.items ports.items → IsCurrent (record m { ports = ports; db = db; own = own })
+current_with m ports db own current system body same alike =
+    let s = system ∙ ap (λ (o : Own). o.system) current.own in
+    let b = body ∙ (ap (λ (o : Own). o.body) current.own ∙ sym (said_alike (view_of m) ports.items db own.spent same)) in
+    record { own = λ i. record { system = s i; body = b i; spent = own.spent }; ports = follow_with m ports db own current.ports alike }
+
+-- the body was made anew
+pub renewed_current : (m n : Machine) → FollowsPorts m → n ≡ record m { own = own_of (view_of m) } → IsCurrent n
+renewed_current m n follows is = subst IsCurrent (sym is) (record { own = refl; ports = record { hellos = follows.hellos; up = follows.up } })
+
+pub renewed_after : (m n : Machine) → FollowsPorts m → n ≡ record m { own = own_of (view_of m) } → IsAfter (view_of m) n
+renewed_after m n follows is = record { view = ap view_of is; current = renewed_current m n follows is }
 
 pub ready_can : (m : Machine) → IsReady m → CanOriginate m
 ready_can m ready = record { few = ready.sound.few; place = fits_own (view_of m) ready.sound.database.own }
@@ -53,20 +61,20 @@ after_same v w m same is = record { view = is.view ∙ same; current = is.curren
 pub originated_after : (m : Machine) (up : PortSet) (db : Lsps) (own : Own) → IsCurrent m → up ≡ up_from 1 m.ports.items → holding db own ≡ originated up (holding m.db m.own) → IsAfter (originating (view_of m)) (record m { db = db; own = own })
 originated_after m up db own current is_up is =
     let v : BridgeView = view_of m in
-    let whole : holding db own ≡ originated (up_ports v) (holding_of v) = is ∙ (λ i. originated (is_up i) (holding m.db (current i))) in
+    let whole : holding db own ≡ originated (up_ports v) (holding_of v) = is ∙ (λ i. originated (is_up i) (holding m.db (current.own i))) in
     let leaves = origination_leaves_own up (holding m.db m.own) in
     record {
       view = ap (λ (h : Holding). with_holding h v) whole;
-      current = current_with m m.ports db own current (ap (λ (h : Holding). h.own.system) is ∙ leaves.0) (ap (λ (h : Holding). h.own.body) is ∙ leaves.1) refl;
+      current = current_with m m.ports db own current (ap (λ (h : Holding). h.own.system) is ∙ leaves.0) (ap (λ (h : Holding). h.own.body) is ∙ leaves.1) refl (alike_refl m.id.system 1 m.ports.items);
     }
 
 -- whether the own LSP says what the bridge has to say, and is old, as the code asks
 pub code_said : (m : Machine) → IsCurrent m → bytes_eq (body_in (get m.db (own_id m.own.system))) m.own.body ≡ is_said (view_of m)
 unfolding is_said
-code_said m current = λ i. bytes_eq (body_in (get m.db (own_id (current i).system))) (current i).body
+code_said m current = λ i. bytes_eq (body_in (get m.db (own_id (current.own i).system))) (current.own i).body
 
 pub code_old : (m : Machine) → IsCurrent m → is_old (get m.db (own_id m.own.system)) ≡ is_old (own_entry (view_of m))
-code_old m current = λ i. is_old (get m.db (own_id (current i).system))
+code_old m current = λ i. is_old (get m.db (own_id (current.own i).system))
 
 -- the branch by what was asked
 choice : {X : Type 0} (b c : Bool) (x y : X) → b ≡ c → (if b then x else y) ≡ (if c then x else y)
@@ -112,13 +120,11 @@ originated_if_changed_anew m n current spent said is =
     after_same (originating v) (if v.spent || is_said v then v else originating v) n (sym (choice (v.spent || is_said v) false v (originating v) (or_neither v.spent (is_said v) spent (sym (said ∙ code_said m current))))) is
 
 -- the same with the age of the own LSP
-pub stands_at : (said old value : Bool) (m : Machine) → IsCurrent m → said ≡ bytes_eq (body_in (get m.db (own_id m.own.system))) m.own.body → old ≡ is_old (get m.db (own_id m.own.system)) → value ≡ (said && not old)
-    → (is_said (view_of m) && not (is_old (own_entry (view_of m)))) ≡ value
-stands_at said old value m current says olds is = sym (is ∙ (λ i. (says ∙ code_said m current) i && not ((olds ∙ code_old m current) i)))
+pub stands_by_age : (old : Bool) (m : Machine) → IsCurrent m → is_said (view_of m) ≡ true → old ≡ is_old (get m.db (own_id m.own.system)) → not old ≡ (is_said (view_of m) && not (is_old (own_entry (view_of m))))
+stands_by_age old m current says olds = λ i. sym says i && not ((olds ∙ code_old m current) i)
 
-pub differs_at : (value : Bool) (m : Machine) → IsCurrent m → false ≡ bytes_eq (body_in (get m.db (own_id m.own.system))) m.own.body → value ≡ false
-    → (is_said (view_of m) && not (is_old (own_entry (view_of m)))) ≡ value
-differs_at value m current says is = (λ i. sym (says ∙ code_said m current) i && not (is_old (own_entry (view_of m)))) ∙ sym is
+pub says_other : (m : Machine) → IsCurrent m → false ≡ bytes_eq (body_in (get m.db (own_id m.own.system))) m.own.body → false ≡ (is_said (view_of m) && not (is_old (own_entry (view_of m))))
+says_other m current says = λ i. (says ∙ code_said m current) i && not (is_old (own_entry (view_of m)))
 
 pub refreshed_spent : (m : Machine) → IsCurrent m → m.own.spent ≡ true → IsAfter (refreshed (view_of m)) m
 unfolding refreshed

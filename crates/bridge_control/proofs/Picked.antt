@@ -16,6 +16,7 @@ use Rattle.bridge_api.specs.View.{is_port_up}
 use Rattle.bridge_api.specs.Own.{neighbour_in, neighbours_from}
 use Rattle.bridge_api.specs.Ticking.{leaves, leaving_from, flags_cleared_at_all}
 use Rattle.spb_tlvs.specs.declared.neighbours.Neighbour.{Neighbour}
+use Rattle.bridge_control.specs.Ports.{loses, has_lost}
 
 -- what is picked at a port goes behind what was picked before
 behind : {X : Type 0} (b : Bool) (x : X) (old more new : List X) → new ≡ old ++ more → (if b then x ∷ new else new) ≡ (if b then x ∷ old else old) ++ more
@@ -114,9 +115,9 @@ or_none : (a : Bool) → (a || false) ≡ a
 or_none true = refl
 or_none false = refl
 
-pub some_next : (b : Bool) (ports : List BridgePort) (i : ℕ) (d : BridgePort) (old new : Bool) → i < length ports → b ≡ leaves (get_or ports i d) → old ≡ list_any leaves (take i ports) → new ≡ (if b then true else old) → new ≡ list_any leaves (take (i + 1) ports)
+pub some_next : (b : Bool) (ports : List BridgePort) (i : ℕ) (d : BridgePort) (old new : Bool) → i < length ports → b ≡ loses (get_or ports i d) → old ≡ has_lost (take i ports) → new ≡ (if b then true else old) → new ≡ has_lost (take (i + 1) ports)
 some_next b ports i d old new within is before after =
-    after ∙ (by b ∙ ((λ j. before j || is j) ∙ sym (list_any_more leaves ports i d within)))
+    after ∙ (by b ∙ ((λ j. before j || is j) ∙ sym (list_any_more loses ports i d within)))
   where
     by : (c : Bool) → (if c then true else old) ≡ (old || c)
     by true = sym (or_true old)

@@ -22,7 +22,7 @@ use Rattle.adjacency.specs.Hearing.{End, same_end, is_discarded}
 use Rattle.adjacency.specs.Adjacency.{is_up, after_hello_heard, after_hello, after_carrier, change_of, change_by_hello}
 use Rattle.bridge_api.specs.declared.port.BridgePort.{BridgePort}
 use Rattle.bridge_api.specs.View.{BridgeView, IsPort, port_in, port_at, with_port_at, is_port_up, has_carrier_in, has_carrier_at}
-use Rattle.bridge_api.specs.Own.{neighbour_in, neighbours_from, local_of, body_of, originated_if_changed}
+use Rattle.bridge_api.specs.Own.{neighbour_in, neighbours_from, local_of, body_of, own_of, originated_if_changed}
 use Rattle.bridge_api.specs.Config.{IsMetric}
 use Rattle.bridge_api.specs.Hearing.{with_adjacency, with_csnp_due, left_up, all_srm_set_at, entered_up, changed_at, with_carrier, with_port_metric, with_metric}
 use Rattle.bridge_api.specs.Laws.{IsSoundPort}
@@ -32,8 +32,8 @@ use Rattle.bridge_api.proofs.Places.{set_again}
 use Rattle.bridge_api.proofs.Saying.{is_local}
 use Rattle.bridge_api.proofs.SoundPorts.{AreSoundPorts, sound_at}
 use Rattle.bridge_control.specs.declared.machine.Machine.{Machine}
-use Rattle.bridge_control.specs.Machine.{view_of, IsReady, CanOriginate, IsAfter, CanPut, SaysTheSame}
-use Rattle.bridge_control.proofs.Owning.{said_alike, originated_if_changed_still, current_with, ready_can}
+use Rattle.bridge_control.specs.Machine.{view_of, FollowsPorts, IsCurrent, IsReady, CanOriginate, IsAfter, CanPut, IsPut, SaysTheSame}
+use Rattle.bridge_control.proofs.Owning.{said_alike, originated_if_changed_still, renewed_current, ready_can}
 
 -- ---- two ports of which the same is said
 
@@ -121,27 +121,39 @@ pub can_put : (m : Machine) (p : ℕ) (new : BridgePort) → IsReady m → IsPor
 can_put m p new ready is metric = record { port = is; can = ready_can m ready; current = ready.current; local = local_with m p new ready metric; own_lsp = ready.sound.own }
 
 -- a port that is kept: the own LSP says what the bridge has to say still
-pub kept_after : (m : Machine) (p : ℕ) (new : BridgePort) (ports : Vec BridgePort) → CanPut p new m → SaysTheSame p new m → ports.items ≡ slice_set m.ports.items (p - 1) new → IsAfter (originated_if_changed (with_port_at p new (view_of m))) (record m { ports = ports })
-kept_after m p new ports can same is =
-    let v : BridgeView = view_of m in
-    let w : BridgeView = with_port_at p new v in
-    let now : view_of (record m { ports = ports }) ≡ w = λ i. record v { ports = is i } in
-    let body = ap (λ (o : Own). o.body) can.current ∙ (sym same ∙ ap body_of (sym now)) in
-    let system = ap (λ (o : Own). o.system) can.current in
+pub kept_after : (m n : Machine) (p : ℕ) (new : BridgePort) → CanPut p new m → SaysTheSame p new m → IsPut p new m n → IsAfter (originated_if_changed (with_port_at p new (view_of m))) n
+kept_after m n p new can same is =
+    let w : BridgeView = with_port_at p new (view_of m) in
+    let says : own_of (view_of m) ≡ own_of w = λ i. record { system = m.id.system; body = sym same i; spent = m.own.spent } in
     record {
-      view = now ∙ originated_if_changed_still w (λ alive. can.own_lsp.said alive ∙ sym same);
-      current = λ i. record { system = system i; body = body i; spent = m.own.spent };
+      view = is.view ∙ originated_if_changed_still w (λ alive. can.own_lsp.said alive ∙ sym same);
+      current = record { own = is.own ∙ (can.current.own ∙ (says ∙ ap own_of (sym is.view))); ports = is.ports };
     }
+
+-- ---- a port that was put
+
+pub put_few : (m n : Machine) (p : ℕ) (new : BridgePort) → length m.ports.items ≤ 32 → IsPut p new m n → length n.ports.items ≤ 32
+put_few m n p new few is = omega (arith, few, ap (λ (v : BridgeView). length v.ports) is.view, length-set m.ports.items (p - 1) new)
+
+pub put_system : (m n : Machine) (p : ℕ) (new : BridgePort) → IsCurrent m → IsPut p new m n → n.own.system ≡ n.id.system
+put_system m n p new current is = ap (λ (o : Own). o.system) (is.own ∙ current.own) ∙ sym (ap (λ (v : BridgeView). v.id.system) is.view)
+
+put_place : (m n : Machine) (p : ℕ) (new : BridgePort) → IsPut p new m n → fits m.db (own_id m.id.system) ≡ true → fits n.db (own_id n.id.system) ≡ true
+put_place m n p new is place = ap (λ (v : BridgeView). fits v.database (own_id v.id.system)) is.view ∙ place
 
 -- ---- leaving and entering Up
 
 -- a port leaves Up
-pub left_local : (m : Machine) (p : ℕ) (new : BridgePort) (ports : Vec BridgePort) (db : Lsps) → CanPut p new m → ports.items ≡ slice_set m.ports.items (p - 1) (with_csnp_due false new) → IsLocal (local_of (view_of (record m { ports = ports; db = db })))
-left_local m p new ports db can is =
+left_view : (m n : Machine) (p : ℕ) (new : BridgePort) (db : Lsps) → IsPut p (with_csnp_due false new) m n → db ≡ each (λ id e. flags_cleared_at p e) n.db → view_of (record n { db = db }) ≡ left_up p new (view_of m)
+left_view m n p new db is parts =
+    (λ i. record (view_of n) { database = parts i }) ∙ ap (λ (v : BridgeView). record v { database = each (λ id e. flags_cleared_at p e) v.database }) is.view
+
+pub left_local : (m n : Machine) (p : ℕ) (new : BridgePort) (db : Lsps) → CanPut p new m → IsPut p (with_csnp_due false new) m n → db ≡ each (λ id e. flags_cleared_at p e) n.db → IsLocal (local_of (view_of (record n { db = db })))
+left_local m n p new db can is parts =
     let v : BridgeView = view_of m in
     let l = can.local in
-    let same : neighbours_from 1 ports.items ≡ neighbours_from 1 (slice_set v.ports (p - 1) new) = ap (neighbours_from 1) is ∙ alike_neighbours v.ports (p - 1) 1 (with_csnp_due false new) new (λ q rest. refl) in
-    record {
+    let same : neighbours_from 1 (slice_set v.ports (p - 1) (with_csnp_due false new)) ≡ neighbours_from 1 (slice_set v.ports (p - 1) new) = alike_neighbours v.ports (p - 1) 1 (with_csnp_due false new) new (λ q rest. refl) in
+    subst (λ (w : BridgeView). IsLocal (local_of w)) (sym (left_view m n p new db is parts)) (record {
       source = l.source;
       few_vids = l.few_vids;
       vids = l.vids;
@@ -150,14 +162,21 @@ left_local m p new ports db can is =
       attached = l.attached;
       one_vid = l.one_vid;
       few_isids = l.few_isids;
-    }
-
-pub left_can : (m n : Machine) (p : ℕ) (new : BridgePort) (ports : Vec BridgePort) (db : Lsps) (own : Own) → CanPut p new m → ports.items ≡ slice_set m.ports.items (p - 1) (with_csnp_due false new) → db ≡ each (λ id e. flags_cleared_at p e) m.db → n ≡ record m { ports = ports; db = db; own = own } → CanOriginate n
-left_can m n p new ports db own can is parts renewed =
-    subst CanOriginate (sym renewed) (record {
-      few = omega (arith, can.can.few, ap length is, length-set m.ports.items (p - 1) (with_csnp_due false new));
-      place = ap (λ (d : Lsps). fits d (own_id m.id.system)) parts ∙ (fits-each (λ id e. flags_cleared_at p e) m.db (own_id m.id.system) ∙ can.can.place);
     })
+
+pub left_can : (m n k : Machine) (p : ℕ) (new : BridgePort) (db : Lsps) (own : Own) → CanPut p new m → IsPut p (with_csnp_due false new) m n → db ≡ each (λ id e. flags_cleared_at p e) n.db → k ≡ record n { db = db; own = own } → CanOriginate k
+left_can m n k p new db own can is parts renewed =
+    subst CanOriginate (sym renewed) (record {
+      few = put_few m n p (with_csnp_due false new) can.can.few is;
+      place = ap (λ (d : Lsps). fits d (own_id n.id.system)) parts ∙ (fits-each (λ id e. flags_cleared_at p e) n.db (own_id n.id.system) ∙ put_place m n p (with_csnp_due false new) is can.can.place);
+    })
+
+pub left_current : (n k : Machine) (db : Lsps) → FollowsPorts n → k ≡ record n { db = db; own = own_of (view_of (record n { db = db })) } → IsCurrent k
+left_current n k db follows is = renewed_current (record n { db = db }) k (record { hellos = follows.hellos; up = follows.up }) is
+
+pub left_path : (m n k : Machine) (p : ℕ) (new : BridgePort) (db : Lsps) → IsPut p (with_csnp_due false new) m n → db ≡ each (λ id e. flags_cleared_at p e) n.db → k ≡ record n { db = db; own = own_of (view_of (record n { db = db })) }
+    → originated_if_changed (view_of k) ≡ originated_if_changed (left_up p new (view_of m))
+left_path m n k p new db is parts renewed = ap originated_if_changed (ap view_of renewed ∙ left_view m n p new db is parts)
 
 -- a port enters Up
 left_ports : (m n : Machine) (p : ℕ) (new : BridgePort) → IsAfter (originated_if_changed (left_up p new (view_of m))) n → n.ports.items ≡ slice_set m.ports.items (p - 1) (with_csnp_due false new)
@@ -166,14 +185,25 @@ left_ports m n p new after = ap (λ (v : BridgeView). v.ports) after.view ∙ or
 pub left_high : (m n : Machine) (p : ℕ) (new : BridgePort) → IsPort (view_of m) p → IsAfter (originated_if_changed (left_up p new (view_of m))) n → p ≤ length n.ports.items
 left_high m n p new is after = omega (arith, is.high, ap length (left_ports m n p new after), length-set m.ports.items (p - 1) (with_csnp_due false new))
 
-pub entering_after : (m n : Machine) (p : ℕ) (new : BridgePort) (ports : Vec BridgePort) (db : Lsps) → IsAfter (originated_if_changed (left_up p new (view_of m))) n → ports.items ≡ slice_set n.ports.items (p - 1) (with_csnp_due true new) → db ≡ each (λ id e. srm_set_at p e) n.db → IsAfter (entered_up p new (view_of m)) (record n { ports = ports; db = db })
-entering_after m n p new ports db after is joins =
+pub entering_port : (m n : Machine) (p : ℕ) (new : BridgePort) → IsPort (view_of m) p → IsAfter (originated_if_changed (left_up p new (view_of m))) n → IsPort (view_of n) p
+entering_port m n p new is after = record { low = is.low; high = left_high m n p new is after }
+
+pub entering_few : (m n : Machine) (p : ℕ) (new : BridgePort) → length m.ports.items ≤ 32 → IsAfter (originated_if_changed (left_up p new (view_of m))) n → length n.ports.items ≤ 32
+entering_few m n p new few after = omega (arith, few, ap length (left_ports m n p new after), length-set m.ports.items (p - 1) (with_csnp_due false new))
+
+pub entering_after : (m n k : Machine) (p : ℕ) (new : BridgePort) (db : Lsps) → IsAfter (originated_if_changed (left_up p new (view_of m))) n → IsPut p (with_csnp_due true new) n k → db ≡ each (λ id e. srm_set_at p e) k.db → IsAfter (entered_up p new (view_of m)) (record k { db = db })
+entering_after m n k p new db after is joins =
     let olds : List BridgePort = m.ports.items in
+    let due : List BridgePort = slice_set n.ports.items (p - 1) (with_csnp_due true new) in
     let before : n.ports.items ≡ slice_set olds (p - 1) (with_csnp_due false new) = left_ports m n p new after in
-    let now : ports.items ≡ slice_set olds (p - 1) (with_csnp_due true new) = is ∙ (ap (λ (items : List BridgePort). slice_set items (p - 1) (with_csnp_due true new)) before ∙ set-set olds (p - 1) (with_csnp_due false new) (with_csnp_due true new)) in
+    let now : due ≡ slice_set olds (p - 1) (with_csnp_due true new) = ap (λ (items : List BridgePort). slice_set items (p - 1) (with_csnp_due true new)) before ∙ set-set olds (p - 1) (with_csnp_due false new) (with_csnp_due true new) in
+    let same : neighbours_from 1 due ≡ neighbours_from 1 n.ports.items = ap (neighbours_from 1) now ∙ (alike_neighbours olds (p - 1) 1 (with_csnp_due true new) (with_csnp_due false new) (λ q rest. refl) ∙ sym (ap (neighbours_from 1) before)) in
+    let u : BridgeView = record (view_of n) { ports = due; database = each (λ id e. srm_set_at p e) n.db } in
+    let view : view_of (record k { db = db }) ≡ u = (λ i. record (view_of k) { database = joins i }) ∙ ap (λ (v : BridgeView). record v { database = each (λ id e. srm_set_at p e) v.database }) is.view in
+    let says : own_of (view_of n) ≡ own_of u = λ i. record { system = n.id.system; body = sym (said_alike (view_of n) due (each (λ id e. srm_set_at p e) n.db) n.own.spent same) i; spent = n.own.spent } in
     record {
-      view = (λ i. record (view_of n) { ports = is i; database = joins i }) ∙ ap (all_srm_set_at p new) after.view;
-      current = current_with n ports db n.own after.current refl refl (ap (neighbours_from 1) now ∙ (alike_neighbours olds (p - 1) 1 (with_csnp_due true new) (with_csnp_due false new) (λ q rest. refl) ∙ sym (ap (neighbours_from 1) before)));
+      view = view ∙ ap (all_srm_set_at p new) after.view;
+      current = record { own = is.own ∙ (after.current.own ∙ (says ∙ ap own_of (sym view))); ports = record { hellos = is.ports.hellos; up = is.ports.up } };
     }
 
 -- ---- a hello, a change of carrier and a metric
@@ -202,10 +232,15 @@ with_carrier_path v p on port new heard is there same did =
     let came : heard ≡ change_of port.adjacency (after_carrier on port.adjacency) = did ∙ ap (change_of port.adjacency) same in
     (λ i. changed_at (came i) p (with_adjacency (same i) port) v) ∙ sym (with_carrier_is v p on port is.low (got v p port is there))
 
-pub with_metric_local : (m : Machine) (p : ℕ) (new : BridgePort) (ports : Vec BridgePort) → IsReady m → IsMetric new.metric → ports.items ≡ slice_set m.ports.items (p - 1) new → IsLocal (local_of (view_of (record m { ports = ports })))
-with_metric_local m p new ports ready metric is = subst (λ (items : List BridgePort). IsLocal (local_of (record (view_of m) { ports = items }))) (sym is) (local_with m p new ready metric)
+pub with_metric_local : (m n : Machine) (p : ℕ) (new : BridgePort) → IsReady m → IsMetric new.metric → IsPut p new m n → IsLocal (local_of (view_of n))
+with_metric_local m n p new ready metric is = subst (λ (v : BridgeView). IsLocal (local_of v)) (sym is.view) (local_with m p new ready metric)
 
-pub with_metric_path : (m n : Machine) (p k : ℕ) (port : BridgePort) (ports : Vec BridgePort) (own : Own) → own.spent ≡ m.own.spent → IsPort (view_of m) p → port_at (view_of m) p ≡ Some port → ports.items ≡ slice_set m.ports.items (p - 1) (with_port_metric k port) → n ≡ record m { ports = ports; own = own } → originated_if_changed (view_of n) ≡ with_metric p k (view_of m)
-with_metric_path m n p k port ports own spent is there put renewed =
+pub with_metric_can : (m n k : Machine) (p : ℕ) (new : BridgePort) (own : Own) → IsReady m → IsPut p new m n → k ≡ record n { own = own } → CanOriginate k
+with_metric_can m n k p new own ready is renewed =
+    let can : CanOriginate m = ready_can m ready in
+    subst CanOriginate (sym renewed) (record { few = put_few m n p new can.few is; place = put_place m n p new is can.place })
+
+pub with_metric_path : (m n k : Machine) (p metric : ℕ) (port : BridgePort) → IsPort (view_of m) p → port_at (view_of m) p ≡ Some port → IsPut p (with_port_metric metric port) m n → k ≡ record n { own = own_of (view_of n) } → originated_if_changed (view_of k) ≡ with_metric p metric (view_of m)
+with_metric_path m n k p metric port is there put renewed =
     let v : BridgeView = view_of m in
-    ap (λ (x : Machine). originated_if_changed (view_of x)) renewed ∙ ((λ i. originated_if_changed (record v { ports = put i; spent = spent i })) ∙ sym (with_metric_is v p k port is.low (got v p port is there)))
+    ap originated_if_changed (ap view_of renewed ∙ put.view) ∙ sym (with_metric_is v p metric port is.low (got v p port is there))

@@ -1,13 +1,18 @@
 -- A second of a machine.
-use Rattle.std.proofs.Common.{◌≡◌, ◌≤◌, ◌+◌, ℕ, Bool, true, false, List, [], ◌∷◌, map, length, refl, sym, ap, ◌∙◌, subst, Option, Some, None, arith}
+use Rattle.std.proofs.Common.{◌≡◌, ◌≤◌, ◌+◌, ◌-◌, ℕ, Bool, true, false, List, [], ◌∷◌, map, length, refl, sym, ap, ◌∙◌, subst, Option, Some, None, arith}
 use Rattle.std.specs.Prelude.{not, ◌&&◌, ◌||◌, if◌then◌else◌}
 use Rattle.std.specs.Global.{Vec}
 use Rattle.std.proofs.lemmas.List.{length-map}
+use Rattle.std.proofs.lemmas.Slice.Eq.{bytes_eq-Decides}
 use Rattle.spb_types.specs.declared.address.SystemId.{SystemId}
 use Rattle.spb_types.specs.declared.ports.PortSet.{PortSet}
 use Rattle.spb_tlvs.specs.declared.neighbours.Neighbour.{Neighbour}
-use Rattle.lsdb.specs.Entry.{aged}
-use Rattle.lsdb.specs.Database.{Lsps, each, any_flags, fits}
+use Rattle.lsdb.specs.declared.version.Version.{Version}
+use Rattle.lsdb.specs.declared.version.Version.TheVariants.{Absent, Live, Dead}
+use Rattle.lsdb.specs.Entry.{Entry, aged}
+use Rattle.lsdb.specs.Database.{Lsps, each, any_flags, fits, version_in}
+use Rattle.lsdb.specs.Time.{lifetime_in, is_live}
+use Rattle.flooding.specs.declared.own.Own.{Own}
 use Rattle.flooding.specs.Own.{own_id}
 use Rattle.spb_content.specs.Local.{IsLocal}
 use Rattle.adjacency.specs.declared.port.Adjacency.{Adjacency}
@@ -18,73 +23,27 @@ use Rattle.adjacency.specs.Adjacency.{is_up, kept_in, neighbour_of, after_second
 use Rattle.flooding.specs.Entries.{AreSendable}
 use Rattle.snp_sync.specs.Sized.{AreSized}
 use Rattle.bridge_api.specs.declared.port.BridgePort.{BridgePort}
-use Rattle.bridge_api.specs.View.{BridgeView, is_port_up, up_from}
-use Rattle.bridge_api.specs.Own.{neighbour_in, neighbours_from, local_of, own_of}
+use Rattle.bridge_api.specs.View.{BridgeView, is_port_up, up_from, up_ports}
+use Rattle.bridge_api.specs.Own.{neighbour_in, neighbours_from, local_of, body_of, own_of, own_entry, body_in, is_said, Lasts, IsAlive}
 use Rattle.bridge_api.specs.Hearing.{with_csnp_due}
 use Rattle.bridge_api.specs.Ticking.{later, leaves, leaving_from, flags_cleared_at_all, counts_lowered, expired, readied, after_sending, after_sending_from, sent_from, after_tick, sent_in_tick}
 use Rattle.bridge_api.specs.Laws.{IsSoundView}
-use Rattle.bridge_api.proofs.Adjacent.{second_up}
+use Rattle.bridge_api.specs.Time.{IsLasting}
 use Rattle.bridge_api.proofs.Changes.{tick_is, readied_ports}
 use Rattle.bridge_api.proofs.SoundPorts.{all_later, config_kept}
 use Rattle.bridge_api.proofs.Saying.{is_local}
 use Rattle.bridge_api.proofs.Data.{Holds, lsps_of, fits_own, counts_lowered_keeps, expired_keeps, refreshed_keeps}
 use Rattle.bridge_api.proofs.DataSteps.{can_originate}
+use Rattle.bridge_api.proofs.TimeLsps.{older_lasts, expired_holds as expired_holds_at}
 use Rattle.bridge_control.specs.declared.machine.Machine.{Machine}
-use Rattle.bridge_control.specs.Machine.{view_of, IsCurrent, IsReady, CanOriginate, IsAfter}
-use Rattle.bridge_control.specs.Ports.{has_leaving}
-use Rattle.bridge_control.proofs.Owning.{current_with, after_same}
+use Rattle.bridge_control.specs.Machine.{view_of, hellos_from, FollowsPorts, IsReady, CanOriginate, IsAfter}
+use Rattle.bridge_control.specs.Ports.{has_lost}
+use Rattle.bridge_control.proofs.Following.{alike_refl, alike_later, alike_undue, neighbours_later}
+use Rattle.bridge_control.proofs.Owning.{said_alike, current_with, after_same, renewed_after}
 
--- ---- the neighbours that are left
-
-picked : (up : Bool) (n : Neighbour) (b : Bool) (m : Neighbour) (ns ms : List Neighbour) → up ≡ b → (b ≡ true → n ≡ m) → ns ≡ ms → (if up then n ∷ ns else ns) ≡ (if b then m ∷ ms else ms)
-picked true n true m ns ms e same rest = λ i. same refl i ∷ rest i
-picked true n false m ns ms e same rest = absurd cc
-picked false n true m ns ms e same rest = absurd cc
-picked false n false m ns ms e same rest = rest
-
-stays_up : (was now : Bool) → (was && not now) ≡ false → (now ≡ true → was ≡ true) → now ≡ was
-stays_up true true e back = refl
-stays_up true false e back = absurd cc
-stays_up false true e back = sym (back refl)
-stays_up false false e back = refl
-
-keeps_in : (s : AdjState) (n : End) → is_up s ≡ true → kept_in s n ≡ Some n
-keeps_in Down n up = absurd cc
-keeps_in Initializing n up = absurd cc
-keeps_in Up n up = refl
-
-pub up_keeps : (a : Adjacency) → is_up a.state ≡ true → neighbour_of a ≡ Some (a.neighbour, a.circuit)
-up_keeps a up = keeps_in a.state (a.neighbour, a.circuit) up
-
-pub same_neighbour : (a b : Adjacency) → is_up a.state ≡ true → is_up b.state ≡ true → neighbour_of b ≡ neighbour_of a → b.neighbour ≡ a.neighbour
-same_neighbour a b up still same =
-    let ends : Some (b.neighbour, b.circuit) ≡ Some (a.neighbour, a.circuit) = sym (up_keeps b still) ∙ (same ∙ up_keeps a up) in
-    ap end_system ends
-  where
-    end_system : Option End → SystemId
-    end_system None = a.neighbour
-    end_system (Some n) = n.0
-
-left_none : (a b : Bool) → (a || b) ≡ false → (a ≡ false) × (b ≡ false)
-left_none true b e = absurd cc
-left_none false b e = (refl, e)
-
--- a port that doesn't leave Up keeps its neighbour
-later_same : (q : ℕ) (port : BridgePort) → leaves port ≡ false → (is_port_up (later port) ≡ is_port_up port) × (is_port_up port ≡ true → neighbour_in q (later port) ≡ neighbour_in q port)
-later_same q port stays =
-    let same : is_port_up (later port) ≡ is_port_up port = stays_up (is_port_up port) (is_port_up (later port)) stays (λ up. (second_up port.adjacency up).0) in (
-      same,
-      λ up.
-          let still : is_port_up (later port) ≡ true = same ∙ up in
-          λ i. record { system = same_neighbour port.adjacency (after_second port.adjacency) up still (second_up port.adjacency still).1 i; metric = port.metric; port = q },
-    )
-
-neighbours_later : (q : ℕ) (ports : List BridgePort) → has_leaving ports ≡ false → neighbours_from q (map later ports) ≡ neighbours_from q ports
-neighbours_later q [] none = refl
-neighbours_later q (port ∷ ports) none =
-    let parts = left_none (leaves port) (has_leaving ports) none in
-    let here = later_same q port parts.0 in
-    picked (is_port_up (later port)) (neighbour_in q (later port)) (is_port_up port) (neighbour_in q port) _ _ here.0 here.1 (neighbours_later (q + 1) ports parts.1)
+neither : (a b : Bool) → (a || b) ≡ false → (a ≡ false) × (b ≡ false)
+neither true b e = absurd cc
+neither false b e = (refl, e)
 
 neighbours_undue : (q : ℕ) (ports : List BridgePort) → neighbours_from q (map (with_csnp_due false) ports) ≡ neighbours_from q ports
 neighbours_undue q [] = refl
@@ -102,27 +61,36 @@ few_later ports few = omega (arith, length-map ports later, few)
 pub counts_lowered_few : (m : Machine) (ports : Vec BridgePort) → IsReady m → ports.items ≡ map later m.ports.items → length ports.items ≤ 32
 counts_lowered_few m ports ready is = subst (λ (ps : List BridgePort). length ps ≤ 32) (sym is) (few_later m.ports.items ready.sound.few)
 
-pub counts_lowered_local : (m : Machine) (ports : Vec BridgePort) (db : Lsps) → IsReady m → ports.items ≡ map later m.ports.items → db ≡ each (λ id e. flags_cleared_at_all (leaving_from 1 m.ports.items) e) m.db
-    → IsLocal (local_of (view_of (record m { ports = ports; db = db })))
-counts_lowered_local m ports db ready is are =
+-- with no neighbour lost what is kept stays, and else it is made anew
+pub counts_lowered_same : (m : Machine) (ports : Vec BridgePort) (db : Lsps) → IsReady m → ports.items ≡ map later m.ports.items → db ≡ each (λ id e. flags_cleared_at_all (leaving_from 1 m.ports.items) e) m.db → has_lost m.ports.items ≡ false
+    → IsAfter (counts_lowered (view_of m)) (record m { ports = ports; db = db })
+counts_lowered_same m ports db ready is are none =
+    let alike = alike_later m.id.system m.ports.items none in
+    record {
+      view = counts_lowered_view m ports db is are;
+      current = current_with m ports db m.own ready.current refl refl (ap (neighbours_from 1) is ∙ neighbours_later m.ports.items none)
+          (record { hellos = ap (hellos_from m.id.system 1) is ∙ alike.hellos; up = ap (up_from 1) is ∙ alike.up });
+    }
+
+-- the machine n with the hellos made anew
+pub counts_lowered_view_anew : (m n : Machine) (ports : Vec BridgePort) (db : Lsps) → ports.items ≡ map later m.ports.items → db ≡ each (λ id e. flags_cleared_at_all (leaving_from 1 m.ports.items) e) m.db
+    → view_of n ≡ view_of (record m { ports = ports; db = db }) → view_of n ≡ counts_lowered (view_of m)
+counts_lowered_view_anew m n ports db is are same = same ∙ counts_lowered_view m ports db is are
+
+pub counts_lowered_local_anew : (m n : Machine) → IsReady m → view_of n ≡ counts_lowered (view_of m) → IsLocal (local_of (view_of n))
+counts_lowered_local_anew m n ready is =
     let v : BridgeView = view_of m in
-    subst (λ (w : BridgeView). IsLocal (local_of w)) (sym (counts_lowered_view m ports db is are))
+    subst (λ (w : BridgeView). IsLocal (local_of w)) (sym is)
     (is_local (counts_lowered v) (config_kept v (counts_lowered v) refl ready.sound.config) (few_later v.ports ready.sound.few) (all_later v.ports ready.sound.ports))
 
-counts_lowered_current : (m : Machine) (ports : Vec BridgePort) (db : Lsps) → IsReady m → ports.items ≡ map later m.ports.items → has_leaving m.ports.items ≡ false → IsCurrent (record m { ports = ports; db = db })
-counts_lowered_current m ports db ready is none = current_with m ports db m.own ready.current refl refl (ap (neighbours_from 1) is ∙ neighbours_later 1 m.ports.items none)
+pub counts_lowered_few_anew : (m n : Machine) → IsReady m → view_of n ≡ counts_lowered (view_of m) → length n.ports.items ≤ 32
+counts_lowered_few_anew m n ready is = subst (λ (w : BridgeView). length w.ports ≤ 32) (sym is) (few_later m.ports.items ready.sound.few)
 
--- with no neighbour lost the body stays, and else it is made anew
-renewed : (m n : Machine) → n ≡ record m { own = own_of (view_of m) } → IsAfter (view_of m) n
-renewed m n is = subst (λ (x : Machine). IsAfter (view_of m) x) (sym is) (record { view = refl; current = refl })
+pub counts_lowered_system_anew : (m n : Machine) → IsReady m → view_of n ≡ counts_lowered (view_of m) → n.own ≡ m.own → n.own.system ≡ n.id.system
+counts_lowered_system_anew m n ready is same = ap (λ (o : Own). o.system) (same ∙ ready.current.own) ∙ sym (ap (λ (v : BridgeView). v.id.system) is)
 
-pub counts_lowered_same : (m : Machine) (ports : Vec BridgePort) (db : Lsps) → IsReady m → ports.items ≡ map later m.ports.items → db ≡ each (λ id e. flags_cleared_at_all (leaving_from 1 m.ports.items) e) m.db → has_leaving m.ports.items ≡ false
-    → IsAfter (counts_lowered (view_of m)) (record m { ports = ports; db = db })
-counts_lowered_same m ports db ready is are none = record { view = counts_lowered_view m ports db is are; current = counts_lowered_current m ports db ready is none }
-
-pub counts_lowered_anew : (m n : Machine) (ports : Vec BridgePort) (db : Lsps) → ports.items ≡ map later m.ports.items → db ≡ each (λ id e. flags_cleared_at_all (leaving_from 1 m.ports.items) e) m.db
-    → n ≡ record m { ports = ports; db = db; own = own_of (view_of (record m { ports = ports; db = db })) } → IsAfter (counts_lowered (view_of m)) n
-counts_lowered_anew m n ports db is are anew = after_same _ (counts_lowered (view_of m)) n (counts_lowered_view m ports db is are) (renewed (record m { ports = ports; db = db }) n anew)
+pub counts_lowered_anew : (m n k : Machine) → FollowsPorts n → view_of n ≡ counts_lowered (view_of m) → k ≡ record n { own = own_of (view_of n) } → IsAfter (counts_lowered (view_of m)) k
+counts_lowered_anew m n k follows is anew = after_same _ (counts_lowered (view_of m)) k is (renewed_after n k follows anew)
 
 -- ---- the lifetimes fall
 
@@ -135,7 +103,7 @@ counts_lowered_after_few m n ready is = after_few (counts_lowered (view_of m)) n
 pub expired_after : (w : BridgeView) (m : Machine) (up : PortSet) (db : Lsps) → IsAfter w m → up ≡ up_from 1 m.ports.items → db ≡ each (λ id e. aged up e) m.db → IsAfter (expired w) (record m { db = db })
 expired_after w m up db is is_up are = record {
   view = (λ i. record (view_of m) { database = (are ∙ (λ j. each (λ id e. aged (is_up j) e) m.db)) i }) ∙ ap expired is.view;
-  current = current_with m m.ports db m.own is.current refl refl refl;
+  current = current_with m m.ports db m.own is.current refl refl refl (alike_refl m.id.system 1 m.ports.items);
 }
 
 expired_holds : (v : BridgeView) → IsSoundView v → Holds (expired (counts_lowered v))
@@ -148,6 +116,39 @@ expired_can m n ready is =
       few = after_few w n (few_later m.ports.items ready.sound.few) is.view;
       place = subst (λ (u : BridgeView). fits u.database (own_id u.id.system) ≡ true) (sym is.view) (fits_own w (expired_holds (view_of m) ready.sound).own);
     }
+
+-- ---- the own LSP says what the bridge has to say where no neighbour is lost
+
+lives : (a : Version) (lifetime : ℕ) → Lasts a lifetime → (is_live a ≡ true) × (301 ≤ lifetime)
+lives Absent lifetime lasts = absurd lasts
+lives (Live seq sum) lifetime lasts = (refl, lasts.0)
+lives (Dead seq) lifetime lasts = absurd lasts
+
+lives_in : (o : Option Entry) → IsAlive o → (is_live (version_in o) ≡ true) × (301 ≤ lifetime_in o)
+lives_in None alive = absurd alive
+lives_in (Some e) alive = lives e.version e.lifetime alive
+
+older_says : (v : BridgeView) → IsSoundView v → v.spent ≡ false → body_in (own_entry (expired (counts_lowered v))) ≡ body_of v
+older_says v sound fresh =
+    let alive = lives_in (own_entry v) (sound.own.alive fresh) in
+    let left : ℕ = lifetime_in (own_entry v) - 1 in
+    let count : lifetime_in (own_entry v) ≡ left + 1 = omega (arith, alive.1) in
+    let lasts : IsLasting left (own_entry v) (own_entry (expired (counts_lowered v))) =
+    subst (IsLasting left (own_entry v)) (sym (expired_holds_at v (own_id v.id.system))) (older_lasts (up_ports (counts_lowered v)) (leaving_from 1 v.ports) (own_entry v) left alive.0 count (omega (arith, alive.1, count))) in
+    lasts.body ∙ sound.own.said fresh
+
+still_said : (v : BridgeView) → IsSoundView v → v.spent ≡ false → has_lost v.ports ≡ false → is_said (expired (counts_lowered v)) ≡ true
+unfolding is_said
+still_said v sound fresh none =
+    let w : BridgeView = expired (counts_lowered v) in
+    let same : body_of w ≡ body_of v = said_alike v (map later v.ports) w.database v.spent (neighbours_later v.ports none) in
+    (bytes_eq-Decides (body_in (own_entry w)) (body_of w)).1 (older_says v sound fresh ∙ sym same)
+
+pub idle_said : (m n : Machine) → IsReady m → IsAfter (expired (counts_lowered (view_of m))) n → has_lost m.ports.items ≡ false → n.own.spent ≡ false → is_said (view_of n) ≡ true
+idle_said m n ready is none fresh =
+    let v : BridgeView = view_of m in
+    let unspent : v.spent ≡ false = sym (ap (λ (w : BridgeView). w.spent) is.view) ∙ fresh in
+    ap is_said is.view ∙ still_said v ready.sound unspent none
 
 -- ---- the bridge that sends
 
@@ -167,14 +168,15 @@ readied_sized m n ready is = subst (λ (u : BridgeView). AreSized u.database) (s
 
 pub idle_by : (flags originated value : Bool) (db new : Lsps) → flags ≡ any_flags db → (originated ≡ false → new ≡ db) → value ≡ (flags || originated) → value ≡ false → any_flags new ≡ false
 idle_by flags originated value db new after_sending same is none =
-    let parts = left_none flags originated (sym is ∙ none) in
+    let parts = neither flags originated (sym is ∙ none) in
     ap any_flags (same parts.1) ∙ (sym after_sending ∙ parts.0)
 
 pub after_sending_after : (v : BridgeView) (m : Machine) (ports : Vec BridgePort) (db : Lsps) → IsAfter (readied v) m → ports.items ≡ map (with_csnp_due false) m.ports.items → db ≡ after_sending_from 1 m.ports.items m.db
     → IsAfter (after_tick v) (record m { ports = ports; db = db })
 after_sending_after v m ports db is undue are = record {
   view = (λ i. record (view_of m) { ports = undue i; database = are i }) ∙ (ap after_sending is.view ∙ sym (tick_is v));
-  current = current_with m ports db m.own is.current refl refl (ap (neighbours_from 1) undue ∙ neighbours_undue 1 m.ports.items);
+  current = current_with m ports db m.own is.current refl refl (ap (neighbours_from 1) undue ∙ neighbours_undue 1 m.ports.items)
+      (let alike = alike_undue m.id.system m.ports.items in record { hellos = ap (hellos_from m.id.system 1) undue ∙ alike.hellos; up = ap (up_from 1) undue ∙ alike.up });
 }
 
 pub tick_frames : (v : BridgeView) (m : Machine) → IsAfter (readied v) m → sent_from m.id.system 1 m.ports.items m.db ≡ sent_in_tick v

@@ -1,12 +1,14 @@
 -- What is sent at a port.
-use Rattle.std.proofs.Common.{◌≡◌, ◌≤◌, ◌<◌, ◌+◌, ℕ, zero, suc, Bool, true, false, List, [], ◌∷◌, ◌++◌, map, length, take, get_or, refl, sym, ap, ◌∙◌, subst, Option, arith, append_assoc}
-use Rattle.std.specs.Prelude.{if◌then◌else◌}
+use Rattle.std.proofs.Common.{◌≡◌, ◌≤◌, ◌<◌, ◌+◌, ℕ, zero, suc, Bool, true, false, List, [], ◌∷◌, ◌++◌, map, length, take, get_or, refl, sym, ap, ◌∙◌, subst, arith, append_assoc}
+use Rattle.std.specs.Prelude.{◌==◌, if◌then◌else◌}
 use Rattle.std.specs.List.{AllByRecursion}
 use Rattle.std.specs.Global.{Vec}
 use Rattle.std.proofs.lemmas.List.{append-nil}
 use Rattle.spb_types.specs.declared.address.SystemId.{SystemId}
 use Rattle.spb_types.specs.declared.address.LspId.{LspId}
+use Rattle.spb_types.specs.declared.ports.PortSet.{PortSet}
 use Rattle.spb_types.specs.Ports.{has}
+use Rattle.spb_types.proofs.PortLemmas.{has-without_port}
 use Rattle.isis_pdu.specs.Grammar.{IsId}
 use Rattle.isis_pdu.specs.Pdu.{CsnpValue, PsnpValue}
 use Rattle.isis_pdu.specs.Spelling.{lsp_bytes, csnp_bytes, psnp_bytes}
@@ -14,8 +16,8 @@ use Rattle.spb_tlvs.specs.declared.entries.SnpEntry.{SnpEntry}
 use Rattle.spb_tlvs.specs.RoundTrip.{IsEntry}
 use Rattle.itag_frames.specs.Frame.{control_bytes}
 use Rattle.lsdb.specs.Entry.{Entry, with_ssn}
-use Rattle.lsdb.specs.Database.{Lsps, any_flags, ssn_in}
-use Rattle.lsdb.proofs.Flags.{without_flags, none_to_send, none_to_ack}
+use Rattle.lsdb.specs.Database.{Lsps, is_srm_at, is_ssn_at}
+use Rattle.lsdb.proofs.Flags.{none_to_send_at, none_to_ack_at, none_each}
 use Rattle.flooding.specs.Entries.{IsSendable, AreSendable}
 use Rattle.flooding.specs.Sending.{lsp_in}
 use Rattle.flooding.proofs.SendableEntries.{flags_sendable}
@@ -27,16 +29,16 @@ use Rattle.snp_sync.proofs.Cuts.{chunks_none}
 use Rattle.snp_sync.proofs.Fields.{flags_keep_sized}
 use Rattle.snp_sync.proofs.Ranges.{csnp_chunks_are_short, csnp_chunks_end_at_ids, psnp_chunks_are_short}
 use Rattle.snp_sync.proofs.Said.{csnp_entries_are_sized, psnp_entries_are_sized}
+use Rattle.snp_sync.proofs.Silent.{none_cleared}
 use Rattle.snp_sync.proofs.Stays.{all_each}
 use Rattle.bridge_api.specs.declared.port.BridgePort.{BridgePort}
 use Rattle.bridge_api.specs.declared.outbox.Outbox.{Outbox}
 use Rattle.bridge_api.specs.View.{is_port_up}
 use Rattle.bridge_api.specs.Step.{with_wire}
-use Rattle.bridge_api.specs.Ticking.{lsp_frame, csnp_frame, psnp_frame, hellos_at, summaries_at, lsps_at, requests_at, synced_at, sent_at, sent_from, after_sending_at, after_sending_from}
+use Rattle.bridge_api.specs.Ticking.{hello_frame, lsp_frame, csnp_frame, psnp_frame, hellos_at, summaries_at, lsps_at, requests_at, synced_at, sent_at, sent_from, after_sending_at, after_sending_from}
 use Rattle.bridge_control.proofs.Wire.{ports_next, after_sending_next}
 use Rattle.bridge_api.proofs.Spelled.{lsp_short, csnp_short, psnp_short, chunk_short}
-use Rattle.bridge_control.specs.Frames.{frames_of, flagged_at}
-use Rattle.bridge_control.proofs.Picked.{each_same}
+use Rattle.bridge_control.specs.Frames.{hello_if, frames_of, flagged_at}
 
 -- ---- how long PDUs are
 
@@ -107,22 +109,16 @@ requests_are me p db pdus got same is = ap (λ (bs : List (List ℕ)). frames_of
 
 -- ---- where no flags stand
 
-no_lsps : (me : SystemId) (p : ℕ) (db : Lsps) → any_flags db ≡ false → lsps_at me p db ≡ []
-no_lsps me p db none = ap (λ (es : List (LspId × Entry)). map (λ l. (p, lsp_frame me l)) (map (λ e. lsp_in e.0 e.1) es)) (none_to_send db none p)
+pub no_lsps : (me : SystemId) (p : ℕ) (db : Lsps) → is_srm_at p db ≡ false → [] ≡ lsps_at me p db
+no_lsps me p db none = sym (ap (λ (es : List (LspId × Entry)). map (λ l. (p, lsp_frame me l)) (map (λ e. lsp_in e.0 e.1) es)) (none_to_send_at db p none))
 
-no_psnps : (me : SystemId) (p : ℕ) (db : Lsps) → any_flags db ≡ false → requests_at me p db ≡ []
-no_psnps me p db none =
-    ap (λ (es : List (LspId × Entry)). map (λ s. (p, psnp_frame me s)) (map (psnp_for me) (chunks 90 (map (λ e. snp_entry_of e.0 e.1) es)))) (none_to_ack db none p)
-    ∙ ap (λ (ps : List (List SnpEntry)). map (λ s. (p, psnp_frame me s)) (map (psnp_for me) ps)) (chunks_none 90)
+pub no_requests : (me : SystemId) (p : ℕ) (db : Lsps) → is_ssn_at p db ≡ false → [] ≡ requests_at me p db
+no_requests me p db none =
+    sym (ap (λ (es : List (LspId × Entry)). map (λ s. (p, psnp_frame me s)) (map (psnp_for me) (chunks 90 (map (λ e. snp_entry_of e.0 e.1) es)))) (none_to_ack_at db p none)
+    ∙ ap (λ (ps : List (List SnpEntry)). map (λ s. (p, psnp_frame me s)) (map (psnp_for me) ps)) (chunks_none 90))
 
-pub nothing_flagged : (me : SystemId) (p : ℕ) (db : Lsps) → any_flags db ≡ false → [] ≡ flagged_at me p db
-nothing_flagged me p db none = sym (λ i. no_lsps me p db none i ++ no_psnps me p db none i)
-
-pub originated_if_changed_idle : (p : ℕ) (db : Lsps) → any_flags db ≡ false → db ≡ all_ssn_cleared p db
-originated_if_changed_idle p db none =
-    sym (each_same (λ id e. ssn_cleared p e) db (λ id e held.
-    let off : has e.ssn p ≡ false = ap (λ (o : Option Entry). has (ssn_in o) p) (sym held) ∙ (without_flags db none id p).1 in
-    ap (λ (b : Bool). if b then with_ssn p false e else e) off))
+pub nothing_cleared : (p : ℕ) (db : Lsps) → is_ssn_at p db ≡ false → db ≡ all_ssn_cleared p db
+nothing_cleared p db none = none_cleared p db (ap (map (λ (e : LspId × Entry). snp_entry_of e.0 e.1)) (none_to_ack_at db p none))
 
 -- ---- a port
 
@@ -141,6 +137,10 @@ pub sent_up : (me : SystemId) (p : ℕ) (port : BridgePort) (db : Lsps) → is_p
 sent_up me p port db up =
     ap (λ (b : Bool). hellos_at me p port ++ (if b then summaries_at me p port db ++ lsps_at me p db ++ requests_at me p db else [])) up
     ∙ ap (λ (fs : List (ℕ × List ℕ)). hellos_at me p port ++ fs) (append_assoc (summaries_at me p port db) (lsps_at me p db) (requests_at me p db))
+
+-- the hello that is kept is sent
+pub said_hello : (me : SystemId) (p : ℕ) (port : BridgePort) (hello : List ℕ) (o new : Outbox) → hello ≡ hello_frame me p port → new ≡ with_wire (hello_if port.adjacency.carrier p hello) o → new ≡ with_wire (hellos_at me p port) o
+said_hello me p port hello o new is sent = sent ∙ ap (λ (h : List ℕ). with_wire (hello_if port.adjacency.carrier p h) o) is
 
 -- hellos alone come first
 pub sent_hello : (me : SystemId) (p : ℕ) (port : BridgePort) (db : Lsps) → sent_at me p port db ≡ hellos_at me p port ++ synced_at me p port db
@@ -164,24 +164,50 @@ pub after_sending_sized : (p : ℕ) (port : BridgePort) (db : Lsps) → AreSized
 after_sending_sized p port db all =
     after_sending_by AreSized (is_port_up port) p db all (all_each IsSized (λ id e. ssn_cleared p e) db all (λ id e s. originated_if_changed_by (IsSized id) (has e.ssn p) p e s (flags_keep_sized e.srm (with_ssn p false e).ssn id e s)))
 
-pub after_sending_idle : (p : ℕ) (port : BridgePort) (db : Lsps) → any_flags db ≡ false → any_flags (after_sending_at p port db) ≡ false
-after_sending_idle p port db none = after_sending_by (λ (x : Lsps). any_flags x ≡ false) (is_port_up port) p db none (subst (λ (x : Lsps). any_flags x ≡ false) (originated_if_changed_idle p db none) none)
+same_srm : (p q : ℕ) (e : Entry) → has e.srm q ≡ false → has (ssn_cleared p e).srm q ≡ false
+same_srm p q e none = by_test (has e.ssn p)
+  where
+    by_test : (b : Bool) → has (if b then with_ssn p false e else e).srm q ≡ false
+    by_test true = none
+    by_test false = none
+
+less_ssn : (p q : ℕ) → 1 ≤ p → p ≤ 32 → (e : Entry) → has e.ssn q ≡ false → has (ssn_cleared p e).ssn q ≡ false
+less_ssn p q low high e none = by_test (has e.ssn p)
+  where
+    by_place : (s : Bool) → (if s then false else has e.ssn q) ≡ false
+    by_place true = refl
+    by_place false = none
+
+    by_test : (b : Bool) → has (if b then with_ssn p false e else e).ssn q ≡ false
+    by_test true = has-without_port e.ssn p q low high ∙ by_place (q == p)
+    by_test false = none
+
+pub after_sending_srm : (p : ℕ) (port : BridgePort) (db : Lsps) (q : ℕ) → is_srm_at q db ≡ false → is_srm_at q (after_sending_at p port db) ≡ false
+after_sending_srm p port db q none =
+    after_sending_by (λ (x : Lsps). is_srm_at q x ≡ false) (is_port_up port) p db none (none_each (λ e. has e.srm q) (ssn_cleared p) (same_srm p q) db none)
+
+pub after_sending_ssn : (p : ℕ) (port : BridgePort) (db : Lsps) (q : ℕ) → 1 ≤ p → p ≤ 32 → is_ssn_at q db ≡ false → is_ssn_at q (after_sending_at p port db) ≡ false
+after_sending_ssn p port db q low high none =
+    after_sending_by (λ (x : Lsps). is_ssn_at q x ≡ false) (is_port_up port) p db none (none_each (λ e. has e.ssn q) (ssn_cleared p) (less_ssn p q low high) db none)
 
 -- ---- the ports so far
 
-pub record Sending (system : SystemId) (ports : List BridgePort) (db : Lsps) (o : Outbox) (i : ℕ) (has_flags : Bool) (now : Lsps) (new : Outbox) : Type 0 where
+pub record Sending (system : SystemId) (ports : List BridgePort) (db : Lsps) (o : Outbox) (i : ℕ) (srm ssn : PortSet) (now : Lsps) (new : Outbox) : Type 0 where
   pub sent : new ≡ with_wire (sent_from system 1 (take i ports) db) o
   pub after_sending : now ≡ after_sending_from 1 (take i ports) db
   pub sendable : AreSendable now
   pub sized : AreSized now
-  pub idle : has_flags ≡ false → any_flags now ≡ false
+  pub no_srm : (q : ℕ) → has srm q ≡ false → is_srm_at q now ≡ false
+  pub no_ssn : (q : ℕ) → has ssn q ≡ false → is_ssn_at q now ≡ false
 
-pub sending_next : (system : SystemId) (ports : List BridgePort) (db : Lsps) (o : Outbox) (i : ℕ) (d : BridgePort) (has_flags : Bool) (now then_db : Lsps) (mid new : Outbox) → i < length ports → Sending system ports db o i has_flags now mid
-    → new ≡ with_wire (sent_at system (i + 1) (get_or ports i d) now) mid → then_db ≡ after_sending_at (i + 1) (get_or ports i d) now → Sending system ports db o (i + 1) has_flags then_db new
-sending_next system ports db o i d has_flags now then_db mid new within was sent after_sending = record {
+pub sending_next : (system : SystemId) (ports : List BridgePort) (db : Lsps) (o : Outbox) (i : ℕ) (d : BridgePort) (srm ssn : PortSet) (now then_db : Lsps) (mid new : Outbox) → length ports ≤ 32 → i < length ports → Sending system ports db o i srm ssn now mid
+    → new ≡ with_wire (sent_at system (i + 1) (get_or ports i d) now) mid → then_db ≡ after_sending_at (i + 1) (get_or ports i d) now → Sending system ports db o (i + 1) srm ssn then_db new
+sending_next system ports db o i d srm ssn now then_db mid new few within was sent after_sending = record {
   sent = ports_next system ports db now i d o mid new within was.sent was.after_sending sent;
   after_sending = after_sending_next ports db now then_db i d within was.after_sending after_sending;
   sendable = subst AreSendable (sym after_sending) (after_sending_sendable (i + 1) (get_or ports i d) now was.sendable);
   sized = subst AreSized (sym after_sending) (after_sending_sized (i + 1) (get_or ports i d) now was.sized);
-  idle = λ e. subst (λ (x : Lsps). any_flags x ≡ false) (sym after_sending) (after_sending_idle (i + 1) (get_or ports i d) now (was.idle e));
+  no_srm = λ q none. subst (λ (x : Lsps). is_srm_at q x ≡ false) (sym after_sending) (after_sending_srm (i + 1) (get_or ports i d) now q (was.no_srm q none));
+  no_ssn = λ q none. subst (λ (x : Lsps). is_ssn_at q x ≡ false) (sym after_sending)
+      (after_sending_ssn (i + 1) (get_or ports i d) now q (omega arith) (omega (arith, few, within)) (was.no_ssn q none));
 }

@@ -1,26 +1,26 @@
 -- Frames that are put into the outbox, one after another.
-use Rattle.std.proofs.Common.{◌≡◌, ◌≤◌, ◌<◌, ◌+◌, ℕ, zero, suc, List, [], ◌∷◌, ◌++◌, map, length, take, drop, get_or, refl, sym, ap, ◌∙◌, subst, Option, Some, None, Result, Ok, Err, arith, append_assoc, add-one, add-zero}
-use Rattle.std.specs.Prelude.{OnOk, OnErr}
-use Rattle.std.specs.Option.{option_map}
-use Rattle.std.specs.FinMap.{get}
+use Rattle.std.proofs.Common.{◌≡◌, ◌≤◌, ◌<◌, ◌+◌, ℕ, zero, suc, List, [], ◌∷◌, ◌++◌, map, length, take, drop, get_or, refl, sym, ap, ◌∙◌, subst, Some, Result, Ok, Err, arith, append_assoc, add-one, add-zero}
+use Rattle.std.specs.Prelude.{Bool, true, false, filter, slice_get, cond, OnOk, OnErr}
+use Rattle.std.specs.FinMap.{entries}
 use Rattle.std.specs.Global.{Vec}
 use Rattle.std.proofs.lemmas.List.{append-nil, take-append-drop}
 use Rattle.std.proofs.Math.Seq.{take-append_seam}
 use Rattle.spb_types.specs.declared.address.SystemId.{SystemId}
 use Rattle.spb_types.specs.declared.address.LspId.{LspId}
-use Rattle.isis_pdu.specs.Pdu.{HelloValue, LspValue}
+use Rattle.isis_pdu.specs.Pdu.{HelloValue}
 use Rattle.isis_pdu.specs.Spelling.{hello_bytes}
 use Rattle.itag_frames.specs.Frame.{control_bytes}
+use Rattle.spb_types.specs.Ports.{has}
+use Rattle.lsdb.specs.Entry.{Entry}
 use Rattle.lsdb.specs.Database.{Lsps}
-use Rattle.flooding.specs.Sending.{lsp_in, ids_to_send, lsps_to_send}
-use Rattle.flooding.proofs.Named.{ids_name_lsps}
+use Rattle.flooding.specs.Sending.{lsp_in}
 use Rattle.snp_sync.specs.Sending.{bytes_in}
 use Rattle.bridge_api.specs.declared.port.BridgePort.{BridgePort}
 use Rattle.bridge_api.specs.declared.outbox.Outbox.{Outbox}
 use Rattle.bridge_api.specs.Ticking.{lsp_frame, lsps_at, sent_at, sent_from, after_sending_at, after_sending_from}
 use Rattle.bridge_api.specs.Step.{with_wire, Gains}
 use Rattle.bridge_api.proofs.Hellos.{hello_short}
-use Rattle.bridge_control.specs.Frames.{frames_of, lsp_frames}
+use Rattle.bridge_control.specs.Frames.{frames_of, frames_held}
 
 -- a hello with so few TLVs fits into a frame
 pub pdu_short : (pdu : List ℕ) (h : HelloValue) → pdu ≡ hello_bytes h → length h.source.mac.bytes ≡ 6 → length h.tlvs ≤ 26 → length pdu ≤ 1497
@@ -95,56 +95,53 @@ frames_split system p (x ∷ pdus) (suc i) = ap (λ (fs : List (ℕ × List ℕ)
 pub frames_some : (system : SystemId) (p : ℕ) (pdus : List (Vec ℕ)) (i : ℕ) (o new : Outbox) → new ≡ with_wire (frames_of system p (bytes_in (take i pdus))) o → Gains (frames_of system p (bytes_in pdus)) o new
 frames_some system p pdus i o new is = gained_first (frames_of system p (bytes_in (take i pdus))) (frames_of system p (bytes_in (drop i pdus))) _ o new (frames_split system p pdus i) is
 
--- ---- LSPs by their ids
+-- ---- LSPs by their places
 
-abbrev pub frames_under : SystemId → ℕ → Lsps → List LspId → List (ℕ × List ℕ)
-frames_under system p db [] = []
-frames_under system p db (id ∷ ids) = lsp_frames system p id (get db id) ++ frames_under system p db ids
+abbrev pub frames_among : SystemId → ℕ → List (LspId × Entry) → List (ℕ × List ℕ)
+frames_among system p [] = []
+frames_among system p (e ∷ es) = frames_held system p (Some e) ++ frames_among system p es
 
-under_suc : (system : SystemId) (p : ℕ) (db : Lsps) (ids : List LspId) (i : ℕ) (d : LspId) → i < length ids
-    → frames_under system p db (take (suc i) ids) ≡ frames_under system p db (take i ids) ++ lsp_frames system p (get_or ids i d) (get db (get_or ids i d))
-under_suc system p db [] i d within = absurd (omega arith)
-under_suc system p db (id ∷ ids) zero d within = append-nil (lsp_frames system p id (get db id))
-under_suc system p db (id ∷ ids) (suc i) d within =
-    ap (λ (fs : List (ℕ × List ℕ)). lsp_frames system p id (get db id) ++ fs) (under_suc system p db ids i d (omega arith))
-    ∙ sym (append_assoc (lsp_frames system p id (get db id)) (frames_under system p db (take i ids)) (lsp_frames system p (get_or ids i d) (get db (get_or ids i d))))
+among_suc : (system : SystemId) (p : ℕ) (es : List (LspId × Entry)) (i : ℕ) → frames_among system p (take (suc i) es) ≡ frames_among system p (take i es) ++ frames_held system p (slice_get es i)
+among_suc system p [] zero = refl
+among_suc system p [] (suc i) = refl
+among_suc system p (e ∷ es) zero = append-nil (frames_held system p (Some e))
+among_suc system p (e ∷ es) (suc i) =
+    ap (λ (fs : List (ℕ × List ℕ)). frames_held system p (Some e) ++ fs) (among_suc system p es i)
+    ∙ sym (append_assoc (frames_held system p (Some e)) (frames_among system p (take i es)) (frames_held system p (slice_get es i)))
 
-pub under_next : (system : SystemId) (p : ℕ) (db : Lsps) (ids : List LspId) (i : ℕ) (d : LspId) (o mid new : Outbox) → i < length ids → mid ≡ with_wire (frames_under system p db (take i ids)) o
-    → new ≡ with_wire (lsp_frames system p (get_or ids i d) (get db (get_or ids i d))) mid → new ≡ with_wire (frames_under system p db (take (i + 1) ids)) o
-under_next system p db ids i d o mid new within before after =
-    sent_as _ _ o new (sym (rw add-one (under_suc system p db ids i d within))) (sent_both (frames_under system p db (take i ids)) _ o mid new before after)
+pub among_next : (system : SystemId) (p : ℕ) (es : List (LspId × Entry)) (i : ℕ) (o mid new : Outbox) → mid ≡ with_wire (frames_among system p (take i es)) o
+    → new ≡ with_wire (frames_held system p (slice_get es i)) mid → new ≡ with_wire (frames_among system p (take (i + 1) es)) o
+among_next system p es i o mid new before after =
+    sent_as _ _ o new (sym (rw add-one (among_suc system p es i))) (sent_both (frames_among system p (take i es)) _ o mid new before after)
 
-under_split : (system : SystemId) (p : ℕ) (db : Lsps) (ids : List LspId) (i : ℕ) → frames_under system p db ids ≡ frames_under system p db (take i ids) ++ frames_under system p db (drop i ids)
-under_split system p db [] zero = refl
-under_split system p db [] (suc i) = refl
-under_split system p db (id ∷ ids) zero = refl
-under_split system p db (id ∷ ids) (suc i) =
-    ap (λ (fs : List (ℕ × List ℕ)). lsp_frames system p id (get db id) ++ fs) (under_split system p db ids i)
-    ∙ sym (append_assoc (lsp_frames system p id (get db id)) (frames_under system p db (take i ids)) (frames_under system p db (drop i ids)))
+among_split : (system : SystemId) (p : ℕ) (es : List (LspId × Entry)) (i : ℕ) → frames_among system p es ≡ frames_among system p (take i es) ++ frames_among system p (drop i es)
+among_split system p [] zero = refl
+among_split system p [] (suc i) = refl
+among_split system p (e ∷ es) zero = refl
+among_split system p (e ∷ es) (suc i) =
+    ap (λ (fs : List (ℕ × List ℕ)). frames_held system p (Some e) ++ fs) (among_split system p es i)
+    ∙ sym (append_assoc (frames_held system p (Some e)) (frames_among system p (take i es)) (frames_among system p (drop i es)))
 
--- an LSP that is found is sent
-under_one : (system : SystemId) (p : ℕ) (id : LspId) (held : Option _) (l : LspValue) → option_map (lsp_in id) held ≡ Some l → lsp_frames system p id held ≡ (p, lsp_frame system l) ∷ []
-under_one system p id None l is = absurd cc
-under_one system p id (Some e) l is = let same : lsp_in id e ≡ l = cc in ap (λ (x : LspValue). (p, lsp_frame system x) ∷ []) same
+-- they are those that are to be sent
+among_all : (system : SystemId) (p : ℕ) (es : List (LspId × Entry)) → frames_among system p es ≡ map (λ l. (p, lsp_frame system l)) (map (λ e. lsp_in e.0 e.1) (filter (λ e. has e.1.srm p) es))
+among_all system p [] = refl
+among_all system p (e ∷ es) = by_test (has e.1.srm p) (among_all system p es)
+  where
+    sent : List (LspId × Entry) → List (ℕ × List ℕ)
+    sent ds = map (λ l. (p, lsp_frame system l)) (map (λ d. lsp_in d.0 d.1) ds)
 
-under_all : (system : SystemId) (p : ℕ) (db : Lsps) (ids : List LspId) (ls : List LspValue) → map (λ id. option_map (lsp_in id) (get db id)) ids ≡ map (λ l. Some l) ls
-    → frames_under system p db ids ≡ map (λ l. (p, lsp_frame system l)) ls
-under_all system p db [] [] is = refl
-under_all system p db [] (l ∷ ls) is = absurd cc
-under_all system p db (id ∷ ids) [] is = absurd cc
-under_all system p db (id ∷ ids) (l ∷ ls) is =
-    let first : option_map (lsp_in id) (get db id) ≡ Some l = cc in
-    let rest : map (λ x. option_map (lsp_in x) (get db x)) ids ≡ map (λ x. Some x) ls = cc in
-    λ i. under_one system p id (get db id) l first i ++ under_all system p db ids ls rest i
+    by_test : (b : Bool) → frames_among system p es ≡ sent (filter (λ d. has d.1.srm p) es)
+        → cond b ((p, lsp_frame system (lsp_in e.0 e.1)) ∷ []) [] ++ frames_among system p es ≡ sent (cond b (e ∷ filter (λ d. has d.1.srm p) es) (filter (λ d. has d.1.srm p) es))
+    by_test true rest = ap (λ (fs : List (ℕ × List ℕ)). (p, lsp_frame system (lsp_in e.0 e.1)) ∷ fs) rest
+    by_test false rest = rest
 
--- those that are to be sent
-pub under_sent : (system : SystemId) (p : ℕ) (db : Lsps) → frames_under system p db (ids_to_send db p) ≡ lsps_at system p db
-under_sent system p db = under_all system p db (ids_to_send db p) (lsps_to_send db p) (ids_name_lsps db p)
+pub among_sent : (system : SystemId) (p : ℕ) (db : Lsps) → frames_among system p (entries db) ≡ lsps_at system p db
+among_sent system p db = among_all system p (entries db)
 
-pub under_some : (system : SystemId) (p : ℕ) (db : Lsps) (ids : List LspId) (i : ℕ) (o new : Outbox) → ids ≡ ids_to_send db p → new ≡ with_wire (frames_under system p db (take i ids)) o → Gains (lsps_at system p db) o new
-under_some system p db ids i o new are is =
-    gained_first (frames_under system p db (take i ids)) (frames_under system p db (drop i ids)) _ o new
-    (sym (ap (frames_under system p db) are ∙ under_sent system p db) ∙ under_split system p db ids i) is
+pub among_some : (system : SystemId) (p : ℕ) (db : Lsps) (i : ℕ) (o new : Outbox) → new ≡ with_wire (frames_among system p (take i (entries db))) o → Gains (lsps_at system p db) o new
+among_some system p db i o new is =
+    gained_first (frames_among system p (take i (entries db))) (frames_among system p (drop i (entries db))) _ o new
+    (sym (among_sent system p db) ∙ among_split system p (entries db) i) is
 
 -- ---- ports
 

@@ -1,14 +1,16 @@
 -- The bridge that a machine's fields say.
-use Rattle.std.specs.Prelude.{◌≡◌, ℕ, ◌≤◌, [], length, true, false, replicate, Option, Some, None}
+use Rattle.std.specs.Prelude.{◌≡◌, ℕ, ◌+◌, ◌≤◌, List, [], ◌∷◌, length, true, false, replicate, Option, Some, None}
+use Rattle.spb_types.specs.declared.address.SystemId.{SystemId}
 use Rattle.spb_types.specs.declared.limits.TheConstants.{MOST_PORTS}
 use Rattle.flooding.specs.Own.{own_id}
 use Rattle.lsdb.specs.Database.{fits}
 use Rattle.spb_content.specs.Local.{IsLocal}
 use Rattle.bridge_api.specs.declared.port.BridgePort.{BridgePort}
-use Rattle.bridge_api.specs.View.{BridgeView, IsPort, port_at, with_port_at}
+use Rattle.bridge_api.specs.View.{BridgeView, IsPort, port_at, with_port_at, up_from}
 use Rattle.bridge_api.specs.Own.{local_of, own_of, body_of, IsOwnLspCurrent}
 use Rattle.bridge_api.specs.Parsing.{Parsed}
 use Rattle.bridge_api.specs.Hearing.{heard_as}
+use Rattle.bridge_api.specs.Ticking.{hello_frame}
 use Rattle.bridge_api.specs.Laws.{IsSoundView}
 use Rattle.bridge_control.specs.declared.machine.Machine.{Machine}
 
@@ -27,9 +29,20 @@ view_of m = record {
   drops = replicate 9 0;
 }
 
--- the body that is kept of the own LSP is what the bridge has to say
-abbrev pub IsCurrent : Machine → Type 0
-IsCurrent m = m.own ≡ own_of (view_of m)
+-- the hellos of ports, of those from number p on
+abbrev pub hellos_from : SystemId → ℕ → List BridgePort → List (List ℕ)
+hellos_from system p [] = []
+hellos_from system p (port ∷ ports) = hello_frame system p port ∷ hellos_from system (p + 1) ports
+
+-- the frame that is kept for each port is its hello, and the ports that are kept as Up are those that are
+pub record FollowsPorts (m : Machine) : Type 0 where
+  pub hellos : m.hellos.items ≡ hellos_from m.id.system 1 m.ports.items
+  pub up : m.up ≡ up_from 1 m.ports.items
+
+-- the body that is kept of the own LSP is what the bridge has to say, and so are the hellos
+pub record IsCurrent (m : Machine) : Type 0 where
+  pub own : m.own ≡ own_of (view_of m)
+  pub ports : FollowsPorts m
 
 -- a machine between two calls
 pub record IsReady (m : Machine) : Type 0 where
@@ -53,6 +66,12 @@ pub record CanPut (p : ℕ) (new : BridgePort) (m : Machine) : Type 0 where
   pub current : IsCurrent m
   pub local : IsLocal (local_of (with_port_at p new (view_of m)))
   pub own_lsp : IsOwnLspCurrent (view_of m)
+
+-- a port of this number came into a new state, and what is kept of the ports followed
+pub record IsPut (p : ℕ) (new : BridgePort) (old m : Machine) : Type 0 where
+  pub view : view_of m ≡ with_port_at p new (view_of old)
+  pub own : m.own ≡ old.own
+  pub ports : FollowsPorts m
 
 -- the bridge says the same of itself with a port of this number in a new state
 abbrev pub SaysTheSame : ℕ → BridgePort → Machine → Type 0

@@ -1,13 +1,25 @@
-use Rattle.std.specs.Prelude.{List, Bool}
+use Rattle.std.specs.Prelude.{◌≡◌, List, Bool, ◌&&◌, not}
 use Rattle.std.specs.List.{AllByRecursion, list_any}
 use Rattle.bridge_api.specs.declared.port.BridgePort.{BridgePort}
-use Rattle.bridge_api.specs.Ticking.{leaves}
+use Rattle.adjacency.specs.declared.port.Adjacency.{Adjacency}
+use Rattle.adjacency.specs.Adjacency.{is_down}
+use Rattle.bridge_api.specs.Ticking.{later}
 use Rattle.bridge_api.specs.Laws.{IsSoundPort}
 
 -- each port is sound
 abbrev pub AreSoundPorts : List BridgePort → Type 0
 AreSoundPorts ports = AllByRecursion IsSoundPort ports
 
--- whether the neighbour at an Up port is lost in this second
-abbrev pub has_leaving : List BridgePort → Bool
-has_leaving ports = list_any leaves ports
+-- two adjacencies in one state, with the same neighbour and circuit: hellos say the same of them
+pub record IsSameEnd (a b : Adjacency) : Type 0 where
+  pub state : b.state ≡ a.state
+  pub neighbour : b.neighbour ≡ a.neighbour
+  pub circuit : b.circuit ≡ a.circuit
+
+-- whether the neighbour at a port is lost in this second
+abbrev pub loses : BridgePort → Bool
+loses port = not (is_down port.adjacency.state) && is_down (later port).adjacency.state
+
+-- whether one is lost at any port
+abbrev pub has_lost : List BridgePort → Bool
+has_lost ports = list_any loses ports

@@ -1,16 +1,17 @@
 //! A change at a port: of carrier, of the metric of its link, and of its adjacency.
-ghost use Rattle.std.specs.Prelude.{◌≡◌, OnOk};
+ghost use Rattle.std.specs.Prelude.{◌≡◌, ◌≤◌, length, OnOk};
 ghost use Rattle.adjacency.specs.declared.state.AdjacencyChange.TheVariants as did;
 ghost use Rattle.bridge_api.specs.View.{IsPort};
 ghost use Rattle.bridge_api.specs.Config.{IsMetric};
 ghost use Rattle.bridge_api.specs.Hearing as api;
-ghost use Rattle.bridge_control.specs.Machine.{view_of, IsReady, IsAfter, CanPut, SaysTheSame};
+ghost use Rattle.bridge_control.specs.Machine.{view_of, IsReady, IsAfter, FollowsPorts, CanPut, IsPut, SaysTheSame};
 
+use crate::hello::{hello_frame, put_hello};
 use crate::machine::Machine;
-use crate::ports::{is_up, port_at, put_port, set_srm_for_all};
+use crate::ports::{is_same_end, is_up, port_at, put_port, set_srm_for_all, up_ports};
 use adjacency::AdjacencyChange;
 use bridge_api::BridgePort;
-use spb_types::NoMemory;
+use spb_types::{NoMemory, Seq};
 
 impl Machine {
     /// Carrier comes or goes at a port.
@@ -34,10 +35,9 @@ impl Machine {
         let mut new = port_at(self.ports.as_slice(), port);
         new.metric = metric;
         if !is_up(&new) {
-            self.keep(port, new);
-            return Ok(());
+            return self.keep(port, &new);
         }
-        put_port(&mut self.ports, port, new);
+        self.put(port, &new)?;
         self.renew_body()?;
         self.originate_if_changed()
     }
@@ -55,37 +55,31 @@ impl Machine {
     {
         match heard {
             AdjacencyChange::Discarded => Ok(()),
-            AdjacencyChange::Kept => {
-                self.keep(port, new);
-                Ok(())
-            }
-            AdjacencyChange::LeftUp => self.leave(port, new),
-            AdjacencyChange::CameUp => self.enter(port, new),
+            AdjacencyChange::Kept => self.keep(port, &new),
+            AdjacencyChange::LeftUp => self.leave(port, &new),
+            AdjacencyChange::CameUp => self.enter(port, &new),
         }
     }
 
     /// A port comes into a state in which the bridge says the same of itself, as its own LSP does.
-    fn keep(&mut self, port: u8, new: BridgePort)
-        requires can { CanPut port new self.old }
-        requires same { SaysTheSame port new self.old }
-        ensures { IsAfter (api.changed_at did.Kept port new (view_of self.old)) self.new }
+    fn keep(&mut self, port: u8, new: &BridgePort) -> Result<(), NoMemory>
+        requires can { CanPut port new.now self.old }
+        requires same { SaysTheSame port new.now self.old }
+        ensures { OnOk result (IsAfter (api.changed_at did.Kept port new.now (view_of self.old)) self.new) }
     {
-        put_port(&mut self.ports, port, new);
+        self.put(port, new)
     }
 
     /// A port leaves Up: its flags are cleared, and nothing is due there.
-    fn leave(&mut self, port: u8, new: BridgePort) -> Result<(), NoMemory>
-        requires { CanPut port new self.old }
-        ensures { OnOk result (IsAfter (api.changed_at did.LeftUp port new (view_of self.old)) self.new) }
+    fn leave(&mut self, port: u8, new: &BridgePort) -> Result<(), NoMemory>
+        requires { CanPut port new.now self.old }
+        ensures { OnOk result (IsAfter (api.changed_at did.LeftUp port new.now (view_of self.old)) self.new) }
     {
-        put_port(
-            &mut self.ports,
-            port,
-            BridgePort {
-                csnp_due: false,
-                ..new
-            },
-        );
+        let undue = BridgePort {
+            csnp_due: false,
+            ..*new
+        };
+        self.put(port, &undue)?;
         self.db.clear_port(port);
         self.renew_body()?;
         self.originate_if_changed()
@@ -93,20 +87,35 @@ impl Machine {
 
     /// A port enters Up, before which it may have been Up with another neighbour: each LSP is to be sent there, and
     /// CSNPs are due.
-    fn enter(&mut self, port: u8, new: BridgePort) -> Result<(), NoMemory>
-        requires { CanPut port new self.old }
-        ensures { OnOk result (IsAfter (api.changed_at did.CameUp port new (view_of self.old)) self.new) }
+    fn enter(&mut self, port: u8, new: &BridgePort) -> Result<(), NoMemory>
+        requires { CanPut port new.now self.old }
+        ensures { OnOk result (IsAfter (api.changed_at did.CameUp port new.now (view_of self.old)) self.new) }
     {
         self.leave(port, new)?;
-        put_port(
-            &mut self.ports,
-            port,
-            BridgePort {
-                csnp_due: true,
-                ..new
-            },
-        );
+        let due = BridgePort {
+            csnp_due: true,
+            ..*new
+        };
+        self.put(port, &due)?;
         set_srm_for_all(&mut self.db, port);
+        Ok(())
+    }
+
+    /// Puts a port into a new state. Its hello is made anew where it is to say something else.
+    fn put(&mut self, port: u8, new: &BridgePort) -> Result<(), NoMemory>
+        requires port { IsPort (view_of self.old) port }
+        requires few { length self.old.ports.items ≤ 32 }
+        requires ports { FollowsPorts self.old }
+        ensures { OnOk result (IsPut port new.now self.old self.new) }
+    {
+        let old = port_at(self.ports.as_slice(), port);
+        put_port(&mut self.ports, port, *new);
+        if is_same_end(&old.adjacency, &new.adjacency) {
+            return Ok(());
+        }
+        let hello = hello_frame(self.alloc, self.id.system, port, new)?;
+        put_hello(&mut self.hellos, port, Seq::from_vec(hello));
+        self.up = up_ports(self.ports.as_slice());
         Ok(())
     }
 }

@@ -1,18 +1,20 @@
-ghost use Rattle.std.specs.Prelude.{◌≡◌, true, false, ◌↔◌, OnOk, OnErr, IsErr, Some};
+ghost use Rattle.std.specs.Prelude.{◌≡◌, true, false, ◌↔◌, IfOk, OnOk, OnErr, IsErr, Some};
 ghost use Rattle.std.specs.Option.{option_map, option_copied};
+ghost use Rattle.spb_types.specs.Tables.{unicast_in};
 ghost use Rattle.lsdb.specs.Database.{keyed};
 ghost use Rattle.bridge_api.specs.View.{IsPort, is_csnp_due_at, adjacency_at, has_flags, entry_at};
 ghost use Rattle.bridge_api.specs.Config.{IsWhole, IsMetric, configured};
 ghost use Rattle.bridge_api.specs.Hearing.{after_receive, with_carrier, with_metric};
 ghost use Rattle.bridge_api.specs.Ticking.{after_tick, sent_in_tick};
 ghost use Rattle.bridge_api.specs.Step.{with_wire, Gains};
+ghost use Rattle.bridge_api.specs.Graph.{own_tables};
 
 use crate::machine::Machine;
 use crate::ports::port_at;
 use adjacency::Adjacency;
 use bridge_api::{BridgeConfig, Outbox};
 use lsdb::Held;
-use spb_types::NoMemory;
+use spb_types::{Mac, NoMemory, Tables, Vid, unicast_of};
 use std::alloc::Global;
 use std::marker::Model;
 
@@ -196,5 +198,26 @@ impl ControlPlane {
         ensures { option_map keyed (option_copied result) ≡ entry_at self.now.view place }
     {
         self.machine.db.at(place)
+    }
+
+    /// The tables of the bridge, made anew from the LSPs that it holds (IEEE 802.1aq, 8.8 and 28.10).
+    pub fn tables(&self) -> Result<Tables, NoMemory>
+        requires { self.now.blank ≡ false }
+        ensures tables { IfOk result (λ t. t ≡ own_tables self.now.view) }
+        ensures failed { self.now.view.failed ≡ true → IsErr result }
+    {
+        self.refuse_failed()?;
+        self.machine.tables()
+    }
+
+    /// The port by which frames to an address in a base VID leave, by those tables; None exactly where they have no row
+    /// for both.
+    pub fn unicast_port(&self, vid: Vid, mac: Mac) -> Result<Option<u8>, NoMemory>
+        requires { self.now.blank ≡ false }
+        ensures port { IfOk result (λ port. port ≡ unicast_in (own_tables self.now.view).unicast vid mac) }
+        ensures failed { self.now.view.failed ≡ true → IsErr result }
+    {
+        let tables = self.tables()?;
+        Ok(unicast_of(&tables, vid, mac))
     }
 }

@@ -11,7 +11,7 @@ ghost use Rattle.bridge_control.specs.Machine.{view_of, IsReady, IsAfter, hears}
 
 use crate::machine::Machine;
 use crate::parsing::{Message, parse};
-use crate::ports::{is_up, port_at, up_ports};
+use crate::ports::{is_up, port_at, put_port};
 use flooding::{FloodError, Own};
 use isis_pdu::{Csnp, Hello, Lsp, Psnp};
 use lsdb::Database;
@@ -49,11 +49,33 @@ impl Machine {
         ensures { OnOk result (IsAfter (hears (parsing.hello (hello_of hello.now) way.now) port (view_of self.old)) self.new) }
     {
         let mut new = port_at(self.ports.as_slice(), port);
+        if new.adjacency.refresh(self.id.system, port, hello, way) {
+            put_port(&mut self.ports, port, new);
+            return Ok(());
+        }
+        self.hear_other_hello(port, hello, way)
+    }
+
+    /// Hears a hello at a port with carrier, by which more may change than the holding count.
+    #[cold]
+    fn hear_other_hello(
+        &mut self,
+        port: u8,
+        hello: &Hello<'_>,
+        way: &ThreeWay,
+    ) -> Result<(), NoMemory>
+        requires ready { IsReady self.old }
+        requires port { IsPort (view_of self.old) port }
+        requires carrier { has_carrier_at (view_of self.old) port ≡ true }
+        requires state { way.now.state ≤ 2 }
+        ensures { OnOk result (IsAfter (hears (parsing.hello (hello_of hello.now) way.now) port (view_of self.old)) self.new) }
+    {
+        let mut new = port_at(self.ports.as_slice(), port);
         let heard = new.adjacency.hear(self.id.system, port, hello, way);
         self.change(port, new, heard)
     }
 
-    /// Hears an LSP at a port with carrier.
+    /// Hears an LSP at a port with carrier. One of another system leaves what the bridge has to say of itself.
     fn hear_lsp(&mut self, port: u8, lsp: &Lsp<'_>) -> Result<(), NoMemory>
         requires ready { IsReady self.old }
         requires port { IsPort (view_of self.old) port }
@@ -62,8 +84,10 @@ impl Machine {
         if !is_up(&port_at(self.ports.as_slice(), port)) {
             return Ok(());
         }
-        let up = up_ports(self.ports.as_slice());
-        hear_lsp_if_it_fits(self.alloc, &mut self.db, up, port, lsp, &mut self.own)?;
+        hear_lsp_if_it_fits(self.alloc, &mut self.db, self.up, port, lsp, &mut self.own)?;
+        if !lsp.id.system.is(self.id.system) {
+            return Ok(());
+        }
         self.originate_if_changed()
     }
 
@@ -94,11 +118,10 @@ impl Machine {
         requires port { IsPort (view_of self.old) port }
         ensures { OnOk result (IsAfter (originated_if_changed (api.heard_csnp (csnp_of csnp.now) entries.now port (view_of self.old))) self.new) }
     {
-        let up = up_ports(self.ports.as_slice());
         hear_csnp(
             self.alloc,
             &mut self.db,
-            up,
+            self.up,
             port,
             &csnp.start,
             &csnp.end,
@@ -130,8 +153,14 @@ impl Machine {
         requires port { IsPort (view_of self.old) port }
         ensures { OnOk result (IsAfter (originated_if_changed (api.heard_psnp entries.now port (view_of self.old))) self.new) }
     {
-        let up = up_ports(self.ports.as_slice());
-        hear_psnp(self.alloc, &mut self.db, up, port, entries, &mut self.own)?;
+        hear_psnp(
+            self.alloc,
+            &mut self.db,
+            self.up,
+            port,
+            entries,
+            &mut self.own,
+        )?;
         self.originate_if_changed()
     }
 }

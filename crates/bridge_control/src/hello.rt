@@ -1,7 +1,9 @@
 //! The hellos that a bridge sends.
-ghost use Rattle.std.specs.Prelude.{◌≡◌, ◌≤◌, length, IfOk, OnOk, OnErr};
+ghost use Rattle.std.specs.Prelude.{◌≡◌, ◌-◌, ◌≤◌, length, slice_set, IfOk, OnOk, OnErr};
 ghost use Rattle.bridge_api.specs.Step.{with_wire};
 ghost use Rattle.bridge_api.specs.Ticking as api;
+ghost use Rattle.bridge_control.specs.Frames.{hello_if};
+ghost use Rattle.bridge_control.specs.Machine.{hellos_from};
 
 use bridge_api::{BridgePort, Outbox};
 use isis_pdu::{Hello, write_hello};
@@ -14,26 +16,52 @@ use std::alloc::Global;
 /// How long a neighbour is to hold this bridge, in seconds.
 const HOLDING: u16 = 3;
 
-/// Puts a hello into the outbox if the port has carrier.
+/// Puts the hello of a port into the outbox if the port has carrier.
 pub(crate) fn send_hello(
     alloc: Global,
-    system: SystemId,
     number: u8,
     port: &BridgePort,
+    hello: &[u8],
     outbox: &mut Outbox,
 ) -> Result<(), NoMemory>
-    ensures ok { OnOk result (outbox.new ≡ with_wire (api.hellos_at system number port.now) outbox.old) }
+    ensures ok { OnOk result (outbox.new ≡ with_wire (hello_if port.now.adjacency.carrier number hello.now) outbox.old) }
     ensures err { OnErr result (outbox.new ≡ outbox.old) }
 {
     if !port.adjacency.carrier {
         return Ok(());
     }
-    let frame = hello_frame(alloc, system, number, port)?;
+    let frame = Vec::from_slice(alloc, hello)?;
     outbox.wire.push((number, Seq::from_vec(frame)))
 }
 
+/// The hellos of ports, in order, as control frames.
+pub(crate) fn hellos_of(
+    alloc: Global,
+    system: SystemId,
+    ports: &[BridgePort],
+) -> Result<Vec<Seq<u8>>, NoMemory>
+    requires { length ports.now ≤ 32 }
+    ensures { IfOk result (λ hellos. hellos.items ≡ hellos_from system 1 ports.now) }
+{
+    let mut hellos = Vec::with_capacity(alloc, ports.len())?;
+    'make: for (place, port) in ports.iter().enumerate() {
+        let frame = hello_frame(alloc, system, place as u8 + 1, port)?;
+        hellos.push(Seq::from_vec(frame))?;
+    }
+    Ok(hellos)
+}
+
+/// Keeps another hello for the port of a number.
+pub(crate) fn put_hello(hellos: &mut Vec<Seq<u8>>, port: u8, hello: Seq<u8>)
+    requires low { 1 ≤ port }
+    requires high { port ≤ length hellos.old.items }
+    ensures { hellos.new.items ≡ slice_set hellos.old.items (port - 1) hello }
+{
+    hellos[usize::from(port) - 1] = hello;
+}
+
 /// The hello of a port, as a control frame.
-fn hello_frame(
+pub(crate) fn hello_frame(
     alloc: Global,
     system: SystemId,
     number: u8,

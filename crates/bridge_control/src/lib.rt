@@ -4,11 +4,12 @@
 //!
 //! [`ControlPlane`] is a `Machine` with two marks: whether it is blank, and whether a call found no memory. What the
 //! machine makes of a frame stands in `hearing`, of a change at a port in `changing`, and of a second in `ticking`;
-//! what a frame brings in `parsing`, and what is sent in `hello` and `sending`.
+//! what a frame brings in `parsing`, what is sent in `hello` and `sending`, and the tables in `reading`.
 //!
 //! # A kind of bridge
 //!
-//! It keeps a control plane, and beside it what it knows of its tables.
+//! It keeps a control plane, and beside it what it knows of its tables, if it keeps them: the control plane makes them
+//! anew at each question.
 //!
 //! 1. Write a struct with a field `control: ControlPlane`, and an `impl Model` for it whose `Value` is `Plane` and
 //!    whose `view` is that field. The invariant says of what is kept of the tables what it is of `b.control.view`.
@@ -20,20 +21,27 @@
 //! With p ports, n LSPs that are held and an own LSP of b bytes:
 //!
 //! - The body of the own LSP is kept. It is made anew, in time and memory of order p + b and for sorting what is
-//!   attached, where a port comes Up or leaves Up, and where the metric of an Up port is set, even to what it was; no
-//!   other call makes it. Each call that may originate compares it with the one that is held: a binary search, and b
-//!   bytes. Originating goes over the ports once, and takes time and memory of order b.
-//! - A tick in which no flags stand goes four times over the ports and once over the database, looks up the own LSP and
-//!   compares its body, in time p + n + b, and takes memory for the hellos alone. Where flags stand or the bridge
-//!   originated, it also goes over the database three times for each Up port: for the LSPs to be sent, for the entries
-//!   with SSN there, and to clear these, with a binary search for each LSP that is sent and each entry that is cleared.
-//!   It goes over the database once for each port at which CSNPs are due and for each at which a neighbour is lost.
-//!   Memory is taken for what is sent.
-//! - A hello takes time in proportion to its length, and no memory, unless the port comes Up or leaves Up. Leaving Up
-//!   goes over the database once; entering Up once more, with a binary search for each LSP.
-//! - An LSP goes over the ports once and takes a binary search, and memory for its body if it is stored; a sequence
-//!   numbers PDU goes over the ports once and takes a binary search for each entry, and a CSNP also what `snp_sync`
-//!   says.
+//!   attached, where a port comes Up or leaves Up, where any neighbour is lost, and where the metric of an Up port is
+//!   set, even to what it was; no other call makes it. A call that made it anew, and one that hears an LSP of the bridge
+//!   itself or a sequence numbers PDU, compares it with the one that is held: a binary search, and b bytes. Originating
+//!   takes time and memory of order b.
+//! - The hello of each port is kept as a frame, and so is the set of the Up ports. A hello is made anew where the state,
+//!   the neighbour or its circuit changes at its port, in constant time and with memory for a few short vectors; the set
+//!   then goes over the ports once. Where a neighbour is lost in a second, the hellos of all ports are made anew.
+//! - A tick in which no flags stand and no neighbour is lost goes three times over the ports and once over the database,
+//!   looks up the own LSP by a binary search, and compares no body, in time p + n. For each hello it takes memory once,
+//!   and copies the frame that is kept. Where flags stand or the bridge originated, it also goes over the database twice
+//!   to find the ports with SRM and those with SSN; once for each Up port with SRM, for the LSPs to be sent; and twice
+//!   for each Up port with SSN, for the entries and to clear these. It goes over the database once for each port at which
+//!   CSNPs are due and for each at which a neighbour is lost. Memory is taken for what is sent.
+//! - A hello takes time in proportion to its length. One that only begins the holding count anew changes its port and
+//!   nothing else. Memory is taken where a hello changes the state, the neighbour or the circuit at its port, and else
+//!   none. Leaving Up goes over the database once, and entering Up once more.
+//! - An LSP is gone over once for its checksum, and takes a binary search, and a second one and memory for its body if
+//!   it is stored; a sequence numbers PDU takes what `snp_sync` says for its entries.
+//! - Each question about tables makes them anew: it goes over the database once, in time and memory of the bytes of the
+//!   live LSPs, and then takes what the graph of all that they say takes (`spb_content`), and the tables in it
+//!   (`fdb_build`). `unicast_port` makes them for its one answer.
 //! - No call copies the database.
 #![tactic(auto)]
 
@@ -46,5 +54,6 @@ mod hello;
 mod machine;
 mod parsing;
 mod ports;
+mod reading;
 mod sending;
 mod ticking;

@@ -1,5 +1,5 @@
 //! What a configured bridge keeps, and its own LSP.
-ghost use Rattle.std.specs.Prelude.{◌≡◌, ◌≤◌, false, length, IfOk, OnOk};
+ghost use Rattle.std.specs.Prelude.{◌≡◌, ◌≤◌, ◌&&◌, true, false, not, length, IfOk, OnOk};
 ghost use Rattle.std.specs.Str.{bytes_eq};
 ghost use Rattle.std.specs.FinMap.{get};
 ghost use Rattle.spb_content.specs.Local.{IsLocal};
@@ -8,12 +8,15 @@ ghost use Rattle.bridge_api.specs.Config as config_specs;
 ghost use Rattle.bridge_api.specs.Ticking as ticking;
 ghost use Rattle.bridge_api.specs.Own as api;
 
+use crate::hello::hellos_of;
 use crate::ports::{attached_members, bare_ports, neighbours_at, up_ports};
 use bridge_api::{BridgeConfig, BridgePort};
 use flooding::{Own, originate};
 use lsdb::Database;
 use spb_content::{BridgeConfigFacts, Local, content_of};
-use spb_types::{Attachment, BridgeId, LEVEL_1, Mac, NoMemory, Seq, SourceId, SystemId, VidPlan};
+use spb_types::{
+    Attachment, BridgeId, LEVEL_1, Mac, NoMemory, PortSet, Seq, SourceId, SystemId, VidPlan,
+};
 use std::alloc::Global;
 
 /// The id of a bridge that isn't configured.
@@ -27,7 +30,8 @@ const NO_ID: BridgeId = BridgeId {
 /// The remaining lifetime in seconds at which the own LSP is originated anew (ISO/IEC 10589, 7.3.7).
 const REFRESH_AT: u16 = 300;
 
-/// What a configured bridge keeps. Between calls `own.body` is what the bridge has to say of itself.
+/// What a configured bridge keeps. Between calls `own.body` is what the bridge has to say of itself, `hellos` are the
+/// hellos of its ports, and `up` are those that are Up.
 #[derive(Debug, Drop)]
 pub(crate) struct Machine {
     pub(crate) alloc: Global,
@@ -38,10 +42,13 @@ pub(crate) struct Machine {
     pub(crate) attached: Seq<Attachment>,
     pub(crate) db: Database,
     pub(crate) own: Own,
+    /// The hello of each port, as a control frame.
+    pub(crate) hellos: Vec<Seq<u8>>,
+    pub(crate) up: PortSet,
 }
 
 impl Machine {
-    ghost use Rattle.bridge_control.specs.Machine.{view_of, IsCurrent, CanOriginate, IsAfter};
+    ghost use Rattle.bridge_control.specs.Machine.{view_of, IsCurrent, FollowsPorts, CanOriginate, IsAfter};
 
     /// A machine without ports, which takes no memory.
     pub(crate) fn idle(alloc: Global) -> Self {
@@ -58,6 +65,8 @@ impl Machine {
                 body: Seq::new(alloc),
                 spent: false,
             },
+            hellos: Vec::new(alloc),
+            up: PortSet::none(),
         }
     }
 
@@ -77,10 +86,13 @@ impl Machine {
         requires { config_specs.IsWhole config.now }
         ensures view { IfOk result (λ m. view_of m ≡ config_specs.bare config.now) }
         ensures system { IfOk result (λ m. m.own.system ≡ m.id.system) }
+        ensures ports { IfOk result FollowsPorts }
     {
         let vids = Vec::from_slice(alloc, config.vids.as_slice())?;
         let attached = Vec::from_slice(alloc, config.attached.as_slice())?;
         let ports = bare_ports(alloc, config.metrics.as_slice())?;
+        let hellos = hellos_of(alloc, config.id.system, ports.as_slice())?;
+        let up = up_ports(ports.as_slice());
         Ok(Machine {
             alloc,
             id: config.id,
@@ -94,6 +106,8 @@ impl Machine {
                 body: Seq::new(alloc),
                 spent: false,
             },
+            hellos,
+            up,
         })
     }
 
@@ -143,14 +157,25 @@ impl Machine {
         Ok(())
     }
 
+    /// Makes the hellos and the set of the Up ports anew, after neighbours were lost.
+    pub(crate) fn renew_hellos(&mut self) -> Result<(), NoMemory>
+        requires { length self.old.ports.items ≤ 32 }
+        ensures view { OnOk result (view_of self.new ≡ view_of self.old) }
+        ensures own { OnOk result (self.new.own ≡ self.old.own) }
+        ensures ports { OnOk result (FollowsPorts self.new) }
+    {
+        self.hellos = hellos_of(self.alloc, self.id.system, self.ports.as_slice())?;
+        self.up = up_ports(self.ports.as_slice());
+        Ok(())
+    }
+
     /// Originates (ISO/IEC 10589, 7.3.7).
     pub(crate) fn originate(&mut self) -> Result<(), NoMemory>
         requires can { CanOriginate self.old }
         requires current { IsCurrent self.old }
         ensures { OnOk result (IsAfter (api.originating (view_of self.old)) self.new) }
     {
-        let up = up_ports(self.ports.as_slice());
-        originate(self.alloc, &mut self.db, up, &mut self.own)
+        originate(self.alloc, &mut self.db, self.up, &mut self.own)
     }
 
     /// Originates where the own LSP that is held says something else than the bridge.
@@ -165,18 +190,32 @@ impl Machine {
         self.originate()
     }
 
-    /// Originates where the own LSP says something else or is old, and tells whether it did.
-    pub(crate) fn refresh(&mut self) -> Result<bool, NoMemory>
+    /// Originates where the own LSP says something else or is old, and tells whether it did. Only where its body was
+    /// renewed does it look whether the LSP says something else.
+    pub(crate) fn refresh(&mut self, renewed: bool) -> Result<bool, NoMemory>
         requires can { CanOriginate self.old }
         requires current { IsCurrent self.old }
+        requires said { renewed ≡ false → self.old.own.spent ≡ false → api.is_said (view_of self.old) ≡ true }
         ensures after { OnOk result (IsAfter (ticking.refreshed (view_of self.old)) self.new) }
         ensures idle { IfOk result (λ originated. originated ≡ false → self.new.db ≡ self.old.db) }
     {
-        if self.own.spent || (is_said(&self.db, &self.own) && !is_old(&self.db, &self.own)) {
+        if self.own.spent || self.stands(renewed) {
             return Ok(false);
         }
         self.originate()?;
         Ok(true)
+    }
+
+    /// Whether the own LSP says what the bridge has to say and isn't old.
+    fn stands(&self, renewed: bool) -> bool
+        requires current { IsCurrent self.now }
+        requires said { renewed ≡ false → api.is_said (view_of self.now) ≡ true }
+        ensures { result ≡ (api.is_said (view_of self.now) && not (ticking.is_old (api.own_entry (view_of self.now)))) }
+    {
+        if renewed && !is_said(&self.db, &self.own) {
+            return false;
+        }
+        !is_old(&self.db, &self.own)
     }
 }
 

@@ -68,35 +68,3 @@ fn parse_hello<'a>(hello: &Hello<'a>) -> Message<'a>
         Err(_) => Message::Dropped(DropReason::Tlv),
     }
 }
-
-#[cfg(test)]
-mod tests {
-    use super::{Message, parse};
-    use bridge_api::DropReason;
-    use std::test::Fail;
-
-    // A hello without a three-way adjacency, as a frame.
-    const ALONE: [u8; 46] = [
-        0x01, 0x80, 0xc2, 0x00, 0x00, 0x14, 2, 0, 0, 0, 0, 1, 0x00, 0x20, 0xfe, 0xfe, 0x03, 0x83,
-        0x14, 1, 0, 0x11, 1, 0, 0, 1, 2, 0, 0, 0, 0, 1, 0, 3, 0, 0x1d, 1, 1, 4, 3, 0x49, 0, 1,
-        0x81, 1, 0xc1,
-    ];
-
-    /// Why a frame is dropped.
-    fn reason(frame: &[u8]) -> Option<DropReason> {
-        match parse(frame) {
-            Message::Dropped(reason) => Some(reason),
-            _ => None,
-        }
-    }
-
-    #[test]
-    fn a_frame_that_is_dropped_says_why(rt: HostRuntime) -> Result<(), Fail> {
-        assert_eq!(rt; reason(&ALONE[..45]), Some(DropReason::Frame));
-        let mut other_protocol = ALONE;
-        other_protocol[17] = 0x82;
-        assert_eq!(rt; reason(&other_protocol), Some(DropReason::Pdu));
-        assert_eq!(rt; reason(&ALONE), Some(DropReason::Tlv));
-        Ok(())
-    }
-}

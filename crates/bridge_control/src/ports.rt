@@ -1,7 +1,8 @@
 //! Work on the ports of a bridge.
-ghost use Rattle.std.specs.Prelude.{◌≡◌, ◌-◌, ◌≤◌, Bool, true, false, length, map, Some, IfOk, slice_get, slice_set};
+ghost use Rattle.std.specs.Prelude.{◌≡◌, ◌-◌, ◌≤◌, Bool, true, false, length, map, Some, IfOk, slice_get, slice_set, if◌then◌else◌};
 ghost use Rattle.std.specs.List.{AllByRecursion};
-ghost use Rattle.lsdb.specs.Entry.{srm_set_at};
+ghost use Rattle.adjacency.specs.Adjacency as adjacency;
+ghost use Rattle.lsdb.specs.Entry.{srm_set_at, flags_cleared_at};
 ghost use Rattle.lsdb.specs.Database.{each};
 ghost use Rattle.bridge_api.specs.View.{is_port_up, up_from, port_in};
 ghost use Rattle.bridge_api.specs.Config.{port_without_carrier};
@@ -9,7 +10,7 @@ ghost use Rattle.bridge_api.specs.Own as own;
 ghost use Rattle.bridge_api.specs.Hearing as api;
 ghost use Rattle.bridge_api.specs.Ticking as ticking;
 ghost use Rattle.bridge_api.specs.Laws.{IsSoundPort};
-ghost use Rattle.bridge_control.specs.Ports.{AreSoundPorts, has_leaving};
+ghost use Rattle.bridge_control.specs.Ports.{AreSoundPorts, IsSameEnd, loses, has_lost};
 
 use adjacency::{AdjState, Adjacency, AdjacencyChange};
 use bridge_api::BridgePort;
@@ -61,6 +62,13 @@ pub(crate) fn is_up(port: &BridgePort) -> bool
     ensures { result ≡ is_port_up port.now }
 {
     port.adjacency.state == AdjState::Up
+}
+
+/// Whether hellos say the same of two adjacencies: one state, and the same neighbour and circuit.
+pub(crate) fn is_same_end(a: &Adjacency, b: &Adjacency) -> bool
+    ensures { result ≡ true → IsSameEnd a.now b.now }
+{
+    a.state == b.state && a.neighbour == b.neighbour && a.circuit == b.circuit
 }
 
 /// The ports that are Up.
@@ -127,22 +135,44 @@ fn member_of(system: SystemId, a: &Attachment) -> Member
 }
 
 /// A second passes at each port: the holding counts fall. Where the neighbour at an Up port is lost, the flags of the
-/// port are cleared and nothing is due there any more. Tells whether there is such a port.
+/// port are cleared and nothing is due there any more. Tells whether a neighbour is lost at any port.
 pub(crate) fn count_down(ports: &mut Vec<BridgePort>, db: &mut Database) -> bool
     requires few { length ports.old.items ≤ 32 }
     requires sound { AreSoundPorts ports.old.items }
     ensures ports { ports.new.items ≡ map ticking.later ports.old.items }
     ensures db { db.new ≡ each (λ id e. ticking.flags_cleared_at_all (ticking.leaving_from 1 ports.old.items) e) db.old }
-    ensures left { result ≡ has_leaving ports.old.items }
+    ensures lost { result ≡ has_lost ports.old.items }
 {
-    let mut left = false;
+    let mut lost = false;
     'count: for place in 0..ports.len() {
-        if pass_second(&mut ports[place]) {
-            db.clear_port(place as u8 + 1);
-            left = true;
+        if count_down_at(place as u8 + 1, &mut ports[place], db) {
+            lost = true;
         }
     }
-    left
+    lost
+}
+
+/// A second passes at the port of a number: the flags of the port are cleared where it leaves Up. Tells whether its
+/// neighbour is lost.
+fn count_down_at(number: u8, port: &mut BridgePort, db: &mut Database) -> bool
+    requires low { 1 ≤ number }
+    requires high { number ≤ 32 }
+    requires sound { IsSoundPort port.old }
+    ensures port { port.new ≡ ticking.later port.old }
+    ensures db { db.new ≡ (if ticking.leaves port.old then each (λ id e. flags_cleared_at number e) db.old else db.old) }
+    ensures lost { result ≡ loses port.old }
+{
+    let was_down = is_down(port);
+    if pass_second(port) {
+        db.clear_port(number);
+    }
+    !was_down && is_down(port)
+}
+
+fn is_down(port: &BridgePort) -> bool
+    ensures { result ≡ adjacency.is_down port.now.adjacency.state }
+{
+    port.adjacency.state == AdjState::Down
 }
 
 /// A second passes at a port. Tells whether its neighbour is lost and it leaves Up.
@@ -174,8 +204,7 @@ pub(crate) fn set_srm_for_all(db: &mut Database, port: u8)
     for place in 0..db.len() {
         if let Some(held) = db.at(place) {
             if !held.version.is_absent() {
-                let id = held.id;
-                db.set_srm(&id, port, true);
+                db.set_srm_at(place, port, true);
             }
         }
     }

@@ -1,38 +1,42 @@
 //! What a bridge sends in a second: to each port its hello, and to an Up one CSNPs, LSPs and PSNPs, as frames.
-ghost use Rattle.std.specs.Prelude.{◌≡◌, ◌+◌, ◌≤◌, ◌∷◌, [], true, false, length, map, OnOk, OnErr, if◌then◌else◌};
+ghost use Rattle.std.specs.Prelude.{◌≡◌, ◌+◌, ◌≤◌, ◌∷◌, [], true, false, length, map, slice_get, ℕ, OnOk, OnErr, if◌then◌else◌};
 ghost use Rattle.std.specs.List.{AllByRecursion};
-ghost use Rattle.std.specs.FinMap.{get};
+ghost use Rattle.std.specs.FinMap.{entries};
+ghost use Rattle.spb_types.specs.Ports.{has};
 ghost use Rattle.isis_pdu.specs.Grammar.{IsId};
-ghost use Rattle.lsdb.specs.Database.{any_flags};
+ghost use Rattle.lsdb.specs.Database.{any_flags, is_srm_at, is_ssn_at};
 ghost use Rattle.flooding.specs.Entries.{AreSendable};
 ghost use Rattle.snp_sync.specs.Sized.{AreSized};
 ghost use Rattle.snp_sync.specs.Sending.{bytes_in, all_ssn_cleared};
 ghost use Rattle.itag_frames.specs.Frame.{control_bytes};
 ghost use Rattle.bridge_api.specs.Step.{with_wire, Gains};
 ghost use Rattle.bridge_api.specs.Ticking as api;
-ghost use Rattle.bridge_control.specs.Frames.{frames_of, lsp_frames, flagged_at};
+ghost use Rattle.bridge_control.specs.Frames.{frames_of, frames_held, flagged_at};
+ghost use Rattle.bridge_control.specs.Machine.{hellos_from};
 
 use crate::hello::send_hello;
 use crate::ports::is_up;
 use bridge_api::{BridgePort, Outbox};
-use flooding::{to_send, write_held};
+use flooding::write_held;
 use itag_frames::control_frame;
 use lsdb::Database;
 use snp_sync::{csnps, psnps};
-use spb_types::{LspId, NoMemory, Seq, SystemId};
+use spb_types::{NoMemory, PortSet, Seq, SystemId};
 use std::alloc::Global;
 
-/// Puts what is sent at each port into the outbox, port by port. Where `has_flags` is false no flags stand, and no LSPs
-/// and PSNPs are looked for.
+/// Puts what is sent at each port into the outbox, port by port: `hellos` has the hello of each. Where `has_flags` is
+/// false no flags stand, and no LSPs and PSNPs are looked for; nor are they at a port at which none stand.
 pub(crate) fn send_all(
     alloc: Global,
     system: SystemId,
     ports: &[BridgePort],
+    hellos: &[Seq<u8>],
     db: &mut Database,
     has_flags: bool,
     outbox: &mut Outbox,
 ) -> Result<(), NoMemory>
     requires few { length ports.now ≤ 32 }
+    requires hellos { hellos.now ≡ hellos_from system 1 ports.now }
     requires sendable { AreSendable db.old }
     requires sized { AreSized db.old }
     requires idle { has_flags ≡ false → any_flags db.old ≡ false }
@@ -40,37 +44,81 @@ pub(crate) fn send_all(
     ensures after_sending { OnOk result (db.new ≡ api.after_sending_from 1 ports.now db.old) }
     ensures gained { OnErr result (Gains (api.sent_from system 1 ports.now db.old) outbox.old outbox.new) }
 {
+    let srm = srm_ports(db, has_flags);
+    let ssn = ssn_ports(db, has_flags);
     'send: for (place, port) in ports.iter().enumerate() {
-        send_at(alloc, system, place as u8 + 1, port, db, has_flags, outbox)?;
+        let number = place as u8 + 1;
+        let hello = hellos[place].as_slice();
+        let flags = Flags {
+            srm: srm.has(number),
+            ssn: ssn.has(number),
+        };
+        send_at(alloc, system, number, port, hello, db, flags, outbox)?;
     }
     Ok(())
 }
 
-/// Puts what is sent at a port into the outbox.
+/// The ports at which LSPs are to be sent. Where `has_flags` is false there are none, and none are looked for.
+fn srm_ports(db: &Database, has_flags: bool) -> PortSet
+    requires { has_flags ≡ false → any_flags db.now ≡ false }
+    ensures { (p : ℕ) → has result p ≡ false → is_srm_at p db.now ≡ false }
+{
+    if has_flags {
+        db.srm_ports()
+    } else {
+        PortSet::none()
+    }
+}
+
+/// The ports at which LSPs are to be acknowledged or asked for. Where `has_flags` is false there are none, and none are
+/// looked for.
+fn ssn_ports(db: &Database, has_flags: bool) -> PortSet
+    requires { has_flags ≡ false → any_flags db.now ≡ false }
+    ensures { (p : ℕ) → has result p ≡ false → is_ssn_at p db.now ≡ false }
+{
+    if has_flags {
+        db.ssn_ports()
+    } else {
+        PortSet::none()
+    }
+}
+
+/// Which flags may stand at a port: where `srm` is false none is to be sent there, and where `ssn` is false none is to be
+/// acknowledged or asked for.
+#[derive(Clone, Copy)]
+struct Flags {
+    srm: bool,
+    ssn: bool,
+}
+
+/// Puts what is sent at a port into the outbox. What the flags rule out isn't looked for.
 fn send_at(
     alloc: Global,
     system: SystemId,
     number: u8,
     port: &BridgePort,
+    hello: &[u8],
     db: &mut Database,
-    has_flags: bool,
+    flags: Flags,
     outbox: &mut Outbox,
 ) -> Result<(), NoMemory>
     requires low { 1 ≤ number }
     requires high { number ≤ 32 }
+    requires hello { hello.now ≡ api.hello_frame system number port.now }
     requires sendable { AreSendable db.old }
     requires sized { AreSized db.old }
-    requires idle { has_flags ≡ false → any_flags db.old ≡ false }
+    requires srm { flags.srm ≡ false → is_srm_at number db.old ≡ false }
+    requires ssn { flags.ssn ≡ false → is_ssn_at number db.old ≡ false }
     ensures sent { OnOk result (outbox.new ≡ with_wire (api.sent_at system number port.now db.old) outbox.old) }
     ensures after_sending { OnOk result (db.new ≡ api.after_sending_at number port.now db.old) }
     ensures gained { OnErr result (Gains (api.sent_at system number port.now db.old) outbox.old outbox.new) }
 {
-    send_hello(alloc, system, number, port, outbox)?;
+    send_hello(alloc, number, port, hello, outbox)?;
     if !is_up(port) {
         return Ok(());
     }
     send_summaries(alloc, system, number, port, db, outbox)?;
-    send_flagged(alloc, system, number, db, has_flags, outbox)
+    send_flagged(alloc, system, number, db, flags, outbox)
 }
 
 /// Puts the CSNPs of the whole database into the outbox where they are due.
@@ -99,65 +147,96 @@ fn send_flagged(
     system: SystemId,
     number: u8,
     db: &mut Database,
-    has_flags: bool,
+    flags: Flags,
     outbox: &mut Outbox,
 ) -> Result<(), NoMemory>
     requires low { 1 ≤ number }
     requires high { number ≤ 32 }
     requires sendable { AreSendable db.old }
     requires sized { AreSized db.old }
-    requires idle { has_flags ≡ false → any_flags db.old ≡ false }
+    requires srm { flags.srm ≡ false → is_srm_at number db.old ≡ false }
+    requires ssn { flags.ssn ≡ false → is_ssn_at number db.old ≡ false }
     ensures sent { OnOk result (outbox.new ≡ with_wire (flagged_at system number db.old) outbox.old) }
     ensures after_sending { OnOk result (db.new ≡ all_ssn_cleared number db.old) }
     ensures gained { OnErr result (Gains (flagged_at system number db.old) outbox.old outbox.new) }
 {
-    if !has_flags {
+    send_lsps(alloc, system, number, db, flags.srm, outbox)?;
+    send_requests(alloc, system, number, db, flags.ssn, outbox)
+}
+
+/// Puts PSNPs of what has SSN at a port into the outbox. Where `has_ssn` is false nothing has.
+fn send_requests(
+    alloc: Global,
+    system: SystemId,
+    number: u8,
+    db: &mut Database,
+    has_ssn: bool,
+    outbox: &mut Outbox,
+) -> Result<(), NoMemory>
+    requires low { 1 ≤ number }
+    requires high { number ≤ 32 }
+    requires sized { AreSized db.old }
+    requires idle { has_ssn ≡ false → is_ssn_at number db.old ≡ false }
+    ensures sent { OnOk result (outbox.new ≡ with_wire (api.requests_at system number db.old) outbox.old) }
+    ensures after_sending { OnOk result (db.new ≡ all_ssn_cleared number db.old) }
+    ensures gained { OnErr result (Gains (api.requests_at system number db.old) outbox.old outbox.new) }
+{
+    if !has_ssn {
         return Ok(());
     }
-    send_lsps(alloc, system, number, db, outbox)?;
     let pdus = psnps(alloc, db, system, number)?;
     send_pdus(alloc, system, number, pdus.as_slice(), outbox)
 }
 
-/// Puts the LSPs that are to be sent at a port into the outbox, in order of id.
+/// Puts the LSPs that are to be sent at a port into the outbox, in order of id. Where `has_srm` is false there
+/// are none.
 fn send_lsps(
     alloc: Global,
     system: SystemId,
     number: u8,
     db: &Database,
+    has_srm: bool,
     outbox: &mut Outbox,
 ) -> Result<(), NoMemory>
     requires low { 1 ≤ number }
     requires high { number ≤ 32 }
     requires sendable { AreSendable db.now }
     requires sized { AreSized db.now }
+    requires idle { has_srm ≡ false → is_srm_at number db.now ≡ false }
     ensures sent { OnOk result (outbox.new ≡ with_wire (api.lsps_at system number db.now) outbox.old) }
     ensures gained { OnErr result (Gains (api.lsps_at system number db.now) outbox.old outbox.new) }
 {
-    let ids = to_send(alloc, db, number)?;
-    'send: for id in ids.as_slice() {
-        send_lsp(alloc, system, number, db, id, outbox)?;
+    if !has_srm {
+        return Ok(());
+    }
+    'send: for place in 0..db.len() {
+        send_lsp(alloc, system, number, db, place, outbox)?;
     }
     Ok(())
 }
 
-/// Puts the LSP under an id into the outbox.
+/// Puts the LSP at a place into the outbox, if it is to be sent at the port.
 fn send_lsp(
     alloc: Global,
     system: SystemId,
     number: u8,
     db: &Database,
-    id: &LspId,
+    place: usize,
     outbox: &mut Outbox,
 ) -> Result<(), NoMemory>
+    requires low { 1 ≤ number }
+    requires high { number ≤ 32 }
     requires sendable { AreSendable db.now }
     requires sized { AreSized db.now }
-    ensures sent { OnOk result (outbox.new ≡ with_wire (lsp_frames system number id.now (get db.now id.now)) outbox.old) }
+    ensures sent { OnOk result (outbox.new ≡ with_wire (frames_held system number (slice_get (entries db.now) place)) outbox.old) }
     ensures kept { OnErr result (outbox.new ≡ outbox.old) }
 {
-    let Some(held) = db.find(id) else {
+    let Some(held) = db.at(place) else {
         return Ok(());
     };
+    if !held.srm.has(number) {
+        return Ok(());
+    }
     let pdu = write_held(alloc, held)?;
     send_pdu(alloc, system, number, pdu.as_slice(), outbox)
 }

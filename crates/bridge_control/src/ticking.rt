@@ -5,9 +5,10 @@ ghost use Rattle.bridge_api.specs.Own.{own_of};
 ghost use Rattle.bridge_api.specs.Step.{with_wire, Gains};
 ghost use Rattle.bridge_api.specs.Ticking as api;
 ghost use Rattle.bridge_control.specs.Machine.{view_of, IsReady, IsAfter};
+ghost use Rattle.bridge_control.specs.Ports.{has_lost};
 
 use crate::machine::Machine;
-use crate::ports::{clear_csnp_due, count_down, up_ports};
+use crate::ports::{clear_csnp_due, count_down};
 use crate::sending::send_all;
 use bridge_api::Outbox;
 use spb_types::NoMemory;
@@ -25,6 +26,7 @@ impl Machine {
             self.alloc,
             self.id.system,
             self.ports.as_slice(),
+            self.hellos.as_slice(),
             &mut self.db,
             has_flags,
             outbox,
@@ -39,21 +41,24 @@ impl Machine {
         ensures after { OnOk result (IsAfter (api.readied (view_of self.old)) self.new) }
         ensures idle { IfOk result (λ has_flags. has_flags ≡ false → any_flags self.new.db ≡ false) }
     {
-        self.count()?;
-        let up = up_ports(self.ports.as_slice());
-        let flags = self.db.age_one(up);
-        let originated = self.refresh()?;
+        let lost = self.count()?;
+        let flags = self.db.age_one(self.up);
+        let originated = self.refresh(lost)?;
         Ok(flags || originated)
     }
 
-    /// The holding counts fall. Where a neighbour is lost, the body of the own LSP is made anew.
-    fn count(&mut self) -> Result<(), NoMemory>
+    /// The holding counts fall, and it tells whether a neighbour is lost. Where one is, the hellos and the body of the
+    /// own LSP are made anew.
+    fn count(&mut self) -> Result<bool, NoMemory>
         requires { IsReady self.old }
-        ensures { OnOk result (IsAfter (api.counts_lowered (view_of self.old)) self.new) }
+        ensures after { OnOk result (IsAfter (api.counts_lowered (view_of self.old)) self.new) }
+        ensures lost { IfOk result (λ lost. lost ≡ has_lost self.old.ports.items) }
     {
-        if count_down(&mut self.ports, &mut self.db) {
-            self.renew_body()?;
+        if !count_down(&mut self.ports, &mut self.db) {
+            return Ok(false);
         }
-        Ok(())
+        self.renew_hellos()?;
+        self.renew_body()?;
+        Ok(true)
     }
 }

@@ -4,7 +4,7 @@ use adjacency::Adjacency;
 use bridge_api::{Bridge, BridgeConfig, Kind, Outbox};
 use bridge_control::ControlPlane;
 use lsdb::Held;
-use spb_types::NoMemory;
+use spb_types::{Mac, NoMemory, Tables, Vid};
 use std::alloc::Global;
 use std::marker::Model;
 
@@ -88,5 +88,13 @@ impl Bridge for PlainBridge {
 
     fn entry(&self, place: usize) -> Option<&Held> {
         self.control.entry(place)
+    }
+
+    fn tables(&self) -> Result<Tables, NoMemory> {
+        self.control.tables()
+    }
+
+    fn unicast_port(&self, vid: Vid, mac: Mac) -> Result<Option<u8>, NoMemory> {
+        self.control.unicast_port(vid, mac)
     }
 }

@@ -9,7 +9,7 @@ use crate::PlainBridge;
 use adjacency::AdjState;
 use bridge_api::{Bridge, BridgeConfig, Kind, Outbox};
 use lsdb::{DbRow, Version};
-use spb_types::{BridgeId, Mac, NoMemory, Seq, SourceId, SystemId};
+use spb_types::{BridgeId, Mac, NoMemory, Seq, SourceId, SystemId, UnicastRow, Vid, VidPlan};
 use std::alloc::Global;
 use std::test::Fail;
 
@@ -33,41 +33,75 @@ const OLD_LSP: [u8; 44] = [
     1, 0, 0x12, 1, 0, 0, 0, 0x1b, 3, 0xe8, 2, 0, 0, 0, 0, 1, 0, 0, 0, 0, 0, 9, 0xcc, 0x26, 1,
 ];
 
-/// The configuration of a bridge with one port and no VID; its address ends in this number, which is its source too.
+/// The configuration of a bridge with one port. Its address ends in this number, which is its source too.
+macro_rules! one_port {
+    ($last:expr, $vids:expr, $metrics:expr, $attached:expr) => {
+        BridgeConfig {
+            id: BridgeId {
+                priority: 32768,
+                system: SystemId {
+                    mac: Mac {
+                        bytes: [2, 0, 0, 0, 0, $last],
+                    },
+                },
+            },
+            source: SourceId {
+                value: u32::from($last),
+            },
+            ports: 1,
+            vids: $vids,
+            metrics: $metrics,
+            attached: $attached,
+        }
+    };
+}
+
+/// The configuration of a bridge with one port and no VID.
 fn config(alloc: Global, last: u8) -> Result<BridgeConfig, NoMemory>
     ensures whole { IfOk result IsWhole }
     ensures port { IfOk result (λ c. c.ports ≡ 1) }
 {
     let mut metrics = Seq::new(alloc);
     metrics.push(10)?;
-    Ok(BridgeConfig {
-        id: BridgeId {
-            priority: 32768,
-            system: SystemId {
-                mac: Mac {
-                    bytes: [2, 0, 0, 0, 0, last],
-                },
-            },
-        },
-        source: SourceId {
-            value: u32::from(last),
-        },
-        ports: 1,
-        vids: Seq::new(alloc),
-        metrics,
-        attached: Seq::new(alloc),
-    })
+    let config = one_port!(last, Seq::new(alloc), metrics, Seq::new(alloc));
+    Ok(config)
 }
 
-/// Makes a blank bridge that of the configuration, with carrier at its port.
+/// The same with the VID 10 under the ECT algorithm 1.
+fn config_in_vid_10(alloc: Global, last: u8) -> Result<BridgeConfig, NoMemory>
+    ensures whole { IfOk result IsWhole }
+    ensures port { IfOk result (λ c. c.ports ≡ 1) }
+{
+    let mut metrics = Seq::new(alloc);
+    metrics.push(10)?;
+    let mut vids = Seq::new(alloc);
+    vids.push(VidPlan {
+        vid: Vid { value: 10 },
+        ect: 1,
+    })?;
+    let config = one_port!(last, vids, metrics, Seq::new(alloc));
+    Ok(config)
+}
+
+/// Makes a blank bridge that of a configuration with one port, with carrier there.
+fn make_of<B: Bridge>(bridge: &mut B, config: &BridgeConfig) -> Result<(), NoMemory>
+    requires blank { (B.shown bridge.old).blank ≡ true }
+    requires whole { IsWhole config.now }
+    requires port { config.now.ports ≡ 1 }
+    ensures made { OnOk result ((B.shown bridge.new).blank ≡ false) }
+    ensures port { OnOk result (1 ≤ length (B.shown bridge.new).view.ports) }
+{
+    bridge.configure(config)?;
+    bridge.carrier(1, true)
+}
+
+/// Makes a blank bridge one with one port and no VID, with carrier at its port.
 fn make<B: Bridge>(alloc: Global, bridge: &mut B, last: u8) -> Result<(), NoMemory>
     requires { (B.shown bridge.old).blank ≡ true }
     ensures made { OnOk result ((B.shown bridge.new).blank ≡ false) }
     ensures port { OnOk result (1 ≤ length (B.shown bridge.new).view.ports) }
 {
-    let config = config(alloc, last)?;
-    bridge.configure(&config)?;
-    bridge.carrier(1, true)
+    make_of(bridge, &config(alloc, last)?)
 }
 
 /// A second passes at `from`, and all that it sends comes to the port 1 of `to`.
@@ -272,6 +306,35 @@ fn two_boxes_come_to_hold_the_same(rt: HostRuntime) -> Result<(), Fail> {
 }
 
 #[test]
+fn two_boxes_show_each_other_in_their_tables(rt: HostRuntime) -> Result<(), Fail> {
+    let alloc = rt.alloc();
+    let mut a: Box<dyn Bridge> = Box::new(alloc, PlainBridge::blank(alloc))?;
+    make_of(&mut a, &config_in_vid_10(alloc, 1)?)?;
+    let mut b: Box<dyn Bridge> = Box::new(alloc, PlainBridge::blank(alloc))?;
+    make_of(&mut b, &config_in_vid_10(alloc, 2)?)?;
+    assert!(rt; a.tables()?.unicast.is_empty());
+    greet(alloc, &mut a, &mut b)?;
+    greet(alloc, &mut b, &mut a)?;
+    greet(alloc, &mut a, &mut b)?;
+    greet(alloc, &mut b, &mut a)?;
+    greet(alloc, &mut a, &mut b)?;
+    let vid = Vid { value: 10 };
+    let mac = Mac {
+        bytes: [2, 0, 0, 0, 0, 2],
+    };
+    let tables = a.tables()?;
+    match tables.unicast.as_slice() {
+        [row] => assert_eq!(rt; *row, UnicastRow { vid, mac, port: 1 }),
+        _ => panic!(rt; "not one row"),
+    }
+    assert!(rt; tables.group.is_empty());
+    assert_eq!(rt; a.unicast_port(vid, mac)?, Some(1));
+    assert_eq!(rt; a.unicast_port(Vid { value: 20 }, mac)?, None);
+    assert_eq!(rt; b.unicast_port(vid, mac)?, None);
+    Ok(())
+}
+
+#[test]
 fn another_neighbour_at_an_up_port_gets_all_and_is_owed_nothing(
     rt: HostRuntime,
 ) -> Result<(), Fail> {
@@ -354,6 +417,9 @@ fn a_box_drops_garbage_and_stays_as_it_was(rt: HostRuntime) -> Result<(), Fail> 
     let mut other_protocol = FIRST_HELLO;
     other_protocol[17] = 0x82;
     assert!(rt; is_dropped(alloc, &mut b, &other_protocol)?);
+    let mut without_three_way = FIRST_HELLO;
+    without_three_way[46] = 0xf1;
+    assert!(rt; is_dropped(alloc, &mut b, &without_three_way)?);
     assert!(rt; !is_dropped(alloc, &mut b, &FIRST_HELLO)?);
     Ok(())
 }

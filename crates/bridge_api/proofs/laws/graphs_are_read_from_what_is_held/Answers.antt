@@ -1,4 +1,6 @@
 use Rattle.bridge_api.proofs.GraphRead.{reads_what_is_held, reads_each_once, reads_itself}
+use Rattle.bridge_api.proofs.OthersRead.{reads_others}
+use Rattle.bridge_api.proofs.SaidNeighbours.{says_its_neighbours}
 use Rattle.bridge_api.proofs.OwnPorts.{own_ports_are_apart}
 use Rattle.bridge_api.proofs.laws.graphs_are_read_from_what_is_held.Goals as goal
 
@@ -13,3 +15,9 @@ returns-clause-own c = reads_itself
 
 pub returns-clause-ports : goal.returns-clause-ports
 returns-clause-ports c = own_ports_are_apart
+
+pub returns-clause-others : goal.returns-clause-others
+returns-clause-others c = reads_others
+
+pub returns-clause-neighbours : goal.returns-clause-neighbours
+returns-clause-neighbours c = says_its_neighbours

@@ -17,7 +17,7 @@ loop-place-preserved c =
     elim c.match-at.branch [
       | in-Some+then-not-is_absent w ↦
           let e = entry_of w.in-Some.held.now in
-          changed_more f (with_srm c.args.port true) _ _ _ c.loop-place.place (keyed w.in-Some.held.now) c.loop-place.invariant within w.in-Some.ensures.entry (ap (λ b. if b then e else flagged c.args.port e) (sym w.is_absent.ensures ∙ w.if-not-is_absent.true)) (w.db-is ∙ w.set_srm.ensures)
+          changed_more f (with_srm c.args.port true) _ _ _ c.loop-place.place (keyed w.in-Some.held.now) c.loop-place.invariant within w.in-Some.ensures.entry (ap (λ b. if b then e else flagged c.args.port e) (sym w.is_absent.ensures ∙ w.if-not-is_absent.true)) (w.db-is ∙ w.set_srm_at.ensures)
       | in-Some+else-not-is_absent w ↦
           let e = entry_of w.in-Some.held.now in
           changed_kept f _ _ _ c.loop-place.place (keyed w.in-Some.held.now) c.loop-place.invariant within w.in-Some.ensures.entry (ap (λ b. if b then e else flagged c.args.port e) (sym w.is_absent.ensures ∙ w.if-not-is_absent.false)) w.db-is

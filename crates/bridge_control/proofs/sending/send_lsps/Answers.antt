@@ -1,20 +1,25 @@
-use Rattle.std.proofs.Common.{List, take, ap, ◌∙◌}
+use Rattle.std.proofs.Common.{[], ◌≤◌, length, take, arith, ap, ◌∙◌}
 use Rattle.std.proofs.lemmas.List.{take_all}
-use Rattle.spb_types.specs.declared.address.LspId.{LspId}
-use Rattle.bridge_control.proofs.Wire.{frames_under, under_next, under_some, under_sent, sent_as, on_err}
+use Rattle.std.specs.FinMap.{entries, len-entries}
+use Rattle.bridge_control.proofs.Wire.{frames_among, among_next, among_some, among_sent, sent_as, sent_none, on_err}
+use Rattle.bridge_control.proofs.Sends.{no_lsps}
 use Rattle.bridge_control.proofs.sending.send_lsps.Goals as goal
+
+pub returns-then-not-has_srm-clause-sent : goal.returns-then-not-has_srm-clause-sent
+returns-then-not-has_srm-clause-sent c =
+    sent_as [] _ c.args.outbox.now c.args.outbox.now (no_lsps c.args.system c.args.number c.args.db.now (c.requires.idle c.if-not-has_srm.true)) (sent_none c.args.outbox.now)
 
 pub returns-in_err-send_lsp-clause-gained : goal.returns-in_err-send_lsp-clause-gained
 returns-in_err-send_lsp-clause-gained c =
-    on_err c.from_residual-in_err-send_lsp.result (under_some c.args.system c.args.number c.args.db.now c.as_slice-id-items.result.now c.send.id-index c.args.outbox.now c.send_lsp.new.outbox (c.as_slice-id-items.ensures.value ∙ c.in_ok-ids.ensures) (c.in_err-send_lsp.ensures.kept ∙ c.send.invariant))
+    on_err c.from_residual.result (among_some c.args.system c.args.number c.args.db.now c.send.place c.args.outbox.now c.send_lsp.new.outbox (c.in_err-send_lsp.ensures.kept ∙ c.send.invariant))
 
 pub send-preserved : goal.send-preserved
 send-preserved c =
-    under_next c.args.system c.args.number c.args.db.now c.as_slice-id-items.result.now c.send.id-index _ c.args.outbox.now c.send.outbox c.send_lsp.new.outbox c.send-test.true c.send.invariant c.in_ok-send_lsp.ensures.sent
+    among_next c.args.system c.args.number (entries c.args.db.now) c.send.place c.args.outbox.now c.send.outbox c.send_lsp.new.outbox c.send.invariant c.in_ok-send_lsp.ensures.sent
 
 pub returns-clause-sent : goal.returns-clause-sent
 returns-clause-sent c =
-    let ids : List LspId = c.as_slice-id-items.result.now in
-    sent_as (frames_under c.args.system c.args.number c.args.db.now (take c.send.id-index ids)) _ c.args.outbox.now c.send.outbox
-    (ap (frames_under c.args.system c.args.number c.args.db.now) (take_all c.send.id-index ids c.send-test.false ∙ (c.as_slice-id-items.ensures.value ∙ c.in_ok-ids.ensures)) ∙ under_sent c.args.system c.args.number c.args.db.now)
+    let past : length (entries c.args.db.now) ≤ c.send.place = omega (arith, c.len-place-end.ensures.len, len-entries c.args.db.now) in
+    sent_as (frames_among c.args.system c.args.number (take c.send.place (entries c.args.db.now))) _ c.args.outbox.now c.send.outbox
+    (ap (frames_among c.args.system c.args.number) (take_all c.send.place (entries c.args.db.now) past) ∙ among_sent c.args.system c.args.number c.args.db.now)
     c.send.invariant

@@ -1,13 +1,34 @@
 use Rattle.std.proofs.Common.{sym, ◌∙◌}
-use Rattle.bridge_control.proofs.Seconds.{counts_lowered_local, counts_lowered_same, counts_lowered_anew}
+use Rattle.bridge_control.proofs.Seconds.{counts_lowered_few, counts_lowered_same, counts_lowered_view_anew, counts_lowered_few_anew, counts_lowered_system_anew, counts_lowered_local_anew, counts_lowered_anew}
 use Rattle.bridge_control.proofs.machine.Machine.count.Goals as goal
 
+pub returns-then-not-count_down-clause-after : goal.returns-then-not-count_down-clause-after
+returns-then-not-count_down-clause-after c =
+    counts_lowered_same c.args.self.now c.count_down.new.ports c.count_down.new.db c.requires c.count_down.ensures.ports c.count_down.ensures.db (sym c.count_down.ensures.lost ∙ c.if-not-count_down.true)
+
+pub renew_hellos-requires : goal.renew_hellos-requires
+renew_hellos-requires c = counts_lowered_few c.args.self.now c.count_down.new.ports c.requires c.count_down.ensures.ports
+
+pub renew_body-requires-clause-few : goal.renew_body-requires-clause-few
+renew_body-requires-clause-few c =
+    let m = c.args.self.now in
+    let is = counts_lowered_view_anew m c.renew_hellos.new.self c.count_down.new.ports c.count_down.new.db c.count_down.ensures.ports c.count_down.ensures.db c.in_ok-renew_hellos.ensures.view in
+    counts_lowered_few_anew m c.renew_hellos.new.self c.requires is
+
+pub renew_body-requires-clause-system : goal.renew_body-requires-clause-system
+renew_body-requires-clause-system c =
+    let m = c.args.self.now in
+    let is = counts_lowered_view_anew m c.renew_hellos.new.self c.count_down.new.ports c.count_down.new.db c.count_down.ensures.ports c.count_down.ensures.db c.in_ok-renew_hellos.ensures.view in
+    counts_lowered_system_anew m c.renew_hellos.new.self c.requires is c.in_ok-renew_hellos.ensures.own
+
 pub renew_body-requires-clause-local : goal.renew_body-requires-clause-local
-renew_body-requires-clause-local c = counts_lowered_local c.args.self.now c.count_down.new.ports c.count_down.new.db c.requires c.count_down.ensures.ports c.count_down.ensures.db
+renew_body-requires-clause-local c =
+    let m = c.args.self.now in
+    let is = counts_lowered_view_anew m c.renew_hellos.new.self c.count_down.new.ports c.count_down.new.db c.count_down.ensures.ports c.count_down.ensures.db c.in_ok-renew_hellos.ensures.view in
+    counts_lowered_local_anew m c.renew_hellos.new.self c.requires is
 
-pub returns-in_ok-renew_body : goal.returns-in_ok-renew_body
-returns-in_ok-renew_body c = counts_lowered_anew c.args.self.now c.renew_body.new.self c.count_down.new.ports c.count_down.new.db c.count_down.ensures.ports c.count_down.ensures.db c.in_ok-renew_body.ensures
-
-pub returns-else-count_down : goal.returns-else-count_down
-returns-else-count_down c =
-    counts_lowered_same c.args.self.now c.count_down.new.ports c.count_down.new.db c.requires c.count_down.ensures.ports c.count_down.ensures.db (sym c.count_down.ensures.left ∙ c.if-count_down.false)
+pub returns-clause-after : goal.returns-clause-after
+returns-clause-after c =
+    let m = c.args.self.now in
+    let is = counts_lowered_view_anew m c.renew_hellos.new.self c.count_down.new.ports c.count_down.new.db c.count_down.ensures.ports c.count_down.ensures.db c.in_ok-renew_hellos.ensures.view in
+    counts_lowered_anew m c.renew_hellos.new.self c.renew_body.new.self c.in_ok-renew_hellos.ensures.ports is c.in_ok-renew_body.ensures

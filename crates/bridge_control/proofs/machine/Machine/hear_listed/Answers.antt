@@ -11,7 +11,7 @@ hear_csnp-requires-clause-body c = some_body c.args.self.now c.requires.ready.cu
 pub originate_if_changed-requires-clause-can : goal.originate_if_changed-requires-clause-can
 originate_if_changed-requires-clause-can c =
     let m = c.args.self.now in
-    let up = c.up_ports-up.result in
+    let up = m.up in
     let csnp = csnp_of c.args.csnp.now in
     let claims = claims_in c.args.entries.now in
     heard_can m (hear_csnp_of up c.args.port csnp.start csnp.end claims (holding m.db m.own)) c.hear_csnp.new.db c.hear_csnp.new.own c.requires.ready (csnp_heard m up c.args.port csnp.start csnp.end claims c.requires.ready) c.in_ok-hear_csnp.ensures.heard
@@ -19,7 +19,7 @@ originate_if_changed-requires-clause-can c =
 pub originate_if_changed-requires-clause-current : goal.originate_if_changed-requires-clause-current
 originate_if_changed-requires-clause-current c =
     let m = c.args.self.now in
-    let up = c.up_ports-up.result in
+    let up = m.up in
     let csnp = csnp_of c.args.csnp.now in
     let claims = claims_in c.args.entries.now in
     heard_current m (hear_csnp_of up c.args.port csnp.start csnp.end claims (holding m.db m.own)) c.hear_csnp.new.db c.hear_csnp.new.own c.requires.ready (csnp_heard m up c.args.port csnp.start csnp.end claims c.requires.ready) c.in_ok-hear_csnp.ensures.heard

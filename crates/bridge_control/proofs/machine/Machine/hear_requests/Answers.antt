@@ -10,13 +10,13 @@ hear_psnp-requires-clause-body c = some_body c.args.self.now c.requires.ready.cu
 pub originate_if_changed-requires-clause-can : goal.originate_if_changed-requires-clause-can
 originate_if_changed-requires-clause-can c =
     let m = c.args.self.now in
-    let up = c.up_ports-up.result in
+    let up = m.up in
     let claims = claims_in c.args.entries.now in
     heard_can m (hear_entries_of up c.args.port claims (holding m.db m.own)) c.hear_psnp.new.db c.hear_psnp.new.own c.requires.ready (entries_heard m up c.args.port claims c.requires.ready) c.in_ok-hear_psnp.ensures.heard
 
 pub originate_if_changed-requires-clause-current : goal.originate_if_changed-requires-clause-current
 originate_if_changed-requires-clause-current c =
     let m = c.args.self.now in
-    let up = c.up_ports-up.result in
+    let up = m.up in
     let claims = claims_in c.args.entries.now in
     heard_current m (hear_entries_of up c.args.port claims (holding m.db m.own)) c.hear_psnp.new.db c.hear_psnp.new.own c.requires.ready (entries_heard m up c.args.port claims c.requires.ready) c.in_ok-hear_psnp.ensures.heard

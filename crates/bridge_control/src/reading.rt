@@ -1,0 +1,100 @@
+//! The graph that a bridge reads from the LSPs that it holds, and its tables in that graph.
+ghost use Rattle.std.specs.Prelude.{◌≡◌, ◌≤◌, ◌++◌, length, IfOk, OnOk};
+ghost use Rattle.std.specs.List.{filter_map};
+ghost use Rattle.std.specs.Option.{option_to_list};
+ghost use Rattle.std.specs.FinMap.{entries};
+ghost use Rattle.spb_types.specs.declared.limits.TheConstants.{MOST_LSPS};
+ghost use Rattle.flooding.specs.Own as own;
+ghost use Rattle.lsdb.specs.Database.{keyed};
+ghost use Rattle.bridge_api.specs.Graph as read;
+ghost use Rattle.bridge_api.specs.Graph.{own_tables};
+ghost use Rattle.bridge_api.specs.Laws.{IsSoundView};
+ghost use Rattle.bridge_control.specs.Machine.{view_of};
+
+use crate::machine::Machine;
+use fdb_build::tables_of;
+use lsdb::{Database, Held, Version};
+use spb_content::{Content, read_content, said_graph_of};
+use spb_types::{LspId, NoMemory, SystemId, Tables};
+use std::alloc::Global;
+
+/// The TLVs of a body, which follow its flags octet (ISO/IEC 10589, 9.8).
+fn tlvs_of(body: &[u8]) -> &[u8]
+    ensures { result.now ≡ own.tlvs_of_body body.now }
+{
+    match body {
+        [_, tlvs @ ..] => tlvs,
+        [] => [].as_slice(),
+    }
+}
+
+/// Whether this is the id of the LSP that its system originates.
+fn is_originated(id: &LspId) -> bool
+    ensures { result ≡ own.is_originated id.now.system id.now }
+{
+    id.pseudonode == 0 && id.number == 0
+}
+
+/// What an LSP that is held says. None exactly where it isn't live.
+fn live_content(alloc: Global, held: &Held) -> Result<Option<Content>, NoMemory>
+    ensures { IfOk result (λ content. content ≡ read.live_content held.now.version held.now.body) }
+{
+    match held.version {
+        Version::Live { .. } => Ok(Some(read_content(alloc, tlvs_of(held.body.as_slice()))?)),
+        Version::Absent | Version::Dead { .. } => Ok(None),
+    }
+}
+
+/// What an LSP that is held says of its system. None exactly where it isn't live, or isn't one that the system
+/// originates.
+fn read_held(alloc: Global, held: &Held) -> Result<Option<(SystemId, Content)>, NoMemory>
+    ensures { IfOk result (λ said. said ≡ read.read_entry (keyed held.now)) }
+{
+    if !is_originated(&held.id) {
+        return Ok(None);
+    }
+    match live_content(alloc, held)? {
+        None => Ok(None),
+        Some(content) => Ok(Some((held.id.system, content))),
+    }
+}
+
+/// Puts what an LSP that is held says of its system behind the others.
+fn push_read(
+    alloc: Global,
+    list: &mut Vec<(SystemId, Content)>,
+    held: &Held,
+) -> Result<(), NoMemory>
+    ensures { OnOk result (list.new.items ≡ list.old.items ++ option_to_list (read.read_entry (keyed held.now))) }
+{
+    if let Some(said) = read_held(alloc, held)? {
+        list.push(said)?;
+    }
+    Ok(())
+}
+
+/// What a bridge reads of all systems from the LSPs that it holds, in order of their ids.
+fn contents(alloc: Global, db: &Database) -> Result<Vec<(SystemId, Content)>, NoMemory>
+    ensures read { IfOk result (λ list. list.items ≡ filter_map read.read_entry (entries db.now)) }
+    ensures few { IfOk result (λ list. length list.items ≤ MOST_LSPS) }
+{
+    let mut list = Vec::new(alloc);
+    for place in 0..db.len() {
+        if let Some(held) = db.at(place) {
+            push_read(alloc, &mut list, held)?;
+        }
+    }
+    Ok(list)
+}
+
+impl Machine {
+    /// The tables of the bridge in the graph of all that it reads.
+    pub(crate) fn tables(&self) -> Result<Tables, NoMemory>
+        requires { IsSoundView (view_of self.now) }
+        ensures { IfOk result (λ t. t ≡ own_tables (view_of self.now)) }
+    {
+        let list = contents(self.alloc, &self.db)?;
+        let graph = said_graph_of(self.alloc, list.as_slice())?;
+        tables_of(self.alloc, &graph, self.id.system, self.vids.as_slice())
+    }
+}
