@@ -1,13 +1,22 @@
 -- The laws of a step of a bridge, on which what is sound of a network rests.
 use Rattle.itag_frames.proofs.ControlLaws.{control_again}
-use Rattle.bridge_api.specs.Laws.{ConfiguredIsSound, ConfiguredHasNoCarrier, StepsStaySound, StepsKeepBridge, StepsKeepCarrier, StepsKeepNeighbours, SentIsSound, HellosAreHeard, UpPortsAreUp, StepsCarryDatabase}
+use Rattle.bridge_api.specs.Laws.{ConfiguredIsSound, ConfiguredHasNoCarrier, StepsStaySound, StepsKeepBridge, StepsKeepCarrier, StepsKeepNeighbours, SentIsSound, OneHello, HellosAreHeard, UpPortsAreUp, StepsCarryDatabase, ConfiguredHoldsOwn}
+use Rattle.bridge_api.specs.Counting.{StepsHoldIds, StepsLearnVersions, StepsAnswer, StepsOriginate, StepsDontSpend, ConfiguredIsFar}
+use Rattle.bridge_api.specs.Time.{SecondsAge}
+use Rattle.bridge_api.proofs.Answering as answering
 use Rattle.bridge_api.proofs.Certified as certified
 use Rattle.bridge_api.proofs.Carriers as carriers
+use Rattle.bridge_api.proofs.DataSteps as stored
 use Rattle.bridge_api.proofs.Frames as frames
+use Rattle.bridge_api.proofs.HeldIds as ids
 use Rattle.bridge_api.proofs.Hellos as hellos
+use Rattle.bridge_api.proofs.Learning as learning
+use Rattle.bridge_api.proofs.OneHello as hello
+use Rattle.bridge_api.proofs.Originating as originating
 use Rattle.bridge_api.proofs.Sound as stays
 use Rattle.bridge_api.proofs.SoundPorts as ports
 use Rattle.bridge_api.proofs.StepsCarry as set_carrier
+use Rattle.bridge_api.proofs.TimeLsps as ages
 use Rattle.bridge_api.proofs.UpPorts as up
 
 pub configured_is_sound : ConfiguredIsSound
@@ -39,3 +48,30 @@ up_ports_are_up = up.up_ports_are_up
 
 pub steps_carry_database : StepsCarryDatabase
 steps_carry_database = set_carrier.steps_carry_database
+
+pub one_hello : OneHello
+one_hello = hello.one_hello control_again
+
+pub seconds_age : SecondsAge
+seconds_age = ages.seconds_age
+
+pub steps_hold_ids : StepsHoldIds
+steps_hold_ids = ids.steps_hold_ids
+
+pub steps_learn_versions : StepsLearnVersions
+steps_learn_versions = learning.steps_learn_versions
+
+pub steps_answer : StepsAnswer
+steps_answer = answering.steps_answer
+
+pub steps_originate : StepsOriginate
+steps_originate = originating.steps_originate
+
+pub steps_dont_spend : StepsDontSpend
+steps_dont_spend = originating.steps_dont_spend
+
+pub configured_is_far : ConfiguredIsFar
+configured_is_far = originating.configured_is_far
+
+pub configured_holds_own : ConfiguredHoldsOwn
+configured_holds_own = stored.configured_holds_own

@@ -15,7 +15,7 @@ use Rattle.spb_network.specs.Questions.{adjacencies_of}
 pub some-is : {X : Type 0} (x y : X) → Some x ≡ Some y → x ≡ y
 some-is x y h = cc
 
-suc-is : (k : ℕ) → k + 1 ≡ suc k
+pub suc-is : (k : ℕ) → k + 1 ≡ suc k
 suc-is k = omega arith
 
 one-at-most : (p : ℕ) → nat_le 1 (p + 1) ≡ true
@@ -24,7 +24,7 @@ one-at-most p = grind (arith, nat_tests)
 less-one : (p : ℕ) → p + 1 - 1 ≡ p
 less-one p = omega arith
 
-port-next : (ports : List BridgePort) (p : ℕ) → port_in ports (p + 1) ≡ slice_get ports p
+pub port-next : (ports : List BridgePort) (p : ℕ) → port_in ports (p + 1) ≡ slice_get ports p
 port-next ports p = rw (one-at-most p, less-one p) refl
 
 shown-at : (ports : List BridgePort) (p : ℕ) (a : Adjacency) (due : Bool) → Some a ≡ option_map (λ port. port.adjacency) (slice_get ports p) → due ≡ is_csnp_due_in (slice_get ports p) → take (suc p) (adjacencies_of ports) ≡ take p (adjacencies_of ports) ++ (a, due) ∷ []

@@ -43,7 +43,7 @@ ports_if : (b : Bool) (v w : BridgeView) → w.ports ≡ v.ports → (if b then 
 ports_if true v w same = refl
 ports_if false v w same = same
 
-originated_if_changed_ports : (v : BridgeView) → (originated_if_changed v).ports ≡ v.ports
+pub originated_if_changed_ports : (v : BridgeView) → (originated_if_changed v).ports ≡ v.ports
 unfolding originated_if_changed
 originated_if_changed_ports v = ports_if _ v (originating v) refl
 

@@ -156,7 +156,7 @@ no_lane Ab zero = refl
 no_lane Ba zero = refl
 no_lane dir (suc k) = refl
 
-lane-push : (lanes : List LinkLanes) (k : ℕ) (dir : Dir) → lane_of (lanes ++ no_frames ∷ []) k dir ≡ lane_of lanes k dir
+pub lane-push : (lanes : List LinkLanes) (k : ℕ) (dir : Dir) → lane_of (lanes ++ no_frames ∷ []) k dir ≡ lane_of lanes k dir
 lane-push [] k dir = no_lane dir k
 lane-push (x ∷ lanes) zero dir = refl
 lane-push (x ∷ lanes) (suc k) dir = lane-push lanes k dir

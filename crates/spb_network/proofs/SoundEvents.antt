@@ -78,12 +78,12 @@ Sound-ticked s i sound = stays_stepped comes.second s s.lanes i (λ v at. tt) re
 
 -- ---- a frame is delivered
 
-turned-turned : (dir : Dir) → turned (turned dir) ≡ dir
+pub turned-turned : (dir : Dir) → turned (turned dir) ≡ dir
 turned-turned Ab = refl
 turned-turned Ba = refl
 
 -- the front of a lane comes to the far end of the link
-front_comes : (s : State) (k : ℕ) (dir : Dir) (l : DeclaredLink) (bytes : Frame) → IsCore s → slice_get (links_of s) k ≡ Some l → slice_get (lane_at s k dir) 0 ≡ Some bytes → (p : ℕ) (f : Frame) → comes.frame (far_end dir l).port bytes ≡ comes.frame p f → Comes (links_of s) s.lanes (far_end dir l).bridge p f
+pub front_comes : (s : State) (k : ℕ) (dir : Dir) (l : DeclaredLink) (bytes : Frame) → IsCore s → slice_get (links_of s) k ≡ Some l → slice_get (lane_at s k dir) 0 ≡ Some bytes → (p : ℕ) (f : Frame) → comes.frame (far_end dir l).port bytes ≡ comes.frame p f → Comes (links_of s) s.lanes (far_end dir l).bridge p f
 front_comes s k dir l bytes core at front p f is =
     let port : (far_end dir l).port ≡ p = cc in
     let same : bytes ≡ f = cc in
@@ -95,7 +95,7 @@ front_comes s k dir l bytes core at front p f is =
       among = subst (λ (d : Dir). IsIn f (lane_of s.lanes k d)) (sym (turned-turned dir)) (subst (λ (g : Frame). IsIn g (lane_of s.lanes k dir)) same (in_got bytes (lane_of s.lanes k dir) 0 front));
     }
 
-fewer_rest : (s : State) (j : ℕ) (d : Dir) (k : ℕ) (dir : Dir) (f : Frame) → IsIn f (lane_of (changed_at (changed_lane d rest) s.lanes j) k dir) → IsIn f (lane_of s.lanes k dir)
+pub fewer_rest : (s : State) (j : ℕ) (d : Dir) (k : ℕ) (dir : Dir) (f : Frame) → IsIn f (lane_of (changed_at (changed_lane d rest) s.lanes j) k dir) → IsIn f (lane_of s.lanes k dir)
 fewer_rest s j d k dir f among = in_changed rest in_rest s.lanes j d k dir f among
 
 -- frames are lost, doubled or taken

@@ -112,7 +112,7 @@ moved_keeps v p w q (Some input) y lane back after move n kept =
     by (metric r m) from heard = absurd heard
 
 -- who is kept can be named
-named : (o : Option End) (w : BridgeView) (q : ℕ) → IsSoundView w → q ≤ 32 → ((n : End) → o ≡ Some n → n ≡ end_at w q) → IsNamed o
+pub named : (o : Option End) (w : BridgeView) (q : ℕ) → IsSoundView w → q ≤ 32 → ((n : End) → o ≡ Some n → n ≡ end_at w q) → IsNamed o
 named None w q sound small is = tt
 named (Some n) w q sound small is = subst (λ (m : End). IsNamed (Some m)) (sym (is n refl)) (sound.config.system.bytes, omega arith)
 

@@ -214,7 +214,7 @@ starts_with_carrier c m n is = record { port = first_port n; rest = []; id = ap 
 few_with_carrier : (c : BridgeConfig) (n : ℕ) → HoldsFew 3 (with_first_carrier c n)
 few_with_carrier c n = steps_hold_few 2 (carrier 1 true) (step (metric 1 n) (configured c)) (omega arith) tt (steps_hold_few 1 (metric 1 n) (configured c) (omega arith) tt (configured_holds_few c))
 
-abbrev config : ℕ → BridgeConfig
+abbrev pub config : ℕ → BridgeConfig
 config n = config_of (record { vids = plan_of 100 1 ∷ []; bridges = []; links = [] }) (bridge_of 32768 (system n).mac (source n) 1)
 
 both_sound : IsSoundView (with_first_carrier (config 1) 10) × IsSoundView (with_first_carrier (config 2) 10)

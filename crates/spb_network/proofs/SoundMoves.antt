@@ -95,7 +95,7 @@ agree_back : (links : List DeclaredLink) (views : List BridgeView) (lanes : List
 agree_back links views lanes agree k Ab l v w at at_v at_w = (agree k Ba l w v at at_w at_v).said
 agree_back links views lanes agree k Ba l v w at at_v at_w = (agree k Ab l w v at at_w at_v).said
 
-link-apart : (s : State) (k : ℕ) (l : DeclaredLink) → IsCore s → slice_get (links_of s) k ≡ Some l → l.a.bridge ≢ l.b.bridge
+pub link-apart : (s : State) (k : ℕ) (l : DeclaredLink) → IsCore s → slice_get (links_of s) k ≡ Some l → l.a.bridge ≢ l.b.bridge
 link-apart s k l core at = (link_there s k l core.world at).apart
 
 -- what a bridge hears at an end of a link came over that link

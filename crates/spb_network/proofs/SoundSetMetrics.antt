@@ -142,7 +142,7 @@ agree_with_metric on m ls k views lanes agree j dir h v w at at_v at_w =
     (subst (λ (p : ℕ). LinkAgrees v p w (far_end dir was.link).port (lane_of lanes j dir)) near.port
     (agree j dir was.link v w was.there (ap (slice_get views) near.bridge ∙ at_v) (ap (slice_get views) far.bridge ∙ at_w)))
 
-core_with_end_metric : (on : Side) (m : ℕ) (s : State) (k : ℕ) → IsMetric m → IsCore s → IsCore (record s { world = with_end_metric on m s.world k })
+pub core_with_end_metric : (on : Side) (m : ℕ) (s : State) (k : ℕ) → IsMetric m → IsCore s → IsCore (record s { world = with_end_metric on m s.world k })
 unfolding with_end_metric
 core_with_end_metric on m s k is core = record {
   world = Sound-with_end_metric on m s.world k is core.world;

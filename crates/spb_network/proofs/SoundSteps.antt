@@ -290,12 +290,12 @@ only zero x (suc j) = None
 only (suc i) x zero = None
 only (suc i) x (suc j) = only i x j
 
-only_here : (i : ℕ) (x : Input) → only i x i ≡ Some x
+pub only_here : (i : ℕ) (x : Input) → only i x i ≡ Some x
 unfolding only
 only_here zero x = refl
 only_here (suc i) x = only_here i x
 
-only_is : (i : ℕ) (x : Input) (j : ℕ) (y : Input) → only i x j ≡ Some y → (j ≡ i) × (x ≡ y)
+pub only_is : (i : ℕ) (x : Input) (j : ℕ) (y : Input) → only i x j ≡ Some y → (j ≡ i) × (x ≡ y)
 unfolding only
 only_is zero x zero y is = (refl, cc)
 only_is zero x (suc j) y is = absurd cc

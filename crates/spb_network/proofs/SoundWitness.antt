@@ -1,5 +1,5 @@
 -- A network with a frame on its way over a link that is up.
-use Rattle.std.proofs.Common.{ℕ, zero, suc, ◌<◌, true, List, [], ◌∷◌, ◌++◌, refl, sym, subst, arith}
+use Rattle.std.proofs.Common.{ℕ, zero, suc, ◌≤◌, ◌<◌, true, List, [], ◌∷◌, ◌++◌, length, refl, sym, subst, arith}
 use Rattle.spb_types.specs.declared.address.Mac.{Mac}
 use Rattle.spb_types.specs.declared.service.SourceId.{SourceId}
 use Rattle.isis_pdu.specs.Grammar.{IsBytes}
@@ -91,3 +91,7 @@ shown =
 
 pub busy : SomeNetworkIsBusy
 busy = record { rule = rule.Plain; rack = box ∷ box ∷ []; commands = script; addressed = (tt, (address 1 (omega arith), (address 2 (omega arith), (tt, (tt, tt))))); accepted = accepted; busy = shown }
+
+pub few_commands : length busy.commands ≤ 120000
+unfolding busy
+few_commands = omega arith

@@ -17,13 +17,13 @@ length-graph_bridges [] = refl
 length-graph_bridges (b ∷ bs) = ap suc (length-graph_bridges bs)
 
 -- the system id at a place is one of the bridges'
-among_at : (bs : Bridges) (i : ℕ) → i < length bs → IsAmong (system_at bs i) (systems_of (graph_bridges bs))
+pub among_at : (bs : Bridges) (i : ℕ) → i < length bs → IsAmong (system_at bs i) (systems_of (graph_bridges bs))
 among_at [] i h = absurd (omega arith)
 among_at (b ∷ bs) zero h = inl refl
 among_at (b ∷ bs) (suc i) h = inr (among_at bs i (omega arith))
 
 -- at different places stand different system ids
-place_from : (bs : Bridges) → IsDistinct (systems_of (graph_bridges bs)) → (i j : ℕ) → i < length bs → j < length bs → system_at bs i ≡ system_at bs j → i ≡ j
+pub place_from : (bs : Bridges) → IsDistinct (systems_of (graph_bridges bs)) → (i j : ℕ) → i < length bs → j < length bs → system_at bs i ≡ system_at bs j → i ≡ j
 place_from [] d i j hi hj e = absurd (omega arith)
 place_from (b ∷ bs) d zero zero hi hj e = refl
 place_from (b ∷ bs) d zero (suc j) hi hj e = absurd (d.0 (subst (λ x. IsAmong x (systems_of (graph_bridges bs))) (sym e) (among_at bs j (omega arith))))

@@ -1,5 +1,5 @@
 -- What one application of a command answers, and what it leaves.
-use Rattle.std.specs.Prelude.{◌≡◌, ◌⊎◌, true, false, Some, None, Result, Ok, Err}
+use Rattle.std.specs.Prelude.{◌≡◌, ◌⊎◌, ◌≤◌, true, false, Some, None, Result, Ok, Err}
 use Rattle.scenario.specs.declared.command.Command.{Command}
 use Rattle.bridge_api.specs.Shown.{Shown}
 use Rattle.spb_network.specs.declared.answer.Answer.{Answer}
@@ -9,6 +9,7 @@ use Rattle.spb_network.specs.declared.reason.ApplyError.TheVariants as error
 use Rattle.spb_network.specs.State.{State}
 use Rattle.spb_network.specs.Network.{state_of, AreMade}
 use Rattle.spb_network.specs.Sound.{IsSoundState}
+use Rattle.spb_network.specs.Counted.{IsCounted, most_commands}
 use Rattle.spb_network.specs.Refusing.{refusal_of}
 use Rattle.spb_network.specs.Play.{next_state, answer_of}
 
@@ -19,10 +20,12 @@ pub record Plays (old : State) (c : Command) (answer : Answer) (new : State) : T
   pub state : new ≡ next_state old c
 
 module _ {B : Type 0} (shown : B → Shown) where
-  -- a network at which no command ran out of memory: its boxes are made, and its state is sound
+  -- a network at which no command ran out of memory: its boxes are made, its state is sound, and its sequence
+  -- numbers are counted while no more commands were accepted than a script can have
   pub record IsSoundNetwork (n : NetworkOf B) : Type 0 where
     pub made : AreMade shown n.boxes.items
     pub state : IsSoundState (state_of shown n)
+    pub counted : (state_of shown n).accepted ≤ most_commands → IsCounted (state_of shown n)
 
   -- a network that halted, or is sound: so is every network that `new` gave, whatever was applied to it
   abbrev pub IsReady : NetworkOf B → Type 0

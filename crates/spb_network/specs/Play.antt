@@ -6,6 +6,7 @@ use Rattle.bridge_api.specs.declared.config.BridgeConfig.{BridgeConfig}
 use Rattle.bridge_api.specs.Config.{configured}
 use Rattle.spb_network.specs.declared.answer.Answer.{Answer}
 use Rattle.spb_network.specs.declared.answer.Answer.TheVariants.{Silent, Outs}
+use Rattle.spb_network.specs.declared.answer.Answer.TheVariants as answers
 use Rattle.spb_network.specs.declared.declaration.DeclaredBridge.{DeclaredBridge}
 use Rattle.spb_network.specs.declared.declaration.DeclaredLink.{DeclaredLink}
 use Rattle.spb_network.specs.World.{World, place_of}
@@ -13,7 +14,8 @@ use Rattle.spb_network.specs.Declaring.{plan_of, bridge_of, link_of, with_vid, w
 use Rattle.link_model.specs.Lanes.{no_frames}
 use Rattle.spb_network.specs.State.{State}
 use Rattle.spb_network.specs.Events.{ticked, delivered, lost, doubled, with_metrics_over, with_metric_changed, switched_on, switched_off, rounds, drained}
-use Rattle.spb_network.specs.Questions.{Question, question_of, answer_at}
+use Rattle.spb_network.specs.Questions.{Question, question_of, answer_at, asks_network}
+use Rattle.spb_network.specs.Quiet.{failing}
 use Rattle.spb_network.specs.Refusing.{box_for}
 
 -- what a declared bridge is configured with: no port has a link yet, and none is attached
@@ -132,9 +134,13 @@ is_event (command.Round n) = true
 is_event (command.Drain n) = true
 is_event _ = false
 
+-- the answer to a command that is no event
+abbrev pub answer_to_asked : State → Command → Answer
+answer_to_asked s c = if asks_network c then answers.State (failing s) else answer_to s (question_of c)
+
 -- the answer to an accepted command
 abbrev pub answer_of : State → Command → Answer
-answer_of s c = if is_event c then no_outs else answer_to s (question_of c)
+answer_of s c = if is_event c then no_outs else answer_to_asked s c
 
 -- the state after commands, one after another
 abbrev pub played_all : State → List Command → State

@@ -1,5 +1,5 @@
--- The questions about one bridge.
-use Rattle.std.specs.Prelude.{ℕ, List, [], map, Bool, Option, Some, None, slice_get}
+-- The questions about the whole network, and about one bridge.
+use Rattle.std.specs.Prelude.{ℕ, List, [], map, length, ◌==◌, Bool, true, false, Option, Some, None, slice_get}
 use Rattle.std.specs.Option.{option_map_or}
 use Rattle.std.specs.FinMap.{entries}
 use Rattle.lsdb.specs.declared.held.DbRow.{DbRow}
@@ -8,11 +8,31 @@ use Rattle.lsdb.specs.Database.{Lsps}
 use Rattle.adjacency.specs.declared.port.Adjacency.{Adjacency}
 use Rattle.scenario.specs.declared.command.Command.{Command}
 use Rattle.scenario.specs.declared.command.Command.TheVariants as command
+use Rattle.spb_types.specs.declared.tables.Tables.{Tables}
+use Rattle.bridge_api.specs.Graph.{own_tables}
 use Rattle.bridge_api.specs.declared.port.BridgePort.{BridgePort}
 use Rattle.spb_network.specs.declared.answer.Answer.{Answer}
-use Rattle.spb_network.specs.declared.answer.Answer.TheVariants.{Silent, Wiring, Db, Adj}
+use Rattle.spb_network.specs.declared.answer.Answer.TheVariants.{Silent, Show, Wiring, Db, Adj}
 use Rattle.spb_network.specs.World.{wired_tables}
 use Rattle.spb_network.specs.State.{State}
+use Rattle.spb_network.specs.Quiet.{failing}
+
+-- whether the command asks about the whole network
+abbrev pub asks_network : Command → Bool
+asks_network command.State = true
+asks_network _ = false
+
+-- whether no condition of quiet fails
+abbrev pub is_quiet : State → Bool
+is_quiet s = length (failing s) == 0
+
+-- where there is no bridge, there are no rows
+abbrev pub no_tables : Tables
+no_tables = record { unicast = []; group = [] }
+
+-- the tables of the bridge at place i, by the LSPs that it holds
+abbrev pub show_at : State → ℕ → Tables
+show_at s i = option_map_or own_tables (slice_get s.views i) no_tables
 
 -- a row for each id that is held, in order of id
 abbrev pub rows_of : Lsps → List DbRow
@@ -36,6 +56,8 @@ pub record Question : Type 0 where
 
 -- what a command asks, if it is a question about one bridge
 abbrev pub question_of : Command → Option Question
+question_of (command.Show name) =
+    Some (record { bridge = name; answer = λ s i. Show name (is_quiet s) (show_at s i) })
 question_of (command.Wiring name) =
     Some (record { bridge = name; answer = λ s i. Wiring name (wired_tables s.world i) })
 question_of (command.Db name) = Some (record { bridge = name; answer = λ s i. Db name (db_at s i) })

@@ -19,6 +19,16 @@ pub enum Answer {
     Outs {
         frames: Seq<Out>,
     },
+    /// The numbers of the conditions of quiet that fail, in ascending order: none exactly where the network is quiet.
+    State {
+        failing: Seq<u8>,
+    },
+    /// The tables of a bridge by the LSPs that it holds, and whether the network is quiet.
+    Show {
+        bridge: Name,
+        quiet: bool,
+        tables: Tables,
+    },
     /// The tables that the wiring gives a bridge.
     Wiring {
         bridge: Name,

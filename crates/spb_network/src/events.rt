@@ -1,5 +1,5 @@
 //! The events of a network: what comes to one bridge, and what becomes of the frames that it sends.
-ghost use Rattle.std.specs.Prelude.{◌≡◌, slice_get, OnOk, IfSome};
+ghost use Rattle.std.specs.Prelude.{◌≡◌, [], slice_get, OnOk, IfOk, IfSome};
 ghost use Rattle.bridge_api.specs.Config.{IsMetric};
 ghost use Rattle.bridge_api.specs.Step as comes;
 ghost use Rattle.spb_network.specs.World.{IsEnd, IsLink};
@@ -46,12 +46,23 @@ impl<B: Bridge> NetworkOf<B> {
             ≡ event.ticked (state_of B.shown self.old) i) }
         ensures order { OnOk result (IsInOrder B.shown self.new) }
     {
-        let mut outbox = Outbox::new(self.alloc);
+        let mut outbox = self.outbox(i)?;
         boxes::tick(&mut self.boxes, i, &mut outbox)?;
         self.send_all(i, outbox.wire.into_vec())
     }
 
-    /// A frame comes to an end of a link.
+    /// An empty outbox with room for a frame at each port of the bridge at a place.
+    fn outbox(&self, i: usize) -> Result<Outbox, NoMemory>
+        ensures { IfOk result (λ outbox. outbox.wire ≡ []) }
+    {
+        let wire = Vec::with_capacity(self.alloc, usize::from(self.world.ports(i)))?;
+        Ok(Outbox {
+            wire: Seq::from_vec(wire),
+            left: Seq::new(self.alloc),
+        })
+    }
+
+    /// A frame comes to an end of a link. No frame is sent for it.
     fn hear(&mut self, end: LinkEnd, frame: &[u8]) -> Result<(), NoMemory>
         requires order { IsInOrder B.shown self.old }
         requires end { IsEnd self.old.world.bridges end }
@@ -60,8 +71,7 @@ impl<B: Bridge> NetworkOf<B> {
         ensures order { OnOk result (IsInOrder B.shown self.new) }
     {
         let mut outbox = Outbox::new(self.alloc);
-        boxes::hear(&mut self.boxes, end.bridge, end.port, frame, &mut outbox)?;
-        self.send_all(end.bridge, outbox.wire.into_vec())
+        boxes::hear(&mut self.boxes, end.bridge, end.port, frame, &mut outbox)
     }
 
     /// Carrier comes to an end of a link, or goes.

@@ -1,8 +1,12 @@
 //! What holds of a network at every moment. Each law is the contract of a function that does nothing.
 ghost use Rattle.spb_network.specs.Holding.{TheFirstReasonIsGiven};
 ghost use Rattle.spb_network.specs.SoundLaws.{EventsKeepSound, CommandsKeepSound, NetworksAreSound, SomeNetworkIsBusy};
+ghost use Rattle.spb_network.specs.CountedLaws.{EventsKeepCounted, CommandsKeepCounted, NetworksAreCounted, NumbersStayLow, BridgesStayFar, NothingIsFull, SomeCountedIsBusy};
 ghost use Rattle.spb_network.specs.WiringLaws.{SoundIsWired, NetworksAreWired};
+ghost use Rattle.spb_network.specs.Truth.{QuietIsShared, QuietIsRead, QuietTellsLinks, QuietIsTrue, QuietNetworksAreTold};
+ghost use Rattle.spb_network.specs.Telling.{CountedNetworksTell, NetworksTell, SomeNetworkIsQuiet};
 ghost use Rattle.spb_network.specs.MeetingLaws.{SomeBridgesMeet};
+ghost use Rattle.spb_network.specs.Quiet.{QuietSays};
 ghost use Rattle.spb_network.specs.DeliveryLaws.{FramesAreDelivered, DeliverDelivers};
 
 /// Whatever comes to the bridges of a sound network, and whatever becomes of its frames and links, it stays sound.
@@ -41,4 +45,43 @@ pub fn some_network_is_busy()
 /// A command is refused for the reason of the least number that holds of it, and accepted exactly where none holds.
 pub fn the_first_reason_is_given()
     ensures { TheFirstReasonIsGiven }
+{}
+
+/// Whatever commands are accepted, at most 120,000 of them, with at most 20,000 rounds, and in whatever order frames are
+/// delivered, lost and doubled: no bridge spends its sequence numbers, and none but ids of declared bridges are held or
+/// claimed. The numbers of each are within an allowance that a round raises by 128 and a command by 2, and so are at most
+/// 2,800,000; and no database is full. Some such network has a frame on its way.
+pub fn numbers_stay_bounded()
+    ensures events { EventsKeepCounted }
+    ensures step { CommandsKeepCounted }
+    ensures always { NetworksAreCounted }
+    ensures low { NumbersStayLow }
+    ensures far { BridgesStayFar }
+    ensures place { NothingIsFull }
+    ensures some { SomeCountedIsBusy }
+{}
+
+/// Each of the four conditions of a quiet network, which are tests, holds exactly where what it reads like does.
+pub fn quiet_says_what_it_reads_like()
+    ensures { QuietSays }
+{}
+
+/// In a quiet network all bridges that a walk over links joins hold the same, and each reads of each other what that
+/// one has to say: the links of the wiring. So its graph is the part of the wiring that it reaches, with the best paths
+/// of the wiring, and its tables are those that are wired for it.
+pub fn quiet_is_true()
+    ensures shared { QuietIsShared }
+    ensures read { QuietIsRead }
+    ensures links { QuietTellsLinks }
+    ensures told { QuietIsTrue }
+    ensures quiet { QuietNetworksAreTold }
+{}
+
+/// Where a sound network whose sequence numbers are counted is quiet, every bridge has its part of the wiring right, and
+/// any two that a walk joins hold the same. So it is whatever commands were accepted, at most 120,000 of them.
+/// Some commands lead to a quiet network of two bridges, whose link went down again.
+pub fn quiet_can_be_relied_on()
+    ensures counted { CountedNetworksTell }
+    ensures always { NetworksTell }
+    ensures some { SomeNetworkIsQuiet }
 {}

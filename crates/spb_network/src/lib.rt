@@ -4,18 +4,24 @@
 //! implementation. What is declared stands in a [`World`]; beside it stand the boxes and, by the same place as the
 //! links, the two lanes of each link. [`NetworkOf::apply`] is one step of play, as `specs/Play.antt` says: a command
 //! that is refused names the first reason in order of number and changes nothing. What holds of a network at every
-//! moment stands in `specs/Sound.antt`, and is a clause of each call.
+//! moment stands in `specs/Sound.antt`, and is a clause of each call; what a quiet network knows of its wiring stands in
+//! `specs/Truth.antt`.
 //!
 //! **Costs.** A frame that is sent finds its link in constant time, and a name is found so on average. A
-//! round takes a call of each bridge and one for each frame that stands in a lane. A delivery of `drain` looks for the
+//! round takes a call of each bridge and one for each frame that stands in a lane. A tick takes memory for an outbox
+//! with room for a frame at each port of the bridge, and a delivery none of its own. A delivery of `drain` looks for the
 //! first lane that isn't empty. Frames are moved and not copied, and nothing grows with the number of rounds.
+//! Which conditions of quiet fail asks each link, lane and bridge once, walks over each database once with a look-up by
+//! hash for each live LSP, and takes memory for an entry of a table for each LSP id with one live version; bodies are
+//! compared where an earlier bridge holds the same version. `show` asks that too, and makes the bridge's tables anew.
 #![tactic(auto)]
 
 pub use answer::{Answer, Out};
 pub use declaration::{DeclaredBridge, DeclaredLink, LinkEnd};
 pub use kind_rule::KindRule;
 pub use laws::{
-    a_delivery_is_one_step, events_keep_sound, networks_are_sound, some_network_is_busy,
+    a_delivery_is_one_step, events_keep_sound, networks_are_sound, numbers_stay_bounded,
+    quiet_can_be_relied_on, quiet_is_true, quiet_says_what_it_reads_like, some_network_is_busy,
     the_first_reason_is_given, wiring_gives_tables,
 };
 pub use network::{Network, NetworkOf};
@@ -23,6 +29,7 @@ pub use reason::{ApplyError, Reason};
 pub use world::World;
 
 mod answer;
+mod bodies;
 mod boxes;
 mod check;
 mod declaration;
@@ -35,6 +42,7 @@ mod link_ends;
 mod network;
 mod play;
 mod questions;
+mod quiet;
 mod rack;
 mod reason;
 mod refusing;

@@ -1,9 +1,11 @@
-ghost use Rattle.std.specs.Prelude.{◌≡◌, false, map};
+ghost use Rattle.std.specs.Prelude.{◌≡◌, ◌≤◌, false, map, OnOk};
 ghost use Rattle.bridge_api.specs.Shown.{views_of};
 ghost use Rattle.spb_network.specs.declared.kind_rule.KindRule.TheVariants as rules;
 ghost use Rattle.spb_network.specs.Sound.{opening};
 ghost use Rattle.spb_network.specs.Network.{state_of, spare, AreMade};
 ghost use Rattle.spb_network.specs.Applying.{Applies, IsReady};
+ghost use Rattle.spb_network.specs.Counted.{most_commands};
+ghost use Rattle.spb_network.specs.Telling.{QuietTells};
 
 use crate::{Answer, ApplyError, KindRule, World, check};
 use bridge_api::Bridge;
@@ -82,7 +84,8 @@ impl<B: Bridge> NetworkOf<B> {
     ///
     /// `Halted` exactly where an earlier command found no memory, and `Refused` with the first reason that holds
     /// exactly where one does. After both nothing is changed, and no memory was taken. After `NoMemory` the network is
-    /// halted, and nothing is said of its boxes and lanes.
+    /// halted, and nothing is said of its boxes and lanes. Where a command was accepted, one of the first 120,000, and
+    /// the network is quiet after it, every bridge is told what is there.
     ///
     /// A form that isn't played yet is accepted: it changes nothing but the count of accepted commands, and answers
     /// `Silent`.
@@ -90,6 +93,8 @@ impl<B: Bridge> NetworkOf<B> {
         requires { IsReady B.shown self.old }
         ensures applies { Applies B.shown self.old command.now result self.new }
         ensures ready { IsReady B.shown self.new }
+        ensures quiet { OnOk result ((state_of B.shown self.new).accepted ≤ most_commands →
+            QuietTells (state_of B.shown self.new)) }
     {
         if self.halted {
             return Err(ApplyError::Halted);

@@ -1,5 +1,5 @@
 //! What each command makes of a network, where it isn't refused. Nothing happens at a name that isn't there.
-ghost use Rattle.std.specs.Prelude.{◌≡◌, ◌<◌, None, Some, length, OnOk, IfOk};
+ghost use Rattle.std.specs.Prelude.{◌≡◌, ◌<◌, false, None, Some, length, OnOk, IfOk};
 ghost use Rattle.spb_network.specs.Declaring as declare;
 ghost use Rattle.spb_network.specs.Refusing as refuse;
 ghost use Rattle.spb_network.specs.Play as play;
@@ -300,6 +300,7 @@ impl<B: Bridge> NetworkOf<B> {
     /// Plays a command that isn't refused, at a network that hasn't halted.
     #[tactic(auto, using(crate::proofs::CommandFits::in_order))]
     pub(crate) fn play(&mut self, command: &Command) -> Result<Answer, NoMemory>
+        requires halted { self.old.halted ≡ false }
         requires sound { IsSoundNetwork B.shown self.old }
         requires accepted { refuse.refusal_of (state_of B.shown self.old) command.now ≡ None }
         ensures answer { IfOk result (λ answer. answer ≡ play.answer_of (state_of B.shown self.old) command.now) }

@@ -1,18 +1,20 @@
-//! What a network answers, and the questions about one bridge.
-ghost use Rattle.std.specs.Prelude.{◌≡◌, IfOk};
+//! What a network answers: the questions about the whole network, and about one bridge.
+ghost use Rattle.std.specs.Prelude.{◌≡◌, false, IfOk};
 ghost use Rattle.std.specs.Option.{option_map};
 ghost use Rattle.spb_network.specs.declared.answer.Answer.TheVariants as answers;
 ghost use Rattle.spb_network.specs.World.{wired_tables};
 ghost use Rattle.spb_network.specs.Questions as question;
 ghost use Rattle.spb_network.specs.Play as play;
+ghost use Rattle.spb_network.specs.Quiet.{failing};
 ghost use Rattle.spb_network.specs.Network.{state_of, IsInOrder};
+ghost use Rattle.spb_network.specs.Applying.{IsSoundNetwork};
 
 use crate::{Answer, NetworkOf, boxes};
 use adjacency::Adjacency;
 use bridge_api::Bridge;
 use lsdb::DbRow;
 use scenario::Command;
-use spb_types::{Name, NoMemory, Seq};
+use spb_types::{Name, NoMemory, Seq, Tables};
 
 /// Whether something comes to pass on the network by a command, so that a customer frame may leave.
 fn is_event(command: &Command) -> bool
@@ -32,12 +34,20 @@ fn is_event(command: &Command) -> bool
     )
 }
 
+/// Whether a command asks about the whole network.
+fn asks_network(command: &Command) -> bool
+    ensures { result ≡ question.asks_network command.now }
+{
+    matches!(command, Command::State)
+}
+
 /// The bridge that a command asks about. None exactly where the command is no question about one bridge.
 pub(crate) fn asked(command: &Command) -> Option<Name>
     ensures { result ≡ option_map (λ q. q.bridge) (question.question_of command.now) }
 {
     match command {
-        Command::Wiring(name) | Command::Db(name) | Command::Adj(name) => Some(*name),
+        Command::Show(name) | Command::Wiring(name) | Command::Db(name) | Command::Adj(name) =>
+            Some(*name),
         _ => None,
     }
 }
@@ -45,7 +55,8 @@ pub(crate) fn asked(command: &Command) -> Option<Name>
 impl<B: Bridge> NetworkOf<B> {
     /// What a command that isn't refused is answered, before anything of it happens: no customer frame leaves yet.
     pub(crate) fn answer(&self, command: &Command) -> Result<Answer, NoMemory>
-        requires { IsInOrder B.shown self.now }
+        requires halted { self.now.halted ≡ false }
+        requires sound { IsSoundNetwork B.shown self.now }
         ensures { IfOk result (λ answer. answer ≡ play.answer_of (state_of B.shown self.now) command.now) }
     {
         if is_event(command) {
@@ -53,12 +64,16 @@ impl<B: Bridge> NetworkOf<B> {
                 frames: Seq::new(self.alloc),
             });
         }
+        if asks_network(command) {
+            return self.state();
+        }
         self.answer_question(command)
     }
 
     /// The answer to a question about a bridge; `Silent` to what is none.
     fn answer_question(&self, command: &Command) -> Result<Answer, NoMemory>
-        requires { IsInOrder B.shown self.now }
+        requires halted { self.now.halted ≡ false }
+        requires sound { IsSoundNetwork B.shown self.now }
         ensures { IfOk result (λ answer.
             answer ≡ play.answer_to (state_of B.shown self.now) (question.question_of command.now)) }
     {
@@ -71,17 +86,62 @@ impl<B: Bridge> NetworkOf<B> {
         }
     }
 
+    /// The conditions of quiet that fail.
+    fn state(&self) -> Result<Answer, NoMemory>
+        requires halted { self.now.halted ≡ false }
+        requires sound { IsSoundNetwork B.shown self.now }
+        ensures { IfOk result (λ answer. answer ≡ answers.State (failing (state_of B.shown self.now))) }
+    {
+        Ok(Answer::State {
+            failing: Seq::from_vec(self.failing()?),
+        })
+    }
+
     /// The answer about the bridge at a place; `Silent` to what is no question about a bridge.
+    #[tactic(auto, using(crate::proofs::CommandFits::in_order))]
     fn answer_at(&self, command: &Command, place: usize) -> Result<Answer, NoMemory>
-        requires { IsInOrder B.shown self.now }
+        requires halted { self.now.halted ≡ false }
+        requires sound { IsSoundNetwork B.shown self.now }
         ensures { IfOk result (λ answer.
             answer ≡ question.answer_at (state_of B.shown self.now) place (question.question_of command.now)) }
     {
         match command {
+            Command::Show(name) => self.show(*name, place),
             Command::Wiring(name) => self.wiring(*name, place),
             Command::Db(name) => self.db(*name, place),
             Command::Adj(name) => self.adj(*name, place),
             _ => Ok(Answer::Silent),
+        }
+    }
+
+    /// The tables of a bridge, and whether the network is quiet.
+    #[tactic(auto, using(crate::proofs::CommandFits::in_order))]
+    fn show(&self, bridge: Name, place: usize) -> Result<Answer, NoMemory>
+        requires halted { self.now.halted ≡ false }
+        requires sound { IsSoundNetwork B.shown self.now }
+        ensures { IfOk result (λ answer. answer ≡ answers.Show bridge
+            (question.is_quiet (state_of B.shown self.now)) (question.show_at (state_of B.shown self.now) place)) }
+    {
+        let quiet = self.failing()?.is_empty();
+        let tables = self.own_tables(place)?;
+        Ok(Answer::Show {
+            bridge,
+            quiet,
+            tables,
+        })
+    }
+
+    /// The tables of the bridge at a place, by the LSPs that it holds.
+    fn own_tables(&self, place: usize) -> Result<Tables, NoMemory>
+        requires { IsInOrder B.shown self.now }
+        ensures { IfOk result (λ tables. tables ≡ question.show_at (state_of B.shown self.now) place) }
+    {
+        match self.boxes.get(place) {
+            None => Ok(Tables {
+                unicast: Seq::new(self.alloc),
+                group: Seq::new(self.alloc),
+            }),
+            Some(bridge) => bridge.tables(),
         }
     }
 

@@ -1,10 +1,14 @@
-use Rattle.std.proofs.Common.{◌≡◌, None, sym, ap, ◌∙◌, subst, refl, true≢false, inr, ⊎_elim}
+use Rattle.std.proofs.Common.{◌≡◌, ◌≤◌, None, sym, ap, ◌∙◌, subst, refl, true≢false, inr, ⊎_elim}
 use Rattle.spb_network.specs.State.{State}
 use Rattle.spb_network.specs.Refusing.{refusal_of}
 use Rattle.spb_network.specs.Play.{counted, next_state}
 use Rattle.spb_network.specs.Sound.{IsSoundState}
+use Rattle.spb_network.specs.Counted.{IsCounted, most_commands}
 use Rattle.spb_network.specs.Network.{state_of}
+use Rattle.spb_network.specs.Telling.{QuietTells}
 use Rattle.spb_network.proofs.SoundPlay.{commands_keep_sound}
+use Rattle.spb_network.proofs.CountedStays.{stays_counted}
+use Rattle.spb_network.proofs.Telling.{next_tells}
 use Rattle.spb_network.proofs.network.NetworkOf.apply.Goals as goal
 
 pub play-requires-clause-sound : goal.play-requires-clause-sound
@@ -29,8 +33,22 @@ returns-in-Ok-clause-ready g c =
     let old : State = state_of g.B.Bridge.shown c.args.self.now in
     let made : State = state_of g.B.Bridge.shown c.play.new.self in
     let sound : IsSoundState old = ⊎_elim (λ h. absurd (true≢false (sym h ∙ c.if-self.false))) (λ n. n.state) c.requires in
+    let few : old.accepted ≤ most_commands → IsCounted old = ⊎_elim (λ h. absurd (true≢false (sym h ∙ c.if-self.false))) (λ n. n.counted) c.requires in
     let accepted : refusal_of old c.args.command.now ≡ None = sym c.refusal.ensures ∙ c.in-None.is in
+    let same = (λ i. record made { accepted = c.saturating_add-self.ensures i }) ∙ ap counted c.in-Ok.ensures.state in
     inr (record {
       made = c.in-Ok.ensures.made;
-      state = subst IsSoundState (sym ((λ i. record made { accepted = c.saturating_add-self.ensures i }) ∙ ap counted c.in-Ok.ensures.state)) (commands_keep_sound old c.args.command.now sound c.addressed.ensures accepted);
+      state = subst IsSoundState (sym same) (commands_keep_sound old c.args.command.now sound c.addressed.ensures accepted);
+      counted = subst (λ (t : State). t.accepted ≤ most_commands → IsCounted t) (sym same) (stays_counted old c.args.command.now sound few accepted);
     })
+
+pub returns-in-Ok-clause-quiet : goal.returns-in-Ok-clause-quiet
+unfolding next_state
+returns-in-Ok-clause-quiet g c =
+    let old : State = state_of g.B.Bridge.shown c.args.self.now in
+    let made : State = state_of g.B.Bridge.shown c.play.new.self in
+    let sound : IsSoundState old = ⊎_elim (λ h. absurd (true≢false (sym h ∙ c.if-self.false))) (λ n. n.state) c.requires in
+    let few : old.accepted ≤ most_commands → IsCounted old = ⊎_elim (λ h. absurd (true≢false (sym h ∙ c.if-self.false))) (λ n. n.counted) c.requires in
+    let accepted : refusal_of old c.args.command.now ≡ None = sym c.refusal.ensures ∙ c.in-None.is in
+    let same = (λ i. record made { accepted = c.saturating_add-self.ensures i }) ∙ ap counted c.in-Ok.ensures.state in
+    subst (λ (t : State). t.accepted ≤ most_commands → QuietTells t) (sym same) (next_tells old c.args.command.now sound c.addressed.ensures few accepted)

@@ -1,7 +1,7 @@
-use Rattle.std.proofs.Common.{sym, ap, ◌∙◌, subst}
+use Rattle.std.proofs.Common.{sym, subst}
 use Rattle.bridge_api.specs.Step as comes
-use Rattle.spb_network.specs.Network.{state_of, AreMade, Fits}
-use Rattle.spb_network.proofs.BoxLemmas.{on_ok}
+use Rattle.spb_network.specs.Network.{state_of, Fits}
+use Rattle.spb_network.proofs.BoxLemmas.{on_ok, both}
 use Rattle.spb_network.proofs.SendLemmas.{stepped-is, frames-none}
 use Rattle.spb_network.proofs.FitsLemmas.{Fits-stepped, end_is_port}
 use Rattle.spb_network.proofs.network.NetworkOf.hear.Goals as goal
@@ -11,11 +11,11 @@ hear-requires-clause-port g c = end_is_port (state_of g.B.Bridge.shown c.args.se
 
 pub returns-clause-state : goal.returns-clause-state
 returns-clause-state g c =
-    on_ok c.send_all.result (λ e. e ∙ stepped-is (comes.frame c.args.end.port c.args.frame.now) (state_of g.B.Bridge.shown c.args.self.now) c.args.end.bridge _ _ c.in_ok-hear.ensures.views (c.into_vec.ensures ∙ ap (λ outbox. outbox.wire) c.in_ok-hear.ensures.sent ∙ c.new-outbox.ensures.wire ∙ frames-none (state_of g.B.Bridge.shown c.args.self.now).views c.args.end.bridge)) c.send_all.ensures.state
+    on_ok c.hear.result (λ e. stepped-is (comes.frame c.args.end.port c.args.frame.now) (state_of g.B.Bridge.shown c.args.self.now) c.args.end.bridge _ _ e (frames-none (state_of g.B.Bridge.shown c.args.self.now).views c.args.end.bridge)) c.hear.ensures.views
 
 pub returns-clause-order : goal.returns-clause-order
 returns-clause-order g c =
-    on_ok c.send_all.result (λ e. record {
-      made = subst (λ b. AreMade g.B.Bridge.shown b.items) (sym c.send_all.ensures.boxes) c.in_ok-hear.ensures.made;
+    both c.hear.result (λ made e. record {
+      made = made;
       fits = subst Fits (sym e) (Fits-stepped (comes.frame c.args.end.port c.args.frame.now) (state_of g.B.Bridge.shown c.args.self.now) c.args.end.bridge c.requires.order.fits);
-    }) (returns-clause-state g c)
+    }) c.hear.ensures.made (returns-clause-state g c)

@@ -10,7 +10,7 @@ use Rattle.spb_network.proofs.network.NetworkOf.tick.Goals as goal
 
 pub returns-clause-state : goal.returns-clause-state
 returns-clause-state g c =
-    on_ok c.send_all.result (λ e. e ∙ stepped-is comes.second (state_of g.B.Bridge.shown c.args.self.now) c.args.i _ _ c.in_ok-tick.ensures.views (c.into_vec.ensures ∙ ap (λ outbox. outbox.wire) c.in_ok-tick.ensures.sent ∙ ap (λ w. w ++ option_map_or (comes.sent comes.second) (slice_get (state_of g.B.Bridge.shown c.args.self.now).views c.args.i) []) c.new-outbox.ensures.wire)) c.send_all.ensures.state
+    on_ok c.send_all.result (λ e. e ∙ stepped-is comes.second (state_of g.B.Bridge.shown c.args.self.now) c.args.i _ _ c.in_ok-tick.ensures.views (c.into_vec.ensures ∙ ap (λ outbox. outbox.wire) c.in_ok-tick.ensures.sent ∙ ap (λ w. w ++ option_map_or (comes.sent comes.second) (slice_get (state_of g.B.Bridge.shown c.args.self.now).views c.args.i) []) c.in_ok-outbox.ensures)) c.send_all.ensures.state
 
 pub returns-clause-order : goal.returns-clause-order
 returns-clause-order g c =

@@ -1,0 +1,12 @@
+use Rattle.spb_network.proofs.Telling.{counted_networks_tell, networks_tell}
+use Rattle.spb_network.proofs.QuietWitness.{some_network_is_quiet}
+use Rattle.spb_network.proofs.laws.quiet_can_be_relied_on.Goals as goal
+
+pub returns-clause-counted : goal.returns-clause-counted
+returns-clause-counted c = counted_networks_tell
+
+pub returns-clause-always : goal.returns-clause-always
+returns-clause-always c = networks_tell
+
+pub returns-clause-some : goal.returns-clause-some
+returns-clause-some c = some_network_is_quiet

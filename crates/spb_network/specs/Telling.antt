@@ -1,0 +1,44 @@
+-- What a user can rely on where a network is quiet, whatever commands made it.
+use Rattle.std.specs.Prelude.{◌≡◌, ℕ, ◌≤◌, List, length, Some, slice_get}
+use Rattle.std.specs.List.{AllByRecursion}
+use Rattle.scenario.specs.declared.command.Command.{Command}
+use Rattle.bridge_api.specs.View.{BridgeView}
+use Rattle.spb_network.specs.declared.kind_rule.KindRule.{KindRule}
+use Rattle.spb_network.specs.State.{State, Spare}
+use Rattle.spb_network.specs.Play.{played_all}
+use Rattle.spb_network.specs.Sound.{IsSoundState, opening}
+use Rattle.spb_network.specs.SoundLaws.{IsAddressed, AreAccepted}
+use Rattle.spb_network.specs.Counted.{IsCounted, most_commands}
+use Rattle.spb_network.specs.Quiet.{IsQuiet}
+use Rattle.spb_network.specs.Truth.{AreJoined, HoldTheSame, IsTold}
+
+-- every bridge has its part of the wiring right, and any two that a walk joins hold the same
+pub record AreTold (s : State) : Type 0 where
+  pub told : (i : ℕ) (v : BridgeView) → slice_get s.views i ≡ Some v → IsTold s i v
+  pub shared : (v w : BridgeView) → AreJoined s v w → HoldTheSame v w
+
+-- where the network is quiet, every bridge is told
+abbrev pub QuietTells : State → Type 0
+QuietTells s = IsQuiet s → AreTold s
+
+-- so it is in each sound network whose sequence numbers are counted: none are spent, and no bridge reads more systems
+-- than are declared
+abbrev pub CountedNetworksTell : Type 0
+CountedNetworksTell = (s : State) → IsSoundState s → IsCounted s → QuietTells s
+
+-- and so whatever commands were accepted
+abbrev pub NetworksTell : Type 0
+NetworksTell = (rule : KindRule) (rack : List Spare) (cs : List Command) → AllByRecursion IsAddressed cs
+    → AreAccepted (opening rule rack) cs → length cs ≤ most_commands → QuietTells (played_all (opening rule rack) cs)
+
+-- some commands lead to two bridges with a link between them, which went down again, and the network is quiet
+pub record SomeNetworkIsQuiet : Type 0 where
+  pub rule : KindRule
+  pub rack : List Spare
+  pub commands : List Command
+  pub addressed : AllByRecursion IsAddressed commands
+  pub accepted : AreAccepted (opening rule rack) commands
+  pub few : length commands ≤ most_commands
+  pub bridges : length (played_all (opening rule rack) commands).views ≡ 2
+  pub links : length (played_all (opening rule rack) commands).world.links ≡ 1
+  pub quiet : IsQuiet (played_all (opening rule rack) commands)
