@@ -2,3 +2,6 @@ pub mod LinesOf
 pub mod Playing
 pub mod Reading
 pub mod Writing
+pub mod Counting
+pub mod Addressed
+pub mod Telling

@@ -24,7 +24,7 @@ lines_more line [] h = absurd (omega arith)
 lines_more line (part ∷ parts) h = refl
 
 -- the one part of bytes that are there is a line
-lines_one : (bs : List ℕ) → bs ≢ [] → lines_of_parts (bs ∷ []) ≡ bs ∷ []
+pub lines_one : (bs : List ℕ) → bs ≢ [] → lines_of_parts (bs ∷ []) ≡ bs ∷ []
 lines_one [] h = absurd (h refl)
 lines_one (b ∷ bs) h = grind (arith, nat_tests)
 

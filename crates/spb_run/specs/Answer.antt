@@ -1,12 +1,12 @@
 -- How answers are written.
-use Rattle.std.specs.Prelude.{ℕ, List, [], None, codes}
+use Rattle.std.specs.Prelude.{ℕ, List, [], Some, None, codes}
 use Rattle.std.specs.List.{flat_map}
 use Rattle.report.specs.Adjacencies.{adj_text}
 use Rattle.report.specs.Database.{db_text}
-use Rattle.report.specs.Lines.{out_text}
+use Rattle.report.specs.Lines.{out_text, state_text}
 use Rattle.report.specs.Tables.{tables_text}
 use Rattle.spb_network.specs.declared.answer.Answer.{Answer}
-use Rattle.spb_network.specs.declared.answer.Answer.TheVariants.{Silent, Outs, Wiring, Db, Adj}
+use Rattle.spb_network.specs.declared.answer.Answer.TheVariants.{Silent, Outs, State, Show, Wiring, Db, Adj}
 use Rattle.spb_network.specs.declared.answer.Out.{Out}
 
 -- a customer frame that leaves
@@ -17,6 +17,8 @@ text_of_out out = out_text out.bridge out.port out.frame
 abbrev pub text_of_answer : Answer → List ℕ
 text_of_answer Silent = []
 text_of_answer (Outs frames) = flat_map text_of_out frames
+text_of_answer (State failing) = state_text failing
+text_of_answer (Show bridge quiet tables) = tables_text (codes "show") bridge (Some quiet) tables
 text_of_answer (Wiring bridge tables) = tables_text (codes "wiring") bridge None tables
 text_of_answer (Db bridge rows) = db_text bridge rows
 text_of_answer (Adj bridge ports) = adj_text bridge ports

@@ -22,8 +22,6 @@ is_played keyword.Attach = false
 is_played keyword.Detach = false
 is_played keyword.Restart = false
 is_played keyword.Frame = false
-is_played keyword.State = false
-is_played keyword.Show = false
 is_played keyword.Path = false
 is_played _ = true
 

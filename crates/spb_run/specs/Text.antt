@@ -1,4 +1,4 @@
-use Rattle.std.specs.Prelude.{ℕ, ◌+◌, List, [], ◌∷◌, ◌++◌, length, nat_lt, Bool, Option, Some, None, if◌then◌else◌}
+use Rattle.std.specs.Prelude.{ℕ, ◌+◌, List, [], ◌∷◌, ◌++◌, length, nat_lt, Bool, Option, Some, None, ⊤, if◌then◌else◌}
 use Rattle.std.specs.Str.Lines.{lines}
 use Rattle.spb_network.specs.State.{State}
 use Rattle.spb_run.specs.declared.refusal.Refusal.{Refusal}
@@ -53,3 +53,15 @@ fate_of s script = if is_too_long script then TooLong else status_of (played s s
 -- the state after the accepted lines of a script
 abbrev pub end_of : State → List ℕ → State
 end_of s script = (played s script).state
+
+-- where a line is accepted this holds
+abbrev pub IfAccepted : Option Refusal → Type 0 → Type 0
+IfAccepted None holds = holds
+IfAccepted (Some why) holds = ⊤
+
+-- it holds of each state that an accepted line leaves, from a state on, where the first line has this number. Behind a
+-- line that is refused none is played
+abbrev pub AllStates : (State → Type 0) → State → ℕ → List (List ℕ) → Type 0
+AllStates P s number [] = ⊤
+AllStates P s number (line ∷ rest) = IfAccepted (judged s number line).refused
+    (P (judged s number line).state × AllStates P (judged s number line).state (number + 1) rest)

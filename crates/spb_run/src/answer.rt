@@ -2,7 +2,7 @@ ghost use Rattle.std.specs.Prelude.{◌≡◌, IfOk};
 ghost use Rattle.std.specs.List.{flat_map};
 ghost use Rattle.spb_run.specs.Answer.{text_of_out, text_of_answer};
 
-use report::{adj_text, db_text, out_text, tables_text};
+use report::{adj_text, db_text, out_text, state_text, tables_text};
 use spb_network::{Answer, Out};
 use spb_types::NoMemory;
 use std::alloc::Global;
@@ -26,6 +26,12 @@ pub(crate) fn answer_text(alloc: Global, answer: &Answer) -> Result<Vec<u8>, NoM
     match answer {
         Answer::Silent => Ok(Vec::new(alloc)),
         Answer::Outs { frames } => outs_text(alloc, frames.as_slice()),
+        Answer::State { failing } => state_text(alloc, failing.as_slice()),
+        Answer::Show {
+            bridge,
+            quiet,
+            tables,
+        } => tables_text(alloc, "show", *bridge, Some(*quiet), tables),
         Answer::Wiring { bridge, tables } => tables_text(alloc, "wiring", *bridge, None, tables),
         Answer::Db { bridge, rows } => db_text(alloc, *bridge, rows.as_slice()),
         Answer::Adj { bridge, ports } => adj_text(alloc, *bridge, ports.as_slice()),

@@ -31,8 +31,6 @@ fn is_played(word: Option<Keyword>) -> bool
                 | Keyword::Detach
                 | Keyword::Restart
                 | Keyword::Frame
-                | Keyword::State
-                | Keyword::Show
                 | Keyword::Path
         )
     )

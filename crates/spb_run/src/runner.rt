@@ -2,13 +2,15 @@ ghost use Rattle.std.specs.Prelude.{◌≡◌, ◌≢◌, ◌≤◌, ◌<◌, �
 ghost use Rattle.std.specs.Io.KnownBytes.{Appends, Consumes, IsAtEnd};
 ghost use Rattle.std.specs.Str.Lines.{lines};
 ghost use Rattle.spb_network.specs.Applying.{IsReady};
+ghost use Rattle.spb_network.specs.Counted.{IsCounted};
 ghost use Rattle.spb_network.specs.Network.{state_of};
 ghost use Rattle.spb_network.specs.Sound.{IsSoundState};
+ghost use Rattle.spb_network.specs.Telling.{QuietTells};
 ghost use Rattle.spb_outside.specs.Faults.{Rose};
 ghost use Rattle.spb_run.specs.Output.{AppendsFront};
 ghost use Rattle.spb_run.specs.Play.{judged};
 ghost use Rattle.spb_run.specs.Replying.{IsAlive, IsNew};
-ghost use Rattle.spb_run.specs.Text.{most_bytes, played, text_of, fate_of, end_of};
+ghost use Rattle.spb_run.specs.Text.{most_bytes, is_too_long, played, text_of, fate_of, end_of, AllStates};
 ghost use Rattle.spb_run.specs.Run as forms;
 
 use crate::output::write_all;
@@ -158,9 +160,17 @@ pub fn run<B: Bridge, S: Source, K: Sink>(
         state_of B.shown network.new
         ≡ end_of (state_of B.shown network.old) script) }
 
-    // The network is sound then, and after every run it can be asked to apply commands.
+    // The network is sound then, with its sequence numbers far from the last one, and after every run it can be asked
+    // to apply commands.
     ensures sound { IsTrue (forms.is_ended result) → IsSoundState (state_of B.shown network.new) }
+    ensures counted { IsTrue (forms.is_ended result) → IsCounted (state_of B.shown network.new) }
     ensures ready { IsReady B.shown network.new }
+
+    // Where it is quiet then, every bridge is told what is there: its graph is the part of the wiring that it reaches,
+    // and its tables are those that are wired for it. And so it is after each line of the script that is accepted.
+    ensures told { IsTrue (forms.is_ended result) → QuietTells (state_of B.shown network.new) }
+    ensures quiet { IfSome (S.left source.old) (λ script. is_too_long script ≡ false →
+        AllStates QuietTells (state_of B.shown network.old) 1 (lines script)) }
 
     // A run that was cut short wrote a front of the text.
     ensures front { IsTrue (forms.is_cut result) → IfSome (S.left source.old) (λ script.

@@ -9,6 +9,7 @@ mod boxes;
 mod databases;
 mod examples;
 mod hellos;
+mod quiet;
 mod refusals;
 mod runs;
 mod wiring;

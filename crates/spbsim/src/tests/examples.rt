@@ -137,6 +137,61 @@ adj B 1
 p 1 up 020000000001 1 3 -
 ";
 
+/// `quiet-drill.spb`.
+const QUIET_DRILL: &str =
+    "# Four bridges in a ring come up and are quiet. A link fails: north's tables lag behind until all is quiet again.
+vid 10 1
+bridge north 32768 020000000001 00001 2
+bridge east 32768 020000000002 00002 2
+bridge south 32768 020000000003 00003 2
+bridge west 32768 020000000004 00004 2
+link ne north 1 east 2 10
+link es east 1 south 2 10
+link sw south 1 west 2 10
+link wn west 1 north 2 10
+state
+round 32
+state
+show north
+# The link between east and south fails. North hears of it later.
+down es
+state
+show north
+wiring north
+# The network is given time. Then every bridge has the tables of the links as they are.
+round 32
+state
+show north
+wiring north
+";
+
+/// `quiet-drill.out`.
+const QUIET_DRILL_OUT: &str = "state busy q1
+state quiet
+show north quiet 3 0
+u 10 020000000002 1
+u 10 020000000003 1
+u 10 020000000004 2
+state busy q3
+show north busy 3 0
+u 10 020000000002 1
+u 10 020000000003 1
+u 10 020000000004 2
+wiring north 3 0
+u 10 020000000002 1
+u 10 020000000003 2
+u 10 020000000004 2
+state quiet
+show north quiet 3 0
+u 10 020000000002 1
+u 10 020000000003 2
+u 10 020000000004 2
+wiring north 3 0
+u 10 020000000002 1
+u 10 020000000003 2
+u 10 020000000004 2
+";
+
 /// `undeclared-bridge.spb`.
 const UNDECLARED_BRIDGE: &str =
     "# A link names a bridge that isn't declared: the run ends there, and what came before is written.
@@ -160,6 +215,7 @@ fn each_example_is_answered_as_beside_it(rt: HostRuntime) -> Result<(), Fail> {
         (EQUAL_COST_PATHS, Status::Done, EQUAL_COST_PATHS_OUT),
         (METRO_RING, Status::Done, METRO_RING_OUT),
         (LOST_HELLOS, Status::Done, LOST_HELLOS_OUT),
+        (QUIET_DRILL, Status::Done, QUIET_DRILL_OUT),
         (UNDECLARED_BRIDGE, undeclared, UNDECLARED_BRIDGE_OUT),
     ] {
         check(&rt, rt.alloc(), script, status, text)?;

@@ -1,0 +1,90 @@
+-- Every state that an accepted line leaves tells, where it is quiet.
+use Rattle.std.proofs.Common.{◌≡◌, false, true, Bool, ◌≤◌, ◌+◌, ℕ, List, [], ◌∷◌, length, refl, sym, ap, ◌∙◌, true≢false, ⊎_elim, Option, Some, None, IfSome, Result, Ok, Err, arith}
+use Rattle.std.specs.Prelude.{if◌then◌else◌}
+use Rattle.std.specs.Str.Lines.{lines}
+use Rattle.std.proofs.lemmas.Bool.Decides.{nat_tests}
+use Rattle.scenario.specs.declared.command.Command.{Command}
+use Rattle.scenario.specs.declared.line.FirstWord.{FirstWord}
+use Rattle.scenario.specs.Grammar.{head_of, line_of}
+use Rattle.bridge_api.specs.Shown.{Shown}
+use Rattle.spb_network.specs.declared.network.NetworkOf.{NetworkOf}
+use Rattle.spb_network.specs.declared.reason.Reason.{Reason}
+use Rattle.spb_network.specs.Applying.{IsSoundNetwork}
+use Rattle.spb_network.specs.Network.{state_of}
+use Rattle.spb_network.specs.State.{State}
+use Rattle.spb_network.specs.Refusing.{refusal_of}
+use Rattle.spb_network.specs.Sound.{IsSoundState}
+use Rattle.spb_network.specs.SoundLaws.{IsAddressed}
+use Rattle.spb_network.specs.Counted.{IsCounted, most_commands}
+use Rattle.spb_network.specs.Telling.{QuietTells}
+use Rattle.spb_network.proofs.SoundPlay.{commands_keep_sound}
+use Rattle.spb_network.proofs.CountedStays.{stays_counted}
+use Rattle.spb_network.proofs.Telling.{counted_networks_tell}
+use Rattle.spb_run.specs.declared.refusal.Refusal.{Refusal}
+use Rattle.spb_run.specs.Play.{Judged, judged, judged_by, judged_as, judged_from, is_played_word, misspelled}
+use Rattle.spb_run.specs.Replying.{IsNew}
+use Rattle.spb_run.specs.Text.{most_bytes, is_too_long, IfAccepted, AllStates}
+use Rattle.spb_run.proofs.Addressed.{line_addressed}
+use Rattle.spb_run.proofs.Counting.{lines_few, line_one}
+
+-- ---- what stays so
+
+record IsKept (s : State) : Type 0 where
+  sound : IsSoundState s
+  counted : s.accepted ≤ most_commands → IsCounted s
+
+kept_by : (s : State) (number : ℕ) (c : Command) (o : Option Reason) → refusal_of s c ≡ o → IsAddressed c → IsKept s → IsKept (judged_by s number c o).state
+kept_by s number c (Some reason) is addressed kept = kept
+kept_by s number c None is addressed kept = record { sound = commands_keep_sound s c kept.sound addressed is; counted = stays_counted s c kept.sound kept.counted is }
+
+kept_as : (s : State) (number : ℕ) (r : Result (Option Command) ℕ) → ((c : Command) → r ≡ Ok (Some c) → IsAddressed c) → IsKept s → IsKept (judged_as s number r).state
+kept_as s number (Err column) addressed kept = kept
+kept_as s number (Ok None) addressed kept = kept
+kept_as s number (Ok (Some c)) addressed kept = kept_by s number c (refusal_of s c) refl (addressed c refl) kept
+
+kept_if : (b : Bool) (s : State) (number column : ℕ) (j : Judged) → IsKept s → IsKept j.state → IsKept (if b then j else misspelled s number column).state
+kept_if true s number column j old new = new
+kept_if false s number column j old new = old
+
+kept_from : (s : State) (number : ℕ) (line : List ℕ) (o : Option FirstWord) → IsKept s → IsKept (judged_from s number line o).state
+kept_from s number line None kept = kept_as s number (line_of line) (line_addressed line) kept
+kept_from s number line (Some first) kept = kept_if (is_played_word first.keyword) s number first.column (judged_as s number (line_of line)) kept (kept_as s number (line_of line) (line_addressed line) kept)
+
+line_kept : (s : State) (number : ℕ) (line : List ℕ) → IsKept s → IsKept (judged s number line).state
+unfolding judged
+line_kept s number line kept = kept_from s number line (head_of line) kept
+
+-- ---- the states of a script
+
+if_accepted : {P : Type 0} (o : Option Refusal) → P → IfAccepted o P
+if_accepted None holds = holds
+if_accepted (Some why) holds = tt
+
+all_tell : (s : State) (number : ℕ) (ls : List (List ℕ)) → IsKept s → s.accepted + length ls ≤ most_commands → AllStates QuietTells s number ls
+all_tell s number [] kept few = tt
+all_tell s number (line ∷ ls) kept few =
+    let next : State = (judged s number line).state in
+    let later : IsKept next = line_kept s number line kept in
+    let one : next.accepted ≤ s.accepted + 1 = line_one s number line in
+    if_accepted (judged s number line).refused (
+      counted_networks_tell next later.sound (later.counted (omega (arith, few, one))),
+      all_tell next (number + 1) ls later (omega (arith, few, one)),
+    )
+
+module _ {B : Type 0} (shown : B → Shown) (n : NetworkOf B) (new : IsNew shown n) where
+  kept : IsKept (state_of shown n)
+  kept =
+      let sound : IsSoundNetwork shown n = ⊎_elim (λ h. absurd (true≢false (sym h ∙ new.alive.halted))) (λ m. m) new.alive.ready in
+      record { sound = sound.state; counted = sound.counted }
+
+  short_tells : (script : List ℕ) → is_too_long script ≡ false → AllStates QuietTells (state_of shown n) 1 (lines script)
+  short_tells script short =
+      let none : (state_of shown n).accepted ≡ 0 = ap (λ (s : State). s.accepted) new.opening in
+      let bytes : length script ≤ most_bytes = grind (arith, nat_tests) in
+      let few : length (lines script) ≤ length script + 1 = lines_few script in
+      all_tell (state_of shown n) 1 (lines script) kept (omega (arith, none, bytes, few))
+
+  -- of a script that isn't too long
+  pub script_tells : (left : Option (List ℕ)) → IfSome left (λ script. is_too_long script ≡ false → AllStates QuietTells (state_of shown n) 1 (lines script))
+  script_tells None = tt
+  script_tells (Some script) = short_tells script
