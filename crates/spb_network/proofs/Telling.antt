@@ -1,5 +1,5 @@
 -- Where a network whose sequence numbers are counted is quiet, every bridge is told.
-use Rattle.std.proofs.Common.{◌≡◌, ◌≤◌, ℕ, suc, List, [], ◌∷◌, length, Option, Some, None, slice_get, refl, arith}
+use Rattle.std.proofs.Common.{◌≡◌, ◌≤◌, ℕ, suc, List, [], ◌∷◌, length, Option, Some, None, slice_get, refl, ap, ◌∙◌, arith}
 use Rattle.std.specs.List.{AllByRecursion, filter_map, cons_option}
 use Rattle.std.specs.FinMap.{entries}
 use Rattle.spb_types.specs.declared.limits.TheConstants.{MOST_GRAPH_BRIDGES}
@@ -13,7 +13,12 @@ use Rattle.spb_network.specs.Sound.{IsSoundState}
 use Rattle.spb_network.specs.SoundLaws.{IsAddressed}
 use Rattle.spb_network.specs.Counted.{IsCounted, most_commands}
 use Rattle.spb_network.specs.Truth.{IsAtRest}
-use Rattle.spb_network.specs.Telling.{QuietTells, CountedNetworksTell, NetworksTell}
+use Rattle.std.specs.Option.{option_map_or}
+use Rattle.bridge_api.specs.Graph.{own_tables}
+use Rattle.spb_network.specs.Quiet.{failing}
+use Rattle.spb_network.specs.Questions.{no_tables}
+use Rattle.spb_network.specs.Telling.{QuietTells, CountedNetworksTell, NetworksTell, ShowIsTrue}
+use Rattle.spb_network.proofs.QuietLists.{nil_of, of_nil}
 use Rattle.spb_network.proofs.QuietLaws.{quiet_says}
 use Rattle.spb_network.proofs.Linked.{quiet_is_shared}
 use Rattle.spb_network.proofs.QuietTruth.{quiet_is_true}
@@ -64,3 +69,11 @@ networks_tell rule rack cs addressed accepted few =
 pub next_tells : (s : State) (c : Command) → IsSoundState s → IsAddressed c → (s.accepted ≤ most_commands → IsCounted s) → refusal_of s c ≡ None → (next_state s c).accepted ≤ most_commands → QuietTells (next_state s c)
 next_tells s c sound addressed counted none few =
     counted_networks_tell (next_state s c) (commands_keep_sound s c sound addressed none) (stays_counted s c sound counted none few)
+
+pub show_is_true : ShowIsTrue
+show_is_true = record {
+  says = λ s. (nil_of (failing s), of_nil (failing s));
+  rows = λ s i v sound counted at quiet.
+      ap (λ (o : Option BridgeView). option_map_or own_tables o no_tables) at
+      ∙ ((counted_networks_tell s sound counted (nil_of (failing s) quiet)).told i v at).tables;
+}

@@ -1,10 +1,12 @@
 -- What a user can rely on where a network is quiet, whatever commands made it.
-use Rattle.std.specs.Prelude.{◌≡◌, ℕ, ◌≤◌, List, length, Some, slice_get}
+use Rattle.std.specs.Prelude.{◌≡◌, ◌↔◌, ℕ, ◌≤◌, List, length, true, Some, slice_get}
 use Rattle.std.specs.List.{AllByRecursion}
 use Rattle.scenario.specs.declared.command.Command.{Command}
 use Rattle.bridge_api.specs.View.{BridgeView}
 use Rattle.spb_network.specs.declared.kind_rule.KindRule.{KindRule}
+use Rattle.spb_network.specs.World.{wired_tables}
 use Rattle.spb_network.specs.State.{State, Spare}
+use Rattle.spb_network.specs.Questions.{is_quiet, show_at}
 use Rattle.spb_network.specs.Play.{played_all}
 use Rattle.spb_network.specs.Sound.{IsSoundState, opening}
 use Rattle.spb_network.specs.SoundLaws.{IsAddressed, AreAccepted}
@@ -42,3 +44,9 @@ pub record SomeNetworkIsQuiet : Type 0 where
   pub bridges : length (played_all (opening rule rack) commands).views ≡ 2
   pub links : length (played_all (opening rule rack) commands).world.links ≡ 1
   pub quiet : IsQuiet (played_all (opening rule rack) commands)
+
+-- what `show` answers: it says quiet exactly where the network is, and there it has the rows of `wiring`
+pub record ShowIsTrue : Type 0 where
+  pub says : (s : State) → (is_quiet s ≡ true) ↔ IsQuiet s
+  pub rows : (s : State) (i : ℕ) (v : BridgeView) → IsSoundState s → IsCounted s → slice_get s.views i ≡ Some v
+      → is_quiet s ≡ true → show_at s i ≡ wired_tables s.world i

@@ -4,7 +4,7 @@ ghost use Rattle.spb_network.specs.SoundLaws.{EventsKeepSound, CommandsKeepSound
 ghost use Rattle.spb_network.specs.CountedLaws.{EventsKeepCounted, CommandsKeepCounted, NetworksAreCounted, NumbersStayLow, BridgesStayFar, NothingIsFull, SomeCountedIsBusy};
 ghost use Rattle.spb_network.specs.WiringLaws.{SoundIsWired, NetworksAreWired};
 ghost use Rattle.spb_network.specs.Truth.{QuietIsShared, QuietIsRead, QuietTellsLinks, QuietIsTrue, QuietNetworksAreTold};
-ghost use Rattle.spb_network.specs.Telling.{CountedNetworksTell, NetworksTell, SomeNetworkIsQuiet};
+ghost use Rattle.spb_network.specs.Telling.{CountedNetworksTell, NetworksTell, ShowIsTrue, SomeNetworkIsQuiet};
 ghost use Rattle.spb_network.specs.MeetingLaws.{SomeBridgesMeet};
 ghost use Rattle.spb_network.specs.Quiet.{QuietSays};
 ghost use Rattle.spb_network.specs.DeliveryLaws.{FramesAreDelivered, DeliverDelivers};
@@ -78,10 +78,12 @@ pub fn quiet_is_true()
 {}
 
 /// Where a sound network whose sequence numbers are counted is quiet, every bridge has its part of the wiring right, and
-/// any two that a walk joins hold the same. So it is whatever commands were accepted, at most 120,000 of them.
-/// Some commands lead to a quiet network of two bridges, whose link went down again.
+/// any two that a walk joins hold the same. So it is whatever commands were accepted, at most 120,000 of them. Where
+/// `show` says quiet, it has the rows of `wiring`. Some commands lead to a quiet network of two bridges, whose link went
+/// down again.
 pub fn quiet_can_be_relied_on()
     ensures counted { CountedNetworksTell }
     ensures always { NetworksTell }
+    ensures shown { ShowIsTrue }
     ensures some { SomeNetworkIsQuiet }
 {}

@@ -1,4 +1,4 @@
-use Rattle.spb_network.proofs.Telling.{counted_networks_tell, networks_tell}
+use Rattle.spb_network.proofs.Telling.{counted_networks_tell, networks_tell, show_is_true}
 use Rattle.spb_network.proofs.QuietWitness.{some_network_is_quiet}
 use Rattle.spb_network.proofs.laws.quiet_can_be_relied_on.Goals as goal
 
@@ -10,3 +10,6 @@ returns-clause-always c = networks_tell
 
 pub returns-clause-some : goal.returns-clause-some
 returns-clause-some c = some_network_is_quiet
+
+pub returns-clause-shown : goal.returns-clause-shown
+returns-clause-shown c = show_is_true
