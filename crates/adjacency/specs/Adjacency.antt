@@ -99,7 +99,8 @@ change_by_hello me port hello way a =
 -- whether a hello only begins the holding count anew: the state is Up, and the kept neighbour hears this system still
 abbrev pub is_refreshed : SystemId → ℕ → HelloValue → ThreeWay → Adjacency → Bool
 is_refreshed me port hello way a =
-    is_up a.state && nat_lt way.state 2 && nat_lt 0 hello.holding && same_end (a.neighbour, a.circuit) (sender hello way)
+    is_up a.state && nat_lt way.state 2 && nat_lt 0 hello.holding
+    && same_end (a.neighbour, a.circuit) (sender hello way)
     && not (is_discarded me port hello way)
 
 -- what the own hello says: the state, the port as the extended local circuit id, and the neighbour that is kept

@@ -74,6 +74,7 @@ impl Adjacency {
     /// It's [`hear`](Self::hear) for the hello that comes each second.
     pub fn refresh(&mut self, me: SystemId, port: u8, hello: &Hello, way: &ThreeWay) -> bool
         requires { IsSound self.old }
+        ensures exact { result ≡ is_refreshed me port (hello_of hello.now) way.now self.old }
         ensures new { self.new ≡ (if result then record self.old { hold = hello.now.holding } else self.old) }
         ensures heard { result ≡ true → self.new ≡ after_hello me port (hello_of hello.now) way.now self.old }
         ensures kept { result ≡ true → change_by_hello me port (hello_of hello.now) way.now self.old ≡ did.Kept }

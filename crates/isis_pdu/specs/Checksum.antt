@@ -21,7 +21,7 @@ pub record IsReduced (s : Sums) : Type 0 where
   pub c0 : s.c0 < 255
   pub c1 : s.c1 < 255
 
--- the sum of bytes, and the sum of each byte times its place counted from the end: modulo 255, what they add to the sums
+-- the sum of bytes, and the sum of each byte times its place from the end: modulo 255, what they add to the sums
 abbrev pub total : List ℕ → ℕ
 total [] = 0
 total (b ∷ bs) = b + total bs

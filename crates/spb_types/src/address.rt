@@ -1,5 +1,7 @@
 ghost use Rattle.std.specs.Prelude.{◌≡◌, ◌==◌, ◌%◌, slice_index};
-ghost use Rattle.spb_types.specs.Address.{same_system, system_number, HasSixBytes};
+ghost use Rattle.spb_types.specs.Address.{same_system, system_number, group_address, HasSixBytes};
+
+use crate::{Isid, SourceId};
 
 /// A MAC address: six bytes, as they stand in a frame (IEEE 802).
 #[derive(Clone, Copy, Debug, PartialEq, Eq, PartialOrd, Ord, Hash)]
@@ -13,6 +15,24 @@ impl Mac {
         ensures { result ≡ (slice_index self.now.bytes 0 % 2 == 1) }
     {
         self.bytes[0] % 2 == 1
+    }
+}
+
+/// The group address of a source and an I-SID, to which the source sends that service's flooded frames: the low 20 bits
+/// of the source, its top 4 bits before a nibble 3, and the low 24 bits of the I-SID (IEEE 802.1aq, 27.15).
+pub fn group_address(source: SourceId, isid: Isid) -> Mac
+    ensures { result ≡ group_address source.value isid.value }
+{
+    let (s, i) = (source.value, isid.value);
+    Mac {
+        bytes: [
+            (s / 0x1_0000 % 16 * 16 + 3) as u8,
+            (s / 0x100 % 0x100) as u8,
+            (s % 0x100) as u8,
+            (i / 0x1_0000 % 0x100) as u8,
+            (i / 0x100 % 0x100) as u8,
+            (i % 0x100) as u8,
+        ],
     }
 }
 

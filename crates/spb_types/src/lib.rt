@@ -2,11 +2,11 @@
 //!
 //! A value is `Copy` where it is small, and each list is a [`Seq`], which contracts see as the list of its items. Only
 //! `Seq::push` takes memory, and moves the items where there is no room left. `Name::new` reads its at most 16 bytes,
-//! and `Seq::truncate` drops items. `unicast_of` and `ingress_ok` go over the unicast rows until they find theirs. Each
-//! other call takes constant time.
+//! and `Seq::truncate` drops items. `unicast_of`, `ingress_ok` and `group_of` go over the rows until they find theirs.
+//! Each other call takes constant time.
 #![tactic(auto)]
 
-pub use address::{BridgeId, LspId, Mac, SystemId};
+pub use address::{BridgeId, LspId, Mac, SystemId, group_address};
 pub use ect::ect_mask;
 pub use fields::{lsp_id_in, mac_in, system_in, u16_in, u24_in, u32_in};
 pub use graph::{Edge, Graph, GraphBridge, Member};
@@ -17,7 +17,7 @@ pub use name::Name;
 pub use ports::PortSet;
 pub use seq::Seq;
 pub use service::{Attachment, Isid, SourceId, Vid, VidPlan};
-pub use tables::{GroupRow, Path, Tables, UnicastRow, ingress_ok, unicast_of};
+pub use tables::{GroupRow, Path, Tables, UnicastRow, group_of, ingress_ok, unicast_of};
 pub use take::{Short, take_u8, take_u16, take_u24, take_u32};
 
 mod address;

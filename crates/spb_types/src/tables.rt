@@ -1,6 +1,6 @@
 ghost use Rattle.std.specs.Prelude.{◌≡◌, ◌↔◌, IsTrue, find};
 ghost use Rattle.std.specs.Option.{option_copied};
-ghost use Rattle.spb_types.specs.Tables.{is_row_for, unicast_in, IsIngress};
+ghost use Rattle.spb_types.specs.Tables.{is_row_for, unicast_in, is_group_row_for, group_in, IsIngress};
 
 use crate::{Mac, PortSet, Seq, SystemId, Vid};
 
@@ -52,6 +52,27 @@ pub fn unicast_of(tables: &Tables, vid: Vid, mac: Mac) -> Option<u8>
     match row_for(tables, vid, mac) {
         None => None,
         Some(row) => Some(row.port),
+    }
+}
+
+/// The first group row for a VID and an address.
+fn group_row_for(tables: &Tables, vid: Vid, mac: Mac) -> Option<&GroupRow>
+    ensures { option_copied result ≡ find (is_group_row_for vid mac) tables.now.group }
+{
+    tables
+        .group
+        .iter()
+        .find(|group| group.vid == vid && group.mac == mac)
+}
+
+/// The ports by which frames to a group address in a VID leave: those of the first group row for both, and none where
+/// there is no such row (IEEE 802.1aq, 8.8).
+pub fn group_of(tables: &Tables, vid: Vid, mac: Mac) -> PortSet
+    ensures { result ≡ group_in tables.now.group vid mac }
+{
+    match group_row_for(tables, vid, mac) {
+        None => PortSet::none(),
+        Some(row) => row.ports,
     }
 }
 
