@@ -113,7 +113,7 @@ IsMemberBy v m = (a : Attachment) × Contains v.attached a × (m ≡ member_of v
 -- a bridge says that it is a member of the services to which its customer ports are attached, in their VIDs, and of no
 -- others
 abbrev pub MembersAreSaid : Type 0
-MembersAreSaid = (v : BridgeView) (m : Member) → IsSoundView v
+MembersAreSaid = (v : BridgeView) (m : Member)
     → Contains (members_of (v.id.system, said_by (local_of v))) m ↔ IsMemberBy v m
 
 -- ---- its tables
