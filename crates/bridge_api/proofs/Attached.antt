@@ -1,11 +1,10 @@
 -- What is attached to a bridge stays as a configuration has it.
-use Rattle.std.proofs.Common.{◌≡◌, ◌≢◌, inl, inr, ◌≤◌, ℕ, Bool, true, false, List, [], ◌∷◌, ◌++◌, length, map, filter, cond, refl, sym, ap, ◌∙◌, subst, arith}
+use Rattle.std.proofs.Common.{◌≡◌, inl, inr, ◌≤◌, ℕ, Bool, true, false, List, [], ◌∷◌, ◌++◌, length, map, filter, cond, refl, sym, ap, ◌∙◌, subst, arith}
 use Rattle.std.specs.Prelude.{nat_eq, ◌||◌, if◌then◌else◌}
 use Rattle.std.specs.List.{list_any, AllByRecursion}
 use Rattle.std.proofs.lemmas.Bool.{true≢false, eq-eqb}
 use Rattle.spb_types.specs.declared.service.Attachment.{Attachment}
 use Rattle.spb_content.proofs.Members.{Has, all_has, has_all, has_map, map_has, filter_has, all_append}
-use Rattle.spb_content.proofs.Ascended.{Numbered}
 use Rattle.spb_content.proofs.Kept.{Apart, length-within}
 use Rattle.bridge_api.specs.View.{BridgeView}
 use Rattle.bridge_api.specs.Config.{ArePairwise, different, IsAttachment, AgreesWith, vids_of}

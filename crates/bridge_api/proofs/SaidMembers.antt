@@ -1,20 +1,18 @@
 -- The services of which a bridge says that it is a member are those to which its customer ports are attached.
-use Rattle.std.proofs.Common.{◌≡◌, ℕ, Bool, true, false, true≢false, List, [], ◌∷◌, length, map, filter, flat_map, refl, sym, ap, ◌∙◌, subst, Option, Some, None, Contains}
-use Rattle.std.specs.Prelude.{◌==◌, ◌&&◌, if◌then◌else◌}
-use Rattle.std.specs.Str.{bytes_eq}
+use Rattle.std.proofs.Common.{◌≡◌, true, List, [], map, flat_map, refl, sym, ap, ◌∙◌, subst, Some, None, Contains}
+use Rattle.std.specs.Prelude.{◌&&◌, if◌then◌else◌}
 use Rattle.std.proofs.lemmas.Bool.{eqb-true, eq-eqb}
 use Rattle.std.proofs.lemmas.Slice.Eq.{bytes_eq-Decides}
 use Rattle.spb_types.specs.declared.address.Mac.{Mac}
 use Rattle.spb_types.specs.declared.address.SystemId.{SystemId}
 use Rattle.spb_types.specs.declared.graph.Member.{Member}
-use Rattle.spb_types.specs.declared.service.Attachment.{Attachment}
 use Rattle.spb_types.specs.declared.service.Isid.{Isid}
 use Rattle.spb_types.specs.declared.service.Vid.{Vid}
 use Rattle.spb_tlvs.specs.declared.capability.Service.{Service}
 use Rattle.spb_content.specs.Graph.{member_of as member_said, members_of}
-use Rattle.spb_content.specs.Local.{said_by, vids_in, isids_in, in_vid, service_with, services_in, vid_number, isid_number}
+use Rattle.spb_content.specs.Local.{said_by, vids_in, isids_in, in_vid, service_with, services_in, vid_number}
 use Rattle.spb_content.proofs.Members.{Has, has_from_contains, contains_from_has, has_map, map_has, has_filter, filter_has, has_flat_map, flat_map_has}
-use Rattle.spb_content.proofs.Ascended.{Numbered, numbered_ascending}
+use Rattle.spb_content.proofs.Ascended.{numbered_ascending}
 use Rattle.spb_content.proofs.Links.{some_same}
 use Rattle.spb_content.proofs.Written.{isid_attached, attached_isid}
 use Rattle.fdb_build.proofs.AscendLemmas.{filter_map_has, has_filter_map}
