@@ -13,3 +13,4 @@ pub mod Refreshed
 pub mod Messages
 pub mod Keeping
 pub mod OwnTables
+pub mod Telling

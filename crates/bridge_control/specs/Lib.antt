@@ -3,3 +3,4 @@ pub mod Machine
 pub mod Message
 pub mod Frames
 pub mod Plane
+pub mod Attaching

@@ -47,6 +47,7 @@
 
 pub use control_plane::ControlPlane;
 
+mod attaching;
 mod changing;
 mod control_plane;
 mod hearing;
