@@ -4,7 +4,7 @@ use adjacency::Adjacency;
 use bridge_api::{Bridge, BridgeConfig, Kind, Outbox};
 use bridge_control::ControlPlane;
 use lsdb::Held;
-use spb_types::{Mac, NoMemory, Tables, Vid};
+use spb_types::{Isid, Mac, NoMemory, Path, PortSet, SystemId, Tables, Vid};
 use std::alloc::Global;
 use std::marker::Model;
 
@@ -74,6 +74,14 @@ impl Bridge for PlainBridge {
         self.control.set_metric(port, metric)
     }
 
+    fn attach(&mut self, port: u16, isid: Isid, vid: Vid) -> Result<(), NoMemory> {
+        self.control.attach(port, isid, vid)
+    }
+
+    fn detach(&mut self, port: u16) -> Result<(), NoMemory> {
+        self.control.detach(port)
+    }
+
     fn adjacent(&self, port: u8) -> Adjacency {
         self.control.adjacent(port)
     }
@@ -96,5 +104,13 @@ impl Bridge for PlainBridge {
 
     fn unicast_port(&self, vid: Vid, mac: Mac) -> Result<Option<u8>, NoMemory> {
         self.control.unicast_port(vid, mac)
+    }
+
+    fn group_ports(&self, vid: Vid, mac: Mac) -> Result<PortSet, NoMemory> {
+        self.control.group_ports(vid, mac)
+    }
+
+    fn path(&self, to: SystemId, vid: Vid) -> Result<Option<Path>, NoMemory> {
+        self.control.path(to, vid)
     }
 }
