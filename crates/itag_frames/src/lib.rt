@@ -2,10 +2,11 @@
 //! customer's frame (IEEE 802.1ah), have a type, but are neither read nor written yet.
 //!
 //! [`classify`] looks at no more than the header of a frame, copies nothing and takes no memory. [`control_frame`]
-//! takes memory for the frame that it makes.
+//! takes memory for the frame that it makes, and [`control_head`] for the whole frame whose head it makes, so that a PDU
+//! can be written into its frame at once.
 #![tactic(auto)]
 
-pub use control::control_frame;
+pub use control::{control_frame, control_head};
 pub use frame::{Backbone, Frame, FrameError, classify};
 pub use laws::control_again;
 
