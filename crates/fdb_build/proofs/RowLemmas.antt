@@ -58,6 +58,18 @@ port_among-le (e ∷ es) x y p ports h =
         omega (arith, same, port.1)
     by false j h rest = rest h
 
+pub port_among-low : (es : List Edge) (x y : SystemId) (p : ℕ) → ArePorts es x → Some p ≡ port_among es x y → 1 ≤ p
+port_among-low [] x y p ports h = cc
+port_among-low (e ∷ es) x y p ports h =
+    by (joins e x y) refl h (port_among-low es x y p (other_ports e es x (same_system e.a x || same_system e.b x) ports))
+  where
+    by : (b : Bool) → joins e x y ≡ b → Some p ≡ (if b then Some (port_at e x) else port_among es x y) → (Some p ≡ port_among es x y → 1 ≤ p) → 1 ≤ p
+    by true j h rest =
+        let port = first_port e es x (same_system e.a x || same_system e.b x) (joins_at e x y j) ports in
+        let same : p ≡ port_at e x = cc in
+        omega (arith, same, port.0)
+    by false j h rest = rest h
+
 cons_one : {Y : Type 0} (o : Option Y) → filter_map (λ z. z) (o ∷ []) ≡ option_to_list o
 cons_one None = refl
 cons_one (Some y) = refl
