@@ -15,3 +15,4 @@ pub mod Keeping
 pub mod OwnTables
 pub mod Anew
 pub mod Tlvless
+pub mod Telling

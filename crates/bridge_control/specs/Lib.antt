@@ -4,3 +4,4 @@ pub mod Message
 pub mod Heard
 pub mod Frames
 pub mod Plane
+pub mod Attaching
