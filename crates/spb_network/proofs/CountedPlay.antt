@@ -22,6 +22,7 @@ use Rattle.spb_network.specs.World.{World, place_of}
 use Rattle.spb_network.specs.Declaring.{bridge_of, link_of, with_vid, bridge_refusal, link_refusal}
 use Rattle.spb_network.specs.State.{State, Spare}
 use Rattle.spb_network.specs.Events.{ticked, delivered, lost, doubled, with_metric_changed, switched_off, switched_on, rounds, drained}
+use Rattle.spb_network.specs.Restarting.{restarted}
 use Rattle.spb_network.specs.Refusing.{box_for, declared_refusal, link_refusal_at_found, named_link_refusal, metric_refusal, refusal_of}
 use Rattle.spb_network.specs.Play.{config_of, boxed, declared, linked, link_between_found, named_link, at_place, at_bridge, at_link, with_vid_more, with_rounds, with_drain, played, next_count, next_state, played_all}
 use Rattle.spb_network.specs.Sound.{IsSoundState, opening}
@@ -37,6 +38,7 @@ use Rattle.spb_network.proofs.SoundPlay.{commands_keep_sound, opening_sound}
 use Rattle.spb_network.proofs.CountsKept.{counts, counts-ticked, counts-delivered, counts-metric, counts-off, counts-on, counts-rounds, counts-drained, counts-boxed, counts-linked}
 use Rattle.spb_network.proofs.CountedDeclaring.{IsFirstOwn, counted_bridge, counted_link}
 use Rattle.spb_network.proofs.CountedLinks.{Counted-metric, Counted-off, Counted-on}
+use Rattle.spb_network.proofs.RestartCounted.{Counted-restarted, counts-restarted}
 use Rattle.spb_network.proofs.CountedRounds.{counted_more, Counted-rounds, Counted-drained}
 use Rattle.spb_network.proofs.CountedEvents.{Counted-ticked, Counted-delivered, Counted-lost, Counted-doubled}
 
@@ -49,6 +51,7 @@ events_keep_counted = record {
   metric = λ k side m is s n sound counted low. Counted-metric s n k side m is (core_of s sound) counted (omega (arith, low));
   down = λ k s n sound counted low. Counted-off s n k sound counted (omega (arith, low));
   up = λ k s n sound counted low. Counted-on s n k (core_of s sound) counted (omega (arith, low));
+  restart = λ i s n sound counted low. Counted-restarted s n i sound counted low;
   round = λ c s n sound counted low. Counted-rounds c n s sound counted low;
   drain = λ c s n sound counted low. counted_more n (n + 0) (drained c s) (omega arith) (Counted-drained c n s sound counted (omega (arith, low)));
 }
@@ -199,6 +202,9 @@ module _ (s : State) (sound : IsSoundState s) (counted : IsCounted s) (room : s.
   on_played : (k : ℕ) → IsPlayed s (switched_on s k)
   on_played k = two_more s (switched_on s k) counted (counts-on s k) (counted_more (allowance_of s + 1) (allowance_of s + 2) (switched_on s k) (omega arith) (Counted-on s (allowance_of s) k (core_of s sound) counted.by lower))
 
+  restart_played : (k : ℕ) → IsPlayed s (restarted s k)
+  restart_played k = two_more s (restarted s k) counted (counts-restarted s k) (Counted-restarted s (allowance_of s) k sound counted.by low)
+
   metric_played : (name : List ℕ) (side : Side) (m k : ℕ) → metric_refusal s.world name m ≡ None → place_of name s.world.links ≡ Some k → IsPlayed s (with_metric_changed s k side m)
   metric_played name side m k none at = two_more s (with_metric_changed s k side m) counted (counts-metric s k side m) (Counted-metric s (allowance_of s) k side m (metric_refusal_none s.world name m k at none) (core_of s sound) counted.by lower)
 
@@ -210,6 +216,7 @@ module _ (s : State) (sound : IsSoundState s) (counted : IsCounted s) (room : s.
   command_played (command.Metric name on m) none = link_played (λ t k. with_metric_changed t k on m) s name counted (λ k at. metric_played name on m k none at)
   command_played (command.Down name) none = link_played switched_off s name counted (λ k at. off_played k)
   command_played (command.Up name) none = link_played switched_on s name counted (λ k at. on_played k)
+  command_played (command.Restart name) none = bridge_played restarted s name counted (λ k at. restart_played k)
   command_played (command.Tick name) none = bridge_played ticked s name counted (λ k at. tick_played k)
   command_played (command.Deliver name dir) none = link_played (λ t k. delivered t k dir) s name counted (λ k at. deliver_played k dir)
   command_played (command.Lose name dir place) none = link_played (λ t k. lost t k dir place) s name counted (λ k at. lose_played k dir place)

@@ -58,6 +58,12 @@ pub mod CountsKept
 pub mod CountedPlay
 pub mod CountedEnds
 pub mod CountedStays
+pub mod RestartLemmas
+pub mod RestartCut
+pub mod RestartConfig
+pub mod RestartSound
+pub mod RestartCounted
+pub mod RestartNew
 pub mod QuietLists
 pub mod QuietLaws
 pub mod QuietTruth

@@ -53,7 +53,7 @@ stepped_carriers x s i other carriers =
     (subst (λ (views : List BridgeView). HaveCarrierOfLinks (links_of s) views) (sym (stepped_views x s i))
     (carriers_stepped x s.views i (ends_live_link (links_of s)) other carriers))
 
-stepped_with_metric : (x : Input) (s : State) (i : ℕ) → is_metric x ≡ false → HaveLinkMetrics (links_of s) s.views → HaveLinkMetrics (links_of (stepped x s i)) (stepped x s i).views
+pub stepped_with_metric : (x : Input) (s : State) (i : ℕ) → is_metric x ≡ false → HaveLinkMetrics (links_of s) s.views → HaveLinkMetrics (links_of (stepped x s i)) (stepped x s i).views
 stepped_with_metric x s i other metrics =
     subst (λ (w : World). HaveLinkMetrics (things_of w.links) (stepped x s i).views) (sym (stepped_world x s i))
     (subst (λ (views : List BridgeView). HaveLinkMetrics (links_of s) views) (sym (stepped_views x s i))
@@ -132,13 +132,13 @@ Sound-flushed s k sound = stays_fewer s (changed_at (λ lanes. no_frames) s.lane
 
 -- ---- a link is switched
 
-core_with_carrier : (on : Bool) (s : State) (e : LinkEnd) → IsCore s → IsCore (with_carrier_at_end on s e)
+pub core_with_carrier : (on : Bool) (s : State) (e : LinkEnd) → IsCore s → IsCore (with_carrier_at_end on s e)
 core_with_carrier on s e core = core_stepped (comes.carrier e.port on) s s.lanes e.bridge (λ v at. tt) core (alike_itself s) core.short (λ k dir f among. among) (λ p f is. absurd cc)
 
-with_carrier_world : (on : Bool) (s : State) (e : LinkEnd) → (with_carrier_at_end on s e).world ≡ s.world
+pub with_carrier_world : (on : Bool) (s : State) (e : LinkEnd) → (with_carrier_at_end on s e).world ≡ s.world
 with_carrier_world on s e = stepped_world (comes.carrier e.port on) s e.bridge
 
-carrier_stands : (on : Bool) (s : State) (e : LinkEnd) (carriers : ℕ → ℕ → Bool) → HaveCarrier s.views carriers → HaveCarrier (with_carrier_at_end on s e).views (λ i p. if is_at e i p then on else carriers i p)
+pub carrier_stands : (on : Bool) (s : State) (e : LinkEnd) (carriers : ℕ → ℕ → Bool) → HaveCarrier s.views carriers → HaveCarrier (with_carrier_at_end on s e).views (λ i p. if is_at e i p then on else carriers i p)
 carrier_stands on s e carriers have = subst (λ (views : List BridgeView). HaveCarrier views (λ i p. if is_at e i p then on else carriers i p)) (sym (stepped_views (comes.carrier e.port on) s e.bridge)) (carriers_with_carrier on s.views e carriers have)
 
 -- the link at a place is switched, and both ends learn it

@@ -26,14 +26,14 @@ use Rattle.spb_network.proofs.SoundCarrier.{got_changed}
 -- ---- one bridge
 
 -- the metric at a port, by the list of the metrics
-abbrev metric_of : List ℕ → ℕ → Option ℕ
+abbrev pub metric_of : List ℕ → ℕ → Option ℕ
 metric_of ms p = if nat_le 1 p then slice_get ms (p - 1) else None
 
 seen_if : (b : Bool) (ports : List BridgePort) (i : ℕ) → option_map (λ port. port.metric) (if b then slice_get ports i else None) ≡ (if b then slice_get (metrics_of ports) i else None)
 seen_if true ports i = sym (slice_get-map (λ (port : BridgePort). port.metric) ports i)
 seen_if false ports i = refl
 
-seen : (v : BridgeView) (p : ℕ) → metric_at v p ≡ metric_of (metrics_of v.ports) p
+pub seen : (v : BridgeView) (p : ℕ) → metric_at v p ≡ metric_of (metrics_of v.ports) p
 seen v p = seen_if (nat_le 1 p) v.ports (p - 1)
 
 -- whether an input sets a metric

@@ -19,6 +19,7 @@ use Rattle.link_model.specs.Lanes.{no_frames}
 use Rattle.spb_network.specs.Declaring.{bridge_refusal, vid_refusal, link_refusal, plan_of, bridge_of, link_of, with_link}
 use Rattle.spb_network.specs.State.{State, Spare}
 use Rattle.spb_network.specs.Events.{ticked, delivered, lost, doubled, with_metrics_over, with_metric_changed, switched_off, switched_on, rounds, drained}
+use Rattle.spb_network.specs.Restarting.{restarted}
 use Rattle.spb_network.specs.Refusing.{box_for, declared_refusal, link_refusal_at_found, named_link_refusal, metric_refusal, refusal_of}
 use Rattle.spb_network.specs.Play.{config_of, boxed, declared, linked, link_between_found, named_link, at_place, at_bridge, at_link, with_vid_more, with_rounds, with_drain, played, counted, next_state, played_all}
 use Rattle.spb_network.specs.Sound.{IsSoundState, opening}
@@ -31,6 +32,7 @@ use Rattle.spb_network.proofs.SoundNames.{first_none, last_none, passes, distinc
 use Rattle.spb_network.proofs.SoundEvents.{Sound-ticked, Sound-delivered, Sound-lost, Sound-doubled, Sound-switched_off, Sound-switched_on, Sound-rounds, Sound-drained}
 use Rattle.spb_network.proofs.SoundDeclaring.{empty_from, IsNewView, Sound-new_bridge, Sound-new_vid, Sound-nothing}
 use Rattle.spb_network.proofs.SoundLinks.{Sound-new_link}
+use Rattle.spb_network.proofs.RestartSound.{Sound-restarted}
 use Rattle.spb_network.proofs.SoundSetMetrics.{Sound-metric_changed}
 use Rattle.spb_network.proofs.SoundLane.{IsStill}
 use Rattle.spb_network.proofs.SoundConfigured.{configured_still, configured_attached}
@@ -44,6 +46,7 @@ events_keep_sound = record {
   metric = λ k side m is s sound. Sound-metric_changed s k side m is sound;
   down = λ k s sound. Sound-switched_off s k sound;
   up = λ k s sound. Sound-switched_on s k sound;
+  restart = λ i s sound. Sound-restarted s i sound;
   round = λ n s sound. Sound-rounds n s sound;
   drain = λ n s sound. Sound-drained n s sound;
 }
@@ -172,6 +175,7 @@ played_sound s (command.Link name a port_a b port_b cost) sound addressed none =
 played_sound s (command.Metric name side m) sound addressed none = metric_sound s name side m sound none
 played_sound s (command.Down name) sound addressed none = at_link_sound switched_off s name (λ k t. Sound-switched_off t k) sound
 played_sound s (command.Up name) sound addressed none = at_link_sound switched_on s name (λ k t. Sound-switched_on t k) sound
+played_sound s (command.Restart name) sound addressed none = at_bridge_sound restarted s name (λ k t. Sound-restarted t k) sound
 played_sound s (command.Tick name) sound addressed none = at_bridge_sound ticked s name (λ k t. Sound-ticked t k) sound
 played_sound s (command.Deliver name dir) sound addressed none = at_link_sound (λ t k. delivered t k dir) s name (λ k t. Sound-delivered t k dir) sound
 played_sound s (command.Lose name dir place) sound addressed none = at_link_sound (λ t k. lost t k dir place) s name (λ k t. Sound-lost t k dir place) sound

@@ -41,6 +41,7 @@ NamesUnknown w (command.Link name a port_a b port_b cost) = (¬ IsNamed a w.brid
 NamesUnknown w (command.Metric link side m) = ¬ IsNamed link w.links
 NamesUnknown w (command.Down link) = ¬ IsNamed link w.links
 NamesUnknown w (command.Up link) = ¬ IsNamed link w.links
+NamesUnknown w (command.Restart bridge) = ¬ IsNamed bridge w.bridges
 NamesUnknown w (command.Tick bridge) = ¬ IsNamed bridge w.bridges
 NamesUnknown w (command.Deliver link dir) = ¬ IsNamed link w.links
 NamesUnknown w (command.Lose link dir place) = ¬ IsNamed link w.links
@@ -148,9 +149,12 @@ NamesNoFrame s (command.Double link dir place) = LacksFrame s link dir place
 NamesNoFrame s _ = ⊥
 
 -- 12: no blank box of the kind that the bridge takes is left in the rack
+abbrev pub LacksBoxAt : State → ℕ → Type 0
+LacksBoxAt s i = ¬ Any (λ box. (box.blank ≡ true) × (box.kind ≡ kind_at s.rule i)) s.rack
+
 abbrev pub LacksBox : State → Command → Type 0
-LacksBox s (command.Bridge name priority system source ports) =
-    ¬ Any (λ box. (box.blank ≡ true) × (box.kind ≡ kind_at s.rule (length s.world.bridges))) s.rack
+LacksBox s (command.Bridge name priority system source ports) = LacksBoxAt s (length s.world.bridges)
+LacksBox s (command.Restart bridge) = HoldsAt bridge s.world.bridges (λ i. LacksBoxAt s i)
 LacksBox s _ = ⊥
 
 -- 13: a bridge is declared already

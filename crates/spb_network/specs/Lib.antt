@@ -9,6 +9,7 @@ pub mod Questions
 pub mod Quiet
 pub mod Quieting
 pub mod Bodies
+pub mod Restarting
 pub mod Refusing
 pub mod Play
 pub mod Applying
@@ -20,4 +21,5 @@ pub mod DeliveryLaws
 pub mod MeetingLaws
 pub mod Counted
 pub mod CountedLaws
+pub mod RestartLaws
 pub mod Telling

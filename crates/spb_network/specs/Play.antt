@@ -17,6 +17,7 @@ use Rattle.spb_network.specs.Events.{ticked, delivered, lost, doubled, with_metr
 use Rattle.spb_network.specs.Questions.{Question, question_of, answer_at, asks_network}
 use Rattle.spb_network.specs.Quiet.{failing}
 use Rattle.spb_network.specs.Refusing.{box_for}
+use Rattle.spb_network.specs.Restarting.{restarted}
 
 -- what a declared bridge is configured with: no port has a link yet, and none is attached
 abbrev pub config_of : World → DeclaredBridge → BridgeConfig
@@ -87,6 +88,7 @@ played s (command.Link name a port_a b port_b cost) = named_link s name a port_a
 played s (command.Metric name side m) = at_link (λ t k. with_metric_changed t k side m) s name
 played s (command.Down name) = at_link switched_off s name
 played s (command.Up name) = at_link switched_on s name
+played s (command.Restart name) = at_bridge restarted s name
 played s (command.Tick name) = at_bridge ticked s name
 played s (command.Deliver name dir) = at_link (λ t k. delivered t k dir) s name
 played s (command.Lose name dir place) = at_link (λ t k. lost t k dir place) s name
@@ -126,6 +128,7 @@ abbrev pub is_event : Command → Bool
 is_event (command.Metric name side m) = true
 is_event (command.Down name) = true
 is_event (command.Up name) = true
+is_event (command.Restart name) = true
 is_event (command.Tick name) = true
 is_event (command.Deliver name dir) = true
 is_event (command.Lose name dir place) = true

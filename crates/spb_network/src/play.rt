@@ -265,6 +265,7 @@ impl<B: Bridge> NetworkOf<B> {
     /// What a command that isn't refused makes of the network.
     fn perform(&mut self, command: &Command) -> Result<(), NoMemory>
         requires order { IsInOrder B.shown self.old }
+        requires sound { IsSoundNetwork B.shown self.old }
         requires accepted { refuse.refusal_of (state_of B.shown self.old) command.now ≡ None }
         ensures state { OnOk result (state_of B.shown self.new ≡ play.played (state_of B.shown self.old) command.now) }
         ensures made { OnOk result (AreMade B.shown self.new.boxes.items) }
@@ -289,6 +290,7 @@ impl<B: Bridge> NetworkOf<B> {
             Command::Metric { link, side, metric } => self.play_metric(*link, *side, *metric),
             Command::Down(name) => self.play_down(*name),
             Command::Up(name) => self.play_up(*name),
+            Command::Restart(name) => self.play_restart(*name),
             Command::Tick(name) => self.play_tick(*name),
             Command::Deliver { link, dir } => self.play_deliver(*link, *dir),
             Command::Lose { link, dir, place } => self.play_lose(*link, *dir, *place),

@@ -25,6 +25,7 @@ fn is_event(command: &Command) -> bool
         Command::Metric { .. }
             | Command::Down(_)
             | Command::Up(_)
+            | Command::Restart(_)
             | Command::Tick(_)
             | Command::Deliver { .. }
             | Command::Lose { .. }

@@ -180,6 +180,7 @@ impl<B: Bridge> NetworkOf<B> {
             Command::Metric { link, metric, .. } => self.world.metric_refusal(*link, *metric),
             Command::Down(name) => self.world.down_refusal(*name),
             Command::Up(name) => self.world.up_refusal(*name),
+            Command::Restart(name) => self.restart_refusal(*name),
             Command::Tick(name) => self.world.unnamed_refusal(*name),
             Command::Deliver { link, dir } => self.frame_refusal(*link, *dir, 0),
             Command::Lose { link, dir, place } | Command::Double { link, dir, place } => {

@@ -12,8 +12,8 @@ use link_model::LaneId;
 use scenario::Side;
 use spb_types::limits::{MOST_BRIDGES, MOST_LINKS, SOURCE_IDS};
 use spb_types::{
-    BridgeId, Graph, GraphBridge, Mac, Name, NoMemory, Seq, SourceId, SystemId, Tables, Vid,
-    VidPlan,
+    Attachment, BridgeId, Graph, GraphBridge, Mac, Name, NoMemory, Seq, SourceId, SystemId, Tables,
+    Vid, VidPlan,
 };
 use std::alloc::Global;
 use std::marker::Model;
@@ -44,6 +44,7 @@ impl World {
     ghost use Rattle.spb_network.specs.Declaring as declare;
     ghost use Rattle.spb_network.specs.State.{lane_out, live_lane, is_live};
     ghost use Rattle.spb_network.specs.Play.{config_of};
+    ghost use Rattle.spb_network.specs.Restarting.{metric_over, port_metric};
     ghost use Rattle.bridge_api.specs.Config.{IsWhole, IsMetric};
 
     /// The world in which nothing is declared, which takes no memory.
@@ -97,6 +98,23 @@ impl World {
         }
     }
 
+    /// The declared bridge at a place. None exactly where the place is past the last.
+    pub fn bridge(&self, place: usize) -> Option<DeclaredBridge>
+        ensures { result ≡ slice_get (things_of self.now.bridges) place }
+    {
+        match self.bridges.get_index(place) {
+            None => None,
+            Some((_, bridge)) => Some(*bridge),
+        }
+    }
+
+    /// How many links are declared.
+    pub fn link_count(&self) -> usize
+        ensures { result ≡ length (things_of self.now.links) }
+    {
+        self.links.len()
+    }
+
     /// The lane that the hint of a port gives, where that link ends there.
     fn hinted_lane(&self, bridge: usize, port: u8) -> Option<LaneId>
         ensures { IfSome result (λ lane. lane_out (things_of self.now.links) bridge port ≡ Some lane) }
@@ -108,15 +126,48 @@ impl World {
         }
     }
 
+    /// The lane out of a port of the bridge at a place. None exactly where no link ends there.
+    fn lane_out(&self, bridge: usize, port: u8) -> Option<LaneId>
+        ensures { result ≡ lane_out (things_of self.now.links) bridge port }
+    {
+        match self.hinted_lane(bridge, port) {
+            Some(lane) => Some(lane),
+            None => link_ends::lane_out(&self.links, bridge, port),
+        }
+    }
+
+    /// The metric of the link at a port of the bridge at a place, whether the link is up or not; 1 where no link ends.
+    pub fn port_metric(&self, bridge: usize, port: u8) -> u32
+        ensures { result ≡ port_metric (things_of self.now.links) bridge port }
+    {
+        match self.lane_out(bridge, port) {
+            None => 1,
+            Some(lane) => self.metric_over(lane),
+        }
+    }
+
+    /// The metric of the end of a link that a lane leads from; 1 where there is no such link.
+    fn metric_over(&self, lane: LaneId) -> u32
+        ensures { result ≡ metric_over (things_of self.now.links) (Some lane) }
+    {
+        match self.link(lane.link) {
+            None => 1,
+            Some(link) => link_ends::near_end(link, lane.dir).metric,
+        }
+    }
+
+    /// What is attached to the ports of the bridge at a place.
+    pub fn attached(&self, alloc: Global, place: usize) -> Result<Seq<Attachment>, NoMemory>
+        ensures { IfOk result (λ attached. attached ≡ state.attached_at self.now place) }
+    {
+        Ok(Seq::new(alloc))
+    }
+
     /// The lane out of a port of the bridge at a place, over a link that is up. None exactly where there is none.
     pub fn live_lane(&self, bridge: usize, port: u8) -> Option<LaneId>
         ensures { result ≡ live_lane (things_of self.now.links) (lane_out (things_of self.now.links) bridge port) }
     {
-        let lane = match self.hinted_lane(bridge, port) {
-            Some(lane) => Some(lane),
-            None => link_ends::lane_out(&self.links, bridge, port),
-        };
-        match lane {
+        match self.lane_out(bridge, port) {
             None => None,
             Some(lane) => {
                 if link_ends::is_live(&self.links, lane.link) {
