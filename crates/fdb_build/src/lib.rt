@@ -7,6 +7,9 @@
 
 pub use tables::tables_of;
 
+mod groups;
 pub mod laws;
+mod services;
+mod sets;
 mod surroundings;
 mod tables;
