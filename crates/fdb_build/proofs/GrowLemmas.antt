@@ -1,18 +1,17 @@
 -- Rows that grow by ports: what one address gets, one test after another, and the rows that come of them.
-use Rattle.std.specs.Prelude.{ℕ, zero, suc, ◌≡◌, ◌⊎◌, ◌<◌, ◌≤◌, ◌+◌, ◌^◌, ◌==◌, Bool, true, false, ◌&&◌, ◌||◌, cond, List, [], ◌∷◌, ◌++◌, length, map, take, Contains, Option, Some, None, unwrap_or, slice_get}
+use Rattle.std.specs.Prelude.{ℕ, zero, suc, ◌≡◌, ◌<◌, ◌+◌, ◌^◌, Bool, true, false, ◌&&◌, ◌||◌, cond, List, [], ◌∷◌, length, map, take, Contains, Option, Some, None, unwrap_or, slice_get}
 use Rattle.std.specs.List.{list_any, slice_index_or}
 use Rattle.std.specs.BTreeMap.{BTreeMap, IsOrdered, get}
 use Rattle.std.specs.List.Sorted.{IsStrictlySortedBy}
 use Rattle.std.specs.Map.{keys_of, lookup}
 use Rattle.std.specs.Ordering.{is_eq, nat_cmp, ordering_then}
-use Rattle.std.proofs.Common.{refl, sym, ap, ◌∙◌, subst, arith, inl, inr, get_or, true≢false, Ordering, Less, Equal, Greater}
+use Rattle.std.proofs.Common.{refl, sym, ap, ◌∙◌, subst, inl, inr, get_or, true≢false, Ordering, Less, Equal, Greater}
 use Rattle.std.proofs.lemmas.Cmp.{nat_cmp_total, tied_itself}
 use Rattle.std.proofs.lemmas.List.Folds.{list_any_more}
 use Rattle.std.proofs.lemmas.Map.Entries.{btree_map_get_place, place_from_lookup}
 use Rattle.std.proofs.lemmas.Map.Keys.{sorted_head, sorted_tail}
-use Rattle.std.proofs.lemmas.Nat.{or_of_32}
 use Rattle.std.proofs.lemmas.Slice.Eq.{bytes_eq-Decides}
-use Rattle.spb_types.specs.Graph.{IsValid, ArePorts, port_between}
+use Rattle.spb_types.specs.Graph.{IsValid, ArePorts}
 use Rattle.spb_types.specs.Ports.{has, no_ports}
 use Rattle.spb_types.specs.declared.address.Mac.{Mac}
 use Rattle.spb_types.specs.declared.address.SystemId.{SystemId}
@@ -28,11 +27,11 @@ use Rattle.fdb_build.specs.declared.services.Services.{Services}
 use Rattle.spb_types.specs.Address.{group_address}
 use Rattle.spb_types.specs.declared.graph.GraphBridge.{GraphBridge}
 use Rattle.spb_types.specs.declared.service.Isid.{Isid}
-use Rattle.fdb_build.specs.Groups.{LeadsOn, group_cmp, ListPorts, leads_on, group_rows_of_vid}
+use Rattle.fdb_build.specs.Groups.{group_cmp, ListPorts, leads_on, group_rows_of_vid}
 use Rattle.fdb_build.specs.Making.{union, is_towards, isid_cmp, list_at, sets_from, ports_at, same_mac, is_from, is_from_some, AreFilled, Grew, row_of}
 use Rattle.fdb_build.proofs.GroupLemmas.{IsPortIn, macs_total, macs_tied, rows_one, vid_table}
 use Rattle.fdb_build.proofs.GroupTests.{test_leads, leads_test}
-use Rattle.fdb_build.proofs.RowLemmas.{All-map, port_among-le, port_among-low}
+use Rattle.fdb_build.proofs.RowLemmas.{port_among-le, port_among-low}
 use Rattle.fdb_build.proofs.SetLemmas.{has_union}
 
 -- ---- one address

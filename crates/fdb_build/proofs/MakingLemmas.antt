@@ -1,14 +1,14 @@
 -- What the trees of all sources give is what leads on.
-use Rattle.std.specs.Prelude.{ℕ, zero, suc, ◌≡◌, ◌≢◌, ◌≤◌, ◌==◌, Bool, true, false, ◌&&◌, List, [], ◌∷◌, ◌++◌, map, Contains, Option, Some, None, IsSome, position, slice_get, Result, Ok, Err, OnOk}
-use Rattle.std.specs.List.{list_any, slice_index_or}
+use Rattle.std.specs.Prelude.{ℕ, zero, suc, ◌≡◌, ◌≤◌, ◌==◌, true, ◌&&◌, List, [], ◌∷◌, ◌++◌, map, Option, Some, None, IsSome, slice_get, Result, Ok, Err, OnOk}
+use Rattle.std.specs.List.{list_any}
 use Rattle.std.specs.BTreeMap.{BTreeMap, IsOrdered}
-use Rattle.std.proofs.Common.{refl, sym, ap, ◌∙◌, subst, inl, inr, true≢false, eq-eqb, eqb-true}
+use Rattle.std.proofs.Common.{refl, sym, ap, ◌∙◌, subst, true≢false, eq-eqb, eqb-true}
 use Rattle.std.proofs.lemmas.Bool.{and_parts}
 use Rattle.std.proofs.lemmas.Slice.Eq.{bytes_eq-Decides}
-use Rattle.spb_types.specs.Address.{same_system, group_address}
+use Rattle.spb_types.specs.Address.{group_address}
 use Rattle.spb_types.specs.Ect.{mask_of}
-use Rattle.spb_types.specs.Graph.{IsBridge, IsValid, IsValidFor, ArePorts, systems_of, port_between}
-use Rattle.spb_types.specs.Ports.{has, no_ports}
+use Rattle.spb_types.specs.Graph.{IsBridge, IsValid, IsValidFor, ArePorts, systems_of}
+use Rattle.spb_types.specs.Ports.{has}
 use Rattle.spb_types.specs.declared.address.Mac.{Mac}
 use Rattle.spb_types.specs.declared.address.SystemId.{SystemId}
 use Rattle.spb_types.specs.declared.graph.Graph.{Graph}
@@ -17,19 +17,17 @@ use Rattle.spb_types.specs.declared.graph.Member.{Member}
 use Rattle.spb_types.specs.declared.ports.PortSet.{PortSet}
 use Rattle.spb_types.specs.declared.service.Isid.{Isid}
 use Rattle.spb_types.specs.declared.service.VidPlan.{VidPlan}
-use Rattle.ect_trees.specs.Best.{IsBest}
-use Rattle.ect_trees.proofs.Ends.{path_once}
 use Rattle.ect_trees.proofs.Steps.{best_to_itself}
 use Rattle.ect_trees.proofs.Members.{Has, has_from_contains, contains_from_has}
 use Rattle.ect_trees.proofs.Places.{place_found, found_place}
 use Rattle.ect_trees.proofs.Walks.{path_bridges, path_start}
 use Rattle.spb_types.specs.declared.tables.GroupRow.{GroupRow}
 use Rattle.fdb_build.specs.Tables.{mac_cmp, system_cmp}
-use Rattle.fdb_build.specs.Groups.{Follows, LeadsOn, is_member, sends_in, leads_on, port_after, group_rows_of_vid}
+use Rattle.fdb_build.specs.Groups.{Follows, LeadsOn, sends_in, leads_on, port_after, group_rows_of_vid}
 use Rattle.fdb_build.specs.Making.{port_set, set_at, is_towards, isid_cmp, list_at, same_isid, same_place, place_of, is_at, is_member_at, AreServicesOf, sets_from, same_mac, is_from, is_from_some, Grew, row_of}
 use Rattle.fdb_build.specs.declared.services.Services.{Services}
 use Rattle.fdb_build.proofs.AscendLemmas.{All-has}
-use Rattle.fdb_build.proofs.GroupTests.{any_has, has_any, sends_is, is_sends, Onward, after_onward, onward_after, test_leads, leads_test, both}
+use Rattle.fdb_build.proofs.GroupTests.{any_has, has_any, sends_is, is_sends, after_onward, onward_after, test_leads, leads_test, both}
 use Rattle.fdb_build.proofs.PortSets.{same_truth}
 use Rattle.fdb_build.proofs.RowLemmas.{port_among-le, port_among-low}
 use Rattle.fdb_build.proofs.GrowLemmas.{grown, rows_are}

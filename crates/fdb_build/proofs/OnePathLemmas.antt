@@ -1,6 +1,5 @@
 -- Frames go one path: the laws of `OnePath`.
-use Rattle.std.specs.Prelude.{ℕ, zero, suc, ◌≡◌, ◌≢◌, ◌⊎◌, ◌==◌, Bool, true, false, ◌&&◌, ◌||◌, cond, if◌then◌else◌, List, [], ◌∷◌, ◌++◌, Contains, Option, Some, None, IsSome, is_some, option_map, find, reverse}
-use Rattle.std.specs.List.{AllByRecursion}
+use Rattle.std.specs.Prelude.{ℕ, ◌≡◌, ◌≢◌, ◌⊎◌, ◌==◌, Bool, true, false, ◌&&◌, ◌||◌, cond, if◌then◌else◌, List, [], ◌∷◌, ◌++◌, Some, IsSome, option_map, find, reverse}
 use Rattle.std.specs.Ordering.{nat_cmp, ordering_then}
 use Rattle.std.specs.Str.{bytes_eq}
 use Rattle.std.specs.declared.cmp.Ordering.{Ordering}
@@ -11,26 +10,24 @@ use Rattle.std.proofs.lemmas.List.{reverse-append}
 use Rattle.std.proofs.lemmas.Slice.Eq.{bytes_eq-Decides}
 use Rattle.spb_types.specs.Address.{same_system, group_address}
 use Rattle.spb_types.specs.Ect.{mask_of}
-use Rattle.spb_types.specs.Graph.{IsAmong, IsBridge, IsValid, IsValidFor, IsEdgeOf, ArePortsApart, edges_at, joins, port_at, port_among, port_between, cost_among, cost_between}
+use Rattle.spb_types.specs.Graph.{IsValid, IsValidFor, ArePortsApart, edges_at, joins, port_at, port_among, port_between, cost_among, cost_between}
 use Rattle.spb_types.specs.Ports.{has}
-use Rattle.spb_types.specs.Tables.{is_row_for, unicast_in, is_group_row_for, group_in, ports_of_row, IsIngress}
+use Rattle.spb_types.specs.Tables.{is_row_for, unicast_in, is_group_row_for, group_in, ports_of_row}
 use Rattle.spb_types.specs.declared.address.Mac.{Mac}
 use Rattle.spb_types.specs.declared.address.SystemId.{SystemId}
 use Rattle.spb_types.specs.declared.graph.Edge.{Edge}
 use Rattle.spb_types.specs.declared.graph.Graph.{Graph}
-use Rattle.spb_types.specs.declared.graph.GraphBridge.{GraphBridge}
 use Rattle.spb_types.specs.declared.service.Vid.{Vid}
-use Rattle.spb_types.specs.declared.service.VidPlan.{VidPlan}
 use Rattle.spb_types.specs.declared.tables.UnicastRow.{UnicastRow}
 use Rattle.spb_types.specs.declared.tables.GroupRow.{GroupRow}
 use Rattle.ect_trees.specs.Best.{IsBest}
 use Rattle.ect_trees.specs.Path.{Leads, IsPath}
 use Rattle.ect_trees.proofs.Among.{same_is}
 use Rattle.ect_trees.proofs.Least.{best_front, best_reverse}
-use Rattle.ect_trees.proofs.Members.{Has, has_from_contains, contains_from_has}
+use Rattle.ect_trees.proofs.Members.{Has, has_from_contains}
 use Rattle.fdb_build.specs.Tables.{mac_cmp, row_cmp, unicast_rows, AscendsBy, IsUnicast}
 use Rattle.fdb_build.specs.Groups.{Follows, group_cmp, group_rows}
-use Rattle.fdb_build.specs.OnePath.{TakesFrom, OnePath, SameWayBack, GroupLeadsOn}
+use Rattle.fdb_build.specs.OnePath.{OnePath, SameWayBack, GroupLeadsOn}
 use Rattle.fdb_build.proofs.AscendLemmas.{All-has}
 use Rattle.fdb_build.proofs.GroupLemmas.{groups_total, group_rows_are_table}
 use Rattle.fdb_build.proofs.TableLemmas.{rows_total, rows_are_table}

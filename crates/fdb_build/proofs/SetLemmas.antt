@@ -1,8 +1,8 @@
 -- Sets of ports behind `me`: unions, sets of one port, and the bridge that follows another on a path.
-use Rattle.std.specs.Prelude.{ℕ, zero, suc, ◌≡◌, ◌≢◌, ◌⊎◌, ◌≤◌, ◌<◌, ◌+◌, ◌-◌, ◌^◌, ◌==◌, Bool, true, false, ◌&&◌, ◌||◌, nat_le, nat_lt, if◌then◌else◌, List, [], ◌∷◌, length, map, take, Option, Some, None, IfSome, is_some, option_map, option_copied, option_and_then, position, slice_get, bit_or, max}
-use Rattle.std.specs.List.{list_any, slice_index_or, position_or_len}
+use Rattle.std.specs.Prelude.{ℕ, zero, suc, ◌≡◌, ◌≢◌, ◌≤◌, ◌<◌, ◌+◌, ◌-◌, ◌==◌, Bool, true, false, ◌&&◌, ◌||◌, nat_le, nat_lt, if◌then◌else◌, List, [], ◌∷◌, length, map, take, Option, Some, None, IfSome, is_some, option_map, option_copied, option_and_then, position, slice_get, max}
+use Rattle.std.specs.List.{position_or_len}
 use Rattle.std.specs.Int.{bit_at}
-use Rattle.std.proofs.Common.{refl, sym, ap, ◌∙◌, subst, arith, inl, inr, ⊎_elim, true≢false, get_or, Bor}
+use Rattle.std.proofs.Common.{refl, sym, ap, ◌∙◌, arith, ⊎_elim, true≢false, get_or, Bor}
 use Rattle.std.proofs.lemmas.Bool.{cases_eq, ltb-true, ltb-false}
 use Rattle.std.proofs.lemmas.Bool.Decides.{nat_tests}
 use Rattle.std.proofs.lemmas.Nat.Bits.{bit_at_or, bit_at-lt}
@@ -12,7 +12,7 @@ use Rattle.std.proofs.lemmas.List.Sums.{fails_before_first}
 use Rattle.spb_types.specs.Address.{same_system}
 use Rattle.spb_types.specs.Ect.{mask_of}
 use Rattle.spb_types.specs.Graph.{port_between}
-use Rattle.spb_types.specs.Ports.{has, no_ports, with_port}
+use Rattle.spb_types.specs.Ports.{has, no_ports}
 use Rattle.spb_types.specs.declared.address.SystemId.{SystemId}
 use Rattle.spb_types.specs.declared.graph.Graph.{Graph}
 use Rattle.spb_types.specs.declared.graph.GraphBridge.{GraphBridge}
@@ -22,7 +22,7 @@ use Rattle.spb_types.specs.declared.tables.Path.{Path}
 use Rattle.spb_types.proofs.PortLemmas.{has-no_ports, has-with_same, has-with_other}
 use Rattle.ect_trees.specs.Best.{best_of}
 use Rattle.ect_trees.specs.Path.{cost_of}
-use Rattle.ect_trees.specs.Tree.{Paths, path_in, best_path, GivesBest}
+use Rattle.ect_trees.specs.Tree.{Paths, path_in, GivesBest}
 use Rattle.fdb_build.specs.Groups.{after_in, port_after}
 use Rattle.fdb_build.specs.Making.{union, port_set, set_at, is_towards, port_along, sets_in, sets_from}
 

@@ -1,5 +1,5 @@
 -- Frames go one path: out and back by the same bridges, and from a source by its tree alone.
-use Rattle.std.specs.Prelude.{◌≡◌, ◌≢◌, ◌↔◌, ℕ, List, Some, Contains, true}
+use Rattle.std.specs.Prelude.{◌≡◌, ◌≢◌, ℕ, List, Some, Contains, true}
 use Rattle.spb_types.specs.Address.{group_address}
 use Rattle.spb_types.specs.Ect.{mask_of}
 use Rattle.spb_types.specs.Graph.{port_between, IsValidFor}

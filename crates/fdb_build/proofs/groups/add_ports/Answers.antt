@@ -1,4 +1,4 @@
-use Rattle.std.proofs.Common.{rules, arith, ◌≡◌, ◌≢◌, ◌<◌, ◌^◌, ℕ, true, inl, inr, sym, ap, ◌∙◌, subst}
+use Rattle.std.proofs.Common.{arith, ◌≡◌, ◌<◌, ◌^◌, ℕ, true, inl, inr, sym, ap, ◌∙◌, subst}
 use Rattle.spb_types.specs.Ports.{has}
 use Rattle.spb_types.specs.declared.ports.PortSet.{PortSet}
 use Rattle.fdb_build.specs.Making.{union}

@@ -1,4 +1,4 @@
-use Rattle.std.proofs.Common.{◌==◌, sym, ap, ◌∙◌, refl}
+use Rattle.std.proofs.Common.{◌==◌, sym, ◌∙◌, refl}
 use Rattle.fdb_build.specs.declared.services.Services.{Services}
 use Rattle.fdb_build.proofs.ServiceLemmas.{added, added_no_place, same_from, on_ok}
 use Rattle.fdb_build.proofs.services.Services.add.Goals as goal
