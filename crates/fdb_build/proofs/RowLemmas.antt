@@ -158,8 +158,8 @@ edges_apart : (g : Graph) → IsValid g → AllByRecursion (λ e. same_system e.
 edges_apart g valid = All-map (λ e. IsEdgeOf g e) (λ e. same_system e.a e.b ≡ false) g.edges (λ e i. i.apart) valid.edges
 
 -- what the list of neighbours gives is the port of the edge
-pub port_known : (s : Surroundings) (y : SystemId) → AreKnown s → port_by s.neighbours.items y ≡ port_between s.graph.now s.me y
-port_known s y known = ap (λ ns. port_by ns y) known.neighbours ∙ port_by_neighbours s.graph.now.edges s.me y (edges_apart s.graph.now known.valid.valid)
+pub port_known : (s : Surroundings) (y : SystemId) → AreKnown s → port_by s.neighbours.items y ≡ port_between s.roads.now s.me y
+port_known s y known = ap (λ ns. port_by ns y) known.neighbours ∙ port_by_neighbours s.roads.now.edges s.me y (edges_apart s.roads.now known.valid.valid)
 
 -- ---- bridges by ascending address
 

@@ -71,7 +71,7 @@ fn add_source(
     requires low { 1 ≤ plan.ect }
     requires high { plan.ect ≤ GREATEST_ECT }
     ensures { OnOk result (making.Grew rows.old rows.new (making.is_from services.now source
-        (making.sets_from around.now.graph.now around.now.me plan source.id.system)
+        (making.sets_from around.now.roads.now around.now.me plan source.id.system)
         (making.list_at system_cmp services.now.sends source.id.system))) }
 {
     match services.sends.get(&source.id.system) {
@@ -94,10 +94,10 @@ fn add_sources(
     requires known { AreKnown around.now }
     requires low { 1 ≤ plan.ect }
     requires high { plan.ect ≤ GREATEST_ECT }
-    ensures { OnOk result (making.Grew rows.old rows.new (making.is_from_some around.now.graph.now around.now.me
-        plan services.now around.now.graph.now.bridges)) }
+    ensures { OnOk result (making.Grew rows.old rows.new (making.is_from_some around.now.roads.now around.now.me
+        plan services.now around.now.roads.now.bridges)) }
 {
-    for source in around.graph.bridges.as_slice() {
+    for source in around.roads.graph().bridges.as_slice() {
         add_source(alloc, rows, around, plan, services, *source)?;
     }
     Ok(())
@@ -133,7 +133,7 @@ fn push_groups(
     requires low { 1 ≤ plan.ect }
     requires high { plan.ect ≤ GREATEST_ECT }
     ensures { OnOk result
-        (rows.new.items ≡ rows.old.items ++ groups.group_rows_of_vid around.now.graph.now around.now.me plan) }
+        (rows.new.items ≡ rows.old.items ++ groups.group_rows_of_vid around.now.roads.now around.now.me plan) }
 {
     let services = Services::new(alloc, around, plan.vid)?;
     let mut of_vid = BTreeMap::new(alloc);
@@ -150,7 +150,7 @@ pub fn groups_of(
     requires known { AreKnown around.now }
     requires ects { AllByRecursion (λ p. (1 ≤ p.ect) × (p.ect ≤ GREATEST_ECT)) plans.now }
     ensures { IfOk result (λ rows.
-        rows.items ≡ flat_map (groups.group_rows_of_vid around.now.graph.now around.now.me) plans.now) }
+        rows.items ≡ flat_map (groups.group_rows_of_vid around.now.roads.now around.now.me) plans.now) }
 {
     let mut rows = Vec::new(alloc);
     for plan in plans {

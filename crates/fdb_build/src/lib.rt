@@ -3,6 +3,7 @@
 //! The bridges are sorted by address once, and the edges of the bridge gathered once as its neighbours. Each base VID
 //! takes the tree of best paths from the bridge, and then each row a look at the neighbours and at the path in the
 //! tree, which isn't copied. It stands at the bridge's place, unless some bridge has no path: then it is searched for.
+//! [`tables_of`] makes the roads of the graph once for all VIDs, and [`tables_over`] takes those that are there.
 //!
 //! For the group rows, the members in a base VID are gathered in maps: the services of each source, and the places of
 //! each service's receivers. Each bridge that sends in the VID takes one tree, whatever number of services it sends to,
@@ -11,7 +12,7 @@
 //! searched for among all paths of the tree.
 #![tactic(auto)]
 
-pub use tables::tables_of;
+pub use tables::{tables_of, tables_over};
 
 mod groups;
 pub mod laws;

@@ -56,7 +56,7 @@ impl Services {
         member: Member,
     ) -> Result<(), NoMemory>
         requires { AreKnown around.now }
-        ensures { OnOk result (making.Added around.now.graph.now vid member self.old self.new) }
+        ensures { OnOk result (making.Added around.now.roads.now vid member self.old self.new) }
     {
         if member.vid != vid {
             return Ok(());
@@ -71,13 +71,13 @@ impl Services {
     /// The services of the graph's members in this VID.
     pub fn new(alloc: Global, around: &Surroundings<'_>, vid: Vid) -> Result<Self, NoMemory>
         requires { AreKnown around.now }
-        ensures { IfOk result (making.AreServicesOf around.now.graph.now around.now.graph.now.members vid) }
+        ensures { IfOk result (making.AreServicesOf around.now.roads.now around.now.roads.now.members vid) }
     {
         let mut services = Services {
             sends: BTreeMap::new(alloc),
             receivers: BTreeMap::new(alloc),
         };
-        for member in around.graph.members.as_slice() {
+        for member in around.roads.graph().members.as_slice() {
             services.add(alloc, around, vid, *member)?;
         }
         Ok(services)

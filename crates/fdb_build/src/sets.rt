@@ -8,7 +8,7 @@ ghost use Rattle.fdb_build.specs.Making as making;
 ghost use Rattle.fdb_build.specs.Surroundings.{AreKnown};
 
 use crate::surroundings::Surroundings;
-use ect_trees::{Tree, tree_from};
+use ect_trees::Tree;
 use spb_types::limits::GREATEST_ECT;
 use spb_types::{NoMemory, Path, PortSet, SystemId, VidPlan, ect_mask};
 use std::alloc::Global;
@@ -63,7 +63,7 @@ fn after(path: &Path, system: SystemId) -> Option<SystemId>
 /// The port of `me` towards the bridge that follows it on a path, as a set; the empty one where none does.
 fn behind(around: &Surroundings<'_>, path: Option<&Path>) -> PortSet
     requires { AreKnown around.now }
-    ensures { result ≡ making.port_set (making.port_along around.now.graph.now around.now.me (option_copied path.entry)) }
+    ensures { result ≡ making.port_set (making.port_along around.now.roads.now around.now.me (option_copied path.entry)) }
 {
     let Some(path) = path else {
         return PortSet::none();
@@ -81,9 +81,9 @@ fn behind(around: &Surroundings<'_>, path: Option<&Path>) -> PortSet
 /// looked for behind the one that was found last.
 fn sets_in(alloc: Global, around: &Surroundings<'_>, tree: &Tree) -> Result<Vec<PortSet>, NoMemory>
     requires { AreKnown around.now }
-    ensures { IfOk result (λ sets. sets.items ≡ making.sets_in around.now.graph.now around.now.me tree.now) }
+    ensures { IfOk result (λ sets. sets.items ≡ making.sets_in around.now.roads.now around.now.me tree.now) }
 {
-    let bridges = around.graph.bridges.as_slice();
+    let bridges = around.roads.graph().bridges.as_slice();
     let mut sets = Vec::with_capacity(alloc, bridges.len())?;
     let mut found = 0usize;
     for bridge in bridges {
@@ -104,8 +104,8 @@ pub fn sets_from(
     requires known { AreKnown around.now }
     requires low { 1 ≤ plan.ect }
     requires high { plan.ect ≤ GREATEST_ECT }
-    ensures { IfOk result (λ sets. sets.items ≡ making.sets_from around.now.graph.now around.now.me plan source) }
+    ensures { IfOk result (λ sets. sets.items ≡ making.sets_from around.now.roads.now around.now.me plan source) }
 {
-    let tree = tree_from(alloc, around.graph, source, ect_mask(plan.ect))?;
+    let tree = around.roads.tree(alloc, source, ect_mask(plan.ect))?;
     sets_in(alloc, around, &tree)
 }

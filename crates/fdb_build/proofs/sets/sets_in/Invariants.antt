@@ -6,4 +6,4 @@ use Rattle.fdb_build.proofs.sets.sets_in.Given as goal
 
 abbrev pub invariant-loop-bridge : goal.invariant-loop-bridge
 invariant-loop-bridge l =
-    l.sets.items ≡ map (λ (b : GraphBridge). port_set (port_along l.around.graph.now l.around.me (path_in l.tree.paths b.id.system))) (take l.bridge-index l.bridges)
+    l.sets.items ≡ map (λ (b : GraphBridge). port_set (port_along l.around.roads.now l.around.me (path_in l.tree.paths b.id.system))) (take l.bridge-index l.bridges)

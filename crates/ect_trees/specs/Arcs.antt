@@ -7,8 +7,8 @@ use Rattle.spb_types.specs.declared.address.SystemId.{SystemId}
 use Rattle.spb_types.specs.declared.graph.GraphBridge.{GraphBridge}
 use Rattle.spb_types.specs.declared.graph.Edge.{Edge}
 use Rattle.spb_types.specs.declared.graph.Graph.{Graph}
-use Rattle.ect_trees.specs.declared.roads.Arc.{Arc}
-use Rattle.ect_trees.specs.declared.roads.Roads.{Roads}
+use Rattle.ect_trees.specs.declared.mesh.Arc.{Arc}
+use Rattle.ect_trees.specs.declared.mesh.Mesh.{Mesh}
 
 -- the bridge x stands at this place of the graph
 abbrev pub IsBridgeAt : Graph → ℕ → SystemId → Type 0
@@ -52,20 +52,20 @@ pub record AreGrouped (places n : ℕ) (arcs : List Arc) (rows : List (List Arc)
       → (number : ℕ) × IsArcAt rows arc.from number arc
 
 -- the arcs from each place
-abbrev pub rows_of : Roads → List (List Arc)
+abbrev pub rows_of : Mesh → List (List Arc)
 rows_of r = map (λ row. row.items) r.arcs.items
 
 -- the graph is valid; each arc leads along an edge from the place where it stands; and for each edge there is one
-pub record AreReady (r : Roads) : Type 0 where
-  pub valid : IsValid r.graph.now
-  pub places : length r.arcs.items ≡ length r.graph.now.bridges
+pub record AreReady (r : Mesh) : Type 0 where
+  pub valid : IsValid r.graph
+  pub places : length r.arcs.items ≡ length r.graph.bridges
   pub lead : (place number : ℕ) (arc : Arc) → IsArcAt (rows_of r) place number arc
-      → (arc.from ≡ place) × CanGo r.graph.now arc
-  pub go : (x y : SystemId) (place cost : ℕ) → cost_between r.graph.now x y ≡ Some cost
-      → IsBridgeAt r.graph.now place x
-      → (number : ℕ) × (arc : Arc) × IsArcAt (rows_of r) place number arc × Leads r.graph.now arc x y
+      → (arc.from ≡ place) × CanGo r.graph arc
+  pub go : (x y : SystemId) (place cost : ℕ) → cost_between r.graph x y ≡ Some cost
+      → IsBridgeAt r.graph place x
+      → (number : ℕ) × (arc : Arc) × IsArcAt (rows_of r) place number arc × Leads r.graph arc x y
 
--- roads that are ready, through this graph
-pub record LeadThrough (g : Graph) (r : Roads) : Type 0 where
+-- a graph with its arcs that is ready, made of this graph
+pub record LeadThrough (g : Graph) (r : Mesh) : Type 0 where
   pub ready : AreReady r
-  pub graph_is : r.graph.now ≡ g
+  pub graph_is : r.graph ≡ g
