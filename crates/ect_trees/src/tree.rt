@@ -69,8 +69,8 @@ impl Tree {
         self.paths.iter().find(|path| ends_at(path, to))
     }
 
-    /// The same path, which is looked for at this place first.
-    fn find_near(&self, place: usize, to: SystemId) -> Option<&Path>
+    /// The path that ends at a bridge, if there is one, which is looked for at this place first.
+    pub fn find_near(&self, place: usize, to: SystemId) -> Option<&Path>
         ensures { option_copied result ≡ tree.path_in self.now.paths to }
     {
         if let Some(path) = self.paths.get(place)

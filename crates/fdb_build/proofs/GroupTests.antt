@@ -40,7 +40,7 @@ has_any test x [] h e = absurd h
 has_any test x (y ∷ ys) (inl same) e = ap (λ b. b || list_any test ys) (ap test (sym same) ∙ e)
 has_any test x (y ∷ ys) (inr h) e = ap (λ b. test y || b) (has_any test x ys h e) ∙ or_right (test y)
 
-both : (b c : Bool) → b ≡ true → c ≡ true → (b && c) ≡ true
+pub both : (b c : Bool) → b ≡ true → c ≡ true → (b && c) ≡ true
 both b c e f = ap (λ x. x && c) e ∙ f
 
 -- ---- members
@@ -104,9 +104,9 @@ stands_after m c (x ∷ y ∷ l) r d =
 
 -- what is known of the port behind `me`
 pub record Onward (g : Graph) (mask : ℕ) (s r me : SystemId) (port : ℕ) : Type 0 where
-  next : SystemId
-  follows : Follows g mask s r me next
-  leads : port_between g me next ≡ Some port
+  pub next : SystemId
+  pub follows : Follows g mask s r me next
+  pub leads : port_between g me next ≡ Some port
 
 pub after_onward : (g : Graph) (mask : ℕ) (s r me : SystemId) (port : ℕ) → IsValid g → port_after g mask s r me ≡ Some port → Onward g mask s r me port
 after_onward g mask s r me port valid h = by (best_of g mask s r) refl h

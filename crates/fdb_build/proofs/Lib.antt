@@ -5,3 +5,8 @@ pub mod TableLemmas
 pub mod PortSets
 pub mod GroupTests
 pub mod GroupLemmas
+pub mod SetLemmas
+pub mod ServiceLemmas
+pub mod GrowLemmas
+pub mod MakingLemmas
+pub mod OnePathLemmas

@@ -75,7 +75,7 @@ empty_or_not (suc n) test = by (test (suc n)) refl (empty_or_not n test)
     by true e r = inr (suc n, e)
     by false e r = r
 
-same_truth : (b c : Bool) → (b ≡ true → c ≡ true) → (c ≡ true → b ≡ true) → b ≡ c
+pub same_truth : (b c : Bool) → (b ≡ true → c ≡ true) → (c ≡ true → b ≡ true) → b ≡ c
 same_truth true c f g = sym (f refl)
 same_truth false true f g = g refl
 same_truth false false f g = refl

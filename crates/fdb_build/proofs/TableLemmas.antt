@@ -22,7 +22,7 @@ use Rattle.fdb_build.specs.Tables.{ascending_by, mac_cmp, system_cmp, vid_cmp, r
 use Rattle.fdb_build.proofs.AscendLemmas.{ascending_has, has_ascending, Ascends-ascending_by, Ascends-one, Ascends-filter_map, Ascends-flat_map, filter_map_has, has_filter_map, flat_map_has}
 use Rattle.fdb_build.proofs.SortLemmas.{systems_total, vids_total, systems_apart, vids_apart}
 
-rows_total : IsTotalOrder row_cmp
+pub rows_total : IsTotalOrder row_cmp
 rows_total = then_total (on_total (λ (r : UnicastRow). r.vid.value) nat_cmp_total) (on_total (λ (r : UnicastRow). r.mac.bytes) nat_list_cmp_total)
 
 -- how a port towards a bridge comes about
