@@ -14,6 +14,7 @@ use Rattle.spb_network.specs.declared.declaration.DeclaredLink.{DeclaredLink}
 use Rattle.spb_network.specs.declared.declaration.LinkEnd.{LinkEnd}
 use Rattle.spb_types.specs.declared.tables.Tables.{Tables}
 use Rattle.fdb_build.specs.Tables.{ArePlans, unicast_rows}
+use Rattle.fdb_build.specs.Groups.{group_rows}
 use Rattle.spb_types.specs.declared.limits.TheConstants.{GREATEST_METRIC, MOST_BRIDGES, MOST_PORTS, MOST_VIDS}
 
 -- the declared bridges, each with its name, in order of declaration
@@ -131,4 +132,7 @@ pub record Sound (w : World) : Type 0 where
 
 -- the tables that the wiring gives the bridge at a place
 unfoldable pub wired_tables : World → ℕ → Tables
-wired_tables w i = record { unicast = unicast_rows (world_graph w) (system_at w.bridges i) w.vids; group = [] }
+wired_tables w i = record {
+  unicast = unicast_rows (world_graph w) (system_at w.bridges i) w.vids;
+  group = group_rows (world_graph w) (system_at w.bridges i) w.vids;
+}
