@@ -130,7 +130,7 @@ vid_rows_ascend g me p valid =
         let es = (row_for g me p v s hs).is in
         ap (λ z. row_cmp z s) er ∙ ap (λ z. row_cmp (row_with p u r.port) z) es ∙ same_then p.vid.value (system_cmp u v) ∙ less
 
-vids_ascend : (vids : List VidPlan) → AreVidsApart vids → AscendsBy vid_cmp (ascending_by vid_cmp vids)
+pub vids_ascend : (vids : List VidPlan) → AreVidsApart vids → AscendsBy vid_cmp (ascending_by vid_cmp vids)
 vids_ascend vids apart = Ascends-ascending_by vid_cmp vids_total vids (vids_apart vids apart)
 
 rows_ascend : (g : Graph) (me : SystemId) (vids : List VidPlan) → IsValid g → AreVidsApart vids → AscendsBy row_cmp (unicast_rows g me vids)

@@ -68,3 +68,4 @@ pub mod QuietStates
 pub mod QuietWitness
 pub mod QuietBodies
 pub mod QuietNumbers
+pub mod Keeping
