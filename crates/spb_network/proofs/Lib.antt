@@ -1,6 +1,7 @@
 pub mod ListLemmas
 pub mod PlaceLemmas
 pub mod NameLemmas
+pub mod ServiceLemmas
 pub mod WorldLemmas
 pub mod RefusalLemmas
 pub mod ValidLemmas

@@ -1,6 +1,7 @@
 //! What each command makes of a network, where it isn't refused. Nothing happens at a name that isn't there.
 ghost use Rattle.std.specs.Prelude.{◌≡◌, ◌<◌, false, true, None, Some, length, OnOk, IfOk};
 ghost use Rattle.spb_network.specs.Declaring as declare;
+ghost use Rattle.spb_network.specs.Services as service;
 ghost use Rattle.spb_network.specs.Refusing as refuse;
 ghost use Rattle.spb_network.specs.Questions as question;
 ghost use Rattle.spb_network.specs.Play as play;
@@ -133,6 +134,18 @@ impl<B: Bridge> NetworkOf<B> {
             return Ok(());
         };
         self.add_link(name, i, port_a, j, port_b, cost)
+    }
+
+    /// Declares a service.
+    #[tactic(auto, unfolding(crate::specs::Play::with_service_more))]
+    fn play_isid(&mut self, isid: u64, vid: u64) -> Result<(), NoMemory>
+        requires order { IsInOrder B.shown self.old }
+        requires accepted { service.isid_refusal self.old.world isid vid ≡ None }
+        ensures state { OnOk result (state_of B.shown self.new
+            ≡ play.with_service_more (state_of B.shown self.old) isid vid) }
+        ensures made { OnOk result (AreMade B.shown self.new.boxes.items) }
+    {
+        self.world.declare_isid(isid, vid)
     }
 
     /// An end of a link gets another metric.
@@ -287,6 +300,7 @@ impl<B: Bridge> NetworkOf<B> {
                 port_b,
                 cost,
             } => self.play_link(*name, *a, *port_a, *b, *port_b, *cost),
+            Command::Isid { isid, vid } => self.play_isid(*isid, *vid),
             Command::Metric { link, side, metric } => self.play_metric(*link, *side, *metric),
             Command::Down(name) => self.play_down(*name),
             Command::Up(name) => self.play_up(*name),
