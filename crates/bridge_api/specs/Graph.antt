@@ -29,6 +29,7 @@ use Rattle.spb_content.specs.Local.{content_bytes, said_by}
 use Rattle.spb_content.specs.Graph.{Contents, systems_in, members_of, IsGraphOf, HasOwnPorts}
 use Rattle.spb_content.specs.Building.{said_graph}
 use Rattle.fdb_build.specs.Tables.{unicast_rows}
+use Rattle.fdb_build.specs.Groups.{group_rows}
 use Rattle.bridge_api.specs.View.{BridgeView, metrics_of, is_up_at, neighbour_at}
 use Rattle.bridge_api.specs.Own.{member_of, local_of}
 use Rattle.bridge_api.specs.Laws.{IsSoundView}
@@ -122,9 +123,12 @@ MembersAreSaid = (v : BridgeView) (m : Member)
 abbrev pub read_graph : BridgeView → Graph
 read_graph v = said_graph (contents_of v)
 
--- the tables of a bridge: its unicast rows in that graph (IEEE 802.1aq, 8.8 and 28.10). There are no group rows yet
+-- the tables of a bridge: its unicast rows and its group rows in that graph (IEEE 802.1aq, 8.8 and 28.10)
 unfoldable pub own_tables : BridgeView → Tables
-own_tables v = record { unicast = unicast_rows (read_graph v) v.id.system v.vids; group = [] }
+own_tables v = record {
+  unicast = unicast_rows (read_graph v) v.id.system v.vids;
+  group = group_rows (read_graph v) v.id.system v.vids;
+}
 
 -- what is planned for a VID
 abbrev pub plan_of : List VidPlan → Vid → Option VidPlan
@@ -140,7 +144,8 @@ own_path v to vid = option_and_then (λ plan. best_path (read_graph v) (mask_of 
 abbrev pub CutSaysNothing : Type 0
 CutSaysNothing = (v : BridgeView) (g : Graph)
     → length (contents_of v) ≤ MOST_GRAPH_BRIDGES → IsOwnGraph v g → IsValid g
-    → unicast_rows g v.id.system v.vids ≡ unicast_rows (read_graph v) v.id.system v.vids
+    → (unicast_rows g v.id.system v.vids ≡ unicast_rows (read_graph v) v.id.system v.vids)
+    × (group_rows g v.id.system v.vids ≡ group_rows (read_graph v) v.id.system v.vids)
 
 -- there are such a bridge and graph
 pub record SomeGraphIsOwn : Type 0 where

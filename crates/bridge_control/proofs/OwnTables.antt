@@ -20,6 +20,7 @@ use Rattle.spb_content.specs.Graph.{Contents, systems_in, HasOwnPorts}
 use Rattle.spb_content.specs.Building.{said_graph}
 use Rattle.spb_content.proofs.Members.{weaker}
 use Rattle.fdb_build.specs.Tables.{ArePlans, unicast_rows}
+use Rattle.fdb_build.specs.Groups.{group_rows}
 use Rattle.bridge_api.specs.View.{BridgeView}
 use Rattle.bridge_api.specs.Graph.{contents_of, read_graph, own_tables, plan_of, own_path}
 use Rattle.bridge_api.specs.Laws.{HasConfig, IsSoundView}
@@ -94,15 +95,17 @@ graph_valid v list (Err e) own is = is
 
 -- ---- the tables
 
-tables_are : (v : BridgeView) (g : Graph) (t : Tables) → g ≡ read_graph v → t.unicast ≡ unicast_rows g v.id.system v.vids → t.group ≡ [] → t ≡ own_tables v
-unfolding own_tables
-tables_are v g t graph rows none =
-    let same : t.unicast ≡ unicast_rows (read_graph v) v.id.system v.vids = rows ∙ ap (λ (h : Graph). unicast_rows h v.id.system v.vids) graph in
-    λ i. record { unicast = same i; group = none i }
+tables_in : Graph → SystemId → List VidPlan → Tables
+tables_in g me vids = record { unicast = unicast_rows g me vids; group = group_rows g me vids }
+
+tables_are : (v : BridgeView) (g : Graph) (vids : List VidPlan) → g ≡ read_graph v → vids ≡ v.vids → tables_in g v.id.system vids ≡ own_tables v
+unfolding own_tables tables_in
+tables_are v g vids graph same = λ i. tables_in (graph i) v.id.system (same i)
 
 pub tables_read : {E : Type 0} (v : BridgeView) (g : Graph) (vids : List VidPlan) (r : Result Tables E) → g ≡ read_graph v → vids ≡ v.vids
-    → IfOk r (λ t. (t.unicast ≡ unicast_rows g v.id.system vids) × (t.group ≡ [])) → IfOk r (λ t. t ≡ own_tables v)
-tables_read v g vids (Ok t) graph same is = tables_are v g t graph (is.0 ∙ ap (unicast_rows g v.id.system) same) is.1
+    → IfOk r (λ t. t ≡ record { unicast = unicast_rows g v.id.system vids; group = group_rows g v.id.system vids }) → IfOk r (λ t. t ≡ own_tables v)
+unfolding tables_in
+tables_read v g vids (Ok t) graph same is = is ∙ tables_are v g vids graph same
 tables_read v g vids (Err e) graph same is = is
 
 -- whether the bridge is failed says nothing of its tables
