@@ -156,9 +156,10 @@ pub trait Bridge: Drop {
         requires { (shown self.now).blank ≡ false }
         ensures { option_map keyed (option_copied result) ≡ entry_at (shown self.now).view place };
 
-    /// The tables of the bridge: for each of its base VIDs and each other bridge that it reaches over the LSPs that it
-    /// holds, the port towards that bridge, by ascending VID and address (IEEE 802.1aq, 8.8 and 28.10). There are no
-    /// group rows yet. It answers `NoMemory` where it finds none, and where the bridge is failed.
+    /// The tables of the bridge over the LSPs that it holds, by ascending VID and address (IEEE 802.1aq, 8.8 and 28.10):
+    /// for each of its base VIDs and each other bridge that it reaches, the port towards that bridge; and for each group
+    /// address of a source of a service, the ports by which it sends on towards the service's other members. It answers
+    /// `NoMemory` where it finds none, and where the bridge is failed.
     fn tables(&self) -> Result<Tables, NoMemory>
         requires { (shown self.now).blank ≡ false }
         ensures tables { IfOk result (λ t. t ≡ own_tables (shown self.now).view) }
