@@ -20,7 +20,6 @@ abbrev pub is_played : Keyword → Bool
 is_played keyword.Isid = false
 is_played keyword.Attach = false
 is_played keyword.Detach = false
-is_played keyword.Restart = false
 is_played keyword.Frame = false
 is_played keyword.Path = false
 is_played _ = true
