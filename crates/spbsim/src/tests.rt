@@ -11,6 +11,7 @@ mod examples;
 mod hellos;
 mod quiet;
 mod refusals;
+mod restarts;
 mod runs;
 mod wiring;
 

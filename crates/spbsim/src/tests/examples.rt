@@ -192,6 +192,111 @@ u 10 020000000003 2
 u 10 020000000004 2
 ";
 
+/// `restart-drill.spb`.
+const RESTART_DRILL: &str =
+    "# Three leaves with a link to each of two spines. Spine1 is drained, restarts, and takes its traffic again.
+vid 10 1
+bridge spine1 4096 020000000001 00001 3
+bridge spine2 8192 020000000002 00002 3
+bridge leaf1 32768 020000000011 00011 2
+bridge leaf2 32768 020000000012 00012 2
+bridge leaf3 32768 020000000013 00013 2
+link s1l1 spine1 1 leaf1 1 10
+link s1l2 spine1 2 leaf2 1 10
+link s1l3 spine1 3 leaf3 1 10
+link s2l1 spine2 1 leaf1 2 10
+link s2l2 spine2 2 leaf2 2 10
+link s2l3 spine2 3 leaf3 2 10
+round 12
+state
+show leaf1
+# Its links become dear, so that the leaves go over spine2. Each change is a new LSP: the last one has number 7.
+metric s1l1 a 100
+metric s1l2 a 100
+metric s1l3 a 100
+round 8
+state
+show leaf1
+db leaf1
+# It restarts: what it held is gone, and its own LSP begins at number 1. Its neighbours have it Down.
+restart spine1
+state
+db spine1
+adj leaf1
+# They come up, and spine1 hears number 7 of its life before. It answers with number 8.
+round 3
+db spine1
+# When all is quiet again, everybody holds that. The links are as dear as they were.
+round 8
+state
+db leaf1
+show leaf1
+# They become cheap, and the tables are those of the beginning.
+metric s1l1 a 10
+metric s1l2 a 10
+metric s1l3 a 10
+round 8
+state
+show leaf1
+wiring leaf1
+";
+
+/// `restart-drill.out`.
+const RESTART_DRILL_OUT: &str = "state quiet
+show leaf1 quiet 4 0
+u 10 020000000001 1
+u 10 020000000002 2
+u 10 020000000012 1
+u 10 020000000013 1
+state quiet
+show leaf1 quiet 4 0
+u 10 020000000001 1
+u 10 020000000002 2
+u 10 020000000012 2
+u 10 020000000013 2
+db leaf1 5
+l 0200000000010000 live 1192 7 0bdf srm - ssn -
+l 0200000000020000 live 1182 4 be3b srm - ssn -
+l 0200000000110000 live 1182 3 bd4a srm - ssn -
+l 0200000000120000 live 1182 3 ff06 srm - ssn -
+l 0200000000130000 live 1182 3 42c1 srm - ssn -
+state busy q1 q3
+db spine1 1
+l 0200000000010000 live 1200 1 e080 srm - ssn -
+adj leaf1 2
+p 1 down
+p 2 up 020000000002 1 3 -
+db spine1 5
+l 0200000000010000 live 1200 8 09e0 srm 1,2,3 ssn -
+l 0200000000020000 live 1179 4 be3b srm - ssn 1,2,3
+l 0200000000110000 live 1199 5 b94c srm 2,3 ssn 1
+l 0200000000120000 live 1199 5 fb08 srm 1,3 ssn 2
+l 0200000000130000 live 1199 5 3ec3 srm 1,2 ssn 3
+state quiet
+db leaf1 5
+l 0200000000010000 live 1192 8 09e0 srm - ssn -
+l 0200000000020000 live 1171 4 be3b srm - ssn -
+l 0200000000110000 live 1191 5 b94c srm - ssn -
+l 0200000000120000 live 1191 5 fb08 srm - ssn -
+l 0200000000130000 live 1191 5 3ec3 srm - ssn -
+show leaf1 quiet 4 0
+u 10 020000000001 1
+u 10 020000000002 2
+u 10 020000000012 2
+u 10 020000000013 2
+state quiet
+show leaf1 quiet 4 0
+u 10 020000000001 1
+u 10 020000000002 2
+u 10 020000000012 1
+u 10 020000000013 1
+wiring leaf1 4 0
+u 10 020000000001 1
+u 10 020000000002 2
+u 10 020000000012 1
+u 10 020000000013 1
+";
+
 /// `undeclared-bridge.spb`.
 const UNDECLARED_BRIDGE: &str =
     "# A link names a bridge that isn't declared: the run ends there, and what came before is written.
@@ -216,6 +321,7 @@ fn each_example_is_answered_as_beside_it(rt: HostRuntime) -> Result<(), Fail> {
         (METRO_RING, Status::Done, METRO_RING_OUT),
         (LOST_HELLOS, Status::Done, LOST_HELLOS_OUT),
         (QUIET_DRILL, Status::Done, QUIET_DRILL_OUT),
+        (RESTART_DRILL, Status::Done, RESTART_DRILL_OUT),
         (UNDECLARED_BRIDGE, undeclared, UNDECLARED_BRIDGE_OUT),
     ] {
         check(&rt, rt.alloc(), script, status, text)?;

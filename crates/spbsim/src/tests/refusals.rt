@@ -43,7 +43,7 @@ fn the_first_refused_line_ends_the_run(rt: HostRuntime) -> Result<(), Fail> {
             "error 1 1 Words 1\n",
         ),
         (
-            "# a comment\r\n\n \t\nrestart\n",
+            "# a comment\r\n\n \t\npath\n",
             4,
             Refusal::Words(1),
             "error 4 1 Words 1\n",
