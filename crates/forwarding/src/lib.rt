@@ -8,6 +8,7 @@
 pub use backbone::from_backbone;
 pub use customer::from_customer;
 pub use drop_reason::DropReason;
+pub use laws::{ingress_failure_changes_nothing, services_stay_apart};
 pub use moved::Moved;
 pub use tenant::Tenant;
 
@@ -16,6 +17,7 @@ mod copies;
 mod customer;
 mod drop_reason;
 mod going;
+mod laws;
 mod moved;
 mod ports;
 mod step;
