@@ -1,0 +1,46 @@
+-- Ports at which frames enter and leave.
+use Rattle.std.specs.Prelude.{ℕ, List, map, filter, Bool, false, not, ◌&&◌, ◌==◌, Option, Some, None, find}
+use Rattle.std.specs.List.{range_with_len, list_any}
+use Rattle.spb_types.specs.Ascending.{ascending}
+use Rattle.spb_types.specs.Ports.{has}
+use Rattle.spb_types.specs.declared.limits.TheConstants.{MOST_PORTS}
+use Rattle.spb_types.specs.declared.ports.PortSet.{PortSet}
+use Rattle.spb_types.specs.declared.service.Attachment.{Attachment}
+use Rattle.spb_types.specs.declared.service.Isid.{Isid}
+use Rattle.spb_types.specs.declared.service.Vid.{Vid}
+
+-- ---- customer ports
+
+-- what a customer port is attached to, if it is to anything
+abbrev pub attachment_of : ℕ → List Attachment → Option Attachment
+attachment_of port attached = find (λ a. a.port == port) attached
+
+abbrev pub is_in : Isid → Attachment → Bool
+is_in isid a = a.isid.value == isid.value
+
+-- the ports attached to an I-SID, ascending
+abbrev pub ports_of : Isid → List Attachment → List ℕ
+ports_of isid attached = ascending (λ p. p) (map (λ a. a.port) (filter (is_in isid) attached))
+
+-- those of them at which the I-SID's frames leave: all
+abbrev pub receiving_ports : Isid → List Attachment → List ℕ
+receiving_ports isid attached = ports_of isid attached
+
+-- whether some port is attached to the I-SID in this VID
+abbrev pub is_served : Isid → Vid → List Attachment → Bool
+is_served isid vid attached = list_any (λ a. is_in isid a && (a.vid.value == vid.value)) attached
+
+-- ---- backbone ports
+
+-- the ports of a set, ascending
+abbrev pub ports_in : PortSet → List ℕ
+ports_in set = filter (has set) (range_with_len 1 MOST_PORTS)
+
+-- whether the port that a table gives, if it gives one, is this port
+abbrev pub is_way : ℕ → Option ℕ → Bool
+is_way port None = false
+is_way port (Some p) = p == port
+
+-- ports but for one
+abbrev pub but_for : ℕ → List ℕ → List ℕ
+but_for port ports = filter (λ p. not (p == port)) ports

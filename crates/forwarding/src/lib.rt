@@ -1,0 +1,24 @@
+//! Customers' frames: what a bridge makes of one that enters at a customer port, and of a backbone frame that carries
+//! one. The tables of the bridge are given, and so is what it has learned, which the frames change.
+//!
+//! Each frame that leaves is a copy. Besides that a call takes the time of a few look-ups in the tables and of a walk
+//! over the attached ports; where a frame leaves at every port of its I-SID, the ports are put in order one by one.
+#![tactic(auto)]
+
+pub use backbone::from_backbone;
+pub use customer::from_customer;
+pub use drop_reason::DropReason;
+pub use laws::{ingress_failure_changes_nothing, services_stay_apart};
+pub use moved::Moved;
+pub use tenant::Tenant;
+
+mod backbone;
+mod copies;
+mod customer;
+mod drop_reason;
+mod going;
+mod laws;
+mod moved;
+mod ports;
+mod step;
+mod tenant;
