@@ -77,14 +77,14 @@ if_small : (b : Bool) (m : ℕ) → m ≤ 1 → (if b then m else 0) ≤ 1
 if_small true m low = low
 if_small false m low = omega arith
 
-gain_one : (i j : ℕ) (x : Input) → gain_of x ≤ 1 → gain_at i x j ≤ 1
+pub gain_one : (i j : ℕ) (x : Input) → gain_of x ≤ 1 → gain_at i x j ≤ 1
 gain_one i j x low = if_small (j == i) (gain_of x) low
 
 if_zero : (b : Bool) → (if b then 0 else 0) ≤ 0
 if_zero true = omega arith
 if_zero false = omega arith
 
-no_gain : (i j p : ℕ) → gain_at i (carrier p true) j ≤ 0
+pub no_gain : (i j p : ℕ) → gain_at i (carrier p true) j ≤ 0
 no_gain i j p = if_zero (j == i)
 
 -- at two bridges that aren't one
@@ -190,7 +190,7 @@ tracked_on s n k tracked low =
 pub Counted-on : (s : State) (n k : ℕ) → IsCore s → IsCountedBy n s → n < last_number → IsCountedBy (n + 1) (switched_on s k)
 Counted-on s n k core counted low = counted_tracked (λ j. n + 0) (n + 1) (switched_on s k) (tracked_on s (λ j. n) k (tracked_from n s core counted) (λ j. low)) (λ j. omega arith)
 
-hellos-flushed : (links : List DeclaredLink) (xs : List LinkLanes) (k i : ℕ) → hellos_to links (changed_at (λ x. no_frames) xs k) i ≤ hellos_to links xs i + 0
+pub hellos-flushed : (links : List DeclaredLink) (xs : List LinkLanes) (k i : ℕ) → hellos_to links (changed_at (λ x. no_frames) xs k) i ≤ hellos_to links xs i + 0
 hellos-flushed [] xs k i = omega arith
 hellos-flushed (l ∷ links) [] k i = omega arith
 hellos-flushed (l ∷ links) (x ∷ xs) zero i = let ab = if_zero (l.b.bridge == i) in let ba = if_zero (l.a.bridge == i) in omega (arith, ab, ba)

@@ -20,10 +20,12 @@ use Rattle.spb_network.specs.declared.declaration.DeclaredBridge.{DeclaredBridge
 use Rattle.std.specs.Prelude.{remove}
 use Rattle.spb_network.specs.World.{World, place_of}
 use Rattle.spb_network.specs.Declaring.{bridge_of, link_of, with_vid, bridge_refusal, link_refusal}
+use Rattle.spb_network.specs.Services.{with_service}
 use Rattle.spb_network.specs.State.{State, Spare}
 use Rattle.spb_network.specs.Events.{ticked, delivered, lost, doubled, with_metric_changed, switched_off, switched_on, rounds, drained}
+use Rattle.spb_network.specs.Restarting.{restarted}
 use Rattle.spb_network.specs.Refusing.{box_for, declared_refusal, link_refusal_at_found, named_link_refusal, metric_refusal, refusal_of}
-use Rattle.spb_network.specs.Play.{config_of, boxed, declared, linked, link_between_found, named_link, at_place, at_bridge, at_link, with_vid_more, with_rounds, with_drain, played, next_count, next_state, played_all}
+use Rattle.spb_network.specs.Play.{config_of, boxed, declared, linked, link_between_found, named_link, at_place, at_bridge, at_link, with_vid_more, with_service_more, with_rounds, with_drain, played, next_count, next_state, played_all}
 use Rattle.spb_network.specs.Sound.{IsSoundState, opening}
 use Rattle.spb_network.specs.SoundLaws.{IsAddressed, AreAccepted}
 use Rattle.spb_network.specs.Counted.{IsCountedBy, IsCounted, allowance_of, most_commands}
@@ -37,6 +39,7 @@ use Rattle.spb_network.proofs.SoundPlay.{commands_keep_sound, opening_sound}
 use Rattle.spb_network.proofs.CountsKept.{counts, counts-ticked, counts-delivered, counts-metric, counts-off, counts-on, counts-rounds, counts-drained, counts-boxed, counts-linked}
 use Rattle.spb_network.proofs.CountedDeclaring.{IsFirstOwn, counted_bridge, counted_link}
 use Rattle.spb_network.proofs.CountedLinks.{Counted-metric, Counted-off, Counted-on}
+use Rattle.spb_network.proofs.RestartCounted.{Counted-restarted, counts-restarted}
 use Rattle.spb_network.proofs.CountedRounds.{counted_more, Counted-rounds, Counted-drained}
 use Rattle.spb_network.proofs.CountedEvents.{Counted-ticked, Counted-delivered, Counted-lost, Counted-doubled}
 
@@ -49,6 +52,7 @@ events_keep_counted = record {
   metric = λ k side m is s n sound counted low. Counted-metric s n k side m is (core_of s sound) counted (omega (arith, low));
   down = λ k s n sound counted low. Counted-off s n k sound counted (omega (arith, low));
   up = λ k s n sound counted low. Counted-on s n k (core_of s sound) counted (omega (arith, low));
+  restart = λ i s n sound counted low. Counted-restarted s n i sound counted low;
   round = λ c s n sound counted low. Counted-rounds c n s sound counted low;
   drain = λ c s n sound counted low. counted_more n (n + 0) (drained c s) (omega arith) (Counted-drained c n s sound counted (omega (arith, low)));
 }
@@ -67,6 +71,15 @@ again n s r d a counted = record {
 vid_counted : (n : ℕ) (s : State) (vid ect : ℕ) → IsCountedBy n s → IsCountedBy n (with_vid_more s vid ect)
 unfolding with_vid_more with_vid
 vid_counted n s vid ect counted = record {
+  fresh = counted.fresh;
+  held = counted.held;
+  said = counted.said;
+  bound = λ i v id at own. let within = counted.bound i v id at own in record { most = within.most; bound = within.bound; room = within.room };
+}
+
+isid_counted : (n : ℕ) (s : State) (isid vid : ℕ) → IsCountedBy n s → IsCountedBy n (with_service_more s isid vid)
+unfolding with_service_more with_service
+isid_counted n s isid vid counted = record {
   fresh = counted.fresh;
   held = counted.held;
   said = counted.said;
@@ -154,6 +167,14 @@ vid_played : (s : State) (vid ect : ℕ) → IsCounted s → IsPlayed s (with_vi
 vid_played s vid ect counted =
     two_more s (with_vid_more s vid ect) counted (counts-vid s vid ect) (counted_more (allowance_of s) (allowance_of s + 2) (with_vid_more s vid ect) (omega arith) (vid_counted (allowance_of s) s vid ect counted.by))
 
+counts-isid : (s : State) (isid vid : ℕ) → counts (with_service_more s isid vid) ≡ counts s
+unfolding with_service_more
+counts-isid s isid vid = refl
+
+isid_played : (s : State) (isid vid : ℕ) → IsCounted s → IsPlayed s (with_service_more s isid vid)
+isid_played s isid vid counted =
+    two_more s (with_service_more s isid vid) counted (counts-isid s isid vid) (counted_more (allowance_of s) (allowance_of s + 2) (with_service_more s isid vid) (omega arith) (isid_counted (allowance_of s) s isid vid counted.by))
+
 -- one after another, `rounds` counts them
 rounds_played : (s : State) (n : ℕ) → IsSoundState s → IsCounted s → s.accepted < most_commands → s.rounds + n ≤ MOST_ROUNDS → IsPlayed s (with_rounds n s)
 unfolding with_rounds
@@ -199,6 +220,9 @@ module _ (s : State) (sound : IsSoundState s) (counted : IsCounted s) (room : s.
   on_played : (k : ℕ) → IsPlayed s (switched_on s k)
   on_played k = two_more s (switched_on s k) counted (counts-on s k) (counted_more (allowance_of s + 1) (allowance_of s + 2) (switched_on s k) (omega arith) (Counted-on s (allowance_of s) k (core_of s sound) counted.by lower))
 
+  restart_played : (k : ℕ) → IsPlayed s (restarted s k)
+  restart_played k = two_more s (restarted s k) counted (counts-restarted s k) (Counted-restarted s (allowance_of s) k sound counted.by low)
+
   metric_played : (name : List ℕ) (side : Side) (m k : ℕ) → metric_refusal s.world name m ≡ None → place_of name s.world.links ≡ Some k → IsPlayed s (with_metric_changed s k side m)
   metric_played name side m k none at = two_more s (with_metric_changed s k side m) counted (counts-metric s k side m) (Counted-metric s (allowance_of s) k side m (metric_refusal_none s.world name m k at none) (core_of s sound) counted.by lower)
 
@@ -207,9 +231,11 @@ module _ (s : State) (sound : IsSoundState s) (counted : IsCounted s) (room : s.
   command_played (command.Bridge name priority system source ports) none =
       two_more s (declared s name (bridge_of priority system source ports)) counted (counts-declared s name (bridge_of priority system source ports)) (bridge_counted s (allowance_of s) name priority system source ports sound counted.by none)
   command_played (command.Link name a port_a b port_b cost) none = named_played s name a b port_a port_b cost sound counted low none
+  command_played (command.Isid isid vid) none = isid_played s isid vid counted
   command_played (command.Metric name on m) none = link_played (λ t k. with_metric_changed t k on m) s name counted (λ k at. metric_played name on m k none at)
   command_played (command.Down name) none = link_played switched_off s name counted (λ k at. off_played k)
   command_played (command.Up name) none = link_played switched_on s name counted (λ k at. on_played k)
+  command_played (command.Restart name) none = bridge_played restarted s name counted (λ k at. restart_played k)
   command_played (command.Tick name) none = bridge_played ticked s name counted (λ k at. tick_played k)
   command_played (command.Deliver name dir) none = link_played (λ t k. delivered t k dir) s name counted (λ k at. deliver_played k dir)
   command_played (command.Lose name dir place) none = link_played (λ t k. lost t k dir place) s name counted (λ k at. lose_played k dir place)

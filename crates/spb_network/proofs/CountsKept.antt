@@ -41,7 +41,7 @@ counts-delivered s k dir = front s k dir (slice_get (lane_at s k dir) 0)
 
 -- ---- links
 
-carrier_at : (on : Bool) (s : State) (e : LinkEnd) → counts (with_carrier_at_end on s e) ≡ counts s
+pub carrier_at : (on : Bool) (s : State) (e : LinkEnd) → counts (with_carrier_at_end on s e) ≡ counts s
 carrier_at on s e = counts-stepped (comes.carrier e.port on) s e.bridge
 
 metric_at : (s : State) (e : LinkEnd) → counts (with_metric_at_end s e) ≡ counts s

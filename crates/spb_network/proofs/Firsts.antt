@@ -12,13 +12,15 @@ use Rattle.spb_network.specs.declared.reason.Reason.{Reason}
 use Rattle.spb_network.specs.declared.reason.Reason.TheVariants.{NoSuchName, NameTaken, IdTaken, PortUse, Range, TooMany, AlreadyLinked, AlreadyUp, AlreadyDown, Attached, NotAttached, NoFrame, RackSpent, TooLate}
 use Rattle.spb_network.specs.Reason.{reason_number, reason_unless}
 use Rattle.spb_network.specs.World.{World, things_of, place_of}
-use Rattle.spb_network.specs.Declaring.{is_new_vid, is_vid_range, is_before_bridges, is_new_name, is_new_system, is_new_source, is_bridge_range, has_bridge_room, is_free_port, is_link_range, has_link_room, is_unlinked, vid_refusal, bridge_refusal, link_refusal}
+use Rattle.spb_network.specs.Services.{is_new_isid, is_isid_range, has_service_room, isid_refusal}
+use Rattle.spb_network.specs.Declaring.{has_vid, is_new_vid, is_vid_range, has_vid_room, is_before_bridges, is_new_name, is_new_system, is_new_source, is_bridge_range, has_bridge_room, is_free_port, is_link_range, has_link_room, is_unlinked, vid_refusal, bridge_refusal, link_refusal}
 use Rattle.spb_network.specs.State.{State, is_live, lane_at, kind_at}
 use Rattle.spb_network.specs.Questions.{Question, question_of}
-use Rattle.spb_network.specs.Refusing.{box_for, asked_refusal, declared_refusal, link_refusal_at_found, named_link_refusal, unnamed_refusal, refusal_at_found, down_refusal, up_refusal, metric_refusal, frame_refusal, round_refusal, drain_refusal, refusal_of}
-use Rattle.spb_network.specs.Holding.{IsNamed, HoldsAt, AsksUnknown, Holds, TheFirstReasonIsGiven}
+use Rattle.spb_network.specs.Restarting.{box_at}
+use Rattle.spb_network.specs.Refusing.{box_for, asked_refusal, declared_refusal, link_refusal_at_found, named_link_refusal, unnamed_refusal, refusal_at_found, down_refusal, up_refusal, metric_refusal, frame_refusal, round_refusal, drain_refusal, restart_refusal, refusal_of}
+use Rattle.spb_network.specs.Holding.{IsNamed, HoldsAt, LacksBoxAt, AsksUnknown, Holds, TheFirstReasonIsGiven}
 use Rattle.spb_network.proofs.Chains.{chain_said, Said, lowest, refused_for_the_first}
-use Rattle.spb_network.proofs.Tested.{true-is, false-is, fails, opposes, not-lt, not-le, named, known, unknown, at-is, both-at, taken_vid, wrong_vid, late, taken_name, taken_id, wrong_bridge, full_of_bridges, spent_rack, taken_port, wrong_metric, wrong_link, full_of_links, joined, wrong_count}
+use Rattle.spb_network.proofs.Tested.{true-is, false-is, fails, opposes, not-lt, not-le, named, known, unknown, at-is, both-at, taken_vid, wrong_vid, full_of_vids, late, undeclared_vid, taken_isid, wrong_isid, full_of_services, taken_name, taken_id, wrong_bridge, full_of_bridges, spent_rack, taken_port, wrong_metric, wrong_link, full_of_links, joined, wrong_count}
 
 -- ---- what names a bridge
 
@@ -33,12 +35,12 @@ asked : (H : Reason → Type 0) (w : World) (o : Option Question) → (AsksUnkno
 asked H w None from to covers = λ q h. to (subst H (covers q h) h)
 asked H w (Some question) from to covers = unnamed H w question.bridge from to covers
 
--- ---- what names a link
+-- ---- what names a thing, for which one test is made at its place
 
-linked : (H : Reason → Type 0) (w : World) (name : List ℕ) (test : ℕ → Bool) (r : Reason) → 2 < reason_number r → (¬ IsNamed name w.links → H NoSuchName) → (H NoSuchName → ¬ IsNamed name w.links) → ((k : ℕ) → place_of name w.links ≡ Some k → Decides (not (test k)) (H r)) → ((q : Reason) → H q → (q ≡ NoSuchName) ⊎ (q ≡ r)) → (o : Option ℕ) → place_of name w.links ≡ o → Said H (refusal_at_found (λ k. reason_unless (test k) r) o)
-linked H w name test r low from to d covers None at = (from (unknown name w.links at), λ q h. lowest q)
-linked H w name test r low from to d covers (Some k) at =
-    chain_said H 2 ((test k, r) ∷ []) (d k at, tt) (low, tt) (λ q h. ⊎_elim (λ e. absurd (to (subst H e h) (known name w.links k at))) (λ e. inl e) (covers q h))
+placed : {T : Type 0} (H : Reason → Type 0) (entries : List (List ℕ × T)) (name : List ℕ) (test : ℕ → Bool) (r : Reason) → 2 < reason_number r → (¬ IsNamed name entries → H NoSuchName) → (H NoSuchName → ¬ IsNamed name entries) → ((k : ℕ) → place_of name entries ≡ Some k → Decides (not (test k)) (H r)) → ((q : Reason) → H q → (q ≡ NoSuchName) ⊎ (q ≡ r)) → (o : Option ℕ) → place_of name entries ≡ o → Said H (refusal_at_found (λ k. reason_unless (test k) r) o)
+placed H entries name test r low from to d covers None at = (from (unknown name entries at), λ q h. lowest q)
+placed H entries name test r low from to d covers (Some k) at =
+    chain_said H 2 ((test k, r) ∷ []) (d k at, tt) (low, tt) (λ q h. ⊎_elim (λ e. absurd (to (subst H e h) (known name entries k at))) (λ e. inl e) (covers q h))
 
 -- ---- the commands
 
@@ -46,15 +48,32 @@ vid_said : (s : State) (vid ect : ℕ) → Said (Holds s (command.Vid vid ect)) 
 unfolding vid_refusal
 vid_said s vid ect =
     chain_said (Holds s (command.Vid vid ect)) 0
-    ((is_new_vid s.world.vids vid, NameTaken) ∷ (is_vid_range s.world.vids vid ect, Range) ∷ (is_before_bridges s.world, TooLate) ∷ [])
-    (taken_vid s.world vid ect, (wrong_vid s.world vid ect, (late s.world, tt)))
-    (omega arith, (omega arith, (omega arith, tt)))
+    ((is_new_vid s.world.vids vid, NameTaken) ∷ (is_vid_range vid ect, Range) ∷ (has_vid_room s.world, TooMany) ∷ (is_before_bridges s.world, TooLate) ∷ [])
+    (taken_vid s.world vid ect, (wrong_vid vid ect, (full_of_vids s.world, (late s.world, tt))))
+    (omega arith, (omega arith, (omega arith, (omega arith, tt))))
     covers
   where
-    covers : (q : Reason) → Holds s (command.Vid vid ect) q → (q ≡ NameTaken) ⊎ ((q ≡ Range) ⊎ ((q ≡ TooLate) ⊎ ⊥))
+    covers : (q : Reason) → Holds s (command.Vid vid ect) q → (q ≡ NameTaken) ⊎ ((q ≡ Range) ⊎ ((q ≡ TooMany) ⊎ ((q ≡ TooLate) ⊎ ⊥)))
     covers NameTaken h = inl refl
     covers Range h = inr (inl refl)
-    covers TooLate h = inr (inr (inl refl))
+    covers TooMany h = inr (inr (inl refl))
+    covers TooLate h = inr (inr (inr (inl refl)))
+    covers _ h = absurd h
+
+isid_said : (s : State) (isid vid : ℕ) → Said (Holds s (command.Isid isid vid)) (isid_refusal s.world isid vid)
+unfolding isid_refusal
+isid_said s isid vid =
+    chain_said (Holds s (command.Isid isid vid)) 0
+    ((has_vid s.world.vids vid, NoSuchName) ∷ (is_new_isid s.world.services isid, NameTaken) ∷ (is_isid_range isid, Range) ∷ (has_service_room s.world, TooMany) ∷ [])
+    (undeclared_vid s.world vid, (taken_isid s.world isid, (wrong_isid isid, (full_of_services s.world, tt))))
+    (omega arith, (omega arith, (omega arith, (omega arith, tt))))
+    covers
+  where
+    covers : (q : Reason) → Holds s (command.Isid isid vid) q → (q ≡ NoSuchName) ⊎ ((q ≡ NameTaken) ⊎ ((q ≡ Range) ⊎ ((q ≡ TooMany) ⊎ ⊥)))
+    covers NoSuchName h = inl refl
+    covers NameTaken h = inr (inl refl)
+    covers Range h = inr (inr (inl refl))
+    covers TooMany h = inr (inr (inr (inl refl)))
     covers _ h = absurd h
 
 bridge_said : (s : State) (name : List ℕ) (priority : ℕ) (system : Mac) (source : SourceId) (ports : ℕ) → Said (Holds s (command.Bridge name priority system source ports)) (declared_refusal s name priority system source ports)
@@ -77,6 +96,17 @@ bridge_said s name priority system source ports =
     covers Range h = inr (inr (inl refl))
     covers TooMany h = inr (inr (inr (inl refl)))
     covers RackSpent h = inr (inr (inr (inr (inl refl))))
+    covers _ h = absurd h
+
+restart_said : (s : State) (name : List ℕ) → Said (Holds s (command.Restart name)) (restart_refusal s name)
+unfolding restart_refusal
+restart_said s name =
+    placed (Holds s (command.Restart name)) s.world.bridges name (λ i. is_some (box_at s i)) RackSpent (omega arith) (λ n. n) (λ n. n)
+    (λ i at. at-is name s.world.bridges (λ j. LacksBoxAt s j) i (not (is_some (box_at s i))) at (spent_rack (kind_at s.rule i) s.rack)) covers (place_of name s.world.bridges) refl
+  where
+    covers : (q : Reason) → Holds s (command.Restart name) q → (q ≡ NoSuchName) ⊎ (q ≡ RackSpent)
+    covers NoSuchName h = inl refl
+    covers RackSpent h = inr refl
     covers _ h = absurd h
 
 tick_said : (s : State) (name : List ℕ) → Said (Holds s (command.Tick name)) (unnamed_refusal s.world name)
@@ -133,7 +163,7 @@ link_said s name a b port_a port_b cost = said_at_found s name a b port_a port_b
 
 metric_said : (s : State) (name : List ℕ) (side : Side) (m : ℕ) → Said (Holds s (command.Metric name side m)) (metric_refusal s.world name m)
 unfolding metric_refusal
-metric_said s name side m = linked (Holds s (command.Metric name side m)) s.world name (λ k. nat_le 1 m && nat_le m 16777214) Range (omega arith) (λ n. n) (λ n. n) (λ k at. wrong_metric m) covers (place_of name s.world.links) refl
+metric_said s name side m = placed (Holds s (command.Metric name side m)) s.world.links name (λ k. nat_le 1 m && nat_le m 16777214) Range (omega arith) (λ n. n) (λ n. n) (λ k at. wrong_metric m) covers (place_of name s.world.links) refl
   where
     covers : (q : Reason) → Holds s (command.Metric name side m) q → (q ≡ NoSuchName) ⊎ (q ≡ Range)
     covers NoSuchName h = inl refl
@@ -142,7 +172,7 @@ metric_said s name side m = linked (Holds s (command.Metric name side m)) s.worl
 
 down_said : (s : State) (name : List ℕ) → Said (Holds s (command.Down name)) (down_refusal s.world name)
 unfolding down_refusal
-down_said s name = linked (Holds s (command.Down name)) s.world name (λ k. is_live (things_of s.world.links) k) AlreadyDown (omega arith) (λ n. n) (λ n. n) (λ k at. at-is name s.world.links _ k _ at (false-is (is_live (things_of s.world.links) k))) covers (place_of name s.world.links) refl
+down_said s name = placed (Holds s (command.Down name)) s.world.links name (λ k. is_live (things_of s.world.links) k) AlreadyDown (omega arith) (λ n. n) (λ n. n) (λ k at. at-is name s.world.links _ k _ at (false-is (is_live (things_of s.world.links) k))) covers (place_of name s.world.links) refl
   where
     covers : (q : Reason) → Holds s (command.Down name) q → (q ≡ NoSuchName) ⊎ (q ≡ AlreadyDown)
     covers NoSuchName h = inl refl
@@ -151,7 +181,7 @@ down_said s name = linked (Holds s (command.Down name)) s.world name (λ k. is_l
 
 up_said : (s : State) (name : List ℕ) → Said (Holds s (command.Up name)) (up_refusal s.world name)
 unfolding up_refusal
-up_said s name = linked (Holds s (command.Up name)) s.world name (λ k. not (is_live (things_of s.world.links) k)) AlreadyUp (omega arith) (λ n. n) (λ n. n) (λ k at. at-is name s.world.links _ k _ at (opposes (is_live (things_of s.world.links) k) (true-is (is_live (things_of s.world.links) k)))) covers (place_of name s.world.links) refl
+up_said s name = placed (Holds s (command.Up name)) s.world.links name (λ k. not (is_live (things_of s.world.links) k)) AlreadyUp (omega arith) (λ n. n) (λ n. n) (λ k at. at-is name s.world.links _ k _ at (opposes (is_live (things_of s.world.links) k) (true-is (is_live (things_of s.world.links) k)))) covers (place_of name s.world.links) refl
   where
     covers : (q : Reason) → Holds s (command.Up name) q → (q ≡ NoSuchName) ⊎ (q ≡ AlreadyUp)
     covers NoSuchName h = inl refl
@@ -161,7 +191,7 @@ up_said s name = linked (Holds s (command.Up name)) s.world name (λ k. not (is_
 -- of what names a frame
 frame_said : (H : Reason → Type 0) (s : State) (name : List ℕ) (dir : Dir) (place : ℕ) → (¬ IsNamed name s.world.links → H NoSuchName) → (H NoSuchName → ¬ IsNamed name s.world.links) → ((k : ℕ) → place_of name s.world.links ≡ Some k → Decides (not (nat_lt place (length (lane_at s k dir)))) (H NoFrame)) → ((q : Reason) → H q → (q ≡ NoSuchName) ⊎ (q ≡ NoFrame)) → Said H (frame_refusal s name dir place)
 unfolding frame_refusal
-frame_said H s name dir place from to d covers = linked H s.world name (λ k. nat_lt place (length (lane_at s k dir))) NoFrame (omega arith) from to d covers (place_of name s.world.links) refl
+frame_said H s name dir place from to d covers = placed H s.world.links name (λ k. nat_lt place (length (lane_at s k dir))) NoFrame (omega arith) from to d covers (place_of name s.world.links) refl
 
 lacking : (s : State) (name : List ℕ) (dir : Dir) (place k : ℕ) → place_of name s.world.links ≡ Some k → Decides (not (nat_lt place (length (lane_at s k dir)))) (HoldsAt name s.world.links (λ j. length (lane_at s j dir) ≤ place))
 lacking s name dir place k at = at-is name s.world.links _ k _ at (not-lt place (length (lane_at s k dir)))
@@ -218,9 +248,11 @@ said : (s : State) (c : Command) → Said (Holds s c) (refusal_of s c)
 said s (command.Vid vid ect) = vid_said s vid ect
 said s (command.Bridge name priority system source ports) = bridge_said s name priority system source ports
 said s (command.Link name a port_a b port_b cost) = link_said s name a b port_a port_b cost
+said s (command.Isid isid vid) = isid_said s isid vid
 said s (command.Metric name side m) = metric_said s name side m
 said s (command.Down name) = down_said s name
 said s (command.Up name) = up_said s name
+said s (command.Restart name) = restart_said s name
 said s (command.Tick name) = tick_said s name
 said s (command.Deliver name dir) = deliver_said s name dir
 said s (command.Lose name dir place) = lose_said s name dir place

@@ -1,6 +1,7 @@
 pub mod ListLemmas
 pub mod PlaceLemmas
 pub mod NameLemmas
+pub mod ServiceLemmas
 pub mod WorldLemmas
 pub mod RefusalLemmas
 pub mod ValidLemmas
@@ -58,6 +59,12 @@ pub mod CountsKept
 pub mod CountedPlay
 pub mod CountedEnds
 pub mod CountedStays
+pub mod RestartLemmas
+pub mod RestartCut
+pub mod RestartConfig
+pub mod RestartSound
+pub mod RestartCounted
+pub mod RestartNew
 pub mod QuietLists
 pub mod QuietLaws
 pub mod QuietTruth
@@ -67,3 +74,4 @@ pub mod QuietStates
 pub mod QuietWitness
 pub mod QuietBodies
 pub mod QuietNumbers
+pub mod Keeping

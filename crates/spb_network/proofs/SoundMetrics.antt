@@ -7,7 +7,7 @@ use Rattle.std.proofs.lemmas.List.{length-map}
 use Rattle.std.proofs.lemmas.Option.{slice_get-map}
 use Rattle.bridge_api.specs.declared.port.BridgePort.{BridgePort}
 use Rattle.bridge_api.specs.View.{BridgeView, IsPort, metrics_of}
-use Rattle.bridge_api.specs.Step.{Input, second, frame, carrier, metric, step}
+use Rattle.bridge_api.specs.Step.{Input, second, frame, carrier, metric, attach, detach, step}
 use Rattle.bridge_api.specs.Laws.{metrics_after}
 use Rattle.bridge_api.proofs.Places.{got_at, got_beside}
 use Rattle.spb_network.specs.declared.declaration.DeclaredLink.{DeclaredLink}
@@ -26,14 +26,14 @@ use Rattle.spb_network.proofs.SoundCarrier.{got_changed}
 -- ---- one bridge
 
 -- the metric at a port, by the list of the metrics
-abbrev metric_of : List ℕ → ℕ → Option ℕ
+abbrev pub metric_of : List ℕ → ℕ → Option ℕ
 metric_of ms p = if nat_le 1 p then slice_get ms (p - 1) else None
 
 seen_if : (b : Bool) (ports : List BridgePort) (i : ℕ) → option_map (λ port. port.metric) (if b then slice_get ports i else None) ≡ (if b then slice_get (metrics_of ports) i else None)
 seen_if true ports i = sym (slice_get-map (λ (port : BridgePort). port.metric) ports i)
 seen_if false ports i = refl
 
-seen : (v : BridgeView) (p : ℕ) → metric_at v p ≡ metric_of (metrics_of v.ports) p
+pub seen : (v : BridgeView) (p : ℕ) → metric_at v p ≡ metric_of (metrics_of v.ports) p
 seen v p = seen_if (nat_le 1 p) v.ports (p - 1)
 
 -- whether an input sets a metric
@@ -42,12 +42,16 @@ is_metric second = false
 is_metric (frame q bytes) = false
 is_metric (carrier q on) = false
 is_metric (metric q m) = true
+is_metric (attach a) = false
+is_metric (detach q) = false
 
 kept_metrics : (x : Input) (ms : List ℕ) → is_metric x ≡ false → metrics_after x ms ≡ ms
 kept_metrics second ms other = refl
 kept_metrics (frame q bytes) ms other = refl
 kept_metrics (carrier q on) ms other = refl
 kept_metrics (metric q m) ms other = absurd cc
+kept_metrics (attach a) ms other = refl
+kept_metrics (detach q) ms other = refl
 
 -- no other input changes a metric
 metric_kept : (x : Input) (v : BridgeView) (p : ℕ) → is_metric x ≡ false → metric_at (step x v) p ≡ metric_at v p

@@ -24,6 +24,7 @@ use Rattle.spb_network.specs.declared.declaration.DeclaredLink.{DeclaredLink}
 use Rattle.spb_network.specs.declared.kind_rule.KindRule.{KindRule}
 use Rattle.spb_network.specs.State.{State, Spare, links_of, far_end}
 use Rattle.spb_network.specs.Events.{ticked, delivered, lost, doubled, with_metric_changed, switched_off, switched_on, rounds, drained}
+use Rattle.spb_network.specs.Restarting.{restarted}
 use Rattle.spb_network.specs.Refusing.{refusal_of}
 use Rattle.spb_network.specs.Play.{next_state, played_all}
 use Rattle.spb_network.specs.Sound.{IsSoundState, opening}
@@ -47,6 +48,7 @@ pub record EventsKeepCounted : Type 0 where
   pub metric : (k : ℕ) (side : Side) (m : ℕ) → IsMetric m → Raises 2 (λ s. with_metric_changed s k side m)
   pub down : (k : ℕ) → Raises 2 (λ s. switched_off s k)
   pub up : (k : ℕ) → Raises 1 (λ s. switched_on s k)
+  pub restart : (i : ℕ) → Raises 2 (λ s. restarted s i)
   pub round : (n : ℕ) → Raises (128 * n) (rounds n)
   pub drain : (n : ℕ) → Raises 0 (drained n)
 

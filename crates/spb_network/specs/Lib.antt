@@ -1,6 +1,7 @@
 pub mod World
 pub mod Reason
 pub mod Declaring
+pub mod Services
 pub mod State
 pub mod Events
 pub mod Network
@@ -9,6 +10,7 @@ pub mod Questions
 pub mod Quiet
 pub mod Quieting
 pub mod Bodies
+pub mod Restarting
 pub mod Refusing
 pub mod Play
 pub mod Applying
@@ -20,4 +22,5 @@ pub mod DeliveryLaws
 pub mod MeetingLaws
 pub mod Counted
 pub mod CountedLaws
+pub mod RestartLaws
 pub mod Telling

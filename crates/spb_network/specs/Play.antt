@@ -11,12 +11,14 @@ use Rattle.spb_network.specs.declared.declaration.DeclaredBridge.{DeclaredBridge
 use Rattle.spb_network.specs.declared.declaration.DeclaredLink.{DeclaredLink}
 use Rattle.spb_network.specs.World.{World, place_of}
 use Rattle.spb_network.specs.Declaring.{plan_of, bridge_of, link_of, with_vid, with_bridge, with_link}
+use Rattle.spb_network.specs.Services.{service_of, with_service}
 use Rattle.link_model.specs.Lanes.{no_frames}
 use Rattle.spb_network.specs.State.{State}
 use Rattle.spb_network.specs.Events.{ticked, delivered, lost, doubled, with_metrics_over, with_metric_changed, switched_on, switched_off, rounds, drained}
 use Rattle.spb_network.specs.Questions.{Question, question_of, answer_at, asks_network}
 use Rattle.spb_network.specs.Quiet.{failing}
 use Rattle.spb_network.specs.Refusing.{box_for}
+use Rattle.spb_network.specs.Restarting.{restarted}
 
 -- what a declared bridge is configured with: no port has a link yet, and none is attached
 abbrev pub config_of : World → DeclaredBridge → BridgeConfig
@@ -72,6 +74,10 @@ at_link event s name = at_place event s (place_of name s.world.links)
 unfoldable pub with_vid_more : State → ℕ → ℕ → State
 with_vid_more s vid ect = record s { world = with_vid s.world (plan_of vid ect) }
 
+-- a service more
+unfoldable pub with_service_more : State → ℕ → ℕ → State
+with_service_more s isid vid = record s { world = with_service s.world (service_of isid vid) }
+
 -- so many rounds, and at most so many deliveries
 unfoldable pub with_rounds : ℕ → State → State
 with_rounds n s = record (rounds n s) { rounds = s.rounds + n }
@@ -84,9 +90,11 @@ abbrev pub played : State → Command → State
 played s (command.Vid vid ect) = with_vid_more s vid ect
 played s (command.Bridge name priority system source ports) = declared s name (bridge_of priority system source ports)
 played s (command.Link name a port_a b port_b cost) = named_link s name a port_a b port_b cost
+played s (command.Isid isid vid) = with_service_more s isid vid
 played s (command.Metric name side m) = at_link (λ t k. with_metric_changed t k side m) s name
 played s (command.Down name) = at_link switched_off s name
 played s (command.Up name) = at_link switched_on s name
+played s (command.Restart name) = at_bridge restarted s name
 played s (command.Tick name) = at_bridge ticked s name
 played s (command.Deliver name dir) = at_link (λ t k. delivered t k dir) s name
 played s (command.Lose name dir place) = at_link (λ t k. lost t k dir place) s name
@@ -126,6 +134,7 @@ abbrev pub is_event : Command → Bool
 is_event (command.Metric name side m) = true
 is_event (command.Down name) = true
 is_event (command.Up name) = true
+is_event (command.Restart name) = true
 is_event (command.Tick name) = true
 is_event (command.Deliver name dir) = true
 is_event (command.Lose name dir place) = true

@@ -10,8 +10,10 @@ use Rattle.spb_network.specs.declared.reason.Reason.TheVariants.{NoSuchName, Ran
 use Rattle.spb_network.specs.Reason.{reason_unless, ◌or◌}
 use Rattle.spb_network.specs.World.{World, things_of, place_of}
 use Rattle.spb_network.specs.Declaring.{vid_refusal, bridge_refusal, link_refusal}
+use Rattle.spb_network.specs.Services.{isid_refusal}
 use Rattle.spb_network.specs.Questions.{Question, question_of}
 use Rattle.spb_network.specs.State.{State, is_live, lane_at, kind_at, next_box}
+use Rattle.spb_network.specs.Restarting.{box_at}
 use Rattle.spb_types.specs.declared.limits.TheConstants.{GREATEST_METRIC, MOST_DELIVERIES, MOST_DELIVERIES_TOGETHER, MOST_ROUNDS}
 
 -- the box that the next declared bridge takes, by place in the rack
@@ -72,6 +74,11 @@ unfoldable pub drain_refusal : State → ℕ → Option Reason
 drain_refusal s n = reason_unless (nat_le 1 n && nat_le n MOST_DELIVERIES) Range
     or reason_unless (nat_le (s.drained + n) MOST_DELIVERIES_TOGETHER) TooMany
 
+-- the bridge restarts: there is one of this name, and a box for it
+unfoldable pub restart_refusal : State → List ℕ → Option Reason
+restart_refusal s name =
+    refusal_at_found (λ i. reason_unless (is_some (box_at s i)) RackSpent) (place_of name s.world.bridges)
+
 -- of what may be a question about a bridge
 abbrev pub asked_refusal : World → Option Question → Option Reason
 asked_refusal w None = None
@@ -82,9 +89,11 @@ abbrev pub refusal_of : State → Command → Option Reason
 refusal_of s (command.Vid vid ect) = vid_refusal s.world vid ect
 refusal_of s (command.Bridge name priority system source ports) = declared_refusal s name priority system source ports
 refusal_of s (command.Link name a port_a b port_b cost) = named_link_refusal s.world name a port_a b port_b cost
+refusal_of s (command.Isid isid vid) = isid_refusal s.world isid vid
 refusal_of s (command.Metric name side m) = metric_refusal s.world name m
 refusal_of s (command.Down name) = down_refusal s.world name
 refusal_of s (command.Up name) = up_refusal s.world name
+refusal_of s (command.Restart name) = restart_refusal s name
 refusal_of s (command.Tick name) = unnamed_refusal s.world name
 refusal_of s (command.Deliver name dir) = frame_refusal s name dir 0
 refusal_of s (command.Lose name dir place) = frame_refusal s name dir place

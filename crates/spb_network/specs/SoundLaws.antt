@@ -18,6 +18,7 @@ use Rattle.spb_network.specs.declared.kind_rule.KindRule.{KindRule}
 use Rattle.link_model.specs.Lanes.{lane_of}
 use Rattle.spb_network.specs.State.{State, Spare, links_of, is_live}
 use Rattle.spb_network.specs.Events.{ticked, delivered, lost, doubled, with_metric_changed, switched_off, switched_on, rounds, drained}
+use Rattle.spb_network.specs.Restarting.{restarted}
 use Rattle.spb_network.specs.Refusing.{refusal_of}
 use Rattle.spb_network.specs.Play.{next_state, played_all}
 use Rattle.spb_network.specs.Sound.{IsSoundState, opening}
@@ -28,7 +29,7 @@ abbrev pub Keeps : (State → State) → Type 0
 Keeps event = (s : State) → IsSoundState s → IsSoundState (event s)
 
 -- a tick of any bridge, a delivery from any lane, a frame that is lost or doubled, an end of a link that gets another
--- metric, a link that goes down or comes up, rounds and deliveries in any number
+-- metric, a link that goes down or comes up, a bridge that restarts, rounds and deliveries in any number
 pub record EventsKeepSound : Type 0 where
   pub tick : (i : ℕ) → Keeps (λ s. ticked s i)
   pub deliver : (k : ℕ) (dir : Dir) → Keeps (λ s. delivered s k dir)
@@ -37,6 +38,7 @@ pub record EventsKeepSound : Type 0 where
   pub metric : (k : ℕ) (side : Side) (m : ℕ) → IsMetric m → Keeps (λ s. with_metric_changed s k side m)
   pub down : (k : ℕ) → Keeps (λ s. switched_off s k)
   pub up : (k : ℕ) → Keeps (λ s. switched_on s k)
+  pub restart : (i : ℕ) → Keeps (λ s. restarted s i)
   pub round : (n : ℕ) → Keeps (rounds n)
   pub drain : (n : ℕ) → Keeps (drained n)
 

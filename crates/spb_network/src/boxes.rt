@@ -1,5 +1,5 @@
 //! What one box of a list does. A place past the last box is one where nothing happens.
-ghost use Rattle.std.specs.Prelude.{◌≡◌, ◌≤◌, [], false, length, slice_get, OnOk, IfOk};
+ghost use Rattle.std.specs.Prelude.{◌≡◌, ◌≤◌, [], false, length, slice_get, slice_set, OnOk, IfOk};
 ghost use Rattle.std.specs.Option.{option_map_or};
 ghost use Rattle.bridge_api.specs.Config.{IsMetric};
 ghost use Rattle.bridge_api.specs.Step as comes;
@@ -86,6 +86,19 @@ pub fn set_metric<B: Bridge>(
     match boxes.get_mut(i) {
         None => Ok(()),
         Some(bridge) => bridge.set_metric(port, metric),
+    }
+}
+
+/// A box takes the place of another, which is dropped.
+pub fn replace<B: Bridge>(boxes: &mut Vec<B>, i: usize, fresh: B)
+    requires made { AreMade B.shown boxes.old.items }
+    requires fresh { (B.shown fresh).blank ≡ false }
+    ensures views { views_of B.shown boxes.new.items
+        ≡ slice_set (views_of B.shown boxes.old.items) i (B.shown fresh).view }
+    ensures made { AreMade B.shown boxes.new.items }
+{
+    if i < boxes.len() {
+        boxes[i] = fresh;
     }
 }
 

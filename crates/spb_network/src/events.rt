@@ -75,13 +75,14 @@ impl<B: Bridge> NetworkOf<B> {
     }
 
     /// Carrier comes to an end of a link, or goes.
-    fn set_carrier(&mut self, end: LinkEnd, on: bool) -> Result<(), NoMemory>
+    pub(crate) fn set_carrier(&mut self, end: LinkEnd, on: bool) -> Result<(), NoMemory>
         requires order { IsInOrder B.shown self.old }
         requires end { IsEnd self.old.world.bridges end }
         ensures state { OnOk result (state_of B.shown self.new
             ≡ event.with_carrier_at_end on (state_of B.shown self.old) end) }
         ensures order { OnOk result (IsInOrder B.shown self.new) }
         ensures world { self.new.world ≡ self.old.world }
+        ensures rack { self.new.rack ≡ self.old.rack }
     {
         boxes::set_carrier(&mut self.boxes, end.bridge, end.port, on)
     }

@@ -7,6 +7,7 @@ ghost use Rattle.spb_network.specs.Truth.{QuietIsShared, QuietIsRead, QuietTells
 ghost use Rattle.spb_network.specs.Telling.{CountedNetworksTell, NetworksTell, ShowIsTrue, SomeNetworkIsQuiet};
 ghost use Rattle.spb_network.specs.MeetingLaws.{SomeBridgesMeet};
 ghost use Rattle.spb_network.specs.Quiet.{QuietSays};
+ghost use Rattle.spb_network.specs.RestartLaws.{RestartIsNew};
 ghost use Rattle.spb_network.specs.DeliveryLaws.{FramesAreDelivered, DeliverDelivers};
 
 /// Whatever comes to the bridges of a sound network, and whatever becomes of its frames and links, it stays sound.
@@ -33,6 +34,13 @@ pub fn wiring_gives_tables()
 pub fn a_delivery_is_one_step()
     ensures delivered { FramesAreDelivered }
     ensures command { DeliverDelivers }
+{}
+
+/// A bridge that restarted is one that was just configured with the metrics of its links and what is attached to its
+/// ports, and then got carrier on its links that are up: nothing is left of what it held. It took the next blank box of
+/// its kind; without one nothing changes.
+pub fn a_restart_begins_anew()
+    ensures { RestartIsNew }
 {}
 
 /// Some commands lead to a network with a hello on its way over a link; and some lead to one in which a port is Up, and

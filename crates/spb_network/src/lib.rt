@@ -13,16 +13,18 @@
 //! first lane that isn't empty. Frames are moved and not copied, and nothing grows with the number of rounds.
 //! Which conditions of quiet fail asks each link, lane and bridge once, walks over each database once with a look-up by
 //! hash for each live LSP, and takes memory for an entry of a table for each LSP id with one live version; bodies are
-//! compared where an earlier bridge holds the same version. `show` asks that too, and makes the bridge's tables anew.
+//! compared where an earlier bridge holds the same version. The answer is kept until a command is played that is no
+//! question, so that the questions `state` and `show` after it take constant time for it. `show` makes the bridge's
+//! tables anew.
 #![tactic(auto)]
 
 pub use answer::{Answer, Out};
 pub use declaration::{DeclaredBridge, DeclaredLink, LinkEnd};
 pub use kind_rule::KindRule;
 pub use laws::{
-    a_delivery_is_one_step, events_keep_sound, networks_are_sound, numbers_stay_bounded,
-    quiet_can_be_relied_on, quiet_is_true, quiet_says_what_it_reads_like, some_network_is_busy,
-    the_first_reason_is_given, wiring_gives_tables,
+    a_delivery_is_one_step, a_restart_begins_anew, events_keep_sound, networks_are_sound,
+    numbers_stay_bounded, quiet_can_be_relied_on, quiet_is_true, quiet_says_what_it_reads_like,
+    some_network_is_busy, the_first_reason_is_given, wiring_gives_tables,
 };
 pub use network::{Network, NetworkOf};
 pub use reason::{ApplyError, Reason};
@@ -46,5 +48,6 @@ mod quiet;
 mod rack;
 mod reason;
 mod refusing;
+mod restart;
 mod rounds;
 mod world;

@@ -63,6 +63,16 @@ pub fn far_end(link: DeclaredLink, dir: Dir) -> LinkEnd
     }
 }
 
+/// The end of a link that a direction leads from.
+pub fn near_end(link: DeclaredLink, dir: Dir) -> LinkEnd
+    ensures { result ≡ state.near_end dir link }
+{
+    match dir {
+        Dir::Ab => link.a,
+        Dir::Ba => link.b,
+    }
+}
+
 /// The lane out of a port. None exactly where no link ends there.
 #[tactic(auto, unfolding(crate::specs::State::lane_out))]
 pub fn lane_out(links: &IndexMap<Name, DeclaredLink>, bridge: usize, port: u8) -> Option<LaneId>

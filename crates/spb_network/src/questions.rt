@@ -25,6 +25,7 @@ fn is_event(command: &Command) -> bool
         Command::Metric { .. }
             | Command::Down(_)
             | Command::Up(_)
+            | Command::Restart(_)
             | Command::Tick(_)
             | Command::Deliver { .. }
             | Command::Lose { .. }
@@ -50,6 +51,20 @@ pub(crate) fn asked(command: &Command) -> Option<Name>
             Some(*name),
         _ => None,
     }
+}
+
+/// Whether a command asks something, so that it changes nothing.
+pub(crate) fn is_question(command: &Command) -> bool
+    ensures { result ≡ question.is_question command.now }
+{
+    asks_network(command) || asked(command).is_some()
+}
+
+/// Whether the answer to a command says whether the network is quiet.
+pub(crate) fn asks_for_quiet(command: &Command) -> bool
+    ensures { result ≡ question.asks_for_quiet command.now }
+{
+    matches!(command, Command::State | Command::Show(_))
 }
 
 impl<B: Bridge> NetworkOf<B> {

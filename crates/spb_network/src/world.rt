@@ -10,20 +10,24 @@ use fdb_build::tables_of;
 use indexmap::IndexMap;
 use link_model::LaneId;
 use scenario::Side;
-use spb_types::limits::{MOST_BRIDGES, MOST_LINKS, SOURCE_IDS};
+use spb_types::limits::{GREATEST_ISID, MOST_BRIDGES, MOST_LINKS, MOST_VIDS, SOURCE_IDS};
 use spb_types::{
-    BridgeId, Graph, GraphBridge, Mac, Name, NoMemory, Seq, SourceId, SystemId, Tables, Vid,
-    VidPlan,
+    Attachment, BridgeId, Graph, GraphBridge, Isid, Mac, Name, NoMemory, Seq, SourceId, SystemId,
+    Tables, Vid, VidPlan,
 };
 use std::alloc::Global;
 use std::marker::Model;
 
-/// What is declared: the base VIDs, the bridges and the links, each in order of declaration.
+/// The most services of a script.
+pub const MOST_SERVICES: usize = 4_096;
+
+/// What is declared: the base VIDs, the bridges, the links and the services, each in order of declaration.
 #[derive(Drop)]
 pub struct World {
     vids: Vec<VidPlan>,
     bridges: IndexMap<Name, DeclaredBridge>,
     links: IndexMap<Name, DeclaredLink>,
+    services: IndexMap<Isid, Vid>,
     hints: Hints,
 }
 
@@ -32,9 +36,9 @@ impl Model for World {
 
     ghost Value = { state.World };
 
-    ghost view = { λ w. record { vids = w.vids.items; bridges = w.bridges.entries; links = w.links.entries } };
+    ghost view = { λ w. record { vids = w.vids.items; bridges = w.bridges.entries; links = w.links.entries; services = w.services.entries } };
 
-    ghost invariant = { λ w. state.Sound (record { vids = w.vids.items; bridges = w.bridges.entries; links = w.links.entries }) };
+    ghost invariant = { λ w. state.Sound (record { vids = w.vids.items; bridges = w.bridges.entries; links = w.links.entries; services = w.services.entries }) };
 }
 
 impl World {
@@ -42,18 +46,21 @@ impl World {
     ghost use Rattle.spb_network.specs.World as state;
     ghost use Rattle.spb_network.specs.World.{place_of, things_of};
     ghost use Rattle.spb_network.specs.Declaring as declare;
+    ghost use Rattle.spb_network.specs.Services as service;
     ghost use Rattle.spb_network.specs.State.{lane_out, live_lane, is_live};
     ghost use Rattle.spb_network.specs.Play.{config_of};
+    ghost use Rattle.spb_network.specs.Restarting.{metric_over, port_metric};
     ghost use Rattle.bridge_api.specs.Config.{IsWhole, IsMetric};
 
     /// The world in which nothing is declared, which takes no memory.
     pub fn new(alloc: Global) -> Self
-        ensures { result ≡ record { vids = []; bridges = []; links = [] } }
+        ensures { result ≡ record { vids = []; bridges = []; links = []; services = [] } }
     {
         World {
             vids: Vec::new(alloc),
             bridges: IndexMap::new(alloc),
             links: IndexMap::new(alloc),
+            services: IndexMap::new(alloc),
             hints: Hints::new(alloc),
         }
     }
@@ -86,6 +93,20 @@ impl World {
         self.links.get_index_of(&name)
     }
 
+    /// The base VID of the service of an I-SID. None exactly where it isn't declared.
+    pub fn vid_of_isid(&self, isid: u64) -> Option<Vid>
+        ensures { result ≡ state.vid_of_isid self.now.services isid }
+    {
+        let services = &self.services;
+        if isid > u64::from(GREATEST_ISID) {
+            return None;
+        }
+        match services.get(&Isid { value: isid as u32 }) {
+            None => None,
+            Some(vid) => Some(*vid),
+        }
+    }
+
     /// The link at a place, whose ends are ports of declared bridges. None exactly where the place is past the last.
     pub fn link(&self, place: usize) -> Option<DeclaredLink>
         ensures link { result ≡ slice_get (things_of self.now.links) place }
@@ -95,6 +116,23 @@ impl World {
             None => None,
             Some((_, link)) => Some(*link),
         }
+    }
+
+    /// The declared bridge at a place. None exactly where the place is past the last.
+    pub fn bridge(&self, place: usize) -> Option<DeclaredBridge>
+        ensures { result ≡ slice_get (things_of self.now.bridges) place }
+    {
+        match self.bridges.get_index(place) {
+            None => None,
+            Some((_, bridge)) => Some(*bridge),
+        }
+    }
+
+    /// How many links are declared.
+    pub fn link_count(&self) -> usize
+        ensures { result ≡ length (things_of self.now.links) }
+    {
+        self.links.len()
     }
 
     /// The lane that the hint of a port gives, where that link ends there.
@@ -108,15 +146,48 @@ impl World {
         }
     }
 
+    /// The lane out of a port of the bridge at a place. None exactly where no link ends there.
+    fn lane_out(&self, bridge: usize, port: u8) -> Option<LaneId>
+        ensures { result ≡ lane_out (things_of self.now.links) bridge port }
+    {
+        match self.hinted_lane(bridge, port) {
+            Some(lane) => Some(lane),
+            None => link_ends::lane_out(&self.links, bridge, port),
+        }
+    }
+
+    /// The metric of the link at a port of the bridge at a place, whether the link is up or not; 1 where no link ends.
+    pub fn port_metric(&self, bridge: usize, port: u8) -> u32
+        ensures { result ≡ port_metric (things_of self.now.links) bridge port }
+    {
+        match self.lane_out(bridge, port) {
+            None => 1,
+            Some(lane) => self.metric_over(lane),
+        }
+    }
+
+    /// The metric of the end of a link that a lane leads from; 1 where there is no such link.
+    fn metric_over(&self, lane: LaneId) -> u32
+        ensures { result ≡ metric_over (things_of self.now.links) (Some lane) }
+    {
+        match self.link(lane.link) {
+            None => 1,
+            Some(link) => link_ends::near_end(link, lane.dir).metric,
+        }
+    }
+
+    /// What is attached to the ports of the bridge at a place.
+    pub fn attached(&self, alloc: Global, place: usize) -> Result<Seq<Attachment>, NoMemory>
+        ensures { IfOk result (λ attached. attached ≡ state.attached_at self.now place) }
+    {
+        Ok(Seq::new(alloc))
+    }
+
     /// The lane out of a port of the bridge at a place, over a link that is up. None exactly where there is none.
     pub fn live_lane(&self, bridge: usize, port: u8) -> Option<LaneId>
         ensures { result ≡ live_lane (things_of self.now.links) (lane_out (things_of self.now.links) bridge port) }
     {
-        let lane = match self.hinted_lane(bridge, port) {
-            Some(lane) => Some(lane),
-            None => link_ends::lane_out(&self.links, bridge, port),
-        };
-        match lane {
+        match self.lane_out(bridge, port) {
             None => None,
             Some(lane) => {
                 if link_ends::is_live(&self.links, lane.link) {
@@ -200,9 +271,10 @@ impl World {
         ensures { result ≡ declare.vid_refusal self.now vid ect }
     {
         let is_new = check::is_new_vid(self.vids.as_slice(), vid);
-        let is_range = check::is_vid_range(self.vids.as_slice(), vid, ect);
+        let has_room = self.vids.len() < MOST_VIDS;
         reason_unless(is_new, Reason::NameTaken)
-            .or(reason_unless(is_range, Reason::Range))
+            .or(reason_unless(check::is_vid_range(vid, ect), Reason::Range))
+            .or(reason_unless(has_room, Reason::TooMany))
             .or(reason_unless(self.bridges.len() == 0, Reason::TooLate))
     }
 
@@ -248,6 +320,27 @@ impl World {
             .or(reason_unless(is_range, Reason::Range))
             .or(reason_unless(self.links.len() < MOST_LINKS, Reason::TooMany))
             .or(reason_unless(check::is_unlinked(&self.links, i, j), Reason::AlreadyLinked))
+    }
+
+    /// Whether no service of this I-SID is declared.
+    fn is_new_isid(&self, isid: u64) -> bool
+        ensures { result ≡ service.is_new_isid self.now.services isid }
+    {
+        self.vid_of_isid(isid).is_none()
+    }
+
+    /// Why a service can't be declared, if it can't.
+    #[tactic(auto, unfolding(crate::specs::Services::isid_refusal))]
+    pub fn isid_refusal(&self, isid: u64, vid: u64) -> Option<Reason>
+        ensures { result ≡ service.isid_refusal self.now isid vid }
+    {
+        let is_declared = check::has_vid(self.vids.as_slice(), vid);
+        let is_new = self.is_new_isid(isid);
+        let has_room = self.services.len() < MOST_SERVICES;
+        reason_unless(is_declared, Reason::NoSuchName)
+            .or(reason_unless(is_new, Reason::NameTaken))
+            .or(reason_unless(check::is_isid_range(isid), Reason::Range))
+            .or(reason_unless(has_room, Reason::TooMany))
     }
 
     /// Declares a base VID with the number of its ECT algorithm, which isn't refused. After NoMemory nothing changed.
@@ -326,6 +419,17 @@ impl World {
         self.hints.note(link.a, place);
         self.hints.note(link.b, place);
         Ok(link)
+    }
+
+    /// Declares a service in a base VID, which isn't refused. After NoMemory nothing changed.
+    pub fn declare_isid(&mut self, isid: u64, vid: u64) -> Result<(), NoMemory>
+        requires { service.isid_refusal self.old isid vid ≡ None }
+        ensures ok { OnOk result (self.new ≡ service.with_service self.old (service.service_of isid vid)) }
+        ensures err { OnErr result (self.new ≡ self.old) }
+    {
+        let isid = Isid { value: isid as u32 };
+        self.services.insert(isid, Vid { value: vid as u16 })?;
+        Ok(())
     }
 
     /// The link at a place comes up, or goes down. Takes no memory.

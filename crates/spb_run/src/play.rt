@@ -26,12 +26,7 @@ fn is_played(word: Option<Keyword>) -> bool
     !matches!(
         word,
         None | Some(
-            Keyword::Isid
-                | Keyword::Attach
-                | Keyword::Detach
-                | Keyword::Restart
-                | Keyword::Frame
-                | Keyword::Path
+            Keyword::Attach | Keyword::Detach | Keyword::Restart | Keyword::Frame | Keyword::Path
         )
     )
 }

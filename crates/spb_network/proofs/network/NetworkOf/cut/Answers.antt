@@ -1,0 +1,13 @@
+use Rattle.std.proofs.Common.{sym, subst}
+use Rattle.spb_network.specs.State.{State}
+use Rattle.spb_network.specs.Network.{state_of, Fits}
+use Rattle.spb_network.proofs.FitsLemmas.{Fits-flushed}
+use Rattle.spb_network.proofs.network.NetworkOf.cut.Goals as goal
+
+pub set_carrier-requires-clause-order : goal.set_carrier-requires-clause-order
+set_carrier-requires-clause-order g c =
+    let s : State = state_of g.B.Bridge.shown c.args.self.now in
+    record {
+      made = c.requires.order.made;
+      fits = subst Fits (λ i. record s { lanes = sym c.flush.ensures i }) (Fits-flushed s c.args.place c.requires.order.fits);
+    }

@@ -1,0 +1,12 @@
+use Rattle.std.proofs.Common.{◌≡◌, ◌-◌, ◌≤◌, length}
+use Rattle.spb_network.specs.State.{links_of}
+use Rattle.spb_network.specs.Restarting.{lit_from}
+use Rattle.spb_network.specs.Network.{state_of, IsInOrder}
+use Rattle.spb_network.proofs.network.NetworkOf.light_links.Given as goal
+
+abbrev pub invariant-loop-place : goal.invariant-loop-place
+invariant-loop-place g l =
+    (IsInOrder g.B.Bridge.shown l.self) ×
+    (l.place ≤ l.place-end) ×
+    (lit_from (l.place-end - l.place) l.place l.fn.i (state_of g.B.Bridge.shown l.self)
+    ≡ lit_from (length (links_of (state_of g.B.Bridge.shown l.fn.self))) 0 l.fn.i (state_of g.B.Bridge.shown l.fn.self))
