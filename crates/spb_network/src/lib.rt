@@ -14,6 +14,8 @@
 //! Which conditions of quiet fail asks each link, lane and bridge once, walks over each database once with a look-up by
 //! hash for each live LSP, and takes memory for an entry of a table for each LSP id with one live version; bodies are
 //! compared where an earlier bridge holds the same version. `show` asks that too, and makes the bridge's tables anew.
+//! `wiring` makes the tables over the roads of the wiring. They are made at the first such question, and kept until a
+//! bridge, a link or a metric changes; till then the graph is held too.
 #![tactic(auto)]
 
 pub use answer::{Answer, Out};

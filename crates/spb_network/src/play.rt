@@ -297,6 +297,16 @@ impl<B: Bridge> NetworkOf<B> {
         }
     }
 
+    /// Makes ready what the answer to a command reads. Nothing of the state changes.
+    fn prepare(&mut self, command: &Command) -> Result<(), NoMemory>
+        ensures { self.new ≡ self.old }
+    {
+        match command {
+            Command::Wiring(_) => self.world.keep_roads(self.alloc),
+            _ => Ok(()),
+        }
+    }
+
     /// Plays a command that isn't refused, at a network that hasn't halted.
     #[tactic(auto, using(crate::proofs::CommandFits::in_order))]
     pub(crate) fn play(&mut self, command: &Command) -> Result<Answer, NoMemory>
@@ -307,6 +317,7 @@ impl<B: Bridge> NetworkOf<B> {
         ensures state { OnOk result (state_of B.shown self.new ≡ play.played (state_of B.shown self.old) command.now) }
         ensures made { OnOk result (AreMade B.shown self.new.boxes.items) }
     {
+        self.prepare(command)?;
         let answer = self.answer(command)?;
         self.perform(command)?;
         Ok(answer)

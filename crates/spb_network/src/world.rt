@@ -6,7 +6,8 @@ use crate::hints::Hints;
 use crate::reason::reason_unless;
 use crate::{DeclaredBridge, DeclaredLink, LinkEnd, Reason, check, link_ends};
 use bridge_api::BridgeConfig;
-use fdb_build::tables_of;
+use ect_trees::Roads;
+use fdb_build::{tables_of, tables_over};
 use indexmap::IndexMap;
 use link_model::LaneId;
 use scenario::Side;
@@ -18,23 +19,27 @@ use spb_types::{
 use std::alloc::Global;
 use std::marker::Model;
 
-/// What is declared: the base VIDs, the bridges and the links, each in order of declaration.
+/// What is declared: the base VIDs, the bridges and the links, each in order of declaration. The roads of the wiring are
+/// kept from the first question about it until a bridge, a link or a metric changes.
 #[derive(Drop)]
 pub struct World {
     vids: Vec<VidPlan>,
     bridges: IndexMap<Name, DeclaredBridge>,
     links: IndexMap<Name, DeclaredLink>,
     hints: Hints,
+    kept: Option<Roads>,
 }
 
 impl Model for World {
+    ghost use Rattle.std.specs.Prelude.{◌≡◌, IfSome};
     ghost use Rattle.spb_network.specs.World as state;
 
     ghost Value = { state.World };
 
     ghost view = { λ w. record { vids = w.vids.items; bridges = w.bridges.entries; links = w.links.entries } };
 
-    ghost invariant = { λ w. state.Sound (record { vids = w.vids.items; bridges = w.bridges.entries; links = w.links.entries }) };
+    ghost invariant = { λ w. state.Sound (record { vids = w.vids.items; bridges = w.bridges.entries; links = w.links.entries })
+        × IfSome w.kept (λ roads. roads ≡ state.world_graph (record { vids = w.vids.items; bridges = w.bridges.entries; links = w.links.entries })) };
 }
 
 impl World {
@@ -55,6 +60,7 @@ impl World {
             bridges: IndexMap::new(alloc),
             links: IndexMap::new(alloc),
             hints: Hints::new(alloc),
+            kept: None,
         }
     }
 
@@ -141,14 +147,31 @@ impl World {
         })
     }
 
-    /// The tables that the wiring gives the bridge at a place.
+    /// Makes the roads of the wiring, unless they are kept. Nothing that is declared changes.
+    pub fn keep_roads(&mut self, alloc: Global) -> Result<(), NoMemory>
+        ensures { self.new ≡ self.old }
+    {
+        if self.kept.is_none() {
+            let graph = self.graph(alloc)?;
+            self.kept = Some(Roads::over(alloc, graph)?);
+        }
+        Ok(())
+    }
+
+    /// The tables that the wiring gives the bridge at a place, over the roads that are kept. Where none are, they are
+    /// made for this question alone.
     #[tactic(auto, unfolding(crate::specs::World::wired_tables))]
     pub fn wired_tables(&self, alloc: Global, place: usize) -> Result<Tables, NoMemory>
         ensures { IfOk result (λ tables. tables ≡ state.wired_tables self.now place) }
     {
-        let graph = self.graph(alloc)?;
         let me = system_at(&self.bridges, place);
-        tables_of(alloc, &graph, me, self.vids.as_slice())
+        match &self.kept {
+            Some(roads) => tables_over(alloc, roads, me, self.vids.as_slice()),
+            None => {
+                let graph = self.graph(alloc)?;
+                tables_of(alloc, &graph, me, self.vids.as_slice())
+            }
+        }
     }
 
     /// Whether the link at a place is up.
@@ -285,6 +308,7 @@ impl World {
             bridge: GraphBridge { id, source },
             ports: ports as u8,
         };
+        self.kept = None;
         self.hints.add_bridge()?;
         insert_new(&mut self.bridges, name, bridge)?;
         Ok(())
@@ -322,6 +346,7 @@ impl World {
             },
             live: false,
         };
+        self.kept = None;
         insert_new(&mut self.links, name, link)?;
         self.hints.note(link.a, place);
         self.hints.note(link.b, place);
@@ -332,6 +357,7 @@ impl World {
     pub fn set_live(&mut self, place: usize, on: bool)
         ensures { self.new ≡ declare.with_live on self.old place }
     {
+        self.kept = None;
         switch(&mut self.links, place, on);
     }
 
@@ -340,6 +366,7 @@ impl World {
         requires { IsMetric metric }
         ensures { self.new ≡ declare.with_end_metric side metric self.old place }
     {
+        self.kept = None;
         set_end_metric(&mut self.links, place, side, metric);
     }
 }

@@ -21,7 +21,7 @@ invariant_of-self-2 c =
     let old : World = record { vids = c.self.inside.vids.items; bridges = c.self.inside.bridges.entries; links = c.self.inside.links.entries } in
     let none = ap (λ w. vid_refusal w c.args.vid c.args.ect) c.self.view_is ∙ c.requires in
     let new = vid_refusal_none old c.args.vid c.args.ect none in
-    rw c.in_ok-push.ensures.items (Sound-with_vid old (plan_of c.args.vid c.args.ect) c.self.invariant new.first (record { vid_low = new.vid_low; vid_high = new.vid_high; ect_low = omega (arith, new.first_ect); ect_high = omega (arith, new.first_ect) }))
+    (rw c.in_ok-push.ensures.items (Sound-with_vid old (plan_of c.args.vid c.args.ect) c.self.invariant.0 new.first (record { vid_low = new.vid_low; vid_high = new.vid_high; ect_low = omega (arith, new.first_ect); ect_high = omega (arith, new.first_ect) })), c.self.invariant.1)
 
 pub returns-clause-ok : goal.returns-clause-ok
 unfolding with_vid
