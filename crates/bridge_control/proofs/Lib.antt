@@ -13,3 +13,5 @@ pub mod Refreshed
 pub mod Messages
 pub mod Keeping
 pub mod OwnTables
+pub mod Anew
+pub mod Tlvless

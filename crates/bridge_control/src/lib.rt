@@ -4,7 +4,7 @@
 //!
 //! [`ControlPlane`] is a `Machine` with two marks: whether it is blank, and whether a call found no memory. What the
 //! machine makes of a frame stands in `hearing`, of a change at a port in `changing`, and of a second in `ticking`;
-//! what a frame brings in `parsing`, what is sent in `hello` and `sending`, and the tables in `reading`.
+//! what a frame brings in `parsing`, and in `heard` for the hello that came last to a port; what is sent in `hello` and `sending`, and the tables in `reading`.
 //!
 //! # A kind of bridge
 //!
@@ -34,9 +34,10 @@
 //!   to find the ports with SRM and those with SSN; once for each Up port with SRM, for the LSPs to be sent; and twice
 //!   for each Up port with SSN, for the entries and to clear these. It goes over the database once for each port at which
 //!   CSNPs are due and for each at which a neighbour is lost. Memory is taken for what is sent.
-//! - A hello takes time in proportion to its length. One that only begins the holding count anew changes its port and
-//!   nothing else. Memory is taken where a hello changes the state, the neighbour or the circuit at its port, and else
-//!   none. Leaving Up goes over the database once, and entering Up once more.
+//! - A hello takes time in proportion to its length. The one that came last to a port is kept there: where the same
+//!   frame comes again it is compared, and not read. One that only begins the holding count anew changes its port and
+//!   nothing else. Memory is taken where another hello comes than the last time, for its frame, and where one changes
+//!   the state, the neighbour or the circuit at its port. Leaving Up goes over the database once, and entering Up once more.
 //! - An LSP is gone over once for its checksum, and takes a binary search, and a second one and memory for its body if
 //!   it is stored; a sequence numbers PDU takes what `snp_sync` says for its entries.
 //! - Each question about tables makes them anew: it goes over the database once, in time and memory of the bytes of the
@@ -49,6 +50,7 @@ pub use control_plane::ControlPlane;
 
 mod changing;
 mod control_plane;
+mod heard;
 mod hearing;
 mod hello;
 mod machine;

@@ -67,3 +67,4 @@ pub mod QuietStates
 pub mod QuietWitness
 pub mod QuietBodies
 pub mod QuietNumbers
+pub mod Keeping

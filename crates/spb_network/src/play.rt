@@ -1,12 +1,14 @@
 //! What each command makes of a network, where it isn't refused. Nothing happens at a name that isn't there.
-ghost use Rattle.std.specs.Prelude.{◌≡◌, ◌<◌, false, None, Some, length, OnOk, IfOk};
+ghost use Rattle.std.specs.Prelude.{◌≡◌, ◌<◌, false, true, None, Some, length, OnOk, IfOk};
 ghost use Rattle.spb_network.specs.Declaring as declare;
 ghost use Rattle.spb_network.specs.Refusing as refuse;
+ghost use Rattle.spb_network.specs.Questions as question;
 ghost use Rattle.spb_network.specs.Play as play;
 ghost use Rattle.spb_network.specs.Events as event;
 ghost use Rattle.spb_network.specs.Network.{state_of, AreMade, IsInOrder, IsBlankAt};
-ghost use Rattle.spb_network.specs.Applying.{IsSoundNetwork};
+ghost use Rattle.spb_network.specs.Applying.{IsSoundNetwork, IsKept};
 
+use crate::questions::{asks_for_quiet, is_question};
 use crate::rack::{kind_at, next_box};
 use crate::{Answer, NetworkOf};
 use bridge_api::Bridge;
@@ -307,7 +309,37 @@ impl<B: Bridge> NetworkOf<B> {
         }
     }
 
-    /// Plays a command that isn't refused, at a network that hasn't halted.
+    /// Keeps which conditions of quiet hold, if a command asks for them.
+    fn keep_if_asked(&mut self, command: &Command) -> Result<(), NoMemory>
+        requires { IsSoundNetwork B.shown self.old }
+        ensures state { OnOk result (state_of B.shown self.new ≡ state_of B.shown self.old) }
+        ensures sound { OnOk result (IsSoundNetwork B.shown self.new) }
+        ensures halted { OnOk result (self.new.halted ≡ self.old.halted) }
+    {
+        if asks_for_quiet(command) {
+            self.keep_conditions()
+        } else {
+            Ok(())
+        }
+    }
+
+    /// Answers a question, at a network that hasn't halted.
+    fn ask(&mut self, command: &Command) -> Result<Answer, NoMemory>
+        requires halted { self.old.halted ≡ false }
+        requires sound { IsSoundNetwork B.shown self.old }
+        requires question { question.is_question command.now ≡ true }
+        ensures answer { IfOk result (λ answer. answer ≡ play.answer_of (state_of B.shown self.old) command.now) }
+        ensures state { OnOk result (state_of B.shown self.new ≡ play.played (state_of B.shown self.old) command.now) }
+        ensures made { OnOk result (AreMade B.shown self.new.boxes.items) }
+        ensures kept { OnOk result (IsKept B.shown self.new) }
+    {
+        self.prepare(command)?;
+        self.keep_if_asked(command)?;
+        self.answer(command)
+    }
+
+    /// Plays a command that isn't refused, at a network that hasn't halted. What is kept of the conditions of quiet
+    /// stays at a question alone.
     #[tactic(auto, using(crate::proofs::CommandFits::in_order))]
     pub(crate) fn play(&mut self, command: &Command) -> Result<Answer, NoMemory>
         requires halted { self.old.halted ≡ false }
@@ -316,10 +348,14 @@ impl<B: Bridge> NetworkOf<B> {
         ensures answer { IfOk result (λ answer. answer ≡ play.answer_of (state_of B.shown self.old) command.now) }
         ensures state { OnOk result (state_of B.shown self.new ≡ play.played (state_of B.shown self.old) command.now) }
         ensures made { OnOk result (AreMade B.shown self.new.boxes.items) }
+        ensures kept { OnOk result (IsKept B.shown self.new) }
     {
-        self.prepare(command)?;
+        if is_question(command) {
+            return self.ask(command);
+        }
         let answer = self.answer(command)?;
         self.perform(command)?;
+        self.kept = None;
         Ok(answer)
     }
 }
