@@ -17,6 +17,7 @@ pub mod Cut
 pub mod Alike
 pub mod Extended
 pub mod Grouped
+pub mod Ranks
 pub mod Entries
 pub mod Relaxed
 pub mod Settled

@@ -1,6 +1,5 @@
 -- What relaxing the arcs from a place does.
 use Rattle.std.proofs.Common.{◌≡◌, ◌≢◌, true, ℕ, ◌+◌, ◌<◌, ◌≤◌, ◌⊎◌, inl, inr, List, [], ◌∷◌, ◌++◌, length, Option, Some, None, IsSome, option_map, get_or, refl, sym, ap, ◌∙◌, subst, arith}
-use Rattle.std.specs.BTreeSet.{BTreeSet}
 use Rattle.std.proofs.lemmas.List.{get_or_read}
 use Rattle.std.proofs.lemmas.Option.{same_Some, none-some, slice_get_within}
 use Rattle.spb_types.specs.Graph.{IsAmong, cost_between}
@@ -31,15 +30,15 @@ pub way_is : (s : Search) (ls : List (Option Label)) (place : ℕ) (x : SystemId
 way_is s ls place x l ready here e = way_at s ls place x ready here ∙ ap (option_map (λ (t : Label). t.bridges.items)) e
 
 -- the labels and the frontier once the first k arcs from a place are relaxed
-pub record Relaxing (s : Search) (place k : ℕ) (old now : List (Option Label)) (front since : BTreeSet Waiting) : Type 0 where
+pub record Relaxing (s : Search) (place k : ℕ) (old now : List (Option Label)) (front since : List Waiting) : Type 0 where
   pub state : IsState s now since
   pub during : (done : List SystemId) (x : SystemId) (p : List SystemId) → IsBridgeAt (graph_of s) place x → During (graph_of s) s.mask s.source done x p (waits_of s front) (IsLeft s place 0) (way_of s old) → During (graph_of s) s.mask s.source done x p (waits_of s since) (IsLeft s place k) (way_of s now)
 
-pub relaxing_none : (s : Search) (place : ℕ) (ls : List (Option Label)) (front : BTreeSet Waiting) → IsState s ls front → Relaxing s place 0 ls ls front front
+pub relaxing_none : (s : Search) (place : ℕ) (ls : List (Option Label)) (front : List Waiting) → IsState s ls front → Relaxing s place 0 ls ls front front
 relaxing_none s place ls front state = record { state = state; during = λ done x p here d. d }
 
 -- the next arc
-pub relaxing_more : (s : Search) (place k : ℕ) (arc : Arc) (old now next : List (Option Label)) (front since then : BTreeSet Waiting) → AreReady s.mesh.now → IsArcAt (rows_of s.mesh.now) place k arc → Relaxing s place k old now front since → IsRelaxed s arc now next since then → Relaxing s place (k + 1) old next front then
+pub relaxing_more : (s : Search) (place k : ℕ) (arc : Arc) (old now next : List (Option Label)) (front since then : List Waiting) → AreReady s.mesh.now → IsArcAt (rows_of s.mesh.now) place k arc → Relaxing s place k old now front since → IsRelaxed s arc now next since then → Relaxing s place (k + 1) old next front then
 relaxing_more s place k arc old now next front since then ready here r relaxed = record { state = state relaxed; during = λ done x p at d. during done x p at (r.during done x p at d) relaxed }
   where
     g : Graph
@@ -145,7 +144,7 @@ relaxing_more s place k arc old now next front since then ready here r relaxed =
             }
 
 -- all arcs of the place are relaxed
-pub relaxed_all : (s : Search) (place k : ℕ) (old now : List (Option Label)) (front since : BTreeSet Waiting) → length (get_or (rows_of s.mesh.now) place []) ≤ k → Relaxing s place k old now front since → RelaxesAll s place old now front since
+pub relaxed_all : (s : Search) (place k : ℕ) (old now : List (Option Label)) (front since : List Waiting) → length (get_or (rows_of s.mesh.now) place []) ≤ k → Relaxing s place k old now front since → RelaxesAll s place old now front since
 relaxed_all s place k old now front since whole r = λ done x p here d.
     x_done (graph_of s) s.mask s.source done x p (waits_of s since) (IsLeft s place k) (way_of s now) (r.during done x p here d) (λ v w.
     let below : w.0 < length (get_or (rows_of s.mesh.now) place []) = slice_get_within (get_or (rows_of s.mesh.now) place []) w.0 w.1 w.3 in

@@ -1,7 +1,6 @@
 -- Settling: one that waits and costs least is taken out, and its arcs are relaxed, until nothing waits.
 use Rattle.std.proofs.Common.{◌≡◌, ◌≢◌, ℕ, zero, suc, ◌+◌, ◌<◌, ◌≤◌, Bool, true, false, true≢false, cond, ◌⊎◌, inl, inr, List, [], ◌∷◌, length, Option, Some, None, IsSome, option_map, refl, sym, ap, ◌∙◌, subst, arith}
 use Rattle.std.specs.Ordering.{is_eq}
-use Rattle.std.specs.BTreeSet.{BTreeSet}
 use Rattle.std.proofs.Math.ListN.{set, replicate}
 use Rattle.std.proofs.lemmas.List.{length-map, length-replicate}
 use Rattle.std.proofs.lemmas.Option.{same_Some, none-some, slice_get-get_or}
@@ -20,18 +19,19 @@ use Rattle.ect_trees.proofs.Walks.{path_single, path_bridges, path_start}
 use Rattle.ect_trees.proofs.Exists.{best_of_cases}
 use Rattle.ect_trees.proofs.Low.{low_is_best}
 use Rattle.ect_trees.proofs.Places.{at_among, place_is, place_once, place_apart}
-use Rattle.ect_trees.proofs.Entries.{entry_same, same_entry, set_own, set_other, set_state}
+use Rattle.ect_trees.proofs.Entries.{set_own, set_other, set_state}
+use Rattle.ect_trees.proofs.Ranks.{entry_same, same_entry}
 use Rattle.ect_trees.proofs.Relaxed.{way_is}
 use Rattle.ect_trees.proofs.Frontier.{at_first, taken, none_waits, done_within}
 
 -- the loop's invariant: so many are done
-pub record Settling (s : Search) (settled : ℕ) (ls : List (Option Label)) (front : BTreeSet Waiting) : Type 0 where
+pub record Settling (s : Search) (settled : ℕ) (ls : List (Option Label)) (front : List Waiting) : Type 0 where
   pub state : IsState s ls front
   pub done : List SystemId
   pub count : length done ≡ settled
   pub front_is : IsFront s ls front done
 
-pub settling_none : (s : Search) (ls : List (Option Label)) (front : BTreeSet Waiting) → IsState s ls front → IsFront s ls front [] → Settling s 0 ls front
+pub settling_none : (s : Search) (ls : List (Option Label)) (front : List Waiting) → IsState s ls front → IsFront s ls front [] → Settling s 0 ls front
 settling_none s ls front state f = record { state = state; done = []; count = refl; front_is = f }
 
 -- the bridge at a place that has a label
@@ -47,17 +47,17 @@ stands s ls place l labels h =
     within_at (k ∷ ks) (suc i) e = let below = within_at ks i e in omega (arith, below)
 
 -- the frontier once the first is taken out
-abbrev pub IsTaken : Waiting → BTreeSet Waiting → BTreeSet Waiting → Type 0
+abbrev pub IsTaken : Waiting → List Waiting → List Waiting → Type 0
 IsTaken first front now = (e : Waiting) → waits now e ≡ cond (is_eq (waiting_cmp first e)) false (waits front e)
 
-taken_those : (first : Waiting) (front now : BTreeSet Waiting) → IsTaken first front now → (e : Waiting) → waits now e ≡ true → (first ≢ e) × (waits front e ≡ true)
+taken_those : (first : Waiting) (front now : List Waiting) → IsTaken first front now → (e : Waiting) → waits now e ≡ true → (first ≢ e) × (waits front e ≡ true)
 taken_those first front now t e w = by (is_eq (waiting_cmp first e)) refl (sym (t e) ∙ w)
   where
     by : (b : Bool) → is_eq (waiting_cmp first e) ≡ b → cond b false (waits front e) ≡ true → (first ≢ e) × (waits front e ≡ true)
     by true k h = absurd (true≢false (sym h))
     by false k h = (λ same. true≢false (sym (same_entry first e same) ∙ k), h)
 
-taken_others : (first : Waiting) (front now : BTreeSet Waiting) → IsTaken first front now → (e : Waiting) → waits front e ≡ true → (first ≡ e) ⊎ (waits now e ≡ true)
+taken_others : (first : Waiting) (front now : List Waiting) → IsTaken first front now → (e : Waiting) → waits front e ≡ true → (first ≡ e) ⊎ (waits now e ≡ true)
 taken_others first front now t e w = by (is_eq (waiting_cmp first e)) refl
   where
     by : (b : Bool) → is_eq (waiting_cmp first e) ≡ b → (first ≡ e) ⊎ (waits now e ≡ true)
@@ -65,7 +65,7 @@ taken_others first front now t e w = by (is_eq (waiting_cmp first e)) refl
     by false k = inr (t e ∙ (ap (λ b. cond b false (waits front e)) k ∙ w))
 
 -- the bridge that is taken out, before its arcs are relaxed
-pub record First (s : Search) (settled : ℕ) (ls : List (Option Label)) (now : BTreeSet Waiting) (first : Waiting) : Type 0 where
+pub record First (s : Search) (settled : ℕ) (ls : List (Option Label)) (now : List Waiting) (first : Waiting) : Type 0 where
   pub within : first.place < length ls
   pub state : IsState s ls now
   pub done : List SystemId
@@ -75,7 +75,7 @@ pub record First (s : Search) (settled : ℕ) (ls : List (Option Label)) (now : 
   pub path : List SystemId
   pub during : During (graph_of s) s.mask s.source (bridge ∷ done) bridge path (waits_of s now) (IsLeft s first.place 0) (way_of s ls)
 
-pub taken_first : (s : Search) (settled : ℕ) (ls : List (Option Label)) (front now : BTreeSet Waiting) (first : Waiting) → AreReady s.mesh.now → Settling s settled ls front → waits front first ≡ true → ((e : Waiting) → waits front e ≡ true → first.cost ≤ e.cost) → IsTaken first front now → First s settled ls now first
+pub taken_first : (s : Search) (settled : ℕ) (ls : List (Option Label)) (front now : List Waiting) (first : Waiting) → AreReady s.mesh.now → Settling s settled ls front → waits front first ≡ true → ((e : Waiting) → waits front e ≡ true → first.cost ≤ e.cost) → IsTaken first front now → First s settled ls now first
 taken_first s settled ls front now first ready set here least took = record {
   within = at.0;
   state = record { labels = labels; entries = λ e w. set.state.entries e (taken_those first front now took e w).1 };
@@ -156,14 +156,14 @@ taken_first s settled ls front now first ready set here least took = record {
         (go.0, go.1, omega arith, go.2, go.3.to)
 
 -- no more are settled than there are bridges
-pub settled_within : (s : Search) (settled : ℕ) (ls ls' : List (Option Label)) (now next : BTreeSet Waiting) (first : Waiting) → First s settled ls now first → RelaxesAll s first.place ls ls' now next → settled + 1 ≤ length (graph_of s).bridges
+pub settled_within : (s : Search) (settled : ℕ) (ls ls' : List (Option Label)) (now next : List Waiting) (first : Waiting) → First s settled ls now first → RelaxesAll s first.place ls ls' now next → settled + 1 ≤ length (graph_of s).bridges
 settled_within s settled ls ls' now next first f relaxed =
     let front = relaxed (f.bridge ∷ f.done) f.bridge f.path f.here f.during in
     let few : suc (length f.done) ≤ length (graph_of s).bridges = done_within (graph_of s) (f.bridge ∷ f.done) front.apart front.bridges in
     omega (arith, few, f.count)
 
 -- once its arcs are relaxed, one more is done
-pub settling_more : (s : Search) (settled : ℕ) (ls ls' : List (Option Label)) (now next : BTreeSet Waiting) (first : Waiting) → First s settled ls now first → IsState s ls' next → RelaxesAll s first.place ls ls' now next → Settling s (settled + 1) ls' next
+pub settling_more : (s : Search) (settled : ℕ) (ls ls' : List (Option Label)) (now next : List Waiting) (first : Waiting) → First s settled ls now first → IsState s ls' next → RelaxesAll s first.place ls ls' now next → Settling s (settled + 1) ls' next
 settling_more s settled ls ls' now next first f state relaxed = record {
   state = state;
   done = f.bridge ∷ f.done;
@@ -172,7 +172,7 @@ settling_more s settled ls ls' now next first f state relaxed = record {
 }
 
 -- where nothing waits, the labels are the best paths
-pub settled_all : (s : Search) (settled : ℕ) (ls : List (Option Label)) (front : BTreeSet Waiting) → AreReady s.mesh.now → Settling s settled ls front → ((e : Waiting) → waits front e ≡ false) → AreBest s ls
+pub settled_all : (s : Search) (settled : ℕ) (ls : List (Option Label)) (front : List Waiting) → AreReady s.mesh.now → Settling s settled ls front → ((e : Waiting) → waits front e ≡ false) → AreBest s ls
 settled_all s settled ls front ready set none = record {
   labels = set.state.labels;
   best = low_is_best (graph_of s) s.mask s.source (way_of s ls) ready.valid (none_waits (graph_of s) s.mask s.source set.done (waits_of s front) (way_of s ls) set.front_is (λ x w. true≢false (sym w.1 ∙ none w.0)));
@@ -187,7 +187,7 @@ unlabelled s ls e i = ap (λ t. label_at t i) e ∙ by (length (graph_of s).brid
     by (suc n) zero = refl
     by (suc n) (suc i) = by n i
 
-pub start_state : (s : Search) (ls : List (Option Label)) (front : BTreeSet Waiting) → ls ≡ replicate (length (graph_of s).bridges) None → ((e : Waiting) → waits front e ≡ false) → IsState s ls front
+pub start_state : (s : Search) (ls : List (Option Label)) (front : List Waiting) → ls ≡ replicate (length (graph_of s).bridges) None → ((e : Waiting) → waits front e ≡ false) → IsState s ls front
 start_state s ls front e none = record {
   labels = record {
     places = ap length e ∙ length-replicate (length (graph_of s).bridges) None;
@@ -197,7 +197,7 @@ start_state s ls front e none = record {
 }
 
 -- a source that is no bridge of the graph has no path
-pub none_best : (s : Search) (ls : List (Option Label)) (front : BTreeSet Waiting) → AreReady s.mesh.now → IsState s ls front → ls ≡ replicate (length (graph_of s).bridges) None → (IsBridge (graph_of s) s.source → ⊥) → AreBest s ls
+pub none_best : (s : Search) (ls : List (Option Label)) (front : List Waiting) → AreReady s.mesh.now → IsState s ls front → ls ≡ replicate (length (graph_of s).bridges) None → (IsBridge (graph_of s) s.source → ⊥) → AreBest s ls
 none_best s ls front ready state e out = record { labels = state.labels; best = best }
   where
     best : (x : SystemId) → way_of s ls x ≡ best_of (graph_of s) s.mask s.source x
@@ -207,14 +207,14 @@ none_best s ls front ready state e out = record { labels = state.labels; best = 
     ]
 
 -- the path of the source alone
-pub first_state : (s : Search) (place : ℕ) (new : Label) (ls ls' : List (Option Label)) (front front' : BTreeSet Waiting) → IsBridgeAt (graph_of s) place s.source → place < length ls → IsFirst s.source new → IsState s ls front → IsSet place new ls ls' front front' → IsState s ls' front'
+pub first_state : (s : Search) (place : ℕ) (new : Label) (ls ls' : List (Option Label)) (front front' : List Waiting) → IsBridgeAt (graph_of s) place s.source → place < length ls → IsFirst s.source new → IsState s ls front → IsSet place new ls ls' front front' → IsState s ls' front'
 first_state s place new ls ls' front front' at within first state done =
     set_state s place s.source new ls ls' front front' at within (record {
       path = subst (IsPath (graph_of s) s.source s.source) (sym first.one) (path_single (graph_of s) s.source (at_among (systems_of (graph_of s).bridges) place s.source at));
       cost_is = first.cost_is ∙ ap (cost_of (graph_of s)) (sym first.one);
     }) state done
 
-pub first_front : (s : Search) (place : ℕ) (new : Label) (ls ls' : List (Option Label)) (front front' : BTreeSet Waiting) → AreReady s.mesh.now → IsBridgeAt (graph_of s) place s.source → place < length ls → IsFirst s.source new → ls ≡ replicate (length (graph_of s).bridges) None → ((e : Waiting) → waits front e ≡ false) → IsSet place new ls ls' front front' → IsFront s ls' front' []
+pub first_front : (s : Search) (place : ℕ) (new : Label) (ls ls' : List (Option Label)) (front front' : List Waiting) → AreReady s.mesh.now → IsBridgeAt (graph_of s) place s.source → place < length ls → IsFirst s.source new → ls ≡ replicate (length (graph_of s).bridges) None → ((e : Waiting) → waits front e ≡ false) → IsSet place new ls ls' front front' → IsFront s ls' front' []
 first_front s place new ls ls' front front' ready at within first e none done =
     at_first (graph_of s) s.mask s.source (waits_of s front') (way_of s ls') (at_among (systems_of (graph_of s).bridges) place s.source at) own others (entry_of new place, done.here, sym here) alone
   where

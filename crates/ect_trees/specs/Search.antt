@@ -3,7 +3,6 @@ use Rattle.std.specs.Prelude.{◌≡◌, ℕ, ◌-◌, List, [], ◌∷◌, ◌+
 use Rattle.std.specs.List.{slice_index_or}
 use Rattle.std.specs.Ordering.{is_lt}
 use Rattle.std.specs.Cmp.Lexicographic.{slice_cmp}
-use Rattle.std.specs.BTreeSet.{BTreeSet}
 use Rattle.spb_types.specs.Graph.{IsAmong}
 use Rattle.spb_types.specs.declared.address.SystemId.{SystemId}
 use Rattle.spb_types.specs.declared.graph.Graph.{Graph}
@@ -53,16 +52,16 @@ abbrev pub entry_of : Label → ℕ → Waiting
 entry_of l place = record { cost = l.cost; hops = length l.bridges.items - 1; place = place }
 
 -- a label waits at this place
-abbrev pub WaitsAt : BTreeSet Waiting → ℕ → Type 0
+abbrev pub WaitsAt : List Waiting → ℕ → Type 0
 WaitsAt front place = (e : Waiting) × (waits front e ≡ true) × (e.place ≡ place)
 
 -- what waits is the label at its place
-abbrev pub AreEntries : List (Option Label) → BTreeSet Waiting → Type 0
+abbrev pub AreEntries : List (Option Label) → List Waiting → Type 0
 AreEntries ls front = (e : Waiting) → waits front e ≡ true
     → (l : Label) × (label_at ls e.place ≡ Some l) × (e ≡ entry_of l e.place)
 
 -- labels, and those of them that wait
-pub record IsState (s : Search) (ls : List (Option Label)) (front : BTreeSet Waiting) : Type 0 where
+pub record IsState (s : Search) (ls : List (Option Label)) (front : List Waiting) : Type 0 where
   pub labels : AreLabels s ls
   pub entries : AreEntries ls front
 
@@ -112,11 +111,11 @@ Tells s l y old true = (IsAmong y l.bridges.items → ⊥) × IsUnder s l y old
 Tells s l y old false = (IsAmong y l.bridges.items → ⊥) → IsLow s l y old
 
 -- x waits: its label does
-abbrev pub waits_of : Search → BTreeSet Waiting → SystemId → Type 0
+abbrev pub waits_of : Search → List Waiting → SystemId → Type 0
 waits_of s front x = WaitsAt front (place_in (graph_of s).bridges x)
 
 -- the labels and those that wait are a frontier, with these bridges done
-abbrev pub IsFront : Search → List (Option Label) → BTreeSet Waiting → List SystemId → Type 0
+abbrev pub IsFront : Search → List (Option Label) → List Waiting → List SystemId → Type 0
 IsFront s ls front done = Front (graph_of s) s.mask s.source done (waits_of s front) (way_of s ls)
 
 -- an arc from this place to v, of this number or a later one, is still to be looked at
@@ -125,7 +124,7 @@ IsLeft s place k v = (number : ℕ) × (arc : Arc) × (k ≤ number)
     × IsArcAt (rows_of s.mesh.now) place number arc × IsBridgeAt (graph_of s) arc.to v
 
 -- a bridge whose arcs were to be looked at is done once they are relaxed
-abbrev pub RelaxesAll : Search → ℕ → List (Option Label) → List (Option Label) → BTreeSet Waiting → BTreeSet Waiting
+abbrev pub RelaxesAll : Search → ℕ → List (Option Label) → List (Option Label) → List Waiting → List Waiting
     → Type 0
 RelaxesAll s place ls ls' front front' = (done : List SystemId) (x : SystemId) (p : List SystemId)
     → IsBridgeAt (graph_of s) place x
@@ -146,7 +145,7 @@ Improves s arc l old None = (y : SystemId) → IsBridgeAt (graph_of s) arc.to y
 Improves s arc l old (Some new) = (y : SystemId) → IsBridgeAt (graph_of s) arc.to y → IsLower s l y old new
 
 -- the new label stands at the place, and waits in place of the old one
-pub record IsSet (place : ℕ) (new : Label) (ls ls' : List (Option Label)) (front front' : BTreeSet Waiting)
+pub record IsSet (place : ℕ) (new : Label) (ls ls' : List (Option Label)) (front front' : List Waiting)
     : Type 0 where
   pub labels : ls' ≡ slice_set ls place (Some new)
   pub those : (e : Waiting) → waits front' e ≡ true
@@ -156,7 +155,7 @@ pub record IsSet (place : ℕ) (new : Label) (ls ls' : List (Option Label)) (fro
 
 -- what relaxing an arc does: nothing where no label is at its start, or where its path is low or passes the end;
 -- otherwise the end gets that path
-pub data IsRelaxed (s : Search) (arc : Arc) (ls ls' : List (Option Label)) (front front' : BTreeSet Waiting)
+pub data IsRelaxed (s : Search) (arc : Arc) (ls ls' : List (Option Label)) (front front' : List Waiting)
     : Type 0 where
   none : ls' ≡ ls → front' ≡ front → label_at ls arc.from ≡ None → IsRelaxed s arc ls ls' front front'
   same : ls' ≡ ls → front' ≡ front → (l : Label) → label_at ls arc.from ≡ Some l

@@ -8,11 +8,10 @@ ghost use Rattle.ect_trees.specs.Search as search;
 
 use crate::fork::compare_ids;
 use crate::mesh::{Arc, Mesh};
-use crate::waiting::{Waiting, drop_one, put, take_first};
+use crate::waiting::{Frontier, Waiting};
 use spb_types::{NoMemory, Path, Seq, SystemId};
 use std::alloc::Global;
 use std::cmp::Ordering;
-use std::collections::BTreeSet;
 
 /// A path from the source that was found, with its cost.
 #[derive(Drop)]
@@ -75,7 +74,7 @@ fn no_labels(alloc: Global, places: usize) -> Result<Vec<Option<Label>>, NoMemor
 /// Gives a place a new label, which waits in place of the old one.
 fn set_label(
     labels: &mut Vec<Option<Label>>,
-    front: &mut BTreeSet<Waiting>,
+    front: &mut Frontier,
     place: usize,
     new: Label,
 ) -> Result<(), NoMemory>
@@ -84,9 +83,9 @@ fn set_label(
     ensures { OnOk result (search.IsSet place new labels.old.items labels.new.items front.old front.new) }
 {
     if let Some(old) = &labels[place] {
-        drop_one(front, old.entry(place));
+        front.drop_one(old.entry(place));
     }
-    put(front, new.entry(place))?;
+    front.put(new.entry(place))?;
     labels[place] = Some(new);
     Ok(())
 }
@@ -188,7 +187,7 @@ impl<'a> Search<'a> {
         &self,
         alloc: Global,
         labels: &mut Vec<Option<Label>>,
-        front: &mut BTreeSet<Waiting>,
+        front: &mut Frontier,
         arc: Arc,
     ) -> Result<(), NoMemory>
         requires ready { AreReady self.now.mesh.now }
@@ -211,7 +210,7 @@ impl<'a> Search<'a> {
         &self,
         alloc: Global,
         labels: &mut Vec<Option<Label>>,
-        front: &mut BTreeSet<Waiting>,
+        front: &mut Frontier,
         place: usize,
     ) -> Result<(), NoMemory>
         requires ready { AreReady self.now.mesh.now }
@@ -232,7 +231,7 @@ impl<'a> Search<'a> {
         &self,
         alloc: Global,
         labels: &mut Vec<Option<Label>>,
-        front: &mut BTreeSet<Waiting>,
+        front: &mut Frontier,
     ) -> Result<usize, NoMemory>
         requires ready { AreReady self.now.mesh.now }
         requires state { search.IsState self.now labels.old.items front.old }
@@ -240,7 +239,7 @@ impl<'a> Search<'a> {
         ensures { OnOk result (search.AreBest self.now labels.new.items) }
     {
         let mut settled = 0;
-        while let Some(first) = take_first(front) {
+        while let Some(first) = front.take_first() {
             self.relax_all(alloc, labels, front, first.place)?;
             settled += 1;
         }
@@ -253,7 +252,7 @@ impl<'a> Search<'a> {
         ensures { IfOk result (λ labels. search.AreBest self.now labels.items) }
     {
         let mut labels = no_labels(alloc, self.mesh.graph.bridges.len())?;
-        let mut front = BTreeSet::new(alloc);
+        let mut front = Frontier::new(alloc);
         if let Some(place) = self.mesh.place_of(self.source) {
             set_label(&mut labels, &mut front, place, self.first(alloc)?)?;
             self.settle(alloc, &mut labels, &mut front)?;

@@ -1,11 +1,11 @@
 //! The frontier of a search: the bridges whose arcs are still to be relaxed.
-ghost use Rattle.std.specs.Prelude.{◌≡◌, ◌≤◌, cond, true, false, IsTrue, IfSome, IfNone, OnOk};
+ghost use Rattle.std.specs.Prelude.{◌≡◌, length, nat_le, position, unwrap_or};
 ghost use Rattle.std.specs.Ordering.{is_eq};
-ghost use Rattle.ect_trees.specs.declared.waiting.Waiting.{Waiting};
-ghost use Rattle.ect_trees.specs.Waits.{waits, waiting_cmp};
+ghost use Rattle.ect_trees.specs.Waits.{waiting_cmp};
 
 use spb_types::NoMemory;
-use std::collections::BTreeSet;
+use std::alloc::Global;
+use std::marker::Model;
 
 /// A bridge that waits: the cost and the number of hops of its label, and its place in the graph.
 #[derive(Clone, Copy, PartialEq, Eq, PartialOrd, Ord)]
@@ -15,30 +15,86 @@ pub struct Waiting {
     pub place: usize,
 }
 
-/// Takes the first that waits, which costs least. None where nothing waits.
-pub fn take_first(front: &mut BTreeSet<Waiting>) -> Option<Waiting>
-    ensures none { IfNone result ((e : Waiting) → waits front.old e ≡ false) }
-    ensures first { IfSome result (λ first. waits front.old first ≡ true) }
-    ensures least { IfSome result (λ first. (e : Waiting) → waits front.old e ≡ true → first.cost ≤ e.cost) }
-    ensures others { IfSome result (λ first. (e : Waiting)
-        → waits front.new e ≡ cond (is_eq (waiting_cmp first e)) false (waits front.old e)) }
-{
-    front.pop_first()
+/// Those that wait, by ascending cost. Contracts see the list.
+#[derive(Drop)]
+pub struct Frontier {
+    items: Vec<Waiting>,
 }
 
-/// Puts one more into the frontier.
-pub fn put(front: &mut BTreeSet<Waiting>, waiting: Waiting) -> Result<(), NoMemory>
-    ensures { OnOk result ((e : Waiting)
-        → waits front.new e ≡ cond (is_eq (waiting_cmp waiting e)) true (waits front.old e)) }
-{
-    front.insert(waiting)?;
-    Ok(())
+impl Model for Frontier {
+    ghost use Rattle.std.specs.Prelude.{List};
+    ghost use Rattle.ect_trees.specs.declared.waiting.Waiting.{Waiting};
+    ghost use Rattle.ect_trees.specs.Waits.{AreInOrder};
+
+    ghost Value = { List Waiting };
+
+    ghost view = { λ f. f.items.items };
+
+    ghost invariant = { λ f. AreInOrder f.items.items };
 }
 
-/// Takes one out of the frontier, if it waits.
-pub fn drop_one(front: &mut BTreeSet<Waiting>, waiting: Waiting)
-    ensures { (e : Waiting)
-        → waits front.new e ≡ cond (is_eq (waiting_cmp waiting e)) false (waits front.old e) }
+/// The place of the first that costs as much or more.
+fn first_from(items: &[Waiting], cost: u64) -> Option<usize>
+    ensures { result ≡ position (λ e. nat_le cost e.cost) items.now }
 {
-    front.remove(&waiting);
+    items.iter().position(|other| cost <= other.cost)
+}
+
+/// The place of one that waits.
+fn place_among(items: &[Waiting], waiting: Waiting) -> Option<usize>
+    ensures { result ≡ position (λ e. is_eq (waiting_cmp e waiting)) items.now }
+{
+    items.iter().position(|other| other.cmp(&waiting).is_eq())
+}
+
+impl Frontier {
+    ghost use Rattle.std.specs.Prelude.{◌≡◌, ◌≤◌, [], cond, true, false, IfSome, IfNone, OnOk};
+    ghost use Rattle.std.specs.Ordering.{is_eq};
+    ghost use Rattle.ect_trees.specs.declared.waiting.Waiting.{Waiting};
+    ghost use Rattle.ect_trees.specs.Waits.{waits, waiting_cmp};
+
+    /// The frontier in which nothing waits, which takes no memory.
+    pub fn new(alloc: Global) -> Self
+        ensures { result ≡ [] }
+    {
+        Frontier {
+            items: Vec::new(alloc),
+        }
+    }
+
+    /// Takes the first that waits, which costs least. None where nothing waits.
+    pub fn take_first(&mut self) -> Option<Waiting>
+        ensures none { IfNone result ((e : Waiting) → waits self.old e ≡ false) }
+        ensures first { IfSome result (λ first. waits self.old first ≡ true) }
+        ensures least { IfSome result (λ first. (e : Waiting) → waits self.old e ≡ true → first.cost ≤ e.cost) }
+        ensures others { IfSome result (λ first. (e : Waiting)
+            → waits self.new e ≡ cond (is_eq (waiting_cmp first e)) false (waits self.old e)) }
+    {
+        if self.items.is_empty() {
+            None
+        } else {
+            Some(self.items.remove(0))
+        }
+    }
+
+    /// Puts one more into the frontier, which doesn't wait yet.
+    pub fn put(&mut self, waiting: Waiting) -> Result<(), NoMemory>
+        requires { waits self.old waiting ≡ false }
+        ensures { OnOk result ((e : Waiting)
+            → waits self.new e ≡ cond (is_eq (waiting_cmp waiting e)) true (waits self.old e)) }
+    {
+        let place = first_from(self.items.as_slice(), waiting.cost).unwrap_or(self.items.len());
+        self.items.insert(place, waiting)?;
+        Ok(())
+    }
+
+    /// Takes one out of the frontier, if it waits.
+    pub fn drop_one(&mut self, waiting: Waiting)
+        ensures { (e : Waiting)
+            → waits self.new e ≡ cond (is_eq (waiting_cmp waiting e)) false (waits self.old e) }
+    {
+        if let Some(place) = place_among(self.items.as_slice(), waiting) {
+            self.items.remove(place);
+        }
+    }
 }

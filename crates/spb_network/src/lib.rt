@@ -17,6 +17,8 @@
 //! compared where an earlier bridge holds the same version. The answer is kept until a command is played that is no
 //! question, so that the questions `state` and `show` after it take constant time for it. `show` makes the bridge's
 //! tables anew.
+//! `wiring` makes them over the roads of the wiring, which are made at the first such question, and kept with their
+//! graph until a bridge, a link or a metric changes.
 #![tactic(auto)]
 
 pub use answer::{Answer, Out};

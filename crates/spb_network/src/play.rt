@@ -315,6 +315,16 @@ impl<B: Bridge> NetworkOf<B> {
         }
     }
 
+    /// Makes ready what the answer to a command reads. Nothing of the state changes.
+    fn prepare(&mut self, command: &Command) -> Result<(), NoMemory>
+        ensures { self.new ≡ self.old }
+    {
+        match command {
+            Command::Wiring(_) => self.world.keep_roads(self.alloc),
+            _ => Ok(()),
+        }
+    }
+
     /// Keeps which conditions of quiet hold, if a command asks for them.
     fn keep_if_asked(&mut self, command: &Command) -> Result<(), NoMemory>
         requires { IsSoundNetwork B.shown self.old }
@@ -339,6 +349,7 @@ impl<B: Bridge> NetworkOf<B> {
         ensures made { OnOk result (AreMade B.shown self.new.boxes.items) }
         ensures kept { OnOk result (IsKept B.shown self.new) }
     {
+        self.prepare(command)?;
         self.keep_if_asked(command)?;
         self.answer(command)
     }

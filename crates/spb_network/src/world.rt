@@ -6,7 +6,8 @@ use crate::hints::Hints;
 use crate::reason::reason_unless;
 use crate::{DeclaredBridge, DeclaredLink, LinkEnd, Reason, check, link_ends};
 use bridge_api::BridgeConfig;
-use fdb_build::tables_of;
+use ect_trees::Roads;
+use fdb_build::{tables_of, tables_over};
 use indexmap::IndexMap;
 use link_model::LaneId;
 use scenario::Side;
@@ -21,7 +22,8 @@ use std::marker::Model;
 /// The most services of a script.
 pub const MOST_SERVICES: usize = 4_096;
 
-/// What is declared: the base VIDs, the bridges, the links and the services, each in order of declaration.
+/// What is declared: the base VIDs, the bridges, the links and the services, each in order of declaration. The roads of
+/// the wiring are kept from the first question about it until a bridge, a link or a metric changes.
 #[derive(Drop)]
 pub struct World {
     vids: Vec<VidPlan>,
@@ -29,16 +31,19 @@ pub struct World {
     links: IndexMap<Name, DeclaredLink>,
     services: IndexMap<Isid, Vid>,
     hints: Hints,
+    kept: Option<Roads>,
 }
 
 impl Model for World {
+    ghost use Rattle.std.specs.Prelude.{◌≡◌, IfSome};
     ghost use Rattle.spb_network.specs.World as state;
 
     ghost Value = { state.World };
 
     ghost view = { λ w. record { vids = w.vids.items; bridges = w.bridges.entries; links = w.links.entries; services = w.services.entries } };
 
-    ghost invariant = { λ w. state.Sound (record { vids = w.vids.items; bridges = w.bridges.entries; links = w.links.entries; services = w.services.entries }) };
+    ghost invariant = { λ w. state.Sound (record { vids = w.vids.items; bridges = w.bridges.entries; links = w.links.entries; services = w.services.entries })
+        × IfSome w.kept (λ roads. roads ≡ state.world_graph (record { vids = w.vids.items; bridges = w.bridges.entries; links = w.links.entries; services = w.services.entries })) };
 }
 
 impl World {
@@ -62,6 +67,7 @@ impl World {
             links: IndexMap::new(alloc),
             services: IndexMap::new(alloc),
             hints: Hints::new(alloc),
+            kept: None,
         }
     }
 
@@ -212,14 +218,31 @@ impl World {
         })
     }
 
-    /// The tables that the wiring gives the bridge at a place.
+    /// Makes the roads of the wiring, unless they are kept. Nothing that is declared changes.
+    pub fn keep_roads(&mut self, alloc: Global) -> Result<(), NoMemory>
+        ensures { self.new ≡ self.old }
+    {
+        if self.kept.is_none() {
+            let graph = self.graph(alloc)?;
+            self.kept = Some(Roads::over(alloc, graph)?);
+        }
+        Ok(())
+    }
+
+    /// The tables that the wiring gives the bridge at a place, over the roads that are kept. Where none are, they are
+    /// made for this question alone.
     #[tactic(auto, unfolding(crate::specs::World::wired_tables))]
     pub fn wired_tables(&self, alloc: Global, place: usize) -> Result<Tables, NoMemory>
         ensures { IfOk result (λ tables. tables ≡ state.wired_tables self.now place) }
     {
-        let graph = self.graph(alloc)?;
         let me = system_at(&self.bridges, place);
-        tables_of(alloc, &graph, me, self.vids.as_slice())
+        match &self.kept {
+            Some(roads) => tables_over(alloc, roads, me, self.vids.as_slice()),
+            None => {
+                let graph = self.graph(alloc)?;
+                tables_of(alloc, &graph, me, self.vids.as_slice())
+            }
+        }
     }
 
     /// Whether the link at a place is up.
@@ -378,6 +401,7 @@ impl World {
             bridge: GraphBridge { id, source },
             ports: ports as u8,
         };
+        self.kept = None;
         self.hints.add_bridge()?;
         insert_new(&mut self.bridges, name, bridge)?;
         Ok(())
@@ -415,6 +439,7 @@ impl World {
             },
             live: false,
         };
+        self.kept = None;
         insert_new(&mut self.links, name, link)?;
         self.hints.note(link.a, place);
         self.hints.note(link.b, place);
@@ -436,6 +461,7 @@ impl World {
     pub fn set_live(&mut self, place: usize, on: bool)
         ensures { self.new ≡ declare.with_live on self.old place }
     {
+        self.kept = None;
         switch(&mut self.links, place, on);
     }
 
@@ -444,6 +470,7 @@ impl World {
         requires { IsMetric metric }
         ensures { self.new ≡ declare.with_end_metric side metric self.old place }
     {
+        self.kept = None;
         set_end_metric(&mut self.links, place, side, metric);
     }
 }

@@ -26,7 +26,7 @@ invariant_of-self-2 c =
     let old : World = record { vids = c.self.inside.vids.items; bridges = c.self.inside.bridges.entries; links = c.self.inside.links.entries; services = c.self.inside.services.entries } in
     let none = ap (λ w. bridge_refusal w c.args.name c.args.priority c.args.system c.args.source c.args.ports) c.self.view_is ∙ c.requires in
     let new = bridge_refusal_none old c.args.name c.args.priority c.args.system c.args.source c.args.ports none in
-    rw c.in_ok-insert_new.ensures.ok (Sound-with_bridge old c.args.name (bridge_of c.args.priority c.args.system c.args.source c.args.ports) c.self.invariant new.new)
+    (rw c.in_ok-insert_new.ensures.ok (Sound-with_bridge old c.args.name (bridge_of c.args.priority c.args.system c.args.source c.args.ports) c.self.invariant.0 new.new), tt)
 
 pub returns-clause-ok : goal.returns-clause-ok
 unfolding with_bridge

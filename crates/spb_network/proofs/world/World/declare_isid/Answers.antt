@@ -14,7 +14,7 @@ pub overflow_cast-vid : goal.overflow_cast-vid
 overflow_cast-vid c =
     let old : World = record { vids = c.self.inside.vids.items; bridges = c.self.inside.bridges.entries; links = c.self.inside.links.entries; services = c.self.inside.services.entries } in
     let none = ap (λ w. isid_refusal w c.args.isid c.args.vid) c.self.view_is ∙ c.requires in
-    let high = (isid_refusal_none old c.args.isid c.args.vid none).vid_high c.self.invariant.each_vid in
+    let high = (isid_refusal_none old c.args.isid c.args.vid none).vid_high c.self.invariant.0.each_vid in
     omega (arith, high)
 
 pub invariant_of-self-2 : goal.invariant_of-self-2
@@ -23,7 +23,7 @@ invariant_of-self-2 c =
     let old : World = record { vids = c.self.inside.vids.items; bridges = c.self.inside.bridges.entries; links = c.self.inside.links.entries; services = c.self.inside.services.entries } in
     let none = ap (λ w. isid_refusal w c.args.isid c.args.vid) c.self.view_is ∙ c.requires in
     let new = isid_refusal_none old c.args.isid c.args.vid none in
-    rw (c.in_ok-insert.ensures.entries ∙ insert_entry-new_isid c.self.inside.services.entries (service_of c.args.isid c.args.vid) new.isid_new) (Sound-with_service old (service_of c.args.isid c.args.vid) c.self.invariant new.new)
+    (rw (c.in_ok-insert.ensures.entries ∙ insert_entry-new_isid c.self.inside.services.entries (service_of c.args.isid c.args.vid) new.isid_new) (Sound-with_service old (service_of c.args.isid c.args.vid) c.self.invariant.0 new.new), c.self.invariant.1)
 
 pub returns-clause-ok : goal.returns-clause-ok
 unfolding with_service

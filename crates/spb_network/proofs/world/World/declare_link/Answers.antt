@@ -13,12 +13,12 @@ overflow_cast-metric c =
 pub overflow_cast-link : goal.overflow_cast-link
 overflow_cast-link c =
     let new = link_refusal_none _ _ _ _ _ _ _ c.requires in
-    omega (arith, new.port_a_high, ports_at-le c.args.self.now.bridges c.args.i (rw (← c.self.view_is) c.self.invariant.ports))
+    omega (arith, new.port_a_high, ports_at-le c.args.self.now.bridges c.args.i (rw (← c.self.view_is) c.self.invariant.0.ports))
 
 pub overflow_cast-link-2 : goal.overflow_cast-link-2
 overflow_cast-link-2 c =
     let new = link_refusal_none _ _ _ _ _ _ _ c.requires in
-    omega (arith, new.port_b_high, ports_at-le c.args.self.now.bridges c.args.j (rw (← c.self.view_is) c.self.invariant.ports))
+    omega (arith, new.port_b_high, ports_at-le c.args.self.now.bridges c.args.j (rw (← c.self.view_is) c.self.invariant.0.ports))
 
 pub insert_new-requires : goal.insert_new-requires
 insert_new-requires c =
@@ -31,7 +31,7 @@ invariant_of-self-2 c =
     let old : World = record { vids = c.self.inside.vids.items; bridges = c.self.inside.bridges.entries; links = c.self.inside.links.entries; services = c.self.inside.services.entries } in
     let none = ap (λ w. link_refusal w c.args.name c.args.i c.args.port_a c.args.j c.args.port_b c.args.cost) c.self.view_is ∙ c.requires in
     let new = link_refusal_none old c.args.name c.args.i c.args.port_a c.args.j c.args.port_b c.args.cost none in
-    rw c.in_ok-insert_new.ensures.ok (Sound-with_link old c.args.name (link_of c.args.i c.args.port_a c.args.j c.args.port_b c.args.cost) c.self.invariant new.new)
+    (rw c.in_ok-insert_new.ensures.ok (Sound-with_link old c.args.name (link_of c.args.i c.args.port_a c.args.j c.args.port_b c.args.cost) c.self.invariant.0 new.new), tt)
 
 pub returns-clause-ok : goal.returns-clause-ok
 unfolding with_link

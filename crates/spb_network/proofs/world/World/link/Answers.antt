@@ -9,4 +9,4 @@ use Rattle.spb_network.proofs.world.World.link.Goals as goal
 pub returns-in-Some-clause-ends : goal.returns-in-Some-clause-ends
 returns-in-Some-clause-ends c =
     let at = get_things c.self.inside.links.entries c.args.place ∙ ap (option_map (λ e. e.1)) (sym c.get_index.ensures.entry ∙ ap (option_map deref_pair) c.in-Some.is) in
-    rw (← c.self.view_is) (All-get (IsLink c.self.inside.bridges.entries) (things_of c.self.inside.links.entries) c.args.place c.in-Some.link.now c.self.invariant.links at)
+    rw (← c.self.view_is) (All-get (IsLink c.self.inside.bridges.entries) (things_of c.self.inside.links.entries) c.args.place c.in-Some.link.now c.self.invariant.0.links at)

@@ -7,7 +7,7 @@ pub invariant_of-self : goal.invariant_of-self
 unfolding with_live
 invariant_of-self c =
     let old : World = record { vids = c.self.inside.vids.items; bridges = c.self.inside.bridges.entries; links = c.self.inside.links.entries; services = c.self.inside.services.entries } in
-    rw c.switch.ensures (Sound-with_live c.args.on old c.args.place c.self.invariant)
+    (rw c.switch.ensures (Sound-with_live c.args.on old c.args.place c.self.invariant.0), tt)
 
 pub returns : goal.returns
 unfolding with_live

@@ -7,7 +7,7 @@ pub invariant_of-self : goal.invariant_of-self
 unfolding with_end_metric
 invariant_of-self c =
     let old : World = record { vids = c.self.inside.vids.items; bridges = c.self.inside.bridges.entries; links = c.self.inside.links.entries; services = c.self.inside.services.entries } in
-    rw c.set_end_metric.ensures (Sound-with_end_metric c.args.side c.args.metric old c.args.place c.requires c.self.invariant)
+    (rw c.set_end_metric.ensures (Sound-with_end_metric c.args.side c.args.metric old c.args.place c.requires c.self.invariant.0), tt)
 
 pub returns : goal.returns
 unfolding with_end_metric
