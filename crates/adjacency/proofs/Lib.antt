@@ -1,3 +1,4 @@
 pub mod Neighbours
 pub mod Refreshing
 pub mod Time
+pub mod Counted

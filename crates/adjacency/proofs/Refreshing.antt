@@ -30,7 +30,7 @@ up_is Down e = absurd cc
 up_is Initializing e = absurd cc
 up_is Up e = refl
 
-same_end_refl : (x : End) → same_end x x ≡ true
+pub same_end_refl : (x : End) → same_end x x ≡ true
 same_end_refl x = rw ((bytes_eq-Decides x.0.mac.bytes x.0.mac.bytes).1 refl, eq-eqb x.1 x.1 refl) refl
 
 same_system_is : (x y : SystemId) → same_system x y ≡ true → x ≡ y

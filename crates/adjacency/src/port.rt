@@ -140,6 +140,7 @@ impl Adjacency {
     }
 
     /// Counts a second of the holding count down. At 0 the state becomes Down.
+    #[tactic(auto, using(crate::proofs::Counted::counted))]
     pub fn tick(&mut self) -> AdjacencyChange
         requires { IsSound self.old }
         ensures new { self.new ≡ after_second self.old }
@@ -149,12 +150,12 @@ impl Adjacency {
         if self.state == AdjState::Down {
             return AdjacencyChange::Kept;
         }
-        let before = *self;
-        if self.hold == 1 {
-            *self = Adjacency::down(self.carrier);
-        } else {
+        if self.hold > 1 {
             self.hold -= 1;
+            return AdjacencyChange::Kept;
         }
+        let before = *self;
+        *self = Adjacency::down(self.carrier);
         before.change_to(self)
     }
 

@@ -28,7 +28,7 @@ use Rattle.bridge_api.specs.Own.{body_of, own_of, own_entry, holding_of, with_ho
 use Rattle.bridge_api.specs.Parsing.{Parsed, parsed, hello_in, is_hello}
 use Rattle.bridge_api.specs.Parsing as parsing
 use Rattle.bridge_api.specs.Hearing.{heard_lsp, heard_csnp, heard_psnp}
-use Rattle.bridge_api.specs.Step.{second, frame, carrier, metric, step}
+use Rattle.bridge_api.specs.Step.{second, frame, carrier, metric, attach, detach, step}
 use Rattle.bridge_api.specs.Laws.{IsSoundView, claims_said, claims_or_none}
 use Rattle.bridge_api.specs.Counting.{IsFar, Answered, keeps, answers, StepsAnswer}
 use Rattle.bridge_api.proofs.Changes.{FrameStep, idle, by_hello, by_lsp, by_csnp, by_psnp, frame_step, when_true}
@@ -211,3 +211,5 @@ steps_answer (frame q bytes) v id own was far claiming =
     (answered_version (body_of v) (claims_said (parsed bytes)) (own_id v.id.system) (own_entry v) (get (step (frame q bytes) v).database (own_id v.id.system)) all.own)
 steps_answer (carrier q on) v id own was far claiming = absurd cc
 steps_answer (metric q m) v id own was far claiming = absurd cc
+steps_answer (attach a) v id own was far claiming = absurd cc
+steps_answer (detach p) v id own was far claiming = absurd cc

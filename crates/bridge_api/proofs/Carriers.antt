@@ -1,6 +1,6 @@
 -- Carrier changes by a change of carrier alone.
 use Rattle.std.proofs.Common.{◌≡◌, inl, inr, ◌<◌, ◌-◌, ℕ, zero, suc, Bool, true, false, List, [], ◌∷◌, length, refl, sym, ap, ◌∙◌, Option, Some, None, arith}
-use Rattle.std.specs.Prelude.{slice_get, slice_set, ◌==◌, if◌then◌else◌}
+use Rattle.std.specs.Prelude.{slice_get, slice_set, ◌==◌, if◌then◌else◌, ◌++◌}
 use Rattle.std.specs.Option.{option_map}
 use Rattle.std.proofs.lemmas.Bool.{eqb-true, eqb-false, le-leb}
 use Rattle.std.proofs.lemmas.Option.{slice_get_within}
@@ -17,10 +17,11 @@ use Rattle.bridge_api.specs.View.{BridgeView, IsPort, port_in, port_at, has_carr
 use Rattle.bridge_api.specs.Hearing.{with_adjacency, after_receive, with_carrier_at, with_carrier, with_port_metric}
 use Rattle.bridge_api.specs.Ports.{heard_hello_port, with_carrier_port}
 use Rattle.bridge_api.specs.Ticking.{later}
-use Rattle.bridge_api.specs.Step.{second, frame, carrier, metric}
+use Rattle.bridge_api.specs.Services.{without_customer_port}
+use Rattle.bridge_api.specs.Step.{second, frame, carrier, metric, attach, detach}
 use Rattle.bridge_api.specs.Laws.{StepsKeepCarrier}
 use Rattle.bridge_api.proofs.Places.{port_found, got_at}
-use Rattle.bridge_api.proofs.Changes.{found, one_port, frame_ports, heard_hello_ports, with_carrier_ports, metric_step, with_metric_ports, ticked, tick_port}
+use Rattle.bridge_api.proofs.Changes.{found, one_port, frame_ports, heard_hello_ports, with_carrier_ports, metric_step, with_metric_ports, ticked, tick_port, with_attached_ports}
 use Rattle.bridge_api.proofs.Certified.{noted_keeps}
 
 later_carrier_at : (idle ended : Bool) (a : Adjacency) → (if idle then a else (if ended then down a.carrier else record a { hold = a.hold - 1 })).carrier ≡ a.carrier
@@ -114,3 +115,5 @@ steps_keep_carrier (metric q m) v p is =
             | inr same ↦ ap has_carrier_in same
           ]
     ]
+steps_keep_carrier (attach a) v p is = ap (λ (list : List BridgePort). has_carrier_in (port_in list p)) (with_attached_ports (v.attached ++ a ∷ []) v)
+steps_keep_carrier (detach q) v p is = ap (λ (list : List BridgePort). has_carrier_in (port_in list p)) (with_attached_ports (without_customer_port q v.attached) v)

@@ -1,10 +1,11 @@
 -- What a step keeps of a bridge, and whom it keeps as neighbours.
 use Rattle.std.proofs.Common.{◌≡◌, ◌⊎◌, inl, inr, ◌-◌, ℕ, zero, suc, false, true, Bool, List, [], ◌∷◌, length, map, refl, sym, ap, ◌∙◌, subst, Option, Some, None, arith}
-use Rattle.std.specs.Prelude.{slice_get, slice_set, nat_le, if◌then◌else◌}
+use Rattle.std.specs.Prelude.{slice_get, slice_set, nat_le, if◌then◌else◌, ◌++◌}
 use Rattle.std.specs.Option.{option_map, option_and_then}
 use Rattle.std.proofs.lemmas.List.{length-set, length-map}
 use Rattle.std.proofs.lemmas.Option.{slice_get-map}
 use Rattle.std.proofs.lemmas.Bool.{le-leb}
+use Rattle.spb_types.specs.declared.service.Attachment.{Attachment}
 use Rattle.adjacency.specs.declared.state.AdjacencyChange.{AdjacencyChange}
 use Rattle.adjacency.specs.declared.state.AdjacencyChange.TheVariants as did
 use Rattle.adjacency.specs.declared.port.Adjacency.{Adjacency}
@@ -18,15 +19,17 @@ use Rattle.bridge_api.specs.Parsing.{parsed}
 use Rattle.bridge_api.specs.Hearing.{with_csnp_due, with_adjacency, after_receive, with_carrier_at, with_carrier, with_port_metric, with_metric_at, with_metric}
 use Rattle.bridge_api.specs.Ports.{noted, heard_hello_port, with_carrier_port}
 use Rattle.bridge_api.specs.Ticking.{later, after_tick}
-use Rattle.bridge_api.specs.Step.{Input, second, frame, carrier, metric, step}
+use Rattle.bridge_api.specs.Step.{Input, second, frame, carrier, metric, attach, detach, step}
+use Rattle.bridge_api.specs.Services.{without_customer_port}
 use Rattle.bridge_api.specs.Laws.{metrics_after, IsSameBridge, StepsKeepBridge, StepsKeepNeighbours, hello_sender}
 use Rattle.bridge_api.proofs.Places.{set_again, seen_set}
+use Rattle.bridge_api.proofs.Attached.{with_attached_after}
 use Rattle.bridge_api.proofs.Adjacent.{second_keeps, carrier_keeps}
-use Rattle.bridge_api.proofs.Changes.{KeepsRest, rest_of, found, one_port, HelloStep, frame_ports, frame_rest, heard_hello_ports, carrier_step, with_carrier_ports, with_carrier_rest, metric_step, with_metric_ports, with_metric_rest, ticked, tick_port, tick_ports, tick_rest}
+use Rattle.bridge_api.proofs.Changes.{KeepsRest, rest_of, found, one_port, HelloStep, frame_ports, frame_rest, heard_hello_ports, carrier_step, with_carrier_ports, with_carrier_rest, metric_step, with_metric_ports, with_metric_rest, with_attached_ports, with_attached_rest, ticked, tick_port, tick_ports, tick_rest}
 
 -- ---- the bridge stays the same
 
-same_after : (x : Input) (v w : BridgeView) → KeepsRest v w → length w.ports ≡ length v.ports → metrics_of w.ports ≡ metrics_after x (metrics_of v.ports) → IsSameBridge x v w
+same_after : (x : Input) (v w : BridgeView) → KeepsRest (with_attached_after x v) w → length w.ports ≡ length v.ports → metrics_of w.ports ≡ metrics_after x (metrics_of v.ports) → IsSameBridge x v w
 same_after x v w is ports metrics = record {
   id = ap (λ (u : BridgeView). u.id) is;
   source = ap (λ (u : BridgeView). u.source) is;
@@ -38,10 +41,10 @@ same_after x v w is ports metrics = record {
 }
 
 -- no port changed, or one, and not its metric
-unchanged_same : (x : Input) (v w : BridgeView) → KeepsRest v w → w.ports ≡ v.ports → metrics_after x (metrics_of v.ports) ≡ metrics_of v.ports → IsSameBridge x v w
+unchanged_same : (x : Input) (v w : BridgeView) → KeepsRest (with_attached_after x v) w → w.ports ≡ v.ports → metrics_after x (metrics_of v.ports) ≡ metrics_of v.ports → IsSameBridge x v w
 unchanged_same x v w is same kept = same_after x v w is (ap length same) (ap metrics_of same ∙ sym kept)
 
-one_same : (x : Input) (v w : BridgeView) (q : ℕ) (from to : BridgePort) → port_at v q ≡ Some from → KeepsRest v w → w.ports ≡ slice_set v.ports (q - 1) to → to.metric ≡ from.metric → metrics_after x (metrics_of v.ports) ≡ metrics_of v.ports → IsSameBridge x v w
+one_same : (x : Input) (v w : BridgeView) (q : ℕ) (from to : BridgePort) → port_at v q ≡ Some from → KeepsRest (with_attached_after x v) w → w.ports ≡ slice_set v.ports (q - 1) to → to.metric ≡ from.metric → metrics_after x (metrics_of v.ports) ≡ metrics_of v.ports → IsSameBridge x v w
 one_same x v w q from to there is ports same kept =
     let metrics : metrics_of (slice_set v.ports (q - 1) to) ≡ metrics_of v.ports =
     seen_set (λ (port : BridgePort). port.metric) v.ports (q - 1) to
@@ -87,9 +90,11 @@ steps_keep_bridge (carrier q on) v =
           (one_same (carrier q on) v (with_carrier_at q on (Some g.port) v) q g.port (with_carrier_port on g.port) g.there (with_carrier_rest q on g.port v) (with_carrier_ports q on g.port v g.there) (noted_metric (change_of g.port.adjacency (after_carrier on g.port.adjacency)) (with_adjacency (after_carrier on g.port.adjacency) g.port)) refl)
     ]
 steps_keep_bridge (metric q m) v = metric_same (port_at v q) v q m refl
+steps_keep_bridge (attach a) v = let list : List Attachment = v.attached ++ a ∷ [] in unchanged_same (attach a) v (step (attach a) v) (with_attached_rest list v) (with_attached_ports list v) refl
+steps_keep_bridge (detach p) v = let list : List Attachment = without_customer_port p v.attached in unchanged_same (detach p) v (step (detach p) v) (with_attached_rest list v) (with_attached_ports list v) refl
 
--- a step changes ports, LSPs, and whether the bridge is spent, and nothing else
-pub step_rest : (input : Input) (v : BridgeView) → KeepsRest v (step input v)
+-- a step changes ports, LSPs, whether the bridge is spent, and what is attached, and nothing else
+pub step_rest : (input : Input) (v : BridgeView) → KeepsRest (with_attached_after input v) (step input v)
 step_rest second v = tick_rest v
 step_rest (frame q bytes) v = frame_rest v q bytes
 step_rest (carrier q on) v =
@@ -102,6 +107,8 @@ step_rest (metric q m) v =
       | inl e ↦ rest_of v (with_metric q m v) v e refl
       | inr g ↦ rest_of v (with_metric q m v) (originated_if_changed (with_port_at q (with_port_metric m g.port) v)) g.after (with_metric_rest q m g.port v)
     ]
+step_rest (attach a) v = with_attached_rest (v.attached ++ a ∷ []) v
+step_rest (detach p) v = with_attached_rest (without_customer_port p v.attached) v
 
 -- a step keeps the number of ports
 pub ports_after : (input : Input) (v w : BridgeView) → w ≡ step input v → length w.ports ≡ length v.ports
@@ -176,3 +183,5 @@ steps_keep_neighbours (metric q m) v p n kept =
       | inl e ↦ inl (subst (λ (u : BridgeView). neighbour_at u p ≡ Some n) e kept)
       | inr g ↦ no_cause q p (one_keeps v (with_metric q m v) q g.port (with_port_metric m g.port) p n ⊥ g.there (ap (λ (u : BridgeView). u.ports) g.after ∙ with_metric_ports q m g.port v) (λ was. inl was) kept)
     ]
+steps_keep_neighbours (attach a) v p n kept = inl (subst (λ (ports : List BridgePort). end_in (port_in ports p) ≡ Some n) (with_attached_ports (v.attached ++ a ∷ []) v) kept)
+steps_keep_neighbours (detach q) v p n kept = inl (subst (λ (ports : List BridgePort). end_in (port_in ports p) ≡ Some n) (with_attached_ports (without_customer_port q v.attached) v) kept)

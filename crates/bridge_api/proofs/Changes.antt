@@ -5,6 +5,7 @@ use Rattle.std.specs.Option.{option_map}
 use Rattle.std.proofs.lemmas.List.{set-set}
 use Rattle.std.proofs.lemmas.Option.{slice_get-map, slice_get_within}
 use Rattle.std.proofs.lemmas.Bool.{le-leb, leb-true, cases_eq}
+use Rattle.spb_types.specs.declared.service.Attachment.{Attachment}
 use Rattle.isis_pdu.specs.Pdu.{HelloValue, LspValue, CsnpValue, PsnpValue}
 use Rattle.spb_tlvs.specs.declared.error.TlvError.{TlvError}
 use Rattle.spb_tlvs.specs.declared.entries.SnpEntry.{SnpEntry}
@@ -23,6 +24,7 @@ use Rattle.bridge_api.specs.Config.{bare, configured}
 use Rattle.bridge_api.specs.Parsing.{Parsed, parsed}
 use Rattle.bridge_api.specs.Parsing as parsing
 use Rattle.bridge_api.specs.Hearing.{with_csnp_due, with_adjacency, left_up, changed_at, all_srm_set_at, heard_lsp, heard_csnp, heard_psnp, with_csnp, with_psnp, heard_as, heard_at, heard_hello, after_receive, with_carrier_at, with_carrier, with_port_metric, with_metric_at, with_metric}
+use Rattle.bridge_api.specs.Services.{with_attached}
 use Rattle.bridge_api.specs.Ports.{noted, heard_hello_port, with_carrier_port}
 use Rattle.bridge_api.specs.Ticking.{later, counts_lowered, expired, is_old, refreshed, readied, after_sending, after_tick}
 use Rattle.bridge_api.proofs.Places.{port_found, set_again, got_at, got_beside}
@@ -281,6 +283,24 @@ with_metric_ports q m port v = originated_if_changed_ports (with_port_at q (with
 
 pub with_metric_rest : (q m : ℕ) (port : BridgePort) (v : BridgeView) → KeepsRest v (originated_if_changed (with_port_at q (with_port_metric m port) v))
 with_metric_rest q m port v = originated_if_changed_rest v (with_port_at q (with_port_metric m port) v) refl
+
+-- ---- what is attached
+
+-- a bridge to which this is attached, before it says so
+abbrev pub attached_to : List Attachment → BridgeView → BridgeView
+attached_to attached v = record v { attached = attached }
+
+pub with_attached_is : (attached : List Attachment) (v : BridgeView) → with_attached attached v ≡ originated_if_changed (attached_to attached v)
+unfolding with_attached
+with_attached_is attached v = refl
+
+pub with_attached_ports : (attached : List Attachment) (v : BridgeView) → (with_attached attached v).ports ≡ v.ports
+unfolding with_attached
+with_attached_ports attached v = originated_if_changed_ports (attached_to attached v)
+
+pub with_attached_rest : (attached : List Attachment) (v : BridgeView) → KeepsRest (attached_to attached v) (with_attached attached v)
+unfolding with_attached
+with_attached_rest attached v = originated_if_changed_rest (attached_to attached v) (attached_to attached v) refl
 
 -- ---- a second
 

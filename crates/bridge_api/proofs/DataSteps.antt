@@ -1,7 +1,7 @@
 -- The database of a bridge stays sound in every step.
 use Rattle.std.proofs.Common.{◌≡◌, ◌≢◌, inl, inr, ◌≤◌, ◌+◌, ◌-◌, ℕ, Bool, true, false, List, [], ◌∷◌, length, map, refl, sym, ap, ◌∙◌, subst, Option, Some, None, arith}
 use Rattle.spb_types.specs.declared.limits.TheConstants.{MOST_LSPS}
-use Rattle.std.specs.Prelude.{is_some, nat_lt, ◌==◌, ◌||◌, slice_set, if◌then◌else◌}
+use Rattle.std.specs.Prelude.{is_some, nat_lt, ◌==◌, ◌||◌, slice_set, if◌then◌else◌, ◌++◌}
 use Rattle.std.specs.FinMap.{get, empty, get-empty, len, len-empty}
 use Rattle.std.proofs.lemmas.Bool.{le-leb}
 use Rattle.std.proofs.lemmas.List.{length-map, length-set}
@@ -29,6 +29,7 @@ use Rattle.adjacency.specs.declared.port.Adjacency.{Adjacency}
 use Rattle.adjacency.specs.Hearing.{is_discarded, sender}
 use Rattle.adjacency.specs.States.{next_state, state_numbered}
 use Rattle.adjacency.specs.Adjacency.{IsSound, state_towards, after_hello_heard, after_carrier, change_of}
+use Rattle.spb_types.specs.declared.service.Attachment.{Attachment}
 use Rattle.bridge_api.specs.declared.port.BridgePort.{BridgePort}
 use Rattle.bridge_api.specs.declared.config.BridgeConfig.{BridgeConfig}
 use Rattle.bridge_api.specs.View.{BridgeView, port_in, port_at, with_port_at, is_port_up, is_up_in, up_from, up_ports}
@@ -36,11 +37,13 @@ use Rattle.bridge_api.specs.Own.{own_of, own_entry, holding_of, originated_if_ch
 use Rattle.bridge_api.specs.Config.{IsWhole, IsMetric, port_without_carrier, bare, configured}
 use Rattle.bridge_api.specs.Hearing.{with_csnp_due, with_adjacency, left_up, all_srm_set_at, changed_at, heard_lsp, heard_csnp, heard_psnp, heard_hello, after_receive, with_carrier_at, with_carrier, with_port_metric, with_metric}
 use Rattle.bridge_api.specs.Ticking.{later, counts_lowered, expired, readied, after_tick}
-use Rattle.bridge_api.specs.Step.{Input, second, frame, carrier, metric, step}
+use Rattle.bridge_api.specs.Services.{with_attached, without_customer_port}
+use Rattle.bridge_api.specs.Step.{Input, second, frame, carrier, metric, attach, detach, step}
 use Rattle.bridge_api.specs.Laws.{IsSoundPort, HasConfig, IsSoundView, IsInput, ConfiguredHoldsOwn}
 use Rattle.bridge_api.proofs.Places.{got_at}
 use Rattle.bridge_api.proofs.Adjacent.{came_up, stayed_up, hello_sound, carrier_sound}
-use Rattle.bridge_api.proofs.Changes.{KeepsRest, found, LspStep, CsnpStep, PsnpStep, frame_step, idle, by_hello, by_lsp, by_csnp, by_psnp, carrier_step, metric_step, originated_if_changed_ports, tick_is}
+use Rattle.bridge_api.proofs.Changes.{KeepsRest, found, LspStep, CsnpStep, PsnpStep, frame_step, idle, by_hello, by_lsp, by_csnp, by_psnp, carrier_step, metric_step, originated_if_changed_ports, tick_is, attached_to, with_attached_is}
+use Rattle.bridge_api.proofs.Attached.{config_after}
 use Rattle.bridge_api.proofs.SoundPorts.{AreSoundPorts, all_set, heard_six, carrier_six, with_metric_sound, sound_at, source_six, all_later, all_without_carrier, config_kept, bare_config}
 use Rattle.bridge_api.proofs.Saying.{has_body, can_say}
 use Rattle.bridge_api.proofs.OwnPorts.{HasApart, body_apart}
@@ -180,6 +183,11 @@ module _ (v : BridgeView) (was : IsSoundView v) where
         | inr g ↦ subst Holds (sym g.after) (with_metric_holds q g.port g.there m is)
       ]
 
+  pub attached_holds : (attached : List Attachment) → HasConfig (attached_to attached v) → Holds (with_attached attached v)
+  attached_holds attached config =
+      let w : BridgeView = attached_to attached v in
+      subst Holds (sym (with_attached_is attached v)) (originated_if_changed_keeps w (can_originate w config was.few was.ports) before_holds)
+
   -- a second
   pub readied_holds : Holds (readied v)
   readied_holds =
@@ -195,6 +203,8 @@ step_holds second v is was = tick_holds v was
 step_holds (frame q bytes) v is was = frame_holds v was q bytes
 step_holds (carrier q on) v is was = carrier_holds v was q on
 step_holds (metric q m) v is was = metric_holds v was q m is
+step_holds (attach a) v is was = attached_holds v was (v.attached ++ a ∷ []) (config_after (attach a) v is was.config)
+step_holds (detach p) v is was = attached_holds v was (without_customer_port p v.attached) (config_after (detach p) v is was.config)
 
 -- ---- the configured bridge
 

@@ -1,6 +1,6 @@
 -- Entering Up is one operation: a port that is Up was so before with the same neighbour, or everything is to be sent there.
-use Rattle.std.proofs.Common.{◌≡◌, ◌⊎◌, inl, inr, ◌≤◌, ◌-◌, ℕ, Bool, true, false, List, length, refl, sym, ap, ◌∙◌, subst, Option, Some, None}
-use Rattle.std.specs.Prelude.{◌+◌, ◌||◌, nat_lt, slice_set, if◌then◌else◌}
+use Rattle.std.proofs.Common.{◌≡◌, ◌⊎◌, inl, inr, ◌≤◌, ◌-◌, ℕ, Bool, true, false, List, [], ◌∷◌, length, refl, sym, ap, ◌∙◌, subst, Option, Some, None}
+use Rattle.std.specs.Prelude.{◌+◌, ◌||◌, nat_lt, slice_set, if◌then◌else◌, ◌++◌}
 use Rattle.std.specs.Option.{option_map, option_and_then}
 use Rattle.std.specs.FinMap.{get}
 use Rattle.spb_types.specs.declared.address.LspId.{LspId}
@@ -31,10 +31,11 @@ use Rattle.bridge_api.specs.Own.{own_of, own_entry, holding_of, is_said, origina
 use Rattle.bridge_api.specs.Hearing.{with_csnp_due, with_adjacency, left_up, all_srm_set_at, entered_up, changed_at, heard_hello, after_receive, with_carrier_at, with_carrier, with_port_metric, with_metric}
 use Rattle.bridge_api.specs.Ports.{noted}
 use Rattle.bridge_api.specs.Ticking.{after_tick}
-use Rattle.bridge_api.specs.Step.{second, frame, carrier, metric}
+use Rattle.bridge_api.specs.Services.{with_attached, without_customer_port}
+use Rattle.bridge_api.specs.Step.{second, frame, carrier, metric, attach, detach}
 use Rattle.bridge_api.specs.Laws.{IsFresh, EnteringUpIsWhole}
 use Rattle.bridge_api.proofs.Adjacent.{kept_whole, not_discarded, second_up, up_since}
-use Rattle.bridge_api.proofs.Changes.{one_port, changed_ports, frame_ports, carrier_step, metric_step, with_metric_ports, ticked, tick_port}
+use Rattle.bridge_api.proofs.Changes.{one_port, changed_ports, frame_ports, carrier_step, metric_step, with_metric_ports, ticked, tick_port, with_attached_ports}
 use Rattle.bridge_api.proofs.Certified.{noted_keeps}
 use Rattle.bridge_api.proofs.StepsCarry.{Stood, stood}
 
@@ -213,3 +214,5 @@ entering_up_is_whole (metric q m) v p was up =
       | inl e ↦ same_port v (with_metric q m v) p (ap (λ (u : BridgeView). port_at u p) e) up
       | inr g ↦ with_metric_enters q m g.port v (with_metric q m v) p was.few g.there (ap (λ (u : BridgeView). u.ports) g.after ∙ with_metric_ports q m g.port v) up
     ]
+entering_up_is_whole (attach a) v p was up = same_port v (with_attached (v.attached ++ a ∷ []) v) p (ap (λ (list : List BridgePort). port_in list p) (with_attached_ports (v.attached ++ a ∷ []) v)) up
+entering_up_is_whole (detach q) v p was up = same_port v (with_attached (without_customer_port q v.attached) v) p (ap (λ (list : List BridgePort). port_in list p) (with_attached_ports (without_customer_port q v.attached) v)) up

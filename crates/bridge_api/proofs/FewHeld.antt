@@ -1,6 +1,6 @@
 -- How much a bridge holds after a few steps: in each it originates once at most, and nothing else goes in but what it hears.
-use Rattle.std.proofs.Common.{◌≡◌, ◌≤◌, ◌<◌, ◌+◌, ℕ, Bool, true, false, true≢false, length, cond, refl, sym, ap, ◌∙◌, subst, Option, arith}
-use Rattle.std.specs.Prelude.{nat_lt, is_some, if◌then◌else◌}
+use Rattle.std.proofs.Common.{◌≡◌, ◌≤◌, ◌<◌, ◌+◌, ℕ, Bool, true, false, true≢false, [], ◌∷◌, length, cond, refl, sym, ap, ◌∙◌, subst, Option, arith}
+use Rattle.std.specs.Prelude.{nat_lt, is_some, if◌then◌else◌, ◌++◌}
 use Rattle.std.specs.FinMap.{get, insert, entries, len, contains_key, get-empty, len-empty, len-insert, len-entries}
 use Rattle.std.proofs.lemmas.Bool.{lt-ltb}
 use Rattle.std.proofs.lemmas.List.{length-map}
@@ -21,9 +21,10 @@ use Rattle.bridge_api.specs.Own.{holding_of}
 use Rattle.bridge_api.specs.Config.{bare, configured}
 use Rattle.bridge_api.specs.Parsing.{Parsed, hello_in}
 use Rattle.bridge_api.specs.Ticking.{readied}
-use Rattle.bridge_api.specs.Step.{second, frame, carrier, metric}
+use Rattle.bridge_api.specs.Services.{without_customer_port}
+use Rattle.bridge_api.specs.Step.{second, frame, carrier, metric, attach, detach}
 use Rattle.bridge_api.specs.Few.{Within, HoldsFew, ConfiguredHoldsFew, StepsHoldFew}
-use Rattle.bridge_api.proofs.Growing.{Grows, number_each, number_next, number_put, spent_next, readied_grows, second_grows, hello_grows, carrier_grows, metric_grows}
+use Rattle.bridge_api.proofs.Growing.{Grows, number_each, number_next, number_put, spent_next, readied_grows, second_grows, hello_grows, carrier_grows, metric_grows, attached_grows}
 use Rattle.bridge_api.proofs.ServingPorts.{moved, entries-each}
 
 one_more : (k : ℕ) (me : SystemId) (db : Lsps) (spent : Bool) → Within k me db spent → Within (k + 1) me db spent
@@ -91,3 +92,5 @@ steps_hold_few k second v low alone w = second_grows Within few_grows k v low w
 steps_hold_few k (frame p bytes) v low alone w = hello_grows Within few_grows k p bytes v (ap (λ (j : Parsed). is_some (hello_in j)) alone.2) low w
 steps_hold_few k (carrier p on) v low alone w = carrier_grows Within few_grows k p on v low w
 steps_hold_few k (metric p m) v low alone w = metric_grows Within few_grows k p m v low w
+steps_hold_few k (attach a) v low alone w = attached_grows Within few_grows k (v.attached ++ a ∷ []) v low w
+steps_hold_few k (detach p) v low alone w = attached_grows Within few_grows k (without_customer_port p v.attached) v low w

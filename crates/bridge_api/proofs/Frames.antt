@@ -48,7 +48,7 @@ use Rattle.bridge_api.specs.declared.drop_reason.DropReason.{DropReason}
 use Rattle.bridge_api.specs.declared.drop_reason.DropReason.TheVariants as drop
 use Rattle.bridge_api.specs.Hearing.{with_csnp_due}
 use Rattle.bridge_api.specs.Ticking.{later, readied, hello_at, hello_frame, lsp_frame, csnp_frame, psnp_frame, hellos_at, summaries_at, lsps_at, requests_at, synced_at, sent_at, after_sending_at, sent_from, after_sending_from, after_sending, after_tick, sent_in_tick}
-use Rattle.bridge_api.specs.Step.{second, frame, carrier, metric, step, sent}
+use Rattle.bridge_api.specs.Step.{second, frame, carrier, metric, attach, detach, step, sent}
 use Rattle.bridge_api.specs.Laws.{IsSoundView, IsSent, IsHelloOf, IsWritten, writes_hello, writes_lsp, writes_csnp, writes_psnp, IsHeldLsp, IsHeldAt, IsFrameOf, claims_or_none, claims_said, SentIsSound}
 use Rattle.bridge_api.proofs.Changes.{readied_ports, readied_rest}
 use Rattle.bridge_api.proofs.Spelled.{lsp_taken, csnp_taken, psnp_taken}
@@ -419,3 +419,5 @@ sent_is_sound again second v p bytes was named some = second_says again v p byte
 sent_is_sound again (frame q f) v p bytes was named some = absurd some
 sent_is_sound again (carrier q on) v p bytes was named some = absurd some
 sent_is_sound again (metric q m) v p bytes was named some = absurd some
+sent_is_sound again (attach a) v p bytes was named some = absurd some
+sent_is_sound again (detach q) v p bytes was named some = absurd some

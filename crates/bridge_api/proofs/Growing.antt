@@ -22,14 +22,16 @@ use Rattle.snp_sync.specs.Sending.{ssn_cleared as ssn_cleared_entry, all_ssn_cle
 use Rattle.adjacency.specs.declared.state.AdjacencyChange.{AdjacencyChange}
 use Rattle.adjacency.specs.declared.state.AdjacencyChange.TheVariants.{Discarded, Kept, LeftUp, CameUp}
 use Rattle.adjacency.specs.Adjacency.{after_hello, change_by_hello, after_carrier, change_of}
+use Rattle.spb_types.specs.declared.service.Attachment.{Attachment}
 use Rattle.bridge_api.specs.declared.port.BridgePort.{BridgePort}
 use Rattle.bridge_api.specs.View.{BridgeView, with_port_at, is_port_up, up_ports}
 use Rattle.bridge_api.specs.Own.{holding_of, is_said, originating, originated_if_changed, own_entry}
 use Rattle.bridge_api.specs.Parsing.{Parsed, hello_in, is_hello}
 use Rattle.bridge_api.specs.Hearing.{with_adjacency, left_up, changed_at, with_port_metric}
 use Rattle.bridge_api.specs.Ticking.{leaving_from, flags_cleared_at_all, counts_lowered, expired, is_old, refreshed, readied, after_sending_at, after_sending_from}
+use Rattle.bridge_api.specs.Services.{with_attached}
 use Rattle.bridge_api.specs.Step.{second, frame, carrier, metric, step}
-use Rattle.bridge_api.proofs.Changes.{FrameStep, idle, by_hello, by_lsp, by_csnp, by_psnp, frame_step, carrier_step, metric_step, tick_is, when_false}
+use Rattle.bridge_api.proofs.Changes.{FrameStep, idle, by_hello, by_lsp, by_csnp, by_psnp, frame_step, carrier_step, metric_step, tick_is, when_false, attached_to}
 
 -- ---- numbers of entries
 
@@ -164,3 +166,7 @@ module _ (P : ℕ → SystemId → Lsps → Bool → Type 0) (grows : Grows P) w
         | inl e ↦ subst (Of (n + 1)) (sym e) (one_more n v was)
         | inr g ↦ subst (Of (n + 1)) (sym g.after) (originated_grows n (with_port_at q (with_port_metric m g.port) v) low was)
       ]
+
+  pub attached_grows : (n : ℕ) (attached : List Attachment) (v : BridgeView) → n < last_number → Of n v → Of (n + 1) (with_attached attached v)
+  unfolding with_attached
+  attached_grows n attached v low was = originated_grows n (attached_to attached v) low was

@@ -1,6 +1,6 @@
 -- An id that is held after a step was held before, was claimed in what came in, or is an own one.
 use Rattle.std.proofs.Common.{◌≡◌, ◌≢◌, ◌⊎◌, inl, inr, ℕ, Bool, true, false, List, [], ◌∷◌, refl, sym, ap, ◌∙◌, subst, Option, Some, None, arith}
-use Rattle.std.specs.Prelude.{IsSome, ◌||◌, if◌then◌else◌}
+use Rattle.std.specs.Prelude.{IsSome, ◌||◌, if◌then◌else◌, ◌++◌}
 use Rattle.std.specs.Option.{option_map}
 use Rattle.std.specs.List.{AllByRecursion}
 use Rattle.std.specs.FinMap.{get}
@@ -21,17 +21,19 @@ use Rattle.snp_sync.specs.Hearing.{claims_in, hear_entries_of, ids_of, is_missed
 use Rattle.adjacency.specs.declared.state.AdjacencyChange.{AdjacencyChange}
 use Rattle.adjacency.specs.declared.state.AdjacencyChange.TheVariants.{Discarded, Kept, LeftUp, CameUp}
 use Rattle.adjacency.specs.Adjacency.{after_hello, change_by_hello, after_carrier, change_of}
+use Rattle.spb_types.specs.declared.service.Attachment.{Attachment}
 use Rattle.bridge_api.specs.declared.port.BridgePort.{BridgePort}
 use Rattle.bridge_api.specs.View.{BridgeView, with_port_at, up_ports}
 use Rattle.bridge_api.specs.Own.{holding_of, is_said, originating, originated_if_changed}
 use Rattle.bridge_api.specs.Parsing.{parsed}
 use Rattle.bridge_api.specs.Parsing as parsing
 use Rattle.bridge_api.specs.Hearing.{with_adjacency, left_up, changed_at, heard_lsp, heard_csnp, heard_psnp, with_port_metric}
+use Rattle.bridge_api.specs.Services.{with_attached, without_customer_port}
 use Rattle.bridge_api.specs.Duties.{but_for_ssn}
-use Rattle.bridge_api.specs.Step.{Input, second, frame, carrier, metric, step}
+use Rattle.bridge_api.specs.Step.{Input, second, frame, carrier, metric, attach, detach, step}
 use Rattle.bridge_api.specs.Laws.{claims_of, claims_said, claims_or_none}
 use Rattle.bridge_api.specs.Counting.{StepsHoldIds}
-use Rattle.bridge_api.proofs.Changes.{FrameStep, idle, by_hello, by_lsp, by_csnp, by_psnp, frame_step, carrier_step, metric_step}
+use Rattle.bridge_api.proofs.Changes.{FrameStep, idle, by_hello, by_lsp, by_csnp, by_psnp, frame_step, carrier_step, metric_step, attached_to}
 use Rattle.bridge_api.proofs.TimeLsps.{second_ages}
 
 -- ---- the own ids
@@ -130,6 +132,10 @@ module _ (q : ℕ) (bytes : List ℕ) (v : BridgeView) (id : LspId) (apart : id 
       ap (λ (w : BridgeView). get w.database id) g.after
       ∙ originated_out (heard_psnp g.entries q v) v.database id apart (same_stays_out id v.database (heard_psnp g.entries q v).database (unnamed_stands (up_ports v) q (claims_in g.entries) (holding_of v) id other)) out
 
+attached_out : (attached : List Attachment) (v : BridgeView) (id : LspId) → id ≢ own_id v.id.system → StaysOut id v.database (with_attached attached v).database
+unfolding with_attached
+attached_out attached v id apart out = originated_out (attached_to attached v) v.database id apart (λ none. none) out
+
 step_out : (input : Input) (v : BridgeView) (id : LspId) → id ≢ own_id v.id.system → AreOthers id (claims_of input) → StaysOut id v.database (step input v).database
 step_out second v id apart others out = second_out v id apart out
 step_out (frame q bytes) v id apart others out = frame_out_by q bytes v id apart others (frame_step v q bytes) out
@@ -143,6 +149,8 @@ step_out (metric q m) v id apart others out =
       | inl e ↦ ap (λ (w : BridgeView). get w.database id) e ∙ out
       | inr g ↦ ap (λ (w : BridgeView). get w.database id) g.after ∙ originated_out (with_port_at q (with_port_metric m g.port) v) v.database id apart (λ none. none) out
     ]
+step_out (attach a) v id apart others out = attached_out (v.attached ++ a ∷ []) v id apart out
+step_out (detach p) v id apart others out = attached_out (without_customer_port p v.attached) v id apart out
 
 -- ---- the law
 

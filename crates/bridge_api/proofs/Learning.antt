@@ -1,6 +1,6 @@
 -- What a step makes of an LSP of another system.
 use Rattle.std.proofs.Common.{◌≡◌, ◌≢◌, inl, inr, ℕ, Bool, true, false, List, [], ◌∷◌, refl, sym, ap, ◌∙◌, subst, Option, Some, None}
-use Rattle.std.specs.Prelude.{◌&&◌, if◌then◌else◌}
+use Rattle.std.specs.Prelude.{◌&&◌, if◌then◌else◌, ◌++◌}
 use Rattle.std.specs.Option.{option_map}
 use Rattle.std.specs.FinMap.{get}
 use Rattle.std.proofs.lemmas.Bool.{true≢false}
@@ -30,16 +30,18 @@ use Rattle.snp_sync.specs.Hearing.{claims_in, hear_entries_of, ids_of, is_missed
 use Rattle.adjacency.specs.declared.state.AdjacencyChange.{AdjacencyChange}
 use Rattle.adjacency.specs.declared.state.AdjacencyChange.TheVariants.{Discarded, Kept, LeftUp, CameUp}
 use Rattle.adjacency.specs.Adjacency.{after_hello, change_by_hello, after_carrier, change_of}
+use Rattle.spb_types.specs.declared.service.Attachment.{Attachment}
 use Rattle.bridge_api.specs.declared.port.BridgePort.{BridgePort}
 use Rattle.bridge_api.specs.View.{BridgeView, with_port_at, up_ports}
 use Rattle.bridge_api.specs.Own.{holding_of, originated_if_changed}
 use Rattle.bridge_api.specs.Parsing.{Parsed, parsed}
 use Rattle.bridge_api.specs.Parsing as parsing
 use Rattle.bridge_api.specs.Hearing.{with_adjacency, left_up, changed_at, heard_lsp, heard_csnp, heard_psnp, with_port_metric}
-use Rattle.bridge_api.specs.Step.{Input, second, frame, carrier, metric, step}
+use Rattle.bridge_api.specs.Services.{with_attached, without_customer_port}
+use Rattle.bridge_api.specs.Step.{Input, second, frame, carrier, metric, attach, detach, step}
 use Rattle.bridge_api.specs.Laws.{claims_of, claims_said, claims_or_none}
 use Rattle.bridge_api.specs.Counting.{lsp_said, lsp_of, LearnedAt, stays, stores, joins, StepsLearn, is_held, is_claimed, Learned, takes, ends, StepsLearnVersions}
-use Rattle.bridge_api.proofs.Changes.{FrameStep, idle, by_hello, by_lsp, by_csnp, by_psnp, frame_step, carrier_step, metric_step}
+use Rattle.bridge_api.proofs.Changes.{FrameStep, idle, by_hello, by_lsp, by_csnp, by_psnp, frame_step, carrier_step, metric_step, attached_to}
 use Rattle.bridge_api.proofs.HeldIds.{originated_others}
 
 -- ---- the same version and body
@@ -248,6 +250,10 @@ module _ (q : ℕ) (bytes : List ℕ) (v : BridgeView) (id : LspId) (apart : id.
       (subst (λ es. LearnedAt (claims_or_none es) None id (get v.database id) (get (originated_if_changed w).database id)) (sym g.read)
       (then_same _ _ id (get v.database id) (get w.database id) _ heard (originated_same w id apart)))
 
+attached_learned : (attached : List Attachment) (v : BridgeView) (id : LspId) → id.system ≢ v.id.system → LearnedAt [] None id (get v.database id) (get (with_attached attached v).database id)
+unfolding with_attached
+attached_learned attached v id apart = same_learned _ _ _ _ _ (originated_same (attached_to attached v) id apart)
+
 pub steps_learn : StepsLearn
 steps_learn second v id apart late = absurd (late refl)
 steps_learn (frame q bytes) v id apart late = frame_learned q bytes v id apart (frame_step v q bytes)
@@ -265,6 +271,8 @@ steps_learn (metric q m) v id apart late =
           subst (λ (w : BridgeView). LearnedAt [] None id (get v.database id) (get w.database id)) (sym g.after)
           (same_learned _ _ _ _ _ (originated_same (with_port_at q (with_port_metric m g.port) v) id apart))
     ]
+steps_learn (attach a) v id apart late = attached_learned (v.attached ++ a ∷ []) v id apart
+steps_learn (detach p) v id apart late = attached_learned (without_customer_port p v.attached) v id apart
 
 -- ---- of versions alone
 
@@ -282,6 +290,8 @@ came_claimed second l is = absurd cc
 came_claimed (frame q bytes) l is = lsp_claimed (parsed bytes) l is
 came_claimed (carrier q on) l is = absurd cc
 came_claimed (metric q m) l is = absurd cc
+came_claimed (attach a) l is = absurd cc
+came_claimed (detach p) l is = absurd cc
 
 learned_version : (input : Input) (id : LspId) (o n : Option Entry) → LearnedAt (claims_of input) (lsp_of input) id o n → Learned (version_in o) (claims_of input) id (version_in n)
 learned_version input id o n (stays v b) = takes (is_held v)

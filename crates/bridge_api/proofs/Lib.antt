@@ -39,3 +39,5 @@ pub mod Answering
 pub mod Originating
 pub mod OthersRead
 pub mod SaidNeighbours
+pub mod Attached
+pub mod SaidMembers

@@ -1,7 +1,7 @@
 -- How far the own LSP goes by what isn't a claim: it is originated once at most, and carrier that comes originates
 -- nothing.
 use Rattle.std.proofs.Common.{◌≡◌, inl, inr, ◌≤◌, ◌<◌, ◌+◌, ◌-◌, ℕ, zero, suc, Bool, true, false, List, [], ◌∷◌, refl, sym, ap, ◌∙◌, subst, Option, Some, arith}
-use Rattle.std.specs.Prelude.{nat_lt, not, ◌&&◌, ◌==◌, slice_get, slice_set, if◌then◌else◌}
+use Rattle.std.specs.Prelude.{nat_lt, not, ◌&&◌, ◌==◌, slice_get, slice_set, if◌then◌else◌, ◌++◌}
 use Rattle.std.specs.FinMap.{get}
 use Rattle.std.proofs.lemmas.Bool.{lt-ltb, true≢false, eq-eqb}
 use Rattle.std.proofs.lemmas.Slice.Eq.{bytes_eq-Decides}
@@ -27,13 +27,14 @@ use Rattle.bridge_api.specs.Own.{neighbour_in, neighbours_from, body_of, own_ent
 use Rattle.bridge_api.specs.Config.{configured}
 use Rattle.bridge_api.specs.Parsing.{is_hello}
 use Rattle.bridge_api.specs.Hearing.{with_adjacency, changed_at, with_carrier_at}
-use Rattle.bridge_api.specs.Step.{Input, second, frame, carrier, metric, step}
+use Rattle.bridge_api.specs.Services.{without_customer_port}
+use Rattle.bridge_api.specs.Step.{Input, second, frame, carrier, metric, attach, detach, step}
 use Rattle.bridge_api.specs.Laws.{IsSoundView}
 use Rattle.bridge_api.specs.Counting.{IsFar, is_claiming, gain_of, StepsOriginate, StepsDontSpend, ConfiguredIsFar, SomeIsFar}
 use Rattle.bridge_api.proofs.Certified.{steps_keep_bridge}
 use Rattle.bridge_api.proofs.Changes.{carrier_step, found}
 use Rattle.bridge_api.proofs.FewHeld.{configured_holds_few}
-use Rattle.bridge_api.proofs.Growing.{Grows, number_each, number_next, number_put, spent_next, second_grows, hello_grows, carrier_grows, metric_grows}
+use Rattle.bridge_api.proofs.Growing.{Grows, number_each, number_next, number_put, spent_next, second_grows, hello_grows, carrier_grows, metric_grows, attached_grows}
 use Rattle.bridge_api.proofs.HeldIds.{own_is, first_own}
 use Rattle.bridge_api.proofs.Answering.{stands_still, no_hello, frame_answered}
 use Rattle.bridge_api.proofs.Meeting.{small, small_whole}
@@ -130,6 +131,8 @@ step_counts (carrier q true) n v says other low b =
     ]
 step_counts (carrier q false) n v says other low b = carrier_grows Below below_grows n q false v low b
 step_counts (metric q m) n v says other low b = metric_grows Below below_grows n q m v low b
+step_counts (attach a) n v says other low b = attached_grows Below below_grows n (v.attached ++ a ∷ []) v low b
+step_counts (detach p) n v says other low b = attached_grows Below below_grows n (without_customer_port p v.attached) v low b
 
 -- ---- the laws
 
@@ -153,6 +156,8 @@ dont_spend_by true second v claiming was far = absurd cc
 dont_spend_by true (frame q bytes) v claiming was far = (frame_answered q bytes v was far (no_hello (is_hello bytes) claiming)).fresh
 dont_spend_by true (carrier q on) v claiming was far = absurd cc
 dont_spend_by true (metric q m) v claiming was far = absurd cc
+dont_spend_by true (attach a) v claiming was far = absurd cc
+dont_spend_by true (detach p) v claiming was far = absurd cc
 
 pub steps_dont_spend : StepsDontSpend
 steps_dont_spend input v was far = dont_spend_by (is_claiming input) input v refl was far

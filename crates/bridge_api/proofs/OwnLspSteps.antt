@@ -1,6 +1,6 @@
 -- Every step leaves the own LSP of a bridge alive, saying what the bridge has to say.
 use Rattle.std.proofs.Common.{◌≡◌, inl, inr, ◌≤◌, ◌<◌, ◌+◌, ◌-◌, ℕ, zero, suc, Bool, true, false, List, [], ◌∷◌, map, refl, sym, ap, ◌∙◌, subst, Option, Some, None, arith}
-use Rattle.std.specs.Prelude.{◌&&◌, ◌||◌, not, nat_lt, nat_le, slice_set, if◌then◌else◌}
+use Rattle.std.specs.Prelude.{◌&&◌, ◌||◌, not, nat_lt, nat_le, slice_set, if◌then◌else◌, ◌++◌}
 use Rattle.std.specs.Option.{option_map}
 use Rattle.std.specs.FinMap.{get}
 use Rattle.std.proofs.lemmas.Bool.{true≢false, and_parts, or_parts, leb-false, lt-leb}
@@ -30,6 +30,7 @@ use Rattle.spb_content.specs.Local.{content_bytes}
 use Rattle.adjacency.specs.declared.state.AdjacencyChange.{AdjacencyChange}
 use Rattle.adjacency.specs.declared.state.AdjacencyChange.TheVariants.{Kept, CameUp, LeftUp, Discarded}
 use Rattle.adjacency.specs.Adjacency.{after_hello, change_by_hello, after_carrier, change_of}
+use Rattle.spb_types.specs.declared.service.Attachment.{Attachment}
 use Rattle.bridge_api.specs.declared.port.BridgePort.{BridgePort}
 use Rattle.bridge_api.specs.declared.config.BridgeConfig.{BridgeConfig}
 use Rattle.bridge_api.specs.View.{BridgeView, with_port_at, is_port_up, up_ports}
@@ -37,8 +38,9 @@ use Rattle.bridge_api.specs.Own.{neighbour_in, neighbours_from, member_of, body_
 use Rattle.bridge_api.specs.Config.{bare, configured}
 use Rattle.bridge_api.specs.Hearing.{with_csnp_due, with_adjacency, left_up, all_srm_set_at, changed_at, heard_lsp, heard_csnp, heard_psnp, after_receive, with_port_metric}
 use Rattle.bridge_api.specs.Ticking.{leaving_from, flags_cleared_at_all, counts_lowered, expired, is_old, refreshed, readied, after_sending_at, after_sending_from, after_sending, after_tick}
-use Rattle.bridge_api.specs.Step.{Input, second, frame, carrier, metric, step}
-use Rattle.bridge_api.proofs.Changes.{frame_step, idle, by_hello, by_lsp, by_csnp, by_psnp, carrier_step, metric_step, originated_if_changed_ports, tick_is}
+use Rattle.bridge_api.specs.Services.{with_attached, without_customer_port}
+use Rattle.bridge_api.specs.Step.{Input, second, frame, carrier, metric, attach, detach, step}
+use Rattle.bridge_api.proofs.Changes.{frame_step, idle, by_hello, by_lsp, by_csnp, by_psnp, carrier_step, metric_step, originated_if_changed_ports, tick_is, attached_to, with_attached_is}
 use Rattle.bridge_api.proofs.DataSteps.{configured_holds_own}
 use Rattle.bridge_api.proofs.OwnLsp.{mapped_alive, lsp_lives, entries_live, csnp_lives}
 
@@ -293,6 +295,9 @@ frame_saying q bytes v was =
       | by_psnp g ↦ subst IsSaying (sym g.after) (originated_if_changed_saying (heard_psnp g.entries q v) (heard_psnp_lives g.entries q v was.alive))
     ]
 
+attached_saying : (attached : List Attachment) (v : BridgeView) → IsSaying v → IsSaying (with_attached attached v)
+attached_saying attached v was = subst IsSaying (sym (with_attached_is attached v)) (originated_if_changed_saying (attached_to attached v) was.alive)
+
 pub steps_stay_saying : (input : Input) (v : BridgeView) → IsSaying v → IsSaying (step input v)
 steps_stay_saying second v was = tick_saying v was
 steps_stay_saying (frame q bytes) v was = frame_saying q bytes v was
@@ -306,6 +311,8 @@ steps_stay_saying (metric q m) v was =
       | inl e ↦ subst IsSaying (sym e) was
       | inr g ↦ subst IsSaying (sym g.after) (originated_if_changed_saying (with_port_at q (with_port_metric m g.port) v) was.alive)
     ]
+steps_stay_saying (attach a) v was = attached_saying (v.attached ++ a ∷ []) v was
+steps_stay_saying (detach p) v was = attached_saying (without_customer_port p v.attached) v was
 
 -- ---- the configured bridge
 

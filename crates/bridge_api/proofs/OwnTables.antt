@@ -16,6 +16,7 @@ use Rattle.ect_trees.specs.Laws as sight
 use Rattle.ect_trees.specs.Laws.{IsPartOf}
 use Rattle.ect_trees.proofs.Reached.{part_looks_alike}
 use Rattle.fdb_build.proofs.TableLemmas.{same_rows}
+use Rattle.fdb_build.proofs.GroupLemmas.{same_groups}
 use Rattle.spb_content.specs.Graph as said
 use Rattle.spb_content.specs.Graph.{Contents, systems_in, said_of, link_said, cost_said, IsGraphOf}
 use Rattle.spb_content.specs.Building.{has_inst, said_graph}
@@ -96,7 +97,10 @@ cut_says_nothing v g few own valid =
     let apart : IsDistinct (systems_in list) = reads_each_once v in
     let all : HasAllLinks list (said_graph list) = said_graph_has_all_links list apart few in
     let look = part_looks_alike (said_graph list) g v.id.system (is_part list v.id.system g apart all own) in
-    sym (same_rows (said_graph list) g v.id.system v.vids all.valid valid look)
+    (
+      sym (same_rows (said_graph list) g v.id.system v.vids all.valid valid look),
+      sym (same_groups (said_graph list) g v.id.system v.vids all.valid valid look),
+    )
 
 -- ---- a bridge that holds nothing has the graph without bridges
 

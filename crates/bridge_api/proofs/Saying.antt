@@ -51,7 +51,7 @@ different_at n m ns true t (inr h) rest = rest h
 different_at n m ns false t (inl e) rest = inl e
 different_at n m ns false t (inr h) rest = inr (rest h)
 
-has_different : (n : ℕ) (ns : List ℕ) → Has n ns → Has n (different ns)
+pub has_different : (n : ℕ) (ns : List ℕ) → Has n ns → Has n (different ns)
 has_different n [] h = h
 has_different n (m ∷ ns) h = different_at n m ns (list_any (nat_eq m) ns) refl h (has_different n ns)
 

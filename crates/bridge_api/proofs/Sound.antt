@@ -5,6 +5,7 @@ use Rattle.bridge_api.specs.Own.{IsOwnLspCurrent}
 use Rattle.bridge_api.specs.Config.{configured}
 use Rattle.bridge_api.specs.Step.{step}
 use Rattle.bridge_api.specs.Laws.{ConfiguredIsSound, StepsStaySound}
+use Rattle.bridge_api.proofs.Attached.{with_attached_after, config_after}
 use Rattle.bridge_api.proofs.Certified.{steps_keep_bridge, step_rest}
 use Rattle.bridge_api.proofs.Data.{Holds, has_lsps}
 use Rattle.bridge_api.proofs.SoundPorts.{ports_stay_sound, config_kept, configured_config, configured_sound, configured_has_no_carrier}
@@ -27,7 +28,7 @@ pub steps_stay_sound : StepsStaySound
 steps_stay_sound input v is was =
     let held : Holds (step input v) = step_holds input v is was in
     record {
-      config = config_kept v (step input v) (step_rest input v) was.config;
+      config = config_kept (with_attached_after input v) (step input v) (step_rest input v) (config_after input v is was.config);
       few = omega (arith, (steps_keep_bridge input v).ports, was.few);
       ports = ports_stay_sound input v is was.ports;
       database = has_lsps (step input v) held;

@@ -1,6 +1,6 @@
 -- The ports of a bridge and its configuration stay sound.
 use Rattle.std.proofs.Common.{◌≡◌, inl, inr, ◌-◌, ℕ, zero, suc, Bool, true, false, List, [], ◌∷◌, map, refl, sym, ap, ◌∙◌, subst, Option, Some, None}
-use Rattle.std.specs.Prelude.{slice_get, slice_set, nat_le, ◌==◌, if◌then◌else◌}
+use Rattle.std.specs.Prelude.{slice_get, slice_set, nat_le, ◌==◌, if◌then◌else◌, ◌++◌}
 use Rattle.std.specs.List.{AllByRecursion}
 use Rattle.std.proofs.lemmas.List.{length-map}
 use Rattle.std.proofs.lemmas.Bool.{and_parts}
@@ -24,10 +24,11 @@ use Rattle.bridge_api.specs.Parsing as parsing
 use Rattle.bridge_api.specs.Hearing.{with_csnp_due, with_adjacency, after_receive, with_carrier, with_port_metric, with_metric}
 use Rattle.bridge_api.specs.Ports.{noted, heard_hello_port, with_carrier_port}
 use Rattle.bridge_api.specs.Ticking.{later}
-use Rattle.bridge_api.specs.Step.{Input, second, frame, carrier, metric, step}
+use Rattle.bridge_api.specs.Services.{without_customer_port}
+use Rattle.bridge_api.specs.Step.{Input, second, frame, carrier, metric, attach, detach, step}
 use Rattle.bridge_api.specs.Laws.{IsSoundPort, HasConfig, IsInput, ConfiguredHasNoCarrier}
 use Rattle.bridge_api.proofs.Adjacent.{came_up, stayed_up, hello_sound, second_sound, carrier_sound, not_discarded}
-use Rattle.bridge_api.proofs.Changes.{KeepsRest, found, frame_ports, heard_hello_ports, carrier_step, with_carrier_ports, metric_step, with_metric_ports, tick_ports, configured_ports}
+use Rattle.bridge_api.proofs.Changes.{KeepsRest, found, frame_ports, heard_hello_ports, carrier_step, with_carrier_ports, metric_step, with_metric_ports, with_attached_ports, tick_ports, configured_ports}
 use Rattle.bridge_api.proofs.Certified.{end_in}
 use Rattle.bridge_api.proofs.Heard.{pdu_in, heard_pdu}
 
@@ -143,6 +144,8 @@ ports_stay_sound (metric q m) v is was =
       | inl e ↦ subst (λ (u : BridgeView). AreSoundPorts u.ports) (sym e) was
       | inr g ↦ one_sound v (with_metric q m v) q (with_port_metric m g.port) was (with_metric_sound m g.port is (sound_at v q g.port was g.there)) (ap (λ (u : BridgeView). u.ports) g.after ∙ with_metric_ports q m g.port v)
     ]
+ports_stay_sound (attach a) v is was = subst AreSoundPorts (sym (with_attached_ports (v.attached ++ a ∷ []) v)) was
+ports_stay_sound (detach p) v is was = subst AreSoundPorts (sym (with_attached_ports (without_customer_port p v.attached) v)) was
 
 -- ---- the configuration
 

@@ -1,6 +1,6 @@
 -- No version that is held falls in a step, and the neighbour at each Up port is no further behind.
 use Rattle.std.proofs.Common.{◌≡◌, ◌≢◌, ◌⊎◌, inl, inr, ◌≤◌, ◌+◌, ◌-◌, ℕ, suc, Bool, true, false, List, [], ◌∷◌, length, map, refl, sym, ap, ◌∙◌, subst, Option, Some, None, Result, Ok, Err, arith, ⊎_elim}
-use Rattle.std.specs.Prelude.{⊤, ◌&&◌, ◌||◌, not, nat_le, slice_get, slice_set, if◌then◌else◌}
+use Rattle.std.specs.Prelude.{⊤, ◌&&◌, ◌||◌, not, nat_le, slice_get, slice_set, if◌then◌else◌, ◌++◌}
 use Rattle.std.specs.Option.{option_map}
 use Rattle.std.specs.FinMap.{get}
 use Rattle.std.proofs.lemmas.List.{append-nil, length-map, length-set}
@@ -32,6 +32,7 @@ use Rattle.adjacency.specs.declared.state.AdjacencyChange.TheVariants as did
 use Rattle.adjacency.specs.declared.port.Adjacency.{Adjacency}
 use Rattle.adjacency.specs.Hearing.{is_discarded}
 use Rattle.adjacency.specs.Adjacency.{is_up, after_hello_heard, after_hello, change_by_hello, after_carrier, change_of}
+use Rattle.spb_types.specs.declared.service.Attachment.{Attachment}
 use Rattle.bridge_api.specs.declared.port.BridgePort.{BridgePort}
 use Rattle.bridge_api.specs.View.{BridgeView, port_in, port_at, with_port_at, is_port_up, is_up_in, up_from, up_ports, control_of}
 use Rattle.bridge_api.specs.Own.{own_entry, is_said, holding_of, originating, originated_if_changed}
@@ -39,11 +40,12 @@ use Rattle.bridge_api.specs.Parsing.{Parsed, parsed}
 use Rattle.bridge_api.specs.Parsing as parsing
 use Rattle.bridge_api.specs.Hearing.{with_csnp_due, with_adjacency, left_up, all_srm_set_at, entered_up, changed_at, heard_hello, heard_lsp, heard_csnp, heard_psnp, with_csnp, with_psnp, heard_as, heard_at, after_receive, with_carrier_at, with_carrier, with_port_metric, with_metric_at, with_metric}
 use Rattle.bridge_api.specs.Ticking.{later, leaves, leaving_from, flags_cleared_at_all, counts_lowered, expired, is_old, refreshed, readied, after_sending_at, after_sending_from, after_sending, after_tick}
-use Rattle.bridge_api.specs.Step.{second, frame, carrier, metric}
+use Rattle.bridge_api.specs.Services.{with_attached, without_customer_port}
+use Rattle.bridge_api.specs.Step.{second, frame, carrier, metric, attach, detach, step}
 use Rattle.bridge_api.specs.Laws.{claims_or_none, claims_said, StepsCarryDatabase}
 use Rattle.bridge_api.proofs.Adjacent.{second_up, up_since}
 use Rattle.bridge_api.proofs.Places.{got_at}
-use Rattle.bridge_api.proofs.Changes.{found, one_port, originated_if_changed_ports}
+use Rattle.bridge_api.proofs.Changes.{found, one_port, originated_if_changed_ports, attached_to}
 use Rattle.bridge_api.proofs.Data.{up_at, port_range, undue_up}
 
 -- ---- certificates
@@ -253,6 +255,10 @@ with_metric_carries : (q m : ℕ) (o : Option BridgePort) (v : BridgeView) → l
 with_metric_carries q m None v few there = standing 0 [] (control_of v)
 with_metric_carries q m (Some port) v few there = then_originated_if_changed 0 [] v (with_port_at q (with_port_metric m port) v) (kept_carries q port (with_port_metric m port) v (stood v q port few there) (λ up. up))
 
+attached_carries : (attached : List Attachment) (v : BridgeView) → Certificate 0 [] (control_of v) (control_of (with_attached attached v))
+unfolding with_attached
+attached_carries attached v = then_originated_if_changed 0 [] v (attached_to attached v) (standing 0 [] (control_of v))
+
 -- ---- a frame
 
 -- an LSP, or a sequence numbers PDU, is heard at an Up port
@@ -386,3 +392,5 @@ steps_carry_database second v was = tick_carries v was.few
 steps_carry_database (frame q bytes) v was = heard_carries q bytes (port_at v q) v was.few refl
 steps_carry_database (carrier q on) v was = silence_serves_all 0 q [] (control_of v) (control_of (with_carrier q on v)) (with_carrier_carries q on (port_at v q) v was.few refl)
 steps_carry_database (metric q m) v was = silence_serves_all 0 q [] (control_of v) (control_of (with_metric q m v)) (with_metric_carries q m (port_at v q) v was.few refl)
+steps_carry_database (attach a) v was = attached_carries (v.attached ++ a ∷ []) v
+steps_carry_database (detach p) v was = attached_carries (without_customer_port p v.attached) v

@@ -1,6 +1,6 @@
 -- Seconds one after the other, and what they leave of a neighbour from which nothing more is heard.
 use Rattle.std.proofs.Common.{◌≡◌, ◌≢◌, inl, inr, ℕ, zero, suc, ◌+◌, ◌-◌, ◌≤◌, Bool, true, List, [], ◌∷◌, refl, sym, ap, ◌∙◌, subst, Option, Some, None, arith}
-use Rattle.std.specs.Prelude.{slice_set, is_some}
+use Rattle.std.specs.Prelude.{slice_set, is_some, ◌++◌}
 use Rattle.std.specs.List.{AllByRecursion}
 use Rattle.std.specs.Option.{option_map, option_and_then}
 use Rattle.std.proofs.lemmas.Bool.{true≢false}
@@ -14,18 +14,20 @@ use Rattle.adjacency.specs.Hearing.{End}
 use Rattle.adjacency.specs.Adjacency.{SoundIn, IsSound, down, kept_in, neighbour_of, is_up, after_second}
 use Rattle.adjacency.specs.Time.{after_seconds}
 use Rattle.adjacency.proofs.Time.{kept_while_counting, more_seconds, lost_after_count}
+use Rattle.spb_types.specs.declared.service.Attachment.{Attachment}
 use Rattle.bridge_api.specs.declared.port.BridgePort.{BridgePort}
 use Rattle.bridge_api.specs.View.{BridgeView, port_in, port_at, adjacency_at, neighbour_at, is_up_in, is_up_at}
 use Rattle.bridge_api.specs.Parsing.{Parsed, parsed, hello_in}
 use Rattle.bridge_api.specs.Parsing as parsing
 use Rattle.bridge_api.specs.Hearing.{after_receive, with_carrier, with_port_metric, with_metric}
 use Rattle.bridge_api.specs.Ports.{heard_hello_port, with_carrier_port}
-use Rattle.bridge_api.specs.Step.{Input, second, frame, carrier, metric, step}
+use Rattle.bridge_api.specs.Services.{with_attached, without_customer_port}
+use Rattle.bridge_api.specs.Step.{Input, second, frame, carrier, metric, attach, detach, step}
 use Rattle.bridge_api.specs.Laws.{IsSoundView, SomeBridge, with_first_carrier, hearing_from}
 use Rattle.bridge_api.specs.Time.{seconds, IsSilentAt, steps, seconds_in, NeighboursAreKept, IsDown, NeighboursAreLost, KeepsSomebody}
 use Rattle.bridge_api.proofs.Adjacent.{up_keeps}
 use Rattle.bridge_api.proofs.Certified.{steps_keep_bridge}
-use Rattle.bridge_api.proofs.Changes.{found, one_port, frame_ports, heard_hello_ports, carrier_step, with_carrier_ports, metric_step, with_metric_ports, ticked, tick_port}
+use Rattle.bridge_api.proofs.Changes.{found, one_port, frame_ports, heard_hello_ports, carrier_step, with_carrier_ports, metric_step, with_metric_ports, ticked, tick_port, with_attached_ports}
 use Rattle.bridge_api.proofs.Meeting.{some_bridge}
 use Rattle.bridge_api.proofs.Sound.{steps_stay_sound}
 use Rattle.bridge_api.proofs.SoundPorts.{AreSoundPorts, sound_at}
@@ -112,6 +114,10 @@ metric_silent v q p m =
       | inr g ↦ beside v (with_metric q m v) q p g.port (with_port_metric m g.port) g.there (ap (λ (u : BridgeView). u.ports) g.after ∙ with_metric_ports q m g.port v) (λ here. refl)
     ]
 
+attached_silent : (attached : List Attachment) (v : BridgeView) (p : ℕ) → adjacency_at (with_attached attached v) p ≡ adjacency_at v p
+unfolding adjacency_at
+attached_silent attached v p = ap (λ (list : List BridgePort). adjacency_in (port_in list p)) (with_attached_ports attached v)
+
 -- so of silent inputs only the seconds count
 silent_steps : (inputs : List Input) (v : BridgeView) (p : ℕ) (a : Adjacency) → AllByRecursion (IsSilentAt p) inputs → adjacency_at v p ≡ Some a → adjacency_at (steps inputs v) p ≡ Some (after_seconds (seconds_in inputs) a)
 unfolding after_seconds
@@ -122,6 +128,8 @@ silent_steps (second ∷ inputs) v p a all there =
 silent_steps (frame q bytes ∷ inputs) v p a all there = silent_steps inputs (step (frame q bytes) v) p a all.1 (frame_silent v q p bytes all.0 ∙ there)
 silent_steps (carrier q on ∷ inputs) v p a all there = silent_steps inputs (step (carrier q on) v) p a all.1 (carrier_silent v q p on all.0 ∙ there)
 silent_steps (metric q m ∷ inputs) v p a all there = silent_steps inputs (step (metric q m) v) p a all.1 (metric_silent v q p m ∙ there)
+silent_steps (attach x ∷ inputs) v p a all there = silent_steps inputs (step (attach x) v) p a all.1 (attached_silent (v.attached ++ x ∷ []) v p ∙ there)
+silent_steps (detach q ∷ inputs) v p a all there = silent_steps inputs (step (detach q) v) p a all.1 (attached_silent (without_customer_port q v.attached) v p ∙ there)
 
 pub neighbours_are_kept : NeighboursAreKept
 neighbours_are_kept v p a n inputs left there kept all count some =

@@ -12,7 +12,7 @@ use Rattle.bridge_api.specs.View.{BridgeView}
 use Rattle.bridge_api.specs.Config.{configured}
 use Rattle.bridge_api.specs.Parsing.{parsed}
 use Rattle.bridge_api.specs.Parsing as parsing
-use Rattle.bridge_api.specs.Step.{Input, second, frame, carrier, metric, step, sent}
+use Rattle.bridge_api.specs.Step.{Input, second, frame, carrier, metric, attach, detach, step, sent}
 
 -- of a system: at most k LSPs are held, the own one is at number k at most, and the sequence numbers aren't spent
 pub record Within (k : ℕ) (system : SystemId) (db : Lsps) (spent : Bool) : Type 0 where
@@ -29,6 +29,8 @@ IsHelloAlone second = ⊤
 IsHelloAlone (frame p bytes) = (h : HelloValue) × (way : ThreeWay) × (parsed bytes ≡ parsing.hello h way)
 IsHelloAlone (carrier p on) = ⊤
 IsHelloAlone (metric p m) = ⊤
+IsHelloAlone (attach a) = ⊤
+IsHelloAlone (detach p) = ⊤
 
 -- a configured bridge holds its own LSP at number 1
 abbrev pub ConfiguredHoldsFew : Type 0

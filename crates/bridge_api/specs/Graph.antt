@@ -1,14 +1,21 @@
 -- The graph that a bridge reads from the LSPs that it holds (RFC 6329, 15 and 16; IEEE 802.1aq, 28).
-use Rattle.std.specs.Prelude.{◌≡◌, ◌↔◌, ℕ, ◌≤◌, List, [], length, true, false, Option, Some, None, if◌then◌else◌, Contains, ◌-◌, slice_get}
-use Rattle.std.specs.Option.{option_map}
+use Rattle.std.specs.Prelude.{◌≡◌, ◌↔◌, ℕ, ◌≤◌, List, [], length, true, false, Option, Some, None, if◌then◌else◌, ◌==◌, Contains, ◌-◌, slice_get, find}
+use Rattle.std.specs.Option.{option_map, option_and_then}
 use Rattle.std.specs.List.{filter_map}
 use Rattle.std.specs.FinMap.{get, entries}
 use Rattle.spb_types.specs.declared.address.SystemId.{SystemId}
 use Rattle.spb_types.specs.declared.address.LspId.{LspId}
 use Rattle.spb_types.specs.declared.graph.Graph.{Graph}
+use Rattle.spb_types.specs.declared.graph.Member.{Member}
+use Rattle.spb_types.specs.declared.service.Vid.{Vid}
+use Rattle.spb_types.specs.declared.service.VidPlan.{VidPlan}
+use Rattle.spb_types.specs.declared.service.Attachment.{Attachment}
 use Rattle.spb_types.specs.declared.tables.Tables.{Tables}
+use Rattle.spb_types.specs.declared.tables.Path.{Path}
 use Rattle.spb_types.specs.declared.limits.TheConstants.{MOST_GRAPH_BRIDGES}
 use Rattle.spb_types.specs.Graph.{IsDistinct, IsValid}
+use Rattle.spb_types.specs.Ect.{mask_of}
+use Rattle.ect_trees.specs.Tree.{best_path}
 use Rattle.spb_tlvs.specs.declared.neighbours.Neighbour.{Neighbour}
 use Rattle.lsdb.specs.declared.version.Version.{Version}
 use Rattle.lsdb.specs.declared.version.Version.TheVariants.{Absent, Live, Dead}
@@ -19,11 +26,12 @@ use Rattle.flooding.specs.Own.{own_id, is_originated, tlvs_of_body}
 use Rattle.spb_content.specs.declared.content.Content.{Content}
 use Rattle.spb_content.specs.Content.{content_in}
 use Rattle.spb_content.specs.Local.{content_bytes, said_by}
-use Rattle.spb_content.specs.Graph.{Contents, systems_in, IsGraphOf, HasOwnPorts}
+use Rattle.spb_content.specs.Graph.{Contents, systems_in, members_of, IsGraphOf, HasOwnPorts}
 use Rattle.spb_content.specs.Building.{said_graph}
 use Rattle.fdb_build.specs.Tables.{unicast_rows}
+use Rattle.fdb_build.specs.Groups.{group_rows}
 use Rattle.bridge_api.specs.View.{BridgeView, metrics_of, is_up_at, neighbour_at}
-use Rattle.bridge_api.specs.Own.{local_of}
+use Rattle.bridge_api.specs.Own.{member_of, local_of}
 use Rattle.bridge_api.specs.Laws.{IsSoundView}
 
 -- what an LSP of this version and body says, if it is live
@@ -97,21 +105,47 @@ pub record IsUpNeighbour (v : BridgeView) (n : Neighbour) : Type 0 where
 abbrev pub SaysItsNeighbours : Type 0
 SaysItsNeighbours = (v : BridgeView) (n : Neighbour) → Contains (local_of v).neighbours n ↔ IsUpNeighbour v n
 
+-- ---- of which services it says that it is a member
+
+-- a customer port of the bridge is attached so
+abbrev pub IsMemberBy : BridgeView → Member → Type 0
+IsMemberBy v m = (a : Attachment) × Contains v.attached a × (m ≡ member_of v.id.system a)
+
+-- a bridge says that it is a member of the services to which its customer ports are attached, in their VIDs, and of no
+-- others
+abbrev pub MembersAreSaid : Type 0
+MembersAreSaid = (v : BridgeView) (m : Member)
+    → Contains (members_of (v.id.system, said_by (local_of v))) m ↔ IsMemberBy v m
+
 -- ---- its tables
 
 -- the graph of all that it reads, reached or not
 abbrev pub read_graph : BridgeView → Graph
 read_graph v = said_graph (contents_of v)
 
--- the tables of a bridge: its unicast rows in that graph (IEEE 802.1aq, 8.8 and 28.10). There are no group rows yet
+-- the tables of a bridge: its unicast rows and its group rows in that graph (IEEE 802.1aq, 8.8 and 28.10)
 unfoldable pub own_tables : BridgeView → Tables
-own_tables v = record { unicast = unicast_rows (read_graph v) v.id.system v.vids; group = [] }
+own_tables v = record {
+  unicast = unicast_rows (read_graph v) v.id.system v.vids;
+  group = group_rows (read_graph v) v.id.system v.vids;
+}
+
+-- what is planned for a VID
+abbrev pub plan_of : List VidPlan → Vid → Option VidPlan
+plan_of plans vid = find (λ plan. plan.vid.value == vid.value) plans
+
+-- the best path of a bridge to a system in a VID, with its cost, in that graph: by the ECT algorithm that is planned
+-- for the VID, and none where none is (IEEE 802.1aq, 28.5 to 28.8)
+unfoldable pub own_path : BridgeView → SystemId → Vid → Option Path
+own_path v to vid = option_and_then (λ plan. best_path (read_graph v) (mask_of plan.ect) v.id.system to)
+    (plan_of v.vids vid)
 
 -- what it doesn't reach says nothing: the rows are those in its own graph
 abbrev pub CutSaysNothing : Type 0
 CutSaysNothing = (v : BridgeView) (g : Graph)
     → length (contents_of v) ≤ MOST_GRAPH_BRIDGES → IsOwnGraph v g → IsValid g
-    → unicast_rows g v.id.system v.vids ≡ unicast_rows (read_graph v) v.id.system v.vids
+    → (unicast_rows g v.id.system v.vids ≡ unicast_rows (read_graph v) v.id.system v.vids)
+    × (group_rows g v.id.system v.vids ≡ group_rows (read_graph v) v.id.system v.vids)
 
 -- there are such a bridge and graph
 pub record SomeGraphIsOwn : Type 0 where

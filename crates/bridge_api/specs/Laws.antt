@@ -1,5 +1,5 @@
 -- What every step of a bridge keeps, whatever comes to it: the facts that a network rests on.
-use Rattle.std.specs.Prelude.{◌≡◌, ◌≢◌, ◌⊎◌, ℕ, ◌-◌, ◌≤◌, ◌<◌, nat_le, List, [], ◌∷◌, length, map, count_by, slice_set, Bool, true, false, ◌==◌, ◌&&◌, if◌then◌else◌, Option, Some, None, Result, Ok, Err, ⊤}
+use Rattle.std.specs.Prelude.{◌≡◌, ◌≢◌, ◌⊎◌, ℕ, ◌-◌, ◌≤◌, ◌<◌, nat_le, List, [], ◌∷◌, ◌++◌, length, map, count_by, slice_set, Bool, true, false, ◌==◌, ◌&&◌, if◌then◌else◌, Option, Some, None, Result, Ok, Err, ⊤}
 use Rattle.std.specs.List.{AllByRecursion}
 use Rattle.std.specs.Option.{option_map}
 use Rattle.std.specs.FinMap.{get}
@@ -7,6 +7,7 @@ use Rattle.spb_types.specs.declared.address.Mac.{Mac}
 use Rattle.spb_types.specs.declared.address.LspId.{LspId}
 use Rattle.spb_types.specs.declared.service.Vid.{Vid}
 use Rattle.spb_types.specs.declared.service.Isid.{Isid}
+use Rattle.spb_types.specs.declared.service.Attachment.{Attachment}
 use Rattle.spb_types.specs.Ports.{has, no_ports}
 use Rattle.isis_pdu.specs.Pdu.{HelloValue, LspValue, CsnpValue, PsnpValue}
 use Rattle.isis_pdu.specs.Spelling.{hello_bytes, lsp_bytes, csnp_bytes, psnp_bytes}
@@ -44,7 +45,8 @@ use Rattle.bridge_api.specs.Config.{IsWhole, IsOwnMac, IsMetric, IsAttachment, A
 use Rattle.bridge_api.specs.Parsing.{Parsed, hello_in, parsed, is_hello}
 use Rattle.bridge_api.specs.Parsing as parsing
 use Rattle.bridge_api.specs.Hearing.{with_carrier}
-use Rattle.bridge_api.specs.Step.{Input, second, frame, carrier, metric, step, sent}
+use Rattle.bridge_api.specs.Services.{IsAttachedPort, CanAttach, without_customer_port}
+use Rattle.bridge_api.specs.Step.{Input, second, frame, carrier, metric, attach, detach, step, sent}
 
 -- a port whose adjacency is sound, with a neighbour of six bytes if it keeps one, where CSNPs are due only if it is Up,
 -- and whose link has a metric
@@ -54,7 +56,7 @@ pub record IsSoundPort (port : BridgePort) : Type 0 where
   pub csnp_due : port.csnp_due ≡ true → is_port_up port ≡ true
   pub metric : IsMetric port.metric
 
--- what a whole configuration gives a bridge, and no step changes
+-- what a whole configuration gives a bridge, and every step keeps
 pub record HasConfig (v : BridgeView) : Type 0 where
   pub priority : v.id.priority < 65536
   pub system : IsOwnMac v.id.system.mac
@@ -113,12 +115,14 @@ pub record HoldsOwnAlone (c : BridgeConfig) (v : BridgeView) : Type 0 where
 abbrev pub ConfiguredHoldsOwn : Type 0
 ConfiguredHoldsOwn = (c : BridgeConfig) → HoldsOwnAlone c (configured c)
 
--- what can come to a bridge: a metric is one of a link
+-- what can come to a bridge: a metric is one of a link, and a customer port can be attached so, or is attached
 abbrev pub IsInput : BridgeView → Input → Type 0
 IsInput v second = ⊤
 IsInput v (frame q bytes) = ⊤
 IsInput v (carrier q on) = ⊤
 IsInput v (metric q m) = IsMetric m
+IsInput v (attach a) = CanAttach v a
+IsInput v (detach p) = IsAttachedPort v p
 
 abbrev pub StepsStaySound : Type 0
 StepsStaySound = (input : Input) (v : BridgeView) → IsInput v input → IsSoundView v → IsSoundView (step input v)
@@ -129,14 +133,25 @@ metrics_after second metrics = metrics
 metrics_after (frame q bytes) metrics = metrics
 metrics_after (carrier q on) metrics = metrics
 metrics_after (metric q m) metrics = if nat_le 1 q then slice_set metrics (q - 1) m else metrics
+metrics_after (attach a) metrics = metrics
+metrics_after (detach p) metrics = metrics
 
--- the same bridge: its ids, its VIDs, what is attached, the number of its ports, and their metrics but for one that is
--- set
+-- a customer port is attached and detached by an input that says so, and by nothing else
+abbrev pub attached_after : Input → List Attachment → List Attachment
+attached_after second attached = attached
+attached_after (frame q bytes) attached = attached
+attached_after (carrier q on) attached = attached
+attached_after (metric q m) attached = attached
+attached_after (attach a) attached = attached ++ a ∷ []
+attached_after (detach p) attached = without_customer_port p attached
+
+-- the same bridge: its ids, its VIDs, the number of its ports, their metrics but for one that is set, and what is
+-- attached but for a customer port that is attached or detached
 pub record IsSameBridge (input : Input) (v w : BridgeView) : Type 0 where
   pub id : w.id ≡ v.id
   pub source : w.source ≡ v.source
   pub vids : w.vids ≡ v.vids
-  pub attached : w.attached ≡ v.attached
+  pub attached : w.attached ≡ attached_after input v.attached
   pub ports : length w.ports ≡ length v.ports
   pub metrics : metrics_of w.ports ≡ metrics_after input (metrics_of v.ports)
   pub failed : w.failed ≡ v.failed
@@ -150,6 +165,8 @@ carrier_after second p was = was
 carrier_after (frame q bytes) p was = was
 carrier_after (carrier q on) p was = if p == q then on else was
 carrier_after (metric q m) p was = was
+carrier_after (attach a) p was = was
+carrier_after (detach q) p was = was
 
 abbrev pub StepsKeepCarrier : Type 0
 StepsKeepCarrier = (input : Input) (v : BridgeView) (p : ℕ) → IsPort v p
@@ -165,6 +182,8 @@ IsHeard second p n = ⊥
 IsHeard (frame q bytes) p n = (q ≡ p) × (hello_sender (parsed bytes) ≡ Some n)
 IsHeard (carrier q on) p n = ⊥
 IsHeard (metric q m) p n = ⊥
+IsHeard (attach a) p n = ⊥
+IsHeard (detach q) p n = ⊥
 
 -- a neighbour that is kept was kept before, or is the end that was just heard
 abbrev pub StepsKeepNeighbours : Type 0
@@ -273,18 +292,22 @@ EnteringUpIsWhole = (input : Input) (v : BridgeView) (p : ℕ) → IsSoundView v
 abbrev pub UpPortsAreUp : Type 0
 UpPortsAreUp = (v : BridgeView) (p : ℕ) → IsSoundView v → has (up_ports v) p ≡ is_up_at v p
 
--- the port at which something came in, and what was claimed in it
+-- the backbone port at which something came in, and what was claimed in it
 abbrev pub port_of : Input → ℕ
 port_of second = 0
 port_of (frame p bytes) = p
 port_of (carrier p on) = p
 port_of (metric p m) = p
+port_of (attach a) = 0
+port_of (detach p) = 0
 
 abbrev pub claims_of : Input → List Claim
 claims_of second = []
 claims_of (frame p bytes) = claims_said (parsed bytes)
 claims_of (carrier p on) = []
 claims_of (metric p m) = []
+claims_of (attach a) = []
+claims_of (detach p) = []
 
 -- no version falls, and the neighbour at each Up port is no further behind
 abbrev pub StepsCarryDatabase : Type 0

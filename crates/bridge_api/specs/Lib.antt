@@ -2,6 +2,7 @@ pub mod View
 pub mod Shown
 pub mod Own
 pub mod Config
+pub mod Services
 pub mod Parsing
 pub mod Hearing
 pub mod Ports

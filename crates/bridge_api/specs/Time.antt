@@ -19,7 +19,7 @@ use Rattle.bridge_api.specs.View.{BridgeView, adjacency_at, neighbour_at, is_up_
 use Rattle.bridge_api.specs.Own.{body_of, own_of, own_entry, body_in}
 use Rattle.bridge_api.specs.Config.{IsWhole, configured}
 use Rattle.bridge_api.specs.Parsing.{parsed, hello_in}
-use Rattle.bridge_api.specs.Step.{Input, second, frame, carrier, metric, step}
+use Rattle.bridge_api.specs.Step.{Input, second, frame, carrier, metric, attach, detach, step}
 use Rattle.bridge_api.specs.Laws.{IsSoundView}
 
 -- a bridge so many seconds later, where nothing else comes to it
@@ -35,6 +35,8 @@ IsSilentAt p second = ⊤
 IsSilentAt p (frame q bytes) = q ≡ p → hello_in (parsed bytes) ≡ None
 IsSilentAt p (carrier q on) = q ≢ p
 IsSilentAt p (metric q m) = ⊤
+IsSilentAt p (attach a) = ⊤
+IsSilentAt p (detach q) = ⊤
 
 -- a bridge after such inputs, of which the first comes first, and how many of them are seconds
 abbrev pub steps : List Input → BridgeView → BridgeView
@@ -47,6 +49,8 @@ seconds_in (second ∷ inputs) = seconds_in inputs + 1
 seconds_in (frame q bytes ∷ inputs) = seconds_in inputs
 seconds_in (carrier q on ∷ inputs) = seconds_in inputs
 seconds_in (metric q m ∷ inputs) = seconds_in inputs
+seconds_in (attach a ∷ inputs) = seconds_in inputs
+seconds_in (detach q ∷ inputs) = seconds_in inputs
 
 -- where nothing comes to it, a neighbour is kept, in the state that it is in, while some of its holding count is left
 abbrev pub NeighboursAreKept : Type 0

@@ -3,7 +3,7 @@ use crate::kind::Kind;
 use crate::outbox::Outbox;
 use adjacency::Adjacency;
 use lsdb::Held;
-use spb_types::{Mac, NoMemory, Tables, Vid};
+use spb_types::{Isid, Mac, NoMemory, Path, PortSet, SystemId, Tables, Vid};
 
 /// A bridge of the backbone, with its IS-IS control.
 ///
@@ -15,15 +15,16 @@ use spb_types::{Mac, NoMemory, Tables, Vid};
 pub trait Bridge: Drop {
     ghost use Rattle.std.specs.Prelude.{◌≡◌, true, false, IfOk, OnOk, OnErr, IsErr, Some};
     ghost use Rattle.std.specs.Option.{option_map, option_copied};
-    ghost use Rattle.spb_types.specs.Tables.{unicast_in};
+    ghost use Rattle.spb_types.specs.Tables.{unicast_in, group_in};
     ghost use Rattle.lsdb.specs.Database.{keyed};
     ghost use Rattle.bridge_api.specs.Shown.{Shown};
     ghost use Rattle.bridge_api.specs.View.{IsPort, is_csnp_due_at, adjacency_at, has_flags, entry_at};
     ghost use Rattle.bridge_api.specs.Config.{IsWhole, IsMetric, configured};
     ghost use Rattle.bridge_api.specs.Hearing.{after_receive, with_carrier, with_metric};
+    ghost use Rattle.bridge_api.specs.Services.{IsAttachedPort, CanAttach, attachment_of, with_attachment, without_attachment};
     ghost use Rattle.bridge_api.specs.Ticking.{after_tick, sent_in_tick};
     ghost use Rattle.bridge_api.specs.Step.{with_wire, Gains};
-    ghost use Rattle.bridge_api.specs.Graph.{own_tables};
+    ghost use Rattle.bridge_api.specs.Graph.{own_tables, own_path};
 
     /// What is seen of the box: its kind, whether it is blank, and the bridge in it.
     ghost shown: { Self → Shown };
@@ -107,6 +108,32 @@ pub trait Bridge: Drop {
         ensures still_made { (shown self.new).blank ≡ false }
         ensures kind { (shown self.new).kind ≡ (shown self.old).kind };
 
+    /// Attaches a customer port to a service, an I-SID in a base VID (IEEE 802.1ah, 25.10). The port is free and 1 to
+    /// 64; the I-SID is 1 to 16,777,215; the VID is one of the bridge, and that of the other ports of the I-SID; and
+    /// there are at most 60 I-SIDs afterwards. The bridge originates if it has something else to say.
+    fn attach(&mut self, port: u16, isid: Isid, vid: Vid) -> Result<(), NoMemory>
+        requires made { (shown self.old).blank ≡ false }
+        requires can { (shown self.old).view.failed ≡ false →
+            CanAttach (shown self.old).view (attachment_of port isid vid) }
+        ensures view { OnOk result
+            ((shown self.new).view ≡ with_attachment (attachment_of port isid vid) (shown self.old).view) }
+        ensures memory { OnErr result ((shown self.new).view.failed ≡ true) }
+        ensures failed { (shown self.old).view.failed ≡ true →
+            IsErr result × ((shown self.new).view ≡ (shown self.old).view) }
+        ensures still_made { (shown self.new).blank ≡ false }
+        ensures kind { (shown self.new).kind ≡ (shown self.old).kind };
+
+    /// Detaches a customer port that is attached. The bridge originates if it has something else to say.
+    fn detach(&mut self, port: u16) -> Result<(), NoMemory>
+        requires made { (shown self.old).blank ≡ false }
+        requires attached { (shown self.old).view.failed ≡ false → IsAttachedPort (shown self.old).view port }
+        ensures view { OnOk result ((shown self.new).view ≡ without_attachment port (shown self.old).view) }
+        ensures memory { OnErr result ((shown self.new).view.failed ≡ true) }
+        ensures failed { (shown self.old).view.failed ≡ true →
+            IsErr result × ((shown self.new).view ≡ (shown self.old).view) }
+        ensures still_made { (shown self.new).blank ≡ false }
+        ensures kind { (shown self.new).kind ≡ (shown self.old).kind };
+
     /// The adjacency at a port.
     fn adjacent(&self, port: u8) -> Adjacency
         requires made { (shown self.now).blank ≡ false }
@@ -145,6 +172,23 @@ pub trait Bridge: Drop {
         ensures port { IfOk result (λ port.
             port ≡ unicast_in (own_tables (shown self.now).view).unicast vid mac) }
         ensures failed { (shown self.now).view.failed ≡ true → IsErr result };
+
+    /// The ports by which frames to a group address in a base VID leave, by the tables of the bridge; none where they
+    /// have no row for both (IEEE 802.1aq, 8.8). It answers `NoMemory` where it finds none, and where the bridge is
+    /// failed.
+    fn group_ports(&self, vid: Vid, mac: Mac) -> Result<PortSet, NoMemory>
+        requires { (shown self.now).blank ≡ false }
+        ensures ports { IfOk result (λ ports.
+            ports ≡ group_in (own_tables (shown self.now).view).group vid mac) }
+        ensures failed { (shown self.now).view.failed ≡ true → IsErr result };
+
+    /// The best path to a system in a base VID over the LSPs that the bridge holds, with its cost, from this bridge on
+    /// (IEEE 802.1aq, 28.5 to 28.8). None exactly where there is no path, or the VID isn't one of the bridge. The path
+    /// to itself has cost 0 and one bridge. It answers `NoMemory` where it finds none, and where the bridge is failed.
+    fn path(&self, to: SystemId, vid: Vid) -> Result<Option<Path>, NoMemory>
+        requires { (shown self.now).blank ≡ false }
+        ensures path { IfOk result (λ path. path ≡ own_path (shown self.now).view to vid) }
+        ensures failed { (shown self.now).view.failed ≡ true → IsErr result };
 }
 
 impl Bridge for Box<dyn Bridge> {
@@ -182,6 +226,14 @@ impl Bridge for Box<dyn Bridge> {
         (**self).set_metric(port, metric)
     }
 
+    fn attach(&mut self, port: u16, isid: Isid, vid: Vid) -> Result<(), NoMemory> {
+        (**self).attach(port, isid, vid)
+    }
+
+    fn detach(&mut self, port: u16) -> Result<(), NoMemory> {
+        (**self).detach(port)
+    }
+
     fn adjacent(&self, port: u8) -> Adjacency {
         (**self).adjacent(port)
     }
@@ -204,5 +256,13 @@ impl Bridge for Box<dyn Bridge> {
 
     fn unicast_port(&self, vid: Vid, mac: Mac) -> Result<Option<u8>, NoMemory> {
         (**self).unicast_port(vid, mac)
+    }
+
+    fn group_ports(&self, vid: Vid, mac: Mac) -> Result<PortSet, NoMemory> {
+        (**self).group_ports(vid, mac)
+    }
+
+    fn path(&self, to: SystemId, vid: Vid) -> Result<Option<Path>, NoMemory> {
+        (**self).path(to, vid)
     }
 }

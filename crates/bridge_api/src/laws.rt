@@ -2,7 +2,7 @@
 ghost use Rattle.bridge_api.specs.Laws.{ConfiguredIsSound, ConfiguredHasNoCarrier, ConfiguredHoldsOwn, SoundCanSay, StepsStaySound, StepsKeepBridge, StepsKeepCarrier, StepsKeepNeighbours, SentIsSound, OneHello, HellosAreHeard, SentWithCarrier, EnteringUpIsWhole, UpPortsAreUp, StepsCarryDatabase, NeighboursComeUp, SomeBridge};
 ghost use Rattle.bridge_api.specs.Duties.{SecondsServe, SecondsLeaveNothingDue};
 ghost use Rattle.bridge_api.specs.Few.{ConfiguredHoldsFew, StepsHoldFew, SecondsSendFew};
-ghost use Rattle.bridge_api.specs.Graph.{ReadsWhatIsHeld, ReadsEachOnce, ReadsItself, ReadsOthers, OwnPortsAreApart, SaysItsNeighbours, CutSaysNothing, SomeGraphIsOwn};
+ghost use Rattle.bridge_api.specs.Graph.{ReadsWhatIsHeld, ReadsEachOnce, ReadsItself, ReadsOthers, OwnPortsAreApart, SaysItsNeighbours, MembersAreSaid, CutSaysNothing, SomeGraphIsOwn};
 ghost use Rattle.bridge_api.specs.Time.{NeighboursAreKept, NeighboursAreLost, KeepsSomebody, SecondsAge, LspsLast, LspsExpire, SecondsStandStill, SecondsRenew, SecondsSpend, SpentStandsStill, OwnLspLasts, OwnLspIsRenewed, AloneStaysAlone, EveryNineHundred};
 ghost use Rattle.bridge_api.specs.Counting.{StepsHoldIds, StepsLearn, StepsLearnVersions, StepsAnswer, StepsOriginate, StepsDontSpend, ConfiguredIsFar, SomeIsFar};
 
@@ -19,8 +19,8 @@ pub fn bridges_are_sound()
     ensures steps { StepsStaySound }
 {}
 
-/// A bridge keeps its ids, its VIDs, what is attached, and its ports; and the metric and the carrier of a port change
-/// by setting the metric there, and by a change of carrier there, alone.
+/// A bridge keeps its ids, its VIDs, and its ports; the metric and the carrier of a port change by setting the metric
+/// there, and by a change of carrier there, alone; and what is attached changes by attaching and detaching alone.
 pub fn steps_keep_the_bridge()
     ensures bridge { StepsKeepBridge }
     ensures carrier { StepsKeepCarrier }
@@ -53,13 +53,15 @@ pub fn seconds_serve_neighbours()
 /// A bridge reads its graph from the live LSPs that it holds, of each system what that says. A sound one reads of
 /// itself what it has to say, unless its sequence numbers are spent, and each neighbour at a port of its own. Of
 /// another sound one whose numbers aren't spent it reads what that one has to say, where it holds the same of its
-/// system. It says each neighbour at a port that is Up, with the metric there, and no other.
+/// system. It says each neighbour at a port that is Up, with the metric there, and no other; and that it is a member of
+/// each service to which a customer port is attached, in the VID of the port, and of no other.
 pub fn graphs_are_read_from_what_is_held()
     ensures held { ReadsWhatIsHeld }
     ensures once { ReadsEachOnce }
     ensures own { ReadsItself }
     ensures others { ReadsOthers }
     ensures neighbours { SaysItsNeighbours }
+    ensures members { MembersAreSaid }
     ensures ports { OwnPortsAreApart }
 {}
 

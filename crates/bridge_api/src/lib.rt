@@ -24,8 +24,9 @@
 //!    metric. What it makes of the LSPs that are held is said part by part: `counts_lowered`, `expired`, `refreshed`
 //!    and `after_sending` for a tick (`specs/Ticking.antt`), `changed_at` where something came to pass at a port, and
 //!    `heard_lsp`, `heard_csnp` and `heard_psnp` for what is heard of other LSPs (`specs/Hearing.antt`), each with
-//!    `originated_if_changed` after it (`specs/Own.antt`). The lemmas `tick_is`, `heard_is`, `deaf_is`,
-//!    `with_carrier_is` and `with_metric_is` of `proofs/Changes.antt` say that the steps of a view are these, and
+//!    `originated_if_changed` after it (`specs/Own.antt`); so it is where a customer port is attached or detached
+//!    (`specs/Services.antt`). The lemmas `tick_is`, `heard_is`, `deaf_is`,
+//!    `with_carrier_is`, `with_metric_is` and `with_attached_is` of `proofs/Changes.antt` say that the steps of a view are these, and
 //!    `changed_ports`, `heard_hello_ports`, `with_carrier_ports`, `with_metric_ports` and `tick_ports` what becomes of
 //!    the ports.
 //! 5. A test makes boxes of it as `Box<dyn Bridge>` and calls them through the trait, since no proof says that memory

@@ -13,3 +13,6 @@ pub mod Refreshed
 pub mod Messages
 pub mod Keeping
 pub mod OwnTables
+pub mod Anew
+pub mod Tlvless
+pub mod Telling

@@ -1,28 +1,28 @@
 -- What a bridge reads from the LSPs that it holds, entry by entry, and its tables.
-use Rattle.std.proofs.Common.{◌≡◌, ℕ, zero, suc, ◌+◌, ◌≤◌, Bool, true, false, List, [], ◌∷◌, ◌++◌, length, take, slice_get, refl, sym, ap, ◌∙◌, subst, Option, Some, None, Result, Ok, Err, arith, add-one}
-use Rattle.std.specs.Prelude.{◌&&◌, ◌==◌, IfOk}
-use Rattle.std.specs.Option.{option_to_list}
+use Rattle.std.proofs.Common.{cond, ◌≡◌, ℕ, zero, suc, ◌+◌, ◌≤◌, Bool, true, false, List, [], ◌∷◌, ◌++◌, length, take, slice_get, refl, sym, ap, ◌∙◌, subst, Option, Some, None, Result, Ok, Err, arith, add-one}
+use Rattle.std.specs.Prelude.{◌==◌, IfOk}
+use Rattle.std.specs.Option.{option_to_list, option_and_then}
 use Rattle.std.specs.List.{AllByRecursion, filter_map, cons_option}
 use Rattle.std.proofs.lemmas.List.{length-append}
 use Rattle.std.proofs.lemmas.List.Elements.{filter_map-append}
-use Rattle.spb_types.specs.declared.address.LspId.{LspId}
 use Rattle.spb_types.specs.declared.address.SystemId.{SystemId}
+use Rattle.spb_types.specs.declared.service.Vid.{Vid}
 use Rattle.spb_types.specs.declared.service.VidPlan.{VidPlan}
 use Rattle.spb_types.specs.declared.limits.TheConstants.{GREATEST_ECT}
 use Rattle.spb_types.specs.declared.graph.Graph.{Graph}
 use Rattle.spb_types.specs.declared.tables.Tables.{Tables}
-use Rattle.spb_types.specs.Graph.{IsDistinct}
-use Rattle.lsdb.specs.Entry.{Entry}
-use Rattle.flooding.specs.Own.{is_originated}
+use Rattle.spb_types.specs.declared.tables.Path.{Path}
+use Rattle.spb_types.specs.Ect.{mask_of}
+use Rattle.ect_trees.specs.Tree.{Paths, path_in, best_path, GivesBest}
+use Rattle.spb_types.specs.Graph.{IsDistinct, IsValidFor}
 use Rattle.spb_tlvs.specs.Capability.{IsTree}
-use Rattle.spb_content.specs.declared.content.Content.{Content}
 use Rattle.spb_content.specs.Graph.{Contents, systems_in, HasOwnPorts}
 use Rattle.spb_content.specs.Building.{said_graph}
 use Rattle.spb_content.proofs.Members.{weaker}
-use Rattle.spb_content.proofs.Links.{same_self}
 use Rattle.fdb_build.specs.Tables.{ArePlans, unicast_rows}
+use Rattle.fdb_build.specs.Groups.{group_rows}
 use Rattle.bridge_api.specs.View.{BridgeView}
-use Rattle.bridge_api.specs.Graph.{read_entry, contents_of, read_graph, own_tables}
+use Rattle.bridge_api.specs.Graph.{contents_of, read_graph, own_tables, plan_of, own_path}
 use Rattle.bridge_api.specs.Laws.{HasConfig, IsSoundView}
 use Rattle.bridge_api.proofs.Saying.{vids_are_apart}
 use Rattle.bridge_api.proofs.GraphRead.{reads_each_once}
@@ -83,18 +83,30 @@ read_apart v list is = subst (λ (l : Contents). IsDistinct (systems_in l)) (sym
 pub read_own_ports : (v : BridgeView) (list : Contents) → IsSoundView v → list ≡ contents_of v → HasOwnPorts list v.id.system
 read_own_ports v list sound is = subst (λ (l : Contents). HasOwnPorts l v.id.system) (sym is) (own_ports_are_apart v sound)
 
+-- ---- the graph
+
+pub graph_is : {E : Type 0} (v : BridgeView) (list : Contents) (r : Result Graph E) → list ≡ contents_of v → IfOk r (λ g. g ≡ said_graph list) → IfOk r (λ g. g ≡ read_graph v)
+graph_is v list (Ok g) read is = is ∙ ap said_graph read
+graph_is v list (Err e) read is = is
+
+pub graph_valid : {E : Type 0} (v : BridgeView) (list : Contents) (r : Result Graph E) → HasOwnPorts list v.id.system → IfOk r (λ g. (x : SystemId) → HasOwnPorts list x → IsValidFor g x) → IfOk r (λ g. IsValidFor g v.id.system)
+graph_valid v list (Ok g) own is = is v.id.system own
+graph_valid v list (Err e) own is = is
+
 -- ---- the tables
 
-tables_are : (v : BridgeView) (g : Graph) (t : Tables) → g ≡ read_graph v → t.unicast ≡ unicast_rows g v.id.system v.vids → t.group ≡ [] → t ≡ own_tables v
-unfolding own_tables
-tables_are v g t graph rows none =
-    let same : t.unicast ≡ unicast_rows (read_graph v) v.id.system v.vids = rows ∙ ap (λ (h : Graph). unicast_rows h v.id.system v.vids) graph in
-    λ i. record { unicast = same i; group = none i }
+tables_in : Graph → SystemId → List VidPlan → Tables
+tables_in g me vids = record { unicast = unicast_rows g me vids; group = group_rows g me vids }
 
-pub tables_read : {E : Type 0} (v : BridgeView) (list : Contents) (g : Graph) (vids : List VidPlan) (r : Result Tables E) → list ≡ contents_of v → g ≡ said_graph list → vids ≡ v.vids
-    → IfOk r (λ t. (t.unicast ≡ unicast_rows g v.id.system vids) × (t.group ≡ [])) → IfOk r (λ t. t ≡ own_tables v)
-tables_read v list g vids (Ok t) read graph same is = tables_are v g t (graph ∙ ap said_graph read) (is.0 ∙ ap (unicast_rows g v.id.system) same) is.1
-tables_read v list g vids (Err e) read graph same is = is
+tables_are : (v : BridgeView) (g : Graph) (vids : List VidPlan) → g ≡ read_graph v → vids ≡ v.vids → tables_in g v.id.system vids ≡ own_tables v
+unfolding own_tables tables_in
+tables_are v g vids graph same = λ i. tables_in (graph i) v.id.system (same i)
+
+pub tables_read : {E : Type 0} (v : BridgeView) (g : Graph) (vids : List VidPlan) (r : Result Tables E) → g ≡ read_graph v → vids ≡ v.vids
+    → IfOk r (λ t. t ≡ record { unicast = unicast_rows g v.id.system vids; group = group_rows g v.id.system vids }) → IfOk r (λ t. t ≡ own_tables v)
+unfolding tables_in
+tables_read v g vids (Ok t) graph same is = is ∙ tables_are v g vids graph same
+tables_read v g vids (Err e) graph same is = is
 
 -- whether the bridge is failed says nothing of its tables
 tables_unfailed : (failed : Bool) (v : BridgeView) → own_tables v ≡ own_tables (record v { failed = failed })
@@ -105,3 +117,40 @@ pub tables_shown : {E : Type 0} (blank failed : Bool) (m : Machine) (plane : Pla
     → IfOk r (λ t. t ≡ own_tables (view_of m)) → IfOk r (λ t. t ≡ own_tables plane.view)
 tables_shown blank failed m plane (Ok t) same is = is ∙ (tables_unfailed failed (view_of m) ∙ ap (λ (x : Plane). own_tables x.view) same)
 tables_shown blank failed m plane (Err e) same is = is
+
+-- ---- a path
+
+-- what is planned for a VID has the number of an ECT algorithm
+tree_by : (b : Bool) (x p : VidPlan) (rest : Option VidPlan) → IsTree x → (rest ≡ Some p → IsTree p) → cond b (Some x) rest ≡ Some p → IsTree p
+tree_by true x p rest tree later is = let same : x ≡ p = cc in subst IsTree same tree
+tree_by false x p rest tree later is = later is
+
+pub planned_tree : (plans : List VidPlan) (vid : Vid) (p : VidPlan) → AllByRecursion IsTree plans → plan_of plans vid ≡ Some p → IsTree p
+planned_tree [] vid p all is = absurd cc
+planned_tree (x ∷ plans) vid p all is = tree_by (x.vid.value == vid.value) x p (plan_of plans vid) all.0 (planned_tree plans vid p all.1) is
+
+pub path_none : (v : BridgeView) (to : SystemId) (vid : Vid) → plan_of v.vids vid ≡ None → None ≡ own_path v to vid
+unfolding own_path
+path_none v to vid none = sym (ap (option_and_then (λ plan. best_path (read_graph v) (mask_of plan.ect) v.id.system to)) none)
+
+pub path_found : {E : Type 0} (v : BridgeView) (to : SystemId) (vid : Vid) (plan : VidPlan) (r : Result (Option Path) E) → plan_of v.vids vid ≡ Some plan
+    → IfOk r (λ path. path ≡ best_path (read_graph v) (mask_of plan.ect) v.id.system to) → IfOk r (λ path. path ≡ own_path v to vid)
+unfolding own_path
+path_found v to vid plan (Ok path) planned is = is ∙ sym (ap (option_and_then (λ p. best_path (read_graph v) (mask_of p.ect) v.id.system to)) planned)
+path_found v to vid plan (Err e) planned is = is
+
+-- the path that a tree gives, where the graph is what was read
+pub path_of_tree : {E : Type 0} (v : BridgeView) (g : Graph) (mask : ℕ) (to : SystemId) (tree : Paths) (r : Result (Option Path) E) → g ≡ read_graph v → GivesBest g mask v.id.system tree
+    → IfOk r (λ path. path ≡ path_in tree.paths to) → IfOk r (λ path. path ≡ best_path (read_graph v) mask v.id.system to)
+path_of_tree v g mask to tree (Ok path) graph gives is = is ∙ (gives.best to ∙ ap (λ (h : Graph). best_path h mask v.id.system to) graph)
+path_of_tree v g mask to tree (Err e) graph gives is = is
+
+-- whether the bridge is failed says nothing of its paths
+path_unfailed : (failed : Bool) (v : BridgeView) (to : SystemId) (vid : Vid) → own_path v to vid ≡ own_path (record v { failed = failed }) to vid
+unfolding own_path
+path_unfailed failed v to vid = refl
+
+pub path_shown : {E : Type 0} (blank failed : Bool) (m : Machine) (plane : Plane) (to : SystemId) (vid : Vid) (r : Result (Option Path) E) → plane_of blank failed m ≡ plane
+    → IfOk r (λ path. path ≡ own_path (view_of m) to vid) → IfOk r (λ path. path ≡ own_path plane.view to vid)
+path_shown blank failed m plane to vid (Ok path) same is = is ∙ (path_unfailed failed (view_of m) to vid ∙ ap (λ (x : Plane). own_path x.view to vid) same)
+path_shown blank failed m plane to vid (Err e) same is = is

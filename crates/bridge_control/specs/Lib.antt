@@ -1,5 +1,7 @@
 pub mod Ports
 pub mod Machine
 pub mod Message
+pub mod Heard
 pub mod Frames
 pub mod Plane
+pub mod Attaching

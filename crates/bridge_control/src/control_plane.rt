@@ -1,20 +1,23 @@
 ghost use Rattle.std.specs.Prelude.{◌≡◌, true, false, ◌↔◌, IfOk, OnOk, OnErr, IsErr, Some};
 ghost use Rattle.std.specs.Option.{option_map, option_copied};
-ghost use Rattle.spb_types.specs.Tables.{unicast_in};
+ghost use Rattle.spb_types.specs.Tables.{unicast_in, group_in};
 ghost use Rattle.lsdb.specs.Database.{keyed};
 ghost use Rattle.bridge_api.specs.View.{IsPort, is_csnp_due_at, adjacency_at, has_flags, entry_at};
 ghost use Rattle.bridge_api.specs.Config.{IsWhole, IsMetric, configured};
 ghost use Rattle.bridge_api.specs.Hearing.{after_receive, with_carrier, with_metric};
+ghost use Rattle.bridge_api.specs.Services.{IsAttachedPort, CanAttach, attachment_of, with_attachment, without_attachment};
 ghost use Rattle.bridge_api.specs.Ticking.{after_tick, sent_in_tick};
 ghost use Rattle.bridge_api.specs.Step.{with_wire, Gains};
-ghost use Rattle.bridge_api.specs.Graph.{own_tables};
+ghost use Rattle.bridge_api.specs.Graph.{own_tables, own_path};
 
 use crate::machine::Machine;
 use crate::ports::port_at;
 use adjacency::Adjacency;
 use bridge_api::{BridgeConfig, Outbox};
 use lsdb::Held;
-use spb_types::{Mac, NoMemory, Tables, Vid, unicast_of};
+use spb_types::{
+    Attachment, Isid, Mac, NoMemory, Path, PortSet, SystemId, Tables, Vid, group_of, unicast_of,
+};
 use std::alloc::Global;
 use std::marker::Model;
 
@@ -166,6 +169,36 @@ impl ControlPlane {
         ended
     }
 
+    /// Attaches a customer port to a service, an I-SID in a base VID (IEEE 802.1ah, 25.10).
+    pub fn attach(&mut self, port: u16, isid: Isid, vid: Vid) -> Result<(), NoMemory>
+        requires made { self.old.blank ≡ false }
+        requires can { self.old.view.failed ≡ false → CanAttach self.old.view (attachment_of port isid vid) }
+        ensures view { OnOk result (self.new.view ≡ with_attachment (attachment_of port isid vid) self.old.view) }
+        ensures memory { OnErr result (self.new.view.failed ≡ true) }
+        ensures failed { self.old.view.failed ≡ true → IsErr result × (self.new.view ≡ self.old.view) }
+        ensures still_made { self.new.blank ≡ false }
+    {
+        self.refuse_failed()?;
+        let ended = self.machine.attach(Attachment { port, isid, vid });
+        self.failed = ended.is_err();
+        ended
+    }
+
+    /// Detaches a customer port that is attached.
+    pub fn detach(&mut self, port: u16) -> Result<(), NoMemory>
+        requires made { self.old.blank ≡ false }
+        requires attached { self.old.view.failed ≡ false → IsAttachedPort self.old.view port }
+        ensures view { OnOk result (self.new.view ≡ without_attachment port self.old.view) }
+        ensures memory { OnErr result (self.new.view.failed ≡ true) }
+        ensures failed { self.old.view.failed ≡ true → IsErr result × (self.new.view ≡ self.old.view) }
+        ensures still_made { self.new.blank ≡ false }
+    {
+        self.refuse_failed()?;
+        let ended = self.machine.detach(port);
+        self.failed = ended.is_err();
+        ended
+    }
+
     /// The adjacency at a port.
     pub fn adjacent(&self, port: u8) -> Adjacency
         requires made { self.now.blank ≡ false }
@@ -219,5 +252,27 @@ impl ControlPlane {
     {
         let tables = self.tables()?;
         Ok(unicast_of(&tables, vid, mac))
+    }
+
+    /// The ports by which frames to a group address in a base VID leave, by those tables; none where they have no row
+    /// for both.
+    pub fn group_ports(&self, vid: Vid, mac: Mac) -> Result<PortSet, NoMemory>
+        requires { self.now.blank ≡ false }
+        ensures ports { IfOk result (λ ports. ports ≡ group_in (own_tables self.now.view).group vid mac) }
+        ensures failed { self.now.view.failed ≡ true → IsErr result }
+    {
+        let tables = self.tables()?;
+        Ok(group_of(&tables, vid, mac))
+    }
+
+    /// The best path to a system in a base VID over the LSPs that the bridge holds, with its cost. None exactly where
+    /// there is none, or the VID isn't configured (IEEE 802.1aq, 28.5 to 28.8).
+    pub fn path(&self, to: SystemId, vid: Vid) -> Result<Option<Path>, NoMemory>
+        requires { self.now.blank ≡ false }
+        ensures path { IfOk result (λ path. path ≡ own_path self.now.view to vid) }
+        ensures failed { self.now.view.failed ≡ true → IsErr result }
+    {
+        self.refuse_failed()?;
+        self.machine.path(to, vid)
     }
 }

@@ -1,5 +1,5 @@
 //! Hearing a frame.
-ghost use Rattle.std.specs.Prelude.{◌≡◌, ◌≤◌, true, OnOk, length};
+ghost use Rattle.std.specs.Prelude.{◌≡◌, ◌≤◌, true, false, OnOk, length};
 ghost use Rattle.isis_pdu.specs.Pdu.{hello_of, lsp_of, csnp_of, psnp_of};
 ghost use Rattle.flooding.specs.Hearing.{hear_lsp_of};
 ghost use Rattle.flooding.specs.Placing.{holding};
@@ -9,6 +9,7 @@ ghost use Rattle.bridge_api.specs.Parsing as parsing;
 ghost use Rattle.bridge_api.specs.Hearing as api;
 ghost use Rattle.bridge_control.specs.Machine.{view_of, IsReady, IsAfter, hears};
 
+use crate::heard::{HeardHello, put_heard, said_at};
 use crate::machine::Machine;
 use crate::parsing::{Message, parse};
 use crate::ports::{is_up, port_at, put_port};
@@ -30,14 +31,85 @@ impl Machine {
         if !port_at(self.ports.as_slice(), port).adjacency.carrier {
             return Ok(());
         }
+        if self.hear_again(port, frame) {
+            return Ok(());
+        }
+        self.hear_anew(port, frame)
+    }
+
+    /// Hears a frame at a port with carrier if it brings the hello that came last there, and this only begins the
+    /// holding count anew. Tells whether it did, and else changes nothing.
+    fn hear_again(&mut self, port: u8, frame: &[u8]) -> bool
+        requires ready { IsReady self.old }
+        requires port { IsPort (view_of self.old) port }
+        requires carrier { has_carrier_at (view_of self.old) port ≡ true }
+        ensures heard { result ≡ true → IsAfter (api.after_receive port frame.now (view_of self.old)) self.new }
+        ensures kept { result ≡ false → self.new ≡ self.old }
+    {
+        let Some(said) = said_at(self.heard.as_slice(), port, frame) else {
+            return false;
+        };
+        let mut new = port_at(self.ports.as_slice(), port);
+        if !new
+            .adjacency
+            .refresh(self.id.system, port, &said.hello(), &said.way)
+        {
+            return false;
+        }
+        put_port(&mut self.ports, port, new);
+        true
+    }
+
+    /// Hears a frame at a port with carrier.
+    fn hear_anew(&mut self, port: u8, frame: &[u8]) -> Result<(), NoMemory>
+        requires ready { IsReady self.old }
+        requires port { IsPort (view_of self.old) port }
+        requires carrier { has_carrier_at (view_of self.old) port ≡ true }
+        ensures { OnOk result (IsAfter (api.after_receive port frame.now (view_of self.old)) self.new) }
+    {
         match parse(frame) {
-            Message::Hello(hello, way) => self.hear_hello(port, &hello, &way),
+            Message::Hello(hello, way) => self.hear_new_hello(port, frame, &hello, &way),
             Message::Lsp(lsp) => self.hear_lsp(port, &lsp),
             Message::Csnp(csnp) => self.hear_csnp(port, &csnp),
             Message::Psnp(psnp) => self.hear_psnp(port, &psnp),
             Message::Dropped(_) => Ok(()),
             Message::Customer(_) => Ok(()),
         }
+    }
+
+    /// Hears a hello at a port with carrier, and keeps it.
+    fn hear_new_hello(
+        &mut self,
+        port: u8,
+        frame: &[u8],
+        hello: &Hello<'_>,
+        way: &ThreeWay,
+    ) -> Result<(), NoMemory>
+        requires ready { IsReady self.old }
+        requires port { IsPort (view_of self.old) port }
+        requires carrier { has_carrier_at (view_of self.old) port ≡ true }
+        requires state { way.now.state ≤ 2 }
+        requires brings { parsing.parsed frame.now ≡ parsing.hello (hello_of hello.now) way.now }
+        ensures { OnOk result (IsAfter (hears (parsing.hello (hello_of hello.now) way.now) port (view_of self.old)) self.new) }
+    {
+        self.keep_hello(port, frame, hello, way)?;
+        self.hear_hello(port, hello, way)
+    }
+
+    /// Keeps a hello as the one that came last to a port.
+    fn keep_hello(
+        &mut self,
+        port: u8,
+        frame: &[u8],
+        hello: &Hello<'_>,
+        way: &ThreeWay,
+    ) -> Result<(), NoMemory>
+        requires { parsing.parsed frame.now ≡ parsing.hello (hello_of hello.now) way.now }
+        ensures { OnOk result (self.new ≡ record self.old { heard = self.new.heard }) }
+    {
+        let last = HeardHello::new(self.alloc, frame, hello, way)?;
+        put_heard(&mut self.heard, port, last);
+        Ok(())
     }
 
     /// Hears a hello at a port with carrier.

@@ -3,8 +3,9 @@
 //! call as it comes.
 //!
 //! [`ControlPlane`] is a `Machine` with two marks: whether it is blank, and whether a call found no memory. What the
-//! machine makes of a frame stands in `hearing`, of a change at a port in `changing`, and of a second in `ticking`;
-//! what a frame brings in `parsing`, what is sent in `hello` and `sending`, and the tables in `reading`.
+//! machine makes of a frame stands in `hearing`, of a change at a port in `changing`, of a customer port that is attached
+//! or detached in `attaching`, and of a second in `ticking`; what a frame brings in `parsing`, and in `heard` for the
+//! hello that came last to a port; what is sent in `hello` and `sending`, and the tables in `reading`.
 //!
 //! # A kind of bridge
 //!
@@ -21,8 +22,8 @@
 //! With p ports, n LSPs that are held and an own LSP of b bytes:
 //!
 //! - The body of the own LSP is kept. It is made anew, in time and memory of order p + b and for sorting what is
-//!   attached, where a port comes Up or leaves Up, where any neighbour is lost, and where the metric of an Up port is
-//!   set, even to what it was; no other call makes it. A call that made it anew, and one that hears an LSP of the bridge
+//!   attached, where a port comes Up or leaves Up, where any neighbour is lost, where the metric of an Up port is set,
+//!   even to what it was, and where a customer port is attached or detached; no other call makes it. A call that made it anew, and one that hears an LSP of the bridge
 //!   itself or a sequence numbers PDU, compares it with the one that is held: a binary search, and b bytes. Originating
 //!   takes time and memory of order b.
 //! - The hello of each port is kept as a frame, and so is the set of the Up ports. A hello is made anew where the state,
@@ -34,21 +35,25 @@
 //!   to find the ports with SRM and those with SSN; once for each Up port with SRM, for the LSPs to be sent; and twice
 //!   for each Up port with SSN, for the entries and to clear these. It goes over the database once for each port at which
 //!   CSNPs are due and for each at which a neighbour is lost. Memory is taken for what is sent.
-//! - A hello takes time in proportion to its length. One that only begins the holding count anew changes its port and
-//!   nothing else. Memory is taken where a hello changes the state, the neighbour or the circuit at its port, and else
-//!   none. Leaving Up goes over the database once, and entering Up once more.
+//! - A hello takes time in proportion to its length. The one that came last to a port is kept there: where the same
+//!   frame comes again it is compared, and not read. One that only begins the holding count anew changes its port and
+//!   nothing else. Memory is taken where another hello comes than the last time, for its frame, and where one changes
+//!   the state, the neighbour or the circuit at its port. Leaving Up goes over the database once, and entering Up once more.
 //! - An LSP is gone over once for its checksum, and takes a binary search, and a second one and memory for its body if
 //!   it is stored; a sequence numbers PDU takes what `snp_sync` says for its entries.
 //! - Each question about tables makes them anew: it goes over the database once, in time and memory of the bytes of the
 //!   live LSPs, and then takes what the graph of all that they say takes (`spb_content`), and the tables in it
-//!   (`fdb_build`). `unicast_port` makes them for its one answer.
+//!   (`fdb_build`). `unicast_port` and `group_ports` make them for their one answer. `path` makes the graph and one tree
+//!   in it (`ect_trees`), and copies one path.
 //! - No call copies the database.
 #![tactic(auto)]
 
 pub use control_plane::ControlPlane;
 
+mod attaching;
 mod changing;
 mod control_plane;
+mod heard;
 mod hearing;
 mod hello;
 mod machine;

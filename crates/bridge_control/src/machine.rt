@@ -8,6 +8,7 @@ ghost use Rattle.bridge_api.specs.Config as config_specs;
 ghost use Rattle.bridge_api.specs.Ticking as ticking;
 ghost use Rattle.bridge_api.specs.Own as api;
 
+use crate::heard::{HeardHello, none_heard};
 use crate::hello::hellos_of;
 use crate::ports::{attached_members, bare_ports, neighbours_at, up_ports};
 use bridge_api::{BridgeConfig, BridgePort};
@@ -31,7 +32,7 @@ const NO_ID: BridgeId = BridgeId {
 const REFRESH_AT: u16 = 300;
 
 /// What a configured bridge keeps. Between calls `own.body` is what the bridge has to say of itself, `hellos` are the
-/// hellos of its ports, and `up` are those that are Up.
+/// hellos of its ports, and `up` are those that are Up. What is kept of the hellos that came only saves reading them.
 #[derive(Debug, Drop)]
 pub(crate) struct Machine {
     pub(crate) alloc: Global,
@@ -45,6 +46,8 @@ pub(crate) struct Machine {
     /// The hello of each port, as a control frame.
     pub(crate) hellos: Vec<Seq<u8>>,
     pub(crate) up: PortSet,
+    /// The hello that came last to each port.
+    pub(crate) heard: Vec<Option<HeardHello>>,
 }
 
 impl Machine {
@@ -67,6 +70,7 @@ impl Machine {
             },
             hellos: Vec::new(alloc),
             up: PortSet::none(),
+            heard: Vec::new(alloc),
         }
     }
 
@@ -93,6 +97,7 @@ impl Machine {
         let ports = bare_ports(alloc, config.metrics.as_slice())?;
         let hellos = hellos_of(alloc, config.id.system, ports.as_slice())?;
         let up = up_ports(ports.as_slice());
+        let heard = none_heard(alloc, ports.len())?;
         Ok(Machine {
             alloc,
             id: config.id,
@@ -108,6 +113,7 @@ impl Machine {
             },
             hellos,
             up,
+            heard,
         })
     }
 

@@ -1,21 +1,26 @@
-//! The graph that a bridge reads from the LSPs that it holds, and its tables in that graph.
+//! The graph that a bridge reads from the LSPs that it holds, and its tables and paths in that graph.
 ghost use Rattle.std.specs.Prelude.{◌≡◌, ◌≤◌, ◌++◌, length, IfOk, OnOk};
 ghost use Rattle.std.specs.List.{filter_map};
-ghost use Rattle.std.specs.Option.{option_to_list};
+ghost use Rattle.std.specs.Option.{option_to_list, option_copied};
 ghost use Rattle.std.specs.FinMap.{entries};
 ghost use Rattle.spb_types.specs.declared.limits.TheConstants.{MOST_LSPS};
+ghost use Rattle.spb_types.specs.Graph.{IsValidFor};
+ghost use Rattle.spb_types.specs.Ect.{mask_of};
+ghost use Rattle.ect_trees.specs.Tree.{best_path};
 ghost use Rattle.flooding.specs.Own as own;
 ghost use Rattle.lsdb.specs.Database.{keyed};
 ghost use Rattle.bridge_api.specs.Graph as read;
-ghost use Rattle.bridge_api.specs.Graph.{own_tables};
+ghost use Rattle.bridge_api.specs.Graph.{own_tables, own_path};
 ghost use Rattle.bridge_api.specs.Laws.{IsSoundView};
 ghost use Rattle.bridge_control.specs.Machine.{view_of};
 
 use crate::machine::Machine;
+use ect_trees::tree_from;
 use fdb_build::tables_of;
 use lsdb::{Database, Held, Version};
 use spb_content::{Content, read_content, said_graph_of};
-use spb_types::{LspId, NoMemory, SystemId, Tables};
+use spb_types::limits::GREATEST_ECT;
+use spb_types::{Graph, LspId, NoMemory, Path, SystemId, Tables, Vid, VidPlan, ect_mask};
 use std::alloc::Global;
 
 /// The TLVs of a body, which follow its flags octet (ISO/IEC 10589, 9.8).
@@ -88,13 +93,54 @@ fn contents(alloc: Global, db: &Database) -> Result<Vec<(SystemId, Content)>, No
 }
 
 impl Machine {
-    /// The tables of the bridge in the graph of all that it reads.
+    /// The graph of all that the bridge reads.
+    fn graph(&self) -> Result<Graph, NoMemory>
+        requires { IsSoundView (view_of self.now) }
+        ensures graph { IfOk result (λ g. g ≡ read.read_graph (view_of self.now)) }
+        ensures valid { IfOk result (λ g. IsValidFor g self.now.id.system) }
+    {
+        let list = contents(self.alloc, &self.db)?;
+        said_graph_of(self.alloc, list.as_slice())
+    }
+
+    /// The tables of the bridge in that graph.
     pub(crate) fn tables(&self) -> Result<Tables, NoMemory>
         requires { IsSoundView (view_of self.now) }
         ensures { IfOk result (λ t. t ≡ own_tables (view_of self.now)) }
     {
-        let list = contents(self.alloc, &self.db)?;
-        let graph = said_graph_of(self.alloc, list.as_slice())?;
+        let graph = self.graph()?;
         tables_of(self.alloc, &graph, self.id.system, self.vids.as_slice())
+    }
+
+    /// What is planned for a VID. None exactly where the VID isn't configured.
+    fn plan(&self, vid: Vid) -> Option<&VidPlan>
+        ensures { option_copied result ≡ read.plan_of self.now.vids vid }
+    {
+        self.vids.iter().find(|plan| plan.vid == vid)
+    }
+
+    /// The best path of the bridge to a system by an ECT algorithm, in that graph. None exactly where there is none.
+    fn path_by(&self, to: SystemId, ect: u8) -> Result<Option<Path>, NoMemory>
+        requires sound { IsSoundView (view_of self.now) }
+        requires low { 1 ≤ ect }
+        requires high { ect ≤ GREATEST_ECT }
+        ensures { IfOk result (λ path.
+            path ≡ best_path (read.read_graph (view_of self.now)) (mask_of ect) self.now.id.system to) }
+    {
+        let graph = self.graph()?;
+        let tree = tree_from(self.alloc, &graph, self.id.system, ect_mask(ect))?;
+        tree.path_to(self.alloc, to)
+    }
+
+    /// The best path of the bridge to a system in a VID, in that graph. None exactly where there is none, or where the
+    /// VID isn't configured.
+    pub(crate) fn path(&self, to: SystemId, vid: Vid) -> Result<Option<Path>, NoMemory>
+        requires { IsSoundView (view_of self.now) }
+        ensures { IfOk result (λ path. path ≡ own_path (view_of self.now) to vid) }
+    {
+        match self.plan(vid) {
+            None => Ok(None),
+            Some(plan) => self.path_by(to, plan.ect),
+        }
     }
 }

@@ -1,11 +1,16 @@
 //! What a bridge sends in a second: to each port its hello, and to an Up one CSNPs, LSPs and PSNPs, as frames.
-ghost use Rattle.std.specs.Prelude.{◌≡◌, ◌+◌, ◌≤◌, ◌∷◌, [], true, false, length, map, slice_get, ℕ, OnOk, OnErr, if◌then◌else◌};
+ghost use Rattle.std.specs.Prelude.{◌≡◌, ◌+◌, ◌≤◌, ◌∷◌, [], true, false, length, map, slice_get, ℕ, IfOk, OnOk, OnErr, if◌then◌else◌};
 ghost use Rattle.std.specs.List.{AllByRecursion};
 ghost use Rattle.std.specs.FinMap.{entries};
 ghost use Rattle.spb_types.specs.Ports.{has};
+ghost use Rattle.isis_pdu.specs.declared.kind.Kind.TheVariants as kinds;
 ghost use Rattle.isis_pdu.specs.Grammar.{IsId};
+ghost use Rattle.isis_pdu.specs.Spelling.{CanWrite};
 ghost use Rattle.lsdb.specs.Database.{any_flags, is_srm_at, is_ssn_at};
+ghost use Rattle.lsdb.specs.Entry.{entry_of};
 ghost use Rattle.flooding.specs.Entries.{AreSendable};
+ghost use Rattle.flooding.specs.Own.{tlvs_of_body};
+ghost use Rattle.flooding.specs.Sending.{lsp_in};
 ghost use Rattle.snp_sync.specs.Sized.{AreSized};
 ghost use Rattle.snp_sync.specs.Sending.{bytes_in, all_ssn_cleared};
 ghost use Rattle.itag_frames.specs.Frame.{control_bytes};
@@ -17,9 +22,10 @@ ghost use Rattle.bridge_control.specs.Machine.{hellos_from};
 use crate::hello::send_hello;
 use crate::ports::is_up;
 use bridge_api::{BridgePort, Outbox};
-use flooding::write_held;
-use itag_frames::control_frame;
-use lsdb::Database;
+use flooding::lsp_of;
+use isis_pdu::{append_lsp, lsp_length};
+use itag_frames::{control_frame, control_head};
+use lsdb::{Database, Held};
 use snp_sync::{csnps, psnps};
 use spb_types::{NoMemory, PortSet, Seq, SystemId};
 use std::alloc::Global;
@@ -46,13 +52,10 @@ pub(crate) fn send_all(
 {
     let srm = srm_ports(db, has_flags);
     let ssn = ssn_ports(db, has_flags);
+    let flags = Flags { srm, ssn };
     'send: for (place, port) in ports.iter().enumerate() {
         let number = place as u8 + 1;
         let hello = hellos[place].as_slice();
-        let flags = Flags {
-            srm: srm.has(number),
-            ssn: ssn.has(number),
-        };
         send_at(alloc, system, number, port, hello, db, flags, outbox)?;
     }
     Ok(())
@@ -83,12 +86,12 @@ fn ssn_ports(db: &Database, has_flags: bool) -> PortSet
     }
 }
 
-/// Which flags may stand at a port: where `srm` is false none is to be sent there, and where `ssn` is false none is to be
-/// acknowledged or asked for.
+/// Where flags may stand: at ports that aren't in `srm` no LSP is to be sent, and at those that aren't in `ssn` none is
+/// to be acknowledged or asked for.
 #[derive(Clone, Copy)]
 struct Flags {
-    srm: bool,
-    ssn: bool,
+    srm: PortSet,
+    ssn: PortSet,
 }
 
 /// Puts what is sent at a port into the outbox. What the flags rule out isn't looked for.
@@ -107,8 +110,8 @@ fn send_at(
     requires hello { hello.now ≡ api.hello_frame system number port.now }
     requires sendable { AreSendable db.old }
     requires sized { AreSized db.old }
-    requires srm { flags.srm ≡ false → is_srm_at number db.old ≡ false }
-    requires ssn { flags.ssn ≡ false → is_ssn_at number db.old ≡ false }
+    requires srm { has flags.srm number ≡ false → is_srm_at number db.old ≡ false }
+    requires ssn { has flags.ssn number ≡ false → is_ssn_at number db.old ≡ false }
     ensures sent { OnOk result (outbox.new ≡ with_wire (api.sent_at system number port.now db.old) outbox.old) }
     ensures after_sending { OnOk result (db.new ≡ api.after_sending_at number port.now db.old) }
     ensures gained { OnErr result (Gains (api.sent_at system number port.now db.old) outbox.old outbox.new) }
@@ -154,14 +157,16 @@ fn send_flagged(
     requires high { number ≤ 32 }
     requires sendable { AreSendable db.old }
     requires sized { AreSized db.old }
-    requires srm { flags.srm ≡ false → is_srm_at number db.old ≡ false }
-    requires ssn { flags.ssn ≡ false → is_ssn_at number db.old ≡ false }
+    requires srm { has flags.srm number ≡ false → is_srm_at number db.old ≡ false }
+    requires ssn { has flags.ssn number ≡ false → is_ssn_at number db.old ≡ false }
     ensures sent { OnOk result (outbox.new ≡ with_wire (flagged_at system number db.old) outbox.old) }
     ensures after_sending { OnOk result (db.new ≡ all_ssn_cleared number db.old) }
     ensures gained { OnErr result (Gains (flagged_at system number db.old) outbox.old outbox.new) }
 {
-    send_lsps(alloc, system, number, db, flags.srm, outbox)?;
-    send_requests(alloc, system, number, db, flags.ssn, outbox)
+    let has_srm = flags.srm.has(number);
+    send_lsps(alloc, system, number, db, has_srm, outbox)?;
+    let has_ssn = flags.ssn.has(number);
+    send_requests(alloc, system, number, db, has_ssn, outbox)
 }
 
 /// Puts PSNPs of what has SSN at a port into the outbox. Where `has_ssn` is false nothing has.
@@ -237,8 +242,20 @@ fn send_lsp(
     if !held.srm.has(number) {
         return Ok(());
     }
-    let pdu = write_held(alloc, held)?;
-    send_pdu(alloc, system, number, pdu.as_slice(), outbox)
+    let frame = lsp_frame(alloc, system, held)?;
+    send_frame(number, frame, outbox)
+}
+
+/// The LSP that is held, as a control frame, into which it is written at once.
+fn lsp_frame(alloc: Global, system: SystemId, held: &Held) -> Result<Vec<u8>, NoMemory>
+    requires written { CanWrite kinds.Lsp (tlvs_of_body held.now.body) }
+    requires id { IsId held.now.id.system }
+    ensures { IfOk result (λ frame. frame.items ≡ api.lsp_frame system (lsp_in held.now.id (entry_of held.now))) }
+{
+    let lsp = lsp_of(held);
+    let mut frame = control_head(alloc, system.mac, lsp_length(&lsp))?;
+    append_lsp(&mut frame, &lsp)?;
+    Ok(frame)
 }
 
 /// Puts PDUs of at most 1,497 bytes each, as control frames, into the outbox.
@@ -272,5 +289,13 @@ fn send_pdu(
     ensures kept { OnErr result (outbox.new ≡ outbox.old) }
 {
     let frame = control_frame(alloc, system.mac, pdu)?;
+    send_frame(number, frame, outbox)
+}
+
+/// Puts a frame into the outbox.
+fn send_frame(number: u8, frame: Vec<u8>, outbox: &mut Outbox) -> Result<(), NoMemory>
+    ensures sent { OnOk result (outbox.new ≡ with_wire ((number, frame.items) ∷ []) outbox.old) }
+    ensures kept { OnErr result (outbox.new ≡ outbox.old) }
+{
     outbox.wire.push((number, Seq::from_vec(frame)))
 }

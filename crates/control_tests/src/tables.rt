@@ -5,8 +5,8 @@ ghost use Rattle.fdb_build.specs.Tables.{ArePlans};
 
 use fdb_build::tables_of;
 use spb_types::{
-    BridgeId, Edge, Graph, GraphBridge, Mac, NoMemory, Seq, SourceId, SystemId, UnicastRow, Vid,
-    VidPlan,
+    BridgeId, Edge, Graph, GraphBridge, GroupRow, Isid, Mac, Member, NoMemory, PortSet, Seq,
+    SourceId, SystemId, UnicastRow, Vid, VidPlan,
 };
 use std::alloc::Global;
 use std::process::Abort;
@@ -17,6 +17,20 @@ macro_rules! plan {
         VidPlan {
             vid: Vid { value: $vid },
             ect: $ect,
+        }
+    };
+}
+
+/// A member of the service 100, or of another, in VID 10.
+macro_rules! member {
+    ($last:expr) => {
+        member!($last, 100)
+    };
+    ($last:expr, $isid:expr) => {
+        Member {
+            system: system!($last),
+            isid: Isid { value: $isid },
+            vid: Vid { value: 10 },
         }
     };
 }
@@ -128,5 +142,100 @@ fn rows_lead_to_the_second_bridge(rt: HostRuntime) -> Result<(), Fail> {
         let rows = [(1, 2, 2), (1, 3, port), (4094, 2, 2), (4094, 3, port)];
         assert_rows(&rt, rt.alloc(), &graph, system!(1), &vids, &rows)?;
     }
+    Ok(())
+}
+
+/// The tables have these group rows in VID 10, by address and the bits of the ports.
+fn assert_groups(
+    rt: &impl Abort,
+    alloc: Global,
+    graph: &Graph,
+    me: SystemId,
+    want: &[([u8; 6], u32)],
+) -> Result<(), NoMemory>
+    requires graph { IsValidFor graph.now me }
+{
+    let tables = tables_of(alloc, graph, me, &[plan!(10, 1)])?;
+    assert_eq!(rt; tables.group.len(), want.len());
+    for (row, (bytes, bits)) in tables.group.iter().zip(want) {
+        let want = GroupRow {
+            vid: Vid { value: 10 },
+            mac: Mac { bytes: *bytes },
+            ports: PortSet { bits: *bits },
+        };
+        assert_eq!(rt; *row, want);
+    }
+    Ok(())
+}
+
+/// Bridges 1 to 6 in a ring: port 1 leads to the next bridge, port 2 to the one before. All but 6 are members.
+fn ring(alloc: Global) -> Result<Graph, NoMemory>
+    ensures one { IfOk result (λ g. IsValidFor g (record { mac = record { bytes = 2 ∷ 0 ∷ 0 ∷ 0 ∷ 0 ∷ 1 ∷ [] } })) }
+    ensures six { IfOk result (λ g. IsValidFor g (record { mac = record { bytes = 2 ∷ 0 ∷ 0 ∷ 0 ∷ 0 ∷ 6 ∷ [] } })) }
+{
+    let bridges = vec![in alloc;
+        bridge!(6),
+        bridge!(1),
+        bridge!(5),
+        bridge!(2),
+        bridge!(4),
+        bridge!(3),
+    ]?;
+    let edges = vec![in alloc;
+        edge!(1, 1, 2, 2, 10),
+        edge!(2, 1, 3, 2, 10),
+        edge!(3, 1, 4, 2, 10),
+        edge!(4, 1, 5, 2, 10),
+        edge!(5, 1, 6, 2, 10),
+        edge!(6, 1, 1, 2, 10),
+    ]?;
+    let members = vec![in alloc; member!(5), member!(1), member!(4), member!(2), member!(3)]?;
+    Ok(Graph {
+        bridges: Seq::from_vec(bridges),
+        edges: Seq::from_vec(edges),
+        members: Seq::from_vec(members),
+    })
+}
+
+#[test]
+fn group_rows_lead_to_the_members_behind(rt: HostRuntime) -> Result<(), Fail> {
+    let graph = ring(rt.alloc())?;
+    let one = [
+        ([3, 0, 1, 0, 0, 100], 0b11),
+        ([3, 0, 2, 0, 0, 100], 0b10),
+        ([3, 0, 5, 0, 0, 100], 0b01),
+    ];
+    assert_groups(&rt, rt.alloc(), &graph, system!(1), &one)?;
+    let six = [
+        ([3, 0, 1, 0, 0, 100], 0b10),
+        ([3, 0, 2, 0, 0, 100], 0b10),
+        ([3, 0, 5, 0, 0, 100], 0b01),
+    ];
+    assert_groups(&rt, rt.alloc(), &graph, system!(6), &six)?;
+    Ok(())
+}
+
+/// Bridge 2 between bridges 1 and 3, whose sources differ above their low 20 bits. All are members of service 100, and
+/// 1 alone of service 7.
+fn line(alloc: Global) -> Result<Graph, NoMemory>
+    ensures { IfOk result (λ g. IsValidFor g (record { mac = record { bytes = 2 ∷ 0 ∷ 0 ∷ 0 ∷ 0 ∷ 2 ∷ [] } })) }
+{
+    let mut far = bridge!(3);
+    far.source.value = 0x10_0001;
+    let bridges = vec![in alloc; bridge!(1), bridge!(2), far]?;
+    let edges = vec![in alloc; edge!(1, 1, 2, 1, 10), edge!(2, 2, 3, 1, 10)]?;
+    let members = vec![in alloc; member!(1), member!(2), member!(3), member!(1, 7)]?;
+    Ok(Graph {
+        bridges: Seq::from_vec(bridges),
+        edges: Seq::from_vec(edges),
+        members: Seq::from_vec(members),
+    })
+}
+
+#[test]
+fn sources_with_one_address_share_a_row(rt: HostRuntime) -> Result<(), Fail> {
+    let graph = line(rt.alloc())?;
+    let rows = [([3, 0, 1, 0, 0, 100], 0b11), ([3, 0, 2, 0, 0, 100], 0b11)];
+    assert_groups(&rt, rt.alloc(), &graph, system!(2), &rows)?;
     Ok(())
 }

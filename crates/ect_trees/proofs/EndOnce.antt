@@ -8,7 +8,7 @@ use Rattle.spb_types.specs.declared.tables.Path.{Path}
 use Rattle.ect_trees.specs.declared.search.Label.{Label}
 use Rattle.ect_trees.specs.declared.search.Search.{Search}
 use Rattle.ect_trees.specs.Tree.{ends_at, path_in, EndOnce}
-use Rattle.ect_trees.specs.Roads.{IsBridgeAt}
+use Rattle.ect_trees.specs.Arcs.{IsBridgeAt}
 use Rattle.ect_trees.specs.Search.{graph_of, label_at, AreLabels, paths_in}
 use Rattle.ect_trees.proofs.Places.{at_once}
 use Rattle.ect_trees.proofs.Ends.{path_of, path_once, Found, found_later, found, missed, stands}

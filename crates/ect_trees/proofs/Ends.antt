@@ -14,7 +14,7 @@ use Rattle.ect_trees.specs.Path.{IsPath, cost_of}
 use Rattle.ect_trees.specs.Path as path
 use Rattle.ect_trees.specs.Best.{IsBest, best_of}
 use Rattle.ect_trees.specs.Tree.{ends_at, path_in, best_path}
-use Rattle.ect_trees.specs.Roads.{IsBridgeAt, place_in}
+use Rattle.ect_trees.specs.Arcs.{IsBridgeAt, place_in}
 use Rattle.ect_trees.specs.Search.{graph_of, IsLabel, label_at, AreLabels, AreBest, paths_in}
 use Rattle.ect_trees.proofs.Among.{same_is, same_self}
 use Rattle.ect_trees.proofs.Exists.{best_of_cases}

@@ -10,7 +10,7 @@ use Rattle.spb_types.specs.declared.address.SystemId.{SystemId}
 use Rattle.ect_trees.specs.declared.search.Label.{Label}
 use Rattle.ect_trees.specs.declared.search.Search.{Search}
 use Rattle.ect_trees.specs.declared.waiting.Waiting.{Waiting}
-use Rattle.ect_trees.specs.Roads.{IsBridgeAt}
+use Rattle.ect_trees.specs.Arcs.{IsBridgeAt}
 use Rattle.ect_trees.specs.Search.{graph_of, IsLabel, label_at, AreEntries, IsState, IsSet, entry_of}
 use Rattle.ect_trees.specs.Waits.{waits, waiting_cmp}
 use Rattle.ect_trees.proofs.Placing.{nat_tied, then_parts}

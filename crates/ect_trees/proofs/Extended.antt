@@ -11,12 +11,12 @@ use Rattle.spb_types.specs.Address.{same_system}
 use Rattle.spb_types.specs.Graph.{IsAmong, IsValid, systems_of, cost_between}
 use Rattle.spb_types.specs.declared.address.SystemId.{SystemId}
 use Rattle.spb_types.specs.declared.graph.Graph.{Graph}
-use Rattle.ect_trees.specs.declared.roads.Arc.{Arc}
+use Rattle.ect_trees.specs.declared.mesh.Arc.{Arc}
 use Rattle.ect_trees.specs.declared.search.Label.{Label}
 use Rattle.ect_trees.specs.declared.search.Search.{Search}
 use Rattle.ect_trees.specs.Path.{IsPath, cost_of, hops_of}
 use Rattle.ect_trees.specs.Key.{id_cmp, masked_id, sorted_ids, key_of, key_cmp, IsBelow}
-use Rattle.ect_trees.specs.Roads.{IsBridgeAt, Leads}
+use Rattle.ect_trees.specs.Arcs.{IsBridgeAt, Leads}
 use Rattle.ect_trees.specs.Search.{graph_of, IsLabel, Extends, IsExtended, longer_key, longer_cost, ids_of, HasLowerIds, IsLow, Tells, IsLower}
 use Rattle.ect_trees.proofs.Among.{same_is, same_self}
 use Rattle.ect_trees.proofs.Walks.{step, path_snoc, cost-snoc, map-snoc}

@@ -11,9 +11,9 @@ use Rattle.spb_types.specs.declared.address.SystemId.{SystemId}
 use Rattle.spb_types.specs.declared.graph.GraphBridge.{GraphBridge}
 use Rattle.spb_types.specs.declared.graph.Edge.{Edge}
 use Rattle.spb_types.specs.declared.graph.Graph.{Graph}
-use Rattle.ect_trees.specs.declared.roads.Arc.{Arc}
+use Rattle.ect_trees.specs.declared.mesh.Arc.{Arc}
 use Rattle.ect_trees.specs.Key.{bridge_id_among}
-use Rattle.ect_trees.specs.Roads.{IsBridgeAt, CanGo, place_in, arcs_of}
+use Rattle.ect_trees.specs.Arcs.{IsBridgeAt, CanGo, place_in, arcs_of}
 use Rattle.ect_trees.proofs.Among.{same_is, same_self}
 use Rattle.ect_trees.proofs.Walks.{cost_comm}
 

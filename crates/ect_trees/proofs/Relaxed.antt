@@ -6,14 +6,14 @@ use Rattle.std.proofs.lemmas.Option.{same_Some, none-some, slice_get_within}
 use Rattle.spb_types.specs.Graph.{IsAmong, cost_between}
 use Rattle.spb_types.specs.declared.address.SystemId.{SystemId}
 use Rattle.spb_types.specs.declared.graph.Graph.{Graph}
-use Rattle.ect_trees.specs.declared.roads.Arc.{Arc}
+use Rattle.ect_trees.specs.declared.mesh.Arc.{Arc}
 use Rattle.ect_trees.specs.declared.search.Label.{Label}
 use Rattle.ect_trees.specs.declared.search.Search.{Search}
 use Rattle.ect_trees.specs.declared.waiting.Waiting.{Waiting}
 use Rattle.ect_trees.specs.Key.{key_of, IsBelow}
 use Rattle.ect_trees.specs.Low.{LowAt}
 use Rattle.ect_trees.specs.Frontier.{During, WithOne, WithWay}
-use Rattle.ect_trees.specs.Roads.{IsBridgeAt, Leads, IsArcAt, AreReady, place_in, rows_of}
+use Rattle.ect_trees.specs.Arcs.{IsBridgeAt, Leads, IsArcAt, AreReady, place_in, rows_of}
 use Rattle.ect_trees.specs.Search.{graph_of, label_at, AreLabels, way_of, waits_of, entry_of, IsState, IsLow, IsLower, Improves, IsRelaxed, IsLeft, RelaxesAll}
 use Rattle.ect_trees.specs.Search.IsRelaxed.{none, same, lower}
 use Rattle.ect_trees.specs.Waits.{waits}
@@ -24,10 +24,10 @@ use Rattle.ect_trees.proofs.Entries.{set_own, set_other, set_state}
 use Rattle.ect_trees.proofs.Frontier.{relaxed_same, relaxed_lower, x_done}
 
 -- the way to the bridge at a place is the path of the label there
-pub way_at : (s : Search) (ls : List (Option Label)) (place : ℕ) (x : SystemId) → AreReady s.roads.now → IsBridgeAt (graph_of s) place x → way_of s ls x ≡ option_map (λ (l : Label). l.bridges.items) (label_at ls place)
+pub way_at : (s : Search) (ls : List (Option Label)) (place : ℕ) (x : SystemId) → AreReady s.mesh.now → IsBridgeAt (graph_of s) place x → way_of s ls x ≡ option_map (λ (l : Label). l.bridges.items) (label_at ls place)
 way_at s ls place x ready here = ap (λ n. option_map (λ (l : Label). l.bridges.items) (label_at ls n)) (place_is (graph_of s) place x ready.valid here)
 
-pub way_is : (s : Search) (ls : List (Option Label)) (place : ℕ) (x : SystemId) (l : Label) → AreReady s.roads.now → IsBridgeAt (graph_of s) place x → label_at ls place ≡ Some l → way_of s ls x ≡ Some l.bridges.items
+pub way_is : (s : Search) (ls : List (Option Label)) (place : ℕ) (x : SystemId) (l : Label) → AreReady s.mesh.now → IsBridgeAt (graph_of s) place x → label_at ls place ≡ Some l → way_of s ls x ≡ Some l.bridges.items
 way_is s ls place x l ready here e = way_at s ls place x ready here ∙ ap (option_map (λ (t : Label). t.bridges.items)) e
 
 -- the labels and the frontier once the first k arcs from a place are relaxed
@@ -39,7 +39,7 @@ pub relaxing_none : (s : Search) (place : ℕ) (ls : List (Option Label)) (front
 relaxing_none s place ls front state = record { state = state; during = λ done x p here d. d }
 
 -- the next arc
-pub relaxing_more : (s : Search) (place k : ℕ) (arc : Arc) (old now next : List (Option Label)) (front since then : BTreeSet Waiting) → AreReady s.roads.now → IsArcAt (rows_of s.roads.now) place k arc → Relaxing s place k old now front since → IsRelaxed s arc now next since then → Relaxing s place (k + 1) old next front then
+pub relaxing_more : (s : Search) (place k : ℕ) (arc : Arc) (old now next : List (Option Label)) (front since then : BTreeSet Waiting) → AreReady s.mesh.now → IsArcAt (rows_of s.mesh.now) place k arc → Relaxing s place k old now front since → IsRelaxed s arc now next since then → Relaxing s place (k + 1) old next front then
 relaxing_more s place k arc old now next front since then ready here r relaxed = record { state = state relaxed; during = λ done x p at d. during done x p at (r.during done x p at d) relaxed }
   where
     g : Graph
@@ -74,7 +74,7 @@ relaxing_more s place k arc old now next front since then ready here r relaxed =
         strike : (v : SystemId) → IsLeft s place k v → (v ≡ y) ⊎ IsLeft s place (k + 1) v
         strike v (number, a, low, listed, to) = elim (same_or_not number k) [
           | inl e ↦
-              let arcs : a ≡ arc = same_Some a arc (sym (subst (λ t. IsArcAt (rows_of s.roads.now) place t a) e listed) ∙ here) in
+              let arcs : a ≡ arc = same_Some a arc (sym (subst (λ t. IsArcAt (rows_of s.mesh.now) place t a) e listed) ∙ here) in
               inl (at_same (graph_of s) arc.to v y (subst (λ (t : Arc). IsBridgeAt (graph_of s) t.to v) arcs to) lead.to)
           | inr other ↦ inr (number, a, omega (arith, low, other), listed, to)
         ]
@@ -145,10 +145,10 @@ relaxing_more s place k arc old now next front since then ready here r relaxed =
             }
 
 -- all arcs of the place are relaxed
-pub relaxed_all : (s : Search) (place k : ℕ) (old now : List (Option Label)) (front since : BTreeSet Waiting) → length (get_or (rows_of s.roads.now) place []) ≤ k → Relaxing s place k old now front since → RelaxesAll s place old now front since
+pub relaxed_all : (s : Search) (place k : ℕ) (old now : List (Option Label)) (front since : BTreeSet Waiting) → length (get_or (rows_of s.mesh.now) place []) ≤ k → Relaxing s place k old now front since → RelaxesAll s place old now front since
 relaxed_all s place k old now front since whole r = λ done x p here d.
     x_done (graph_of s) s.mask s.source done x p (waits_of s since) (IsLeft s place k) (way_of s now) (r.during done x p here d) (λ v w.
-    let below : w.0 < length (get_or (rows_of s.roads.now) place []) = slice_get_within (get_or (rows_of s.roads.now) place []) w.0 w.1 w.3 in
+    let below : w.0 < length (get_or (rows_of s.mesh.now) place []) = slice_get_within (get_or (rows_of s.mesh.now) place []) w.0 w.1 w.3 in
     omega (arith, below, whole, w.2))
 
 -- the label that is read at the place of a bridge

@@ -13,7 +13,7 @@ use Rattle.ect_trees.specs.declared.waiting.Waiting.{Waiting}
 use Rattle.ect_trees.specs.Path.{IsPath, cost_of}
 use Rattle.ect_trees.specs.Best.{best_of}
 use Rattle.ect_trees.specs.Frontier.{During, WithoutOne}
-use Rattle.ect_trees.specs.Roads.{IsBridgeAt, AreReady, place_in}
+use Rattle.ect_trees.specs.Arcs.{IsBridgeAt, AreReady, place_in}
 use Rattle.ect_trees.specs.Search.{graph_of, label_at, AreLabels, AreBest, way_of, waits_of, entry_of, IsState, IsFirst, IsLeft, IsFront, RelaxesAll, IsSet}
 use Rattle.ect_trees.specs.Waits.{waits, waiting_cmp}
 use Rattle.ect_trees.proofs.Walks.{path_single, path_bridges, path_start}
@@ -75,7 +75,7 @@ pub record First (s : Search) (settled : ℕ) (ls : List (Option Label)) (now : 
   pub path : List SystemId
   pub during : During (graph_of s) s.mask s.source (bridge ∷ done) bridge path (waits_of s now) (IsLeft s first.place 0) (way_of s ls)
 
-pub taken_first : (s : Search) (settled : ℕ) (ls : List (Option Label)) (front now : BTreeSet Waiting) (first : Waiting) → AreReady s.roads.now → Settling s settled ls front → waits front first ≡ true → ((e : Waiting) → waits front e ≡ true → first.cost ≤ e.cost) → IsTaken first front now → First s settled ls now first
+pub taken_first : (s : Search) (settled : ℕ) (ls : List (Option Label)) (front now : BTreeSet Waiting) (first : Waiting) → AreReady s.mesh.now → Settling s settled ls front → waits front first ≡ true → ((e : Waiting) → waits front e ≡ true → first.cost ≤ e.cost) → IsTaken first front now → First s settled ls now first
 taken_first s settled ls front now first ready set here least took = record {
   within = at.0;
   state = record { labels = labels; entries = λ e w. set.state.entries e (taken_those first front now took e w).1 };
@@ -172,7 +172,7 @@ settling_more s settled ls ls' now next first f state relaxed = record {
 }
 
 -- where nothing waits, the labels are the best paths
-pub settled_all : (s : Search) (settled : ℕ) (ls : List (Option Label)) (front : BTreeSet Waiting) → AreReady s.roads.now → Settling s settled ls front → ((e : Waiting) → waits front e ≡ false) → AreBest s ls
+pub settled_all : (s : Search) (settled : ℕ) (ls : List (Option Label)) (front : BTreeSet Waiting) → AreReady s.mesh.now → Settling s settled ls front → ((e : Waiting) → waits front e ≡ false) → AreBest s ls
 settled_all s settled ls front ready set none = record {
   labels = set.state.labels;
   best = low_is_best (graph_of s) s.mask s.source (way_of s ls) ready.valid (none_waits (graph_of s) s.mask s.source set.done (waits_of s front) (way_of s ls) set.front_is (λ x w. true≢false (sym w.1 ∙ none w.0)));
@@ -197,7 +197,7 @@ start_state s ls front e none = record {
 }
 
 -- a source that is no bridge of the graph has no path
-pub none_best : (s : Search) (ls : List (Option Label)) (front : BTreeSet Waiting) → AreReady s.roads.now → IsState s ls front → ls ≡ replicate (length (graph_of s).bridges) None → (IsBridge (graph_of s) s.source → ⊥) → AreBest s ls
+pub none_best : (s : Search) (ls : List (Option Label)) (front : BTreeSet Waiting) → AreReady s.mesh.now → IsState s ls front → ls ≡ replicate (length (graph_of s).bridges) None → (IsBridge (graph_of s) s.source → ⊥) → AreBest s ls
 none_best s ls front ready state e out = record { labels = state.labels; best = best }
   where
     best : (x : SystemId) → way_of s ls x ≡ best_of (graph_of s) s.mask s.source x
@@ -214,7 +214,7 @@ first_state s place new ls ls' front front' at within first state done =
       cost_is = first.cost_is ∙ ap (cost_of (graph_of s)) (sym first.one);
     }) state done
 
-pub first_front : (s : Search) (place : ℕ) (new : Label) (ls ls' : List (Option Label)) (front front' : BTreeSet Waiting) → AreReady s.roads.now → IsBridgeAt (graph_of s) place s.source → place < length ls → IsFirst s.source new → ls ≡ replicate (length (graph_of s).bridges) None → ((e : Waiting) → waits front e ≡ false) → IsSet place new ls ls' front front' → IsFront s ls' front' []
+pub first_front : (s : Search) (place : ℕ) (new : Label) (ls ls' : List (Option Label)) (front front' : BTreeSet Waiting) → AreReady s.mesh.now → IsBridgeAt (graph_of s) place s.source → place < length ls → IsFirst s.source new → ls ≡ replicate (length (graph_of s).bridges) None → ((e : Waiting) → waits front e ≡ false) → IsSet place new ls ls' front front' → IsFront s ls' front' []
 first_front s place new ls ls' front front' ready at within first e none done =
     at_first (graph_of s) s.mask s.source (waits_of s front') (way_of s ls') (at_among (systems_of (graph_of s).bridges) place s.source at) own others (entry_of new place, done.here, sym here) alone
   where

@@ -4,7 +4,7 @@ pub mod Best
 pub mod Laws
 pub mod Low
 pub mod Frontier
-pub mod Roads
+pub mod Arcs
 pub mod Tree
 pub mod Waits
 pub mod Search

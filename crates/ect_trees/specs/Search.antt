@@ -9,20 +9,20 @@ use Rattle.spb_types.specs.declared.address.SystemId.{SystemId}
 use Rattle.spb_types.specs.declared.graph.Graph.{Graph}
 use Rattle.spb_types.specs.declared.tables.Path.{Path}
 use Rattle.ect_trees.specs.declared.key.PathKey.{PathKey}
-use Rattle.ect_trees.specs.declared.roads.Arc.{Arc}
+use Rattle.ect_trees.specs.declared.mesh.Arc.{Arc}
 use Rattle.ect_trees.specs.declared.search.Label.{Label}
 use Rattle.ect_trees.specs.declared.search.Search.{Search}
 use Rattle.ect_trees.specs.declared.waiting.Waiting.{Waiting}
 use Rattle.ect_trees.specs.Path.{IsPath, cost_of}
 use Rattle.ect_trees.specs.Key.{key_of, id_cmp, masked_id, sorted_ids, IsBelow}
 use Rattle.ect_trees.specs.Best.{best_of}
-use Rattle.ect_trees.specs.Roads.{IsBridgeAt, Leads, IsArcAt, rows_of, place_in}
+use Rattle.ect_trees.specs.Arcs.{IsBridgeAt, Leads, IsArcAt, rows_of, place_in}
 use Rattle.ect_trees.specs.Waits.{waits}
 use Rattle.ect_trees.specs.Frontier.{Front, During}
 
 -- the graph that is searched
 abbrev pub graph_of : Search → Graph
-graph_of s = s.roads.now.graph.now
+graph_of s = s.mesh.now.graph
 
 -- the label is a path to x with its cost
 pub record IsLabel (s : Search) (x : SystemId) (l : Label) : Type 0 where
@@ -122,7 +122,7 @@ IsFront s ls front done = Front (graph_of s) s.mask s.source done (waits_of s fr
 -- an arc from this place to v, of this number or a later one, is still to be looked at
 abbrev pub IsLeft : Search → ℕ → ℕ → SystemId → Type 0
 IsLeft s place k v = (number : ℕ) × (arc : Arc) × (k ≤ number)
-    × IsArcAt (rows_of s.roads.now) place number arc × IsBridgeAt (graph_of s) arc.to v
+    × IsArcAt (rows_of s.mesh.now) place number arc × IsBridgeAt (graph_of s) arc.to v
 
 -- a bridge whose arcs were to be looked at is done once they are relaxed
 abbrev pub RelaxesAll : Search → ℕ → List (Option Label) → List (Option Label) → BTreeSet Waiting → BTreeSet Waiting

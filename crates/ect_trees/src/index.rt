@@ -1,6 +1,6 @@
 //! The places of a graph's bridges by system id, as guesses: each is looked at before it is believed.
 ghost use Rattle.std.specs.Prelude.{IsTrue, IfSome};
-ghost use Rattle.ect_trees.specs.Roads.{IsBridgeAt};
+ghost use Rattle.ect_trees.specs.Arcs.{IsBridgeAt};
 
 use spb_types::{Graph, NoMemory, SystemId};
 use std::alloc::Global;

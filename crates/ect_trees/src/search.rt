@@ -3,11 +3,11 @@ ghost use Rattle.std.specs.Ordering.{nat_cmp, ordering_then};
 ghost use Rattle.spb_types.specs.Graph.{IsAmong, IsValid};
 ghost use Rattle.spb_types.specs.declared.address.SystemId.{SystemId};
 ghost use Rattle.ect_trees.specs.declared.search.Label.{Label};
-ghost use Rattle.ect_trees.specs.Roads.{AreReady, IsBridgeAt, CanGo};
+ghost use Rattle.ect_trees.specs.Arcs.{AreReady, IsBridgeAt, CanGo};
 ghost use Rattle.ect_trees.specs.Search as search;
 
 use crate::fork::compare_ids;
-use crate::roads::{Arc, Roads};
+use crate::mesh::{Arc, Mesh};
 use crate::waiting::{Waiting, drop_one, put, take_first};
 use spb_types::{NoMemory, Path, Seq, SystemId};
 use std::alloc::Global;
@@ -25,7 +25,7 @@ pub struct Label {
 /// bridge that it has reached.
 #[derive(Drop)]
 pub struct Search<'a> {
-    pub roads: &'a Roads<'a>,
+    pub mesh: &'a Mesh,
     pub source: SystemId,
     pub mask: u8,
 }
@@ -120,7 +120,7 @@ impl<'a> Search<'a> {
         let bridges = label.bridges.as_slice();
         let order = compare_ids(
             alloc,
-            self.roads,
+            self.mesh,
             self.mask,
             bridges,
             &old.bridges.as_slice()[..bridges.len()],
@@ -168,13 +168,13 @@ impl<'a> Search<'a> {
         arc: Arc,
         old: &Option<Label>,
     ) -> Result<Option<Label>, NoMemory>
-        requires ready { AreReady self.now.roads.now }
+        requires ready { AreReady self.now.mesh.now }
         requires arc { search.Extends self.now arc label.now }
         requires old { (y : SystemId) (l : Label) → IsBridgeAt (search.graph_of self.now) arc.to y
             → old.now ≡ Some l → search.IsLabel self.now y l }
         ensures { IfOk result (search.Improves self.now arc label.now old.now) }
     {
-        let system = self.roads.graph.bridges.as_slice()[arc.to].id.system;
+        let system = self.mesh.graph.bridges.as_slice()[arc.to].id.system;
         let cost = label.cost + u64::from(arc.cost);
         if self.is_lower(alloc, label, system, cost, old)? {
             Ok(Some(label.extended(alloc, system, cost)?))
@@ -191,7 +191,7 @@ impl<'a> Search<'a> {
         front: &mut BTreeSet<Waiting>,
         arc: Arc,
     ) -> Result<(), NoMemory>
-        requires ready { AreReady self.now.roads.now }
+        requires ready { AreReady self.now.mesh.now }
         requires arc { CanGo (search.graph_of self.now) arc }
         requires state { search.IsState self.now labels.old.items front.old }
         ensures { OnOk result (search.IsRelaxed self.now arc labels.old.items labels.new.items front.old front.new) }
@@ -214,14 +214,14 @@ impl<'a> Search<'a> {
         front: &mut BTreeSet<Waiting>,
         place: usize,
     ) -> Result<(), NoMemory>
-        requires ready { AreReady self.now.roads.now }
+        requires ready { AreReady self.now.mesh.now }
         requires within { place < length labels.old.items }
         requires state { search.IsState self.now labels.old.items front.old }
         ensures state { OnOk result (search.IsState self.now labels.new.items front.new) }
         ensures done { OnOk result
             (search.RelaxesAll self.now place labels.old.items labels.new.items front.old front.new) }
     {
-        for arc in &self.roads.arcs[place] {
+        for arc in &self.mesh.arcs[place] {
             self.relax(alloc, labels, front, *arc)?;
         }
         Ok(())
@@ -234,7 +234,7 @@ impl<'a> Search<'a> {
         labels: &mut Vec<Option<Label>>,
         front: &mut BTreeSet<Waiting>,
     ) -> Result<usize, NoMemory>
-        requires ready { AreReady self.now.roads.now }
+        requires ready { AreReady self.now.mesh.now }
         requires state { search.IsState self.now labels.old.items front.old }
         requires front { search.IsFront self.now labels.old.items front.old [] }
         ensures { OnOk result (search.AreBest self.now labels.new.items) }
@@ -249,12 +249,12 @@ impl<'a> Search<'a> {
 
     /// The labels of the best paths.
     pub fn labels(&self, alloc: Global) -> Result<Vec<Option<Label>>, NoMemory>
-        requires { AreReady self.now.roads.now }
+        requires { AreReady self.now.mesh.now }
         ensures { IfOk result (λ labels. search.AreBest self.now labels.items) }
     {
-        let mut labels = no_labels(alloc, self.roads.graph.bridges.len())?;
+        let mut labels = no_labels(alloc, self.mesh.graph.bridges.len())?;
         let mut front = BTreeSet::new(alloc);
-        if let Some(place) = self.roads.place_of(self.source) {
+        if let Some(place) = self.mesh.place_of(self.source) {
             set_label(&mut labels, &mut front, place, self.first(alloc)?)?;
             self.settle(alloc, &mut labels, &mut front)?;
         }

@@ -1,11 +1,11 @@
 ghost use Rattle.std.specs.Prelude.{◌≡◌, IfOk};
 ghost use Rattle.std.specs.Option.{option_copied};
-ghost use Rattle.spb_types.specs.Graph.{IsValid};
+ghost use Rattle.ect_trees.specs.Arcs.{AreReady};
 ghost use Rattle.ect_trees.specs.Tree as tree;
 
-use crate::roads::Roads;
+use crate::mesh::Mesh;
 use crate::search::{Search, paths_of};
-use spb_types::{Graph, NoMemory, Path, Seq, SystemId};
+use spb_types::{NoMemory, Path, Seq, SystemId};
 use std::alloc::Global;
 use std::marker::Model;
 
@@ -36,17 +36,17 @@ fn ends_at(path: &Path, to: SystemId) -> bool
     }
 }
 
-/// The tree of the best paths from `source` under `mask` (IEEE 802.1aq, 28.5 to 28.8).
-pub fn tree_from(alloc: Global, graph: &Graph, source: SystemId, mask: u8) -> Result<Tree, NoMemory>
-    requires { IsValid graph.now }
-    ensures { IfOk result (tree.GivesBest graph.now mask source) }
+/// The tree of the best paths from `source` under `mask`.
+pub(crate) fn tree_over(
+    alloc: Global,
+    mesh: &Mesh,
+    source: SystemId,
+    mask: u8,
+) -> Result<Tree, NoMemory>
+    requires { AreReady mesh.now }
+    ensures { IfOk result (tree.GivesBest mesh.now.graph mask source) }
 {
-    let roads = Roads::new(alloc, graph)?;
-    let search = Search {
-        roads: &roads,
-        source,
-        mask,
-    };
+    let search = Search { mesh, source, mask };
     let labels = search.labels(alloc)?;
     Ok(Tree {
         source,
@@ -69,8 +69,8 @@ impl Tree {
         self.paths.iter().find(|path| ends_at(path, to))
     }
 
-    /// The same path, which is looked for at this place first.
-    fn find_near(&self, place: usize, to: SystemId) -> Option<&Path>
+    /// The path that ends at a bridge, if there is one, which is looked for at this place first.
+    pub fn find_near(&self, place: usize, to: SystemId) -> Option<&Path>
         ensures { option_copied result ≡ tree.path_in self.now.paths to }
     {
         if let Some(path) = self.paths.get(place)

@@ -2,3 +2,11 @@ pub mod RowLemmas
 pub mod AscendLemmas
 pub mod SortLemmas
 pub mod TableLemmas
+pub mod PortSets
+pub mod GroupTests
+pub mod GroupLemmas
+pub mod SetLemmas
+pub mod ServiceLemmas
+pub mod GrowLemmas
+pub mod MakingLemmas
+pub mod OnePathLemmas

@@ -58,6 +58,18 @@ port_among-le (e ∷ es) x y p ports h =
         omega (arith, same, port.1)
     by false j h rest = rest h
 
+pub port_among-low : (es : List Edge) (x y : SystemId) (p : ℕ) → ArePorts es x → Some p ≡ port_among es x y → 1 ≤ p
+port_among-low [] x y p ports h = cc
+port_among-low (e ∷ es) x y p ports h =
+    by (joins e x y) refl h (port_among-low es x y p (other_ports e es x (same_system e.a x || same_system e.b x) ports))
+  where
+    by : (b : Bool) → joins e x y ≡ b → Some p ≡ (if b then Some (port_at e x) else port_among es x y) → (Some p ≡ port_among es x y → 1 ≤ p) → 1 ≤ p
+    by true j h rest =
+        let port = first_port e es x (same_system e.a x || same_system e.b x) (joins_at e x y j) ports in
+        let same : p ≡ port_at e x = cc in
+        omega (arith, same, port.0)
+    by false j h rest = rest h
+
 cons_one : {Y : Type 0} (o : Option Y) → filter_map (λ z. z) (o ∷ []) ≡ option_to_list o
 cons_one None = refl
 cons_one (Some y) = refl
@@ -146,8 +158,8 @@ edges_apart : (g : Graph) → IsValid g → AllByRecursion (λ e. same_system e.
 edges_apart g valid = All-map (λ e. IsEdgeOf g e) (λ e. same_system e.a e.b ≡ false) g.edges (λ e i. i.apart) valid.edges
 
 -- what the list of neighbours gives is the port of the edge
-pub port_known : (s : Surroundings) (y : SystemId) → AreKnown s → port_by s.neighbours.items y ≡ port_between s.graph.now s.me y
-port_known s y known = ap (λ ns. port_by ns y) known.neighbours ∙ port_by_neighbours s.graph.now.edges s.me y (edges_apart s.graph.now known.valid.valid)
+pub port_known : (s : Surroundings) (y : SystemId) → AreKnown s → port_by s.neighbours.items y ≡ port_between s.roads.now s.me y
+port_known s y known = ap (λ ns. port_by ns y) known.neighbours ∙ port_by_neighbours s.roads.now.edges s.me y (edges_apart s.roads.now known.valid.valid)
 
 -- ---- bridges by ascending address
 

@@ -22,7 +22,7 @@ use Rattle.fdb_build.specs.Tables.{ascending_by, mac_cmp, system_cmp, vid_cmp, r
 use Rattle.fdb_build.proofs.AscendLemmas.{ascending_has, has_ascending, Ascends-ascending_by, Ascends-one, Ascends-filter_map, Ascends-flat_map, filter_map_has, has_filter_map, flat_map_has}
 use Rattle.fdb_build.proofs.SortLemmas.{systems_total, vids_total, systems_apart, vids_apart}
 
-rows_total : IsTotalOrder row_cmp
+pub rows_total : IsTotalOrder row_cmp
 rows_total = then_total (on_total (λ (r : UnicastRow). r.vid.value) nat_cmp_total) (on_total (λ (r : UnicastRow). r.mac.bytes) nat_list_cmp_total)
 
 -- how a port towards a bridge comes about
@@ -130,7 +130,7 @@ vid_rows_ascend g me p valid =
         let es = (row_for g me p v s hs).is in
         ap (λ z. row_cmp z s) er ∙ ap (λ z. row_cmp (row_with p u r.port) z) es ∙ same_then p.vid.value (system_cmp u v) ∙ less
 
-vids_ascend : (vids : List VidPlan) → AreVidsApart vids → AscendsBy vid_cmp (ascending_by vid_cmp vids)
+pub vids_ascend : (vids : List VidPlan) → AreVidsApart vids → AscendsBy vid_cmp (ascending_by vid_cmp vids)
 vids_ascend vids apart = Ascends-ascending_by vid_cmp vids_total vids (vids_apart vids apart)
 
 rows_ascend : (g : Graph) (me : SystemId) (vids : List VidPlan) → IsValid g → AreVidsApart vids → AscendsBy row_cmp (unicast_rows g me vids)

@@ -1,2 +1,5 @@
 pub mod Tables
+pub mod Groups
+pub mod OnePath
 pub mod Surroundings
+pub mod Making

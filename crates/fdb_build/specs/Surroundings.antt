@@ -22,12 +22,12 @@ AreAscending g bridges = map (λ b. b.system) bridges ≡ ascending_by system_cm
 
 -- the graph is valid, with the ports of `me` in it; and these are the neighbours of `me`, and the graph's bridges
 pub record AreKnown (s : Surroundings) : Type 0 where
-  pub valid : IsValidFor s.graph.now s.me
-  pub neighbours : s.neighbours.items ≡ filter_map (neighbour_by s.me) s.graph.now.edges
-  pub bridges : AreAscending s.graph.now s.bridges.items
+  pub valid : IsValidFor s.roads.now s.me
+  pub neighbours : s.neighbours.items ≡ filter_map (neighbour_by s.me) s.roads.now.edges
+  pub bridges : AreAscending s.roads.now s.bridges.items
 
 -- what surrounds `me` in the graph
 pub record Surround (g : Graph) (me : SystemId) (s : Surroundings) : Type 0 where
   pub known : AreKnown s
-  pub graph_is : s.graph.now ≡ g
+  pub graph_is : s.roads.now ≡ g
   pub me_is : s.me ≡ me

@@ -1,5 +1,7 @@
 //! The laws of a bridge's tables. Each is the contract of a function that does nothing.
 ghost use Rattle.fdb_build.specs.Tables.{RowsAreTable, TableIsOne, SameRows, OrderSaysNothingOfRows};
+ghost use Rattle.fdb_build.specs.OnePath.{OnePath, SameWayBack, GroupLeadsOn};
+ghost use Rattle.fdb_build.specs.Groups.{GroupRowsAreTable, GroupTableIsOne, SameGroups, OrderSaysNothingOfGroups};
 
 /// In a valid graph the unicast rows that `unicast_rows` computes are just those of the bridges with a best path, each
 /// once, ascending.
@@ -20,4 +22,34 @@ pub fn rows_are_seen_alike()
 /// In valid graphs they don't depend on the order of the graph's lists, nor of an edge's ends, nor of the VIDs.
 pub fn order_says_nothing()
     ensures { OrderSaysNothingOfRows }
+{}
+
+/// In a graph that is valid for `me`, `group_rows` lists just the ports that lead on, those for one VID and address in
+/// one row, ascending.
+pub fn group_rows_are_table()
+    ensures { GroupRowsAreTable }
+{}
+
+/// There is just one such table.
+pub fn group_table_is_one()
+    ensures { GroupTableIsOne }
+{}
+
+/// The group rows of a bridge are the same in valid graphs that look alike from it.
+pub fn groups_are_seen_alike()
+    ensures { SameGroups }
+{}
+
+/// In valid graphs they don't depend on the order of the graph's lists, nor of an edge's ends, nor of the VIDs.
+pub fn order_says_nothing_of_groups()
+    ensures { OrderSaysNothingOfGroups }
+{}
+
+/// Frames go one path: a bridge sends to a source by its port to the bridge before it on the best path from there, and
+/// takes frames from the source at that port alone; the way back is the same; and the source's group row leads on to
+/// each bridge that follows on the way to a receiver.
+pub fn frames_go_one_path()
+    ensures path { OnePath }
+    ensures back { SameWayBack }
+    ensures group { GroupLeadsOn }
 {}

@@ -4,3 +4,4 @@ pub mod TlvWalk
 pub mod Written
 pub mod Read
 pub mod FormatLaws
+pub mod Appended

@@ -87,20 +87,40 @@ pub fn write_hello(alloc: Global, hello: &Hello<'_>) -> Result<Vec<u8>, NoMemory
 }
 
 /// The bytes of an LSP, of whole TLVs and at most 1,497 bytes (ISO/IEC 10589, 9.8). Its checksum is written as it is.
-#[tactic(auto, unfolding(crate::specs::Spelling::lsp_bytes))]
 pub fn write_lsp(alloc: Global, lsp: &Lsp<'_>) -> Result<Vec<u8>, NoMemory>
     requires { CanWrite kinds.Lsp lsp.now.tlvs.now }
     ensures { IfOk result (λ out. out.items ≡ lsp_bytes (lsp_of lsp.now)) }
 {
-    let mut out = with_header(alloc, Kind::Lsp, lsp.tlvs)?;
-    put_length(&mut out, Kind::Lsp, lsp.tlvs)?;
-    put_u16(&mut out, lsp.lifetime)?;
-    put_lsp_id(&mut out, &lsp.id)?;
-    put_u32(&mut out, lsp.seq)?;
-    put_u16(&mut out, lsp.sum)?;
+    let mut out = Vec::with_capacity(alloc, lsp_length(lsp))?;
+    append_lsp(&mut out, lsp)?;
+    Ok(out)
+}
+
+/// How many bytes an LSP has that can be written, at most 1,497.
+pub fn lsp_length(lsp: &Lsp<'_>) -> usize
+    requires { CanWrite kinds.Lsp lsp.now.tlvs.now }
+    ensures length { result ≡ fixed_length kinds.Lsp + length lsp.now.tlvs.now }
+    ensures short { result ≤ 1497 }
+{
+    usize::from(Kind::Lsp.fixed_length()) + lsp.tlvs.len()
+}
+
+/// Writes an LSP behind other bytes, as [`write_lsp`] does alone. Where the vector has room for it, as
+/// [`lsp_length`] says, no memory is taken.
+#[tactic(auto, unfolding(crate::specs::Spelling::lsp_bytes))]
+pub fn append_lsp(out: &mut Vec<u8>, lsp: &Lsp<'_>) -> Result<(), NoMemory>
+    requires { CanWrite kinds.Lsp lsp.now.tlvs.now }
+    ensures { OnOk result (out.new.items ≡ out.old.items ++ lsp_bytes (lsp_of lsp.now)) }
+{
+    out.extend_from_slice(&common_header(Kind::Lsp))?;
+    put_length(out, Kind::Lsp, lsp.tlvs)?;
+    put_u16(out, lsp.lifetime)?;
+    put_lsp_id(out, &lsp.id)?;
+    put_u32(out, lsp.seq)?;
+    put_u16(out, lsp.sum)?;
     out.push(lsp.flags)?;
     out.extend_from_slice(lsp.tlvs)?;
-    Ok(out)
+    Ok(())
 }
 
 /// The bytes of a CSNP, of whole TLVs and at most 1,497 bytes (ISO/IEC 10589, 9.10).

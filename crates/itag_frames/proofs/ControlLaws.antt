@@ -7,7 +7,7 @@ use Rattle.spb_types.specs.declared.address.Mac.{Mac}
 use Rattle.itag_frames.specs.Frame.{Pdu, control_address, llc, control_bytes, content_in, ControlAgain}
 
 -- six bytes, one by one
-six : (P : List ℕ → Type 0) (m : List ℕ) → length m ≡ 6 → ((a b c d e f : ℕ) → P (a ∷ b ∷ c ∷ d ∷ e ∷ f ∷ [])) → P m
+pub six : (P : List ℕ → Type 0) (m : List ℕ) → length m ≡ 6 → ((a b c d e f : ℕ) → P (a ∷ b ∷ c ∷ d ∷ e ∷ f ∷ [])) → P m
 six P (a ∷ b ∷ c ∷ d ∷ e ∷ f ∷ []) h k = k a b c d e f
 six P _ h k = absurd (omega arith)
 

@@ -1,1 +1,2 @@
+pub mod BackboneLaws
 pub mod ControlLaws

@@ -1,4 +1,4 @@
-ghost use Rattle.std.specs.Prelude.{◌≡◌, ◌≤◌, length, Ok, IfOk};
+ghost use Rattle.std.specs.Prelude.{◌≡◌, ◌≤◌, ◌++◌, ℕ, List, length, Ok, IfOk};
 ghost use Rattle.itag_frames.specs.Frame.{Pdu, control_bytes, content_in};
 
 use crate::frame::{CONTROL_ADDRESS, LLC};
@@ -12,12 +12,22 @@ pub fn control_frame(alloc: Global, sa: Mac, pdu: &[u8]) -> Result<Vec<u8>, NoMe
     // It is read as what was written.
     ensures again { IfOk result (λ frame. content_in frame.items ≡ Ok (Pdu pdu.now)) }
 {
-    let len = LLC.len() + pdu.len();
-    let mut frame = Vec::with_capacity(alloc, 14 + len)?;
-    frame.extend_from_slice(&CONTROL_ADDRESS)?;
-    frame.extend_from_slice(&sa.bytes)?;
-    frame.extend_from_slice(&(len as u16).to_be_bytes())?;
-    frame.extend_from_slice(&LLC)?;
+    let mut frame = control_head(alloc, sa, pdu.len())?;
     frame.extend_from_slice(pdu)?;
     Ok(frame)
+}
+
+/// What stands before the PDU in the control frame of a PDU of `len` bytes, at most 1,497, from this address. The
+/// vector has room for the PDU, which is written behind it.
+pub fn control_head(alloc: Global, sa: Mac, len: usize) -> Result<Vec<u8>, NoMemory>
+    requires { len ≤ 1497 }
+    ensures { IfOk result (λ head. (pdu : List ℕ) → length pdu ≡ len → head.items ++ pdu ≡ control_bytes sa pdu) }
+{
+    let counted = LLC.len() + len;
+    let mut head = Vec::with_capacity(alloc, 14 + counted)?;
+    head.extend_from_slice(&CONTROL_ADDRESS)?;
+    head.extend_from_slice(&sa.bytes)?;
+    head.extend_from_slice(&(counted as u16).to_be_bytes())?;
+    head.extend_from_slice(&LLC)?;
+    Ok(head)
 }

@@ -31,13 +31,14 @@ pub struct Backbone<'a> {
 /// Why bytes are no frame of the backbone.
 #[derive(Clone, Copy, Debug, PartialEq, Eq, Hash, Error)]
 pub enum FrameError {
-    /// Fewer than 17 bytes.
+    /// Fewer bytes than the shortest frame has: 17 for [`classify`], 36 for a frame with an I-TAG.
     #[error("a frame is too short")]
     Short,
-    /// No control frame. [`classify`] answers it for a frame with a B-TAG too, which it doesn't read yet.
+    /// Neither a control frame nor one with a B-TAG. [`classify`] answers it for every frame with a B-TAG too, which it
+    /// doesn't read yet.
     #[error("a frame is no backbone frame")]
     NotBackbone,
-    /// A frame with a B-TAG and no I-TAG. [`classify`] doesn't answer it yet.
+    /// A frame with a B-TAG and no I-TAG of an I-SID. [`classify`] doesn't answer it yet.
     #[error("a frame has no I-TAG")]
     NoItag,
 }

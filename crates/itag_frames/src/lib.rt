@@ -1,14 +1,17 @@
-//! The frames of the backbone: control frames, which carry a PDU of IS-IS. Frames with an I-TAG, which carry a
-//! customer's frame (IEEE 802.1ah), have a type, but are neither read nor written yet.
+//! The frames of the backbone: control frames, which carry a PDU of IS-IS, and frames with a B-TAG and an I-TAG, which
+//! carry a customer's frame (IEEE 802.1ah). [`classify`] doesn't answer the latter yet: a bridge hears none.
 //!
-//! [`classify`] looks at no more than the header of a frame, copies nothing and takes no memory. [`control_frame`]
-//! takes memory for the frame that it makes.
+//! [`classify`] and [`open_frame`] look at no more than the header of a frame, copy nothing and take no memory.
+//! [`control_frame`] and [`encapsulate`] take memory for the frame that they make, and [`control_head`] for the whole
+//! frame whose head it makes, so that a PDU can be written into its frame at once.
 #![tactic(auto)]
 
-pub use control::control_frame;
+pub use backbone::{encapsulate, open_frame};
+pub use control::{control_frame, control_head};
 pub use frame::{Backbone, Frame, FrameError, classify};
-pub use laws::control_again;
+pub use laws::{control_again, encapsulated_again, opened_can_be_carried};
 
+mod backbone;
 mod control;
 mod frame;
 mod laws;

@@ -81,6 +81,32 @@ has_either a b p =
     ∙ ap (λ c. (nat_le 1 p && nat_le p 32) && c) (either_bit (bit_at a (p - 1)) (bit_at b (p - 1)) (bit_at-lt a (p - 1)) (bit_at-lt b (p - 1)))
     ∙ and_or (nat_le 1 p && nat_le p 32) (bit_at a (p - 1) == 1) (bit_at b (p - 1) == 1)
 
+pub none_at_all : has_ports no_ports ≡ false
+none_at_all = no_ports_from no_ports has-no_ports
+
+either_false : (a b : Bool) → (a || b) ≡ false → (a ≡ false) × (b ≡ false)
+either_false true b e = cc
+either_false false b e = (refl, e)
+
+-- a number's ports are some exactly where those of either part are
+some_or : (a b : ℕ) (x y z : Bool) → has_ports (record { bits = a }) ≡ x → has_ports (record { bits = b }) ≡ y → has_ports (record { bits = bit_or a b }) ≡ z
+    → z ≡ (x || y)
+some_or a b true y true i j k = refl
+some_or a b false true true i j k = refl
+some_or a b false false false i j k = refl
+some_or a b false false true i j k =
+    sym k ∙ no_ports_from (record { bits = bit_or a b }) (λ p. has_either a b p ∙ ap (λ c. c || has (record { bits = b }) p) (none_in (record { bits = a }) i p) ∙ none_in (record { bits = b }) j p)
+some_or a b true y false i j k =
+    sym (sym i ∙ no_ports_from (record { bits = a }) (λ p. (either_false (has (record { bits = a }) p) _ (sym (has_either a b p) ∙ none_in (record { bits = bit_or a b }) k p)).0))
+some_or a b false true false i j k =
+    sym (sym j ∙ no_ports_from (record { bits = b }) (λ p. (either_false (has (record { bits = a }) p) _ (sym (has_either a b p) ∙ none_in (record { bits = bit_or a b }) k p)).1))
+
+pub ports_or : (a b : ℕ) → has_ports (record { bits = bit_or a b }) ≡ (has_ports (record { bits = a }) || has_ports (record { bits = b }))
+ports_or a b = some_or a b _ _ _ refl refl refl
+
+pub flags_or : (a b c : ℕ) → has_ports (record { bits = bit_or a (bit_or b c) }) ≡ (has_ports (record { bits = a }) || (has_ports (record { bits = b }) || has_ports (record { bits = c })))
+flags_or a b c = ports_or a (bit_or b c) ∙ ap (λ t. has_ports (record { bits = a }) || t) (ports_or b c)
+
 -- ---- entries
 
 or_parts : (a b : Bool) → (a || b) ≡ false → (a ≡ false) × (b ≡ false)

@@ -83,12 +83,12 @@ fn age_all(held: &mut Vec<Held>, up: PortSet) -> bool
     ensures items { held.new.items ≡ map (with_entry (aged up)) held.old.items }
     ensures flags { result ≡ list_any (λ h. has_flags (entry_of h)) held.new.items }
 {
-    let mut flags = false;
+    let mut flagged = PortSet::none();
     for h in held.iter_mut() {
         item::age(h, up);
-        flags |= item::has_flags(h);
+        flagged = item::with_flags_of(h, flagged);
     }
-    flags
+    item::has_ports(flagged)
 }
 
 // Changes every LSP by `item::part`.

@@ -134,7 +134,7 @@ pub fn age(held: &mut Held, up: PortSet)
 
 // Whether some port is in the set.
 #[tactic(auto, using(crate::proofs::Flags::below_has_ports))]
-fn has_ports(set: PortSet) -> bool
+pub fn has_ports(set: PortSet) -> bool
     ensures { result ≡ entry.has_ports set }
 {
     set.bits != 0
@@ -147,6 +147,16 @@ pub fn either(a: PortSet, b: PortSet) -> PortSet
 {
     PortSet {
         bits: a.bits | b.bits,
+    }
+}
+
+/// Ports and the flags of an LSP: there are some exactly where there were some or it has flags.
+#[tactic(auto, using(crate::proofs::Flags::flags_or))]
+pub fn with_flags_of(held: &Held, ports: PortSet) -> PortSet
+    ensures { entry.has_ports result ≡ (entry.has_ports ports || has_flags (entry_of held.now)) }
+{
+    PortSet {
+        bits: ports.bits | (held.srm.bits | held.ssn.bits),
     }
 }
 

@@ -1,14 +1,15 @@
 -- The places of bridges among contents.
 use Rattle.std.proofs.Common.{◌≡◌, ℕ, suc, ◌+◌, ◌-◌, ◌≤◌, ◌<◌, Bool, true, false, true≢false, cond, ◌&&◌, [], ◌∷◌, length, drop, get_or, Option, Some, None, is_some, refl, sym, ap, ◌∙◌, subst, arith, add-one}
 use Rattle.std.specs.Prelude.{IfSome, IsSome}
-use Rattle.std.specs.Ordering.{is_eq}
+use Rattle.std.specs.Ordering.{is_eq, nat_cmp}
+use Rattle.std.specs.Cmp.{unsigned_tied}
 use Rattle.std.proofs.Math.Seq.{drop-cons}
-use Rattle.std.proofs.lemmas.Map.Text.{is_eq-slice_cmp}
-use Rattle.spb_types.specs.Address.{same_system}
+use Rattle.spb_types.specs.Address.{same_system, system_number, HasSixBytes}
+use Rattle.spb_types.proofs.SystemNumbers.{same_numbers}
 use Rattle.spb_types.specs.declared.address.SystemId.{SystemId}
 use Rattle.spb_content.specs.declared.content.Content.{Content}
 use Rattle.spb_content.specs.Graph.{Contents, said_of}
-use Rattle.spb_content.specs.Building.{place_from, system_cmp}
+use Rattle.spb_content.specs.Building.{place_from}
 
 abbrev pub test : SystemId × Content → SystemId → Bool
 test c x = is_some c.1.inst && same_system c.0 x
@@ -46,14 +47,18 @@ unfound i (c ∷ cs) x h = at (test c x) h (λ k. unfound (i + 1) cs x k)
 place_more : (list : Contents) (i : ℕ) (x : SystemId) (d : SystemId × Content) → i < length list → place_from i (drop i list) x ≡ cond (test (get_or list i d) x) (Some i) (place_from (i + 1) (drop (i + 1) list) x)
 place_more list i x d h = rw (drop-cons list i d h, add-one) refl
 
-pub put_place : (list : Contents) (left : ℕ) (x : SystemId) (c : SystemId × Content) (got old : Option ℕ) → 0 < left → left ≤ length list → c ≡ get_or list (left - 1) c → is_some c.1.inst ≡ true
-    → got ≡ cond (is_eq (system_cmp c.0 x)) (Some (left - 1)) old → old ≡ place_from left (drop left list) x → got ≡ place_from (left - 1) (drop (left - 1) list) x
-put_place list left x c got old low high is some now before =
+-- two numbers are those of one bridge's system id
+tied : (c : SystemId × Content) (x : SystemId) → HasSixBytes c.0 → HasSixBytes x → is_some c.1.inst ≡ true → is_eq (nat_cmp (system_number c.0) (system_number x)) ≡ test c x
+tied c x ic ix some = unsigned_tied (system_number c.0) (system_number x) ∙ same_numbers c.0 x ic ix ∙ ap (λ b. b && same_system c.0 x) (sym some)
+
+pub put_place : (list : Contents) (left : ℕ) (x : SystemId) (c : SystemId × Content) (number : ℕ) (got old : Option ℕ) → 0 < left → left ≤ length list → c ≡ get_or list (left - 1) c → is_some c.1.inst ≡ true
+    → number ≡ system_number c.0 → HasSixBytes c.0 → HasSixBytes x → got ≡ cond (is_eq (nat_cmp number (system_number x))) (Some (left - 1)) old → old ≡ place_from left (drop left list) x → got ≡ place_from (left - 1) (drop (left - 1) list) x
+put_place list left x c number got old low high is some numbered ic ix now before =
     let next : left - 1 + 1 ≡ left = omega arith in
-    let tied : is_eq (system_cmp c.0 x) ≡ test c x = is_eq-slice_cmp c.0.mac.bytes x.mac.bytes ∙ ap (λ b. b && same_system c.0 x) (sym some) in
+    let same : is_eq (nat_cmp number (system_number x)) ≡ test c x = ap (λ n. is_eq (nat_cmp n (system_number x))) numbered ∙ tied c x ic ix some in
     let step : place_from (left - 1) (drop (left - 1) list) x ≡ cond (test c x) (Some (left - 1)) (place_from left (drop left list) x) =
     place_more list (left - 1) x c (omega arith) ∙ ap (λ e. cond (test e x) (Some (left - 1)) (place_from (left - 1 + 1) (drop (left - 1 + 1) list) x)) (sym is) ∙ ap (λ n. cond (test c x) (Some (left - 1)) (place_from n (drop n list) x)) next in
-    now ∙ ap (λ b. cond b (Some (left - 1)) old) tied ∙ ap (λ o. cond (test c x) (Some (left - 1)) o) before ∙ sym step
+    now ∙ ap (λ b. cond b (Some (left - 1)) old) same ∙ ap (λ o. cond (test c x) (Some (left - 1)) o) before ∙ sym step
 
 -- the same, counted from 0
 pub record FoundAt (p : ℕ) (list : Contents) (x : SystemId) (d : SystemId × Content) : Type 0 where

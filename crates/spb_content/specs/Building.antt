@@ -6,7 +6,7 @@ use Rattle.std.specs.declared.cmp.Ordering.{Ordering}
 use Rattle.std.specs.Ordering.{nat_cmp, is_lt}
 use Rattle.std.specs.Cmp.Lexicographic.{slice_cmp}
 use Rattle.std.specs.BTreeMap.{get}
-use Rattle.spb_types.specs.Address.{same_system}
+use Rattle.spb_types.specs.Address.{same_system, system_number, HasSixBytes}
 use Rattle.spb_types.specs.declared.address.SystemId.{SystemId}
 use Rattle.spb_types.specs.declared.graph.Edge.{Edge}
 use Rattle.spb_types.specs.declared.graph.Graph.{Graph}
@@ -29,9 +29,9 @@ place_from i (c ∷ cs) x = if is_some c.1.inst && same_system c.0 x then Some i
 abbrev pub IsListedAt : Contents → ℕ → SystemId → Type 0
 IsListedAt list p x = place_from 0 list x ≡ Some p
 
--- the map has the place of each bridge
+-- the map has the place of each bridge, by the number of its system id
 abbrev pub IsIndexed : Backbone → Type 0
-IsIndexed b = (x : SystemId) → get system_cmp b.places x ≡ place_from 0 b.list.now x
+IsIndexed b = (x : SystemId) → HasSixBytes x → get nat_cmp b.places (system_number x) ≡ place_from 0 b.list.now x
 
 -- ---- the walk
 

@@ -1,6 +1,6 @@
 ghost use Rattle.std.specs.Prelude.{◌≡◌, ◌<◌, length, find, IfOk, IfSome, Option, option_map, option_and_then};
 ghost use Rattle.std.specs.Option.{option_copied};
-ghost use Rattle.spb_types.specs.Address.{same_system};
+ghost use Rattle.spb_types.specs.Address.{same_system, system_number, HasSixBytes};
 ghost use Rattle.spb_content.specs.Graph as spec;
 ghost use Rattle.spb_content.specs.Building as building;
 
@@ -16,8 +16,18 @@ use std::collections::BTreeMap;
 pub struct Backbone<'a> {
     /// The systems with what they say.
     pub list: &'a [(SystemId, Content)],
-    /// The place in the list of each bridge.
-    pub places: BTreeMap<SystemId, usize>,
+    /// The place in the list of each bridge, by the number of its system id.
+    pub places: BTreeMap<u64, usize>,
+}
+
+/// The six bytes of a system id as a number, the first one the greatest: it is compared in one step.
+#[tactic(auto, unfolding(spb_types::specs::Address::system_number))]
+fn number_of(system: SystemId) -> u64
+    ensures number { result ≡ system_number system }
+    ensures bytes { HasSixBytes system }
+{
+    let [a, b, c, d, e, f] = system.mac.bytes;
+    u64::from_be_bytes([0, 0, a, b, c, d, e, f])
 }
 
 /// The entry, if its metric is one that a link can have.
@@ -35,7 +45,7 @@ fn usable(neighbour: &Neighbour) -> Option<Neighbour>
 fn first_entry(content: &Content, to: SystemId) -> Option<&Neighbour>
     ensures { option_copied result ≡ find (λ n. same_system n.system to) content.now.neighbours }
 {
-    content.neighbours.iter().find(|n| n.system == to)
+    content.neighbours.iter().find(|n| n.system.is(to))
 }
 
 /// The entry of a content for a neighbour: the first counts, and only with a metric that a link can have.
@@ -60,7 +70,7 @@ impl<'a> Backbone<'a> {
             left -= 1;
             let (system, content) = &list[left];
             if content.inst.is_some() {
-                places.insert(*system, left)?;
+                places.insert(number_of(*system), left)?;
             }
         }
         Ok(Backbone { list, places })
@@ -72,7 +82,7 @@ impl<'a> Backbone<'a> {
         ensures place { result ≡ building.place_from 0 self.now.list.now system }
         ensures within { IfSome result (λ place. place < length self.now.list.now) }
     {
-        self.places.get(&system).copied()
+        self.places.get(&number_of(system)).copied()
     }
 
     /// What a bridge says. None exactly where the system is no bridge.
@@ -102,7 +112,7 @@ impl<'a> Backbone<'a> {
         requires { building.IsIndexed self.now }
         ensures { result ≡ spec.link_said self.now.list.now x y }
     {
-        if x == y {
+        if x.is(y) {
             return None;
         }
         let there = self.entry(x, y)?;

@@ -89,7 +89,7 @@ fn edge(backbone: &Backbone<'_>, from: SystemId, to: SystemId) -> Option<Edge>
 fn is_listed(neighbours: &[Neighbour], system: SystemId) -> bool
     ensures { result ≡ building.is_listed neighbours.now system }
 {
-    neighbours.iter().any(|n| n.system == system)
+    neighbours.iter().any(|n| n.system.is(system))
 }
 
 /// Puts the edge to a neighbour behind the others, unless the neighbour was listed earlier.

@@ -19,7 +19,7 @@ use Rattle.lsdb.specs.Certificate.{IsClaimed}
 use Rattle.flooding.specs.Own.{IsOwnNumber}
 use Rattle.bridge_api.specs.View.{BridgeView, neighbour_at}
 use Rattle.bridge_api.specs.Parsing.{parsed}
-use Rattle.bridge_api.specs.Step.{Input, second, frame, carrier, metric, step}
+use Rattle.bridge_api.specs.Step.{Input, second, frame, carrier, metric, attach, detach, step}
 use Rattle.bridge_api.specs.Laws.{IsSoundView, IsSent, IsHeldAt, claims_said, claims_of}
 use Rattle.bridge_api.specs.Time as time
 use Rattle.bridge_api.specs.Time.{AgedFrom}
@@ -139,6 +139,8 @@ claims_are_copies links views lanes j second id a comes claimed = absurd claimed
 claims_are_copies links views lanes j (frame p f) id a comes claimed = let here = comes p f refl in is_said here.lane.link (turned here.lane.dir) f here.among claimed
 claims_are_copies links views lanes j (carrier p on) id a comes claimed = absurd claimed
 claims_are_copies links views lanes j (metric p m) id a comes claimed = absurd claimed
+claims_are_copies links views lanes j (attach b) id a comes claimed = absurd claimed
+claims_are_copies links views lanes j (detach p) id a comes claimed = absurd claimed
 
 module _ (aging : Bool) (views : List BridgeView) (lanes : List LinkLanes) (id : LspId) (own : Version) where
   aged_stems : (j : ℕ) (u : BridgeView) (a : Version) → slice_get views j ≡ Some u → aging ≡ true → AgedFrom (get u.database id) (get (step second u).database id) → version_at (step second u).database id ≡ a → Stems aging views lanes id own a
@@ -164,6 +166,10 @@ module _ (aging : Bool) (views : List BridgeView) (lanes : List LinkLanes) (id :
       learned_stems j u (carrier p on) (version_at (step (carrier p on) u).database id) a at (λ b claimed. absurd claimed) (steps_learn_versions (carrier p on) u id apart (λ e. absurd cc)) is
   other_stems links j u (Some (metric p m)) a at apart ages comes is =
       learned_stems j u (metric p m) (version_at (step (metric p m) u).database id) a at (λ b claimed. absurd claimed) (steps_learn_versions (metric p m) u id apart (λ e. absurd cc)) is
+  other_stems links j u (Some (attach c)) a at apart ages comes is =
+      learned_stems j u (attach c) (version_at (step (attach c) u).database id) a at (λ b claimed. absurd claimed) (steps_learn_versions (attach c) u id apart (λ e. absurd cc)) is
+  other_stems links j u (Some (detach p)) a at apart ages comes is =
+      learned_stems j u (detach p) (version_at (step (detach p) u).database id) a at (λ b claimed. absurd claimed) (steps_learn_versions (detach p) u id apart (λ e. absurd cc)) is
 
 module _ (aging : Bool) (s t : State) (o : ℕ → Option Input) (turn : Turn s t o) (ages : (j : ℕ) → o j ≡ Some second → aging ≡ true) (i : ℕ) (v : BridgeView) (id : LspId) (at : slice_get s.views i ≡ Some v) (owned : IsOwnNumber v.id.system id) where
   abbrev pub own : Version

@@ -20,11 +20,12 @@ use Rattle.spb_network.specs.declared.declaration.DeclaredBridge.{DeclaredBridge
 use Rattle.std.specs.Prelude.{remove}
 use Rattle.spb_network.specs.World.{World, place_of}
 use Rattle.spb_network.specs.Declaring.{bridge_of, link_of, with_vid, bridge_refusal, link_refusal}
+use Rattle.spb_network.specs.Services.{with_service}
 use Rattle.spb_network.specs.State.{State, Spare}
 use Rattle.spb_network.specs.Events.{ticked, delivered, lost, doubled, with_metric_changed, switched_off, switched_on, rounds, drained}
 use Rattle.spb_network.specs.Restarting.{restarted}
 use Rattle.spb_network.specs.Refusing.{box_for, declared_refusal, link_refusal_at_found, named_link_refusal, metric_refusal, refusal_of}
-use Rattle.spb_network.specs.Play.{config_of, boxed, declared, linked, link_between_found, named_link, at_place, at_bridge, at_link, with_vid_more, with_rounds, with_drain, played, next_count, next_state, played_all}
+use Rattle.spb_network.specs.Play.{config_of, boxed, declared, linked, link_between_found, named_link, at_place, at_bridge, at_link, with_vid_more, with_service_more, with_rounds, with_drain, played, next_count, next_state, played_all}
 use Rattle.spb_network.specs.Sound.{IsSoundState, opening}
 use Rattle.spb_network.specs.SoundLaws.{IsAddressed, AreAccepted}
 use Rattle.spb_network.specs.Counted.{IsCountedBy, IsCounted, allowance_of, most_commands}
@@ -70,6 +71,15 @@ again n s r d a counted = record {
 vid_counted : (n : ℕ) (s : State) (vid ect : ℕ) → IsCountedBy n s → IsCountedBy n (with_vid_more s vid ect)
 unfolding with_vid_more with_vid
 vid_counted n s vid ect counted = record {
+  fresh = counted.fresh;
+  held = counted.held;
+  said = counted.said;
+  bound = λ i v id at own. let within = counted.bound i v id at own in record { most = within.most; bound = within.bound; room = within.room };
+}
+
+isid_counted : (n : ℕ) (s : State) (isid vid : ℕ) → IsCountedBy n s → IsCountedBy n (with_service_more s isid vid)
+unfolding with_service_more with_service
+isid_counted n s isid vid counted = record {
   fresh = counted.fresh;
   held = counted.held;
   said = counted.said;
@@ -157,6 +167,14 @@ vid_played : (s : State) (vid ect : ℕ) → IsCounted s → IsPlayed s (with_vi
 vid_played s vid ect counted =
     two_more s (with_vid_more s vid ect) counted (counts-vid s vid ect) (counted_more (allowance_of s) (allowance_of s + 2) (with_vid_more s vid ect) (omega arith) (vid_counted (allowance_of s) s vid ect counted.by))
 
+counts-isid : (s : State) (isid vid : ℕ) → counts (with_service_more s isid vid) ≡ counts s
+unfolding with_service_more
+counts-isid s isid vid = refl
+
+isid_played : (s : State) (isid vid : ℕ) → IsCounted s → IsPlayed s (with_service_more s isid vid)
+isid_played s isid vid counted =
+    two_more s (with_service_more s isid vid) counted (counts-isid s isid vid) (counted_more (allowance_of s) (allowance_of s + 2) (with_service_more s isid vid) (omega arith) (isid_counted (allowance_of s) s isid vid counted.by))
+
 -- one after another, `rounds` counts them
 rounds_played : (s : State) (n : ℕ) → IsSoundState s → IsCounted s → s.accepted < most_commands → s.rounds + n ≤ MOST_ROUNDS → IsPlayed s (with_rounds n s)
 unfolding with_rounds
@@ -213,6 +231,7 @@ module _ (s : State) (sound : IsSoundState s) (counted : IsCounted s) (room : s.
   command_played (command.Bridge name priority system source ports) none =
       two_more s (declared s name (bridge_of priority system source ports)) counted (counts-declared s name (bridge_of priority system source ports)) (bridge_counted s (allowance_of s) name priority system source ports sound counted.by none)
   command_played (command.Link name a port_a b port_b cost) none = named_played s name a b port_a port_b cost sound counted low none
+  command_played (command.Isid isid vid) none = isid_played s isid vid counted
   command_played (command.Metric name on m) none = link_played (λ t k. with_metric_changed t k on m) s name counted (λ k at. metric_played name on m k none at)
   command_played (command.Down name) none = link_played switched_off s name counted (λ k at. off_played k)
   command_played (command.Up name) none = link_played switched_on s name counted (λ k at. on_played k)

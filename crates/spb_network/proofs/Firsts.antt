@@ -12,14 +12,15 @@ use Rattle.spb_network.specs.declared.reason.Reason.{Reason}
 use Rattle.spb_network.specs.declared.reason.Reason.TheVariants.{NoSuchName, NameTaken, IdTaken, PortUse, Range, TooMany, AlreadyLinked, AlreadyUp, AlreadyDown, Attached, NotAttached, NoFrame, RackSpent, TooLate}
 use Rattle.spb_network.specs.Reason.{reason_number, reason_unless}
 use Rattle.spb_network.specs.World.{World, things_of, place_of}
-use Rattle.spb_network.specs.Declaring.{is_new_vid, is_vid_range, is_before_bridges, is_new_name, is_new_system, is_new_source, is_bridge_range, has_bridge_room, is_free_port, is_link_range, has_link_room, is_unlinked, vid_refusal, bridge_refusal, link_refusal}
+use Rattle.spb_network.specs.Services.{is_new_isid, is_isid_range, has_service_room, isid_refusal}
+use Rattle.spb_network.specs.Declaring.{has_vid, is_new_vid, is_vid_range, has_vid_room, is_before_bridges, is_new_name, is_new_system, is_new_source, is_bridge_range, has_bridge_room, is_free_port, is_link_range, has_link_room, is_unlinked, vid_refusal, bridge_refusal, link_refusal}
 use Rattle.spb_network.specs.State.{State, is_live, lane_at, kind_at}
 use Rattle.spb_network.specs.Questions.{Question, question_of}
 use Rattle.spb_network.specs.Restarting.{box_at}
 use Rattle.spb_network.specs.Refusing.{box_for, asked_refusal, declared_refusal, link_refusal_at_found, named_link_refusal, unnamed_refusal, refusal_at_found, down_refusal, up_refusal, metric_refusal, frame_refusal, round_refusal, drain_refusal, restart_refusal, refusal_of}
 use Rattle.spb_network.specs.Holding.{IsNamed, HoldsAt, LacksBoxAt, AsksUnknown, Holds, TheFirstReasonIsGiven}
 use Rattle.spb_network.proofs.Chains.{chain_said, Said, lowest, refused_for_the_first}
-use Rattle.spb_network.proofs.Tested.{true-is, false-is, fails, opposes, not-lt, not-le, named, known, unknown, at-is, both-at, taken_vid, wrong_vid, late, taken_name, taken_id, wrong_bridge, full_of_bridges, spent_rack, taken_port, wrong_metric, wrong_link, full_of_links, joined, wrong_count}
+use Rattle.spb_network.proofs.Tested.{true-is, false-is, fails, opposes, not-lt, not-le, named, known, unknown, at-is, both-at, taken_vid, wrong_vid, full_of_vids, late, undeclared_vid, taken_isid, wrong_isid, full_of_services, taken_name, taken_id, wrong_bridge, full_of_bridges, spent_rack, taken_port, wrong_metric, wrong_link, full_of_links, joined, wrong_count}
 
 -- ---- what names a bridge
 
@@ -47,15 +48,32 @@ vid_said : (s : State) (vid ect : ℕ) → Said (Holds s (command.Vid vid ect)) 
 unfolding vid_refusal
 vid_said s vid ect =
     chain_said (Holds s (command.Vid vid ect)) 0
-    ((is_new_vid s.world.vids vid, NameTaken) ∷ (is_vid_range s.world.vids vid ect, Range) ∷ (is_before_bridges s.world, TooLate) ∷ [])
-    (taken_vid s.world vid ect, (wrong_vid s.world vid ect, (late s.world, tt)))
-    (omega arith, (omega arith, (omega arith, tt)))
+    ((is_new_vid s.world.vids vid, NameTaken) ∷ (is_vid_range vid ect, Range) ∷ (has_vid_room s.world, TooMany) ∷ (is_before_bridges s.world, TooLate) ∷ [])
+    (taken_vid s.world vid ect, (wrong_vid vid ect, (full_of_vids s.world, (late s.world, tt))))
+    (omega arith, (omega arith, (omega arith, (omega arith, tt))))
     covers
   where
-    covers : (q : Reason) → Holds s (command.Vid vid ect) q → (q ≡ NameTaken) ⊎ ((q ≡ Range) ⊎ ((q ≡ TooLate) ⊎ ⊥))
+    covers : (q : Reason) → Holds s (command.Vid vid ect) q → (q ≡ NameTaken) ⊎ ((q ≡ Range) ⊎ ((q ≡ TooMany) ⊎ ((q ≡ TooLate) ⊎ ⊥)))
     covers NameTaken h = inl refl
     covers Range h = inr (inl refl)
-    covers TooLate h = inr (inr (inl refl))
+    covers TooMany h = inr (inr (inl refl))
+    covers TooLate h = inr (inr (inr (inl refl)))
+    covers _ h = absurd h
+
+isid_said : (s : State) (isid vid : ℕ) → Said (Holds s (command.Isid isid vid)) (isid_refusal s.world isid vid)
+unfolding isid_refusal
+isid_said s isid vid =
+    chain_said (Holds s (command.Isid isid vid)) 0
+    ((has_vid s.world.vids vid, NoSuchName) ∷ (is_new_isid s.world.services isid, NameTaken) ∷ (is_isid_range isid, Range) ∷ (has_service_room s.world, TooMany) ∷ [])
+    (undeclared_vid s.world vid, (taken_isid s.world isid, (wrong_isid isid, (full_of_services s.world, tt))))
+    (omega arith, (omega arith, (omega arith, (omega arith, tt))))
+    covers
+  where
+    covers : (q : Reason) → Holds s (command.Isid isid vid) q → (q ≡ NoSuchName) ⊎ ((q ≡ NameTaken) ⊎ ((q ≡ Range) ⊎ ((q ≡ TooMany) ⊎ ⊥)))
+    covers NoSuchName h = inl refl
+    covers NameTaken h = inr (inl refl)
+    covers Range h = inr (inr (inl refl))
+    covers TooMany h = inr (inr (inr (inl refl)))
     covers _ h = absurd h
 
 bridge_said : (s : State) (name : List ℕ) (priority : ℕ) (system : Mac) (source : SourceId) (ports : ℕ) → Said (Holds s (command.Bridge name priority system source ports)) (declared_refusal s name priority system source ports)
@@ -230,6 +248,7 @@ said : (s : State) (c : Command) → Said (Holds s c) (refusal_of s c)
 said s (command.Vid vid ect) = vid_said s vid ect
 said s (command.Bridge name priority system source ports) = bridge_said s name priority system source ports
 said s (command.Link name a port_a b port_b cost) = link_said s name a b port_a port_b cost
+said s (command.Isid isid vid) = isid_said s isid vid
 said s (command.Metric name side m) = metric_said s name side m
 said s (command.Down name) = down_said s name
 said s (command.Up name) = up_said s name

@@ -1,6 +1,7 @@
 pub mod ListLemmas
 pub mod PlaceLemmas
 pub mod NameLemmas
+pub mod ServiceLemmas
 pub mod WorldLemmas
 pub mod RefusalLemmas
 pub mod ValidLemmas
@@ -73,3 +74,4 @@ pub mod QuietStates
 pub mod QuietWitness
 pub mod QuietBodies
 pub mod QuietNumbers
+pub mod Keeping

@@ -10,11 +10,11 @@ pub All-push : {X : Type 0} (P : X → Type 0) (xs : List X) (x : X) → AllByRe
 All-push P [] x h p = (p, tt)
 All-push P (y ∷ ys) x h p = (h.0, All-push P ys x h.1 p)
 
-or-left : (b c : Bool) → (b || c) ≡ false → b ≡ false
+pub or-left : (b c : Bool) → (b || c) ≡ false → b ≡ false
 or-left true c h = h
 or-left false c h = refl
 
-or-right : (b c : Bool) → (b || c) ≡ false → c ≡ false
+pub or-right : (b c : Bool) → (b || c) ≡ false → c ≡ false
 or-right true c h = absurd (true≢false h)
 or-right false c h = h
 

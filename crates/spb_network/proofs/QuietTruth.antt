@@ -12,6 +12,9 @@ use Rattle.ect_trees.proofs.Joining.{cost_among_find}
 use Rattle.ect_trees.proofs.Reached.{reached_itself, reached_on, reached_step, looks_back, looks_on, part_looks_alike}
 use Rattle.fdb_build.specs.Tables.{unicast_rows}
 use Rattle.fdb_build.proofs.TableLemmas.{same_rows}
+use Rattle.fdb_build.specs.Groups.{group_rows}
+use Rattle.fdb_build.proofs.GroupLemmas.{same_groups}
+use Rattle.spb_types.specs.declared.tables.GroupRow.{GroupRow}
 use Rattle.bridge_api.specs.View.{BridgeView}
 use Rattle.bridge_api.specs.Graph.{contents_of, read_graph, IsOwnGraph, own_tables}
 use Rattle.bridge_api.proofs.GraphRead.{reads_each_once}
@@ -82,7 +85,11 @@ own_are_wired s i v rest at =
     same_rows (read_graph v) (world_graph s.world) v.id.system v.vids (all_links s v i rest at).valid (valid s.world rest.sound.world) look
     ∙ (ap (λ (x : SystemId). unicast_rows (world_graph s.world) x v.vids) (sym (system_is s i v rest.sound at))
     ∙ ap (λ (plans : List VidPlan). unicast_rows (world_graph s.world) (system_at s.world.bridges i) plans) shown.vids) in
-    λ k. record { unicast = rows k; group = [] }
+    let groups : group_rows (read_graph v) v.id.system v.vids ≡ group_rows (world_graph s.world) (system_at s.world.bridges i) s.world.vids =
+    same_groups (read_graph v) (world_graph s.world) v.id.system v.vids (all_links s v i rest at).valid (valid s.world rest.sound.world) look
+    ∙ (ap (λ (x : SystemId). group_rows (world_graph s.world) x v.vids) (sym (system_is s i v rest.sound at))
+    ∙ ap (λ (plans : List VidPlan). group_rows (world_graph s.world) (system_at s.world.bridges i) plans) shown.vids) in
+    λ k. record { unicast = rows k; group = groups k }
 
 pub quiet_is_true : QuietIsTrue
 quiet_is_true s i v rest at =

@@ -150,6 +150,7 @@ world = record {
   vids = plan_of 100 1 ∷ [];
   bridges = (97 ∷ [], bridge_of 32768 (system 1).mac (source 1) 1) ∷ (98 ∷ [], bridge_of 32768 (system 2).mac (source 2) 1) ∷ [];
   links = (108 ∷ [], link) ∷ [];
+  services = [];
 }
 
 abbrev resting : BridgeView → BridgeView → State

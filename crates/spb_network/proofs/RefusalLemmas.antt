@@ -1,21 +1,27 @@
-use Rattle.std.proofs.Common.{◌≡◌, ◌≢◌, ℕ, ◌+◌, ◌<◌, ◌≤◌, ◌==◌, Bool, true, false, ◌&&◌, List, [], ◌∷◌, length, Option, Some, None, nat_lt, nat_le, refl, sym, ap, ◌∙◌, arith}
+use Rattle.std.proofs.Common.{◌≡◌, ◌≢◌, ℕ, ◌+◌, ◌<◌, ◌≤◌, ◌==◌, Bool, true, false, true≢false, ◌&&◌, ◌||◌, List, [], ◌∷◌, length, Option, Some, None, nat_lt, nat_le, refl, sym, ap, ◌∙◌, arith}
 use Rattle.spb_types.specs.declared.limits.TheConstants.{GREATEST_METRIC, MOST_ROUNDS}
 use Rattle.std.proofs.lemmas.Bool.Decides.{nat_tests}
-use Rattle.std.specs.List.{AllByRecursion}
+use Rattle.std.specs.Prelude.{nat_eq}
+use Rattle.std.specs.List.{AllByRecursion, list_any}
+use Rattle.std.proofs.lemmas.Bool.{eq-eqb}
 use Rattle.std.specs.Str.{bytes_eq}
 use Rattle.spb_types.specs.declared.address.Mac.{Mac}
 use Rattle.spb_types.specs.declared.service.SourceId.{SourceId}
+use Rattle.spb_types.specs.declared.service.VidPlan.{VidPlan}
 use Rattle.spb_network.specs.declared.declaration.DeclaredLink.{DeclaredLink}
 use Rattle.spb_network.specs.declared.reason.Reason.{Reason}
 use Rattle.spb_network.specs.declared.reason.Reason.TheVariants.{Range}
-use Rattle.bridge_api.specs.Config.{IsMetric}
+use Rattle.spb_tlvs.specs.Capability.{IsTree}
+use Rattle.bridge_api.specs.Config.{IsMetric, vids_of}
 use Rattle.spb_network.specs.Reason.{reason_unless, ◌or◌}
 use Rattle.spb_network.specs.Refusing.{refusal_at_found, metric_refusal, declared_refusal, round_refusal, drain_refusal}
 use Rattle.spb_network.specs.State.{State}
 use Rattle.spb_network.specs.World.{World, things_of, place_of, ports_at, is_between, is_at_port, AreApart}
-use Rattle.spb_network.specs.Declaring.{vid_refusal, bridge_refusal, link_refusal, is_vid_range, is_new_name, is_new_system, is_new_source, is_bridge_range, is_bridge_address, has_bridge_room, is_free_port, is_link_range, is_unlinked, bridge_of, link_of}
-use Rattle.spb_network.proofs.ListLemmas.{All-none, and-left, and-right, not-true}
-use Rattle.spb_network.proofs.WorldLemmas.{IsNewBridge, IsNewLink, ports_at-within}
+use Rattle.spb_network.specs.Services.{is_new_isid, is_isid_range, isid_refusal, service_of}
+use Rattle.spb_network.specs.Declaring.{vid_refusal, bridge_refusal, link_refusal, has_vid, is_new_vid, is_vid_range, has_vid_room, is_new_name, is_new_system, is_new_source, is_bridge_range, is_bridge_address, has_bridge_room, is_free_port, is_link_range, is_unlinked, plan_of, bridge_of, link_of}
+use Rattle.spb_network.proofs.ListLemmas.{All-map, All-none, and-left, and-right, not-true}
+use Rattle.spb_network.proofs.ServiceLemmas.{IsNewService, new_isid}
+use Rattle.spb_network.proofs.WorldLemmas.{IsNewPlan, IsNewBridge, IsNewLink, ports_at-within}
 
 reason_unless-none : (b : Bool) (r : Reason) → reason_unless b r ≡ None → b ≡ true
 unfolding reason_unless
@@ -58,22 +64,83 @@ metric_refusal_none w name m k at none =
 
 -- what the tests of a VID say
 pub record IsNewVid (w : World) (vid ect : ℕ) : Type 0 where
-  pub first : w.vids ≡ []
-  pub vid_low : 1 ≤ vid
+  pub new : IsNewPlan w (plan_of vid ect)
   pub vid_high : vid ≤ 4094
-  pub first_ect : ect ≡ 1
+  pub ect_high : ect ≤ 16
+
+value_apart : (vid : ℕ) (ps : List VidPlan) → AllByRecursion (λ p. (p.vid.value == vid) ≡ false) ps → AllByRecursion (λ p. p.vid.value ≢ vid) ps
+value_apart vid ps none = All-map (λ p. (p.vid.value == vid) ≡ false) (λ p. p.vid.value ≢ vid) ps (λ p e. eq-false p.vid.value vid e) none
 
 pub vid_refusal_none : (w : World) (vid ect : ℕ) → vid_refusal w vid ect ≡ None → IsNewVid w vid ect
 unfolding vid_refusal is_vid_range
 vid_refusal_none w vid ect h =
-    let range = reason_unless-none (is_vid_range w.vids vid ect) _ (or-second _ _ (or-first _ _ h)) in
-    let low_high_ect = and-left _ _ range in
-    let low_high = and-left _ _ low_high_ect in
+    let to_room = or-first _ _ h in
+    let to_range = or-first _ _ to_room in
+    let new = reason_unless-none (is_new_vid w.vids vid) _ (or-first _ _ to_range) in
+    let range = reason_unless-none (is_vid_range vid ect) _ (or-second _ _ to_range) in
+    let room = reason_unless-none (has_vid_room w) _ (or-second _ _ to_room) in
+    let vid_low = le-true 1 vid (and-left _ _ (and-left _ _ (and-left _ _ range))) in
+    let vid_high = le-true vid 4094 (and-right _ _ (and-left _ _ (and-left _ _ range))) in
+    let ect_low = le-true 1 ect (and-right _ _ (and-left _ _ range)) in
+    let ect_high = le-true ect 16 (and-right _ _ range) in
     record {
-      first = empty_list w.vids (and-right _ _ range);
-      vid_low = le-true 1 vid (and-left _ _ low_high);
-      vid_high = le-true vid 4094 (and-right _ _ low_high);
-      first_ect = eq-true ect 1 (and-right _ _ low_high_ect);
+      new = record {
+        room = lt-true (length w.vids) 16 room;
+        apart = value_apart vid w.vids (All-none (λ p. p.vid.value == vid) w.vids (not-true _ new));
+        tree = record { vid_low = vid_low; vid_high = vid_high; ect_low = ect_low; ect_high = ect_high };
+      };
+      vid_high = vid_high;
+      ect_high = ect_high;
+    }
+
+-- what the tests of a service say
+
+any-vid : (ps : List VidPlan) (vid : ℕ) → has_vid ps vid ≡ true → list_any (nat_eq vid) (vids_of ps) ≡ true
+any-vid [] vid there = absurd (true≢false (sym there))
+any-vid (p ∷ ps) vid there = at (p.vid.value == vid) refl there (any-vid ps vid)
+  where
+    more : (b : Bool) → list_any (nat_eq vid) (vids_of ps) ≡ true → (b || list_any (nat_eq vid) (vids_of ps)) ≡ true
+    more true t = refl
+    more false t = t
+
+    at : (b : Bool) → (p.vid.value == vid) ≡ b → (b || has_vid ps vid) ≡ true → (has_vid ps vid ≡ true → list_any (nat_eq vid) (vids_of ps) ≡ true) → (nat_eq vid p.vid.value || list_any (nat_eq vid) (vids_of ps)) ≡ true
+    at true is t rest = ap (λ b. b || list_any (nat_eq vid) (vids_of ps)) (eq-eqb vid p.vid.value (sym (eq-true p.vid.value vid is)))
+    at false is t rest = more (nat_eq vid p.vid.value) (rest t)
+
+vid-high : (ps : List VidPlan) (vid : ℕ) → AllByRecursion IsTree ps → has_vid ps vid ≡ true → vid ≤ 4094
+vid-high [] vid all there = absurd (true≢false (sym there))
+vid-high (p ∷ ps) vid all there = at (p.vid.value == vid) refl there (vid-high ps vid all.1)
+  where
+    at : (b : Bool) → (p.vid.value == vid) ≡ b → (b || has_vid ps vid) ≡ true → (has_vid ps vid ≡ true → vid ≤ 4094) → vid ≤ 4094
+    at true is t rest = omega (arith, all.0.vid_high, eq-true p.vid.value vid is)
+    at false is t rest = rest t
+
+pub record IsFreeIsid (w : World) (isid vid : ℕ) : Type 0 where
+  pub isid_new : is_new_isid w.services isid ≡ true
+  pub isid_high : isid ≤ 16777215
+  pub vid_high : AllByRecursion IsTree w.vids → vid ≤ 4094
+  pub new : IsNewService w (service_of isid vid)
+
+pub isid_refusal_none : (w : World) (isid vid : ℕ) → isid_refusal w isid vid ≡ None → IsFreeIsid w isid vid
+unfolding isid_refusal is_isid_range
+isid_refusal_none w isid vid h =
+    let to_range = or-first _ _ h in
+    let to_name = or-first _ _ to_range in
+    let declared = reason_unless-none (has_vid w.vids vid) _ (or-first _ _ to_name) in
+    let new = reason_unless-none (is_new_isid w.services isid) _ (or-second _ _ to_name) in
+    let range = reason_unless-none (is_isid_range isid) _ (or-second _ _ to_range) in
+    record {
+      isid_new = new;
+      isid_high = le-true isid 16777215 (and-right _ _ range);
+      vid_high = λ all. vid-high w.vids vid all declared;
+      new = record {
+        service = record {
+          isid_low = le-true 1 isid (and-left _ _ range);
+          isid_high = le-true isid 16777215 (and-right _ _ range);
+          vid = any-vid w.vids vid declared;
+        };
+        apart = new_isid w.services isid new;
+      };
     }
 
 -- what the tests of a bridge say

@@ -118,7 +118,7 @@ Sound-link_cut s k e sound lit =
     (subst (λ (w : World). HaveCarrierOfLinks (things_of w.links) x.views) (sym (cut_world s k e))
     (λ j v p at port. both j v p at port ∙ again_there e j p (links_of s) (is_at e j p) refl lit))
     (stepped_with_metric (comes.carrier e.port true) u e.bridge refl (stepped_with_metric (comes.carrier e.port false) t e.bridge refl emptied.metrics))
-    (stepped_attached (comes.carrier e.port true) u e.bridge (stepped_attached (comes.carrier e.port false) t e.bridge emptied.attached))
+    (stepped_attached (comes.carrier e.port true) u e.bridge refl (stepped_attached (comes.carrier e.port false) t e.bridge refl emptied.attached))
   where
     t : State
     t = flushed s k

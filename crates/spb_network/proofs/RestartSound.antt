@@ -220,7 +220,7 @@ lit_here : (s : State) (i k : ℕ) (l : DeclaredLink) → IsUnlit s i k → slic
 lit_here s i k l unlit at here live apart = record {
   core = core_with_carrier true s e unlit.core;
   metrics = stepped_with_metric (comes.carrier e.port true) s e.bridge refl unlit.metrics;
-  attached = stepped_attached (comes.carrier e.port true) s e.bridge unlit.attached;
+  attached = stepped_attached (comes.carrier e.port true) s e.bridge refl unlit.attached;
   lit = record {
     carriers = now;
     have = carrier_stands true s e unlit.lit.carriers unlit.lit.have;

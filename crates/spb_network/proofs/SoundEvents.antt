@@ -27,7 +27,7 @@ use Rattle.spb_network.proofs.SoundMoves.{IsCore, Comes}
 use Rattle.spb_network.proofs.SoundSteps.{short_rest, short_lost, short_doubled, short_flushed, in_got, in_rest, in_lost, in_doubled, in_changed, in_flushed, flushed_lane, world-sent_all, views-sent_all, IsInputAt, core_stepped, core_fewer, core_with_live}
 use Rattle.spb_network.proofs.SoundCarrier.{HaveCarrier, carriers_stepped, carriers_with_carrier, carrier-switched}
 use Rattle.spb_network.proofs.SoundMetrics.{is_metric, with_metric_stepped, with_metric_switched}
-use Rattle.spb_network.proofs.SoundAttached.{attached_stepped}
+use Rattle.spb_network.proofs.SoundAttached.{is_service, attached_stepped}
 
 -- the parts of what is sound
 pub core_of : (s : State) → IsSoundState s → IsCore s
@@ -59,22 +59,22 @@ stepped_with_metric x s i other metrics =
     (subst (λ (views : List BridgeView). HaveLinkMetrics (links_of s) views) (sym (stepped_views x s i))
     (with_metric_stepped x (links_of s) s.views i other metrics))
 
-pub stepped_attached : (x : Input) (s : State) (i : ℕ) → AreAttached s.world s.views → AreAttached (stepped x s i).world (stepped x s i).views
-stepped_attached x s i attached =
+pub stepped_attached : (x : Input) (s : State) (i : ℕ) → is_service x ≡ false → AreAttached s.world s.views → AreAttached (stepped x s i).world (stepped x s i).views
+stepped_attached x s i other attached =
     subst (λ (w : World). AreAttached w (stepped x s i).views) (sym (stepped_world x s i))
     (subst (AreAttached s.world) (sym (stepped_views x s i))
-    (attached_stepped x s.world s.views i attached))
+    (attached_stepped x s.world s.views i other attached))
 
 -- an input that changes neither, after frames were lost or taken from lanes
-stays_stepped : (x : Input) (s : State) (lanes : List LinkLanes) (i : ℕ) → IsInputAt s.views i x → is_carrier x ≡ false → is_metric x ≡ false → IsSoundState s → IsAlike s (record s { lanes = lanes }) → AreShort lanes → ((k : ℕ) (dir : Dir) (f : Frame) → IsIn f (lane_of lanes k dir) → IsIn f (lane_of s.lanes k dir)) → ((p : ℕ) (f : Frame) → x ≡ comes.frame p f → Comes (links_of s) s.lanes i p f) → IsSoundState (stepped x (record s { lanes = lanes }) i)
-stays_stepped x s lanes i is_input same_carrier same_metric sound alike short fewer from =
+stays_stepped : (x : Input) (s : State) (lanes : List LinkLanes) (i : ℕ) → IsInputAt s.views i x → is_carrier x ≡ false → is_metric x ≡ false → is_service x ≡ false → IsSoundState s → IsAlike s (record s { lanes = lanes }) → AreShort lanes → ((k : ℕ) (dir : Dir) (f : Frame) → IsIn f (lane_of lanes k dir) → IsIn f (lane_of s.lanes k dir)) → ((p : ℕ) (f : Frame) → x ≡ comes.frame p f → Comes (links_of s) s.lanes i p f) → IsSoundState (stepped x (record s { lanes = lanes }) i)
+stays_stepped x s lanes i is_input same_carrier same_metric same_attached sound alike short fewer from =
     sound_from (stepped x (record s { lanes = lanes }) i) (core_stepped x s lanes i is_input (core_of s sound) alike short fewer from)
     (stepped_carriers x (record s { lanes = lanes }) i same_carrier sound.carriers)
     (stepped_with_metric x (record s { lanes = lanes }) i same_metric sound.metrics)
-    (stepped_attached x (record s { lanes = lanes }) i sound.attached)
+    (stepped_attached x (record s { lanes = lanes }) i same_attached sound.attached)
 
 pub Sound-ticked : (s : State) (i : ℕ) → IsSoundState s → IsSoundState (ticked s i)
-Sound-ticked s i sound = stays_stepped comes.second s s.lanes i (λ v at. tt) refl refl sound (alike_itself s) sound.short (λ k dir f among. among) (λ p f is. absurd cc)
+Sound-ticked s i sound = stays_stepped comes.second s s.lanes i (λ v at. tt) refl refl refl sound (alike_itself s) sound.short (λ k dir f among. among) (λ p f is. absurd cc)
 
 -- ---- a frame is delivered
 
@@ -105,7 +105,7 @@ stays_fewer s lanes sound alike short fewer = sound_from (record s { lanes = lan
 heard_sound : (s : State) (k : ℕ) (dir : Dir) (bytes : Frame) (o : Option DeclaredLink) → slice_get (links_of s) k ≡ o → slice_get (lane_at s k dir) 0 ≡ Some bytes → IsSoundState s → IsSoundState (heard_over (with_frames rest s k dir) dir bytes o)
 heard_sound s k dir bytes None at front sound = stays_fewer s (changed_at (changed_lane dir rest) s.lanes k) sound (alike_with_frames rest s k dir) (short_rest s.lanes k dir sound.short) (fewer_rest s k dir)
 heard_sound s k dir bytes (Some l) at front sound =
-    stays_stepped (comes.frame (far_end dir l).port bytes) s (changed_at (changed_lane dir rest) s.lanes k) (far_end dir l).bridge (λ v at. tt) refl refl sound (alike_with_frames rest s k dir) (short_rest s.lanes k dir sound.short) (fewer_rest s k dir) (front_comes s k dir l bytes (core_of s sound) at front)
+    stays_stepped (comes.frame (far_end dir l).port bytes) s (changed_at (changed_lane dir rest) s.lanes k) (far_end dir l).bridge (λ v at. tt) refl refl refl sound (alike_with_frames rest s k dir) (short_rest s.lanes k dir sound.short) (fewer_rest s k dir) (front_comes s k dir l bytes (core_of s sound) at front)
 
 front_sound : (s : State) (k : ℕ) (dir : Dir) (o : Option Frame) → slice_get (lane_at s k dir) 0 ≡ o → IsSoundState s → IsSoundState (delivered_front s k dir o)
 front_sound s k dir None front sound = sound
@@ -158,7 +158,7 @@ switched_sound on s t k (Some l) world views core carriers metrics attached soun
     (subst (λ (w : World). HaveCarrierOfLinks (things_of w.links) x.views) (sym there)
     (λ i v p at_v port. both i v p at_v port ∙ carrier-switched on s.world.links k l sound.links_apart link.apart at i p))
     (stepped_with_metric (comes.carrier l.b.port on) u l.b.bridge refl (stepped_with_metric (comes.carrier l.a.port on) t l.a.bridge refl metrics))
-    (stepped_attached (comes.carrier l.b.port on) u l.b.bridge (stepped_attached (comes.carrier l.a.port on) t l.a.bridge attached))
+    (stepped_attached (comes.carrier l.b.port on) u l.b.bridge refl (stepped_attached (comes.carrier l.a.port on) t l.a.bridge refl attached))
 
 live_with_metric : (on : Bool) (s : State) (k : ℕ) → HaveLinkMetrics (links_of s) s.views → HaveLinkMetrics (things_of (with_live on s.world k).links) s.views
 unfolding with_live

@@ -16,7 +16,7 @@ use Rattle.adjacency.specs.Hearing.{End}
 use Rattle.bridge_api.specs.View.{BridgeView, neighbour_at, is_up_at}
 use Rattle.bridge_api.specs.Parsing.{Parsed, parsed}
 use Rattle.bridge_api.specs.Parsing as parsing
-use Rattle.bridge_api.specs.Step.{Input, second, frame, carrier, metric, step, sent}
+use Rattle.bridge_api.specs.Step.{Input, second, frame, carrier, metric, attach, detach, step, sent}
 use Rattle.bridge_api.specs.Laws.{IsInput, IsSoundView, IsHeard, IsSent, IsHelloOf, IsWritten, IsFrameOf, hello_sender, port_of, claims_of}
 use Rattle.bridge_api.proofs.Frames.{at_most_held}
 use Rattle.spb_network.specs.Sound.{end_at, IsHelloTo, IsFrameFrom, IsFloodedOrHeld, LinkAgrees}
@@ -110,6 +110,8 @@ moved_keeps v p w q (Some input) y lane back after move n kept =
     by (frame r f) from heard = said_sender v p w q f n (All-in (IsFrameFrom w q v p) back f move.towards (from f (ap (λ (k : ℕ). frame k f) heard.0))) heard.1
     by (carrier r on) from heard = absurd heard
     by (metric r m) from heard = absurd heard
+    by (attach a) from heard = absurd heard
+    by (detach r) from heard = absurd heard
 
 -- who is kept can be named
 pub named : (o : Option End) (w : BridgeView) (q : ℕ) → IsSoundView w → q ≤ 32 → ((n : End) → o ≡ Some n → n ≡ end_at w q) → IsNamed o
@@ -177,6 +179,8 @@ moved_ready v p w q (Some input) y lane back after move id up =
         (All-in (IsFrameFrom w q v p) back f move.towards (from f same)).claims id a (subst (λ (i : Input). IsClaimed (claims_of i) id a) same claimed)
     by (carrier r on) from here a claimed = absurd claimed
     by (metric r m) from here a claimed = absurd claimed
+    by (attach b) from here a claimed = absurd claimed
+    by (detach r) from here a claimed = absurd claimed
 
 -- both bridges may have stepped, and the direction agrees
 pub agrees_moved : (v : BridgeView) (p : ℕ) (w : BridgeView) (q : ℕ) (x y : Option Input) (lane back after : List Frame) → IsMove v p w q x y lane back after → LinkAgrees (moved x v) p (moved y w) q after

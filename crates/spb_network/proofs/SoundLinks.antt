@@ -80,7 +80,7 @@ Sound-new_link s name l sound new distinct dead =
     (stepped_carriers (comes.metric l.b.port l.b.metric) u l.b.bridge refl (stepped_carriers (comes.metric l.a.port l.a.metric) t l.a.bridge refl (carriers_new_link s name l sound dead)))
     (subst (λ (w : World). HaveLinkMetrics (things_of w.links) x.views) (sym world)
     (subst (λ (vs : List BridgeView). HaveLinkMetrics (links_of t) vs) (sym views) (with_metric_new_link s name l sound new)))
-    (stepped_attached (comes.metric l.b.port l.b.metric) u l.b.bridge (stepped_attached (comes.metric l.a.port l.a.metric) t l.a.bridge (attached_new_link s name l sound.attached)))
+    (stepped_attached (comes.metric l.b.port l.b.metric) u l.b.bridge refl (stepped_attached (comes.metric l.a.port l.a.metric) t l.a.bridge refl (attached_new_link s name l sound.attached)))
   where
     t : State
     t = record s { world = with_link s.world name l; lanes = s.lanes ++ no_frames ∷ [] }

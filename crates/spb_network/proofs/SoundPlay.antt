@@ -5,6 +5,8 @@ use Rattle.std.specs.List.{AllByRecursion}
 use Rattle.std.proofs.lemmas.Bool.{eqb-true}
 use Rattle.spb_types.specs.declared.address.Mac.{Mac}
 use Rattle.spb_types.specs.declared.service.SourceId.{SourceId}
+use Rattle.spb_types.specs.declared.service.Isid.{Isid}
+use Rattle.spb_types.specs.declared.service.Vid.{Vid}
 use Rattle.scenario.specs.declared.command.Command.{Command}
 use Rattle.scenario.specs.declared.command.Command.TheVariants as command
 use Rattle.spb_types.specs.declared.link.Side.{Side}
@@ -17,17 +19,19 @@ use Rattle.link_model.specs.declared.lanes.LinkLanes.{LinkLanes}
 use Rattle.spb_network.specs.World.{World, place_of, Sound}
 use Rattle.link_model.specs.Lanes.{no_frames}
 use Rattle.spb_network.specs.Declaring.{bridge_refusal, vid_refusal, link_refusal, plan_of, bridge_of, link_of, with_link}
+use Rattle.spb_network.specs.Services.{isid_refusal, service_of, with_service}
 use Rattle.spb_network.specs.State.{State, Spare}
 use Rattle.spb_network.specs.Events.{ticked, delivered, lost, doubled, with_metrics_over, with_metric_changed, switched_off, switched_on, rounds, drained}
 use Rattle.spb_network.specs.Restarting.{restarted}
 use Rattle.spb_network.specs.Refusing.{box_for, declared_refusal, link_refusal_at_found, named_link_refusal, metric_refusal, refusal_of}
-use Rattle.spb_network.specs.Play.{config_of, boxed, declared, linked, link_between_found, named_link, at_place, at_bridge, at_link, with_vid_more, with_rounds, with_drain, played, counted, next_state, played_all}
+use Rattle.spb_network.specs.Play.{config_of, boxed, declared, linked, link_between_found, named_link, at_place, at_bridge, at_link, with_vid_more, with_service_more, with_rounds, with_drain, played, counted, next_state, played_all}
 use Rattle.spb_network.specs.Sound.{IsSoundState, opening}
 use Rattle.spb_network.specs.SoundLaws.{Keeps, EventsKeepSound, IsAddress, IsAddressed, CommandsKeepSound, AreAccepted, NetworksAreSound}
 use Rattle.spb_network.proofs.BridgeLaws.{configured_is_sound, configured_has_no_carrier}
 use Rattle.spb_network.proofs.ConfigLemmas.{whole-config}
+use Rattle.spb_network.proofs.ServiceLemmas.{Sound-with_service}
 use Rattle.spb_network.proofs.WorldLemmas.{Sound-with_vid}
-use Rattle.spb_network.proofs.RefusalLemmas.{metric_refusal_none, vid_refusal_none, IsFreeBridge, bridge_refusal_none, link_refusal_none}
+use Rattle.spb_network.proofs.RefusalLemmas.{metric_refusal_none, vid_refusal_none, isid_refusal_none, IsFreeBridge, bridge_refusal_none, link_refusal_none}
 use Rattle.spb_network.proofs.SoundNames.{first_none, last_none, passes, distinct_bridge, distinct_link}
 use Rattle.spb_network.proofs.SoundEvents.{Sound-ticked, Sound-delivered, Sound-lost, Sound-doubled, Sound-switched_off, Sound-switched_on, Sound-rounds, Sound-drained}
 use Rattle.spb_network.proofs.SoundDeclaring.{empty_from, IsNewView, Sound-new_bridge, Sound-new_vid, Sound-nothing}
@@ -83,7 +87,30 @@ unfolding with_vid_more
 vid_sound s vid ect sound none =
     let new = vid_refusal_none s.world vid ect none in
     Sound-new_vid s (plan_of vid ect) sound (before_bridges s.world vid ect none)
-    (Sound-with_vid s.world (plan_of vid ect) sound.world new.first (record { vid_low = new.vid_low; vid_high = new.vid_high; ect_low = omega (arith, new.first_ect); ect_high = omega (arith, new.first_ect) }))
+    (Sound-with_vid s.world (plan_of vid ect) sound.world new.new)
+
+-- ---- a service
+
+service_more : (s : State) (service : Isid × Vid) → IsSoundState s → Sound (with_service s.world service) → IsSoundState (record s { world = with_service s.world service })
+unfolding with_service
+service_more s service sound world = record {
+  world = world;
+  distinct = record { bridges = sound.distinct.bridges; sources = sound.distinct.sources; links = sound.distinct.links };
+  fits = record { bridges = sound.fits.bridges; lanes = sound.fits.lanes; ports = sound.fits.ports };
+  shown = sound.shown;
+  views = sound.views;
+  carriers = sound.carriers;
+  metrics = sound.metrics;
+  attached = sound.attached;
+  short = sound.short;
+  idle = sound.idle;
+  agree = sound.agree;
+}
+
+isid_sound : (s : State) (isid vid : ℕ) → IsSoundState s → isid_refusal s.world isid vid ≡ None → IsSoundState (with_service_more s isid vid)
+unfolding with_service_more
+isid_sound s isid vid sound none =
+    service_more s (service_of isid vid) sound (Sound-with_service s.world (service_of isid vid) sound.world (isid_refusal_none s.world isid vid none).new)
 
 -- ---- a bridge
 
@@ -172,6 +199,7 @@ played_sound : (s : State) (c : Command) → IsSoundState s → IsAddressed c �
 played_sound s (command.Vid vid ect) sound addressed none = vid_sound s vid ect sound none
 played_sound s (command.Bridge name priority system source ports) sound addressed none = bridge_sound s name priority system source ports sound addressed none
 played_sound s (command.Link name a port_a b port_b cost) sound addressed none = link_sound s name a b port_a port_b cost sound none
+played_sound s (command.Isid isid vid) sound addressed none = isid_sound s isid vid sound none
 played_sound s (command.Metric name side m) sound addressed none = metric_sound s name side m sound none
 played_sound s (command.Down name) sound addressed none = at_link_sound switched_off s name (λ k t. Sound-switched_off t k) sound
 played_sound s (command.Up name) sound addressed none = at_link_sound switched_on s name (λ k t. Sound-switched_on t k) sound
@@ -192,7 +220,7 @@ all_sound : (s : State) (cs : List Command) → IsSoundState s → AllByRecursio
 all_sound s [] sound addressed accepted = sound
 all_sound s (c ∷ cs) sound addressed accepted = all_sound (next_state s c) cs (commands_keep_sound s c sound addressed.0 accepted.0) addressed.1 accepted.1
 
-opening_world : Sound (record { vids = []; bridges = []; links = [] })
+opening_world : Sound (record { vids = []; bridges = []; links = []; services = [] })
 opening_world = record {
   few = omega arith;
   ports = tt;
@@ -202,6 +230,8 @@ opening_world = record {
   plans = record { ects = tt; apart = tt };
   few_vids = omega arith;
   each_vid = tt;
+  services = tt;
+  services_apart = tt;
 }
 
 -- a network in which nothing is declared is sound

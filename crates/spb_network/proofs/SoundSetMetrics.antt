@@ -230,7 +230,7 @@ shown_sound s k on (Some l) core carriers attached but none at =
     (subst (λ (w : World). HaveLinkMetrics (things_of w.links) x.views) (sym (stepped_world (comes.metric e.port e.metric) s e.bridge))
     (subst (λ (vs : List BridgeView). HaveLinkMetrics (links_of s) vs) (sym (stepped_views (comes.metric e.port e.metric) s e.bridge))
     (subst (λ (f : LinkEnd). HaveLinkMetrics (links_of s) (after_end s.views f)) (near-side on l) (shown_metric s k l (dir_of on) core at but))))
-    (stepped_attached (comes.metric e.port e.metric) s e.bridge attached)
+    (stepped_attached (comes.metric e.port e.metric) s e.bridge refl attached)
   where
     e : LinkEnd
     e = end_on on l

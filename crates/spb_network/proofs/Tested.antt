@@ -14,10 +14,11 @@ use Rattle.bridge_api.specs.declared.kind.Kind.{Kind}
 use Rattle.bridge_api.specs.declared.kind.Kind.TheVariants as kind
 use Rattle.spb_network.specs.declared.declaration.DeclaredLink.{DeclaredLink}
 use Rattle.spb_network.specs.declared.declaration.LinkEnd.{LinkEnd}
-use Rattle.spb_network.specs.World.{World, Bridges, Links, names_of, things_of, place_of, ports_at, is_between, is_at_port}
-use Rattle.spb_network.specs.Declaring.{has_vid, is_new_vid, is_vid_range, is_before_bridges, is_new_name, is_new_system, is_new_source, is_bridge_address, is_bridge_range, has_bridge_room, is_free_port, is_port, is_link_range, has_link_room, is_unlinked}
+use Rattle.spb_network.specs.World.{World, Bridges, Links, Services, names_of, things_of, place_of, vid_of_isid, ports_at, is_between, is_at_port}
+use Rattle.spb_network.specs.Declaring.{has_vid, is_new_vid, is_vid_range, has_vid_room, is_before_bridges, is_new_name, is_new_system, is_new_source, is_bridge_address, is_bridge_range, has_bridge_room, is_free_port, is_port, is_link_range, has_link_room, is_unlinked}
+use Rattle.spb_network.specs.Services.{is_new_isid, is_isid_range, has_service_room}
 use Rattle.spb_network.specs.State.{Spare, same_kind, serves, box_from, next_box}
-use Rattle.spb_network.specs.Holding.{IsNamed, HoldsAt, HoldsAtBoth, HasLink, IsEndAt, IsVid, IsOwnAddress, IsBridgeInRange, HasPort, IsLinkInRange, IsFromTo}
+use Rattle.spb_network.specs.Holding.{IsNamed, HoldsAt, HoldsAtBoth, HasLink, IsEndAt, IsVidOf, IsIsidOf, IsVid, IsIsid, IsOwnAddress, IsBridgeInRange, HasPort, IsLinkInRange, IsFromTo}
 
 -- ---- tests
 
@@ -115,12 +116,48 @@ both-at a b bridges P i j t at bt d = at-is a bridges (λ k. HoldsAt b bridges (
 pub taken_vid : (w : World) (vid ect : ℕ) → Decides (not (is_new_vid w.vids vid)) (Any (λ plan. plan.vid.value ≡ vid) w.vids)
 taken_vid w vid ect = opposes (has_vid w.vids vid) (any-is (λ plan. plan.vid.value == vid) (λ plan. plan.vid.value ≡ vid) (λ plan. Decides-eqb plan.vid.value vid) w.vids)
 
-pub wrong_vid : (w : World) (vid ect : ℕ) → Decides (not (is_vid_range w.vids vid ect)) (¬ IsVid w vid ect)
+pub wrong_vid : (vid ect : ℕ) → Decides (not (is_vid_range vid ect)) (¬ IsVid vid ect)
 unfolding is_vid_range
-wrong_vid w vid ect = fails (nat_le 1 vid && nat_le vid 4094 && (ect == 1) && (length w.vids == 0)) (and4 _ _ _ _ (le-is 1 vid) (le-is vid 4094) (Decides-eqb ect 1) (Decides-eqb (length w.vids) 0))
+wrong_vid vid ect = fails (nat_le 1 vid && nat_le vid 4094 && nat_le 1 ect && nat_le ect 16) (and4 _ _ _ _ (le-is 1 vid) (le-is vid 4094) (le-is 1 ect) (le-is ect 16))
+
+pub full_of_vids : (w : World) → Decides (not (has_vid_room w)) (16 ≤ length w.vids)
+full_of_vids w = not-lt (length w.vids) 16
 
 pub late : (w : World) → Decides (not (is_before_bridges w)) (¬ (length w.bridges ≡ 0))
 late w = fails (length w.bridges == 0) (Decides-eqb (length w.bridges) 0)
+
+-- ---- a service
+
+pub undeclared_vid : (w : World) (vid : ℕ) → Decides (not (has_vid w.vids vid)) (¬ IsVidOf w vid)
+undeclared_vid w vid = fails (has_vid w.vids vid) (any-is (λ plan. plan.vid.value == vid) (λ plan. plan.vid.value ≡ vid) (λ plan. Decides-eqb plan.vid.value vid) w.vids)
+
+found_isid : (services : Services) (isid : ℕ) → is_some (vid_of_isid services isid) ≡ list_any (λ s. isid == s.0.value) services
+found_isid [] isid = refl
+found_isid (s ∷ services) isid = at (isid == s.0.value) (found_isid services isid)
+  where
+    at : (b : Bool) → is_some (vid_of_isid services isid) ≡ list_any (λ t. isid == t.0.value) services → is_some (cond b (Some s.1) (vid_of_isid services isid)) ≡ (b || list_any (λ t. isid == t.0.value) services)
+    at true rest = refl
+    at false rest = rest
+
+turned-eqb : (a b : ℕ) → Decides (a == b) (b ≡ a)
+turned-eqb a b = Decides-like (a == b) (λ e. sym e) (λ e. sym e) (Decides-eqb a b)
+
+declared_isid : (w : World) (isid : ℕ) → Decides (is_some (vid_of_isid w.services isid)) (IsIsidOf w isid)
+declared_isid w isid = Decides-at (is_some (vid_of_isid w.services isid)) (list_any (λ s. isid == s.0.value) w.services) (found_isid w.services isid) (any-is (λ s. isid == s.0.value) (λ s. s.0.value ≡ isid) (λ s. turned-eqb isid s.0.value) w.services)
+
+not-none : {X : Type 0} (o : Option X) → not (is_none o) ≡ is_some o
+not-none None = refl
+not-none (Some x) = refl
+
+pub taken_isid : (w : World) (isid : ℕ) → Decides (not (is_new_isid w.services isid)) (IsIsidOf w isid)
+taken_isid w isid = Decides-at (not (is_new_isid w.services isid)) (is_some (vid_of_isid w.services isid)) (not-none (vid_of_isid w.services isid)) (declared_isid w isid)
+
+pub wrong_isid : (isid : ℕ) → Decides (not (is_isid_range isid)) (¬ IsIsid isid)
+unfolding is_isid_range
+wrong_isid isid = fails (nat_le 1 isid && nat_le isid 16777215) (Decides-and _ _ (le-is 1 isid) (le-is isid 16777215))
+
+pub full_of_services : (w : World) → Decides (not (has_service_room w)) (4096 ≤ length w.services)
+full_of_services w = not-lt (length w.services) 4096
 
 -- ---- a name, a bridge
 

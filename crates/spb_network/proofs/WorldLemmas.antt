@@ -1,7 +1,8 @@
-use Rattle.std.proofs.Common.{Bool, Some, None, slice_get, ◌≡◌, ℕ, zero, suc, ◌<◌, ◌≤◌, false, true≢false, List, [], ◌∷◌, ◌++◌, length, refl, sym, ap, ◌∙◌, arith, ⊎_elim}
+use Rattle.std.proofs.Common.{Bool, Some, None, slice_get, ◌≡◌, ◌≢◌, ℕ, zero, suc, ◌<◌, ◌≤◌, false, true≢false, List, [], ◌∷◌, ◌++◌, length, refl, sym, ap, ◌∙◌, arith, ⊎_elim}
 use Rattle.std.specs.List.{AllByRecursion}
 use Rattle.std.specs.Str.{bytes_eq}
 use Rattle.spb_types.specs.Graph.{IsAmong, systems_of}
+use Rattle.spb_types.specs.Service.{AreVidsApart}
 use Rattle.spb_types.specs.Address.{same_system}
 use Rattle.spb_types.specs.declared.address.SystemId.{SystemId}
 use Rattle.ect_trees.proofs.Among.{same_self, distinct_snoc}
@@ -17,6 +18,7 @@ use Rattle.spb_network.specs.Declaring.{with_vid, with_bridge, with_link, with_l
 use Rattle.indexmap.specs.Layout.{set_value_at}
 use Rattle.spb_network.specs.World.{World, Bridges, Links, things_of, graph_bridges, system_at, ports_at, IsEnd, IsLink, AreApart, AllApart, Sound}
 use Rattle.spb_network.proofs.ListLemmas.{All-map, All-push, things_of-push, length-push}
+use Rattle.spb_network.proofs.ServiceLemmas.{services-with_vid}
 
 pub ports_at-push : (bs : Bridges) (b : List ℕ × DeclaredBridge) (i : ℕ) → i < length bs → ports_at (bs ++ b ∷ []) i ≡ ports_at bs i
 ports_at-push [] b i h = absurd (omega arith)
@@ -77,6 +79,8 @@ Sound-with_bridge w name b sound new = record {
   plans = sound.plans;
   few_vids = sound.few_vids;
   each_vid = sound.each_vid;
+  services = sound.services;
+  services_apart = sound.services_apart;
 }
 
 -- what is asked of a link, so that it can be declared
@@ -95,19 +99,36 @@ Sound-with_link w name l sound new = record {
   plans = sound.plans;
   few_vids = sound.few_vids;
   each_vid = sound.each_vid;
+  services = sound.services;
+  services_apart = sound.services_apart;
 }
 
-pub Sound-with_vid : (w : World) (p : VidPlan) → Sound w → w.vids ≡ [] → IsTree p → Sound (with_vid w p)
+-- what is asked of a base VID, so that it can be declared
+pub record IsNewPlan (w : World) (p : VidPlan) : Type 0 where
+  pub room : length w.vids < 16
+  pub apart : AllByRecursion (λ q. q.vid.value ≢ p.vid.value) w.vids
+  pub tree : IsTree p
+
+apart-push : (ps : List VidPlan) (p : VidPlan) → AreVidsApart ps → AllByRecursion (λ q. q.vid.value ≢ p.vid.value) ps → AreVidsApart (ps ++ p ∷ [])
+apart-push [] p apart new = (tt, tt)
+apart-push (q ∷ qs) p apart new = (All-push (λ r. q.vid.value ≢ r.vid.value) qs p apart.0 new.0, apart-push qs p apart.1 new.1)
+
+pub Sound-with_vid : (w : World) (p : VidPlan) → Sound w → IsNewPlan w p → Sound (with_vid w p)
 unfolding with_vid
-Sound-with_vid w p sound none tree = record {
+Sound-with_vid w p sound new = record {
   few = sound.few;
   ports = sound.ports;
   systems = sound.systems;
   links = sound.links;
   links_apart = sound.links_apart;
-  plans = rw none (record { ects = ((tree.ect_low, tree.ect_high), tt); apart = (tt, tt) });
-  few_vids = rw none (omega arith);
-  each_vid = rw none (tree, tt);
+  plans = record {
+    ects = All-push (λ q. (1 ≤ q.ect) × (q.ect ≤ 16)) w.vids p sound.plans.ects (new.tree.ect_low, new.tree.ect_high);
+    apart = apart-push w.vids p sound.plans.apart new.apart;
+  };
+  few_vids = omega (arith, length-push w.vids p, new.room);
+  each_vid = All-push IsTree w.vids p sound.each_vid new.tree;
+  services = services-with_vid w.vids p w.services sound.services;
+  services_apart = sound.services_apart;
 }
 
 pub ports_at-le : (bs : Bridges) (i : ℕ) → AllByRecursion (λ b. b.ports ≤ 32) (things_of bs) → ports_at bs i ≤ 32
@@ -142,6 +163,8 @@ Sound-with_live on w k sound = record {
   plans = sound.plans;
   few_vids = sound.few_vids;
   each_vid = sound.each_vid;
+  services = sound.services;
+  services_apart = sound.services_apart;
 }
 
 some-is : {X : Type 0} (x y : X) → Some x ≡ Some y → x ≡ y
@@ -206,6 +229,8 @@ Sound-with_end_metric on m w k is sound = record {
   plans = sound.plans;
   few_vids = sound.few_vids;
   each_vid = sound.each_vid;
+  services = sound.services;
+  services_apart = sound.services_apart;
 }
 
 pub with_metric-set : (on : Side) (m : ℕ) (ls : Links) (k : ℕ) (l : DeclaredLink) → slice_get (things_of ls) k ≡ Some l → set_value_at ls k (link_with_metric on m l) ≡ links_with_metric on m ls k

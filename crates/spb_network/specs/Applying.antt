@@ -4,6 +4,7 @@ use Rattle.scenario.specs.declared.command.Command.{Command}
 use Rattle.bridge_api.specs.Shown.{Shown}
 use Rattle.spb_network.specs.declared.answer.Answer.{Answer}
 use Rattle.spb_network.specs.declared.network.NetworkOf.{NetworkOf}
+use Rattle.spb_network.specs.declared.quiet.Conditions.{Conditions}
 use Rattle.spb_network.specs.declared.reason.ApplyError.{ApplyError}
 use Rattle.spb_network.specs.declared.reason.ApplyError.TheVariants as error
 use Rattle.spb_network.specs.State.{State}
@@ -12,6 +13,7 @@ use Rattle.spb_network.specs.Sound.{IsSoundState}
 use Rattle.spb_network.specs.Counted.{IsCounted, most_commands}
 use Rattle.spb_network.specs.Refusing.{refusal_of}
 use Rattle.spb_network.specs.Play.{next_state, answer_of}
+use Rattle.spb_network.specs.Quieting.{conditions_of}
 
 -- a command was played: it isn't refused, and this is its answer and the state after it
 pub record Plays (old : State) (c : Command) (answer : Answer) (new : State) : Type 0 where
@@ -20,12 +22,17 @@ pub record Plays (old : State) (c : Command) (answer : Answer) (new : State) : T
   pub state : new ≡ next_state old c
 
 module _ {B : Type 0} (shown : B → Shown) where
-  -- a network at which no command ran out of memory: its boxes are made, its state is sound, and its sequence
-  -- numbers are counted while no more commands were accepted than a script can have
+  -- what is kept of the conditions of quiet is so
+  abbrev pub IsKept : NetworkOf B → Type 0
+  IsKept n = (kept : Conditions) → n.kept ≡ Some kept → kept ≡ conditions_of (state_of shown n)
+
+  -- a network at which no command ran out of memory: its boxes are made, its state is sound, its sequence
+  -- numbers are counted while no more commands were accepted than a script can have, and what it keeps of quiet is so
   pub record IsSoundNetwork (n : NetworkOf B) : Type 0 where
     pub made : AreMade shown n.boxes.items
     pub state : IsSoundState (state_of shown n)
     pub counted : (state_of shown n).accepted ≤ most_commands → IsCounted (state_of shown n)
+    pub kept : IsKept n
 
   -- a network that halted, or is sound: so is every network that `new` gave, whatever was applied to it
   abbrev pub IsReady : NetworkOf B → Type 0

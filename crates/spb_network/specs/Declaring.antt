@@ -14,7 +14,7 @@ use Rattle.spb_network.specs.declared.reason.Reason.{Reason}
 use Rattle.spb_network.specs.declared.reason.Reason.TheVariants.{NameTaken, IdTaken, PortUse, Range, TooMany, AlreadyLinked, TooLate}
 use Rattle.spb_network.specs.Reason.{reason_unless, ◌or◌}
 use Rattle.spb_network.specs.World.{World, Bridges, Links, things_of, place_of, ports_at, is_between, is_at_port}
-use Rattle.spb_types.specs.declared.limits.TheConstants.{GREATEST_METRIC, GREATEST_VID, MOST_BRIDGES, MOST_LINKS, MOST_PORTS, SOURCE_IDS}
+use Rattle.spb_types.specs.declared.limits.TheConstants.{GREATEST_ECT, GREATEST_METRIC, GREATEST_VID, MOST_BRIDGES, MOST_LINKS, MOST_PORTS, MOST_VIDS, SOURCE_IDS}
 
 -- The tests of a declaration. Each reason for a refusal is one of them that fails, and the first that fails counts.
 
@@ -25,10 +25,13 @@ has_vid vids vid = list_any (λ plan. plan.vid.value == vid) vids
 abbrev pub is_new_vid : List VidPlan → ℕ → Bool
 is_new_vid vids vid = not (has_vid vids vid)
 
--- a base VID (IEEE 802.1Q, 9.6) and the number of its ECT algorithm, of which only the first is taken; and no other VID
--- is declared
-unfoldable pub is_vid_range : List VidPlan → ℕ → ℕ → Bool
-is_vid_range vids vid ect = nat_le 1 vid && nat_le vid GREATEST_VID && (ect == 1) && (length vids == 0)
+-- a base VID (IEEE 802.1Q, 9.6) and the number of its ECT algorithm (IEEE 802.1aq, 28.8)
+unfoldable pub is_vid_range : ℕ → ℕ → Bool
+is_vid_range vid ect = nat_le 1 vid && nat_le vid GREATEST_VID && nat_le 1 ect && nat_le ect GREATEST_ECT
+
+-- one base VID more can be declared
+abbrev pub has_vid_room : World → Bool
+has_vid_room w = nat_lt (length w.vids) MOST_VIDS
 
 -- no bridge is declared yet
 abbrev pub is_before_bridges : World → Bool
@@ -85,7 +88,8 @@ is_unlinked links i j = not (list_any (λ l. is_between l i j) (things_of links)
 
 unfoldable pub vid_refusal : World → ℕ → ℕ → Option Reason
 vid_refusal w vid ect = reason_unless (is_new_vid w.vids vid) NameTaken
-    or reason_unless (is_vid_range w.vids vid ect) Range or reason_unless (is_before_bridges w) TooLate
+    or reason_unless (is_vid_range vid ect) Range or reason_unless (has_vid_room w) TooMany
+    or reason_unless (is_before_bridges w) TooLate
 
 -- but for the lack of a box
 unfoldable pub bridge_refusal : World → List ℕ → ℕ → Mac → SourceId → ℕ → Option Reason

@@ -1,7 +1,7 @@
 -- When each reason for a refusal holds of a command, in the words of what is declared.
 use Rattle.std.specs.Prelude.{◌≡◌, ◌↔◌, ◌⊎◌, ℕ, ◌+◌, ◌<◌, ◌≤◌, ◌%◌, List, length, replicate, slice_index, true, false, Option, Some, None, Any, Contains}
 use Rattle.spb_types.specs.declared.address.Mac.{Mac}
-use Rattle.spb_types.specs.declared.limits.TheConstants.{GREATEST_VID, MOST_BRIDGES, MOST_DELIVERIES, MOST_DELIVERIES_TOGETHER, MOST_LINKS, MOST_PORTS, MOST_ROUNDS, SOURCE_IDS}
+use Rattle.spb_types.specs.declared.limits.TheConstants.{GREATEST_ECT, GREATEST_ISID, GREATEST_VID, MOST_BRIDGES, MOST_DELIVERIES, MOST_DELIVERIES_TOGETHER, MOST_LINKS, MOST_PORTS, MOST_ROUNDS, MOST_VIDS, SOURCE_IDS}
 use Rattle.spb_types.specs.declared.service.SourceId.{SourceId}
 use Rattle.scenario.specs.declared.command.Command.{Command}
 use Rattle.scenario.specs.declared.command.Command.TheVariants as command
@@ -11,6 +11,7 @@ use Rattle.spb_network.specs.declared.declaration.DeclaredLink.{DeclaredLink}
 use Rattle.spb_network.specs.declared.declaration.LinkEnd.{LinkEnd}
 use Rattle.spb_network.specs.declared.reason.Reason.{Reason}
 use Rattle.spb_network.specs.declared.reason.Reason.TheVariants.{NoSuchName, NameTaken, IdTaken, PortUse, Range, TooMany, AlreadyLinked, AlreadyUp, AlreadyDown, Attached, NotAttached, NoFrame, RackSpent, TooLate}
+use Rattle.spb_network.specs.declared.world.TheConstants.{MOST_SERVICES}
 use Rattle.spb_network.specs.Reason.{reason_number}
 use Rattle.spb_network.specs.World.{World, Bridges, Links, names_of, things_of, place_of, ports_at}
 use Rattle.spb_network.specs.State.{State, is_live, lane_at, kind_at}
@@ -29,7 +30,11 @@ HoldsAt name entries P = (k : ℕ) × (place_of name entries ≡ Some k) × P k
 abbrev pub HoldsAtBoth : List ℕ → List ℕ → Bridges → (ℕ → ℕ → Type 0) → Type 0
 HoldsAtBoth a b bridges P = HoldsAt a bridges (λ i. HoldsAt b bridges (λ j. P i j))
 
--- 2: a name isn't declared
+-- 2: a name, or the VID of a service, isn't declared
+
+-- the base VID is declared
+abbrev pub IsVidOf : World → ℕ → Type 0
+IsVidOf w vid = Any (λ plan. plan.vid.value ≡ vid) w.vids
 
 -- of the bridge that is asked about
 abbrev pub AsksUnknown : World → Option Question → Type 0
@@ -38,6 +43,7 @@ AsksUnknown w (Some q) = ¬ IsNamed q.bridge w.bridges
 
 abbrev pub NamesUnknown : World → Command → Type 0
 NamesUnknown w (command.Link name a port_a b port_b cost) = (¬ IsNamed a w.bridges) ⊎ (¬ IsNamed b w.bridges)
+NamesUnknown w (command.Isid isid vid) = ¬ IsVidOf w vid
 NamesUnknown w (command.Metric link side m) = ¬ IsNamed link w.links
 NamesUnknown w (command.Down link) = ¬ IsNamed link w.links
 NamesUnknown w (command.Up link) = ¬ IsNamed link w.links
@@ -48,9 +54,15 @@ NamesUnknown w (command.Lose link dir place) = ¬ IsNamed link w.links
 NamesUnknown w (command.Double link dir place) = ¬ IsNamed link w.links
 NamesUnknown w c = AsksUnknown w (question_of c)
 
--- 3: what is to be declared has the name, or the VID, of what is declared
+-- 3: what is to be declared has the name, the VID or the I-SID of what is declared
+
+-- a service of this I-SID is declared
+abbrev pub IsIsidOf : World → ℕ → Type 0
+IsIsidOf w isid = Any (λ service. service.0.value ≡ isid) w.services
+
 abbrev pub TakesName : World → Command → Type 0
-TakesName w (command.Vid vid ect) = Any (λ plan. plan.vid.value ≡ vid) w.vids
+TakesName w (command.Vid vid ect) = IsVidOf w vid
+TakesName w (command.Isid isid vid) = IsIsidOf w isid
 TakesName w (command.Bridge name priority system source ports) = IsNamed name w.bridges
 TakesName w (command.Link name a port_a b port_b cost) = IsNamed name w.links
 TakesName w _ = ⊥
@@ -78,9 +90,13 @@ TakesPort w _ = ⊥
 
 -- 6: a number is out of its range
 
--- a base VID (IEEE 802.1Q, 9.6) with the first ECT algorithm, where no VID is declared yet
-abbrev pub IsVid : World → ℕ → ℕ → Type 0
-IsVid w vid ect = (1 ≤ vid) × (vid ≤ GREATEST_VID) × (ect ≡ 1) × (length w.vids ≡ 0)
+-- a base VID (IEEE 802.1Q, 9.6) and the number of an ECT algorithm (IEEE 802.1aq, 28.8)
+abbrev pub IsVid : ℕ → ℕ → Type 0
+IsVid vid ect = (1 ≤ vid) × (vid ≤ GREATEST_VID) × (1 ≤ ect) × (ect ≤ GREATEST_ECT)
+
+-- an I-SID (IEEE 802.1ah, 9.7)
+abbrev pub IsIsid : ℕ → Type 0
+IsIsid isid = (1 ≤ isid) × (isid ≤ GREATEST_ISID)
 
 -- a bridge's own address: the group bit is clear, and it isn't all zero
 abbrev pub IsOwnAddress : Mac → Type 0
@@ -100,20 +116,24 @@ IsLinkInRange bridges i port_a j port_b cost =
     (¬ (i ≡ j)) × HasPort bridges i port_a × HasPort bridges j port_b × IsMetric cost
 
 abbrev pub IsOutOfRange : World → Command → Type 0
-IsOutOfRange w (command.Vid vid ect) = ¬ IsVid w vid ect
+IsOutOfRange w (command.Vid vid ect) = ¬ IsVid vid ect
 IsOutOfRange w (command.Bridge name priority system source ports) = ¬ IsBridgeInRange priority system source ports
 IsOutOfRange w (command.Link name a port_a b port_b cost) =
     HoldsAtBoth a b w.bridges (λ i j. ¬ IsLinkInRange w.bridges i port_a j port_b cost)
+IsOutOfRange w (command.Isid isid vid) = ¬ IsIsid isid
 IsOutOfRange w (command.Metric link side m) = ¬ IsMetric m
 IsOutOfRange w (command.Round n) = ¬ ((1 ≤ n) × (n ≤ MOST_ROUNDS))
 IsOutOfRange w (command.Drain n) = ¬ ((1 ≤ n) × (n ≤ MOST_DELIVERIES))
 IsOutOfRange w _ = ⊥
 
--- 7: there would be more than 96 bridges, 400 links, 20,000 rounds or 100,000,000 deliveries
+-- 7: there would be more than 16 base VIDs, 96 bridges, 400 links, 4,096 services, 20,000 rounds or 100,000,000
+-- deliveries
 abbrev pub IsTooMany : State → Command → Type 0
+IsTooMany s (command.Vid vid ect) = MOST_VIDS ≤ length s.world.vids
 IsTooMany s (command.Bridge name priority system source ports) = MOST_BRIDGES ≤ length s.world.bridges
 IsTooMany s (command.Link name a port_a b port_b cost) =
     HoldsAtBoth a b s.world.bridges (λ i j. MOST_LINKS ≤ length s.world.links)
+IsTooMany s (command.Isid isid vid) = MOST_SERVICES ≤ length s.world.services
 IsTooMany s (command.Round n) = MOST_ROUNDS < s.rounds + n
 IsTooMany s (command.Drain n) = MOST_DELIVERIES_TOGETHER < s.drained + n
 IsTooMany s _ = ⊥

@@ -1,6 +1,7 @@
 pub mod World
 pub mod Reason
 pub mod Declaring
+pub mod Services
 pub mod State
 pub mod Events
 pub mod Network

@@ -11,6 +11,7 @@ use Rattle.spb_network.specs.declared.declaration.DeclaredBridge.{DeclaredBridge
 use Rattle.spb_network.specs.declared.declaration.DeclaredLink.{DeclaredLink}
 use Rattle.spb_network.specs.World.{World, place_of}
 use Rattle.spb_network.specs.Declaring.{plan_of, bridge_of, link_of, with_vid, with_bridge, with_link}
+use Rattle.spb_network.specs.Services.{service_of, with_service}
 use Rattle.link_model.specs.Lanes.{no_frames}
 use Rattle.spb_network.specs.State.{State}
 use Rattle.spb_network.specs.Events.{ticked, delivered, lost, doubled, with_metrics_over, with_metric_changed, switched_on, switched_off, rounds, drained}
@@ -73,6 +74,10 @@ at_link event s name = at_place event s (place_of name s.world.links)
 unfoldable pub with_vid_more : State → ℕ → ℕ → State
 with_vid_more s vid ect = record s { world = with_vid s.world (plan_of vid ect) }
 
+-- a service more
+unfoldable pub with_service_more : State → ℕ → ℕ → State
+with_service_more s isid vid = record s { world = with_service s.world (service_of isid vid) }
+
 -- so many rounds, and at most so many deliveries
 unfoldable pub with_rounds : ℕ → State → State
 with_rounds n s = record (rounds n s) { rounds = s.rounds + n }
@@ -85,6 +90,7 @@ abbrev pub played : State → Command → State
 played s (command.Vid vid ect) = with_vid_more s vid ect
 played s (command.Bridge name priority system source ports) = declared s name (bridge_of priority system source ports)
 played s (command.Link name a port_a b port_b cost) = named_link s name a port_a b port_b cost
+played s (command.Isid isid vid) = with_service_more s isid vid
 played s (command.Metric name side m) = at_link (λ t k. with_metric_changed t k side m) s name
 played s (command.Down name) = at_link switched_off s name
 played s (command.Up name) = at_link switched_on s name

@@ -1,5 +1,5 @@
 -- The questions about the whole network, and about one bridge.
-use Rattle.std.specs.Prelude.{ℕ, List, [], map, length, ◌==◌, Bool, true, false, Option, Some, None, slice_get}
+use Rattle.std.specs.Prelude.{ℕ, List, [], map, length, ◌==◌, ◌||◌, Bool, true, false, Option, Some, None, is_some, slice_get}
 use Rattle.std.specs.Option.{option_map_or}
 use Rattle.std.specs.FinMap.{entries}
 use Rattle.lsdb.specs.declared.held.DbRow.{DbRow}
@@ -21,6 +21,12 @@ use Rattle.spb_network.specs.Quiet.{failing}
 abbrev pub asks_network : Command → Bool
 asks_network command.State = true
 asks_network _ = false
+
+-- whether the answer to a command says whether the network is quiet
+abbrev pub asks_for_quiet : Command → Bool
+asks_for_quiet command.State = true
+asks_for_quiet (command.Show name) = true
+asks_for_quiet _ = false
 
 -- whether no condition of quiet fails
 abbrev pub is_quiet : State → Bool
@@ -63,6 +69,10 @@ question_of (command.Wiring name) =
 question_of (command.Db name) = Some (record { bridge = name; answer = λ s i. Db name (db_at s i) })
 question_of (command.Adj name) = Some (record { bridge = name; answer = λ s i. Adj name (adj_at s i) })
 question_of _ = None
+
+-- whether a command asks something
+abbrev pub is_question : Command → Bool
+is_question c = asks_network c || is_some (question_of c)
 
 -- the answer about the bridge at place i; nothing to what is no question
 abbrev pub answer_at : State → ℕ → Option Question → Answer

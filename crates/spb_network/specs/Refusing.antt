@@ -10,6 +10,7 @@ use Rattle.spb_network.specs.declared.reason.Reason.TheVariants.{NoSuchName, Ran
 use Rattle.spb_network.specs.Reason.{reason_unless, ◌or◌}
 use Rattle.spb_network.specs.World.{World, things_of, place_of}
 use Rattle.spb_network.specs.Declaring.{vid_refusal, bridge_refusal, link_refusal}
+use Rattle.spb_network.specs.Services.{isid_refusal}
 use Rattle.spb_network.specs.Questions.{Question, question_of}
 use Rattle.spb_network.specs.State.{State, is_live, lane_at, kind_at, next_box}
 use Rattle.spb_network.specs.Restarting.{box_at}
@@ -88,6 +89,7 @@ abbrev pub refusal_of : State → Command → Option Reason
 refusal_of s (command.Vid vid ect) = vid_refusal s.world vid ect
 refusal_of s (command.Bridge name priority system source ports) = declared_refusal s name priority system source ports
 refusal_of s (command.Link name a port_a b port_b cost) = named_link_refusal s.world name a port_a b port_b cost
+refusal_of s (command.Isid isid vid) = isid_refusal s.world isid vid
 refusal_of s (command.Metric name side m) = metric_refusal s.world name m
 refusal_of s (command.Down name) = down_refusal s.world name
 refusal_of s (command.Up name) = up_refusal s.world name

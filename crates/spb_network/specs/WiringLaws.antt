@@ -1,9 +1,10 @@
 -- The law of wiring: what is wired is a graph, and the wired tables are the tables of that graph.
-use Rattle.std.specs.Prelude.{◌≡◌, ℕ, List, []}
+use Rattle.std.specs.Prelude.{ℕ, List}
 use Rattle.std.specs.List.{AllByRecursion}
 use Rattle.spb_types.specs.Graph.{IsValid, IsValidFor}
 use Rattle.spb_types.specs.declared.address.SystemId.{SystemId}
 use Rattle.fdb_build.specs.Tables.{IsUnicastTable}
+use Rattle.fdb_build.specs.Groups.{IsGroupTable}
 use Rattle.scenario.specs.declared.command.Command.{Command}
 use Rattle.spb_network.specs.declared.kind_rule.KindRule.{KindRule}
 use Rattle.spb_network.specs.World.{World, system_at, world_graph, wired_tables}
@@ -13,12 +14,12 @@ use Rattle.spb_network.specs.Sound.{IsSoundState, opening}
 use Rattle.spb_network.specs.SoundLaws.{IsAddressed, AreAccepted}
 
 -- the wiring is a valid graph, and valid for each bridge; the tables that are wired for the bridge at a place are its
--- unicast table in that graph, and no group rows
+-- unicast table and its group table in that graph
 pub record IsWired (w : World) : Type 0 where
   pub graph : IsValid (world_graph w)
   pub bridges : (me : SystemId) → IsValidFor (world_graph w) me
   pub unicast : (i : ℕ) → IsUnicastTable (world_graph w) (system_at w.bridges i) w.vids (wired_tables w i).unicast
-  pub group : (i : ℕ) → (wired_tables w i).group ≡ []
+  pub group : (i : ℕ) → IsGroupTable (world_graph w) (system_at w.bridges i) w.vids (wired_tables w i).group
 
 -- so it is in every sound state
 abbrev pub SoundIsWired : Type 0

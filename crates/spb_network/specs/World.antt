@@ -1,5 +1,6 @@
-use Rattle.std.specs.Prelude.{◌≡◌, ◌≢◌, ℕ, zero, suc, ◌≤◌, ◌<◌, List, [], ◌∷◌, length, map, Bool, false, ◌&&◌, ◌||◌, ◌==◌, replicate, Option, Some, None, position, max, if◌then◌else◌, ⊤}
-use Rattle.std.specs.List.{AllByRecursion, filter_map}
+use Rattle.std.specs.Prelude.{◌≡◌, ◌≢◌, ℕ, zero, suc, ◌≤◌, ◌<◌, List, [], ◌∷◌, length, map, Bool, false, ◌&&◌, ◌||◌, ◌==◌, replicate, Option, Some, None, position, max, if◌then◌else◌, nat_eq, IsTrue, ⊤}
+use Rattle.std.specs.List.{AllByRecursion, filter_map, list_any}
+use Rattle.std.specs.Map.{lookup}
 use Rattle.std.specs.Str.{bytes_eq}
 use Rattle.spb_types.specs.Graph.{IsDistinct, systems_of}
 use Rattle.spb_types.specs.declared.address.SystemId.{SystemId}
@@ -7,14 +8,18 @@ use Rattle.spb_types.specs.declared.graph.Edge.{Edge}
 use Rattle.spb_types.specs.declared.graph.Graph.{Graph}
 use Rattle.spb_types.specs.declared.graph.GraphBridge.{GraphBridge}
 use Rattle.spb_types.specs.declared.service.Attachment.{Attachment}
+use Rattle.spb_types.specs.declared.service.Isid.{Isid}
+use Rattle.spb_types.specs.declared.service.Vid.{Vid}
 use Rattle.spb_types.specs.declared.service.VidPlan.{VidPlan}
 use Rattle.spb_tlvs.specs.Capability.{IsTree}
+use Rattle.bridge_api.specs.Config.{ArePairwise, vids_of}
 use Rattle.spb_network.specs.declared.declaration.DeclaredBridge.{DeclaredBridge}
 use Rattle.spb_network.specs.declared.declaration.DeclaredLink.{DeclaredLink}
 use Rattle.spb_network.specs.declared.declaration.LinkEnd.{LinkEnd}
 use Rattle.spb_types.specs.declared.tables.Tables.{Tables}
 use Rattle.fdb_build.specs.Tables.{ArePlans, unicast_rows}
-use Rattle.spb_types.specs.declared.limits.TheConstants.{GREATEST_METRIC, MOST_BRIDGES, MOST_PORTS, MOST_VIDS}
+use Rattle.fdb_build.specs.Groups.{group_rows}
+use Rattle.spb_types.specs.declared.limits.TheConstants.{GREATEST_ISID, GREATEST_METRIC, MOST_BRIDGES, MOST_PORTS, MOST_VIDS}
 
 -- the declared bridges, each with its name, in order of declaration
 abbrev pub Bridges : Type 0
@@ -24,11 +29,16 @@ Bridges = List (List ℕ × DeclaredBridge)
 abbrev pub Links : Type 0
 Links = List (List ℕ × DeclaredLink)
 
--- what is declared: the base VIDs, the bridges and the links
+-- the declared services, each I-SID with its base VID, in order of declaration
+abbrev pub Services : Type 0
+Services = List (Isid × Vid)
+
+-- what is declared: the base VIDs, the bridges, the links and the services
 pub record World : Type 0 where
   pub vids : List VidPlan
   pub bridges : Bridges
   pub links : Links
+  pub services : Services
 
 -- the names of what is declared, in order
 abbrev pub names_of : {T : Type 0} → List (List ℕ × T) → List (List ℕ)
@@ -57,6 +67,10 @@ abbrev pub ports_at : Bridges → ℕ → ℕ
 ports_at [] i = 0
 ports_at (b ∷ bs) zero = b.1.ports
 ports_at (b ∷ bs) (suc i) = ports_at bs i
+
+-- the base VID of the service of an I-SID, if it is declared
+abbrev pub vid_of_isid : Services → ℕ → Option Vid
+vid_of_isid services isid = lookup (λ i. isid == i.value) services
 
 -- what is attached to the ports of the bridge at a place: nothing is
 abbrev pub attached_at : World → ℕ → List Attachment
@@ -117,8 +131,15 @@ abbrev pub AllApart : List DeclaredLink → Type 0
 AllApart [] = ⊤
 AllApart (l ∷ ls) = AllByRecursion (AreApart l) ls × AllApart ls
 
+-- a service has an I-SID in range and a declared base VID
+pub record IsService (vids : List VidPlan) (service : Isid × Vid) : Type 0 where
+  pub isid_low : 1 ≤ service.0.value
+  pub isid_high : service.0.value ≤ GREATEST_ISID
+  pub vid : IsTrue (list_any (nat_eq service.1.value) (vids_of vids))
+
 -- what every world keeps that declarations made: the system ids differ, each link has two ends at ports of different
--- bridges, no port has two links, no two bridges are linked twice, and the VIDs differ and are in range
+-- bridges, no port has two links, no two bridges are linked twice, the VIDs differ and are in range, and the I-SIDs
+-- differ, are in range and have declared VIDs
 pub record Sound (w : World) : Type 0 where
   pub few : length w.bridges ≤ MOST_BRIDGES
   pub ports : AllByRecursion (λ b. b.ports ≤ MOST_PORTS) (things_of w.bridges)
@@ -128,7 +149,12 @@ pub record Sound (w : World) : Type 0 where
   pub plans : ArePlans w.vids
   pub few_vids : length w.vids ≤ MOST_VIDS
   pub each_vid : AllByRecursion IsTree w.vids
+  pub services : AllByRecursion (IsService w.vids) w.services
+  pub services_apart : ArePairwise (λ x y. x.0.value ≢ y.0.value) w.services
 
 -- the tables that the wiring gives the bridge at a place
 unfoldable pub wired_tables : World → ℕ → Tables
-wired_tables w i = record { unicast = unicast_rows (world_graph w) (system_at w.bridges i) w.vids; group = [] }
+wired_tables w i = record {
+  unicast = unicast_rows (world_graph w) (system_at w.bridges i) w.vids;
+  group = group_rows (world_graph w) (system_at w.bridges i) w.vids;
+}

@@ -1,12 +1,15 @@
 ghost use Rattle.std.specs.Prelude.{◌≡◌, ◌&&◌, ◌==◌, length};
 ghost use Rattle.spb_network.specs.Declaring as declare;
+ghost use Rattle.spb_network.specs.Services as service;
 ghost use Rattle.spb_network.specs.World as state;
 ghost use Rattle.spb_network.specs.SoundLaws.{IsAddress, IsAddressed};
 
 use crate::{DeclaredBridge, DeclaredLink};
 use indexmap::IndexMap;
 use scenario::Command;
-use spb_types::limits::{GREATEST_METRIC, GREATEST_VID, MOST_PORTS, SOURCE_IDS};
+use spb_types::limits::{
+    GREATEST_ECT, GREATEST_ISID, GREATEST_METRIC, GREATEST_VID, MOST_PORTS, SOURCE_IDS,
+};
 use spb_types::{Mac, Name, SourceId, VidPlan};
 
 /// Whether nothing of this name is declared.
@@ -23,7 +26,8 @@ fn is_vid(plan: &VidPlan, vid: u64) -> bool
     u64::from(plan.vid.value) == vid
 }
 
-fn has_vid(vids: &[VidPlan], vid: u64) -> bool
+/// Whether a base VID is declared.
+pub fn has_vid(vids: &[VidPlan], vid: u64) -> bool
     ensures { result ≡ declare.has_vid vids.now vid }
 {
     vids.iter().any(|plan| is_vid(plan, vid))
@@ -36,12 +40,20 @@ pub fn is_new_vid(vids: &[VidPlan], vid: u64) -> bool
     !has_vid(vids, vid)
 }
 
-/// Whether this is a base VID and the number of an ECT algorithm that can be declared, and no other VID is declared.
+/// Whether this is a base VID and the number of an ECT algorithm.
 #[tactic(auto, unfolding(crate::specs::Declaring::is_vid_range))]
-pub fn is_vid_range(vids: &[VidPlan], vid: u64, ect: u64) -> bool
-    ensures { result ≡ declare.is_vid_range vids.now vid ect }
+pub fn is_vid_range(vid: u64, ect: u64) -> bool
+    ensures { result ≡ declare.is_vid_range vid ect }
 {
-    1 <= vid && vid <= u64::from(GREATEST_VID) && ect == 1 && vids.is_empty()
+    1 <= vid && vid <= u64::from(GREATEST_VID) && 1 <= ect && ect <= u64::from(GREATEST_ECT)
+}
+
+/// Whether this is an I-SID.
+#[tactic(auto, unfolding(crate::specs::Services::is_isid_range))]
+pub fn is_isid_range(isid: u64) -> bool
+    ensures { result ≡ service.is_isid_range isid }
+{
+    1 <= isid && isid <= u64::from(GREATEST_ISID)
 }
 
 #[tactic(auto, unfolding(crate::specs::Declaring::is_new_system))]

@@ -14,7 +14,9 @@
 //! each of its ports. Frames are moved and not copied, and nothing grows with the number of rounds.
 //! Which conditions of quiet fail asks each link, lane and bridge once, walks over each database once with a look-up by
 //! hash for each live LSP, and takes memory for an entry of a table for each LSP id with one live version; bodies are
-//! compared where an earlier bridge holds the same version. `show` asks that too, and makes the bridge's tables anew.
+//! compared where an earlier bridge holds the same version. The answer is kept until a command is played that is no
+//! question, so that the questions `state` and `show` after it take constant time for it. `show` makes the bridge's
+//! tables anew.
 #![tactic(auto)]
 
 pub use answer::{Answer, Out};

@@ -7,6 +7,7 @@ ghost use Rattle.spb_network.specs.Applying.{Applies, IsReady};
 ghost use Rattle.spb_network.specs.Counted.{most_commands};
 ghost use Rattle.spb_network.specs.Telling.{QuietTells};
 
+use crate::quiet::Conditions;
 use crate::{Answer, ApplyError, KindRule, World, check};
 use bridge_api::Bridge;
 use link_model::Lanes;
@@ -30,6 +31,8 @@ pub struct NetworkOf<B> {
     pub(crate) drained: u32,
     pub(crate) accepted: u64,
     pub(crate) halted: bool,
+    /// Which conditions of quiet hold, since a question found them and until something may change.
+    pub(crate) kept: Option<Conditions>,
 }
 
 /// A network of bridges in boxes.
@@ -54,6 +57,7 @@ impl<B: Bridge> NetworkOf<B> {
             drained: 0,
             accepted: 0,
             halted: false,
+            kept: None,
         }
     }
 
@@ -68,6 +72,7 @@ impl<B: Bridge> NetworkOf<B> {
         ensures ready { IsReady B.shown self.new }
     {
         self.rule = rule;
+        self.kept = None;
     }
 
     /// The boxes of the declared bridges, in order of declaration: the network's own, and none is blank unless the

@@ -1,12 +1,15 @@
 //! What each command makes of a network, where it isn't refused. Nothing happens at a name that isn't there.
-ghost use Rattle.std.specs.Prelude.{◌≡◌, ◌<◌, false, None, Some, length, OnOk, IfOk};
+ghost use Rattle.std.specs.Prelude.{◌≡◌, ◌<◌, false, true, None, Some, length, OnOk, IfOk};
 ghost use Rattle.spb_network.specs.Declaring as declare;
+ghost use Rattle.spb_network.specs.Services as service;
 ghost use Rattle.spb_network.specs.Refusing as refuse;
+ghost use Rattle.spb_network.specs.Questions as question;
 ghost use Rattle.spb_network.specs.Play as play;
 ghost use Rattle.spb_network.specs.Events as event;
 ghost use Rattle.spb_network.specs.Network.{state_of, AreMade, IsInOrder, IsBlankAt};
-ghost use Rattle.spb_network.specs.Applying.{IsSoundNetwork};
+ghost use Rattle.spb_network.specs.Applying.{IsSoundNetwork, IsKept};
 
+use crate::questions::{asks_for_quiet, is_question};
 use crate::rack::{kind_at, next_box};
 use crate::{Answer, NetworkOf};
 use bridge_api::Bridge;
@@ -131,6 +134,18 @@ impl<B: Bridge> NetworkOf<B> {
             return Ok(());
         };
         self.add_link(name, i, port_a, j, port_b, cost)
+    }
+
+    /// Declares a service.
+    #[tactic(auto, unfolding(crate::specs::Play::with_service_more))]
+    fn play_isid(&mut self, isid: u64, vid: u64) -> Result<(), NoMemory>
+        requires order { IsInOrder B.shown self.old }
+        requires accepted { service.isid_refusal self.old.world isid vid ≡ None }
+        ensures state { OnOk result (state_of B.shown self.new
+            ≡ play.with_service_more (state_of B.shown self.old) isid vid) }
+        ensures made { OnOk result (AreMade B.shown self.new.boxes.items) }
+    {
+        self.world.declare_isid(isid, vid)
     }
 
     /// An end of a link gets another metric.
@@ -285,6 +300,7 @@ impl<B: Bridge> NetworkOf<B> {
                 port_b,
                 cost,
             } => self.play_link(*name, *a, *port_a, *b, *port_b, *cost),
+            Command::Isid { isid, vid } => self.play_isid(*isid, *vid),
             Command::Metric { link, side, metric } => self.play_metric(*link, *side, *metric),
             Command::Down(name) => self.play_down(*name),
             Command::Up(name) => self.play_up(*name),
@@ -299,7 +315,36 @@ impl<B: Bridge> NetworkOf<B> {
         }
     }
 
-    /// Plays a command that isn't refused, at a network that hasn't halted.
+    /// Keeps which conditions of quiet hold, if a command asks for them.
+    fn keep_if_asked(&mut self, command: &Command) -> Result<(), NoMemory>
+        requires { IsSoundNetwork B.shown self.old }
+        ensures state { OnOk result (state_of B.shown self.new ≡ state_of B.shown self.old) }
+        ensures sound { OnOk result (IsSoundNetwork B.shown self.new) }
+        ensures halted { OnOk result (self.new.halted ≡ self.old.halted) }
+    {
+        if asks_for_quiet(command) {
+            self.keep_conditions()
+        } else {
+            Ok(())
+        }
+    }
+
+    /// Answers a question, at a network that hasn't halted.
+    fn ask(&mut self, command: &Command) -> Result<Answer, NoMemory>
+        requires halted { self.old.halted ≡ false }
+        requires sound { IsSoundNetwork B.shown self.old }
+        requires question { question.is_question command.now ≡ true }
+        ensures answer { IfOk result (λ answer. answer ≡ play.answer_of (state_of B.shown self.old) command.now) }
+        ensures state { OnOk result (state_of B.shown self.new ≡ play.played (state_of B.shown self.old) command.now) }
+        ensures made { OnOk result (AreMade B.shown self.new.boxes.items) }
+        ensures kept { OnOk result (IsKept B.shown self.new) }
+    {
+        self.keep_if_asked(command)?;
+        self.answer(command)
+    }
+
+    /// Plays a command that isn't refused, at a network that hasn't halted. What is kept of the conditions of quiet
+    /// stays at a question alone.
     #[tactic(auto, using(crate::proofs::CommandFits::in_order))]
     pub(crate) fn play(&mut self, command: &Command) -> Result<Answer, NoMemory>
         requires halted { self.old.halted ≡ false }
@@ -308,9 +353,14 @@ impl<B: Bridge> NetworkOf<B> {
         ensures answer { IfOk result (λ answer. answer ≡ play.answer_of (state_of B.shown self.old) command.now) }
         ensures state { OnOk result (state_of B.shown self.new ≡ play.played (state_of B.shown self.old) command.now) }
         ensures made { OnOk result (AreMade B.shown self.new.boxes.items) }
+        ensures kept { OnOk result (IsKept B.shown self.new) }
     {
+        if is_question(command) {
+            return self.ask(command);
+        }
         let answer = self.answer(command)?;
         self.perform(command)?;
+        self.kept = None;
         Ok(answer)
     }
 }

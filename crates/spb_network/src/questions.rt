@@ -53,6 +53,20 @@ pub(crate) fn asked(command: &Command) -> Option<Name>
     }
 }
 
+/// Whether a command asks something, so that it changes nothing.
+pub(crate) fn is_question(command: &Command) -> bool
+    ensures { result ≡ question.is_question command.now }
+{
+    asks_network(command) || asked(command).is_some()
+}
+
+/// Whether the answer to a command says whether the network is quiet.
+pub(crate) fn asks_for_quiet(command: &Command) -> bool
+    ensures { result ≡ question.asks_for_quiet command.now }
+{
+    matches!(command, Command::State | Command::Show(_))
+}
+
 impl<B: Bridge> NetworkOf<B> {
     /// What a command that isn't refused is answered, before anything of it happens: no customer frame leaves yet.
     pub(crate) fn answer(&self, command: &Command) -> Result<Answer, NoMemory>

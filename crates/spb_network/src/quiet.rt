@@ -9,13 +9,27 @@ ghost use Rattle.spb_network.specs.Applying.{IsReady, IsSoundNetwork};
 ghost use Rattle.spb_network.specs.Network.{state_of, AreMade, IsPortAt};
 ghost use Rattle.spb_network.specs.State.{links_of};
 ghost use Rattle.spb_network.specs.Quiet.{holds_q1, holds_q2, holds_q3, failing, unless_holds};
-ghost use Rattle.spb_network.specs.Quieting.{is_end_up, is_link_up};
+ghost use Rattle.spb_network.specs.Quieting.{is_end_up, is_link_up, conditions_of, numbers_of};
 
 use crate::bodies::have_one_body;
 use crate::{LinkEnd, NetworkOf};
 use adjacency::AdjState;
 use bridge_api::Bridge;
 use spb_types::NoMemory;
+use std::alloc::Global;
+
+/// Which conditions of quiet hold.
+#[derive(Clone, Copy)]
+pub struct Conditions {
+    /// Both ends of each link that is up are Up with each other, and no other port is Up.
+    pub links: bool,
+    /// No frame is on its way.
+    pub lanes: bool,
+    /// No bridge has a flag.
+    pub flags: bool,
+    /// No two bridges hold different bodies under one LSP id with one live version.
+    pub bodies: bool,
+}
 
 /// Whether a state is Up.
 fn is_up(state: AdjState) -> bool
@@ -73,6 +87,18 @@ fn note_unless(holds: bool, number: u8, numbers: &mut Vec<u8>) -> Result<(), NoM
     Ok(())
 }
 
+/// The numbers of the conditions that fail, in ascending order.
+fn numbers_of(alloc: Global, found: Conditions) -> Result<Vec<u8>, NoMemory>
+    ensures { IfOk result (λ numbers. numbers.items ≡ numbers_of found) }
+{
+    let mut numbers = Vec::new(alloc);
+    note_unless(found.links, 1, &mut numbers)?;
+    note_unless(found.lanes, 2, &mut numbers)?;
+    note_unless(found.flags, 3, &mut numbers)?;
+    note_unless(found.bodies, 4, &mut numbers)?;
+    Ok(numbers)
+}
+
 impl<B: Bridge> NetworkOf<B> {
     /// Whether both ports of the link at a place are Up, if there is such a link and it is up.
     fn is_link_up(&self, place: usize) -> bool
@@ -118,6 +144,42 @@ impl<B: Bridge> NetworkOf<B> {
         are_clear(&self.boxes)
     }
 
+    /// Which conditions hold, found anew.
+    fn find_conditions(&self) -> Result<Conditions, NoMemory>
+        requires { IsSoundNetwork B.shown self.now }
+        ensures { IfOk result (λ found. found ≡ conditions_of (state_of B.shown self.now)) }
+    {
+        Ok(Conditions {
+            links: self.are_links_up(),
+            lanes: self.are_lanes_empty(),
+            flags: self.are_flags_clear(),
+            bodies: have_one_body(self.alloc, &self.boxes)?,
+        })
+    }
+
+    /// Which conditions hold: those that are kept, or else found anew.
+    fn conditions(&self) -> Result<Conditions, NoMemory>
+        requires { IsSoundNetwork B.shown self.now }
+        ensures { IfOk result (λ found. found ≡ conditions_of (state_of B.shown self.now)) }
+    {
+        match self.kept {
+            Some(kept) => Ok(kept),
+            None => self.find_conditions(),
+        }
+    }
+
+    /// Keeps which conditions hold.
+    pub(crate) fn keep_conditions(&mut self) -> Result<(), NoMemory>
+        requires { IsSoundNetwork B.shown self.old }
+        ensures state { OnOk result (state_of B.shown self.new ≡ state_of B.shown self.old) }
+        ensures sound { OnOk result (IsSoundNetwork B.shown self.new) }
+        ensures halted { OnOk result (self.new.halted ≡ self.old.halted) }
+    {
+        let found = self.conditions()?;
+        self.kept = Some(found);
+        Ok(())
+    }
+
     /// The numbers of the conditions of quiet that fail, in ascending order: 1 both ends of each link that is up are
     /// Up with each other and no other port is Up, 2 no frame is on its way, 3 no bridge has a flag, 4 no two bridges
     /// hold different bodies under one LSP id with one live version. None fails exactly where the network is quiet.
@@ -126,11 +188,7 @@ impl<B: Bridge> NetworkOf<B> {
         requires ready { IsReady B.shown self.now }
         ensures { IfOk result (λ numbers. numbers.items ≡ failing (state_of B.shown self.now)) }
     {
-        let mut numbers = Vec::new(self.alloc);
-        note_unless(self.are_links_up(), 1, &mut numbers)?;
-        note_unless(self.are_lanes_empty(), 2, &mut numbers)?;
-        note_unless(self.are_flags_clear(), 3, &mut numbers)?;
-        note_unless(have_one_body(self.alloc, &self.boxes)?, 4, &mut numbers)?;
-        Ok(numbers)
+        let found = self.conditions()?;
+        numbers_of(self.alloc, found)
     }
 }

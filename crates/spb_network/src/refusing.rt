@@ -177,6 +177,7 @@ impl<B: Bridge> NetworkOf<B> {
             } => self
                 .world
                 .named_link_refusal(*name, *a, *port_a, *b, *port_b, *cost),
+            Command::Isid { isid, vid } => self.world.isid_refusal(*isid, *vid),
             Command::Metric { link, metric, .. } => self.world.metric_refusal(*link, *metric),
             Command::Down(name) => self.world.down_refusal(*name),
             Command::Up(name) => self.world.up_refusal(*name),

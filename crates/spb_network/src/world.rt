@@ -10,20 +10,24 @@ use fdb_build::tables_of;
 use indexmap::IndexMap;
 use link_model::LaneId;
 use scenario::Side;
-use spb_types::limits::{MOST_BRIDGES, MOST_LINKS, SOURCE_IDS};
+use spb_types::limits::{GREATEST_ISID, MOST_BRIDGES, MOST_LINKS, MOST_VIDS, SOURCE_IDS};
 use spb_types::{
-    Attachment, BridgeId, Graph, GraphBridge, Mac, Name, NoMemory, Seq, SourceId, SystemId, Tables,
-    Vid, VidPlan,
+    Attachment, BridgeId, Graph, GraphBridge, Isid, Mac, Name, NoMemory, Seq, SourceId, SystemId,
+    Tables, Vid, VidPlan,
 };
 use std::alloc::Global;
 use std::marker::Model;
 
-/// What is declared: the base VIDs, the bridges and the links, each in order of declaration.
+/// The most services of a script.
+pub const MOST_SERVICES: usize = 4_096;
+
+/// What is declared: the base VIDs, the bridges, the links and the services, each in order of declaration.
 #[derive(Drop)]
 pub struct World {
     vids: Vec<VidPlan>,
     bridges: IndexMap<Name, DeclaredBridge>,
     links: IndexMap<Name, DeclaredLink>,
+    services: IndexMap<Isid, Vid>,
     hints: Hints,
 }
 
@@ -32,9 +36,9 @@ impl Model for World {
 
     ghost Value = { state.World };
 
-    ghost view = { λ w. record { vids = w.vids.items; bridges = w.bridges.entries; links = w.links.entries } };
+    ghost view = { λ w. record { vids = w.vids.items; bridges = w.bridges.entries; links = w.links.entries; services = w.services.entries } };
 
-    ghost invariant = { λ w. state.Sound (record { vids = w.vids.items; bridges = w.bridges.entries; links = w.links.entries }) };
+    ghost invariant = { λ w. state.Sound (record { vids = w.vids.items; bridges = w.bridges.entries; links = w.links.entries; services = w.services.entries }) };
 }
 
 impl World {
@@ -42,6 +46,7 @@ impl World {
     ghost use Rattle.spb_network.specs.World as state;
     ghost use Rattle.spb_network.specs.World.{place_of, things_of};
     ghost use Rattle.spb_network.specs.Declaring as declare;
+    ghost use Rattle.spb_network.specs.Services as service;
     ghost use Rattle.spb_network.specs.State.{lane_out, live_lane, is_live};
     ghost use Rattle.spb_network.specs.Play.{config_of};
     ghost use Rattle.spb_network.specs.Restarting.{metric_over, port_metric};
@@ -49,12 +54,13 @@ impl World {
 
     /// The world in which nothing is declared, which takes no memory.
     pub fn new(alloc: Global) -> Self
-        ensures { result ≡ record { vids = []; bridges = []; links = [] } }
+        ensures { result ≡ record { vids = []; bridges = []; links = []; services = [] } }
     {
         World {
             vids: Vec::new(alloc),
             bridges: IndexMap::new(alloc),
             links: IndexMap::new(alloc),
+            services: IndexMap::new(alloc),
             hints: Hints::new(alloc),
         }
     }
@@ -85,6 +91,20 @@ impl World {
         ensures { result ≡ place_of name self.now.links }
     {
         self.links.get_index_of(&name)
+    }
+
+    /// The base VID of the service of an I-SID. None exactly where it isn't declared.
+    pub fn vid_of_isid(&self, isid: u64) -> Option<Vid>
+        ensures { result ≡ state.vid_of_isid self.now.services isid }
+    {
+        let services = &self.services;
+        if isid > u64::from(GREATEST_ISID) {
+            return None;
+        }
+        match services.get(&Isid { value: isid as u32 }) {
+            None => None,
+            Some(vid) => Some(*vid),
+        }
     }
 
     /// The link at a place, whose ends are ports of declared bridges. None exactly where the place is past the last.
@@ -251,9 +271,10 @@ impl World {
         ensures { result ≡ declare.vid_refusal self.now vid ect }
     {
         let is_new = check::is_new_vid(self.vids.as_slice(), vid);
-        let is_range = check::is_vid_range(self.vids.as_slice(), vid, ect);
+        let has_room = self.vids.len() < MOST_VIDS;
         reason_unless(is_new, Reason::NameTaken)
-            .or(reason_unless(is_range, Reason::Range))
+            .or(reason_unless(check::is_vid_range(vid, ect), Reason::Range))
+            .or(reason_unless(has_room, Reason::TooMany))
             .or(reason_unless(self.bridges.len() == 0, Reason::TooLate))
     }
 
@@ -299,6 +320,27 @@ impl World {
             .or(reason_unless(is_range, Reason::Range))
             .or(reason_unless(self.links.len() < MOST_LINKS, Reason::TooMany))
             .or(reason_unless(check::is_unlinked(&self.links, i, j), Reason::AlreadyLinked))
+    }
+
+    /// Whether no service of this I-SID is declared.
+    fn is_new_isid(&self, isid: u64) -> bool
+        ensures { result ≡ service.is_new_isid self.now.services isid }
+    {
+        self.vid_of_isid(isid).is_none()
+    }
+
+    /// Why a service can't be declared, if it can't.
+    #[tactic(auto, unfolding(crate::specs::Services::isid_refusal))]
+    pub fn isid_refusal(&self, isid: u64, vid: u64) -> Option<Reason>
+        ensures { result ≡ service.isid_refusal self.now isid vid }
+    {
+        let is_declared = check::has_vid(self.vids.as_slice(), vid);
+        let is_new = self.is_new_isid(isid);
+        let has_room = self.services.len() < MOST_SERVICES;
+        reason_unless(is_declared, Reason::NoSuchName)
+            .or(reason_unless(is_new, Reason::NameTaken))
+            .or(reason_unless(check::is_isid_range(isid), Reason::Range))
+            .or(reason_unless(has_room, Reason::TooMany))
     }
 
     /// Declares a base VID with the number of its ECT algorithm, which isn't refused. After NoMemory nothing changed.
@@ -377,6 +419,17 @@ impl World {
         self.hints.note(link.a, place);
         self.hints.note(link.b, place);
         Ok(link)
+    }
+
+    /// Declares a service in a base VID, which isn't refused. After NoMemory nothing changed.
+    pub fn declare_isid(&mut self, isid: u64, vid: u64) -> Result<(), NoMemory>
+        requires { service.isid_refusal self.old isid vid ≡ None }
+        ensures ok { OnOk result (self.new ≡ service.with_service self.old (service.service_of isid vid)) }
+        ensures err { OnErr result (self.new ≡ self.old) }
+    {
+        let isid = Isid { value: isid as u32 };
+        self.services.insert(isid, Vid { value: vid as u16 })?;
+        Ok(())
     }
 
     /// The link at a place comes up, or goes down. Takes no memory.

@@ -26,7 +26,7 @@ fn is_played(word: Option<Keyword>) -> bool
     !matches!(
         word,
         None | Some(
-            Keyword::Isid | Keyword::Attach | Keyword::Detach | Keyword::Frame | Keyword::Path
+            Keyword::Attach | Keyword::Detach | Keyword::Frame | Keyword::Path
         )
     )
 }

@@ -9,12 +9,8 @@ tick B
 deliver L1 ba
 ";
 
-/// Two bridges synchronize their databases. Then A's metric changes; its LSP comes to B twice, and B's acknowledgement
-/// is lost once.
-const SYNCED: &str = "round 3
-db A
-round 2
-metric L1 a 15
+/// A's metric changes; its LSP comes to B twice, and B's acknowledgement is lost once.
+pub(super) const CHANGED: &str = "metric L1 a 15
 tick A
 double L1 ab 1
 drain 10
@@ -27,25 +23,15 @@ tick A
 drain 10
 tick B
 drain 10
-db A
-db B
 ";
 
-const SYNCED_ANSWER: &str = "db A 2
-l 0200000000010000 live 1199 2 a512 srm 1 ssn -
-l 0200000000020000 live 1199 2 c2f3 srm - ssn 1
-db B 2
+/// What is answered where the databases were synchronized before, after five rounds.
+pub(super) const CHANGED_ANSWER: &str = "db B 2
 l 0200000000010000 live 1199 3 9e0e srm - ssn 1
 l 0200000000020000 live 1197 2 c2f3 srm - ssn -
 db A 2
 l 0200000000010000 live 1199 3 9e0e srm 1 ssn -
 l 0200000000020000 live 1196 2 c2f3 srm - ssn -
-db A 2
-l 0200000000010000 live 1198 3 9e0e srm - ssn -
-l 0200000000020000 live 1195 2 c2f3 srm - ssn -
-db B 2
-l 0200000000010000 live 1197 3 9e0e srm - ssn -
-l 0200000000020000 live 1195 2 c2f3 srm - ssn -
 ";
 
 /// A neighbour that is cut off: its LSP runs out in the last second of its lifetime, and A's own was originated twice
@@ -68,7 +54,21 @@ l 0200000000020000 dead 2 srm - ssn -
 
 #[test]
 fn databases_are_equal_whatever_is_lost_or_doubled(rt: HostRuntime) -> Result<(), Fail> {
-    check_done(&rt, rt.alloc(), TWO, SYNCED, SYNCED_ANSWER)
+    let synced = "db A 2
+l 0200000000010000 live 1199 2 a512 srm 1 ssn -
+l 0200000000020000 live 1199 2 c2f3 srm - ssn 1
+";
+    let again = "db A 2
+l 0200000000010000 live 1198 3 9e0e srm - ssn -
+l 0200000000020000 live 1195 2 c2f3 srm - ssn -
+db B 2
+l 0200000000010000 live 1197 3 9e0e srm - ssn -
+l 0200000000020000 live 1195 2 c2f3 srm - ssn -
+";
+    let alloc = rt.alloc();
+    let lines = format!(in alloc; "round 3\ndb A\nround 2\n{CHANGED}db A\ndb B\n")?;
+    let text = format!(in alloc; "{synced}{CHANGED_ANSWER}{again}")?;
+    check_done(&rt, alloc, TWO, lines.as_str(), text.as_str())
 }
 
 #[test]

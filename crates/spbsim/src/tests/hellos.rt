@@ -22,8 +22,8 @@ adj B 1
 p 1 up 020000000001 1 3 due
 ";
 
-/// Three hellos of A are lost, and B gives A up; then A hears of it.
-const LOST: &str = "round 5
+/// Three hellos of A are lost, and B gives A up.
+pub(super) const GIVEN_UP: &str = "round 5
 tick A
 lose L1 ab 0
 tick B
@@ -37,21 +37,12 @@ lose L1 ab 0
 tick B
 adj A
 adj B
-tick A
-deliver L1 ab
-adj B
-deliver L1 ba
-adj A
 ";
 
-const LOST_ANSWER: &str = "adj A 1
+pub(super) const GIVEN_UP_ANSWER: &str = "adj A 1
 p 1 up 020000000002 1 2 -
 adj B 1
 p 1 down
-adj B 1
-p 1 down
-adj A 1
-p 1 init 020000000002 1 3 -
 ";
 
 #[test]
@@ -61,7 +52,21 @@ fn hellos_bring_two_bridges_up(rt: HostRuntime) -> Result<(), Fail> {
 
 #[test]
 fn lost_hellos_take_a_bridge_down(rt: HostRuntime) -> Result<(), Fail> {
-    check_done(&rt, rt.alloc(), TWO, LOST, LOST_ANSWER)
+    let heard = "tick A
+deliver L1 ab
+adj B
+deliver L1 ba
+adj A
+";
+    let answer = "adj B 1
+p 1 down
+adj A 1
+p 1 init 020000000002 1 3 -
+";
+    let alloc = rt.alloc();
+    let lines = format!(in alloc; "{GIVEN_UP}{heard}")?;
+    let text = format!(in alloc; "{GIVEN_UP_ANSWER}{answer}")?;
+    check_done(&rt, alloc, TWO, lines.as_str(), text.as_str())
 }
 
 #[test]

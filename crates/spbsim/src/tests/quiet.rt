@@ -1,4 +1,6 @@
 //! Whether a network is quiet, and the tables of its bridges.
+use super::databases::{CHANGED, CHANGED_ANSWER};
+use super::hellos::{GIVEN_UP, GIVEN_UP_ANSWER};
 use super::{TWO, check_done};
 use std::test::Fail;
 
@@ -7,78 +9,6 @@ const THREE: &str = "vid 10 1
 bridge A 32768 020000000001 00001 2
 bridge B 32768 020000000002 00002 2
 bridge C 32768 020000000003 00003 2
-";
-
-/// Three of A's hellos are lost, so that B gives A up; then B hears A, and A hears that.
-const GIVEN_UP: &str = "round 5
-tick A
-lose L1 ab 0
-tick B
-deliver L1 ba
-tick A
-lose L1 ab 0
-tick B
-deliver L1 ba
-tick A
-lose L1 ab 0
-tick B
-adj A
-adj B
-state
-tick A
-deliver L1 ab
-adj B
-deliver L1 ba
-adj A
-";
-
-const GIVEN_UP_ANSWER: &str = "adj A 1
-p 1 up 020000000002 1 2 -
-adj B 1
-p 1 down
-state busy q1 q2
-adj B 1
-p 1 down
-adj A 1
-p 1 init 020000000002 1 3 -
-";
-
-/// The databases are synchronized, and so they are again after A's metric changed, though a frame was doubled and
-/// another lost.
-const SYNCED: &str = "round 3
-db A
-round 1
-state
-round 1
-state
-metric L1 a 15
-tick A
-double L1 ab 1
-drain 10
-db B
-tick B
-lose L1 ba 1
-drain 10
-db A
-tick A
-drain 10
-tick B
-drain 10
-state
-";
-
-const SYNCED_ANSWER: &str = "db A 2
-l 0200000000010000 live 1199 2 a512 srm 1 ssn -
-l 0200000000020000 live 1199 2 c2f3 srm - ssn 1
-state busy q3
-state quiet
-db B 2
-l 0200000000010000 live 1199 3 9e0e srm - ssn 1
-l 0200000000020000 live 1197 2 c2f3 srm - ssn -
-db A 2
-l 0200000000010000 live 1199 3 9e0e srm 1 ssn -
-l 0200000000020000 live 1196 2 c2f3 srm - ssn -
-state quiet
 ";
 
 /// A metric changes in a triangle: A's tables follow when A has heard of it.
@@ -140,12 +70,18 @@ fn an_empty_network_is_quiet(rt: HostRuntime) -> Result<(), Fail> {
 
 #[test]
 fn a_neighbour_that_is_given_up_makes_a_network_busy(rt: HostRuntime) -> Result<(), Fail> {
-    check_done(&rt, rt.alloc(), TWO, GIVEN_UP, GIVEN_UP_ANSWER)
+    let alloc = rt.alloc();
+    let lines = format!(in alloc; "{GIVEN_UP}state\n")?;
+    let text = format!(in alloc; "{GIVEN_UP_ANSWER}state busy q1 q2\n")?;
+    check_done(&rt, alloc, TWO, lines.as_str(), text.as_str())
 }
 
 #[test]
 fn flags_make_a_network_busy_until_they_are_cleared(rt: HostRuntime) -> Result<(), Fail> {
-    check_done(&rt, rt.alloc(), TWO, SYNCED, SYNCED_ANSWER)
+    let alloc = rt.alloc();
+    let lines = format!(in alloc; "round 4\nstate\nround 1\nstate\n{CHANGED}state\n")?;
+    let text = format!(in alloc; "state busy q3\nstate quiet\n{CHANGED_ANSWER}state quiet\n")?;
+    check_done(&rt, alloc, TWO, lines.as_str(), text.as_str())
 }
 
 #[test]

@@ -1,5 +1,5 @@
 //! Lines that are refused, and why.
-use super::check;
+use super::{check, check_done};
 use crate::Status;
 use spb_network::Reason;
 use spb_run::Refusal;
@@ -65,7 +65,7 @@ fn lines_outside_the_grammar_have_a_column(rt: HostRuntime) -> Result<(), Fail> 
         ("deliver L1 xy", 12, "1 Words 12"),
         ("metric L1 c 1", 11, "1 Words 11"),
         ("round", 6, "1 Words 6"),
-        ("isid 100 10", 1, "1 Words 1"),
+        ("attach A 1 100", 1, "1 Words 1"),
         (" frame A 1 00", 2, "1 Words 2"),
         ("state A", 7, "1 Words 7"),
         ("show", 5, "1 Words 5"),
@@ -124,6 +124,83 @@ fn refused_events_have_a_reason(rt: HostRuntime) -> Result<(), Fail> {
         ("deliver L1 ab", Reason::NoFrame, "11 NoFrame"),
     ] {
         check_refused(&rt, alloc, line, Refusal::Command(why), end)?;
+    }
+    Ok(())
+}
+
+#[test]
+fn refused_vids_and_services_have_a_reason(rt: HostRuntime) -> Result<(), Fail> {
+    let alloc = rt.alloc();
+    for (script, line, why, text) in [
+        (
+            "vid 10 1\nvid 10 17\n",
+            2,
+            Reason::NameTaken,
+            "error 2 3 NameTaken\n",
+        ),
+        ("vid 10 17\n", 1, Reason::Range, "error 1 6 Range\n"),
+        ("vid 10 0\n", 1, Reason::Range, "error 1 6 Range\n"),
+        ("vid 4095 1\n", 1, Reason::Range, "error 1 6 Range\n"),
+        (
+            "vid 10 1\nisid 0 20\n",
+            2,
+            Reason::NoSuchName,
+            "error 2 2 NoSuchName\n",
+        ),
+        (
+            "vid 10 1\nvid 20 2\nisid 7 10\nisid 7 20\n",
+            4,
+            Reason::NameTaken,
+            "error 4 3 NameTaken\n",
+        ),
+        (
+            "vid 10 1\nisid 16777216 10\n",
+            2,
+            Reason::Range,
+            "error 2 6 Range\n",
+        ),
+        (
+            "vid 10 1\nisid 0 10\n",
+            2,
+            Reason::Range,
+            "error 2 6 Range\n",
+        ),
+    ] {
+        let why = Refusal::Command(why);
+        check(&rt, alloc, script, Status::Refused(line, why), text)?;
+    }
+    Ok(())
+}
+
+/// Sixteen base VIDs, each with an ECT algorithm of its own.
+const SIXTEEN: &str = "vid 1 1\nvid 2 2\nvid 3 3\nvid 4 4\nvid 5 5\nvid 6 6\nvid 7 7\nvid 8 8
+vid 9 9\nvid 10 10\nvid 11 11\nvid 12 12\nvid 13 13\nvid 14 14\nvid 15 15\nvid 16 16\n";
+
+#[test]
+fn the_seventeenth_vid_is_one_too_many(rt: HostRuntime) -> Result<(), Fail> {
+    let alloc = rt.alloc();
+    check_done(
+        &rt,
+        alloc,
+        SIXTEEN,
+        "isid 1 16\nbridge A 0 020000000001 00001 0\n",
+        "",
+    )?;
+    for (line, why, end) in [
+        ("vid 17 1", Reason::TooMany, "7 TooMany"),
+        ("vid 17 17", Reason::Range, "6 Range"),
+        ("vid 16 1", Reason::NameTaken, "3 NameTaken"),
+    ] {
+        let script = format!(in alloc; "{SIXTEEN}{line}\n")?;
+        let text = format!(in alloc; "error 17 {end}\n")?;
+        let why = Refusal::Command(why);
+        check(
+            &rt,
+            alloc,
+            script.as_str(),
+            Status::Refused(17, why),
+            text.as_str(),
+        )?;
     }
     Ok(())
 }

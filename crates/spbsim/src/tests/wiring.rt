@@ -24,3 +24,49 @@ fn a_link_that_is_down_is_no_wiring_and_keeps_its_metric(rt: HostRuntime) -> Res
     )?;
     check_done(&rt, alloc, TWO, "down L1\nwiring A\n", "wiring A 0 0\n")
 }
+
+/// Four bridges in a square, and two base VIDs whose masks prefer different ways across it.
+const SQUARE: &str = "vid 10 1
+vid 20 2
+bridge A 32768 020000000001 00001 2
+bridge B 32768 020000000002 00002 2
+bridge C 32768 020000000003 00003 2
+bridge D 32768 020000000004 00004 2
+link L1 A 1 B 1 10
+link L2 B 2 D 1 10
+link L3 A 2 C 1 10
+link L4 C 2 D 2 10
+";
+
+#[test]
+fn each_vid_has_the_paths_of_its_own_mask(rt: HostRuntime) -> Result<(), Fail> {
+    let alloc = rt.alloc();
+    check_done(
+        &rt,
+        alloc,
+        SQUARE,
+        "wiring A\n",
+        "wiring A 6 0
+u 10 020000000002 1
+u 10 020000000003 2
+u 10 020000000004 1
+u 20 020000000002 1
+u 20 020000000003 2
+u 20 020000000004 2
+",
+    )?;
+    check_done(
+        &rt,
+        alloc,
+        SQUARE,
+        "round 32\nshow A\n",
+        "show A quiet 6 0
+u 10 020000000002 1
+u 10 020000000003 2
+u 10 020000000004 1
+u 20 020000000002 1
+u 20 020000000003 2
+u 20 020000000004 2
+",
+    )
+}

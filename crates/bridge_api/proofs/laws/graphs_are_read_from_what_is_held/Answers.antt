@@ -1,6 +1,7 @@
 use Rattle.bridge_api.proofs.GraphRead.{reads_what_is_held, reads_each_once, reads_itself}
 use Rattle.bridge_api.proofs.OthersRead.{reads_others}
 use Rattle.bridge_api.proofs.SaidNeighbours.{says_its_neighbours}
+use Rattle.bridge_api.proofs.SaidMembers.{members_are_said}
 use Rattle.bridge_api.proofs.OwnPorts.{own_ports_are_apart}
 use Rattle.bridge_api.proofs.laws.graphs_are_read_from_what_is_held.Goals as goal
 
@@ -21,3 +22,6 @@ returns-clause-others c = reads_others
 
 pub returns-clause-neighbours : goal.returns-clause-neighbours
 returns-clause-neighbours c = says_its_neighbours
+
+pub returns-clause-members : goal.returns-clause-members
+returns-clause-members c = members_are_said

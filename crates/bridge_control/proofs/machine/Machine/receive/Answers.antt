@@ -1,11 +1,11 @@
-use Rattle.std.proofs.Common.{◌∙◌, refl}
+use Rattle.std.proofs.Common.{sym, ap, ◌∙◌, subst}
 use Rattle.std.proofs.lemmas.Result.{on_ok_weaker}
-use Rattle.isis_pdu.specs.Pdu.{hello_of, lsp_of, csnp_of, psnp_of}
-use Rattle.bridge_api.specs.Parsing as parsing
-use Rattle.bridge_control.specs.Machine.{view_of}
-use Rattle.bridge_control.proofs.Owning.{after_same}
+use Rattle.bridge_api.specs.View.{IsPort, has_carrier_at}
+use Rattle.bridge_api.specs.Hearing.{after_receive}
+use Rattle.bridge_control.specs.declared.machine.Machine.{Machine}
+use Rattle.bridge_control.specs.Machine.{view_of, IsReady, IsAfter}
 use Rattle.bridge_control.proofs.Putting.{there_at, carrier_there}
-use Rattle.bridge_control.proofs.Heeding.{received_path, deaf_after, idle_after, not_true, not_false}
+use Rattle.bridge_control.proofs.Heeding.{deaf_after, not_true, not_false}
 use Rattle.bridge_control.proofs.machine.Machine.receive.Goals as goal
 
 pub returns-then-not-port_at : goal.returns-then-not-port_at
@@ -14,52 +14,29 @@ returns-then-not-port_at c =
     let there = there_at c.args.self.now c.as_slice.result.now c.args.port port c.as_slice.ensures.value c.port_at.ensures in
     deaf_after c.args.self.now c.args.port c.args.frame.now port c.requires.ready c.requires.port there (not_true port.adjacency.carrier c.if-not-port_at.true)
 
-pub hear_hello-requires-clause-carrier : goal.hear_hello-requires-clause-carrier
-hear_hello-requires-clause-carrier c =
+pub hear_again-requires-clause-carrier : goal.hear_again-requires-clause-carrier
+hear_again-requires-clause-carrier c =
     let port = c.port_at.result in
     let there = there_at c.args.self.now c.as_slice.result.now c.args.port port c.as_slice.ensures.value c.port_at.ensures in
     carrier_there (view_of c.args.self.now) c.args.port port there ∙ not_false port.adjacency.carrier c.if-not-port_at.false
 
-pub returns-in-Hello : goal.returns-in-Hello
-returns-in-Hello c =
-    let m = c.args.self.now in
-    let port = c.port_at.result in
-    let there = there_at m c.as_slice.result.now c.args.port port c.as_slice.ensures.value c.port_at.ensures in
-    let has_carrier = not_false port.adjacency.carrier c.if-not-port_at.false in
-    on_ok_weaker c.hear_hello.result (after_same _ _ c.hear_hello.new.self (received_path (view_of m) c.args.port c.args.frame.now (parsing.hello (hello_of c.in-Hello.hello) c.in-Hello.way) port c.requires.port there has_carrier c.in-Hello.ensures.0)) c.hear_hello.ensures
+pub hear_anew-requires-clause-ready : goal.hear_anew-requires-clause-ready
+hear_anew-requires-clause-ready c = subst IsReady (sym (c.hear_again.ensures.kept c.if-hear_again.false)) c.requires.ready
 
-pub returns-in-Lsp : goal.returns-in-Lsp
-returns-in-Lsp c =
-    let m = c.args.self.now in
-    let port = c.port_at.result in
-    let there = there_at m c.as_slice.result.now c.args.port port c.as_slice.ensures.value c.port_at.ensures in
-    let has_carrier = not_false port.adjacency.carrier c.if-not-port_at.false in
-    on_ok_weaker c.hear_lsp.result (after_same _ _ c.hear_lsp.new.self (received_path (view_of m) c.args.port c.args.frame.now (parsing.lsp (lsp_of c.in-Lsp.lsp)) port c.requires.port there has_carrier c.in-Lsp.ensures)) c.hear_lsp.ensures
+pub hear_anew-requires-clause-port : goal.hear_anew-requires-clause-port
+hear_anew-requires-clause-port c =
+    subst (λ (m : Machine). IsPort (view_of m) c.args.port) (sym (c.hear_again.ensures.kept c.if-hear_again.false)) c.requires.port
 
-pub returns-in-Csnp : goal.returns-in-Csnp
-returns-in-Csnp c =
-    let m = c.args.self.now in
-    let port = c.port_at.result in
-    let there = there_at m c.as_slice.result.now c.args.port port c.as_slice.ensures.value c.port_at.ensures in
-    let has_carrier = not_false port.adjacency.carrier c.if-not-port_at.false in
-    on_ok_weaker c.hear_csnp.result (after_same _ _ c.hear_csnp.new.self (received_path (view_of m) c.args.port c.args.frame.now (parsing.csnp (csnp_of c.in-Csnp.csnp)) port c.requires.port there has_carrier c.in-Csnp.ensures)) c.hear_csnp.ensures
-
-pub returns-in-Psnp : goal.returns-in-Psnp
-returns-in-Psnp c =
-    let m = c.args.self.now in
-    let port = c.port_at.result in
-    let there = there_at m c.as_slice.result.now c.args.port port c.as_slice.ensures.value c.port_at.ensures in
-    let has_carrier = not_false port.adjacency.carrier c.if-not-port_at.false in
-    on_ok_weaker c.hear_psnp.result (after_same _ _ c.hear_psnp.new.self (received_path (view_of m) c.args.port c.args.frame.now (parsing.psnp (psnp_of c.in-Psnp.psnp)) port c.requires.port there has_carrier c.in-Psnp.ensures)) c.hear_psnp.ensures
-
-pub returns-in-Dropped : goal.returns-in-Dropped
-returns-in-Dropped c =
+pub hear_anew-requires-clause-carrier : goal.hear_anew-requires-clause-carrier
+hear_anew-requires-clause-carrier c =
     let port = c.port_at.result in
     let there = there_at c.args.self.now c.as_slice.result.now c.args.port port c.as_slice.ensures.value c.port_at.ensures in
-    idle_after c.args.self.now c.args.port c.args.frame.now _ port c.requires.ready c.requires.port there (not_false port.adjacency.carrier c.if-not-port_at.false) c.in-Dropped.ensures refl
+    ap (λ (m : Machine). has_carrier_at (view_of m) c.args.port) (c.hear_again.ensures.kept c.if-hear_again.false)
+    ∙ (carrier_there (view_of c.args.self.now) c.args.port port there ∙ not_false port.adjacency.carrier c.if-not-port_at.false)
 
-pub returns-in-Customer : goal.returns-in-Customer
-returns-in-Customer c =
-    let port = c.port_at.result in
-    let there = there_at c.args.self.now c.as_slice.result.now c.args.port port c.as_slice.ensures.value c.port_at.ensures in
-    idle_after c.args.self.now c.args.port c.args.frame.now _ port c.requires.ready c.requires.port there (not_false port.adjacency.carrier c.if-not-port_at.false) c.in-Customer.ensures refl
+pub returns : goal.returns
+returns c =
+    let same = c.hear_again.ensures.kept c.if-hear_again.false in
+    on_ok_weaker c.hear_anew.result
+    (λ is. subst (λ (m : Machine). IsAfter (after_receive c.args.port c.args.frame.now (view_of m)) c.hear_anew.new.self) same is)
+    c.hear_anew.ensures

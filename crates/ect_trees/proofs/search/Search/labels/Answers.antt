@@ -7,7 +7,7 @@ use Rattle.std.proofs.lemmas.List.{length-replicate}
 use Rattle.spb_types.specs.Graph.{IsBridge}
 use Rattle.ect_trees.specs.declared.search.Label.{Label}
 use Rattle.ect_trees.specs.declared.waiting.Waiting.{Waiting}
-use Rattle.ect_trees.specs.Roads.{IsBridgeAt}
+use Rattle.ect_trees.specs.Arcs.{IsBridgeAt}
 use Rattle.ect_trees.specs.Search.{graph_of, AreBest}
 use Rattle.ect_trees.specs.Waits.{waits, waiting_cmp}
 use Rattle.ect_trees.proofs.Places.{at_within, found_place, place_found}

@@ -1,5 +1,5 @@
 use Rattle.std.proofs.Common.{◌≡◌, ◌<◌, [], length, get_or, ap, ◌∙◌, arith}
-use Rattle.ect_trees.specs.Roads.{rows_of}
+use Rattle.ect_trees.specs.Arcs.{rows_of}
 use Rattle.ect_trees.proofs.Places.{no_arc}
 use Rattle.ect_trees.proofs.Grouped.{read_row, read_arc}
 use Rattle.ect_trees.proofs.Relaxed.{relaxing_none, relaxing_more, relaxed_all}
@@ -10,7 +10,7 @@ loop-arc-init c = relaxing_none c.args.self.now c.args.place c.args.labels.now.i
 
 pub relax-requires-clause-arc : goal.relax-requires-clause-arc
 relax-requires-clause-arc c =
-    let r = c.args.self.now.roads.now in
+    let r = c.args.self.now.mesh.now in
     let k = c.loop-arc.arc-index in
     let arcs = c.deref-arc-items.result.now in
     let within : c.args.place < length r.arcs.items = omega (arith, c.requires.within, c.requires.state.labels.places, c.requires.ready.places) in
@@ -23,7 +23,7 @@ relax-requires-clause-state c = c.loop-arc.invariant.state
 pub loop-arc-preserved : goal.loop-arc-preserved
 loop-arc-preserved c =
     let s = c.args.self.now in
-    let r = s.roads.now in
+    let r = s.mesh.now in
     let k = c.loop-arc.arc-index in
     let arcs = c.deref-arc-items.result.now in
     let within : c.args.place < length r.arcs.items = omega (arith, c.requires.within, c.requires.state.labels.places, c.requires.ready.places) in
@@ -37,7 +37,7 @@ returns-clause-state c = c.loop-arc.invariant.state
 pub returns-clause-done : goal.returns-clause-done
 returns-clause-done c =
     let s = c.args.self.now in
-    let r = s.roads.now in
+    let r = s.mesh.now in
     let arcs = c.deref-arc-items.result.now in
     let within : c.args.place < length r.arcs.items = omega (arith, c.requires.within, c.requires.state.labels.places, c.requires.ready.places) in
     let row : arcs ≡ get_or (rows_of r) c.args.place [] = c.deref-arc-items.ensures.value ∙ read_row r c.args.place c.index.result.now within c.index.ensures in

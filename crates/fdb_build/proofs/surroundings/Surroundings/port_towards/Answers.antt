@@ -1,4 +1,4 @@
-use Rattle.std.proofs.Common.{option_map, sym, ap, ◌∙◌}
+use Rattle.std.proofs.Common.{option_map, ap, ◌∙◌}
 use Rattle.fdb_build.specs.declared.surroundings.Neighbour.{Neighbour}
 use Rattle.fdb_build.proofs.RowLemmas.{port_known}
 use Rattle.fdb_build.proofs.surroundings.Surroundings.port_towards.Goals as goal

@@ -9,6 +9,7 @@ use Rattle.spb_network.specs.Telling.{QuietTells}
 use Rattle.spb_network.proofs.SoundPlay.{commands_keep_sound}
 use Rattle.spb_network.proofs.CountedStays.{stays_counted}
 use Rattle.spb_network.proofs.Telling.{next_tells}
+use Rattle.spb_network.proofs.Keeping.{counted_conditions}
 use Rattle.spb_network.proofs.network.NetworkOf.apply.Goals as goal
 
 pub play-requires-clause-sound : goal.play-requires-clause-sound
@@ -40,6 +41,7 @@ returns-in-Ok-clause-ready g c =
       made = c.in-Ok.ensures.made;
       state = subst IsSoundState (sym same) (commands_keep_sound old c.args.command.now sound c.addressed.ensures accepted);
       counted = subst (λ (t : State). t.accepted ≤ most_commands → IsCounted t) (sym same) (stays_counted old c.args.command.now sound few accepted);
+      kept = λ kept is. c.in-Ok.ensures.kept kept is ∙ sym (counted_conditions made c.saturating_add-self.result);
     })
 
 pub returns-in-Ok-clause-quiet : goal.returns-in-Ok-clause-quiet

@@ -3,6 +3,7 @@ use Rattle.spb_network.specs.State.{State}
 use Rattle.spb_network.specs.Network.{state_of}
 use Rattle.spb_network.proofs.SoundPlay.{sound_again}
 use Rattle.spb_network.proofs.CountedStays.{counted_rule}
+use Rattle.spb_network.proofs.Keeping.{none_kept}
 use Rattle.spb_network.proofs.network.NetworkOf.set_rule.Goals as goal
 
 pub returns-clause-ready : goal.returns-clause-ready
@@ -12,4 +13,5 @@ returns-clause-ready g c =
       made = n.made;
       state = sound_again old (record old { rule = c.args.rule }) refl refl refl n.state;
       counted = λ few. counted_rule old c.args.rule (n.counted few);
+      kept = none_kept (record old { rule = c.args.rule });
     })) c.requires.ready

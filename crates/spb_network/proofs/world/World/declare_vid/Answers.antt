@@ -13,17 +13,17 @@ overflow_cast-vid c =
 pub overflow_cast-ect : goal.overflow_cast-ect
 overflow_cast-ect c =
     let new = vid_refusal_none _ _ _ c.requires in
-    omega (arith, new.first_ect)
+    omega (arith, new.ect_high)
 
 pub invariant_of-self-2 : goal.invariant_of-self-2
 unfolding with_vid
 invariant_of-self-2 c =
-    let old : World = record { vids = c.self.inside.vids.items; bridges = c.self.inside.bridges.entries; links = c.self.inside.links.entries } in
+    let old : World = record { vids = c.self.inside.vids.items; bridges = c.self.inside.bridges.entries; links = c.self.inside.links.entries; services = c.self.inside.services.entries } in
     let none = ap (λ w. vid_refusal w c.args.vid c.args.ect) c.self.view_is ∙ c.requires in
     let new = vid_refusal_none old c.args.vid c.args.ect none in
-    rw c.in_ok-push.ensures.items (Sound-with_vid old (plan_of c.args.vid c.args.ect) c.self.invariant new.first (record { vid_low = new.vid_low; vid_high = new.vid_high; ect_low = omega (arith, new.first_ect); ect_high = omega (arith, new.first_ect) }))
+    rw c.in_ok-push.ensures.items (Sound-with_vid old (plan_of c.args.vid c.args.ect) c.self.invariant new.new)
 
 pub returns-clause-ok : goal.returns-clause-ok
 unfolding with_vid
 returns-clause-ok c =
-    rw (← c.self.view_is) (λ i. record { vids = c.in_ok-push.ensures.items i; bridges = c.self.inside.bridges.entries; links = c.self.inside.links.entries })
+    rw (← c.self.view_is) (λ i. record { vids = c.in_ok-push.ensures.items i; bridges = c.self.inside.bridges.entries; links = c.self.inside.links.entries; services = c.self.inside.services.entries })

@@ -1,0 +1,46 @@
+-- The customer ports of a bridge and the services that they are attached to (IEEE 802.1ah, 25.10).
+use Rattle.std.specs.Prelude.{◌≡◌, ℕ, ◌≤◌, List, [], ◌∷◌, ◌++◌, length, map, Bool, ◌==◌, not, filter, Contains}
+use Rattle.std.specs.List.{AllByRecursion}
+use Rattle.spb_types.specs.declared.service.Vid.{Vid}
+use Rattle.spb_types.specs.declared.service.Isid.{Isid}
+use Rattle.spb_types.specs.declared.service.Attachment.{Attachment}
+use Rattle.spb_types.specs.declared.limits.TheConstants.{MOST_ISIDS}
+use Rattle.bridge_api.specs.View.{BridgeView}
+use Rattle.bridge_api.specs.Own.{originated_if_changed}
+use Rattle.bridge_api.specs.Config.{IsAttachment, AgreesWith, different, vids_of}
+
+abbrev pub attachment_of : ℕ → Isid → Vid → Attachment
+attachment_of port isid vid = record { port = port; isid = isid; vid = vid }
+
+-- ---- what can be attached and detached
+
+-- a customer port is attached
+abbrev pub IsAttachedPort : BridgeView → ℕ → Type 0
+IsAttachedPort v port = (a : Attachment) × Contains v.attached a × (a.port ≡ port)
+
+-- a customer port can be attached so: to an I-SID in a VID of the bridge, where the port is free, the other ports of
+-- the I-SID are in that VID, and there are at most 60 I-SIDs afterwards
+pub record CanAttach (v : BridgeView) (a : Attachment) : Type 0 where
+  pub attachment : IsAttachment (vids_of v.vids) a
+  pub agrees : AllByRecursion (λ other. AgreesWith other a) v.attached
+  pub few_isids : length (different (map (λ x. x.isid.value) (v.attached ++ a ∷ []))) ≤ MOST_ISIDS
+
+-- ---- what becomes of a bridge
+
+-- what is attached, without the customer port of this number
+abbrev pub is_at_other_port : ℕ → Attachment → Bool
+is_at_other_port port a = not (a.port == port)
+
+abbrev pub without_customer_port : ℕ → List Attachment → List Attachment
+without_customer_port port attached = filter (is_at_other_port port) attached
+
+-- a bridge to which this is attached, and which says so in its own LSP
+unfoldable pub with_attached : List Attachment → BridgeView → BridgeView
+with_attached attached v = originated_if_changed (record v { attached = attached })
+
+-- a bridge after a customer port was attached, and after the one of this number was detached
+abbrev pub with_attachment : Attachment → BridgeView → BridgeView
+with_attachment a v = with_attached (v.attached ++ a ∷ []) v
+
+abbrev pub without_attachment : ℕ → BridgeView → BridgeView
+without_attachment port v = with_attached (without_customer_port port v.attached) v

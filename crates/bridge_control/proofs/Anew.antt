@@ -1,0 +1,41 @@
+-- A frame that is heard at a port with carrier.
+use Rattle.std.proofs.Common.{◌≡◌, ℕ, Bool, true, List, refl, sym, ap, ◌∙◌, subst, Option, Some, None}
+use Rattle.std.specs.Prelude.{if◌then◌else◌}
+use Rattle.bridge_api.specs.declared.port.BridgePort.{BridgePort}
+use Rattle.bridge_api.specs.declared.drop_reason.DropReason.TheVariants as drop
+use Rattle.bridge_api.specs.View.{BridgeView, port_at, has_carrier_in, has_carrier_at}
+use Rattle.bridge_api.specs.Parsing.{Parsed, parsed}
+use Rattle.bridge_api.specs.Hearing.{after_drop, heard_as, heard_at, after_receive}
+use Rattle.bridge_control.specs.declared.machine.Machine.{Machine}
+use Rattle.bridge_control.specs.Machine.{view_of, IsReady, IsAfter, heard_by, hears}
+
+heard_in : (o : Option BridgePort) (v : BridgeView) (p : ℕ) (bytes : List ℕ) (j : Parsed) → has_carrier_in o ≡ true → parsed bytes ≡ j → heard_by j p o v ≡ heard_at p bytes o v
+heard_in None v p bytes j has_carrier said = refl
+heard_in (Some port) v p bytes j has_carrier said =
+    ap (λ (k : Parsed). heard_as k p port v) (sym said)
+    ∙ sym (ap (λ (b : Bool). if b then heard_as (parsed bytes) p port v else after_drop drop.NotAdjacent v) has_carrier)
+
+-- it is heard as what it is taken for
+pub heard_path : (v : BridgeView) (p : ℕ) (bytes : List ℕ) (j : Parsed) → has_carrier_at v p ≡ true → parsed bytes ≡ j → hears j p v ≡ after_receive p bytes v
+unfolding has_carrier_at after_receive
+heard_path v p bytes j has_carrier said = heard_in (port_at v p) v p bytes j has_carrier said
+
+idle_in : (o : Option BridgePort) (v : BridgeView) (p : ℕ) (j : Parsed) → ((port : BridgePort) → heard_as j p port v ≡ v) → heard_by j p o v ≡ v
+idle_in None v p j idle = refl
+idle_in (Some port) v p j idle = idle port
+
+-- it is heard as what changes nothing
+pub idle_path : (m : Machine) (p : ℕ) (bytes : List ℕ) (j : Parsed) → IsReady m → has_carrier_at (view_of m) p ≡ true → parsed bytes ≡ j → ((port : BridgePort) → heard_as j p port (view_of m) ≡ view_of m)
+    → IsAfter (after_receive p bytes (view_of m)) m
+idle_path m p bytes j ready has_carrier said idle =
+    record { view = sym (sym (heard_path (view_of m) p bytes j has_carrier said) ∙ idle_in (port_at (view_of m) p) (view_of m) p j idle); current = ready.current }
+
+-- what is kept of the hellos that came doesn't matter
+pub heard_ready : (m n : Machine) → IsReady m → n ≡ record m { heard = n.heard } → IsReady n
+heard_ready m n ready is = subst IsReady (sym is) (record {
+  sound = ready.sound;
+  current = record { own = ready.current.own; ports = record { hellos = ready.current.ports.hellos; up = ready.current.ports.up } };
+})
+
+pub heard_view : (m n : Machine) → n ≡ record m { heard = n.heard } → view_of n ≡ view_of m
+heard_view m n is = ap view_of is

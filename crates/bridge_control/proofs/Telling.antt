@@ -1,0 +1,50 @@
+-- Attaching a customer port, and detaching it.
+use Rattle.std.proofs.Common.{◌≡◌, ℕ, Bool, false, List, sym, ap, ◌∙◌, subst}
+use Rattle.spb_types.specs.declared.service.Attachment.{Attachment}
+use Rattle.flooding.specs.declared.own.Own.{Own}
+use Rattle.bridge_api.specs.Own.{own_of, originated_if_changed}
+use Rattle.bridge_api.specs.Services.{IsAttachedPort, CanAttach, with_attached}
+use Rattle.bridge_api.specs.Step.{Input}
+use Rattle.bridge_api.specs.Laws.{HasConfig, IsInput, attached_after}
+use Rattle.bridge_api.proofs.Attached.{config_after}
+use Rattle.bridge_api.proofs.Changes.{attached_to, with_attached_is}
+use Rattle.bridge_api.proofs.Saying.{is_local}
+use Rattle.bridge_control.specs.declared.machine.Machine.{Machine}
+use Rattle.bridge_control.specs.Attaching.{CanTell}
+use Rattle.bridge_control.specs.Machine.{view_of, CanOriginate, IsReady, IsAfter}
+use Rattle.bridge_control.specs.Plane.{Plane, plane_of}
+use Rattle.bridge_control.proofs.Owning.{after_same, ready_can}
+
+-- the machine to which this is attached
+abbrev pub machine_with : Machine → List Attachment → Machine
+machine_with m attached = record m { attached = attached }
+
+pub can_tell : (m n : Machine) (attached : List Attachment) → IsReady m → HasConfig (attached_to attached (view_of m)) → n ≡ machine_with m attached → CanTell n
+can_tell m n attached ready config is =
+    let can : CanOriginate m = ready_can m ready in
+    subst CanTell (sym is) (record {
+      can = record { few = can.few; place = can.place };
+      system = ap (λ (o : Own). o.system) ready.current.own;
+      local = is_local (attached_to attached (view_of m)) config ready.sound.few ready.sound.ports;
+      ports = record { hellos = ready.current.ports.hellos; up = ready.current.ports.up };
+    })
+
+pub can_tell_after : (m n : Machine) (input : Input) → IsReady m → IsInput (view_of m) input → n ≡ machine_with m (attached_after input m.attached) → CanTell n
+can_tell_after m n input ready is same = can_tell m n (attached_after input m.attached) ready (config_after input (view_of m) is ready.sound.config) same
+
+pub told_after : (m n k : Machine) (attached : List Attachment) → n ≡ machine_with m attached → IsAfter (originated_if_changed (view_of n)) k → IsAfter (with_attached attached (view_of m)) k
+told_after m n k attached is after =
+    after_same (originated_if_changed (view_of n)) (with_attached attached (view_of m)) k (ap originated_if_changed (ap view_of is) ∙ sym (with_attached_is attached (view_of m))) after
+
+pub renewed_can : (m n : Machine) → CanTell m → n ≡ record m { own = own_of (view_of m) } → CanOriginate n
+renewed_can m n can is = subst CanOriginate (sym is) (record { few = can.can.few; place = can.can.place })
+
+-- ---- what a control plane asks for
+
+pub can_inside : (blank failed : Bool) (m : Machine) (plane : Plane) (a : Attachment) → plane_of blank failed m ≡ plane → failed ≡ false → (plane.view.failed ≡ false → CanAttach plane.view a) → CanAttach (view_of m) a
+can_inside blank failed m plane a same unfailed can =
+    let inside : CanAttach (record (view_of m) { failed = failed }) a = subst (λ (p : Plane). p.view.failed ≡ false → CanAttach p.view a) (sym same) can unfailed in
+    record { attachment = inside.attachment; agrees = inside.agrees; few_isids = inside.few_isids }
+
+pub attached_inside : (blank failed : Bool) (m : Machine) (plane : Plane) (port : ℕ) → plane_of blank failed m ≡ plane → failed ≡ false → (plane.view.failed ≡ false → IsAttachedPort plane.view port) → IsAttachedPort (view_of m) port
+attached_inside blank failed m plane port same unfailed is = subst (λ (p : Plane). p.view.failed ≡ false → IsAttachedPort p.view port) (sym same) is unfailed

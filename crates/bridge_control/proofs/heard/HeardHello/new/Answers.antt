@@ -1,0 +1,6 @@
+use Rattle.std.proofs.Common.{ap, ◌∙◌}
+use Rattle.bridge_api.specs.Parsing.{parsed}
+use Rattle.bridge_control.proofs.heard.HeardHello.new.Goals as goal
+
+pub invariant_of-result : goal.invariant_of-result
+invariant_of-result c = record { tlvs = c.args.hello.now.tlvs.now; brings = ap parsed c.in_ok-frame.ensures.items ∙ c.requires }

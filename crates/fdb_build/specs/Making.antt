@@ -1,0 +1,152 @@
+-- How group rows are made: the members of each service of a VID, the ports behind `me` on the tree of each source, and
+-- rows to which ports are added.
+use Rattle.std.specs.Prelude.{◌≡◌, ℕ, List, [], map, Bool, true, false, ◌&&◌, ◌||◌, ◌==◌, ◌<◌, ◌^◌, Option, Some, None, unwrap_or, option_and_then, position, bit_or}
+use Rattle.std.specs.List.{list_any, slice_index_or}
+use Rattle.std.specs.BTreeMap.{BTreeMap, get}
+use Rattle.std.specs.Str.{bytes_eq}
+use Rattle.std.specs.Ordering.{nat_cmp}
+use Rattle.std.specs.declared.cmp.Ordering.{Ordering}
+use Rattle.std.specs.Global.{Vec}
+use Rattle.spb_types.specs.Address.{same_system, group_address}
+use Rattle.spb_types.specs.Ect.{mask_of}
+use Rattle.spb_types.specs.Graph.{port_between}
+use Rattle.spb_types.specs.Ports.{has, no_ports, with_port}
+use Rattle.spb_types.specs.declared.address.Mac.{Mac}
+use Rattle.spb_types.specs.declared.address.SystemId.{SystemId}
+use Rattle.spb_types.specs.declared.graph.Graph.{Graph}
+use Rattle.spb_types.specs.declared.graph.GraphBridge.{GraphBridge}
+use Rattle.spb_types.specs.declared.graph.Member.{Member}
+use Rattle.spb_types.specs.declared.ports.PortSet.{PortSet}
+use Rattle.spb_types.specs.declared.service.Isid.{Isid}
+use Rattle.spb_types.specs.declared.service.Vid.{Vid}
+use Rattle.spb_types.specs.declared.service.VidPlan.{VidPlan}
+use Rattle.spb_types.specs.declared.tables.GroupRow.{GroupRow}
+use Rattle.spb_types.specs.declared.tables.Path.{Path}
+use Rattle.ect_trees.specs.Tree.{Paths, path_in}
+use Rattle.fdb_build.specs.Tables.{mac_cmp, system_cmp}
+use Rattle.fdb_build.specs.Groups.{after_in, port_after, is_member}
+use Rattle.fdb_build.specs.declared.services.Services.{Services}
+
+-- ---- sets of ports
+
+-- the ports of either set
+abbrev pub union : PortSet → PortSet → PortSet
+union s t = record { bits = bit_or s.bits t.bits }
+
+-- the set of a port, if there is one
+abbrev pub port_set : Option ℕ → PortSet
+port_set None = no_ports
+port_set (Some p) = with_port no_ports p
+
+-- the set at a place, empty past the last
+abbrev pub set_at : List PortSet → ℕ → PortSet
+set_at sets place = slice_index_or sets place no_ports
+
+-- whether the port is in the set of one of these places
+abbrev pub is_towards : List PortSet → List ℕ → ℕ → Bool
+is_towards sets places p = list_any (λ place. has (set_at sets place) p) places
+
+-- ---- the members of services
+
+-- I-SIDs compare as numbers
+abbrev pub isid_cmp : Isid → Isid → Ordering
+isid_cmp x y = nat_cmp x.value y.value
+
+abbrev pub items_in : {V : Type 0} → Option (Vec V) → List V
+items_in None = []
+items_in (Some v) = v.items
+
+-- the list that a map has for a key, empty where it has none
+abbrev pub list_at : {K V : Type 0} → (K → K → Ordering) → BTreeMap K (Vec V) → K → List V
+list_at cmp m k = items_in (get cmp m k)
+
+abbrev pub same_isid : Isid → Isid → Bool
+same_isid x y = y.value == x.value
+
+abbrev pub same_place : ℕ → ℕ → Bool
+same_place x y = y == x
+
+-- the place of the first bridge with this system id
+abbrev pub place_of : Graph → SystemId → Option ℕ
+place_of g x = position (λ b. same_system b.id.system x) g.bridges
+
+abbrev pub is_at : ℕ → Option ℕ → Bool
+is_at place None = false
+is_at place (Some p) = p == place
+
+-- whether a member is in this service and VID, and its bridge stands at this place
+abbrev pub is_member_at : Graph → Isid → Vid → ℕ → Member → Bool
+is_member_at g isid vid place m =
+    is_at place (place_of g m.system) && ((m.isid.value == isid.value) && (m.vid.value == vid.value))
+
+-- whether one of these members sends from this system to this service
+abbrev pub sends_among : List Member → Vid → SystemId → Isid → Bool
+sends_among ms vid x isid = list_any (is_member isid vid x) ms
+
+-- whether one of these members receives from this service at the bridge of this place
+abbrev pub receives_among : Graph → List Member → Vid → Isid → ℕ → Bool
+receives_among g ms vid isid place = list_any (is_member_at g isid vid place) ms
+
+-- a member was added to the services in a VID, if it is in that VID
+pub record Added (g : Graph) (vid : Vid) (m : Member) (old new : Services) : Type 0 where
+  pub sends : (x : SystemId) (isid : Isid) → list_any (same_isid isid) (list_at system_cmp new.sends x)
+      ≡ (list_any (same_isid isid) (list_at system_cmp old.sends x) || is_member isid vid x m)
+  pub receives : (isid : Isid) (place : ℕ) → list_any (same_place place) (list_at isid_cmp new.receivers isid)
+      ≡ (list_any (same_place place) (list_at isid_cmp old.receivers isid) || is_member_at g isid vid place m)
+
+-- the services in a VID of these members
+pub record AreServicesOf (g : Graph) (ms : List Member) (vid : Vid) (s : Services) : Type 0 where
+  pub sends : (x : SystemId) (isid : Isid)
+      → list_any (same_isid isid) (list_at system_cmp s.sends x) ≡ sends_among ms vid x isid
+  pub receives : (isid : Isid) (place : ℕ)
+      → list_any (same_place place) (list_at isid_cmp s.receivers isid) ≡ receives_among g ms vid isid place
+
+-- ---- the ports behind `me`
+
+-- the port of `me` to the bridge that follows it on a path
+abbrev pub port_along : Graph → SystemId → Option Path → Option ℕ
+port_along g me path = option_and_then (λ next. port_between g me next)
+    (option_and_then (λ p. after_in me p.bridges) path)
+
+-- the sets of the ports behind `me` on the paths of a tree, by place of the bridge where each path ends
+abbrev pub sets_in : Graph → SystemId → Paths → List PortSet
+sets_in g me tree = map (λ b. port_set (port_along g me (path_in tree.paths b.id.system))) g.bridges
+
+-- the same on the best paths from a source
+abbrev pub sets_from : Graph → SystemId → VidPlan → SystemId → List PortSet
+sets_from g me plan source =
+    map (λ b. port_set (port_after g (mask_of plan.ect) source b.id.system me)) g.bridges
+
+-- ---- rows that grow
+
+-- the ports that rows have for an address
+abbrev pub ports_at : BTreeMap Mac PortSet → Mac → PortSet
+ports_at rows mac = unwrap_or (get mac_cmp rows mac) no_ports
+
+abbrev pub same_mac : Mac → Mac → Bool
+same_mac x y = bytes_eq x.bytes y.bytes
+
+-- each row has a port, and its set 32 bits
+abbrev pub AreFilled : BTreeMap Mac PortSet → Type 0
+AreFilled rows = (mac : Mac) (s : PortSet) → get mac_cmp rows mac ≡ Some s
+    → ((p : ℕ) × (has s p ≡ true)) × (s.bits < 2 ^ 32)
+
+-- rows got just the ports that pass a test
+pub record Grew (old new : BTreeMap Mac PortSet) (test : Mac → ℕ → Bool) : Type 0 where
+  pub ports : (mac : Mac) (p : ℕ) → has (ports_at new mac) p ≡ (has (ports_at old mac) p || test mac p)
+  pub filled : AreFilled old → AreFilled new
+
+-- whether a source sends on by the port to the address, for one of the services with these I-SIDs
+abbrev pub is_from : Services → GraphBridge → List PortSet → List Isid → Mac → ℕ → Bool
+is_from s source sets isids mac p = list_any (λ isid.
+    same_mac mac (group_address source.source.value isid.value)
+    && is_towards sets (list_at isid_cmp s.receivers isid) p) isids
+
+-- whether one of these bridges does, for one of the services to which it sends
+abbrev pub is_from_some : Graph → SystemId → VidPlan → Services → List GraphBridge → Mac → ℕ → Bool
+is_from_some g me plan s sources mac p = list_any (λ b.
+    is_from s b (sets_from g me plan b.id.system) (list_at system_cmp s.sends b.id.system) mac p) sources
+
+-- a row of a VID
+abbrev pub row_of : Vid → Mac × PortSet → GroupRow
+row_of vid e = record { vid = vid; mac = e.0; ports = e.1 }

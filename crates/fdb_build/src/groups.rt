@@ -1,0 +1,160 @@
+//! The group rows of a bridge.
+ghost use Rattle.std.specs.Prelude.{◌≡◌, ◌≤◌, ◌++◌, ◌&&◌, map, OnOk, IfOk};
+ghost use Rattle.std.specs.List.{flat_map, AllByRecursion};
+ghost use Rattle.std.specs.BTreeMap.{IsOrdered};
+ghost use Rattle.spb_types.specs.Ports.{has};
+ghost use Rattle.fdb_build.specs.Tables.{mac_cmp, system_cmp};
+ghost use Rattle.fdb_build.specs.Groups as groups;
+ghost use Rattle.fdb_build.specs.Making as making;
+ghost use Rattle.fdb_build.specs.Surroundings.{AreKnown};
+
+use crate::services::Services;
+use crate::sets::{sets_from, union};
+use crate::surroundings::Surroundings;
+use spb_types::limits::GREATEST_ECT;
+use spb_types::{
+    GraphBridge, GroupRow, Isid, Mac, NoMemory, PortSet, SourceId, Vid, VidPlan, group_address,
+};
+use std::alloc::Global;
+use std::collections::BTreeMap;
+
+/// The ports that rows have for an address.
+fn ports_at(rows: &BTreeMap<Mac, PortSet>, mac: Mac) -> PortSet
+    ensures { result ≡ making.ports_at rows.now mac }
+{
+    match rows.get(&mac) {
+        None => PortSet::none(),
+        Some(ports) => *ports,
+    }
+}
+
+/// Adds ports to the row for an address.
+fn add_ports(rows: &mut BTreeMap<Mac, PortSet>, mac: Mac, ports: PortSet) -> Result<(), NoMemory>
+    ensures { OnOk result (making.Grew rows.old rows.new (λ q p. making.same_mac q mac && has ports p)) }
+{
+    if ports.bits == 0 {
+        return Ok(());
+    }
+    let more = union(ports_at(rows, mac), ports);
+    rows.insert(mac, more)?;
+    Ok(())
+}
+
+/// Adds the ports behind `me` on the tree of a source, for the services to which it sends.
+fn add_services(
+    rows: &mut BTreeMap<Mac, PortSet>,
+    services: &Services,
+    source: GraphBridge,
+    sets: &[PortSet],
+    isids: &[Isid],
+) -> Result<(), NoMemory>
+    ensures { OnOk result
+        (making.Grew rows.old rows.new (making.is_from services.now source sets.now isids.now)) }
+{
+    for isid in isids {
+        let ports = services.ports_to(*isid, sets);
+        add_ports(rows, group_address(source.source, *isid), ports)?;
+    }
+    Ok(())
+}
+
+/// Adds the ports for the services to which a bridge sends, if it does to some. Only then is its tree made.
+fn add_source(
+    alloc: Global,
+    rows: &mut BTreeMap<Mac, PortSet>,
+    around: &Surroundings<'_>,
+    plan: VidPlan,
+    services: &Services,
+    source: GraphBridge,
+) -> Result<(), NoMemory>
+    requires known { AreKnown around.now }
+    requires low { 1 ≤ plan.ect }
+    requires high { plan.ect ≤ GREATEST_ECT }
+    ensures { OnOk result (making.Grew rows.old rows.new (making.is_from services.now source
+        (making.sets_from around.now.roads.now around.now.me plan source.id.system)
+        (making.list_at system_cmp services.now.sends source.id.system))) }
+{
+    match services.sends.get(&source.id.system) {
+        None => Ok(()),
+        Some(isids) => {
+            let sets = sets_from(alloc, around, plan, source.id.system)?;
+            add_services(rows, services, source, sets.as_slice(), isids.as_slice())
+        }
+    }
+}
+
+/// Adds the ports for each source.
+fn add_sources(
+    alloc: Global,
+    rows: &mut BTreeMap<Mac, PortSet>,
+    around: &Surroundings<'_>,
+    plan: VidPlan,
+    services: &Services,
+) -> Result<(), NoMemory>
+    requires known { AreKnown around.now }
+    requires low { 1 ≤ plan.ect }
+    requires high { plan.ect ≤ GREATEST_ECT }
+    ensures { OnOk result (making.Grew rows.old rows.new (making.is_from_some around.now.roads.now around.now.me
+        plan services.now around.now.roads.now.bridges)) }
+{
+    for source in around.roads.graph().bridges.as_slice() {
+        add_source(alloc, rows, around, plan, services, *source)?;
+    }
+    Ok(())
+}
+
+/// Puts the rows of a VID behind the others, by ascending address.
+fn put_rows(
+    rows: &mut Vec<GroupRow>,
+    vid: Vid,
+    of_vid: &BTreeMap<Mac, PortSet>,
+) -> Result<(), NoMemory>
+    ensures rows { OnOk result (rows.new.items ≡ rows.old.items ++ map (making.row_of vid) of_vid.now.entries) }
+    ensures ordered { OnOk result (IsOrdered mac_cmp of_vid.now) }
+{
+    for (mac, ports) in of_vid {
+        rows.push(GroupRow {
+            vid,
+            mac: *mac,
+            ports: *ports,
+        })?;
+    }
+    Ok(())
+}
+
+/// Puts the group rows for a VID behind the others, by ascending address.
+fn push_groups(
+    alloc: Global,
+    rows: &mut Vec<GroupRow>,
+    around: &Surroundings<'_>,
+    plan: VidPlan,
+) -> Result<(), NoMemory>
+    requires known { AreKnown around.now }
+    requires low { 1 ≤ plan.ect }
+    requires high { plan.ect ≤ GREATEST_ECT }
+    ensures { OnOk result
+        (rows.new.items ≡ rows.old.items ++ groups.group_rows_of_vid around.now.roads.now around.now.me plan) }
+{
+    let services = Services::new(alloc, around, plan.vid)?;
+    let mut of_vid = BTreeMap::new(alloc);
+    add_sources(alloc, &mut of_vid, around, plan, &services)?;
+    put_rows(rows, plan.vid, &of_vid)
+}
+
+/// The group rows for each of the plans, in order.
+pub fn groups_of(
+    alloc: Global,
+    around: &Surroundings<'_>,
+    plans: &[VidPlan],
+) -> Result<Vec<GroupRow>, NoMemory>
+    requires known { AreKnown around.now }
+    requires ects { AllByRecursion (λ p. (1 ≤ p.ect) × (p.ect ≤ GREATEST_ECT)) plans.now }
+    ensures { IfOk result (λ rows.
+        rows.items ≡ flat_map (groups.group_rows_of_vid around.now.roads.now around.now.me) plans.now) }
+{
+    let mut rows = Vec::new(alloc);
+    for plan in plans {
+        push_groups(alloc, &mut rows, around, *plan)?;
+    }
+    Ok(rows)
+}

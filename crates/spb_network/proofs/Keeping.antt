@@ -1,0 +1,62 @@
+-- What a network keeps of the conditions of quiet stays so.
+use Rattle.std.proofs.Common.{Result, Ok, Err, OnOk, ◌≡◌, ℕ, true, None, Some, refl, sym, ◌∙◌, true≢false}
+use Rattle.std.proofs.lemmas.Option.{same_Some}
+use Rattle.scenario.specs.declared.command.Command.{Command}
+use Rattle.scenario.specs.declared.command.Command.TheVariants as command
+use Rattle.spb_network.specs.declared.quiet.Conditions.{Conditions}
+use Rattle.spb_network.specs.State.{State}
+use Rattle.spb_network.specs.Play.{played}
+use Rattle.spb_network.specs.Questions.{is_question}
+use Rattle.spb_network.specs.Quiet.{holds_q1, holds_q2, holds_q3, holds_q4, failing}
+use Rattle.spb_network.specs.Quieting.{conditions_of, numbers_of}
+
+-- the count of commands has no part in the conditions
+pub counted_conditions : (s : State) (n : ℕ) → conditions_of (record s { accepted = n }) ≡ conditions_of s
+unfolding holds_q1 holds_q2 holds_q3 holds_q4
+counted_conditions s n = refl
+
+-- the conditions one by one
+pub conditions_found : (s : State) (c : Conditions) → c.links ≡ holds_q1 s → c.lanes ≡ holds_q2 s → c.flags ≡ holds_q3 s → c.bodies ≡ holds_q4 s → c ≡ conditions_of s
+conditions_found s c q1 q2 q3 q4 = λ i. record { links = q1 i; lanes = q2 i; flags = q3 i; bodies = q4 i }
+
+pub failing_is : (s : State) → numbers_of (conditions_of s) ≡ failing s
+unfolding failing
+failing_is s = refl
+
+-- a question changes nothing
+pub question_plays : (s : State) (c : Command) → is_question c ≡ true → played s c ≡ s
+question_plays s command.State h = refl
+question_plays s (command.Show name) h = refl
+question_plays s (command.Wiring name) h = refl
+question_plays s (command.Db name) h = refl
+question_plays s (command.Adj name) h = refl
+question_plays s (command.Vid vid ect) h = absurd (true≢false (sym h))
+question_plays s (command.Bridge name priority system source ports) h = absurd (true≢false (sym h))
+question_plays s (command.Link name a port_a b port_b cost) h = absurd (true≢false (sym h))
+question_plays s (command.Isid isid vid) h = absurd (true≢false (sym h))
+question_plays s (command.Attach name port isid) h = absurd (true≢false (sym h))
+question_plays s (command.Detach name port) h = absurd (true≢false (sym h))
+question_plays s (command.Metric name side m) h = absurd (true≢false (sym h))
+question_plays s (command.Down name) h = absurd (true≢false (sym h))
+question_plays s (command.Up name) h = absurd (true≢false (sym h))
+question_plays s (command.Restart name) h = absurd (true≢false (sym h))
+question_plays s (command.Tick name) h = absurd (true≢false (sym h))
+question_plays s (command.Deliver name dir) h = absurd (true≢false (sym h))
+question_plays s (command.Lose name dir place) h = absurd (true≢false (sym h))
+question_plays s (command.Double name dir place) h = absurd (true≢false (sym h))
+question_plays s (command.Round n) h = absurd (true≢false (sym h))
+question_plays s (command.Drain n) h = absurd (true≢false (sym h))
+question_plays s (command.Frame name port bytes) h = absurd (true≢false (sym h))
+question_plays s (command.Path a b vid) h = absurd (true≢false (sym h))
+
+-- what holds anyway holds where a result is Ok
+pub on_ok : {T E P : Type 0} (r : Result T E) → P → OnOk r P
+on_ok (Ok x) p = p
+on_ok (Err e) p = tt
+
+-- where nothing is kept, what is kept is so
+pub none_kept : (s : State) (kept : Conditions) → None ≡ Some kept → kept ≡ conditions_of s
+none_kept s kept is = cc
+
+pub found_kept : (s : State) (found : Conditions) → found ≡ conditions_of s → (kept : Conditions) → Some found ≡ Some kept → kept ≡ conditions_of s
+found_kept s found so kept is = sym (same_Some found kept is) ∙ so
