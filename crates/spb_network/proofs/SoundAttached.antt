@@ -1,6 +1,6 @@
 -- What is attached to each bridge is what is attached in the world.
 use Rattle.std.specs.Prelude.{Bool, true, false, ◌≡◌}
-use Rattle.std.proofs.Common.{inl, inr, ℕ, List, ap, refl, absurd, cc, ◌∙◌}
+use Rattle.std.proofs.Common.{inl, inr, ℕ, List, ap, refl, ◌∙◌}
 use Rattle.spb_types.specs.declared.service.Attachment.{Attachment}
 use Rattle.bridge_api.specs.View.{BridgeView}
 use Rattle.bridge_api.specs.Step.{Input, second, frame, carrier, metric, attach, detach, step}
