@@ -96,8 +96,7 @@ cut_says_nothing v g few own valid =
     let list : Contents = contents_of v in
     let apart : IsDistinct (systems_in list) = reads_each_once v in
     let all : HasAllLinks list (said_graph list) = said_graph_has_all_links list apart few in
-    let look = part_looks_alike (said_graph list) g v.id.system (is_part list v.id.system g apart all own) in
-    (
+    let look = part_looks_alike (said_graph list) g v.id.system (is_part list v.id.system g apart all own) in (
       sym (same_rows (said_graph list) g v.id.system v.vids all.valid valid look),
       sym (same_groups (said_graph list) g v.id.system v.vids all.valid valid look),
     )
