@@ -9,7 +9,10 @@ use crate::PlainBridge;
 use adjacency::AdjState;
 use bridge_api::{Bridge, BridgeConfig, Kind, Outbox};
 use lsdb::{DbRow, Version};
-use spb_types::{BridgeId, Mac, NoMemory, Seq, SourceId, SystemId, UnicastRow, Vid, VidPlan};
+use spb_types::{
+    BridgeId, Isid, Mac, NoMemory, PortSet, Seq, SourceId, SystemId, UnicastRow, Vid, VidPlan,
+    group_address,
+};
 use std::alloc::Global;
 use std::test::Fail;
 
@@ -331,6 +334,44 @@ fn two_boxes_show_each_other_in_their_tables(rt: HostRuntime) -> Result<(), Fail
     assert_eq!(rt; a.unicast_port(vid, mac)?, Some(1));
     assert_eq!(rt; a.unicast_port(Vid { value: 20 }, mac)?, None);
     assert_eq!(rt; b.unicast_port(vid, mac)?, None);
+    Ok(())
+}
+
+#[test]
+fn a_box_tells_its_paths_and_no_group_ports_without_members(rt: HostRuntime) -> Result<(), Fail> {
+    let alloc = rt.alloc();
+    let mut a: Box<dyn Bridge> = Box::new(alloc, PlainBridge::blank(alloc))?;
+    make_of(&mut a, &config_in_vid_10(alloc, 1)?)?;
+    let mut b: Box<dyn Bridge> = Box::new(alloc, PlainBridge::blank(alloc))?;
+    make_of(&mut b, &config_in_vid_10(alloc, 2)?)?;
+    let vid = Vid { value: 10 };
+    let me = SystemId {
+        mac: Mac {
+            bytes: [2, 0, 0, 0, 0, 1],
+        },
+    };
+    let to = SystemId {
+        mac: Mac {
+            bytes: [2, 0, 0, 0, 0, 2],
+        },
+    };
+    assert!(rt; a.path(to, vid)?.is_none());
+    greet(alloc, &mut a, &mut b)?;
+    greet(alloc, &mut b, &mut a)?;
+    greet(alloc, &mut a, &mut b)?;
+    greet(alloc, &mut b, &mut a)?;
+    greet(alloc, &mut a, &mut b)?;
+    match a.path(to, vid)? {
+        Some(path) => assert_eq!(rt; (path.cost, path.bridges.len()), (10, 2)),
+        None => panic!(rt; "no path"),
+    }
+    match a.path(me, vid)? {
+        Some(path) => assert_eq!(rt; (path.cost, path.bridges.len()), (0, 1)),
+        None => panic!(rt; "no path to itself"),
+    }
+    assert!(rt; a.path(to, Vid { value: 20 })?.is_none());
+    let group = group_address(SourceId { value: 2 }, Isid { value: 100 });
+    assert_eq!(rt; a.group_ports(vid, group)?, PortSet::none());
     Ok(())
 }
 
