@@ -12,10 +12,10 @@ use Rattle.lsdb.specs.Database.{Lsps}
 use Rattle.flooding.specs.declared.own.Own.{Own}
 use Rattle.adjacency.specs.declared.port.Adjacency.{Adjacency}
 use Rattle.adjacency.specs.States.{state_number}
-use Rattle.adjacency.specs.Adjacency.{is_up, is_down, kept_in, down, after_second}
+use Rattle.adjacency.specs.Adjacency.{is_up, is_down, kept_in, down}
 use Rattle.bridge_api.specs.declared.port.BridgePort.{BridgePort}
-use Rattle.bridge_api.specs.View.{BridgeView, IsPort, port_at, is_port_up, up_from, with_port_at}
-use Rattle.bridge_api.specs.Own.{neighbour_in, neighbours_from}
+use Rattle.bridge_api.specs.View.{up_from}
+use Rattle.bridge_api.specs.Own.{neighbours_from}
 use Rattle.bridge_api.specs.Hearing.{with_csnp_due}
 use Rattle.bridge_api.specs.Ticking.{hello_tlvs, hello_frame, later}
 use Rattle.bridge_control.specs.declared.machine.Machine.{Machine}

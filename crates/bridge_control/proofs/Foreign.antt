@@ -17,7 +17,6 @@ use Rattle.flooding.specs.Hearing.{Holding, claim_of, lsp_rule, is_beyond, lacks
 use Rattle.flooding.specs.Placing.{holding}
 use Rattle.flooding.proofs.Heard.{Rule}
 use Rattle.flooding.proofs.Claimed.{heard_of, others_stand}
-use Rattle.bridge_api.specs.View.{BridgeView}
 use Rattle.bridge_api.specs.Own.{originated_if_changed}
 use Rattle.bridge_control.specs.declared.machine.Machine.{Machine}
 use Rattle.bridge_control.specs.Machine.{view_of, IsReady}

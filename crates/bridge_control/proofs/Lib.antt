@@ -16,3 +16,4 @@ pub mod OwnTables
 pub mod Anew
 pub mod Tlvless
 pub mod Telling
+pub mod Copies

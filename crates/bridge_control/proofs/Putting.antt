@@ -2,7 +2,6 @@
 use Rattle.std.proofs.Common.{◌≡◌, ◌≤◌, ◌<◌, ◌-◌, ◌+◌, ℕ, zero, suc, Bool, true, false, List, [], ◌∷◌, length, refl, sym, ap, ◌∙◌, subst, Some, arith}
 use Rattle.std.specs.Prelude.{slice_get, slice_set, not, ◌&&◌, if◌then◌else◌}
 use Rattle.std.specs.List.{AllByRecursion}
-use Rattle.std.specs.Global.{Vec}
 use Rattle.std.proofs.lemmas.List.{length-set, set-set}
 use Rattle.std.proofs.lemmas.Bool.{le-leb}
 use Rattle.spb_types.specs.declared.address.SystemId.{SystemId}
@@ -22,7 +21,7 @@ use Rattle.adjacency.specs.Hearing.{End, same_end, is_discarded}
 use Rattle.adjacency.specs.Adjacency.{is_up, after_hello_heard, after_hello, after_carrier, change_of, change_by_hello}
 use Rattle.bridge_api.specs.declared.port.BridgePort.{BridgePort}
 use Rattle.bridge_api.specs.View.{BridgeView, IsPort, port_in, port_at, with_port_at, is_port_up, has_carrier_in, has_carrier_at}
-use Rattle.bridge_api.specs.Own.{neighbour_in, neighbours_from, local_of, body_of, own_of, originated_if_changed}
+use Rattle.bridge_api.specs.Own.{neighbour_in, neighbours_from, local_of, own_of, originated_if_changed}
 use Rattle.bridge_api.specs.Config.{IsMetric}
 use Rattle.bridge_api.specs.Hearing.{with_adjacency, with_csnp_due, left_up, all_srm_set_at, entered_up, changed_at, with_carrier, with_port_metric, with_metric}
 use Rattle.bridge_api.specs.Laws.{IsSoundPort}

@@ -1,10 +1,9 @@
 -- A second of a machine.
 use Rattle.std.proofs.Common.{◌≡◌, ◌≤◌, ◌+◌, ◌-◌, ℕ, Bool, true, false, List, [], ◌∷◌, map, length, refl, sym, ap, ◌∙◌, subst, Option, Some, None, arith}
-use Rattle.std.specs.Prelude.{not, ◌&&◌, ◌||◌, if◌then◌else◌}
+use Rattle.std.specs.Prelude.{◌||◌, if◌then◌else◌}
 use Rattle.std.specs.Global.{Vec}
 use Rattle.std.proofs.lemmas.List.{length-map}
 use Rattle.std.proofs.lemmas.Slice.Eq.{bytes_eq-Decides}
-use Rattle.spb_types.specs.declared.address.SystemId.{SystemId}
 use Rattle.spb_types.specs.declared.ports.PortSet.{PortSet}
 use Rattle.spb_tlvs.specs.declared.neighbours.Neighbour.{Neighbour}
 use Rattle.lsdb.specs.declared.version.Version.{Version}
@@ -15,18 +14,14 @@ use Rattle.lsdb.specs.Time.{lifetime_in, is_live}
 use Rattle.flooding.specs.declared.own.Own.{Own}
 use Rattle.flooding.specs.Own.{own_id}
 use Rattle.spb_content.specs.Local.{IsLocal}
-use Rattle.adjacency.specs.declared.port.Adjacency.{Adjacency}
-use Rattle.adjacency.specs.Hearing.{End}
-use Rattle.adjacency.specs.declared.state.AdjState.{AdjState}
-use Rattle.adjacency.specs.declared.state.AdjState.TheVariants.{Down, Initializing, Up}
-use Rattle.adjacency.specs.Adjacency.{is_up, kept_in, neighbour_of, after_second}
+use Rattle.adjacency.specs.Adjacency.{is_up}
 use Rattle.flooding.specs.Entries.{AreSendable}
 use Rattle.snp_sync.specs.Sized.{AreSized}
 use Rattle.bridge_api.specs.declared.port.BridgePort.{BridgePort}
 use Rattle.bridge_api.specs.View.{BridgeView, is_port_up, up_from, up_ports}
 use Rattle.bridge_api.specs.Own.{neighbour_in, neighbours_from, local_of, body_of, own_of, own_entry, body_in, is_said, Lasts, IsAlive}
 use Rattle.bridge_api.specs.Hearing.{with_csnp_due}
-use Rattle.bridge_api.specs.Ticking.{later, leaves, leaving_from, flags_cleared_at_all, counts_lowered, expired, readied, after_sending, after_sending_from, sent_from, after_tick, sent_in_tick}
+use Rattle.bridge_api.specs.Ticking.{later, leaving_from, flags_cleared_at_all, counts_lowered, expired, readied, after_sending, after_sending_from, sent_from, after_tick, sent_in_tick}
 use Rattle.bridge_api.specs.Laws.{IsSoundView}
 use Rattle.bridge_api.specs.Time.{IsLasting}
 use Rattle.bridge_api.proofs.Changes.{tick_is, readied_ports}

@@ -1,7 +1,8 @@
 -- What is sent at a port.
-use Rattle.std.proofs.Common.{◌≡◌, ◌≤◌, ◌<◌, ◌+◌, ℕ, zero, suc, Bool, true, false, List, [], ◌∷◌, ◌++◌, map, length, take, get_or, refl, sym, ap, ◌∙◌, subst, arith, append_assoc}
+use Rattle.std.proofs.Common.{◌≡◌, ◌≤◌, ◌<◌, ◌+◌, ℕ, zero, suc, Bool, true, false, List, [], ◌∷◌, ◌++◌, map, length, take, get_or, refl, sym, ap, ◌∙◌, subst, Option, arith, append_assoc}
 use Rattle.std.specs.Prelude.{◌==◌, if◌then◌else◌}
 use Rattle.std.specs.List.{AllByRecursion}
+use Rattle.std.specs.FinMap.{entries}
 use Rattle.std.specs.Global.{Vec}
 use Rattle.std.proofs.lemmas.List.{append-nil}
 use Rattle.spb_types.specs.declared.address.SystemId.{SystemId}
@@ -39,6 +40,8 @@ use Rattle.bridge_api.specs.Ticking.{hello_frame, lsp_frame, csnp_frame, psnp_fr
 use Rattle.bridge_control.proofs.Wire.{ports_next, after_sending_next}
 use Rattle.bridge_api.proofs.Spelled.{lsp_short, csnp_short, psnp_short, chunk_short}
 use Rattle.bridge_control.specs.Frames.{hello_if, frames_of, flagged_at}
+use Rattle.bridge_control.specs.Made.{AreMadeOf}
+use Rattle.bridge_control.proofs.Copies.{after_sending_frames}
 
 -- ---- how long PDUs are
 
@@ -192,17 +195,18 @@ after_sending_ssn p port db q low high none =
 
 -- ---- the ports so far
 
-pub record Sending (system : SystemId) (ports : List BridgePort) (db : Lsps) (o : Outbox) (i : ℕ) (srm ssn : PortSet) (now : Lsps) (new : Outbox) : Type 0 where
+pub record Sending (system : SystemId) (ports : List BridgePort) (db : Lsps) (o : Outbox) (i : ℕ) (srm ssn : PortSet) (frames : List (Option (List ℕ))) (now : Lsps) (new : Outbox) : Type 0 where
   pub sent : new ≡ with_wire (sent_from system 1 (take i ports) db) o
   pub after_sending : now ≡ after_sending_from 1 (take i ports) db
   pub sendable : AreSendable now
   pub sized : AreSized now
   pub no_srm : (q : ℕ) → has srm q ≡ false → is_srm_at q now ≡ false
   pub no_ssn : (q : ℕ) → has ssn q ≡ false → is_ssn_at q now ≡ false
+  pub made : AreMadeOf system (entries now) frames
 
-pub sending_next : (system : SystemId) (ports : List BridgePort) (db : Lsps) (o : Outbox) (i : ℕ) (d : BridgePort) (srm ssn : PortSet) (now then_db : Lsps) (mid new : Outbox) → length ports ≤ 32 → i < length ports → Sending system ports db o i srm ssn now mid
-    → new ≡ with_wire (sent_at system (i + 1) (get_or ports i d) now) mid → then_db ≡ after_sending_at (i + 1) (get_or ports i d) now → Sending system ports db o (i + 1) srm ssn then_db new
-sending_next system ports db o i d srm ssn now then_db mid new few within was sent after_sending = record {
+pub sending_next : (system : SystemId) (ports : List BridgePort) (db : Lsps) (o : Outbox) (i : ℕ) (d : BridgePort) (srm ssn : PortSet) (frames : List (Option (List ℕ))) (now then_db : Lsps) (mid new : Outbox) → length ports ≤ 32 → i < length ports → Sending system ports db o i srm ssn frames now mid
+    → new ≡ with_wire (sent_at system (i + 1) (get_or ports i d) now) mid → then_db ≡ after_sending_at (i + 1) (get_or ports i d) now → Sending system ports db o (i + 1) srm ssn frames then_db new
+sending_next system ports db o i d srm ssn frames now then_db mid new few within was sent after_sending = record {
   sent = ports_next system ports db now i d o mid new within was.sent was.after_sending sent;
   after_sending = after_sending_next ports db now then_db i d within was.after_sending after_sending;
   sendable = subst AreSendable (sym after_sending) (after_sending_sendable (i + 1) (get_or ports i d) now was.sendable);
@@ -210,4 +214,5 @@ sending_next system ports db o i d srm ssn now then_db mid new few within was se
   no_srm = λ q none. subst (λ (x : Lsps). is_srm_at q x ≡ false) (sym after_sending) (after_sending_srm (i + 1) (get_or ports i d) now q (was.no_srm q none));
   no_ssn = λ q none. subst (λ (x : Lsps). is_ssn_at q x ≡ false) (sym after_sending)
       (after_sending_ssn (i + 1) (get_or ports i d) now q (omega arith) (omega (arith, few, within)) (was.no_ssn q none));
+  made = subst (λ (x : Lsps). AreMadeOf system (entries x) frames) (sym after_sending) (after_sending_frames system (i + 1) (get_or ports i d) now frames was.made);
 }

@@ -5,7 +5,7 @@
 //! [`ControlPlane`] is a `Machine` with two marks: whether it is blank, and whether a call found no memory. What the
 //! machine makes of a frame stands in `hearing`, of a change at a port in `changing`, of a customer port that is attached
 //! or detached in `attaching`, and of a second in `ticking`; what a frame brings in `parsing`, and in `heard` for the
-//! hello that came last to a port; what is sent in `hello` and `sending`, and the tables in `reading`.
+//! hello that came last to a port; what is sent in `hello`, `made` and `sending`, and the tables in `reading`.
 //!
 //! # A kind of bridge
 //!
@@ -23,18 +23,19 @@
 //!
 //! - The body of the own LSP is kept. It is made anew, in time and memory of order p + b and for sorting what is
 //!   attached, where a port comes Up or leaves Up, where any neighbour is lost, where the metric of an Up port is set,
-//!   even to what it was, and where a customer port is attached or detached; no other call makes it. A call that made it anew, and one that hears an LSP of the bridge
-//!   itself or a sequence numbers PDU, compares it with the one that is held: a binary search, and b bytes. Originating
-//!   takes time and memory of order b.
+//!   even to what it was, and where a customer port is attached or detached; no other call makes it. A call that made it
+//!   anew, and one that hears an LSP of the bridge itself or a sequence numbers PDU, compares it with the one that is
+//!   held: a binary search, and b bytes. Originating takes time and memory of order b.
 //! - The hello of each port is kept as a frame, and so is the set of the Up ports. A hello is made anew where the state,
 //!   the neighbour or its circuit changes at its port, in constant time and with memory for a few short vectors; the set
 //!   then goes over the ports once. Where a neighbour is lost in a second, the hellos of all ports are made anew.
 //! - A tick in which no flags stand and no neighbour is lost goes three times over the ports and once over the database,
 //!   looks up the own LSP by a binary search, and compares no body, in time p + n. For each hello it takes memory once,
 //!   and copies the frame that is kept. Where flags stand or the bridge originated, it also goes over the database twice
-//!   to find the ports with SRM and those with SSN; once for each Up port with SRM, for the LSPs to be sent; and twice
-//!   for each Up port with SSN, for the entries and to clear these. It goes over the database once for each port at which
-//!   CSNPs are due and for each at which a neighbour is lost. Memory is taken for what is sent.
+//!   to find the ports with SRM and those with SSN; once to make the frames of the LSPs with SRM, which it keeps for this
+//!   second; once for each Up port with SRM, to copy the frames of those to be sent there; and twice for each Up port
+//!   with SSN, for the entries and to clear these. It goes over the database once for each port at which CSNPs are due
+//!   and for each at which a neighbour is lost. Memory is taken for what is sent.
 //! - A hello takes time in proportion to its length. The one that came last to a port is kept there: where the same
 //!   frame comes again it is compared, and not read. One that only begins the holding count anew changes its port and
 //!   nothing else. Memory is taken where another hello comes than the last time, for its frame, and where one changes
@@ -57,6 +58,7 @@ mod heard;
 mod hearing;
 mod hello;
 mod machine;
+mod made;
 mod parsing;
 mod ports;
 mod reading;

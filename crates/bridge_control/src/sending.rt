@@ -3,35 +3,30 @@ ghost use Rattle.std.specs.Prelude.{◌≡◌, ◌+◌, ◌≤◌, ◌∷◌, []
 ghost use Rattle.std.specs.List.{AllByRecursion};
 ghost use Rattle.std.specs.FinMap.{entries};
 ghost use Rattle.spb_types.specs.Ports.{has};
-ghost use Rattle.isis_pdu.specs.declared.kind.Kind.TheVariants as kinds;
-ghost use Rattle.isis_pdu.specs.Grammar.{IsId};
-ghost use Rattle.isis_pdu.specs.Spelling.{CanWrite};
 ghost use Rattle.lsdb.specs.Database.{any_flags, is_srm_at, is_ssn_at};
-ghost use Rattle.lsdb.specs.Entry.{entry_of};
 ghost use Rattle.flooding.specs.Entries.{AreSendable};
-ghost use Rattle.flooding.specs.Own.{tlvs_of_body};
-ghost use Rattle.flooding.specs.Sending.{lsp_in};
 ghost use Rattle.snp_sync.specs.Sized.{AreSized};
 ghost use Rattle.snp_sync.specs.Sending.{bytes_in, all_ssn_cleared};
 ghost use Rattle.itag_frames.specs.Frame.{control_bytes};
 ghost use Rattle.bridge_api.specs.Step.{with_wire, Gains};
 ghost use Rattle.bridge_api.specs.Ticking as api;
 ghost use Rattle.bridge_control.specs.Frames.{frames_of, frames_held, flagged_at};
+ghost use Rattle.bridge_control.specs.Made.{AreMadeOf};
 ghost use Rattle.bridge_control.specs.Machine.{hellos_from};
 
 use crate::hello::send_hello;
+use crate::made::{frame_of, frames_to_send};
 use crate::ports::is_up;
 use bridge_api::{BridgePort, Outbox};
-use flooding::lsp_of;
-use isis_pdu::{append_lsp, lsp_length};
-use itag_frames::{control_frame, control_head};
-use lsdb::{Database, Held};
+use itag_frames::control_frame;
+use lsdb::Database;
 use snp_sync::{csnps, psnps};
 use spb_types::{NoMemory, PortSet, Seq, SystemId};
 use std::alloc::Global;
 
 /// Puts what is sent at each port into the outbox, port by port: `hellos` has the hello of each. Where `has_flags` is
-/// false no flags stand, and no LSPs and PSNPs are looked for; nor are they at a port at which none stand.
+/// false no flags stand, and no LSPs and PSNPs are looked for; nor are they at a port at which none stand. The frame of
+/// an LSP is made once, and copied for each port.
 pub(crate) fn send_all(
     alloc: Global,
     system: SystemId,
@@ -52,7 +47,9 @@ pub(crate) fn send_all(
 {
     let srm = srm_ports(db, has_flags);
     let ssn = ssn_ports(db, has_flags);
-    let flags = Flags { srm, ssn };
+    let made = frames_to_send(alloc, system, db, has_flags)?;
+    let frames = made.as_slice();
+    let flags = Flags { srm, ssn, frames };
     'send: for (place, port) in ports.iter().enumerate() {
         let number = place as u8 + 1;
         let hello = hellos[place].as_slice();
@@ -87,11 +84,12 @@ fn ssn_ports(db: &Database, has_flags: bool) -> PortSet
 }
 
 /// Where flags may stand: at ports that aren't in `srm` no LSP is to be sent, and at those that aren't in `ssn` none is
-/// to be acknowledged or asked for.
+/// to be acknowledged or asked for. `frames` are those that were made of LSPs, by their places.
 #[derive(Clone, Copy)]
-struct Flags {
+struct Flags<'a> {
     srm: PortSet,
     ssn: PortSet,
+    frames: &'a [Option<Seq<u8>>],
 }
 
 /// Puts what is sent at a port into the outbox. What the flags rule out isn't looked for.
@@ -102,7 +100,7 @@ fn send_at(
     port: &BridgePort,
     hello: &[u8],
     db: &mut Database,
-    flags: Flags,
+    flags: Flags<'_>,
     outbox: &mut Outbox,
 ) -> Result<(), NoMemory>
     requires low { 1 ≤ number }
@@ -112,6 +110,7 @@ fn send_at(
     requires sized { AreSized db.old }
     requires srm { has flags.srm number ≡ false → is_srm_at number db.old ≡ false }
     requires ssn { has flags.ssn number ≡ false → is_ssn_at number db.old ≡ false }
+    requires frames { AreMadeOf system (entries db.old) flags.frames.now }
     ensures sent { OnOk result (outbox.new ≡ with_wire (api.sent_at system number port.now db.old) outbox.old) }
     ensures after_sending { OnOk result (db.new ≡ api.after_sending_at number port.now db.old) }
     ensures gained { OnErr result (Gains (api.sent_at system number port.now db.old) outbox.old outbox.new) }
@@ -150,7 +149,7 @@ fn send_flagged(
     system: SystemId,
     number: u8,
     db: &mut Database,
-    flags: Flags,
+    flags: Flags<'_>,
     outbox: &mut Outbox,
 ) -> Result<(), NoMemory>
     requires low { 1 ≤ number }
@@ -159,12 +158,13 @@ fn send_flagged(
     requires sized { AreSized db.old }
     requires srm { has flags.srm number ≡ false → is_srm_at number db.old ≡ false }
     requires ssn { has flags.ssn number ≡ false → is_ssn_at number db.old ≡ false }
+    requires frames { AreMadeOf system (entries db.old) flags.frames.now }
     ensures sent { OnOk result (outbox.new ≡ with_wire (flagged_at system number db.old) outbox.old) }
     ensures after_sending { OnOk result (db.new ≡ all_ssn_cleared number db.old) }
     ensures gained { OnErr result (Gains (flagged_at system number db.old) outbox.old outbox.new) }
 {
     let has_srm = flags.srm.has(number);
-    send_lsps(alloc, system, number, db, has_srm, outbox)?;
+    send_lsps(alloc, system, number, db, has_srm, flags.frames, outbox)?;
     let has_ssn = flags.ssn.has(number);
     send_requests(alloc, system, number, db, has_ssn, outbox)
 }
@@ -201,6 +201,7 @@ fn send_lsps(
     number: u8,
     db: &Database,
     has_srm: bool,
+    frames: &[Option<Seq<u8>>],
     outbox: &mut Outbox,
 ) -> Result<(), NoMemory>
     requires low { 1 ≤ number }
@@ -208,6 +209,7 @@ fn send_lsps(
     requires sendable { AreSendable db.now }
     requires sized { AreSized db.now }
     requires idle { has_srm ≡ false → is_srm_at number db.now ≡ false }
+    requires frames { AreMadeOf system (entries db.now) frames.now }
     ensures sent { OnOk result (outbox.new ≡ with_wire (api.lsps_at system number db.now) outbox.old) }
     ensures gained { OnErr result (Gains (api.lsps_at system number db.now) outbox.old outbox.new) }
 {
@@ -215,7 +217,7 @@ fn send_lsps(
         return Ok(());
     }
     'send: for place in 0..db.len() {
-        send_lsp(alloc, system, number, db, place, outbox)?;
+        send_lsp(alloc, system, number, db, place, frames, outbox)?;
     }
     Ok(())
 }
@@ -227,12 +229,14 @@ fn send_lsp(
     number: u8,
     db: &Database,
     place: usize,
+    frames: &[Option<Seq<u8>>],
     outbox: &mut Outbox,
 ) -> Result<(), NoMemory>
     requires low { 1 ≤ number }
     requires high { number ≤ 32 }
     requires sendable { AreSendable db.now }
     requires sized { AreSized db.now }
+    requires frames { AreMadeOf system (entries db.now) frames.now }
     ensures sent { OnOk result (outbox.new ≡ with_wire (frames_held system number (slice_get (entries db.now) place)) outbox.old) }
     ensures kept { OnErr result (outbox.new ≡ outbox.old) }
 {
@@ -242,20 +246,8 @@ fn send_lsp(
     if !held.srm.has(number) {
         return Ok(());
     }
-    let frame = lsp_frame(alloc, system, held)?;
+    let frame = frame_of(alloc, system, held, frames.get(place))?;
     send_frame(number, frame, outbox)
-}
-
-/// The LSP that is held, as a control frame, into which it is written at once.
-fn lsp_frame(alloc: Global, system: SystemId, held: &Held) -> Result<Vec<u8>, NoMemory>
-    requires written { CanWrite kinds.Lsp (tlvs_of_body held.now.body) }
-    requires id { IsId held.now.id.system }
-    ensures { IfOk result (λ frame. frame.items ≡ api.lsp_frame system (lsp_in held.now.id (entry_of held.now))) }
-{
-    let lsp = lsp_of(held);
-    let mut frame = control_head(alloc, system.mac, lsp_length(&lsp))?;
-    append_lsp(&mut frame, &lsp)?;
-    Ok(frame)
 }
 
 /// Puts PDUs of at most 1,497 bytes each, as control frames, into the outbox.

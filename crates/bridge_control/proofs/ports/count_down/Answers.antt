@@ -1,4 +1,4 @@
-use Rattle.std.proofs.Common.{◌<◌, ◌≡◌, length, slice_set, ap, refl, ◌∙◌, sym, true, false, arith, subst, rules}
+use Rattle.std.proofs.Common.{◌<◌, length, slice_set, ap, refl, ◌∙◌, sym, true, false, arith, subst}
 use Rattle.bridge_api.specs.declared.port.BridgePort.{BridgePort}
 use Rattle.bridge_api.specs.Ticking.{later, leaves}
 use Rattle.bridge_api.specs.Laws.{IsSoundPort}

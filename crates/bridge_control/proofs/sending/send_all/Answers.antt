@@ -12,9 +12,9 @@ send_at-requires-clause-hello c = hello_there c.args.system c.args.ports.now c.a
 
 pub returns-in_err-send_at-clause-gained : goal.returns-in_err-send_at-clause-gained
 returns-in_err-send_at-clause-gained c =
-    on_err c.from_residual.result
+    on_err c.from_residual-in_err-send_at.result
     (ports_some c.args.system c.args.ports.now c.args.db.now c.send.db c.send.place _ c.args.outbox.now c.send.outbox c.send_at.new.outbox c.send-test.true c.send.invariant.sent c.send.invariant.after_sending c.in_err-send_at.ensures.gained)
 
 pub send-preserved : goal.send-preserved
 send-preserved c =
-    sending_next c.args.system c.args.ports.now c.args.db.now c.args.outbox.now c.send.place _ c.srm_ports-srm.result c.ssn_ports-ssn.result c.send.db c.send_at.new.db c.send.outbox c.send_at.new.outbox c.requires.few c.send-test.true c.send.invariant c.in_ok-send_at.ensures.sent c.in_ok-send_at.ensures.after_sending
+    sending_next c.args.system c.args.ports.now c.args.db.now c.args.outbox.now c.send.place _ c.srm_ports-srm.result c.ssn_ports-ssn.result _ c.send.db c.send_at.new.db c.send.outbox c.send_at.new.outbox c.requires.few c.send-test.true c.send.invariant c.in_ok-send_at.ensures.sent c.in_ok-send_at.ensures.after_sending

@@ -1,25 +1,35 @@
-use Rattle.std.proofs.Common.{◌≡◌, ◌∷◌, [], ℕ, List, Bool, sym, ap, ◌∙◌}
-use Rattle.std.specs.Prelude.{true, if◌then◌else◌}
+use Rattle.std.proofs.Common.{◌≡◌, ◌∷◌, [], ℕ, List, Bool, Option, Some, sym, ap, subst, ◌∙◌}
+use Rattle.std.specs.Prelude.{true, if◌then◌else◌, slice_get}
+use Rattle.spb_types.specs.declared.address.LspId.{LspId}
 use Rattle.std.proofs.lemmas.Result.{on_ok_weaker}
 use Rattle.spb_types.specs.Ports.{has}
-use Rattle.lsdb.specs.Entry.{entry_of}
+use Rattle.lsdb.specs.Entry.{Entry, entry_of}
 use Rattle.lsdb.specs.Database.{keyed}
 use Rattle.lsdb.proofs.LookupLemmas.{get_place}
 use Rattle.flooding.specs.Sending.{lsp_in}
 use Rattle.bridge_api.specs.Ticking.{lsp_frame}
 use Rattle.bridge_api.specs.Step.{with_wire}
 use Rattle.bridge_control.specs.Frames.{frames_held}
+use Rattle.bridge_control.specs.Made.{IsMadeOf, IsMadeAt}
+use Rattle.bridge_control.proofs.Copies.{copied_at}
 use Rattle.bridge_control.proofs.sending.send_lsp.Goals as goal
 
-pub lsp_frame-requires-clause-written : goal.lsp_frame-requires-clause-written
-lsp_frame-requires-clause-written c =
+pub frame_of-requires-clause-written : goal.frame_of-requires-clause-written
+frame_of-requires-clause-written c =
     let e = entry_of c.in-Some.held.now in
     (c.requires.sendable c.in-Some.held.now.id e (get_place c.args.db.now c.args.place (keyed c.in-Some.held.now) (sym c.in-Some.ensures.entry))).written
 
-pub lsp_frame-requires-clause-id : goal.lsp_frame-requires-clause-id
-lsp_frame-requires-clause-id c =
+pub frame_of-requires-clause-id : goal.frame_of-requires-clause-id
+frame_of-requires-clause-id c =
     let e = entry_of c.in-Some.held.now in
     (c.requires.sized c.in-Some.held.now.id e (get_place c.args.db.now c.args.place (keyed c.in-Some.held.now) (sym c.in-Some.ensures.entry))).named.system
+
+pub frame_of-requires-clause-made : goal.frame_of-requires-clause-made
+frame_of-requires-clause-made c =
+    let held : LspId × Entry = keyed c.in-Some.held.now in
+    let kept : Option (Option (List ℕ)) = slice_get c.args.frames.now c.args.place in
+    let there : IsMadeAt c.args.system (Some held) kept = subst (λ (o : Option (LspId × Entry)). IsMadeAt c.args.system o kept) (sym c.in-Some.ensures.entry) (c.requires.frames c.args.place) in
+    subst (λ (k : Option (Option (List ℕ))). IsMadeOf c.args.system held k) (sym (copied_at c.args.frames.now c.args.place c.get.result c.get.ensures.lookup.0 c.get.ensures.lookup.1)) there
 
 pub returns-clause-sent : goal.returns-clause-sent
 returns-clause-sent c =

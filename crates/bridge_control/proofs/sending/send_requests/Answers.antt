@@ -1,6 +1,6 @@
 use Rattle.std.proofs.Common.{◌≡◌, [], length, rules}
 use Rattle.std.proofs.lemmas.Result.{on_ok_weaker, on_err_weaker}
-use Rattle.bridge_control.proofs.Wire.{sent_none, sent_as, gained_none, gained_as, on_err}
+use Rattle.bridge_control.proofs.Wire.{sent_none, sent_as, gained_as}
 use Rattle.bridge_control.proofs.Sends.{no_requests, nothing_cleared, fitting_psnps, requests_are}
 use Rattle.bridge_control.proofs.sending.send_requests.Goals as goal
 

@@ -1,6 +1,6 @@
-use Rattle.std.proofs.Common.{◌≡◌, [], Bool, true, refl, sym, ap, ◌∙◌}
+use Rattle.std.proofs.Common.{◌≡◌, [], Bool, sym, ap, ◌∙◌}
 use Rattle.std.specs.Prelude.{if◌then◌else◌}
-use Rattle.isis_pdu.specs.Pdu.{HelloValue, hello_of}
+use Rattle.isis_pdu.specs.Pdu.{HelloValue}
 use Rattle.adjacency.specs.declared.port.Adjacency.{Adjacency}
 use Rattle.adjacency.specs.Adjacency.{after_hello, change_by_hello}
 use Rattle.adjacency.specs.declared.state.AdjacencyChange.TheVariants as did

@@ -1,4 +1,4 @@
-use Rattle.std.proofs.Common.{sym, ◌∙◌, ap, arith}
+use Rattle.std.proofs.Common.{◌∙◌, ap, arith}
 use Rattle.bridge_api.specs.View.{up_from}
 use Rattle.bridge_control.specs.Machine.{view_of}
 use Rattle.bridge_control.proofs.Following.{few_hellos, put_same, put_anew}

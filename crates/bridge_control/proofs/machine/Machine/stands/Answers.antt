@@ -1,5 +1,4 @@
-use Rattle.std.proofs.Common.{◌≡◌, true, false, not, sym, ◌∙◌}
-use Rattle.std.specs.Prelude.{◌&&◌}
+use Rattle.std.proofs.Common.{◌≡◌, true, sym, ◌∙◌}
 use Rattle.bridge_api.specs.Own.{is_said}
 use Rattle.bridge_control.specs.Machine.{view_of}
 use Rattle.bridge_control.proofs.Owning.{code_said, says_other, stands_by_age}

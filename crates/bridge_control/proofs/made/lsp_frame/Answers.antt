@@ -6,7 +6,7 @@ use Rattle.lsdb.specs.Entry.{entry_of}
 use Rattle.flooding.specs.Sending.{lsp_in}
 use Rattle.bridge_api.specs.Ticking.{lsp_frame}
 use Rattle.bridge_api.proofs.Spelled.{lsp_short}
-use Rattle.bridge_control.proofs.sending.lsp_frame.Goals as goal
+use Rattle.bridge_control.proofs.made.lsp_frame.Goals as goal
 
 pub lsp_length-requires : goal.lsp_length-requires
 lsp_length-requires c =

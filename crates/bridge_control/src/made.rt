@@ -1,0 +1,92 @@
+//! The frames of the LSPs that are to be sent, made once in a second and copied for each port.
+ghost use Rattle.std.specs.Prelude.{◌≡◌, slice_get, IfOk};
+ghost use Rattle.std.specs.Option.{option_copied};
+ghost use Rattle.std.specs.FinMap.{entries};
+ghost use Rattle.isis_pdu.specs.declared.kind.Kind.TheVariants as kinds;
+ghost use Rattle.isis_pdu.specs.Grammar.{IsId};
+ghost use Rattle.isis_pdu.specs.Spelling.{CanWrite};
+ghost use Rattle.lsdb.specs.Database.{keyed};
+ghost use Rattle.lsdb.specs.Entry.{entry_of};
+ghost use Rattle.flooding.specs.Entries.{AreSendable};
+ghost use Rattle.flooding.specs.Own.{tlvs_of_body};
+ghost use Rattle.flooding.specs.Sending.{lsp_in};
+ghost use Rattle.snp_sync.specs.Sized.{AreSized};
+ghost use Rattle.bridge_api.specs.Ticking as api;
+ghost use Rattle.bridge_control.specs.Made.{IsMadeOf, IsMadeAt, AreMadeOf};
+
+use flooding::lsp_of;
+use isis_pdu::{append_lsp, lsp_length};
+use itag_frames::control_head;
+use lsdb::{Database, Held};
+use spb_types::{NoMemory, PortSet, Seq, SystemId};
+use std::alloc::Global;
+
+/// The frames of the LSPs that are to be sent at some port, by their places. Where `has_flags` is false none are made.
+pub(crate) fn frames_to_send(
+    alloc: Global,
+    system: SystemId,
+    db: &Database,
+    has_flags: bool,
+) -> Result<Vec<Option<Seq<u8>>>, NoMemory>
+    requires sendable { AreSendable db.now }
+    requires sized { AreSized db.now }
+    ensures { IfOk result (λ frames. AreMadeOf system (entries db.now) frames.items) }
+{
+    let count = if has_flags { db.len() } else { 0 };
+    let mut frames = Vec::with_capacity(alloc, count)?;
+    'make: for place in 0..count {
+        frames.push(frame_at(alloc, system, db, place)?)?;
+    }
+    Ok(frames)
+}
+
+/// The frame of the LSP at a place, if it is to be sent at some port.
+fn frame_at(
+    alloc: Global,
+    system: SystemId,
+    db: &Database,
+    place: usize,
+) -> Result<Option<Seq<u8>>, NoMemory>
+    requires sendable { AreSendable db.now }
+    requires sized { AreSized db.now }
+    ensures { IfOk result (λ frame. IsMadeAt system (slice_get (entries db.now) place) (Some frame)) }
+{
+    let Some(held) = db.at(place) else {
+        return Ok(None);
+    };
+    if held.srm == PortSet::none() {
+        return Ok(None);
+    }
+    let frame = lsp_frame(alloc, system, held)?;
+    Ok(Some(Seq::from_vec(frame)))
+}
+
+/// The frame of the LSP that is held: a copy of the one that was made, if one was.
+pub(crate) fn frame_of(
+    alloc: Global,
+    system: SystemId,
+    held: &Held,
+    made: Option<&Option<Seq<u8>>>,
+) -> Result<Vec<u8>, NoMemory>
+    requires written { CanWrite kinds.Lsp (tlvs_of_body held.now.body) }
+    requires id { IsId held.now.id.system }
+    requires made { IsMadeOf system (keyed held.now) (option_copied made) }
+    ensures { IfOk result (λ frame. frame.items ≡ api.lsp_frame system (lsp_in held.now.id (entry_of held.now))) }
+{
+    match made {
+        Some(Some(frame)) => Ok(Vec::from_slice(alloc, frame.as_slice())?),
+        _ => lsp_frame(alloc, system, held),
+    }
+}
+
+/// The LSP that is held, as a control frame, into which it is written at once.
+fn lsp_frame(alloc: Global, system: SystemId, held: &Held) -> Result<Vec<u8>, NoMemory>
+    requires written { CanWrite kinds.Lsp (tlvs_of_body held.now.body) }
+    requires id { IsId held.now.id.system }
+    ensures { IfOk result (λ frame. frame.items ≡ api.lsp_frame system (lsp_in held.now.id (entry_of held.now))) }
+{
+    let lsp = lsp_of(held);
+    let mut frame = control_head(alloc, system.mac, lsp_length(&lsp))?;
+    append_lsp(&mut frame, &lsp)?;
+    Ok(frame)
+}
