@@ -47,7 +47,8 @@ pub(crate) fn send_all(
 {
     let srm = srm_ports(db, has_flags);
     let ssn = ssn_ports(db, has_flags);
-    let made = frames_to_send(alloc, system, db, has_flags)?;
+    let has_srm = srm != PortSet::none();
+    let made = frames_to_send(alloc, system, db, has_srm)?;
     let frames = made.as_slice();
     let flags = Flags { srm, ssn, frames };
     'send: for (place, port) in ports.iter().enumerate() {
