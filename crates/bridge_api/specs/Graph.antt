@@ -131,14 +131,14 @@ own_tables v = record {
 }
 
 -- what is planned for a VID
-abbrev pub plan_of : List VidPlan → Vid → Option VidPlan
-plan_of plans vid = find (λ plan. plan.vid.value == vid.value) plans
+abbrev pub planned_for : List VidPlan → Vid → Option VidPlan
+planned_for plans vid = find (λ plan. plan.vid.value == vid.value) plans
 
 -- the best path of a bridge to a system in a VID, with its cost, in that graph: by the ECT algorithm that is planned
 -- for the VID, and none where none is (IEEE 802.1aq, 28.5 to 28.8)
 unfoldable pub own_path : BridgeView → SystemId → Vid → Option Path
 own_path v to vid = option_and_then (λ plan. best_path (read_graph v) (mask_of plan.ect) v.id.system to)
-    (plan_of v.vids vid)
+    (planned_for v.vids vid)
 
 -- what it doesn't reach says nothing: the rows are those in its own graph
 abbrev pub CutSaysNothing : Type 0

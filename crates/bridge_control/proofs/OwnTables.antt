@@ -22,7 +22,7 @@ use Rattle.spb_content.proofs.Members.{weaker}
 use Rattle.fdb_build.specs.Tables.{ArePlans, unicast_rows}
 use Rattle.fdb_build.specs.Groups.{group_rows}
 use Rattle.bridge_api.specs.View.{BridgeView}
-use Rattle.bridge_api.specs.Graph.{contents_of, read_graph, own_tables, plan_of, own_path}
+use Rattle.bridge_api.specs.Graph.{contents_of, read_graph, own_tables, planned_for, own_path}
 use Rattle.bridge_api.specs.Laws.{HasConfig, IsSoundView}
 use Rattle.bridge_api.proofs.Saying.{vids_are_apart}
 use Rattle.bridge_api.proofs.GraphRead.{reads_each_once}
@@ -125,15 +125,15 @@ tree_by : (b : Bool) (x p : VidPlan) (rest : Option VidPlan) → IsTree x → (r
 tree_by true x p rest tree later is = let same : x ≡ p = cc in subst IsTree same tree
 tree_by false x p rest tree later is = later is
 
-pub planned_tree : (plans : List VidPlan) (vid : Vid) (p : VidPlan) → AllByRecursion IsTree plans → plan_of plans vid ≡ Some p → IsTree p
+pub planned_tree : (plans : List VidPlan) (vid : Vid) (p : VidPlan) → AllByRecursion IsTree plans → planned_for plans vid ≡ Some p → IsTree p
 planned_tree [] vid p all is = absurd cc
-planned_tree (x ∷ plans) vid p all is = tree_by (x.vid.value == vid.value) x p (plan_of plans vid) all.0 (planned_tree plans vid p all.1) is
+planned_tree (x ∷ plans) vid p all is = tree_by (x.vid.value == vid.value) x p (planned_for plans vid) all.0 (planned_tree plans vid p all.1) is
 
-pub path_none : (v : BridgeView) (to : SystemId) (vid : Vid) → plan_of v.vids vid ≡ None → None ≡ own_path v to vid
+pub path_none : (v : BridgeView) (to : SystemId) (vid : Vid) → planned_for v.vids vid ≡ None → None ≡ own_path v to vid
 unfolding own_path
 path_none v to vid none = sym (ap (option_and_then (λ plan. best_path (read_graph v) (mask_of plan.ect) v.id.system to)) none)
 
-pub path_found : {E : Type 0} (v : BridgeView) (to : SystemId) (vid : Vid) (plan : VidPlan) (r : Result (Option Path) E) → plan_of v.vids vid ≡ Some plan
+pub path_found : {E : Type 0} (v : BridgeView) (to : SystemId) (vid : Vid) (plan : VidPlan) (r : Result (Option Path) E) → planned_for v.vids vid ≡ Some plan
     → IfOk r (λ path. path ≡ best_path (read_graph v) (mask_of plan.ect) v.id.system to) → IfOk r (λ path. path ≡ own_path v to vid)
 unfolding own_path
 path_found v to vid plan (Ok path) planned is = is ∙ sym (ap (option_and_then (λ p. best_path (read_graph v) (mask_of p.ect) v.id.system to)) planned)

@@ -114,7 +114,7 @@ impl Machine {
 
     /// What is planned for a VID. None exactly where the VID isn't configured.
     fn plan(&self, vid: Vid) -> Option<&VidPlan>
-        ensures { option_copied result ≡ read.plan_of self.now.vids vid }
+        ensures { option_copied result ≡ read.planned_for self.now.vids vid }
     {
         self.vids.iter().find(|plan| plan.vid == vid)
     }

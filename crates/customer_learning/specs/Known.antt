@@ -8,7 +8,7 @@ use Rattle.std.specs.declared.cmp.Ordering.{Ordering}
 use Rattle.std.specs.FinMap.{FinMap, get, insert, remove}
 use Rattle.spb_types.specs.declared.address.Mac.{Mac}
 use Rattle.spb_types.specs.declared.service.Isid.{Isid}
-use Rattle.customer_learning.specs.declared.TheConstants.{MOST_ADDRESSES}
+use Rattle.spb_types.specs.declared.limits.TheConstants.{MOST_ADDRESSES}
 use Rattle.customer_learning.specs.declared.place.Place.{Place}
 use Rattle.customer_learning.specs.declared.place.Place.TheVariants.{Local, Remote}
 

@@ -3,7 +3,7 @@ use Rattle.std.specs.Prelude.{◌≡◌, List, Bool, ◌==◌}
 use Rattle.std.specs.List.{AllByRecursion}
 use Rattle.spb_types.specs.declared.address.Mac.{Mac}
 use Rattle.spb_types.specs.declared.service.Isid.{Isid}
-use Rattle.customer_learning.specs.declared.TheConstants.{MOST_ADDRESSES}
+use Rattle.spb_types.specs.declared.limits.TheConstants.{MOST_ADDRESSES}
 use Rattle.customer_learning.specs.declared.place.Place.{Place}
 use Rattle.customer_learning.specs.declared.table.Table.{Table}
 

@@ -5,8 +5,9 @@ ghost use Rattle.lru.specs.LruCache.{lru_cache};
 ghost use Rattle.customer_learning.specs.Known.{brought, is_local, place_among, without_local};
 ghost use Rattle.customer_learning.specs.Tables.{is_of};
 
-use crate::{MOST_ADDRESSES, Place};
+use crate::Place;
 use lru::LruCache;
+use spb_types::limits::MOST_ADDRESSES;
 use spb_types::{Isid, Mac, NoMemory};
 use std::alloc::Global;
 use std::num::NonZeroUsize;

@@ -132,7 +132,7 @@ pub fn age(held: &mut Held, up: PortSet)
     }
 }
 
-// Whether some port is in the set.
+/// Whether some port is in the set.
 #[tactic(auto, using(crate::proofs::Flags::below_has_ports))]
 pub fn has_ports(set: PortSet) -> bool
     ensures { result ≡ entry.has_ports set }

@@ -1,6 +1,6 @@
 ghost use Rattle.std.specs.Prelude.{◌≡◌, ◌<◌, length, find, IfOk, IfSome, Option, option_map, option_and_then};
 ghost use Rattle.std.specs.Option.{option_copied};
-ghost use Rattle.spb_types.specs.Address.{same_system, system_number, HasSixBytes};
+ghost use Rattle.spb_types.specs.Address.{same_system};
 ghost use Rattle.spb_content.specs.Graph as spec;
 ghost use Rattle.spb_content.specs.Building as building;
 
@@ -18,16 +18,6 @@ pub struct Backbone<'a> {
     pub list: &'a [(SystemId, Content)],
     /// The place in the list of each bridge, by the number of its system id.
     pub places: BTreeMap<u64, usize>,
-}
-
-/// The six bytes of a system id as a number, the first one the greatest: it is compared in one step.
-#[tactic(auto, unfolding(spb_types::specs::Address::system_number))]
-fn number_of(system: SystemId) -> u64
-    ensures number { result ≡ system_number system }
-    ensures bytes { HasSixBytes system }
-{
-    let [a, b, c, d, e, f] = system.mac.bytes;
-    u64::from_be_bytes([0, 0, a, b, c, d, e, f])
 }
 
 /// The entry, if its metric is one that a link can have.
@@ -70,7 +60,7 @@ impl<'a> Backbone<'a> {
             left -= 1;
             let (system, content) = &list[left];
             if content.inst.is_some() {
-                places.insert(number_of(*system), left)?;
+                places.insert(system.number(), left)?;
             }
         }
         Ok(Backbone { list, places })
@@ -82,7 +72,7 @@ impl<'a> Backbone<'a> {
         ensures place { result ≡ building.place_from 0 self.now.list.now system }
         ensures within { IfSome result (λ place. place < length self.now.list.now) }
     {
-        self.places.get(&number_of(system)).copied()
+        self.places.get(&system.number()).copied()
     }
 
     /// What a bridge says. None exactly where the system is no bridge.

@@ -1,11 +1,10 @@
 -- Services: why one can't be declared, and what an accepted one makes of what is declared (IEEE 802.1ah, 25.10).
 use Rattle.std.specs.Prelude.{ℕ, [], ◌∷◌, ◌++◌, length, Bool, ◌&&◌, nat_lt, nat_le, Option, is_none}
-use Rattle.spb_types.specs.declared.limits.TheConstants.{GREATEST_ISID}
+use Rattle.spb_types.specs.declared.limits.TheConstants.{GREATEST_ISID, MOST_SERVICES}
 use Rattle.spb_types.specs.declared.service.Isid.{Isid}
 use Rattle.spb_types.specs.declared.service.Vid.{Vid}
 use Rattle.spb_network.specs.declared.reason.Reason.{Reason}
 use Rattle.spb_network.specs.declared.reason.Reason.TheVariants.{NoSuchName, NameTaken, Range, TooMany}
-use Rattle.spb_network.specs.declared.world.TheConstants.{MOST_SERVICES}
 use Rattle.spb_network.specs.Reason.{reason_unless, ◌or◌}
 use Rattle.spb_network.specs.World.{World, Services, vid_of_isid}
 use Rattle.spb_network.specs.Declaring.{has_vid}

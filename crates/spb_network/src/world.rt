@@ -11,16 +11,15 @@ use fdb_build::{tables_of, tables_over};
 use indexmap::IndexMap;
 use link_model::LaneId;
 use scenario::Side;
-use spb_types::limits::{GREATEST_ISID, MOST_BRIDGES, MOST_LINKS, MOST_VIDS, SOURCE_IDS};
+use spb_types::limits::{
+    GREATEST_ISID, MOST_BRIDGES, MOST_LINKS, MOST_SERVICES, MOST_VIDS, SOURCE_IDS,
+};
 use spb_types::{
     Attachment, BridgeId, Graph, GraphBridge, Isid, Mac, Name, NoMemory, Seq, SourceId, SystemId,
     Tables, Vid, VidPlan,
 };
 use std::alloc::Global;
 use std::marker::Model;
-
-/// The most services of a script.
-pub const MOST_SERVICES: usize = 4_096;
 
 /// What is declared: the base VIDs, the bridges, the links and the services, each in order of declaration. The roads of
 /// the wiring are kept from the first question about it until a bridge, a link or a metric changes.

@@ -24,7 +24,7 @@ record IsRead (p : VidPlan) : Type 0 where
   known : spec.is_known (spec.tree_bytes p) ≡ true
   vid : spec.base_vid_of (spec.tree_bytes p) ≡ p.vid.value
   inside : spec.is_tree_outside (spec.tree_bytes p) ≡ false
-  plan : spec.plan_of (spec.tree_bytes p) ≡ Some p
+  plan : spec.plan_in (spec.tree_bytes p) ≡ Some p
 
 is_read : (p : VidPlan) → spec.IsTree p → IsRead p
 is_read p h =
@@ -44,9 +44,9 @@ none_outside : (ps : List VidPlan) → AllByRecursion spec.IsTree ps → list_an
 none_outside [] h = refl
 none_outside (p ∷ ps) h = or_from _ _ (is_read p h.0).inside (none_outside ps h.1)
 
-each_plan : (ps : List VidPlan) → AllByRecursion spec.IsTree ps → filter_map spec.plan_of (map spec.tree_bytes ps) ≡ ps
+each_plan : (ps : List VidPlan) → AllByRecursion spec.IsTree ps → filter_map spec.plan_in (map spec.tree_bytes ps) ≡ ps
 each_plan [] h = refl
-each_plan (p ∷ ps) h = ap (λ (o : Option VidPlan). cons_option o (filter_map spec.plan_of (map spec.tree_bytes ps))) (is_read p h.0).plan ∙ ap (λ (qs : List VidPlan). p ∷ qs) (each_plan ps h.1)
+each_plan (p ∷ ps) h = ap (λ (o : Option VidPlan). cons_option o (filter_map spec.plan_in (map spec.tree_bytes ps))) (is_read p h.0).plan ∙ ap (λ (qs : List VidPlan). p ∷ qs) (each_plan ps h.1)
 
 inst_again : (priority : ℕ) (source : SourceId) (trees : List VidPlan) → spec.IsInst source trees → priority < 2 ^ 16 → spec.capabilities_of (spec.capability_value (Inst priority source trees)) ≡ Ok (Inst priority source trees ∷ [])
 inst_again priority source trees h fits =

@@ -44,14 +44,14 @@ base_vid_of tree = u24_at tree 5 / 4096
 abbrev pub is_known : List ℕ → Bool
 is_known tree = nat_le 0x0080c201 (u32_at tree 1) && nat_le (u32_at tree 1) 0x0080c210
 
-abbrev pub plan_of : List ℕ → Option VidPlan
-plan_of tree = if is_known tree then Some
+abbrev pub plan_in : List ℕ → Option VidPlan
+plan_in tree = if is_known tree then Some
     (record { vid = record { value = base_vid_of tree }; ect = u32_at tree 1 - 0x0080c200 }) else None
 
 -- what a value says: the reserved bits, the V bit, and the CIST fields are ignored
 abbrev pub inst_of : List ℕ → Capability
 inst_of value = Inst (u16_at value 12) (record { value = u32_at value 14 % SOURCE_IDS })
-    (filter_map plan_of (trees_in value))
+    (filter_map plan_in (trees_in value))
 
 -- ---- SPBM-SI
 

@@ -181,14 +181,14 @@ fn is_outside(vid: u32) -> bool
 }
 
 fn plans_in(alloc: Global, trees: &[[u8; 8]]) -> Result<Vec<VidPlan>, AllocError>
-    ensures { IfOk result (λ v. v.items ≡ filter_map spec.plan_of trees.now) }
+    ensures { IfOk result (λ v. v.items ≡ filter_map spec.plan_in trees.now) }
 {
     trees.iter().filter_map(|tree| plan_in(tree)).collect(alloc)
 }
 
 /// The base VID and the ECT number of a tree, if its ECT-ALGORITHM has one.
 fn plan_in(tree: &[u8; 8]) -> Option<VidPlan>
-    ensures { result ≡ spec.plan_of tree.now }
+    ensures { result ≡ spec.plan_in tree.now }
 {
     if !is_known(tree) {
         return None;

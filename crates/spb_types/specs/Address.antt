@@ -27,8 +27,8 @@ bridge_id_bytes b = (b.priority / 256) ∷ (b.priority % 256) ∷ b.system.mac.b
 abbrev pub masked : ℕ → BridgeId → List ℕ
 masked mask b = map (λ byte. bit_xor byte mask) (bridge_id_bytes b)
 
--- the group address of a source and an I-SID: the low 20 bits of the source behind a nibble 3, which marks it as a group
--- address of local use, and the low 24 bits of the I-SID (IEEE 802.1aq, 27.15)
+-- the group address of a source and an I-SID: the low 20 bits of the source behind a nibble 3, which marks it as a
+-- group address of local use, and the low 24 bits of the I-SID (IEEE 802.1aq, 27.15)
 abbrev pub group_address : ℕ → ℕ → Mac
 group_address source isid = record {
   bytes = ((source / 2 ^ 16 % 16) * 16 + 3) ∷ (source / 256 % 256) ∷ (source % 256)

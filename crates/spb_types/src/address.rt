@@ -55,7 +55,7 @@ impl SystemId {
 
     /// The six bytes as a number, the first one the greatest.
     #[tactic(auto, unfolding(crate::specs::Address::system_number))]
-    fn number(self) -> u64
+    pub fn number(self) -> u64
         ensures number { result ≡ system_number self }
         ensures bytes { HasSixBytes self }
     {

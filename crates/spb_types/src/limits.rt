@@ -15,6 +15,12 @@ pub const MOST_CUSTOMER_PORTS: u16 = 64;
 /// The most service instances that a bridge has attached ports in.
 pub const MOST_ISIDS: usize = 60;
 
+/// The most services of a script.
+pub const MOST_SERVICES: usize = 4_096;
+
+/// The most customers' addresses that a bridge keeps of an I-SID.
+pub const MOST_ADDRESSES: usize = 1_024;
+
 /// The most base VIDs of a bridge: the SPB Instance sub-TLV has 16 trees at the most (RFC 6329, 14.1).
 pub const MOST_VIDS: usize = 16;
 

@@ -14,10 +14,12 @@ pub fn mac(first: u8, number: u16) -> Mac {
     }
 }
 
+/// The I-SID of the service in most tests.
 pub fn isid() -> Isid {
     Isid { value: 100 }
 }
 
+/// Its base VID.
 pub fn vid() -> Vid {
     Vid { value: 10 }
 }

@@ -5,7 +5,7 @@ use Rattle.lru.specs.LruCache.{LruCache, lru_cache}
 use Rattle.spb_types.specs.declared.address.Mac.{Mac}
 use Rattle.customer_learning.specs.declared.place.Place.{Place}
 use Rattle.customer_learning.specs.declared.table.Table.{Table}
-use Rattle.customer_learning.specs.declared.TheConstants.{MOST_ADDRESSES}
+use Rattle.spb_types.specs.declared.limits.TheConstants.{MOST_ADDRESSES}
 use Rattle.customer_learning.specs.Known.{brought}
 use Rattle.customer_learning.specs.Tables.{is_of}
 use Rattle.customer_learning.proofs.Maps.{learned_over, learned_new}

@@ -6,5 +6,5 @@ use Rattle.spb_content.proofs.backbone.Backbone.new.Goals as goal
 pub loop-left-preserved-in_ok-insert : goal.loop-left-preserved-in_ok-insert
 loop-left-preserved-in_ok-insert c = record {
   within = search arith;
-  places = λ x six. put_place c.args.list.now c.loop-left.left x c.index-list-left.result c.number_of.result _ _ (search arith) c.loop-left.invariant.within c.index-list-left.is (sym c.if-is_some.ensures) c.number_of.ensures.number c.number_of.ensures.bytes six (c.in_ok-insert.ensures.updates.0 (system_number x)) (c.loop-left.invariant.places x six);
+  places = λ x six. put_place c.args.list.now c.loop-left.left x c.index-list-left.result c.number.result _ _ (search arith) c.loop-left.invariant.within c.index-list-left.is (sym c.if-is_some.ensures) c.number.ensures.number c.number.ensures.bytes six (c.in_ok-insert.ensures.updates.0 (system_number x)) (c.loop-left.invariant.places x six);
 }
