@@ -18,7 +18,7 @@ use Rattle.spb_tlvs.specs.declared.entries.SnpEntry.{SnpEntry}
 use Rattle.spb_tlvs.specs.declared.three_way.ThreeWay.{ThreeWay}
 use Rattle.spb_tlvs.specs.RoundTrip.{IsNamed, IsEntry}
 use Rattle.spb_tlvs.proofs.Numbers.{weaker}
-use Rattle.itag_frames.specs.Frame.{content_in, ControlAgain}
+use Rattle.itag_frames.specs.Classify.{content_in, ControlAgain}
 use Rattle.lsdb.specs.declared.version.Version.{Version}
 use Rattle.lsdb.specs.Version.{IsAtMost}
 use Rattle.lsdb.specs.Entry.{Entry, with_ssn}

@@ -12,7 +12,9 @@ use Rattle.spb_tlvs.specs.Tlv.{values_with}
 use Rattle.spb_tlvs.specs.ThreeWay.{three_way_of}
 use Rattle.itag_frames.specs.declared.frame.FrameError.{FrameError}
 use Rattle.itag_frames.specs.declared.frame.FrameError.TheVariants as refusals
-use Rattle.itag_frames.specs.Frame.{Content, content_in, is_control, pdu_of}
+use Rattle.itag_frames.specs.Frame.{Content, is_to_bridges, has_pdu, pdu_of}
+use Rattle.itag_frames.specs.Backbone.{has_b_tag, has_i_tag, parts_of}
+use Rattle.itag_frames.specs.Classify.{content_in}
 use Rattle.itag_frames.specs.Frame as frames
 use Rattle.bridge_api.specs.Parsing.{Parsed, is_octets, parsed, by_content, by_pdu, by_three_way, by_reading}
 use Rattle.bridge_api.specs.Parsing as parsing
@@ -37,15 +39,26 @@ pub record IsHeardPdu (bytes : List ℕ) (p : PduValue) : Type 0 where
   pub from : IsReadFrom pdu p
 
 -- its octets are those of the frame
-pdu_is_at : (short control : Bool) (bytes pdu : List ℕ) → (if short then Err refusals.Short else (if control then Ok (frames.Pdu (pdu_of bytes)) else Err refusals.NotBackbone)) ≡ Ok (frames.Pdu pdu) → pdu_of bytes ≡ pdu
-pdu_is_at true control bytes pdu e = absurd cc
-pdu_is_at false true bytes pdu e = cc
-pdu_is_at false false bytes pdu e = absurd cc
+-- what carries a PDU is a control frame, and this is its PDU
+pdu_at : (short bridges has few tag itag : Bool) (frame pdu : List ℕ)
+    → (if short then Err refusals.Short else (if bridges then (if has then Ok (frames.Pdu (pdu_of frame)) else Err refusals.NotBackbone)
+    else (if few then Err refusals.Short else (if not tag then Err refusals.NotBackbone else (if not itag then Err refusals.NoItag else Ok (parts_of frame)))))) ≡ Ok (frames.Pdu pdu)
+    → (has ≡ true) × (pdu_of frame ≡ pdu)
+pdu_at true bridges has few tag itag frame pdu e = absurd cc
+pdu_at false true true few tag itag frame pdu e = (refl, cc)
+pdu_at false true false few tag itag frame pdu e = absurd cc
+pdu_at false false has true tag itag frame pdu e = absurd cc
+pdu_at false false has false false itag frame pdu e = absurd cc
+pdu_at false false has false true false frame pdu e = absurd cc
+pdu_at false false has false true true frame pdu e = absurd cc
+
+pub is_control_pdu : (frame pdu : List ℕ) → content_in frame ≡ Ok (frames.Pdu pdu) → (has_pdu frame ≡ true) × (pdu_of frame ≡ pdu)
+is_control_pdu frame pdu e = pdu_at (nat_lt (length frame) 17) (is_to_bridges frame) (has_pdu frame) (nat_lt (length frame) 36) (has_b_tag frame) (has_i_tag frame) frame pdu e
 
 pdu_octets : (bytes pdu : List ℕ) → content_in bytes ≡ Ok (frames.Pdu pdu) → is_octets bytes ≡ true → IsBytes pdu
 pdu_octets bytes pdu is octets =
     let small : AreSmall (pdu_of bytes) = small_take (frames.length_of bytes - 3) (drop 17 bytes) (small_drop 17 bytes (small_octets bytes octets)) in
-    subst IsBytes (pdu_is_at (nat_lt (length bytes) 17) (is_control bytes) bytes pdu is) (small_bytes (pdu_of bytes) small)
+    subst IsBytes (is_control_pdu bytes pdu is).1 (small_bytes (pdu_of bytes) small)
 
 by_way : (r : Result ThreeWay TlvError) (h : HelloValue) (p : PduValue) → pdu_in (by_reading h r) ≡ Some p → hello h ≡ p
 by_way (Ok way) h p e = cc

@@ -23,7 +23,8 @@ use Rattle.spb_tlvs.specs.ThreeWay.{three_way_value, neighbour_bytes, three_way_
 use Rattle.spb_tlvs.specs.RoundTrip.{IsNamed}
 use Rattle.spb_tlvs.proofs.ThreeWayLaws.{three_way_again}
 use Rattle.spb_tlvs.proofs.TlvLaws.{tlv_here, tlv_elsewhere}
-use Rattle.itag_frames.specs.Frame.{content_in, control_bytes, llc, ControlAgain}
+use Rattle.itag_frames.specs.Frame.{control_bytes, llc}
+use Rattle.itag_frames.specs.Classify.{content_in, ControlAgain}
 use Rattle.itag_frames.specs.Frame as frames
 use Rattle.lsdb.specs.Database.{Lsps}
 use Rattle.flooding.specs.Sending.{lsps_to_send}

@@ -8,7 +8,7 @@ use Rattle.isis_pdu.specs.Pdu.{HelloValue}
 use Rattle.isis_pdu.specs.Grammar.{IsBytes}
 use Rattle.spb_tlvs.specs.declared.three_way.ThreeWay.{ThreeWay}
 use Rattle.spb_tlvs.specs.RoundTrip.{IsNamed}
-use Rattle.itag_frames.specs.Frame.{ControlAgain}
+use Rattle.itag_frames.specs.Classify.{ControlAgain}
 use Rattle.adjacency.specs.declared.state.AdjState.{AdjState}
 use Rattle.adjacency.specs.declared.state.AdjState.TheVariants.{Down, Initializing, Up}
 use Rattle.adjacency.specs.declared.port.Adjacency.{Adjacency}

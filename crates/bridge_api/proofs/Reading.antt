@@ -14,8 +14,8 @@ use Rattle.spb_tlvs.specs.declared.entries.SnpEntry.{SnpEntry}
 use Rattle.spb_tlvs.specs.Piece.{starts_whole, first_piece, after_first, piece_len, pieces, pieces_within}
 use Rattle.spb_tlvs.specs.Tlv.{tlv_of, values_with}
 use Rattle.spb_tlvs.specs.Entry.{entry_at, entries_of}
-use Rattle.itag_frames.specs.declared.frame.FrameError.TheVariants.{Short, NotBackbone}
-use Rattle.itag_frames.specs.Frame.{content_in, is_control, control_address, llc, length_of, pdu_of}
+use Rattle.itag_frames.specs.Frame.{has_pdu, llc, length_of, pdu_of}
+use Rattle.itag_frames.specs.Classify.{content_in}
 use Rattle.itag_frames.specs.Frame as frames
 use Rattle.flooding.specs.Laws.{IsWhole}
 use Rattle.flooding.proofs.SendableEntries.{read_is_whole}
@@ -24,7 +24,7 @@ use Rattle.snp_sync.specs.Reading.{before_others, entries_in_all, entries_in}
 use Rattle.bridge_api.specs.Parsing.{parsed}
 use Rattle.bridge_api.specs.Parsing as parsing
 use Rattle.bridge_api.proofs.Octets.{bytes_small, small_bytes, small_take, small_drop}
-use Rattle.bridge_api.proofs.Heard.{pdu_in, IsHeardPdu, heard_pdu}
+use Rattle.bridge_api.proofs.Heard.{pdu_in, IsHeardPdu, heard_pdu, is_control_pdu}
 
 octets_drop : (n : ℕ) (bytes : List ℕ) → IsBytes bytes → IsBytes (drop n bytes)
 octets_drop n bytes octets = small_bytes (drop n bytes) (small_drop n bytes (bytes_small bytes octets))
@@ -35,24 +35,20 @@ octets_take n bytes octets = small_bytes (take n bytes) (small_take n bytes (byt
 -- ---- an LSP
 
 -- a control frame has a PDU of at most 1,497 bytes
-short_pdu : (frame : List ℕ) → is_control frame ≡ true → length (pdu_of frame) ≤ 1497
-short_pdu frame control =
-    let address : Bool = bytes_eq (take 6 frame) control_address in
+short_pdu : (frame : List ℕ) → has_pdu frame ≡ true → length (pdu_of frame) ≤ 1497
+short_pdu frame has =
     let low : Bool = nat_le 3 (length_of frame) in
     let high : Bool = nat_le (length_of frame) 1500 in
     let within : Bool = nat_le (length_of frame) (length frame - 14) in
-    let outer = and_parts (address && (low && high && within)) (bytes_eq (take 3 (drop 14 frame)) llc) control in
-    let few : length_of frame ≤ 1500 = leb-true (length_of frame) 1500 (and_parts low high (and_parts (low && high) within (and_parts address (low && high && within) outer.0).1).0).1 in
+    let outer = and_parts (low && high && within) (bytes_eq (take 3 (drop 14 frame)) llc) has in
+    let few : length_of frame ≤ 1500 = leb-true (length_of frame) 1500 (and_parts low high (and_parts (low && high) within outer.0).0).1 in
     let taken : length (pdu_of frame) ≡ min (length_of frame - 3) (length (drop 17 frame)) = length-take (length_of frame - 3) (drop 17 frame) in
     omega (arith, few, taken)
 
-short_at : (short control : Bool) (frame pdu : List ℕ) → is_control frame ≡ control → (if short then Err Short else (if control then Ok (frames.Pdu (pdu_of frame)) else Err NotBackbone)) ≡ Ok (frames.Pdu pdu) → length pdu ≤ 1497
-short_at true control frame pdu is e = absurd cc
-short_at false true frame pdu is e = let same : pdu_of frame ≡ pdu = cc in subst (λ (p : List ℕ). length p ≤ 1497) same (short_pdu frame is)
-short_at false false frame pdu is e = absurd cc
-
 pub pdu_is_short : (frame pdu : List ℕ) → content_in frame ≡ Ok (frames.Pdu pdu) → length pdu ≤ 1497
-pdu_is_short frame pdu e = short_at (nat_lt (length frame) 17) (is_control frame) frame pdu refl e
+pdu_is_short frame pdu e =
+    let control = is_control_pdu frame pdu e in
+    subst (λ (p : List ℕ). length p ≤ 1497) control.1 (short_pdu frame control.0)
 
 -- so an LSP that is heard can be written again, and its fields are of the right size
 pub record IsHeardLsp (l : LspValue) : Type 0 where

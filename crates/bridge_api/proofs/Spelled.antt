@@ -11,7 +11,8 @@ use Rattle.isis_pdu.specs.Spelling.{lsp_bytes, csnp_bytes, psnp_bytes}
 use Rattle.spb_tlvs.specs.declared.entries.SnpEntry.{SnpEntry}
 use Rattle.spb_tlvs.specs.RoundTrip.{IsEntry}
 use Rattle.spb_tlvs.proofs.Numbers.{six}
-use Rattle.itag_frames.specs.Frame.{content_in, control_bytes, ControlAgain}
+use Rattle.itag_frames.specs.Frame.{control_bytes}
+use Rattle.itag_frames.specs.Classify.{content_in, ControlAgain}
 use Rattle.itag_frames.specs.Frame as frames
 use Rattle.lsdb.specs.Entry.{Entry}
 use Rattle.flooding.specs.Sending.{lsp_in}

@@ -13,7 +13,8 @@ use Rattle.spb_tlvs.specs.declared.three_way.ThreeWay.{ThreeWay}
 use Rattle.spb_tlvs.specs.Tlv.{values_with}
 use Rattle.spb_tlvs.specs.ThreeWay.{three_way_of}
 use Rattle.itag_frames.specs.declared.frame.FrameError.{FrameError}
-use Rattle.itag_frames.specs.Frame.{Content, content_in}
+use Rattle.itag_frames.specs.Frame.{Content}
+use Rattle.itag_frames.specs.Classify.{content_in}
 use Rattle.itag_frames.specs.Frame as frames
 use Rattle.spb_tlvs.specs.declared.codes.TheConstants.{THREE_WAY_ADJACENCY}
 use Rattle.bridge_api.specs.declared.drop_reason.DropReason.{DropReason}

@@ -3,7 +3,8 @@ use Rattle.std.proofs.Common.{◌≡◌, Bool, List, sym, ap, ◌∙◌, Result,
 use Rattle.std.specs.Prelude.{if◌then◌else◌}
 use Rattle.isis_pdu.specs.Grammar.{IsBytes}
 use Rattle.itag_frames.specs.declared.frame.FrameError.{FrameError}
-use Rattle.itag_frames.specs.Frame.{Content, content_in}
+use Rattle.itag_frames.specs.Frame.{Content}
+use Rattle.itag_frames.specs.Classify.{content_in}
 use Rattle.bridge_api.specs.Parsing.{by_content, parsed}
 use Rattle.bridge_api.specs.Parsing as parsing
 use Rattle.bridge_api.specs.declared.drop_reason.DropReason.TheVariants as drop

@@ -14,7 +14,7 @@ use Rattle.itag_frames.specs.Backbone.{b_tag, i_tag, backbone_bytes, has_b_tag, 
 use Rattle.itag_frames.proofs.ControlLaws.{six}
 
 -- an address of six bytes, byte by byte
-mac : (P : Mac → Type 0) (m : Mac) → length m.bytes ≡ 6 → ((a b c d e f : ℕ) → P (record { bytes = a ∷ b ∷ c ∷ d ∷ e ∷ f ∷ [] })) → P m
+pub mac : (P : Mac → Type 0) (m : Mac) → length m.bytes ≡ 6 → ((a b c d e f : ℕ) → P (record { bytes = a ∷ b ∷ c ∷ d ∷ e ∷ f ∷ [] })) → P m
 mac P m long k = six (λ (bytes : List ℕ). P (record { bytes = bytes })) m.bytes long k
 
 pub encapsulated_again : EncapsulatedAgain

@@ -4,7 +4,8 @@ use Rattle.std.specs.Int.{w16, to_be_bytes}
 use Rattle.std.proofs.lemmas.Bool.{le-leb, le-ltb}
 use Rattle.std.proofs.lemmas.List.{append-nil, length-append, take_at}
 use Rattle.spb_types.specs.declared.address.Mac.{Mac}
-use Rattle.itag_frames.specs.Frame.{Pdu, control_address, llc, control_bytes, content_in, ControlAgain}
+use Rattle.itag_frames.specs.Frame.{Pdu, control_address, llc, control_bytes}
+use Rattle.itag_frames.specs.Classify.{content_in, ControlAgain}
 
 -- six bytes, one by one
 pub six : (P : List ℕ → Type 0) (m : List ℕ) → length m ≡ 6 → ((a b c d e f : ℕ) → P (a ∷ b ∷ c ∷ d ∷ e ∷ f ∷ [])) → P m

@@ -1,2 +1,3 @@
 pub mod BackboneLaws
+pub mod ClassifyLaws
 pub mod ControlLaws

@@ -1,5 +1,5 @@
 -- The frames of the backbone as bytes.
-use Rattle.std.specs.Prelude.{◌≡◌, ℕ, ◌+◌, ◌-◌, ◌≤◌, List, [], ◌∷◌, ◌++◌, length, take, drop, Bool, ◌&&◌, nat_le, nat_lt, Result, Ok, Err, if◌then◌else◌}
+use Rattle.std.specs.Prelude.{ℕ, ◌+◌, ◌-◌, List, [], ◌∷◌, ◌++◌, length, take, drop, Bool, ◌&&◌, nat_le, Result, Ok, Err}
 use Rattle.std.specs.Str.{bytes_eq}
 use Rattle.std.specs.Int.{w16, to_be_bytes}
 use Rattle.spb_types.specs.Bytes.{u16_at}
@@ -9,7 +9,6 @@ use Rattle.spb_types.specs.declared.service.Isid.{Isid}
 use Rattle.itag_frames.specs.declared.frame.Frame.{Frame}
 use Rattle.itag_frames.specs.declared.frame.Frame.TheVariants as frames
 use Rattle.itag_frames.specs.declared.frame.FrameError.{FrameError}
-use Rattle.itag_frames.specs.declared.frame.FrameError.TheVariants.{Short, NotBackbone}
 
 -- what a frame carries, without where it lies in memory: a PDU, or the fields and the customer frame of a backbone
 -- frame
@@ -45,28 +44,20 @@ control_bytes sa pdu = control_address ++ sa.bytes ++ to_be_bytes w16 (3 + lengt
 abbrev pub length_of : List ℕ → ℕ
 length_of frame = u16_at frame 12
 
--- whether a frame of at least 17 bytes is a control frame: the group address, a length of the LLC bytes up to 1,500
--- that the frame has, and the LLC bytes
-abbrev pub is_control : List ℕ → Bool
-is_control frame =
-    bytes_eq (take 6 frame) control_address
-    && (nat_le 3 (length_of frame) && nat_le (length_of frame) 1500 && nat_le (length_of frame) (length frame - 14))
+-- whether a frame goes to the group address of the bridges
+abbrev pub is_to_bridges : List ℕ → Bool
+is_to_bridges frame = bytes_eq (take 6 frame) control_address
+
+-- whether such a frame of at least 17 bytes has a PDU: a length of the LLC bytes up to 1,500 that the frame has, and the
+-- LLC bytes
+abbrev pub has_pdu : List ℕ → Bool
+has_pdu frame =
+    (nat_le 3 (length_of frame) && nat_le (length_of frame) 1500 && nat_le (length_of frame) (length frame - 14))
     && bytes_eq (take 3 (drop 14 frame)) llc
+
+abbrev pub is_control : List ℕ → Bool
+is_control frame = is_to_bridges frame && has_pdu frame
 
 -- its PDU; bytes after the length are ignored
 abbrev pub pdu_of : List ℕ → List ℕ
 pdu_of frame = take (length_of frame - 3) (drop 17 frame)
-
--- ---- what a frame is
-
-abbrev pub content_in : List ℕ → Result Content FrameError
-content_in frame =
-    if nat_lt (length frame) 17 then Err Short
-    else (if is_control frame then Ok (Pdu (pdu_of frame))
-    else Err NotBackbone)
-
--- ---- what is written is read again, whatever follows it
-
-abbrev pub ControlAgain : Type 0
-ControlAgain = (sa : Mac) (pdu more : List ℕ) → length sa.bytes ≡ 6 → length pdu ≤ 1497
-    → content_in (control_bytes sa pdu ++ more) ≡ Ok (Pdu pdu)

@@ -1,5 +1,6 @@
 ghost use Rattle.std.specs.Prelude.{◌≡◌, ◌≤◌, ◌++◌, ℕ, List, length, Ok, IfOk};
-ghost use Rattle.itag_frames.specs.Frame.{Pdu, control_bytes, content_in};
+ghost use Rattle.itag_frames.specs.Frame.{Pdu, control_bytes};
+ghost use Rattle.itag_frames.specs.Classify.{content_in};
 
 use crate::frame::{CONTROL_ADDRESS, LLC};
 use spb_types::{Mac, NoMemory};

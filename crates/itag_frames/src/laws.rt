@@ -1,4 +1,4 @@
-ghost use Rattle.itag_frames.specs.Frame.{ControlAgain};
+ghost use Rattle.itag_frames.specs.Classify.{CarriedAgain, ControlAgain};
 ghost use Rattle.itag_frames.specs.Backbone.{EncapsulatedAgain, EncapsulatedIsNoControl, OpenedCanBeCarried, OpenedIsWhole};
 
 /// A control frame that was written is read as its PDU, whatever bytes follow it.
@@ -11,6 +11,11 @@ pub fn control_again()
 pub fn encapsulated_again()
     ensures opened { EncapsulatedAgain }
     ensures no_control { EncapsulatedIsNoControl }
+{}
+
+/// A frame that carries a customer's frame is read as what was carried, unless it goes to the address of the bridges.
+pub fn carried_again()
+    ensures { CarriedAgain }
 {}
 
 /// What a frame is opened as can be carried, and has two addresses and a type.

@@ -14,7 +14,7 @@ use Rattle.spb_types.specs.Bytes.{lsp_id_bytes}
 use Rattle.isis_pdu.specs.Bytes.{u16_bytes, u32_bytes}
 use Rattle.isis_pdu.specs.declared.kind.Kind.TheVariants as kinds
 use Rattle.isis_pdu.specs.Spelling.{zeros, common_header, length_bytes, lsp_bytes}
-use Rattle.itag_frames.specs.Frame.{content_in}
+use Rattle.itag_frames.specs.Classify.{content_in}
 use Rattle.spb_tlvs.specs.RoundTrip.{IsNamed}
 use Rattle.itag_frames.proofs.ControlLaws.{control_again}
 use Rattle.lsdb.specs.declared.version.Version.{Version}

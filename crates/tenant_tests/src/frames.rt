@@ -1,6 +1,6 @@
 //! Tests of frames with an I-TAG.
 use crate::fixtures::{TO_ALL, isid, mac, vid};
-use itag_frames::{FrameError, classify, encapsulate, open_frame};
+use itag_frames::{Frame, FrameError, classify, encapsulate, open_frame};
 use spb_types::{SourceId, group_address};
 use std::test::Fail;
 
@@ -16,7 +16,8 @@ fn a_frame_to_a_group(rt: HostRuntime) -> Result<(), Fail> {
     let frame = encapsulate(rt.alloc(), da, mac(2, 1), vid(), isid(), &TO_ALL)?;
     assert_eq!(rt; frame.as_slice(), FRAME.as_slice());
     assert!(rt; matches!(open_frame(&FRAME[..35]), Err(FrameError::Short)));
-    assert!(rt; matches!(classify(&FRAME), Err(FrameError::NotBackbone)));
+    assert!(rt; matches!(classify(&FRAME[..35]), Err(FrameError::Short)));
+    assert!(rt; matches!(classify(&FRAME), Ok(Frame::Backbone(_))));
     match open_frame(&FRAME) {
         Ok(opened) => {
             assert!(rt; opened.da == da && opened.sa == mac(2, 1));
