@@ -21,8 +21,8 @@ use Rattle.bridge_api.specs.View.{BridgeView, port_at, with_port_at, is_port_up,
 use Rattle.bridge_api.specs.Own.{holding_of, with_holding, originated_if_changed}
 use Rattle.bridge_api.specs.Parsing.{Parsed, parsed}
 use Rattle.bridge_api.specs.Parsing as parsing
-use Rattle.bridge_api.specs.declared.drop_reason.DropReason.{DropReason}
-use Rattle.bridge_api.specs.declared.drop_reason.DropReason.TheVariants as drop
+use Rattle.forwarding.specs.declared.drop_reason.DropReason.{DropReason}
+use Rattle.forwarding.specs.declared.drop_reason.DropReason.TheVariants as drop
 
 -- a frame that is dropped changes nothing: the counts aren't kept yet
 abbrev pub after_drop : DropReason → BridgeView → BridgeView

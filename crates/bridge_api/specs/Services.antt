@@ -1,10 +1,11 @@
 -- The customer ports of a bridge and the services that they are attached to (IEEE 802.1ah, 25.10).
-use Rattle.std.specs.Prelude.{◌≡◌, ℕ, ◌≤◌, List, [], ◌∷◌, ◌++◌, length, map, Bool, ◌==◌, not, filter, Contains}
+use Rattle.std.specs.Prelude.{◌≡◌, ℕ, ◌≤◌, List, [], ◌∷◌, ◌++◌, length, map, Contains}
 use Rattle.std.specs.List.{AllByRecursion}
 use Rattle.spb_types.specs.declared.service.Vid.{Vid}
 use Rattle.spb_types.specs.declared.service.Isid.{Isid}
 use Rattle.spb_types.specs.declared.service.Attachment.{Attachment}
 use Rattle.spb_types.specs.declared.limits.TheConstants.{MOST_ISIDS}
+pub use Rattle.forwarding.specs.Ports.{is_at_other_port, without_customer_port}
 use Rattle.bridge_api.specs.View.{BridgeView}
 use Rattle.bridge_api.specs.Own.{originated_if_changed}
 use Rattle.bridge_api.specs.Config.{IsAttachment, AgreesWith, different, vids_of}
@@ -26,13 +27,6 @@ pub record CanAttach (v : BridgeView) (a : Attachment) : Type 0 where
   pub few_isids : length (different (map (λ x. x.isid.value) (v.attached ++ a ∷ []))) ≤ MOST_ISIDS
 
 -- ---- what becomes of a bridge
-
--- what is attached, without the customer port of this number
-abbrev pub is_at_other_port : ℕ → Attachment → Bool
-is_at_other_port port a = not (a.port == port)
-
-abbrev pub without_customer_port : ℕ → List Attachment → List Attachment
-without_customer_port port attached = filter (is_at_other_port port) attached
 
 -- a bridge to which this is attached, and which says so in its own LSP
 unfoldable pub with_attached : List Attachment → BridgeView → BridgeView

@@ -3,15 +3,14 @@ use Rattle.std.specs.Prelude.{ℕ, ◌+◌, ◌-◌, List, [], ◌∷◌, length
 use Rattle.std.specs.Option.{option_and_then, option_map}
 use Rattle.std.specs.List.{list_any}
 use Rattle.std.specs.FinMap.{entries}
-use Rattle.spb_types.specs.declared.address.Mac.{Mac}
 use Rattle.spb_types.specs.declared.address.BridgeId.{BridgeId}
 use Rattle.spb_types.specs.declared.address.LspId.{LspId}
 use Rattle.spb_types.specs.declared.service.SourceId.{SourceId}
 use Rattle.spb_types.specs.declared.service.VidPlan.{VidPlan}
-use Rattle.spb_types.specs.declared.service.Isid.{Isid}
 use Rattle.spb_types.specs.declared.service.Attachment.{Attachment}
 use Rattle.spb_types.specs.declared.ports.PortSet.{PortSet}
 use Rattle.spb_types.specs.Ports.{no_ports, with_port}
+use Rattle.customer_learning.specs.Known.{Addresses}
 use Rattle.lsdb.specs.Entry.{Entry}
 use Rattle.lsdb.specs.Database.{Lsps, any_flags}
 use Rattle.lsdb.specs.Certificate.{Control}
@@ -19,11 +18,6 @@ use Rattle.adjacency.specs.declared.port.Adjacency.{Adjacency}
 use Rattle.adjacency.specs.Hearing.{End}
 use Rattle.adjacency.specs.Adjacency.{neighbour_of, is_up}
 use Rattle.bridge_api.specs.declared.port.BridgePort.{BridgePort}
-
--- where the station of a customer's address is: at an own port, or behind the bridge with a backbone address
-pub data Place : Type 0 where
-  Local : ℕ → Place
-  Remote : Mac → Place
 
 -- a bridge: its configuration, its backbone ports from number 1 on, the LSPs that it holds, the customer ports that are
 -- attached, the customers' addresses that it has learned for each I-SID, whether its own sequence numbers are spent,
@@ -35,7 +29,7 @@ pub record BridgeView : Type 0 where
   pub ports : List BridgePort
   pub database : Lsps
   pub attached : List Attachment
-  pub learned : List (Isid × List (Mac × Place))
+  pub learned : Addresses
   pub spent : Bool
   pub failed : Bool
   pub drops : List ℕ

@@ -35,7 +35,7 @@
 
 pub use bridge::Bridge;
 pub use config::BridgeConfig;
-pub use drop_reason::DropReason;
+pub use forwarding::DropReason;
 pub use kind::Kind;
 pub use laws::{
     bridges_are_sound, cut_says_nothing, entering_up_is_whole, few_are_held_and_sent,
@@ -49,7 +49,6 @@ pub use port::BridgePort;
 
 mod bridge;
 mod config;
-mod drop_reason;
 mod kind;
 mod laws;
 mod outbox;

@@ -2,7 +2,7 @@
 use Rattle.std.proofs.Common.{◌≡◌, ℕ, Bool, true, List, refl, sym, ap, ◌∙◌, subst, Option, Some, None}
 use Rattle.std.specs.Prelude.{if◌then◌else◌}
 use Rattle.bridge_api.specs.declared.port.BridgePort.{BridgePort}
-use Rattle.bridge_api.specs.declared.drop_reason.DropReason.TheVariants as drop
+use Rattle.forwarding.specs.declared.drop_reason.DropReason.TheVariants as drop
 use Rattle.bridge_api.specs.View.{BridgeView, port_at, has_carrier_in, has_carrier_at}
 use Rattle.bridge_api.specs.Parsing.{Parsed, parsed}
 use Rattle.bridge_api.specs.Hearing.{after_drop, heard_as, heard_at, after_receive}

@@ -7,7 +7,7 @@ use Rattle.itag_frames.specs.Frame.{Content}
 use Rattle.itag_frames.specs.Classify.{content_in}
 use Rattle.bridge_api.specs.Parsing.{by_content, parsed}
 use Rattle.bridge_api.specs.Parsing as parsing
-use Rattle.bridge_api.specs.declared.drop_reason.DropReason.TheVariants as drop
+use Rattle.forwarding.specs.declared.drop_reason.DropReason.TheVariants as drop
 use Rattle.bridge_api.proofs.Octets.{bytes_small, octets_small}
 
 pub parsed_as : (frame : List ℕ) (content : Result Content FrameError) → IsBytes frame → content ≡ content_in frame → by_content content ≡ parsed frame

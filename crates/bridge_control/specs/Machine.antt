@@ -1,5 +1,6 @@
 -- The bridge that a machine's fields say.
 use Rattle.std.specs.Prelude.{◌≡◌, ℕ, ◌+◌, ◌≤◌, List, [], ◌∷◌, length, true, false, replicate, Option, Some, None}
+use Rattle.std.specs.FinMap.{empty}
 use Rattle.spb_types.specs.declared.address.SystemId.{SystemId}
 use Rattle.spb_types.specs.declared.limits.TheConstants.{MOST_PORTS}
 use Rattle.flooding.specs.Own.{own_id}
@@ -23,7 +24,7 @@ view_of m = record {
   ports = m.ports.items;
   database = m.db;
   attached = m.attached;
-  learned = [];
+  learned = empty;
   spent = m.own.spent;
   failed = false;
   drops = replicate 9 0;

@@ -1,29 +1,13 @@
 //! Attaching a customer port to a service, and detaching it.
-ghost use Rattle.std.specs.Prelude.{◌≡◌, filter, IfOk, OnOk};
+ghost use Rattle.std.specs.Prelude.{OnOk};
 ghost use Rattle.bridge_api.specs.Own as api;
 ghost use Rattle.bridge_api.specs.Services as services;
 ghost use Rattle.bridge_control.specs.Machine.{view_of, IsReady, IsAfter};
 ghost use Rattle.bridge_control.specs.Attaching.{CanTell};
 
 use crate::machine::Machine;
+use forwarding::without_customer_port;
 use spb_types::{Attachment, NoMemory, Seq};
-use std::alloc::Global;
-
-/// What is attached, without the customer port of this number.
-fn without_customer_port(
-    alloc: Global,
-    port: u16,
-    attached: &[Attachment],
-) -> Result<Vec<Attachment>, NoMemory>
-    ensures { IfOk result (λ v. v.items ≡ services.without_customer_port port attached.now) }
-{
-    let others = attached
-        .iter()
-        .filter(|attachment| attachment.port != port)
-        .copied()
-        .collect(alloc)?;
-    Ok(others)
-}
 
 impl Machine {
     /// Attaches a customer port to a service.

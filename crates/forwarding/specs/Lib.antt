@@ -1,3 +1,5 @@
+pub mod Detaching
 pub mod Laws
+pub mod Placed
 pub mod Ports
 pub mod Tenant

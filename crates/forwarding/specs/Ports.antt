@@ -30,6 +30,13 @@ receiving_ports isid attached = ports_of isid attached
 abbrev pub is_served : Isid → Vid → List Attachment → Bool
 is_served isid vid attached = list_any (λ a. is_in isid a && (a.vid.value == vid.value)) attached
 
+-- what is attached, without the customer port of this number
+abbrev pub is_at_other_port : ℕ → Attachment → Bool
+is_at_other_port port a = not (a.port == port)
+
+abbrev pub without_customer_port : ℕ → List Attachment → List Attachment
+without_customer_port port attached = filter (is_at_other_port port) attached
+
 -- ---- backbone ports
 
 -- the ports of a set, ascending

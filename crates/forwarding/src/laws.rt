@@ -1,4 +1,5 @@
 //! The laws of customers' frames. Each is the contract of a function that does nothing.
+ghost use Rattle.forwarding.specs.Placed.{PlacedIsFound, EntryKeepsPlaces, DeliveryKeepsPlaces, AttachingKeepsPlaces, DetachingKeepsPlaces};
 ghost use Rattle.forwarding.specs.Laws.{LeavesInItsService, SentInItsService, DeliveredInItsService, IngressFailureChangesNothing};
 
 /// What leaves or is sent of a customer's frame stays in the I-SID in which it entered or which carried it, byte for
@@ -12,4 +13,14 @@ pub fn services_stay_apart()
 /// A backbone frame that fails the ingress check is dropped, and changes nothing else.
 pub fn ingress_failure_changes_nothing()
     ensures { IngressFailureChangesNothing }
+{}
+
+/// An address that was learned at a customer port was learned at one of its I-SID, and that stays so whatever frames
+/// come and whichever ports are attached and detached.
+pub fn places_stay_in_their_service()
+    ensures found { PlacedIsFound }
+    ensures entry { EntryKeepsPlaces }
+    ensures delivery { DeliveryKeepsPlaces }
+    ensures attaching { AttachingKeepsPlaces }
+    ensures detaching { DetachingKeepsPlaces }
 {}

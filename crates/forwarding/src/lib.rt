@@ -7,14 +7,18 @@
 
 pub use backbone::from_backbone;
 pub use customer::from_customer;
+pub use detaching::{detach, without_customer_port};
 pub use drop_reason::DropReason;
-pub use laws::{ingress_failure_changes_nothing, services_stay_apart};
+pub use laws::{
+    ingress_failure_changes_nothing, places_stay_in_their_service, services_stay_apart,
+};
 pub use moved::Moved;
 pub use tenant::Tenant;
 
 mod backbone;
 mod copies;
 mod customer;
+mod detaching;
 mod drop_reason;
 mod going;
 mod laws;
