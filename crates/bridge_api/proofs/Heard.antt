@@ -1,6 +1,6 @@
 -- What a frame that is heard was read from.
 use Rattle.std.proofs.Common.{◌≡◌, ℕ, ◌-◌, Bool, true, false, List, length, drop, refl, ap, subst, Option, Some, None, Result, Ok, Err}
-use Rattle.std.specs.Prelude.{if◌then◌else◌, nat_lt, slice_get}
+use Rattle.std.specs.Prelude.{if◌then◌else◌, nat_lt, not, slice_get}
 use Rattle.isis_pdu.specs.declared.pdu.PduError.{PduError}
 use Rattle.isis_pdu.specs.Pdu.{HelloValue, PduValue, hello, lsp, csnp, psnp}
 use Rattle.isis_pdu.specs.Reading.{read}
