@@ -67,7 +67,7 @@ impl Machine {
         requires carrier { has_carrier_at (view_of self.old) port ≡ true }
         ensures { OnOk result (IsAfter (api.after_receive port frame.now (view_of self.old)) self.new) }
     {
-        match parse(frame) {
+        match parse(&self.db, frame) {
             Message::Hello(hello, way) => self.hear_new_hello(port, frame, &hello, &way),
             Message::Lsp(lsp) => self.hear_lsp(port, &lsp),
             Message::Csnp(csnp) => self.hear_csnp(port, &csnp),
