@@ -17,3 +17,4 @@ pub mod Anew
 pub mod Tlvless
 pub mod Telling
 pub mod Copies
+pub mod HeldAgain

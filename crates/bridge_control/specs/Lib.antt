@@ -2,6 +2,7 @@ pub mod Ports
 pub mod Machine
 pub mod Message
 pub mod Heard
+pub mod HeldLsp
 pub mod Frames
 pub mod Made
 pub mod Plane

@@ -4,8 +4,9 @@
 //!
 //! [`ControlPlane`] is a `Machine` with two marks: whether it is blank, and whether a call found no memory. What the
 //! machine makes of a frame stands in `hearing`, of a change at a port in `changing`, of a customer port that is attached
-//! or detached in `attaching`, and of a second in `ticking`; what a frame brings in `parsing`, and in `heard` for the
-//! hello that came last to a port; what is sent in `hello`, `made` and `sending`, and the tables in `reading`.
+//! or detached in `attaching`, and of a second in `ticking`; what a frame brings in `parsing`, in `heard` for the hello
+//! that came last to a port, and in `held_lsp` for an LSP that is held; what is sent in `hello`, `made` and `sending`,
+//! and the tables in `reading`.
 //!
 //! # A kind of bridge
 //!
@@ -40,8 +41,9 @@
 //!   frame comes again it is compared, and not read. One that only begins the holding count anew changes its port and
 //!   nothing else. Memory is taken where another hello comes than the last time, for its frame, and where one changes
 //!   the state, the neighbour or the circuit at its port. Leaving Up goes over the database once, and entering Up once more.
-//! - An LSP is gone over once for its checksum, and takes a binary search, and a second one and memory for its body if
-//!   it is stored; a sequence numbers PDU takes what `snp_sync` says for its entries.
+//! - An LSP takes a binary search and is compared with what is held under its id. Where the same is held live it isn't
+//!   read. Any other is gone over once for its TLVs and once for its checksum, and takes a second search, and a third one
+//!   and memory for its body if it is stored. A sequence numbers PDU takes what `snp_sync` says for its entries.
 //! - Each question about tables makes them anew: it goes over the database once, in time and memory of the bytes of the
 //!   live LSPs, and then takes what the graph of all that they say takes (`spb_content`), and the tables in it
 //!   (`fdb_build`). `unicast_port` and `group_ports` make them for their one answer. `path` makes the graph and one tree
@@ -56,6 +58,7 @@ mod changing;
 mod control_plane;
 mod heard;
 mod hearing;
+mod held_lsp;
 mod hello;
 mod machine;
 mod made;

@@ -4,12 +4,15 @@ ghost use Rattle.isis_pdu.specs.Pdu.{hello_of};
 ghost use Rattle.isis_pdu.specs.Reading.{read};
 ghost use Rattle.spb_tlvs.specs.Tlv.{values_with};
 ghost use Rattle.itag_frames.specs.Frame.{contents};
+ghost use Rattle.flooding.specs.Entries.{AreSendable};
 ghost use Rattle.bridge_api.specs.Parsing as api;
 ghost use Rattle.bridge_control.specs.Message.{Says};
 
+use crate::held_lsp::held_lsp;
 use bridge_api::DropReason;
 use isis_pdu::{Csnp, Hello, Lsp, Pdu, Psnp, decode};
 use itag_frames::{Backbone, Frame, FrameError, classify};
+use lsdb::Database;
 use spb_tlvs::{THREE_WAY_ADJACENCY, ThreeWay, find_tlv, read_three_way};
 
 /// What a frame brings to a bridge.
@@ -19,37 +22,50 @@ pub(crate) enum Message<'a> {
     Dropped(DropReason),
     /// A hello and its three-way adjacency.
     Hello(Hello<'a>, ThreeWay),
-    Lsp(Lsp<'a>),
+    /// An LSP, and the place at which it is looked for first.
+    Lsp(Lsp<'a>, usize),
     Csnp(Csnp<'a>),
     Psnp(Psnp<'a>),
     /// A customer's frame over the backbone.
     Customer(Backbone<'a>),
 }
 
-/// What a frame brings. It may be any bytes.
-pub(crate) fn parse(frame: &[u8]) -> Message<'_>
+/// What a frame brings. It may be any bytes. An LSP that is held in `db` as it is isn't read again.
+pub(crate) fn parse<'a>(db: &Database, frame: &'a [u8]) -> Message<'a>
+    requires { AreSendable db.now }
     ensures { Says result (api.parsed frame.now) }
 {
-    parse_content(classify(frame))
+    parse_content(db, classify(frame))
 }
 
 /// A control frame is heard by its PDU.
-fn parse_content(content: Result<Frame<'_>, FrameError>) -> Message<'_>
+fn parse_content<'a>(db: &Database, content: Result<Frame<'a>, FrameError>) -> Message<'a>
+    requires { AreSendable db.now }
     ensures { Says result (api.by_content (contents content.entry)) }
 {
     match content {
-        Ok(Frame::Control(pdu)) => parse_pdu(pdu),
+        Ok(Frame::Control(pdu)) => parse_pdu(db, pdu),
         Ok(Frame::Backbone(frame)) => Message::Customer(frame),
         Err(_) => Message::Dropped(DropReason::Frame),
     }
 }
 
-fn parse_pdu(pdu: &[u8]) -> Message<'_>
+fn parse_pdu<'a>(db: &Database, pdu: &'a [u8]) -> Message<'a>
+    requires { AreSendable db.now }
+    ensures { Says result (api.by_pdu (read pdu.now)) }
+{
+    match held_lsp(db, pdu) {
+        Some(held) => Message::Lsp(held.0, held.1),
+        None => parse_new(pdu),
+    }
+}
+
+fn parse_new(pdu: &[u8]) -> Message<'_>
     ensures { Says result (api.by_pdu (read pdu.now)) }
 {
     match decode(pdu) {
         Ok(Pdu::Hello(hello)) => parse_hello(&hello),
-        Ok(Pdu::Lsp(lsp)) => Message::Lsp(lsp),
+        Ok(Pdu::Lsp(lsp)) => Message::Lsp(lsp, usize::MAX),
         Ok(Pdu::Csnp(csnp)) => Message::Csnp(csnp),
         Ok(Pdu::Psnp(psnp)) => Message::Psnp(psnp),
         Err(_) => Message::Dropped(DropReason::Pdu),
