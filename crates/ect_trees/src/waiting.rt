@@ -43,9 +43,12 @@ fn least_of(items: &[Waiting]) -> usize
         → (slice_index_or items.now result d).cost ≤ (slice_index_or items.now k d).cost }
 {
     let mut least = 0;
+    let mut cost = items[0].cost;
     for place in 1..items.len() {
-        if items[place].cost < items[least].cost {
+        let other = items[place].cost;
+        if other < cost {
             least = place;
+            cost = other;
         }
     }
     least
