@@ -27,7 +27,7 @@ pub fn stands_at(graph: &Graph, place: usize, system: SystemId) -> bool
     ensures { IsTrue result → IsBridgeAt graph.now place system }
 {
     let bridges = graph.bridges.as_slice();
-    place < bridges.len() && bridges[place].id.system.is(system)
+    place < bridges.len() && bridges[place].id.system == system
 }
 
 /// The system id read as a number, and spread.

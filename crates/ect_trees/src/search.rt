@@ -1,7 +1,5 @@
 ghost use Rattle.std.specs.Prelude.{◌≡◌, ◌+◌, ◌-◌, ◌<◌, ◌∷◌, [], length, replicate, None, IfOk, OnOk, MatchBool};
-ghost use Rattle.std.specs.List.{list_any};
 ghost use Rattle.std.specs.Ordering.{nat_cmp, ordering_then};
-ghost use Rattle.spb_types.specs.Address.{same_system};
 ghost use Rattle.spb_types.specs.Graph.{IsAmong, IsValid};
 ghost use Rattle.spb_types.specs.declared.address.SystemId.{SystemId};
 ghost use Rattle.ect_trees.specs.declared.search.Label.{Label};
@@ -32,20 +30,13 @@ pub struct Search<'a> {
     pub mask: u8,
 }
 
-/// Whether the bridge is one of these.
-fn is_among(bridges: &[SystemId], system: SystemId) -> bool
-    ensures { result ≡ list_any (λ bridge. same_system bridge system) bridges.now }
-{
-    bridges.iter().any(|bridge| bridge.is(system))
-}
-
 impl Label {
     /// Whether the bridge is on the path.
     fn passes(&self, system: SystemId) -> bool
         ensures { MatchBool result (IsAmong system self.now.bridges.items)
             (IsAmong system self.now.bridges.items → ⊥) }
     {
-        is_among(self.bridges.as_slice(), system)
+        self.bridges.contains(&system)
     }
 
     /// The label's entry in the frontier.

@@ -32,7 +32,7 @@ fn ends_at(path: &Path, to: SystemId) -> bool
 {
     match path.bridges.as_slice().last() {
         None => false,
-        Some(end) => end.is(to),
+        Some(end) => *end == to,
     }
 }
 

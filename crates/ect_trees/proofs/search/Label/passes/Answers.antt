@@ -6,4 +6,4 @@ use Rattle.ect_trees.proofs.search.Label.passes.Goals as goal
 
 pub returns : goal.returns
 returns c =
-    passes_is c.args.system c.args.self.now.bridges.items c.is_among.result (c.is_among.ensures ∙ ap (list_any (λ t. same_system t c.args.system)) c.as_slice.ensures.value)
+    passes_is c.args.system c.args.self.now.bridges.items c.contains.result (c.contains.ensures.value ∙ ap (list_any (λ t. same_system t c.args.system)) c.deref.ensures.value)
