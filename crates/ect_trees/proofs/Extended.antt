@@ -2,10 +2,11 @@
 use Rattle.std.proofs.Common.{◌≡◌, ℕ, ◌+◌, ◌^◌, ◌<◌, Bool, true, false, true≢false, ◌||◌, not, inl, inr, List, [], ◌∷◌, ◌++◌, length, map, take, Option, Some, IsSome, unwrap_or, refl, sym, ap, ◌∙◌, subst, arith, length-append, Ordering, Less, Equal, Greater, nat_cmp}
 use Rattle.std.specs.List.{list_any}
 use Rattle.std.specs.Bool.{MatchBool}
-use Rattle.std.specs.Ordering.{ordering_then, is_lt}
+use Rattle.std.specs.Ordering.{MatchOrdering, ordering_then, is_lt}
 use Rattle.std.specs.Cmp.Lexicographic.{slice_cmp}
 use Rattle.std.proofs.Math.Seq.{take-append_seam}
 use Rattle.std.proofs.lemmas.List.{length-map}
+use Rattle.std.proofs.lemmas.Cmp.{ranked}
 use Rattle.std.proofs.lemmas.Option.{same_Some}
 use Rattle.spb_types.specs.Address.{same_system}
 use Rattle.spb_types.specs.Graph.{IsAmong, IsValid, systems_of, cost_between}
@@ -103,6 +104,19 @@ pub tells_not : (s : Search) (l o : Label) (y : SystemId) (cost : ℕ) → IsLab
 tells_not s l o y cost old e greater =
     let key = keys_by_lengths s l o y cost old e ∙ ap (λ t. ordering_then t (slice_cmp id_cmp (longer_ids s l y) (ids_of s o.bridges.items))) greater in
     (o, refl, λ below. let t : Less ≡ Greater = sym below ∙ key in absurd (cc))
+
+nat_more : (m n : ℕ) → n < m → nat_cmp m n ≡ Greater
+nat_more m n h = by (nat_cmp m n) (ranked m n (nat_cmp m n) refl)
+  where
+    by : (o : Ordering) → MatchOrdering o (m < n) (m ≡ n) (n < m) → o ≡ Greater
+    by Less k = absurd (omega (arith, h, k))
+    by Equal k = absurd (omega (arith, h, k))
+    by Greater k = refl
+
+-- what costs more isn't lower
+pub dearer_is_not : (s : Search) (l o : Label) (y : SystemId) (cost : ℕ) → IsLabel s y o → cost ≡ longer_cost s l y → o.cost < cost → IsLow s l y (Some o)
+dearer_is_not s l o y cost old e more =
+    tells_not s l o y cost old e (ap (λ t. ordering_then t (nat_cmp (length l.bridges.items + 1) (length o.bridges.items))) (nat_more cost o.cost more))
 
 lt_is : (o : Ordering) → is_lt o ≡ true → o ≡ Less
 lt_is Less h = refl

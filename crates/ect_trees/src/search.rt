@@ -1,4 +1,4 @@
-ghost use Rattle.std.specs.Prelude.{◌≡◌, ◌+◌, ◌-◌, ◌<◌, ◌∷◌, [], length, replicate, None, IfOk, OnOk, MatchBool};
+ghost use Rattle.std.specs.Prelude.{◌≡◌, ◌+◌, ◌-◌, ◌<◌, ◌∷◌, [], length, replicate, None, Some, IfOk, OnOk, IsTrue, MatchBool};
 ghost use Rattle.std.specs.Ordering.{nat_cmp, ordering_then};
 ghost use Rattle.spb_types.specs.Graph.{IsAmong, IsValid};
 ghost use Rattle.spb_types.specs.declared.address.SystemId.{SystemId};
@@ -115,6 +115,16 @@ fn compare_lengths(cost: u64, bridges: usize, label: &Label) -> Ordering
     bridges.cmp(&label.bridges.len())
 }
 
+/// Whether this costs more than the old label, if there is one.
+fn is_dearer(cost: u64, old: &Option<Label>) -> bool
+    ensures { IsTrue result → (o : Label) × (old.now ≡ Some o) × (o.cost < cost) }
+{
+    match old {
+        None => false,
+        Some(old) => old.cost < cost,
+    }
+}
+
 impl<'a> Search<'a> {
     /// The path of the source alone.
     fn first(&self, alloc: Global) -> Result<Label, NoMemory>
@@ -200,8 +210,11 @@ impl<'a> Search<'a> {
             → old.now ≡ Some l → search.IsLabel self.now y l }
         ensures { IfOk result (search.Improves self.now arc label.now old.now) }
     {
-        let system = self.mesh.graph.bridges.as_slice()[arc.to].id.system;
         let cost = label.cost + u64::from(arc.cost);
+        if is_dearer(cost, old) {
+            return Ok(None);
+        }
+        let system = self.mesh.graph.bridges.as_slice()[arc.to].id.system;
         let near = Near {
             last: arc.from,
             before: label.near.last,
