@@ -16,6 +16,9 @@ use std::alloc::Global;
 /// How long a neighbour is to hold this bridge, in seconds.
 const HOLDING: u16 = 3;
 
+/// Bytes that the TLVs of a hello take, at most.
+const MOST_TLVS: usize = 26;
+
 /// Puts the hello of a port into the outbox if the port has carrier.
 pub(crate) fn send_hello(
     alloc: Global,
@@ -86,7 +89,8 @@ fn hello_tlvs(alloc: Global, way: ThreeWay) -> Result<Vec<u8>, NoMemory>
     ensures tlvs { IfOk result (λ tlvs. tlvs.items ≡ api.hello_tlvs way) }
     ensures short { IfOk result (λ tlvs. length tlvs.items ≤ 26) }
 {
-    let mut tlvs = Vec::from_slice(alloc, &AREAS_AND_PROTOCOLS)?;
+    let mut tlvs = Vec::with_capacity(alloc, MOST_TLVS)?;
+    tlvs.extend_from_slice(&AREAS_AND_PROTOCOLS)?;
     write_three_way(&mut tlvs, &way)?;
     Ok(tlvs)
 }

@@ -1,11 +1,12 @@
 -- One bridge more at the end of a label, and when that makes a better one.
-use Rattle.std.proofs.Common.{◌≡◌, ℕ, ◌+◌, ◌^◌, ◌<◌, Bool, true, false, true≢false, ◌||◌, inl, inr, List, [], ◌∷◌, ◌++◌, length, map, take, Option, Some, IsSome, unwrap_or, refl, sym, ap, ◌∙◌, subst, arith, length-append, Ordering, Less, Equal, Greater, nat_cmp}
+use Rattle.std.proofs.Common.{◌≡◌, ℕ, ◌+◌, ◌^◌, ◌<◌, Bool, true, false, true≢false, ◌||◌, not, inl, inr, List, [], ◌∷◌, ◌++◌, length, map, take, Option, Some, IsSome, unwrap_or, refl, sym, ap, ◌∙◌, subst, arith, length-append, Ordering, Less, Equal, Greater, nat_cmp}
 use Rattle.std.specs.List.{list_any}
 use Rattle.std.specs.Bool.{MatchBool}
-use Rattle.std.specs.Ordering.{ordering_then, is_lt}
+use Rattle.std.specs.Ordering.{MatchOrdering, ordering_then, is_lt}
 use Rattle.std.specs.Cmp.Lexicographic.{slice_cmp}
 use Rattle.std.proofs.Math.Seq.{take-append_seam}
 use Rattle.std.proofs.lemmas.List.{length-map}
+use Rattle.std.proofs.lemmas.Cmp.{ranked}
 use Rattle.std.proofs.lemmas.Option.{same_Some}
 use Rattle.spb_types.specs.Address.{same_system}
 use Rattle.spb_types.specs.Graph.{IsAmong, IsValid, systems_of, cost_between}
@@ -104,24 +105,39 @@ tells_not s l o y cost old e greater =
     let key = keys_by_lengths s l o y cost old e ∙ ap (λ t. ordering_then t (slice_cmp id_cmp (longer_ids s l y) (ids_of s o.bridges.items))) greater in
     (o, refl, λ below. let t : Less ≡ Greater = sym below ∙ key in absurd (cc))
 
+nat_more : (m n : ℕ) → n < m → nat_cmp m n ≡ Greater
+nat_more m n h = by (nat_cmp m n) (ranked m n (nat_cmp m n) refl)
+  where
+    by : (o : Ordering) → MatchOrdering o (m < n) (m ≡ n) (n < m) → o ≡ Greater
+    by Less k = absurd (omega (arith, h, k))
+    by Equal k = absurd (omega (arith, h, k))
+    by Greater k = refl
+
+-- what costs more isn't lower
+pub dearer_is_not : (s : Search) (l o : Label) (y : SystemId) (cost : ℕ) → IsLabel s y o → cost ≡ longer_cost s l y → o.cost < cost → IsLow s l y (Some o)
+dearer_is_not s l o y cost old e more =
+    tells_not s l o y cost old e (ap (λ t. ordering_then t (nat_cmp (length l.bridges.items + 1) (length o.bridges.items))) (nat_more cost o.cost more))
+
 lt_is : (o : Ordering) → is_lt o ≡ true → o ≡ Less
 lt_is Less h = refl
 lt_is Equal h = absurd (true≢false (sym h))
 lt_is Greater h = absurd (true≢false (sym h))
 
 -- a tie is told by the ids
-pub tells_tie : (s : Search) (l o : Label) (y : SystemId) (cost : ℕ) (lower : Bool) → IsLabel s y o → cost ≡ longer_cost s l y → lengths_cmp cost l o ≡ Equal → length o.bridges.items ≡ length l.bridges.items + 1 → (IsAmong y l.bridges.items → ⊥) → HasLowerIds s l o lower → Tells s l y (Some o) lower
-tells_tie s l o y cost lower old e tie long free ids = by lower ids
-  where
-    order : Ordering
-    order = slice_cmp id_cmp (ids_of s l.bridges.items) (ids_of s (take (length l.bridges.items) o.bridges.items))
+tie_key : (s : Search) (l o : Label) (y : SystemId) (cost : ℕ) → IsLabel s y o → cost ≡ longer_cost s l y → lengths_cmp cost l o ≡ Equal → length o.bridges.items ≡ length l.bridges.items + 1 → key_cmp (longer_key s l y) (key_of (graph_of s) s.mask o.bridges.items) ≡ slice_cmp id_cmp (ids_of s l.bridges.items) (ids_of s (take (length l.bridges.items) o.bridges.items))
+tie_key s l o y cost old e tie long =
+    keys_by_lengths s l o y cost old e ∙ (ap (λ t. ordering_then t (slice_cmp id_cmp (longer_ids s l y) (ids_of s o.bridges.items))) tie ∙ ids_by_fronts s l o y old long)
 
-    key : key_cmp (longer_key s l y) (key_of (graph_of s) s.mask o.bridges.items) ≡ order
-    key = keys_by_lengths s l o y cost old e ∙ (ap (λ t. ordering_then t (slice_cmp id_cmp (longer_ids s l y) (ids_of s o.bridges.items))) tie ∙ ids_by_fronts s l o y old long)
+-- where they are lower, it is left whether the path passes the bridge
+pub tells_won : (s : Search) (l o : Label) (y : SystemId) (cost : ℕ) (passes : Bool) → IsLabel s y o → cost ≡ longer_cost s l y → lengths_cmp cost l o ≡ Equal → length o.bridges.items ≡ length l.bridges.items + 1 → HasLowerIds s l o true → MatchBool passes (IsAmong y l.bridges.items) (IsAmong y l.bridges.items → ⊥) → Tells s l y (Some o) (not passes)
+tells_won s l o y cost true old e tie long ids m = λ free. absurd (free m)
+tells_won s l o y cost false old e tie long ids m =
+    (m, λ k f. subst (λ (t : Label). IsBelow (longer_key s l y) (key_of (graph_of s) s.mask t.bridges.items)) (same_Some o k f) (tie_key s l o y cost old e tie long ∙ lt_is _ (sym ids)))
 
-    by : (t : Bool) → t ≡ is_lt order → Tells s l y (Some o) t
-    by true h = (free, λ k f. subst (λ (t : Label). IsBelow (longer_key s l y) (key_of (graph_of s) s.mask t.bridges.items)) (same_Some o k f) (key ∙ lt_is order (sym h)))
-    by false h = λ off. (o, refl, λ below. true≢false (sym (ap is_lt (sym key ∙ below)) ∙ sym h))
+-- where they aren't, the path isn't lower
+pub tells_lost : (s : Search) (l o : Label) (y : SystemId) (cost : ℕ) → IsLabel s y o → cost ≡ longer_cost s l y → lengths_cmp cost l o ≡ Equal → length o.bridges.items ≡ length l.bridges.items + 1 → HasLowerIds s l o false → Tells s l y (Some o) false
+tells_lost s l o y cost old e tie long ids =
+    λ off. (o, refl, λ below. true≢false (sym (ap is_lt (sym (tie_key s l o y cost old e tie long) ∙ below)) ∙ sym ids))
 
 -- a path with one bridge more that was told lower is a lower label
 pub lower_label : (s : Search) (arc : Arc) (l new : Label) (old : Option Label) (cost : ℕ) (y : SystemId) → IsValid (graph_of s) → Extends s arc l → IsBridgeAt (graph_of s) arc.to y → cost ≡ longer_cost s l y → Tells s l y old true → IsExtended l y cost new → IsLower s l y old new

@@ -67,7 +67,7 @@ below_cost_at m n Greater r e f h = absurd (cc)
 pub below_cost : (k l : PathKey) → IsBelow k l → k.cost ≤ l.cost
 below_cost k l h = below_cost_at k.cost l.cost (nat_cmp k.cost l.cost) _ refl (ranked k.cost l.cost (nat_cmp k.cost l.cost) refl) h
 
-cmp_from : (m n i j : ℕ) (o r : Ordering) → nat_cmp m n ≡ o → nat_cmp i j ≡ r → MatchOrdering o (m < n) (m ≡ n) (n < m) → MatchOrdering r (i < j) (i ≡ j) (j < i) → (m < n → i < j) → (m ≡ n → i ≡ j) → (n < m → j < i) → r ≡ o
+pub cmp_from : (m n i j : ℕ) (o r : Ordering) → nat_cmp m n ≡ o → nat_cmp i j ≡ r → MatchOrdering o (m < n) (m ≡ n) (n < m) → MatchOrdering r (i < j) (i ≡ j) (j < i) → (m < n → i < j) → (m ≡ n → i ≡ j) → (n < m → j < i) → r ≡ o
 cmp_from m n i j Less Less e f x y a b c = refl
 cmp_from m n i j Equal Equal e f x y a b c = refl
 cmp_from m n i j Greater Greater e f x y a b c = refl

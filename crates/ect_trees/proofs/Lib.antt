@@ -25,3 +25,4 @@ pub mod Ends
 pub mod Behind
 pub mod EndOnce
 pub mod Waits
+pub mod Numbers

@@ -1,188 +1,158 @@
--- The frontier as a list: one is put in, the first is taken, and one is taken out.
-use Rattle.std.proofs.Common.{◌≡◌, ℕ, zero, suc, ◌+◌, ◌<◌, ◌≤◌, Bool, true, false, true≢false, not, cond, List, [], ◌∷◌, length, Option, Some, None, unwrap_or, refl, sym, ap, ◌∙◌, subst, arith, ltb, leb}
+-- The frontier as a list in no order: one is put in, one is taken out, and one that costs least is found.
+use Rattle.std.proofs.Common.{◌≡◌, ℕ, zero, suc, ◌+◌, ◌<◌, ◌≤◌, Bool, true, false, true≢false, not, cond, List, [], ◌∷◌, ◌++◌, length, get_or, Option, Some, None, refl, sym, ap, ◌∙◌, subst, arith, ltb}
 use Rattle.std.specs.Ordering.{is_eq}
-use Rattle.std.specs.List.{insert, remove, position, position_or_len, AllByRecursion}
-use Rattle.std.proofs.lemmas.Bool.{ltb-true, ltb-false, leb-true, leb-false}
-use Rattle.std.proofs.lemmas.Option.{none-some, same_Some}
+use Rattle.std.specs.List.{swap_remove, position, position_or_len}
+use Rattle.std.proofs.lemmas.Bool.{ltb-false}
+use Rattle.std.proofs.lemmas.List.Quantifiers.{position-Some}
+use Rattle.std.proofs.lemmas.List.Sums.{sum_by-cons, sum_by_push, sum_by-swap_remove}
+use Rattle.std.proofs.lemmas.Option.{none-some}
 use Rattle.ect_trees.specs.declared.waiting.Waiting.{Waiting}
-use Rattle.ect_trees.specs.Waits.{waiting_cmp, waits, AreInOrder}
+use Rattle.ect_trees.specs.Waits.{waiting_cmp, waits, times, WaitOnce}
 use Rattle.ect_trees.proofs.Ranks.{entry_same, same_entry}
 
 abbrev is_same : Waiting → Waiting → Bool
 is_same w e = is_eq (waiting_cmp w e)
 
--- what a predicate finds, or the end
-pub found_or_end : (p : Waiting → Bool) (ws : List Waiting) → unwrap_or (position p ws) (length ws) ≡ position_or_len p ws
-found_or_end p ws = by (ltb (position_or_len p ws) (length ws)) refl
+-- what one that waits adds to how often another does
+abbrev pub one : Waiting → Waiting → ℕ
+one e w = cond (is_same w e) 1 0
+
+some_times : (ws : List Waiting) (e : Waiting) → waits ws e ≡ true → 1 ≤ times ws e
+some_times [] e h = absurd (true≢false (sym h))
+some_times (w ∷ ws) e h = by (is_same w e) refl h (some_times ws e)
   where
-    pos-le : (xs : List Waiting) → position_or_len p xs ≤ length xs
-    pos-le [] = omega arith
-    pos-le (y ∷ ys) = at (not (p y)) (pos-le ys)
-      where
-        at : (t : Bool) → position_or_len p ys ≤ length ys → cond t (1 + position_or_len p ys) 0 ≤ suc (length ys)
-        at true h = omega (arith, h)
-        at false h = omega arith
+    whole : times (w ∷ ws) e ≡ one e w + times ws e
+    whole = sum_by-cons (one e) w ws
 
-    by : (t : Bool) → ltb (position_or_len p ws) (length ws) ≡ t → unwrap_or (cond t (Some (position_or_len p ws)) None) (length ws) ≡ position_or_len p ws
-    by true e = refl
-    by false e = omega (arith, pos-le ws, ltb-false (position_or_len p ws) (length ws) e)
+    by : (t : Bool) → is_same w e ≡ t → cond t true (waits ws e) ≡ true → (waits ws e ≡ true → 1 ≤ times ws e) → 1 ≤ times (w ∷ ws) e
+    by true k m ih = let here : one e w ≡ 1 = ap (λ t. cond t 1 0) k in omega (arith, whole, here)
+    by false k m ih = let rest = ih m in omega (arith, whole, rest)
 
--- one that waits is one of those for which something holds
-all_waits : (P : Waiting → Type 0) (ws : List Waiting) → AllByRecursion P ws → (e : Waiting) → waits ws e ≡ true → P e
-all_waits P [] a e h = absurd (true≢false (sym h))
-all_waits P (w ∷ ws) a e h = by (is_same w e) refl h (all_waits P ws a.1 e)
+no_times : (ws : List Waiting) (e : Waiting) → waits ws e ≡ false → times ws e ≡ 0
+no_times [] e h = refl
+no_times (w ∷ ws) e h = by (is_same w e) refl h (no_times ws e)
   where
-    by : (t : Bool) → is_same w e ≡ t → cond t true (waits ws e) ≡ true → (waits ws e ≡ true → P e) → P e
-    by true k h ih = subst P (entry_same w e k) a.0
-    by false k h ih = ih h
+    whole : times (w ∷ ws) e ≡ one e w + times ws e
+    whole = sum_by-cons (one e) w ws
 
-all_weaker : (P Q : Waiting → Type 0) → ((e : Waiting) → P e → Q e) → (ws : List Waiting) → AllByRecursion P ws → AllByRecursion Q ws
-all_weaker P Q f [] a = tt
-all_weaker P Q f (w ∷ ws) a = (f w a.0, all_weaker P Q f ws a.1)
+    by : (t : Bool) → is_same w e ≡ t → cond t true (waits ws e) ≡ false → (waits ws e ≡ false → times ws e ≡ 0) → times (w ∷ ws) e ≡ 0
+    by true k m ih = absurd (true≢false m)
+    by false k m ih = let here : one e w ≡ 0 = ap (λ t. cond t 1 0) k in let rest = ih m in omega (arith, whole, here, rest)
 
--- the first costs least
-pub first_least : (f : Waiting) (ws : List Waiting) → AreInOrder (f ∷ ws) → (e : Waiting) → waits (f ∷ ws) e ≡ true → f.cost ≤ e.cost
-first_least f ws o e h = all_waits (λ e. f.cost ≤ e.cost) (f ∷ ws) (omega arith, o.1) e h
-
-pub first_waits : (f : Waiting) (ws : List Waiting) → waits (f ∷ ws) f ≡ true
-first_waits f ws = ap (λ t. cond t true (waits ws f)) (same_entry f f refl)
-
--- without the first
-pub first_taken : (f : Waiting) (ws : List Waiting) → AreInOrder (f ∷ ws) → (e : Waiting) → waits ws e ≡ cond (is_same f e) false (waits (f ∷ ws) e)
-first_taken f ws o e = by (is_same f e) refl
+-- one is taken out
+pub one_out : (x e : Waiting) (ws next : List Waiting) → WaitOnce ws → times next e + one e x ≡ times ws e → waits next e ≡ cond (is_same x e) false (waits ws e)
+one_out x e ws next once whole = by (is_same x e) (waits ws e) (waits next e) refl refl refl
   where
-    by : (t : Bool) → is_same f e ≡ t → waits ws e ≡ cond t false (cond t true (waits ws e))
-    by true k = subst (λ x. waits ws x ≡ false) (entry_same f e k) o.0
-    by false k = refl
+    by : (s t u : Bool) → is_same x e ≡ s → waits ws e ≡ t → waits next e ≡ u → u ≡ cond s false t
+    by true t false a b c = refl
+    by true t true a b c =
+        let here : one e x ≡ 1 = ap (λ v. cond v 1 0) a in
+        let still = some_times next e c in
+        let few = once e in
+        absurd (omega (arith, whole, here, still, few))
+    by false true true a b c = refl
+    by false false false a b c = refl
+    by false true false a b c =
+        let here : one e x ≡ 0 = ap (λ v. cond v 1 0) a in
+        let was = some_times ws e b in
+        let gone = no_times next e c in
+        absurd (omega (arith, whole, here, was, gone))
+    by false false true a b c =
+        let here : one e x ≡ 0 = ap (λ v. cond v 1 0) a in
+        let was = no_times ws e b in
+        let still = some_times next e c in
+        absurd (omega (arith, whole, here, was, still))
+
+pub one_out_once : (x : Waiting) (ws next : List Waiting) → WaitOnce ws → ((e : Waiting) → times next e + one e x ≡ times ws e) → WaitOnce next
+one_out_once x ws next once whole = λ e. let few = once e in let all = whole e in omega (arith, few, all)
+
+-- the one that stands at a place
+pub swapped_out : (x e : Waiting) (ws next : List Waiting) (i : ℕ) (d : Waiting) → i < length ws → next ≡ swap_remove ws i d → get_or ws i d ≡ x → times next e + one e x ≡ times ws e
+swapped_out x e ws next i d within gone here =
+    ap (λ t. times t e + one e x) gone ∙ (ap (λ t. times (swap_remove ws i d) e + one e t) (sym here) ∙ sum_by-swap_remove (one e) ws i d within)
 
 -- one more
-pub put_waits : (w e : Waiting) (ws : List Waiting) (i : ℕ) → i ≤ length ws → waits (insert ws i w) e ≡ cond (is_same w e) true (waits ws e)
-put_waits w e [] zero h = refl
-put_waits w e [] (suc i) h = absurd (omega (arith, h))
-put_waits w e (y ∷ ys) zero h = refl
-put_waits w e (y ∷ ys) (suc i) h = ap (λ t. cond (is_same y e) true t) (put_waits w e ys i (omega (arith, h))) ∙ by (is_same y e) (is_same w e)
+pub put_waits : (w e : Waiting) (ws : List Waiting) → waits (ws ++ w ∷ []) e ≡ cond (is_same w e) true (waits ws e)
+put_waits w e [] = refl
+put_waits w e (y ∷ ys) = ap (λ t. cond (is_same y e) true t) (put_waits w e ys) ∙ by (is_same y e) (is_same w e)
   where
     by : (s t : Bool) → cond s true (cond t true (waits ys e)) ≡ cond t true (cond s true (waits ys e))
     by true true = refl
     by true false = refl
     by false t = refl
 
-all_put : (P : Waiting → Type 0) (w : Waiting) (ws : List Waiting) (i : ℕ) → i ≤ length ws → P w → AllByRecursion P ws → AllByRecursion P (insert ws i w)
-all_put P w [] zero h p a = (p, tt)
-all_put P w [] (suc i) h p a = absurd (omega (arith, h))
-all_put P w (y ∷ ys) zero h p a = (p, a)
-all_put P w (y ∷ ys) (suc i) h p a = (a.0, all_put P w ys i (omega (arith, h)) p a.1)
-
--- how many cost less
-abbrev pub before : ℕ → List Waiting → ℕ
-before cost ws = position_or_len (λ e. leb cost e.cost) ws
-
-pub before-le : (cost : ℕ) (ws : List Waiting) → before cost ws ≤ length ws
-before-le cost [] = omega arith
-before-le cost (y ∷ ys) = by (not (leb cost y.cost)) (before-le cost ys)
+pub put_once : (w : Waiting) (ws : List Waiting) → waits ws w ≡ false → WaitOnce ws → WaitOnce (ws ++ w ∷ [])
+put_once w ws new once = λ e. by e (is_same w e) refl
   where
-    by : (t : Bool) → before cost ys ≤ length ys → cond t (1 + before cost ys) 0 ≤ suc (length ys)
-    by true h = omega (arith, h)
-    by false h = omega arith
+    by : (e : Waiting) (t : Bool) → is_same w e ≡ t → times (ws ++ w ∷ []) e ≤ 1
+    by e true k =
+        let whole : times (ws ++ w ∷ []) e ≡ times ws e + one e w = sum_by_push (one e) ws w in
+        let here : one e w ≡ 1 = ap (λ v. cond v 1 0) k in
+        let none : times ws e ≡ 0 = no_times ws e (subst (λ v. waits ws v ≡ false) (entry_same w e k) new) in
+        omega (arith, whole, here, none)
+    by e false k =
+        let whole : times (ws ++ w ∷ []) e ≡ times ws e + one e w = sum_by_push (one e) ws w in
+        let here : one e w ≡ 0 = ap (λ v. cond v 1 0) k in
+        let few = once e in
+        omega (arith, whole, here, few)
 
-pub put_order : (w : Waiting) (ws : List Waiting) → waits ws w ≡ false → AreInOrder ws → AreInOrder (insert ws (before w.cost ws) w)
-put_order w [] n o = (refl, tt, tt)
-put_order w (y ∷ ys) n o = by (leb w.cost y.cost) refl (λ none. put_order w ys none o.2)
+-- one that stands at a place waits
+pub at_waits : (ws : List Waiting) (k : ℕ) (d : Waiting) → k < length ws → waits ws (get_or ws k d) ≡ true
+at_waits [] k d h = absurd (omega (arith, h))
+at_waits (w ∷ ws) zero d h = ap (λ t. cond t true (waits ws w)) (same_entry w w refl)
+at_waits (w ∷ ws) (suc k) d h = by (is_same w (get_or ws k d)) (at_waits ws k d (omega (arith, h)))
   where
-    apart : leb w.cost y.cost ≡ false → is_same w y ≡ false
-    apart k = at (is_same w y) refl
-      where
-        at : (t : Bool) → is_same w y ≡ t → t ≡ false
-        at true s = let same : w.cost ≡ y.cost = ap (λ (e : Waiting). e.cost) (entry_same w y s) in absurd (omega (arith, leb-false w.cost y.cost k, same))
-        at false s = refl
+    by : (t : Bool) → waits ws (get_or ws k d) ≡ true → cond t true (waits ws (get_or ws k d)) ≡ true
+    by true m = refl
+    by false m = m
 
-    rest : waits ys w ≡ false
-    rest = at (is_same y w) n
-      where
-        at : (t : Bool) → cond t true (waits ys w) ≡ false → waits ys w ≡ false
-        at true h = absurd (true≢false h)
-        at false h = h
-
-    by : (t : Bool) → leb w.cost y.cost ≡ t → (waits ys w ≡ false → AreInOrder (insert ys (before w.cost ys) w)) → AreInOrder (insert (y ∷ ys) (cond (not t) (1 + before w.cost ys) 0) w)
-    by true k ih =
-        let low = leb-true w.cost y.cost k in
-        (n, (low, all_weaker (λ e. y.cost ≤ e.cost) (λ e. w.cost ≤ e.cost) (λ e h. omega (arith, h, low)) ys o.1), o)
-    by false k ih =
-        let low = leb-false w.cost y.cost k in
-        let one : suc (before w.cost ys) ≡ 1 + before w.cost ys = omega arith in
-        let here : waits (insert ys (before w.cost ys) w) y ≡ false = put_waits w y ys (before w.cost ys) (before-le w.cost ys) ∙ (ap (λ t. cond t true (waits ys y)) (apart k) ∙ o.0) in
-        subst (λ i. AreInOrder (insert (y ∷ ys) i w)) one (here, all_put (λ e. y.cost ≤ e.cost) w ys (before w.cost ys) (before-le w.cost ys) (omega (arith, low)) o.1, ih rest)
-
--- without one
-abbrev pub without : Waiting → List Waiting → List Waiting
-without w [] = []
-without w (y ∷ ys) = cond (is_same y w) ys (y ∷ without w ys)
-
-pub without_waits : (w e : Waiting) (ws : List Waiting) → AreInOrder ws → waits (without w ws) e ≡ cond (is_same w e) false (waits ws e)
-without_waits w e [] o = by (is_same w e)
+-- and one that waits stands at a place
+waits_at : (ws : List Waiting) (e d : Waiting) → waits ws e ≡ true → (k : ℕ) × (k < length ws) × (get_or ws k d ≡ e)
+waits_at [] e d h = absurd (true≢false (sym h))
+waits_at (w ∷ ws) e d h = by (is_same w e) refl h (waits_at ws e d)
   where
-    by : (t : Bool) → false ≡ cond t false false
-    by true = refl
-    by false = refl
-without_waits w e (y ∷ ys) o = by (is_same y w) refl (without_waits w e ys o.2)
-  where
-    by : (t : Bool) → is_same y w ≡ t → waits (without w ys) e ≡ cond (is_same w e) false (waits ys e) → waits (cond t ys (y ∷ without w ys)) e ≡ cond (is_same w e) false (waits (y ∷ ys) e)
-    by true k ih = subst (λ x. waits ys e ≡ cond (is_same x e) false (waits (y ∷ ys) e)) (entry_same y w k) (first_taken y ys o e)
-    by false k ih = ap (λ t. cond (is_same y e) true t) ih ∙ at (is_same y e) (is_same w e) refl refl
-      where
-        at : (s t : Bool) → is_same y e ≡ s → is_same w e ≡ t → cond s true (cond t false (waits ys e)) ≡ cond t false (cond s true (waits ys e))
-        at true true a b = absurd (true≢false (sym (same_entry y w (entry_same y e a ∙ sym (entry_same w e b))) ∙ k))
-        at true false a b = refl
-        at false t a b = refl
+    by : (t : Bool) → is_same w e ≡ t → cond t true (waits ws e) ≡ true → (waits ws e ≡ true → (k : ℕ) × (k < length ws) × (get_or ws k d ≡ e)) → (k : ℕ) × (k < length (w ∷ ws)) × (get_or (w ∷ ws) k d ≡ e)
+    by true s m ih = (0, omega arith, entry_same w e s)
+    by false s m ih = let r = ih m in (suc r.0, omega (arith, r.1), r.2)
 
-all_without : (P : Waiting → Type 0) (w : Waiting) (ws : List Waiting) → AllByRecursion P ws → AllByRecursion P (without w ws)
-all_without P w [] a = tt
-all_without P w (y ∷ ys) a = by (is_same y w) (all_without P w ys a.1)
-  where
-    by : (t : Bool) → AllByRecursion P (without w ys) → AllByRecursion P (cond t ys (y ∷ without w ys))
-    by true ih = a.1
-    by false ih = (a.0, ih)
-
-pub without_order : (w : Waiting) (ws : List Waiting) → AreInOrder ws → AreInOrder (without w ws)
-without_order w [] o = tt
-without_order w (y ∷ ys) o = by (is_same y w) (without_order w ys o.2)
-  where
-    by : (t : Bool) → AreInOrder (without w ys) → AreInOrder (cond t ys (y ∷ without w ys))
-    by true ih = o.2
-    by false ih = (without_waits w y ys o.2 ∙ at (is_same w y), all_without (λ e. y.cost ≤ e.cost) w ys o.1, ih)
-      where
-        at : (t : Bool) → cond t false (waits ys y) ≡ false
-        at true = refl
-        at false = o.0
+-- what costs no more than each that stands at a place costs no more than each that waits
+pub least_waits : (ws : List Waiting) (first d : Waiting) → ((k : ℕ) → k < length ws → first.cost ≤ (get_or ws k d).cost) → (e : Waiting) → waits ws e ≡ true → first.cost ≤ e.cost
+least_waits ws first d least e h =
+    let r = waits_at ws e d h in
+    let low = least r.0 r.1 in
+    let same : (get_or ws r.0 d).cost ≡ e.cost = ap (λ (t : Waiting). t.cost) r.2 in
+    omega (arith, low, same)
 
 -- the place of one, or the end
 abbrev where_is : Waiting → List Waiting → ℕ
 where_is w ws = position_or_len (λ e. is_same e w) ws
 
-removed_at : (w : Waiting) (ws : List Waiting) → where_is w ws < length ws → remove ws (where_is w ws) ≡ without w ws
-removed_at w [] h = absurd (omega (arith, h))
-removed_at w (y ∷ ys) h = by (is_same y w) h (removed_at w ys)
+none_at : (w : Waiting) (ws : List Waiting) → length ws ≤ where_is w ws → waits ws w ≡ false
+none_at w [] h = refl
+none_at w (y ∷ ys) h = by (is_same y w) h (none_at w ys)
   where
-    by : (t : Bool) → cond (not t) (1 + where_is w ys) 0 < suc (length ys) → (where_is w ys < length ys → remove ys (where_is w ys) ≡ without w ys)
-        → remove (y ∷ ys) (cond (not t) (1 + where_is w ys) 0) ≡ cond t ys (y ∷ without w ys)
-    by true h ih = refl
-    by false h ih =
-        let one : 1 + where_is w ys ≡ suc (where_is w ys) = omega arith in
-        ap (λ i. remove (y ∷ ys) i) one ∙ ap (λ t. y ∷ t) (ih (omega (arith, h)))
+    by : (t : Bool) → suc (length ys) ≤ cond (not t) (1 + where_is w ys) 0 → (length ys ≤ where_is w ys → waits ys w ≡ false) → cond t true (waits ys w) ≡ false
+    by true m ih = absurd (omega (arith, m))
+    by false m ih = ih (omega (arith, m))
 
-none_removed : (w : Waiting) (ws : List Waiting) → length ws ≤ where_is w ws → ws ≡ without w ws
-none_removed w [] h = refl
-none_removed w (y ∷ ys) h = by (is_same y w) h (none_removed w ys)
+-- one that isn't found doesn't wait
+pub missing : (w : Waiting) (ws : List Waiting) → position (λ e. is_same e w) ws ≡ None → waits ws w ≡ false
+missing w ws none = by (ltb (where_is w ws) (length ws)) refl (sym none)
   where
-    by : (t : Bool) → suc (length ys) ≤ cond (not t) (1 + where_is w ys) 0 → (length ys ≤ where_is w ys → ys ≡ without w ys) → y ∷ ys ≡ cond t ys (y ∷ without w ys)
-    by true h ih = absurd (omega (arith, h))
-    by false h ih = ap (λ t. y ∷ t) (ih (omega (arith, h)))
+    by : (t : Bool) → ltb (where_is w ws) (length ws) ≡ t → None ≡ cond t (Some (where_is w ws)) None → waits ws w ≡ false
+    by true k h = absurd (none-some (where_is w ws) h)
+    by false k h = none_at w ws (ltb-false (where_is w ws) (length ws) k)
 
--- it is taken out at the place where it is found, and all stay where it isn't
-pub taken_out : (w : Waiting) (ws : List Waiting) (found : Option ℕ) → found ≡ position (λ e. is_same e w) ws
-    → ((i : ℕ) → found ≡ Some i → remove ws i ≡ without w ws) × (found ≡ None → ws ≡ without w ws)
-taken_out w ws found e = by (ltb (where_is w ws) (length ws)) refl e
+-- and one that is found stands at its place
+pub found_at : (w : Waiting) (ws : List Waiting) (i : ℕ) (d : Waiting) → position (λ e. is_same e w) ws ≡ Some i → (i < length ws) × (get_or ws i d ≡ w)
+found_at w ws i d found =
+    let r = position-Some (λ e. is_same e w) ws i d found in
+    (r.0, entry_same (get_or ws i d) w r.1)
+
+-- without one that doesn't wait all stay
+pub none_out : (w e : Waiting) (ws : List Waiting) → waits ws w ≡ false → waits ws e ≡ cond (is_same w e) false (waits ws e)
+none_out w e ws none = by (is_same w e) refl
   where
-    by : (t : Bool) → ltb (where_is w ws) (length ws) ≡ t → found ≡ cond t (Some (where_is w ws)) None → ((i : ℕ) → found ≡ Some i → remove ws i ≡ without w ws) × (found ≡ None → ws ≡ without w ws)
-    by true k h = ((λ i s. ap (remove ws) (sym (same_Some (where_is w ws) i (sym h ∙ s))) ∙ removed_at w ws (ltb-true (where_is w ws) (length ws) k)), (λ s. absurd (none-some (where_is w ws) (sym s ∙ h))))
-    by false k h = ((λ i s. absurd (none-some i (sym h ∙ s))), (λ s. none_removed w ws (ltb-false (where_is w ws) (length ws) k)))
+    by : (t : Bool) → is_same w e ≡ t → waits ws e ≡ cond t false (waits ws e)
+    by true k = subst (λ v. waits ws v ≡ false) (entry_same w e k) none
+    by false k = refl

@@ -1,11 +1,11 @@
 -- The search by a frontier: what holds between two bridges taken out of it, and while the edges of one are looked at.
 -- It is said of functions: way gives the path found so far, and waits says which bridges stand in the frontier.
-use Rattle.std.specs.Prelude.{◌≡◌, ◌≢◌, ◌⊎◌, ℕ, ◌≤◌, Bool, true, false, List, [], ◌∷◌, ◌++◌, Option, Some, IsSome}
+use Rattle.std.specs.Prelude.{◌≡◌, ◌≢◌, ◌⊎◌, ℕ, ◌≤◌, List, [], ◌∷◌, ◌++◌, Option, Some, IsSome}
 use Rattle.spb_types.specs.Graph.{IsAmong, IsDistinct, IsBridge, cost_between}
 use Rattle.spb_types.specs.declared.address.SystemId.{SystemId}
 use Rattle.spb_types.specs.declared.graph.Graph.{Graph}
 use Rattle.ect_trees.specs.Path.{IsPath, cost_of}
-use Rattle.ect_trees.specs.Low.{LowAt, AreLow}
+use Rattle.ect_trees.specs.Low.{LowAt}
 
 -- the way to z is there and costs at most c
 abbrev pub CostsAtMost : Graph → (SystemId → Option (List SystemId)) → SystemId → ℕ → Type 0
@@ -58,9 +58,3 @@ pub record WithOne (y : SystemId) (waits more : SystemId → Type 0) : Type 0 wh
 pub record WithWay (y : SystemId) (r : List SystemId) (way next : SystemId → Option (List SystemId)) : Type 0 where
   pub here : next y ≡ Some r
   pub others : (z : SystemId) → z ≢ y → next z ≡ way z
-
--- where nothing waits, the ways are low at every edge
-abbrev pub FrontEndsLow : Type 0
-FrontEndsLow = (g : Graph) (mask : ℕ) (a : SystemId) (done : List SystemId) (waits : SystemId → Bool)
-    (way : SystemId → Option (List SystemId))
-    → Front g mask a done (λ x. waits x ≡ true) way → ((x : SystemId) → waits x ≡ false) → AreLow g mask a way

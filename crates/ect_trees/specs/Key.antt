@@ -1,4 +1,5 @@
-use Rattle.std.specs.Prelude.{◌≡◌, ℕ, List, [], ◌∷◌, map, if◌then◌else◌}
+use Rattle.std.specs.Prelude.{◌≡◌, ◌<◌, ℕ, List, [], ◌∷◌, length, map, if◌then◌else◌}
+use Rattle.std.specs.List.{AllByRecursion}
 use Rattle.std.specs.declared.cmp.Ordering.{Ordering}
 use Rattle.std.specs.Ordering.{nat_cmp, ordering_then}
 use Rattle.std.specs.Cmp.Lexicographic.{slice_cmp}
@@ -14,6 +15,11 @@ use Rattle.ect_trees.specs.declared.key.PathKey.{PathKey}
 -- the order of masked ids: that of their bytes
 abbrev pub id_cmp : List ℕ → List ℕ → Ordering
 id_cmp = slice_cmp nat_cmp
+
+-- a masked id is eight bytes
+pub record HasEightBytes (id : List ℕ) : Type 0 where
+  pub len : length id ≡ 8
+  pub bytes : AllByRecursion (λ b. b < 256) id
 
 -- the bridge id of the bridge with system id x
 abbrev pub bridge_id_among : List GraphBridge → SystemId → BridgeId

@@ -1,6 +1,5 @@
 -- What waits in the frontier of a search.
-use Rattle.std.specs.Prelude.{◌≡◌, ◌≤◌, Bool, true, false, cond, List, [], ◌∷◌, ⊤}
-use Rattle.std.specs.List.{AllByRecursion}
+use Rattle.std.specs.Prelude.{◌≤◌, ℕ, Bool, true, false, cond, List, [], ◌∷◌, sum_by}
 use Rattle.std.specs.declared.cmp.Ordering.{Ordering}
 use Rattle.std.specs.Ordering.{nat_cmp, ordering_then, is_eq}
 use Rattle.ect_trees.specs.declared.waiting.Waiting.{Waiting}
@@ -15,7 +14,10 @@ abbrev pub waits : List Waiting → Waiting → Bool
 waits [] e = false
 waits (w ∷ ws) e = cond (is_eq (waiting_cmp w e)) true (waits ws e)
 
--- each waits once, and costs no more than those behind it
-abbrev pub AreInOrder : List Waiting → Type 0
-AreInOrder [] = ⊤
-AreInOrder (w ∷ ws) = (waits ws w ≡ false) × AllByRecursion (λ e. w.cost ≤ e.cost) ws × AreInOrder ws
+-- how often it stands in the frontier
+abbrev pub times : List Waiting → Waiting → ℕ
+times ws e = sum_by (λ w. cond (is_eq (waiting_cmp w e)) 1 0) ws
+
+-- each waits once
+abbrev pub WaitOnce : List Waiting → Type 0
+WaitOnce ws = (e : Waiting) → times ws e ≤ 1

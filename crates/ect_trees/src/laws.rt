@@ -1,7 +1,6 @@
 //! The laws of keys and of best paths. Each is the contract of a function that does nothing.
 ghost use Rattle.ect_trees.specs.Laws.{AreKeysOrdered, KeepsOrder, NoTieIsLeast, BestIsUnique, BestExists, BestOfNone, BestOfSome, BestToItself, BestReversed, FrontIsBest, BackIsBest, OrderSaysNothing, AlikeHaveSamePorts, LookAlikeFromEach, LooksBack, LooksOn, SameBest, PartLooksAlike, SomeGraphIsCut};
 ghost use Rattle.ect_trees.specs.Low.{LowIsBest, BestIsLow};
-ghost use Rattle.ect_trees.specs.Frontier.{FrontEndsLow};
 
 /// Keys are totally ordered, and only equal keys tie.
 pub fn keys_are_ordered()
@@ -38,11 +37,6 @@ pub fn best_of_is_best()
 pub fn low_ways_are_best()
     ensures best { LowIsBest }
     ensures low { BestIsLow }
-{}
-
-/// A search by a frontier in which nothing waits has found ways that are low at every edge.
-pub fn the_frontier_ends_low()
-    ensures { FrontEndsLow }
 {}
 
 /// The best path from a bridge to itself is that bridge alone.

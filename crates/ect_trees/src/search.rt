@@ -1,4 +1,4 @@
-ghost use Rattle.std.specs.Prelude.{◌≡◌, ◌+◌, ◌-◌, ◌<◌, ◌∷◌, [], length, replicate, None, IfOk, OnOk, MatchBool};
+ghost use Rattle.std.specs.Prelude.{◌≡◌, ◌+◌, ◌-◌, ◌<◌, ◌∷◌, [], length, replicate, None, Some, IfOk, OnOk, IsTrue, MatchBool};
 ghost use Rattle.std.specs.Ordering.{nat_cmp, ordering_then};
 ghost use Rattle.spb_types.specs.Graph.{IsAmong, IsValid};
 ghost use Rattle.spb_types.specs.declared.address.SystemId.{SystemId};
@@ -6,18 +6,19 @@ ghost use Rattle.ect_trees.specs.declared.search.Label.{Label};
 ghost use Rattle.ect_trees.specs.Arcs.{AreReady, IsBridgeAt, CanGo};
 ghost use Rattle.ect_trees.specs.Search as search;
 
-use crate::fork::compare_ids;
+use crate::fork::{NOWHERE, Near, compare_ids};
 use crate::mesh::{Arc, Mesh};
 use crate::waiting::{Frontier, Waiting};
 use spb_types::{NoMemory, Path, Seq, SystemId};
 use std::alloc::Global;
 use std::cmp::Ordering;
 
-/// A path from the source that was found, with its cost.
+/// A path from the source that was found, with its cost, and where the two bridges before its last may stand.
 #[derive(Drop)]
 pub struct Label {
     pub cost: u64,
     pub bridges: Vec<SystemId>,
+    pub near: Near,
 }
 
 /// The search for the best paths from a source to each bridge of a graph. It keeps a label at the place of each
@@ -49,14 +50,24 @@ impl Label {
         }
     }
 
-    /// The path with one bridge more, at this cost.
-    fn extended(&self, alloc: Global, system: SystemId, cost: u64) -> Result<Label, NoMemory>
+    /// The path with one bridge more, at this cost, where those before it may stand at these places.
+    fn extended(
+        &self,
+        alloc: Global,
+        system: SystemId,
+        cost: u64,
+        near: Near,
+    ) -> Result<Label, NoMemory>
         ensures { IfOk result (search.IsExtended self.now system cost) }
     {
         let mut bridges = Vec::with_capacity(alloc, self.bridges.len() + 1)?;
         bridges.extend_from_slice(self.bridges.as_slice())?;
         bridges.push(system)?;
-        Ok(Label { cost, bridges })
+        Ok(Label {
+            cost,
+            bridges,
+            near,
+        })
     }
 }
 
@@ -95,8 +106,23 @@ fn compare_lengths(cost: u64, bridges: usize, label: &Label) -> Ordering
     ensures { result ≡ ordering_then (nat_cmp cost label.now.cost)
         (nat_cmp bridges (length label.now.bridges.items)) }
 {
-    cost.cmp(&label.cost)
-        .then(bridges.cmp(&label.bridges.len()))
+    if label.cost < cost {
+        return Ordering::Greater;
+    }
+    if cost < label.cost {
+        return Ordering::Less;
+    }
+    bridges.cmp(&label.bridges.len())
+}
+
+/// Whether this costs more than the old label, if there is one.
+fn is_dearer(cost: u64, old: &Option<Label>) -> bool
+    ensures { IsTrue result → (o : Label) × (old.now ≡ Some o) × (o.cost < cost) }
+{
+    match old {
+        None => false,
+        Some(old) => old.cost < cost,
+    }
 }
 
 impl<'a> Search<'a> {
@@ -107,11 +133,19 @@ impl<'a> Search<'a> {
         Ok(Label {
             cost: 0,
             bridges: Vec::from_slice(alloc, &[self.source])?,
+            near: NOWHERE,
         })
     }
 
-    /// Whether the label's path has lower ids than the old one without its last bridge.
-    fn wins_tie(&self, alloc: Global, label: &Label, old: &Label) -> Result<bool, NoMemory>
+    /// Whether the label's path, whose last bridges may stand at these places, has lower ids than the old one without its
+    /// last bridge.
+    fn wins_tie(
+        &self,
+        alloc: Global,
+        label: &Label,
+        near: Near,
+        old: &Label,
+    ) -> Result<bool, NoMemory>
         requires valid { IsValid (search.graph_of self.now) }
         requires long { length old.now.bridges.items ≡ length label.now.bridges.items + 1 }
         ensures { IfOk result (search.HasLowerIds self.now label.now old.now) }
@@ -123,6 +157,8 @@ impl<'a> Search<'a> {
             self.mask,
             bridges,
             &old.bridges.as_slice()[..bridges.len()],
+            near,
+            old.near,
         )?;
         Ok(order.is_lt())
     }
@@ -133,6 +169,7 @@ impl<'a> Search<'a> {
         &self,
         alloc: Global,
         label: &Label,
+        near: Near,
         system: SystemId,
         cost: u64,
         old: &Option<Label>,
@@ -150,10 +187,10 @@ impl<'a> Search<'a> {
             Ordering::Less => Ok(!label.passes(system)),
             Ordering::Greater => Ok(false),
             Ordering::Equal => {
-                if label.passes(system) {
-                    Ok(false)
+                if self.wins_tie(alloc, label, near, old)? {
+                    Ok(!label.passes(system))
                 } else {
-                    self.wins_tie(alloc, label, old)
+                    Ok(false)
                 }
             }
         }
@@ -173,10 +210,17 @@ impl<'a> Search<'a> {
             → old.now ≡ Some l → search.IsLabel self.now y l }
         ensures { IfOk result (search.Improves self.now arc label.now old.now) }
     {
-        let system = self.mesh.graph.bridges.as_slice()[arc.to].id.system;
         let cost = label.cost + u64::from(arc.cost);
-        if self.is_lower(alloc, label, system, cost, old)? {
-            Ok(Some(label.extended(alloc, system, cost)?))
+        if is_dearer(cost, old) {
+            return Ok(None);
+        }
+        let system = self.mesh.graph.bridges.as_slice()[arc.to].id.system;
+        let near = Near {
+            last: arc.from,
+            before: label.near.last,
+        };
+        if self.is_lower(alloc, label, near, system, cost, old)? {
+            Ok(Some(label.extended(alloc, system, cost, near)?))
         } else {
             Ok(None)
         }
@@ -267,7 +311,7 @@ pub fn paths_of(alloc: Global, labels: Vec<Option<Label>>) -> Result<Vec<Path>, 
 {
     let mut paths = Vec::with_capacity(alloc, labels.len())?;
     for label in labels {
-        if let Some(Label { cost, bridges }) = label {
+        if let Some(Label { cost, bridges, .. }) = label {
             paths.push(Path {
                 cost,
                 bridges: Seq::from_vec(bridges),

@@ -1,6 +1,8 @@
 //! The frontier of a search: the bridges whose arcs are still to be relaxed.
-ghost use Rattle.std.specs.Prelude.{◌≡◌, length, nat_le, position, unwrap_or};
+ghost use Rattle.std.specs.Prelude.{◌≡◌, ◌<◌, ◌≤◌, ℕ, length, position};
+ghost use Rattle.std.specs.List.{slice_index_or};
 ghost use Rattle.std.specs.Ordering.{is_eq};
+ghost use Rattle.ect_trees.specs.declared.waiting.Waiting.{Waiting};
 ghost use Rattle.ect_trees.specs.Waits.{waiting_cmp};
 
 use spb_types::NoMemory;
@@ -15,7 +17,7 @@ pub struct Waiting {
     pub place: usize,
 }
 
-/// Those that wait, by ascending cost. Contracts see the list.
+/// Those that wait, in no order. Contracts see the list.
 #[derive(Drop)]
 pub struct Frontier {
     items: Vec<Waiting>,
@@ -24,20 +26,32 @@ pub struct Frontier {
 impl Model for Frontier {
     ghost use Rattle.std.specs.Prelude.{List};
     ghost use Rattle.ect_trees.specs.declared.waiting.Waiting.{Waiting};
-    ghost use Rattle.ect_trees.specs.Waits.{AreInOrder};
+    ghost use Rattle.ect_trees.specs.Waits.{WaitOnce};
 
     ghost Value = { List Waiting };
 
     ghost view = { λ f. f.items.items };
 
-    ghost invariant = { λ f. AreInOrder f.items.items };
+    ghost invariant = { λ f. WaitOnce f.items.items };
 }
 
-/// The place of the first that costs as much or more.
-fn first_from(items: &[Waiting], cost: u64) -> Option<usize>
-    ensures { result ≡ position (λ e. nat_le cost e.cost) items.now }
+/// The place of one that costs least.
+fn least_of(items: &[Waiting]) -> usize
+    requires { 0 < length items.now }
+    ensures within { result < length items.now }
+    ensures least { (k : ℕ) (d : Waiting) → k < length items.now
+        → (slice_index_or items.now result d).cost ≤ (slice_index_or items.now k d).cost }
 {
-    items.iter().position(|other| cost <= other.cost)
+    let mut least = 0;
+    let mut cost = items[0].cost;
+    for place in 1..items.len() {
+        let other = items[place].cost;
+        if other < cost {
+            least = place;
+            cost = other;
+        }
+    }
+    least
 }
 
 /// The place of one that waits.
@@ -62,7 +76,7 @@ impl Frontier {
         }
     }
 
-    /// Takes the first that waits, which costs least. None where nothing waits.
+    /// Takes one that costs least. None where nothing waits.
     pub fn take_first(&mut self) -> Option<Waiting>
         ensures none { IfNone result ((e : Waiting) → waits self.old e ≡ false) }
         ensures first { IfSome result (λ first. waits self.old first ≡ true) }
@@ -73,7 +87,8 @@ impl Frontier {
         if self.items.is_empty() {
             None
         } else {
-            Some(self.items.remove(0))
+            let place = least_of(self.items.as_slice());
+            Some(self.items.swap_remove(place))
         }
     }
 
@@ -83,8 +98,7 @@ impl Frontier {
         ensures { OnOk result ((e : Waiting)
             → waits self.new e ≡ cond (is_eq (waiting_cmp waiting e)) true (waits self.old e)) }
     {
-        let place = first_from(self.items.as_slice(), waiting.cost).unwrap_or(self.items.len());
-        self.items.insert(place, waiting)?;
+        self.items.push(waiting)?;
         Ok(())
     }
 
@@ -94,7 +108,7 @@ impl Frontier {
             → waits self.new e ≡ cond (is_eq (waiting_cmp waiting e)) false (waits self.old e) }
     {
         if let Some(place) = place_among(self.items.as_slice(), waiting) {
-            self.items.remove(place);
+            self.items.swap_remove(place);
         }
     }
 }

@@ -1,4 +1,5 @@
-use Rattle.std.proofs.Common.{◌≡◌, ℕ, ◌+◌, ◌<◌, List, [], ◌∷◌, ◌++◌, length, get_or, take, refl, ap, ◌∙◌, append_assoc}
+use Rattle.std.proofs.Common.{◌≡◌, ℕ, ◌+◌, ◌/◌, ◌%◌, ◌<◌, List, [], ◌∷◌, ◌++◌, length, get_or, take, refl, sym, ap, ◌∙◌, append_assoc, arith}
+use Rattle.std.specs.List.{slice_index}
 use Rattle.std.proofs.lemmas.List.{take_more}
 use Rattle.hex.specs.Hex.{encode_lower, encode_with, lower_digits}
 use Rattle.report.specs.Words.{spaced}
@@ -21,3 +22,20 @@ hex_more before mid after bytes i h so more =
     ap encode_lower (take_more bytes i 0 h) ∙ encode_with-append lower_digits (take i bytes) (get_or bytes i 0 ∷ [])
     in
     more ∙ ap (λ t. t ++ encode_lower (get_or bytes i 0 ∷ [])) so ∙ rw digits (simp append_assoc)
+
+six_bytes : (m : List ℕ) → length m ≡ 6 → m ≡ get_or m 0 0 ∷ get_or m 1 0 ∷ get_or m 2 0 ∷ get_or m 3 0 ∷ get_or m 4 0 ∷ get_or m 5 0 ∷ []
+six_bytes (a ∷ b ∷ c ∷ d ∷ e ∷ f ∷ []) h = refl
+six_bytes _ h = absurd (omega arith)
+
+-- the digits of the two halves of each of six bytes are their text
+pub six_digits : (m : List ℕ) (a b c d e f g h i j k l : ℕ) → length m ≡ 6
+    → a ≡ slice_index lower_digits (get_or m 0 0 / 16) → b ≡ slice_index lower_digits (get_or m 0 0 % 16)
+    → c ≡ slice_index lower_digits (get_or m 1 0 / 16) → d ≡ slice_index lower_digits (get_or m 1 0 % 16)
+    → e ≡ slice_index lower_digits (get_or m 2 0 / 16) → f ≡ slice_index lower_digits (get_or m 2 0 % 16)
+    → g ≡ slice_index lower_digits (get_or m 3 0 / 16) → h ≡ slice_index lower_digits (get_or m 3 0 % 16)
+    → i ≡ slice_index lower_digits (get_or m 4 0 / 16) → j ≡ slice_index lower_digits (get_or m 4 0 % 16)
+    → k ≡ slice_index lower_digits (get_or m 5 0 / 16) → l ≡ slice_index lower_digits (get_or m 5 0 % 16)
+    → a ∷ b ∷ c ∷ d ∷ e ∷ f ∷ g ∷ h ∷ i ∷ j ∷ k ∷ l ∷ [] ≡ encode_lower m
+unfolding encode_with
+six_digits m a b c d e f g h i j k l len pa pb pc pd pe pf pg ph pi pj pk pl =
+    (λ t. pa t ∷ pb t ∷ pc t ∷ pd t ∷ pe t ∷ pf t ∷ pg t ∷ ph t ∷ pi t ∷ pj t ∷ pk t ∷ pl t ∷ []) ∙ sym (ap encode_lower (six_bytes m len))

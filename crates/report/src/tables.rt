@@ -85,7 +85,7 @@ fn put_unicast_row(text: &mut Text, row: &UnicastRow) -> Result<(), NoMemory>
 {
     text.push(b"u")?;
     text.number(u64::from(row.vid.value))?;
-    text.hex(row.mac.bytes.as_slice())?;
+    text.mac(row.mac)?;
     text.number(u64::from(row.port))?;
     text.end()
 }
@@ -105,7 +105,7 @@ fn put_group_row(text: &mut Text, row: &GroupRow) -> Result<(), NoMemory>
 {
     text.push(b"g")?;
     text.number(u64::from(row.vid.value))?;
-    text.hex(row.mac.bytes.as_slice())?;
+    text.mac(row.mac)?;
     text.ports(row.ports)?;
     text.end()
 }

@@ -7,7 +7,7 @@ ghost use Rattle.report.specs.Listing.{comma, separated, separator_after};
 
 use itoa::Buffer;
 use spb_types::limits::MOST_PORTS;
-use spb_types::{NoMemory, PortSet};
+use spb_types::{Mac, NoMemory, PortSet};
 use std::alloc::Global;
 use std::marker::Model;
 
@@ -125,6 +125,29 @@ impl Text {
             self.hex_byte(*byte)?;
         }
         Ok(())
+    }
+
+    /// A space and an address: two hexadecimal digits for each of its bytes.
+    #[tactic(auto, unfolding(hex::specs::Hex::encode_with))]
+    pub(crate) fn mac(&mut self, mac: Mac) -> Result<(), NoMemory>
+        ensures { OnOk result (self.new ≡ self.old ++ spaced (encode_lower mac.bytes)) }
+    {
+        let [a, b, c, d, e, f] = mac.bytes;
+        self.push(&[
+            b' ',
+            hex_digit(a / 16),
+            hex_digit(a % 16),
+            hex_digit(b / 16),
+            hex_digit(b % 16),
+            hex_digit(c / 16),
+            hex_digit(c % 16),
+            hex_digit(d / 16),
+            hex_digit(d % 16),
+            hex_digit(e / 16),
+            hex_digit(e % 16),
+            hex_digit(f / 16),
+            hex_digit(f % 16),
+        ])
     }
 
     #[tactic(auto, unfolding(hex::specs::Hex::encode_with))]

@@ -1,8 +1,8 @@
 use Rattle.std.proofs.Common.{◌≡◌, ◌+◌, true, false, get_or, sym, subst, ap, ◌∙◌, arith}
 use Rattle.spb_types.specs.declared.address.SystemId.{SystemId}
-use Rattle.ect_trees.specs.Search.{graph_of, IsLabel, IsExtended, Tells, longer_cost}
+use Rattle.ect_trees.specs.Search.{graph_of, IsLabel, IsExtended, IsLow, Tells, longer_cost}
 use Rattle.ect_trees.proofs.Places.{no_bridge, read_bridge}
-use Rattle.ect_trees.proofs.Extended.{cost_fits, longer_cost_is, lower_label}
+use Rattle.ect_trees.proofs.Extended.{at_same, cost_fits, dearer_is_not, longer_cost_is, lower_label}
 use Rattle.ect_trees.proofs.search.Search.better.Goals as goal
 
 pub overflow_add-cost : goal.overflow_add-cost
@@ -22,6 +22,18 @@ is_lower-requires-clause-old c =
     let h = c.requires.arc in
     let same = (read_bridge (graph_of s) c.as_slice.result.now c.args.arc.to h.1 c.requires.ready.valid c.as_slice.ensures h.2.to).0 in
     λ o e. subst (λ t. IsLabel s t o) (sym same) (c.requires.old h.1 o h.2.to e)
+
+pub returns-then-is_dearer : goal.returns-then-is_dearer
+returns-then-is_dearer c =
+    let s = c.args.self.now in
+    let l = c.args.label.now in
+    let h = c.requires.arc in
+    let cost = l.cost + c.from.result in
+    let told = c.is_dearer.ensures c.if-is_dearer.true in
+    λ y here free.
+    let other : h.1 ≡ y = at_same (graph_of s) c.args.arc.to h.1 y h.2.to here in
+    let cost_is : cost ≡ longer_cost s l y = ap (λ n. l.cost + n) c.from.ensures ∙ (longer_cost_is s c.args.arc h.0 h.1 l h.2 h.3 ∙ ap (longer_cost s l) other) in
+    subst (IsLow s l y) (sym told.1) (dearer_is_not s l told.0 y cost (c.requires.old y told.0 here told.1) cost_is told.2)
 
 pub returns-in_ok-extended : goal.returns-in_ok-extended
 returns-in_ok-extended c =
