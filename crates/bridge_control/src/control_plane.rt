@@ -36,12 +36,13 @@ pub struct ControlPlane {
 
 impl Model for ControlPlane {
     ghost use Rattle.std.specs.Coded.{codes};
+    ghost use Rattle.customer_learning.specs.contracts.learned.Learned as learned;
     ghost use Rattle.lsdb.specs.contracts.database.Database as database;
     ghost use Rattle.bridge_control.specs.Plane.{Plane, plane_of, IsKept};
 
     ghost Value = { Plane };
 
-    ghost coded = { Prim.hlevel (codes, database.the_row.coded) };
+    ghost coded = { Prim.hlevel (codes, database.the_row.coded, learned.the_row.coded) };
 
     ghost view = { λ c. plane_of c.blank c.failed c.machine };
 
