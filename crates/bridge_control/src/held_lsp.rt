@@ -1,5 +1,5 @@
 //! An LSP that is held: where it comes again, it isn't read, and its checksum isn't summed.
-ghost use Rattle.std.specs.Prelude.{◌≡◌, ◌≤◌, Ok, IfSome, length};
+ghost use Rattle.std.specs.Prelude.{◌≡◌, ◌≤◌, true, Ok, IfSome, length, take, drop};
 ghost use Rattle.isis_pdu.specs.Grammar.{IsId};
 ghost use Rattle.isis_pdu.specs.Pdu as pdus;
 ghost use Rattle.isis_pdu.specs.Reading.{read};
@@ -56,17 +56,28 @@ fn live_lsp<'a>(held: &Held, seq: u32, sum: u16, pdu: &'a [u8]) -> Option<Lsp<'a
 {
     let lifetime = u16_in(pdu, 10);
     let head = head_of(held.id, pdu.len() as u16, lifetime, seq, sum);
-    if &pdu[..26] == head.as_slice() && &pdu[26..] == held.body.as_slice() {
+    let (_, tlvs) = pdu.split_at(27);
+    if is_joined(pdu, head.as_slice(), held.body.as_slice()) {
         return Some(Lsp {
             lifetime,
             id: held.id,
             seq,
             sum,
             flags: pdu[26],
-            tlvs: &pdu[27..],
+            tlvs,
         });
     }
     None
+}
+
+/// Whether a PDU is the bytes before the flags octet, and then the body.
+fn is_joined(pdu: &[u8], head: &[u8], body: &[u8]) -> bool
+    requires { 26 ≤ length pdu.now }
+    ensures head { result ≡ true → take 26 pdu.now ≡ head.now }
+    ensures body { result ≡ true → drop 26 pdu.now ≡ body.now }
+{
+    let (first, rest) = pdu.split_at(26);
+    first == head && rest == body
 }
 
 /// The bytes of an LSP before its flags octet, for a PDU of `len` bytes.
