@@ -136,6 +136,11 @@ sent_down me p port db up =
     sym (append-nil (hellos_at me p port))
     ∙ ap (λ (b : Bool). hellos_at me p port ++ (if b then summaries_at me p port db ++ lsps_at me p db ++ requests_at me p db else [])) (sym up)
 
+-- nothing is sent at a port without carrier that isn't Up
+pub sent_silent : (me : SystemId) (p : ℕ) (port : BridgePort) (db : Lsps) → port.adjacency.carrier ≡ false → is_port_up port ≡ false → [] ≡ sent_at me p port db
+sent_silent me p port db dark up =
+    ap (λ (b : Bool). if b then (p, hello_frame me p port) ∷ [] else []) (sym dark) ∙ sent_down me p port db up
+
 pub sent_up : (me : SystemId) (p : ℕ) (port : BridgePort) (db : Lsps) → is_port_up port ≡ true → sent_at me p port db ≡ hellos_at me p port ++ (summaries_at me p port db ++ flagged_at me p db)
 sent_up me p port db up =
     ap (λ (b : Bool). hellos_at me p port ++ (if b then summaries_at me p port db ++ lsps_at me p db ++ requests_at me p db else [])) up

@@ -10,7 +10,7 @@ use Rattle.bridge_control.specs.declared.parsing.Message.TheVariants as message
 abbrev pub Says : Message → Parsed → Type 0
 Says (message.Dropped reason) j = j ≡ parsing.dropped reason
 Says (message.Hello h way) j = (j ≡ parsing.hello (hello_of h) way) × (way.state ≤ 2)
-Says (message.Lsp l) j = j ≡ parsing.lsp (lsp_of l)
+Says (message.Lsp l near) j = j ≡ parsing.lsp (lsp_of l)
 Says (message.Csnp c) j = j ≡ parsing.csnp (csnp_of c)
 Says (message.Psnp s) j = j ≡ parsing.psnp (psnp_of s)
 Says (message.Customer f) j = j ≡ parsing.customer f.da f.sa f.vid f.isid f.customer.now

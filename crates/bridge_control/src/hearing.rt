@@ -69,7 +69,7 @@ impl Machine {
     {
         match parse(&self.db, frame) {
             Message::Hello(hello, way) => self.hear_new_hello(port, frame, &hello, &way),
-            Message::Lsp(lsp) => self.hear_lsp(port, &lsp),
+            Message::Lsp(lsp, near) => self.hear_lsp(port, &lsp, near),
             Message::Csnp(csnp) => self.hear_csnp(port, &csnp),
             Message::Psnp(psnp) => self.hear_psnp(port, &psnp),
             Message::Dropped(_) => Ok(()),
@@ -147,8 +147,9 @@ impl Machine {
         self.change(port, new, heard)
     }
 
-    /// Hears an LSP at a port with carrier. One of another system leaves what the bridge has to say of itself.
-    fn hear_lsp(&mut self, port: u8, lsp: &Lsp<'_>) -> Result<(), NoMemory>
+    /// Hears an LSP at a port with carrier. It is looked for at the place `near` first. One of another system leaves what
+    /// the bridge has to say of itself.
+    fn hear_lsp(&mut self, port: u8, lsp: &Lsp<'_>, near: usize) -> Result<(), NoMemory>
         requires ready { IsReady self.old }
         requires port { IsPort (view_of self.old) port }
         ensures { OnOk result (IsAfter (hears (parsing.lsp (lsp_of lsp.now)) port (view_of self.old)) self.new) }
@@ -156,7 +157,15 @@ impl Machine {
         if !is_up(&port_at(self.ports.as_slice(), port)) {
             return Ok(());
         }
-        hear_lsp_if_it_fits(self.alloc, &mut self.db, self.up, port, lsp, &mut self.own)?;
+        hear_lsp_if_it_fits(
+            self.alloc,
+            &mut self.db,
+            self.up,
+            port,
+            lsp,
+            &mut self.own,
+            near,
+        )?;
         if !lsp.id.system.is(self.id.system) {
             return Ok(());
         }
@@ -237,7 +246,7 @@ impl Machine {
     }
 }
 
-/// Hears an LSP. One that finds no place in the database is dropped.
+/// Hears an LSP, which is looked for at the place `near` first. One that finds no place in the database is dropped.
 fn hear_lsp_if_it_fits(
     alloc: Global,
     db: &mut Database,
@@ -245,13 +254,14 @@ fn hear_lsp_if_it_fits(
     port: u8,
     lsp: &Lsp<'_>,
     own: &mut Own,
+    near: usize,
 ) -> Result<(), NoMemory>
     requires low { 1 ≤ port }
     requires high { port ≤ 32 }
     requires body { 1 ≤ length own.old.body }
     ensures { OnOk result (holding db.new own.new ≡ hear_lsp_of up port (lsp_of lsp.now) (holding db.old own.old)) }
 {
-    match flooding::hear_lsp(alloc, db, up, port, lsp, own) {
+    match flooding::hear_lsp_near(alloc, db, up, port, lsp, own, near) {
         Ok(()) => Ok(()),
         Err(FloodError::Full) => Ok(()),
         Err(FloodError::NoMemory) => Err(NoMemory),

@@ -17,19 +17,19 @@ const LONGEST: usize = 1_497;
 /// The type of an LSP (ISO/IEC 10589, 9.8).
 const LSP: u8 = 18;
 
-/// The LSP that a PDU brings, if it is live and held as it is, whatever lifetime it has left. It isn't read: what is
-/// held can be, and its checksum holds.
-pub(crate) fn held_lsp<'a>(db: &Database, pdu: &'a [u8]) -> Option<Lsp<'a>>
+/// The LSP that a PDU brings, if it is live and held as it is, whatever lifetime it has left; and the place where it is
+/// held. It isn't read: what is held can be, and its checksum holds.
+pub(crate) fn held_lsp<'a>(db: &Database, pdu: &'a [u8]) -> Option<(Lsp<'a>, usize)>
     requires { AreSendable db.now }
-    ensures { IfSome result (λ l. read pdu.now ≡ Ok (pdus.lsp (pdus.lsp_of l))) }
+    ensures { IfSome result (λ l. read pdu.now ≡ Ok (pdus.lsp (pdus.lsp_of l.0))) }
 {
     if pdu.len() < 27 || pdu.len() > LONGEST || pdu[4] != LSP {
         return None;
     }
-    match db.find(&lsp_id_in(pdu, 12)) {
-        Some(held) => same_lsp(held, pdu),
-        None => None,
-    }
+    let place = db.look_up(&lsp_id_in(pdu, 12)).place?;
+    let held = db.at(place)?;
+    let lsp = same_lsp(held, pdu)?;
+    Some((lsp, place))
 }
 
 /// The LSP that a PDU brings, if it is this one and live.

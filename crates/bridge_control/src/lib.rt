@@ -41,9 +41,9 @@
 //!   frame comes again it is compared, and not read. One that only begins the holding count anew changes its port and
 //!   nothing else. Memory is taken where another hello comes than the last time, for its frame, and where one changes
 //!   the state, the neighbour or the circuit at its port. Leaving Up goes over the database once, and entering Up once more.
-//! - An LSP takes two binary searches and is compared with what is held under its id. Where the same is held live it
-//!   isn't read. Any other is gone over once for its TLVs and once for its checksum, and takes a third search and memory
-//!   for its body if it is stored. A sequence numbers PDU takes what `snp_sync` says for its entries.
+//! - An LSP takes a binary search and is compared with what is held under its id. Where the same is held live it isn't
+//!   read. Any other is gone over once for its TLVs and once for its checksum, and takes a second search, and a third one
+//!   and memory for its body if it is stored. A sequence numbers PDU takes what `snp_sync` says for its entries.
 //! - Each question about tables makes them anew: it goes over the database once, in time and memory of the bytes of the
 //!   live LSPs, and then takes what the graph of all that they say takes (`spb_content`), and the tables in it
 //!   (`fdb_build`). `unicast_port` and `group_ports` make them for their one answer. `path` makes the graph and one tree

@@ -22,7 +22,8 @@ pub(crate) enum Message<'a> {
     Dropped(DropReason),
     /// A hello and its three-way adjacency.
     Hello(Hello<'a>, ThreeWay),
-    Lsp(Lsp<'a>),
+    /// An LSP, and the place at which it is looked for first.
+    Lsp(Lsp<'a>, usize),
     Csnp(Csnp<'a>),
     Psnp(Psnp<'a>),
     /// A customer's frame over the backbone.
@@ -54,7 +55,7 @@ fn parse_pdu<'a>(db: &Database, pdu: &'a [u8]) -> Message<'a>
     ensures { Says result (api.by_pdu (read pdu.now)) }
 {
     match held_lsp(db, pdu) {
-        Some(lsp) => Message::Lsp(lsp),
+        Some(held) => Message::Lsp(held.0, held.1),
         None => parse_new(pdu),
     }
 }
@@ -64,7 +65,7 @@ fn parse_new(pdu: &[u8]) -> Message<'_>
 {
     match decode(pdu) {
         Ok(Pdu::Hello(hello)) => parse_hello(&hello),
-        Ok(Pdu::Lsp(lsp)) => Message::Lsp(lsp),
+        Ok(Pdu::Lsp(lsp)) => Message::Lsp(lsp, usize::MAX),
         Ok(Pdu::Csnp(csnp)) => Message::Csnp(csnp),
         Ok(Pdu::Psnp(psnp)) => Message::Psnp(psnp),
         Err(_) => Message::Dropped(DropReason::Pdu),

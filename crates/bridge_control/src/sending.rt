@@ -8,6 +8,7 @@ ghost use Rattle.flooding.specs.Entries.{AreSendable};
 ghost use Rattle.snp_sync.specs.Sized.{AreSized};
 ghost use Rattle.snp_sync.specs.Sending.{bytes_in, all_ssn_cleared};
 ghost use Rattle.itag_frames.specs.Frame.{control_bytes};
+ghost use Rattle.bridge_api.specs.View.{is_port_up};
 ghost use Rattle.bridge_api.specs.Step.{with_wire, Gains};
 ghost use Rattle.bridge_api.specs.Ticking as api;
 ghost use Rattle.bridge_control.specs.Frames.{frames_of, frames_held, flagged_at};
@@ -93,8 +94,46 @@ struct Flags<'a> {
     frames: &'a [Option<Seq<u8>>],
 }
 
-/// Puts what is sent at a port into the outbox. What the flags rule out isn't looked for.
+/// Puts what is sent at a port into the outbox. That is nothing at one without carrier that isn't Up.
+#[inline(always)]
 fn send_at(
+    alloc: Global,
+    system: SystemId,
+    number: u8,
+    port: &BridgePort,
+    hello: &[u8],
+    db: &mut Database,
+    flags: Flags<'_>,
+    outbox: &mut Outbox,
+) -> Result<(), NoMemory>
+    requires low { 1 ≤ number }
+    requires high { number ≤ 32 }
+    requires hello { hello.now ≡ api.hello_frame system number port.now }
+    requires sendable { AreSendable db.old }
+    requires sized { AreSized db.old }
+    requires srm { has flags.srm number ≡ false → is_srm_at number db.old ≡ false }
+    requires ssn { has flags.ssn number ≡ false → is_ssn_at number db.old ≡ false }
+    requires frames { AreMadeOf system (entries db.old) flags.frames.now }
+    ensures sent { OnOk result (outbox.new ≡ with_wire (api.sent_at system number port.now db.old) outbox.old) }
+    ensures after_sending { OnOk result (db.new ≡ api.after_sending_at number port.now db.old) }
+    ensures gained { OnErr result (Gains (api.sent_at system number port.now db.old) outbox.old outbox.new) }
+{
+    if is_silent(port) {
+        return Ok(());
+    }
+    send_to(alloc, system, number, port, hello, db, flags, outbox)
+}
+
+/// Whether a port has no carrier and isn't Up.
+fn is_silent(port: &BridgePort) -> bool
+    ensures carrier { result ≡ true → port.now.adjacency.carrier ≡ false }
+    ensures up { result ≡ true → is_port_up port.now ≡ false }
+{
+    !port.adjacency.carrier && !is_up(port)
+}
+
+/// Puts what is sent at a port into the outbox. What the flags rule out isn't looked for.
+fn send_to(
     alloc: Global,
     system: SystemId,
     number: u8,

@@ -42,7 +42,28 @@ pub fn hear_lsp(
     ensures { Hears result (is_full_for_lsp up port (lsp_of lsp.now) (holding db.old own.old)) (holding db.old own.old)
         (hear_lsp_of up port (lsp_of lsp.now) (holding db.old own.old)) (holding db.new own.new) }
 {
-    let found = db.look_up(&lsp.id);
+    let last = db.len();
+    hear_lsp_near(alloc, db, up, port, lsp, own, last)
+}
+
+/// [`hear_lsp`], which looks for the id at the place `near` before any other: where it stands there, that takes one
+/// comparison.
+pub fn hear_lsp_near(
+    alloc: Global,
+    db: &mut Database,
+    up: PortSet,
+    port: u8,
+    lsp: &Lsp<'_>,
+    own: &mut Own,
+    near: usize,
+) -> Result<(), FloodError>
+    requires low { 1 ≤ port }
+    requires high { port ≤ MOST_PORTS }
+    requires body { 1 ≤ length own.old.body }
+    ensures { Hears result (is_full_for_lsp up port (lsp_of lsp.now) (holding db.old own.old)) (holding db.old own.old)
+        (hear_lsp_of up port (lsp_of lsp.now) (holding db.old own.old)) (holding db.new own.new) }
+{
+    let found = db.look_up_near(near, &lsp.id);
     let relation = compare(version_of(lsp), found.version);
     if own.answers(&lsp.id, relation) {
         return own.answer(alloc, db, up, &lsp.id, lsp.seq);

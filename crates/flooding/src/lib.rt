@@ -1,13 +1,13 @@
 //! Flooding (ISO/IEC 10589, 7.3.15): what an LSP changes where it is heard, which LSPs are to be sent at a port, and
 //! what a system originates.
 //!
-//! An LSP that is heard takes one binary search, and a second one where it is put into the database or purged; its body
-//! is copied once, and only where it is stored. Originating takes two, and copies the own body once. No call copies the
-//! database.
+//! An LSP that is heard takes one binary search, or one comparison where its place was told, and a second search where
+//! it is put into the database or purged; its body is copied once, and only where it is stored. Originating takes two,
+//! and copies the own body once. No call copies the database.
 #![tactic(auto)]
 
 pub use error::FloodError;
-pub use hear::hear_lsp;
+pub use hear::{hear_lsp, hear_lsp_near};
 pub use origination::originate;
 pub use own::Own;
 pub use rules::{acknowledge, offer};

@@ -54,13 +54,14 @@ pub fn listed(alloc: Global, db: &Database) -> Result<Vec<SnpEntry>, NoMemory>
     Ok(entries)
 }
 
-/// The entries of the LSPs that are to be acknowledged or asked for at a port, in order of id.
+/// The entries of the LSPs that are to be acknowledged or asked for at a port, in order of id. Room for those of one
+/// TLV is taken first.
 pub fn entries_with_ssn(alloc: Global, db: &Database, port: u8) -> Result<Vec<SnpEntry>, NoMemory>
     requires low { 1 ≤ port }
     requires high { port ≤ MOST_PORTS }
     ensures { IfOk result (λ v. v.items ≡ snp_entries_where (has_ssn_at port) db.now) }
 {
-    let mut entries = Vec::new(alloc);
+    let mut entries = Vec::with_capacity(alloc, ENTRIES_PER_TLV)?;
     for place in 0..db.len() {
         if let Some(held) = db.at(place) {
             if held.ssn.has(port) {

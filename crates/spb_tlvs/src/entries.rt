@@ -81,9 +81,33 @@ fn put_entry(out: &mut Vec<u8>, entry: &SnpEntry) -> Result<(), NoMemory>
     ensures len { OnOk result (length (entry_bytes entry.now) ≡ 16) }
     ensures err { OnErr result (take (length out.old.items) out.new.items ≡ out.old.items) }
 {
-    put(out, &entry.lifetime.to_be_bytes())?;
-    put(out, &entry.id.system.mac.bytes)?;
-    put(out, &[entry.id.pseudonode, entry.id.number])?;
-    put(out, &entry.seq.to_be_bytes())?;
-    put(out, &entry.sum.to_be_bytes())
+    put(out, &octets_of(*entry))
+}
+
+fn octets_of(entry: SnpEntry) -> [u8; 16]
+    ensures bytes { result ≡ entry_bytes entry }
+    ensures len { length (entry_bytes entry) ≡ 16 }
+{
+    let [first, second] = entry.lifetime.to_be_bytes();
+    let [a, b, c, d, e, f] = entry.id.system.mac.bytes;
+    let [s, t, u, v] = entry.seq.to_be_bytes();
+    let [high, low] = entry.sum.to_be_bytes();
+    [
+        first,
+        second,
+        a,
+        b,
+        c,
+        d,
+        e,
+        f,
+        entry.id.pseudonode,
+        entry.id.number,
+        s,
+        t,
+        u,
+        v,
+        high,
+        low,
+    ]
 }

@@ -10,6 +10,6 @@ pub returns-in-Err-Full : goal.returns-in-Err-Full
 returns-in-Err-Full c =
     let l = lsp_of c.args.lsp.now in
     let old = holding c.args.db.now c.args.own.now in
-    let new = holding c.hear_lsp.new.db c.hear_lsp.new.own in
+    let new = holding c.hear_lsp_near.new.db c.hear_lsp_near.new.own in
     let full = subst (λ (e : FloodError). Hears (Err e) (is_full_for_lsp c.args.up c.args.port l old) old (hear_lsp_of c.args.up c.args.port l old) new) c.in-Err-Full.field-0-is c.in-Err-Full.ensures in
     full.1 ∙ sym (full_stands (lsp_rule c.args.up c.args.port l) c.args.up (claim_of l) old full.0)
