@@ -4,10 +4,9 @@ use Rattle.std.specs.Prelude.{IsTrue, ◌||◌, ◌==◌, if◌then◌else◌}
 use Rattle.std.proofs.lemmas.Bool.Decides.{nat_tests}
 use Rattle.std.proofs.lemmas.List.{length-drop}
 use Rattle.spb_types.specs.Bytes.{u8_at}
-use Rattle.spb_types.specs.declared.address.LspId.{LspId}
 use Rattle.isis_pdu.specs.declared.pdu.PduError.TheVariants as refusals
 use Rattle.isis_pdu.specs.Grammar.{IsId, IsPdu, is_sound_lsp}
-use Rattle.isis_pdu.specs.Pdu.{LspValue, PduValue, lsp}
+use Rattle.isis_pdu.specs.Pdu.{LspValue, lsp}
 use Rattle.isis_pdu.specs.Reading.{read}
 use Rattle.isis_pdu.specs.Spelling.{lsp_bytes}
 use Rattle.isis_pdu.specs.Tlvs.{is_whole}
