@@ -17,10 +17,10 @@ use Rattle.spb_network.specs.Declaring.{has_vid, is_new_vid, is_vid_range, has_v
 use Rattle.spb_network.specs.State.{State, is_live, lane_at, kind_at}
 use Rattle.spb_network.specs.Questions.{Question, question_of}
 use Rattle.spb_network.specs.Restarting.{box_at}
-use Rattle.spb_network.specs.Refusing.{box_for, asked_refusal, declared_refusal, link_refusal_at_found, named_link_refusal, unnamed_refusal, refusal_at_found, down_refusal, up_refusal, metric_refusal, frame_refusal, round_refusal, drain_refusal, restart_refusal, refusal_of}
+use Rattle.spb_network.specs.Refusing.{box_for, asked_refusal, declared_refusal, link_refusal_at_found, named_link_refusal, unnamed_refusal, refusal_at_found, down_refusal, up_refusal, metric_refusal, frame_refusal, round_refusal, drain_refusal, restart_refusal, are_declared, path_refusal, refusal_of}
 use Rattle.spb_network.specs.Holding.{IsNamed, HoldsAt, LacksBoxAt, AsksUnknown, Holds, TheFirstReasonIsGiven}
 use Rattle.spb_network.proofs.Chains.{chain_said, Said, lowest, refused_for_the_first}
-use Rattle.spb_network.proofs.Tested.{true-is, false-is, fails, opposes, not-lt, not-le, named, known, unknown, at-is, both-at, taken_vid, wrong_vid, full_of_vids, late, undeclared_vid, taken_isid, wrong_isid, full_of_services, taken_name, taken_id, wrong_bridge, full_of_bridges, spent_rack, taken_port, wrong_metric, wrong_link, full_of_links, joined, wrong_count}
+use Rattle.spb_network.proofs.Tested.{true-is, false-is, fails, opposes, not-lt, not-le, named, known, unknown, at-is, both-at, taken_vid, wrong_vid, full_of_vids, late, undeclared_vid, undeclared, taken_isid, wrong_isid, full_of_services, taken_name, taken_id, wrong_bridge, full_of_bridges, spent_rack, taken_port, wrong_metric, wrong_link, full_of_links, joined, wrong_count}
 
 -- ---- what names a bridge
 
@@ -244,6 +244,16 @@ drain_said s n =
     covers TooMany h = inr (inl refl)
     covers _ h = absurd h
 
+path_said : (s : State) (from to : List ℕ) (vid : ℕ) → Said (Holds s (command.Path from to vid)) (path_refusal s.world from to vid)
+unfolding path_refusal
+path_said s from to vid =
+    chain_said (Holds s (command.Path from to vid)) 0 ((are_declared s.world from to vid, NoSuchName) ∷ [])
+    (undeclared s.world from to vid, tt) (omega arith, tt) covers
+  where
+    covers : (q : Reason) → Holds s (command.Path from to vid) q → (q ≡ NoSuchName) ⊎ ⊥
+    covers NoSuchName h = inl refl
+    covers _ h = absurd h
+
 said : (s : State) (c : Command) → Said (Holds s c) (refusal_of s c)
 said s (command.Vid vid ect) = vid_said s vid ect
 said s (command.Bridge name priority system source ports) = bridge_said s name priority system source ports
@@ -259,6 +269,7 @@ said s (command.Lose name dir place) = lose_said s name dir place
 said s (command.Double name dir place) = double_said s name dir place
 said s (command.Round n) = round_said s n
 said s (command.Drain n) = drain_said s n
+said s (command.Path from to vid) = path_said s from to vid
 said s c = asked (Holds s c) s.world (question_of c) (λ h. h) (λ h. h) (λ q. elim q as (λ p. Holds s c p → p ≡ NoSuchName) [
   | NoSuchName ↦ λ h. refl
   | NameTaken ↦ λ h. absurd h

@@ -68,6 +68,7 @@ pub mod RestartNew
 pub mod QuietLists
 pub mod QuietLaws
 pub mod QuietTruth
+pub mod QuietPaths
 pub mod Telling
 pub mod QuietWalks
 pub mod QuietStates

@@ -76,7 +76,7 @@ part_alike g h part me look same is = record {
 
 -- ---- the bridge at a place
 
-own_are_wired : (s : State) (i : ℕ) (v : BridgeView) → IsAtRest s → slice_get s.views i ≡ Some v → own_tables v ≡ wired_tables s.world i
+pub own_are_wired : (s : State) (i : ℕ) (v : BridgeView) → IsAtRest s → slice_get s.views i ≡ Some v → own_tables v ≡ wired_tables s.world i
 unfolding own_tables wired_tables
 own_are_wired s i v rest at =
     let look = looks_like_wiring s v i rest at in

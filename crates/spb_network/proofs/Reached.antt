@@ -85,11 +85,11 @@ there_reached s v i x rest at r = there_along s v i v.id.system r.0 x rest at (r
 -- ---- bridges
 
 -- a bridge as a graph has it
-abbrev shown_bridge : BridgeView → GraphBridge
+abbrev pub shown_bridge : BridgeView → GraphBridge
 shown_bridge w = record { id = w.id; source = w.source }
 
 -- the wiring has it
-wired_bridge : (s : State) (j : ℕ) (w : BridgeView) → IsSoundState s → slice_get s.views j ≡ Some w → Has (shown_bridge w) (world_graph s.world).bridges
+pub wired_bridge : (s : State) (j : ℕ) (w : BridgeView) → IsSoundState s → slice_get s.views j ≡ Some w → Has (shown_bridge w) (world_graph s.world).bridges
 wired_bridge s j w sound at =
     let d = shown_at s j w sound at in
     let is : d.0.thing.bridge ≡ shown_bridge w = λ i. record { id = sym d.1.id i; source = sym d.1.source i } in

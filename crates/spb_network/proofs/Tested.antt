@@ -18,6 +18,7 @@ use Rattle.spb_network.specs.World.{World, Bridges, Links, Services, names_of, t
 use Rattle.spb_network.specs.Declaring.{has_vid, is_new_vid, is_vid_range, has_vid_room, is_before_bridges, is_new_name, is_new_system, is_new_source, is_bridge_address, is_bridge_range, has_bridge_room, is_free_port, is_port, is_link_range, has_link_room, is_unlinked}
 use Rattle.spb_network.specs.Services.{is_new_isid, is_isid_range, has_service_room}
 use Rattle.spb_network.specs.State.{Spare, same_kind, serves, box_from, next_box}
+use Rattle.spb_network.specs.Refusing.{are_declared}
 use Rattle.spb_network.specs.Holding.{IsNamed, HoldsAt, HoldsAtBoth, HasLink, IsEndAt, IsVidOf, IsIsidOf, IsVid, IsIsid, IsOwnAddress, IsBridgeInRange, HasPort, IsLinkInRange, IsFromTo}
 
 -- ---- tests
@@ -77,7 +78,7 @@ found : (b r : Bool) (i : ℕ) (o : Option ℕ) → is_some o ≡ r → is_some 
 found true r i o e = refl
 found false r i o e = e
 
-found-any : {X : Type 0} (p : X → Bool) (i : ℕ) (xs : List X) → is_some (position_from p i xs) ≡ list_any p xs
+pub found-any : {X : Type 0} (p : X → Bool) (i : ℕ) (xs : List X) → is_some (position_from p i xs) ≡ list_any p xs
 found-any p i [] = refl
 found-any p i (x ∷ xs) = found (p x) (list_any p xs) i (position_from p (i + 1) xs) (found-any p (i + 1) xs)
 
@@ -219,6 +220,13 @@ end-is e i port = Decides-and _ _ (Decides-eqb e.bridge i) (Decides-eqb e.port p
 has_link : (links : Links) (i port : ℕ) → Decides (not (is_free_port links i port)) (HasLink links i port)
 unfolding is_free_port
 has_link links i port = opposes _ (any-is (λ l. is_at_port l i port) (λ l. IsEndAt l.a i port ⊎ IsEndAt l.b i port) (λ l. Decides-or _ _ (end-is l.a i port) (end-is l.b i port)) (things_of links))
+
+-- of a path
+pub undeclared : (w : World) (from to : List ℕ) (vid : ℕ) → Decides (not (are_declared w from to vid)) (((¬ IsNamed from w.bridges) ⊎ (¬ IsNamed to w.bridges)) ⊎ (¬ IsVidOf w vid))
+undeclared w from to vid =
+    not-and (is_some (place_of from w.bridges) && is_some (place_of to w.bridges)) (has_vid w.vids vid)
+    (not-and (is_some (place_of from w.bridges)) (is_some (place_of to w.bridges)) (fails (is_some (place_of from w.bridges)) (named from w.bridges)) (fails (is_some (place_of to w.bridges)) (named to w.bridges)))
+    (undeclared_vid w vid)
 
 pub taken_port : (w : World) (i port_a j port_b : ℕ) → Decides (not (is_free_port w.links i port_a && is_free_port w.links j port_b)) (HasLink w.links i port_a ⊎ HasLink w.links j port_b)
 taken_port w i port_a j port_b = not-and (is_free_port w.links i port_a) (is_free_port w.links j port_b) (has_link w.links i port_a) (has_link w.links j port_b)

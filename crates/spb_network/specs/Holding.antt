@@ -30,7 +30,7 @@ HoldsAt name entries P = (k : ℕ) × (place_of name entries ≡ Some k) × P k
 abbrev pub HoldsAtBoth : List ℕ → List ℕ → Bridges → (ℕ → ℕ → Type 0) → Type 0
 HoldsAtBoth a b bridges P = HoldsAt a bridges (λ i. HoldsAt b bridges (λ j. P i j))
 
--- 2: a name, or the VID of a service, isn't declared
+-- 2: a name, or the VID of a service or a path, isn't declared
 
 -- the base VID is declared
 abbrev pub IsVidOf : World → ℕ → Type 0
@@ -52,6 +52,8 @@ NamesUnknown w (command.Tick bridge) = ¬ IsNamed bridge w.bridges
 NamesUnknown w (command.Deliver link dir) = ¬ IsNamed link w.links
 NamesUnknown w (command.Lose link dir place) = ¬ IsNamed link w.links
 NamesUnknown w (command.Double link dir place) = ¬ IsNamed link w.links
+NamesUnknown w (command.Path from to vid) =
+    ((¬ IsNamed from w.bridges) ⊎ (¬ IsNamed to w.bridges)) ⊎ (¬ IsVidOf w vid)
 NamesUnknown w c = AsksUnknown w (question_of c)
 
 -- 3: what is to be declared has the name, the VID or the I-SID of what is declared

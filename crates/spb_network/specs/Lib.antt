@@ -6,6 +6,7 @@ pub mod State
 pub mod Events
 pub mod Network
 pub mod Sound
+pub mod Paths
 pub mod Questions
 pub mod Quiet
 pub mod Quieting
@@ -17,6 +18,7 @@ pub mod Applying
 pub mod Holding
 pub mod SoundLaws
 pub mod Truth
+pub mod PathLaws
 pub mod WiringLaws
 pub mod DeliveryLaws
 pub mod MeetingLaws

@@ -1,5 +1,5 @@
 -- Why a command is refused: the first of its reasons, in order of number, whose test fails.
-use Rattle.std.specs.Prelude.{ℕ, ◌+◌, List, length, not, ◌&&◌, nat_lt, nat_le, Option, Some, None, is_some}
+use Rattle.std.specs.Prelude.{ℕ, ◌+◌, List, length, Bool, not, ◌&&◌, nat_lt, nat_le, Option, Some, None, is_some}
 use Rattle.spb_types.specs.declared.address.Mac.{Mac}
 use Rattle.spb_types.specs.declared.service.SourceId.{SourceId}
 use Rattle.scenario.specs.declared.command.Command.{Command}
@@ -9,7 +9,7 @@ use Rattle.spb_network.specs.declared.reason.Reason.{Reason}
 use Rattle.spb_network.specs.declared.reason.Reason.TheVariants.{NoSuchName, Range, TooMany, AlreadyUp, AlreadyDown, NoFrame, RackSpent}
 use Rattle.spb_network.specs.Reason.{reason_unless, ◌or◌}
 use Rattle.spb_network.specs.World.{World, things_of, place_of}
-use Rattle.spb_network.specs.Declaring.{vid_refusal, bridge_refusal, link_refusal}
+use Rattle.spb_network.specs.Declaring.{has_vid, vid_refusal, bridge_refusal, link_refusal}
 use Rattle.spb_network.specs.Services.{isid_refusal}
 use Rattle.spb_network.specs.Questions.{Question, question_of}
 use Rattle.spb_network.specs.State.{State, is_live, lane_at, kind_at, next_box}
@@ -79,6 +79,15 @@ unfoldable pub restart_refusal : State → List ℕ → Option Reason
 restart_refusal s name =
     refusal_at_found (λ i. reason_unless (is_some (box_at s i)) RackSpent) (place_of name s.world.bridges)
 
+-- both bridges and the base VID of a number are declared
+abbrev pub are_declared : World → List ℕ → List ℕ → ℕ → Bool
+are_declared w from to vid =
+    is_some (place_of from w.bridges) && is_some (place_of to w.bridges) && has_vid w.vids vid
+
+-- the path between two bridges in a base VID
+unfoldable pub path_refusal : World → List ℕ → List ℕ → ℕ → Option Reason
+path_refusal w from to vid = reason_unless (are_declared w from to vid) NoSuchName
+
 -- of what may be a question about a bridge
 abbrev pub asked_refusal : World → Option Question → Option Reason
 asked_refusal w None = None
@@ -100,4 +109,5 @@ refusal_of s (command.Lose name dir place) = frame_refusal s name dir place
 refusal_of s (command.Double name dir place) = frame_refusal s name dir place
 refusal_of s (command.Round n) = round_refusal s n
 refusal_of s (command.Drain n) = drain_refusal s n
+refusal_of s (command.Path from to vid) = path_refusal s.world from to vid
 refusal_of s c = asked_refusal s.world (question_of c)

@@ -1,6 +1,7 @@
 ghost use Rattle.std.specs.Prelude.{◌≡◌, IfOk};
 ghost use Rattle.std.specs.List.{filter_map};
 ghost use Rattle.spb_network.specs.World as state;
+ghost use Rattle.spb_network.specs.Paths as paths;
 
 use crate::{DeclaredBridge, DeclaredLink};
 use indexmap::IndexMap;
@@ -18,6 +19,18 @@ pub fn system_at(bridges: &IndexMap<Name, DeclaredBridge>, place: usize) -> Syst
         },
         Some((_, bridge)) => bridge.bridge.id.system,
     }
+}
+
+/// The place of the bridge of a system id. None exactly where there is none.
+pub fn place_of_system(
+    bridges: &IndexMap<Name, DeclaredBridge>,
+    system: SystemId,
+) -> Option<usize>
+    ensures { result ≡ paths.place_of_system bridges.now.entries system }
+{
+    bridges
+        .values()
+        .position(|bridge| bridge.bridge.id.system == system)
 }
 
 /// The edge that a link makes, if it is up.

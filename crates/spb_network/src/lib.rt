@@ -25,8 +25,8 @@ pub use answer::{Answer, Out};
 pub use declaration::{DeclaredBridge, DeclaredLink, LinkEnd};
 pub use kind_rule::KindRule;
 pub use laws::{
-    a_delivery_is_one_step, a_restart_begins_anew, events_keep_sound, networks_are_sound,
-    numbers_stay_bounded, quiet_can_be_relied_on, quiet_is_true, quiet_says_what_it_reads_like,
+    a_delivery_is_one_step, a_restart_begins_anew, events_keep_sound, frames_go_one_path,
+    networks_are_sound, numbers_stay_bounded, quiet_can_be_relied_on, quiet_is_true, quiet_says_what_it_reads_like,
     some_network_is_busy, the_first_reason_is_given, wiring_gives_tables,
 };
 pub use network::{Network, NetworkOf};
@@ -45,6 +45,7 @@ mod kind_rule;
 mod laws;
 mod link_ends;
 mod network;
+mod paths;
 mod play;
 mod questions;
 mod quiet;

@@ -1,7 +1,7 @@
 ghost use Rattle.std.specs.Prelude.{◌≡◌, [], ◌∷◌, ◌++◌, true, None, OnOk, OnErr};
 ghost use Rattle.spb_network.specs.Declaring.{is_new_name, switched, links_with_metric};
 
-use crate::graph::{graph_bridges, graph_edges, system_at};
+use crate::graph::{graph_bridges, graph_edges, place_of_system, system_at};
 use crate::hints::Hints;
 use crate::reason::reason_unless;
 use crate::{DeclaredBridge, DeclaredLink, LinkEnd, Reason, check, link_ends};
@@ -49,7 +49,8 @@ impl Model for World {
 impl World {
     ghost use Rattle.std.specs.Prelude.{◌≡◌, ◌<◌, ◌≤◌, [], ℕ, true, None, Some, length, IfOk, IfSome, slice_get};
     ghost use Rattle.spb_network.specs.World as state;
-    ghost use Rattle.spb_network.specs.World.{place_of, things_of};
+    ghost use Rattle.spb_network.specs.World.{names_of, place_of, things_of};
+    ghost use Rattle.spb_network.specs.Paths as paths;
     ghost use Rattle.spb_network.specs.Declaring as declare;
     ghost use Rattle.spb_network.specs.Services as service;
     ghost use Rattle.spb_network.specs.State.{lane_out, live_lane, is_live};
@@ -132,6 +133,30 @@ impl World {
             None => None,
             Some((_, bridge)) => Some(*bridge),
         }
+    }
+
+    /// The place of the bridge of a system id. None exactly where there is none.
+    pub fn place_of_system(&self, system: SystemId) -> Option<usize>
+        ensures { result ≡ paths.place_of_system self.now.bridges system }
+    {
+        place_of_system(&self.bridges, system)
+    }
+
+    /// The name of the bridge at a place. None exactly where the place is past the last.
+    pub fn bridge_name(&self, place: usize) -> Option<Name>
+        ensures { result ≡ slice_get (names_of self.now.bridges) place }
+    {
+        match self.bridges.get_index(place) {
+            None => None,
+            Some((name, _)) => Some(*name),
+        }
+    }
+
+    /// The system id of the bridge at a place, or zeros past the last bridge.
+    pub fn system(&self, place: usize) -> SystemId
+        ensures { result ≡ state.system_at self.now.bridges place }
+    {
+        system_at(&self.bridges, place)
     }
 
     /// How many links are declared.

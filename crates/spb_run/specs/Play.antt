@@ -20,7 +20,6 @@ abbrev pub is_played : Keyword → Bool
 is_played keyword.Attach = false
 is_played keyword.Detach = false
 is_played keyword.Frame = false
-is_played keyword.Path = false
 is_played _ = true
 
 -- whether a first word is a keyword whose lines are played

@@ -69,7 +69,7 @@ fn lines_outside_the_grammar_have_a_column(rt: HostRuntime) -> Result<(), Fail> 
         (" frame A 1 00", 2, "1 Words 2"),
         ("state A", 7, "1 Words 7"),
         ("show", 5, "1 Words 5"),
-        ("path A B 10", 1, "1 Words 1"),
+        ("path A B", 9, "1 Words 9"),
     ] {
         check_refused(&rt, alloc, line, Refusal::Words(column), end)?;
     }
@@ -113,6 +113,9 @@ fn refused_events_have_a_reason(rt: HostRuntime) -> Result<(), Fail> {
         ("adj C", Reason::NoSuchName, "2 NoSuchName"),
         ("db C", Reason::NoSuchName, "2 NoSuchName"),
         ("show C", Reason::NoSuchName, "2 NoSuchName"),
+        ("path A C 10", Reason::NoSuchName, "2 NoSuchName"),
+        ("path C A 10", Reason::NoSuchName, "2 NoSuchName"),
+        ("path A B 10", Reason::NoSuchName, "2 NoSuchName"),
         ("metric L2 a 5", Reason::NoSuchName, "2 NoSuchName"),
         ("metric L1 a 0", Reason::Range, "6 Range"),
         ("metric L1 a 16777215", Reason::Range, "6 Range"),
