@@ -1,4 +1,4 @@
-//! The tables that the wiring gives.
+//! The tables that the wiring gives, and the paths of a quiet network.
 use super::{TWO, check_done};
 use std::test::Fail;
 
