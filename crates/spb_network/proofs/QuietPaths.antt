@@ -1,5 +1,5 @@
 -- In a quiet network the paths of a bridge are those of the wiring, and frames go that way.
-use Rattle.std.proofs.Common.{◌≡◌, ◌≢◌, ℕ, ◌+◌, ◌<◌, ◌==◌, Bool, true, false, true≢false, ◌||◌, cond, inl, inr, ◌⊎◌, List, [], ◌∷◌, ◌++◌, length, reverse, Option, Some, None, is_some, IsSome, unwrap_or, Contains, find, position, slice_get, refl, sym, ap, ◌∙◌, subst, arith, eq-eqb, eqb-true, append-nil}
+use Rattle.std.proofs.Common.{◌≡◌, ◌≢◌, ℕ, ◌+◌, ◌<◌, ◌==◌, Bool, true, false, true≢false, ◌||◌, cond, inl, inr, ◌⊎◌, List, [], ◌∷◌, ◌++◌, length, reverse, Option, Some, None, is_some, IsSome, unwrap_or, Contains, find, slice_get, refl, sym, ap, ◌∙◌, subst, arith, eq-eqb, eqb-true, append-nil}
 use Rattle.std.specs.Option.{option_map, option_and_then}
 use Rattle.std.specs.List.{AllByRecursion, filter_map, cons_option, list_any}
 use Rattle.std.specs.Str.{bytes_eq}
@@ -18,7 +18,6 @@ use Rattle.spb_types.specs.declared.address.SystemId.{SystemId}
 use Rattle.spb_types.specs.declared.graph.Graph.{Graph}
 use Rattle.spb_types.specs.declared.graph.GraphBridge.{GraphBridge}
 use Rattle.spb_types.specs.declared.service.Isid.{Isid}
-use Rattle.spb_types.specs.declared.service.Vid.{Vid}
 use Rattle.spb_types.specs.declared.service.VidPlan.{VidPlan}
 use Rattle.spb_types.specs.declared.tables.GroupRow.{GroupRow}
 use Rattle.spb_types.specs.declared.tables.Path.{Path}
@@ -43,6 +42,7 @@ use Rattle.fdb_build.proofs.OnePathLemmas.{one_path, group_leads_on}
 use Rattle.bridge_api.specs.View.{BridgeView}
 use Rattle.bridge_api.specs.Graph.{read_graph, plan_of, own_tables, own_path}
 use Rattle.scenario.specs.declared.command.Command.TheVariants as command
+use Rattle.spb_network.specs.declared.declaration.DeclaredBridge.{DeclaredBridge}
 use Rattle.spb_network.specs.World.{World, Bridges, Sound, names_of, things_of, place_of, graph_bridges, system_at, world_graph, wired_tables}
 use Rattle.spb_network.specs.State.{State}
 use Rattle.spb_network.specs.Paths.{declared_vid, place_of_system, name_of_system, names_on, path_at, path_answer, path_found}
@@ -85,8 +85,11 @@ cost_there : (g h : Graph) (a b : SystemId) (p : List SystemId) → LookAlike g 
 cost_there g h a b [] look w = refl
 cost_there g h a b (x ∷ xs) look w = along_there g h a x b xs look (path_reached g a b x (x ∷ xs) w (inl refl)) w.1
 
+abbrev costing : List SystemId → ℕ → Path
+costing p c = record { cost = c; bridges = p }
+
 abbrev with_cost : Graph → List SystemId → Path
-with_cost g p = record { cost = cost_of g p; bridges = p }
+with_cost g p = costing p (cost_of g p)
 
 path_there : (g h : Graph) (mask : ℕ) (a b : SystemId) → IsValid g → IsValid h → LookAlike g h a → best_path g mask a b ≡ best_path h mask a b
 path_there g h mask a b v w look = by (best_of_cases g mask a b v)
@@ -95,7 +98,7 @@ path_there g h mask a b v w look = by (best_of_cases g mask a b v)
     by (inl none) = ap (option_map (with_cost g)) none.1 ∙ sym (ap (option_map (with_cost h)) (sym (same_best g h mask a b v w look) ∙ none.1))
     by (inr k) =
         ap (option_map (with_cost g)) k.1
-        ∙ (ap (λ c. Some (record { cost = c; bridges = k.0 })) (cost_there g h a b k.0 look k.2.path)
+        ∙ (ap (λ (c : ℕ). Some (costing k.0 c)) (cost_there g h a b k.0 look k.2.path)
         ∙ sym (ap (option_map (with_cost h)) (sym (same_best g h mask a b v w look) ∙ k.1)))
 
 -- the way back
@@ -108,7 +111,7 @@ turned g mask a b v = by (best_of_cases g mask a b v)
         ∙ sym (ap (λ o. option_map turned_path (option_map (with_cost g) o)) none.1)
     by (inr k) =
         ap (option_map (with_cost g)) ((best_of_some g mask b a (reverse k.0) v).1 (best_reverse g mask a b k.0 k.2))
-        ∙ (ap (λ c. Some (record { cost = c; bridges = reverse k.0 })) (cost-reverse g a b k.0 k.2.path)
+        ∙ (ap (λ (c : ℕ). Some (costing (reverse k.0) c)) (cost-reverse g a b k.0 k.2.path)
         ∙ sym (ap (λ o. option_map turned_path (option_map (with_cost g) o)) k.1))
 
 -- ---- the path of a bridge at rest
@@ -209,12 +212,16 @@ any_system (b ∷ bs) x (inl e) =
 any_system (b ∷ bs) x (inr h) = or_right (same_system b.1.bridge.id.system x) _ (any_system bs x h)
 
 named : (bridges : Bridges) (x : SystemId) → IsAmong x (systems_of (graph_bridges bridges)) → IsSome (name_of_system bridges x)
-named bridges x h = by (place_of_system bridges x) refl (ap (λ (o : Option ℕ). is_some o) (position_from-zero (λ b. same_system b.bridge.id.system x) (things_of bridges)) ∙ (found-any (λ b. same_system b.bridge.id.system x) 0 (things_of bridges) ∙ any_system bridges x h))
+named bridges x h =
+    by (place_of_system bridges x) refl
+    (ap (λ (o : Option ℕ). is_some o) (position_from-zero (λ (b : DeclaredBridge). same_system b.bridge.id.system x) (things_of bridges))
+    ∙ (found-any (λ (b : DeclaredBridge). same_system b.bridge.id.system x) 0 (things_of bridges) ∙ any_system bridges x h))
   where
     by : (o : Option ℕ) → place_of_system bridges x ≡ o → is_some o ≡ true → IsSome (option_and_then (slice_get (names_of bridges)) o)
     by None at e = absurd (true≢false (sym e))
     by (Some k) at e =
-        let within = (position-Some (λ b. same_system b.bridge.id.system x) (things_of bridges) k (record { bridge = record { id = record { priority = 0; system = x }; source = record { value = 0 } }; ports = 0 }) at).0 in
+        let any : DeclaredBridge = record { bridge = record { id = record { priority = 0; system = x }; source = record { value = 0 } }; ports = 0 } in
+        let within = (position-Some (λ (b : DeclaredBridge). same_system b.bridge.id.system x) (things_of bridges) k any at).0 in
         let name = get_within (names_of bridges) k (let things = length-map bridges (λ e. e.1) in let names = length-map bridges (λ e. e.0) in omega (arith, within, things, names)) in
         subst (λ o. IsSome o) (sym name.1) refl
 
@@ -226,16 +233,10 @@ path_named : (w : World) (a b : SystemId) (p : List SystemId) → IsPath (world_
 path_named w a b [] k = absurd k
 path_named w a b (x ∷ xs) k = along_named w x b xs k.1
 
-wired_named : (w : World) (plan : VidPlan) (i j : ℕ) (path : Path) → Sound w → wired_path w plan i j ≡ Some path → AllByRecursion (λ x. IsSome (name_of_system w.bridges x)) path.bridges
-wired_named w plan i j path sound is = by (best_of_cases (world_graph w) (mask_of plan.ect) a b (valid w sound))
+best_named : (w : World) (mask : ℕ) (a b : SystemId) (path : Path) → Sound w → best_path (world_graph w) mask a b ≡ Some path → AllByRecursion (λ x. IsSome (name_of_system w.bridges x)) path.bridges
+best_named w mask a b path sound is = by (best_of_cases (world_graph w) mask a b (valid w sound))
   where
-    a : SystemId
-    a = system_at w.bridges i
-
-    b : SystemId
-    b = system_at w.bridges j
-
-    by : (((p : List SystemId) → IsPath (world_graph w) a b p → ⊥) × (best_of (world_graph w) (mask_of plan.ect) a b ≡ None)) ⊎ ((p : List SystemId) × (best_of (world_graph w) (mask_of plan.ect) a b ≡ Some p) × IsBest (world_graph w) (mask_of plan.ect) a b p) → AllByRecursion (λ x. IsSome (name_of_system w.bridges x)) path.bridges
+    by : (((p : List SystemId) → IsPath (world_graph w) a b p → ⊥) × (best_of (world_graph w) mask a b ≡ None)) ⊎ ((p : List SystemId) × (best_of (world_graph w) mask a b ≡ Some p) × IsBest (world_graph w) mask a b p) → AllByRecursion (λ x. IsSome (name_of_system w.bridges x)) path.bridges
     by (inl none) = let no : None ≡ Some path = sym (ap (option_map (with_cost (world_graph w))) none.1) ∙ is in absurd cc
     by (inr k) =
         let found : Some (with_cost (world_graph w) k.0) ≡ Some path = sym (ap (option_map (with_cost (world_graph w))) k.1) ∙ is in
@@ -257,7 +258,7 @@ turned_names f (x ∷ xs) =
 pub path_is_true : PathIsTrue
 path_is_true = record {
   best = path_answered;
-  named = wired_named;
+  named = λ w plan i j path sound is. best_named w (mask_of plan.ect) (system_at w.bridges i) (system_at w.bridges j) path sound is;
   back = λ w plan i j sound. turned (world_graph w) (mask_of plan.ect) (system_at w.bridges i) (system_at w.bridges j) (valid w sound);
   names = λ bridges path. turned_names (name_of_system bridges) path;
 }

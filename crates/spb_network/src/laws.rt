@@ -90,7 +90,7 @@ pub fn quiet_is_true()
 /// Each bridge on it takes the source's frames from the bridge before it alone, and where the source sends to a service
 /// that the last bridge receives, each sends what goes there on to the bridge behind it. What `path` answers is that
 /// path, by the names of its bridges.
-pub fn frames_go_one_path()
+pub fn quiet_paths_are_wired()
     ensures frames { FramesGoOnePath }
     ensures answer { PathIsTrue }
 {}

@@ -18,16 +18,18 @@
 //! question, so that the questions `state` and `show` after it take constant time for it. `show` makes the bridge's
 //! tables anew.
 //! `wiring` makes them over the roads of the wiring, which are made at the first such question, and kept with their
-//! graph until a bridge, a link or a metric changes.
+//! graph until a bridge, a link or a metric changes. `path` makes the graph that the bridge reads and one tree in it, and
+//! looks through the bridges once for each name.
 #![tactic(auto)]
 
 pub use answer::{Answer, Out};
 pub use declaration::{DeclaredBridge, DeclaredLink, LinkEnd};
 pub use kind_rule::KindRule;
 pub use laws::{
-    a_delivery_is_one_step, a_restart_begins_anew, events_keep_sound, frames_go_one_path,
-    networks_are_sound, numbers_stay_bounded, quiet_can_be_relied_on, quiet_is_true, quiet_says_what_it_reads_like,
-    some_network_is_busy, the_first_reason_is_given, wiring_gives_tables,
+    a_delivery_is_one_step, a_restart_begins_anew, events_keep_sound, networks_are_sound,
+    numbers_stay_bounded, quiet_can_be_relied_on, quiet_is_true, quiet_paths_are_wired,
+    quiet_says_what_it_reads_like, some_network_is_busy, the_first_reason_is_given,
+    wiring_gives_tables,
 };
 pub use network::{Network, NetworkOf};
 pub use reason::{ApplyError, Reason};
