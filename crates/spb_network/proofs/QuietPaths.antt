@@ -1,5 +1,5 @@
 -- In a quiet network the paths of a bridge are those of the wiring, and frames go that way.
-use Rattle.std.proofs.Common.{◌≡◌, ◌≢◌, ℕ, ◌+◌, ◌<◌, ◌==◌, Bool, true, false, true≢false, ◌||◌, cond, inl, inr, ◌⊎◌, List, [], ◌∷◌, ◌++◌, length, reverse, Option, Some, None, is_some, IsSome, unwrap_or, Contains, find, slice_get, refl, sym, ap, ◌∙◌, subst, arith, eq-eqb, eqb-true, append-nil}
+use Rattle.std.proofs.Common.{◌≡◌, ◌≢◌, ℕ, ◌<◌, ◌==◌, Bool, true, false, true≢false, ◌||◌, cond, inl, inr, ◌⊎◌, List, [], ◌∷◌, ◌++◌, length, reverse, Option, Some, None, is_some, IsSome, unwrap_or, Contains, find, slice_get, refl, sym, ap, ◌∙◌, subst, arith, eq-eqb, eqb-true, append-nil}
 use Rattle.std.specs.Option.{option_map, option_and_then}
 use Rattle.std.specs.List.{AllByRecursion, filter_map, cons_option, list_any}
 use Rattle.std.specs.Str.{bytes_eq}
@@ -45,7 +45,7 @@ use Rattle.scenario.specs.declared.command.Command.TheVariants as command
 use Rattle.spb_network.specs.declared.declaration.DeclaredBridge.{DeclaredBridge}
 use Rattle.spb_network.specs.World.{World, Bridges, Sound, names_of, things_of, place_of, graph_bridges, system_at, world_graph, wired_tables}
 use Rattle.spb_network.specs.State.{State}
-use Rattle.spb_network.specs.Paths.{declared_vid, place_of_system, name_of_system, names_on, path_at, path_answer, path_found}
+use Rattle.spb_network.specs.Paths.{declared_vid, place_of_system, name_of_system, path_at, path_answer, path_found}
 use Rattle.spb_network.specs.Questions.{question_of}
 use Rattle.spb_network.specs.Play.{answer_at_found, answer_of}
 use Rattle.spb_network.specs.Truth.{IsAtRest}
