@@ -22,10 +22,7 @@ pub fn system_at(bridges: &IndexMap<Name, DeclaredBridge>, place: usize) -> Syst
 }
 
 /// The place of the bridge of a system id. None exactly where there is none.
-pub fn place_of_system(
-    bridges: &IndexMap<Name, DeclaredBridge>,
-    system: SystemId,
-) -> Option<usize>
+pub fn place_of_system(bridges: &IndexMap<Name, DeclaredBridge>, system: SystemId) -> Option<usize>
     ensures { result ≡ paths.place_of_system bridges.now.entries system }
 {
     bridges

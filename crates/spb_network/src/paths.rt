@@ -106,9 +106,7 @@ impl<B: Bridge> NetworkOf<B> {
                 names: Seq::new(self.alloc),
             }),
             Some(path) => {
-                let names = self
-                    .world
-                    .names_on(self.alloc, path.bridges.as_slice())?;
+                let names = self.world.names_on(self.alloc, path.bridges.as_slice())?;
                 Ok(Answer::Path {
                     from,
                     to,

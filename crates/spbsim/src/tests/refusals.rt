@@ -45,8 +45,8 @@ fn the_first_refused_line_ends_the_run(rt: HostRuntime) -> Result<(), Fail> {
         (
             "# a comment\r\n\n \t\npath\n",
             4,
-            Refusal::Words(1),
-            "error 4 1 Words 1\n",
+            Refusal::Words(5),
+            "error 4 1 Words 5\n",
         ),
         ("wiring A B", 1, Refusal::Words(10), "error 1 1 Words 10\n"),
         ("tick A\n", 1, unknown, "error 1 2 NoSuchName\n"),
