@@ -31,7 +31,7 @@ use Rattle.bridge_api.specs.Own.{local_of}
 use Rattle.bridge_api.specs.Graph.{contents_of, read_graph}
 use Rattle.bridge_api.proofs.GraphRead.{reads_each_once}
 use Rattle.spb_network.specs.declared.declaration.DeclaredBridge.{DeclaredBridge}
-use Rattle.spb_network.specs.World.{World, things_of, world_graph}
+use Rattle.spb_network.specs.World.{World, things_of, attachment_at, world_graph}
 use Rattle.spb_network.specs.State.{State}
 use Rattle.spb_network.specs.Sound.{IsSoundState}
 use Rattle.spb_network.specs.Truth.{IsAtRest, AreJoined, IsThere}
@@ -147,7 +147,7 @@ bridge_read s v b rest there k =
     are_bridges list (IsSaid list) (filter has_inst list) b (chosen v)
     (contains_from_has b (filter_map bridge_of list) (subst (λ z. Has z (filter_map bridge_of list)) (sym is) read), subst (IsSaid list) there.is (is_said s v w rest there.joined))
 
--- ---- members: nothing is attached
+-- ---- members: nothing is attached yet
 
 member_is : (c : SystemId × Content) (m : Member) → Has m (members_of c) → m.system ≡ c.0
 member_is c m h = at (filter_map_has (member_of c.0) m c.1.services h)
@@ -168,7 +168,7 @@ no_members s v m rest there k =
     let list : Contents = contents_of v in
     let c = flat_map_has members_of m list (has_from_contains m (flat_map members_of list) (members_are list (IsSaid list) (filter has_inst list) m (chosen v) k).0) in
     let same : c.0 ≡ (w.id.system, said_by (local_of w)) = only_read s v w c.0 rest there.joined c.1 (sym (member_is c.0 m c.2) ∙ sym there.is) in
-    no_member w m (rest.sound.attached there.joined.to w there.joined.there) (subst (λ z. Has m (members_of z)) same c.2)
+    no_member w m (rest.sound.attached there.joined.to w there.joined.there ∙ ap (filter_map (attachment_at there.joined.to)) rest.sound.world.unattached) (subst (λ z. Has m (members_of z)) same c.2)
 
 -- ---- the graph that a bridge reads looks like the wiring
 

@@ -220,7 +220,7 @@ all_sound : (s : State) (cs : List Command) → IsSoundState s → AllByRecursio
 all_sound s [] sound addressed accepted = sound
 all_sound s (c ∷ cs) sound addressed accepted = all_sound (next_state s c) cs (commands_keep_sound s c sound addressed.0 accepted.0) addressed.1 accepted.1
 
-opening_world : Sound (record { vids = []; bridges = []; links = []; services = [] })
+opening_world : Sound (record { vids = []; bridges = []; links = []; services = []; attached = [] })
 opening_world = record {
   few = omega arith;
   ports = tt;
@@ -232,6 +232,10 @@ opening_world = record {
   each_vid = tt;
   services = tt;
   services_apart = tt;
+  attached = tt;
+  attached_apart = tt;
+  few_isids = λ i. omega arith;
+  unattached = refl;
 }
 
 -- a network in which nothing is declared is sound

@@ -34,6 +34,7 @@ pub use reason::{ApplyError, Reason};
 pub use world::World;
 
 mod answer;
+mod attaching;
 mod bodies;
 mod boxes;
 mod check;

@@ -1,6 +1,7 @@
 ghost use Rattle.std.specs.Prelude.{◌≡◌, [], ◌∷◌, ◌++◌, true, None, OnOk, OnErr};
 ghost use Rattle.spb_network.specs.Declaring.{is_new_name, switched, links_with_metric};
 
+use crate::attaching::attached_at;
 use crate::graph::{graph_bridges, graph_edges, system_at};
 use crate::hints::Hints;
 use crate::reason::reason_unless;
@@ -22,14 +23,16 @@ use std::marker::Model;
 /// The most services of a script.
 pub const MOST_SERVICES: usize = 4_096;
 
-/// What is declared: the base VIDs, the bridges, the links and the services, each in order of declaration. The roads of
-/// the wiring are kept from the first question about it until a bridge, a link or a metric changes.
+/// What is declared: the base VIDs, the bridges, the links and the services, each in order of declaration; and what is
+/// attached, each by the place of its bridge, in order of attaching. The roads of the wiring are kept from the first
+/// question about it until a bridge, a link or a metric changes.
 #[derive(Drop)]
 pub struct World {
     vids: Vec<VidPlan>,
     bridges: IndexMap<Name, DeclaredBridge>,
     links: IndexMap<Name, DeclaredLink>,
     services: IndexMap<Isid, Vid>,
+    attached: Vec<(usize, Attachment)>,
     hints: Hints,
     kept: Option<Roads>,
 }
@@ -40,10 +43,10 @@ impl Model for World {
 
     ghost Value = { state.World };
 
-    ghost view = { λ w. record { vids = w.vids.items; bridges = w.bridges.entries; links = w.links.entries; services = w.services.entries } };
+    ghost view = { λ w. record { vids = w.vids.items; bridges = w.bridges.entries; links = w.links.entries; services = w.services.entries; attached = w.attached.items } };
 
-    ghost invariant = { λ w. state.Sound (record { vids = w.vids.items; bridges = w.bridges.entries; links = w.links.entries; services = w.services.entries })
-        × IfSome w.kept (λ roads. roads ≡ state.world_graph (record { vids = w.vids.items; bridges = w.bridges.entries; links = w.links.entries; services = w.services.entries })) };
+    ghost invariant = { λ w. state.Sound (record { vids = w.vids.items; bridges = w.bridges.entries; links = w.links.entries; services = w.services.entries; attached = w.attached.items })
+        × IfSome w.kept (λ roads. roads ≡ state.world_graph (record { vids = w.vids.items; bridges = w.bridges.entries; links = w.links.entries; services = w.services.entries; attached = w.attached.items })) };
 }
 
 impl World {
@@ -59,13 +62,14 @@ impl World {
 
     /// The world in which nothing is declared, which takes no memory.
     pub fn new(alloc: Global) -> Self
-        ensures { result ≡ record { vids = []; bridges = []; links = []; services = [] } }
+        ensures { result ≡ record { vids = []; bridges = []; links = []; services = []; attached = [] } }
     {
         World {
             vids: Vec::new(alloc),
             bridges: IndexMap::new(alloc),
             links: IndexMap::new(alloc),
             services: IndexMap::new(alloc),
+            attached: Vec::new(alloc),
             hints: Hints::new(alloc),
             kept: None,
         }
@@ -182,11 +186,13 @@ impl World {
         }
     }
 
-    /// What is attached to the ports of the bridge at a place.
+    /// What is attached to the customer ports of the bridge at a place, in order of attaching. One pass over all that is
+    /// attached.
     pub fn attached(&self, alloc: Global, place: usize) -> Result<Seq<Attachment>, NoMemory>
         ensures { IfOk result (λ attached. attached ≡ state.attached_at self.now place) }
     {
-        Ok(Seq::new(alloc))
+        let attached = attached_at(alloc, self.attached.as_slice(), place)?;
+        Ok(Seq::from_vec(attached))
     }
 
     /// The lane out of a port of the bridge at a place, over a link that is up. None exactly where there is none.
