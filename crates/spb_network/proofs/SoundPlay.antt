@@ -234,7 +234,6 @@ opening_world = record {
   services_apart = tt;
   attached = tt;
   attached_apart = tt;
-  few_isids = λ i. omega arith;
   unattached = refl;
 }
 

@@ -87,7 +87,6 @@ Sound-with_bridge w name b sound new = record {
   services_apart = sound.services_apart;
   attached = All-map (IsAttachedIn w.bridges w.services) (IsAttachedIn (w.bridges ++ (name, b) ∷ []) w.services) w.attached (IsAttachedIn-push w.bridges w.services (name, b)) sound.attached;
   attached_apart = sound.attached_apart;
-  few_isids = sound.few_isids;
   unattached = sound.unattached;
 }
 
@@ -111,7 +110,6 @@ Sound-with_link w name l sound new = record {
   services_apart = sound.services_apart;
   attached = sound.attached;
   attached_apart = sound.attached_apart;
-  few_isids = sound.few_isids;
   unattached = sound.unattached;
 }
 
@@ -143,7 +141,6 @@ Sound-with_vid w p sound new = record {
   services_apart = sound.services_apart;
   attached = sound.attached;
   attached_apart = sound.attached_apart;
-  few_isids = sound.few_isids;
   unattached = sound.unattached;
 }
 
@@ -183,7 +180,6 @@ Sound-with_live on w k sound = record {
   services_apart = sound.services_apart;
   attached = sound.attached;
   attached_apart = sound.attached_apart;
-  few_isids = sound.few_isids;
   unattached = sound.unattached;
 }
 
@@ -253,7 +249,6 @@ Sound-with_end_metric on m w k is sound = record {
   services_apart = sound.services_apart;
   attached = sound.attached;
   attached_apart = sound.attached_apart;
-  few_isids = sound.few_isids;
   unattached = sound.unattached;
 }
 

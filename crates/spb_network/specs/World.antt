@@ -12,14 +12,14 @@ use Rattle.spb_types.specs.declared.service.Isid.{Isid}
 use Rattle.spb_types.specs.declared.service.Vid.{Vid}
 use Rattle.spb_types.specs.declared.service.VidPlan.{VidPlan}
 use Rattle.spb_tlvs.specs.Capability.{IsTree}
-use Rattle.bridge_api.specs.Config.{ArePairwise, different, vids_of}
+use Rattle.bridge_api.specs.Config.{ArePairwise, vids_of}
 use Rattle.spb_network.specs.declared.declaration.DeclaredBridge.{DeclaredBridge}
 use Rattle.spb_network.specs.declared.declaration.DeclaredLink.{DeclaredLink}
 use Rattle.spb_network.specs.declared.declaration.LinkEnd.{LinkEnd}
 use Rattle.spb_types.specs.declared.tables.Tables.{Tables}
 use Rattle.fdb_build.specs.Tables.{ArePlans, unicast_rows}
 use Rattle.fdb_build.specs.Groups.{group_rows}
-use Rattle.spb_types.specs.declared.limits.TheConstants.{GREATEST_ISID, GREATEST_METRIC, MOST_BRIDGES, MOST_CUSTOMER_PORTS, MOST_ISIDS, MOST_PORTS, MOST_VIDS}
+use Rattle.spb_types.specs.declared.limits.TheConstants.{GREATEST_ISID, GREATEST_METRIC, MOST_BRIDGES, MOST_CUSTOMER_PORTS, MOST_PORTS, MOST_VIDS}
 
 -- the declared bridges, each with its name, in order of declaration
 abbrev pub Bridges : Type 0
@@ -84,10 +84,6 @@ attachment_at i x = if x.0 == i then Some x.1 else None
 -- what is attached to the customer ports of the bridge at a place, in order of attaching
 abbrev pub attached_at : World → ℕ → List Attachment
 attached_at w i = filter_map (attachment_at i) w.attached
-
--- the different I-SIDs of attachments
-abbrev pub isids_in : List Attachment → List ℕ
-isids_in attached = different (map (λ a. a.isid.value) attached)
 
 -- the edge that a link makes: its cost is the greater of the metrics of its ends
 abbrev pub edge_of : Bridges → DeclaredLink → Edge
@@ -163,8 +159,8 @@ AreAtTwoPorts x y = x.0 ≡ y.0 → x.1.port ≢ y.1.port
 
 -- what every world keeps that declarations made: the system ids differ, each link has two ends at ports of different
 -- bridges, no port has two links, no two bridges are linked twice, the VIDs differ and are in range, and the I-SIDs
--- differ, are in range and have declared VIDs; what is attached is at customer ports of declared bridges, in declared
--- services, no two at one port, and of at most 60 I-SIDs at a bridge. Nothing is attached yet
+-- differ, are in range and have declared VIDs; what is attached is at customer ports of declared bridges, no two at one
+-- port, and in declared services. Nothing is attached yet
 pub record Sound (w : World) : Type 0 where
   pub few : length w.bridges ≤ MOST_BRIDGES
   pub ports : AllByRecursion (λ b. b.ports ≤ MOST_PORTS) (things_of w.bridges)
@@ -178,7 +174,6 @@ pub record Sound (w : World) : Type 0 where
   pub services_apart : ArePairwise (λ x y. x.0.value ≢ y.0.value) w.services
   pub attached : AllByRecursion (IsAttachedIn w.bridges w.services) w.attached
   pub attached_apart : ArePairwise AreAtTwoPorts w.attached
-  pub few_isids : (i : ℕ) → length (isids_in (attached_at w i)) ≤ MOST_ISIDS
   pub unattached : w.attached ≡ []
 
 -- the tables that the wiring gives the bridge at a place
