@@ -2,17 +2,18 @@
 ghost use Rattle.std.specs.Prelude.{◌≡◌, ◌≤◌, [], false, length, slice_get, slice_set, OnOk, IfOk};
 ghost use Rattle.std.specs.Option.{option_map_or};
 ghost use Rattle.bridge_api.specs.Config.{IsMetric};
+ghost use Rattle.bridge_api.specs.Services.{attachment_of};
 ghost use Rattle.bridge_api.specs.Step as comes;
 ghost use Rattle.bridge_api.specs.Step.{sent, step, with_wire};
 ghost use Rattle.bridge_api.specs.Shown.{views_of};
 ghost use Rattle.spb_types.specs.Places.{changed_at};
 ghost use Rattle.spb_network.specs.Questions as question;
-ghost use Rattle.spb_network.specs.Network.{AreMade, IsPortAt};
+ghost use Rattle.spb_network.specs.Network.{AreMade, IsPortAt, CanAttachAt, IsAttachedAt};
 
 use adjacency::Adjacency;
 use bridge_api::{Bridge, Outbox};
 use lsdb::DbRow;
-use spb_types::NoMemory;
+use spb_types::{Isid, NoMemory, Vid};
 use std::alloc::Global;
 
 /// A second of a bridge.
@@ -86,6 +87,40 @@ pub fn set_metric<B: Bridge>(
     match boxes.get_mut(i) {
         None => Ok(()),
         Some(bridge) => bridge.set_metric(port, metric),
+    }
+}
+
+/// Attaches a customer port of a bridge to a service.
+pub fn attach<B: Bridge>(
+    boxes: &mut Vec<B>,
+    i: usize,
+    port: u16,
+    isid: Isid,
+    vid: Vid,
+) -> Result<(), NoMemory>
+    requires made { AreMade B.shown boxes.old.items }
+    requires can { CanAttachAt (views_of B.shown boxes.old.items) i (attachment_of port isid vid) }
+    ensures views { OnOk result (views_of B.shown boxes.new.items
+        ≡ changed_at (step (comes.attach (attachment_of port isid vid))) (views_of B.shown boxes.old.items) i) }
+    ensures made { OnOk result (AreMade B.shown boxes.new.items) }
+{
+    match boxes.get_mut(i) {
+        None => Ok(()),
+        Some(bridge) => bridge.attach(port, isid, vid),
+    }
+}
+
+/// Detaches a customer port of a bridge.
+pub fn detach<B: Bridge>(boxes: &mut Vec<B>, i: usize, port: u16) -> Result<(), NoMemory>
+    requires made { AreMade B.shown boxes.old.items }
+    requires attached { IsAttachedAt (views_of B.shown boxes.old.items) i port }
+    ensures views { OnOk result (views_of B.shown boxes.new.items
+        ≡ changed_at (step (comes.detach port)) (views_of B.shown boxes.old.items) i) }
+    ensures made { OnOk result (AreMade B.shown boxes.new.items) }
+{
+    match boxes.get_mut(i) {
+        None => Ok(()),
+        Some(bridge) => bridge.detach(port),
     }
 }
 
