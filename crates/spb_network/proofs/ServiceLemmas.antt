@@ -112,5 +112,4 @@ Sound-with_service w s sound new = record {
   services_apart = pairwise-push (λ x y. x.0.value ≢ y.0.value) w.services s sound.services_apart new.apart;
   attached = All-map (IsAttachedIn w.bridges w.services) (IsAttachedIn w.bridges (w.services ++ s ∷ [])) w.attached (attached_in-push w.bridges w.services s) sound.attached;
   attached_apart = sound.attached_apart;
-  unattached = sound.unattached;
 }

@@ -259,7 +259,6 @@ opening_world = record {
   services_apart = tt;
   attached = tt;
   attached_apart = tt;
-  unattached = refl;
 }
 
 -- a network in which nothing is declared is sound

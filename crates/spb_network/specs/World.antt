@@ -160,7 +160,7 @@ AreAtTwoPorts x y = x.0 ≡ y.0 → x.1.port ≢ y.1.port
 -- what every world keeps that declarations made: the system ids differ, each link has two ends at ports of different
 -- bridges, no port has two links, no two bridges are linked twice, the VIDs differ and are in range, and the I-SIDs
 -- differ, are in range and have declared VIDs; what is attached is at customer ports of declared bridges, no two at one
--- port, and in declared services. Nothing is attached yet
+-- port, and in declared services
 pub record Sound (w : World) : Type 0 where
   pub few : length w.bridges ≤ MOST_BRIDGES
   pub ports : AllByRecursion (λ b. b.ports ≤ MOST_PORTS) (things_of w.bridges)
@@ -174,7 +174,6 @@ pub record Sound (w : World) : Type 0 where
   pub services_apart : ArePairwise (λ x y. x.0.value ≢ y.0.value) w.services
   pub attached : AllByRecursion (IsAttachedIn w.bridges w.services) w.attached
   pub attached_apart : ArePairwise AreAtTwoPorts w.attached
-  pub unattached : w.attached ≡ []
 
 -- the tables that the wiring gives the bridge at a place
 unfoldable pub wired_tables : World → ℕ → Tables

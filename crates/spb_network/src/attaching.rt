@@ -1,5 +1,5 @@
 //! What is attached to the customer ports of a bridge, among all that is attached.
-ghost use Rattle.std.specs.Prelude.{◌≡◌, ◌&&◌, ◌==◌, not, length, nat_eq, IfOk};
+ghost use Rattle.std.specs.Prelude.{◌≡◌, ◌&&◌, ◌==◌, not, filter, length, nat_eq, IfOk};
 ghost use Rattle.std.specs.List.{filter_map};
 ghost use Rattle.spb_network.specs.World as state;
 ghost use Rattle.spb_network.specs.Attaching as attaching;
@@ -57,10 +57,17 @@ pub fn is_attached(entries: &[(usize, Attachment)], place: usize, port: u64) -> 
 }
 
 /// Whether something isn't attached at a customer port of the bridge at a place.
-pub fn is_elsewhere(entry: &(usize, Attachment), place: usize, port: u16) -> bool
+fn is_elsewhere(entry: &(usize, Attachment), place: usize, port: u16) -> bool
     ensures { result ≡ attaching.is_elsewhere place port entry.now }
 {
     !(entry.0 == place && entry.1.port == port)
+}
+
+/// Leaves out what is attached at a customer port of the bridge at a place. Takes no memory.
+pub fn remove(entries: &mut Vec<(usize, Attachment)>, place: usize, port: u16)
+    ensures { entries.new.items ≡ filter (attaching.is_elsewhere place port) entries.old.items }
+{
+    entries.retain(|entry| is_elsewhere(entry, place, port));
 }
 
 /// Whether something is attached at the bridge at a place, to an I-SID.

@@ -1,7 +1,7 @@
 ghost use Rattle.std.specs.Prelude.{◌≡◌, [], ◌∷◌, ◌++◌, true, None, OnOk, OnErr};
 ghost use Rattle.spb_network.specs.Declaring.{is_new_name, switched, links_with_metric};
 
-use crate::attaching::{attached_at, has_isid_room, is_attached, is_customer_port, is_elsewhere};
+use crate::attaching::{attached_at, has_isid_room, is_attached, is_customer_port, remove};
 use crate::graph::{graph_bridges, graph_edges, system_at};
 use crate::hints::Hints;
 use crate::reason::reason_unless;
@@ -381,11 +381,11 @@ impl World {
     {
         let entries = self.attached.as_slice();
         let is_declared = self.vid_of_isid(isid).is_some();
-        let has_room = has_isid_room(entries, place, isid);
+        let has_place = has_isid_room(entries, place, isid);
         let is_free = !is_attached(entries, place, port);
         reason_unless(is_declared, Reason::NoSuchName)
             .or(reason_unless(is_customer_port(port), Reason::Range))
-            .or(reason_unless(has_room, Reason::TooMany))
+            .or(reason_unless(has_place, Reason::TooMany))
             .or(reason_unless(is_free, Reason::Attached))
     }
 
@@ -508,8 +508,7 @@ impl World {
         ensures { self.new ≡ attaching.without_attachment_at self.old place port }
     {
         self.kept = None;
-        self.attached
-            .retain(|entry| is_elsewhere(entry, place, port));
+        remove(&mut self.attached, place, port);
     }
 
     /// The link at a place comes up, or goes down. Takes no memory.
