@@ -17,7 +17,7 @@ use Rattle.bridge_api.specs.Services.{attachment_of, IsAttachedPort, CanAttach, 
 use Rattle.bridge_api.specs.Step as comes
 use Rattle.bridge_api.specs.Step.{Input, step}
 use Rattle.bridge_api.specs.Laws.{attached_after}
-use Rattle.spb_network.specs.World.{World, Attachments, vid_of_isid, attachment_at, attached_at, IsService, IsAttachedIn, AreAtTwoPorts}
+use Rattle.spb_network.specs.World.{World, Attachments, vid_of_isid, attachment_at, attached_at, IsService, IsAttachedIn, Sound}
 use Rattle.spb_network.specs.Reason.{reason_unless, ◌or◌}
 use Rattle.spb_network.specs.Attaching.{is_declared_isid, is_customer_port, is_attached, has_isid_room, isids_with, attach_refusal, detach_refusal, IsNewAttachment, with_attachment_at, without_attachment_at}
 use Rattle.spb_network.specs.Network.{Fits, CanAttachAt, IsAttachedAt}
@@ -92,6 +92,12 @@ new_attachment s i port isid vid within none found =
       attached = record { bridge = within; port_low = is.port_low; port_high = is.port_high; service = found };
       apart = is.free;
     }
+
+-- the I-SID of a service fits its number
+pub found_high : (w : World) (isid : ℕ) (vid : Vid) → Sound w → vid_of_isid w.services isid ≡ Some vid → isid ≤ 16777215
+found_high w isid vid sound found =
+    let service = service_found (IsService w.vids) w.services isid vid sound.services found in
+    omega (arith, service.1, service.2.isid_high)
 
 both_all : {X : Type 0} (P Q R : X → Type 0) (xs : List X) → ((x : X) → P x → Q x → R x) → AllByRecursion P xs → AllByRecursion Q xs → AllByRecursion R xs
 both_all P Q R [] f p q = tt

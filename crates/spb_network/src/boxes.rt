@@ -2,7 +2,6 @@
 ghost use Rattle.std.specs.Prelude.{◌≡◌, ◌≤◌, [], false, length, slice_get, slice_set, OnOk, IfOk};
 ghost use Rattle.std.specs.Option.{option_map_or};
 ghost use Rattle.bridge_api.specs.Config.{IsMetric};
-ghost use Rattle.bridge_api.specs.Services.{attachment_of};
 ghost use Rattle.bridge_api.specs.Step as comes;
 ghost use Rattle.bridge_api.specs.Step.{sent, step, with_wire};
 ghost use Rattle.bridge_api.specs.Shown.{views_of};
@@ -13,7 +12,7 @@ ghost use Rattle.spb_network.specs.Network.{AreMade, IsPortAt, CanAttachAt, IsAt
 use adjacency::Adjacency;
 use bridge_api::{Bridge, Outbox};
 use lsdb::DbRow;
-use spb_types::{Isid, NoMemory, Vid};
+use spb_types::{Attachment, NoMemory};
 use std::alloc::Global;
 
 /// A second of a bridge.
@@ -94,19 +93,17 @@ pub fn set_metric<B: Bridge>(
 pub fn attach<B: Bridge>(
     boxes: &mut Vec<B>,
     i: usize,
-    port: u16,
-    isid: Isid,
-    vid: Vid,
+    attachment: Attachment,
 ) -> Result<(), NoMemory>
     requires made { AreMade B.shown boxes.old.items }
-    requires can { CanAttachAt (views_of B.shown boxes.old.items) i (attachment_of port isid vid) }
+    requires can { CanAttachAt (views_of B.shown boxes.old.items) i attachment }
     ensures views { OnOk result (views_of B.shown boxes.new.items
-        ≡ changed_at (step (comes.attach (attachment_of port isid vid))) (views_of B.shown boxes.old.items) i) }
+        ≡ changed_at (step (comes.attach attachment)) (views_of B.shown boxes.old.items) i) }
     ensures made { OnOk result (AreMade B.shown boxes.new.items) }
 {
     match boxes.get_mut(i) {
         None => Ok(()),
-        Some(bridge) => bridge.attach(port, isid, vid),
+        Some(bridge) => bridge.attach(attachment.port, attachment.isid, attachment.vid),
     }
 }
 

@@ -4,7 +4,7 @@ ghost use Rattle.spb_network.specs.Attaching as attaching;
 ghost use Rattle.spb_network.specs.Refusing as refuse;
 ghost use Rattle.spb_network.specs.Play as play;
 ghost use Rattle.spb_network.specs.Events as event;
-ghost use Rattle.spb_network.specs.Network.{state_of, AreMade};
+ghost use Rattle.spb_network.specs.Network.{state_of, AreMade, CanAttachAt};
 ghost use Rattle.spb_network.specs.Applying.{IsSoundNetwork};
 
 use crate::{NetworkOf, Reason, World, boxes};
@@ -36,6 +36,19 @@ impl World {
 }
 
 impl<B: Bridge> NetworkOf<B> {
+    /// Attaches a customer port of the bridge at a place, where nothing is attached.
+    fn attach_port(&mut self, place: usize, attachment: Attachment) -> Result<(), NoMemory>
+        requires made { AreMade B.shown self.old.boxes.items }
+        requires new { attaching.IsNewAttachment self.old.world (place, attachment) }
+        requires can { CanAttachAt (state_of B.shown self.old).views place attachment }
+        ensures state { OnOk result (state_of B.shown self.new
+            ≡ event.with_attached_port (state_of B.shown self.old) place attachment) }
+        ensures made { OnOk result (AreMade B.shown self.new.boxes.items) }
+    {
+        boxes::attach(&mut self.boxes, place, attachment)?;
+        self.world.attach(place, attachment)
+    }
+
     /// Attaches a customer port of the bridge at a place to the service of an I-SID.
     #[tactic(auto, unfolding(crate::specs::Events::port_attached))]
     fn attach(&mut self, place: usize, port: u64, isid: u64) -> Result<(), NoMemory>
@@ -54,8 +67,7 @@ impl<B: Bridge> NetworkOf<B> {
             isid: Isid { value: isid as u32 },
             vid,
         };
-        boxes::attach(&mut self.boxes, place, attachment.port, attachment.isid, vid)?;
-        self.world.attach(place, attachment)
+        self.attach_port(place, attachment)
     }
 
     /// Detaches a customer port of the bridge at a place.

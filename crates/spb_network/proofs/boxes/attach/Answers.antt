@@ -1,4 +1,3 @@
-use Rattle.bridge_api.specs.Services.{attachment_of}
 use Rattle.bridge_api.specs.Step as comes
 use Rattle.bridge_api.specs.Step.{step}
 use Rattle.bridge_api.specs.Shown.{view_in}
@@ -8,11 +7,11 @@ use Rattle.spb_network.proofs.boxes.attach.Goals as goal
 
 pub returns-in-None-clause-views : goal.returns-in-None-clause-views
 returns-in-None-clause-views g c =
-    changed-none (view_in g.B.Bridge.shown) (step (comes.attach (attachment_of c.args.port c.args.isid c.args.vid))) c.args.boxes.now.items c.args.i (lent-none _ _ _ c.get_mut.ensures.item c.in-None.is)
+    changed-none (view_in g.B.Bridge.shown) (step (comes.attach c.args.attachment)) c.args.boxes.now.items c.args.i (lent-none _ _ _ c.get_mut.ensures.item c.in-None.is)
 
 pub returns-in-Some-clause-views : goal.returns-in-Some-clause-views
 returns-in-Some-clause-views g c =
-    on_ok c.attach.result (map-set (view_in g.B.Bridge.shown) (step (comes.attach (attachment_of c.args.port c.args.isid c.args.vid))) c.args.boxes.now.items c.args.i c.in-Some.bridge.now c.attach.new.self (lent _ _ _ _ c.get_mut.ensures.item c.in-Some.is)) c.attach.ensures.view
+    on_ok c.attach.result (map-set (view_in g.B.Bridge.shown) (step (comes.attach c.args.attachment)) c.args.boxes.now.items c.args.i c.in-Some.bridge.now c.attach.new.self (lent _ _ _ _ c.get_mut.ensures.item c.in-Some.is)) c.attach.ensures.view
 
 pub attach-requires-clause-can : goal.attach-requires-clause-can
 attach-requires-clause-can g c not_failed =
