@@ -19,7 +19,7 @@ use Rattle.bridge_api.specs.Step.{Input, step}
 use Rattle.bridge_api.specs.Laws.{attached_after}
 use Rattle.spb_network.specs.World.{World, Attachments, vid_of_isid, attachment_at, attached_at, IsService, IsAttachedIn, Sound}
 use Rattle.spb_network.specs.Reason.{reason_unless, ◌or◌}
-use Rattle.spb_network.specs.Attaching.{is_declared_isid, is_customer_port, is_attached, has_isid_room, isids_with, attach_refusal, detach_refusal, IsNewAttachment, with_attachment_at, without_attachment_at}
+use Rattle.spb_network.specs.Attaching.{is_customer_port, is_attached, has_isid_room, isids_with, attach_refusal, detach_refusal, IsNewAttachment, with_attachment_at, without_attachment_at}
 use Rattle.spb_network.specs.Network.{Fits, CanAttachAt, IsAttachedAt}
 use Rattle.spb_network.specs.State.{State, links_of}
 use Rattle.spb_network.specs.Events.{stepped, with_attached_port, attached_in_found, port_attached, port_detached}
@@ -61,10 +61,6 @@ attach_refusal_none w i port isid h =
       room = le-true (length (isids_with (attached_at w i) isid)) 60 room;
       free = All-map (λ x. ((x.0 == i) && (x.1.port == port)) ≡ false) (λ x. x.0 ≡ i → x.1.port ≢ port) w.attached (elsewhere i port) (All-none (λ x. (x.0 == i) && (x.1.port == port)) w.attached (not-true _ free));
     }
-
-pub attach_declared : (w : World) (i port isid : ℕ) → attach_refusal w i port isid ≡ None → is_declared_isid w.services isid ≡ true
-unfolding attach_refusal
-attach_declared w i port isid h = reason_unless-none (is_declared_isid w.services isid) _ (or-first _ _ (or-first _ _ (or-first _ _ h)))
 
 pub record IsTakenPort (w : World) (i port : ℕ) : Type 0 where
   pub port_high : port ≤ MOST_CUSTOMER_PORTS
@@ -116,7 +112,7 @@ can_attach s i port isid vid sound none found v at =
         port_high = is.port_high;
         isid_low = subst (λ (n : ℕ). 1 ≤ n) service.1 service.2.isid_low;
         isid_high = subst (λ (n : ℕ). n ≤ 16777215) service.1 service.2.isid_high;
-        vid = subst (λ (plans : List VidPlan). list_any (nat_eq vid.value) (vids_of plans) ≡ true) (sym shown.1.vids) service.2.vid;
+        vid = subst (λ (plans : List VidPlan). list_any (nat_eq vid.value) (vids_of plans) ≡ true) (sym (shown_at s i v sound at).1.vids) service.2.vid;
       };
       agrees = subst (AllByRecursion (λ other. AgreesWith other a)) (sym same) (both_all (λ b. b.port ≢ port) (λ b. vid_of_isid s.world.services b.isid.value ≡ Some b.vid) (λ b. AgreesWith b a) (attached_at s.world i) agree (all_at (λ b. b.port ≢ port) i s.world.attached is.free) (all_at (λ b. vid_of_isid s.world.services b.isid.value ≡ Some b.vid) i s.world.attached (in_service s.world s.world.attached sound.world.attached i)));
       few_isids = subst (λ (attached : List Attachment). length (different (map (λ (x : Attachment). x.isid.value) (attached ++ a ∷ []))) ≤ MOST_ISIDS) (sym same) (subst (λ (n : ℕ). n ≤ MOST_ISIDS) (sym (isids_pushed (attached_at s.world i) a)) is.room);
@@ -130,9 +126,6 @@ can_attach s i port isid vid sound none found v at =
 
     service : (j : Isid) × (j.value ≡ isid) × IsService s.world.vids (j, vid)
     service = service_found (IsService s.world.vids) s.world.services isid vid sound.world.services found
-
-    shown : _
-    shown = shown_at s i v sound at
 
     same : v.attached ≡ attached_at s.world i
     same = sound.attached i v at
