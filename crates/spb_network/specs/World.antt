@@ -7,12 +7,14 @@ use Rattle.spb_types.specs.declared.address.SystemId.{SystemId}
 use Rattle.spb_types.specs.declared.graph.Edge.{Edge}
 use Rattle.spb_types.specs.declared.graph.Graph.{Graph}
 use Rattle.spb_types.specs.declared.graph.GraphBridge.{GraphBridge}
+use Rattle.spb_types.specs.declared.graph.Member.{Member}
 use Rattle.spb_types.specs.declared.service.Attachment.{Attachment}
 use Rattle.spb_types.specs.declared.service.Isid.{Isid}
 use Rattle.spb_types.specs.declared.service.Vid.{Vid}
 use Rattle.spb_types.specs.declared.service.VidPlan.{VidPlan}
 use Rattle.spb_tlvs.specs.Capability.{IsTree}
 use Rattle.bridge_api.specs.Config.{ArePairwise, vids_of}
+use Rattle.bridge_api.specs.Own.{member_of}
 use Rattle.spb_network.specs.declared.declaration.DeclaredBridge.{DeclaredBridge}
 use Rattle.spb_network.specs.declared.declaration.DeclaredLink.{DeclaredLink}
 use Rattle.spb_network.specs.declared.declaration.LinkEnd.{LinkEnd}
@@ -99,12 +101,16 @@ edge_of bridges l = record {
 abbrev pub live_edge : Bridges → DeclaredLink → Option Edge
 live_edge bridges l = if l.live then Some (edge_of bridges l) else None
 
--- the actual wiring: all bridges, and an edge for each link that is up
+-- the member of a service that an attachment makes its bridge
+abbrev pub member_at : Bridges → ℕ × Attachment → Member
+member_at bridges x = member_of (system_at bridges x.0) x.1
+
+-- the actual wiring: all bridges, an edge for each link that is up, and a member for each customer port that is attached
 abbrev pub world_graph : World → Graph
 world_graph w = record {
   bridges = graph_bridges w.bridges;
   edges = filter_map (live_edge w.bridges) (things_of w.links);
-  members = [];
+  members = map (member_at w.bridges) w.attached;
 }
 
 -- whether the link joins the bridges at two places, whichever of its ends is which

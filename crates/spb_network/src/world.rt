@@ -2,7 +2,7 @@ ghost use Rattle.std.specs.Prelude.{◌≡◌, [], ◌∷◌, ◌++◌, true, No
 ghost use Rattle.spb_network.specs.Declaring.{is_new_name, switched, links_with_metric};
 
 use crate::attaching::{attached_at, has_isid_room, is_attached, is_customer_port, remove};
-use crate::graph::{graph_bridges, graph_edges, system_at};
+use crate::graph::{graph_bridges, graph_edges, graph_members, system_at};
 use crate::hints::Hints;
 use crate::reason::reason_unless;
 use crate::{DeclaredBridge, DeclaredLink, LinkEnd, Reason, check, link_ends};
@@ -212,16 +212,18 @@ impl World {
         }
     }
 
-    /// The actual wiring: all bridges, and an edge for each link that is up.
+    /// The actual wiring: all bridges, an edge for each link that is up, and a member for each customer port that is
+    /// attached.
     fn graph(&self, alloc: Global) -> Result<Graph, NoMemory>
         ensures { IfOk result (λ graph. graph ≡ state.world_graph self.now) }
     {
         let bridges = graph_bridges(alloc, &self.bridges)?;
         let edges = graph_edges(alloc, &self.bridges, &self.links)?;
+        let members = graph_members(alloc, &self.bridges, self.attached.as_slice())?;
         Ok(Graph {
             bridges: Seq::from_vec(bridges),
             edges: Seq::from_vec(edges),
-            members: Seq::new(alloc),
+            members: Seq::from_vec(members),
         })
     }
 
@@ -396,8 +398,10 @@ impl World {
         ensures { result ≡ attaching.detach_refusal self.now place port }
     {
         let is_there = is_attached(self.attached.as_slice(), place, port);
-        reason_unless(is_customer_port(port), Reason::Range)
-            .or(reason_unless(is_there, Reason::NotAttached))
+        reason_unless(is_customer_port(port), Reason::Range).or(reason_unless(
+            is_there,
+            Reason::NotAttached,
+        ))
     }
 
     /// Declares a base VID with the number of its ECT algorithm, which isn't refused. After NoMemory nothing changed.
