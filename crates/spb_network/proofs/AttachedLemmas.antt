@@ -1,14 +1,16 @@
 -- What is attached to one bridge, among all that is attached.
-use Rattle.std.proofs.Common.{◌≡◌, ◌≢◌, ◌+◌, ℕ, suc, Bool, true, false, true≢false, not, ◌&&◌, ◌||◌, ◌==◌, List, [], ◌∷◌, ◌++◌, length, map, filter, cond, Option, Some, None, if◌then◌else◌, refl, sym, ap, ◌∙◌, arith}
+use Rattle.std.proofs.Common.{◌≡◌, ◌≢◌, ◌<◌, ◌+◌, ℕ, suc, Bool, true, false, true≢false, not, ◌&&◌, ◌||◌, ◌==◌, List, [], ◌∷◌, ◌++◌, length, map, filter, take, get_or, nat_lt, nat_le, cond, Option, Some, None, if◌then◌else◌, refl, sym, ap, ◌∙◌, arith}
 use Rattle.std.specs.Prelude.{nat_eq}
 use Rattle.std.specs.List.{AllByRecursion, list_any, filter_map, cons_option}
 use Rattle.std.proofs.lemmas.Bool.{eqb-true, eq-eqb, ne_eqb}
+use Rattle.std.proofs.lemmas.Bool.Decides.{nat_tests}
+use Rattle.std.proofs.lemmas.List.{take_more}
 use Rattle.std.proofs.lemmas.List.Elements.{filter_map-append}
 use Rattle.spb_types.specs.declared.service.Attachment.{Attachment}
 use Rattle.bridge_api.specs.Config.{ArePairwise, different}
 use Rattle.bridge_api.specs.Services.{is_at_other_port, without_customer_port}
 use Rattle.spb_network.specs.World.{World, Attachments, attachment_at, IsAttachedIn, AreAtTwoPorts, Sound}
-use Rattle.spb_network.specs.Attaching.{is_member, isids_of, different_isids, isids_with, IsNewAttachment, with_attachment_at, is_elsewhere, without_attachment_at}
+use Rattle.spb_network.specs.Attaching.{is_member, isids_of, different_isids, isids_with, has_isid_room, IsNewAttachment, with_attachment_at, is_elsewhere, without_attachment_at}
 use Rattle.spb_network.proofs.ListLemmas.{All-push}
 use Rattle.spb_network.proofs.ServiceLemmas.{pairwise-push}
 
@@ -169,6 +171,28 @@ isids_more i xs x first is = ap (λ (l : List Attachment). length (different_isi
     by : (b h : Bool) → has_isid (those i xs) x.1.isid.value ≡ h → (f : Bool) → f ≡ (b && not h) → length (different_isids (those i xs ++ cons_option (if b then Some x.1 else None) [])) ≡ (if f then length (different_isids (those i xs)) + 1 else length (different_isids (those i xs)))
     by true h was f e = isids_pushed (those i xs) x.1 ∙ (of h was ∙ ap (λ (g : Bool). if g then length (different_isids (those i xs)) + 1 else length (different_isids (those i xs))) (sym e))
     by false h was f e = ap (λ (l : List Attachment). length (different_isids l)) (append-none (those i xs)) ∙ ap (λ (g : Bool). if g then length (different_isids (those i xs)) + 1 else length (different_isids (those i xs))) (sym e)
+
+pub count_more : (i k : ℕ) (xs : Attachments) (d : ℕ × Attachment) (first : Bool) (old new : ℕ) → k < length xs → first ≡ (((get_or xs k d).0 == i) && not (is_member (take k xs) i (get_or xs k d).1.isid.value)) → old ≡ length (different_isids (filter_map (attachment_at i) (take k xs))) → new ≡ (if first then old + 1 else old) → new ≡ length (different_isids (filter_map (attachment_at i) (take (k + 1) xs)))
+count_more i k xs d first old new low first_is old_is new_is =
+    new_is
+    ∙ (ap (λ (n : ℕ). if first then n + 1 else n) old_is
+    ∙ (sym (isids_more i (take k xs) (get_or xs k d) first first_is)
+    ∙ ap (λ (l : Attachments). length (different_isids (those i l))) (sym (take_more xs k d low))))
+
+-- whether there is room, by how many there are
+pub room_old : (i : ℕ) (xs : Attachments) (isid count : ℕ) (member : Bool) → member ≡ is_member xs i isid → member ≡ true → count ≡ length (different_isids (filter_map (attachment_at i) xs)) → nat_le count 60 ≡ has_isid_room (filter_map (attachment_at i) xs) isid
+unfolding has_isid_room
+room_old i xs isid count member is old count_is =
+    ap (λ (n : ℕ). nat_le n 60) (count_is ∙ sym (isid_old (those i xs) isid (sym (isid_at isid i xs) ∙ (sym is ∙ old))))
+
+lt_le : (a b : ℕ) → nat_lt a b ≡ nat_le (a + 1) b
+lt_le a b = grind (arith, nat_tests)
+
+pub room_new : (i : ℕ) (xs : Attachments) (isid count : ℕ) (member : Bool) → member ≡ is_member xs i isid → member ≡ false → count ≡ length (different_isids (filter_map (attachment_at i) xs)) → nat_lt count 60 ≡ has_isid_room (filter_map (attachment_at i) xs) isid
+unfolding has_isid_room
+room_new i xs isid count member is new count_is =
+    lt_le count 60
+    ∙ ap (λ (n : ℕ). nat_le n 60) (ap (λ (n : ℕ). n + 1) count_is ∙ sym (isid_new (those i xs) isid (sym (isid_at isid i xs) ∙ (sym is ∙ new))))
 
 -- ---- what is declared stays sound
 

@@ -140,7 +140,7 @@ can_attach s i port isid vid sound none found v at =
 port_found : (xs : Attachments) (i port : ℕ) → is_attached xs i port ≡ true → (a : Attachment) × Contains (filter_map (attachment_at i) xs) a × (a.port ≡ port)
 port_found xs i port taken =
     let any = Any-from_list_any (λ (a : Attachment). a.port == port) (filter_map (attachment_at i) xs) (sym (any_at (λ a. a.port == port) i xs) ∙ taken) in
-    (any.1, ((any.0, any.2, any.3), eqb-true any.1.port port any.4))
+    (any.1, (any.0, any.2, any.3), eqb-true any.1.port port any.4)
 
 pub is_attached_port : (s : State) (i port : ℕ) → IsSoundState s → detach_refusal s.world i port ≡ None → IsAttachedAt s.views i port
 is_attached_port s i port sound none v at =

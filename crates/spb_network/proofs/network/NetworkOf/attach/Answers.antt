@@ -11,6 +11,13 @@ overflow_cast-attachment g c =
     let is = attach_refusal_none s.world c.args.place c.args.port c.args.isid c.requires.accepted in
     omega (arith, is.port_high)
 
+pub overflow_cast-attachment-2 : goal.overflow_cast-attachment-2
+overflow_cast-attachment-2 g c =
+    let s : State = state_of g.B.Bridge.shown c.args.self.now in
+    let found : vid_of_isid s.world.services c.args.isid ≡ Some c.in-Some.vid = sym c.vid_of_isid.ensures ∙ c.in-Some.is in
+    let high = found_high s.world c.args.isid c.in-Some.vid c.requires.sound.state.world found in
+    omega (arith, high)
+
 pub attach_port-requires-clause-new : goal.attach_port-requires-clause-new
 attach_port-requires-clause-new g c =
     let s : State = state_of g.B.Bridge.shown c.args.self.now in
