@@ -18,8 +18,10 @@
 //! question, so that the questions `state` and `show` after it take constant time for it. `show` makes the bridge's
 //! tables anew.
 //! `wiring` makes them over the roads of the wiring, which are made at the first such question, and kept with their
-//! graph until a bridge, a link or a metric changes. `path` makes the graph that the bridge reads and one tree in it, and
-//! looks through the bridges once for each name.
+//! graph until a bridge, a link, a metric or what is attached changes. `path` makes the graph that the bridge reads and one
+//! tree in it, and looks through the bridges once for each name.
+//! An `attach` goes over all that is attached, once for the customer port and its I-SID and once for each attached port
+//! of its bridge, and a `detach` twice; neither takes memory for that.
 #![tactic(auto)]
 
 pub use answer::{Answer, Out};
@@ -36,9 +38,11 @@ pub use reason::{ApplyError, Reason};
 pub use world::World;
 
 mod answer;
+mod attaching;
 mod bodies;
 mod boxes;
 mod check;
+mod customers;
 mod declaration;
 mod events;
 mod graph;
