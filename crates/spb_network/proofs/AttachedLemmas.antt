@@ -1,5 +1,5 @@
 -- What is attached to one bridge, among all that is attached.
-use Rattle.std.proofs.Common.{◌≡◌, ◌≢◌, ◌<◌, ◌+◌, ℕ, suc, Bool, true, false, true≢false, not, ◌&&◌, ◌||◌, ◌==◌, List, [], ◌∷◌, ◌++◌, length, map, filter, take, get_or, nat_lt, nat_le, cond, Option, Some, None, if◌then◌else◌, refl, sym, ap, ◌∙◌, arith}
+use Rattle.std.proofs.Common.{◌≡◌, ◌≢◌, ◌<◌, ◌+◌, ℕ, suc, Bool, true, false, true≢false, not, ◌&&◌, ◌||◌, ◌==◌, List, [], ◌∷◌, ◌++◌, length, map, filter, take, get_or, nat_lt, nat_le, cond, Some, None, if◌then◌else◌, refl, sym, ap, ◌∙◌, arith}
 use Rattle.std.specs.Prelude.{nat_eq}
 use Rattle.std.specs.List.{AllByRecursion, list_any, filter_map, cons_option}
 use Rattle.std.proofs.lemmas.Bool.{eqb-true, eq-eqb, ne_eqb}
@@ -8,7 +8,7 @@ use Rattle.std.proofs.lemmas.List.{take_more}
 use Rattle.std.proofs.lemmas.List.Elements.{filter_map-append}
 use Rattle.spb_types.specs.declared.service.Attachment.{Attachment}
 use Rattle.bridge_api.specs.Config.{ArePairwise, different}
-use Rattle.bridge_api.specs.Services.{is_at_other_port, without_customer_port}
+use Rattle.bridge_api.specs.Services.{without_customer_port}
 use Rattle.spb_network.specs.World.{World, Attachments, attachment_at, IsAttachedIn, AreAtTwoPorts, Sound}
 use Rattle.spb_network.specs.Attaching.{is_member, isids_of, different_isids, isids_with, has_isid_room, IsNewAttachment, with_attachment_at, is_elsewhere, without_attachment_at}
 use Rattle.spb_network.proofs.ListLemmas.{All-push}

@@ -14,7 +14,6 @@ use Rattle.spb_network.specs.Events.{stepped, with_attached_port, attached_in_fo
 use Rattle.spb_network.specs.Sound.{IsSoundState}
 use Rattle.spb_network.specs.Counted.{IsCountedBy}
 use Rattle.spb_network.proofs.SoundMoves.{IsCore}
-use Rattle.spb_network.proofs.SoundSteps.{IsInputAt}
 use Rattle.spb_network.proofs.SoundEvents.{core_of}
 use Rattle.spb_network.proofs.SoundAttaching.{new_attachment, can_attach, is_attached_port, core_with_attachment, core_without_attachment}
 use Rattle.spb_network.proofs.CountedGains.{gain_at}

@@ -1,4 +1,4 @@
-use Rattle.std.proofs.Common.{List, ◌≡◌, ◌<◌, ℕ, zero, suc, Bool, true, false, [], ◌∷◌, length, cond, nat_lt, Option, Some, None, slice_get, replicate, refl, arith}
+use Rattle.std.proofs.Common.{List, ◌≡◌, ◌<◌, ℕ, zero, suc, Bool, true, false, [], ◌∷◌, length, cond, nat_lt, Some, None, slice_get, replicate, refl, arith}
 use Rattle.std.specs.List.{position_or_len}
 use Rattle.std.specs.Str.{bytes_eq}
 use Rattle.std.proofs.lemmas.Bool.Decides.{nat_tests}

@@ -1,9 +1,8 @@
 -- A customer port is attached, or detached.
-use Rattle.std.proofs.Common.{◌≡◌, ◌≢◌, inl, inr, ◌≤◌, ◌<◌, ℕ, Bool, true, false, true≢false, not, ◌&&◌, ◌==◌, nat_le, List, [], ◌∷◌, ◌++◌, length, map, filter, Option, Some, None, slice_get, refl, sym, ap, ◌∙◌, subst, arith}
-use Rattle.std.specs.Prelude.{nat_eq, Contains, is_some, IsTrue}
+use Rattle.std.proofs.Common.{◌≡◌, ◌≢◌, inl, inr, ◌≤◌, ◌<◌, ℕ, Bool, true, false, true≢false, not, ◌&&◌, ◌==◌, List, [], ◌∷◌, ◌++◌, length, map, Option, Some, None, slice_get, refl, sym, ap, ◌∙◌, subst, arith}
+use Rattle.std.specs.Prelude.{nat_eq, Contains}
 use Rattle.std.specs.List.{AllByRecursion, list_any, filter_map}
 use Rattle.std.proofs.lemmas.Bool.{eqb-true, eq-eqb}
-use Rattle.std.proofs.lemmas.Bool.Decides.{nat_tests}
 use Rattle.std.proofs.lemmas.List.Folds.{Any-from_list_any}
 use Rattle.spb_types.specs.declared.limits.TheConstants.{MOST_CUSTOMER_PORTS, MOST_ISIDS}
 use Rattle.spb_types.specs.declared.service.Attachment.{Attachment}
@@ -12,16 +11,15 @@ use Rattle.spb_types.specs.declared.service.Vid.{Vid}
 use Rattle.spb_types.specs.declared.service.VidPlan.{VidPlan}
 use Rattle.spb_types.specs.Places.{changed_at}
 use Rattle.bridge_api.specs.View.{BridgeView}
-use Rattle.bridge_api.specs.Config.{IsAttachment, AgreesWith, different, vids_of}
-use Rattle.bridge_api.specs.Services.{attachment_of, IsAttachedPort, CanAttach, without_customer_port}
+use Rattle.bridge_api.specs.Config.{AgreesWith, different, vids_of}
+use Rattle.bridge_api.specs.Services.{attachment_of, without_customer_port}
 use Rattle.bridge_api.specs.Step as comes
 use Rattle.bridge_api.specs.Step.{Input, step}
 use Rattle.bridge_api.specs.Laws.{attached_after}
 use Rattle.spb_network.specs.World.{World, Attachments, vid_of_isid, attachment_at, attached_at, IsService, IsAttachedIn, Sound}
-use Rattle.spb_network.specs.Reason.{reason_unless, ◌or◌}
 use Rattle.spb_network.specs.Attaching.{is_customer_port, is_attached, has_isid_room, isids_with, attach_refusal, detach_refusal, IsNewAttachment, with_attachment_at, without_attachment_at}
-use Rattle.spb_network.specs.Network.{Fits, CanAttachAt, IsAttachedAt}
-use Rattle.spb_network.specs.State.{State, links_of}
+use Rattle.spb_network.specs.Network.{CanAttachAt, IsAttachedAt}
+use Rattle.spb_network.specs.State.{State}
 use Rattle.spb_network.specs.Events.{stepped, with_attached_port, attached_in_found, port_attached, port_detached}
 use Rattle.spb_network.specs.Sound.{AreAttached, IsSoundState}
 use Rattle.spb_network.proofs.ListLemmas.{All-map, All-none, and-left, and-right, not-true}
@@ -32,7 +30,7 @@ use Rattle.spb_network.proofs.FitsLemmas.{alike_itself}
 use Rattle.spb_network.proofs.RefusalLemmas.{reason_unless-none, or-first, or-second, le-true}
 use Rattle.spb_network.proofs.SoundMoves.{IsCore}
 use Rattle.spb_network.proofs.SoundCarrier.{got_changed}
-use Rattle.spb_network.proofs.SoundSteps.{IsInputAt, core_stepped}
+use Rattle.spb_network.proofs.SoundSteps.{core_stepped}
 use Rattle.spb_network.proofs.SoundEvents.{core_of, sound_from, stepped_world, stepped_views, stepped_carriers, stepped_with_metric}
 use Rattle.spb_network.proofs.Spoken.{shown_at}
 

@@ -1,4 +1,4 @@
-use Rattle.std.proofs.Common.{[], ap, ◌∙◌}
+use Rattle.std.proofs.Common.{ap, ◌∙◌}
 use Rattle.bridge_api.specs.Step as comes
 use Rattle.bridge_api.specs.Shown.{views_of}
 use Rattle.spb_network.specs.Attaching.{with_attachment_at}
