@@ -14,7 +14,6 @@ use Rattle.fdb_build.specs.Tables.{unicast_rows}
 use Rattle.fdb_build.proofs.TableLemmas.{same_rows}
 use Rattle.fdb_build.specs.Groups.{group_rows}
 use Rattle.fdb_build.proofs.GroupLemmas.{same_groups}
-use Rattle.spb_types.specs.declared.tables.GroupRow.{GroupRow}
 use Rattle.bridge_api.specs.View.{BridgeView}
 use Rattle.bridge_api.specs.Graph.{contents_of, read_graph, IsOwnGraph, own_tables}
 use Rattle.bridge_api.proofs.GraphRead.{reads_each_once}

@@ -1,5 +1,5 @@
 -- What is declared stays sound when a service is declared.
-use Rattle.std.proofs.Common.{◌≡◌, ◌≢◌, ◌≤◌, ◌<◌, ℕ, Bool, true, false, true≢false, ◌||◌, ◌==◌, List, [], ◌∷◌, ◌++◌, length, Option, Some, None, cond, if◌then◌else◌, refl, sym, ap, ◌∙◌, subst, arith}
+use Rattle.std.proofs.Common.{◌≡◌, ◌≢◌, ◌<◌, ℕ, Bool, true, false, true≢false, ◌||◌, ◌==◌, List, [], ◌∷◌, ◌++◌, Some, None, cond, if◌then◌else◌, refl, sym, ap, ◌∙◌, subst, arith}
 use Rattle.std.specs.Prelude.{nat_eq, is_none}
 use Rattle.std.specs.List.{AllByRecursion, list_any}
 use Rattle.std.proofs.lemmas.Bool.{eqb-true, eq-eqb, ne_eqb}
@@ -112,5 +112,4 @@ Sound-with_service w s sound new = record {
   services_apart = pairwise-push (λ x y. x.0.value ≢ y.0.value) w.services s sound.services_apart new.apart;
   attached = All-map (IsAttachedIn w.bridges w.services) (IsAttachedIn w.bridges (w.services ++ s ∷ [])) w.attached (attached_in-push w.bridges w.services s) sound.attached;
   attached_apart = sound.attached_apart;
-  unattached = sound.unattached;
 }

@@ -8,17 +8,20 @@ use Rattle.std.proofs.lemmas.List.Folds.{Any-from_list_any, list_any-from_Any}
 use Rattle.std.proofs.lemmas.Iterator.Adapters.{position_from-zero}
 use Rattle.std.proofs.lemmas.Slice.Eq.{bytes_eq-Decides}
 use Rattle.spb_types.specs.declared.address.Mac.{Mac}
+use Rattle.spb_types.specs.declared.service.Attachment.{Attachment}
 use Rattle.spb_types.specs.declared.service.SourceId.{SourceId}
 use Rattle.bridge_api.specs.Config.{IsMetric}
 use Rattle.bridge_api.specs.declared.kind.Kind.{Kind}
 use Rattle.bridge_api.specs.declared.kind.Kind.TheVariants as kind
 use Rattle.spb_network.specs.declared.declaration.DeclaredLink.{DeclaredLink}
 use Rattle.spb_network.specs.declared.declaration.LinkEnd.{LinkEnd}
-use Rattle.spb_network.specs.World.{World, Bridges, Links, Services, names_of, things_of, place_of, vid_of_isid, ports_at, is_between, is_at_port}
+use Rattle.spb_network.specs.World.{World, Bridges, Links, Services, names_of, things_of, place_of, vid_of_isid, attached_at, ports_at, is_between, is_at_port}
 use Rattle.spb_network.specs.Declaring.{has_vid, is_new_vid, is_vid_range, has_vid_room, is_before_bridges, is_new_name, is_new_system, is_new_source, is_bridge_address, is_bridge_range, has_bridge_room, is_free_port, is_port, is_link_range, has_link_room, is_unlinked}
 use Rattle.spb_network.specs.Services.{is_new_isid, is_isid_range, has_service_room}
+use Rattle.spb_network.specs.Attaching.{is_declared_isid, is_customer_port, is_attached, isids_with, has_isid_room}
+use Rattle.spb_network.proofs.AttachedLemmas.{any_at}
 use Rattle.spb_network.specs.State.{Spare, same_kind, serves, box_from, next_box}
-use Rattle.spb_network.specs.Holding.{IsNamed, HoldsAt, HoldsAtBoth, HasLink, IsEndAt, IsVidOf, IsIsidOf, IsVid, IsIsid, IsOwnAddress, IsBridgeInRange, HasPort, IsLinkInRange, IsFromTo}
+use Rattle.spb_network.specs.Holding.{IsNamed, HoldsAt, HoldsAtBoth, HasLink, IsEndAt, IsVidOf, IsIsidOf, IsVid, IsIsid, IsCustomerPort, HasAttached, IsOwnAddress, IsBridgeInRange, HasPort, IsLinkInRange, IsFromTo}
 
 -- ---- tests
 
@@ -158,6 +161,31 @@ wrong_isid isid = fails (nat_le 1 isid && nat_le isid 16777215) (Decides-and _ _
 
 pub full_of_services : (w : World) → Decides (not (has_service_room w)) (4096 ≤ length w.services)
 full_of_services w = not-lt (length w.services) 4096
+
+-- ---- a customer port
+
+pub undeclared_isid : (w : World) (isid : ℕ) → Decides (not (is_declared_isid w.services isid)) (¬ IsIsidOf w isid)
+undeclared_isid w isid = fails (is_declared_isid w.services isid) (declared_isid w isid)
+
+pub wrong_port : (port : ℕ) → Decides (not (is_customer_port port)) (¬ IsCustomerPort port)
+unfolding is_customer_port
+wrong_port port = fails (nat_le 1 port && nat_le port 64) (Decides-and _ _ (le-is 1 port) (le-is port 64))
+
+pub full_of_isids : (attached : List Attachment) (isid : ℕ) → Decides (not (has_isid_room attached isid)) (60 < length (isids_with attached isid))
+unfolding has_isid_room
+full_of_isids attached isid = not-le (length (isids_with attached isid)) 60
+
+attached-is : (w : World) (i port : ℕ) → Decides (is_attached w.attached i port) (HasAttached w i port)
+attached-is w i port =
+    Decides-at (is_attached w.attached i port) (list_any (λ a. a.port == port) (attached_at w i))
+    (any_at (λ a. a.port == port) i w.attached)
+    (any-is (λ a. a.port == port) (λ a. a.port ≡ port) (λ a. Decides-eqb a.port port) (attached_at w i))
+
+pub taken_customer_port : (w : World) (i port : ℕ) → Decides (not (not (is_attached w.attached i port))) (HasAttached w i port)
+taken_customer_port w i port = opposes (is_attached w.attached i port) (attached-is w i port)
+
+pub free_customer_port : (w : World) (i port : ℕ) → Decides (not (is_attached w.attached i port)) (¬ HasAttached w i port)
+free_customer_port w i port = fails (is_attached w.attached i port) (attached-is w i port)
 
 -- ---- a name, a bridge
 

@@ -87,7 +87,6 @@ Sound-with_bridge w name b sound new = record {
   services_apart = sound.services_apart;
   attached = All-map (IsAttachedIn w.bridges w.services) (IsAttachedIn (w.bridges ++ (name, b) ∷ []) w.services) w.attached (IsAttachedIn-push w.bridges w.services (name, b)) sound.attached;
   attached_apart = sound.attached_apart;
-  unattached = sound.unattached;
 }
 
 -- what is asked of a link, so that it can be declared
@@ -110,7 +109,6 @@ Sound-with_link w name l sound new = record {
   services_apart = sound.services_apart;
   attached = sound.attached;
   attached_apart = sound.attached_apart;
-  unattached = sound.unattached;
 }
 
 -- what is asked of a base VID, so that it can be declared
@@ -141,7 +139,6 @@ Sound-with_vid w p sound new = record {
   services_apart = sound.services_apart;
   attached = sound.attached;
   attached_apart = sound.attached_apart;
-  unattached = sound.unattached;
 }
 
 pub ports_at-le : (bs : Bridges) (i : ℕ) → AllByRecursion (λ b. b.ports ≤ 32) (things_of bs) → ports_at bs i ≤ 32
@@ -180,7 +177,6 @@ Sound-with_live on w k sound = record {
   services_apart = sound.services_apart;
   attached = sound.attached;
   attached_apart = sound.attached_apart;
-  unattached = sound.unattached;
 }
 
 some-is : {X : Type 0} (x y : X) → Some x ≡ Some y → x ≡ y
@@ -249,7 +245,6 @@ Sound-with_end_metric on m w k is sound = record {
   services_apart = sound.services_apart;
   attached = sound.attached;
   attached_apart = sound.attached_apart;
-  unattached = sound.unattached;
 }
 
 pub with_metric-set : (on : Side) (m : ℕ) (ls : Links) (k : ℕ) (l : DeclaredLink) → slice_get (things_of ls) k ≡ Some l → set_value_at ls k (link_with_metric on m l) ≡ links_with_metric on m ls k

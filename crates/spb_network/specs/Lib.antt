@@ -2,6 +2,7 @@ pub mod World
 pub mod Reason
 pub mod Declaring
 pub mod Services
+pub mod Attaching
 pub mod State
 pub mod Events
 pub mod Network

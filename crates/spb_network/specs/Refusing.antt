@@ -11,6 +11,7 @@ use Rattle.spb_network.specs.Reason.{reason_unless, ◌or◌}
 use Rattle.spb_network.specs.World.{World, things_of, place_of}
 use Rattle.spb_network.specs.Declaring.{vid_refusal, bridge_refusal, link_refusal}
 use Rattle.spb_network.specs.Services.{isid_refusal}
+use Rattle.spb_network.specs.Attaching.{attach_refusal, detach_refusal}
 use Rattle.spb_network.specs.Questions.{Question, question_of}
 use Rattle.spb_network.specs.State.{State, is_live, lane_at, kind_at, next_box}
 use Rattle.spb_network.specs.Restarting.{box_at}
@@ -39,7 +40,7 @@ named_link_refusal w name a port_a b port_b cost =
 unfoldable pub unnamed_refusal : World → List ℕ → Option Reason
 unnamed_refusal w name = reason_unless (is_some (place_of name w.bridges)) NoSuchName
 
--- of what names a link, by the place that was found for its name
+-- of what names a thing, by the place that was found for its name
 abbrev pub refusal_at_found : (ℕ → Option Reason) → Option ℕ → Option Reason
 refusal_at_found refusal None = Some NoSuchName
 refusal_at_found refusal (Some k) = refusal k
@@ -79,6 +80,13 @@ unfoldable pub restart_refusal : State → List ℕ → Option Reason
 restart_refusal s name =
     refusal_at_found (λ i. reason_unless (is_some (box_at s i)) RackSpent) (place_of name s.world.bridges)
 
+-- a customer port of the bridge is attached to a service, or detached
+unfoldable pub named_attach_refusal : World → List ℕ → ℕ → ℕ → Option Reason
+named_attach_refusal w name port isid = refusal_at_found (λ i. attach_refusal w i port isid) (place_of name w.bridges)
+
+unfoldable pub named_detach_refusal : World → List ℕ → ℕ → Option Reason
+named_detach_refusal w name port = refusal_at_found (λ i. detach_refusal w i port) (place_of name w.bridges)
+
 -- of what may be a question about a bridge
 abbrev pub asked_refusal : World → Option Question → Option Reason
 asked_refusal w None = None
@@ -90,6 +98,8 @@ refusal_of s (command.Vid vid ect) = vid_refusal s.world vid ect
 refusal_of s (command.Bridge name priority system source ports) = declared_refusal s name priority system source ports
 refusal_of s (command.Link name a port_a b port_b cost) = named_link_refusal s.world name a port_a b port_b cost
 refusal_of s (command.Isid isid vid) = isid_refusal s.world isid vid
+refusal_of s (command.Attach name port isid) = named_attach_refusal s.world name port isid
+refusal_of s (command.Detach name port) = named_detach_refusal s.world name port
 refusal_of s (command.Metric name side m) = metric_refusal s.world name m
 refusal_of s (command.Down name) = down_refusal s.world name
 refusal_of s (command.Up name) = up_refusal s.world name

@@ -7,12 +7,14 @@ use Rattle.spb_types.specs.declared.address.SystemId.{SystemId}
 use Rattle.spb_types.specs.declared.graph.Edge.{Edge}
 use Rattle.spb_types.specs.declared.graph.Graph.{Graph}
 use Rattle.spb_types.specs.declared.graph.GraphBridge.{GraphBridge}
+use Rattle.spb_types.specs.declared.graph.Member.{Member}
 use Rattle.spb_types.specs.declared.service.Attachment.{Attachment}
 use Rattle.spb_types.specs.declared.service.Isid.{Isid}
 use Rattle.spb_types.specs.declared.service.Vid.{Vid}
 use Rattle.spb_types.specs.declared.service.VidPlan.{VidPlan}
 use Rattle.spb_tlvs.specs.Capability.{IsTree}
 use Rattle.bridge_api.specs.Config.{ArePairwise, vids_of}
+use Rattle.bridge_api.specs.Own.{member_of}
 use Rattle.spb_network.specs.declared.declaration.DeclaredBridge.{DeclaredBridge}
 use Rattle.spb_network.specs.declared.declaration.DeclaredLink.{DeclaredLink}
 use Rattle.spb_network.specs.declared.declaration.LinkEnd.{LinkEnd}
@@ -99,12 +101,16 @@ edge_of bridges l = record {
 abbrev pub live_edge : Bridges → DeclaredLink → Option Edge
 live_edge bridges l = if l.live then Some (edge_of bridges l) else None
 
--- the actual wiring: all bridges, and an edge for each link that is up
+-- the member of a service that an attachment makes its bridge
+abbrev pub member_at : Bridges → ℕ × Attachment → Member
+member_at bridges x = member_of (system_at bridges x.0) x.1
+
+-- the actual wiring: all bridges, an edge for each link that is up, and a member for each customer port that is attached
 abbrev pub world_graph : World → Graph
 world_graph w = record {
   bridges = graph_bridges w.bridges;
   edges = filter_map (live_edge w.bridges) (things_of w.links);
-  members = [];
+  members = map (member_at w.bridges) w.attached;
 }
 
 -- whether the link joins the bridges at two places, whichever of its ends is which
@@ -160,7 +166,7 @@ AreAtTwoPorts x y = x.0 ≡ y.0 → x.1.port ≢ y.1.port
 -- what every world keeps that declarations made: the system ids differ, each link has two ends at ports of different
 -- bridges, no port has two links, no two bridges are linked twice, the VIDs differ and are in range, and the I-SIDs
 -- differ, are in range and have declared VIDs; what is attached is at customer ports of declared bridges, no two at one
--- port, and in declared services. Nothing is attached yet
+-- port, and in declared services
 pub record Sound (w : World) : Type 0 where
   pub few : length w.bridges ≤ MOST_BRIDGES
   pub ports : AllByRecursion (λ b. b.ports ≤ MOST_PORTS) (things_of w.bridges)
@@ -174,7 +180,6 @@ pub record Sound (w : World) : Type 0 where
   pub services_apart : ArePairwise (λ x y. x.0.value ≢ y.0.value) w.services
   pub attached : AllByRecursion (IsAttachedIn w.bridges w.services) w.attached
   pub attached_apart : ArePairwise AreAtTwoPorts w.attached
-  pub unattached : w.attached ≡ []
 
 -- the tables that the wiring gives the bridge at a place
 unfoldable pub wired_tables : World → ℕ → Tables

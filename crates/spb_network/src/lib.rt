@@ -18,7 +18,9 @@
 //! question, so that the questions `state` and `show` after it take constant time for it. `show` makes the bridge's
 //! tables anew.
 //! `wiring` makes them over the roads of the wiring, which are made at the first such question, and kept with their
-//! graph until a bridge, a link or a metric changes.
+//! graph until a bridge, a link, a metric or what is attached changes.
+//! An `attach` goes over all that is attached, once for the customer port and its I-SID and once for each attached port
+//! of its bridge, and a `detach` twice; neither takes memory for that.
 #![tactic(auto)]
 
 pub use answer::{Answer, Out};
@@ -38,6 +40,7 @@ mod attaching;
 mod bodies;
 mod boxes;
 mod check;
+mod customers;
 mod declaration;
 mod events;
 mod graph;

@@ -178,6 +178,10 @@ impl<B: Bridge> NetworkOf<B> {
                 .world
                 .named_link_refusal(*name, *a, *port_a, *b, *port_b, *cost),
             Command::Isid { isid, vid } => self.world.isid_refusal(*isid, *vid),
+            Command::Attach { bridge, port, isid } => {
+                self.world.named_attach_refusal(*bridge, *port, *isid)
+            }
+            Command::Detach { bridge, port } => self.world.named_detach_refusal(*bridge, *port),
             Command::Metric { link, metric, .. } => self.world.metric_refusal(*link, *metric),
             Command::Down(name) => self.world.down_refusal(*name),
             Command::Up(name) => self.world.up_refusal(*name),

@@ -1,8 +1,8 @@
 ghost use Rattle.std.specs.Prelude.{◌≡◌, [], ◌∷◌, ◌++◌, true, None, OnOk, OnErr};
 ghost use Rattle.spb_network.specs.Declaring.{is_new_name, switched, links_with_metric};
 
-use crate::attaching::attached_at;
-use crate::graph::{graph_bridges, graph_edges, system_at};
+use crate::attaching::{attached_at, has_isid_room, is_attached, is_customer_port, remove};
+use crate::graph::{graph_bridges, graph_edges, graph_members, system_at};
 use crate::hints::Hints;
 use crate::reason::reason_unless;
 use crate::{DeclaredBridge, DeclaredLink, LinkEnd, Reason, check, link_ends};
@@ -25,7 +25,7 @@ pub const MOST_SERVICES: usize = 4_096;
 
 /// What is declared: the base VIDs, the bridges, the links and the services, each in order of declaration; and what is
 /// attached, each by the place of its bridge, in order of attaching. The roads of the wiring are kept from the first
-/// question about it until a bridge, a link or a metric changes.
+/// question about it until a bridge, a link, a metric or what is attached changes.
 #[derive(Drop)]
 pub struct World {
     vids: Vec<VidPlan>,
@@ -55,6 +55,7 @@ impl World {
     ghost use Rattle.spb_network.specs.World.{place_of, things_of};
     ghost use Rattle.spb_network.specs.Declaring as declare;
     ghost use Rattle.spb_network.specs.Services as service;
+    ghost use Rattle.spb_network.specs.Attaching as attaching;
     ghost use Rattle.spb_network.specs.State.{lane_out, live_lane, is_live};
     ghost use Rattle.spb_network.specs.Play.{config_of};
     ghost use Rattle.spb_network.specs.Restarting.{metric_over, port_metric};
@@ -211,16 +212,18 @@ impl World {
         }
     }
 
-    /// The actual wiring: all bridges, and an edge for each link that is up.
+    /// The actual wiring: all bridges, an edge for each link that is up, and a member for each customer port that is
+    /// attached.
     fn graph(&self, alloc: Global) -> Result<Graph, NoMemory>
         ensures { IfOk result (λ graph. graph ≡ state.world_graph self.now) }
     {
         let bridges = graph_bridges(alloc, &self.bridges)?;
         let edges = graph_edges(alloc, &self.bridges, &self.links)?;
+        let members = graph_members(alloc, &self.bridges, self.attached.as_slice())?;
         Ok(Graph {
             bridges: Seq::from_vec(bridges),
             edges: Seq::from_vec(edges),
-            members: Seq::new(alloc),
+            members: Seq::from_vec(members),
         })
     }
 
@@ -372,6 +375,35 @@ impl World {
             .or(reason_unless(has_room, Reason::TooMany))
     }
 
+    /// Why a customer port of the bridge at a place can't be attached to the service of an I-SID, if it can't. It takes
+    /// a pass over all that is attached, and one more for each customer port of the bridge.
+    #[tactic(auto, unfolding(crate::specs::Attaching::attach_refusal))]
+    pub fn attach_refusal(&self, place: usize, port: u64, isid: u64) -> Option<Reason>
+        ensures { result ≡ attaching.attach_refusal self.now place port isid }
+    {
+        let entries = self.attached.as_slice();
+        let is_declared = self.vid_of_isid(isid).is_some();
+        let has_place = has_isid_room(entries, place, isid);
+        let is_free = !is_attached(entries, place, port);
+        reason_unless(is_declared, Reason::NoSuchName)
+            .or(reason_unless(is_customer_port(port), Reason::Range))
+            .or(reason_unless(has_place, Reason::TooMany))
+            .or(reason_unless(is_free, Reason::Attached))
+    }
+
+    /// Why a customer port of the bridge at a place can't be detached, if it can't. It takes a pass over all that is
+    /// attached.
+    #[tactic(auto, unfolding(crate::specs::Attaching::detach_refusal))]
+    pub fn detach_refusal(&self, place: usize, port: u64) -> Option<Reason>
+        ensures { result ≡ attaching.detach_refusal self.now place port }
+    {
+        let is_there = is_attached(self.attached.as_slice(), place, port);
+        reason_unless(is_customer_port(port), Reason::Range).or(reason_unless(
+            is_there,
+            Reason::NotAttached,
+        ))
+    }
+
     /// Declares a base VID with the number of its ECT algorithm, which isn't refused. After NoMemory nothing changed.
     pub fn declare_vid(&mut self, vid: u64, ect: u64) -> Result<(), NoMemory>
         requires { declare.vid_refusal self.old vid ect ≡ None }
@@ -461,6 +493,26 @@ impl World {
         let isid = Isid { value: isid as u32 };
         self.services.insert(isid, Vid { value: vid as u16 })?;
         Ok(())
+    }
+
+    /// Attaches a customer port of the bridge at a place, at which nothing is attached. After NoMemory nothing that is
+    /// declared or attached changed.
+    pub fn attach(&mut self, place: usize, attachment: Attachment) -> Result<(), NoMemory>
+        requires { attaching.IsNewAttachment self.old (place, attachment) }
+        ensures ok { OnOk result (self.new ≡ attaching.with_attachment_at self.old place attachment) }
+        ensures err { OnErr result (self.new ≡ self.old) }
+    {
+        self.kept = None;
+        self.attached.push((place, attachment))?;
+        Ok(())
+    }
+
+    /// Detaches a customer port of the bridge at a place. Takes no memory.
+    pub fn detach(&mut self, place: usize, port: u16)
+        ensures { self.new ≡ attaching.without_attachment_at self.old place port }
+    {
+        self.kept = None;
+        remove(&mut self.attached, place, port);
     }
 
     /// The link at a place comes up, or goes down. Takes no memory.

@@ -17,8 +17,6 @@ use Rattle.spb_run.specs.declared.refusal.Refusal.TheVariants as refusal
 
 -- whether lines of this keyword are played
 abbrev pub is_played : Keyword → Bool
-is_played keyword.Attach = false
-is_played keyword.Detach = false
 is_played keyword.Frame = false
 is_played keyword.Path = false
 is_played _ = true

@@ -25,7 +25,7 @@ fn is_played(word: Option<Keyword>) -> bool
 {
     !matches!(
         word,
-        None | Some(Keyword::Attach | Keyword::Detach | Keyword::Frame | Keyword::Path)
+        None | Some(Keyword::Frame | Keyword::Path)
     )
 }
 
