@@ -13,17 +13,16 @@ isid 100 10
 bridge A 32768 020000000001 00001 0
 ";
 
-/// Asserts that the last of lines behind ONE, which is so many lines below it, is refused for a reason.
+/// Asserts that the last of lines behind ONE, which has this number in the script, is refused for a reason.
 fn check_refused(
     rt: &impl Abort,
     alloc: Global,
     lines: &str,
-    below: u32,
+    line: u32,
     why: Reason,
     end: &str,
 ) -> Result<(), Fail> {
     let script = format!(in alloc; "{ONE}{lines}\n")?;
-    let line = 3 + below;
     let text = format!(in alloc; "error {line} {end}\n")?;
     let status = Status::Refused(line, Refusal::Command(why));
     check(rt, alloc, script.as_str(), status, text.as_str())
@@ -32,20 +31,20 @@ fn check_refused(
 #[test]
 fn a_port_that_cant_be_attached_has_a_reason(rt: HostRuntime) -> Result<(), Fail> {
     let alloc = rt.alloc();
-    for (lines, below, why, end) in [
-        ("attach B 1 100", 1, Reason::NoSuchName, "2 NoSuchName"),
-        ("attach A 0 101", 1, Reason::NoSuchName, "2 NoSuchName"),
-        ("attach A 1 16777216", 1, Reason::NoSuchName, "2 NoSuchName"),
-        ("attach A 0 100", 1, Reason::Range, "6 Range"),
-        ("attach A 65 100", 1, Reason::Range, "6 Range"),
+    for (lines, line, why, end) in [
+        ("attach B 1 100", 4, Reason::NoSuchName, "2 NoSuchName"),
+        ("attach A 0 101", 4, Reason::NoSuchName, "2 NoSuchName"),
+        ("attach A 1 16777216", 4, Reason::NoSuchName, "2 NoSuchName"),
+        ("attach A 0 100", 4, Reason::Range, "6 Range"),
+        ("attach A 65 100", 4, Reason::Range, "6 Range"),
         (
             "attach A 64 100\nattach A 64 100",
-            2,
+            5,
             Reason::Attached,
             "10 Attached",
         ),
     ] {
-        check_refused(&rt, alloc, lines, below, why, end)?;
+        check_refused(&rt, alloc, lines, line, why, end)?;
     }
     Ok(())
 }
@@ -53,19 +52,19 @@ fn a_port_that_cant_be_attached_has_a_reason(rt: HostRuntime) -> Result<(), Fail
 #[test]
 fn a_port_that_cant_be_detached_has_a_reason(rt: HostRuntime) -> Result<(), Fail> {
     let alloc = rt.alloc();
-    for (lines, below, why, end) in [
-        ("detach B 1", 1, Reason::NoSuchName, "2 NoSuchName"),
-        ("detach A 0", 1, Reason::Range, "6 Range"),
-        ("detach A 65", 1, Reason::Range, "6 Range"),
-        ("detach A 1", 1, Reason::NotAttached, "10 NotAttached"),
+    for (lines, line, why, end) in [
+        ("detach B 1", 4, Reason::NoSuchName, "2 NoSuchName"),
+        ("detach A 0", 4, Reason::Range, "6 Range"),
+        ("detach A 65", 4, Reason::Range, "6 Range"),
+        ("detach A 1", 4, Reason::NotAttached, "10 NotAttached"),
         (
             "attach A 1 100\ndetach A 1\ndetach A 1",
-            3,
+            6,
             Reason::NotAttached,
             "10 NotAttached",
         ),
     ] {
-        check_refused(&rt, alloc, lines, below, why, end)?;
+        check_refused(&rt, alloc, lines, line, why, end)?;
     }
     Ok(())
 }
@@ -110,7 +109,13 @@ fn the_61st_i_sid_of_a_bridge_is_one_too_many(rt: HostRuntime) -> Result<(), Fai
         check(&rt, alloc, script.as_str(), status, text.as_str())?;
     }
     let before = sixty(alloc)?;
-    check_done(&rt, alloc, before.as_str(), "attach A 61 1\ndetach A 60\nattach A 60 61\n", "")
+    check_done(
+        &rt,
+        alloc,
+        before.as_str(),
+        "attach A 61 1\ndetach A 60\nattach A 60 61\n",
+        "",
+    )
 }
 
 /// Two bridges with a service at a port of each.
@@ -139,7 +144,13 @@ fn what_is_attached_is_a_member(rt: HostRuntime) -> Result<(), Fail> {
 fn what_is_detached_is_no_member(rt: HostRuntime) -> Result<(), Fail> {
     let alloc = rt.alloc();
     let text = "show X quiet 1 0\nu 10 020000000002 1\n";
-    check_done(&rt, alloc, SERVED, "round 28\ndetach Y 1\nround 28\nshow X\n", text)
+    check_done(
+        &rt,
+        alloc,
+        SERVED,
+        "round 28\ndetach Y 1\nround 28\nshow X\n",
+        text,
+    )
 }
 
 #[test]
