@@ -127,7 +127,7 @@ hellos-metric on m (l ∷ ls) (suc k) [] i = refl
 hellos-metric on m (l ∷ ls) (suc k) (x ∷ xs) i = over_same l.1 l.1 (things_of (links_with_metric on m ls k)) (things_of ls) x xs i refl refl (hellos-metric on m ls k xs i)
 
 -- so nothing is changed of what is counted
-same_counted : (n : ℕ → ℕ) (s : State) (w : World) → IsCore (record s { world = w }) → w.bridges ≡ s.world.bridges → ((i : ℕ) → hellos_to (things_of w.links) s.lanes i ≡ hellos_to (links_of s) s.lanes i) → IsTracked n s → IsTracked n (record s { world = w })
+pub same_counted : (n : ℕ → ℕ) (s : State) (w : World) → IsCore (record s { world = w }) → w.bridges ≡ s.world.bridges → ((i : ℕ) → hellos_to (things_of w.links) s.lanes i ≡ hellos_to (links_of s) s.lanes i) → IsTracked n s → IsTracked n (record s { world = w })
 same_counted n s w core bridges hellos tracked = record {
   core = core;
   own = record {

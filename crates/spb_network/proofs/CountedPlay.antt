@@ -21,10 +21,11 @@ use Rattle.std.specs.Prelude.{remove}
 use Rattle.spb_network.specs.World.{World, place_of}
 use Rattle.spb_network.specs.Declaring.{bridge_of, link_of, with_vid, bridge_refusal, link_refusal}
 use Rattle.spb_network.specs.Services.{with_service}
+use Rattle.spb_network.specs.Attaching.{attach_refusal, detach_refusal}
 use Rattle.spb_network.specs.State.{State, Spare}
-use Rattle.spb_network.specs.Events.{ticked, delivered, lost, doubled, with_metric_changed, switched_off, switched_on, rounds, drained}
+use Rattle.spb_network.specs.Events.{ticked, delivered, lost, doubled, with_metric_changed, port_attached, port_detached, switched_off, switched_on, rounds, drained}
 use Rattle.spb_network.specs.Restarting.{restarted}
-use Rattle.spb_network.specs.Refusing.{box_for, declared_refusal, link_refusal_at_found, named_link_refusal, metric_refusal, refusal_of}
+use Rattle.spb_network.specs.Refusing.{box_for, declared_refusal, link_refusal_at_found, named_link_refusal, refusal_at_found, metric_refusal, named_attach_refusal, named_detach_refusal, refusal_of}
 use Rattle.spb_network.specs.Play.{config_of, boxed, declared, linked, link_between_found, named_link, at_place, at_bridge, at_link, with_vid_more, with_service_more, with_rounds, with_drain, played, next_count, next_state, played_all}
 use Rattle.spb_network.specs.Sound.{IsSoundState, opening}
 use Rattle.spb_network.specs.SoundLaws.{IsAddressed, AreAccepted}
@@ -36,9 +37,11 @@ use Rattle.spb_network.proofs.SoundNames.{first_none, distinct_link}
 use Rattle.spb_network.proofs.SoundConfigured.{configured_still}
 use Rattle.spb_network.proofs.SoundEvents.{core_of}
 use Rattle.spb_network.proofs.SoundPlay.{commands_keep_sound, opening_sound}
-use Rattle.spb_network.proofs.CountsKept.{counts, counts-ticked, counts-delivered, counts-metric, counts-off, counts-on, counts-rounds, counts-drained, counts-boxed, counts-linked}
+use Rattle.spb_network.proofs.CountsKept.{counts, counts-ticked, counts-delivered, counts-metric, counts-attached, counts-detached, counts-off, counts-on, counts-rounds, counts-drained, counts-boxed, counts-linked}
 use Rattle.spb_network.proofs.CountedDeclaring.{IsFirstOwn, counted_bridge, counted_link}
 use Rattle.spb_network.proofs.CountedLinks.{Counted-metric, Counted-off, Counted-on}
+use Rattle.spb_network.proofs.CountedAttaching.{Counted-attached, Counted-detached}
+use Rattle.spb_network.proofs.PlaceLemmas.{place_within}
 use Rattle.spb_network.proofs.RestartCounted.{Counted-restarted, counts-restarted}
 use Rattle.spb_network.proofs.CountedRounds.{counted_more, Counted-rounds, Counted-drained}
 use Rattle.spb_network.proofs.CountedEvents.{Counted-ticked, Counted-delivered, Counted-lost, Counted-doubled}
@@ -50,6 +53,8 @@ events_keep_counted = record {
   lose = λ k dir place s n sound counted low. Counted-lost s n k dir place counted;
   double = λ k dir place s n sound counted low. Counted-doubled s n k dir place counted;
   metric = λ k side m is s n sound counted low. Counted-metric s n k side m is (core_of s sound) counted (omega (arith, low));
+  attach = λ i port isid s n may sound counted low. Counted-attached s n i port isid may.0 may.1 sound counted (omega (arith, low));
+  detach = λ i port s n may sound counted low. Counted-detached s n i port may sound counted (omega (arith, low));
   down = λ k s n sound counted low. Counted-off s n k sound counted (omega (arith, low));
   up = λ k s n sound counted low. Counted-on s n k (core_of s sound) counted (omega (arith, low));
   restart = λ i s n sound counted low. Counted-restarted s n i sound counted low;
@@ -226,12 +231,30 @@ module _ (s : State) (sound : IsSoundState s) (counted : IsCounted s) (room : s.
   metric_played : (name : List ℕ) (side : Side) (m k : ℕ) → metric_refusal s.world name m ≡ None → place_of name s.world.links ≡ Some k → IsPlayed s (with_metric_changed s k side m)
   metric_played name side m k none at = two_more s (with_metric_changed s k side m) counted (counts-metric s k side m) (Counted-metric s (allowance_of s) k side m (metric_refusal_none s.world name m k at none) (core_of s sound) counted.by lower)
 
+  attach_found : (name : List ℕ) (port isid : ℕ) (o : Option ℕ) → place_of name s.world.bridges ≡ o → refusal_at_found (λ i. attach_refusal s.world i port isid) o ≡ None → IsPlayed s (at_place (λ t i. port_attached t i port isid) s o)
+  attach_found name port isid None at none = unchanged s counted
+  attach_found name port isid (Some i) at none = two_more s (port_attached s i port isid) counted (counts-attached s i port isid) (Counted-attached s (allowance_of s) i port isid (place_within name s.world.bridges i at) none sound counted.by lower)
+
+  attach_played : (name : List ℕ) (port isid : ℕ) → named_attach_refusal s.world name port isid ≡ None → IsPlayed s (at_bridge (λ t i. port_attached t i port isid) s name)
+  unfolding named_attach_refusal at_bridge
+  attach_played name port isid none = attach_found name port isid (place_of name s.world.bridges) refl none
+
+  detach_found : (port : ℕ) (o : Option ℕ) → refusal_at_found (λ i. detach_refusal s.world i port) o ≡ None → IsPlayed s (at_place (λ t i. port_detached t i port) s o)
+  detach_found port None none = unchanged s counted
+  detach_found port (Some i) none = two_more s (port_detached s i port) counted (counts-detached s i port) (Counted-detached s (allowance_of s) i port none sound counted.by lower)
+
+  detach_played : (name : List ℕ) (port : ℕ) → named_detach_refusal s.world name port ≡ None → IsPlayed s (at_bridge (λ t i. port_detached t i port) s name)
+  unfolding named_detach_refusal at_bridge
+  detach_played name port none = detach_found port (place_of name s.world.bridges) none
+
   command_played : (c : Command) → refusal_of s c ≡ None → IsPlayed s (played s c)
   command_played (command.Vid vid ect) none = vid_played s vid ect counted
   command_played (command.Bridge name priority system source ports) none =
       two_more s (declared s name (bridge_of priority system source ports)) counted (counts-declared s name (bridge_of priority system source ports)) (bridge_counted s (allowance_of s) name priority system source ports sound counted.by none)
   command_played (command.Link name a port_a b port_b cost) none = named_played s name a b port_a port_b cost sound counted low none
   command_played (command.Isid isid vid) none = isid_played s isid vid counted
+  command_played (command.Attach name port isid) none = attach_played name port isid none
+  command_played (command.Detach name port) none = detach_played name port none
   command_played (command.Metric name on m) none = link_played (λ t k. with_metric_changed t k on m) s name counted (λ k at. metric_played name on m k none at)
   command_played (command.Down name) none = link_played switched_off s name counted (λ k at. off_played k)
   command_played (command.Up name) none = link_played switched_on s name counted (λ k at. on_played k)

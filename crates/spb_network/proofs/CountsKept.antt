@@ -6,14 +6,19 @@ use Rattle.link_model.specs.declared.lanes.LaneId.{LaneId}
 use Rattle.spb_types.specs.declared.link.Dir.{Dir}
 use Rattle.spb_types.specs.declared.link.Dir.TheVariants.{Ab, Ba}
 use Rattle.spb_types.specs.declared.link.Side.{Side}
+use Rattle.spb_types.specs.declared.service.Attachment.{Attachment}
+use Rattle.spb_types.specs.declared.service.Vid.{Vid}
+use Rattle.bridge_api.specs.Services.{attachment_of}
 use Rattle.bridge_api.specs.Step.{Input}
 use Rattle.bridge_api.specs.Step as comes
 use Rattle.spb_network.specs.declared.declaration.DeclaredBridge.{DeclaredBridge}
 use Rattle.spb_network.specs.declared.declaration.DeclaredLink.{DeclaredLink}
 use Rattle.spb_network.specs.declared.declaration.LinkEnd.{LinkEnd}
 use Rattle.spb_network.specs.Declaring.{end_on, with_live, with_end_metric, with_link}
+use Rattle.spb_network.specs.World.{vid_of_isid}
+use Rattle.spb_network.specs.Attaching.{with_attachment_at, without_attachment_at}
 use Rattle.spb_network.specs.State.{State, links_of, far_end, lane_at, with_frames}
-use Rattle.spb_network.specs.Events.{stepped, ticked, heard_over, delivered_front, delivered, with_carrier_at_end, with_carrier_over, with_metric_at_end, with_metrics_over, with_metric_on, with_metric_changed, flushed, switched_off, switched_on, ticked_from, delivered_times, lane_served, served_from, one_round, rounds, delivered_over, delivered_first, drained}
+use Rattle.spb_network.specs.Events.{stepped, ticked, heard_over, delivered_front, delivered, with_carrier_at_end, with_carrier_over, with_metric_at_end, with_metrics_over, with_metric_on, with_metric_changed, attached_in_found, port_attached, port_detached, flushed, switched_off, switched_on, ticked_from, delivered_times, lane_served, served_from, one_round, rounds, delivered_over, delivered_first, drained}
 use Rattle.spb_network.specs.Play.{boxed, linked}
 use Rattle.spb_network.proofs.SentLanes.{stepped_rest}
 
@@ -58,6 +63,20 @@ told s side (Some l) = metric_at s (end_on side l)
 pub counts-metric : (s : State) (k : ℕ) (side : Side) (m : ℕ) → counts (with_metric_changed s k side m) ≡ counts s
 unfolding with_metric_changed
 counts-metric s k side m = let t : State = record s { world = with_end_metric side m s.world k } in told t side (slice_get (links_of t) k)
+
+attached_found : (s : State) (i port isid : ℕ) (o : Option Vid) → counts (attached_in_found s i port isid o) ≡ counts s
+attached_found s i port isid None = refl
+attached_found s i port isid (Some vid) =
+    let a : Attachment = attachment_of port (record { value = isid }) vid in
+    counts-stepped (comes.attach a) (record s { world = with_attachment_at s.world i a }) i
+
+pub counts-attached : (s : State) (i port isid : ℕ) → counts (port_attached s i port isid) ≡ counts s
+unfolding port_attached
+counts-attached s i port isid = attached_found s i port isid (vid_of_isid s.world.services isid)
+
+pub counts-detached : (s : State) (i port : ℕ) → counts (port_detached s i port) ≡ counts s
+unfolding port_detached
+counts-detached s i port = counts-stepped (comes.detach port) (record s { world = without_attachment_at s.world i port }) i
 
 pub counts-off : (s : State) (k : ℕ) → counts (switched_off s k) ≡ counts s
 unfolding switched_off

@@ -11,16 +11,17 @@ use Rattle.spb_types.specs.declared.link.Side.{Side}
 use Rattle.spb_network.specs.declared.reason.Reason.{Reason}
 use Rattle.spb_network.specs.declared.reason.Reason.TheVariants.{NoSuchName, NameTaken, IdTaken, PortUse, Range, TooMany, AlreadyLinked, AlreadyUp, AlreadyDown, Attached, NotAttached, NoFrame, RackSpent, TooLate}
 use Rattle.spb_network.specs.Reason.{reason_number, reason_unless}
-use Rattle.spb_network.specs.World.{World, things_of, place_of}
+use Rattle.spb_network.specs.World.{World, things_of, place_of, attached_at}
 use Rattle.spb_network.specs.Services.{is_new_isid, is_isid_range, has_service_room, isid_refusal}
+use Rattle.spb_network.specs.Attaching.{is_declared_isid, is_customer_port, is_attached, has_isid_room, attach_refusal, detach_refusal}
 use Rattle.spb_network.specs.Declaring.{has_vid, is_new_vid, is_vid_range, has_vid_room, is_before_bridges, is_new_name, is_new_system, is_new_source, is_bridge_range, has_bridge_room, is_free_port, is_link_range, has_link_room, is_unlinked, vid_refusal, bridge_refusal, link_refusal}
 use Rattle.spb_network.specs.State.{State, is_live, lane_at, kind_at}
 use Rattle.spb_network.specs.Questions.{Question, question_of}
 use Rattle.spb_network.specs.Restarting.{box_at}
-use Rattle.spb_network.specs.Refusing.{box_for, asked_refusal, declared_refusal, link_refusal_at_found, named_link_refusal, unnamed_refusal, refusal_at_found, down_refusal, up_refusal, metric_refusal, frame_refusal, round_refusal, drain_refusal, restart_refusal, refusal_of}
+use Rattle.spb_network.specs.Refusing.{box_for, asked_refusal, declared_refusal, link_refusal_at_found, named_link_refusal, unnamed_refusal, refusal_at_found, down_refusal, up_refusal, metric_refusal, named_attach_refusal, named_detach_refusal, frame_refusal, round_refusal, drain_refusal, restart_refusal, are_declared, path_refusal, refusal_of}
 use Rattle.spb_network.specs.Holding.{IsNamed, HoldsAt, LacksBoxAt, AsksUnknown, Holds, TheFirstReasonIsGiven}
 use Rattle.spb_network.proofs.Chains.{chain_said, Said, lowest, refused_for_the_first}
-use Rattle.spb_network.proofs.Tested.{true-is, false-is, fails, opposes, not-lt, not-le, named, known, unknown, at-is, both-at, taken_vid, wrong_vid, full_of_vids, late, undeclared_vid, taken_isid, wrong_isid, full_of_services, taken_name, taken_id, wrong_bridge, full_of_bridges, spent_rack, taken_port, wrong_metric, wrong_link, full_of_links, joined, wrong_count}
+use Rattle.spb_network.proofs.Tested.{true-is, false-is, fails, opposes, not-lt, not-le, named, known, unknown, at-is, both-at, taken_vid, wrong_vid, full_of_vids, late, undeclared_vid, undeclared, taken_isid, wrong_isid, full_of_services, undeclared_isid, wrong_port, full_of_isids, taken_customer_port, free_customer_port, taken_name, taken_id, wrong_bridge, full_of_bridges, spent_rack, taken_port, wrong_metric, wrong_link, full_of_links, joined, wrong_count}
 
 -- ---- what names a bridge
 
@@ -75,6 +76,64 @@ isid_said s isid vid =
     covers Range h = inr (inr (inl refl))
     covers TooMany h = inr (inr (inr (inl refl)))
     covers _ h = absurd h
+
+-- of a customer port, by the place that was found for the name
+attach_said_at_found : (s : State) (name : List ℕ) (port isid : ℕ) (o : Option ℕ) → place_of name s.world.bridges ≡ o → Said (Holds s (command.Attach name port isid)) (refusal_at_found (λ i. attach_refusal s.world i port isid) o)
+unfolding attach_refusal
+attach_said_at_found s name port isid None at = (inl (unknown name s.world.bridges at), λ q h. lowest q)
+attach_said_at_found s name port isid (Some i) at =
+    let w : World = s.world in
+    chain_said (Holds s (command.Attach name port isid)) 0
+    ((is_declared_isid w.services isid, NoSuchName)
+    ∷ (is_customer_port port, Range)
+    ∷ (has_isid_room (attached_at w i) isid, TooMany)
+    ∷ (not (is_attached w.attached i port), Attached)
+    ∷ []) (
+      Decides-like (not (is_declared_isid w.services isid)) (λ n. inr n) (λ h. ⊎_elim (λ n. absurd (n (known name w.bridges i at))) (λ n. n) h) (undeclared_isid w isid),
+      (
+        wrong_port port,
+        (
+          at-is name w.bridges _ i _ at (full_of_isids (attached_at w i) isid),
+          (
+            at-is name w.bridges _ i _ at (taken_customer_port w i port),
+            tt,
+          ),
+        ),
+      ),
+    )
+    (omega arith, (omega arith, (omega arith, (omega arith, tt))))
+    covers
+  where
+    covers : (q : Reason) → Holds s (command.Attach name port isid) q → (q ≡ NoSuchName) ⊎ ((q ≡ Range) ⊎ ((q ≡ TooMany) ⊎ ((q ≡ Attached) ⊎ ⊥)))
+    covers NoSuchName h = inl refl
+    covers Range h = inr (inl refl)
+    covers TooMany h = inr (inr (inl refl))
+    covers Attached h = inr (inr (inr (inl refl)))
+    covers _ h = absurd h
+
+attach_said : (s : State) (name : List ℕ) (port isid : ℕ) → Said (Holds s (command.Attach name port isid)) (named_attach_refusal s.world name port isid)
+unfolding named_attach_refusal
+attach_said s name port isid = attach_said_at_found s name port isid (place_of name s.world.bridges) refl
+
+detach_said_at_found : (s : State) (name : List ℕ) (port : ℕ) (o : Option ℕ) → place_of name s.world.bridges ≡ o → Said (Holds s (command.Detach name port)) (refusal_at_found (λ i. detach_refusal s.world i port) o)
+unfolding detach_refusal
+detach_said_at_found s name port None at = (unknown name s.world.bridges at, λ q h. lowest q)
+detach_said_at_found s name port (Some i) at =
+    chain_said (Holds s (command.Detach name port)) 0
+    ((is_customer_port port, Range) ∷ (is_attached s.world.attached i port, NotAttached) ∷ [])
+    (wrong_port port, (at-is name s.world.bridges _ i _ at (free_customer_port s.world i port), tt))
+    (omega arith, (omega arith, tt))
+    covers
+  where
+    covers : (q : Reason) → Holds s (command.Detach name port) q → (q ≡ Range) ⊎ ((q ≡ NotAttached) ⊎ ⊥)
+    covers NoSuchName h = absurd (h (known name s.world.bridges i at))
+    covers Range h = inl refl
+    covers NotAttached h = inr (inl refl)
+    covers _ h = absurd h
+
+detach_said : (s : State) (name : List ℕ) (port : ℕ) → Said (Holds s (command.Detach name port)) (named_detach_refusal s.world name port)
+unfolding named_detach_refusal
+detach_said s name port = detach_said_at_found s name port (place_of name s.world.bridges) refl
 
 bridge_said : (s : State) (name : List ℕ) (priority : ℕ) (system : Mac) (source : SourceId) (ports : ℕ) → Said (Holds s (command.Bridge name priority system source ports)) (declared_refusal s name priority system source ports)
 unfolding declared_refusal bridge_refusal
@@ -244,11 +303,23 @@ drain_said s n =
     covers TooMany h = inr (inl refl)
     covers _ h = absurd h
 
+path_said : (s : State) (from to : List ℕ) (vid : ℕ) → Said (Holds s (command.Path from to vid)) (path_refusal s.world from to vid)
+unfolding path_refusal
+path_said s from to vid =
+    chain_said (Holds s (command.Path from to vid)) 0 ((are_declared s.world from to vid, NoSuchName) ∷ [])
+    (undeclared s.world from to vid, tt) (omega arith, tt) covers
+  where
+    covers : (q : Reason) → Holds s (command.Path from to vid) q → (q ≡ NoSuchName) ⊎ ⊥
+    covers NoSuchName h = inl refl
+    covers _ h = absurd h
+
 said : (s : State) (c : Command) → Said (Holds s c) (refusal_of s c)
 said s (command.Vid vid ect) = vid_said s vid ect
 said s (command.Bridge name priority system source ports) = bridge_said s name priority system source ports
 said s (command.Link name a port_a b port_b cost) = link_said s name a b port_a port_b cost
 said s (command.Isid isid vid) = isid_said s isid vid
+said s (command.Attach name port isid) = attach_said s name port isid
+said s (command.Detach name port) = detach_said s name port
 said s (command.Metric name side m) = metric_said s name side m
 said s (command.Down name) = down_said s name
 said s (command.Up name) = up_said s name
@@ -259,6 +330,7 @@ said s (command.Lose name dir place) = lose_said s name dir place
 said s (command.Double name dir place) = double_said s name dir place
 said s (command.Round n) = round_said s n
 said s (command.Drain n) = drain_said s n
+said s (command.Path from to vid) = path_said s from to vid
 said s c = asked (Holds s c) s.world (question_of c) (λ h. h) (λ h. h) (λ q. elim q as (λ p. Holds s c p → p ≡ NoSuchName) [
   | NoSuchName ↦ λ h. refl
   | NameTaken ↦ λ h. absurd h

@@ -47,7 +47,7 @@ question_plays s (command.Double name dir place) h = absurd (true≢false (sym h
 question_plays s (command.Round n) h = absurd (true≢false (sym h))
 question_plays s (command.Drain n) h = absurd (true≢false (sym h))
 question_plays s (command.Frame name port bytes) h = absurd (true≢false (sym h))
-question_plays s (command.Path a b vid) h = absurd (true≢false (sym h))
+question_plays s (command.Path from to vid) h = refl
 
 -- what holds anyway holds where a result is Ok
 pub on_ok : {T E P : Type 0} (r : Result T E) → P → OnOk r P

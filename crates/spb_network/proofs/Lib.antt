@@ -3,6 +3,7 @@ pub mod PlaceLemmas
 pub mod NameLemmas
 pub mod ServiceLemmas
 pub mod WorldLemmas
+pub mod AttachedLemmas
 pub mod RefusalLemmas
 pub mod ValidLemmas
 pub mod BoxLemmas
@@ -19,6 +20,7 @@ pub mod SoundCarrier
 pub mod SoundMetrics
 pub mod SoundAttached
 pub mod SoundEvents
+pub mod SoundAttaching
 pub mod SoundDeclaring
 pub mod SoundLinks
 pub mod SoundSetMetrics
@@ -53,6 +55,7 @@ pub mod CountedSteps
 pub mod CountedGains
 pub mod CountedEvents
 pub mod CountedLinks
+pub mod CountedAttaching
 pub mod CountedRounds
 pub mod CountedDeclaring
 pub mod CountsKept
@@ -68,6 +71,7 @@ pub mod RestartNew
 pub mod QuietLists
 pub mod QuietLaws
 pub mod QuietTruth
+pub mod QuietPaths
 pub mod Telling
 pub mod QuietWalks
 pub mod QuietStates

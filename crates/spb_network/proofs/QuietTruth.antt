@@ -14,7 +14,6 @@ use Rattle.fdb_build.specs.Tables.{unicast_rows}
 use Rattle.fdb_build.proofs.TableLemmas.{same_rows}
 use Rattle.fdb_build.specs.Groups.{group_rows}
 use Rattle.fdb_build.proofs.GroupLemmas.{same_groups}
-use Rattle.spb_types.specs.declared.tables.GroupRow.{GroupRow}
 use Rattle.bridge_api.specs.View.{BridgeView}
 use Rattle.bridge_api.specs.Graph.{contents_of, read_graph, IsOwnGraph, own_tables}
 use Rattle.bridge_api.proofs.GraphRead.{reads_each_once}
@@ -76,7 +75,7 @@ part_alike g h part me look same is = record {
 
 -- ---- the bridge at a place
 
-own_are_wired : (s : State) (i : ℕ) (v : BridgeView) → IsAtRest s → slice_get s.views i ≡ Some v → own_tables v ≡ wired_tables s.world i
+pub own_are_wired : (s : State) (i : ℕ) (v : BridgeView) → IsAtRest s → slice_get s.views i ≡ Some v → own_tables v ≡ wired_tables s.world i
 unfolding own_tables wired_tables
 own_are_wired s i v rest at =
     let look = looks_like_wiring s v i rest at in

@@ -151,6 +151,7 @@ world = record {
   bridges = (97 ∷ [], bridge_of 32768 (system 1).mac (source 1) 1) ∷ (98 ∷ [], bridge_of 32768 (system 2).mac (source 2) 1) ∷ [];
   links = (108 ∷ [], link) ∷ [];
   services = [];
+  attached = [];
 }
 
 abbrev resting : BridgeView → BridgeView → State

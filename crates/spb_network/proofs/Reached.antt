@@ -1,5 +1,5 @@
 -- What a bridge reaches in a quiet network is what the wiring joins to it, and its graph is that part of the wiring.
-use Rattle.std.proofs.Common.{◌≡◌, inl, inr, ℕ, Bool, true, false, true≢false, List, [], ◌∷◌, length, Option, Some, None, IsSome, Contains, map, filter, flat_map, find, slice_get, if◌then◌else◌, refl, sym, ap, ◌∙◌, subst}
+use Rattle.std.proofs.Common.{◌≡◌, inl, inr, ℕ, Bool, true, false, true≢false, ◌==◌, eqb-true, eq-eqb, List, [], ◌∷◌, length, Option, Some, None, IsSome, Contains, filter, flat_map, find, slice_get, if◌then◌else◌, refl, sym, ap, ◌∙◌, subst}
 use Rattle.std.specs.Prelude.{◌≤◌}
 use Rattle.std.specs.Option.{option_map}
 use Rattle.std.specs.List.{filter_map}
@@ -18,25 +18,26 @@ use Rattle.spb_content.specs.Graph.{Contents, cost_said, port_said, bridge_of, m
 use Rattle.spb_content.specs.Building.{has_inst}
 use Rattle.spb_content.specs.Laws.{HasAllLinks}
 use Rattle.spb_content.specs.Local.{said_by}
-use Rattle.spb_content.proofs.Members.{Has, has_from_contains, contains_from_has, has_map, flat_map_has}
+use Rattle.spb_content.proofs.Members.{Has, has_from_contains, contains_from_has, all_has, has_map, map_has, has_flat_map, flat_map_has}
 use Rattle.spb_content.specs.declared.content.Inst.{Inst}
 use Rattle.spb_content.proofs.Links.{some_same}
 use Rattle.spb_content.proofs.Chosen.{AreChosen, one_content, said_has}
 use Rattle.spb_content.proofs.Uncut.{IsSaid, all_chosen, said_graph_has_all_links}
-use Rattle.spb_content.proofs.Whole.{is_bridge, bridges_are, are_bridges, members_are}
+use Rattle.spb_content.proofs.Whole.{is_bridge, bridges_are, are_bridges, members_are, are_members}
 use Rattle.fdb_build.proofs.AscendLemmas.{filter_map_has, has_filter_map}
 use Rattle.bridge_api.specs.View.{BridgeView}
 use Rattle.bridge_api.specs.Own as own
 use Rattle.bridge_api.specs.Own.{local_of}
-use Rattle.bridge_api.specs.Graph.{contents_of, read_graph}
+use Rattle.bridge_api.specs.Graph.{contents_of, read_graph, IsMemberBy}
 use Rattle.bridge_api.proofs.GraphRead.{reads_each_once}
+use Rattle.bridge_api.proofs.SaidMembers.{members_are_said}
 use Rattle.spb_network.specs.declared.declaration.DeclaredBridge.{DeclaredBridge}
-use Rattle.spb_network.specs.World.{World, things_of, world_graph}
+use Rattle.spb_network.specs.World.{World, Bridges, IsAttachedIn, things_of, system_at, attachment_at, attached_at, member_at, world_graph}
 use Rattle.spb_network.specs.State.{State}
 use Rattle.spb_network.specs.Sound.{IsSoundState}
 use Rattle.spb_network.specs.Truth.{IsAtRest, AreJoined, IsThere}
 use Rattle.spb_network.proofs.BoxLemmas.{All-get}
-use Rattle.spb_network.proofs.ValidLemmas.{among_at}
+use Rattle.spb_network.proofs.ValidLemmas.{among_at, place_from}
 use Rattle.spb_network.proofs.Told.{quiet_is_read}
 use Rattle.spb_network.proofs.Wires.{IsLinkOf, place_has, edge_sought}
 use Rattle.spb_network.proofs.Spoken.{place_low, shown_at, system_is}
@@ -85,11 +86,11 @@ there_reached s v i x rest at r = there_along s v i v.id.system r.0 x rest at (r
 -- ---- bridges
 
 -- a bridge as a graph has it
-abbrev shown_bridge : BridgeView → GraphBridge
+abbrev pub shown_bridge : BridgeView → GraphBridge
 shown_bridge w = record { id = w.id; source = w.source }
 
 -- the wiring has it
-wired_bridge : (s : State) (j : ℕ) (w : BridgeView) → IsSoundState s → slice_get s.views j ≡ Some w → Has (shown_bridge w) (world_graph s.world).bridges
+pub wired_bridge : (s : State) (j : ℕ) (w : BridgeView) → IsSoundState s → slice_get s.views j ≡ Some w → Has (shown_bridge w) (world_graph s.world).bridges
 wired_bridge s j w sound at =
     let d = shown_at s j w sound at in
     let is : d.0.thing.bridge ≡ shown_bridge w = λ i. record { id = sym d.1.id i; source = sym d.1.source i } in
@@ -147,7 +148,7 @@ bridge_read s v b rest there k =
     are_bridges list (IsSaid list) (filter has_inst list) b (chosen v)
     (contains_from_has b (filter_map bridge_of list) (subst (λ z. Has z (filter_map bridge_of list)) (sym is) read), subst (IsSaid list) there.is (is_said s v w rest there.joined))
 
--- ---- members: nothing is attached
+-- ---- members: what is attached to the customer ports of a bridge
 
 member_is : (c : SystemId × Content) (m : Member) → Has m (members_of c) → m.system ≡ c.0
 member_is c m h = at (filter_map_has (member_of c.0) m c.1.services h)
@@ -159,16 +160,64 @@ member_is c m h = at (filter_map_has (member_of c.0) m c.1.services h)
     at : (s : _) × Has s c.1.services × (member_of c.0 s ≡ Some m) → m.system ≡ c.0
     at (s, k, e) = of_test (_) (record { system = c.0; isid = s.2.isid; vid = s.1 }) refl e
 
-no_member : (w : BridgeView) (m : Member) → w.attached ≡ [] → Has m (members_of (w.id.system, said_by (local_of w))) → ⊥
-no_member w m none h = subst (λ (list : List Attachment). Has m (members_of (w.id.system, said_by (record (local_of w) { attached = map (own.member_of w.id.system) list })))) none h
+attached_place : (i : ℕ) (x : ℕ × Attachment) (a : Attachment) → attachment_at i x ≡ Some a → (x.0 ≡ i) × (x.1 ≡ a)
+attached_place i x a h = by (x.0 == i) refl h
+  where
+    by : (b : Bool) → (x.0 == i) ≡ b → (if b then Some x.1 else None) ≡ Some a → (x.0 ≡ i) × (x.1 ≡ a)
+    by true e k = (eqb-true x.0 i e, some_same x.1 a k)
+    by false e k = absurd cc
 
-no_members : (s : State) (v : BridgeView) (m : Member) → IsAtRest s → IsThere s v m.system → Contains (read_graph v).members m → ⊥
-no_members s v m rest there k =
+place_attached : (i : ℕ) (x : ℕ × Attachment) → x.0 ≡ i → attachment_at i x ≡ Some x.1
+place_attached i x e = ap (λ b. if b then Some x.1 else None) (eq-eqb x.0 i e)
+
+-- a member by what is attached to a bridge is one of the wiring
+by_wiring : (s : State) (j : ℕ) (w : BridgeView) (m : Member) → IsSoundState s → slice_get s.views j ≡ Some w → IsMemberBy w m → Has m (world_graph s.world).members
+by_wiring s j w m sound at k =
+    let bs : Bridges = s.world.bridges in
+    let a : Attachment = k.0 in
+    let here : Has a (attached_at s.world j) = subst (λ (list : List Attachment). Has a list) (sound.attached j w at) (has_from_contains a w.attached k.1) in
+    let x = filter_map_has (attachment_at j) a s.world.attached here in
+    let p = attached_place j x.0 a x.2 in
+    let same : member_at bs x.0 ≡ m =
+    ap (λ (n : ℕ). own.member_of (system_at bs n) x.0.1) p.0
+    ∙ (ap (own.member_of (system_at bs j)) p.1
+    ∙ (ap (λ (y : SystemId). own.member_of y a) (system_is s j w sound at) ∙ sym k.2)) in
+    subst (λ z. Has z (world_graph s.world).members) same (has_map (member_at bs) x.0 s.world.attached x.1)
+
+-- and one of the wiring is one by what is attached to its bridge
+by_bridge : (s : State) (j : ℕ) (w : BridgeView) (m : Member) → IsSoundState s → slice_get s.views j ≡ Some w → w.id.system ≡ m.system → Has m (world_graph s.world).members → IsMemberBy w m
+by_bridge s j w m sound at is h =
+    let bs : Bridges = s.world.bridges in
+    let x = map_has (member_at bs) m s.world.attached h in
+    let low = (all_has (IsAttachedIn bs s.world.services) x.0 s.world.attached sound.world.attached x.1).bridge in
+    let place : x.0.0 ≡ j = place_from bs sound.world.systems x.0.0 j low (place_low s j w sound at) (sym (ap (λ (t : Member). t.system) x.2) ∙ (sym is ∙ sym (system_is s j w sound at))) in
+    let here : Has x.0.1 (attached_at s.world j) = has_filter_map (attachment_at j) x.0.1 s.world.attached x.0 x.1 (place_attached j x.0 place) in
+    let there : Has x.0.1 w.attached = subst (λ (list : List Attachment). Has x.0.1 list) (sym (sound.attached j w at)) here in
+    let same : m ≡ own.member_of w.id.system x.0.1 =
+    x.2
+    ∙ (ap (λ (n : ℕ). own.member_of (system_at bs n) x.0.1) place
+    ∙ ap (λ (y : SystemId). own.member_of y x.0.1) (system_is s j w sound at)) in
+    (x.0.1, contains_from_has x.0.1 w.attached there, same)
+
+member_wired : (s : State) (v : BridgeView) (m : Member) → IsAtRest s → IsThere s v m.system → Contains (read_graph v).members m → Contains (world_graph s.world).members m
+member_wired s v m rest there k =
     let w : BridgeView = there.w in
     let list : Contents = contents_of v in
     let c = flat_map_has members_of m list (has_from_contains m (flat_map members_of list) (members_are list (IsSaid list) (filter has_inst list) m (chosen v) k).0) in
     let same : c.0 ≡ (w.id.system, said_by (local_of w)) = only_read s v w c.0 rest there.joined c.1 (sym (member_is c.0 m c.2) ∙ sym there.is) in
-    no_member w m (rest.sound.attached there.joined.to w there.joined.there) (subst (λ z. Has m (members_of z)) same c.2)
+    let said : Has m (members_of (w.id.system, said_by (local_of w))) = subst (λ z. Has m (members_of z)) same c.2 in
+    let by : IsMemberBy w m = (members_are_said w m).0 (contains_from_has m (members_of (w.id.system, said_by (local_of w))) said) in
+    contains_from_has m (world_graph s.world).members (by_wiring s there.joined.to w m rest.sound there.joined.there by)
+
+member_read : (s : State) (v : BridgeView) (m : Member) → IsAtRest s → IsThere s v m.system → Contains (world_graph s.world).members m → Contains (read_graph v).members m
+member_read s v m rest there k =
+    let w : BridgeView = there.w in
+    let list : Contents = contents_of v in
+    let by : IsMemberBy w m = by_bridge s there.joined.to w m rest.sound there.joined.there there.is (has_from_contains m (world_graph s.world).members k) in
+    let said : Has m (members_of (w.id.system, said_by (local_of w))) = has_from_contains m (members_of (w.id.system, said_by (local_of w))) ((members_are_said w m).1 by) in
+    let read : Has m (flat_map members_of list) = has_flat_map members_of (w.id.system, said_by (local_of w)) m list (has_read s v w rest there.joined) said in
+    are_members list (IsSaid list) (filter has_inst list) m (chosen v)
+    (contains_from_has m (flat_map members_of list) read, subst (IsSaid list) there.is (is_said s v w rest there.joined))
 
 -- ---- the graph that a bridge reads looks like the wiring
 
@@ -184,5 +233,5 @@ looks_like_wiring s v i rest at = record {
   bridges = λ b r. (let there = there_reached s v i b.id.system rest at r in (bridge_wired s v b rest there, bridge_read s v b rest there));
   costs = λ x y r. costs_there s v i x y rest at (there_reached s v i x rest at r);
   ports = λ x y r. ports_there s v i x y rest at (there_reached s v i x rest at r);
-  members = λ m r. (λ k. absurd (no_members s v m rest (there_reached s v i m.system rest at r) k), λ k. absurd (has_from_contains m [] k));
+  members = λ m r. (let there = there_reached s v i m.system rest at r in (member_wired s v m rest there, member_read s v m rest there));
 }

@@ -23,20 +23,20 @@ use Rattle.spb_network.proofs.ListLemmas.{All-map, All-none, and-left, and-right
 use Rattle.spb_network.proofs.ServiceLemmas.{IsNewService, new_isid}
 use Rattle.spb_network.proofs.WorldLemmas.{IsNewPlan, IsNewBridge, IsNewLink, ports_at-within}
 
-reason_unless-none : (b : Bool) (r : Reason) → reason_unless b r ≡ None → b ≡ true
+pub reason_unless-none : (b : Bool) (r : Reason) → reason_unless b r ≡ None → b ≡ true
 unfolding reason_unless
 reason_unless-none true r h = refl
 reason_unless-none false r h = cc
 
-or-first : (o p : Option Reason) → (o or p) ≡ None → o ≡ None
+pub or-first : (o p : Option Reason) → (o or p) ≡ None → o ≡ None
 or-first None p h = refl
 or-first (Some r) p h = h
 
-or-second : (o p : Option Reason) → (o or p) ≡ None → p ≡ None
+pub or-second : (o p : Option Reason) → (o or p) ≡ None → p ≡ None
 or-second None p h = h
 or-second (Some r) p h = cc
 
-le-true : (a b : ℕ) → nat_le a b ≡ true → a ≤ b
+pub le-true : (a b : ℕ) → nat_le a b ≡ true → a ≤ b
 le-true a b h = grind (arith, nat_tests)
 
 lt-true : (a b : ℕ) → nat_lt a b ≡ true → a < b
@@ -45,7 +45,7 @@ lt-true a b h = grind (arith, nat_tests)
 eq-true : (a b : ℕ) → (a == b) ≡ true → a ≡ b
 eq-true a b h = grind (arith, nat_tests)
 
-eq-false : (a b : ℕ) → (a == b) ≡ false → a ≢ b
+pub eq-false : (a b : ℕ) → (a == b) ≡ false → a ≢ b
 eq-false a b h = grind (arith, nat_tests)
 
 empty_from : {X : Type 0} (xs : List X) → length xs ≡ 0 → xs ≡ []

@@ -1,15 +1,16 @@
 -- What is declared stays sound when a service is declared.
-use Rattle.std.proofs.Common.{◌≡◌, ◌≢◌, ◌≤◌, ◌<◌, ℕ, Bool, true, false, true≢false, ◌||◌, ◌==◌, List, [], ◌∷◌, ◌++◌, length, Option, Some, None, cond, if◌then◌else◌, refl, sym, ap, ◌∙◌, subst, arith}
+use Rattle.std.proofs.Common.{◌≡◌, ◌≢◌, ◌<◌, ℕ, Bool, true, false, true≢false, ◌||◌, ◌==◌, List, [], ◌∷◌, ◌++◌, Some, None, cond, if◌then◌else◌, refl, sym, ap, ◌∙◌, subst, arith}
 use Rattle.std.specs.Prelude.{nat_eq, is_none}
 use Rattle.std.specs.List.{AllByRecursion, list_any}
 use Rattle.std.proofs.lemmas.Bool.{eqb-true, eq-eqb, ne_eqb}
 use Rattle.indexmap.specs.IndexMap.{insert_entry}
+use Rattle.spb_types.specs.declared.service.Attachment.{Attachment}
 use Rattle.spb_types.specs.declared.service.Isid.{Isid}
 use Rattle.spb_types.specs.declared.service.Vid.{Vid}
 use Rattle.spb_types.specs.declared.service.VidPlan.{VidPlan}
 use Rattle.spb_types.specs.declared.limits.TheConstants.{GREATEST_ISID}
 use Rattle.bridge_api.specs.Config.{ArePairwise, vids_of}
-use Rattle.spb_network.specs.World.{World, Services, vid_of_isid, IsService, Sound}
+use Rattle.spb_network.specs.World.{World, Bridges, Services, vid_of_isid, IsService, IsAttachedIn, Sound}
 use Rattle.spb_network.specs.Services.{is_new_isid, with_service}
 use Rattle.spb_network.proofs.ListLemmas.{All-map, All-push}
 
@@ -82,6 +83,15 @@ services-with_vid vids p services all = All-map (IsService vids) (IsService (vid
 
 -- ---- a service more
 
+-- what is attached stays in its service
+attached_in-push : (bridges : Bridges) (services : Services) (new : Isid × Vid) (x : ℕ × Attachment) → IsAttachedIn bridges services x → IsAttachedIn bridges (services ++ new ∷ []) x
+attached_in-push bridges services new x is = record {
+  bridge = is.bridge;
+  port_low = is.port_low;
+  port_high = is.port_high;
+  service = found-push services new x.1.isid.value x.1.vid is.service;
+}
+
 -- what is asked of a service, so that it can be declared
 pub record IsNewService (w : World) (s : Isid × Vid) : Type 0 where
   pub service : IsService w.vids s
@@ -100,4 +110,6 @@ Sound-with_service w s sound new = record {
   each_vid = sound.each_vid;
   services = All-push (IsService w.vids) w.services s sound.services new.service;
   services_apart = pairwise-push (λ x y. x.0.value ≢ y.0.value) w.services s sound.services_apart new.apart;
+  attached = All-map (IsAttachedIn w.bridges w.services) (IsAttachedIn w.bridges (w.services ++ s ∷ [])) w.attached (attached_in-push w.bridges w.services s) sound.attached;
+  attached_apart = sound.attached_apart;
 }

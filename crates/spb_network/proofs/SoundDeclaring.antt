@@ -1,8 +1,9 @@
 -- Declarations keep what is sound of a network.
 use Rattle.std.proofs.Common.{◌≡◌, ◌≢◌, ◌≤◌, map, ◌⊎◌, inl, inr, ◌<◌, ◌+◌, ℕ, zero, suc, Bool, true, false, true≢false, List, [], ◌∷◌, ◌++◌, length, refl, sym, ap, ◌∙◌, subst, Option, Some, None, slice_get, arith}
-use Rattle.std.specs.Prelude.{◌||◌}
+use Rattle.std.specs.Prelude.{◌||◌, ◌==◌, if◌then◌else◌}
 use Rattle.std.specs.Option.{option_or}
-use Rattle.std.specs.List.{AllByRecursion}
+use Rattle.std.specs.List.{AllByRecursion, filter_map, cons_option}
+use Rattle.std.proofs.lemmas.Bool.{ne_eqb}
 use Rattle.std.proofs.lemmas.List.{length-map}
 use Rattle.spb_types.specs.declared.service.VidPlan.{VidPlan}
 use Rattle.link_model.specs.Lane.{Frame}
@@ -15,7 +16,7 @@ use Rattle.spb_network.specs.declared.declaration.DeclaredBridge.{DeclaredBridge
 use Rattle.spb_network.specs.declared.declaration.DeclaredLink.{DeclaredLink}
 use Rattle.link_model.specs.declared.lanes.LinkLanes.{LinkLanes}
 use Rattle.link_model.specs.declared.lanes.LaneId.{LaneId}
-use Rattle.spb_network.specs.World.{World, Bridges, Links, names_of, things_of, attached_at, is_at_port, IsLink, AreApart, Sound}
+use Rattle.spb_network.specs.World.{World, Bridges, Links, Attachments, names_of, things_of, attachment_at, attached_at, is_at_port, IsLink, AreApart, IsAttachedIn, Sound}
 use Rattle.link_model.specs.Lanes.{no_frames, lane_of}
 use Rattle.spb_network.specs.Declaring.{with_vid, with_bridge, with_link}
 use Rattle.spb_network.specs.State.{State, Spare, links_of, is_live, near_end, far_end, is_at, lane_of_link, lane_out_from, lane_out}
@@ -82,15 +83,23 @@ shown_bridge s name b v fits shown new i u c at declared =
     each (inr fresh) (inr is) = subst (λ (d : DeclaredBridge). IsShown s.world.vids d u) is.1 (subst (λ (x : BridgeView). IsShown s.world.vids b x) fresh.1 new)
 
 -- nothing is attached where no bridge is
-attached_past : (w : World) (i : ℕ) → i ≡ length w.bridges → [] ≡ attached_at w i
-attached_past w i past = refl
+attached_past : (w : World) (i : ℕ) → Sound w → i ≡ length w.bridges → [] ≡ attached_at w i
+attached_past w i sound past = past_in w.attached sound.attached
+  where
+    past_in : (xs : Attachments) → AllByRecursion (IsAttachedIn w.bridges w.services) xs → [] ≡ filter_map (attachment_at i) xs
+    past_in [] all = refl
+    past_in (x ∷ xs) all = at (x.0 == i) (ne_eqb x.0 i (λ e. absurd (omega (arith, e, past, all.0.bridge)))) (past_in xs all.1)
+      where
+        at : (b : Bool) → b ≡ false → [] ≡ filter_map (attachment_at i) xs → [] ≡ cons_option (if b then Some x.1 else None) (filter_map (attachment_at i) xs)
+        at true other rest = absurd (true≢false other)
+        at false other rest = rest
 
-attached_bridge : (s : State) (name : List ℕ) (b : DeclaredBridge) (v : BridgeView) → Fits s → AreAttached s.world s.views → v.attached ≡ [] → AreAttached (with_bridge s.world name b) (s.views ++ v ∷ [])
+attached_bridge : (s : State) (name : List ℕ) (b : DeclaredBridge) (v : BridgeView) → Sound s.world → Fits s → AreAttached s.world s.views → v.attached ≡ [] → AreAttached (with_bridge s.world name b) (s.views ++ v ∷ [])
 unfolding with_bridge
-attached_bridge s name b v fits attached none i u at =
+attached_bridge s name b v sound fits attached none i u at =
     elim (got_push s.views v i u at) [
       | inl old ↦ attached i u old.1
-      | inr new ↦ ap (λ (x : BridgeView). x.attached) (sym new.1) ∙ (none ∙ attached_past s.world i (new.0 ∙ fits.bridges))
+      | inr new ↦ ap (λ (x : BridgeView). x.attached) (sym new.1) ∙ (none ∙ attached_past s.world i sound (new.0 ∙ fits.bridges))
     ]
 
 -- an end of a link lies at a bridge that is there
@@ -137,7 +146,7 @@ Sound-new_bridge s rack name b v sound declared distinct new = record {
   views = All-push IsSoundView s.views v sound.views new.sound;
   carriers = carriers_bridge s v sound.world sound.fits sound.carriers new.dark;
   metrics = λ k dir l u at at_u. sound.metrics k dir l u at (old_view s.views v (near_end dir l).bridge u (near_within s k dir l sound.world sound.fits at) at_u);
-  attached = attached_bridge s name b v sound.fits sound.attached new.attached;
+  attached = attached_bridge s name b v sound.world sound.fits sound.attached new.attached;
   short = sound.short;
   idle = sound.idle;
   agree = agree_bridge s v sound.world sound.fits sound.agree;

@@ -103,6 +103,7 @@ world = record {
   bridges = (97 ∷ [], bridge_of 32768 (system 1).mac (source 1) 1) ∷ (98 ∷ [], bridge_of 32768 (system 2).mac (source 2) 1) ∷ [];
   links = (108 ∷ [], link) ∷ [];
   services = [];
+  attached = [];
 }
 
 abbrev at : BridgeView → BridgeView → List Frame → List Frame → ℕ → State
@@ -216,7 +217,7 @@ few_with_carrier : (c : BridgeConfig) (n : ℕ) → HoldsFew 3 (with_first_carri
 few_with_carrier c n = steps_hold_few 2 (carrier 1 true) (step (metric 1 n) (configured c)) (omega arith) tt (steps_hold_few 1 (metric 1 n) (configured c) (omega arith) tt (configured_holds_few c))
 
 abbrev pub config : ℕ → BridgeConfig
-config n = config_of (record { vids = plan_of 100 1 ∷ []; bridges = []; links = []; services = [] }) (bridge_of 32768 (system n).mac (source n) 1)
+config n = config_of (record { vids = plan_of 100 1 ∷ []; bridges = []; links = []; services = []; attached = [] }) (bridge_of 32768 (system n).mac (source n) 1)
 
 both_sound : IsSoundView (with_first_carrier (config 1) 10) × IsSoundView (with_first_carrier (config 2) 10)
 unfolding next_state vid_refusal with_vid with_bridge with_link with_live next_box lane_out stepped switched_on with_vid_more declared linked named_link

@@ -20,10 +20,11 @@ use Rattle.spb_network.specs.World.{World, place_of, Sound}
 use Rattle.link_model.specs.Lanes.{no_frames}
 use Rattle.spb_network.specs.Declaring.{bridge_refusal, vid_refusal, link_refusal, plan_of, bridge_of, link_of, with_link}
 use Rattle.spb_network.specs.Services.{isid_refusal, service_of, with_service}
+use Rattle.spb_network.specs.Attaching.{attach_refusal, detach_refusal}
 use Rattle.spb_network.specs.State.{State, Spare}
-use Rattle.spb_network.specs.Events.{ticked, delivered, lost, doubled, with_metrics_over, with_metric_changed, switched_off, switched_on, rounds, drained}
+use Rattle.spb_network.specs.Events.{ticked, delivered, lost, doubled, with_metrics_over, with_metric_changed, port_attached, port_detached, switched_off, switched_on, rounds, drained}
 use Rattle.spb_network.specs.Restarting.{restarted}
-use Rattle.spb_network.specs.Refusing.{box_for, declared_refusal, link_refusal_at_found, named_link_refusal, metric_refusal, refusal_of}
+use Rattle.spb_network.specs.Refusing.{box_for, declared_refusal, link_refusal_at_found, named_link_refusal, refusal_at_found, metric_refusal, named_attach_refusal, named_detach_refusal, refusal_of}
 use Rattle.spb_network.specs.Play.{config_of, boxed, declared, linked, link_between_found, named_link, at_place, at_bridge, at_link, with_vid_more, with_service_more, with_rounds, with_drain, played, counted, next_state, played_all}
 use Rattle.spb_network.specs.Sound.{IsSoundState, opening}
 use Rattle.spb_network.specs.SoundLaws.{Keeps, EventsKeepSound, IsAddress, IsAddressed, CommandsKeepSound, AreAccepted, NetworksAreSound}
@@ -38,6 +39,8 @@ use Rattle.spb_network.proofs.SoundDeclaring.{empty_from, IsNewView, Sound-new_b
 use Rattle.spb_network.proofs.SoundLinks.{Sound-new_link}
 use Rattle.spb_network.proofs.RestartSound.{Sound-restarted}
 use Rattle.spb_network.proofs.SoundSetMetrics.{Sound-metric_changed}
+use Rattle.spb_network.proofs.SoundAttaching.{Sound-port_attached, Sound-port_detached}
+use Rattle.spb_network.proofs.PlaceLemmas.{place_within}
 use Rattle.spb_network.proofs.SoundLane.{IsStill}
 use Rattle.spb_network.proofs.SoundConfigured.{configured_still, configured_attached}
 
@@ -48,6 +51,8 @@ events_keep_sound = record {
   lose = λ k dir place s sound. Sound-lost s k dir place sound;
   double = λ k dir place s sound. Sound-doubled s k dir place sound;
   metric = λ k side m is s sound. Sound-metric_changed s k side m is sound;
+  attach = λ i port isid s may sound. Sound-port_attached s i port isid may.0 may.1 sound;
+  detach = λ i port s may sound. Sound-port_detached s i port may sound;
   down = λ k s sound. Sound-switched_off s k sound;
   up = λ k s sound. Sound-switched_on s k sound;
   restart = λ i s sound. Sound-restarted s i sound;
@@ -185,6 +190,24 @@ metric_sound : (s : State) (name : List ℕ) (side : Side) (m : ℕ) → IsSound
 unfolding at_link
 metric_sound s name side m sound none = metric_sound_at_found s name side m (place_of name s.world.links) refl sound none
 
+-- ---- a customer port
+
+attach_sound_at_found : (s : State) (name : List ℕ) (port isid : ℕ) (o : Option ℕ) → place_of name s.world.bridges ≡ o → IsSoundState s → refusal_at_found (λ i. attach_refusal s.world i port isid) o ≡ None → IsSoundState (at_place (λ t i. port_attached t i port isid) s o)
+attach_sound_at_found s name port isid None at sound none = sound
+attach_sound_at_found s name port isid (Some i) at sound none = Sound-port_attached s i port isid (place_within name s.world.bridges i at) none sound
+
+attach_sound : (s : State) (name : List ℕ) (port isid : ℕ) → IsSoundState s → named_attach_refusal s.world name port isid ≡ None → IsSoundState (at_bridge (λ t i. port_attached t i port isid) s name)
+unfolding named_attach_refusal at_bridge
+attach_sound s name port isid sound none = attach_sound_at_found s name port isid (place_of name s.world.bridges) refl sound none
+
+detach_sound_at_found : (s : State) (port : ℕ) (o : Option ℕ) → IsSoundState s → refusal_at_found (λ i. detach_refusal s.world i port) o ≡ None → IsSoundState (at_place (λ t i. port_detached t i port) s o)
+detach_sound_at_found s port None sound none = sound
+detach_sound_at_found s port (Some i) sound none = Sound-port_detached s i port none sound
+
+detach_sound : (s : State) (name : List ℕ) (port : ℕ) → IsSoundState s → named_detach_refusal s.world name port ≡ None → IsSoundState (at_bridge (λ t i. port_detached t i port) s name)
+unfolding named_detach_refusal at_bridge
+detach_sound s name port sound none = detach_sound_at_found s port (place_of name s.world.bridges) sound none
+
 -- ---- the commands
 
 rounds_sound : (n : ℕ) → Keeps (with_rounds n)
@@ -200,6 +223,8 @@ played_sound s (command.Vid vid ect) sound addressed none = vid_sound s vid ect 
 played_sound s (command.Bridge name priority system source ports) sound addressed none = bridge_sound s name priority system source ports sound addressed none
 played_sound s (command.Link name a port_a b port_b cost) sound addressed none = link_sound s name a b port_a port_b cost sound none
 played_sound s (command.Isid isid vid) sound addressed none = isid_sound s isid vid sound none
+played_sound s (command.Attach name port isid) sound addressed none = attach_sound s name port isid sound none
+played_sound s (command.Detach name port) sound addressed none = detach_sound s name port sound none
 played_sound s (command.Metric name side m) sound addressed none = metric_sound s name side m sound none
 played_sound s (command.Down name) sound addressed none = at_link_sound switched_off s name (λ k t. Sound-switched_off t k) sound
 played_sound s (command.Up name) sound addressed none = at_link_sound switched_on s name (λ k t. Sound-switched_on t k) sound
@@ -220,7 +245,7 @@ all_sound : (s : State) (cs : List Command) → IsSoundState s → AllByRecursio
 all_sound s [] sound addressed accepted = sound
 all_sound s (c ∷ cs) sound addressed accepted = all_sound (next_state s c) cs (commands_keep_sound s c sound addressed.0 accepted.0) addressed.1 accepted.1
 
-opening_world : Sound (record { vids = []; bridges = []; links = []; services = [] })
+opening_world : Sound (record { vids = []; bridges = []; links = []; services = []; attached = [] })
 opening_world = record {
   few = omega arith;
   ports = tt;
@@ -232,6 +257,8 @@ opening_world = record {
   each_vid = tt;
   services = tt;
   services_apart = tt;
+  attached = tt;
+  attached_apart = tt;
 }
 
 -- a network in which nothing is declared is sound

@@ -65,7 +65,7 @@ accepted = (refl, (refl, (refl, (refl, (refl, tt)))))
 
 -- what the first bridge is configured with
 abbrev first : BridgeConfig
-first = config_of (record { vids = plan_of 100 1 ∷ []; bridges = []; links = []; services = [] }) (bridge_of 32768 (system 1) (source 1) 1)
+first = config_of (record { vids = plan_of 100 1 ∷ []; bridges = []; links = []; services = []; attached = [] }) (bridge_of 32768 (system 1) (source 1) 1)
 
 -- the network after the bridge's second, in which it sent these frames
 abbrev sending : List (ℕ × List ℕ) → State

@@ -22,6 +22,7 @@ use Rattle.spb_network.proofs.QuietLists.{nil_of, of_nil}
 use Rattle.spb_network.proofs.QuietLaws.{quiet_says}
 use Rattle.spb_network.proofs.Linked.{quiet_is_shared}
 use Rattle.spb_network.proofs.QuietTruth.{quiet_is_true}
+use Rattle.spb_network.proofs.QuietPaths.{frames_go_one_path}
 use Rattle.spb_network.proofs.CountedEnds.{few_held}
 use Rattle.spb_network.proofs.CountedPlay.{networks_are_counted}
 use Rattle.spb_network.proofs.SoundPlay.{commands_keep_sound, networks_are_sound}
@@ -59,6 +60,7 @@ counted_networks_tell s sound counted quiet =
     record {
       told = λ i v at. quiet_is_true s i v rest at;
       shared = λ v w joined. quiet_is_shared s v w sound says.0 says.1 joined;
+      paths = λ i j v w plan at_v at_w planned. frames_go_one_path s i j v w plan rest at_v at_w planned;
     }
 
 pub networks_tell : NetworksTell

@@ -8,17 +8,21 @@ use Rattle.std.proofs.lemmas.List.Folds.{Any-from_list_any, list_any-from_Any}
 use Rattle.std.proofs.lemmas.Iterator.Adapters.{position_from-zero}
 use Rattle.std.proofs.lemmas.Slice.Eq.{bytes_eq-Decides}
 use Rattle.spb_types.specs.declared.address.Mac.{Mac}
+use Rattle.spb_types.specs.declared.service.Attachment.{Attachment}
 use Rattle.spb_types.specs.declared.service.SourceId.{SourceId}
 use Rattle.bridge_api.specs.Config.{IsMetric}
 use Rattle.bridge_api.specs.declared.kind.Kind.{Kind}
 use Rattle.bridge_api.specs.declared.kind.Kind.TheVariants as kind
 use Rattle.spb_network.specs.declared.declaration.DeclaredLink.{DeclaredLink}
 use Rattle.spb_network.specs.declared.declaration.LinkEnd.{LinkEnd}
-use Rattle.spb_network.specs.World.{World, Bridges, Links, Services, names_of, things_of, place_of, vid_of_isid, ports_at, is_between, is_at_port}
+use Rattle.spb_network.specs.World.{World, Bridges, Links, Services, names_of, things_of, place_of, vid_of_isid, attached_at, ports_at, is_between, is_at_port}
 use Rattle.spb_network.specs.Declaring.{has_vid, is_new_vid, is_vid_range, has_vid_room, is_before_bridges, is_new_name, is_new_system, is_new_source, is_bridge_address, is_bridge_range, has_bridge_room, is_free_port, is_port, is_link_range, has_link_room, is_unlinked}
 use Rattle.spb_network.specs.Services.{is_new_isid, is_isid_range, has_service_room}
+use Rattle.spb_network.specs.Attaching.{is_declared_isid, is_customer_port, is_attached, isids_with, has_isid_room}
+use Rattle.spb_network.proofs.AttachedLemmas.{any_at}
 use Rattle.spb_network.specs.State.{Spare, same_kind, serves, box_from, next_box}
-use Rattle.spb_network.specs.Holding.{IsNamed, HoldsAt, HoldsAtBoth, HasLink, IsEndAt, IsVidOf, IsIsidOf, IsVid, IsIsid, IsOwnAddress, IsBridgeInRange, HasPort, IsLinkInRange, IsFromTo}
+use Rattle.spb_network.specs.Refusing.{are_declared}
+use Rattle.spb_network.specs.Holding.{IsNamed, HoldsAt, HoldsAtBoth, HasLink, IsEndAt, IsVidOf, IsIsidOf, IsVid, IsIsid, IsCustomerPort, HasAttached, IsOwnAddress, IsBridgeInRange, HasPort, IsLinkInRange, IsFromTo}
 
 -- ---- tests
 
@@ -77,7 +81,7 @@ found : (b r : Bool) (i : ℕ) (o : Option ℕ) → is_some o ≡ r → is_some 
 found true r i o e = refl
 found false r i o e = e
 
-found-any : {X : Type 0} (p : X → Bool) (i : ℕ) (xs : List X) → is_some (position_from p i xs) ≡ list_any p xs
+pub found-any : {X : Type 0} (p : X → Bool) (i : ℕ) (xs : List X) → is_some (position_from p i xs) ≡ list_any p xs
 found-any p i [] = refl
 found-any p i (x ∷ xs) = found (p x) (list_any p xs) i (position_from p (i + 1) xs) (found-any p (i + 1) xs)
 
@@ -159,6 +163,31 @@ wrong_isid isid = fails (nat_le 1 isid && nat_le isid 16777215) (Decides-and _ _
 pub full_of_services : (w : World) → Decides (not (has_service_room w)) (4096 ≤ length w.services)
 full_of_services w = not-lt (length w.services) 4096
 
+-- ---- a customer port
+
+pub undeclared_isid : (w : World) (isid : ℕ) → Decides (not (is_declared_isid w.services isid)) (¬ IsIsidOf w isid)
+undeclared_isid w isid = fails (is_declared_isid w.services isid) (declared_isid w isid)
+
+pub wrong_port : (port : ℕ) → Decides (not (is_customer_port port)) (¬ IsCustomerPort port)
+unfolding is_customer_port
+wrong_port port = fails (nat_le 1 port && nat_le port 64) (Decides-and _ _ (le-is 1 port) (le-is port 64))
+
+pub full_of_isids : (attached : List Attachment) (isid : ℕ) → Decides (not (has_isid_room attached isid)) (60 < length (isids_with attached isid))
+unfolding has_isid_room
+full_of_isids attached isid = not-le (length (isids_with attached isid)) 60
+
+attached-is : (w : World) (i port : ℕ) → Decides (is_attached w.attached i port) (HasAttached w i port)
+attached-is w i port =
+    Decides-at (is_attached w.attached i port) (list_any (λ a. a.port == port) (attached_at w i))
+    (any_at (λ a. a.port == port) i w.attached)
+    (any-is (λ a. a.port == port) (λ a. a.port ≡ port) (λ a. Decides-eqb a.port port) (attached_at w i))
+
+pub taken_customer_port : (w : World) (i port : ℕ) → Decides (not (not (is_attached w.attached i port))) (HasAttached w i port)
+taken_customer_port w i port = opposes (is_attached w.attached i port) (attached-is w i port)
+
+pub free_customer_port : (w : World) (i port : ℕ) → Decides (not (is_attached w.attached i port)) (¬ HasAttached w i port)
+free_customer_port w i port = fails (is_attached w.attached i port) (attached-is w i port)
+
 -- ---- a name, a bridge
 
 pub taken_name : {T : Type 0} (name : List ℕ) (entries : List (List ℕ × T)) → Decides (not (is_new_name name entries)) (IsNamed name entries)
@@ -219,6 +248,13 @@ end-is e i port = Decides-and _ _ (Decides-eqb e.bridge i) (Decides-eqb e.port p
 has_link : (links : Links) (i port : ℕ) → Decides (not (is_free_port links i port)) (HasLink links i port)
 unfolding is_free_port
 has_link links i port = opposes _ (any-is (λ l. is_at_port l i port) (λ l. IsEndAt l.a i port ⊎ IsEndAt l.b i port) (λ l. Decides-or _ _ (end-is l.a i port) (end-is l.b i port)) (things_of links))
+
+-- of a path
+pub undeclared : (w : World) (from to : List ℕ) (vid : ℕ) → Decides (not (are_declared w from to vid)) (((¬ IsNamed from w.bridges) ⊎ (¬ IsNamed to w.bridges)) ⊎ (¬ IsVidOf w vid))
+undeclared w from to vid =
+    not-and (is_some (place_of from w.bridges) && is_some (place_of to w.bridges)) (has_vid w.vids vid)
+    (not-and (is_some (place_of from w.bridges)) (is_some (place_of to w.bridges)) (fails (is_some (place_of from w.bridges)) (named from w.bridges)) (fails (is_some (place_of to w.bridges)) (named to w.bridges)))
+    (undeclared_vid w vid)
 
 pub taken_port : (w : World) (i port_a j port_b : ℕ) → Decides (not (is_free_port w.links i port_a && is_free_port w.links j port_b)) (HasLink w.links i port_a ⊎ HasLink w.links j port_b)
 taken_port w i port_a j port_b = not-and (is_free_port w.links i port_a) (is_free_port w.links j port_b) (has_link w.links i port_a) (has_link w.links j port_b)

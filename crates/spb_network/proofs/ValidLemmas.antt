@@ -1,14 +1,14 @@
-use Rattle.std.proofs.Common.{◌≡◌, ◌≢◌, inl, inr, ℕ, zero, suc, ◌<◌, ◌≤◌, ◌==◌, ◌&&◌, ◌||◌, Bool, true, false, true≢false, List, [], ◌∷◌, length, max, Option, Some, None, refl, sym, ap, ◌∙◌, subst, arith, if◌then◌else◌}
+use Rattle.std.proofs.Common.{◌≡◌, ◌≢◌, inl, inr, ℕ, zero, suc, ◌<◌, ◌≤◌, ◌==◌, ◌&&◌, ◌||◌, Bool, true, false, true≢false, List, [], ◌∷◌, length, map, max, Option, Some, None, refl, sym, ap, ◌∙◌, subst, arith, if◌then◌else◌}
 use Rattle.spb_types.specs.declared.limits.TheConstants.{GREATEST_METRIC}
 use Rattle.std.proofs.lemmas.Bool.Decides.{nat_tests}
 use Rattle.std.specs.List.{AllByRecursion, filter_map, cons_option}
-use Rattle.spb_types.specs.Graph.{IsAmong, IsDistinct, systems_of, joins, port_at, edges_at, ArePortsApart, OneEdge, IsEdgeOf, IsValid, IsValidFor}
+use Rattle.spb_types.specs.Graph.{IsAmong, IsDistinct, IsBridge, systems_of, joins, port_at, edges_at, ArePortsApart, OneEdge, IsEdgeOf, IsValid, IsValidFor}
 use Rattle.spb_types.specs.Address.{same_system}
 use Rattle.spb_types.specs.declared.address.SystemId.{SystemId}
 use Rattle.spb_types.specs.declared.graph.Edge.{Edge}
 use Rattle.ect_trees.proofs.Among.{same_is, same_self}
 use Rattle.spb_network.specs.declared.declaration.DeclaredLink.{DeclaredLink}
-use Rattle.spb_network.specs.World.{World, Bridges, things_of, graph_bridges, system_at, edge_of, live_edge, world_graph, is_between, is_at_port, IsLink, AreApart, AllApart, Sound}
+use Rattle.spb_network.specs.World.{World, Bridges, Attachments, things_of, graph_bridges, system_at, edge_of, live_edge, member_at, world_graph, is_between, is_at_port, IsLink, AreApart, AllApart, IsAttachedIn, Sound}
 use Rattle.spb_network.proofs.ListLemmas.{All-map}
 use Rattle.spb_network.proofs.WorldLemmas.{ports_at-le}
 
@@ -103,13 +103,18 @@ one_edge bs d (l ∷ ls) links apart = put (live_edge bs l) refl (one_edge bs d 
         let two = all_two bs l links.0 ls links.1 apart.0 in
         (All-filter_map (AreTwo bs l) (λ f. joins edge f.a f.b ≡ false) (live_edge bs) (λ m f h g. subst (λ x. joins x f.a f.b ≡ false) (sym (live_is bs l edge e)) (subst (λ x. joins (edge_of bs l) x.a x.b ≡ false) (sym (live_is bs m f g)) (joins_at bs d l m h.first h.second ∙ h.apart.bridges))) ls two, rest)
 
+-- each member is a bridge
+members_are : (w : World) (xs : Attachments) → AllByRecursion (IsAttachedIn w.bridges w.services) xs → AllByRecursion (λ m. IsBridge (world_graph w) m.system) (map (member_at w.bridges) xs)
+members_are w [] all = tt
+members_are w (x ∷ xs) all = (among_at w.bridges x.0 all.0.bridge, members_are w xs all.1)
+
 pub valid : (w : World) → Sound w → IsValid (world_graph w)
 valid w sound = record {
   few = omega (arith, length-graph_bridges w.bridges, sound.few);
   apart = sound.systems;
   edges = All-filter_map (IsLink w.bridges) (IsEdgeOf (world_graph w)) (live_edge w.bridges) (λ l e h g. subst (IsEdgeOf (world_graph w)) (sym (live_is w.bridges l e g)) (edge_is w sound l h)) (things_of w.links) sound.links;
   one_edge = one_edge w.bridges sound.systems (things_of w.links) sound.links sound.links_apart;
-  members = tt;
+  members = members_are w w.attached sound.attached;
 }
 
 record HasPorts (e : Edge) : Type 0 where

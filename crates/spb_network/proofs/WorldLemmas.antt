@@ -9,6 +9,7 @@ use Rattle.ect_trees.proofs.Among.{same_self, distinct_snoc}
 use Rattle.spb_network.specs.declared.declaration.DeclaredBridge.{DeclaredBridge}
 use Rattle.spb_network.specs.declared.declaration.DeclaredLink.{DeclaredLink}
 use Rattle.spb_network.specs.declared.declaration.LinkEnd.{LinkEnd}
+use Rattle.spb_types.specs.declared.service.Attachment.{Attachment}
 use Rattle.spb_types.specs.declared.service.VidPlan.{VidPlan}
 use Rattle.spb_tlvs.specs.Capability.{IsTree}
 use Rattle.spb_types.specs.declared.link.Side.{Side}
@@ -16,7 +17,7 @@ use Rattle.spb_types.specs.declared.link.Side.TheVariants as side
 use Rattle.bridge_api.specs.Config.{IsMetric}
 use Rattle.spb_network.specs.Declaring.{with_vid, with_bridge, with_link, with_live, switched, end_on, link_with_metric, links_with_metric, with_end_metric}
 use Rattle.indexmap.specs.Layout.{set_value_at}
-use Rattle.spb_network.specs.World.{World, Bridges, Links, things_of, graph_bridges, system_at, ports_at, IsEnd, IsLink, AreApart, AllApart, Sound}
+use Rattle.spb_network.specs.World.{World, Bridges, Links, Services, things_of, graph_bridges, system_at, ports_at, IsEnd, IsLink, AreApart, AllApart, IsAttachedIn, Sound}
 use Rattle.spb_network.proofs.ListLemmas.{All-map, All-push, things_of-push, length-push}
 use Rattle.spb_network.proofs.ServiceLemmas.{services-with_vid}
 
@@ -43,6 +44,9 @@ IsEnd-push bs b e h = record {
   metric_low = h.metric_low;
   metric_high = h.metric_high;
 }
+
+IsAttachedIn-push : (bs : Bridges) (services : Services) (b : List ℕ × DeclaredBridge) (x : ℕ × Attachment) → IsAttachedIn bs services x → IsAttachedIn (bs ++ b ∷ []) services x
+IsAttachedIn-push bs services b x h = record { bridge = omega (arith, length-push bs b, h.bridge); port_low = h.port_low; port_high = h.port_high; service = h.service }
 
 pub IsLink-push : (bs : Bridges) (b : List ℕ × DeclaredBridge) (l : DeclaredLink) → IsLink bs l → IsLink (bs ++ b ∷ []) l
 IsLink-push bs b l h = record { a = IsEnd-push bs b l.a h.a; b = IsEnd-push bs b l.b h.b; apart = h.apart }
@@ -81,6 +85,8 @@ Sound-with_bridge w name b sound new = record {
   each_vid = sound.each_vid;
   services = sound.services;
   services_apart = sound.services_apart;
+  attached = All-map (IsAttachedIn w.bridges w.services) (IsAttachedIn (w.bridges ++ (name, b) ∷ []) w.services) w.attached (IsAttachedIn-push w.bridges w.services (name, b)) sound.attached;
+  attached_apart = sound.attached_apart;
 }
 
 -- what is asked of a link, so that it can be declared
@@ -101,6 +107,8 @@ Sound-with_link w name l sound new = record {
   each_vid = sound.each_vid;
   services = sound.services;
   services_apart = sound.services_apart;
+  attached = sound.attached;
+  attached_apart = sound.attached_apart;
 }
 
 -- what is asked of a base VID, so that it can be declared
@@ -129,6 +137,8 @@ Sound-with_vid w p sound new = record {
   each_vid = All-push IsTree w.vids p sound.each_vid new.tree;
   services = services-with_vid w.vids p w.services sound.services;
   services_apart = sound.services_apart;
+  attached = sound.attached;
+  attached_apart = sound.attached_apart;
 }
 
 pub ports_at-le : (bs : Bridges) (i : ℕ) → AllByRecursion (λ b. b.ports ≤ 32) (things_of bs) → ports_at bs i ≤ 32
@@ -165,6 +175,8 @@ Sound-with_live on w k sound = record {
   each_vid = sound.each_vid;
   services = sound.services;
   services_apart = sound.services_apart;
+  attached = sound.attached;
+  attached_apart = sound.attached_apart;
 }
 
 some-is : {X : Type 0} (x y : X) → Some x ≡ Some y → x ≡ y
@@ -231,6 +243,8 @@ Sound-with_end_metric on m w k is sound = record {
   each_vid = sound.each_vid;
   services = sound.services;
   services_apart = sound.services_apart;
+  attached = sound.attached;
+  attached_apart = sound.attached_apart;
 }
 
 pub with_metric-set : (on : Side) (m : ℕ) (ls : Links) (k : ℕ) (l : DeclaredLink) → slice_get (things_of ls) k ≡ Some l → set_value_at ls k (link_with_metric on m l) ≡ links_with_metric on m ls k

@@ -5,13 +5,18 @@ use Rattle.link_model.specs.Lane.{Frame, pushed, after_lose, after_double}
 use Rattle.spb_types.specs.declared.link.Dir.{Dir}
 use Rattle.spb_types.specs.declared.link.Dir.TheVariants.{Ab, Ba}
 use Rattle.spb_types.specs.declared.link.Side.{Side}
+use Rattle.spb_types.specs.declared.service.Attachment.{Attachment}
+use Rattle.spb_types.specs.declared.service.Vid.{Vid}
+use Rattle.bridge_api.specs.Services.{attachment_of}
 use Rattle.bridge_api.specs.Step as comes
 use Rattle.bridge_api.specs.Step.{Input, step, sent}
 use Rattle.spb_network.specs.declared.declaration.DeclaredLink.{DeclaredLink}
 use Rattle.spb_network.specs.declared.declaration.LinkEnd.{LinkEnd}
 use Rattle.link_model.specs.declared.lanes.LaneId.{LaneId}
 use Rattle.link_model.specs.Lanes.{rest, no_frames, first_full_from}
+use Rattle.spb_network.specs.World.{vid_of_isid}
 use Rattle.spb_network.specs.Declaring.{end_on, with_live, with_end_metric}
+use Rattle.spb_network.specs.Attaching.{with_attachment_at, without_attachment_at}
 use Rattle.spb_types.specs.Places.{changed_at}
 use Rattle.spb_network.specs.State.{State, links_of, is_live, far_end, lane_out, lane_at, with_frames}
 
@@ -82,6 +87,23 @@ with_metric_on side s (Some l) = with_metric_at_end s (end_on side l)
 unfoldable pub with_metric_changed : State → ℕ → Side → ℕ → State
 with_metric_changed s k side m = let t : State = record s { world = with_end_metric side m s.world k } in
     with_metric_on side t (slice_get (links_of t) k)
+
+-- a customer port of the bridge at place i is attached
+abbrev pub with_attached_port : State → ℕ → Attachment → State
+with_attached_port s i a = stepped (comes.attach a) (record s { world = with_attachment_at s.world i a }) i
+
+-- and so it is to an I-SID in the base VID that was found for it
+abbrev pub attached_in_found : State → ℕ → ℕ → ℕ → Option Vid → State
+attached_in_found s i port isid None = s
+attached_in_found s i port isid (Some vid) = with_attached_port s i (attachment_of port (record { value = isid }) vid)
+
+-- a customer port of the bridge at place i is attached to the service of an I-SID
+unfoldable pub port_attached : State → ℕ → ℕ → ℕ → State
+port_attached s i port isid = attached_in_found s i port isid (vid_of_isid s.world.services isid)
+
+-- a customer port of the bridge at place i is detached
+unfoldable pub port_detached : State → ℕ → ℕ → State
+port_detached s i port = stepped (comes.detach port) (record s { world = without_attachment_at s.world i port }) i
 
 -- both lanes of the link at place k lose their frames
 abbrev pub flushed : State → ℕ → State

@@ -1,7 +1,7 @@
 -- When each reason for a refusal holds of a command, in the words of what is declared.
 use Rattle.std.specs.Prelude.{◌≡◌, ◌↔◌, ◌⊎◌, ℕ, ◌+◌, ◌<◌, ◌≤◌, ◌%◌, List, length, replicate, slice_index, true, false, Option, Some, None, Any, Contains}
 use Rattle.spb_types.specs.declared.address.Mac.{Mac}
-use Rattle.spb_types.specs.declared.limits.TheConstants.{GREATEST_ECT, GREATEST_ISID, GREATEST_VID, MOST_BRIDGES, MOST_DELIVERIES, MOST_DELIVERIES_TOGETHER, MOST_LINKS, MOST_PORTS, MOST_ROUNDS, MOST_SERVICES, MOST_VIDS, SOURCE_IDS}
+use Rattle.spb_types.specs.declared.limits.TheConstants.{GREATEST_ECT, GREATEST_ISID, GREATEST_VID, MOST_BRIDGES, MOST_CUSTOMER_PORTS, MOST_DELIVERIES, MOST_DELIVERIES_TOGETHER, MOST_ISIDS, MOST_LINKS, MOST_PORTS, MOST_ROUNDS, MOST_SERVICES, MOST_VIDS, SOURCE_IDS}
 use Rattle.spb_types.specs.declared.service.SourceId.{SourceId}
 use Rattle.scenario.specs.declared.command.Command.{Command}
 use Rattle.scenario.specs.declared.command.Command.TheVariants as command
@@ -12,9 +12,10 @@ use Rattle.spb_network.specs.declared.declaration.LinkEnd.{LinkEnd}
 use Rattle.spb_network.specs.declared.reason.Reason.{Reason}
 use Rattle.spb_network.specs.declared.reason.Reason.TheVariants.{NoSuchName, NameTaken, IdTaken, PortUse, Range, TooMany, AlreadyLinked, AlreadyUp, AlreadyDown, Attached, NotAttached, NoFrame, RackSpent, TooLate}
 use Rattle.spb_network.specs.Reason.{reason_number}
-use Rattle.spb_network.specs.World.{World, Bridges, Links, names_of, things_of, place_of, ports_at}
+use Rattle.spb_network.specs.World.{World, Bridges, Links, names_of, things_of, place_of, ports_at, attached_at}
 use Rattle.spb_network.specs.State.{State, is_live, lane_at, kind_at}
 use Rattle.spb_network.specs.Questions.{Question, question_of}
+use Rattle.spb_network.specs.Attaching.{isids_with}
 use Rattle.spb_network.specs.Refusing.{refusal_of}
 
 -- a thing of this name is declared
@@ -29,11 +30,15 @@ HoldsAt name entries P = (k : ℕ) × (place_of name entries ≡ Some k) × P k
 abbrev pub HoldsAtBoth : List ℕ → List ℕ → Bridges → (ℕ → ℕ → Type 0) → Type 0
 HoldsAtBoth a b bridges P = HoldsAt a bridges (λ i. HoldsAt b bridges (λ j. P i j))
 
--- 2: a name, or the VID of a service, isn't declared
+-- 2: a name, the VID of a service or a path, or the I-SID of a customer port isn't declared
 
 -- the base VID is declared
 abbrev pub IsVidOf : World → ℕ → Type 0
 IsVidOf w vid = Any (λ plan. plan.vid.value ≡ vid) w.vids
+
+-- a service of this I-SID is declared
+abbrev pub IsIsidOf : World → ℕ → Type 0
+IsIsidOf w isid = Any (λ service. service.0.value ≡ isid) w.services
 
 -- of the bridge that is asked about
 abbrev pub AsksUnknown : World → Option Question → Type 0
@@ -43,6 +48,8 @@ AsksUnknown w (Some q) = ¬ IsNamed q.bridge w.bridges
 abbrev pub NamesUnknown : World → Command → Type 0
 NamesUnknown w (command.Link name a port_a b port_b cost) = (¬ IsNamed a w.bridges) ⊎ (¬ IsNamed b w.bridges)
 NamesUnknown w (command.Isid isid vid) = ¬ IsVidOf w vid
+NamesUnknown w (command.Attach bridge port isid) = (¬ IsNamed bridge w.bridges) ⊎ (¬ IsIsidOf w isid)
+NamesUnknown w (command.Detach bridge port) = ¬ IsNamed bridge w.bridges
 NamesUnknown w (command.Metric link side m) = ¬ IsNamed link w.links
 NamesUnknown w (command.Down link) = ¬ IsNamed link w.links
 NamesUnknown w (command.Up link) = ¬ IsNamed link w.links
@@ -51,13 +58,11 @@ NamesUnknown w (command.Tick bridge) = ¬ IsNamed bridge w.bridges
 NamesUnknown w (command.Deliver link dir) = ¬ IsNamed link w.links
 NamesUnknown w (command.Lose link dir place) = ¬ IsNamed link w.links
 NamesUnknown w (command.Double link dir place) = ¬ IsNamed link w.links
+NamesUnknown w (command.Path from to vid) =
+    ((¬ IsNamed from w.bridges) ⊎ (¬ IsNamed to w.bridges)) ⊎ (¬ IsVidOf w vid)
 NamesUnknown w c = AsksUnknown w (question_of c)
 
 -- 3: what is to be declared has the name, the VID or the I-SID of what is declared
-
--- a service of this I-SID is declared
-abbrev pub IsIsidOf : World → ℕ → Type 0
-IsIsidOf w isid = Any (λ service. service.0.value ≡ isid) w.services
 
 abbrev pub TakesName : World → Command → Type 0
 TakesName w (command.Vid vid ect) = IsVidOf w vid
@@ -97,6 +102,10 @@ IsVid vid ect = (1 ≤ vid) × (vid ≤ GREATEST_VID) × (1 ≤ ect) × (ect ≤
 abbrev pub IsIsid : ℕ → Type 0
 IsIsid isid = (1 ≤ isid) × (isid ≤ GREATEST_ISID)
 
+-- a customer port
+abbrev pub IsCustomerPort : ℕ → Type 0
+IsCustomerPort port = (1 ≤ port) × (port ≤ MOST_CUSTOMER_PORTS)
+
 -- a bridge's own address: the group bit is clear, and it isn't all zero
 abbrev pub IsOwnAddress : Mac → Type 0
 IsOwnAddress mac = (slice_index mac.bytes 0 % 2 ≡ 0) × (¬ (mac.bytes ≡ replicate 6 0))
@@ -120,19 +129,23 @@ IsOutOfRange w (command.Bridge name priority system source ports) = ¬ IsBridgeI
 IsOutOfRange w (command.Link name a port_a b port_b cost) =
     HoldsAtBoth a b w.bridges (λ i j. ¬ IsLinkInRange w.bridges i port_a j port_b cost)
 IsOutOfRange w (command.Isid isid vid) = ¬ IsIsid isid
+IsOutOfRange w (command.Attach bridge port isid) = ¬ IsCustomerPort port
+IsOutOfRange w (command.Detach bridge port) = ¬ IsCustomerPort port
 IsOutOfRange w (command.Metric link side m) = ¬ IsMetric m
 IsOutOfRange w (command.Round n) = ¬ ((1 ≤ n) × (n ≤ MOST_ROUNDS))
 IsOutOfRange w (command.Drain n) = ¬ ((1 ≤ n) × (n ≤ MOST_DELIVERIES))
 IsOutOfRange w _ = ⊥
 
--- 7: there would be more than 16 base VIDs, 96 bridges, 400 links, 4,096 services, 20,000 rounds or 100,000,000
--- deliveries
+-- 7: there would be more than 16 base VIDs, 96 bridges, 400 links, 4,096 services, 60 I-SIDs at a bridge, 20,000 rounds
+-- or 100,000,000 deliveries
 abbrev pub IsTooMany : State → Command → Type 0
 IsTooMany s (command.Vid vid ect) = MOST_VIDS ≤ length s.world.vids
 IsTooMany s (command.Bridge name priority system source ports) = MOST_BRIDGES ≤ length s.world.bridges
 IsTooMany s (command.Link name a port_a b port_b cost) =
     HoldsAtBoth a b s.world.bridges (λ i j. MOST_LINKS ≤ length s.world.links)
 IsTooMany s (command.Isid isid vid) = MOST_SERVICES ≤ length s.world.services
+IsTooMany s (command.Attach bridge port isid) =
+    HoldsAt bridge s.world.bridges (λ i. MOST_ISIDS < length (isids_with (attached_at s.world i) isid))
 IsTooMany s (command.Round n) = MOST_ROUNDS < s.rounds + n
 IsTooMany s (command.Drain n) = MOST_DELIVERIES_TOGETHER < s.drained + n
 IsTooMany s _ = ⊥
@@ -156,6 +169,20 @@ RaisesAgain w _ = ⊥
 abbrev pub CutsAgain : World → Command → Type 0
 CutsAgain w (command.Down link) = HoldsAt link w.links (λ k. is_live (things_of w.links) k ≡ false)
 CutsAgain w _ = ⊥
+
+-- 10: the customer port is attached already, or isn't attached
+
+-- this customer port of the bridge at a place is attached
+abbrev pub HasAttached : World → ℕ → ℕ → Type 0
+HasAttached w i port = Any (λ a. a.port ≡ port) (attached_at w i)
+
+abbrev pub AttachesAgain : World → Command → Type 0
+AttachesAgain w (command.Attach bridge port isid) = HoldsAt bridge w.bridges (λ i. HasAttached w i port)
+AttachesAgain w _ = ⊥
+
+abbrev pub DetachesNone : World → Command → Type 0
+DetachesNone w (command.Detach bridge port) = HoldsAt bridge w.bridges (λ i. ¬ HasAttached w i port)
+DetachesNone w _ = ⊥
 
 -- 11: no frame stands at that place of the lane
 abbrev pub LacksFrame : State → List ℕ → Dir → ℕ → Type 0
@@ -181,7 +208,7 @@ abbrev pub ComesLate : World → Command → Type 0
 ComesLate w (command.Vid vid ect) = ¬ (length w.bridges ≡ 0)
 ComesLate w _ = ⊥
 
--- a reason holds of a command: Attached and NotAttached are reasons of commands that aren't played yet
+-- a reason holds of a command
 abbrev pub Holds : State → Command → Reason → Type 0
 Holds s c NoSuchName = NamesUnknown s.world c
 Holds s c NameTaken = TakesName s.world c
@@ -192,8 +219,8 @@ Holds s c TooMany = IsTooMany s c
 Holds s c AlreadyLinked = LinksAgain s.world c
 Holds s c AlreadyUp = RaisesAgain s.world c
 Holds s c AlreadyDown = CutsAgain s.world c
-Holds s c Attached = ⊥
-Holds s c NotAttached = ⊥
+Holds s c Attached = AttachesAgain s.world c
+Holds s c NotAttached = DetachesNone s.world c
 Holds s c NoFrame = NamesNoFrame s c
 Holds s c RackSpent = LacksBox s c
 Holds s c TooLate = ComesLate s.world c

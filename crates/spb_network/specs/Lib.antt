@@ -2,10 +2,12 @@ pub mod World
 pub mod Reason
 pub mod Declaring
 pub mod Services
+pub mod Attaching
 pub mod State
 pub mod Events
 pub mod Network
 pub mod Sound
+pub mod Paths
 pub mod Questions
 pub mod Quiet
 pub mod Quieting
@@ -17,6 +19,7 @@ pub mod Applying
 pub mod Holding
 pub mod SoundLaws
 pub mod Truth
+pub mod PathLaws
 pub mod WiringLaws
 pub mod DeliveryLaws
 pub mod MeetingLaws

@@ -2,7 +2,9 @@
 use Rattle.std.specs.Prelude.{◌≡◌, ℕ, List, length, map, true, false, Some, slice_get}
 use Rattle.std.specs.List.{AllByRecursion}
 use Rattle.bridge_api.specs.Shown.{Shown, views_of}
+use Rattle.spb_types.specs.declared.service.Attachment.{Attachment}
 use Rattle.bridge_api.specs.View.{BridgeView, IsPort}
+use Rattle.bridge_api.specs.Services.{CanAttach, IsAttachedPort}
 use Rattle.spb_network.specs.declared.network.NetworkOf.{NetworkOf}
 use Rattle.spb_network.specs.declared.declaration.DeclaredBridge.{DeclaredBridge}
 use Rattle.spb_network.specs.World.{things_of}
@@ -44,6 +46,14 @@ AreMade shown boxes = AllByRecursion (λ b. (shown b).blank ≡ false) boxes
 -- the bridge at place i has this port, if there is such a bridge
 abbrev pub IsPortAt : List BridgeView → ℕ → ℕ → Type 0
 IsPortAt views i port = (v : BridgeView) → slice_get views i ≡ Some v → IsPort v port
+
+-- this can be attached to the bridge at place i, if there is such a bridge
+abbrev pub CanAttachAt : List BridgeView → ℕ → Attachment → Type 0
+CanAttachAt views i a = (v : BridgeView) → slice_get views i ≡ Some v → CanAttach v a
+
+-- this customer port of the bridge at place i is attached, if there is such a bridge
+abbrev pub IsAttachedAt : List BridgeView → ℕ → ℕ → Type 0
+IsAttachedAt views i port = (v : BridgeView) → slice_get views i ≡ Some v → IsAttachedPort v port
 
 -- the boxes are made, and the state has its shape
 pub record IsInOrder {B : Type 0} (shown : B → Shown) (n : NetworkOf B) : Type 0 where

@@ -14,7 +14,7 @@ use Rattle.spb_network.specs.Declaring.{plan_of, bridge_of, link_of, with_vid, w
 use Rattle.spb_network.specs.Services.{service_of, with_service}
 use Rattle.link_model.specs.Lanes.{no_frames}
 use Rattle.spb_network.specs.State.{State}
-use Rattle.spb_network.specs.Events.{ticked, delivered, lost, doubled, with_metrics_over, with_metric_changed, switched_on, switched_off, rounds, drained}
+use Rattle.spb_network.specs.Events.{ticked, delivered, lost, doubled, with_metrics_over, with_metric_changed, port_attached, port_detached, switched_on, switched_off, rounds, drained}
 use Rattle.spb_network.specs.Questions.{Question, question_of, answer_at, asks_network}
 use Rattle.spb_network.specs.Quiet.{failing}
 use Rattle.spb_network.specs.Refusing.{box_for}
@@ -91,6 +91,8 @@ played s (command.Vid vid ect) = with_vid_more s vid ect
 played s (command.Bridge name priority system source ports) = declared s name (bridge_of priority system source ports)
 played s (command.Link name a port_a b port_b cost) = named_link s name a port_a b port_b cost
 played s (command.Isid isid vid) = with_service_more s isid vid
+played s (command.Attach name port isid) = at_bridge (λ t i. port_attached t i port isid) s name
+played s (command.Detach name port) = at_bridge (λ t i. port_detached t i port) s name
 played s (command.Metric name side m) = at_link (λ t k. with_metric_changed t k side m) s name
 played s (command.Down name) = at_link switched_off s name
 played s (command.Up name) = at_link switched_on s name

@@ -15,6 +15,7 @@ use Rattle.spb_network.specs.declared.answer.Answer.{Answer}
 use Rattle.spb_network.specs.declared.answer.Answer.TheVariants.{Silent, Show, Wiring, Db, Adj}
 use Rattle.spb_network.specs.World.{wired_tables}
 use Rattle.spb_network.specs.State.{State}
+use Rattle.spb_network.specs.Paths.{path_from}
 use Rattle.spb_network.specs.Quiet.{failing}
 
 -- whether the command asks about the whole network
@@ -68,6 +69,8 @@ question_of (command.Wiring name) =
     Some (record { bridge = name; answer = λ s i. Wiring name (wired_tables s.world i) })
 question_of (command.Db name) = Some (record { bridge = name; answer = λ s i. Db name (db_at s i) })
 question_of (command.Adj name) = Some (record { bridge = name; answer = λ s i. Adj name (adj_at s i) })
+question_of (command.Path from to vid) =
+    Some (record { bridge = from; answer = λ s i. path_from s i from to vid })
 question_of _ = None
 
 -- whether a command asks something

@@ -1,5 +1,5 @@
 -- Why a command is refused: the first of its reasons, in order of number, whose test fails.
-use Rattle.std.specs.Prelude.{ℕ, ◌+◌, List, length, not, ◌&&◌, nat_lt, nat_le, Option, Some, None, is_some}
+use Rattle.std.specs.Prelude.{ℕ, ◌+◌, List, length, Bool, not, ◌&&◌, nat_lt, nat_le, Option, Some, None, is_some}
 use Rattle.spb_types.specs.declared.address.Mac.{Mac}
 use Rattle.spb_types.specs.declared.service.SourceId.{SourceId}
 use Rattle.scenario.specs.declared.command.Command.{Command}
@@ -9,8 +9,9 @@ use Rattle.spb_network.specs.declared.reason.Reason.{Reason}
 use Rattle.spb_network.specs.declared.reason.Reason.TheVariants.{NoSuchName, Range, TooMany, AlreadyUp, AlreadyDown, NoFrame, RackSpent}
 use Rattle.spb_network.specs.Reason.{reason_unless, ◌or◌}
 use Rattle.spb_network.specs.World.{World, things_of, place_of}
-use Rattle.spb_network.specs.Declaring.{vid_refusal, bridge_refusal, link_refusal}
+use Rattle.spb_network.specs.Declaring.{has_vid, vid_refusal, bridge_refusal, link_refusal}
 use Rattle.spb_network.specs.Services.{isid_refusal}
+use Rattle.spb_network.specs.Attaching.{attach_refusal, detach_refusal}
 use Rattle.spb_network.specs.Questions.{Question, question_of}
 use Rattle.spb_network.specs.State.{State, is_live, lane_at, kind_at, next_box}
 use Rattle.spb_network.specs.Restarting.{box_at}
@@ -39,7 +40,7 @@ named_link_refusal w name a port_a b port_b cost =
 unfoldable pub unnamed_refusal : World → List ℕ → Option Reason
 unnamed_refusal w name = reason_unless (is_some (place_of name w.bridges)) NoSuchName
 
--- of what names a link, by the place that was found for its name
+-- of what names a thing, by the place that was found for its name
 abbrev pub refusal_at_found : (ℕ → Option Reason) → Option ℕ → Option Reason
 refusal_at_found refusal None = Some NoSuchName
 refusal_at_found refusal (Some k) = refusal k
@@ -79,6 +80,22 @@ unfoldable pub restart_refusal : State → List ℕ → Option Reason
 restart_refusal s name =
     refusal_at_found (λ i. reason_unless (is_some (box_at s i)) RackSpent) (place_of name s.world.bridges)
 
+-- a customer port of the bridge is attached to a service, or detached
+unfoldable pub named_attach_refusal : World → List ℕ → ℕ → ℕ → Option Reason
+named_attach_refusal w name port isid = refusal_at_found (λ i. attach_refusal w i port isid) (place_of name w.bridges)
+
+unfoldable pub named_detach_refusal : World → List ℕ → ℕ → Option Reason
+named_detach_refusal w name port = refusal_at_found (λ i. detach_refusal w i port) (place_of name w.bridges)
+
+-- both bridges and the base VID of a number are declared
+abbrev pub are_declared : World → List ℕ → List ℕ → ℕ → Bool
+are_declared w from to vid =
+    is_some (place_of from w.bridges) && is_some (place_of to w.bridges) && has_vid w.vids vid
+
+-- the path between two bridges in a base VID
+unfoldable pub path_refusal : World → List ℕ → List ℕ → ℕ → Option Reason
+path_refusal w from to vid = reason_unless (are_declared w from to vid) NoSuchName
+
 -- of what may be a question about a bridge
 abbrev pub asked_refusal : World → Option Question → Option Reason
 asked_refusal w None = None
@@ -90,6 +107,8 @@ refusal_of s (command.Vid vid ect) = vid_refusal s.world vid ect
 refusal_of s (command.Bridge name priority system source ports) = declared_refusal s name priority system source ports
 refusal_of s (command.Link name a port_a b port_b cost) = named_link_refusal s.world name a port_a b port_b cost
 refusal_of s (command.Isid isid vid) = isid_refusal s.world isid vid
+refusal_of s (command.Attach name port isid) = named_attach_refusal s.world name port isid
+refusal_of s (command.Detach name port) = named_detach_refusal s.world name port
 refusal_of s (command.Metric name side m) = metric_refusal s.world name m
 refusal_of s (command.Down name) = down_refusal s.world name
 refusal_of s (command.Up name) = up_refusal s.world name
@@ -100,4 +119,5 @@ refusal_of s (command.Lose name dir place) = frame_refusal s name dir place
 refusal_of s (command.Double name dir place) = frame_refusal s name dir place
 refusal_of s (command.Round n) = round_refusal s n
 refusal_of s (command.Drain n) = drain_refusal s n
+refusal_of s (command.Path from to vid) = path_refusal s.world from to vid
 refusal_of s c = asked_refusal s.world (question_of c)

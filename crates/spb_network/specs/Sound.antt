@@ -148,7 +148,7 @@ abbrev pub opening : KindRule → List Spare → State
 opening rule rack = record {
   rule = rule;
   rack = rack;
-  world = record { vids = []; bridges = []; links = []; services = [] };
+  world = record { vids = []; bridges = []; links = []; services = []; attached = [] };
   views = [];
   lanes = [];
   rounds = 0;

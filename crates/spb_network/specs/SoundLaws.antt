@@ -1,5 +1,5 @@
 -- The laws of a network: it is sound at every moment.
-use Rattle.std.specs.Prelude.{◌≡◌, ℕ, List, [], ◌∷◌, length, true, None, ⊤}
+use Rattle.std.specs.Prelude.{◌≡◌, ℕ, ◌<◌, List, [], ◌∷◌, length, true, None, ⊤}
 use Rattle.std.specs.List.{AllByRecursion}
 use Rattle.spb_types.specs.declared.address.Mac.{Mac}
 use Rattle.link_model.specs.Lane.{Frame}
@@ -16,8 +16,9 @@ use Rattle.bridge_api.specs.Parsing.{parsed}
 use Rattle.bridge_api.specs.Parsing as parsing
 use Rattle.spb_network.specs.declared.kind_rule.KindRule.{KindRule}
 use Rattle.link_model.specs.Lanes.{lane_of}
+use Rattle.spb_network.specs.Attaching.{attach_refusal, detach_refusal}
 use Rattle.spb_network.specs.State.{State, Spare, links_of, is_live}
-use Rattle.spb_network.specs.Events.{ticked, delivered, lost, doubled, with_metric_changed, switched_off, switched_on, rounds, drained}
+use Rattle.spb_network.specs.Events.{ticked, delivered, lost, doubled, with_metric_changed, port_attached, port_detached, switched_off, switched_on, rounds, drained}
 use Rattle.spb_network.specs.Restarting.{restarted}
 use Rattle.spb_network.specs.Refusing.{refusal_of}
 use Rattle.spb_network.specs.Play.{next_state, played_all}
@@ -28,14 +29,27 @@ use Rattle.spb_network.specs.Sound.{IsSoundState, opening}
 abbrev pub Keeps : (State → State) → Type 0
 Keeps event = (s : State) → IsSoundState s → IsSoundState (event s)
 
+-- a customer port of the bridge at place i may be attached to the service of an I-SID, or detached
+abbrev pub MayAttach : ℕ → ℕ → ℕ → State → Type 0
+MayAttach i port isid s = (i < length s.world.bridges) × (attach_refusal s.world i port isid ≡ None)
+
+abbrev pub MayDetach : ℕ → ℕ → State → Type 0
+MayDetach i port s = detach_refusal s.world i port ≡ None
+
+abbrev pub KeepsWhere : (State → Type 0) → (State → State) → Type 0
+KeepsWhere may event = (s : State) → may s → IsSoundState s → IsSoundState (event s)
+
 -- a tick of any bridge, a delivery from any lane, a frame that is lost or doubled, an end of a link that gets another
--- metric, a link that goes down or comes up, a bridge that restarts, rounds and deliveries in any number
+-- metric, a customer port that is attached or detached, a link that goes down or comes up, a bridge that restarts,
+-- rounds and deliveries in any number
 pub record EventsKeepSound : Type 0 where
   pub tick : (i : ℕ) → Keeps (λ s. ticked s i)
   pub deliver : (k : ℕ) (dir : Dir) → Keeps (λ s. delivered s k dir)
   pub lose : (k : ℕ) (dir : Dir) (place : ℕ) → Keeps (λ s. lost s k dir place)
   pub double : (k : ℕ) (dir : Dir) (place : ℕ) → Keeps (λ s. doubled s k dir place)
   pub metric : (k : ℕ) (side : Side) (m : ℕ) → IsMetric m → Keeps (λ s. with_metric_changed s k side m)
+  pub attach : (i port isid : ℕ) → KeepsWhere (MayAttach i port isid) (λ s. port_attached s i port isid)
+  pub detach : (i port : ℕ) → KeepsWhere (MayDetach i port) (λ s. port_detached s i port)
   pub down : (k : ℕ) → Keeps (λ s. switched_off s k)
   pub up : (k : ℕ) → Keeps (λ s. switched_on s k)
   pub restart : (i : ℕ) → Keeps (λ s. restarted s i)

@@ -7,19 +7,21 @@ use Rattle.spb_types.specs.declared.address.SystemId.{SystemId}
 use Rattle.spb_types.specs.declared.graph.Edge.{Edge}
 use Rattle.spb_types.specs.declared.graph.Graph.{Graph}
 use Rattle.spb_types.specs.declared.graph.GraphBridge.{GraphBridge}
+use Rattle.spb_types.specs.declared.graph.Member.{Member}
 use Rattle.spb_types.specs.declared.service.Attachment.{Attachment}
 use Rattle.spb_types.specs.declared.service.Isid.{Isid}
 use Rattle.spb_types.specs.declared.service.Vid.{Vid}
 use Rattle.spb_types.specs.declared.service.VidPlan.{VidPlan}
 use Rattle.spb_tlvs.specs.Capability.{IsTree}
 use Rattle.bridge_api.specs.Config.{ArePairwise, vids_of}
+use Rattle.bridge_api.specs.Own.{member_of}
 use Rattle.spb_network.specs.declared.declaration.DeclaredBridge.{DeclaredBridge}
 use Rattle.spb_network.specs.declared.declaration.DeclaredLink.{DeclaredLink}
 use Rattle.spb_network.specs.declared.declaration.LinkEnd.{LinkEnd}
 use Rattle.spb_types.specs.declared.tables.Tables.{Tables}
 use Rattle.fdb_build.specs.Tables.{ArePlans, unicast_rows}
 use Rattle.fdb_build.specs.Groups.{group_rows}
-use Rattle.spb_types.specs.declared.limits.TheConstants.{GREATEST_ISID, GREATEST_METRIC, MOST_BRIDGES, MOST_PORTS, MOST_VIDS}
+use Rattle.spb_types.specs.declared.limits.TheConstants.{GREATEST_ISID, GREATEST_METRIC, MOST_BRIDGES, MOST_CUSTOMER_PORTS, MOST_PORTS, MOST_VIDS}
 
 -- the declared bridges, each with its name, in order of declaration
 abbrev pub Bridges : Type 0
@@ -33,12 +35,17 @@ Links = List (List ℕ × DeclaredLink)
 abbrev pub Services : Type 0
 Services = List (Isid × Vid)
 
--- what is declared: the base VIDs, the bridges, the links and the services
+-- what is attached, each by the place of its bridge, in order of attaching
+abbrev pub Attachments : Type 0
+Attachments = List (ℕ × Attachment)
+
+-- what is declared: the base VIDs, the bridges, the links and the services; and what is attached
 pub record World : Type 0 where
   pub vids : List VidPlan
   pub bridges : Bridges
   pub links : Links
   pub services : Services
+  pub attached : Attachments
 
 -- the names of what is declared, in order
 abbrev pub names_of : {T : Type 0} → List (List ℕ × T) → List (List ℕ)
@@ -72,9 +79,13 @@ ports_at (b ∷ bs) (suc i) = ports_at bs i
 abbrev pub vid_of_isid : Services → ℕ → Option Vid
 vid_of_isid services isid = lookup (λ i. isid == i.value) services
 
--- what is attached to the ports of the bridge at a place: nothing is
+-- what is attached, if that is at the bridge at place i
+abbrev pub attachment_at : ℕ → ℕ × Attachment → Option Attachment
+attachment_at i x = if x.0 == i then Some x.1 else None
+
+-- what is attached to the customer ports of the bridge at a place, in order of attaching
 abbrev pub attached_at : World → ℕ → List Attachment
-attached_at w i = []
+attached_at w i = filter_map (attachment_at i) w.attached
 
 -- the edge that a link makes: its cost is the greater of the metrics of its ends
 abbrev pub edge_of : Bridges → DeclaredLink → Edge
@@ -90,12 +101,16 @@ edge_of bridges l = record {
 abbrev pub live_edge : Bridges → DeclaredLink → Option Edge
 live_edge bridges l = if l.live then Some (edge_of bridges l) else None
 
--- the actual wiring: all bridges, and an edge for each link that is up
+-- the member of a service that an attachment makes its bridge
+abbrev pub member_at : Bridges → ℕ × Attachment → Member
+member_at bridges x = member_of (system_at bridges x.0) x.1
+
+-- the actual wiring: all bridges, an edge for each link that is up, and a member for each customer port that is attached
 abbrev pub world_graph : World → Graph
 world_graph w = record {
   bridges = graph_bridges w.bridges;
   edges = filter_map (live_edge w.bridges) (things_of w.links);
-  members = [];
+  members = map (member_at w.bridges) w.attached;
 }
 
 -- whether the link joins the bridges at two places, whichever of its ends is which
@@ -137,9 +152,21 @@ pub record IsService (vids : List VidPlan) (service : Isid × Vid) : Type 0 wher
   pub isid_high : service.0.value ≤ GREATEST_ISID
   pub vid : IsTrue (list_any (nat_eq service.1.value) (vids_of vids))
 
+-- what is attached is at a customer port of a declared bridge, in a declared service
+pub record IsAttachedIn (bridges : Bridges) (services : Services) (x : ℕ × Attachment) : Type 0 where
+  pub bridge : x.0 < length bridges
+  pub port_low : 1 ≤ x.1.port
+  pub port_high : x.1.port ≤ MOST_CUSTOMER_PORTS
+  pub service : vid_of_isid services x.1.isid.value ≡ Some x.1.vid
+
+-- two things that are attached are at two ports
+abbrev pub AreAtTwoPorts : ℕ × Attachment → ℕ × Attachment → Type 0
+AreAtTwoPorts x y = x.0 ≡ y.0 → x.1.port ≢ y.1.port
+
 -- what every world keeps that declarations made: the system ids differ, each link has two ends at ports of different
 -- bridges, no port has two links, no two bridges are linked twice, the VIDs differ and are in range, and the I-SIDs
--- differ, are in range and have declared VIDs
+-- differ, are in range and have declared VIDs; what is attached is at customer ports of declared bridges, no two at one
+-- port, and in declared services
 pub record Sound (w : World) : Type 0 where
   pub few : length w.bridges ≤ MOST_BRIDGES
   pub ports : AllByRecursion (λ b. b.ports ≤ MOST_PORTS) (things_of w.bridges)
@@ -151,6 +178,8 @@ pub record Sound (w : World) : Type 0 where
   pub each_vid : AllByRecursion IsTree w.vids
   pub services : AllByRecursion (IsService w.vids) w.services
   pub services_apart : ArePairwise (λ x y. x.0.value ≢ y.0.value) w.services
+  pub attached : AllByRecursion (IsAttachedIn w.bridges w.services) w.attached
+  pub attached_apart : ArePairwise AreAtTwoPorts w.attached
 
 -- the tables that the wiring gives the bridge at a place
 unfoldable pub wired_tables : World → ℕ → Tables

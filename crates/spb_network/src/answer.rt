@@ -1,6 +1,6 @@
 use adjacency::Adjacency;
 use lsdb::DbRow;
-use spb_types::{Name, Seq, Tables};
+use spb_types::{Name, Seq, Tables, Vid};
 
 /// A customer frame that leaves at a customer port of a bridge.
 #[derive(Debug, Drop)]
@@ -43,5 +43,14 @@ pub enum Answer {
     Adj {
         bridge: Name,
         ports: Seq<(Adjacency, bool)>,
+    },
+    /// The best path between two bridges in a base VID, by the LSPs that the first holds: its cost, and the names of its
+    /// bridges from the first to the last. Where there is no path there are no names, and the cost is 0.
+    Path {
+        from: Name,
+        to: Name,
+        vid: Vid,
+        cost: u64,
+        names: Seq<Name>,
     },
 }

@@ -7,12 +7,12 @@ ghost use Rattle.bridge_api.specs.Step.{sent, step, with_wire};
 ghost use Rattle.bridge_api.specs.Shown.{views_of};
 ghost use Rattle.spb_types.specs.Places.{changed_at};
 ghost use Rattle.spb_network.specs.Questions as question;
-ghost use Rattle.spb_network.specs.Network.{AreMade, IsPortAt};
+ghost use Rattle.spb_network.specs.Network.{AreMade, IsPortAt, CanAttachAt, IsAttachedAt};
 
 use adjacency::Adjacency;
 use bridge_api::{Bridge, Outbox};
 use lsdb::DbRow;
-use spb_types::NoMemory;
+use spb_types::{Attachment, NoMemory};
 use std::alloc::Global;
 
 /// A second of a bridge.
@@ -86,6 +86,38 @@ pub fn set_metric<B: Bridge>(
     match boxes.get_mut(i) {
         None => Ok(()),
         Some(bridge) => bridge.set_metric(port, metric),
+    }
+}
+
+/// Attaches a customer port of a bridge to a service.
+pub fn attach<B: Bridge>(
+    boxes: &mut Vec<B>,
+    i: usize,
+    attachment: Attachment,
+) -> Result<(), NoMemory>
+    requires made { AreMade B.shown boxes.old.items }
+    requires can { CanAttachAt (views_of B.shown boxes.old.items) i attachment }
+    ensures views { OnOk result (views_of B.shown boxes.new.items
+        ≡ changed_at (step (comes.attach attachment)) (views_of B.shown boxes.old.items) i) }
+    ensures made { OnOk result (AreMade B.shown boxes.new.items) }
+{
+    match boxes.get_mut(i) {
+        None => Ok(()),
+        Some(bridge) => bridge.attach(attachment.port, attachment.isid, attachment.vid),
+    }
+}
+
+/// Detaches a customer port of a bridge.
+pub fn detach<B: Bridge>(boxes: &mut Vec<B>, i: usize, port: u16) -> Result<(), NoMemory>
+    requires made { AreMade B.shown boxes.old.items }
+    requires attached { IsAttachedAt (views_of B.shown boxes.old.items) i port }
+    ensures views { OnOk result (views_of B.shown boxes.new.items
+        ≡ changed_at (step (comes.detach port)) (views_of B.shown boxes.old.items) i) }
+    ensures made { OnOk result (AreMade B.shown boxes.new.items) }
+{
+    match boxes.get_mut(i) {
+        None => Ok(()),
+        Some(bridge) => bridge.detach(port),
     }
 }
 

@@ -20,7 +20,8 @@ pub fn is_new_name<T>(entries: &IndexMap<Name, T>, name: Name) -> bool
     entries.get_index_of(&name).is_none()
 }
 
-fn is_vid(plan: &VidPlan, vid: u64) -> bool
+/// Whether this is what is planned for the base VID of a number.
+pub fn is_vid(plan: &VidPlan, vid: u64) -> bool
     ensures { result ≡ (plan.now.vid.value == vid) }
 {
     u64::from(plan.vid.value) == vid

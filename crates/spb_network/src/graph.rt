@@ -1,10 +1,11 @@
-ghost use Rattle.std.specs.Prelude.{◌≡◌, IfOk};
+ghost use Rattle.std.specs.Prelude.{◌≡◌, map, IfOk};
 ghost use Rattle.std.specs.List.{filter_map};
 ghost use Rattle.spb_network.specs.World as state;
+ghost use Rattle.spb_network.specs.Paths as paths;
 
 use crate::{DeclaredBridge, DeclaredLink};
 use indexmap::IndexMap;
-use spb_types::{Edge, GraphBridge, Mac, Name, NoMemory, SystemId};
+use spb_types::{Attachment, Edge, GraphBridge, Mac, Member, Name, NoMemory, SystemId};
 use std::alloc::Global;
 
 /// The system id of the bridge at a place, or zeros past the last bridge.
@@ -18,6 +19,15 @@ pub fn system_at(bridges: &IndexMap<Name, DeclaredBridge>, place: usize) -> Syst
         },
         Some((_, bridge)) => bridge.bridge.id.system,
     }
+}
+
+/// The place of the bridge of a system id. None exactly where there is none.
+pub fn place_of_system(bridges: &IndexMap<Name, DeclaredBridge>, system: SystemId) -> Option<usize>
+    ensures { result ≡ paths.place_of_system bridges.now.entries system }
+{
+    bridges
+        .values()
+        .position(|bridge| bridge.bridge.id.system == system)
 }
 
 /// The edge that a link makes, if it is up.
@@ -59,6 +69,32 @@ pub fn graph_edges(
     let list = links
         .values()
         .filter_map(|link| live_edge(bridges, link))
+        .collect(alloc)?;
+    Ok(list)
+}
+
+/// The member that an attachment makes its bridge.
+fn member_at(bridges: &IndexMap<Name, DeclaredBridge>, entry: &(usize, Attachment)) -> Member
+    ensures { result ≡ state.member_at bridges.now.entries entry.now }
+{
+    Member {
+        system: system_at(bridges, entry.0),
+        isid: entry.1.isid,
+        vid: entry.1.vid,
+    }
+}
+
+/// The members of services, one for each attachment, in order of attaching.
+pub fn graph_members(
+    alloc: Global,
+    bridges: &IndexMap<Name, DeclaredBridge>,
+    attached: &[(usize, Attachment)],
+) -> Result<Vec<Member>, NoMemory>
+    ensures { IfOk result (λ list. list.items ≡ map (state.member_at bridges.now.entries) attached.now) }
+{
+    let list = attached
+        .iter()
+        .map(|entry| member_at(bridges, entry))
         .collect(alloc)?;
     Ok(list)
 }

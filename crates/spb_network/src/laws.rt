@@ -4,6 +4,7 @@ ghost use Rattle.spb_network.specs.SoundLaws.{EventsKeepSound, CommandsKeepSound
 ghost use Rattle.spb_network.specs.CountedLaws.{EventsKeepCounted, CommandsKeepCounted, NetworksAreCounted, NumbersStayLow, BridgesStayFar, NothingIsFull, SomeCountedIsBusy};
 ghost use Rattle.spb_network.specs.WiringLaws.{SoundIsWired, NetworksAreWired};
 ghost use Rattle.spb_network.specs.Truth.{QuietIsShared, QuietIsRead, QuietTellsLinks, QuietIsTrue, QuietNetworksAreTold};
+ghost use Rattle.spb_network.specs.PathLaws.{FramesGoOnePath, PathIsTrue};
 ghost use Rattle.spb_network.specs.Telling.{CountedNetworksTell, NetworksTell, ShowIsTrue, SomeNetworkIsQuiet};
 ghost use Rattle.spb_network.specs.MeetingLaws.{SomeBridgesMeet};
 ghost use Rattle.spb_network.specs.Quiet.{QuietSays};
@@ -85,9 +86,18 @@ pub fn quiet_is_true()
     ensures quiet { QuietNetworksAreTold }
 {}
 
-/// Where a sound network whose sequence numbers are counted is quiet, every bridge has its part of the wiring right, and
-/// any two that a walk joins hold the same. So it is whatever commands were accepted, at most 120,000 of them. Where
-/// `show` says quiet, it has the rows of `wiring`. Some commands lead to a quiet network of two bridges, whose link went
+/// In a quiet network the path between two bridges in a VID is the best one of the wiring, and the way back is the same.
+/// Each bridge on it takes the source's frames from the bridge before it alone, and where the source sends to a service
+/// that the last bridge receives, each sends what goes there on to the bridge behind it. What `path` answers is that
+/// path, by the names of its bridges.
+pub fn quiet_paths_are_wired()
+    ensures frames { FramesGoOnePath }
+    ensures answer { PathIsTrue }
+{}
+
+/// Where a sound network whose sequence numbers are counted is quiet, every bridge has its part of the wiring right, any
+/// two that a walk joins hold the same, and between any two frames go one path. So it is whatever commands were
+/// accepted, at most 120,000 of them. Where `show` says quiet, it has the rows of `wiring`. Some commands lead to a quiet network of two bridges, whose link went
 /// down again.
 pub fn quiet_can_be_relied_on()
     ensures counted { CountedNetworksTell }

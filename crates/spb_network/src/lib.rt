@@ -18,7 +18,10 @@
 //! question, so that the questions `state` and `show` after it take constant time for it. `show` makes the bridge's
 //! tables anew.
 //! `wiring` makes them over the roads of the wiring, which are made at the first such question, and kept with their
-//! graph until a bridge, a link or a metric changes.
+//! graph until a bridge, a link, a metric or what is attached changes. `path` makes the graph that the bridge reads and one
+//! tree in it, and looks through the bridges once for each name.
+//! An `attach` goes over all that is attached, once for the customer port and its I-SID and once for each attached port
+//! of its bridge, and a `detach` twice; neither takes memory for that.
 #![tactic(auto)]
 
 pub use answer::{Answer, Out};
@@ -26,17 +29,20 @@ pub use declaration::{DeclaredBridge, DeclaredLink, LinkEnd};
 pub use kind_rule::KindRule;
 pub use laws::{
     a_delivery_is_one_step, a_restart_begins_anew, events_keep_sound, networks_are_sound,
-    numbers_stay_bounded, quiet_can_be_relied_on, quiet_is_true, quiet_says_what_it_reads_like,
-    some_network_is_busy, the_first_reason_is_given, wiring_gives_tables,
+    numbers_stay_bounded, quiet_can_be_relied_on, quiet_is_true, quiet_paths_are_wired,
+    quiet_says_what_it_reads_like, some_network_is_busy, the_first_reason_is_given,
+    wiring_gives_tables,
 };
 pub use network::{Network, NetworkOf};
 pub use reason::{ApplyError, Reason};
 pub use world::World;
 
 mod answer;
+mod attaching;
 mod bodies;
 mod boxes;
 mod check;
+mod customers;
 mod declaration;
 mod events;
 mod graph;
@@ -45,6 +51,7 @@ mod kind_rule;
 mod laws;
 mod link_ends;
 mod network;
+mod paths;
 mod play;
 mod questions;
 mod quiet;

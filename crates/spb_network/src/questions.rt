@@ -49,6 +49,7 @@ pub(crate) fn asked(command: &Command) -> Option<Name>
     match command {
         Command::Show(name) | Command::Wiring(name) | Command::Db(name) | Command::Adj(name) =>
             Some(*name),
+        Command::Path { from, .. } => Some(*from),
         _ => None,
     }
 }
@@ -125,6 +126,7 @@ impl<B: Bridge> NetworkOf<B> {
             Command::Wiring(name) => self.wiring(*name, place),
             Command::Db(name) => self.db(*name, place),
             Command::Adj(name) => self.adj(*name, place),
+            Command::Path { from, to, vid } => self.path(*from, *to, *vid, place),
             _ => Ok(Answer::Silent),
         }
     }

@@ -7,7 +7,7 @@ ghost use Rattle.spb_network.specs.Network.{state_of};
 use crate::questions::asked;
 use crate::rack::{kind_at, next_box};
 use crate::reason::reason_unless;
-use crate::{NetworkOf, Reason, World};
+use crate::{NetworkOf, Reason, World, check};
 use bridge_api::Bridge;
 use link_model::LaneId;
 use scenario::{Command, Dir};
@@ -21,6 +21,23 @@ impl World {
         ensures { result ≡ refuse.unnamed_refusal self.now name }
     {
         reason_unless(self.bridge_place(name).is_some(), Reason::NoSuchName)
+    }
+
+    /// Whether both bridges and the base VID of a number are declared.
+    fn are_declared(&self, from: Name, to: Name, vid: u64) -> bool
+        ensures { result ≡ refuse.are_declared self.now from to vid }
+    {
+        self.bridge_place(from).is_some()
+            && self.bridge_place(to).is_some()
+            && check::has_vid(self.vids(), vid)
+    }
+
+    /// Why the path between two bridges in a base VID can't be asked for, if it can't.
+    #[tactic(auto, unfolding(crate::specs::Refusing::path_refusal))]
+    fn path_refusal(&self, from: Name, to: Name, vid: u64) -> Option<Reason>
+        ensures { result ≡ refuse.path_refusal self.now from to vid }
+    {
+        reason_unless(self.are_declared(from, to, vid), Reason::NoSuchName)
     }
 
     /// Why what may be a question about a bridge is refused, if it is.
@@ -178,6 +195,10 @@ impl<B: Bridge> NetworkOf<B> {
                 .world
                 .named_link_refusal(*name, *a, *port_a, *b, *port_b, *cost),
             Command::Isid { isid, vid } => self.world.isid_refusal(*isid, *vid),
+            Command::Attach { bridge, port, isid } => {
+                self.world.named_attach_refusal(*bridge, *port, *isid)
+            }
+            Command::Detach { bridge, port } => self.world.named_detach_refusal(*bridge, *port),
             Command::Metric { link, metric, .. } => self.world.metric_refusal(*link, *metric),
             Command::Down(name) => self.world.down_refusal(*name),
             Command::Up(name) => self.world.up_refusal(*name),
@@ -189,6 +210,7 @@ impl<B: Bridge> NetworkOf<B> {
             }
             Command::Round(n) => self.round_refusal(*n),
             Command::Drain(n) => self.drain_refusal(*n),
+            Command::Path { from, to, vid } => self.world.path_refusal(*from, *to, *vid),
             _ => self.world.asked_refusal(command),
         }
     }

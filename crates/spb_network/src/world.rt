@@ -1,7 +1,8 @@
 ghost use Rattle.std.specs.Prelude.{◌≡◌, [], ◌∷◌, ◌++◌, true, None, OnOk, OnErr};
 ghost use Rattle.spb_network.specs.Declaring.{is_new_name, switched, links_with_metric};
 
-use crate::graph::{graph_bridges, graph_edges, system_at};
+use crate::attaching::{attached_at, has_isid_room, is_attached, is_customer_port, remove};
+use crate::graph::{graph_bridges, graph_edges, graph_members, place_of_system, system_at};
 use crate::hints::Hints;
 use crate::reason::reason_unless;
 use crate::{DeclaredBridge, DeclaredLink, LinkEnd, Reason, check, link_ends};
@@ -21,14 +22,16 @@ use spb_types::{
 use std::alloc::Global;
 use std::marker::Model;
 
-/// What is declared: the base VIDs, the bridges, the links and the services, each in order of declaration. The roads of
-/// the wiring are kept from the first question about it until a bridge, a link or a metric changes.
+/// What is declared: the base VIDs, the bridges, the links and the services, each in order of declaration; and what is
+/// attached, each by the place of its bridge, in order of attaching. The roads of the wiring are kept from the first
+/// question about it until a bridge, a link, a metric or what is attached changes.
 #[derive(Drop)]
 pub struct World {
     vids: Vec<VidPlan>,
     bridges: IndexMap<Name, DeclaredBridge>,
     links: IndexMap<Name, DeclaredLink>,
     services: IndexMap<Isid, Vid>,
+    attached: Vec<(usize, Attachment)>,
     hints: Hints,
     kept: Option<Roads>,
 }
@@ -39,18 +42,20 @@ impl Model for World {
 
     ghost Value = { state.World };
 
-    ghost view = { λ w. record { vids = w.vids.items; bridges = w.bridges.entries; links = w.links.entries; services = w.services.entries } };
+    ghost view = { λ w. record { vids = w.vids.items; bridges = w.bridges.entries; links = w.links.entries; services = w.services.entries; attached = w.attached.items } };
 
-    ghost invariant = { λ w. state.Sound (record { vids = w.vids.items; bridges = w.bridges.entries; links = w.links.entries; services = w.services.entries })
-        × IfSome w.kept (λ roads. roads ≡ state.world_graph (record { vids = w.vids.items; bridges = w.bridges.entries; links = w.links.entries; services = w.services.entries })) };
+    ghost invariant = { λ w. state.Sound (record { vids = w.vids.items; bridges = w.bridges.entries; links = w.links.entries; services = w.services.entries; attached = w.attached.items })
+        × IfSome w.kept (λ roads. roads ≡ state.world_graph (record { vids = w.vids.items; bridges = w.bridges.entries; links = w.links.entries; services = w.services.entries; attached = w.attached.items })) };
 }
 
 impl World {
     ghost use Rattle.std.specs.Prelude.{◌≡◌, ◌<◌, ◌≤◌, [], ℕ, true, None, Some, length, IfOk, IfSome, slice_get};
     ghost use Rattle.spb_network.specs.World as state;
-    ghost use Rattle.spb_network.specs.World.{place_of, things_of};
+    ghost use Rattle.spb_network.specs.World.{names_of, place_of, things_of};
+    ghost use Rattle.spb_network.specs.Paths as paths;
     ghost use Rattle.spb_network.specs.Declaring as declare;
     ghost use Rattle.spb_network.specs.Services as service;
+    ghost use Rattle.spb_network.specs.Attaching as attaching;
     ghost use Rattle.spb_network.specs.State.{lane_out, live_lane, is_live};
     ghost use Rattle.spb_network.specs.Play.{config_of};
     ghost use Rattle.spb_network.specs.Restarting.{metric_over, port_metric};
@@ -58,13 +63,14 @@ impl World {
 
     /// The world in which nothing is declared, which takes no memory.
     pub fn new(alloc: Global) -> Self
-        ensures { result ≡ record { vids = []; bridges = []; links = []; services = [] } }
+        ensures { result ≡ record { vids = []; bridges = []; links = []; services = []; attached = [] } }
     {
         World {
             vids: Vec::new(alloc),
             bridges: IndexMap::new(alloc),
             links: IndexMap::new(alloc),
             services: IndexMap::new(alloc),
+            attached: Vec::new(alloc),
             hints: Hints::new(alloc),
             kept: None,
         }
@@ -133,6 +139,30 @@ impl World {
         }
     }
 
+    /// The place of the bridge of a system id. None exactly where there is none.
+    pub fn place_of_system(&self, system: SystemId) -> Option<usize>
+        ensures { result ≡ paths.place_of_system self.now.bridges system }
+    {
+        place_of_system(&self.bridges, system)
+    }
+
+    /// The name of the bridge at a place. None exactly where the place is past the last.
+    pub fn bridge_name(&self, place: usize) -> Option<Name>
+        ensures { result ≡ slice_get (names_of self.now.bridges) place }
+    {
+        match self.bridges.get_index(place) {
+            None => None,
+            Some((name, _)) => Some(*name),
+        }
+    }
+
+    /// The system id of the bridge at a place, or zeros past the last bridge.
+    pub fn system(&self, place: usize) -> SystemId
+        ensures { result ≡ state.system_at self.now.bridges place }
+    {
+        system_at(&self.bridges, place)
+    }
+
     /// How many links are declared.
     pub fn link_count(&self) -> usize
         ensures { result ≡ length (things_of self.now.links) }
@@ -181,11 +211,13 @@ impl World {
         }
     }
 
-    /// What is attached to the ports of the bridge at a place.
+    /// What is attached to the customer ports of the bridge at a place, in order of attaching. One pass over all that is
+    /// attached.
     pub fn attached(&self, alloc: Global, place: usize) -> Result<Seq<Attachment>, NoMemory>
         ensures { IfOk result (λ attached. attached ≡ state.attached_at self.now place) }
     {
-        Ok(Seq::new(alloc))
+        let attached = attached_at(alloc, self.attached.as_slice(), place)?;
+        Ok(Seq::from_vec(attached))
     }
 
     /// The lane out of a port of the bridge at a place, over a link that is up. None exactly where there is none.
@@ -204,16 +236,18 @@ impl World {
         }
     }
 
-    /// The actual wiring: all bridges, and an edge for each link that is up.
+    /// The actual wiring: all bridges, an edge for each link that is up, and a member for each customer port that is
+    /// attached.
     fn graph(&self, alloc: Global) -> Result<Graph, NoMemory>
         ensures { IfOk result (λ graph. graph ≡ state.world_graph self.now) }
     {
         let bridges = graph_bridges(alloc, &self.bridges)?;
         let edges = graph_edges(alloc, &self.bridges, &self.links)?;
+        let members = graph_members(alloc, &self.bridges, self.attached.as_slice())?;
         Ok(Graph {
             bridges: Seq::from_vec(bridges),
             edges: Seq::from_vec(edges),
-            members: Seq::new(alloc),
+            members: Seq::from_vec(members),
         })
     }
 
@@ -365,6 +399,35 @@ impl World {
             .or(reason_unless(has_room, Reason::TooMany))
     }
 
+    /// Why a customer port of the bridge at a place can't be attached to the service of an I-SID, if it can't. It takes
+    /// a pass over all that is attached, and one more for each customer port of the bridge.
+    #[tactic(auto, unfolding(crate::specs::Attaching::attach_refusal))]
+    pub fn attach_refusal(&self, place: usize, port: u64, isid: u64) -> Option<Reason>
+        ensures { result ≡ attaching.attach_refusal self.now place port isid }
+    {
+        let entries = self.attached.as_slice();
+        let is_declared = self.vid_of_isid(isid).is_some();
+        let has_place = has_isid_room(entries, place, isid);
+        let is_free = !is_attached(entries, place, port);
+        reason_unless(is_declared, Reason::NoSuchName)
+            .or(reason_unless(is_customer_port(port), Reason::Range))
+            .or(reason_unless(has_place, Reason::TooMany))
+            .or(reason_unless(is_free, Reason::Attached))
+    }
+
+    /// Why a customer port of the bridge at a place can't be detached, if it can't. It takes a pass over all that is
+    /// attached.
+    #[tactic(auto, unfolding(crate::specs::Attaching::detach_refusal))]
+    pub fn detach_refusal(&self, place: usize, port: u64) -> Option<Reason>
+        ensures { result ≡ attaching.detach_refusal self.now place port }
+    {
+        let is_there = is_attached(self.attached.as_slice(), place, port);
+        reason_unless(is_customer_port(port), Reason::Range).or(reason_unless(
+            is_there,
+            Reason::NotAttached,
+        ))
+    }
+
     /// Declares a base VID with the number of its ECT algorithm, which isn't refused. After NoMemory nothing changed.
     pub fn declare_vid(&mut self, vid: u64, ect: u64) -> Result<(), NoMemory>
         requires { declare.vid_refusal self.old vid ect ≡ None }
@@ -454,6 +517,26 @@ impl World {
         let isid = Isid { value: isid as u32 };
         self.services.insert(isid, Vid { value: vid as u16 })?;
         Ok(())
+    }
+
+    /// Attaches a customer port of the bridge at a place, at which nothing is attached. After NoMemory nothing that is
+    /// declared or attached changed.
+    pub fn attach(&mut self, place: usize, attachment: Attachment) -> Result<(), NoMemory>
+        requires { attaching.IsNewAttachment self.old (place, attachment) }
+        ensures ok { OnOk result (self.new ≡ attaching.with_attachment_at self.old place attachment) }
+        ensures err { OnErr result (self.new ≡ self.old) }
+    {
+        self.kept = None;
+        self.attached.push((place, attachment))?;
+        Ok(())
+    }
+
+    /// Detaches a customer port of the bridge at a place. Takes no memory.
+    pub fn detach(&mut self, place: usize, port: u16)
+        ensures { self.new ≡ attaching.without_attachment_at self.old place port }
+    {
+        self.kept = None;
+        remove(&mut self.attached, place, port);
     }
 
     /// The link at a place comes up, or goes down. Takes no memory.

@@ -17,10 +17,7 @@ use Rattle.spb_run.specs.declared.refusal.Refusal.TheVariants as refusal
 
 -- whether lines of this keyword are played
 abbrev pub is_played : Keyword → Bool
-is_played keyword.Attach = false
-is_played keyword.Detach = false
 is_played keyword.Frame = false
-is_played keyword.Path = false
 is_played _ = true
 
 -- whether a first word is a keyword whose lines are played

@@ -23,10 +23,7 @@ use std::alloc::Global;
 fn is_played(word: Option<Keyword>) -> bool
     ensures { result ≡ play.is_played_word word }
 {
-    !matches!(
-        word,
-        None | Some(Keyword::Attach | Keyword::Detach | Keyword::Frame | Keyword::Path)
-    )
+    !matches!(word, None | Some(Keyword::Frame))
 }
 
 /// The reply to a line that is outside the grammar from a column on.

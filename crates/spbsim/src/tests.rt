@@ -6,6 +6,7 @@ use std::process::Abort;
 use std::test::Fail;
 
 mod boxes;
+mod customers;
 mod databases;
 mod examples;
 mod hellos;

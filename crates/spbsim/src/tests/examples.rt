@@ -297,6 +297,51 @@ u 10 020000000012 1
 u 10 020000000013 1
 ";
 
+/// `two-ways.spb`.
+const TWO_WAYS: &str =
+    "# Two spines and two leaves. Each base VID goes over a spine of its own, there and back, also after a link fails.
+vid 10 1
+vid 20 2
+bridge spine1 32768 020000000001 00001 2
+bridge spine2 32768 020000000002 00002 2
+bridge leaf1 32768 020000000011 00011 2
+bridge leaf2 32768 020000000012 00012 2
+link s1l1 spine1 1 leaf1 1 10
+link s1l2 spine1 2 leaf2 1 10
+link s2l1 spine2 1 leaf1 2 10
+link s2l2 spine2 2 leaf2 2 10
+round 12
+state
+path leaf1 leaf2 10
+path leaf2 leaf1 10
+path leaf1 leaf2 20
+path leaf2 leaf1 20
+# The link between spine1 and leaf2 fails. Leaf2 has seen it, and leaf1 hears of it later.
+down s1l2
+path leaf1 leaf2 10
+path leaf2 leaf1 10
+# When all is quiet again, both base VIDs go over spine2.
+round 12
+state
+path leaf1 leaf2 10
+path leaf2 leaf1 10
+path leaf1 leaf2 20
+";
+
+/// `two-ways.out`.
+const TWO_WAYS_OUT: &str = "state quiet
+path leaf1 leaf2 10 20 2 leaf1 spine1 leaf2
+path leaf2 leaf1 10 20 2 leaf2 spine1 leaf1
+path leaf1 leaf2 20 20 2 leaf1 spine2 leaf2
+path leaf2 leaf1 20 20 2 leaf2 spine2 leaf1
+path leaf1 leaf2 10 20 2 leaf1 spine1 leaf2
+path leaf2 leaf1 10 20 2 leaf2 spine2 leaf1
+state quiet
+path leaf1 leaf2 10 20 2 leaf1 spine2 leaf2
+path leaf2 leaf1 10 20 2 leaf2 spine2 leaf1
+path leaf1 leaf2 20 20 2 leaf1 spine2 leaf2
+";
+
 /// `undeclared-bridge.spb`.
 const UNDECLARED_BRIDGE: &str =
     "# A link names a bridge that isn't declared: the run ends there, and what came before is written.
@@ -322,6 +367,7 @@ fn each_example_is_answered_as_beside_it(rt: HostRuntime) -> Result<(), Fail> {
         (LOST_HELLOS, Status::Done, LOST_HELLOS_OUT),
         (QUIET_DRILL, Status::Done, QUIET_DRILL_OUT),
         (RESTART_DRILL, Status::Done, RESTART_DRILL_OUT),
+        (TWO_WAYS, Status::Done, TWO_WAYS_OUT),
         (UNDECLARED_BRIDGE, undeclared, UNDECLARED_BRIDGE_OUT),
     ] {
         check(&rt, rt.alloc(), script, status, text)?;

@@ -45,8 +45,8 @@ fn the_first_refused_line_ends_the_run(rt: HostRuntime) -> Result<(), Fail> {
         (
             "# a comment\r\n\n \t\npath\n",
             4,
-            Refusal::Words(1),
-            "error 4 1 Words 1\n",
+            Refusal::Words(5),
+            "error 4 1 Words 5\n",
         ),
         ("wiring A B", 1, Refusal::Words(10), "error 1 1 Words 10\n"),
         ("tick A\n", 1, unknown, "error 1 2 NoSuchName\n"),
@@ -65,11 +65,12 @@ fn lines_outside_the_grammar_have_a_column(rt: HostRuntime) -> Result<(), Fail> 
         ("deliver L1 xy", 12, "1 Words 12"),
         ("metric L1 c 1", 11, "1 Words 11"),
         ("round", 6, "1 Words 6"),
-        ("attach A 1 100", 1, "1 Words 1"),
+        ("attach A 1", 11, "1 Words 11"),
+        ("detach A", 9, "1 Words 9"),
         (" frame A 1 00", 2, "1 Words 2"),
         ("state A", 7, "1 Words 7"),
         ("show", 5, "1 Words 5"),
-        ("path A B 10", 1, "1 Words 1"),
+        ("path A B", 9, "1 Words 9"),
     ] {
         check_refused(&rt, alloc, line, Refusal::Words(column), end)?;
     }
@@ -113,6 +114,9 @@ fn refused_events_have_a_reason(rt: HostRuntime) -> Result<(), Fail> {
         ("adj C", Reason::NoSuchName, "2 NoSuchName"),
         ("db C", Reason::NoSuchName, "2 NoSuchName"),
         ("show C", Reason::NoSuchName, "2 NoSuchName"),
+        ("path A C 10", Reason::NoSuchName, "2 NoSuchName"),
+        ("path C A 10", Reason::NoSuchName, "2 NoSuchName"),
+        ("path A B 10", Reason::NoSuchName, "2 NoSuchName"),
         ("metric L2 a 5", Reason::NoSuchName, "2 NoSuchName"),
         ("metric L1 a 0", Reason::Range, "6 Range"),
         ("metric L1 a 16777215", Reason::Range, "6 Range"),

@@ -1,4 +1,4 @@
-//! The tables that the wiring gives.
+//! The tables that the wiring gives, and the paths of a quiet network.
 use super::{TWO, check_done};
 use std::test::Fail;
 
@@ -67,6 +67,23 @@ u 10 020000000004 1
 u 20 020000000002 1
 u 20 020000000003 2
 u 20 020000000004 2
+",
+    )
+}
+
+#[test]
+fn paths_are_found_by_the_mask_of_each_vid(rt: HostRuntime) -> Result<(), Fail> {
+    check_done(
+        &rt,
+        rt.alloc(),
+        SQUARE,
+        "path A D 10\nround 32\npath A D 10\npath D A 10\npath A D 20\npath D A 20\npath B B 10\n",
+        "path A D 10 none
+path A D 10 20 2 A B D
+path D A 10 20 2 D B A
+path A D 20 20 2 A C D
+path D A 20 20 2 D C A
+path B B 10 0 0 B
 ",
     )
 }

@@ -23,7 +23,7 @@ insert_new-requires c =
 pub invariant_of-self-2 : goal.invariant_of-self-2
 unfolding with_bridge
 invariant_of-self-2 c =
-    let old : World = record { vids = c.self.inside.vids.items; bridges = c.self.inside.bridges.entries; links = c.self.inside.links.entries; services = c.self.inside.services.entries } in
+    let old : World = record { vids = c.self.inside.vids.items; bridges = c.self.inside.bridges.entries; links = c.self.inside.links.entries; services = c.self.inside.services.entries; attached = c.self.inside.attached.items } in
     let none = ap (λ w. bridge_refusal w c.args.name c.args.priority c.args.system c.args.source c.args.ports) c.self.view_is ∙ c.requires in
     let new = bridge_refusal_none old c.args.name c.args.priority c.args.system c.args.source c.args.ports none in
     (rw c.in_ok-insert_new.ensures.ok (Sound-with_bridge old c.args.name (bridge_of c.args.priority c.args.system c.args.source c.args.ports) c.self.invariant.0 new.new), tt)
@@ -31,4 +31,4 @@ invariant_of-self-2 c =
 pub returns-clause-ok : goal.returns-clause-ok
 unfolding with_bridge
 returns-clause-ok c =
-    rw (← c.self.view_is) (λ i. record { vids = c.self.inside.vids.items; bridges = c.in_ok-insert_new.ensures.ok i; links = c.self.inside.links.entries; services = c.self.inside.services.entries })
+    rw (← c.self.view_is) (λ i. record { vids = c.self.inside.vids.items; bridges = c.in_ok-insert_new.ensures.ok i; links = c.self.inside.links.entries; services = c.self.inside.services.entries; attached = c.self.inside.attached.items })

@@ -28,7 +28,7 @@ insert_new-requires c =
 pub invariant_of-self-2 : goal.invariant_of-self-2
 unfolding with_link
 invariant_of-self-2 c =
-    let old : World = record { vids = c.self.inside.vids.items; bridges = c.self.inside.bridges.entries; links = c.self.inside.links.entries; services = c.self.inside.services.entries } in
+    let old : World = record { vids = c.self.inside.vids.items; bridges = c.self.inside.bridges.entries; links = c.self.inside.links.entries; services = c.self.inside.services.entries; attached = c.self.inside.attached.items } in
     let none = ap (λ w. link_refusal w c.args.name c.args.i c.args.port_a c.args.j c.args.port_b c.args.cost) c.self.view_is ∙ c.requires in
     let new = link_refusal_none old c.args.name c.args.i c.args.port_a c.args.j c.args.port_b c.args.cost none in
     (rw c.in_ok-insert_new.ensures.ok (Sound-with_link old c.args.name (link_of c.args.i c.args.port_a c.args.j c.args.port_b c.args.cost) c.self.invariant.0 new.new), tt)
@@ -36,4 +36,4 @@ invariant_of-self-2 c =
 pub returns-clause-ok : goal.returns-clause-ok
 unfolding with_link
 returns-clause-ok c =
-    rw (← c.self.view_is) (λ i. record { vids = c.self.inside.vids.items; bridges = c.self.inside.bridges.entries; links = c.in_ok-insert_new.ensures.ok i; services = c.self.inside.services.entries })
+    rw (← c.self.view_is) (λ i. record { vids = c.self.inside.vids.items; bridges = c.self.inside.bridges.entries; links = c.in_ok-insert_new.ensures.ok i; services = c.self.inside.services.entries; attached = c.self.inside.attached.items })

@@ -11,6 +11,6 @@ tables_of-requires-clause-graph c =
 
 pub tables_over-requires-clause-graph : goal.tables_over-requires-clause-graph
 tables_over-requires-clause-graph c =
-    let w : World = record { vids = c.self.inside.vids.items; bridges = c.self.inside.bridges.entries; links = c.self.inside.links.entries; services = c.self.inside.services.entries } in
+    let w : World = record { vids = c.self.inside.vids.items; bridges = c.self.inside.bridges.entries; links = c.self.inside.links.entries; services = c.self.inside.services.entries; attached = c.self.inside.attached.items } in
     let kept : c.in-Some.roads ≡ world_graph w = subst (λ o. IfSome o (λ (roads : Graph). roads ≡ world_graph w)) c.in-Some.is c.self.invariant.1 in
     subst (λ g. IsValidFor g c.system_at-me.result) (sym kept) (valid_for w c.system_at-me.result c.self.invariant.0)

@@ -1,0 +1,18 @@
+use Rattle.bridge_api.specs.Step as comes
+use Rattle.bridge_api.specs.Step.{step}
+use Rattle.bridge_api.specs.Shown.{view_in}
+use Rattle.spb_types.proofs.Places.{lent, lent-none}
+use Rattle.spb_network.proofs.BoxLemmas.{map-set, changed-none, get-map, on_ok}
+use Rattle.spb_network.proofs.boxes.detach.Goals as goal
+
+pub returns-in-None-clause-views : goal.returns-in-None-clause-views
+returns-in-None-clause-views g c =
+    changed-none (view_in g.B.Bridge.shown) (step (comes.detach c.args.port)) c.args.boxes.now.items c.args.i (lent-none _ _ _ c.get_mut.ensures.item c.in-None.is)
+
+pub returns-in-Some-clause-views : goal.returns-in-Some-clause-views
+returns-in-Some-clause-views g c =
+    on_ok c.detach.result (map-set (view_in g.B.Bridge.shown) (step (comes.detach c.args.port)) c.args.boxes.now.items c.args.i c.in-Some.bridge.now c.detach.new.self (lent _ _ _ _ c.get_mut.ensures.item c.in-Some.is)) c.detach.ensures.view
+
+pub detach-requires-clause-attached : goal.detach-requires-clause-attached
+detach-requires-clause-attached g c not_failed =
+    c.requires.attached ((view_in g.B.Bridge.shown) c.in-Some.bridge.now) (get-map (view_in g.B.Bridge.shown) c.args.boxes.now.items c.args.i c.in-Some.bridge.now (lent _ _ _ _ c.get_mut.ensures.item c.in-Some.is))

@@ -1,0 +1,116 @@
+//! Customer ports of the bridges of a network: why one can't be attached or detached, and what an accepted command makes.
+ghost use Rattle.std.specs.Prelude.{◌≡◌, ◌<◌, None, length, OnOk};
+ghost use Rattle.spb_network.specs.Attaching as attaching;
+ghost use Rattle.spb_network.specs.Refusing as refuse;
+ghost use Rattle.spb_network.specs.Play as play;
+ghost use Rattle.spb_network.specs.Events as event;
+ghost use Rattle.spb_network.specs.Network.{state_of, AreMade, CanAttachAt};
+ghost use Rattle.spb_network.specs.Applying.{IsSoundNetwork};
+
+use crate::{NetworkOf, Reason, World, boxes};
+use bridge_api::Bridge;
+use spb_types::{Attachment, Isid, Name, NoMemory};
+
+impl World {
+    /// Why a customer port of a bridge can't be attached to the service of an I-SID, if it can't.
+    #[tactic(auto, unfolding(crate::specs::Refusing::named_attach_refusal))]
+    pub fn named_attach_refusal(&self, name: Name, port: u64, isid: u64) -> Option<Reason>
+        ensures { result ≡ refuse.named_attach_refusal self.now name port isid }
+    {
+        match self.bridge_place(name) {
+            None => Some(Reason::NoSuchName),
+            Some(place) => self.attach_refusal(place, port, isid),
+        }
+    }
+
+    /// Why a customer port of a bridge can't be detached, if it can't.
+    #[tactic(auto, unfolding(crate::specs::Refusing::named_detach_refusal))]
+    pub fn named_detach_refusal(&self, name: Name, port: u64) -> Option<Reason>
+        ensures { result ≡ refuse.named_detach_refusal self.now name port }
+    {
+        match self.bridge_place(name) {
+            None => Some(Reason::NoSuchName),
+            Some(place) => self.detach_refusal(place, port),
+        }
+    }
+}
+
+impl<B: Bridge> NetworkOf<B> {
+    /// Attaches a customer port of the bridge at a place, where nothing is attached.
+    fn attach_port(&mut self, place: usize, attachment: Attachment) -> Result<(), NoMemory>
+        requires made { AreMade B.shown self.old.boxes.items }
+        requires new { attaching.IsNewAttachment self.old.world (place, attachment) }
+        requires can { CanAttachAt (state_of B.shown self.old).views place attachment }
+        ensures state { OnOk result (state_of B.shown self.new
+            ≡ event.with_attached_port (state_of B.shown self.old) place attachment) }
+        ensures made { OnOk result (AreMade B.shown self.new.boxes.items) }
+    {
+        boxes::attach(&mut self.boxes, place, attachment)?;
+        self.world.attach(place, attachment)
+    }
+
+    /// Attaches a customer port of the bridge at a place to the service of an I-SID.
+    #[tactic(auto, unfolding(crate::specs::Events::port_attached))]
+    fn attach(&mut self, place: usize, port: u64, isid: u64) -> Result<(), NoMemory>
+        requires sound { IsSoundNetwork B.shown self.old }
+        requires place { place < length self.old.world.bridges }
+        requires accepted { attaching.attach_refusal self.old.world place port isid ≡ None }
+        ensures state { OnOk result (state_of B.shown self.new
+            ≡ event.port_attached (state_of B.shown self.old) place port isid) }
+        ensures made { OnOk result (AreMade B.shown self.new.boxes.items) }
+    {
+        let Some(vid) = self.world.vid_of_isid(isid) else {
+            return Ok(());
+        };
+        let attachment = Attachment {
+            port: port as u16,
+            isid: Isid { value: isid as u32 },
+            vid,
+        };
+        self.attach_port(place, attachment)
+    }
+
+    /// Detaches a customer port of the bridge at a place.
+    #[tactic(auto, unfolding(crate::specs::Events::port_detached))]
+    fn detach(&mut self, place: usize, port: u64) -> Result<(), NoMemory>
+        requires sound { IsSoundNetwork B.shown self.old }
+        requires accepted { attaching.detach_refusal self.old.world place port ≡ None }
+        ensures state { OnOk result (state_of B.shown self.new
+            ≡ event.port_detached (state_of B.shown self.old) place port) }
+        ensures made { OnOk result (AreMade B.shown self.new.boxes.items) }
+    {
+        boxes::detach(&mut self.boxes, place, port as u16)?;
+        self.world.detach(place, port as u16);
+        Ok(())
+    }
+
+    /// A customer port of a bridge is attached to a service.
+    #[tactic(auto, unfolding(crate::specs::Refusing::named_attach_refusal, crate::specs::Play::at_bridge))]
+    pub(crate) fn play_attach(&mut self, name: Name, port: u64, isid: u64) -> Result<(), NoMemory>
+        requires sound { IsSoundNetwork B.shown self.old }
+        requires accepted { refuse.named_attach_refusal self.old.world name port isid ≡ None }
+        ensures state { OnOk result (state_of B.shown self.new
+            ≡ play.at_bridge (λ s i. event.port_attached s i port isid) (state_of B.shown self.old) name) }
+        ensures made { OnOk result (AreMade B.shown self.new.boxes.items) }
+    {
+        match self.world.bridge_place(name) {
+            None => Ok(()),
+            Some(place) => self.attach(place, port, isid),
+        }
+    }
+
+    /// A customer port of a bridge is detached.
+    #[tactic(auto, unfolding(crate::specs::Refusing::named_detach_refusal, crate::specs::Play::at_bridge))]
+    pub(crate) fn play_detach(&mut self, name: Name, port: u64) -> Result<(), NoMemory>
+        requires sound { IsSoundNetwork B.shown self.old }
+        requires accepted { refuse.named_detach_refusal self.old.world name port ≡ None }
+        ensures state { OnOk result (state_of B.shown self.new
+            ≡ play.at_bridge (λ s i. event.port_detached s i port) (state_of B.shown self.old) name) }
+        ensures made { OnOk result (AreMade B.shown self.new.boxes.items) }
+    {
+        match self.world.bridge_place(name) {
+            None => Ok(()),
+            Some(place) => self.detach(place, port),
+        }
+    }
+}
