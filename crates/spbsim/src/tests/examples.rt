@@ -297,6 +297,104 @@ u 10 020000000012 1
 u 10 020000000013 1
 ";
 
+/// `two-tenants.spb`.
+const TWO_TENANTS: &str =
+    "# Two tenants on a fabric of two spines and four leaves. Between leaves that are as near over either spine, VID 10 takes
+# the spine of the lower bridge id, and VID 20 the other.
+vid 10 1
+vid 20 2
+bridge spine1 32768 020000000101 00101 4
+bridge spine2 32768 020000000102 00102 4
+bridge leaf1 32768 020000000001 00001 2
+bridge leaf2 32768 020000000002 00002 2
+bridge leaf3 32768 020000000003 00003 2
+bridge leaf4 32768 020000000004 00004 2
+link s1l1 spine1 1 leaf1 1 10
+link s1l2 spine1 2 leaf2 1 10
+link s1l3 spine1 3 leaf3 1 10
+link s1l4 spine1 4 leaf4 1 10
+link s2l1 spine2 1 leaf1 2 10
+link s2l2 spine2 2 leaf2 2 10
+link s2l3 spine2 3 leaf3 2 10
+link s2l4 spine2 4 leaf4 2 10
+# Red, I-SID 1001 in VID 10, has ports at leaf1 and leaf3; blue, I-SID 1002 in VID 20, at leaf2, leaf3 and leaf4.
+isid 1001 10
+isid 1002 20
+attach leaf1 1 1001
+attach leaf3 1 1001
+attach leaf2 1 1002
+attach leaf3 2 1002
+attach leaf4 1 1002
+round 40
+state
+# Red goes over spine1, blue over spine2. Of the g lines of a spine, those of VID 10 lead red's leaves to each other and
+# those of VID 20 blue's; no line leads from one tenant to the other.
+path leaf1 leaf3 10
+path leaf2 leaf4 20
+show spine1
+show spine2
+# Spine1 fails: red goes over spine2 as well, and blue doesn't notice.
+down s1l1
+down s1l2
+down s1l3
+down s1l4
+round 40
+state
+path leaf1 leaf3 10
+path leaf2 leaf4 20
+show spine2
+";
+
+/// `two-tenants.out`.
+const TWO_TENANTS_OUT: &str = "state quiet
+path leaf1 leaf3 10 20 2 leaf1 spine1 leaf3
+path leaf2 leaf4 20 20 2 leaf2 spine2 leaf4
+show spine1 quiet 10 2
+u 10 020000000001 1
+u 10 020000000002 2
+u 10 020000000003 3
+u 10 020000000004 4
+u 10 020000000102 1
+u 20 020000000001 1
+u 20 020000000002 2
+u 20 020000000003 3
+u 20 020000000004 4
+u 20 020000000102 4
+g 10 0300010003e9 3
+g 10 0300030003e9 1
+show spine2 quiet 10 3
+u 10 020000000001 1
+u 10 020000000002 2
+u 10 020000000003 3
+u 10 020000000004 4
+u 10 020000000101 1
+u 20 020000000001 1
+u 20 020000000002 2
+u 20 020000000003 3
+u 20 020000000004 4
+u 20 020000000101 4
+g 20 0300020003ea 3,4
+g 20 0300030003ea 2,4
+g 20 0300040003ea 2,3
+state quiet
+path leaf1 leaf3 10 20 2 leaf1 spine2 leaf3
+path leaf2 leaf4 20 20 2 leaf2 spine2 leaf4
+show spine2 quiet 8 5
+u 10 020000000001 1
+u 10 020000000002 2
+u 10 020000000003 3
+u 10 020000000004 4
+u 20 020000000001 1
+u 20 020000000002 2
+u 20 020000000003 3
+u 20 020000000004 4
+g 10 0300010003e9 3
+g 10 0300030003e9 1
+g 20 0300020003ea 3,4
+g 20 0300030003ea 2,4
+g 20 0300040003ea 2,3
+";
+
 /// `two-ways.spb`.
 const TWO_WAYS: &str =
     "# Two spines and two leaves. Each base VID goes over a spine of its own, there and back, also after a link fails.
@@ -367,6 +465,7 @@ fn each_example_is_answered_as_beside_it(rt: HostRuntime) -> Result<(), Fail> {
         (LOST_HELLOS, Status::Done, LOST_HELLOS_OUT),
         (QUIET_DRILL, Status::Done, QUIET_DRILL_OUT),
         (RESTART_DRILL, Status::Done, RESTART_DRILL_OUT),
+        (TWO_TENANTS, Status::Done, TWO_TENANTS_OUT),
         (TWO_WAYS, Status::Done, TWO_WAYS_OUT),
         (UNDECLARED_BRIDGE, undeclared, UNDECLARED_BRIDGE_OUT),
     ] {
