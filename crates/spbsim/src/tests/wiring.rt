@@ -87,3 +87,46 @@ path B B 10 0 0 B
 ",
     )
 }
+
+/// Six bridges in a ring, five of which have a member of one service, and the first has two.
+const RING: &str = "vid 10 1
+bridge A 32768 020000000001 00001 2
+bridge B 32768 020000000002 00002 2
+bridge C 32768 020000000003 00003 2
+bridge D 32768 020000000004 00004 2
+bridge E 32768 020000000005 00005 2
+bridge F 32768 020000000006 00006 2
+link L1 A 1 B 2 10
+link L2 B 1 C 2 10
+link L3 C 1 D 2 10
+link L4 D 1 E 2 10
+link L5 E 1 F 2 10
+link L6 F 1 A 2 10
+isid 100 10
+attach A 1 100
+attach A 2 100
+attach B 1 100
+attach C 1 100
+attach D 1 100
+attach E 1 100
+";
+
+#[test]
+fn group_rows_lead_to_the_members_of_a_service(rt: HostRuntime) -> Result<(), Fail> {
+    check_done(
+        &rt,
+        rt.alloc(),
+        RING,
+        "round 40\nshow A\n",
+        "show A quiet 5 3
+u 10 020000000002 1
+u 10 020000000003 1
+u 10 020000000004 1
+u 10 020000000005 2
+u 10 020000000006 2
+g 10 030001000064 1,2
+g 10 030002000064 2
+g 10 030005000064 1
+",
+    )
+}
