@@ -1,14 +1,15 @@
 //! Least paths: the tree of best paths from a bridge under an ECT mask (IEEE 802.1aq, 28.5 to 28.8).
 //!
-//! [`Roads`] are made once for all trees of a graph, in O(V + E) steps for V bridges and E edges: they keep the places of
-//! the bridges, and the arcs from each. [`tree_from`] makes roads, over a copy of the graph, for one tree alone.
-//! [`Roads::tree`] settles the bridges in order of cost: each bridge once, and with it the arcs that lead from it. The
-//! frontier is an array of the bridges that wait, in no order: to take out one that costs least, or another, takes a look
-//! at each, up to V. So a tree takes a look at each arc, and O(V) steps for each bridge that is settled and for each label
-//! that improves, with a copy of its path. Ids are compared only where cost and hops tie, and only those behind the fork
-//! of the two paths are masked and put in order; where that are one or two of each, as mostly, without memory. Bridges are
-//! found by a hash of the system id, and where many ids fall together by a scan of the graph's list. A tree keeps each of
-//! its paths whole; [`Tree::path_to`] looks for the one that ends at the bridge, and copies it.
+//! [`Roads`] are made once for all trees of a graph, in O(V + E) steps for V bridges and E edges: they keep the
+//! places of the bridges, and the arcs from each. [`tree_from`] makes roads, over a copy of the graph, for one tree
+//! alone. [`Roads::tree`] settles the bridges in order of cost: each bridge once, and with it the arcs that lead from
+//! it. The frontier is an array of the bridges that wait, in no order: to take out one that costs least, or another,
+//! takes a look at each, up to V. So a tree takes a look at each arc, and O(V) steps for each bridge that is settled
+//! and for each label that improves, with a copy of its path. Ids are compared only where cost and hops tie, and only
+//! those behind the fork of the two paths are masked and put in order; where that are one or two of each, as mostly,
+//! without memory. They are looked for at the places that labels guess, and other bridges by a hash of the system id;
+//! where a guess fails by the hash, and where many ids fall together by a scan of the graph's list. A tree keeps each
+//! of its paths whole; [`Tree::path_to`] looks for the one that ends at the bridge, and copies it.
 #![tactic(auto)]
 
 pub use key::{PathKey, compare_keys};
