@@ -134,6 +134,14 @@ u 10 020000000002 1
 g 10 f33013000064 1
 ";
 
+/// All 20 bits of the source of X stand in its group address.
+#[test]
+fn the_wiring_has_the_members(rt: HostRuntime) -> Result<(), Fail> {
+    let alloc = rt.alloc();
+    let text = "wiring X 1 1\nu 10 020000000002 1\ng 10 f33013000064 1\n";
+    check_done(&rt, alloc, SERVED, "wiring X\n", text)
+}
+
 #[test]
 fn what_is_attached_is_a_member(rt: HostRuntime) -> Result<(), Fail> {
     let alloc = rt.alloc();
