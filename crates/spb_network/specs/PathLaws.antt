@@ -50,10 +50,11 @@ pub record SendsTo (g : Graph) (tables : Tables) (vid : Vid) (mac : Mac) (m c : 
   pub sends : has (group_in tables.group vid mac) port ≡ true
 
 -- In the VID of a plan the path from bridge v to bridge w is the best one of the wiring, and that from w to v is the
--- same in reverse; there is neither, or both. Each bridge on it takes frames from v from the bridge before it alone. And
--- where v sends to a service that w receives, each bridge on it sends on what v sends there to the bridge behind it.
+-- same in reverse; there is neither, or both. Each bridge on it takes frames from v from the bridge before it alone.
+-- And where v sends to a service that w receives, each sends on what v sends there to the bridge behind it.
 pub record GoOnePath (s : State) (v w : BridgeView) (plan : VidPlan) : Type 0 where
-  pub best : own_path v w.id.system plan.vid ≡ best_path (world_graph s.world) (mask_of plan.ect) v.id.system w.id.system
+  pub best : own_path v w.id.system plan.vid
+      ≡ best_path (world_graph s.world) (mask_of plan.ect) v.id.system w.id.system
   pub back : own_path w v.id.system plan.vid ≡ option_map turned_path (own_path v w.id.system plan.vid)
   pub takes : (k : ℕ) (x : BridgeView) (m : SystemId) → slice_get s.views k ≡ Some x
       → Follows (world_graph s.world) (mask_of plan.ect) v.id.system w.id.system m x.id.system

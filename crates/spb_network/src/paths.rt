@@ -11,7 +11,7 @@ use spb_types::{Name, NoMemory, Path, Seq, SystemId, Vid, VidPlan};
 use std::alloc::Global;
 
 /// What is planned for the base VID of a number. None exactly where it isn't declared.
-fn plan_of(vids: &[VidPlan], vid: u64) -> Option<&VidPlan>
+fn planned_for(vids: &[VidPlan], vid: u64) -> Option<&VidPlan>
     ensures { option_copied result ≡ find (λ plan. plan.vid.value == vid) vids.now }
 {
     vids.iter().find(|plan| check::is_vid(plan, vid))
@@ -22,7 +22,7 @@ impl World {
     fn declared_vid(&self, vid: u64) -> Option<Vid>
         ensures { result ≡ paths.declared_vid self.now.vids vid }
     {
-        match plan_of(self.vids(), vid) {
+        match planned_for(self.vids(), vid) {
             None => None,
             Some(plan) => Some(plan.vid),
         }
