@@ -40,7 +40,7 @@ use Rattle.fdb_build.specs.Groups.{Sends, Receives, Follows, group_rows}
 use Rattle.fdb_build.proofs.AscendLemmas.{All-has}
 use Rattle.fdb_build.proofs.OnePathLemmas.{one_path, group_leads_on}
 use Rattle.bridge_api.specs.View.{BridgeView}
-use Rattle.bridge_api.specs.Graph.{read_graph, plan_of, own_tables, own_path}
+use Rattle.bridge_api.specs.Graph.{read_graph, planned_for, own_tables, own_path}
 use Rattle.scenario.specs.declared.command.Command.TheVariants as command
 use Rattle.spb_network.specs.declared.declaration.DeclaredBridge.{DeclaredBridge}
 use Rattle.spb_network.specs.World.{World, Bridges, Sound, names_of, things_of, place_of, graph_bridges, system_at, world_graph, wired_tables}
@@ -120,7 +120,7 @@ own_is_wired : (s : State) (i : ℕ) (v : BridgeView) (to : SystemId) (plan : Vi
 unfolding own_path
 own_is_wired s i v to plan rest at planned =
     let shown = (shown_at s i v rest.sound at).1 in
-    let found : plan_of v.vids plan.vid ≡ Some plan = ap (λ (ps : List VidPlan). plan_of ps plan.vid) shown.vids ∙ plan_there s plan rest planned in
+    let found : planned_for v.vids plan.vid ≡ Some plan = ap (λ (ps : List VidPlan). planned_for ps plan.vid) shown.vids ∙ plan_there s plan rest planned in
     ap (option_and_then (λ (q : VidPlan). best_path (read_graph v) (mask_of q.ect) v.id.system to)) found
     ∙ path_there (read_graph v) (world_graph s.world) (mask_of plan.ect) v.id.system to (all_links s v i rest at).valid (valid s.world rest.sound.world) (looks_like_wiring s v i rest at)
 
