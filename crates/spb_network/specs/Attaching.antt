@@ -57,8 +57,8 @@ detach_refusal w i port = reason_unless (is_customer_port port) Range
 
 -- ---- what an accepted command makes
 
--- what can be attached besides what is: it is at a customer port of a declared bridge, where nothing is attached, and in
--- a declared service
+-- what can be attached besides what is: it is at a customer port of a declared bridge, where nothing is attached, and
+-- in a declared service
 pub record IsNewAttachment (w : World) (x : ℕ × Attachment) : Type 0 where
   pub attached : IsAttachedIn w.bridges w.services x
   pub apart : AllByRecursion (λ y. AreAtTwoPorts y x) w.attached

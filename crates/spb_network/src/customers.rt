@@ -1,4 +1,5 @@
-//! Customer ports of the bridges of a network: why one can't be attached or detached, and what an accepted command makes.
+//! Customer ports of the bridges of a network: why one can't be attached or detached, and what an accepted command
+//! makes.
 ghost use Rattle.std.specs.Prelude.{◌≡◌, ◌<◌, None, length, OnOk};
 ghost use Rattle.spb_network.specs.Attaching as attaching;
 ghost use Rattle.spb_network.specs.Refusing as refuse;
