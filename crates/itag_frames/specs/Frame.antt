@@ -48,8 +48,8 @@ length_of frame = u16_at frame 12
 abbrev pub is_to_bridges : List ℕ → Bool
 is_to_bridges frame = bytes_eq (take 6 frame) control_address
 
--- whether such a frame of at least 17 bytes has a PDU: a length of the LLC bytes up to 1,500 that the frame has, and the
--- LLC bytes
+-- whether such a frame of at least 17 bytes has a PDU: a length of the LLC bytes up to 1,500 that the frame has, and
+-- the LLC bytes
 abbrev pub has_pdu : List ℕ → Bool
 has_pdu frame =
     (nat_le 3 (length_of frame) && nat_le (length_of frame) 1500 && nat_le (length_of frame) (length frame - 14))

@@ -1,8 +1,8 @@
 -- What is attached to one bridge, among all that is attached.
-use Rattle.std.proofs.Common.{◌≡◌, ◌≢◌, ◌<◌, ◌+◌, ℕ, suc, Bool, true, false, true≢false, not, ◌&&◌, ◌||◌, ◌==◌, List, [], ◌∷◌, ◌++◌, length, map, filter, take, get_or, nat_lt, nat_le, cond, Some, None, if◌then◌else◌, refl, sym, ap, ◌∙◌, arith}
+use Rattle.std.proofs.Common.{◌≡◌, ◌≢◌, ◌<◌, ◌≤◌, ◌+◌, ℕ, suc, Bool, true, false, true≢false, not, ◌&&◌, ◌||◌, ◌==◌, List, [], ◌∷◌, ◌++◌, length, map, filter, take, get_or, nat_lt, nat_le, cond, Some, None, if◌then◌else◌, refl, sym, ap, ◌∙◌, arith}
 use Rattle.std.specs.Prelude.{nat_eq}
 use Rattle.std.specs.List.{AllByRecursion, list_any, filter_map, cons_option}
-use Rattle.std.proofs.lemmas.Bool.{eqb-true, eq-eqb, ne_eqb}
+use Rattle.std.proofs.lemmas.Bool.{eqb-true, eq-eqb, ne_eqb, le-leb}
 use Rattle.std.proofs.lemmas.Bool.Decides.{nat_tests}
 use Rattle.std.proofs.lemmas.List.{take_more}
 use Rattle.std.proofs.lemmas.List.Elements.{filter_map-append}
@@ -178,6 +178,23 @@ count_more i k xs d first old new low first_is old_is new_is =
     ∙ (ap (λ (n : ℕ). if first then n + 1 else n) old_is
     ∙ (sym (isids_more i (take k xs) (get_or xs k d) first first_is)
     ∙ ap (λ (l : Attachments). length (different_isids (those i l))) (sym (take_more xs k d low))))
+
+-- of fewer ports there are fewer I-SIDs
+different_few : (ns : List ℕ) → length (different ns) ≤ length ns
+different_few [] = omega arith
+different_few (n ∷ ns) = by (list_any (nat_eq n) ns) (different_few ns)
+  where
+    by : (b : Bool) → length (different ns) ≤ length ns → length (if b then different ns else n ∷ different ns) ≤ length (n ∷ ns)
+    by true few = omega (arith, few)
+    by false few = omega (arith, few)
+
+isids_few : (attached : List Attachment) → length (isids_of attached) ≡ length attached
+isids_few [] = refl
+isids_few (a ∷ attached) = ap suc (isids_few attached)
+
+pub room_few : (attached : List Attachment) (isid count : ℕ) → count ≡ length attached → count < 60 → true ≡ has_isid_room attached isid
+unfolding has_isid_room
+room_few attached isid count is few = sym (le-leb _ _ (omega (arith, is, few, different_few (isid ∷ isids_of attached), isids_few attached)))
 
 -- whether there is room, by how many there are
 pub room_old : (i : ℕ) (xs : Attachments) (isid count : ℕ) (member : Bool) → member ≡ is_member xs i isid → member ≡ true → count ≡ length (different_isids (filter_map (attachment_at i) xs)) → nat_le count 60 ≡ has_isid_room (filter_map (attachment_at i) xs) isid

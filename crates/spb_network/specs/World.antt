@@ -105,7 +105,8 @@ live_edge bridges l = if l.live then Some (edge_of bridges l) else None
 abbrev pub member_at : Bridges → ℕ × Attachment → Member
 member_at bridges x = member_of (system_at bridges x.0) x.1
 
--- the actual wiring: all bridges, an edge for each link that is up, and a member for each customer port that is attached
+-- the actual wiring: all bridges, an edge for each link that is up, and a member for each customer port that is
+-- attached
 abbrev pub world_graph : World → Graph
 world_graph w = record {
   bridges = graph_bridges w.bridges;

@@ -109,11 +109,25 @@ fn isid_count(entries: &[(usize, Attachment)], place: usize) -> usize
     count
 }
 
-/// Whether the bridge at a place has at most 60 different I-SIDs, with one more.
+/// How many customer ports of the bridge at a place are attached.
+fn port_count(entries: &[(usize, Attachment)], place: usize) -> usize
+    ensures { result ≡ length (filter_map (state.attachment_at place) entries.now) }
+{
+    entries
+        .iter()
+        .filter_map(|entry| attachment_at(place, entry))
+        .count()
+}
+
+/// Whether the bridge at a place has at most 60 different I-SIDs, with one more. One pass over all that is attached tells
+/// it where fewer than 60 ports of the bridge are.
 #[tactic(auto, unfolding(crate::specs::Attaching::has_isid_room))]
 pub fn has_isid_room(entries: &[(usize, Attachment)], place: usize, isid: u64) -> bool
     ensures { result ≡ attaching.has_isid_room (filter_map (state.attachment_at place) entries.now) isid }
 {
+    if port_count(entries, place) < MOST_ISIDS {
+        return true;
+    }
     let count = isid_count(entries, place);
     if is_member(entries, place, isid) {
         count <= MOST_ISIDS

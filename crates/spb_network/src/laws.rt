@@ -95,10 +95,10 @@ pub fn quiet_paths_are_wired()
     ensures answer { PathIsTrue }
 {}
 
-/// Where a sound network whose sequence numbers are counted is quiet, every bridge has its part of the wiring right, any
-/// two that a walk joins hold the same, and between any two frames go one path. So it is whatever commands were
-/// accepted, at most 120,000 of them. Where `show` says quiet, it has the rows of `wiring`. Some commands lead to a quiet network of two bridges, whose link went
-/// down again.
+/// Where a sound network whose sequence numbers are counted is quiet, every bridge has its part of the wiring right,
+/// any two that a walk joins hold the same, and between any two frames go one path. So it is whatever commands were
+/// accepted, at most 120,000 of them. Where `show` says quiet, it has the rows of `wiring`. Some commands lead to a
+/// quiet network of two bridges, whose link went down again.
 pub fn quiet_can_be_relied_on()
     ensures counted { CountedNetworksTell }
     ensures always { NetworksTell }

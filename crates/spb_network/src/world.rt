@@ -400,7 +400,7 @@ impl World {
     }
 
     /// Why a customer port of the bridge at a place can't be attached to the service of an I-SID, if it can't. It takes
-    /// a pass over all that is attached, and one more for each customer port of the bridge.
+    /// two passes over all that is attached; where 60 ports of the bridge or more are, one more for each of them.
     #[tactic(auto, unfolding(crate::specs::Attaching::attach_refusal))]
     pub fn attach_refusal(&self, place: usize, port: u64, isid: u64) -> Option<Reason>
         ensures { result ≡ attaching.attach_refusal self.now place port isid }
