@@ -46,3 +46,16 @@ length-push (y ∷ ys) x = grind (arith, length-push ys x)
 pub length-things : {T : Type 0} (xs : List (List ℕ × T)) → length (things_of xs) ≡ length xs
 length-things [] = refl
 length-things (x ∷ xs) = grind (arith, length-things xs)
+
+-- where none passes one of three tests, none passes any of them
+pub none_of : {A : Type 0} (p q r : A → Bool) (xs : List A) → list_any (λ x. p x || (q x || r x)) xs ≡ false → (list_any p xs ≡ false) × (list_any q xs ≡ false) × (list_any r xs ≡ false)
+none_of p q r [] none = (refl, refl, refl)
+none_of p q r (x ∷ xs) none = by (p x) (q x) (r x) (none_of p q r xs) none
+  where
+    by : (a b c : Bool) → (list_any (λ y. p y || (q y || r y)) xs ≡ false → (list_any p xs ≡ false) × (list_any q xs ≡ false) × (list_any r xs ≡ false))
+        → ((a || (b || c)) || list_any (λ y. p y || (q y || r y)) xs) ≡ false
+        → ((a || list_any p xs) ≡ false) × ((b || list_any q xs) ≡ false) × ((c || list_any r xs) ≡ false)
+    by true b c rest e = absurd cc
+    by false true c rest e = absurd cc
+    by false false true rest e = absurd cc
+    by false false false rest e = rest e

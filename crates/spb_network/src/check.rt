@@ -1,4 +1,5 @@
-ghost use Rattle.std.specs.Prelude.{◌≡◌, ◌&&◌, ◌==◌, length};
+ghost use Rattle.std.specs.Prelude.{◌≡◌, ◌&&◌, ◌||◌, ◌==◌, length};
+ghost use Rattle.std.specs.List.{list_any};
 ghost use Rattle.spb_network.specs.Declaring as declare;
 ghost use Rattle.spb_network.specs.Services as service;
 ghost use Rattle.spb_network.specs.World as state;
@@ -131,7 +132,7 @@ fn is_free_port(links: &IndexMap<Name, DeclaredLink>, place: usize, port: u64) -
 }
 
 /// Whether neither of two ports has a link.
-pub fn are_free_ports(
+fn are_free_ports(
     links: &IndexMap<Name, DeclaredLink>,
     i: usize,
     port_a: u64,
@@ -146,10 +147,56 @@ pub fn are_free_ports(
 
 /// Whether no link joins the bridges at two places.
 #[tactic(auto, unfolding(crate::specs::Declaring::is_unlinked))]
-pub fn is_unlinked(links: &IndexMap<Name, DeclaredLink>, i: usize, j: usize) -> bool
+fn is_unlinked(links: &IndexMap<Name, DeclaredLink>, i: usize, j: usize) -> bool
     ensures { result ≡ declare.is_unlinked links.now.entries i j }
 {
     !links.values().any(|link| is_between(link, i, j))
+}
+
+/// Whether the link ends at one of two ports or joins their bridges.
+fn is_near(link: &DeclaredLink, i: usize, port_a: u64, j: usize, port_b: u64) -> bool
+    ensures { result ≡ (state.is_at_port link.now i port_a
+        || (state.is_at_port link.now j port_b || state.is_between link.now i j)) }
+{
+    is_at_port(link, i, port_a) || (is_at_port(link, j, port_b) || is_between(link, i, j))
+}
+
+/// Whether some link ends at one of two ports or joins their bridges.
+fn is_any_near(
+    links: &IndexMap<Name, DeclaredLink>,
+    i: usize,
+    port_a: u64,
+    j: usize,
+    port_b: u64,
+) -> bool
+    ensures { result ≡ list_any (λ l. state.is_at_port l i port_a
+        || (state.is_at_port l j port_b || state.is_between l i j)) (state.things_of links.now.entries) }
+{
+    links
+        .values()
+        .any(|link| is_near(link, i, port_a, j, port_b))
+}
+
+/// Whether neither of two ports has a link, and whether no link joins their bridges. One pass tells both where that is
+/// so.
+pub fn are_clear(
+    links: &IndexMap<Name, DeclaredLink>,
+    i: usize,
+    port_a: u64,
+    j: usize,
+    port_b: u64,
+) -> (bool, bool)
+    ensures free { result.0
+        ≡ (declare.is_free_port links.now.entries i port_a && declare.is_free_port links.now.entries j port_b) }
+    ensures unlinked { result.1 ≡ declare.is_unlinked links.now.entries i j }
+{
+    if is_any_near(links, i, port_a, j, port_b) {
+        return (
+            are_free_ports(links, i, port_a, j, port_b),
+            is_unlinked(links, i, j),
+        );
+    }
+    (true, true)
 }
 
 /// The number of ports of the bridge at a place, or 0 past the last bridge.

@@ -369,13 +369,13 @@ impl World {
         ensures { result ≡ declare.link_refusal self.now name i port_a j port_b cost }
     {
         let is_new_name = check::is_new_name(&self.links, name);
-        let are_free = check::are_free_ports(&self.links, i, port_a, j, port_b);
+        let (are_free, is_unlinked) = check::are_clear(&self.links, i, port_a, j, port_b);
         let is_range = check::is_link_range(&self.bridges, i, port_a, j, port_b, cost);
         reason_unless(is_new_name, Reason::NameTaken)
             .or(reason_unless(are_free, Reason::PortUse))
             .or(reason_unless(is_range, Reason::Range))
             .or(reason_unless(self.links.len() < MOST_LINKS, Reason::TooMany))
-            .or(reason_unless(check::is_unlinked(&self.links, i, j), Reason::AlreadyLinked))
+            .or(reason_unless(is_unlinked, Reason::AlreadyLinked))
     }
 
     /// Whether no service of this I-SID is declared.
