@@ -1,5 +1,5 @@
 //! The tests of the crates that make bytes, texts and values of one another: `spb_types`, `spb_outside`, `isis_pdu`,
-//! `spb_tlvs`, `itag_frames`, `spb_content`, `scenario`, `adjacency` and `report`. One module tests one crate.
+//! `spb_tlvs`, `itag_frames`, `spb_content`, `scenario`, `scenario_maker`, `adjacency` and `report`. One module tests one crate.
 //!
 //! Nothing else stands here, and nothing stands on this crate. A crate with tests is proved twice, with and without
 //! them; so those of the lower crates, which see them from outside, stand above them.
@@ -15,6 +15,8 @@ mod fixtures;
 mod frames;
 #[cfg(test)]
 mod lines;
+#[cfg(test)]
+mod made;
 #[cfg(test)]
 mod pdus;
 #[cfg(test)]
