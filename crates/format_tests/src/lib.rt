@@ -1,5 +1,6 @@
 //! The tests of the crates that make bytes, texts and values of one another: `spb_types`, `spb_outside`, `isis_pdu`,
-//! `spb_tlvs`, `itag_frames`, `spb_content`, `scenario`, `scenario_maker`, `adjacency` and `report`. One module tests one crate.
+//! `spb_tlvs`, `itag_frames`, `spb_content`, `scenario`, `scenario_maker`, `adjacency` and `report`. One module tests
+//! one crate.
 //!
 //! Nothing else stands here, and nothing stands on this crate. A crate with tests is proved twice, with and without
 //! them; so those of the lower crates, which see them from outside, stand above them.

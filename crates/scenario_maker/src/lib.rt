@@ -14,7 +14,10 @@ mod services;
 ghost use Rattle.std.specs.Prelude.{◌≡◌, ◌≤◌, IfOk};
 ghost use Rattle.scenario_maker.specs.Made.{made};
 
-pub use laws::scripts_are_long;
+pub use laws::{
+    chords_join_no_neighbours, members_are_apart, names_are_apart, places_are_taken_once,
+    scripts_are_long,
+};
 use scenario::Command;
 use spb_types::NoMemory;
 use std::alloc::Global;
