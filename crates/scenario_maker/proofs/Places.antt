@@ -1,8 +1,8 @@
 -- The places on a ring, and that names tell them.
 use Rattle.std.proofs.Common.{◌≡◌, ◌≢◌, ℕ, ◌+◌, ◌-◌, ◌/◌, ◌≤◌, ◌<◌, Bool, true, false, if◌then◌else◌, nat_lt, ◌∷◌, decimal, refl, ap, subst, drop, get_or, arith, ltb-true, ltb-false}
 use Rattle.std.proofs.lemmas.Fmt.{decimal_injective}
-use Rattle.scenario_maker.specs.Made.{wrapped, next_of, across}
-use Rattle.scenario_maker.specs.Laws.{IsOnRing, MembersAreApart, ChordsAreNoRingLinks, PlacesAreTakenOnce, NamesAreApart}
+use Rattle.scenario_maker.specs.Made.{wrapped, chord_start, next_of, across}
+use Rattle.scenario_maker.specs.Laws.{IsOnRing, MembersAreApart, ChordsAreNoRingLinks, ChordsLeadAcross, PlacesAreTakenOnce, NamesAreApart}
 
 -- where the place m of a ring of n is
 data Wraps (n m w : ℕ) : Type 0 where
@@ -43,6 +43,18 @@ pub chords_are_no_ring_links : ChordsAreNoRingLinks
 chords_are_no_ring_links n k least here = (
   (members_are_apart n k least here).4,
   back_by n k _ _ least here.0 here.1 (wraps n (k + n / 2)) (wraps n (across n k + 1)),
+)
+
+here_by : (n m w : ℕ) → m ≤ n → Wraps n m w → w ≡ m
+here_by n m w le (past p e) = absurd (omega arith)
+here_by n m w le (within p e) = e
+
+pub chords_lead_across : ChordsLeadAcross
+chords_lead_across n i low high = (
+  omega arith,
+  omega arith,
+  here_by n (chord_start i + n / 2) _ (omega arith) (wraps n (chord_start i + n / 2)),
+  λ j some e. omega arith,
 )
 
 -- two places that are as far on from two of the ring

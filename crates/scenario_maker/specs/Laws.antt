@@ -1,6 +1,6 @@
-use Rattle.std.specs.Prelude.{◌≡◌, ◌≢◌, ℕ, ◌+◌, ◌*◌, ◌≤◌, length}
+use Rattle.std.specs.Prelude.{◌≡◌, ◌≢◌, ℕ, ◌+◌, ◌*◌, ◌/◌, ◌≤◌, length}
 use Rattle.spb_types.specs.declared.limits.TheConstants.{MOST_BRIDGES}
-use Rattle.scenario_maker.specs.Made.{made, chord_count, next_of, across, bridge_name, ring_name, chord_name}
+use Rattle.scenario_maker.specs.Made.{made, chord_count, chord_start, next_of, across, bridge_name, ring_name, chord_name}
 
 -- 16 commands for each bridge, one for each chord, and 7 more
 abbrev pub MadeIsLong : Type 0
@@ -22,6 +22,13 @@ MembersAreApart =
 abbrev pub ChordsAreNoRingLinks : Type 0
 ChordsAreNoRingLinks =
     (n k : ℕ) → 4 ≤ n → IsOnRing n k → (across n k ≢ next_of n k) × (next_of n (across n k) ≢ k)
+
+-- a chord leads from the first half of the ring to the second, and no two from one bridge: each bridge has one at most
+abbrev pub ChordsLeadAcross : Type 0
+ChordsLeadAcross =
+    (n i : ℕ) → 1 ≤ i → i ≤ chord_count n
+    → (1 ≤ chord_start i) × (chord_start i ≤ n / 2) × (across n (chord_start i) ≡ chord_start i + n / 2)
+    × ((j : ℕ) → 1 ≤ j → chord_start i ≡ chord_start j → i ≡ j)
 
 -- each bridge is the next one of one bridge, and the one across from one
 abbrev pub PlacesAreTakenOnce : Type 0

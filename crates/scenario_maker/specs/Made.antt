@@ -52,8 +52,11 @@ chord n k = Link (chord_name k) (bridge_name k) 3 (bridge_name (across n k)) 3 2
 abbrev pub chord_count : ℕ → ℕ
 chord_count n = (n / 2 + 2) / 3
 
+abbrev pub chord_start : ℕ → ℕ
+chord_start i = 3 * i - 2
+
 abbrev pub nth_chord : ℕ → ℕ → Command
-nth_chord n i = chord n (3 * i - 2)
+nth_chord n i = chord n (chord_start i)
 
 abbrev pub bridges : ℕ → List Command
 bridges n = map bridge (numbers n)
@@ -95,7 +98,7 @@ attachments n = flat_map (members n) (numbers n)
 
 -- ---- What happens then
 
--- enough rounds for the network to become quiet, and then the tables of each bridge, as they are and as they should be
+-- rounds in which the network should become quiet; then the tables of each bridge, as they are and as they should be
 abbrev pub questions_of : ℕ → List Command
 questions_of k = Show (bridge_name k) ∷ Wiring (bridge_name k) ∷ []
 

@@ -1,5 +1,5 @@
 //! What holds of every script that is made. A law is the contract of a function that does nothing.
-ghost use Rattle.scenario_maker.specs.Laws.{MadeIsLong, MembersAreApart, ChordsAreNoRingLinks, PlacesAreTakenOnce, NamesAreApart};
+ghost use Rattle.scenario_maker.specs.Laws.{MadeIsLong, MembersAreApart, ChordsAreNoRingLinks, ChordsLeadAcross, PlacesAreTakenOnce, NamesAreApart};
 
 /// A script has 16 commands for each bridge, one for each chord, and 7 more.
 pub fn scripts_are_long()
@@ -14,6 +14,11 @@ pub fn members_are_apart()
 /// On a ring of four bridges or more no chord joins neighbours.
 pub fn chords_join_no_neighbours()
     ensures { ChordsAreNoRingLinks }
+{}
+
+/// A chord leads from the first half of the ring to the second, and each bridge has one at most.
+pub fn chords_lead_across()
+    ensures { ChordsLeadAcross }
 {}
 
 /// Each bridge of a ring is the next one of one bridge, and the one across from one.

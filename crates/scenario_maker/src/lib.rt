@@ -15,8 +15,8 @@ ghost use Rattle.std.specs.Prelude.{◌≡◌, ◌≤◌, IfOk};
 ghost use Rattle.scenario_maker.specs.Made.{made};
 
 pub use laws::{
-    chords_join_no_neighbours, members_are_apart, names_are_apart, places_are_taken_once,
-    scripts_are_long,
+    chords_join_no_neighbours, chords_lead_across, members_are_apart, names_are_apart,
+    places_are_taken_once, scripts_are_long,
 };
 use scenario::Command;
 use spb_types::NoMemory;
@@ -25,8 +25,9 @@ use std::alloc::Global;
 /// The commands of the script for `n` bridges, 4 to 96, in order.
 ///
 /// First all is declared: the base VIDs, the bridges, the ring, the chords, the services and their members. Then come
-/// rounds until the network is quiet, the questions, and a frame of each service. A link of the ring fails, and after
-/// as many rounds all is asked again; and so again after a bridge starts anew, with a frame of each service at the end.
+/// rounds in which the network should become quiet, the questions, and a frame of each service. A link of the ring
+/// fails, and after as many rounds all is asked again; and so again after a bridge starts anew, with a frame of each
+/// service at the end. `NoMemory` comes only where no memory was found.
 pub fn make(alloc: Global, n: u8) -> Result<Vec<Command>, NoMemory>
     requires least { 4 ≤ n }
     requires most { n ≤ 96 }
