@@ -98,28 +98,29 @@ attachments n = flat_map (members n) (numbers n)
 
 -- ---- What happens then
 
--- rounds in which the network should become quiet; then the tables of each bridge, as they are and as they should be
+-- the tables of a bridge, as they are and as they should be
 abbrev pub questions_of : ℕ → List Command
 questions_of k = Show (bridge_name k) ∷ Wiring (bridge_name k) ∷ []
 
 abbrev pub questions : ℕ → List Command
 questions n = flat_map questions_of (numbers n)
 
+-- rounds, in which the network should become quiet, and then the questions about each bridge
 abbrev pub settled : ℕ → List Command
 settled n = Round (4 * n + 16) ∷ questions n
 
--- a frame of customer k to all: the group address of all stations, the customer's own, and two bytes
+-- a frame of customer k to all: the broadcast address, the customer's own, and two bytes
 abbrev pub frame_bytes : ℕ → List ℕ
 frame_bytes k = 255 ∷ 255 ∷ 255 ∷ 255 ∷ 255 ∷ 255 ∷ 10 ∷ 0 ∷ 0 ∷ 0 ∷ 0 ∷ k ∷ 8 ∷ 0 ∷ []
 
--- it enters at the first member of service k, and all that comes of it arrives
+-- it enters at the first member of service k, and what comes of it is delivered
 abbrev pub sent : ℕ → List Command
 sent k = Frame (bridge_name k) 1 (frame_bytes k) ∷ Drain 100000 ∷ []
 
 abbrev pub traffic : ℕ → List Command
 traffic n = flat_map sent (numbers n)
 
--- ---- The whole script: what is declared, a calm day, and then a link that fails and a bridge that starts anew
+-- ---- The whole script: all is declared, the network settles, a link fails, and a bridge starts anew
 
 abbrev pub declarations : ℕ → List Command
 declarations n = network n ++ services n ++ attachments n

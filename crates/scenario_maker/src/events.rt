@@ -46,7 +46,7 @@ fn push_settled(script: &mut Vec<Command>, n: u8) -> Result<(), NoMemory>
     Ok(())
 }
 
-/// A frame enters at the first member of service `k`, and all that comes of it arrives.
+/// A frame enters at the first member of service `k`, and what comes of it is delivered.
 fn push_sent(alloc: Global, script: &mut Vec<Command>, k: u8) -> Result<(), NoMemory>
     requires { k < 100 }
     ensures { OnOk result (script.new.items ≡ script.old.items ++ made.sent k) }
