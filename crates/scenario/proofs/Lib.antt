@@ -7,3 +7,4 @@ pub mod LineLaws
 pub mod ColumnLaws
 pub mod Rows
 pub mod Octets
+pub mod HexText

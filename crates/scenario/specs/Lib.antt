@@ -5,3 +5,4 @@ pub mod Grammar
 pub mod Answers
 pub mod Spelling
 pub mod Laws
+pub mod Printing

@@ -14,6 +14,8 @@ mod forms;
 mod keyword;
 mod laws;
 mod line;
+#[tactic(auto, unfolding(crate::specs::Printing::words_of))]
+mod printing;
 mod words;
 
 pub use command::Command;
@@ -21,4 +23,5 @@ pub use error::LineError;
 pub use keyword::{KEYWORDS, Keyword};
 pub use laws::system_ids_are_octets;
 pub use line::{FirstWord, LINE_LIMIT, head, parse_line};
+pub use printing::print_command;
 pub use spb_types::{Dir, Side};
