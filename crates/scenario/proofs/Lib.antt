@@ -8,3 +8,5 @@ pub mod ColumnLaws
 pub mod Rows
 pub mod Octets
 pub mod HexText
+pub mod ValueTexts
+pub mod PrintedLines

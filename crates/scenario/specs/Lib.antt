@@ -4,5 +4,5 @@ pub mod Keywords
 pub mod Grammar
 pub mod Answers
 pub mod Spelling
-pub mod Laws
 pub mod Printing
+pub mod Laws

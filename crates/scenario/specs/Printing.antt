@@ -6,7 +6,7 @@ use Rattle.scenario.specs.declared.command.Command.{Command}
 use Rattle.scenario.specs.declared.command.Command.TheVariants as command
 use Rattle.scenario.specs.declared.keyword.Keyword.TheVariants.{Vid, Bridge, Link, Isid, Attach, Detach, Metric, Down, Up, Restart, Tick, Deliver, Lose, Double, Round, Drain, Frame, State, Show, Wiring, Db, Adj, Path}
 use Rattle.scenario.specs.Keywords.{text_of}
-use Rattle.scenario.specs.Spelling.{Spells, side_text, dir_text}
+use Rattle.scenario.specs.Spelling.{side_text, dir_text}
 
 -- a hexadecimal digit, in lower case
 abbrev pub hex_digit : ℕ → ℕ
@@ -59,7 +59,3 @@ joined (word ∷ words) = word ++ flat_map spaced words
 -- the line that is printed for a command, without its end
 abbrev pub command_text : Command → List ℕ
 command_text c = joined (words_of c)
-
--- What is printed for a command that a line spells, spells that command.
-abbrev pub PrintedSpells : Type 0
-PrintedSpells = (line : List ℕ) (c : Command) → Spells line c → Spells (command_text c) c
