@@ -315,6 +315,7 @@ fn put_path(text: &mut Text, from: Name, to: Name, vid: u64) -> Result<(), NoMem
     text.number(vid)
 }
 
+/// The words of a command, by its form.
 fn put_command(text: &mut Text, command: &Command) -> Result<(), NoMemory>
     ensures { OnOk result (text.new ≡ text.old ++ command_text command.now) }
 {
