@@ -6,7 +6,8 @@
 //! more than 8,192 bytes is refused before it is looked at. Only the bytes of a frame take memory.
 //!
 //! `print_command` is the way back: the line of a command, with single spaces, numbers without leading zeros and
-//! lower-case digits. What is printed for a command that some line spells, is read as that command.
+//! lower-case digits. What is printed for a command that some line spells, is read as that command, if memory is found
+//! for a frame.
 #![tactic(auto)]
 
 mod command;

@@ -366,7 +366,8 @@ fn put_command(text: &mut Text, command: &Command) -> Result<(), NoMemory>
 /// The line of a command, without its end: its keyword and its values, with a single space between two words, numbers
 /// without leading zeros, and hexadecimal digits in lower case. `NoMemory` where no memory was found for it.
 ///
-/// `parse_line` reads back what is printed for a command that a line spells.
+/// What is printed for a command that some line spells, `parse_line` reads as that command, if memory is found for a
+/// frame.
 pub fn print_command(alloc: Global, command: &Command) -> Result<Vec<u8>, NoMemory>
     ensures { IfOk result (λ text. text.items ≡ command_text command.now) }
 {
