@@ -1,5 +1,6 @@
 //! Tests of `scenario`.
-use scenario::{Command, FirstWord, KEYWORDS, Keyword, LineError, head, parse_line};
+use scenario::{Command, FirstWord, KEYWORDS, Keyword, LineError, head, parse_line, print_command};
+use spb_types::NoMemory;
 use std::alloc::Global;
 use std::process::Abort;
 
@@ -52,6 +53,38 @@ adj A|Adj(A)
 adj\tA|Adj(A)
 path A B 10|Path { from: A, to: B, vid: 10 }
 path A\tA  0010 |Path { from: A, to: A, vid: 10 }";
+
+// Lines, and what is printed for their commands: a line of each form with tabs, more blanks, leading zeros and digits in
+// upper case, and the least and the greatest values.
+const PRINTED: &str = "\
+\tvid\t 0000004094   0\t |vid 4094 0
+ bridge a-b_C9  9999999999\t0A1b2C3d4E5F FfFfF 0 |bridge a-b_C9 9999999999 0a1b2c3d4e5f fffff 0
+bridge A 0032768 FFFFFFFFFFFF 0a0B1 032|bridge A 32768 ffffffffffff 0a0b1 32
+bridge A 0 000000000000 00000 00|bridge A 0 000000000000 00000 0
+link link vid 001\t\tvid 002 16777214\t|link link vid 1 vid 2 16777214
+isid\t0016777215 \t4094|isid 16777215 4094
+  attach  B1 064 0000000001  |attach B1 64 1
+detach\tA\t01\t|detach A 1
+metric   L\tb 0005 |metric L b 5
+metric L a 0000000000|metric L a 0
+\tdown abcdefghijklmnop |down abcdefghijklmnop
+up \t L2|up L2
+restart\tA |restart A
+  tick  A  |tick A
+deliver\tL\tba\t|deliver L ba
+deliver  L  ab|deliver L ab
+ lose L ba 0001023 |lose L ba 1023
+double L\tab\t00 |double L ab 0
+\tround 0000000020\t|round 20
+drain   1000000 |drain 1000000
+frame\tA 01  0aBC\t|frame A 1 0abc
+frame A 010 000102030405060708090A0B0C0DFEFF|frame A 10 000102030405060708090a0b0c0dfeff
+\t state |state
+show  A\t|show A
+ wiring\tA|wiring A
+db A |db A
+adj\tA|adj A
+path A\tA  0010 |path A A 10";
 
 // Lines outside the grammar, each behind the column of the first word that doesn't fit. For each form: a wrong word at
 // each place, a missing word, an extra one, and the keyword in upper case.
@@ -231,6 +264,38 @@ fn check_spelled(rt: &impl Abort, alloc: Global, row: &str) {
 fn spelled_lines_give_their_commands(rt: HostRuntime) {
     for row in SPELLED.lines() {
         check_spelled(&rt, rt.alloc(), row);
+    }
+}
+
+/// What is printed for a command, under no contract.
+fn printed(alloc: Global, command: &Command) -> Result<Vec<u8>, NoMemory> {
+    print_command(alloc, command)
+}
+
+/// The line gives a command for which this is printed, and that is read as the same command.
+fn check_printed(rt: &impl Abort, alloc: Global, line: &str, expected: &str) {
+    let command = parsed(alloc, line.as_bytes()).expect(rt, line);
+    let command = command.expect(rt, line);
+    let text = printed(alloc, &command).expect(rt, "out of memory");
+    assert_eq!(*rt; text.as_slice(), expected.as_bytes());
+    let again = parsed(alloc, text.as_slice()).expect(rt, expected);
+    let again = again.expect(rt, expected);
+    let found = format!(in alloc; "{again:?}").expect(rt, "out of memory");
+    let meant = format!(in alloc; "{command:?}").expect(rt, "out of memory");
+    assert_eq!(*rt; found.as_str(), meant.as_str());
+}
+
+/// The row is a line and what is printed for its command, which is printed so again.
+fn check_printed_row(rt: &impl Abort, alloc: Global, row: &str) {
+    let (line, expected) = row.split_once('|').expect(rt, "a row");
+    check_printed(rt, alloc, line, expected);
+    check_printed(rt, alloc, expected, expected);
+}
+
+#[test]
+fn printed_commands_are_read_back(rt: HostRuntime) {
+    for row in PRINTED.lines() {
+        check_printed_row(&rt, rt.alloc(), row);
     }
 }
 

@@ -7,3 +7,6 @@ pub mod LineLaws
 pub mod ColumnLaws
 pub mod Rows
 pub mod Octets
+pub mod HexText
+pub mod ValueTexts
+pub mod PrintedLines

@@ -4,4 +4,5 @@ pub mod Keywords
 pub mod Grammar
 pub mod Answers
 pub mod Spelling
+pub mod Printing
 pub mod Laws

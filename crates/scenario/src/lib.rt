@@ -4,6 +4,10 @@
 //! left to right, once; `head` reads the first word alone. Both take time in proportion to the line: each byte of a
 //! word is looked at a few times, and the first word is compared with the keywords, of which there are 23. A line of
 //! more than 8,192 bytes is refused before it is looked at. Only the bytes of a frame take memory.
+//!
+//! `print_command` is the way back: the line of a command, with single spaces, numbers without leading zeros and
+//! lower-case digits. What is printed for a command that some line spells, is read as that command, if memory is found
+//! for a frame.
 #![tactic(auto)]
 
 mod command;
@@ -14,11 +18,14 @@ mod forms;
 mod keyword;
 mod laws;
 mod line;
+#[tactic(auto, unfolding(crate::specs::Printing::words_of))]
+mod printing;
 mod words;
 
 pub use command::Command;
 pub use error::LineError;
 pub use keyword::{KEYWORDS, Keyword};
-pub use laws::system_ids_are_octets;
+pub use laws::{printed_lines_spell, system_ids_are_octets};
 pub use line::{FirstWord, LINE_LIMIT, head, parse_line};
+pub use printing::print_command;
 pub use spb_types::{Dir, Side};
