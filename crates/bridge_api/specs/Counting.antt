@@ -18,7 +18,7 @@ use Rattle.bridge_api.specs.View.{BridgeView}
 use Rattle.bridge_api.specs.Config.{IsWhole, configured}
 use Rattle.bridge_api.specs.Parsing.{Parsed, parsed, is_hello}
 use Rattle.bridge_api.specs.Parsing as parsing
-use Rattle.bridge_api.specs.Step.{Input, second, frame, carrier, metric, attach, detach, step}
+use Rattle.bridge_api.specs.Step.{Input, second, frame, carrier, metric, attach, detach, customer, step}
 use Rattle.bridge_api.specs.Laws.{IsSoundView, claims_of}
 
 -- ---- which ids are held
@@ -46,6 +46,7 @@ lsp_of (carrier p on) = None
 lsp_of (metric p m) = None
 lsp_of (attach a) = None
 lsp_of (detach p) = None
+lsp_of (customer p bytes) = None
 
 -- what stands under an id after these claims, and this LSP if one came in: version and body stay; or those of the LSP
 -- are stored; or a version with the number of what was held is claimed that is another one, and it is dead at that
@@ -93,6 +94,7 @@ is_claiming (carrier p on) = false
 is_claiming (metric p m) = false
 is_claiming (attach a) = false
 is_claiming (detach p) = false
+is_claiming (customer p bytes) = false
 
 -- an own LSP after such a frame: its version stays; or a claim of it was answered that differs from what was held and
 -- has no lower number, and it stands one number further than the claim at most (ISO/IEC 10589, 7.3.16.1)
@@ -115,6 +117,7 @@ gain_of (carrier p on) = if on then 0 else 1
 gain_of (metric p m) = 1
 gain_of (attach a) = 1
 gain_of (detach p) = 1
+gain_of (customer p bytes) = 0
 
 abbrev pub StepsOriginate : Type 0
 StepsOriginate = (input : Input) (v : BridgeView) (id : LspId) → IsOwnNumber v.id.system id → IsSoundView v

@@ -12,7 +12,7 @@ use Rattle.bridge_api.specs.View.{BridgeView}
 use Rattle.bridge_api.specs.Config.{configured}
 use Rattle.bridge_api.specs.Parsing.{parsed}
 use Rattle.bridge_api.specs.Parsing as parsing
-use Rattle.bridge_api.specs.Step.{Input, second, frame, carrier, metric, attach, detach, step, sent}
+use Rattle.bridge_api.specs.Step.{Input, second, frame, carrier, metric, attach, detach, customer, step, sent}
 
 -- of a system: at most k LSPs are held, the own one is at number k at most, and the sequence numbers aren't spent
 pub record Within (k : ℕ) (system : SystemId) (db : Lsps) (spent : Bool) : Type 0 where
@@ -31,6 +31,7 @@ IsHelloAlone (carrier p on) = ⊤
 IsHelloAlone (metric p m) = ⊤
 IsHelloAlone (attach a) = ⊤
 IsHelloAlone (detach p) = ⊤
+IsHelloAlone (customer p bytes) = ⊤
 
 -- a configured bridge holds its own LSP at number 1
 abbrev pub ConfiguredHoldsFew : Type 0

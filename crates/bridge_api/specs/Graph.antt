@@ -31,14 +31,9 @@ use Rattle.spb_content.specs.Building.{said_graph}
 use Rattle.fdb_build.specs.Tables.{unicast_rows}
 use Rattle.fdb_build.specs.Groups.{group_rows}
 use Rattle.bridge_api.specs.View.{BridgeView, metrics_of, is_up_at, neighbour_at}
+pub use Rattle.bridge_api.specs.Tables.{live_content, read_entry, contents_of, read_graph, own_tables}
 use Rattle.bridge_api.specs.Own.{member_of, local_of}
 use Rattle.bridge_api.specs.Laws.{IsSoundView}
-
--- what an LSP of this version and body says, if it is live
-abbrev pub live_content : Version → List ℕ → Option Content
-live_content Absent body = None
-live_content (Live seq sum) body = Some (content_in (tlvs_of_body body))
-live_content (Dead seq) body = None
 
 abbrev pub content_in_entry : Option Entry → Option Content
 content_in_entry None = None
@@ -47,17 +42,6 @@ content_in_entry (Some e) = live_content e.version e.body
 -- what is held of a system says, if its LSP is live
 abbrev pub content_held : Lsps → SystemId → Option Content
 content_held db x = content_in_entry (get db (own_id x))
-
--- of what is held, the LSPs that systems originate are read: pseudonode and number are 0
-abbrev pub read_entry : LspId × Entry → Option (SystemId × Content)
-read_entry held =
-    if is_originated held.0.system held.0
-    then option_map (λ c. (held.0.system, c)) (live_content held.1.version held.1.body)
-    else None
-
--- what a bridge reads of all systems, in order of their ids
-abbrev pub contents_of : BridgeView → Contents
-contents_of v = filter_map read_entry (entries v.database)
 
 -- the graph of a bridge: what it reaches, and nothing where its own LSP isn't live
 abbrev pub IsOwnGraph : BridgeView → Graph → Type 0
@@ -118,17 +102,6 @@ MembersAreSaid = (v : BridgeView) (m : Member)
     → Contains (members_of (v.id.system, said_by (local_of v))) m ↔ IsMemberBy v m
 
 -- ---- its tables
-
--- the graph of all that it reads, reached or not
-abbrev pub read_graph : BridgeView → Graph
-read_graph v = said_graph (contents_of v)
-
--- the tables of a bridge: its unicast rows and its group rows in that graph (IEEE 802.1aq, 8.8 and 28.10)
-unfoldable pub own_tables : BridgeView → Tables
-own_tables v = record {
-  unicast = unicast_rows (read_graph v) v.id.system v.vids;
-  group = group_rows (read_graph v) v.id.system v.vids;
-}
 
 -- what is planned for a VID
 abbrev pub planned_for : List VidPlan → Vid → Option VidPlan

@@ -1,8 +1,5 @@
 -- What hearing a frame, a change of carrier, and setting a metric make of a bridge.
 use Rattle.std.specs.Prelude.{ℕ, List, Bool, true, false, Option, Some, None, Result, Ok, Err, if◌then◌else◌}
-use Rattle.spb_types.specs.declared.address.Mac.{Mac}
-use Rattle.spb_types.specs.declared.service.Vid.{Vid}
-use Rattle.spb_types.specs.declared.service.Isid.{Isid}
 use Rattle.isis_pdu.specs.Pdu.{HelloValue, LspValue, CsnpValue}
 use Rattle.spb_tlvs.specs.declared.error.TlvError.{TlvError}
 use Rattle.spb_tlvs.specs.declared.entries.SnpEntry.{SnpEntry}
@@ -21,6 +18,7 @@ use Rattle.bridge_api.specs.View.{BridgeView, port_at, with_port_at, is_port_up,
 use Rattle.bridge_api.specs.Own.{holding_of, with_holding, originated_if_changed}
 use Rattle.bridge_api.specs.Parsing.{Parsed, parsed}
 use Rattle.bridge_api.specs.Parsing as parsing
+use Rattle.bridge_api.specs.Customers.{forwarded}
 use Rattle.forwarding.specs.declared.drop_reason.DropReason.{DropReason}
 use Rattle.forwarding.specs.declared.drop_reason.DropReason.TheVariants as drop
 
@@ -76,10 +74,6 @@ heard_csnp c entries p v = with_holding (hear_csnp_of (up_ports v) p c.start c.e
 
 abbrev pub heard_psnp : List SnpEntry → ℕ → BridgeView → BridgeView
 heard_psnp entries p v = with_holding (hear_entries_of (up_ports v) p (claims_in entries) (holding_of v)) v
-
--- a bridge to which a customer's frame came over the backbone, at its port number p. This changes nothing yet
-abbrev pub forwarded : Mac → Mac → Vid → Isid → List ℕ → ℕ → BridgeView → BridgeView
-forwarded da sa vid isid customer p v = v
 
 -- sequence numbers PDUs are dropped where their entries can't be read
 abbrev pub with_csnp : CsnpValue → Result (List SnpEntry) TlvError → ℕ → BridgeView → BridgeView

@@ -31,7 +31,8 @@ use Rattle.flooding.specs.Laws.{HasBody}
 use Rattle.snp_sync.specs.Sized.{AreSized}
 use Rattle.snp_sync.specs.Reading.{entries_in}
 use Rattle.snp_sync.specs.Hearing.{claims_in}
-use Rattle.itag_frames.specs.Frame.{control_bytes}
+use Rattle.itag_frames.specs.Frame.{Customer, control_bytes}
+use Rattle.itag_frames.specs.Backbone.{backbone_in}
 use Rattle.spb_content.specs.Local.{IsLocal}
 use Rattle.spb_content.specs.Laws.{HasFields}
 use Rattle.adjacency.specs.Hearing.{End, sender}
@@ -46,7 +47,8 @@ use Rattle.bridge_api.specs.Parsing.{Parsed, hello_in, parsed, is_hello}
 use Rattle.bridge_api.specs.Parsing as parsing
 use Rattle.bridge_api.specs.Hearing.{with_carrier}
 use Rattle.bridge_api.specs.Services.{IsAttachedPort, CanAttach, without_customer_port}
-use Rattle.bridge_api.specs.Step.{Input, second, frame, carrier, metric, attach, detach, step, sent}
+use Rattle.bridge_api.specs.Customers.{IsCustomerFrame}
+use Rattle.bridge_api.specs.Step.{Input, second, frame, carrier, metric, attach, detach, customer, step, sent}
 
 -- a port whose adjacency is sound, with a neighbour of six bytes if it keeps one, where CSNPs are due only if it is Up,
 -- and whose link has a metric
@@ -115,7 +117,8 @@ pub record HoldsOwnAlone (c : BridgeConfig) (v : BridgeView) : Type 0 where
 abbrev pub ConfiguredHoldsOwn : Type 0
 ConfiguredHoldsOwn = (c : BridgeConfig) → HoldsOwnAlone c (configured c)
 
--- what can come to a bridge: a metric is one of a link, and a customer port can be attached so, or is attached
+-- what can come to a bridge: a metric is one of a link; a customer port can be attached so, or is attached; and a
+-- customer's frame enters at one that is
 abbrev pub IsInput : BridgeView → Input → Type 0
 IsInput v second = ⊤
 IsInput v (frame q bytes) = ⊤
@@ -123,6 +126,7 @@ IsInput v (carrier q on) = ⊤
 IsInput v (metric q m) = IsMetric m
 IsInput v (attach a) = CanAttach v a
 IsInput v (detach p) = IsAttachedPort v p
+IsInput v (customer p bytes) = IsAttachedPort v p × IsCustomerFrame bytes
 
 abbrev pub StepsStaySound : Type 0
 StepsStaySound = (input : Input) (v : BridgeView) → IsInput v input → IsSoundView v → IsSoundView (step input v)
@@ -135,6 +139,7 @@ metrics_after (carrier q on) metrics = metrics
 metrics_after (metric q m) metrics = if nat_le 1 q then slice_set metrics (q - 1) m else metrics
 metrics_after (attach a) metrics = metrics
 metrics_after (detach p) metrics = metrics
+metrics_after (customer p bytes) metrics = metrics
 
 -- a customer port is attached and detached by an input that says so, and by nothing else
 abbrev pub attached_after : Input → List Attachment → List Attachment
@@ -144,6 +149,7 @@ attached_after (carrier q on) attached = attached
 attached_after (metric q m) attached = attached
 attached_after (attach a) attached = attached ++ a ∷ []
 attached_after (detach p) attached = without_customer_port p attached
+attached_after (customer p bytes) attached = attached
 
 -- the same bridge: its ids, its VIDs, the number of its ports, their metrics but for one that is set, and what is
 -- attached but for a customer port that is attached or detached
@@ -167,6 +173,7 @@ carrier_after (carrier q on) p was = if p == q then on else was
 carrier_after (metric q m) p was = was
 carrier_after (attach a) p was = was
 carrier_after (detach q) p was = was
+carrier_after (customer q bytes) p was = was
 
 abbrev pub StepsKeepCarrier : Type 0
 StepsKeepCarrier = (input : Input) (v : BridgeView) (p : ℕ) → IsPort v p
@@ -184,6 +191,7 @@ IsHeard (carrier q on) p n = ⊥
 IsHeard (metric q m) p n = ⊥
 IsHeard (attach a) p n = ⊥
 IsHeard (detach q) p n = ⊥
+IsHeard (customer q bytes) p n = ⊥
 
 -- a neighbour that is kept was kept before, or is the end that was just heard
 abbrev pub StepsKeepNeighbours : Type 0
@@ -218,14 +226,15 @@ claims_said (parsing.csnp c) = claims_or_none (entries_in c.tlvs)
 claims_said (parsing.psnp s) = claims_or_none (entries_in s.tlvs)
 claims_said (parsing.customer da sa vid isid customer) = []
 
--- a frame as the bridge with an address writes it: a PDU in a control frame, or a frame of the backbone
+-- a frame as the bridge with an address writes it: a PDU in a control frame, or a frame that carries a customer's, which
+-- another bridge may have written
 pub data IsWritten (sa : Mac) (bytes : List ℕ) : Type 0 where
   writes_hello : (h : HelloValue) → bytes ≡ control_bytes sa (hello_bytes h) → IsWritten sa bytes
   writes_lsp : (l : LspValue) → bytes ≡ control_bytes sa (lsp_bytes l) → IsWritten sa bytes
   writes_csnp : (c : CsnpValue) → bytes ≡ control_bytes sa (csnp_bytes c) → IsWritten sa bytes
   writes_psnp : (s : PsnpValue) → bytes ≡ control_bytes sa (psnp_bytes s) → IsWritten sa bytes
   carries : (da ba : Mac) (vid : Vid) (isid : Isid) (customer : List ℕ)
-      → parsed bytes ≡ parsing.customer da ba vid isid customer
+      → backbone_in bytes ≡ Ok (Customer da ba vid isid customer)
       → IsWritten sa bytes
 
 -- the LSP of what a bridge holds under its id
@@ -247,7 +256,7 @@ pub record IsFrameOf (v : BridgeView) (p : ℕ) (bytes : List ℕ) : Type 0 wher
 -- whatever came in, each frame that a bridge sends is such a one, where the neighbour can be named: a circuit id of
 -- four bytes
 abbrev pub SentIsSound : Type 0
-SentIsSound = (input : Input) (v : BridgeView) (p : ℕ) (bytes : List ℕ) → IsSoundView v
+SentIsSound = (input : Input) (v : BridgeView) (p : ℕ) (bytes : List ℕ) → IsInput v input → IsSoundView v
     → IsNamed (neighbour_at (step input v) p) → IsSent (sent input v) p bytes → IsFrameOf (step input v) p bytes
 
 -- in a second at most one hello is sent at a port
@@ -300,6 +309,7 @@ port_of (carrier p on) = p
 port_of (metric p m) = p
 port_of (attach a) = 0
 port_of (detach p) = 0
+port_of (customer p bytes) = 0
 
 abbrev pub claims_of : Input → List Claim
 claims_of second = []
@@ -308,6 +318,7 @@ claims_of (carrier p on) = []
 claims_of (metric p m) = []
 claims_of (attach a) = []
 claims_of (detach p) = []
+claims_of (customer p bytes) = []
 
 -- no version falls, and the neighbour at each Up port is no further behind
 abbrev pub StepsCarryDatabase : Type 0

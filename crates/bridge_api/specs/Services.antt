@@ -6,7 +6,9 @@ use Rattle.spb_types.specs.declared.service.Isid.{Isid}
 use Rattle.spb_types.specs.declared.service.Attachment.{Attachment}
 use Rattle.spb_types.specs.declared.limits.TheConstants.{MOST_ISIDS}
 pub use Rattle.forwarding.specs.Ports.{is_at_other_port, without_customer_port}
+use Rattle.forwarding.specs.Detaching.{after_detach}
 use Rattle.bridge_api.specs.View.{BridgeView}
+use Rattle.bridge_api.specs.Customers.{tenant_of, with_learned}
 use Rattle.bridge_api.specs.Own.{originated_if_changed}
 use Rattle.bridge_api.specs.Config.{IsAttachment, AgreesWith, different, vids_of}
 
@@ -32,9 +34,15 @@ pub record CanAttach (v : BridgeView) (a : Attachment) : Type 0 where
 unfoldable pub with_attached : List Attachment → BridgeView → BridgeView
 with_attached attached v = originated_if_changed (record v { attached = attached })
 
--- a bridge after a customer port was attached, and after the one of this number was detached
+-- a bridge after a customer port was attached
 abbrev pub with_attachment : Attachment → BridgeView → BridgeView
 with_attachment a v = with_attached (v.attached ++ a ∷ []) v
 
+-- a bridge that forgot what it has learned at a customer port, and, where this is the last one of its I-SID, all that it
+-- has learned in the I-SID (IEEE 802.1Q, 8.7)
+unfoldable pub with_port_forgotten : ℕ → BridgeView → BridgeView
+with_port_forgotten port v = with_learned (after_detach (tenant_of v) port).learned v
+
+-- a bridge after the customer port of this number was detached
 abbrev pub without_attachment : ℕ → BridgeView → BridgeView
-without_attachment port v = with_attached (without_customer_port port v.attached) v
+without_attachment port v = with_attached (without_customer_port port v.attached) (with_port_forgotten port v)

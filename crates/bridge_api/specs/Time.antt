@@ -19,7 +19,7 @@ use Rattle.bridge_api.specs.View.{BridgeView, adjacency_at, neighbour_at, is_up_
 use Rattle.bridge_api.specs.Own.{body_of, own_of, own_entry, body_in}
 use Rattle.bridge_api.specs.Config.{IsWhole, configured}
 use Rattle.bridge_api.specs.Parsing.{parsed, hello_in}
-use Rattle.bridge_api.specs.Step.{Input, second, frame, carrier, metric, attach, detach, step}
+use Rattle.bridge_api.specs.Step.{Input, second, frame, carrier, metric, attach, detach, customer, step}
 use Rattle.bridge_api.specs.Laws.{IsSoundView}
 
 -- a bridge so many seconds later, where nothing else comes to it
@@ -37,6 +37,7 @@ IsSilentAt p (carrier q on) = q ≢ p
 IsSilentAt p (metric q m) = ⊤
 IsSilentAt p (attach a) = ⊤
 IsSilentAt p (detach q) = ⊤
+IsSilentAt p (customer q bytes) = ⊤
 
 -- a bridge after such inputs, of which the first comes first, and how many of them are seconds
 abbrev pub steps : List Input → BridgeView → BridgeView
@@ -51,6 +52,7 @@ seconds_in (carrier q on ∷ inputs) = seconds_in inputs
 seconds_in (metric q m ∷ inputs) = seconds_in inputs
 seconds_in (attach a ∷ inputs) = seconds_in inputs
 seconds_in (detach q ∷ inputs) = seconds_in inputs
+seconds_in (customer q bytes ∷ inputs) = seconds_in inputs
 
 -- where nothing comes to it, a neighbour is kept, in the state that it is in, while some of its holding count is left
 abbrev pub NeighboursAreKept : Type 0

@@ -20,10 +20,11 @@ pub trait Bridge: Drop {
     ghost use Rattle.bridge_api.specs.Shown.{Shown};
     ghost use Rattle.bridge_api.specs.View.{IsPort, is_csnp_due_at, adjacency_at, has_flags, entry_at};
     ghost use Rattle.bridge_api.specs.Config.{IsWhole, IsMetric, configured};
+    ghost use Rattle.bridge_api.specs.Customers.{IsCustomerFrame, after_entry, moved_by_entry, moved_by_receive};
     ghost use Rattle.bridge_api.specs.Hearing.{after_receive, with_carrier, with_metric};
     ghost use Rattle.bridge_api.specs.Services.{IsAttachedPort, CanAttach, attachment_of, with_attachment, without_attachment};
     ghost use Rattle.bridge_api.specs.Ticking.{after_tick, sent_in_tick};
-    ghost use Rattle.bridge_api.specs.Step.{with_wire, Gains};
+    ghost use Rattle.bridge_api.specs.Step.{with_wire, with_moved, Gains, GainsMoved};
     ghost use Rattle.bridge_api.specs.Graph.{own_tables, own_path};
 
     /// What is seen of the box: its kind, whether it is blank, and the bridge in it.
@@ -72,14 +73,40 @@ pub trait Bridge: Drop {
     /// cleared, and where it enters Up every LSP is to be sent there and CSNPs are due. LSPs and sequence numbers PDUs
     /// are heard only at a port that is Up (ISO/IEC 10589, 7.3.15). Afterwards the bridge originates if it has
     /// something else to say.
+    ///
+    /// A backbone frame that comes by the port that leads to its source is relayed and delivered by the bridge's
+    /// tables, and where it is delivered the bridge learns its customer's source (IEEE 802.1ah, 25; IEEE 802.1aq).
     fn receive(&mut self, port: u8, frame: &[u8], outbox: &mut Outbox) -> Result<(), NoMemory>
         requires made { (shown self.old).blank ≡ false }
         requires port { (shown self.old).view.failed ≡ false → IsPort (shown self.old).view port }
         ensures view { OnOk result ((shown self.new).view ≡ after_receive port frame.now (shown self.old).view) }
-        ensures sent { outbox.new ≡ outbox.old }
+        ensures sent { OnOk result
+            (outbox.new ≡ with_moved (moved_by_receive port frame.now (shown self.old).view) outbox.old) }
         ensures memory { OnErr result ((shown self.new).view.failed ≡ true) }
+        ensures gained { OnErr result
+            (GainsMoved (moved_by_receive port frame.now (shown self.old).view) outbox.old outbox.new) }
         ensures failed { (shown self.old).view.failed ≡ true →
-            IsErr result × ((shown self.new).view ≡ (shown self.old).view) }
+            IsErr result × ((shown self.new).view ≡ (shown self.old).view) × (outbox.new ≡ outbox.old) }
+        ensures still_made { (shown self.new).blank ≡ false }
+        ensures kind { (shown self.new).kind ≡ (shown self.old).kind };
+
+    /// A customer's frame, of 14 to 2,000 bytes, enters at a customer port that is attached. The bridge learns where its
+    /// source is, if that is an individual address, and then sends it on towards its destination: at another customer
+    /// port, in a backbone frame to another bridge, or, where the destination is a group address or isn't known, at all
+    /// other ports of its I-SID and to the group address of the own source and the I-SID (IEEE 802.1Q, 8.6 to 8.8; IEEE
+    /// 802.1ah, 25). It is dropped where no port leads to the other bridge.
+    fn customer(&mut self, port: u16, frame: &[u8], outbox: &mut Outbox) -> Result<(), NoMemory>
+        requires made { (shown self.old).blank ≡ false }
+        requires attached { (shown self.old).view.failed ≡ false → IsAttachedPort (shown self.old).view port }
+        requires frame { IsCustomerFrame frame.now }
+        ensures view { OnOk result ((shown self.new).view ≡ after_entry port frame.now (shown self.old).view) }
+        ensures sent { OnOk result
+            (outbox.new ≡ with_moved (moved_by_entry port frame.now (shown self.old).view) outbox.old) }
+        ensures memory { OnErr result ((shown self.new).view.failed ≡ true) }
+        ensures gained { OnErr result
+            (GainsMoved (moved_by_entry port frame.now (shown self.old).view) outbox.old outbox.new) }
+        ensures failed { (shown self.old).view.failed ≡ true →
+            IsErr result × ((shown self.new).view ≡ (shown self.old).view) × (outbox.new ≡ outbox.old) }
         ensures still_made { (shown self.new).blank ≡ false }
         ensures kind { (shown self.new).kind ≡ (shown self.old).kind };
 
@@ -123,7 +150,9 @@ pub trait Bridge: Drop {
         ensures still_made { (shown self.new).blank ≡ false }
         ensures kind { (shown self.new).kind ≡ (shown self.old).kind };
 
-    /// Detaches a customer port that is attached. The bridge originates if it has something else to say.
+    /// Detaches a customer port that is attached. What was learned there is forgotten, and all that was learned in its
+    /// I-SID where it was the last port of this (IEEE 802.1Q, 8.7). The bridge originates if it has something else to
+    /// say.
     fn detach(&mut self, port: u16) -> Result<(), NoMemory>
         requires made { (shown self.old).blank ≡ false }
         requires attached { (shown self.old).view.failed ≡ false → IsAttachedPort (shown self.old).view port }
@@ -217,6 +246,10 @@ impl Bridge for Box<dyn Bridge> {
 
     fn receive(&mut self, port: u8, frame: &[u8], outbox: &mut Outbox) -> Result<(), NoMemory> {
         (**self).receive(port, frame, outbox)
+    }
+
+    fn customer(&mut self, port: u16, frame: &[u8], outbox: &mut Outbox) -> Result<(), NoMemory> {
+        (**self).customer(port, frame, outbox)
     }
 
     fn carrier(&mut self, port: u8, on: bool) -> Result<(), NoMemory> {

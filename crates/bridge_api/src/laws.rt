@@ -1,5 +1,6 @@
 //! What every step of a bridge keeps, whatever comes to it. Each is the contract of a function that does nothing.
 ghost use Rattle.bridge_api.specs.Laws.{ConfiguredIsSound, ConfiguredHasNoCarrier, ConfiguredHoldsOwn, SoundCanSay, StepsStaySound, StepsKeepBridge, StepsKeepCarrier, StepsKeepNeighbours, SentIsSound, OneHello, HellosAreHeard, SentWithCarrier, EnteringUpIsWhole, UpPortsAreUp, StepsCarryDatabase, NeighboursComeUp, SomeBridge};
+ghost use Rattle.bridge_api.specs.Apart.{SentHasEntered, LeftHasEntered, StepsKeepPlaces};
 ghost use Rattle.bridge_api.specs.Duties.{SecondsServe, SecondsLeaveNothingDue};
 ghost use Rattle.bridge_api.specs.Few.{ConfiguredHoldsFew, StepsHoldFew, SecondsSendFew};
 ghost use Rattle.bridge_api.specs.Graph.{ReadsWhatIsHeld, ReadsEachOnce, ReadsItself, ReadsOthers, OwnPortsAreApart, SaysItsNeighbours, MembersAreSaid, CutSaysNothing, SomeGraphIsOwn};
@@ -39,6 +40,17 @@ pub fn frames_are_heard()
     ensures one_hello { OneHello }
     ensures heard { HellosAreHeard }
     ensures carrier { SentWithCarrier }
+{
+    control_again();
+}
+
+/// Service instances don't mix at a bridge. Whatever comes in, each frame that is sent carries, and each that leaves at a
+/// customer port is, byte for byte, one that entered in the same I-SID; and it leaves at a port of that I-SID. What is
+/// learned at a customer port is learned in its I-SID.
+pub fn services_stay_apart()
+    ensures sent { SentHasEntered }
+    ensures left { LeftHasEntered }
+    ensures places { StepsKeepPlaces }
 {
     control_again();
 }
