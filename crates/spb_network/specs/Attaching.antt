@@ -20,6 +20,10 @@ is_declared_isid services isid = is_some (vid_of_isid services isid)
 unfoldable pub is_customer_port : ℕ → Bool
 is_customer_port port = nat_le 1 port && nat_le port MOST_CUSTOMER_PORTS
 
+-- a customer's frame has two addresses and a type, and is no jumbo (IEEE 802.3, 3.1.1)
+unfoldable pub is_customer_frame : List ℕ → Bool
+is_customer_frame bytes = nat_le 14 (length bytes) && nat_le (length bytes) 2000
+
 -- this customer port of the bridge at place i is attached
 abbrev pub is_attached : Attachments → ℕ → ℕ → Bool
 is_attached xs i port = list_any (λ x. (x.0 == i) && (x.1.port == port)) xs
@@ -53,6 +57,11 @@ attach_refusal w i port isid = reason_unless (is_declared_isid w.services isid) 
 -- a customer port of the bridge at place i can't be detached
 unfoldable pub detach_refusal : World → ℕ → ℕ → Option Reason
 detach_refusal w i port = reason_unless (is_customer_port port) Range
+    or reason_unless (is_attached w.attached i port) NotAttached
+
+-- a customer's frame can't enter at a customer port of the bridge at place i
+unfoldable pub entry_refusal : World → ℕ → ℕ → List ℕ → Option Reason
+entry_refusal w i port bytes = reason_unless (is_customer_port port && is_customer_frame bytes) Range
     or reason_unless (is_attached w.attached i port) NotAttached
 
 -- ---- what an accepted command makes

@@ -1,5 +1,5 @@
 -- The events of a network. Each is what one bridge does, or what becomes of one lane or link.
-use Rattle.std.specs.Prelude.{ℕ, zero, suc, ◌+◌, List, [], ◌∷◌, length, Bool, true, false, Option, Some, None, slice_get, if◌then◌else◌}
+use Rattle.std.specs.Prelude.{ℕ, zero, suc, ◌+◌, List, [], ◌∷◌, ◌++◌, length, map, Bool, true, false, Option, Some, None, slice_get, if◌then◌else◌}
 use Rattle.std.specs.Option.{option_map_or}
 use Rattle.link_model.specs.Lane.{Frame, pushed, after_lose, after_double}
 use Rattle.spb_types.specs.declared.link.Dir.{Dir}
@@ -9,12 +9,13 @@ use Rattle.spb_types.specs.declared.service.Attachment.{Attachment}
 use Rattle.spb_types.specs.declared.service.Vid.{Vid}
 use Rattle.bridge_api.specs.Services.{attachment_of}
 use Rattle.bridge_api.specs.Step as comes
-use Rattle.bridge_api.specs.Step.{Input, step, sent}
+use Rattle.bridge_api.specs.Step.{Input, step, sent, left_by}
+use Rattle.spb_network.specs.declared.answer.Out.{Out}
 use Rattle.spb_network.specs.declared.declaration.DeclaredLink.{DeclaredLink}
 use Rattle.spb_network.specs.declared.declaration.LinkEnd.{LinkEnd}
 use Rattle.link_model.specs.declared.lanes.LaneId.{LaneId}
 use Rattle.link_model.specs.Lanes.{rest, no_frames, first_full_from}
-use Rattle.spb_network.specs.World.{vid_of_isid}
+use Rattle.spb_network.specs.World.{World, names_of, vid_of_isid}
 use Rattle.spb_network.specs.Declaring.{end_on, with_live, with_end_metric}
 use Rattle.spb_network.specs.Attaching.{with_attachment_at, without_attachment_at}
 use Rattle.spb_types.specs.Places.{changed_at}
@@ -32,10 +33,19 @@ abbrev pub sent_all : State → ℕ → List (ℕ × Frame) → State
 sent_all s i [] = s
 sent_all s i (f ∷ fs) = sent_all (sent_over s (lane_out (links_of s) i f.0) f.1) i fs
 
--- something comes to the bridge at place i, and what it sends is on its way at once
+-- frames that leave a bridge of this name, each at a customer port
+abbrev pub outs_at : Option (List ℕ) → List (ℕ × Frame) → List Out
+outs_at None frames = []
+outs_at (Some name) frames = map (λ f. record { bridge = name; port = f.0; frame = f.1 }) frames
+
+-- frames left the bridge at place i
+abbrev pub left_all : State → ℕ → List (ℕ × Frame) → State
+left_all s i frames = record s { outs = s.outs ++ outs_at (slice_get (names_of s.world.bridges) i) frames }
+
+-- something comes to the bridge at place i: what it sends is on its way at once, and what leaves has left
 unfoldable pub stepped : Input → State → ℕ → State
-stepped input s i = sent_all (record s { views = changed_at (step input) s.views i }) i
-    (option_map_or (sent input) (slice_get s.views i) [])
+stepped input s i = left_all (sent_all (record s { views = changed_at (step input) s.views i }) i
+    (option_map_or (sent input) (slice_get s.views i) [])) i (option_map_or (left_by input) (slice_get s.views i) [])
 
 -- a second of the bridge at place i
 abbrev pub ticked : State → ℕ → State
@@ -104,6 +114,10 @@ port_attached s i port isid = attached_in_found s i port isid (vid_of_isid s.wor
 -- a customer port of the bridge at place i is detached
 unfoldable pub port_detached : State → ℕ → ℕ → State
 port_detached s i port = stepped (comes.detach port) (record s { world = without_attachment_at s.world i port }) i
+
+-- a customer's frame enters at a customer port of the bridge at place i
+abbrev pub frame_entered : State → ℕ → ℕ → Frame → State
+frame_entered s i port bytes = stepped (comes.customer port bytes) s i
 
 -- both lanes of the link at place k lose their frames
 abbrev pub flushed : State → ℕ → State

@@ -7,6 +7,7 @@ use Rattle.scenario.specs.declared.command.Command.{Command}
 use Rattle.scenario.specs.declared.command.Command.TheVariants as command
 use Rattle.spb_types.specs.declared.link.Dir.{Dir}
 use Rattle.bridge_api.specs.Config.{IsMetric}
+use Rattle.bridge_api.specs.Customers.{IsCustomerFrame}
 use Rattle.spb_network.specs.declared.declaration.DeclaredLink.{DeclaredLink}
 use Rattle.spb_network.specs.declared.declaration.LinkEnd.{LinkEnd}
 use Rattle.spb_network.specs.declared.reason.Reason.{Reason}
@@ -50,6 +51,7 @@ NamesUnknown w (command.Link name a port_a b port_b cost) = (¬ IsNamed a w.brid
 NamesUnknown w (command.Isid isid vid) = ¬ IsVidOf w vid
 NamesUnknown w (command.Attach bridge port isid) = (¬ IsNamed bridge w.bridges) ⊎ (¬ IsIsidOf w isid)
 NamesUnknown w (command.Detach bridge port) = ¬ IsNamed bridge w.bridges
+NamesUnknown w (command.Frame bridge port bytes) = ¬ IsNamed bridge w.bridges
 NamesUnknown w (command.Metric link side m) = ¬ IsNamed link w.links
 NamesUnknown w (command.Down link) = ¬ IsNamed link w.links
 NamesUnknown w (command.Up link) = ¬ IsNamed link w.links
@@ -131,6 +133,7 @@ IsOutOfRange w (command.Link name a port_a b port_b cost) =
 IsOutOfRange w (command.Isid isid vid) = ¬ IsIsid isid
 IsOutOfRange w (command.Attach bridge port isid) = ¬ IsCustomerPort port
 IsOutOfRange w (command.Detach bridge port) = ¬ IsCustomerPort port
+IsOutOfRange w (command.Frame bridge port bytes) = ¬ (IsCustomerPort port × IsCustomerFrame bytes)
 IsOutOfRange w (command.Metric link side m) = ¬ IsMetric m
 IsOutOfRange w (command.Round n) = ¬ ((1 ≤ n) × (n ≤ MOST_ROUNDS))
 IsOutOfRange w (command.Drain n) = ¬ ((1 ≤ n) × (n ≤ MOST_DELIVERIES))
@@ -180,9 +183,10 @@ abbrev pub AttachesAgain : World → Command → Type 0
 AttachesAgain w (command.Attach bridge port isid) = HoldsAt bridge w.bridges (λ i. HasAttached w i port)
 AttachesAgain w _ = ⊥
 
-abbrev pub DetachesNone : World → Command → Type 0
-DetachesNone w (command.Detach bridge port) = HoldsAt bridge w.bridges (λ i. ¬ HasAttached w i port)
-DetachesNone w _ = ⊥
+abbrev pub LacksAttached : World → Command → Type 0
+LacksAttached w (command.Detach bridge port) = HoldsAt bridge w.bridges (λ i. ¬ HasAttached w i port)
+LacksAttached w (command.Frame bridge port bytes) = HoldsAt bridge w.bridges (λ i. ¬ HasAttached w i port)
+LacksAttached w _ = ⊥
 
 -- 11: no frame stands at that place of the lane
 abbrev pub LacksFrame : State → List ℕ → Dir → ℕ → Type 0
@@ -220,7 +224,7 @@ Holds s c AlreadyLinked = LinksAgain s.world c
 Holds s c AlreadyUp = RaisesAgain s.world c
 Holds s c AlreadyDown = CutsAgain s.world c
 Holds s c Attached = AttachesAgain s.world c
-Holds s c NotAttached = DetachesNone s.world c
+Holds s c NotAttached = LacksAttached s.world c
 Holds s c NoFrame = NamesNoFrame s c
 Holds s c RackSpent = LacksBox s c
 Holds s c TooLate = ComesLate s.world c

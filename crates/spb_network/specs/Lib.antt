@@ -27,3 +27,4 @@ pub mod Counted
 pub mod CountedLaws
 pub mod RestartLaws
 pub mod Telling
+pub mod Isolation

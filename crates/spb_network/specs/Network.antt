@@ -23,6 +23,7 @@ module _ {B : Type 0} (shown : B → Shown) where
     world = n.world;
     views = views_of shown n.boxes.items;
     lanes = n.lanes;
+    outs = n.outs.items;
     rounds = n.rounds;
     drained = n.drained;
     accepted = n.accepted;

@@ -14,7 +14,7 @@ use Rattle.spb_network.specs.Declaring.{plan_of, bridge_of, link_of, with_vid, w
 use Rattle.spb_network.specs.Services.{service_of, with_service}
 use Rattle.link_model.specs.Lanes.{no_frames}
 use Rattle.spb_network.specs.State.{State}
-use Rattle.spb_network.specs.Events.{ticked, delivered, lost, doubled, with_metrics_over, with_metric_changed, port_attached, port_detached, switched_on, switched_off, rounds, drained}
+use Rattle.spb_network.specs.Events.{ticked, delivered, lost, doubled, with_metrics_over, with_metric_changed, port_attached, port_detached, frame_entered, switched_on, switched_off, rounds, drained}
 use Rattle.spb_network.specs.Questions.{Question, question_of, answer_at, asks_network}
 use Rattle.spb_network.specs.Quiet.{failing}
 use Rattle.spb_network.specs.Refusing.{box_for}
@@ -101,6 +101,7 @@ played s (command.Tick name) = at_bridge ticked s name
 played s (command.Deliver name dir) = at_link (λ t k. delivered t k dir) s name
 played s (command.Lose name dir place) = at_link (λ t k. lost t k dir place) s name
 played s (command.Double name dir place) = at_link (λ t k. doubled t k dir place) s name
+played s (command.Frame name port bytes) = at_bridge (λ t i. frame_entered t i port bytes) s name
 played s (command.Round n) = with_rounds n s
 played s (command.Drain n) = with_drain n s
 played s _ = s
@@ -109,9 +110,9 @@ played s _ = s
 abbrev pub next_count : ℕ → ℕ
 next_count n = min (n + 1) 18446744073709551615
 
--- one accepted command more
+-- one accepted command more, and what left in it is answered
 abbrev pub counted : State → State
-counted s = record s { accepted = next_count s.accepted }
+counted s = record s { accepted = next_count s.accepted; outs = [] }
 
 -- the state after an accepted command
 unfoldable pub next_state : State → Command → State
@@ -127,11 +128,7 @@ abbrev pub answer_to : State → Option Question → Answer
 answer_to s None = Silent
 answer_to s (Some q) = answer_at_found s (Some q) (place_of q.bridge s.world.bridges)
 
--- no customer frame leaves
-abbrev pub no_outs : Answer
-no_outs = Outs []
-
--- whether something comes to pass on the network: a customer frame may leave
+-- whether something comes to pass on the network: customers' frames may leave
 abbrev pub is_event : Command → Bool
 is_event (command.Metric name side m) = true
 is_event (command.Down name) = true
@@ -143,6 +140,7 @@ is_event (command.Lose name dir place) = true
 is_event (command.Double name dir place) = true
 is_event (command.Round n) = true
 is_event (command.Drain n) = true
+is_event (command.Frame name port bytes) = true
 is_event _ = false
 
 -- the answer to a command that is no event
@@ -151,7 +149,7 @@ answer_to_asked s c = if asks_network c then answers.State (failing s) else answ
 
 -- the answer to an accepted command
 abbrev pub answer_of : State → Command → Answer
-answer_of s c = if is_event c then no_outs else answer_to_asked s c
+answer_of s c = if is_event c then Outs (played s c).outs else answer_to_asked s c
 
 -- the state after commands, one after another
 abbrev pub played_all : State → List Command → State

@@ -11,7 +11,7 @@ use Rattle.spb_network.specs.Reason.{reason_unless, ◌or◌}
 use Rattle.spb_network.specs.World.{World, things_of, place_of}
 use Rattle.spb_network.specs.Declaring.{has_vid, vid_refusal, bridge_refusal, link_refusal}
 use Rattle.spb_network.specs.Services.{isid_refusal}
-use Rattle.spb_network.specs.Attaching.{attach_refusal, detach_refusal}
+use Rattle.spb_network.specs.Attaching.{attach_refusal, detach_refusal, entry_refusal}
 use Rattle.spb_network.specs.Questions.{Question, question_of}
 use Rattle.spb_network.specs.State.{State, is_live, lane_at, kind_at, next_box}
 use Rattle.spb_network.specs.Restarting.{box_at}
@@ -87,6 +87,10 @@ named_attach_refusal w name port isid = refusal_at_found (λ i. attach_refusal w
 unfoldable pub named_detach_refusal : World → List ℕ → ℕ → Option Reason
 named_detach_refusal w name port = refusal_at_found (λ i. detach_refusal w i port) (place_of name w.bridges)
 
+-- a customer's frame enters at a customer port of the bridge
+unfoldable pub named_entry_refusal : World → List ℕ → ℕ → List ℕ → Option Reason
+named_entry_refusal w name port bytes = refusal_at_found (λ i. entry_refusal w i port bytes) (place_of name w.bridges)
+
 -- both bridges and the base VID of a number are declared
 abbrev pub are_declared : World → List ℕ → List ℕ → ℕ → Bool
 are_declared w from to vid =
@@ -117,6 +121,7 @@ refusal_of s (command.Tick name) = unnamed_refusal s.world name
 refusal_of s (command.Deliver name dir) = frame_refusal s name dir 0
 refusal_of s (command.Lose name dir place) = frame_refusal s name dir place
 refusal_of s (command.Double name dir place) = frame_refusal s name dir place
+refusal_of s (command.Frame name port bytes) = named_entry_refusal s.world name port bytes
 refusal_of s (command.Round n) = round_refusal s n
 refusal_of s (command.Drain n) = drain_refusal s n
 refusal_of s (command.Path from to vid) = path_refusal s.world from to vid

@@ -151,6 +151,7 @@ opening rule rack = record {
   world = record { vids = []; bridges = []; links = []; services = []; attached = [] };
   views = [];
   lanes = [];
+  outs = [];
   rounds = 0;
   drained = 0;
   accepted = 0;

@@ -16,9 +16,9 @@ use Rattle.bridge_api.specs.Parsing.{parsed}
 use Rattle.bridge_api.specs.Parsing as parsing
 use Rattle.spb_network.specs.declared.kind_rule.KindRule.{KindRule}
 use Rattle.link_model.specs.Lanes.{lane_of}
-use Rattle.spb_network.specs.Attaching.{attach_refusal, detach_refusal}
+use Rattle.spb_network.specs.Attaching.{attach_refusal, detach_refusal, entry_refusal}
 use Rattle.spb_network.specs.State.{State, Spare, links_of, is_live}
-use Rattle.spb_network.specs.Events.{ticked, delivered, lost, doubled, with_metric_changed, port_attached, port_detached, switched_off, switched_on, rounds, drained}
+use Rattle.spb_network.specs.Events.{ticked, delivered, lost, doubled, with_metric_changed, port_attached, port_detached, frame_entered, switched_off, switched_on, rounds, drained}
 use Rattle.spb_network.specs.Restarting.{restarted}
 use Rattle.spb_network.specs.Refusing.{refusal_of}
 use Rattle.spb_network.specs.Play.{next_state, played_all}
@@ -36,12 +36,16 @@ MayAttach i port isid s = (i < length s.world.bridges) × (attach_refusal s.worl
 abbrev pub MayDetach : ℕ → ℕ → State → Type 0
 MayDetach i port s = detach_refusal s.world i port ≡ None
 
+-- a customer's frame may enter at a customer port of the bridge at place i
+abbrev pub MayEnter : ℕ → ℕ → List ℕ → State → Type 0
+MayEnter i port bytes s = entry_refusal s.world i port bytes ≡ None
+
 abbrev pub KeepsWhere : (State → Type 0) → (State → State) → Type 0
 KeepsWhere may event = (s : State) → may s → IsSoundState s → IsSoundState (event s)
 
 -- a tick of any bridge, a delivery from any lane, a frame that is lost or doubled, an end of a link that gets another
--- metric, a customer port that is attached or detached, a link that goes down or comes up, a bridge that restarts,
--- rounds and deliveries in any number
+-- metric, a customer port that is attached or detached, a customer's frame that enters, a link that goes down or comes
+-- up, a bridge that restarts, rounds and deliveries in any number
 pub record EventsKeepSound : Type 0 where
   pub tick : (i : ℕ) → Keeps (λ s. ticked s i)
   pub deliver : (k : ℕ) (dir : Dir) → Keeps (λ s. delivered s k dir)
@@ -50,6 +54,7 @@ pub record EventsKeepSound : Type 0 where
   pub metric : (k : ℕ) (side : Side) (m : ℕ) → IsMetric m → Keeps (λ s. with_metric_changed s k side m)
   pub attach : (i port isid : ℕ) → KeepsWhere (MayAttach i port isid) (λ s. port_attached s i port isid)
   pub detach : (i port : ℕ) → KeepsWhere (MayDetach i port) (λ s. port_detached s i port)
+  pub enter : (i port : ℕ) (bytes : List ℕ) → KeepsWhere (MayEnter i port bytes) (λ s. frame_entered s i port bytes)
   pub down : (k : ℕ) → Keeps (λ s. switched_off s k)
   pub up : (k : ℕ) → Keeps (λ s. switched_on s k)
   pub restart : (i : ℕ) → Keeps (λ s. restarted s i)

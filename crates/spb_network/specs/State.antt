@@ -7,6 +7,7 @@ use Rattle.spb_types.specs.declared.link.Dir.TheVariants.{Ab, Ba}
 use Rattle.bridge_api.specs.declared.kind.Kind.{Kind}
 use Rattle.bridge_api.specs.declared.kind.Kind.TheVariants as kind
 use Rattle.bridge_api.specs.View.{BridgeView}
+use Rattle.spb_network.specs.declared.answer.Out.{Out}
 use Rattle.spb_network.specs.declared.kind_rule.KindRule.{KindRule}
 use Rattle.spb_network.specs.declared.kind_rule.KindRule.TheVariants as rule
 use Rattle.spb_network.specs.declared.declaration.DeclaredLink.{DeclaredLink}
@@ -22,14 +23,15 @@ pub record Spare : Type 0 where
   pub blank : Bool
 
 -- a network: by which rule bridges take boxes, the rack that is left, what is declared, the bridges in order of
--- declaration, the lanes of the links in order of declaration, the rounds and deliveries that were asked for, and how
--- many commands were accepted
+-- declaration, the lanes of the links in order of declaration, the customers' frames that left in the present command,
+-- the rounds and deliveries that were asked for, and how many commands were accepted
 pub record State : Type 0 where
   pub rule : KindRule
   pub rack : List Spare
   pub world : World
   pub views : List BridgeView
   pub lanes : List LinkLanes
+  pub outs : List Out
   pub rounds : ℕ
   pub drained : ℕ
   pub accepted : ℕ
