@@ -1,9 +1,11 @@
 -- The laws of a step of a bridge, on which what is sound of a network rests.
 use Rattle.itag_frames.proofs.ControlLaws.{control_again}
 use Rattle.bridge_api.specs.Laws.{ConfiguredIsSound, ConfiguredHasNoCarrier, StepsStaySound, StepsKeepBridge, StepsKeepCarrier, StepsKeepNeighbours, SentIsSound, OneHello, HellosAreHeard, UpPortsAreUp, StepsCarryDatabase, ConfiguredHoldsOwn}
+use Rattle.bridge_api.specs.Apart.{SentHasEntered, LeftHasEntered, StepsKeepPlaces}
 use Rattle.bridge_api.specs.Counting.{StepsHoldIds, StepsLearnVersions, StepsAnswer, StepsOriginate, StepsDontSpend, ConfiguredIsFar}
 use Rattle.bridge_api.specs.Time.{SecondsAge}
 use Rattle.bridge_api.proofs.Answering as answering
+use Rattle.bridge_api.proofs.Apart as apart
 use Rattle.bridge_api.proofs.Certified as certified
 use Rattle.bridge_api.proofs.Carriers as carriers
 use Rattle.bridge_api.proofs.DataSteps as stored
@@ -75,3 +77,12 @@ configured_is_far = originating.configured_is_far
 
 pub configured_holds_own : ConfiguredHoldsOwn
 configured_holds_own = stored.configured_holds_own
+
+pub sent_has_entered : SentHasEntered
+sent_has_entered = apart.sent_has_entered
+
+pub left_has_entered : LeftHasEntered
+left_has_entered = apart.left_has_entered
+
+pub steps_keep_places : StepsKeepPlaces
+steps_keep_places = apart.steps_keep_places

@@ -79,3 +79,9 @@ pub mod QuietWitness
 pub mod QuietBodies
 pub mod QuietNumbers
 pub mod Keeping
+pub mod ApartLanes
+pub mod ApartOuts
+pub mod ApartSteps
+pub mod ApartEvents
+pub mod ApartRestart
+pub mod ApartLeaving

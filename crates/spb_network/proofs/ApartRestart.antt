@@ -1,0 +1,109 @@
+-- A bridge that restarts keeps services apart: it has learned nothing yet.
+use Rattle.std.proofs.Common.{◌≡◌, inl, inr, ◌+◌, ℕ, zero, suc, Bool, true, false, List, [], length, refl, sym, ap, ◌∙◌, subst, Option, Some, None, slice_get}
+use Rattle.std.specs.Prelude.{if◌then◌else◌}
+use Rattle.std.specs.List.{AllByRecursion}
+use Rattle.std.specs.FinMap.{get, empty, get-empty}
+use Rattle.spb_types.specs.declared.address.Mac.{Mac}
+use Rattle.spb_types.specs.declared.service.Isid.{Isid}
+use Rattle.customer_learning.specs.Known.{Addresses, isid_cmp, or_none}
+use Rattle.customer_learning.specs.declared.place.Place.{Place}
+use Rattle.forwarding.specs.Placed.{IsPlaceIn, ArePlaced}
+use Rattle.bridge_api.specs.declared.config.BridgeConfig.{BridgeConfig}
+use Rattle.bridge_api.specs.View.{BridgeView}
+use Rattle.bridge_api.specs.Customers.{tenant_of}
+use Rattle.bridge_api.specs.Own.{originating}
+use Rattle.bridge_api.specs.Config.{IsWhole, bare, configured}
+use Rattle.spb_network.specs.declared.declaration.DeclaredBridge.{DeclaredBridge}
+use Rattle.spb_network.specs.declared.declaration.DeclaredLink.{DeclaredLink}
+use Rattle.spb_network.specs.declared.declaration.LinkEnd.{LinkEnd}
+use Rattle.spb_network.specs.declared.answer.Out.{Out}
+use Rattle.spb_network.specs.World.{things_of}
+use Rattle.spb_network.specs.State.{State, links_of}
+use Rattle.spb_network.specs.Events.{with_carrier_at_end, flushed}
+use Rattle.spb_network.specs.Restarting.{restart_config, ends_here, end_here, end_away, link_cut, cut_link, cut_from, lit_link, lit_from, box_at, replaced, restarted_in, restarted_as, restarted}
+use Rattle.spb_network.specs.Sound.{IsSoundState}
+use Rattle.spb_network.proofs.BridgeLaws.{configured_is_sound}
+use Rattle.spb_network.proofs.RestartConfig.{restart_whole}
+use Rattle.spb_network.proofs.RestartSound.{got_set}
+use Rattle.spb_network.proofs.ApartSteps.{IsSettled, IsSeparate}
+use Rattle.spb_network.proofs.ApartEvents.{separate_flushed, separate_with_carrier}
+
+-- ---- a bridge that was just configured
+
+originating_learned : (v : BridgeView) → (originating v).learned ≡ v.learned
+originating_learned v = refl
+
+configured_learned : (c : BridgeConfig) → (configured c).learned ≡ empty
+unfolding configured
+configured_learned c = originating_learned (bare c)
+
+none_placed : (v : BridgeView) → v.learned ≡ empty → ArePlaced (tenant_of v)
+none_placed v none isid =
+    subst (λ (o : Option (List (Mac × Place))). AllByRecursion (λ e. IsPlaceIn v.attached isid e.1) (or_none o))
+    (sym (ap (λ (learned : Addresses). get learned isid) none ∙ get-empty isid_cmp isid)) tt
+
+pub configured_placed : (c : BridgeConfig) → ArePlaced (tenant_of (configured c))
+configured_placed c = none_placed (configured c) (configured_learned c)
+
+pub configured_settled : (c : BridgeConfig) → IsWhole c → IsSettled (configured c)
+configured_settled c whole = record { sound = configured_is_sound c whole; placed = configured_placed c }
+
+-- ---- its links are cut
+
+module _ (Entered : Isid → List ℕ → Type 0) (Left : Out → Type 0) where
+  cut_separate : (s : State) (k : ℕ) (e : LinkEnd) → IsSeparate Entered Left s → IsSeparate Entered Left (link_cut s k e)
+  cut_separate s k e separate =
+      let t : State = flushed s k in
+      separate_with_carrier Entered Left true (with_carrier_at_end false t e) e (separate_with_carrier Entered Left false t e (separate_flushed Entered Left s k separate))
+
+  cut_if : (s : State) (k : ℕ) (e : LinkEnd) (b : Bool) → IsSeparate Entered Left s → IsSeparate Entered Left (if b then link_cut s k e else s)
+  cut_if s k e true separate = cut_separate s k e separate
+  cut_if s k e false separate = separate
+
+  cut_found : (s : State) (i k : ℕ) (o : Option DeclaredLink) → IsSeparate Entered Left s → IsSeparate Entered Left (cut_link s i k o)
+  cut_found s i k None separate = separate
+  cut_found s i k (Some l) separate = cut_if s k (end_away l i) (ends_here l i) separate
+
+  cut_all : (n k i : ℕ) (s : State) → IsSeparate Entered Left s → IsSeparate Entered Left (cut_from n k i s)
+  cut_all zero k i s separate = separate
+  cut_all (suc n) k i s separate = cut_all n (k + 1) i (cut_link s i k (slice_get (links_of s) k)) (cut_found s i k (slice_get (links_of s) k) separate)
+
+  -- ---- it gets carrier
+
+  lit_if : (s : State) (e : LinkEnd) (b : Bool) → IsSeparate Entered Left s → IsSeparate Entered Left (if b then with_carrier_at_end true s e else s)
+  lit_if s e true separate = separate_with_carrier Entered Left true s e separate
+  lit_if s e false separate = separate
+
+  lit_found : (s : State) (i : ℕ) (o : Option DeclaredLink) → IsSeparate Entered Left s → IsSeparate Entered Left (lit_link s i o)
+  lit_found s i None separate = separate
+  lit_found s i (Some l) separate = lit_if s (end_here l i) (ends_here l i) separate
+
+  lit_all : (n k i : ℕ) (s : State) → IsSeparate Entered Left s → IsSeparate Entered Left (lit_from n k i s)
+  lit_all zero k i s separate = separate
+  lit_all (suc n) k i s separate = lit_all n (k + 1) i (lit_link s i (slice_get (links_of s) k)) (lit_found s i (slice_get (links_of s) k) separate)
+
+  -- ---- it restarts
+
+  replaced_separate : (s : State) (i : ℕ) (c : BridgeConfig) (place : ℕ) → IsWhole c → IsSeparate Entered Left s → IsSeparate Entered Left (replaced s i c place)
+  replaced_separate s i c place whole separate = record {
+    lanes = separate.lanes;
+    bridges = λ j v at.
+        elim (got_set s.views i (configured c) j v at) [
+          | inl here ↦ subst IsSettled here.1 (configured_settled c whole)
+          | inr old ↦ separate.bridges j v old.1
+        ];
+    outs = separate.outs;
+  }
+
+  by_found : (s : State) (i : ℕ) (o : Option DeclaredBridge) (box : Option ℕ) → slice_get (things_of s.world.bridges) i ≡ o → IsSoundState s → IsSeparate Entered Left s → IsSeparate Entered Left (restarted_as s i o box)
+  by_found s i None box there sound separate = separate
+  by_found s i (Some b) None there sound separate = separate
+  by_found s i (Some b) (Some place) there sound separate =
+      let n : ℕ = length (links_of s) in
+      let t : State = cut_from n 0 i s in
+      let c : BridgeConfig = restart_config s i b in
+      lit_all n 0 i (replaced t i c place) (replaced_separate t i c place (restart_whole s i b sound there) (cut_all n 0 i s separate))
+
+  pub separate_restarted : (s : State) (i : ℕ) → IsSoundState s → IsSeparate Entered Left s → IsSeparate Entered Left (restarted s i)
+  unfolding restarted
+  separate_restarted s i sound separate = by_found s i (slice_get (things_of s.world.bridges) i) (box_at s i) refl sound separate
