@@ -51,9 +51,7 @@ pub fn services_stay_apart()
     ensures sent { SentHasEntered }
     ensures left { LeftHasEntered }
     ensures places { StepsKeepPlaces }
-{
-    control_again();
-}
+{}
 
 /// In each second all is sent that is to be sent at an Up port, and afterwards no SSN flag stands anywhere and no CSNP
 /// is due.
