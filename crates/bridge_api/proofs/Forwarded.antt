@@ -1,5 +1,5 @@
 -- What a bridge sends of customers' frames.
-use Rattle.std.proofs.Common.{◌≡◌, inl, inr, ℕ, ◌≤◌, Bool, true, false, List, [], ◌∷◌, length, map, Option, Some, None, refl, sym, ap, ◌∙◌, subst, eqb, eqb-true}
+use Rattle.std.proofs.Common.{◌≡◌, inl, inr, ℕ, ◌≤◌, Bool, true, false, List, [], ◌∷◌, length, Option, Some, None, refl, sym, ap, subst, eqb, eqb-true}
 use Rattle.std.specs.Prelude.{if◌then◌else◌, ◌||◌, nat_eq}
 use Rattle.std.specs.List.{AllByRecursion, list_any}
 use Rattle.spb_types.specs.declared.address.Mac.{Mac}
@@ -19,7 +19,7 @@ use Rattle.forwarding.specs.declared.going.Going.{Going}
 use Rattle.forwarding.specs.declared.going.Going.TheVariants.{Everywhere, AtPort, Behind}
 use Rattle.forwarding.specs.declared.tenant.Tenant.{Tenant}
 use Rattle.forwarding.specs.Ports.{attachment_of, ports_in}
-use Rattle.forwarding.specs.Tenant.{after_customer, each_with, entered_by, entered_going, going_by, going_of, group_of_service, is_group, nothing, of_customer, relayed_at, sent_towards, step_of, to_of}
+use Rattle.forwarding.specs.Tenant.{after_customer, each_with, entered_by, entered_going, going_by, going_of, group_of_service, is_group, nothing, relayed_at, sent_towards, step_of, to_of}
 use Rattle.bridge_api.specs.declared.port.BridgePort.{BridgePort}
 use Rattle.bridge_api.specs.View.{BridgeView, port_at}
 use Rattle.bridge_api.specs.Tables.{own_tables}

@@ -8,7 +8,7 @@ use Rattle.spb_types.specs.declared.address.SystemId.{SystemId}
 use Rattle.spb_types.specs.declared.service.Attachment.{Attachment}
 use Rattle.spb_types.specs.declared.service.Isid.{Isid}
 use Rattle.spb_types.specs.declared.service.Vid.{Vid}
-use Rattle.isis_pdu.specs.Pdu.{HelloValue, LspValue, CsnpValue, PsnpValue}
+use Rattle.isis_pdu.specs.Pdu.{LspValue, CsnpValue, PsnpValue}
 use Rattle.isis_pdu.specs.Spelling.{hello_bytes, lsp_bytes, csnp_bytes, psnp_bytes}
 use Rattle.spb_tlvs.proofs.Numbers.{weaker}
 use Rattle.itag_frames.specs.Backbone.{backbone_bytes}
@@ -20,7 +20,7 @@ use Rattle.spb_content.proofs.Members.{all_append}
 use Rattle.forwarding.specs.declared.tenant.Tenant.{Tenant}
 use Rattle.forwarding.specs.Ports.{attachment_of}
 use Rattle.forwarding.specs.Tenant.{Carried, after_backbone, after_customer, entered_by, nothing, of_backbone, of_customer}
-use Rattle.forwarding.specs.Laws.{IsAttachedTo, HasPlaces}
+use Rattle.forwarding.specs.Laws.{IsAttachedTo}
 use Rattle.forwarding.specs.Placed.{ArePlaced, AreAttachedOnce}
 use Rattle.forwarding.proofs.Apart.{leaves_in_its_service, delivered_in_its_service}
 use Rattle.forwarding.proofs.Places.{placed_is_found, entry_keeps_places, delivery_keeps_places, attaching_keeps_places, detaching_keeps_places}
@@ -34,9 +34,9 @@ use Rattle.bridge_api.specs.Parsing as parsing
 use Rattle.bridge_api.specs.Hearing.{after_receive}
 use Rattle.bridge_api.specs.Services.{with_port_forgotten}
 use Rattle.bridge_api.specs.Ticking.{readied, hello_at, hello_frame, lsp_frame, csnp_frame, psnp_frame, hellos_at, summaries_at, lsps_at, requests_at, synced_at, sent_at, after_sending_at, sent_from, sent_in_tick}
-use Rattle.bridge_api.specs.Step.{Input, second, frame, carrier, metric, attach, detach, customer, step}
+use Rattle.bridge_api.specs.Step.{Input, second, frame, carrier, metric, attach, detach, customer}
 use Rattle.bridge_api.specs.Laws.{IsSoundView}
-use Rattle.bridge_api.specs.Apart.{Carries, Enters, Brings, CarriesEntered, LeavesEntered, SentHasEntered, LeftHasEntered, StepsKeepPlaces}
+use Rattle.bridge_api.specs.Apart.{Brings, CarriesEntered, LeavesEntered, SentHasEntered, LeftHasEntered, StepsKeepPlaces}
 use Rattle.bridge_api.proofs.Attached.{with_attached_after}
 use Rattle.bridge_api.proofs.Carried.{is_carrying, control_carries_none, encapsulated_is_taken}
 use Rattle.bridge_api.proofs.Certified.{step_rest}

@@ -1,23 +1,22 @@
 -- What a bridge has learned stays so that it can be written: each bridge in it has an address of six bytes.
-use Rattle.std.proofs.Common.{◌≡◌, ℕ, zero, suc, Bool, true, false, not, cond, List, [], ◌∷◌, take, length, Option, Some, None, refl, sym, ap, ◌∙◌, subst}
+use Rattle.std.proofs.Common.{◌≡◌, ℕ, zero, suc, Bool, true, false, not, cond, List, [], ◌∷◌, take, length, Option, Some, None, refl, sym, ap, subst}
 use Rattle.std.specs.Prelude.{if◌then◌else◌}
 use Rattle.std.specs.List.{AllByRecursion, list_any}
 use Rattle.std.specs.Map.{remove_entry}
 use Rattle.std.specs.Option.{option_map}
 use Rattle.std.specs.Ordering.{eq_by_cmp}
-use Rattle.std.specs.FinMap.{get, insert, remove, empty, get-empty, get-insert, get-remove}
+use Rattle.std.specs.FinMap.{get, insert, empty, get-empty, get-insert, get-remove}
 use Rattle.spb_types.specs.declared.address.Mac.{Mac}
 use Rattle.spb_types.specs.declared.service.Attachment.{Attachment}
 use Rattle.spb_types.specs.declared.service.Isid.{Isid}
-use Rattle.spb_types.specs.declared.tables.Tables.{Tables}
 use Rattle.customer_learning.specs.Known.{isid_cmp, Addresses, or_none, known_in, same_mac, is_local, without_local, with_known, with_learned, with_port_forgotten, with_isid_forgotten}
 use Rattle.customer_learning.specs.declared.place.Place.{Place}
 use Rattle.customer_learning.specs.declared.place.Place.TheVariants.{Local, Remote}
 use Rattle.customer_learning.proofs.Maps.{isids_total}
 use Rattle.forwarding.specs.declared.tenant.Tenant.{Tenant}
 use Rattle.forwarding.specs.Ports.{attachment_of, is_in, without_customer_port}
-use Rattle.forwarding.specs.Tenant.{Carried, after_backbone, after_customer, is_group, is_received, from_of, with_source, learned_at_entry}
-use Rattle.forwarding.specs.Detaching.{learned_without, after_detach}
+use Rattle.forwarding.specs.Tenant.{Carried, is_group, is_received, from_of, with_source, learned_at_entry}
+use Rattle.forwarding.specs.Detaching.{learned_without}
 use Rattle.bridge_api.specs.declared.config.BridgeConfig.{BridgeConfig}
 use Rattle.bridge_api.specs.View.{BridgeView}
 use Rattle.bridge_api.specs.Tables.{own_tables}
