@@ -4,12 +4,15 @@ use Rattle.std.specs.Prelude.{nat_eq, ◌||◌, if◌then◌else◌}
 use Rattle.std.specs.List.{list_any, AllByRecursion}
 use Rattle.std.proofs.lemmas.Bool.{true≢false, eq-eqb}
 use Rattle.spb_types.specs.declared.service.Attachment.{Attachment}
+use Rattle.customer_learning.specs.Known.{Addresses}
 use Rattle.spb_content.proofs.Members.{Has, all_has, has_all, has_map, map_has, filter_has, all_append}
 use Rattle.spb_content.proofs.Kept.{Apart, length-within}
 use Rattle.bridge_api.specs.View.{BridgeView}
 use Rattle.bridge_api.specs.Config.{ArePairwise, different, IsAttachment, AgreesWith, vids_of}
-use Rattle.bridge_api.specs.Services.{CanAttach, without_customer_port, is_at_other_port}
-use Rattle.bridge_api.specs.Step.{Input, second, frame, carrier, metric, attach, detach}
+use Rattle.bridge_api.specs.Customers.{with_learned, after_entry}
+use Rattle.bridge_api.specs.Hearing.{after_receive}
+use Rattle.bridge_api.specs.Services.{CanAttach, without_customer_port, is_at_other_port, with_port_forgotten}
+use Rattle.bridge_api.specs.Step.{Input, second, frame, carrier, metric, attach, detach, customer}
 use Rattle.bridge_api.specs.Laws.{HasConfig, IsInput, attached_after}
 use Rattle.bridge_api.proofs.Saying.{has_different}
 use Rattle.bridge_api.proofs.Changes.{attached_to}
@@ -102,14 +105,39 @@ config_detached p v was = record {
   few_isids = omega (arith, fewer_isids (is_at_other_port p) v.attached, was.few_isids);
 }
 
--- the bridge with what is attached to it after this came in, and all else as it was
+-- what a bridge has learned after this came in
+abbrev pub learned_after : Input → BridgeView → Addresses
+learned_after second v = v.learned
+learned_after (frame q bytes) v = (after_receive q bytes v).learned
+learned_after (carrier q on) v = v.learned
+learned_after (metric q m) v = v.learned
+learned_after (attach a) v = v.learned
+learned_after (detach p) v = (with_port_forgotten p v).learned
+learned_after (customer p bytes) v = (after_entry p bytes v).learned
+
+-- the bridge with what is attached to it and what it has learned after this came in, and all else as it was
 abbrev pub with_attached_after : Input → BridgeView → BridgeView
-with_attached_after input v = attached_to (attached_after input v.attached) v
+with_attached_after input v = attached_to (attached_after input v.attached) (with_learned (learned_after input v) v)
+
+-- what was learned is no part of the configuration
+config_learned : (learned : Addresses) (v : BridgeView) → HasConfig v → HasConfig (with_learned learned v)
+config_learned learned v was = record {
+  priority = was.priority;
+  system = was.system;
+  source = was.source;
+  few_vids = was.few_vids;
+  each_vid = was.each_vid;
+  vids_apart = was.vids_apart;
+  each_attachment = was.each_attachment;
+  attachments_apart = was.attachments_apart;
+  few_isids = was.few_isids;
+}
 
 pub config_after : (input : Input) (v : BridgeView) → IsInput v input → HasConfig v → HasConfig (with_attached_after input v)
 config_after second v is was = was
-config_after (frame q bytes) v is was = was
+config_after (frame q bytes) v is was = config_learned (after_receive q bytes v).learned v was
 config_after (carrier q on) v is was = was
 config_after (metric q m) v is was = was
 config_after (attach a) v is was = config_attached a v is was
-config_after (detach p) v is was = config_detached p v was
+config_after (detach p) v is was = config_detached p (with_learned (with_port_forgotten p v).learned v) (config_learned (with_port_forgotten p v).learned v was)
+config_after (customer p bytes) v is was = config_learned (after_entry p bytes v).learned v was

@@ -19,8 +19,9 @@ use Rattle.bridge_api.specs.Parsing.{parsed}
 use Rattle.bridge_api.specs.Hearing.{with_csnp_due, with_adjacency, after_receive, with_carrier_at, with_carrier, with_port_metric, with_metric_at, with_metric}
 use Rattle.bridge_api.specs.Ports.{noted, heard_hello_port, with_carrier_port}
 use Rattle.bridge_api.specs.Ticking.{later, after_tick}
-use Rattle.bridge_api.specs.Step.{Input, second, frame, carrier, metric, attach, detach, step}
-use Rattle.bridge_api.specs.Services.{without_customer_port}
+use Rattle.bridge_api.specs.Step.{Input, second, frame, carrier, metric, attach, detach, customer, step}
+use Rattle.bridge_api.specs.Customers.{after_entry}
+use Rattle.bridge_api.specs.Services.{without_customer_port, with_port_forgotten}
 use Rattle.bridge_api.specs.Laws.{metrics_after, IsSameBridge, StepsKeepBridge, StepsKeepNeighbours, hello_sender}
 use Rattle.bridge_api.proofs.Places.{set_again, seen_set}
 use Rattle.bridge_api.proofs.Attached.{with_attached_after}
@@ -75,7 +76,7 @@ metric_same (Some port) v q m there =
     (ap metrics_of (with_metric_ports q m port v) ∙ rw (le-leb 1 q (found v.ports q port there).0) (seen_set (λ (x : BridgePort). x.metric) v.ports (q - 1) (with_port_metric m port)))
 
 pub steps_keep_bridge : StepsKeepBridge
-unfolding with_metric
+unfolding with_metric with_port_forgotten after_entry
 steps_keep_bridge second v =
     same_after second v (after_tick v) (tick_rest v) (ap length (tick_ports v) ∙ (length-map (map later v.ports) (with_csnp_due false) ∙ length-map v.ports later)) (ap metrics_of (tick_ports v) ∙ ticked_metrics v.ports)
 steps_keep_bridge (frame q bytes) v =
@@ -91,10 +92,14 @@ steps_keep_bridge (carrier q on) v =
     ]
 steps_keep_bridge (metric q m) v = metric_same (port_at v q) v q m refl
 steps_keep_bridge (attach a) v = let list : List Attachment = v.attached ++ a ∷ [] in unchanged_same (attach a) v (step (attach a) v) (with_attached_rest list v) (with_attached_ports list v) refl
-steps_keep_bridge (detach p) v = let list : List Attachment = without_customer_port p v.attached in unchanged_same (detach p) v (step (detach p) v) (with_attached_rest list v) (with_attached_ports list v) refl
+steps_keep_bridge (detach p) v =
+    let list : List Attachment = without_customer_port p v.attached in
+    unchanged_same (detach p) v (step (detach p) v) (with_attached_rest list (with_port_forgotten p v)) (with_attached_ports list (with_port_forgotten p v)) refl
+steps_keep_bridge (customer p bytes) v = unchanged_same (customer p bytes) v (after_entry p bytes v) refl refl refl
 
--- a step changes ports, LSPs, whether the bridge is spent, and what is attached, and nothing else
+-- a step changes ports, LSPs, whether the bridge is spent, what is attached and what is learned, and nothing else
 pub step_rest : (input : Input) (v : BridgeView) → KeepsRest (with_attached_after input v) (step input v)
+unfolding with_port_forgotten after_entry
 step_rest second v = tick_rest v
 step_rest (frame q bytes) v = frame_rest v q bytes
 step_rest (carrier q on) v =
@@ -108,7 +113,8 @@ step_rest (metric q m) v =
       | inr g ↦ rest_of v (with_metric q m v) (originated_if_changed (with_port_at q (with_port_metric m g.port) v)) g.after (with_metric_rest q m g.port v)
     ]
 step_rest (attach a) v = with_attached_rest (v.attached ++ a ∷ []) v
-step_rest (detach p) v = with_attached_rest (without_customer_port p v.attached) v
+step_rest (detach p) v = with_attached_rest (without_customer_port p v.attached) (with_port_forgotten p v)
+step_rest (customer p bytes) v = refl
 
 -- a step keeps the number of ports
 pub ports_after : (input : Input) (v w : BridgeView) → w ≡ step input v → length w.ports ≡ length v.ports
@@ -166,7 +172,7 @@ no_cause q p (inl a) = inl a
 no_cause q p (inr c) = inr c.1
 
 pub steps_keep_neighbours : StepsKeepNeighbours
-unfolding neighbour_at
+unfolding neighbour_at with_port_forgotten after_entry
 steps_keep_neighbours second v p n kept = inl (tick_keeps_in (port_at v p) n (sym (ap end_in (tick_port v p)) ∙ kept))
 steps_keep_neighbours (frame q bytes) v p n kept =
     elim (frame_ports v q bytes) [
@@ -184,4 +190,5 @@ steps_keep_neighbours (metric q m) v p n kept =
       | inr g ↦ no_cause q p (one_keeps v (with_metric q m v) q g.port (with_port_metric m g.port) p n ⊥ g.there (ap (λ (u : BridgeView). u.ports) g.after ∙ with_metric_ports q m g.port v) (λ was. inl was) kept)
     ]
 steps_keep_neighbours (attach a) v p n kept = inl (subst (λ (ports : List BridgePort). end_in (port_in ports p) ≡ Some n) (with_attached_ports (v.attached ++ a ∷ []) v) kept)
-steps_keep_neighbours (detach q) v p n kept = inl (subst (λ (ports : List BridgePort). end_in (port_in ports p) ≡ Some n) (with_attached_ports (without_customer_port q v.attached) v) kept)
+steps_keep_neighbours (detach q) v p n kept = inl (subst (λ (ports : List BridgePort). end_in (port_in ports p) ≡ Some n) (with_attached_ports (without_customer_port q v.attached) (with_port_forgotten q v)) kept)
+steps_keep_neighbours (customer q bytes) v p n kept = inl kept

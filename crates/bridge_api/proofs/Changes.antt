@@ -5,11 +5,16 @@ use Rattle.std.specs.Option.{option_map}
 use Rattle.std.proofs.lemmas.List.{set-set}
 use Rattle.std.proofs.lemmas.Option.{slice_get-map, slice_get_within}
 use Rattle.std.proofs.lemmas.Bool.{le-leb, leb-true, cases_eq}
+use Rattle.spb_types.specs.declared.address.Mac.{Mac}
 use Rattle.spb_types.specs.declared.service.Attachment.{Attachment}
+use Rattle.spb_types.specs.declared.service.Isid.{Isid}
+use Rattle.spb_types.specs.declared.service.Vid.{Vid}
 use Rattle.isis_pdu.specs.Pdu.{HelloValue, LspValue, CsnpValue, PsnpValue}
 use Rattle.spb_tlvs.specs.declared.error.TlvError.{TlvError}
 use Rattle.spb_tlvs.specs.declared.entries.SnpEntry.{SnpEntry}
 use Rattle.spb_tlvs.specs.declared.three_way.ThreeWay.{ThreeWay}
+use Rattle.customer_learning.specs.Known.{Addresses}
+use Rattle.forwarding.specs.Tenant.{after_backbone}
 use Rattle.lsdb.specs.Database.{Lsps}
 use Rattle.snp_sync.specs.Reading.{entries_in}
 use Rattle.adjacency.specs.declared.state.AdjacencyChange.{AdjacencyChange}
@@ -24,7 +29,9 @@ use Rattle.bridge_api.specs.Config.{bare, configured}
 use Rattle.bridge_api.specs.Parsing.{Parsed, parsed}
 use Rattle.bridge_api.specs.Parsing as parsing
 use Rattle.bridge_api.specs.Hearing.{with_csnp_due, with_adjacency, left_up, changed_at, all_srm_set_at, heard_lsp, heard_csnp, heard_psnp, with_csnp, with_psnp, heard_as, heard_at, heard_hello, after_receive, with_carrier_at, with_carrier, with_port_metric, with_metric_at, with_metric}
-use Rattle.bridge_api.specs.Services.{with_attached}
+use Rattle.bridge_api.specs.Tables.{own_tables}
+use Rattle.bridge_api.specs.Customers.{tenant_of, with_learned, carried_by, after_entry}
+use Rattle.bridge_api.specs.Services.{with_attached, with_port_forgotten}
 use Rattle.bridge_api.specs.Ports.{noted, heard_hello_port, with_carrier_port}
 use Rattle.bridge_api.specs.Ticking.{later, counts_lowered, expired, is_old, refreshed, readied, after_sending, after_tick}
 use Rattle.bridge_api.proofs.Places.{port_found, set_again, got_at, got_beside}
@@ -169,42 +176,51 @@ pub record PsnpStep (v : BridgeView) (q : ℕ) (bytes : List ℕ) (w : BridgeVie
   pub read : entries_in psnp.tlvs ≡ Ok entries
   pub after : w ≡ originated_if_changed (heard_psnp entries q v)
 
--- what a frame did: nothing, or one of these
+-- what is learned of a frame: nothing, or it carries a customer's frame
+pub data Learns (v : BridgeView) (q : ℕ) (bytes : List ℕ) (learned : Addresses) : Type 0 where
+  nothing_new : learned ≡ v.learned → Learns v q bytes learned
+  from_customer : (da sa : Mac) (vid : Vid) (isid : Isid) (f : List ℕ) → parsed bytes ≡ parsing.customer da sa vid isid f → learned ≡ (after_backbone (tenant_of v) (own_tables v) q (carried_by da sa vid isid f)).learned → Learns v q bytes learned
+
+-- what a frame did: nothing but that something is learned, or one of these
 pub data FrameStep (v : BridgeView) (q : ℕ) (bytes : List ℕ) (w : BridgeView) : Type 0 where
-  idle : w ≡ v → FrameStep v q bytes w
+  idle : (learned : Addresses) → Learns v q bytes learned → w ≡ with_learned learned v → FrameStep v q bytes w
   by_hello : HelloStep v q bytes w → FrameStep v q bytes w
   by_lsp : LspStep v q bytes w → FrameStep v q bytes w
   by_csnp : CsnpStep v q bytes w → FrameStep v q bytes w
   by_psnp : PsnpStep v q bytes w → FrameStep v q bytes w
 
+idles : (v : BridgeView) (q : ℕ) (bytes : List ℕ) → FrameStep v q bytes v
+idles v q bytes = idle v.learned (nothing_new refl) refl
+
 -- at a port that is Up, or not
 if_up : (b : Bool) (v w : BridgeView) (q : ℕ) (bytes : List ℕ) → (b ≡ true → FrameStep v q bytes w) → FrameStep v q bytes (if b then w else v)
 if_up true v w q bytes up = up refl
-if_up false v w q bytes up = idle refl
+if_up false v w q bytes up = idles v q bytes
 
 csnp_is_read_as : (es : Result (List SnpEntry) TlvError) (c : CsnpValue) (v : BridgeView) (q : ℕ) (bytes : List ℕ) (port : BridgePort) → entries_in c.tlvs ≡ es → parsed bytes ≡ parsing.csnp c → port_at v q ≡ Some port → port.adjacency.carrier ≡ true → is_port_up port ≡ true → FrameStep v q bytes (with_csnp c es q v)
 csnp_is_read_as (Ok es) c v q bytes port read is there has_carrier up = by_csnp (record { port = port; csnp = c; entries = es; there = there; carrier = has_carrier; up = up; is = is; read = read; after = refl })
-csnp_is_read_as (Err e) c v q bytes port read is there has_carrier up = idle refl
+csnp_is_read_as (Err e) c v q bytes port read is there has_carrier up = idles v q bytes
 
 psnp_is_read_as : (es : Result (List SnpEntry) TlvError) (s : PsnpValue) (v : BridgeView) (q : ℕ) (bytes : List ℕ) (port : BridgePort) → entries_in s.tlvs ≡ es → parsed bytes ≡ parsing.psnp s → port_at v q ≡ Some port → port.adjacency.carrier ≡ true → is_port_up port ≡ true → FrameStep v q bytes (with_psnp es q v)
 psnp_is_read_as (Ok es) s v q bytes port read is there has_carrier up = by_psnp (record { port = port; psnp = s; entries = es; there = there; carrier = has_carrier; up = up; is = is; read = read; after = refl })
-psnp_is_read_as (Err e) s v q bytes port read is there has_carrier up = idle refl
+psnp_is_read_as (Err e) s v q bytes port read is there has_carrier up = idles v q bytes
 
 by_kind : (j : Parsed) (v : BridgeView) (q : ℕ) (bytes : List ℕ) (port : BridgePort) → parsed bytes ≡ j → port_at v q ≡ Some port → port.adjacency.carrier ≡ true → FrameStep v q bytes (heard_as j q port v)
-by_kind (parsing.dropped reason) v q bytes port e there has_carrier = idle refl
+by_kind (parsing.dropped reason) v q bytes port e there has_carrier = idles v q bytes
 by_kind (parsing.hello h way) v q bytes port e there has_carrier = by_hello (record { port = port; hello = h; way = way; there = there; carrier = has_carrier; is = e; after = refl })
 by_kind (parsing.lsp l) v q bytes port e there has_carrier =
     if_up (is_port_up port) v (originated_if_changed (heard_lsp l q v)) q bytes (λ up. by_lsp (record { port = port; lsp = l; there = there; carrier = has_carrier; up = up; is = e; after = refl }))
 by_kind (parsing.csnp c) v q bytes port e there has_carrier = if_up (is_port_up port) v (with_csnp c (entries_in c.tlvs) q v) q bytes (csnp_is_read_as (entries_in c.tlvs) c v q bytes port refl e there has_carrier)
 by_kind (parsing.psnp s) v q bytes port e there has_carrier = if_up (is_port_up port) v (with_psnp (entries_in s.tlvs) q v) q bytes (psnp_is_read_as (entries_in s.tlvs) s v q bytes port refl e there has_carrier)
-by_kind (parsing.customer da sa vid isid customer) v q bytes port e there has_carrier = idle refl
+by_kind (parsing.customer da sa vid isid f) v q bytes port e there has_carrier =
+    idle (after_backbone (tenant_of v) (own_tables v) q (carried_by da sa vid isid f)).learned (from_customer da sa vid isid f e refl) refl
 
 by_carrier : (has_carrier : Bool) (v : BridgeView) (q : ℕ) (bytes : List ℕ) (port : BridgePort) → port_at v q ≡ Some port → port.adjacency.carrier ≡ has_carrier → FrameStep v q bytes (if has_carrier then heard_as (parsed bytes) q port v else v)
 by_carrier true v q bytes port there has_carrier = by_kind (parsed bytes) v q bytes port refl there has_carrier
-by_carrier false v q bytes port there has_carrier = idle refl
+by_carrier false v q bytes port there has_carrier = idles v q bytes
 
 by_port : (o : Option BridgePort) (v : BridgeView) (q : ℕ) (bytes : List ℕ) → port_at v q ≡ o → FrameStep v q bytes (heard_at q bytes o v)
-by_port None v q bytes e = idle refl
+by_port None v q bytes e = idles v q bytes
 by_port (Some port) v q bytes e = by_carrier port.adjacency.carrier v q bytes port e refl
 
 pub frame_step : (v : BridgeView) (q : ℕ) (bytes : List ℕ) → FrameStep v q bytes (after_receive q bytes v)
@@ -223,21 +239,40 @@ heard_hello_rest h way q port v = changed_rest (change_by_hello v.id.system q h 
 pub frame_ports : (v : BridgeView) (q : ℕ) (bytes : List ℕ) → ((after_receive q bytes v).ports ≡ v.ports) ⊎ HelloStep v q bytes (after_receive q bytes v)
 frame_ports v q bytes =
     elim (frame_step v q bytes) [
-      | idle e ↦ inl (ap (λ (u : BridgeView). u.ports) e)
+      | idle learned how e ↦ inl (ap (λ (u : BridgeView). u.ports) e)
       | by_hello g ↦ inr g
       | by_lsp g ↦ inl (ap (λ (u : BridgeView). u.ports) g.after ∙ originated_if_changed_ports (heard_lsp g.lsp q v))
       | by_csnp g ↦ inl (ap (λ (u : BridgeView). u.ports) g.after ∙ originated_if_changed_ports (heard_csnp g.csnp g.entries q v))
       | by_psnp g ↦ inl (ap (λ (u : BridgeView). u.ports) g.after ∙ originated_if_changed_ports (heard_psnp g.entries q v))
     ]
 
-pub frame_rest : (v : BridgeView) (q : ℕ) (bytes : List ℕ) → KeepsRest v (after_receive q bytes v)
+-- where all else is kept, so it is but for what is learned
+pub but_learned : (v w : BridgeView) → KeepsRest v w → KeepsRest (with_learned w.learned v) w
+but_learned v w rest = subst (λ (learned : Addresses). KeepsRest (with_learned learned v) w) (sym (ap (λ (u : BridgeView). u.learned) rest)) rest
+
+idle_rest : (v w : BridgeView) (learned : Addresses) → w ≡ with_learned learned v → KeepsRest (with_learned w.learned v) w
+idle_rest v w learned e = subst (λ (u : BridgeView). KeepsRest (with_learned u.learned v) u) (sym e) refl
+
+pub frame_rest : (v : BridgeView) (q : ℕ) (bytes : List ℕ) → KeepsRest (with_learned (after_receive q bytes v).learned v) (after_receive q bytes v)
 frame_rest v q bytes =
+    let w : BridgeView = after_receive q bytes v in
     elim (frame_step v q bytes) [
-      | idle e ↦ rest_of v (after_receive q bytes v) v e refl
-      | by_hello g ↦ rest_of v (after_receive q bytes v) (heard_hello g.hello g.way q g.port v) g.after (heard_hello_rest g.hello g.way q g.port v)
-      | by_lsp g ↦ rest_of v (after_receive q bytes v) (originated_if_changed (heard_lsp g.lsp q v)) g.after (originated_if_changed_rest v (heard_lsp g.lsp q v) refl)
-      | by_csnp g ↦ rest_of v (after_receive q bytes v) (originated_if_changed (heard_csnp g.csnp g.entries q v)) g.after (originated_if_changed_rest v (heard_csnp g.csnp g.entries q v) refl)
-      | by_psnp g ↦ rest_of v (after_receive q bytes v) (originated_if_changed (heard_psnp g.entries q v)) g.after (originated_if_changed_rest v (heard_psnp g.entries q v) refl)
+      | idle learned how e ↦ idle_rest v w learned e
+      | by_hello g ↦ but_learned v w (rest_of v w (heard_hello g.hello g.way q g.port v) g.after (heard_hello_rest g.hello g.way q g.port v))
+      | by_lsp g ↦ but_learned v w (rest_of v w (originated_if_changed (heard_lsp g.lsp q v)) g.after (originated_if_changed_rest v (heard_lsp g.lsp q v) refl))
+      | by_csnp g ↦ but_learned v w (rest_of v w (originated_if_changed (heard_csnp g.csnp g.entries q v)) g.after (originated_if_changed_rest v (heard_csnp g.csnp g.entries q v) refl))
+      | by_psnp g ↦ but_learned v w (rest_of v w (originated_if_changed (heard_psnp g.entries q v)) g.after (originated_if_changed_rest v (heard_psnp g.entries q v) refl))
+    ]
+
+-- what is learned of a frame, whatever it is
+pub frame_learns : (v : BridgeView) (q : ℕ) (bytes : List ℕ) → Learns v q bytes (after_receive q bytes v).learned
+frame_learns v q bytes =
+    elim (frame_step v q bytes) [
+      | idle learned how e ↦ subst (λ (u : BridgeView). Learns v q bytes u.learned) (sym e) how
+      | by_hello g ↦ nothing_new (ap (λ (u : BridgeView). u.learned) (rest_of v (after_receive q bytes v) (heard_hello g.hello g.way q g.port v) g.after (heard_hello_rest g.hello g.way q g.port v)))
+      | by_lsp g ↦ nothing_new (ap (λ (u : BridgeView). u.learned) g.after ∙ ap (λ (u : BridgeView). u.learned) (originated_if_changed_is (heard_lsp g.lsp q v)))
+      | by_csnp g ↦ nothing_new (ap (λ (u : BridgeView). u.learned) g.after ∙ ap (λ (u : BridgeView). u.learned) (originated_if_changed_is (heard_csnp g.csnp g.entries q v)))
+      | by_psnp g ↦ nothing_new (ap (λ (u : BridgeView). u.learned) g.after ∙ ap (λ (u : BridgeView). u.learned) (originated_if_changed_is (heard_psnp g.entries q v)))
     ]
 
 -- ---- carrier
@@ -301,6 +336,15 @@ with_attached_ports attached v = originated_if_changed_ports (attached_to attach
 pub with_attached_rest : (attached : List Attachment) (v : BridgeView) → KeepsRest (attached_to attached v) (with_attached attached v)
 unfolding with_attached
 with_attached_rest attached v = originated_if_changed_rest (attached_to attached v) (attached_to attached v) refl
+
+-- a bridge that forgot what it has learned at a port, and one at which a customer's frame entered
+pub forgotten_is : (port : ℕ) (v : BridgeView) → with_port_forgotten port v ≡ with_learned (with_port_forgotten port v).learned v
+unfolding with_port_forgotten
+forgotten_is port v = refl
+
+pub entry_is : (port : ℕ) (bytes : List ℕ) (v : BridgeView) → after_entry port bytes v ≡ with_learned (after_entry port bytes v).learned v
+unfolding after_entry
+entry_is port bytes v = refl
 
 -- ---- a second
 

@@ -37,7 +37,7 @@ lsp_said (parsing.hello h way) = None
 lsp_said (parsing.lsp l) = Some l
 lsp_said (parsing.csnp c) = None
 lsp_said (parsing.psnp s) = None
-lsp_said (parsing.customer da sa vid isid customer) = None
+lsp_said (parsing.customer da sa vid isid payload) = None
 
 abbrev pub lsp_of : Input → Option LspValue
 lsp_of second = None

@@ -1,9 +1,12 @@
 -- What a bridge makes of customers' frames (IEEE 802.1Q, 8.6 to 8.8; IEEE 802.1ah, 25; IEEE 802.1aq).
-use Rattle.std.specs.Prelude.{◌≡◌, ℕ, ◌≤◌, List, length, Option, Some, None, if◌then◌else◌}
+use Rattle.std.specs.Prelude.{◌≡◌, ℕ, ◌≤◌, List, length, Option, Some, None, if◌then◌else◌, ⊤}
+use Rattle.std.specs.List.{AllByRecursion}
 use Rattle.spb_types.specs.declared.address.Mac.{Mac}
 use Rattle.spb_types.specs.declared.service.Vid.{Vid}
 use Rattle.spb_types.specs.declared.service.Isid.{Isid}
-use Rattle.customer_learning.specs.Known.{Addresses}
+use Rattle.customer_learning.specs.Known.{Addresses, known_in}
+use Rattle.customer_learning.specs.declared.place.Place.{Place}
+use Rattle.customer_learning.specs.declared.place.Place.TheVariants.{Local, Remote}
 use Rattle.forwarding.specs.declared.moved.Moved.{Moved}
 use Rattle.forwarding.specs.declared.tenant.Tenant.{Tenant}
 use Rattle.forwarding.specs.Tenant.{Carried, nothing, after_customer, of_customer, after_backbone, of_backbone}
@@ -25,6 +28,14 @@ tenant_of v = record { me = v.id.system.mac; source = v.source; attached = v.att
 -- the bridge with these addresses learned
 abbrev pub with_learned : Addresses → BridgeView → BridgeView
 with_learned learned v = record v { learned = learned }
+
+-- the address of another bridge, behind which an address was learned, has six bytes
+abbrev pub IsLearned : Place → Type 0
+IsLearned (Local port) = ⊤
+IsLearned (Remote mac) = length mac.bytes ≡ 6
+
+abbrev pub AreLearned : Addresses → Type 0
+AreLearned learned = (isid : Isid) → AllByRecursion (λ e. IsLearned e.1) (known_in learned isid)
 
 -- ---- a customer's frame that enters at a customer port
 

@@ -47,7 +47,7 @@ use Rattle.bridge_api.specs.Parsing.{Parsed, hello_in, parsed, is_hello}
 use Rattle.bridge_api.specs.Parsing as parsing
 use Rattle.bridge_api.specs.Hearing.{with_carrier}
 use Rattle.bridge_api.specs.Services.{IsAttachedPort, CanAttach, without_customer_port}
-use Rattle.bridge_api.specs.Customers.{IsCustomerFrame}
+use Rattle.bridge_api.specs.Customers.{IsCustomerFrame, AreLearned}
 use Rattle.bridge_api.specs.Step.{Input, second, frame, carrier, metric, attach, detach, customer, step, sent}
 
 -- a port whose adjacency is sound, with a neighbour of six bytes if it keeps one, where CSNPs are due only if it is Up,
@@ -78,13 +78,15 @@ pub record HasDatabase (v : BridgeView) : Type 0 where
   pub flags : HaveFlagsAt (up_ports v) v.database
   pub own : is_absent (version_at v.database (own_id v.id.system)) ≡ false
 
--- a configured bridge with at most 32 ports, each sound, and a sound database, in which its own LSP is current
+-- a configured bridge with at most 32 ports, each sound, and a sound database, in which its own LSP is current; and what
+-- it has learned can be written
 pub record IsSoundView (v : BridgeView) : Type 0 where
   pub config : HasConfig v
   pub few : length v.ports ≤ MOST_PORTS
   pub ports : AllByRecursion IsSoundPort v.ports
   pub database : HasDatabase v
   pub own : IsOwnLspCurrent v
+  pub learned : AreLearned v.learned
 
 -- so what it says of itself can be written, and fits one LSP
 pub record CanSay (v : BridgeView) : Type 0 where
@@ -224,7 +226,7 @@ claims_said (parsing.hello h way) = []
 claims_said (parsing.lsp l) = claim_of l ∷ []
 claims_said (parsing.csnp c) = claims_or_none (entries_in c.tlvs)
 claims_said (parsing.psnp s) = claims_or_none (entries_in s.tlvs)
-claims_said (parsing.customer da sa vid isid customer) = []
+claims_said (parsing.customer da sa vid isid payload) = []
 
 -- a frame as the bridge with an address writes it: a PDU in a control frame, or a frame that carries a customer's, which
 -- another bridge may have written
@@ -233,9 +235,8 @@ pub data IsWritten (sa : Mac) (bytes : List ℕ) : Type 0 where
   writes_lsp : (l : LspValue) → bytes ≡ control_bytes sa (lsp_bytes l) → IsWritten sa bytes
   writes_csnp : (c : CsnpValue) → bytes ≡ control_bytes sa (csnp_bytes c) → IsWritten sa bytes
   writes_psnp : (s : PsnpValue) → bytes ≡ control_bytes sa (psnp_bytes s) → IsWritten sa bytes
-  carries : (da ba : Mac) (vid : Vid) (isid : Isid) (customer : List ℕ)
-      → backbone_in bytes ≡ Ok (Customer da ba vid isid customer)
-      → IsWritten sa bytes
+  carries : (da ba : Mac) (vid : Vid) (isid : Isid) (payload : List ℕ)
+      → backbone_in bytes ≡ Ok (Customer da ba vid isid payload) → IsWritten sa bytes
 
 -- the LSP of what a bridge holds under its id
 abbrev pub IsHeldLsp : BridgeView → LspValue → Type 0

@@ -3,9 +3,9 @@ pub mod Tables
 pub mod Shown
 pub mod Own
 pub mod Config
-pub mod Services
 pub mod Parsing
 pub mod Customers
+pub mod Services
 pub mod Hearing
 pub mod Ports
 pub mod Ticking
