@@ -51,7 +51,7 @@ pub both : {T E : Type 0} {P Q R : Type 0} (r : Result T E) → (P → Q → R) 
 both (Ok x) f p q = f p q
 both (Err e) f p q = p
 
-append-none : {X : Type 0} (xs : List X) → xs ++ [] ≡ xs
+pub append-none : {X : Type 0} (xs : List X) → xs ++ [] ≡ xs
 append-none [] = refl
 append-none (x ∷ xs) = ap (λ l. x ∷ l) (append-none xs)
 

@@ -24,13 +24,13 @@ use Rattle.spb_network.proofs.CountedRounds.{counted_more}
 attach_counted : (t : State) (n i : ℕ) (a : Attachment) → CanAttachAt t.views i a → IsTracked (λ j. n) t → n < last_number → IsCountedBy (n + 2) (stepped (comes.attach a) t i)
 attach_counted t n i a can tracked low =
     let x : Input = comes.attach a in
-    counted_tracked (λ j. n + gain_at i x j) (n + 2) (stepped x t i) (tracked_stepped x t (λ j. n) i can tracked (λ j. low) refl (λ v. refl) (λ p f is. absurd cc)) (λ j.
+    counted_tracked (λ j. n + gain_at i x j) (n + 2) (stepped x t i) (tracked_stepped x t (λ j. n) i can tracked (λ j. low) refl (λ v at. tt) (λ p f is. absurd cc)) (λ j.
     let small = gain_one i j x (omega arith) in omega (arith, small))
 
 detach_counted : (t : State) (n i port : ℕ) → IsAttachedAt t.views i port → IsTracked (λ j. n) t → n < last_number → IsCountedBy (n + 2) (stepped (comes.detach port) t i)
 detach_counted t n i port is tracked low =
     let x : Input = comes.detach port in
-    counted_tracked (λ j. n + gain_at i x j) (n + 2) (stepped x t i) (tracked_stepped x t (λ j. n) i is tracked (λ j. low) refl (λ v. refl) (λ p f same. absurd cc)) (λ j.
+    counted_tracked (λ j. n + gain_at i x j) (n + 2) (stepped x t i) (tracked_stepped x t (λ j. n) i is tracked (λ j. low) refl (λ v at. tt) (λ p f same. absurd cc)) (λ j.
     let small = gain_one i j x (omega arith) in omega (arith, small))
 
 with_port_counted : (s : State) (n i : ℕ) (a : Attachment) → IsNewAttachment s.world (i, a) → CanAttachAt s.views i a → IsCore s → IsCountedBy n s → n < last_number → IsCountedBy (n + 2) (with_attached_port s i a)

@@ -33,6 +33,7 @@ use Rattle.spb_network.proofs.SoundLane.{moved, moved_same}
 use Rattle.spb_network.proofs.SoundMoves.{IsCore, Comes, got_mapped}
 use Rattle.spb_network.proofs.SoundSteps.{only, only_here, only_is, IsInputAt, moves_stepped, core_stepped, in_changed, in_lost, in_doubled, short_rest}
 use Rattle.spb_network.proofs.SoundEvents.{stepped_world, front_comes, fewer_rest}
+use Rattle.spb_network.proofs.CountedSent.{AreNoHellos, relayed, quiet_lanes}
 use Rattle.spb_network.proofs.CountedHellos.{one, hellos_front, hellos_rest, hellos_lost, hellos_doubled, hellos_changed, hellos_taken}
 use Rattle.spb_network.proofs.CountedMoves.{Turn, is_within, length-things, claims_are_copies, stems, bound_after}
 use Rattle.spb_network.proofs.CountedSteps.{AreOwn, AreFar, own_moved, AreWeak, own_from, weak_bound, weak_from, counted_from, far_from_last}
@@ -57,25 +58,14 @@ far_stepping s n i x core are weak low comes j v y at is =
     let place = only_is i x j y is in
     far_from_last s n core are weak low j v y at (λ p f same. subst (λ (k : ℕ). Comes (links_of s) s.lanes k p f) (sym place.0) (comes p f (place.1 ∙ same)))
 
--- nothing is sent but in a second
-pub silent_lanes : (x : Input) (s : State) (i : ℕ) → ((v : BridgeView) → sent x v ≡ []) → (stepped x s i).lanes ≡ s.lanes
-unfolding stepped
-silent_lanes x s i silent = ap (λ (fs : List (ℕ × Frame)). (sent_all (record s { views = changed_at (step x) s.views i }) i fs).lanes) (by (slice_get s.views i))
-  where
-    by : (o : Option BridgeView) → option_map_or (sent x) o [] ≡ []
-    by None = refl
-    by (Some v) = silent v
-
--- an input that claims nothing and sends nothing
-pub step_weak : (x : Input) (s : State) (n : ℕ → ℕ) (i : ℕ) → IsInputAt s.views i x → IsCore s → AreOwn s → AreWeak n s → AreLow s n → is_claiming x ≡ false → ((v : BridgeView) → sent x v ≡ []) → ((p : ℕ) (f : Frame) → x ≡ frame p f → ⊥) → AreOwn (stepped x s i) × AreWeak (λ j. n j + gain_at i x j + 0) (stepped x s i)
+-- an input that claims nothing and sends no hello
+pub step_weak : (x : Input) (s : State) (n : ℕ → ℕ) (i : ℕ) → IsInputAt s.views i x → IsCore s → AreOwn s → AreWeak n s → AreLow s n → is_claiming x ≡ false → ((v : BridgeView) → slice_get s.views i ≡ Some v → AreNoHellos (sent x v)) → ((p : ℕ) (f : Frame) → x ≡ frame p f → ⊥) → AreOwn (stepped x s i) × AreWeak (λ j. n j + gain_at i x j + 0) (stepped x s i)
 step_weak x s n i is_input core are weak low quiet silent no_frame =
     let comes : (p : ℕ) (f : Frame) → x ≡ frame p f → Comes (links_of s) s.lanes i p f = λ p f is. absurd (no_frame p f is) in
     let turn : Turn s (stepped x s i) (only i x) = step_turn x s s.lanes i is_input core (alike_itself s) core.short (λ k dir f among. among) comes in
     let far : AreFar s (only i x) = far_stepping s n i x core are weak low comes in (
       own_moved s (stepped x s i) (only i x) turn are far,
-      weak_moved s (stepped x s i) (only i x) n (gain_at i x) (λ j. 0) turn weak (step_raises s i x core far quiet) (λ j.
-          let equal : hellos_to (links_of (stepped x s i)) (stepped x s i).lanes j ≡ hellos_to (links_of s) s.lanes j = λ k. hellos_to (things_of (stepped_world x s i k).links) (silent_lanes x s i silent k) j in
-          omega (arith, equal)),
+      weak_moved s (stepped x s i) (only i x) n (gain_at i x) (λ j. 0) turn weak (step_raises s i x core far quiet) (λ j. let few = quiet_lanes x s i j silent in omega (arith, few)),
     )
 
 -- ---- a tick
@@ -165,8 +155,8 @@ module _ (s : State) (n k : ℕ) (dir : Dir) (bytes : Frame) (l : DeclaredLink) 
   no_second : (j : ℕ) → only place x j ≡ Some second → false ≡ true
   no_second j is = let same : x ≡ second = (only_is place x j second is).1 in absurd cc
 
-  hellos_left : (i : ℕ) → hellos_to (links_of t) t.lanes i ≡ hellos_to (links_of s) left i
-  hellos_left i = λ j. hellos_to (things_of (stepped_world x (with_frames rest s k dir) place j).links) (silent_lanes x (with_frames rest s k dir) place (λ v. refl) j) i
+  hellos_left : (i : ℕ) → hellos_to (links_of t) t.lanes i ≤ hellos_to (links_of s) left i
+  hellos_left i = quiet_lanes x (with_frames rest s k dir) place i (λ v at. relayed (far_end dir l).port bytes v)
 
   copies : (id : LspId) (b : Version) → IsClaimed (claims_of x) id b → IsCopy s.views s.lanes id b
   copies id b claimed = claims_are_copies (links_of s) s.views s.lanes place x id b (front_comes s k dir l bytes core there front) claimed
@@ -228,7 +218,7 @@ module _ (s : State) (n k : ℕ) (dir : Dir) (bytes : Frame) (l : DeclaredLink) 
             subst (λ (v : BridgeView). IsWithin t i v id n) (sym from.2) (moved_within i from.0 id from.1 owned);
       }
 
-same_allowance : (n : ℕ) (t : State) → IsCountedBy n t → IsCountedBy (n + 0) t
+pub same_allowance : (n : ℕ) (t : State) → IsCountedBy n t → IsCountedBy (n + 0) t
 same_allowance n t counted = subst (λ (m : ℕ). IsCountedBy m t) (omega arith) counted
 
 counted_over : (s : State) (n k : ℕ) (dir : Dir) (bytes : Frame) (o : Option DeclaredLink) → slice_get (links_of s) k ≡ o → slice_get (lane_at s k dir) 0 ≡ Some bytes → IsCore s → IsCountedBy n s → n < last_number → IsCountedBy (n + 0) (heard_over (with_frames rest s k dir) dir bytes o)

@@ -43,7 +43,7 @@ pushed_if : (b : Bool) (fs : List Frame) (f : Frame) → hellos_in (if b then fs
 pushed_if true fs f = omega (arith, hellos-append fs (f ∷ []))
 pushed_if false fs f = omega arith
 
-hellos_pushed : (fs : List Frame) (f : Frame) → hellos_in (pushed fs f) ≤ hellos_in fs + one f
+pub hellos_pushed : (fs : List Frame) (f : Frame) → hellos_in (pushed fs f) ≤ hellos_in fs + one f
 hellos_pushed fs f = pushed_if (has_room fs) fs f
 
 pub hellos_pushed_all : (lane fs : List Frame) → hellos_in (pushed_all lane fs) ≤ hellos_in lane + hellos_in fs

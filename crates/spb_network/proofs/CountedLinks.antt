@@ -31,6 +31,7 @@ use Rattle.spb_network.proofs.SoundLinks.{end_metric}
 use Rattle.spb_network.proofs.SoundSetMetrics.{core_with_end_metric}
 use Rattle.spb_network.proofs.WorldLemmas.{end_on-is}
 use Rattle.spb_network.proofs.CountedSteps.{AreOwn, AreWeak, own_from, weak_from, counted_from}
+use Rattle.spb_network.proofs.CountedSent.{AreNoHellos}
 use Rattle.spb_network.proofs.CountedGains.{gain_at}
 use Rattle.spb_network.proofs.CountedEvents.{counted_fewer, step_weak}
 
@@ -57,7 +58,7 @@ counted_tracked n c s tracked low = counted_from n c s tracked.own tracked.weak 
 
 -- ---- one bridge steps
 
-pub tracked_stepped : (x : Input) (s : State) (n : ℕ → ℕ) (i : ℕ) → IsInputAt s.views i x → IsTracked n s → ((j : ℕ) → n j < last_number) → is_claiming x ≡ false → ((v : BridgeView) → sent x v ≡ []) → ((p : ℕ) (f : Frame) → x ≡ frame p f → ⊥) → IsTracked (λ j. n j + gain_at i x j) (stepped x s i)
+pub tracked_stepped : (x : Input) (s : State) (n : ℕ → ℕ) (i : ℕ) → IsInputAt s.views i x → IsTracked n s → ((j : ℕ) → n j < last_number) → is_claiming x ≡ false → ((v : BridgeView) → slice_get s.views i ≡ Some v → AreNoHellos (sent x v)) → ((p : ℕ) (f : Frame) → x ≡ frame p f → ⊥) → IsTracked (λ j. n j + gain_at i x j) (stepped x s i)
 tracked_stepped x s n i is_input tracked low quiet silent no_frame =
     let next = step_weak x s n i is_input tracked.core tracked.own tracked.weak (λ j v at. low j) quiet silent no_frame in
     tracked_more (λ j. n j + gain_at i x j + 0) (λ j. n j + gain_at i x j) (stepped x s i) (λ j. omega arith) (record {
@@ -67,10 +68,10 @@ tracked_stepped x s n i is_input tracked low quiet silent no_frame =
     })
 
 pub tracked_carrier : (on : Bool) (s : State) (n : ℕ → ℕ) (e : LinkEnd) → IsTracked n s → ((j : ℕ) → n j < last_number) → IsTracked (λ j. n j + gain_at e.bridge (carrier e.port on) j) (with_carrier_at_end on s e)
-tracked_carrier on s n e tracked low = tracked_stepped (carrier e.port on) s n e.bridge (λ v at. tt) tracked low refl (λ v. refl) (λ p f is. absurd cc)
+tracked_carrier on s n e tracked low = tracked_stepped (carrier e.port on) s n e.bridge (λ v at. tt) tracked low refl (λ v at. tt) (λ p f is. absurd cc)
 
 pub tracked_metric : (s : State) (n : ℕ → ℕ) (e : LinkEnd) → IsMetric e.metric → IsTracked n s → ((j : ℕ) → n j < last_number) → IsTracked (λ j. n j + gain_at e.bridge (metric e.port e.metric) j) (with_metric_at_end s e)
-tracked_metric s n e is tracked low = tracked_stepped (metric e.port e.metric) s n e.bridge (λ v at. is) tracked low refl (λ v. refl) (λ p f is. absurd cc)
+tracked_metric s n e is tracked low = tracked_stepped (metric e.port e.metric) s n e.bridge (λ v at. is) tracked low refl (λ v at. tt) (λ p f is. absurd cc)
 
 -- what the gains are
 if_small : (b : Bool) (m : ℕ) → m ≤ 1 → (if b then m else 0) ≤ 1

@@ -19,7 +19,7 @@ use Rattle.lsdb.specs.Certificate.{IsClaimed}
 use Rattle.flooding.specs.Own.{IsOwnNumber}
 use Rattle.bridge_api.specs.View.{BridgeView, neighbour_at}
 use Rattle.bridge_api.specs.Parsing.{parsed}
-use Rattle.bridge_api.specs.Step.{Input, second, frame, carrier, metric, attach, detach, step}
+use Rattle.bridge_api.specs.Step.{Input, second, frame, carrier, metric, attach, detach, customer, step}
 use Rattle.bridge_api.specs.Laws.{IsSoundView, IsSent, IsHeldAt, claims_said, claims_of}
 use Rattle.bridge_api.specs.Time as time
 use Rattle.bridge_api.specs.Time.{AgedFrom}
@@ -33,7 +33,7 @@ use Rattle.spb_network.specs.Counted.{IsCopy, is_held, is_said, IsWeak}
 use Rattle.spb_network.proofs.BoxLemmas.{All-get}
 use Rattle.spb_network.proofs.BridgeLaws.{sent_is_sound, seconds_age, steps_learn_versions}
 use Rattle.spb_network.proofs.FitsLemmas.{link_there, far_is_port}
-use Rattle.spb_network.proofs.SoundLane.{some-is, moved, sent_by, named}
+use Rattle.spb_network.proofs.SoundLane.{some-is, moved, sent_by, AreInputs, named}
 use Rattle.spb_network.proofs.SoundLaneIds.{turned, LeadsFrom, lane_leads}
 use Rattle.spb_network.proofs.SoundMoves.{IsCore, Comes, GoesOut, Moves, got_mapped}
 
@@ -121,7 +121,7 @@ sent_held s t o k dir f id a turn out claimed = by (o out.place) refl out.sent
     by (Some x) is some =
         let here : slice_get t.views out.place ≡ Some (step x out.view) = turn.moves.bridges out.place ∙ (λ j. option_map (moved (is j)) (out.from j)) in
         let way : lane_out (links_of t) out.place out.port ≡ Some (record { link = k; dir = dir }) = ap (λ (w : World). lane_out (things_of w.links) out.place out.port) turn.world ∙ out.out in
-        (sent_is_sound x out.view out.port f (All-get IsSoundView s.views out.place out.view turn.before.views out.from)
+        (sent_is_sound x out.view out.port f (subst (AreInputs out.view) is (turn.moves.inputs out.place out.view out.from)) (All-get IsSoundView s.views out.place out.view turn.before.views out.from)
         (can_name t out.place out.port k dir (step x out.view) turn.after way here) some).claims id a claimed
 
 -- ---- where a copy comes from
@@ -141,6 +141,7 @@ claims_are_copies links views lanes j (carrier p on) id a comes claimed = absurd
 claims_are_copies links views lanes j (metric p m) id a comes claimed = absurd claimed
 claims_are_copies links views lanes j (attach b) id a comes claimed = absurd claimed
 claims_are_copies links views lanes j (detach p) id a comes claimed = absurd claimed
+claims_are_copies links views lanes j (customer p bytes) id a comes claimed = absurd claimed
 
 module _ (aging : Bool) (views : List BridgeView) (lanes : List LinkLanes) (id : LspId) (own : Version) where
   aged_stems : (j : ℕ) (u : BridgeView) (a : Version) → slice_get views j ≡ Some u → aging ≡ true → AgedFrom (get u.database id) (get (step second u).database id) → version_at (step second u).database id ≡ a → Stems aging views lanes id own a
@@ -170,6 +171,8 @@ module _ (aging : Bool) (views : List BridgeView) (lanes : List LinkLanes) (id :
       learned_stems j u (attach c) (version_at (step (attach c) u).database id) a at (λ b claimed. absurd claimed) (steps_learn_versions (attach c) u id apart (λ e. absurd cc)) is
   other_stems links j u (Some (detach p)) a at apart ages comes is =
       learned_stems j u (detach p) (version_at (step (detach p) u).database id) a at (λ b claimed. absurd claimed) (steps_learn_versions (detach p) u id apart (λ e. absurd cc)) is
+  other_stems links j u (Some (customer p bytes)) a at apart ages comes is =
+      learned_stems j u (customer p bytes) (version_at (step (customer p bytes) u).database id) a at (λ b claimed. absurd claimed) (steps_learn_versions (customer p bytes) u id apart (λ e. absurd cc)) is
 
 module _ (aging : Bool) (s t : State) (o : ℕ → Option Input) (turn : Turn s t o) (ages : (j : ℕ) → o j ≡ Some second → aging ≡ true) (i : ℕ) (v : BridgeView) (id : LspId) (at : slice_get s.views i ≡ Some v) (owned : IsOwnNumber v.id.system id) where
   abbrev pub own : Version

@@ -15,17 +15,18 @@ use Rattle.bridge_api.specs.Config.{configured}
 use Rattle.bridge_api.proofs.FewHeld.{configured_holds_few}
 use Rattle.flooding.specs.Own.{own_id}
 use Rattle.spb_types.specs.declared.address.BridgeId.{BridgeId}
+use Rattle.spb_network.specs.declared.answer.Out.{Out}
 use Rattle.spb_network.specs.declared.kind_rule.KindRule.{KindRule}
 use Rattle.spb_network.specs.declared.declaration.DeclaredBridge.{DeclaredBridge}
 use Rattle.std.specs.Prelude.{remove}
 use Rattle.spb_network.specs.World.{World, place_of}
 use Rattle.spb_network.specs.Declaring.{bridge_of, link_of, with_vid, bridge_refusal, link_refusal}
 use Rattle.spb_network.specs.Services.{with_service}
-use Rattle.spb_network.specs.Attaching.{attach_refusal, detach_refusal}
+use Rattle.spb_network.specs.Attaching.{attach_refusal, detach_refusal, entry_refusal}
 use Rattle.spb_network.specs.State.{State, Spare}
-use Rattle.spb_network.specs.Events.{ticked, delivered, lost, doubled, with_metric_changed, port_attached, port_detached, switched_off, switched_on, rounds, drained}
+use Rattle.spb_network.specs.Events.{ticked, delivered, lost, doubled, with_metric_changed, port_attached, port_detached, frame_entered, switched_off, switched_on, rounds, drained}
 use Rattle.spb_network.specs.Restarting.{restarted}
-use Rattle.spb_network.specs.Refusing.{box_for, declared_refusal, link_refusal_at_found, named_link_refusal, refusal_at_found, metric_refusal, named_attach_refusal, named_detach_refusal, refusal_of}
+use Rattle.spb_network.specs.Refusing.{box_for, declared_refusal, link_refusal_at_found, named_link_refusal, refusal_at_found, metric_refusal, named_attach_refusal, named_detach_refusal, named_entry_refusal, refusal_of}
 use Rattle.spb_network.specs.Play.{config_of, boxed, declared, linked, link_between_found, named_link, at_place, at_bridge, at_link, with_vid_more, with_service_more, with_rounds, with_drain, played, next_count, next_state, played_all}
 use Rattle.spb_network.specs.Sound.{IsSoundState, opening}
 use Rattle.spb_network.specs.SoundLaws.{IsAddressed, AreAccepted}
@@ -37,10 +38,11 @@ use Rattle.spb_network.proofs.SoundNames.{first_none, distinct_link}
 use Rattle.spb_network.proofs.SoundConfigured.{configured_still}
 use Rattle.spb_network.proofs.SoundEvents.{core_of}
 use Rattle.spb_network.proofs.SoundPlay.{commands_keep_sound, opening_sound}
-use Rattle.spb_network.proofs.CountsKept.{counts, counts-ticked, counts-delivered, counts-metric, counts-attached, counts-detached, counts-off, counts-on, counts-rounds, counts-drained, counts-boxed, counts-linked}
+use Rattle.spb_network.proofs.CountsKept.{counts, counts-ticked, counts-delivered, counts-metric, counts-attached, counts-detached, counts-entered, counts-off, counts-on, counts-rounds, counts-drained, counts-boxed, counts-linked}
 use Rattle.spb_network.proofs.CountedDeclaring.{IsFirstOwn, counted_bridge, counted_link}
 use Rattle.spb_network.proofs.CountedLinks.{Counted-metric, Counted-off, Counted-on}
 use Rattle.spb_network.proofs.CountedAttaching.{Counted-attached, Counted-detached}
+use Rattle.spb_network.proofs.CountedEntering.{Counted-entered}
 use Rattle.spb_network.proofs.PlaceLemmas.{place_within}
 use Rattle.spb_network.proofs.RestartCounted.{Counted-restarted, counts-restarted}
 use Rattle.spb_network.proofs.CountedRounds.{counted_more, Counted-rounds, Counted-drained}
@@ -55,6 +57,7 @@ events_keep_counted = record {
   metric = λ k side m is s n sound counted low. Counted-metric s n k side m is (core_of s sound) counted (omega (arith, low));
   attach = λ i port isid s n may sound counted low. Counted-attached s n i port isid may.0 may.1 sound counted (omega (arith, low));
   detach = λ i port s n may sound counted low. Counted-detached s n i port may sound counted (omega (arith, low));
+  enter = λ i port bytes s n may sound counted low. Counted-entered s n i port bytes may sound counted (omega (arith, low));
   down = λ k s n sound counted low. Counted-off s n k sound counted (omega (arith, low));
   up = λ k s n sound counted low. Counted-on s n k (core_of s sound) counted (omega (arith, low));
   restart = λ i s n sound counted low. Counted-restarted s n i sound counted low;
@@ -64,9 +67,9 @@ events_keep_counted = record {
 
 -- ---- declarations
 
--- the counts don't matter
-again : (n : ℕ) (s : State) (r d a : ℕ) → IsCountedBy n s → IsCountedBy n (record s { rounds = r; drained = d; accepted = a })
-again n s r d a counted = record {
+-- what left, and the counts, don't matter
+again : (n : ℕ) (s : State) (outs : List Out) (r d a : ℕ) → IsCountedBy n s → IsCountedBy n (record s { outs = outs; rounds = r; drained = d; accepted = a })
+again n s outs r d a counted = record {
   fresh = counted.fresh;
   held = counted.held;
   said = counted.said;
@@ -190,7 +193,7 @@ rounds_played s n sound counted room few =
     record {
       rounds = few;
       accepted = ap (λ (c : ℕ × ℕ). c.1) (counts-rounds n s);
-      by = again (128 * (s.rounds + n) + 2 * s.accepted + 2) t (s.rounds + n) t.drained t.accepted (counted_more (allowance_of s + 128 * n) (128 * (s.rounds + n) + 2 * s.accepted + 2) t (omega arith) after);
+      by = again (128 * (s.rounds + n) + 2 * s.accepted + 2) t t.outs (s.rounds + n) t.drained t.accepted (counted_more (allowance_of s + 128 * n) (128 * (s.rounds + n) + 2 * s.accepted + 2) t (omega arith) after);
     }
 
 drain_played : (s : State) (n : ℕ) → IsSoundState s → IsCounted s → allowance_of s + 2 < last_number → IsPlayed s (with_drain n s)
@@ -198,7 +201,7 @@ unfolding with_drain
 drain_played s n sound counted low =
     let t : State = drained n s in
     two_more s (record t { drained = s.drained + n }) counted (counts-drained n s)
-    (again (allowance_of s + 2) t t.rounds (s.drained + n) t.accepted (counted_more (allowance_of s) (allowance_of s + 2) t (omega arith) (Counted-drained n (allowance_of s) s sound counted.by (omega (arith, low)))))
+    (again (allowance_of s + 2) t t.outs t.rounds (s.drained + n) t.accepted (counted_more (allowance_of s) (allowance_of s + 2) t (omega arith) (Counted-drained n (allowance_of s) s sound counted.by (omega (arith, low)))))
 
 module _ (s : State) (sound : IsSoundState s) (counted : IsCounted s) (room : s.accepted < most_commands) where
   low : allowance_of s + 2 < last_number
@@ -247,6 +250,14 @@ module _ (s : State) (sound : IsSoundState s) (counted : IsCounted s) (room : s.
   unfolding named_detach_refusal at_bridge
   detach_played name port none = detach_found port (place_of name s.world.bridges) none
 
+  enter_found : (port : ℕ) (bytes : List ℕ) (o : Option ℕ) → refusal_at_found (λ i. entry_refusal s.world i port bytes) o ≡ None → IsPlayed s (at_place (λ t i. frame_entered t i port bytes) s o)
+  enter_found port bytes None none = unchanged s counted
+  enter_found port bytes (Some i) none = two_more s (frame_entered s i port bytes) counted (counts-entered s i port bytes) (counted_more (allowance_of s + 0) (allowance_of s + 2) (frame_entered s i port bytes) (omega arith) (Counted-entered s (allowance_of s) i port bytes none sound counted.by lower))
+
+  enter_played : (name : List ℕ) (port : ℕ) (bytes : List ℕ) → named_entry_refusal s.world name port bytes ≡ None → IsPlayed s (at_bridge (λ t i. frame_entered t i port bytes) s name)
+  unfolding named_entry_refusal at_bridge
+  enter_played name port bytes none = enter_found port bytes (place_of name s.world.bridges) none
+
   command_played : (c : Command) → refusal_of s c ≡ None → IsPlayed s (played s c)
   command_played (command.Vid vid ect) none = vid_played s vid ect counted
   command_played (command.Bridge name priority system source ports) none =
@@ -255,6 +266,7 @@ module _ (s : State) (sound : IsSoundState s) (counted : IsCounted s) (room : s.
   command_played (command.Isid isid vid) none = isid_played s isid vid counted
   command_played (command.Attach name port isid) none = attach_played name port isid none
   command_played (command.Detach name port) none = detach_played name port none
+  command_played (command.Frame name port bytes) none = enter_played name port bytes none
   command_played (command.Metric name on m) none = link_played (λ t k. with_metric_changed t k on m) s name counted (λ k at. metric_played name on m k none at)
   command_played (command.Down name) none = link_played switched_off s name counted (λ k at. off_played k)
   command_played (command.Up name) none = link_played switched_on s name counted (λ k at. on_played k)
@@ -278,7 +290,7 @@ commands_keep_counted s c sound counted room none =
     let next : next_count t.accepted ≡ s.accepted + 1 = ap next_count after.accepted ∙ next_of s.accepted room in
     record {
       rounds = after.rounds;
-      by = again (128 * t.rounds + 2 * next_count t.accepted) t t.rounds t.drained (next_count t.accepted) (counted_more (128 * t.rounds + 2 * s.accepted + 2) (128 * t.rounds + 2 * next_count t.accepted) t (omega (arith, next)) after.by);
+      by = again (128 * t.rounds + 2 * next_count t.accepted) t [] t.rounds t.drained (next_count t.accepted) (counted_more (128 * t.rounds + 2 * s.accepted + 2) (128 * t.rounds + 2 * next_count t.accepted) t (omega (arith, next)) after.by);
     }
 
 -- ---- whatever commands were accepted

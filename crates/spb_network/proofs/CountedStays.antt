@@ -8,13 +8,13 @@ use Rattle.spb_network.specs.declared.kind_rule.KindRule.{KindRule}
 use Rattle.spb_network.specs.World.{place_of}
 use Rattle.spb_network.specs.Declaring.{bridge_of, link_of}
 use Rattle.spb_network.specs.State.{State}
-use Rattle.spb_network.specs.Events.{ticked, delivered, lost, doubled, with_metric_changed, port_attached, port_detached, switched_off, switched_on, rounds, drained}
+use Rattle.spb_network.specs.Events.{ticked, delivered, lost, doubled, with_metric_changed, port_attached, port_detached, frame_entered, switched_off, switched_on, rounds, drained}
 use Rattle.spb_network.specs.Restarting.{restarted}
 use Rattle.spb_network.specs.Refusing.{box_for, refusal_of}
 use Rattle.spb_network.specs.Play.{declared, link_between_found, named_link, at_place, at_bridge, at_link, with_vid_more, with_service_more, with_rounds, with_drain, played, next_count, next_state}
 use Rattle.spb_network.specs.Sound.{IsSoundState}
 use Rattle.spb_network.specs.Counted.{IsCounted, most_commands}
-use Rattle.spb_network.proofs.CountsKept.{counts, counts-ticked, counts-delivered, counts-metric, counts-attached, counts-detached, counts-off, counts-on, counts-rounds, counts-drained, counts-boxed, counts-linked}
+use Rattle.spb_network.proofs.CountsKept.{counts, counts-ticked, counts-delivered, counts-metric, counts-attached, counts-detached, counts-entered, counts-off, counts-on, counts-rounds, counts-drained, counts-boxed, counts-linked}
 use Rattle.spb_network.proofs.RestartCounted.{counts-restarted}
 use Rattle.spb_network.proofs.CountedPlay.{commands_keep_counted}
 
@@ -47,6 +47,7 @@ accepted_played s (command.Link name a port_a b port_b cost) = between s name (p
 accepted_played s (command.Isid isid vid) = refl
 accepted_played s (command.Attach name port isid) = of_bridge (λ t i. port_attached t i port isid) s name (λ i. commands_of s (port_attached s i port isid) (counts-attached s i port isid))
 accepted_played s (command.Detach name port) = of_bridge (λ t i. port_detached t i port) s name (λ i. commands_of s (port_detached s i port) (counts-detached s i port))
+accepted_played s (command.Frame name port bytes) = of_bridge (λ t i. frame_entered t i port bytes) s name (λ i. commands_of s (frame_entered s i port bytes) (counts-entered s i port bytes))
 accepted_played s (command.Metric name side m) = of_link (λ t k. with_metric_changed t k side m) s name (λ k. commands_of s (with_metric_changed s k side m) (counts-metric s k side m))
 accepted_played s (command.Down name) = of_link switched_off s name (λ k. commands_of s (switched_off s k) (counts-off s k))
 accepted_played s (command.Up name) = of_link switched_on s name (λ k. commands_of s (switched_on s k) (counts-on s k))

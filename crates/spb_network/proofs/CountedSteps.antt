@@ -17,7 +17,7 @@ use Rattle.lsdb.specs.Certificate.{IsClaimed}
 use Rattle.flooding.specs.Own.{last_number, IsOwnNumber}
 use Rattle.bridge_api.specs.View.{BridgeView}
 use Rattle.bridge_api.specs.Parsing.{parsed}
-use Rattle.bridge_api.specs.Step.{Input, second, frame, carrier, metric, attach, detach}
+use Rattle.bridge_api.specs.Step.{Input, second, frame, carrier, metric, attach, detach, customer}
 use Rattle.bridge_api.specs.Laws.{IsSoundView, claims_said, claims_of}
 use Rattle.bridge_api.specs.Counting.{IsFar}
 use Rattle.spb_network.specs.World.{World}
@@ -60,6 +60,7 @@ claimed_own s j (carrier p on) id a are comes claimed = absurd claimed
 claimed_own s j (metric p m) id a are comes claimed = absurd claimed
 claimed_own s j (attach b) id a are comes claimed = absurd claimed
 claimed_own s j (detach p) id a are comes claimed = absurd claimed
+claimed_own s j (customer p bytes) id a are comes claimed = absurd claimed
 
 some_entry : (o : Option Entry) → IsSome o → (e : Entry) × (o ≡ Some e)
 some_entry None some = absurd (true≢false (sym some))

@@ -18,7 +18,7 @@ use Rattle.spb_network.specs.Declaring.{end_on, with_live, with_end_metric, with
 use Rattle.spb_network.specs.World.{vid_of_isid}
 use Rattle.spb_network.specs.Attaching.{with_attachment_at, without_attachment_at}
 use Rattle.spb_network.specs.State.{State, links_of, far_end, lane_at, with_frames}
-use Rattle.spb_network.specs.Events.{stepped, ticked, heard_over, delivered_front, delivered, with_carrier_at_end, with_carrier_over, with_metric_at_end, with_metrics_over, with_metric_on, with_metric_changed, attached_in_found, port_attached, port_detached, flushed, switched_off, switched_on, ticked_from, delivered_times, lane_served, served_from, one_round, rounds, delivered_over, delivered_first, drained}
+use Rattle.spb_network.specs.Events.{stepped, ticked, heard_over, delivered_front, delivered, with_carrier_at_end, with_carrier_over, with_metric_at_end, with_metrics_over, with_metric_on, with_metric_changed, attached_in_found, port_attached, port_detached, frame_entered, flushed, switched_off, switched_on, ticked_from, delivered_times, lane_served, served_from, one_round, rounds, delivered_over, delivered_first, drained}
 use Rattle.spb_network.specs.Play.{boxed, linked}
 use Rattle.spb_network.proofs.SentLanes.{stepped_rest}
 
@@ -77,6 +77,9 @@ counts-attached s i port isid = attached_found s i port isid (vid_of_isid s.worl
 pub counts-detached : (s : State) (i port : ℕ) → counts (port_detached s i port) ≡ counts s
 unfolding port_detached
 counts-detached s i port = counts-stepped (comes.detach port) (record s { world = without_attachment_at s.world i port }) i
+
+pub counts-entered : (s : State) (i port : ℕ) (bytes : Frame) → counts (frame_entered s i port bytes) ≡ counts s
+counts-entered s i port bytes = counts-stepped (comes.customer port bytes) s i
 
 pub counts-off : (s : State) (k : ℕ) → counts (switched_off s k) ≡ counts s
 unfolding switched_off

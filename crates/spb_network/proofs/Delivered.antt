@@ -22,7 +22,7 @@ use Rattle.spb_network.specs.Sound.{IsSoundState}
 use Rattle.spb_network.specs.DeliveryLaws.{frames_at, pushed_all, IsOneStep, AreSent, IsDelivery, FramesAreDelivered, IsDeliveryOf, DeliverDelivers}
 use Rattle.spb_network.proofs.FitsLemmas.{length-changed, link_there}
 use Rattle.spb_network.proofs.SoundLane.{some-is}
-use Rattle.spb_network.proofs.SentLanes.{lane_here, lane_beside, stepped_once, stepped_here, stepped_beside, stepped_rest}
+use Rattle.spb_network.proofs.SentLanes.{lane_here, lane_beside, stepped_once, stepped_here, stepped_beside, stepped_rest, stepped_outs}
 
 -- the ends of a link lie at different bridges
 apart_ends : (dir : Dir) (l : DeclaredLink) → l.a.bridge ≢ l.b.bridge → (near_end dir l).bridge ≢ (far_end dir l).bridge
@@ -65,6 +65,7 @@ module _ (s : State) (k : ℕ) (dir : Dir) (bytes : Frame) (behind : List Frame)
         heard = record { before = at; after = once.after; others = once.others };
         answers = λ j d m there_m from. answers l v there at near j d m there_m from;
         others = λ j d m there_m away other. stepped_beside x next i j d m there_m away ∙ lane_beside rest s.lanes k dir j d (λ same. other (sym same.0, sym same.1));
+        left = stepped_outs x next i v at;
         rest = stepped_rest x next i;
       }
     where

@@ -13,15 +13,15 @@ use Rattle.spb_network.specs.declared.reason.Reason.TheVariants.{NoSuchName, Nam
 use Rattle.spb_network.specs.Reason.{reason_number, reason_unless}
 use Rattle.spb_network.specs.World.{World, things_of, place_of, attached_at}
 use Rattle.spb_network.specs.Services.{is_new_isid, is_isid_range, has_service_room, isid_refusal}
-use Rattle.spb_network.specs.Attaching.{is_declared_isid, is_customer_port, is_attached, has_isid_room, attach_refusal, detach_refusal}
+use Rattle.spb_network.specs.Attaching.{is_declared_isid, is_customer_port, is_customer_frame, is_attached, has_isid_room, attach_refusal, detach_refusal, entry_refusal}
 use Rattle.spb_network.specs.Declaring.{has_vid, is_new_vid, is_vid_range, has_vid_room, is_before_bridges, is_new_name, is_new_system, is_new_source, is_bridge_range, has_bridge_room, is_free_port, is_link_range, has_link_room, is_unlinked, vid_refusal, bridge_refusal, link_refusal}
 use Rattle.spb_network.specs.State.{State, is_live, lane_at, kind_at}
 use Rattle.spb_network.specs.Questions.{Question, question_of}
 use Rattle.spb_network.specs.Restarting.{box_at}
-use Rattle.spb_network.specs.Refusing.{box_for, asked_refusal, declared_refusal, link_refusal_at_found, named_link_refusal, unnamed_refusal, refusal_at_found, down_refusal, up_refusal, metric_refusal, named_attach_refusal, named_detach_refusal, frame_refusal, round_refusal, drain_refusal, restart_refusal, are_declared, path_refusal, refusal_of}
+use Rattle.spb_network.specs.Refusing.{box_for, asked_refusal, declared_refusal, link_refusal_at_found, named_link_refusal, unnamed_refusal, refusal_at_found, down_refusal, up_refusal, metric_refusal, named_attach_refusal, named_detach_refusal, named_entry_refusal, frame_refusal, round_refusal, drain_refusal, restart_refusal, are_declared, path_refusal, refusal_of}
 use Rattle.spb_network.specs.Holding.{IsNamed, HoldsAt, LacksBoxAt, AsksUnknown, Holds, TheFirstReasonIsGiven}
 use Rattle.spb_network.proofs.Chains.{chain_said, Said, lowest, refused_for_the_first}
-use Rattle.spb_network.proofs.Tested.{true-is, false-is, fails, opposes, not-lt, not-le, named, known, unknown, at-is, both-at, taken_vid, wrong_vid, full_of_vids, late, undeclared_vid, undeclared, taken_isid, wrong_isid, full_of_services, undeclared_isid, wrong_port, full_of_isids, taken_customer_port, free_customer_port, taken_name, taken_id, wrong_bridge, full_of_bridges, spent_rack, taken_port, wrong_metric, wrong_link, full_of_links, joined, wrong_count}
+use Rattle.spb_network.proofs.Tested.{true-is, false-is, fails, opposes, not-lt, not-le, named, known, unknown, at-is, both-at, taken_vid, wrong_vid, full_of_vids, late, undeclared_vid, undeclared, taken_isid, wrong_isid, full_of_services, undeclared_isid, wrong_port, wrong_entry, full_of_isids, taken_customer_port, free_customer_port, taken_name, taken_id, wrong_bridge, full_of_bridges, spent_rack, taken_port, wrong_metric, wrong_link, full_of_links, joined, wrong_count}
 
 -- ---- what names a bridge
 
@@ -134,6 +134,26 @@ detach_said_at_found s name port (Some i) at =
 detach_said : (s : State) (name : List ℕ) (port : ℕ) → Said (Holds s (command.Detach name port)) (named_detach_refusal s.world name port)
 unfolding named_detach_refusal
 detach_said s name port = detach_said_at_found s name port (place_of name s.world.bridges) refl
+
+enter_said_at_found : (s : State) (name : List ℕ) (port : ℕ) (bytes : List ℕ) (o : Option ℕ) → place_of name s.world.bridges ≡ o → Said (Holds s (command.Frame name port bytes)) (refusal_at_found (λ i. entry_refusal s.world i port bytes) o)
+unfolding entry_refusal
+enter_said_at_found s name port bytes None at = (unknown name s.world.bridges at, λ q h. lowest q)
+enter_said_at_found s name port bytes (Some i) at =
+    chain_said (Holds s (command.Frame name port bytes)) 0
+    ((is_customer_port port && is_customer_frame bytes, Range) ∷ (is_attached s.world.attached i port, NotAttached) ∷ [])
+    (wrong_entry port bytes, (at-is name s.world.bridges _ i _ at (free_customer_port s.world i port), tt))
+    (omega arith, (omega arith, tt))
+    covers
+  where
+    covers : (q : Reason) → Holds s (command.Frame name port bytes) q → (q ≡ Range) ⊎ ((q ≡ NotAttached) ⊎ ⊥)
+    covers NoSuchName h = absurd (h (known name s.world.bridges i at))
+    covers Range h = inl refl
+    covers NotAttached h = inr (inl refl)
+    covers _ h = absurd h
+
+enter_said : (s : State) (name : List ℕ) (port : ℕ) (bytes : List ℕ) → Said (Holds s (command.Frame name port bytes)) (named_entry_refusal s.world name port bytes)
+unfolding named_entry_refusal
+enter_said s name port bytes = enter_said_at_found s name port bytes (place_of name s.world.bridges) refl
 
 bridge_said : (s : State) (name : List ℕ) (priority : ℕ) (system : Mac) (source : SourceId) (ports : ℕ) → Said (Holds s (command.Bridge name priority system source ports)) (declared_refusal s name priority system source ports)
 unfolding declared_refusal bridge_refusal
@@ -320,6 +340,7 @@ said s (command.Link name a port_a b port_b cost) = link_said s name a b port_a 
 said s (command.Isid isid vid) = isid_said s isid vid
 said s (command.Attach name port isid) = attach_said s name port isid
 said s (command.Detach name port) = detach_said s name port
+said s (command.Frame name port bytes) = enter_said s name port bytes
 said s (command.Metric name side m) = metric_said s name side m
 said s (command.Down name) = down_said s name
 said s (command.Up name) = up_said s name

@@ -7,7 +7,7 @@ use Rattle.link_model.specs.Lane.{Frame, pushed, after_lose, after_double}
 use Rattle.spb_types.specs.declared.link.Dir.{Dir}
 use Rattle.spb_types.specs.declared.link.Dir.TheVariants.{Ab, Ba}
 use Rattle.bridge_api.specs.Step as comes
-use Rattle.bridge_api.specs.Step.{Input, step, sent}
+use Rattle.bridge_api.specs.Step.{Input, step, sent, left_by}
 use Rattle.spb_network.proofs.BridgeLaws.{steps_keep_bridge}
 use Rattle.spb_network.specs.declared.declaration.DeclaredBridge.{DeclaredBridge}
 use Rattle.spb_network.specs.declared.declaration.DeclaredLink.{DeclaredLink}
@@ -19,7 +19,7 @@ use Rattle.spb_types.specs.declared.link.Side.{Side}
 use Rattle.spb_network.specs.Declaring.{switched, with_live, links_with_metric, with_end_metric}
 use Rattle.spb_types.specs.Places.{changed_at}
 use Rattle.spb_network.specs.State.{State, links_of, is_live, near_end, far_end, lane_out, lane_at, with_frames}
-use Rattle.spb_network.specs.Events.{sent_over, sent_all, stepped, ticked, heard_over, delivered_front, delivered, lost, doubled, with_carrier_at_end, with_carrier_over, with_metric_at_end, flushed, switched_off, switched_on, ticked_from, delivered_times, lane_served, served_from, one_round, rounds, delivered_over, delivered_first, drained}
+use Rattle.spb_network.specs.Events.{sent_over, sent_all, left_all, stepped, ticked, heard_over, delivered_front, delivered, lost, doubled, with_carrier_at_end, with_carrier_over, with_metric_at_end, flushed, switched_off, switched_on, ticked_from, delivered_times, lane_served, served_from, one_round, rounds, delivered_over, delivered_first, drained}
 use Rattle.spb_network.specs.Network.{Fits, IsPortAt}
 use Rattle.spb_network.proofs.BoxLemmas.{get-map, All-get}
 
@@ -93,12 +93,15 @@ alike_sent_all s i (f ∷ fs) =
 alike_views : (input : Input) (s : State) (i : ℕ) → IsAlike s (record s { views = changed_at (step input) s.views i })
 alike_views input s i = record { bridges = refl; links = refl; ports = map-changed (λ v. length v.ports) (step input) s.views i (λ v. (steps_keep_bridge input v).ports); lanes = refl }
 
+alike_left_all : (s t : State) (i : ℕ) (fs : List (ℕ × List ℕ)) → IsAlike s t → IsAlike s (left_all t i fs)
+alike_left_all s t i fs alike = record { bridges = alike.bridges; links = alike.links; ports = alike.ports; lanes = alike.lanes }
+
 pub alike_stepped : (input : Input) (s : State) (i : ℕ) → IsAlike s (stepped input s i)
 unfolding stepped
 alike_stepped input s i =
     let next : State = record s { views = changed_at (step input) s.views i } in
     let fs : List (ℕ × List ℕ) = option_map_or (sent input) (slice_get s.views i) [] in
-    alike_then s next (sent_all next i fs) (alike_views input s i) (alike_sent_all next i fs)
+    alike_left_all s (sent_all next i fs) i (option_map_or (left_by input) (slice_get s.views i) []) (alike_then s next (sent_all next i fs) (alike_views input s i) (alike_sent_all next i fs))
 
 pub alike_with_live : (on : Bool) (s : State) (k : ℕ) → IsAlike s (record s { world = with_live on s.world k })
 unfolding with_live

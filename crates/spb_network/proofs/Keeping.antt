@@ -1,11 +1,12 @@
 -- What a network keeps of the conditions of quiet stays so.
-use Rattle.std.proofs.Common.{Result, Ok, Err, OnOk, ◌≡◌, ℕ, true, None, Some, refl, sym, ◌∙◌, true≢false}
+use Rattle.std.proofs.Common.{Result, Ok, Err, OnOk, ◌≡◌, ℕ, true, false, if◌then◌else◌, None, Some, refl, sym, ◌∙◌, true≢false}
 use Rattle.std.proofs.lemmas.Option.{same_Some}
 use Rattle.scenario.specs.declared.command.Command.{Command}
 use Rattle.scenario.specs.declared.command.Command.TheVariants as command
 use Rattle.spb_network.specs.declared.quiet.Conditions.{Conditions}
 use Rattle.spb_network.specs.State.{State}
-use Rattle.spb_network.specs.Play.{played}
+use Rattle.spb_network.specs.declared.answer.Answer.TheVariants.{Silent, Outs}
+use Rattle.spb_network.specs.Play.{played, is_event, answer_to_asked, answer_of}
 use Rattle.spb_network.specs.Questions.{is_question}
 use Rattle.spb_network.specs.Quiet.{holds_q1, holds_q2, holds_q3, holds_q4, failing}
 use Rattle.spb_network.specs.Quieting.{conditions_of, numbers_of}
@@ -22,6 +23,58 @@ conditions_found s c q1 q2 q3 q4 = λ i. record { links = q1 i; lanes = q2 i; fl
 pub failing_is : (s : State) → numbers_of (conditions_of s) ≡ failing s
 unfolding failing
 failing_is s = refl
+
+-- to a question what it asks is answered
+pub asked_answer : (s : State) (c : Command) → is_question c ≡ true → answer_of s c ≡ answer_to_asked s c
+asked_answer s command.State h = refl
+asked_answer s (command.Show name) h = refl
+asked_answer s (command.Wiring name) h = refl
+asked_answer s (command.Db name) h = refl
+asked_answer s (command.Adj name) h = refl
+asked_answer s (command.Vid vid ect) h = absurd (true≢false (sym h))
+asked_answer s (command.Bridge name priority system source ports) h = absurd (true≢false (sym h))
+asked_answer s (command.Link name a port_a b port_b cost) h = absurd (true≢false (sym h))
+asked_answer s (command.Isid isid vid) h = absurd (true≢false (sym h))
+asked_answer s (command.Attach name port isid) h = absurd (true≢false (sym h))
+asked_answer s (command.Detach name port) h = absurd (true≢false (sym h))
+asked_answer s (command.Metric name side m) h = absurd (true≢false (sym h))
+asked_answer s (command.Down name) h = absurd (true≢false (sym h))
+asked_answer s (command.Up name) h = absurd (true≢false (sym h))
+asked_answer s (command.Restart name) h = absurd (true≢false (sym h))
+asked_answer s (command.Tick name) h = absurd (true≢false (sym h))
+asked_answer s (command.Deliver name dir) h = absurd (true≢false (sym h))
+asked_answer s (command.Lose name dir place) h = absurd (true≢false (sym h))
+asked_answer s (command.Double name dir place) h = absurd (true≢false (sym h))
+asked_answer s (command.Round n) h = absurd (true≢false (sym h))
+asked_answer s (command.Drain n) h = absurd (true≢false (sym h))
+asked_answer s (command.Frame name port bytes) h = absurd (true≢false (sym h))
+asked_answer s (command.Path from to vid) h = refl
+
+-- and what left to an event
+pub event_answers : (s : State) (c : Command) → is_question c ≡ false → answer_of s c ≡ (if is_event c then Outs (played s c).outs else Silent)
+event_answers s command.State h = absurd (true≢false h)
+event_answers s (command.Show name) h = absurd (true≢false h)
+event_answers s (command.Wiring name) h = absurd (true≢false h)
+event_answers s (command.Db name) h = absurd (true≢false h)
+event_answers s (command.Adj name) h = absurd (true≢false h)
+event_answers s (command.Vid vid ect) h = refl
+event_answers s (command.Bridge name priority system source ports) h = refl
+event_answers s (command.Link name a port_a b port_b cost) h = refl
+event_answers s (command.Isid isid vid) h = refl
+event_answers s (command.Attach name port isid) h = refl
+event_answers s (command.Detach name port) h = refl
+event_answers s (command.Metric name side m) h = refl
+event_answers s (command.Down name) h = refl
+event_answers s (command.Up name) h = refl
+event_answers s (command.Restart name) h = refl
+event_answers s (command.Tick name) h = refl
+event_answers s (command.Deliver name dir) h = refl
+event_answers s (command.Lose name dir place) h = refl
+event_answers s (command.Double name dir place) h = refl
+event_answers s (command.Round n) h = refl
+event_answers s (command.Drain n) h = refl
+event_answers s (command.Frame name port bytes) h = refl
+event_answers s (command.Path from to vid) h = absurd (true≢false h)
 
 -- a question changes nothing
 pub question_plays : (s : State) (c : Command) → is_question c ≡ true → played s c ≡ s

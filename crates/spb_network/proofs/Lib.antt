@@ -21,6 +21,7 @@ pub mod SoundMetrics
 pub mod SoundAttached
 pub mod SoundEvents
 pub mod SoundAttaching
+pub mod SoundEntering
 pub mod SoundDeclaring
 pub mod SoundLinks
 pub mod SoundSetMetrics
@@ -50,12 +51,14 @@ pub mod Chains
 pub mod Tested
 pub mod Firsts
 pub mod CountedHellos
+pub mod CountedSent
 pub mod CountedMoves
 pub mod CountedSteps
 pub mod CountedGains
 pub mod CountedEvents
 pub mod CountedLinks
 pub mod CountedAttaching
+pub mod CountedEntering
 pub mod CountedRounds
 pub mod CountedDeclaring
 pub mod CountsKept

@@ -29,7 +29,7 @@ use Rattle.spb_network.proofs.SoundSteps.{in_flushed, flushed_lane}
 use Rattle.spb_network.proofs.SoundCarrier.{got_changed, HaveCarrier, carriers_by}
 use Rattle.spb_network.proofs.SoundEvents.{core_of, sound_from, Sound-flushed, core_with_carrier, with_carrier_world, carrier_stands, stepped_with_metric, stepped_attached, stepped_views}
 use Rattle.spb_network.proofs.CountedMoves.{is_within}
-use Rattle.spb_network.proofs.CountedEvents.{silent_lanes}
+use Rattle.spb_network.proofs.CountedSent.{silent_lanes}
 
 -- ---- the ends of a link of the bridge at place i
 

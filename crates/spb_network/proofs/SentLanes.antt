@@ -1,20 +1,21 @@
 -- What a step of one bridge leaves: the bridges, each lane, and the rest.
-use Rattle.std.proofs.Common.{◌≡◌, ◌≢◌, inl, inr, ◌<◌, ◌==◌, ◌&&◌, ℕ, zero, suc, Bool, true, false, true≢false, List, [], ◌∷◌, length, refl, sym, ap, ◌∙◌, subst, Option, Some, None, slice_get, if◌then◌else◌, arith}
+use Rattle.std.proofs.Common.{◌≡◌, ◌≢◌, inl, inr, ◌<◌, ◌==◌, ◌&&◌, ℕ, zero, suc, Bool, true, false, true≢false, List, [], ◌∷◌, ◌++◌, length, refl, sym, ap, ◌∙◌, subst, Option, Some, None, slice_get, if◌then◌else◌, arith}
 use Rattle.std.specs.Option.{option_map, option_map_or}
 use Rattle.std.proofs.lemmas.Bool.{eqb-true, eq-eqb}
 use Rattle.link_model.specs.Lane.{Frame, pushed}
 use Rattle.spb_types.specs.declared.link.Dir.{Dir}
 use Rattle.spb_types.specs.declared.link.Dir.TheVariants.{Ab, Ba}
 use Rattle.bridge_api.specs.View.{BridgeView}
-use Rattle.bridge_api.specs.Step.{Input, step, sent}
+use Rattle.bridge_api.specs.Step.{Input, step, sent, left_by}
 use Rattle.spb_network.specs.declared.declaration.DeclaredLink.{DeclaredLink}
 use Rattle.link_model.specs.declared.lanes.LinkLanes.{LinkLanes}
 use Rattle.link_model.specs.declared.lanes.LaneId.{LaneId}
-use Rattle.spb_network.specs.World.{World, things_of, AllApart}
+use Rattle.spb_network.specs.declared.answer.Out.{Out}
+use Rattle.spb_network.specs.World.{World, names_of, things_of, AllApart}
 use Rattle.link_model.specs.Lanes.{changed_lane, lane_of}
 use Rattle.spb_types.specs.Places.{changed_at}
 use Rattle.spb_network.specs.State.{State, links_of, is_live, near_end, lane_out, with_frames}
-use Rattle.spb_network.specs.Events.{sent_over, sent_all, stepped}
+use Rattle.spb_network.specs.Events.{sent_over, sent_all, outs_at, left_all, stepped}
 use Rattle.spb_network.specs.DeliveryLaws.{frames_at, pushed_all, IsOneStep}
 use Rattle.spb_network.proofs.FitsLemmas.{alike_sent_over}
 use Rattle.spb_network.proofs.SoundLane.{some-is}
@@ -163,10 +164,21 @@ unfolding stepped
 stepped_beside x s i k dir l there apart =
     sent_beside (links_of s) i k dir l there (record s { views = changed_at (step x) s.views i }) (option_map_or (sent x) (slice_get s.views i) []) refl apart
 
-pub stepped_rest : (x : Input) (s : State) (i : ℕ) → stepped x s i ≡ record s { views = (stepped x s i).views; lanes = (stepped x s i).lanes }
+pub stepped_rest : (x : Input) (s : State) (i : ℕ) → stepped x s i ≡ record s { views = (stepped x s i).views; lanes = (stepped x s i).lanes; outs = (stepped x s i).outs }
 unfolding stepped
 stepped_rest x s i =
     let next : State = record s { views = changed_at (step x) s.views i } in
     let fs : List (ℕ × Frame) = option_map_or (sent x) (slice_get s.views i) [] in
     let t : State = sent_all next i fs in
-    sent_rest next i fs ∙ ap (λ (views : List BridgeView). record s { views = views; lanes = t.lanes }) (sym (ap (λ (u : State). u.views) (sent_rest next i fs)))
+    let outs : List Out = (left_all t i (option_map_or (left_by x) (slice_get s.views i) [])).outs in
+    ap (λ (u : State). record u { outs = outs }) (sent_rest next i fs)
+    ∙ ap (λ (views : List BridgeView). record s { views = views; lanes = t.lanes; outs = outs }) (sym (ap (λ (u : State). u.views) (sent_rest next i fs)))
+
+-- what left is behind what left before
+pub stepped_outs : (x : Input) (s : State) (i : ℕ) (v : BridgeView) → slice_get s.views i ≡ Some v → (stepped x s i).outs ≡ s.outs ++ outs_at (slice_get (names_of s.world.bridges) i) (left_by x v)
+unfolding stepped
+stepped_outs x s i v at =
+    let next : State = record s { views = changed_at (step x) s.views i } in
+    let fs : List (ℕ × Frame) = option_map_or (sent x) (slice_get s.views i) [] in
+    ap (λ (t : State). t.outs ++ outs_at (slice_get (names_of t.world.bridges) i) (option_map_or (left_by x) (slice_get s.views i) [])) (sent_rest next i fs)
+    ∙ ap (λ (o : Option BridgeView). s.outs ++ outs_at (slice_get (names_of s.world.bridges) i) (option_map_or (left_by x) o [])) at

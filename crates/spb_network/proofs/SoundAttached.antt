@@ -3,7 +3,7 @@ use Rattle.std.specs.Prelude.{Bool, true, false, ◌≡◌}
 use Rattle.std.proofs.Common.{inl, inr, ℕ, List, ap, refl, ◌∙◌}
 use Rattle.spb_types.specs.declared.service.Attachment.{Attachment}
 use Rattle.bridge_api.specs.View.{BridgeView}
-use Rattle.bridge_api.specs.Step.{Input, second, frame, carrier, metric, attach, detach, step}
+use Rattle.bridge_api.specs.Step.{Input, second, frame, carrier, metric, attach, detach, customer, step}
 use Rattle.bridge_api.specs.Laws.{attached_after}
 use Rattle.spb_network.specs.World.{World}
 use Rattle.spb_types.specs.Places.{changed_at}
@@ -19,6 +19,7 @@ is_service (carrier q on) = false
 is_service (metric q m) = false
 is_service (attach a) = true
 is_service (detach q) = true
+is_service (customer q bytes) = false
 
 kept_attached : (x : Input) (attached : List Attachment) → is_service x ≡ false → attached_after x attached ≡ attached
 kept_attached second attached other = refl
@@ -27,6 +28,7 @@ kept_attached (carrier q on) attached other = refl
 kept_attached (metric q m) attached other = refl
 kept_attached (attach a) attached other = absurd cc
 kept_attached (detach q) attached other = absurd cc
+kept_attached (customer q bytes) attached other = refl
 
 -- any other step of one bridge leaves it
 pub attached_stepped : (x : Input) (w : World) (views : List BridgeView) (i : ℕ) → is_service x ≡ false → AreAttached w views → AreAttached w (changed_at (step x) views i)

@@ -140,9 +140,12 @@ port_found xs i port taken =
     let any = Any-from_list_any (λ (a : Attachment). a.port == port) (filter_map (attachment_at i) xs) (sym (any_at (λ a. a.port == port) i xs) ∙ taken) in
     (any.1, (any.0, any.2, any.3), eqb-true any.1.port port any.4)
 
+pub taken_port : (s : State) (i port : ℕ) → IsSoundState s → is_attached s.world.attached i port ≡ true → IsAttachedAt s.views i port
+taken_port s i port sound taken v at =
+    subst (λ (attached : List Attachment). (a : Attachment) × Contains attached a × (a.port ≡ port)) (sym (sound.attached i v at)) (port_found s.world.attached i port taken)
+
 pub is_attached_port : (s : State) (i port : ℕ) → IsSoundState s → detach_refusal s.world i port ≡ None → IsAttachedAt s.views i port
-is_attached_port s i port sound none v at =
-    subst (λ (attached : List Attachment). (a : Attachment) × Contains attached a × (a.port ≡ port)) (sym (sound.attached i v at)) (port_found s.world.attached i port (detach_refusal_none s.world i port none).taken)
+is_attached_port s i port sound none = taken_port s i port sound (detach_refusal_none s.world i port none).taken
 
 -- ---- what is attached afterwards
 

@@ -66,7 +66,7 @@ stepped_attached x s i other attached =
     (attached_stepped x s.world s.views i other attached))
 
 -- an input that changes neither, after frames were lost or taken from lanes
-stays_stepped : (x : Input) (s : State) (lanes : List LinkLanes) (i : ℕ) → IsInputAt s.views i x → is_carrier x ≡ false → is_metric x ≡ false → is_service x ≡ false → IsSoundState s → IsAlike s (record s { lanes = lanes }) → AreShort lanes → ((k : ℕ) (dir : Dir) (f : Frame) → IsIn f (lane_of lanes k dir) → IsIn f (lane_of s.lanes k dir)) → ((p : ℕ) (f : Frame) → x ≡ comes.frame p f → Comes (links_of s) s.lanes i p f) → IsSoundState (stepped x (record s { lanes = lanes }) i)
+pub stays_stepped : (x : Input) (s : State) (lanes : List LinkLanes) (i : ℕ) → IsInputAt s.views i x → is_carrier x ≡ false → is_metric x ≡ false → is_service x ≡ false → IsSoundState s → IsAlike s (record s { lanes = lanes }) → AreShort lanes → ((k : ℕ) (dir : Dir) (f : Frame) → IsIn f (lane_of lanes k dir) → IsIn f (lane_of s.lanes k dir)) → ((p : ℕ) (f : Frame) → x ≡ comes.frame p f → Comes (links_of s) s.lanes i p f) → IsSoundState (stepped x (record s { lanes = lanes }) i)
 stays_stepped x s lanes i is_input same_carrier same_metric same_attached sound alike short fewer from =
     sound_from (stepped x (record s { lanes = lanes }) i) (core_stepped x s lanes i is_input (core_of s sound) alike short fewer from)
     (stepped_carriers x (record s { lanes = lanes }) i same_carrier sound.carriers)

@@ -16,7 +16,7 @@ use Rattle.adjacency.specs.Hearing.{End}
 use Rattle.bridge_api.specs.View.{BridgeView, neighbour_at, is_up_at}
 use Rattle.bridge_api.specs.Parsing.{Parsed, parsed}
 use Rattle.bridge_api.specs.Parsing as parsing
-use Rattle.bridge_api.specs.Step.{Input, second, frame, carrier, metric, attach, detach, step, sent}
+use Rattle.bridge_api.specs.Step.{Input, second, frame, carrier, metric, attach, detach, customer, step, sent}
 use Rattle.bridge_api.specs.Laws.{IsInput, IsSoundView, IsHeard, IsSent, IsHelloOf, IsWritten, IsFrameOf, hello_sender, port_of, claims_of}
 use Rattle.bridge_api.proofs.Frames.{at_most_held}
 use Rattle.spb_network.specs.Sound.{end_at, IsHelloTo, IsFrameFrom, IsFloodedOrHeld, LinkAgrees}
@@ -112,6 +112,7 @@ moved_keeps v p w q (Some input) y lane back after move n kept =
     by (metric r m) from heard = absurd heard
     by (attach a) from heard = absurd heard
     by (detach r) from heard = absurd heard
+    by (customer r bytes) from heard = absurd heard
 
 -- who is kept can be named
 pub named : (o : Option End) (w : BridgeView) (q : ℕ) → IsSoundView w → q ≤ 32 → ((n : End) → o ≡ Some n → n ≡ end_at w q) → IsNamed o
@@ -142,7 +143,7 @@ newly_said v p w q None y lane back after f move some = absurd some
 newly_said v p w q (Some input) y lane back after f move some =
     let next : BridgeView = step input v in
     let keeps : (n : End) → neighbour_at next p ≡ Some n → n ≡ end_at w q = moved_keeps v p w q (Some input) y lane back after move in
-    let own : IsFrameOf next p f = sent_is_sound input v p f move.first (named (neighbour_at next p) w q move.second move.port keeps) some in
+    let own : IsFrameOf next p f = sent_is_sound input v p f move.input move.first (named (neighbour_at next p) w q move.second move.port keeps) some in
     record {
       hello = λ h way heard. subst (λ (to : End). IsHelloTo (end_at next p) to h way) (sym (moved_end y w q)) (hello_to next p (end_at w q) h way (own.hello h way heard) keeps);
       claims = λ id a claimed. at_most_held next id a (own.claims id a claimed);
@@ -181,6 +182,7 @@ moved_ready v p w q (Some input) y lane back after move id up =
     by (metric r m) from here a claimed = absurd claimed
     by (attach b) from here a claimed = absurd claimed
     by (detach r) from here a claimed = absurd claimed
+    by (customer r bytes) from here a claimed = absurd claimed
 
 -- both bridges may have stepped, and the direction agrees
 pub agrees_moved : (v : BridgeView) (p : ℕ) (w : BridgeView) (q : ℕ) (x y : Option Input) (lane back after : List Frame) → IsMove v p w q x y lane back after → LinkAgrees (moved x v) p (moved y w) q after

@@ -10,7 +10,7 @@ use Rattle.adjacency.specs.declared.port.Adjacency.{Adjacency}
 use Rattle.adjacency.specs.Adjacency.{is_up, kept_in, neighbour_of, SoundIn}
 use Rattle.bridge_api.specs.declared.port.BridgePort.{BridgePort}
 use Rattle.bridge_api.specs.View.{BridgeView, IsPort, neighbour_at, is_up_in, is_up_at, has_carrier_in, has_carrier_at}
-use Rattle.bridge_api.specs.Step.{Input, second, frame, carrier, metric, attach, detach, step}
+use Rattle.bridge_api.specs.Step.{Input, second, frame, carrier, metric, attach, detach, customer, step}
 use Rattle.bridge_api.specs.Laws.{IsSoundPort, IsSoundView, carrier_after}
 use Rattle.spb_network.proofs.BridgeLaws.{steps_keep_carrier}
 
@@ -24,6 +24,7 @@ is_carrier (carrier q on) = true
 is_carrier (metric q m) = false
 is_carrier (attach a) = false
 is_carrier (detach q) = false
+is_carrier (customer q bytes) = false
 
 no_other : (input : Input) (p : ℕ) (was : Bool) → is_carrier input ≡ false → carrier_after input p was ≡ was
 no_other second p was other = refl
@@ -32,6 +33,7 @@ no_other (carrier q on) p was other = absurd cc
 no_other (metric q m) p was other = refl
 no_other (attach a) p was other = refl
 no_other (detach q) p was other = refl
+no_other (customer q bytes) p was other = refl
 
 -- no other input changes the carrier of a port
 pub carrier_kept : (input : Input) (v : BridgeView) (p : ℕ) → IsPort v p → is_carrier input ≡ false → has_carrier_at (step input v) p ≡ has_carrier_at v p

@@ -7,7 +7,7 @@ use Rattle.std.proofs.lemmas.List.{length-map}
 use Rattle.std.proofs.lemmas.Option.{slice_get-map}
 use Rattle.bridge_api.specs.declared.port.BridgePort.{BridgePort}
 use Rattle.bridge_api.specs.View.{BridgeView, IsPort, metrics_of}
-use Rattle.bridge_api.specs.Step.{Input, second, frame, carrier, metric, attach, detach, step}
+use Rattle.bridge_api.specs.Step.{Input, second, frame, carrier, metric, attach, detach, customer, step}
 use Rattle.bridge_api.specs.Laws.{metrics_after}
 use Rattle.bridge_api.proofs.Places.{got_at, got_beside}
 use Rattle.spb_network.specs.declared.declaration.DeclaredLink.{DeclaredLink}
@@ -44,6 +44,7 @@ is_metric (carrier q on) = false
 is_metric (metric q m) = true
 is_metric (attach a) = false
 is_metric (detach q) = false
+is_metric (customer q bytes) = false
 
 kept_metrics : (x : Input) (ms : List ℕ) → is_metric x ≡ false → metrics_after x ms ≡ ms
 kept_metrics second ms other = refl
@@ -52,6 +53,7 @@ kept_metrics (carrier q on) ms other = refl
 kept_metrics (metric q m) ms other = absurd cc
 kept_metrics (attach a) ms other = refl
 kept_metrics (detach q) ms other = refl
+kept_metrics (customer q bytes) ms other = refl
 
 -- no other input changes a metric
 metric_kept : (x : Input) (v : BridgeView) (p : ℕ) → is_metric x ≡ false → metric_at (step x v) p ≡ metric_at v p

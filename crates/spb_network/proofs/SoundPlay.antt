@@ -20,11 +20,11 @@ use Rattle.spb_network.specs.World.{World, place_of, Sound}
 use Rattle.link_model.specs.Lanes.{no_frames}
 use Rattle.spb_network.specs.Declaring.{bridge_refusal, vid_refusal, link_refusal, plan_of, bridge_of, link_of, with_link}
 use Rattle.spb_network.specs.Services.{isid_refusal, service_of, with_service}
-use Rattle.spb_network.specs.Attaching.{attach_refusal, detach_refusal}
+use Rattle.spb_network.specs.Attaching.{attach_refusal, detach_refusal, entry_refusal}
 use Rattle.spb_network.specs.State.{State, Spare}
-use Rattle.spb_network.specs.Events.{ticked, delivered, lost, doubled, with_metrics_over, with_metric_changed, port_attached, port_detached, switched_off, switched_on, rounds, drained}
+use Rattle.spb_network.specs.Events.{ticked, delivered, lost, doubled, with_metrics_over, with_metric_changed, port_attached, port_detached, frame_entered, switched_off, switched_on, rounds, drained}
 use Rattle.spb_network.specs.Restarting.{restarted}
-use Rattle.spb_network.specs.Refusing.{box_for, declared_refusal, link_refusal_at_found, named_link_refusal, refusal_at_found, metric_refusal, named_attach_refusal, named_detach_refusal, refusal_of}
+use Rattle.spb_network.specs.Refusing.{box_for, declared_refusal, link_refusal_at_found, named_link_refusal, refusal_at_found, metric_refusal, named_attach_refusal, named_detach_refusal, named_entry_refusal, refusal_of}
 use Rattle.spb_network.specs.Play.{config_of, boxed, declared, linked, link_between_found, named_link, at_place, at_bridge, at_link, with_vid_more, with_service_more, with_rounds, with_drain, played, counted, next_state, played_all}
 use Rattle.spb_network.specs.Sound.{IsSoundState, opening}
 use Rattle.spb_network.specs.SoundLaws.{Keeps, EventsKeepSound, IsAddress, IsAddressed, CommandsKeepSound, AreAccepted, NetworksAreSound}
@@ -40,6 +40,7 @@ use Rattle.spb_network.proofs.SoundLinks.{Sound-new_link}
 use Rattle.spb_network.proofs.RestartSound.{Sound-restarted}
 use Rattle.spb_network.proofs.SoundSetMetrics.{Sound-metric_changed}
 use Rattle.spb_network.proofs.SoundAttaching.{Sound-port_attached, Sound-port_detached}
+use Rattle.spb_network.proofs.SoundEntering.{Sound-frame_entered}
 use Rattle.spb_network.proofs.PlaceLemmas.{place_within}
 use Rattle.spb_network.proofs.SoundLane.{IsStill}
 use Rattle.spb_network.proofs.SoundConfigured.{configured_still, configured_attached}
@@ -53,6 +54,7 @@ events_keep_sound = record {
   metric = λ k side m is s sound. Sound-metric_changed s k side m is sound;
   attach = λ i port isid s may sound. Sound-port_attached s i port isid may.0 may.1 sound;
   detach = λ i port s may sound. Sound-port_detached s i port may sound;
+  enter = λ i port bytes s may sound. Sound-frame_entered s i port bytes may sound;
   down = λ k s sound. Sound-switched_off s k sound;
   up = λ k s sound. Sound-switched_on s k sound;
   restart = λ i s sound. Sound-restarted s i sound;
@@ -208,6 +210,14 @@ detach_sound : (s : State) (name : List ℕ) (port : ℕ) → IsSoundState s →
 unfolding named_detach_refusal at_bridge
 detach_sound s name port sound none = detach_sound_at_found s port (place_of name s.world.bridges) sound none
 
+enter_sound_at_found : (s : State) (port : ℕ) (bytes : List ℕ) (o : Option ℕ) → IsSoundState s → refusal_at_found (λ i. entry_refusal s.world i port bytes) o ≡ None → IsSoundState (at_place (λ t i. frame_entered t i port bytes) s o)
+enter_sound_at_found s port bytes None sound none = sound
+enter_sound_at_found s port bytes (Some i) sound none = Sound-frame_entered s i port bytes none sound
+
+enter_sound : (s : State) (name : List ℕ) (port : ℕ) (bytes : List ℕ) → IsSoundState s → named_entry_refusal s.world name port bytes ≡ None → IsSoundState (at_bridge (λ t i. frame_entered t i port bytes) s name)
+unfolding named_entry_refusal at_bridge
+enter_sound s name port bytes sound none = enter_sound_at_found s port bytes (place_of name s.world.bridges) sound none
+
 -- ---- the commands
 
 rounds_sound : (n : ℕ) → Keeps (with_rounds n)
@@ -225,6 +235,7 @@ played_sound s (command.Link name a port_a b port_b cost) sound addressed none =
 played_sound s (command.Isid isid vid) sound addressed none = isid_sound s isid vid sound none
 played_sound s (command.Attach name port isid) sound addressed none = attach_sound s name port isid sound none
 played_sound s (command.Detach name port) sound addressed none = detach_sound s name port sound none
+played_sound s (command.Frame name port bytes) sound addressed none = enter_sound s name port bytes sound none
 played_sound s (command.Metric name side m) sound addressed none = metric_sound s name side m sound none
 played_sound s (command.Down name) sound addressed none = at_link_sound switched_off s name (λ k t. Sound-switched_off t k) sound
 played_sound s (command.Up name) sound addressed none = at_link_sound switched_on s name (λ k t. Sound-switched_on t k) sound

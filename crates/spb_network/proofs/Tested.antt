@@ -11,6 +11,7 @@ use Rattle.spb_types.specs.declared.address.Mac.{Mac}
 use Rattle.spb_types.specs.declared.service.Attachment.{Attachment}
 use Rattle.spb_types.specs.declared.service.SourceId.{SourceId}
 use Rattle.bridge_api.specs.Config.{IsMetric}
+use Rattle.bridge_api.specs.Customers.{IsCustomerFrame}
 use Rattle.bridge_api.specs.declared.kind.Kind.{Kind}
 use Rattle.bridge_api.specs.declared.kind.Kind.TheVariants as kind
 use Rattle.spb_network.specs.declared.declaration.DeclaredLink.{DeclaredLink}
@@ -18,7 +19,7 @@ use Rattle.spb_network.specs.declared.declaration.LinkEnd.{LinkEnd}
 use Rattle.spb_network.specs.World.{World, Bridges, Links, Services, names_of, things_of, place_of, vid_of_isid, attached_at, ports_at, is_between, is_at_port}
 use Rattle.spb_network.specs.Declaring.{has_vid, is_new_vid, is_vid_range, has_vid_room, is_before_bridges, is_new_name, is_new_system, is_new_source, is_bridge_address, is_bridge_range, has_bridge_room, is_free_port, is_port, is_link_range, has_link_room, is_unlinked}
 use Rattle.spb_network.specs.Services.{is_new_isid, is_isid_range, has_service_room}
-use Rattle.spb_network.specs.Attaching.{is_declared_isid, is_customer_port, is_attached, isids_with, has_isid_room}
+use Rattle.spb_network.specs.Attaching.{is_declared_isid, is_customer_port, is_customer_frame, is_attached, isids_with, has_isid_room}
 use Rattle.spb_network.proofs.AttachedLemmas.{any_at}
 use Rattle.spb_network.specs.State.{Spare, same_kind, serves, box_from, next_box}
 use Rattle.spb_network.specs.Refusing.{are_declared}
@@ -171,6 +172,13 @@ undeclared_isid w isid = fails (is_declared_isid w.services isid) (declared_isid
 pub wrong_port : (port : ℕ) → Decides (not (is_customer_port port)) (¬ IsCustomerPort port)
 unfolding is_customer_port
 wrong_port port = fails (nat_le 1 port && nat_le port 64) (Decides-and _ _ (le-is 1 port) (le-is port 64))
+
+pub wrong_entry : (port : ℕ) (bytes : List ℕ) → Decides (not (is_customer_port port && is_customer_frame bytes)) (¬ (IsCustomerPort port × IsCustomerFrame bytes))
+unfolding is_customer_port is_customer_frame
+wrong_entry port bytes =
+    fails (is_customer_port port && is_customer_frame bytes)
+    (Decides-and _ _ (Decides-and _ _ (le-is 1 port) (le-is port 64))
+    (Decides-like (is_customer_frame bytes) (λ h. record { low = h.0; high = h.1 }) (λ h. (h.low, h.high)) (Decides-and _ _ (le-is 14 (length bytes)) (le-is (length bytes) 2000))))
 
 pub full_of_isids : (attached : List Attachment) (isid : ℕ) → Decides (not (has_isid_room attached isid)) (60 < length (isids_with attached isid))
 unfolding has_isid_room

@@ -1,5 +1,5 @@
 -- What one application of a command answers, and what it leaves.
-use Rattle.std.specs.Prelude.{◌≡◌, ◌⊎◌, ◌≤◌, true, false, Some, None, Result, Ok, Err}
+use Rattle.std.specs.Prelude.{◌≡◌, ◌⊎◌, ◌≤◌, [], true, false, Some, None, Result, Ok, Err}
 use Rattle.scenario.specs.declared.command.Command.{Command}
 use Rattle.bridge_api.specs.Shown.{Shown}
 use Rattle.spb_network.specs.declared.answer.Answer.{Answer}
@@ -27,11 +27,13 @@ module _ {B : Type 0} (shown : B → Shown) where
   IsKept n = (kept : Conditions) → n.kept ≡ Some kept → kept ≡ conditions_of (state_of shown n)
 
   -- a network at which no command ran out of memory: its boxes are made, its state is sound, its sequence
-  -- numbers are counted while no more commands were accepted than a script can have, and what it keeps of quiet is so
+  -- numbers are counted while no more commands were accepted than a script can have, what left was answered, and what it
+  -- keeps of quiet is so
   pub record IsSoundNetwork (n : NetworkOf B) : Type 0 where
     pub made : AreMade shown n.boxes.items
     pub state : IsSoundState (state_of shown n)
     pub counted : (state_of shown n).accepted ≤ most_commands → IsCounted (state_of shown n)
+    pub outs : (state_of shown n).outs ≡ []
     pub kept : IsKept n
 
   -- a network that halted, or is sound: so is every network that `new` gave, whatever was applied to it

@@ -23,12 +23,12 @@ use Rattle.bridge_api.specs.View.{BridgeView}
 use Rattle.spb_network.specs.declared.declaration.DeclaredLink.{DeclaredLink}
 use Rattle.spb_network.specs.declared.kind_rule.KindRule.{KindRule}
 use Rattle.spb_network.specs.State.{State, Spare, links_of, far_end}
-use Rattle.spb_network.specs.Events.{ticked, delivered, lost, doubled, with_metric_changed, port_attached, port_detached, switched_off, switched_on, rounds, drained}
+use Rattle.spb_network.specs.Events.{ticked, delivered, lost, doubled, with_metric_changed, port_attached, port_detached, frame_entered, switched_off, switched_on, rounds, drained}
 use Rattle.spb_network.specs.Restarting.{restarted}
 use Rattle.spb_network.specs.Refusing.{refusal_of}
 use Rattle.spb_network.specs.Play.{next_state, played_all}
 use Rattle.spb_network.specs.Sound.{IsSoundState, opening}
-use Rattle.spb_network.specs.SoundLaws.{MayAttach, MayDetach, IsAddressed, AreAccepted, IsBusy}
+use Rattle.spb_network.specs.SoundLaws.{MayAttach, MayDetach, MayEnter, IsAddressed, AreAccepted, IsBusy}
 use Rattle.spb_network.specs.Counted.{IsCopy, IsCountedBy, IsCounted, most_commands}
 
 -- ---- the events
@@ -44,7 +44,7 @@ RaisesWhere more may event = (s : State) (allowance : ℕ) → may s → IsSound
     → allowance + more < last_number → IsCountedBy (allowance + more) (event s)
 
 -- a tick takes the numbers of its bridge one further, or sends one hello more to another; all ticks of a round together
--- take each at most 128 further; deliveries and losses take none further, in any number
+-- take each at most 128 further; deliveries, losses and customers' frames that enter take none further, in any number
 pub record EventsKeepCounted : Type 0 where
   pub tick : (i : ℕ) → Raises 2 (λ s. ticked s i)
   pub deliver : (k : ℕ) (dir : Dir) → Raises 0 (λ s. delivered s k dir)
@@ -53,6 +53,7 @@ pub record EventsKeepCounted : Type 0 where
   pub metric : (k : ℕ) (side : Side) (m : ℕ) → IsMetric m → Raises 2 (λ s. with_metric_changed s k side m)
   pub attach : (i port isid : ℕ) → RaisesWhere 2 (MayAttach i port isid) (λ s. port_attached s i port isid)
   pub detach : (i port : ℕ) → RaisesWhere 2 (MayDetach i port) (λ s. port_detached s i port)
+  pub enter : (i port : ℕ) (bytes : List ℕ) → RaisesWhere 0 (MayEnter i port bytes) (λ s. frame_entered s i port bytes)
   pub down : (k : ℕ) → Raises 2 (λ s. switched_off s k)
   pub up : (k : ℕ) → Raises 1 (λ s. switched_on s k)
   pub restart : (i : ℕ) → Raises 2 (λ s. restarted s i)

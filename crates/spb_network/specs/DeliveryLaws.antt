@@ -1,14 +1,14 @@
 -- The law of a delivery: what becomes of the frame, of the bridges and of the lanes.
-use Rattle.std.specs.Prelude.{◌≡◌, ◌≢◌, ℕ, List, [], ◌∷◌, true, ◌==◌, if◌then◌else◌, Some, None, slice_get}
+use Rattle.std.specs.Prelude.{◌≡◌, ◌≢◌, ℕ, List, [], ◌∷◌, ◌++◌, true, ◌==◌, if◌then◌else◌, Some, None, slice_get}
 use Rattle.link_model.specs.Lane.{Frame, pushed}
 use Rattle.scenario.specs.declared.command.Command.TheVariants as command
 use Rattle.spb_types.specs.declared.link.Dir.{Dir}
 use Rattle.bridge_api.specs.View.{BridgeView}
-use Rattle.bridge_api.specs.Step.{Input, frame, step, sent}
+use Rattle.bridge_api.specs.Step.{Input, frame, step, sent, left_by}
 use Rattle.spb_network.specs.declared.declaration.DeclaredLink.{DeclaredLink}
-use Rattle.spb_network.specs.World.{place_of}
+use Rattle.spb_network.specs.World.{place_of, names_of}
 use Rattle.spb_network.specs.State.{State, links_of, near_end, far_end, lane_at}
-use Rattle.spb_network.specs.Events.{delivered}
+use Rattle.spb_network.specs.Events.{outs_at, delivered}
 use Rattle.spb_network.specs.Refusing.{refusal_of}
 use Rattle.spb_network.specs.Play.{played}
 use Rattle.spb_network.specs.Sound.{IsSoundState}
@@ -42,8 +42,8 @@ AreLeft s t i k dir = (j : ℕ) (d : Dir) (l : DeclaredLink)
     → lane_at t j d ≡ lane_at s j d
 
 -- the frame at the front of the lane in direction dir of the link at place k, which is up, is taken from there, and the
--- bridge at the far end makes one step by it, at its port; what it sends goes into the lanes that lead from it. Nothing
--- else is changed
+-- bridge at the far end makes one step by it, at its port; what it sends goes into the lanes that lead from it, and the
+-- customers' frames that leave it have left, under its name. Nothing else is changed
 pub record IsDelivery (s t : State) (k : ℕ) (dir : Dir) (bytes : Frame) (behind : List Frame) : Type 0 where
   pub link : DeclaredLink
   pub there : slice_get (links_of s) k ≡ Some link
@@ -54,7 +54,9 @@ pub record IsDelivery (s t : State) (k : ℕ) (dir : Dir) (bytes : Frame) (behin
   pub heard : IsOneStep s t (far_end dir link).bridge (frame (far_end dir link).port bytes) view
   pub answers : AreSent s t (far_end dir link).bridge (sent (frame (far_end dir link).port bytes) view)
   pub others : AreLeft s t (far_end dir link).bridge k dir
-  pub rest : t ≡ record s { views = t.views; lanes = t.lanes }
+  pub left : t.outs ≡ s.outs ++ outs_at (slice_get (names_of s.world.bridges) (far_end dir link).bridge)
+      (left_by (frame (far_end dir link).port bytes) view)
+  pub rest : t ≡ record s { views = t.views; lanes = t.lanes; outs = t.outs }
 
 -- in a sound network, a delivery from a lane with a frame is such a one
 abbrev pub FramesAreDelivered : Type 0

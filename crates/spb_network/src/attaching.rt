@@ -42,6 +42,14 @@ pub fn is_customer_port(port: u64) -> bool
     1 <= port && port <= u64::from(MOST_CUSTOMER_PORTS)
 }
 
+/// Whether a customer's frame has two addresses and a type, and is no jumbo: 14 to 2,000 bytes (IEEE 802.3, 3.1.1).
+#[tactic(auto, unfolding(crate::specs::Attaching::is_customer_frame))]
+pub fn is_customer_frame(frame: &[u8]) -> bool
+    ensures { result ≡ attaching.is_customer_frame frame.now }
+{
+    14 <= frame.len() && frame.len() <= 2000
+}
+
 /// Whether something is attached at a customer port of the bridge at a place.
 fn is_at(entry: &(usize, Attachment), place: usize, port: u64) -> bool
     ensures { result ≡ ((entry.now.0 == place) && (entry.now.1.port == port)) }

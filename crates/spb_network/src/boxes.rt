@@ -1,9 +1,10 @@
 //! What one box of a list does. A place past the last box is one where nothing happens.
-ghost use Rattle.std.specs.Prelude.{◌≡◌, ◌≤◌, [], false, length, slice_get, slice_set, OnOk, IfOk};
+ghost use Rattle.std.specs.Prelude.{◌≡◌, ◌≤◌, [], ◌++◌, false, length, slice_get, slice_set, OnOk, IfOk};
 ghost use Rattle.std.specs.Option.{option_map_or};
 ghost use Rattle.bridge_api.specs.Config.{IsMetric};
+ghost use Rattle.bridge_api.specs.Customers.{IsCustomerFrame};
 ghost use Rattle.bridge_api.specs.Step as comes;
-ghost use Rattle.bridge_api.specs.Step.{sent, step, with_wire};
+ghost use Rattle.bridge_api.specs.Step.{sent, left_by, step, with_wire};
 ghost use Rattle.bridge_api.specs.Shown.{views_of};
 ghost use Rattle.spb_types.specs.Places.{changed_at};
 ghost use Rattle.spb_network.specs.Questions as question;
@@ -41,12 +42,40 @@ pub fn hear<B: Bridge>(
     requires port { IsPortAt (views_of B.shown boxes.old.items) i port }
     ensures views { OnOk result (views_of B.shown boxes.new.items
         ≡ changed_at (step (comes.frame port frame.now)) (views_of B.shown boxes.old.items) i) }
-    ensures sent { OnOk result (outbox.new ≡ outbox.old) }
+    ensures sent { OnOk result (outbox.new.wire ≡ outbox.old.wire
+        ++ option_map_or (sent (comes.frame port frame.now)) (slice_get (views_of B.shown boxes.old.items) i) []) }
+    ensures left { OnOk result (outbox.new.left ≡ outbox.old.left
+        ++ option_map_or (left_by (comes.frame port frame.now)) (slice_get (views_of B.shown boxes.old.items) i) []) }
     ensures made { OnOk result (AreMade B.shown boxes.new.items) }
 {
     match boxes.get_mut(i) {
         None => Ok(()),
         Some(bridge) => bridge.receive(port, frame, outbox),
+    }
+}
+
+/// A customer's frame enters at a customer port of a bridge.
+pub fn enter<B: Bridge>(
+    boxes: &mut Vec<B>,
+    i: usize,
+    port: u16,
+    frame: &[u8],
+    outbox: &mut Outbox,
+) -> Result<(), NoMemory>
+    requires made { AreMade B.shown boxes.old.items }
+    requires attached { IsAttachedAt (views_of B.shown boxes.old.items) i port }
+    requires frame { IsCustomerFrame frame.now }
+    ensures views { OnOk result (views_of B.shown boxes.new.items
+        ≡ changed_at (step (comes.customer port frame.now)) (views_of B.shown boxes.old.items) i) }
+    ensures sent { OnOk result (outbox.new.wire ≡ outbox.old.wire
+        ++ option_map_or (sent (comes.customer port frame.now)) (slice_get (views_of B.shown boxes.old.items) i) []) }
+    ensures left { OnOk result (outbox.new.left ≡ outbox.old.left
+        ++ option_map_or (left_by (comes.customer port frame.now)) (slice_get (views_of B.shown boxes.old.items) i) []) }
+    ensures made { OnOk result (AreMade B.shown boxes.new.items) }
+{
+    match boxes.get_mut(i) {
+        None => Ok(()),
+        Some(bridge) => bridge.customer(port, frame, outbox),
     }
 }
 

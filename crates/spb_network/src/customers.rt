@@ -1,5 +1,5 @@
-//! Customer ports of the bridges of a network: why one can't be attached or detached, and what an accepted command
-//! makes.
+//! Customer ports of the bridges of a network: why one can't be attached or detached, why no frame can enter at one, and
+//! what an accepted command makes.
 ghost use Rattle.std.specs.Prelude.{◌≡◌, ◌<◌, None, length, OnOk};
 ghost use Rattle.spb_network.specs.Attaching as attaching;
 ghost use Rattle.spb_network.specs.Refusing as refuse;
@@ -9,7 +9,7 @@ ghost use Rattle.spb_network.specs.Network.{state_of, AreMade, CanAttachAt};
 ghost use Rattle.spb_network.specs.Applying.{IsSoundNetwork};
 
 use crate::{NetworkOf, Reason, World, boxes};
-use bridge_api::Bridge;
+use bridge_api::{Bridge, Outbox};
 use spb_types::{Attachment, Isid, Name, NoMemory};
 
 impl World {
@@ -32,6 +32,17 @@ impl World {
         match self.bridge_place(name) {
             None => Some(Reason::NoSuchName),
             Some(place) => self.detach_refusal(place, port),
+        }
+    }
+
+    /// Why a customer's frame can't enter at a customer port of a bridge, if it can't.
+    #[tactic(auto, unfolding(crate::specs::Refusing::named_entry_refusal))]
+    pub fn named_entry_refusal(&self, name: Name, port: u64, frame: &[u8]) -> Option<Reason>
+        ensures { result ≡ refuse.named_entry_refusal self.now name port frame.now }
+    {
+        match self.bridge_place(name) {
+            None => Some(Reason::NoSuchName),
+            Some(place) => self.entry_refusal(place, port, frame),
         }
     }
 }
@@ -85,6 +96,19 @@ impl<B: Bridge> NetworkOf<B> {
         Ok(())
     }
 
+    /// A customer's frame enters at a customer port of the bridge at a place.
+    fn enter(&mut self, place: usize, port: u64, frame: &[u8]) -> Result<(), NoMemory>
+        requires sound { IsSoundNetwork B.shown self.old }
+        requires accepted { attaching.entry_refusal self.old.world place port frame.now ≡ None }
+        ensures state { OnOk result (state_of B.shown self.new
+            ≡ event.frame_entered (state_of B.shown self.old) place port frame.now) }
+        ensures made { OnOk result (AreMade B.shown self.new.boxes.items) }
+    {
+        let mut outbox = Outbox::new(self.alloc);
+        boxes::enter(&mut self.boxes, place, port as u16, frame, &mut outbox)?;
+        self.send_on(place, outbox)
+    }
+
     /// A customer port of a bridge is attached to a service.
     #[tactic(auto, unfolding(crate::specs::Refusing::named_attach_refusal, crate::specs::Play::at_bridge))]
     pub(crate) fn play_attach(&mut self, name: Name, port: u64, isid: u64) -> Result<(), NoMemory>
@@ -112,6 +136,21 @@ impl<B: Bridge> NetworkOf<B> {
         match self.world.bridge_place(name) {
             None => Ok(()),
             Some(place) => self.detach(place, port),
+        }
+    }
+
+    /// A customer's frame enters at a customer port of a bridge.
+    #[tactic(auto, unfolding(crate::specs::Refusing::named_entry_refusal, crate::specs::Play::at_bridge))]
+    pub(crate) fn play_frame(&mut self, name: Name, port: u64, frame: &[u8]) -> Result<(), NoMemory>
+        requires sound { IsSoundNetwork B.shown self.old }
+        requires accepted { refuse.named_entry_refusal self.old.world name port frame.now ≡ None }
+        ensures state { OnOk result (state_of B.shown self.new
+            ≡ play.at_bridge (λ s i. event.frame_entered s i port frame.now) (state_of B.shown self.old) name) }
+        ensures made { OnOk result (AreMade B.shown self.new.boxes.items) }
+    {
+        match self.world.bridge_place(name) {
+            None => Ok(()),
+            Some(place) => self.enter(place, port, frame),
         }
     }
 }

@@ -1,4 +1,4 @@
-//! The events of a network: what comes to one bridge, and what becomes of the frames that it sends.
+//! The events of a network: what comes to one bridge, and what becomes of the frames that it sends and that leave it.
 ghost use Rattle.std.specs.Prelude.{◌≡◌, [], slice_get, OnOk, IfOk, IfSome};
 ghost use Rattle.bridge_api.specs.Config.{IsMetric};
 ghost use Rattle.bridge_api.specs.Step as comes;
@@ -7,7 +7,7 @@ ghost use Rattle.spb_network.specs.State.{links_of, lane_out};
 ghost use Rattle.spb_network.specs.Events as event;
 ghost use Rattle.spb_network.specs.Network.{state_of, IsInOrder};
 
-use crate::{DeclaredLink, LinkEnd, NetworkOf, boxes, link_ends};
+use crate::{DeclaredLink, LinkEnd, NetworkOf, Out, boxes, link_ends};
 use bridge_api::{Bridge, Outbox};
 use link_model::LaneId;
 use scenario::Side;
@@ -39,7 +39,36 @@ impl<B: Bridge> NetworkOf<B> {
         Ok(())
     }
 
-    /// A second of the bridge at a place.
+    /// Frames left the bridge at a place, each at a customer port. Nothing happens past the last bridge.
+    fn leave_all(&mut self, i: usize, frames: Vec<(u16, Seq<u8>)>) -> Result<(), NoMemory>
+        ensures state { OnOk result (state_of B.shown self.new
+            ≡ event.left_all (state_of B.shown self.old) i frames.items) }
+        ensures boxes { self.new.boxes ≡ self.old.boxes }
+    {
+        let Some(bridge) = self.world.bridge_name(i) else {
+            return Ok(());
+        };
+        for (port, frame) in frames {
+            self.outs.push(Out {
+                bridge,
+                port,
+                frame,
+            })?;
+        }
+        Ok(())
+    }
+
+    /// What the bridge at a place sends is on its way at once, and what leaves it has left.
+    pub(crate) fn send_on(&mut self, i: usize, outbox: Outbox) -> Result<(), NoMemory>
+        ensures state { OnOk result (state_of B.shown self.new
+            ≡ event.left_all (event.sent_all (state_of B.shown self.old) i outbox.wire) i outbox.left) }
+        ensures boxes { self.new.boxes ≡ self.old.boxes }
+    {
+        self.send_all(i, outbox.wire.into_vec())?;
+        self.leave_all(i, outbox.left.into_vec())
+    }
+
+    /// A second of the bridge at a place. No customer's frame leaves.
     pub(crate) fn tick(&mut self, i: usize) -> Result<(), NoMemory>
         requires { IsInOrder B.shown self.old }
         ensures state { OnOk result (state_of B.shown self.new
@@ -62,7 +91,7 @@ impl<B: Bridge> NetworkOf<B> {
         })
     }
 
-    /// A frame comes to an end of a link. No frame is sent for it.
+    /// A frame comes to an end of a link. A backbone frame may be sent on, and may let customers' frames leave.
     fn hear(&mut self, end: LinkEnd, frame: &[u8]) -> Result<(), NoMemory>
         requires order { IsInOrder B.shown self.old }
         requires end { IsEnd self.old.world.bridges end }
@@ -71,7 +100,8 @@ impl<B: Bridge> NetworkOf<B> {
         ensures order { OnOk result (IsInOrder B.shown self.new) }
     {
         let mut outbox = Outbox::new(self.alloc);
-        boxes::hear(&mut self.boxes, end.bridge, end.port, frame, &mut outbox)
+        boxes::hear(&mut self.boxes, end.bridge, end.port, frame, &mut outbox)?;
+        self.send_on(end.bridge, outbox)
     }
 
     /// Carrier comes to an end of a link, or goes.

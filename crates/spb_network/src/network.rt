@@ -8,7 +8,7 @@ ghost use Rattle.spb_network.specs.Counted.{most_commands};
 ghost use Rattle.spb_network.specs.Telling.{QuietTells};
 
 use crate::quiet::Conditions;
-use crate::{Answer, ApplyError, KindRule, World, check};
+use crate::{Answer, ApplyError, KindRule, Out, World, check};
 use bridge_api::Bridge;
 use link_model::Lanes;
 use scenario::Command;
@@ -27,6 +27,8 @@ pub struct NetworkOf<B> {
     pub(crate) boxes: Vec<B>,
     pub(crate) world: World,
     pub(crate) lanes: Lanes,
+    /// The customers' frames that left in the present command, in order.
+    pub(crate) outs: Vec<Out>,
     pub(crate) rounds: u32,
     pub(crate) drained: u32,
     pub(crate) accepted: u64,
@@ -53,6 +55,7 @@ impl<B: Bridge> NetworkOf<B> {
             boxes: Vec::new(alloc),
             world: World::new(alloc),
             lanes: Lanes::new(alloc),
+            outs: Vec::new(alloc),
             rounds: 0,
             drained: 0,
             accepted: 0,
@@ -92,8 +95,8 @@ impl<B: Bridge> NetworkOf<B> {
     /// halted, and nothing is said of its boxes and lanes. Where a command was accepted, one of the first 120,000, and
     /// the network is quiet after it, every bridge is told what is there.
     ///
-    /// A form that isn't played yet is accepted: it changes nothing but the count of accepted commands, and answers
-    /// `Silent`.
+    /// Every form is played. An event answers the customers' frames that left by it, in order; they are handed over and
+    /// not copied, and none of them is answered again.
     pub fn apply(&mut self, command: &Command) -> Result<Answer, ApplyError>
         requires { IsReady B.shown self.old }
         ensures applies { Applies B.shown self.old command.now result self.new }

@@ -1,5 +1,5 @@
 //! What each command makes of a network, where it isn't refused. Nothing happens at a name that isn't there.
-ghost use Rattle.std.specs.Prelude.{◌≡◌, ◌<◌, false, true, None, Some, length, OnOk, IfOk};
+ghost use Rattle.std.specs.Prelude.{◌≡◌, ◌<◌, [], false, true, None, Some, length, OnOk, IfOk};
 ghost use Rattle.spb_network.specs.Declaring as declare;
 ghost use Rattle.spb_network.specs.Services as service;
 ghost use Rattle.spb_network.specs.Refusing as refuse;
@@ -9,13 +9,14 @@ ghost use Rattle.spb_network.specs.Events as event;
 ghost use Rattle.spb_network.specs.Network.{state_of, AreMade, IsInOrder, IsBlankAt};
 ghost use Rattle.spb_network.specs.Applying.{IsSoundNetwork, IsKept};
 
-use crate::questions::{asks_for_quiet, is_question};
+use crate::questions::{asks_for_quiet, event_answer, is_question};
 use crate::rack::{kind_at, next_box};
-use crate::{Answer, NetworkOf};
+use crate::{Answer, NetworkOf, Out};
 use bridge_api::Bridge;
 use link_model::LaneId;
 use scenario::{Command, Dir, Side};
 use spb_types::{BridgeId, Mac, Name, NoMemory, SourceId, SystemId};
+use std::mem;
 
 impl<B: Bridge> NetworkOf<B> {
     /// Declares a base VID.
@@ -303,6 +304,11 @@ impl<B: Bridge> NetworkOf<B> {
             Command::Isid { isid, vid } => self.play_isid(*isid, *vid),
             Command::Attach { bridge, port, isid } => self.play_attach(*bridge, *port, *isid),
             Command::Detach { bridge, port } => self.play_detach(*bridge, *port),
+            Command::Frame {
+                bridge,
+                port,
+                frame,
+            } => self.play_frame(*bridge, *port, frame.as_slice()),
             Command::Metric { link, side, metric } => self.play_metric(*link, *side, *metric),
             Command::Down(name) => self.play_down(*name),
             Command::Up(name) => self.play_up(*name),
@@ -356,24 +362,34 @@ impl<B: Bridge> NetworkOf<B> {
         self.answer(command)
     }
 
-    /// Plays a command that isn't refused, at a network that hasn't halted. What is kept of the conditions of quiet
-    /// stays at a question alone.
+    /// The customers' frames that left, which are handed over. Takes no memory.
+    fn take_outs(&mut self) -> Vec<Out>
+        ensures outs { result.items ≡ (state_of B.shown self.old).outs }
+        ensures state { state_of B.shown self.new ≡ record (state_of B.shown self.old) { outs = [] } }
+        ensures boxes { self.new.boxes ≡ self.old.boxes }
+        ensures kept { self.new.kept ≡ self.old.kept }
+    {
+        mem::replace(&mut self.outs, Vec::new(self.alloc))
+    }
+
+    /// Plays a command that isn't refused, at a network that hasn't halted. What left is handed over in the answer. What
+    /// is kept of the conditions of quiet stays at a question alone.
     #[tactic(auto, using(crate::proofs::CommandFits::in_order))]
     pub(crate) fn play(&mut self, command: &Command) -> Result<Answer, NoMemory>
         requires halted { self.old.halted ≡ false }
         requires sound { IsSoundNetwork B.shown self.old }
         requires accepted { refuse.refusal_of (state_of B.shown self.old) command.now ≡ None }
         ensures answer { IfOk result (λ answer. answer ≡ play.answer_of (state_of B.shown self.old) command.now) }
-        ensures state { OnOk result (state_of B.shown self.new ≡ play.played (state_of B.shown self.old) command.now) }
+        ensures state { OnOk result (state_of B.shown self.new
+            ≡ record (play.played (state_of B.shown self.old) command.now) { outs = [] }) }
         ensures made { OnOk result (AreMade B.shown self.new.boxes.items) }
         ensures kept { OnOk result (IsKept B.shown self.new) }
     {
         if is_question(command) {
             return self.ask(command);
         }
-        let answer = self.answer(command)?;
         self.perform(command)?;
         self.kept = None;
-        Ok(answer)
+        Ok(event_answer(command, self.take_outs()))
     }
 }

@@ -1,5 +1,5 @@
 //! What a network answers: the questions about the whole network, and about one bridge.
-ghost use Rattle.std.specs.Prelude.{◌≡◌, false, IfOk};
+ghost use Rattle.std.specs.Prelude.{◌≡◌, false, if◌then◌else◌, IfOk};
 ghost use Rattle.std.specs.Option.{option_map};
 ghost use Rattle.spb_network.specs.declared.answer.Answer.TheVariants as answers;
 ghost use Rattle.spb_network.specs.World.{wired_tables};
@@ -9,14 +9,14 @@ ghost use Rattle.spb_network.specs.Quiet.{failing};
 ghost use Rattle.spb_network.specs.Network.{state_of, IsInOrder};
 ghost use Rattle.spb_network.specs.Applying.{IsSoundNetwork};
 
-use crate::{Answer, NetworkOf, boxes};
+use crate::{Answer, NetworkOf, Out, boxes};
 use adjacency::Adjacency;
 use bridge_api::Bridge;
 use lsdb::DbRow;
 use scenario::Command;
 use spb_types::{Name, NoMemory, Seq, Tables};
 
-/// Whether something comes to pass on the network by a command, so that a customer frame may leave.
+/// Whether something comes to pass on the network by a command, so that customers' frames may leave.
 fn is_event(command: &Command) -> bool
     ensures { result ≡ play.is_event command.now }
 {
@@ -32,7 +32,21 @@ fn is_event(command: &Command) -> bool
             | Command::Double { .. }
             | Command::Round(_)
             | Command::Drain(_)
+            | Command::Frame { .. }
     )
+}
+
+/// The answer to a command that is no question: to an event, the customers' frames that left by it.
+pub(crate) fn event_answer(command: &Command, outs: Vec<Out>) -> Answer
+    ensures { result ≡ (if play.is_event command.now then answers.Outs outs.items else answers.Silent) }
+{
+    if is_event(command) {
+        Answer::Outs {
+            frames: Seq::from_vec(outs),
+        }
+    } else {
+        Answer::Silent
+    }
 }
 
 /// Whether a command asks about the whole network.
@@ -69,17 +83,12 @@ pub(crate) fn asks_for_quiet(command: &Command) -> bool
 }
 
 impl<B: Bridge> NetworkOf<B> {
-    /// What a command that isn't refused is answered, before anything of it happens: no customer frame leaves yet.
+    /// The answer to a question; `Silent` to what is none.
     pub(crate) fn answer(&self, command: &Command) -> Result<Answer, NoMemory>
         requires halted { self.now.halted ≡ false }
         requires sound { IsSoundNetwork B.shown self.now }
-        ensures { IfOk result (λ answer. answer ≡ play.answer_of (state_of B.shown self.now) command.now) }
+        ensures { IfOk result (λ answer. answer ≡ play.answer_to_asked (state_of B.shown self.now) command.now) }
     {
-        if is_event(command) {
-            return Ok(Answer::Outs {
-                frames: Seq::new(self.alloc),
-            });
-        }
         if asks_network(command) {
             return self.state();
         }

@@ -199,6 +199,13 @@ impl<B: Bridge> NetworkOf<B> {
                 self.world.named_attach_refusal(*bridge, *port, *isid)
             }
             Command::Detach { bridge, port } => self.world.named_detach_refusal(*bridge, *port),
+            Command::Frame {
+                bridge,
+                port,
+                frame,
+            } => self
+                .world
+                .named_entry_refusal(*bridge, *port, frame.as_slice()),
             Command::Metric { link, metric, .. } => self.world.metric_refusal(*link, *metric),
             Command::Down(name) => self.world.down_refusal(*name),
             Command::Up(name) => self.world.up_refusal(*name),

@@ -1,7 +1,9 @@
 ghost use Rattle.std.specs.Prelude.{◌≡◌, [], ◌∷◌, ◌++◌, true, None, OnOk, OnErr};
 ghost use Rattle.spb_network.specs.Declaring.{is_new_name, switched, links_with_metric};
 
-use crate::attaching::{attached_at, has_isid_room, is_attached, is_customer_port, remove};
+use crate::attaching::{
+    attached_at, has_isid_room, is_attached, is_customer_frame, is_customer_port, remove,
+};
 use crate::graph::{graph_bridges, graph_edges, graph_members, place_of_system, system_at};
 use crate::hints::Hints;
 use crate::reason::reason_unless;
@@ -426,6 +428,17 @@ impl World {
             is_there,
             Reason::NotAttached,
         ))
+    }
+
+    /// Why a customer's frame can't enter at a customer port of the bridge at a place, if it can't. It takes a pass over
+    /// all that is attached.
+    #[tactic(auto, unfolding(crate::specs::Attaching::entry_refusal))]
+    pub fn entry_refusal(&self, place: usize, port: u64, frame: &[u8]) -> Option<Reason>
+        ensures { result ≡ attaching.entry_refusal self.now place port frame.now }
+    {
+        let is_range = is_customer_port(port) && is_customer_frame(frame);
+        let is_there = is_attached(self.attached.as_slice(), place, port);
+        reason_unless(is_range, Reason::Range).or(reason_unless(is_there, Reason::NotAttached))
     }
 
     /// Declares a base VID with the number of its ECT algorithm, which isn't refused. After NoMemory nothing changed.

@@ -1,20 +1,18 @@
 -- A run accepts no more commands than its script has lines, and so its network is counted.
-use Rattle.std.proofs.Common.{◌≡◌, ◌≤◌, ◌+◌, ℕ, suc, Bool, true, false, List, [], ◌∷◌, length, ap, Option, Some, None, Result, Ok, Err, arith}
-use Rattle.std.specs.Prelude.{if◌then◌else◌}
+use Rattle.std.proofs.Common.{◌≡◌, ◌≤◌, ◌+◌, ℕ, suc, List, [], ◌∷◌, length, ap, Option, Some, None, Result, Ok, Err, arith}
 use Rattle.std.specs.List.{slice_split}
 use Rattle.std.specs.Str.Lines.{lines, lines_of_parts}
 use Rattle.std.proofs.lemmas.List.Sums.{count_by-le-length}
 use Rattle.std.proofs.lemmas.List.Splits.{length-slice_split}
 use Rattle.scenario.specs.declared.command.Command.{Command}
-use Rattle.scenario.specs.declared.line.FirstWord.{FirstWord}
-use Rattle.scenario.specs.Grammar.{head_of, line_of}
+use Rattle.scenario.specs.Grammar.{line_of}
 use Rattle.spb_network.specs.declared.reason.Reason.{Reason}
 use Rattle.spb_network.specs.State.{State}
 use Rattle.spb_network.specs.Refusing.{refusal_of}
 use Rattle.spb_network.specs.Counted.{most_commands}
 use Rattle.spb_network.proofs.CountedStays.{one_accepted}
 use Rattle.spb_run.specs.declared.refusal.Refusal.{Refusal}
-use Rattle.spb_run.specs.Play.{Judged, judged, judged_by, judged_as, judged_from, is_played_word, misspelled}
+use Rattle.spb_run.specs.Play.{Judged, judged, judged_by, judged_as}
 use Rattle.spb_run.specs.Text.{Played, joined, play, end_of, most_bytes}
 use Rattle.spb_run.proofs.LinesOf.{is_newline, lines_one}
 
@@ -40,17 +38,9 @@ as_one s number (Err column) = omega arith
 as_one s number (Ok None) = omega arith
 as_one s number (Ok (Some c)) = judged_one s number c (refusal_of s c)
 
-from_one : (b : Bool) (s : State) (number column : ℕ) (j : Judged) → j.state.accepted ≤ s.accepted + 1 → (if b then j else misspelled s number column).state.accepted ≤ s.accepted + 1
-from_one true s number column j few = few
-from_one false s number column j few = omega arith
-
-head_one : (s : State) (number : ℕ) (line : List ℕ) (o : Option FirstWord) → (judged_from s number line o).state.accepted ≤ s.accepted + 1
-head_one s number line None = as_one s number (line_of line)
-head_one s number line (Some first) = from_one (is_played_word first.keyword) s number first.column (judged_as s number (line_of line)) (as_one s number (line_of line))
-
 pub line_one : (s : State) (number : ℕ) (line : List ℕ) → (judged s number line).state.accepted ≤ s.accepted + 1
 unfolding judged
-line_one s number line = head_one s number line (head_of line)
+line_one s number line = as_one s number (line_of line)
 
 joined_few : (n number : ℕ) (j : Judged) (o : Option Refusal) (rest : Played) → j.state.accepted ≤ n → rest.state.accepted ≤ n → (joined number j o rest).state.accepted ≤ n
 joined_few n number j None rest here more = more

@@ -1,11 +1,9 @@
 -- Every state that an accepted line leaves tells, where it is quiet.
-use Rattle.std.proofs.Common.{◌≡◌, false, true, Bool, ◌≤◌, ◌+◌, ℕ, List, [], ◌∷◌, length, refl, sym, ap, ◌∙◌, true≢false, ⊎_elim, Option, Some, None, IfSome, Result, Ok, Err, arith}
-use Rattle.std.specs.Prelude.{if◌then◌else◌}
+use Rattle.std.proofs.Common.{◌≡◌, false, true, ◌≤◌, ◌+◌, ℕ, List, [], ◌∷◌, length, refl, sym, ap, ◌∙◌, true≢false, ⊎_elim, Option, Some, None, IfSome, Result, Ok, Err, arith}
 use Rattle.std.specs.Str.Lines.{lines}
 use Rattle.std.proofs.lemmas.Bool.Decides.{nat_tests}
 use Rattle.scenario.specs.declared.command.Command.{Command}
-use Rattle.scenario.specs.declared.line.FirstWord.{FirstWord}
-use Rattle.scenario.specs.Grammar.{head_of, line_of}
+use Rattle.scenario.specs.Grammar.{line_of}
 use Rattle.bridge_api.specs.Shown.{Shown}
 use Rattle.spb_network.specs.declared.network.NetworkOf.{NetworkOf}
 use Rattle.spb_network.specs.declared.reason.Reason.{Reason}
@@ -21,7 +19,7 @@ use Rattle.spb_network.proofs.SoundPlay.{commands_keep_sound}
 use Rattle.spb_network.proofs.CountedStays.{stays_counted}
 use Rattle.spb_network.proofs.Telling.{counted_networks_tell}
 use Rattle.spb_run.specs.declared.refusal.Refusal.{Refusal}
-use Rattle.spb_run.specs.Play.{Judged, judged, judged_by, judged_as, judged_from, is_played_word, misspelled}
+use Rattle.spb_run.specs.Play.{judged, judged_by, judged_as}
 use Rattle.spb_run.specs.Replying.{IsNew}
 use Rattle.spb_run.specs.Text.{most_bytes, is_too_long, IfAccepted, AllStates}
 use Rattle.spb_run.proofs.Addressed.{line_addressed}
@@ -42,17 +40,9 @@ kept_as s number (Err column) addressed kept = kept
 kept_as s number (Ok None) addressed kept = kept
 kept_as s number (Ok (Some c)) addressed kept = kept_by s number c (refusal_of s c) refl (addressed c refl) kept
 
-kept_if : (b : Bool) (s : State) (number column : ℕ) (j : Judged) → IsKept s → IsKept j.state → IsKept (if b then j else misspelled s number column).state
-kept_if true s number column j old new = new
-kept_if false s number column j old new = old
-
-kept_from : (s : State) (number : ℕ) (line : List ℕ) (o : Option FirstWord) → IsKept s → IsKept (judged_from s number line o).state
-kept_from s number line None kept = kept_as s number (line_of line) (line_addressed line) kept
-kept_from s number line (Some first) kept = kept_if (is_played_word first.keyword) s number first.column (judged_as s number (line_of line)) kept (kept_as s number (line_of line) (line_addressed line) kept)
-
 line_kept : (s : State) (number : ℕ) (line : List ℕ) → IsKept s → IsKept (judged s number line).state
 unfolding judged
-line_kept s number line kept = kept_from s number line (head_of line) kept
+line_kept s number line kept = kept_as s number (line_of line) (line_addressed line) kept
 
 -- ---- the states of a script
 

@@ -1,11 +1,8 @@
 -- What one line of a script does.
-use Rattle.std.specs.Prelude.{ℕ, List, [], Bool, true, false, Option, Some, None, Result, Ok, Err, if◌then◌else◌, codes}
+use Rattle.std.specs.Prelude.{ℕ, List, [], Option, Some, None, Result, Ok, Err, codes}
 use Rattle.report.specs.Lines.{error_text}
 use Rattle.scenario.specs.declared.command.Command.{Command}
-use Rattle.scenario.specs.declared.keyword.Keyword.{Keyword}
-use Rattle.scenario.specs.declared.keyword.Keyword.TheVariants as keyword
-use Rattle.scenario.specs.declared.line.FirstWord.{FirstWord}
-use Rattle.scenario.specs.Grammar.{head_of, line_of}
+use Rattle.scenario.specs.Grammar.{line_of}
 use Rattle.spb_network.specs.declared.reason.Reason.{Reason}
 use Rattle.spb_network.specs.Play.{next_state, answer_of}
 use Rattle.spb_network.specs.Reason.{reason_number, name_of}
@@ -14,16 +11,6 @@ use Rattle.spb_network.specs.State.{State}
 use Rattle.spb_run.specs.Answer.{text_of_answer}
 use Rattle.spb_run.specs.declared.refusal.Refusal.{Refusal}
 use Rattle.spb_run.specs.declared.refusal.Refusal.TheVariants as refusal
-
--- whether lines of this keyword are played
-abbrev pub is_played : Keyword → Bool
-is_played keyword.Frame = false
-is_played _ = true
-
--- whether a first word is a keyword whose lines are played
-abbrev pub is_played_word : Option Keyword → Bool
-is_played_word None = false
-is_played_word (Some k) = is_played k
 
 -- a line judged: the bytes that it writes, why it is refused where it is, and the network's state after it
 pub record Judged : Type 0 where
@@ -59,12 +46,6 @@ judged_as s number (Err column) = misspelled s number column
 judged_as s number (Ok None) = record { text = []; refused = None; state = s }
 judged_as s number (Ok (Some command)) = judged_by s number command (refusal_of s command)
 
--- a line, by its first word: one that begins no line that is played is refused, whatever follows
-abbrev pub judged_from : State → ℕ → List ℕ → Option FirstWord → Judged
-judged_from s number line None = judged_as s number (line_of line)
-judged_from s number line (Some first) =
-    if is_played_word first.keyword then judged_as s number (line_of line) else misspelled s number first.column
-
 -- the line of this number, counted from 1, without its end
 unfoldable pub judged : State → ℕ → List ℕ → Judged
-judged s number line = judged_from s number line (head_of line)
+judged s number line = judged_as s number (line_of line)

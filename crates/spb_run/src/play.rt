@@ -1,6 +1,5 @@
 ghost use Rattle.std.specs.Prelude.{◌≡◌, Some, None, codes, IfOk, OnOk};
 ghost use Rattle.report.specs.Lines as texts;
-ghost use Rattle.scenario.specs.Grammar.{line_of};
 ghost use Rattle.spb_network.specs.Applying.{IsReady};
 ghost use Rattle.spb_network.specs.Network.{state_of};
 ghost use Rattle.spb_network.specs.Reason as reasons;
@@ -14,17 +13,10 @@ use crate::answer::answer_text;
 use crate::reply::Reply;
 use bridge_api::Bridge;
 use report::error_text;
-use scenario::{Command, Keyword, LineError, head, parse_line};
+use scenario::{Command, LineError, parse_line};
 use spb_network::{ApplyError, NetworkOf, Reason};
 use spb_types::NoMemory;
 use std::alloc::Global;
-
-/// Whether a line's first word begins a line that is played.
-fn is_played(word: Option<Keyword>) -> bool
-    ensures { result ≡ play.is_played_word word }
-{
-    !matches!(word, None | Some(Keyword::Frame))
-}
 
 /// The reply to a line that is outside the grammar from a column on.
 fn misspelled(alloc: Global, number: u32, column: usize) -> Result<Reply, NoMemory>
@@ -73,31 +65,6 @@ fn play_command<B: Bridge>(
     }
 }
 
-/// Plays a line by what it gives.
-fn play_parsed<B: Bridge>(
-    alloc: Global,
-    network: &mut NetworkOf<B>,
-    number: u32,
-    line: &[u8],
-) -> Result<Reply, NoMemory>
-    requires { IsAlive B.shown network.old }
-    ensures ok { IfOk result (λ reply. Replies
-        (play.judged_as (state_of B.shown network.old) number (line_of line.now))
-        reply (state_of B.shown network.new)) }
-    ensures alive { OnOk result (IsAlive B.shown network.new) }
-    ensures ready { IsReady B.shown network.new }
-{
-    match parse_line(alloc, line) {
-        Ok(Some(command)) => play_command(alloc, network, number, &command),
-        Ok(None) => Ok(Reply {
-            text: Vec::new(alloc),
-            refused: None,
-        }),
-        Err(LineError::Words(column)) => misspelled(alloc, number, column),
-        Err(LineError::NoMemory) => Err(NoMemory),
-    }
-}
-
 /// Judges and plays the line of this number, counted from 1, given without its end. After NoMemory nothing is said of
 /// the network.
 #[tactic(auto, unfolding(crate::specs::Play::judged))]
@@ -114,14 +81,13 @@ pub(crate) fn play_line<B: Bridge>(
     ensures alive { OnOk result (IsAlive B.shown network.new) }
     ensures ready { IsReady B.shown network.new }
 {
-    match head(line) {
-        None => play_parsed(alloc, network, number, line),
-        Some(first) => {
-            if is_played(first.keyword) {
-                play_parsed(alloc, network, number, line)
-            } else {
-                misspelled(alloc, number, first.column)
-            }
-        }
+    match parse_line(alloc, line) {
+        Ok(Some(command)) => play_command(alloc, network, number, &command),
+        Ok(None) => Ok(Reply {
+            text: Vec::new(alloc),
+            refused: None,
+        }),
+        Err(LineError::Words(column)) => misspelled(alloc, number, column),
+        Err(LineError::NoMemory) => Err(NoMemory),
     }
 }
