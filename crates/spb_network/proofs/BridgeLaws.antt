@@ -5,7 +5,7 @@ use Rattle.bridge_api.specs.Apart.{SentHasEntered, LeftHasEntered, StepsKeepPlac
 use Rattle.bridge_api.specs.Counting.{StepsHoldIds, StepsLearnVersions, StepsAnswer, StepsOriginate, StepsDontSpend, ConfiguredIsFar}
 use Rattle.bridge_api.specs.Time.{SecondsAge}
 use Rattle.bridge_api.proofs.Answering as answering
-use Rattle.bridge_api.proofs.Apart as apart
+use Rattle.bridge_api.proofs.Isolation as apart
 use Rattle.bridge_api.proofs.Certified as certified
 use Rattle.bridge_api.proofs.Carriers as carriers
 use Rattle.bridge_api.proofs.DataSteps as stored

@@ -88,3 +88,5 @@ pub mod ApartSteps
 pub mod ApartEvents
 pub mod ApartRestart
 pub mod ApartLeaving
+pub mod ApartPlay
+pub mod ApartLaws

@@ -1,0 +1,8 @@
+use Rattle.spb_network.proofs.ApartLaws as apart
+use Rattle.spb_network.proofs.laws.services_stay_apart.Goals as goal
+
+pub returns-clause-network : goal.returns-clause-network
+returns-clause-network c = apart.services_stay_apart
+
+pub returns-clause-command : goal.returns-clause-command
+returns-clause-command c = apart.commands_keep_apart
