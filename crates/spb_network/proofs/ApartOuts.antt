@@ -39,7 +39,8 @@ outs-sent_all : (s : State) (i : ℕ) (fs : List (ℕ × Frame)) → (sent_all s
 outs-sent_all s i [] = refl
 outs-sent_all s i (x ∷ fs) = outs-sent_all (sent_over s (lane_out (links_of s) i x.0) x.1) i fs ∙ outs-sent_over s (lane_out (links_of s) i x.0) x.1
 
-stepped_outs : (x : Input) (s : State) (i : ℕ) → (stepped x s i).outs ≡ s.outs ++ outs_at (slice_get (names_of s.world.bridges) i) (option_map_or (left_by x) (slice_get s.views i) [])
+-- what left, and what leaves the bridge
+pub stepped_outs : (x : Input) (s : State) (i : ℕ) → (stepped x s i).outs ≡ s.outs ++ outs_at (slice_get (names_of s.world.bridges) i) (option_map_or (left_by x) (slice_get s.views i) [])
 unfolding stepped
 stepped_outs x s i =
     let next : State = record s { views = changed_at (step x) s.views i } in

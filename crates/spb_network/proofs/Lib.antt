@@ -90,3 +90,4 @@ pub mod ApartRestart
 pub mod ApartLeaving
 pub mod ApartPlay
 pub mod ApartLaws
+pub mod ApartWitness

@@ -63,6 +63,17 @@ ServicesStayApart = (rule : KindRule) (rack : List Spare) (cs : List Command) (c
       (HasEntered (opening rule rack) (cs ++ c ∷ [])))
     (outs_in (answer_of (played_all (opening rule rack) cs) c))
 
+-- a customer's frame leaves: by some accepted commands, in the last of them
+pub record SomeFrameLeaves : Type 0 where
+  pub rule : KindRule
+  pub rack : List Spare
+  pub commands : List Command
+  pub last : Command
+  pub addressed : AllByRecursion IsAddressed (commands ++ last ∷ [])
+  pub accepted : AreAccepted (opening rule rack) (commands ++ last ∷ [])
+  pub out : Out
+  pub leaves : outs_in (answer_of (played_all (opening rule rack) commands) last) ≡ out ∷ []
+
 -- ---- what holds at every moment, for any word that says of a frame that it has entered
 
 -- what the bridges have learned at customer ports they have learned at ports of the service

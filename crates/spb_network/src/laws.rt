@@ -10,7 +10,7 @@ ghost use Rattle.spb_network.specs.MeetingLaws.{SomeBridgesMeet};
 ghost use Rattle.spb_network.specs.Quiet.{QuietSays};
 ghost use Rattle.spb_network.specs.RestartLaws.{RestartIsNew};
 ghost use Rattle.spb_network.specs.DeliveryLaws.{FramesAreDelivered, DeliverDelivers};
-ghost use Rattle.spb_network.specs.Isolation.{CommandsKeepApart, ServicesStayApart};
+ghost use Rattle.spb_network.specs.Isolation.{CommandsKeepApart, ServicesStayApart, SomeFrameLeaves};
 
 /// Whatever comes to the bridges of a sound network, and whatever becomes of its frames and links, it stays sound.
 pub fn events_keep_sound()
@@ -109,8 +109,9 @@ pub fn quiet_can_be_relied_on()
 
 /// Whatever commands were accepted, whether the network is quiet or not: a frame that leaves at a customer port leaves
 /// at one of an I-SID in which it entered, byte for byte, by one of these commands. In one command nothing is sent on or
-/// leaves but what was on its way or enters by it.
+/// leaves but what was on its way or enters by it. Some commands lead to a network in which a frame leaves.
 pub fn services_stay_apart()
     ensures network { ServicesStayApart }
     ensures command { CommandsKeepApart }
+    ensures some { SomeFrameLeaves }
 {}

@@ -1,4 +1,5 @@
 use Rattle.spb_network.proofs.ApartLaws as apart
+use Rattle.spb_network.proofs.ApartWitness.{some_frame_leaves}
 use Rattle.spb_network.proofs.laws.services_stay_apart.Goals as goal
 
 pub returns-clause-network : goal.returns-clause-network
@@ -6,3 +7,6 @@ returns-clause-network c = apart.services_stay_apart
 
 pub returns-clause-command : goal.returns-clause-command
 returns-clause-command c = apart.commands_keep_apart
+
+pub returns-clause-some : goal.returns-clause-some
+returns-clause-some c = some_frame_leaves
