@@ -2,6 +2,7 @@
 use Rattle.std.proofs.Common.{◌≡◌, ◌≢◌, inl, inr, ℕ, ◌+◌, Bool, true, false, List, [], ◌∷◌, ◌++◌, map, Option, Some, None, refl, sym, ap, ◌∙◌, subst}
 use Rattle.std.specs.Prelude.{if◌then◌else◌}
 use Rattle.std.specs.List.{AllByRecursion}
+use Rattle.std.specs.FinMap.{empty, get-empty}
 use Rattle.std.proofs.lemmas.Bool.{true≢false}
 use Rattle.spb_types.specs.declared.address.Mac.{Mac}
 use Rattle.spb_types.specs.declared.address.SystemId.{SystemId}
@@ -12,7 +13,8 @@ use Rattle.isis_pdu.specs.Pdu.{LspValue, CsnpValue, PsnpValue}
 use Rattle.isis_pdu.specs.Spelling.{hello_bytes, lsp_bytes, csnp_bytes, psnp_bytes}
 use Rattle.spb_tlvs.proofs.Numbers.{weaker}
 use Rattle.itag_frames.specs.Backbone.{backbone_bytes}
-use Rattle.customer_learning.specs.Known.{Addresses}
+use Rattle.customer_learning.specs.Known.{isid_cmp, Addresses, or_none, known_in}
+use Rattle.customer_learning.specs.declared.place.Place.{Place}
 use Rattle.lsdb.specs.Database.{Lsps}
 use Rattle.flooding.specs.Sending.{lsps_to_send}
 use Rattle.snp_sync.specs.Sending.{csnps_of, psnps_of}
@@ -21,13 +23,13 @@ use Rattle.forwarding.specs.declared.tenant.Tenant.{Tenant}
 use Rattle.forwarding.specs.Ports.{attachment_of}
 use Rattle.forwarding.specs.Tenant.{Carried, after_backbone, after_customer, entered_by, nothing, of_backbone, of_customer}
 use Rattle.forwarding.specs.Laws.{IsAttachedTo}
-use Rattle.forwarding.specs.Placed.{ArePlaced, AreAttachedOnce}
+use Rattle.forwarding.specs.Placed.{IsPlaceIn, ArePlaced, AreAttachedOnce}
 use Rattle.forwarding.proofs.Apart.{leaves_in_its_service, delivered_in_its_service}
 use Rattle.forwarding.proofs.Places.{placed_is_found, entry_keeps_places, delivery_keeps_places, attaching_keeps_places, detaching_keeps_places}
 use Rattle.bridge_api.specs.declared.port.BridgePort.{BridgePort}
 use Rattle.bridge_api.specs.View.{BridgeView, port_at, is_port_up}
 use Rattle.bridge_api.specs.Tables.{own_tables}
-use Rattle.bridge_api.specs.Config.{AgreesWith, ArePairwise}
+use Rattle.bridge_api.specs.Config.{AgreesWith, ArePairwise, configured}
 use Rattle.bridge_api.specs.Customers.{tenant_of, with_learned, carried_by, after_entry, moved_as, moved_at, moved_by_entry, moved_by_receive}
 use Rattle.bridge_api.specs.Parsing.{Parsed, parsed}
 use Rattle.bridge_api.specs.Parsing as parsing
@@ -36,11 +38,12 @@ use Rattle.bridge_api.specs.Services.{with_port_forgotten}
 use Rattle.bridge_api.specs.Ticking.{readied, hello_at, hello_frame, lsp_frame, csnp_frame, psnp_frame, hellos_at, summaries_at, lsps_at, requests_at, synced_at, sent_at, after_sending_at, sent_from, sent_in_tick}
 use Rattle.bridge_api.specs.Step.{Input, second, frame, carrier, metric, attach, detach, customer}
 use Rattle.bridge_api.specs.Laws.{IsSoundView}
-use Rattle.bridge_api.specs.Apart.{Brings, CarriesEntered, LeavesEntered, SentHasEntered, LeftHasEntered, StepsKeepPlaces}
+use Rattle.bridge_api.specs.Apart.{Brings, CarriesEntered, LeavesEntered, SentHasEntered, LeftHasEntered, ConfiguredIsPlaced, StepsKeepPlaces}
 use Rattle.bridge_api.proofs.Attached.{with_attached_after}
 use Rattle.bridge_api.proofs.Carried.{is_carrying, control_carries_none, encapsulated_is_taken}
 use Rattle.bridge_api.proofs.Certified.{step_rest}
 use Rattle.bridge_api.proofs.Changes.{frame_learns, nothing_new, from_customer}
+use Rattle.bridge_api.proofs.Learned.{learned_first}
 use Rattle.bridge_api.proofs.Forwarded.{Relays, relays, Encapsulates, encapsulates}
 
 -- ---- what is sent in a second carries no customer's frame
@@ -219,6 +222,14 @@ placed_after (metric q m) v was placed = placed
 placed_after (attach a) v was placed = attaching_keeps_places (tenant_of v) a placed
 placed_after (detach p) v was placed = detaching_keeps_places (tenant_of v) p (attached_once v.attached was.config.attachments_apart) placed
 placed_after (customer p bytes) v was placed = entry_keeps_places (tenant_of v) p bytes placed
+
+none_placed : (v : BridgeView) → v.learned ≡ empty → ArePlaced (tenant_of v)
+none_placed v none isid =
+    let known : known_in v.learned isid ≡ [] = ap (λ (learned : Addresses). known_in learned isid) none ∙ ap or_none (get-empty isid_cmp isid) in
+    subst (λ (es : List (Mac × Place)). AllByRecursion (λ e. IsPlaceIn v.attached isid e.1) es) (sym known) tt
+
+pub configured_is_placed : ConfiguredIsPlaced
+configured_is_placed c = none_placed (configured c) (learned_first c)
 
 pub steps_keep_places : StepsKeepPlaces
 steps_keep_places input v was placed = subst (λ (u : BridgeView). ArePlaced (tenant_of u)) (sym (step_rest input v)) (placed_after input v was placed)

@@ -124,5 +124,8 @@ steps_stay_learned input v old = subst AreLearned (sym (ap (λ (u : BridgeView).
 none_learned : AreLearned empty
 none_learned isid = subst (λ (o : Option (List Known)). AreKnown (or_none o)) (sym (get-empty isid_cmp isid)) tt
 
+pub learned_first : (c : BridgeConfig) → (configured c).learned ≡ empty
+learned_first c = ap (λ (u : BridgeView). u.learned) (configured_is c)
+
 pub configured_learned : (c : BridgeConfig) → AreLearned (configured c).learned
-configured_learned c = subst AreLearned (sym (ap (λ (u : BridgeView). u.learned) (configured_is c))) none_learned
+configured_learned c = subst AreLearned (sym (learned_first c)) none_learned

@@ -1,6 +1,6 @@
 //! What every step of a bridge keeps, whatever comes to it. Each is the contract of a function that does nothing.
 ghost use Rattle.bridge_api.specs.Laws.{ConfiguredIsSound, ConfiguredHasNoCarrier, ConfiguredHoldsOwn, SoundCanSay, StepsStaySound, StepsKeepBridge, StepsKeepCarrier, StepsKeepNeighbours, SentIsSound, OneHello, HellosAreHeard, SentWithCarrier, EnteringUpIsWhole, UpPortsAreUp, StepsCarryDatabase, NeighboursComeUp, SomeBridge};
-ghost use Rattle.bridge_api.specs.Apart.{SentHasEntered, LeftHasEntered, StepsKeepPlaces};
+ghost use Rattle.bridge_api.specs.Apart.{SentHasEntered, LeftHasEntered, ConfiguredIsPlaced, StepsKeepPlaces};
 ghost use Rattle.bridge_api.specs.Duties.{SecondsServe, SecondsLeaveNothingDue};
 ghost use Rattle.bridge_api.specs.Few.{ConfiguredHoldsFew, StepsHoldFew, SecondsSendFew};
 ghost use Rattle.bridge_api.specs.Graph.{ReadsWhatIsHeld, ReadsEachOnce, ReadsItself, ReadsOthers, OwnPortsAreApart, SaysItsNeighbours, MembersAreSaid, CutSaysNothing, SomeGraphIsOwn};
@@ -47,10 +47,12 @@ pub fn frames_are_heard()
 
 /// Service instances don't mix at a bridge. A frame that is sent carries, and one that leaves at a customer port is,
 /// byte for byte, a customer's frame that has just come in, and in the same I-SID; and it leaves at a port of that
-/// I-SID, where what was learned at customer ports was learned at ports of its I-SID. That stays so.
+/// I-SID, where what was learned at customer ports was learned at ports of its I-SID. So it is at a configured bridge,
+/// and stays so.
 pub fn services_stay_apart()
     ensures sent { SentHasEntered }
     ensures left { LeftHasEntered }
+    ensures configured { ConfiguredIsPlaced }
     ensures places { StepsKeepPlaces }
 {}
 
