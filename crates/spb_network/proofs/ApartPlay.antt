@@ -39,6 +39,7 @@ use Rattle.spb_network.specs.Sound.{IsSoundState}
 use Rattle.spb_network.specs.SoundLaws.{IsAddressed}
 use Rattle.spb_network.specs.Isolation.{IsPortOf, Enters, outs_in, LeftEntered, IsApart}
 use Rattle.spb_network.proofs.BoxLemmas.{All-get}
+use Rattle.spb_network.proofs.BridgeLaws.{configured_is_placed}
 use Rattle.spb_network.proofs.RefusalLemmas.{metric_refusal_none, link_refusal_none}
 use Rattle.spb_network.proofs.SoundDeclaring.{got_push, lane-push}
 use Rattle.spb_network.proofs.SoundLinks.{end_metric}
@@ -46,7 +47,7 @@ use Rattle.spb_network.proofs.SoundEntering.{is_entry}
 use Rattle.spb_network.proofs.SoundPlay.{commands_keep_sound}
 use Rattle.spb_network.proofs.ApartSteps.{IsSeparate, separate_of, apart_of, separate_with_world}
 use Rattle.spb_network.proofs.ApartEvents.{separate_lost, separate_doubled, separate_switched_on, separate_switched_off, separate_with_metric, separate_metric_changed, separate_attached, separate_detached}
-use Rattle.spb_network.proofs.ApartRestart.{configured_placed, separate_restarted}
+use Rattle.spb_network.proofs.ApartRestart.{separate_restarted}
 use Rattle.spb_network.proofs.ApartLeaving.{IsLeaving, leaving_ticked, leaving_delivered, leaving_rounds, leaving_drained, leaving_entered}
 
 -- ---- what is no event answers no frames
@@ -107,7 +108,7 @@ module _ (Entered : Isid → List ℕ → Type 0) (s : State) (sound : IsSoundSt
         sound = All-get IsSoundView (s.views ++ configured (config_of s.world b) ∷ []) i v each at;
         placed = elim (got_push s.views (configured (config_of s.world b)) i v at) [
           | inl old ↦ (separate.bridges i v old.1).placed
-          | inr new ↦ subst (λ (u : BridgeView). ArePlaced (tenant_of u)) new.1 (configured_placed (config_of s.world b))
+          | inr new ↦ subst (λ (u : BridgeView). ArePlaced (tenant_of u)) new.1 (configured_is_placed (config_of s.world b))
         ];
       };
     outs = separate.outs;

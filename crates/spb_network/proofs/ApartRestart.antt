@@ -1,18 +1,9 @@
 -- A bridge that restarts keeps services apart: it has learned nothing yet.
-use Rattle.std.proofs.Common.{◌≡◌, inl, inr, ◌+◌, ℕ, zero, suc, Bool, true, false, List, [], length, refl, sym, ap, ◌∙◌, subst, Option, Some, None, slice_get}
+use Rattle.std.proofs.Common.{◌≡◌, inl, inr, ◌+◌, ℕ, zero, suc, Bool, true, false, List, length, refl, subst, Option, Some, None, slice_get}
 use Rattle.std.specs.Prelude.{if◌then◌else◌}
-use Rattle.std.specs.List.{AllByRecursion}
-use Rattle.std.specs.FinMap.{get, empty, get-empty}
-use Rattle.spb_types.specs.declared.address.Mac.{Mac}
 use Rattle.spb_types.specs.declared.service.Isid.{Isid}
-use Rattle.customer_learning.specs.Known.{Addresses, isid_cmp, or_none}
-use Rattle.customer_learning.specs.declared.place.Place.{Place}
-use Rattle.forwarding.specs.Placed.{IsPlaceIn, ArePlaced}
 use Rattle.bridge_api.specs.declared.config.BridgeConfig.{BridgeConfig}
-use Rattle.bridge_api.specs.View.{BridgeView}
-use Rattle.bridge_api.specs.Customers.{tenant_of}
-use Rattle.bridge_api.specs.Own.{originating}
-use Rattle.bridge_api.specs.Config.{IsWhole, bare, configured}
+use Rattle.bridge_api.specs.Config.{IsWhole, configured}
 use Rattle.spb_network.specs.declared.declaration.DeclaredBridge.{DeclaredBridge}
 use Rattle.spb_network.specs.declared.declaration.DeclaredLink.{DeclaredLink}
 use Rattle.spb_network.specs.declared.declaration.LinkEnd.{LinkEnd}
@@ -22,7 +13,7 @@ use Rattle.spb_network.specs.State.{State, links_of}
 use Rattle.spb_network.specs.Events.{with_carrier_at_end, flushed}
 use Rattle.spb_network.specs.Restarting.{restart_config, ends_here, end_here, end_away, link_cut, cut_link, cut_from, lit_link, lit_from, box_at, replaced, restarted_in, restarted_as, restarted}
 use Rattle.spb_network.specs.Sound.{IsSoundState}
-use Rattle.spb_network.proofs.BridgeLaws.{configured_is_sound}
+use Rattle.spb_network.proofs.BridgeLaws.{configured_is_sound, configured_is_placed}
 use Rattle.spb_network.proofs.RestartConfig.{restart_whole}
 use Rattle.spb_network.proofs.RestartSound.{got_set}
 use Rattle.spb_network.proofs.ApartSteps.{IsSettled, IsSeparate}
@@ -30,23 +21,8 @@ use Rattle.spb_network.proofs.ApartEvents.{separate_flushed, separate_with_carri
 
 -- ---- a bridge that was just configured
 
-originating_learned : (v : BridgeView) → (originating v).learned ≡ v.learned
-originating_learned v = refl
-
-configured_learned : (c : BridgeConfig) → (configured c).learned ≡ empty
-unfolding configured
-configured_learned c = originating_learned (bare c)
-
-none_placed : (v : BridgeView) → v.learned ≡ empty → ArePlaced (tenant_of v)
-none_placed v none isid =
-    subst (λ (o : Option (List (Mac × Place))). AllByRecursion (λ e. IsPlaceIn v.attached isid e.1) (or_none o))
-    (sym (ap (λ (learned : Addresses). get learned isid) none ∙ get-empty isid_cmp isid)) tt
-
-pub configured_placed : (c : BridgeConfig) → ArePlaced (tenant_of (configured c))
-configured_placed c = none_placed (configured c) (configured_learned c)
-
 pub configured_settled : (c : BridgeConfig) → IsWhole c → IsSettled (configured c)
-configured_settled c whole = record { sound = configured_is_sound c whole; placed = configured_placed c }
+configured_settled c whole = record { sound = configured_is_sound c whole; placed = configured_is_placed c }
 
 -- ---- its links are cut
 

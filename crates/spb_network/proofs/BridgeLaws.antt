@@ -1,7 +1,7 @@
 -- The laws of a step of a bridge, on which what is sound of a network rests.
 use Rattle.itag_frames.proofs.ControlLaws.{control_again}
 use Rattle.bridge_api.specs.Laws.{ConfiguredIsSound, ConfiguredHasNoCarrier, StepsStaySound, StepsKeepBridge, StepsKeepCarrier, StepsKeepNeighbours, SentIsSound, OneHello, HellosAreHeard, UpPortsAreUp, StepsCarryDatabase, ConfiguredHoldsOwn}
-use Rattle.bridge_api.specs.Apart.{SentHasEntered, LeftHasEntered, StepsKeepPlaces}
+use Rattle.bridge_api.specs.Apart.{SentHasEntered, LeftHasEntered, ConfiguredIsPlaced, StepsKeepPlaces}
 use Rattle.bridge_api.specs.Counting.{StepsHoldIds, StepsLearnVersions, StepsAnswer, StepsOriginate, StepsDontSpend, ConfiguredIsFar}
 use Rattle.bridge_api.specs.Time.{SecondsAge}
 use Rattle.bridge_api.proofs.Answering as answering
@@ -83,6 +83,9 @@ sent_has_entered = apart.sent_has_entered
 
 pub left_has_entered : LeftHasEntered
 left_has_entered = apart.left_has_entered
+
+pub configured_is_placed : ConfiguredIsPlaced
+configured_is_placed = apart.configured_is_placed
 
 pub steps_keep_places : StepsKeepPlaces
 steps_keep_places = apart.steps_keep_places
