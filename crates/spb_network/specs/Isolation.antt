@@ -5,12 +5,13 @@ use Rattle.scenario.specs.declared.command.Command.{Command}
 use Rattle.scenario.specs.declared.command.Command.TheVariants as command
 use Rattle.spb_types.specs.declared.service.Isid.{Isid}
 use Rattle.spb_types.specs.declared.link.Dir.{Dir}
+use Rattle.link_model.specs.Lane.{Frame, IsIn}
 use Rattle.link_model.specs.Lanes.{lane_of}
 use Rattle.forwarding.specs.Laws.{IsAttachedTo}
 use Rattle.forwarding.specs.Placed.{ArePlaced}
 use Rattle.bridge_api.specs.View.{BridgeView}
 use Rattle.bridge_api.specs.Customers.{tenant_of}
-use Rattle.bridge_api.specs.Apart.{CarriesEntered}
+use Rattle.bridge_api.specs.Apart.{Carries, CarriesEntered}
 use Rattle.spb_network.specs.declared.answer.Answer.{Answer}
 use Rattle.spb_network.specs.declared.answer.Answer.TheVariants.{Outs}
 use Rattle.spb_network.specs.declared.answer.Out.{Out}
@@ -64,15 +65,29 @@ ServicesStayApart = (rule : KindRule) (rack : List Spare) (cs : List Command) (c
 
 -- ---- what holds at every moment, for any word that says of a frame that it has entered
 
--- each frame on its way carries what has entered, and what the bridges have learned at customer ports they have learned
--- at ports of the service
+-- what the bridges have learned at customer ports they have learned at ports of the service
+abbrev pub HavePlaces : List BridgeView → Type 0
+HavePlaces views = (i : ℕ) (v : BridgeView) → slice_get views i ≡ Some v → ArePlaced (tenant_of v)
+
+-- and each frame on its way carries what has entered
 pub record IsApart (Entered : Isid → List ℕ → Type 0) (s : State) : Type 0 where
   pub lanes : (k : ℕ) (dir : Dir) → AllByRecursion (CarriesEntered Entered) (lane_of s.lanes k dir)
-  pub places : (i : ℕ) (v : BridgeView) → slice_get s.views i ≡ Some v → ArePlaced (tenant_of v)
+  pub places : HavePlaces s.views
 
--- and what leaves in a command has entered, with what enters by it
+-- a customer's frame is on its way over a link, in an I-SID
+pub record IsOnItsWay (s : State) (isid : Isid) (f : List ℕ) : Type 0 where
+  pub link : ℕ
+  pub dir : Dir
+  pub bytes : Frame
+  pub among : IsIn bytes (lane_of s.lanes link dir)
+  pub carried : Carries bytes isid f
+
+-- it is on its way, or enters by a command
+abbrev pub IsThere : State → Command → Isid → List ℕ → Type 0
+IsThere s c isid f = IsOnItsWay s isid f ⊎ Enters s c isid f
+
+-- nothing else is on its way after the command, and nothing else leaves in it
 abbrev pub CommandsKeepApart : Type 0
-CommandsKeepApart = (Entered : Isid → List ℕ → Type 0) (s : State) (c : Command) → IsSoundState s → IsAddressed c
-    → refusal_of s c ≡ None → s.outs ≡ [] → IsApart Entered s
-    → ((isid : Isid) (f : List ℕ) → Enters s c isid f → Entered isid f)
-    → IsApart Entered (next_state s c) × AllByRecursion (LeftEntered s.world Entered) (outs_in (answer_of s c))
+CommandsKeepApart = (s : State) (c : Command) → IsSoundState s → IsAddressed c → refusal_of s c ≡ None → s.outs ≡ []
+    → HavePlaces s.views
+    → IsApart (IsThere s c) (next_state s c) × AllByRecursion (LeftEntered s.world (IsThere s c)) (outs_in (answer_of s c))
