@@ -9,7 +9,9 @@ use Rattle.spb_types.specs.declared.service.Attachment.{Attachment}
 use Rattle.forwarding.specs.Ports.{attachment_of}
 use Rattle.forwarding.specs.Laws.{IsAttachedTo}
 use Rattle.forwarding.specs.Placed.{ArePlaced}
+use Rattle.bridge_api.specs.declared.config.BridgeConfig.{BridgeConfig}
 use Rattle.bridge_api.specs.View.{BridgeView}
+use Rattle.bridge_api.specs.Config.{configured}
 use Rattle.bridge_api.specs.Customers.{tenant_of}
 use Rattle.bridge_api.specs.Parsing.{parsed}
 use Rattle.bridge_api.specs.Parsing as parsing
@@ -48,7 +50,8 @@ CarriesEntered HasEntered bytes = (da sa : Mac) (vid : Vid) (isid : Isid) (f : L
     → parsed bytes ≡ parsing.customer da sa vid isid f → HasEntered isid f
 
 -- a customer's frame leaves at a port that is attached to an I-SID in which it has entered
-pub record LeavesEntered (HasEntered : Isid → List ℕ → Type 0) (v : BridgeView) (port : ℕ) (bytes : List ℕ) : Type 0 where
+pub record LeavesEntered
+    (HasEntered : Isid → List ℕ → Type 0) (v : BridgeView) (port : ℕ) (bytes : List ℕ) : Type 0 where
   pub isid : Isid
   pub attached : IsAttachedTo v.attached port isid
   pub entered : HasEntered isid bytes
@@ -64,7 +67,10 @@ abbrev pub LeftHasEntered : Type 0
 LeftHasEntered = (input : Input) (v : BridgeView) → ArePlaced (tenant_of v)
     → AllByRecursion (λ s. LeavesEntered (Brings v input) v s.0 s.1) (left_by input v)
 
--- which stays so
+-- so it is at a configured bridge, and stays so
+abbrev pub ConfiguredIsPlaced : Type 0
+ConfiguredIsPlaced = (c : BridgeConfig) → ArePlaced (tenant_of (configured c))
+
 abbrev pub StepsKeepPlaces : Type 0
 StepsKeepPlaces = (input : Input) (v : BridgeView) → IsSoundView v → ArePlaced (tenant_of v)
     → ArePlaced (tenant_of (step input v))
