@@ -24,7 +24,7 @@ use Rattle.spb_network.specs.Events.{outs_at, stepped, ticked, heard_over, deliv
 use Rattle.spb_network.specs.Sound.{AreAttached}
 use Rattle.spb_network.specs.Isolation.{LeftEntered}
 use Rattle.spb_network.proofs.ListLemmas.{All-map}
-use Rattle.spb_network.proofs.BridgeLaws.{left_has_entered}
+use Rattle.spb_network.proofs.ApartBridge.{left_has_entered}
 use Rattle.spb_network.proofs.SoundLane.{All-in}
 use Rattle.spb_network.proofs.SoundSteps.{in_got, IsInputAt}
 use Rattle.spb_network.proofs.SoundAttached.{is_service, attached_stepped}

@@ -39,7 +39,7 @@ use Rattle.spb_network.specs.Sound.{IsSoundState}
 use Rattle.spb_network.specs.SoundLaws.{IsAddressed}
 use Rattle.spb_network.specs.Isolation.{IsPortOf, Enters, outs_in, LeftEntered, IsApart}
 use Rattle.spb_network.proofs.BoxLemmas.{All-get}
-use Rattle.spb_network.proofs.BridgeLaws.{configured_is_placed}
+use Rattle.spb_network.proofs.ApartBridge.{configured_is_placed}
 use Rattle.spb_network.proofs.RefusalLemmas.{metric_refusal_none, link_refusal_none}
 use Rattle.spb_network.proofs.SoundDeclaring.{got_push, lane-push}
 use Rattle.spb_network.proofs.SoundLinks.{end_metric}

@@ -24,7 +24,8 @@ use Rattle.spb_network.specs.Sound.{IsSoundState}
 use Rattle.spb_network.specs.Isolation.{IsApart}
 use Rattle.spb_network.proofs.ListLemmas.{All-map}
 use Rattle.spb_network.proofs.BoxLemmas.{All-get}
-use Rattle.spb_network.proofs.BridgeLaws.{steps_stay_sound, sent_has_entered, steps_keep_places}
+use Rattle.spb_network.proofs.BridgeLaws.{steps_stay_sound}
+use Rattle.spb_network.proofs.ApartBridge.{sent_has_entered, steps_keep_places}
 use Rattle.spb_network.proofs.SoundLane.{All-in, All-from}
 use Rattle.spb_network.proofs.SoundSteps.{IsInputAt}
 use Rattle.spb_network.proofs.SoundCarrier.{got_changed}

@@ -1,6 +1,7 @@
 -- One item of a list is changed.
 use Rattle.std.proofs.Common.{Bor, Result, Ok, Err, OnOk, ◌++◌, ◌≡◌, ℕ, zero, suc, ◌<◌, List, [], ◌∷◌, map, length, Option, Some, None, slice_get, refl, sym, subst, ap, ◌∙◌}
 use Rattle.std.specs.List.{AllByRecursion, slice_index_or, slice_set, ItemBy}
+use Rattle.std.specs.Option.{option_map_or}
 use Rattle.bridge_api.specs.declared.outbox.Outbox.{Outbox}
 use Rattle.bridge_api.specs.Step.{with_wire}
 use Rattle.spb_types.specs.Places.{changed_at}
@@ -71,3 +72,10 @@ seen-none xs i None h e = get-none xs i h.3
 -- an item that stands within
 pub got : {X : Type 0} (xs : List X) (i : ℕ) (x : X) → i < length xs → x ≡ slice_index_or xs i x → slice_get xs i ≡ Some x
 got xs i x h e = get-some xs i x h e
+
+-- what one box gives more, by its place in the list, and past the last one nothing
+pub none_more : {V X : Type 0} (f : V → List X) (xs : List X) (vs : List V) (i : ℕ) → slice_get vs i ≡ None → xs ≡ xs ++ option_map_or f (slice_get vs i) []
+none_more f xs vs i h = sym (append-none xs) ∙ ap (λ o. xs ++ option_map_or f o []) (sym h)
+
+pub some_more : {V X : Type 0} (f : V → List X) (xs ys : List X) (vs : List V) (i : ℕ) (v : V) → slice_get vs i ≡ Some v → ys ≡ xs ++ f v → ys ≡ xs ++ option_map_or f (slice_get vs i) []
+some_more f xs ys vs i v h e = e ∙ ap (λ o. xs ++ option_map_or f o []) (sym h)

@@ -1,11 +1,14 @@
 -- The laws of a step of a bridge, on which what is sound of a network rests.
+use Rattle.std.proofs.Common.{◌≡◌, ℕ, false, List}
+use Rattle.std.specs.List.{AllByRecursion}
+use Rattle.bridge_api.specs.View.{BridgeView}
+use Rattle.bridge_api.specs.Parsing.{is_hello}
+use Rattle.bridge_api.specs.Step.{customer, sent}
 use Rattle.itag_frames.proofs.ControlLaws.{control_again}
-use Rattle.bridge_api.specs.Laws.{ConfiguredIsSound, ConfiguredHasNoCarrier, StepsStaySound, StepsKeepBridge, StepsKeepCarrier, StepsKeepNeighbours, SentIsSound, OneHello, HellosAreHeard, UpPortsAreUp, StepsCarryDatabase, ConfiguredHoldsOwn}
-use Rattle.bridge_api.specs.Apart.{SentHasEntered, LeftHasEntered, ConfiguredIsPlaced, StepsKeepPlaces}
+use Rattle.bridge_api.specs.Laws.{ConfiguredIsSound, ConfiguredHasNoCarrier, StepsStaySound, StepsKeepBridge, StepsKeepCarrier, StepsKeepNeighbours, SentIsSound, OneHello, HellosAreHeard, UpPortsAreUp, StepsCarryDatabase, ConfiguredHoldsOwn, IsInput, IsSoundView}
 use Rattle.bridge_api.specs.Counting.{StepsHoldIds, StepsLearnVersions, StepsAnswer, StepsOriginate, StepsDontSpend, ConfiguredIsFar}
 use Rattle.bridge_api.specs.Time.{SecondsAge}
 use Rattle.bridge_api.proofs.Answering as answering
-use Rattle.bridge_api.proofs.Isolation as apart
 use Rattle.bridge_api.proofs.Certified as certified
 use Rattle.bridge_api.proofs.Carriers as carriers
 use Rattle.bridge_api.proofs.DataSteps as stored
@@ -78,14 +81,5 @@ configured_is_far = originating.configured_is_far
 pub configured_holds_own : ConfiguredHoldsOwn
 configured_holds_own = stored.configured_holds_own
 
-pub sent_has_entered : SentHasEntered
-sent_has_entered = apart.sent_has_entered
-
-pub left_has_entered : LeftHasEntered
-left_has_entered = apart.left_has_entered
-
-pub configured_is_placed : ConfiguredIsPlaced
-configured_is_placed = apart.configured_is_placed
-
-pub steps_keep_places : StepsKeepPlaces
-steps_keep_places = apart.steps_keep_places
+pub entered_no_hello : (port : ℕ) (bytes : List ℕ) (v : BridgeView) → IsInput v (customer port bytes) → IsSoundView v → AllByRecursion (λ s. is_hello s.1 ≡ false) (sent (customer port bytes) v)
+entered_no_hello = ?

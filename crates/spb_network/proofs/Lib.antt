@@ -82,6 +82,7 @@ pub mod QuietWitness
 pub mod QuietBodies
 pub mod QuietNumbers
 pub mod Keeping
+pub mod ApartBridge
 pub mod ApartLanes
 pub mod ApartOuts
 pub mod ApartSteps

@@ -9,6 +9,7 @@ mod boxes;
 mod customers;
 mod databases;
 mod examples;
+mod frames;
 mod hellos;
 mod quiet;
 mod refusals;

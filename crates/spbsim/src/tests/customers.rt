@@ -8,13 +8,13 @@ use std::process::Abort;
 use std::test::Fail;
 
 /// A bridge without links, and a service.
-const ONE: &str = "vid 10 1
+pub(super) const ONE: &str = "vid 10 1
 isid 100 10
 bridge A 32768 020000000001 00001 0
 ";
 
 /// Asserts that the last of lines behind ONE, which has this number in the script, is refused for a reason.
-fn check_refused(
+pub(super) fn check_refused(
     rt: &impl Abort,
     alloc: Global,
     lines: &str,

@@ -67,7 +67,7 @@ fn lines_outside_the_grammar_have_a_column(rt: HostRuntime) -> Result<(), Fail> 
         ("round", 6, "1 Words 6"),
         ("attach A 1", 11, "1 Words 11"),
         ("detach A", 9, "1 Words 9"),
-        (" frame A 1 00", 2, "1 Words 2"),
+        ("frame A 1 0", 11, "1 Words 11"),
         ("state A", 7, "1 Words 7"),
         ("show", 5, "1 Words 5"),
         ("path A B", 9, "1 Words 9"),

@@ -1,8 +1,9 @@
+use Rattle.std.proofs.Common.{ap}
 use Rattle.bridge_api.specs.Step as comes
-use Rattle.bridge_api.specs.Step.{step}
-use Rattle.bridge_api.specs.Shown.{view_in}
+use Rattle.bridge_api.specs.Step.{step, sent, left_by}
+use Rattle.bridge_api.specs.Shown.{view_in, views_of}
 use Rattle.spb_types.proofs.Places.{lent, lent-none}
-use Rattle.spb_network.proofs.BoxLemmas.{map-set, changed-none, get-map, on_ok}
+use Rattle.spb_network.proofs.BoxLemmas.{map-set, changed-none, get-map, get-map-none, on_ok, none_more, some_more}
 use Rattle.spb_network.proofs.boxes.hear.Goals as goal
 
 pub returns-in-None-clause-views : goal.returns-in-None-clause-views
@@ -13,6 +14,24 @@ pub returns-in-Some-clause-views : goal.returns-in-Some-clause-views
 returns-in-Some-clause-views g c =
     on_ok c.receive.result (map-set (view_in g.B.Bridge.shown) (step (comes.frame c.args.port c.args.frame.now)) c.args.boxes.now.items c.args.i c.in-Some.bridge.now c.receive.new.self (lent _ _ _ _ c.get_mut.ensures.item c.in-Some.is)) c.receive.ensures.view
 
+pub returns-in-None-clause-sent : goal.returns-in-None-clause-sent
+returns-in-None-clause-sent g c =
+    none_more (sent (comes.frame c.args.port c.args.frame.now)) c.args.outbox.now.wire (views_of g.B.Bridge.shown c.args.boxes.now.items) c.args.i (get-map-none (view_in g.B.Bridge.shown) c.args.boxes.now.items c.args.i (lent-none _ _ _ c.get_mut.ensures.item c.in-None.is))
+
+pub returns-in-None-clause-left : goal.returns-in-None-clause-left
+returns-in-None-clause-left g c =
+    none_more (left_by (comes.frame c.args.port c.args.frame.now)) c.args.outbox.now.left (views_of g.B.Bridge.shown c.args.boxes.now.items) c.args.i (get-map-none (view_in g.B.Bridge.shown) c.args.boxes.now.items c.args.i (lent-none _ _ _ c.get_mut.ensures.item c.in-None.is))
+
+pub returns-in-Some-clause-sent : goal.returns-in-Some-clause-sent
+returns-in-Some-clause-sent g c =
+    on_ok c.receive.result (λ e. some_more (sent (comes.frame c.args.port c.args.frame.now)) c.args.outbox.now.wire _ (views_of g.B.Bridge.shown c.args.boxes.now.items) c.args.i (view_in g.B.Bridge.shown c.in-Some.bridge.now)
+    (get-map (view_in g.B.Bridge.shown) c.args.boxes.now.items c.args.i c.in-Some.bridge.now (lent _ _ _ _ c.get_mut.ensures.item c.in-Some.is)) (ap (λ outbox. outbox.wire) e)) c.receive.ensures.sent
+
+pub returns-in-Some-clause-left : goal.returns-in-Some-clause-left
+returns-in-Some-clause-left g c =
+    on_ok c.receive.result (λ e. some_more (left_by (comes.frame c.args.port c.args.frame.now)) c.args.outbox.now.left _ (views_of g.B.Bridge.shown c.args.boxes.now.items) c.args.i (view_in g.B.Bridge.shown c.in-Some.bridge.now)
+    (get-map (view_in g.B.Bridge.shown) c.args.boxes.now.items c.args.i c.in-Some.bridge.now (lent _ _ _ _ c.get_mut.ensures.item c.in-Some.is)) (ap (λ outbox. outbox.left) e)) c.receive.ensures.sent
+
 pub receive-requires-clause-port : goal.receive-requires-clause-port
 receive-requires-clause-port g c not_failed =
-    c.requires.port ((view_in g.B.Bridge.shown) c.in-Some.bridge.now) (get-map (view_in g.B.Bridge.shown) c.args.boxes.now.items c.args.i c.in-Some.bridge.now (lent _ _ _ _ c.get_mut.ensures.item c.in-Some.is))
+    c.requires.port (view_in g.B.Bridge.shown c.in-Some.bridge.now) (get-map (view_in g.B.Bridge.shown) c.args.boxes.now.items c.args.i c.in-Some.bridge.now (lent _ _ _ _ c.get_mut.ensures.item c.in-Some.is))

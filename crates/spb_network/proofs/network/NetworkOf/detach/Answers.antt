@@ -31,4 +31,4 @@ returns-clause-state g c =
     let s : State = state_of g.B.Bridge.shown c.args.self.now in
     let t : State = record s { world = without_attachment_at s.world c.args.place c.args.port } in
     let told : State = record s { views = views_of g.B.Bridge.shown c.detach.new.boxes.items } in
-    ap (λ w. record told { world = w }) c.detach-2.ensures ∙ stepped-is (comes.detach c.args.port) t c.args.place told.views no_sent c.in_ok-detach.ensures.views (frames-none t.views c.args.place)
+    ap (λ w. record told { world = w }) c.detach-2.ensures ∙ stepped-is (comes.detach c.args.port) t c.args.place told.views no_sent c.in_ok-detach.ensures.views (frames-none t.views c.args.place) (frames-none t.views c.args.place)

@@ -1,8 +1,10 @@
-use Rattle.std.proofs.Common.{sym, subst}
+use Rattle.std.proofs.Common.{[], ◌++◌, ◌∙◌, sym, ap, subst, slice_get}
+use Rattle.std.specs.Option.{option_map_or}
 use Rattle.bridge_api.specs.Step as comes
-use Rattle.spb_network.specs.Network.{state_of, Fits}
-use Rattle.spb_network.proofs.BoxLemmas.{on_ok, both}
-use Rattle.spb_network.proofs.SendLemmas.{stepped-is, frames-none}
+use Rattle.bridge_api.specs.Step.{sent, left_by}
+use Rattle.spb_network.specs.Network.{state_of, AreMade, Fits}
+use Rattle.spb_network.proofs.BoxLemmas.{on_ok}
+use Rattle.spb_network.proofs.SendLemmas.{stepped-moved}
 use Rattle.spb_network.proofs.FitsLemmas.{Fits-stepped, end_is_port}
 use Rattle.spb_network.proofs.network.NetworkOf.hear.Goals as goal
 
@@ -11,11 +13,15 @@ hear-requires-clause-port g c = end_is_port (state_of g.B.Bridge.shown c.args.se
 
 pub returns-clause-state : goal.returns-clause-state
 returns-clause-state g c =
-    on_ok c.hear.result (λ e. stepped-is (comes.frame c.args.end.port c.args.frame.now) (state_of g.B.Bridge.shown c.args.self.now) c.args.end.bridge _ _ e (frames-none (state_of g.B.Bridge.shown c.args.self.now).views c.args.end.bridge)) c.hear.ensures.views
+    let s = state_of g.B.Bridge.shown c.args.self.now in
+    let x = comes.frame c.args.end.port c.args.frame.now in
+    on_ok c.send_on.result (λ e. e ∙ stepped-moved x s c.args.end.bridge _ _ _ c.in_ok-hear.ensures.views
+    (c.in_ok-hear.ensures.sent ∙ ap (λ w. w ++ option_map_or (sent x) (slice_get s.views c.args.end.bridge) []) c.new-outbox.ensures.wire)
+    (c.in_ok-hear.ensures.left ∙ ap (λ w. w ++ option_map_or (left_by x) (slice_get s.views c.args.end.bridge) []) c.new-outbox.ensures.left)) c.send_on.ensures.state
 
 pub returns-clause-order : goal.returns-clause-order
 returns-clause-order g c =
-    both c.hear.result (λ made e. record {
-      made = made;
+    on_ok c.send_on.result (λ e. record {
+      made = subst (λ b. AreMade g.B.Bridge.shown b.items) (sym c.send_on.ensures.boxes) c.in_ok-hear.ensures.made;
       fits = subst Fits (sym e) (Fits-stepped (comes.frame c.args.end.port c.args.frame.now) (state_of g.B.Bridge.shown c.args.self.now) c.args.end.bridge c.requires.order.fits);
-    }) c.hear.ensures.made (returns-clause-state g c)
+    }) (returns-clause-state g c)

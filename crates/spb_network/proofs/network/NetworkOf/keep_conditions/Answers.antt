@@ -7,5 +7,6 @@ returns-clause-sound g c = record {
   made = c.requires.made;
   state = c.requires.state;
   counted = c.requires.counted;
+  outs = c.requires.outs;
   kept = found_kept (state_of g.B.Bridge.shown c.args.self.now) c.in_ok-found.found c.in_ok-found.ensures;
 }

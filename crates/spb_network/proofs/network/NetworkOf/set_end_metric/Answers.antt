@@ -11,7 +11,7 @@ set_metric-requires-clause-port g c = end_is_port (state_of g.B.Bridge.shown c.a
 
 pub returns-clause-state : goal.returns-clause-state
 returns-clause-state g c =
-    on_ok c.set_metric.result (λ e. stepped-is (comes.metric c.args.end.port c.args.end.metric) (state_of g.B.Bridge.shown c.args.self.now) c.args.end.bridge _ _ e (frames-none (state_of g.B.Bridge.shown c.args.self.now).views c.args.end.bridge)) c.set_metric.ensures.views
+    on_ok c.set_metric.result (λ e. stepped-is (comes.metric c.args.end.port c.args.end.metric) (state_of g.B.Bridge.shown c.args.self.now) c.args.end.bridge _ _ e (frames-none (state_of g.B.Bridge.shown c.args.self.now).views c.args.end.bridge) (frames-none (state_of g.B.Bridge.shown c.args.self.now).views c.args.end.bridge)) c.set_metric.ensures.views
 
 pub returns-clause-order : goal.returns-clause-order
 returns-clause-order g c =

@@ -13,5 +13,6 @@ returns-clause-ready g c =
       made = n.made;
       state = sound_again old (record old { rule = c.args.rule }) refl refl refl n.state;
       counted = λ few. counted_rule old c.args.rule (n.counted few);
+      outs = n.outs;
       kept = none_kept (record old { rule = c.args.rule });
     })) c.requires.ready

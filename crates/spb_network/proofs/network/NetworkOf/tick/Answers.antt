@@ -4,13 +4,13 @@ use Rattle.std.specs.Prelude.{slice_get}
 use Rattle.bridge_api.specs.Step as comes
 use Rattle.spb_network.specs.Network.{state_of, AreMade, Fits}
 use Rattle.spb_network.proofs.BoxLemmas.{on_ok}
-use Rattle.spb_network.proofs.SendLemmas.{stepped-is}
+use Rattle.spb_network.proofs.SendLemmas.{stepped-is, frames-none}
 use Rattle.spb_network.proofs.FitsLemmas.{Fits-stepped}
 use Rattle.spb_network.proofs.network.NetworkOf.tick.Goals as goal
 
 pub returns-clause-state : goal.returns-clause-state
 returns-clause-state g c =
-    on_ok c.send_all.result (λ e. e ∙ stepped-is comes.second (state_of g.B.Bridge.shown c.args.self.now) c.args.i _ _ c.in_ok-tick.ensures.views (c.into_vec.ensures ∙ ap (λ outbox. outbox.wire) c.in_ok-tick.ensures.sent ∙ ap (λ w. w ++ option_map_or (comes.sent comes.second) (slice_get (state_of g.B.Bridge.shown c.args.self.now).views c.args.i) []) c.in_ok-outbox.ensures)) c.send_all.ensures.state
+    on_ok c.send_all.result (λ e. e ∙ stepped-is comes.second (state_of g.B.Bridge.shown c.args.self.now) c.args.i _ _ c.in_ok-tick.ensures.views (c.into_vec.ensures ∙ ap (λ outbox. outbox.wire) c.in_ok-tick.ensures.sent ∙ ap (λ w. w ++ option_map_or (comes.sent comes.second) (slice_get (state_of g.B.Bridge.shown c.args.self.now).views c.args.i) []) c.in_ok-outbox.ensures) (frames-none (state_of g.B.Bridge.shown c.args.self.now).views c.args.i)) c.send_all.ensures.state
 
 pub returns-clause-order : goal.returns-clause-order
 returns-clause-order g c =
