@@ -1,11 +1,6 @@
 -- The laws of a step of a bridge, on which what is sound of a network rests.
-use Rattle.std.proofs.Common.{◌≡◌, ℕ, false, List}
-use Rattle.std.specs.List.{AllByRecursion}
-use Rattle.bridge_api.specs.View.{BridgeView}
-use Rattle.bridge_api.specs.Parsing.{is_hello}
-use Rattle.bridge_api.specs.Step.{customer, sent}
 use Rattle.itag_frames.proofs.ControlLaws.{control_again}
-use Rattle.bridge_api.specs.Laws.{ConfiguredIsSound, ConfiguredHasNoCarrier, StepsStaySound, StepsKeepBridge, StepsKeepCarrier, StepsKeepNeighbours, SentIsSound, OneHello, HellosAreHeard, UpPortsAreUp, StepsCarryDatabase, ConfiguredHoldsOwn, IsInput, IsSoundView}
+use Rattle.bridge_api.specs.Laws.{ConfiguredIsSound, ConfiguredHasNoCarrier, StepsStaySound, StepsKeepBridge, StepsKeepCarrier, StepsKeepNeighbours, SentIsSound, OneHello, HellosAreHeard, UpPortsAreUp, StepsCarryDatabase, ConfiguredHoldsOwn}
 use Rattle.bridge_api.specs.Counting.{StepsHoldIds, StepsLearnVersions, StepsAnswer, StepsOriginate, StepsDontSpend, ConfiguredIsFar}
 use Rattle.bridge_api.specs.Time.{SecondsAge}
 use Rattle.bridge_api.proofs.Answering as answering
@@ -80,6 +75,3 @@ configured_is_far = originating.configured_is_far
 
 pub configured_holds_own : ConfiguredHoldsOwn
 configured_holds_own = stored.configured_holds_own
-
-pub entered_no_hello : (port : ℕ) (bytes : List ℕ) (v : BridgeView) → IsInput v (customer port bytes) → IsSoundView v → AllByRecursion (λ s. is_hello s.1 ≡ false) (sent (customer port bytes) v)
-entered_no_hello = ?

@@ -19,14 +19,13 @@ use Rattle.spb_network.specs.Events.{stepped, frame_entered}
 use Rattle.spb_network.specs.Sound.{IsSoundState}
 use Rattle.spb_network.specs.Counted.{IsCopy, IsWithin, IsCountedBy}
 use Rattle.spb_network.proofs.BoxLemmas.{All-get}
-use Rattle.spb_network.proofs.BridgeLaws.{entered_no_hello}
 use Rattle.spb_network.proofs.FitsLemmas.{alike_itself}
 use Rattle.spb_network.proofs.SoundLane.{moved, moved_same}
 use Rattle.spb_network.proofs.SoundMoves.{IsCore, Comes, got_mapped}
 use Rattle.spb_network.proofs.SoundSteps.{only, only_here, only_is, IsInputAt}
 use Rattle.spb_network.proofs.SoundEvents.{core_of}
 use Rattle.spb_network.proofs.SoundEntering.{is_entry}
-use Rattle.spb_network.proofs.CountedSent.{quiet_lanes}
+use Rattle.spb_network.proofs.CountedSent.{entered, quiet_lanes}
 use Rattle.spb_network.proofs.CountedMoves.{Turn, stems}
 use Rattle.spb_network.proofs.CountedSteps.{AreOwn, AreFar, own_moved, own_from, weak_from}
 use Rattle.spb_network.proofs.CountedGains.{only_beside, bound_heard}
@@ -51,15 +50,15 @@ module _ (s : State) (n i port : ℕ) (bytes : List ℕ) (core : IsCore s) (coun
   no_second : (j : ℕ) → only i x j ≡ Some second → false ≡ true
   no_second j is = let same : x ≡ second = (only_is i x j second is).1 in absurd cc
 
-  entered : (u : BridgeView) (id : LspId) → version_at (step x u).database id ≡ version_at u.database id
+  database_kept : (u : BridgeView) (id : LspId) → version_at (step x u).database id ≡ version_at u.database id
   unfolding after_entry
-  entered u id = refl
+  database_kept u id = refl
 
   -- each bridge holds what it held
   held : (j : ℕ) (u : BridgeView) (id : LspId) → version_at (moved (only i x j) u).database id ≡ version_at u.database id
   held j u id =
       elim (cases_eq j i) [
-        | inl here ↦ ap (λ (o : Option Input). version_at (moved o u).database id) (ap (only i x) here ∙ only_here i x) ∙ entered u id
+        | inl here ↦ ap (λ (o : Option Input). version_at (moved o u).database id) (ap (only i x) here ∙ only_here i x) ∙ database_kept u id
         | inr apart ↦ ap (λ (o : Option Input). version_at (moved o u).database id) (only_beside i x j apart)
       ]
 
@@ -69,7 +68,7 @@ module _ (s : State) (n i port : ℕ) (bytes : List ℕ) (core : IsCore s) (coun
   within : (j : ℕ) (u : BridgeView) (id : LspId) → slice_get s.views j ≡ Some u → IsOwnNumber u.id.system id → IsWithin t j (moved (only i x j) u) id n
   within j u id at own =
       let was = counted.bound j u id at own in
-      let few = quiet_lanes x s i j (λ v at_v. entered_no_hello port bytes v (is_input v at_v) (All-get IsSoundView s.views i v core.views at_v)) in
+      let few = quiet_lanes x s i j (λ v at_v. entered port bytes v (is_input v at_v) (All-get IsSoundView s.views i v core.views at_v)) in
       record {
         most = was.most;
         bound = λ a copy. bound_heard s.views s.lanes u id (claims_of x) (version_at (moved (only i x j) u).database id) was.most was.bound (copies id) j a at (counting.keeps (held j u id)) (stems false s t (only i x) turn no_second j u id at own a copy);

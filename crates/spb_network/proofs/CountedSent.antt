@@ -1,22 +1,31 @@
 -- What a bridge sends at once, by whatever comes to it but a second, is heard as no hello.
-use Rattle.std.proofs.Common.{◌≡◌, ◌≤◌, ◌+◌, ℕ, Bool, true, false, List, [], ◌∷◌, map, refl, sym, ap, ◌∙◌, subst, Option, Some, None, slice_get, arith}
+use Rattle.std.proofs.Common.{◌≡◌, inl, inr, ◌≤◌, ◌+◌, ℕ, Bool, true, false, List, [], ◌∷◌, map, refl, sym, ap, ◌∙◌, subst, Option, Some, None, slice_get, arith}
 use Rattle.std.specs.Prelude.{if◌then◌else◌, is_some}
 use Rattle.std.specs.List.{AllByRecursion}
 use Rattle.std.specs.Option.{option_map_or}
 use Rattle.link_model.specs.Lane.{Frame, pushed}
 use Rattle.link_model.specs.declared.lanes.LaneId.{LaneId}
+use Rattle.spb_types.specs.declared.address.Mac.{Mac}
+use Rattle.spb_types.specs.declared.service.Attachment.{Attachment}
+use Rattle.spb_types.specs.declared.service.Isid.{Isid}
+use Rattle.spb_types.specs.declared.service.Vid.{Vid}
 use Rattle.spb_types.specs.Places.{changed_at}
+use Rattle.itag_frames.specs.Backbone.{backbone_bytes}
 use Rattle.forwarding.specs.Tenant.{nothing, each_with}
 use Rattle.bridge_api.specs.declared.port.BridgePort.{BridgePort}
 use Rattle.bridge_api.specs.View.{BridgeView, port_at}
 use Rattle.bridge_api.specs.Parsing.{Parsed, parsed, hello_in, is_hello}
 use Rattle.bridge_api.specs.Parsing as parsing
 use Rattle.bridge_api.specs.Customers.{moved_as, moved_at, moved_by_receive}
-use Rattle.bridge_api.specs.Step.{Input, frame, step, sent}
+use Rattle.bridge_api.specs.Step.{Input, frame, customer, step, sent}
+use Rattle.bridge_api.specs.Laws.{IsInput, IsSoundView}
+use Rattle.bridge_api.proofs.Carried.{IsTaken, encapsulated_is_taken}
+use Rattle.bridge_api.proofs.Forwarded.{Encapsulates, encapsulates}
 use Rattle.spb_network.specs.World.{World, things_of}
 use Rattle.spb_network.specs.State.{State, links_of, is_live, lane_out, with_frames}
 use Rattle.spb_network.specs.Events.{sent_over, sent_all, stepped}
 use Rattle.spb_network.specs.Counted.{hellos_in, hellos_to}
+use Rattle.spb_network.proofs.ListLemmas.{All-map}
 use Rattle.spb_network.proofs.CountedHellos.{one, hellos_pushed, hellos_changed}
 use Rattle.spb_network.proofs.SoundSteps.{world-sent_over, world-sent_all}
 
@@ -49,6 +58,22 @@ relayed_at (Some port) p f v = relayed_if port.adjacency.carrier p f v
 pub relayed : (p : ℕ) (f : Frame) (v : BridgeView) → AreNoHellos (sent (frame p f) v)
 unfolding moved_by_receive
 relayed p f v = relayed_at (port_at v p) p f v
+
+-- ---- a customer's frame that enters
+
+taken_no_hello : (f : Frame) (da sa : Mac) (vid : Vid) (isid : Isid) (payload : List ℕ) → IsTaken f da sa vid isid payload → is_hello f ≡ false
+taken_no_hello f da sa vid isid payload (inl is) = ap (λ (j : Parsed). is_some (hello_in j)) is
+taken_no_hello f da sa vid isid payload (inr is) = ap (λ (j : Parsed). is_some (hello_in j)) is
+
+carrying : (v : BridgeView) (port : ℕ) (bytes f : List ℕ) → Encapsulates v port bytes f → is_hello f ≡ false
+carrying v port bytes f e =
+    let a : Attachment = e.attachment in
+    subst (λ (g : Frame). is_hello g ≡ false) (sym e.is)
+    (taken_no_hello (backbone_bytes e.da v.id.system.mac a.vid a.isid bytes) e.da v.id.system.mac a.vid a.isid bytes (encapsulated_is_taken e.da v.id.system.mac a.vid a.isid bytes e.can))
+
+pub entered : (port : ℕ) (bytes : List ℕ) (v : BridgeView) → IsInput v (customer port bytes) → IsSoundView v → AreNoHellos (sent (customer port bytes) v)
+entered port bytes v is sound =
+    All-map (λ f. Encapsulates v port bytes f.1) (λ f. is_hello f.1 ≡ false) (sent (customer port bytes) v) (λ f e. carrying v port bytes f.1 e) (encapsulates port bytes v is.1 sound)
 
 -- ---- what that is to the hellos on their way
 
