@@ -29,7 +29,9 @@ there_apart s c places = record {
 }
 
 pub commands_keep_apart : CommandsKeepApart
-commands_keep_apart s c sound addressed accepted none places = command_apart (IsThere s c) s sound none (there_apart s c places) c addressed accepted (λ isid f enters. inr enters)
+commands_keep_apart s c sound addressed accepted none places =
+    let both = command_apart (IsThere s c) s sound none (there_apart s c places) c addressed accepted (λ isid f enters. inr enters) in
+    record { apart = both.0; left = both.1 }
 
 -- ---- one after another
 

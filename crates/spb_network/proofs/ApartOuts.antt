@@ -102,12 +102,14 @@ module _ (w : World) (Entered : Isid → List ℕ → Type 0) (v : BridgeView) (
   left_named : (name : List ℕ) (fs : List (ℕ × Frame)) → place_of name w.bridges ≡ Some i → AllByRecursion (λ f. LeavesEntered Entered v f.0 f.1) fs → AllByRecursion (LeftEntered w Entered) (outs_at (Some name) fs)
   left_named name [] named leave = tt
   left_named name (f ∷ fs) named leave =
-      let here : LeavesEntered Entered v f.0 f.1 = leave.0 in
-      (record {
-        isid = here.isid;
-        attached = record { place = i; named = named; attached = subst (λ (attached : List Attachment). IsAttachedTo attached f.0 here.isid) same here.attached };
-        entered = here.entered;
-      }, left_named name fs named leave.1)
+      let here : LeavesEntered Entered v f.0 f.1 = leave.0 in (
+        record {
+          isid = here.isid;
+          attached = record { place = i; named = named; attached = subst (λ (attached : List Attachment). IsAttachedTo attached f.0 here.isid) same here.attached };
+          entered = here.entered;
+        },
+        left_named name fs named leave.1,
+      )
 
   pub left_each : (o : Option (List ℕ)) (fs : List (ℕ × Frame)) → ArePairwise (λ x y. x ≢ y) (names_of w.bridges) → slice_get (names_of w.bridges) i ≡ o → AllByRecursion (λ f. LeavesEntered Entered v f.0 f.1) fs → AllByRecursion (LeftEntered w Entered) (outs_at o fs)
   left_each None fs apart at leave = tt

@@ -105,12 +105,12 @@ module _ (Entered : Isid → List ℕ → Type 0) (s : State) (sound : IsSoundSt
   boxed_separate name b (Some place) each = record {
     lanes = separate.lanes;
     bridges = λ i v at. record {
-        sound = All-get IsSoundView (s.views ++ configured (config_of s.world b) ∷ []) i v each at;
-        placed = elim (got_push s.views (configured (config_of s.world b)) i v at) [
-          | inl old ↦ (separate.bridges i v old.1).placed
-          | inr new ↦ subst (λ (u : BridgeView). ArePlaced (tenant_of u)) new.1 (configured_is_placed (config_of s.world b))
-        ];
-      };
+      sound = All-get IsSoundView (s.views ++ configured (config_of s.world b) ∷ []) i v each at;
+      placed = elim (got_push s.views (configured (config_of s.world b)) i v at) [
+        | inl old ↦ (separate.bridges i v old.1).placed
+        | inr new ↦ subst (λ (u : BridgeView). ArePlaced (tenant_of u)) new.1 (configured_is_placed (config_of s.world b))
+      ];
+    };
     outs = separate.outs;
   }
 
