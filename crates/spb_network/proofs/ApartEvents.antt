@@ -1,5 +1,5 @@
 -- What becomes of links, lanes and customer ports keeps services apart.
-use Rattle.std.proofs.Common.{◌≡◌, ◌<◌, ℕ, Bool, true, false, List, refl, Option, Some, None, slice_get}
+use Rattle.std.proofs.Common.{◌≡◌, ℕ, Bool, true, false, List, refl, Option, Some, None, slice_get}
 use Rattle.link_model.specs.Lane.{Frame, after_lose, after_double}
 use Rattle.link_model.specs.Lanes.{changed_lane, no_frames}
 use Rattle.spb_types.specs.Places.{changed_at}

@@ -1,10 +1,8 @@
 -- Services stay apart in one command, and so through all of them.
-use Rattle.std.proofs.Common.{◌≡◌, ◌⊎◌, inl, inr, ℕ, List, [], ◌∷◌, ◌++◌, refl, None}
+use Rattle.std.proofs.Common.{◌≡◌, inl, inr, ℕ, List, [], ◌∷◌, ◌++◌, refl, None}
 use Rattle.std.specs.List.{AllByRecursion}
 use Rattle.scenario.specs.declared.command.Command.{Command}
-use Rattle.link_model.specs.Lane.{Frame, IsIn}
 use Rattle.link_model.specs.Lanes.{lane_of}
-use Rattle.spb_types.specs.declared.link.Dir.{Dir}
 use Rattle.spb_types.specs.declared.service.Isid.{Isid}
 use Rattle.bridge_api.specs.Apart.{CarriesEntered}
 use Rattle.spb_network.specs.declared.kind_rule.KindRule.{KindRule}

@@ -11,7 +11,7 @@ use Rattle.spb_network.specs.declared.answer.Out.{Out}
 use Rattle.spb_network.specs.World.{things_of}
 use Rattle.spb_network.specs.State.{State, links_of}
 use Rattle.spb_network.specs.Events.{with_carrier_at_end, flushed}
-use Rattle.spb_network.specs.Restarting.{restart_config, ends_here, end_here, end_away, link_cut, cut_link, cut_from, lit_link, lit_from, box_at, replaced, restarted_in, restarted_as, restarted}
+use Rattle.spb_network.specs.Restarting.{restart_config, ends_here, end_here, end_away, link_cut, cut_link, cut_from, lit_link, lit_from, box_at, replaced, restarted_as, restarted}
 use Rattle.spb_network.specs.Sound.{IsSoundState}
 use Rattle.spb_network.proofs.BridgeLaws.{configured_is_sound}
 use Rattle.spb_network.proofs.ApartBridge.{configured_is_placed}

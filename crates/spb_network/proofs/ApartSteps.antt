@@ -1,15 +1,13 @@
 -- One bridge steps, or frames are lost: what is on its way still has entered, and what is learned at a customer port is
 -- learned at one of the service.
-use Rattle.std.proofs.Common.{◌≡◌, ◌⊎◌, inl, inr, ℕ, List, [], refl, sym, ap, ◌∙◌, subst, Some, None, slice_get}
+use Rattle.std.proofs.Common.{◌≡◌, inl, inr, ℕ, List, [], sym, ap, ◌∙◌, subst, Some, slice_get}
 use Rattle.std.specs.List.{AllByRecursion}
 use Rattle.link_model.specs.Lane.{Frame, IsIn}
 use Rattle.link_model.specs.Lanes.{lane_of}
 use Rattle.link_model.specs.declared.lanes.LinkLanes.{LinkLanes}
 use Rattle.spb_types.specs.Places.{changed_at}
 use Rattle.spb_types.specs.declared.link.Dir.{Dir}
-use Rattle.spb_types.specs.declared.address.Mac.{Mac}
 use Rattle.spb_types.specs.declared.service.Isid.{Isid}
-use Rattle.spb_types.specs.declared.service.Vid.{Vid}
 use Rattle.forwarding.specs.Placed.{ArePlaced}
 use Rattle.bridge_api.specs.View.{BridgeView}
 use Rattle.bridge_api.specs.Customers.{tenant_of}

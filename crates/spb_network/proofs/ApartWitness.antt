@@ -1,18 +1,16 @@
 -- A bridge with two ports in a service: a frame that enters at one leaves at the other.
-use Rattle.std.proofs.Common.{◌≡◌, ℕ, List, [], ◌∷◌, ◌++◌, refl, ap, ◌∙◌, Option, Some, None, slice_get, arith}
-use Rattle.std.specs.List.{AllByRecursion}
+use Rattle.std.proofs.Common.{◌≡◌, ℕ, List, [], ◌∷◌, ◌++◌, refl, ap, ◌∙◌, Option, slice_get, arith}
 use Rattle.std.specs.Option.{option_map_or}
 use Rattle.scenario.specs.declared.command.Command.{Command}
 use Rattle.scenario.specs.declared.command.Command.TheVariants as command
-use Rattle.link_model.specs.Lane.{Frame}
 use Rattle.spb_types.specs.declared.address.Mac.{Mac}
 use Rattle.spb_types.specs.declared.service.Attachment.{Attachment}
 use Rattle.forwarding.specs.Tenant.{of_customer}
 use Rattle.bridge_api.specs.View.{BridgeView}
 use Rattle.bridge_api.specs.Services.{attachment_of}
-use Rattle.bridge_api.specs.Customers.{tenant_of, moved_by_entry}
+use Rattle.bridge_api.specs.Customers.{moved_by_entry}
 use Rattle.bridge_api.specs.Tables.{own_tables}
-use Rattle.bridge_api.specs.Step.{Input, customer, left_by}
+use Rattle.bridge_api.specs.Step.{customer, left_by}
 use Rattle.spb_network.specs.declared.answer.Out.{Out}
 use Rattle.spb_network.specs.declared.declaration.DeclaredBridge.{DeclaredBridge}
 use Rattle.spb_network.specs.declared.kind_rule.KindRule.TheVariants as rule
@@ -26,7 +24,7 @@ use Rattle.spb_network.specs.Events.{outs_at, stepped, port_attached, frame_ente
 use Rattle.spb_network.specs.Refusing.{declared_refusal, named_attach_refusal, named_entry_refusal}
 use Rattle.spb_network.specs.Play.{at_place, at_bridge, declared, with_vid_more, with_service_more, next_state, played_all, answer_of}
 use Rattle.spb_network.specs.Sound.{IsSoundState, opening}
-use Rattle.spb_network.specs.SoundLaws.{IsAddressed, AreAccepted}
+use Rattle.spb_network.specs.SoundLaws.{AreAccepted}
 use Rattle.spb_network.specs.Isolation.{outs_in, SomeFrameLeaves}
 use Rattle.spb_network.proofs.SoundEvents.{core_of}
 use Rattle.spb_network.proofs.SoundPlay.{networks_are_sound}

@@ -5,7 +5,7 @@
 //! links, the two lanes of each link. [`NetworkOf::apply`] is one step of play, as `specs/Play.antt` says: a command
 //! that is refused names the first reason in order of number and changes nothing. What holds of a network at every
 //! moment stands in `specs/Sound.antt`, and is a clause of each call; what a quiet network knows of its wiring stands in
-//! `specs/Truth.antt`.
+//! `specs/Truth.antt`; and that service instances don't mix in it, quiet or not, in `specs/Isolation.antt`.
 //!
 //! **Costs.** A frame that is sent finds its link in constant time, and a name is found so on average. A
 //! round takes a call of each bridge and one for each frame that stands in a lane. A tick takes memory for an outbox
