@@ -92,7 +92,7 @@ said_by (parsing.hello h way) from to n said is = sym (some-is _ _ is) ∙ (said
 said_by (parsing.lsp l) from to n said is = absurd cc
 said_by (parsing.csnp c) from to n said is = absurd cc
 said_by (parsing.psnp s) from to n said is = absurd cc
-said_by (parsing.customer da sa vid isid customer) from to n said is = absurd cc
+said_by (parsing.customer da sa vid isid payload) from to n said is = absurd cc
 
 said_sender : (v : BridgeView) (p : ℕ) (w : BridgeView) (q : ℕ) (f : Frame) (n : End) → IsFrameFrom w q v p f → hello_sender (parsed f) ≡ Some n → n ≡ end_at w q
 said_sender v p w q f n said is = said_by (parsed f) (end_at w q) (end_at v p) n said.hello is
