@@ -45,7 +45,7 @@ relayed_as (parsing.hello h way) p f v is = tt
 relayed_as (parsing.lsp l) p f v is = tt
 relayed_as (parsing.csnp c) p f v is = tt
 relayed_as (parsing.psnp s) p f v is = tt
-relayed_as (parsing.customer da sa vid isid customer) p f v is = each_no_hello f _ (ap (λ (j : Parsed). is_some (hello_in j)) is)
+relayed_as (parsing.customer da sa vid isid payload) p f v is = each_no_hello f _ (ap (λ (j : Parsed). is_some (hello_in j)) is)
 
 relayed_if : (carrier : Bool) (p : ℕ) (f : Frame) (v : BridgeView) → AreNoHellos (if carrier then moved_as (parsed f) p f v else nothing).wire
 relayed_if true p f v = relayed_as (parsed f) p f v refl

@@ -15,7 +15,8 @@ use Rattle.fdb_build.proofs.TableLemmas.{same_rows}
 use Rattle.fdb_build.specs.Groups.{group_rows}
 use Rattle.fdb_build.proofs.GroupLemmas.{same_groups}
 use Rattle.bridge_api.specs.View.{BridgeView}
-use Rattle.bridge_api.specs.Graph.{contents_of, read_graph, IsOwnGraph, own_tables}
+use Rattle.bridge_api.specs.Graph.{contents_of, read_graph, IsOwnGraph}
+use Rattle.bridge_api.specs.Tables.{own_tables}
 use Rattle.bridge_api.proofs.GraphRead.{reads_each_once}
 use Rattle.bridge_api.proofs.OwnTables.{is_part}
 use Rattle.spb_network.specs.World.{system_at, world_graph, wired_tables}

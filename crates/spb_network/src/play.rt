@@ -353,7 +353,8 @@ impl<B: Bridge> NetworkOf<B> {
         requires sound { IsSoundNetwork B.shown self.old }
         requires question { question.is_question command.now ≡ true }
         ensures answer { IfOk result (λ answer. answer ≡ play.answer_of (state_of B.shown self.old) command.now) }
-        ensures state { OnOk result (state_of B.shown self.new ≡ play.played (state_of B.shown self.old) command.now) }
+        ensures state { OnOk result (state_of B.shown self.new
+            ≡ record (play.played (state_of B.shown self.old) command.now) { outs = [] }) }
         ensures made { OnOk result (AreMade B.shown self.new.boxes.items) }
         ensures kept { OnOk result (IsKept B.shown self.new) }
     {

@@ -1,7 +1,7 @@
 use Rattle.std.proofs.Common.{◌≡◌, ◌≤◌, None, sym, ap, ◌∙◌, subst, refl, true≢false, inr, ⊎_elim}
 use Rattle.spb_network.specs.State.{State}
 use Rattle.spb_network.specs.Refusing.{refusal_of}
-use Rattle.spb_network.specs.Play.{counted, next_state}
+use Rattle.spb_network.specs.Play.{next_count, next_state}
 use Rattle.spb_network.specs.Sound.{IsSoundState}
 use Rattle.spb_network.specs.Counted.{IsCounted, most_commands}
 use Rattle.spb_network.specs.Network.{state_of}
@@ -23,7 +23,7 @@ returns-in-Ok-clause-applies g c =
       record {
         accepted = sym c.refusal.ensures ∙ c.in-None.is;
         answer_is = c.in-Ok.ensures.answer;
-        state = (λ i. record made { accepted = c.saturating_add-self.ensures i }) ∙ ap counted c.in-Ok.ensures.state;
+        state = (λ i. record made { accepted = c.saturating_add-self.ensures i }) ∙ ap (λ (t : State). record t { accepted = next_count t.accepted }) c.in-Ok.ensures.state;
       },
       refl,
     )
@@ -36,11 +36,12 @@ returns-in-Ok-clause-ready g c =
     let sound : IsSoundState old = ⊎_elim (λ h. absurd (true≢false (sym h ∙ c.if-self.false))) (λ n. n.state) c.requires in
     let few : old.accepted ≤ most_commands → IsCounted old = ⊎_elim (λ h. absurd (true≢false (sym h ∙ c.if-self.false))) (λ n. n.counted) c.requires in
     let accepted : refusal_of old c.args.command.now ≡ None = sym c.refusal.ensures ∙ c.in-None.is in
-    let same = (λ i. record made { accepted = c.saturating_add-self.ensures i }) ∙ ap counted c.in-Ok.ensures.state in
+    let same = (λ i. record made { accepted = c.saturating_add-self.ensures i }) ∙ ap (λ (t : State). record t { accepted = next_count t.accepted }) c.in-Ok.ensures.state in
     inr (record {
       made = c.in-Ok.ensures.made;
       state = subst IsSoundState (sym same) (commands_keep_sound old c.args.command.now sound c.addressed.ensures accepted);
       counted = subst (λ (t : State). t.accepted ≤ most_commands → IsCounted t) (sym same) (stays_counted old c.args.command.now sound few accepted);
+      outs = ap (λ (t : State). t.outs) same;
       kept = λ kept is. c.in-Ok.ensures.kept kept is ∙ sym (counted_conditions made c.saturating_add-self.result);
     })
 
@@ -52,5 +53,5 @@ returns-in-Ok-clause-quiet g c =
     let sound : IsSoundState old = ⊎_elim (λ h. absurd (true≢false (sym h ∙ c.if-self.false))) (λ n. n.state) c.requires in
     let few : old.accepted ≤ most_commands → IsCounted old = ⊎_elim (λ h. absurd (true≢false (sym h ∙ c.if-self.false))) (λ n. n.counted) c.requires in
     let accepted : refusal_of old c.args.command.now ≡ None = sym c.refusal.ensures ∙ c.in-None.is in
-    let same = (λ i. record made { accepted = c.saturating_add-self.ensures i }) ∙ ap counted c.in-Ok.ensures.state in
+    let same = (λ i. record made { accepted = c.saturating_add-self.ensures i }) ∙ ap (λ (t : State). record t { accepted = next_count t.accepted }) c.in-Ok.ensures.state in
     subst (λ (t : State). t.accepted ≤ most_commands → QuietTells t) (sym same) (next_tells old c.args.command.now sound c.addressed.ensures few accepted)
