@@ -28,7 +28,7 @@ use Rattle.bridge_api.specs.Own.{body_of, own_of, own_entry, holding_of, with_ho
 use Rattle.bridge_api.specs.Parsing.{Parsed, parsed, hello_in, is_hello}
 use Rattle.bridge_api.specs.Parsing as parsing
 use Rattle.bridge_api.specs.Hearing.{heard_lsp, heard_csnp, heard_psnp}
-use Rattle.bridge_api.specs.Step.{second, frame, carrier, metric, attach, detach, step}
+use Rattle.bridge_api.specs.Step.{second, frame, carrier, metric, attach, detach, customer, step}
 use Rattle.bridge_api.specs.Laws.{IsSoundView, claims_said, claims_or_none}
 use Rattle.bridge_api.specs.Counting.{IsFar, Answered, keeps, answers, StepsAnswer}
 use Rattle.bridge_api.proofs.Changes.{FrameStep, idle, by_hello, by_lsp, by_csnp, by_psnp, frame_step, when_true}
@@ -152,7 +152,7 @@ module _ (q : ℕ) (bytes : List ℕ) (v : BridgeView) (was : IsSoundView v) (fa
   low_as j is = subst (λ (i : Parsed). AreLow (claims_said i)) is (all_low (claims_said (parsed bytes)) far.claims)
 
   frame_answers : FrameStep v q bytes (step (frame q bytes) v) → Answers v (claims_said (parsed bytes)) (step (frame q bytes) v)
-  frame_answers (idle e) = record {
+  frame_answers (idle learned how e) = record {
     own = still (same_lsp _ _ (ap (λ (w : BridgeView). get w.database (own_id v.id.system)) e));
     fresh = ap (λ (w : BridgeView). w.spent) e ∙ far.fresh;
   }
@@ -213,3 +213,4 @@ steps_answer (carrier q on) v id own was far claiming = absurd cc
 steps_answer (metric q m) v id own was far claiming = absurd cc
 steps_answer (attach a) v id own was far claiming = absurd cc
 steps_answer (detach p) v id own was far claiming = absurd cc
+steps_answer (customer p bytes) v id own was far claiming = absurd cc

@@ -25,7 +25,7 @@ pairwise_behind R (y ∷ xs) x apart each = (all_append (R y) xs (x ∷ []) apar
 
 -- ---- fewer of them
 
-all_fewer : {X : Type 0} (P : X → Type 0) (p : X → Bool) (xs : List X) → AllByRecursion P xs → AllByRecursion P (filter p xs)
+pub all_fewer : {X : Type 0} (P : X → Type 0) (p : X → Bool) (xs : List X) → AllByRecursion P xs → AllByRecursion P (filter p xs)
 all_fewer P p xs all = has_all P (filter p xs) (λ x h. all_has P x xs all (filter_has p x xs h).0)
 
 pairwise_kept : {X : Type 0} (R : X → X → Type 0) (b : Bool) (x : X) (xs : List X) → AllByRecursion (R x) xs → ArePairwise R xs → ArePairwise R (cond b (x ∷ xs) xs)

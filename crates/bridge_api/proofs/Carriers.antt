@@ -17,8 +17,9 @@ use Rattle.bridge_api.specs.View.{BridgeView, IsPort, port_in, port_at, has_carr
 use Rattle.bridge_api.specs.Hearing.{with_adjacency, after_receive, with_carrier_at, with_carrier, with_port_metric}
 use Rattle.bridge_api.specs.Ports.{heard_hello_port, with_carrier_port}
 use Rattle.bridge_api.specs.Ticking.{later}
-use Rattle.bridge_api.specs.Services.{without_customer_port}
-use Rattle.bridge_api.specs.Step.{second, frame, carrier, metric, attach, detach}
+use Rattle.bridge_api.specs.Customers.{after_entry}
+use Rattle.bridge_api.specs.Services.{without_customer_port, with_port_forgotten}
+use Rattle.bridge_api.specs.Step.{second, frame, carrier, metric, attach, detach, customer}
 use Rattle.bridge_api.specs.Laws.{StepsKeepCarrier}
 use Rattle.bridge_api.proofs.Places.{port_found, got_at}
 use Rattle.bridge_api.proofs.Changes.{found, one_port, frame_ports, heard_hello_ports, with_carrier_ports, metric_step, with_metric_ports, ticked, tick_port, with_attached_ports}
@@ -89,7 +90,7 @@ carrier_told None v q on p is none = untold_at (p == q) v q on p refl is none
 carrier_told (Some port) v q on p is there = ap (λ (ports : List BridgePort). has_carrier_in (port_in ports p)) (with_carrier_ports q on port v there) ∙ carrier_of (p == q) v q on port p refl there
 
 pub steps_keep_carrier : StepsKeepCarrier
-unfolding has_carrier_at with_carrier
+unfolding has_carrier_at with_carrier with_port_forgotten after_entry
 steps_keep_carrier second v p is = ap has_carrier_in (tick_port v p) ∙ ticked_carrier (port_at v p)
 steps_keep_carrier (frame q bytes) v p is =
     elim (frame_ports v q bytes) [
@@ -116,4 +117,5 @@ steps_keep_carrier (metric q m) v p is =
           ]
     ]
 steps_keep_carrier (attach a) v p is = ap (λ (list : List BridgePort). has_carrier_in (port_in list p)) (with_attached_ports (v.attached ++ a ∷ []) v)
-steps_keep_carrier (detach q) v p is = ap (λ (list : List BridgePort). has_carrier_in (port_in list p)) (with_attached_ports (without_customer_port q v.attached) v)
+steps_keep_carrier (detach q) v p is = ap (λ (list : List BridgePort). has_carrier_in (port_in list p)) (with_attached_ports (without_customer_port q v.attached) (with_port_forgotten q v))
+steps_keep_carrier (customer q bytes) v p is = refl

@@ -12,6 +12,7 @@ use Rattle.spb_types.specs.Ports.{has, no_ports}
 use Rattle.isis_pdu.specs.Pdu.{HelloValue}
 use Rattle.isis_pdu.specs.Grammar.{IsId}
 use Rattle.spb_tlvs.specs.declared.three_way.ThreeWay.{ThreeWay}
+use Rattle.customer_learning.specs.Known.{Addresses}
 use Rattle.lsdb.specs.Version.{number_of, is_absent}
 use Rattle.lsdb.specs.Entry.{Entry}
 use Rattle.lsdb.specs.Database.{id_cmp, version_in, fits}
@@ -37,8 +38,9 @@ use Rattle.bridge_api.specs.Own.{own_of, own_entry, holding_of, originated_if_ch
 use Rattle.bridge_api.specs.Config.{IsWhole, IsMetric, port_without_carrier, bare, configured}
 use Rattle.bridge_api.specs.Hearing.{with_csnp_due, with_adjacency, left_up, all_srm_set_at, changed_at, heard_lsp, heard_csnp, heard_psnp, heard_hello, after_receive, with_carrier_at, with_carrier, with_port_metric, with_metric}
 use Rattle.bridge_api.specs.Ticking.{later, counts_lowered, expired, readied, after_tick}
-use Rattle.bridge_api.specs.Services.{with_attached, without_customer_port}
-use Rattle.bridge_api.specs.Step.{Input, second, frame, carrier, metric, attach, detach, step}
+use Rattle.bridge_api.specs.Customers.{with_learned, after_entry}
+use Rattle.bridge_api.specs.Services.{with_attached, without_customer_port, with_port_forgotten}
+use Rattle.bridge_api.specs.Step.{Input, second, frame, carrier, metric, attach, detach, customer, step}
 use Rattle.bridge_api.specs.Laws.{IsSoundPort, HasConfig, IsSoundView, IsInput, ConfiguredHoldsOwn}
 use Rattle.bridge_api.proofs.Places.{got_at}
 use Rattle.bridge_api.proofs.Adjacent.{came_up, stayed_up, hello_sound, carrier_sound}
@@ -162,7 +164,7 @@ module _ (v : BridgeView) (was : IsSoundView v) where
   pub frame_holds : (q : ℕ) (bytes : List ℕ) → Holds (after_receive q bytes v)
   frame_holds q bytes =
       elim (frame_step v q bytes) [
-        | idle e ↦ subst Holds (sym e) before_holds
+        | idle learned how e ↦ subst Holds (sym e) before_holds
         | by_hello g ↦ subst Holds (sym g.after) (heard_hello_holds q g.port g.there g.hello g.way (source_six bytes g.hello g.way g.is))
         | by_lsp g ↦ heard_lsp_holds q bytes (after_receive q bytes v) g
         | by_csnp g ↦ heard_csnp_holds q bytes (after_receive q bytes v) g
@@ -183,10 +185,10 @@ module _ (v : BridgeView) (was : IsSoundView v) where
         | inr g ↦ subst Holds (sym g.after) (with_metric_holds q g.port g.there m is)
       ]
 
-  pub attached_holds : (attached : List Attachment) → HasConfig (attached_to attached v) → Holds (with_attached attached v)
-  attached_holds attached config =
-      let w : BridgeView = attached_to attached v in
-      subst Holds (sym (with_attached_is attached v)) (originated_if_changed_keeps w (can_originate w config was.few was.ports) before_holds)
+  pub attached_holds : (learned : Addresses) (attached : List Attachment) → HasConfig (attached_to attached (with_learned learned v)) → Holds (with_attached attached (with_learned learned v))
+  attached_holds learned attached config =
+      let w : BridgeView = attached_to attached (with_learned learned v) in
+      subst Holds (sym (with_attached_is attached (with_learned learned v))) (originated_if_changed_keeps w (can_originate w config was.few was.ports) before_holds)
 
   -- a second
   pub readied_holds : Holds (readied v)
@@ -199,12 +201,14 @@ module _ (v : BridgeView) (was : IsSoundView v) where
   tick_holds = subst Holds (sym (tick_is v)) (after_sending_keeps (readied v) readied_holds)
 
 pub step_holds : (input : Input) (v : BridgeView) → IsInput v input → IsSoundView v → Holds (step input v)
+unfolding with_port_forgotten after_entry
 step_holds second v is was = tick_holds v was
 step_holds (frame q bytes) v is was = frame_holds v was q bytes
 step_holds (carrier q on) v is was = carrier_holds v was q on
 step_holds (metric q m) v is was = metric_holds v was q m is
-step_holds (attach a) v is was = attached_holds v was (v.attached ++ a ∷ []) (config_after (attach a) v is was.config)
-step_holds (detach p) v is was = attached_holds v was (without_customer_port p v.attached) (config_after (detach p) v is was.config)
+step_holds (attach a) v is was = attached_holds v was v.learned (v.attached ++ a ∷ []) (config_after (attach a) v is was.config)
+step_holds (detach p) v is was = attached_holds v was (with_port_forgotten p v).learned (without_customer_port p v.attached) (config_after (detach p) v is was.config)
+step_holds (customer p bytes) v is was = lsps_of v was.database was.own.text
 
 -- ---- the configured bridge
 

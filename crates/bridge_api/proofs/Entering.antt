@@ -31,8 +31,9 @@ use Rattle.bridge_api.specs.Own.{own_of, own_entry, holding_of, is_said, origina
 use Rattle.bridge_api.specs.Hearing.{with_csnp_due, with_adjacency, left_up, all_srm_set_at, entered_up, changed_at, heard_hello, after_receive, with_carrier_at, with_carrier, with_port_metric, with_metric}
 use Rattle.bridge_api.specs.Ports.{noted}
 use Rattle.bridge_api.specs.Ticking.{after_tick}
-use Rattle.bridge_api.specs.Services.{with_attached, without_customer_port}
-use Rattle.bridge_api.specs.Step.{second, frame, carrier, metric, attach, detach}
+use Rattle.bridge_api.specs.Customers.{after_entry}
+use Rattle.bridge_api.specs.Services.{with_attached, without_customer_port, with_port_forgotten}
+use Rattle.bridge_api.specs.Step.{second, frame, carrier, metric, attach, detach, customer}
 use Rattle.bridge_api.specs.Laws.{IsFresh, EnteringUpIsWhole}
 use Rattle.bridge_api.proofs.Adjacent.{kept_whole, not_discarded, second_up, up_since}
 use Rattle.bridge_api.proofs.Changes.{one_port, changed_ports, frame_ports, carrier_step, metric_step, with_metric_ports, ticked, tick_port, with_attached_ports}
@@ -198,6 +199,7 @@ with_metric_enters q m port v u p few there ports up =
     ]
 
 pub entering_up_is_whole : EnteringUpIsWhole
+unfolding with_port_forgotten after_entry
 entering_up_is_whole second v p was up = tick_enters v p up
 entering_up_is_whole (frame q bytes) v p was up =
     elim (frame_ports v q bytes) [
@@ -215,4 +217,6 @@ entering_up_is_whole (metric q m) v p was up =
       | inr g ↦ with_metric_enters q m g.port v (with_metric q m v) p was.few g.there (ap (λ (u : BridgeView). u.ports) g.after ∙ with_metric_ports q m g.port v) up
     ]
 entering_up_is_whole (attach a) v p was up = same_port v (with_attached (v.attached ++ a ∷ []) v) p (ap (λ (list : List BridgePort). port_in list p) (with_attached_ports (v.attached ++ a ∷ []) v)) up
-entering_up_is_whole (detach q) v p was up = same_port v (with_attached (without_customer_port q v.attached) v) p (ap (λ (list : List BridgePort). port_in list p) (with_attached_ports (without_customer_port q v.attached) v)) up
+entering_up_is_whole (detach q) v p was up =
+    same_port v (with_attached (without_customer_port q v.attached) (with_port_forgotten q v)) p (ap (λ (list : List BridgePort). port_in list p) (with_attached_ports (without_customer_port q v.attached) (with_port_forgotten q v))) up
+entering_up_is_whole (customer q bytes) v p was up = same_port v (after_entry q bytes v) p refl up

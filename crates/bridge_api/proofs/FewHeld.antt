@@ -21,10 +21,11 @@ use Rattle.bridge_api.specs.Own.{holding_of}
 use Rattle.bridge_api.specs.Config.{bare, configured}
 use Rattle.bridge_api.specs.Parsing.{Parsed, hello_in}
 use Rattle.bridge_api.specs.Ticking.{readied}
-use Rattle.bridge_api.specs.Services.{without_customer_port}
-use Rattle.bridge_api.specs.Step.{second, frame, carrier, metric, attach, detach}
+use Rattle.bridge_api.specs.Customers.{after_entry}
+use Rattle.bridge_api.specs.Services.{without_customer_port, with_port_forgotten}
+use Rattle.bridge_api.specs.Step.{second, frame, carrier, metric, attach, detach, customer}
 use Rattle.bridge_api.specs.Few.{Within, HoldsFew, ConfiguredHoldsFew, StepsHoldFew}
-use Rattle.bridge_api.proofs.Growing.{Grows, number_each, number_next, number_put, spent_next, readied_grows, second_grows, hello_grows, carrier_grows, metric_grows, attached_grows}
+use Rattle.bridge_api.proofs.Growing.{Grows, number_each, number_next, number_put, spent_next, readied_grows, second_grows, hello_grows, carrier_grows, metric_grows, attached_grows, entry_grows}
 use Rattle.bridge_api.proofs.ServingPorts.{moved, entries-each}
 
 one_more : (k : ℕ) (me : SystemId) (db : Lsps) (spent : Bool) → Within k me db spent → Within (k + 1) me db spent
@@ -88,9 +89,11 @@ unfolding configured
 configured_holds_few c = within_originated 0 (up_ports (bare c)) (holding_of (bare c)) (omega arith) (few_bare c)
 
 pub steps_hold_few : StepsHoldFew
+unfolding with_port_forgotten after_entry
 steps_hold_few k second v low alone w = second_grows Within few_grows k v low w
 steps_hold_few k (frame p bytes) v low alone w = hello_grows Within few_grows k p bytes v (ap (λ (j : Parsed). is_some (hello_in j)) alone.2) low w
 steps_hold_few k (carrier p on) v low alone w = carrier_grows Within few_grows k p on v low w
 steps_hold_few k (metric p m) v low alone w = metric_grows Within few_grows k p m v low w
 steps_hold_few k (attach a) v low alone w = attached_grows Within few_grows k (v.attached ++ a ∷ []) v low w
-steps_hold_few k (detach p) v low alone w = attached_grows Within few_grows k (without_customer_port p v.attached) v low w
+steps_hold_few k (detach p) v low alone w = attached_grows Within few_grows k (without_customer_port p v.attached) (with_port_forgotten p v) low w
+steps_hold_few k (customer p bytes) v low alone w = entry_grows Within few_grows k p bytes v w

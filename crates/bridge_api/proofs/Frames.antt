@@ -7,8 +7,12 @@ use Rattle.std.specs.FinMap.{get, entries}
 use Rattle.std.proofs.lemmas.List.{length-map}
 use Rattle.std.proofs.lemmas.Option.{slice_get-map, slice_get_within}
 use Rattle.std.proofs.lemmas.Bool.{le-leb}
+use Rattle.spb_types.specs.declared.address.Mac.{Mac}
 use Rattle.spb_types.specs.declared.address.SystemId.{SystemId}
 use Rattle.spb_types.specs.declared.address.LspId.{LspId}
+use Rattle.spb_types.specs.declared.service.Attachment.{Attachment}
+use Rattle.spb_types.specs.declared.service.Isid.{Isid}
+use Rattle.spb_types.specs.declared.service.Vid.{Vid}
 use Rattle.spb_types.specs.declared.ports.PortSet.{PortSet}
 use Rattle.spb_types.specs.Ports.{has}
 use Rattle.isis_pdu.specs.Pdu.{HelloValue, LspValue, CsnpValue, PsnpValue}
@@ -18,7 +22,10 @@ use Rattle.spb_tlvs.specs.declared.entries.SnpEntry.{SnpEntry}
 use Rattle.spb_tlvs.specs.declared.three_way.ThreeWay.{ThreeWay}
 use Rattle.spb_tlvs.specs.RoundTrip.{IsNamed, IsEntry}
 use Rattle.spb_tlvs.proofs.Numbers.{weaker}
+use Rattle.itag_frames.specs.Backbone.{backbone_bytes, backbone_in}
 use Rattle.itag_frames.specs.Classify.{content_in, ControlAgain}
+use Rattle.itag_frames.specs.Frame.{Customer}
+use Rattle.itag_frames.proofs.BackboneLaws.{encapsulated_again}
 use Rattle.lsdb.specs.declared.version.Version.{Version}
 use Rattle.lsdb.specs.Version.{IsAtMost}
 use Rattle.lsdb.specs.Entry.{Entry, with_ssn}
@@ -46,11 +53,14 @@ use Rattle.bridge_api.specs.Parsing.{Parsed, hello_in, parsed, is_hello, is_octe
 use Rattle.bridge_api.specs.Parsing as parsing
 use Rattle.forwarding.specs.declared.drop_reason.DropReason.{DropReason}
 use Rattle.forwarding.specs.declared.drop_reason.DropReason.TheVariants as drop
+use Rattle.bridge_api.specs.Customers.{moved_by_entry, moved_by_receive}
 use Rattle.bridge_api.specs.Hearing.{with_csnp_due}
 use Rattle.bridge_api.specs.Ticking.{later, readied, hello_at, hello_frame, lsp_frame, csnp_frame, psnp_frame, hellos_at, summaries_at, lsps_at, requests_at, synced_at, sent_at, after_sending_at, sent_from, after_sending_from, after_sending, after_tick, sent_in_tick}
-use Rattle.bridge_api.specs.Step.{second, frame, carrier, metric, attach, detach, step, sent}
-use Rattle.bridge_api.specs.Laws.{IsSoundView, IsSent, IsHelloOf, IsWritten, writes_hello, writes_lsp, writes_csnp, writes_psnp, IsHeldLsp, IsHeldAt, IsFrameOf, claims_or_none, claims_said, SentIsSound}
+use Rattle.bridge_api.specs.Step.{second, frame, carrier, metric, attach, detach, customer, step, sent}
+use Rattle.bridge_api.specs.Laws.{IsSoundView, IsSent, IsHelloOf, IsWritten, writes_hello, writes_lsp, writes_csnp, writes_psnp, carries, IsHeldLsp, IsHeldAt, IsFrameOf, claims_or_none, claims_said, SentIsSound}
+use Rattle.bridge_api.proofs.Carried.{IsTaken, is_opened, encapsulated_is_taken}
 use Rattle.bridge_api.proofs.Changes.{readied_ports, readied_rest}
+use Rattle.bridge_api.proofs.Forwarded.{sent_is, Relays, relays, Encapsulates, encapsulates}
 use Rattle.bridge_api.proofs.Spelled.{lsp_taken, csnp_taken, psnp_taken}
 use Rattle.bridge_api.proofs.Data.{IsSoundData, after_sending_at_keeps}
 use Rattle.bridge_api.proofs.DataSteps.{readied_holds}
@@ -414,10 +424,36 @@ second_says again v p bytes was named some =
     hello_says again w p port (with_csnp_due false port) can.mine (omega (arith, within, many, was.few, same)) named (kept_after_sending r p i port is same) refl)
     some
 
+-- ---- frames that carry a customer's
+
+say_carried : (w : BridgeView) (p : ℕ) (da sa : Mac) (vid : Vid) (isid : Isid) (f : List ℕ) → MaySay w p (parsing.customer da sa vid isid f)
+say_carried w p da sa vid isid f = record { hello = λ h way e. absurd cc; lsp = λ l e. absurd cc; claims = λ id a claimed. absurd claimed }
+
+carried_says : (w : BridgeView) (p : ℕ) (bytes : List ℕ) (da sa : Mac) (vid : Vid) (isid : Isid) (f : List ℕ) → backbone_in bytes ≡ Ok (Customer da sa vid isid f) → IsTaken bytes da sa vid isid f → IsFrameOf w p bytes
+carried_says w p bytes da sa vid isid f opened taken =
+    let says : MaySay w p (parsed bytes) = elim taken [
+      | inl is ↦ subst (λ (j : Parsed). MaySay w p j) (sym is) (say_nothing w p drop.Frame)
+      | inr is ↦ subst (λ (j : Parsed). MaySay w p j) (sym is) (say_carried w p da sa vid isid f)
+    ] in
+    record { hello = says.hello; lsp = says.lsp; claims = says.claims; written = carries da sa vid isid f opened }
+
+relayed_says : (w : BridgeView) (p : ℕ) (bytes sent : List ℕ) → Relays bytes sent → IsFrameOf w p sent
+relayed_says w p bytes sent r =
+    subst (IsFrameOf w p) (sym r.same) (carried_says w p bytes r.da r.sa r.vid r.isid r.payload (is_opened bytes r.da r.sa r.vid r.isid r.payload r.taken).opened (inr r.taken))
+
+encapsulated_says : (w v : BridgeView) (p q : ℕ) (bytes sent : List ℕ) → Encapsulates v q bytes sent → IsFrameOf w p sent
+encapsulated_says w v p q bytes sent e =
+    let me : Mac = v.id.system.mac in
+    let a : Attachment = e.attachment in
+    subst (IsFrameOf w p) (sym e.is)
+    (carried_says w p (backbone_bytes e.da me a.vid a.isid bytes) e.da me a.vid a.isid bytes (encapsulated_again e.da me a.vid a.isid bytes e.can) (encapsulated_is_taken e.da me a.vid a.isid bytes e.can))
+
 pub sent_is_sound : ControlAgain → SentIsSound
-sent_is_sound again second v p bytes was named some = second_says again v p bytes was named some
-sent_is_sound again (frame q f) v p bytes was named some = absurd some
-sent_is_sound again (carrier q on) v p bytes was named some = absurd some
-sent_is_sound again (metric q m) v p bytes was named some = absurd some
-sent_is_sound again (attach a) v p bytes was named some = absurd some
-sent_is_sound again (detach q) v p bytes was named some = absurd some
+sent_is_sound again second v p bytes is was named some = second_says again v p bytes was named some
+sent_is_sound again (frame q f) v p bytes is was named some = relayed_says (step (frame q f) v) p f bytes (sent_is (Relays f) (moved_by_receive q f v).wire p bytes (relays q f v) some)
+sent_is_sound again (carrier q on) v p bytes is was named some = absurd some
+sent_is_sound again (metric q m) v p bytes is was named some = absurd some
+sent_is_sound again (attach a) v p bytes is was named some = absurd some
+sent_is_sound again (detach q) v p bytes is was named some = absurd some
+sent_is_sound again (customer q f) v p bytes is was named some =
+    encapsulated_says (step (customer q f) v) v p q f bytes (sent_is (Encapsulates v q f) (moved_by_entry q f v).wire p bytes (encapsulates q f v is.1 was) some)

@@ -30,7 +30,8 @@ use Rattle.bridge_api.specs.Parsing.{Parsed, hello_in, is_hello}
 use Rattle.bridge_api.specs.Hearing.{with_adjacency, left_up, changed_at, with_port_metric}
 use Rattle.bridge_api.specs.Ticking.{leaving_from, flags_cleared_at_all, counts_lowered, expired, is_old, refreshed, readied, after_sending_at, after_sending_from}
 use Rattle.bridge_api.specs.Services.{with_attached}
-use Rattle.bridge_api.specs.Step.{second, frame, carrier, metric, step}
+use Rattle.bridge_api.specs.Customers.{after_entry}
+use Rattle.bridge_api.specs.Step.{second, frame, carrier, metric, customer, step}
 use Rattle.bridge_api.proofs.Changes.{FrameStep, idle, by_hello, by_lsp, by_csnp, by_psnp, frame_step, carrier_step, metric_step, tick_is, when_false, attached_to}
 
 -- ---- numbers of entries
@@ -90,6 +91,11 @@ module _ (P : ℕ → SystemId → Lsps → Bool → Type 0) (grows : Grows P) w
   one_more : (n : ℕ) (v : BridgeView) → Of n v → Of (n + 1) v
   one_more n v was = grows.more n v.id.system v.database v.spent was
 
+  -- nothing of it is learned
+  pub entry_grows : (n p : ℕ) (bytes : List ℕ) (v : BridgeView) → Of n v → Of (n + 1) (step (customer p bytes) v)
+  unfolding after_entry
+  entry_grows n p bytes v was = one_more n v was
+
   -- ---- an origination
 
   originating_grows : (n : ℕ) (v : BridgeView) → n < last_number → Of n v → Of (n + 1) (originating v)
@@ -142,7 +148,7 @@ module _ (P : ℕ → SystemId → Lsps → Bool → Type 0) (grows : Grows P) w
 
   -- a frame that is taken for a hello
   hello_grows_by : (n q : ℕ) (bytes : List ℕ) (v : BridgeView) → is_hello bytes ≡ true → n < last_number → Of n v → FrameStep v q bytes (step (frame q bytes) v) → Of (n + 1) (step (frame q bytes) v)
-  hello_grows_by n q bytes v is low was (idle same) = subst (Of (n + 1)) (sym same) (one_more n v was)
+  hello_grows_by n q bytes v is low was (idle learned how same) = subst (Of (n + 1)) (sym same) (one_more n v was)
   hello_grows_by n q bytes v is low was (by_hello g) =
       subst (Of (n + 1)) (sym g.after)
       (changed_grows (change_by_hello v.id.system q g.hello g.way g.port.adjacency) n q (with_adjacency (after_hello v.id.system q g.hello g.way g.port.adjacency) g.port) v low was)

@@ -28,9 +28,10 @@ use Rattle.bridge_api.specs.Own.{holding_of, is_said, originating, originated_if
 use Rattle.bridge_api.specs.Parsing.{parsed}
 use Rattle.bridge_api.specs.Parsing as parsing
 use Rattle.bridge_api.specs.Hearing.{with_adjacency, left_up, changed_at, heard_lsp, heard_csnp, heard_psnp, with_port_metric}
-use Rattle.bridge_api.specs.Services.{with_attached, without_customer_port}
+use Rattle.bridge_api.specs.Customers.{after_entry}
+use Rattle.bridge_api.specs.Services.{with_attached, without_customer_port, with_port_forgotten}
 use Rattle.bridge_api.specs.Duties.{but_for_ssn}
-use Rattle.bridge_api.specs.Step.{Input, second, frame, carrier, metric, attach, detach, step}
+use Rattle.bridge_api.specs.Step.{Input, second, frame, carrier, metric, attach, detach, customer, step}
 use Rattle.bridge_api.specs.Laws.{claims_of, claims_said, claims_or_none}
 use Rattle.bridge_api.specs.Counting.{StepsHoldIds}
 use Rattle.bridge_api.proofs.Changes.{FrameStep, idle, by_hello, by_lsp, by_csnp, by_psnp, frame_step, carrier_step, metric_step, attached_to}
@@ -116,7 +117,7 @@ csnp_out c claims p v id others out =
 
 module _ (q : ℕ) (bytes : List ℕ) (v : BridgeView) (id : LspId) (apart : id ≢ own_id v.id.system) (others : AreOthers id (claims_said (parsed bytes))) where
   frame_out_by : FrameStep v q bytes (step (frame q bytes) v) → StaysOut id v.database (step (frame q bytes) v).database
-  frame_out_by (idle e) out = ap (λ (w : BridgeView). get w.database id) e ∙ out
+  frame_out_by (idle learned how e) out = ap (λ (w : BridgeView). get w.database id) e ∙ out
   frame_out_by (by_hello g) out =
       ap (λ (w : BridgeView). get w.database id) g.after
       ∙ changed_out (change_by_hello v.id.system q g.hello g.way g.port.adjacency) q (with_adjacency (after_hello v.id.system q g.hello g.way g.port.adjacency) g.port) v id apart out
@@ -137,6 +138,7 @@ unfolding with_attached
 attached_out attached v id apart out = originated_out (attached_to attached v) v.database id apart (λ none. none) out
 
 step_out : (input : Input) (v : BridgeView) (id : LspId) → id ≢ own_id v.id.system → AreOthers id (claims_of input) → StaysOut id v.database (step input v).database
+unfolding with_port_forgotten after_entry
 step_out second v id apart others out = second_out v id apart out
 step_out (frame q bytes) v id apart others out = frame_out_by q bytes v id apart others (frame_step v q bytes) out
 step_out (carrier q on) v id apart others out =
@@ -150,7 +152,8 @@ step_out (metric q m) v id apart others out =
       | inr g ↦ ap (λ (w : BridgeView). get w.database id) g.after ∙ originated_out (with_port_at q (with_port_metric m g.port) v) v.database id apart (λ none. none) out
     ]
 step_out (attach a) v id apart others out = attached_out (v.attached ++ a ∷ []) v id apart out
-step_out (detach p) v id apart others out = attached_out (without_customer_port p v.attached) v id apart out
+step_out (detach p) v id apart others out = attached_out (without_customer_port p v.attached) (with_port_forgotten p v) id apart out
+step_out (customer p bytes) v id apart others out = out
 
 -- ---- the law
 

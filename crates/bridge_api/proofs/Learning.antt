@@ -37,8 +37,9 @@ use Rattle.bridge_api.specs.Own.{holding_of, originated_if_changed}
 use Rattle.bridge_api.specs.Parsing.{Parsed, parsed}
 use Rattle.bridge_api.specs.Parsing as parsing
 use Rattle.bridge_api.specs.Hearing.{with_adjacency, left_up, changed_at, heard_lsp, heard_csnp, heard_psnp, with_port_metric}
-use Rattle.bridge_api.specs.Services.{with_attached, without_customer_port}
-use Rattle.bridge_api.specs.Step.{Input, second, frame, carrier, metric, attach, detach, step}
+use Rattle.bridge_api.specs.Customers.{after_entry}
+use Rattle.bridge_api.specs.Services.{with_attached, without_customer_port, with_port_forgotten}
+use Rattle.bridge_api.specs.Step.{Input, second, frame, carrier, metric, attach, detach, customer, step}
 use Rattle.bridge_api.specs.Laws.{claims_of, claims_said, claims_or_none}
 use Rattle.bridge_api.specs.Counting.{lsp_said, lsp_of, LearnedAt, stays, stores, joins, StepsLearn, is_held, is_claimed, Learned, takes, ends, StepsLearnVersions}
 use Rattle.bridge_api.proofs.Changes.{FrameStep, idle, by_hello, by_lsp, by_csnp, by_psnp, frame_step, carrier_step, metric_step, attached_to}
@@ -225,7 +226,7 @@ module _ (q : ℕ) (bytes : List ℕ) (v : BridgeView) (id : LspId) (apart : id.
   learned_as j w is after learned = subst (λ (i : Parsed). LearnsFrom i (step (frame q bytes) v)) (sym is) (subst (LearnsFrom j) (sym after) learned)
 
   frame_learned : FrameStep v q bytes (step (frame q bytes) v) → LearnsFrom (parsed bytes) (step (frame q bytes) v)
-  frame_learned (idle e) = same_learned _ _ _ _ _ (same_lsp _ _ (ap (λ (w : BridgeView). get w.database id) e))
+  frame_learned (idle learned how e) = same_learned _ _ _ _ _ (same_lsp _ _ (ap (λ (w : BridgeView). get w.database id) e))
   frame_learned (by_hello g) =
       let w : BridgeView = changed_at (change_by_hello v.id.system q g.hello g.way g.port.adjacency) q (with_adjacency (after_hello v.id.system q g.hello g.way g.port.adjacency) g.port) v in
       learned_as (parsing.hello g.hello g.way) w g.is g.after
@@ -255,6 +256,7 @@ unfolding with_attached
 attached_learned attached v id apart = same_learned _ _ _ _ _ (originated_same (attached_to attached v) id apart)
 
 pub steps_learn : StepsLearn
+unfolding with_port_forgotten after_entry
 steps_learn second v id apart late = absurd (late refl)
 steps_learn (frame q bytes) v id apart late = frame_learned q bytes v id apart (frame_step v q bytes)
 steps_learn (carrier q on) v id apart late =
@@ -272,7 +274,8 @@ steps_learn (metric q m) v id apart late =
           (same_learned _ _ _ _ _ (originated_same (with_port_at q (with_port_metric m g.port) v) id apart))
     ]
 steps_learn (attach a) v id apart late = attached_learned (v.attached ++ a ∷ []) v id apart
-steps_learn (detach p) v id apart late = attached_learned (without_customer_port p v.attached) v id apart
+steps_learn (detach p) v id apart late = attached_learned (without_customer_port p v.attached) (with_port_forgotten p v) id apart
+steps_learn (customer p bytes) v id apart late = same_learned _ _ _ _ _ (same_lsp _ _ refl)
 
 -- ---- of versions alone
 
@@ -283,7 +286,7 @@ lsp_claimed (parsing.hello h way) l is = absurd cc
 lsp_claimed (parsing.lsp k) l is = let same : k ≡ l = cc in inl (ap (λ (x : LspValue). x.id) same, ap (λ (x : LspValue). (claim_of x).version) same)
 lsp_claimed (parsing.csnp c) l is = absurd cc
 lsp_claimed (parsing.psnp s) l is = absurd cc
-lsp_claimed (parsing.customer da sa vid isid customer) l is = absurd cc
+lsp_claimed (parsing.customer da sa vid isid payload) l is = absurd cc
 
 came_claimed : (input : Input) (l : LspValue) → lsp_of input ≡ Some l → IsClaimed (claims_of input) l.id (claim_of l).version
 came_claimed second l is = absurd cc
@@ -292,6 +295,7 @@ came_claimed (carrier q on) l is = absurd cc
 came_claimed (metric q m) l is = absurd cc
 came_claimed (attach a) l is = absurd cc
 came_claimed (detach p) l is = absurd cc
+came_claimed (customer p bytes) l is = absurd cc
 
 learned_version : (input : Input) (id : LspId) (o n : Option Entry) → LearnedAt (claims_of input) (lsp_of input) id o n → Learned (version_in o) (claims_of input) id (version_in n)
 learned_version input id o n (stays v b) = takes (is_held v)

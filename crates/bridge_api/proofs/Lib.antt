@@ -4,6 +4,10 @@ pub mod Changes
 pub mod Certified
 pub mod Octets
 pub mod Heard
+pub mod Carried
+pub mod Learned
+pub mod Forwarded
+pub mod Isolation
 pub mod SoundPorts
 pub mod Hellos
 pub mod Listed

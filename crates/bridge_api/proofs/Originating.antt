@@ -27,8 +27,9 @@ use Rattle.bridge_api.specs.Own.{neighbour_in, neighbours_from, body_of, own_ent
 use Rattle.bridge_api.specs.Config.{configured}
 use Rattle.bridge_api.specs.Parsing.{is_hello}
 use Rattle.bridge_api.specs.Hearing.{with_adjacency, changed_at, with_carrier_at}
-use Rattle.bridge_api.specs.Services.{without_customer_port}
-use Rattle.bridge_api.specs.Step.{Input, second, frame, carrier, metric, attach, detach, step}
+use Rattle.bridge_api.specs.Customers.{after_entry}
+use Rattle.bridge_api.specs.Services.{without_customer_port, with_port_forgotten}
+use Rattle.bridge_api.specs.Step.{Input, second, frame, carrier, metric, attach, detach, customer, step}
 use Rattle.bridge_api.specs.Laws.{IsSoundView}
 use Rattle.bridge_api.specs.Counting.{IsFar, is_claiming, gain_of, StepsOriginate, StepsDontSpend, ConfiguredIsFar, SomeIsFar}
 use Rattle.bridge_api.proofs.Certified.{steps_keep_bridge}
@@ -118,6 +119,7 @@ a_hello true is = refl
 a_hello false is = absurd (true≢false is)
 
 step_counts : (input : Input) (n : ℕ) (v : BridgeView) → body_in (own_entry v) ≡ body_of v → is_claiming input ≡ false → n < last_number → Counts n v → Counts (n + gain_of input) (step input v)
+unfolding with_port_forgotten after_entry
 step_counts second n v says other low b = second_grows Below below_grows n v low b
 step_counts (frame q bytes) n v says other low b =
     let is : is_hello bytes ≡ true = a_hello (is_hello bytes) other in
@@ -132,7 +134,8 @@ step_counts (carrier q true) n v says other low b =
 step_counts (carrier q false) n v says other low b = carrier_grows Below below_grows n q false v low b
 step_counts (metric q m) n v says other low b = metric_grows Below below_grows n q m v low b
 step_counts (attach a) n v says other low b = attached_grows Below below_grows n (v.attached ++ a ∷ []) v low b
-step_counts (detach p) n v says other low b = attached_grows Below below_grows n (without_customer_port p v.attached) v low b
+step_counts (detach p) n v says other low b = attached_grows Below below_grows n (without_customer_port p v.attached) (with_port_forgotten p v) low b
+step_counts (customer p bytes) n v says other low b = record { number = omega (arith, b.number); fresh = b.fresh }
 
 -- ---- the laws
 
@@ -158,6 +161,7 @@ dont_spend_by true (carrier q on) v claiming was far = absurd cc
 dont_spend_by true (metric q m) v claiming was far = absurd cc
 dont_spend_by true (attach a) v claiming was far = absurd cc
 dont_spend_by true (detach p) v claiming was far = absurd cc
+dont_spend_by true (customer p bytes) v claiming was far = absurd cc
 
 pub steps_dont_spend : StepsDontSpend
 steps_dont_spend input v was far = dont_spend_by (is_claiming input) input v refl was far

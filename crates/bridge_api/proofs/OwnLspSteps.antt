@@ -12,6 +12,7 @@ use Rattle.spb_types.specs.Ports.{no_ports, without_port}
 use Rattle.spb_tlvs.specs.declared.neighbours.Neighbour.{Neighbour}
 use Rattle.isis_pdu.specs.Pdu.{LspValue, CsnpValue}
 use Rattle.spb_tlvs.specs.declared.entries.SnpEntry.{SnpEntry}
+use Rattle.customer_learning.specs.Known.{Addresses}
 use Rattle.lsdb.specs.declared.version.Version.{Version}
 use Rattle.lsdb.specs.declared.version.Version.TheVariants.{Absent, Live, Dead}
 use Rattle.lsdb.specs.Version.{number_of, is_absent}
@@ -38,8 +39,9 @@ use Rattle.bridge_api.specs.Own.{neighbour_in, neighbours_from, member_of, body_
 use Rattle.bridge_api.specs.Config.{bare, configured}
 use Rattle.bridge_api.specs.Hearing.{with_csnp_due, with_adjacency, left_up, all_srm_set_at, changed_at, heard_lsp, heard_csnp, heard_psnp, after_receive, with_port_metric}
 use Rattle.bridge_api.specs.Ticking.{leaving_from, flags_cleared_at_all, counts_lowered, expired, is_old, refreshed, readied, after_sending_at, after_sending_from, after_sending, after_tick}
-use Rattle.bridge_api.specs.Services.{with_attached, without_customer_port}
-use Rattle.bridge_api.specs.Step.{Input, second, frame, carrier, metric, attach, detach, step}
+use Rattle.bridge_api.specs.Customers.{with_learned, after_entry}
+use Rattle.bridge_api.specs.Services.{with_attached, without_customer_port, with_port_forgotten}
+use Rattle.bridge_api.specs.Step.{Input, second, frame, carrier, metric, attach, detach, customer, step}
 use Rattle.bridge_api.proofs.Changes.{frame_step, idle, by_hello, by_lsp, by_csnp, by_psnp, carrier_step, metric_step, originated_if_changed_ports, tick_is, attached_to, with_attached_is}
 use Rattle.bridge_api.proofs.DataSteps.{configured_holds_own}
 use Rattle.bridge_api.proofs.OwnLsp.{mapped_alive, lsp_lives, entries_live, csnp_lives}
@@ -283,10 +285,15 @@ tick_saying v was =
 
 -- ---- every step
 
+-- what was learned isn't said
+learned_saying : (learned : Addresses) (v : BridgeView) → IsSaying v → IsSaying (with_learned learned v)
+unfolding body_of
+learned_saying learned v was = record { said = was.said; alive = was.alive }
+
 frame_saying : (q : ℕ) (bytes : List ℕ) (v : BridgeView) → IsSaying v → IsSaying (after_receive q bytes v)
 frame_saying q bytes v was =
     elim (frame_step v q bytes) [
-      | idle e ↦ subst IsSaying (sym e) was
+      | idle learned how e ↦ subst IsSaying (sym e) (learned_saying learned v was)
       | by_hello g ↦
           subst IsSaying (sym g.after)
           (changed_saying (change_by_hello v.id.system q g.hello g.way g.port.adjacency) q (with_adjacency (after_hello v.id.system q g.hello g.way g.port.adjacency) g.port) v was)
@@ -299,6 +306,7 @@ attached_saying : (attached : List Attachment) (v : BridgeView) → IsSaying v �
 attached_saying attached v was = subst IsSaying (sym (with_attached_is attached v)) (originated_if_changed_saying (attached_to attached v) was.alive)
 
 pub steps_stay_saying : (input : Input) (v : BridgeView) → IsSaying v → IsSaying (step input v)
+unfolding with_port_forgotten after_entry
 steps_stay_saying second v was = tick_saying v was
 steps_stay_saying (frame q bytes) v was = frame_saying q bytes v was
 steps_stay_saying (carrier q on) v was =
@@ -312,7 +320,8 @@ steps_stay_saying (metric q m) v was =
       | inr g ↦ subst IsSaying (sym g.after) (originated_if_changed_saying (with_port_at q (with_port_metric m g.port) v) was.alive)
     ]
 steps_stay_saying (attach a) v was = attached_saying (v.attached ++ a ∷ []) v was
-steps_stay_saying (detach p) v was = attached_saying (without_customer_port p v.attached) v was
+steps_stay_saying (detach p) v was = attached_saying (without_customer_port p v.attached) (with_port_forgotten p v) (learned_saying (with_port_forgotten p v).learned v was)
+steps_stay_saying (customer p bytes) v was = learned_saying (after_entry p bytes v).learned v was
 
 -- ---- the configured bridge
 

@@ -10,6 +10,7 @@ use Rattle.bridge_api.proofs.Certified.{steps_keep_bridge, step_rest}
 use Rattle.bridge_api.proofs.Data.{Holds, has_lsps}
 use Rattle.bridge_api.proofs.SoundPorts.{ports_stay_sound, config_kept, configured_config, configured_sound, configured_has_no_carrier}
 use Rattle.bridge_api.proofs.DataSteps.{step_holds, configured_holds}
+use Rattle.bridge_api.proofs.Learned.{configured_learned, steps_stay_learned}
 use Rattle.bridge_api.proofs.OwnLspSteps.{IsSaying, steps_stay_saying, configured_is_saying}
 
 own_lsp_current_by : (v : BridgeView) → IsSaying v → Holds v → IsOwnLspCurrent v
@@ -22,6 +23,7 @@ configured_is_sound c whole = record {
   ports = configured_sound c whole;
   database = has_lsps (configured c) (configured_holds c whole);
   own = own_lsp_current_by (configured c) (configured_is_saying c) (configured_holds c whole);
+  learned = configured_learned c;
 }
 
 pub steps_stay_sound : StepsStaySound
@@ -33,4 +35,5 @@ steps_stay_sound input v is was =
       ports = ports_stay_sound input v is was.ports;
       database = has_lsps (step input v) held;
       own = own_lsp_current_by (step input v) (steps_stay_saying input v (record { said = was.own.said; alive = was.own.alive })) held;
+      learned = steps_stay_learned input v was.learned;
     }

@@ -24,8 +24,9 @@ use Rattle.bridge_api.specs.Parsing as parsing
 use Rattle.bridge_api.specs.Hearing.{with_csnp_due, with_adjacency, after_receive, with_carrier, with_port_metric, with_metric}
 use Rattle.bridge_api.specs.Ports.{noted, heard_hello_port, with_carrier_port}
 use Rattle.bridge_api.specs.Ticking.{later}
-use Rattle.bridge_api.specs.Services.{without_customer_port}
-use Rattle.bridge_api.specs.Step.{Input, second, frame, carrier, metric, attach, detach, step}
+use Rattle.bridge_api.specs.Customers.{after_entry}
+use Rattle.bridge_api.specs.Services.{without_customer_port, with_port_forgotten}
+use Rattle.bridge_api.specs.Step.{Input, second, frame, carrier, metric, attach, detach, customer, step}
 use Rattle.bridge_api.specs.Laws.{IsSoundPort, HasConfig, IsInput, ConfiguredHasNoCarrier}
 use Rattle.bridge_api.proofs.Adjacent.{came_up, stayed_up, hello_sound, second_sound, carrier_sound, not_discarded}
 use Rattle.bridge_api.proofs.Changes.{KeepsRest, found, frame_ports, heard_hello_ports, carrier_step, with_carrier_ports, metric_step, with_metric_ports, with_attached_ports, tick_ports, configured_ports}
@@ -125,6 +126,7 @@ one_sound : (v w : BridgeView) (q : ℕ) (to : BridgePort) → AreSoundPorts v.p
 one_sound v w q to all sound is = subst AreSoundPorts (sym is) (all_set v.ports (q - 1) to all sound)
 
 pub ports_stay_sound : (input : Input) (v : BridgeView) → IsInput v input → AreSoundPorts v.ports → AreSoundPorts (step input v).ports
+unfolding with_port_forgotten after_entry
 ports_stay_sound second v is was = subst AreSoundPorts (sym (tick_ports v)) (all_undue (map later v.ports) (all_later v.ports was))
 ports_stay_sound (frame q bytes) v is was =
     elim (frame_ports v q bytes) [
@@ -145,7 +147,8 @@ ports_stay_sound (metric q m) v is was =
       | inr g ↦ one_sound v (with_metric q m v) q (with_port_metric m g.port) was (with_metric_sound m g.port is (sound_at v q g.port was g.there)) (ap (λ (u : BridgeView). u.ports) g.after ∙ with_metric_ports q m g.port v)
     ]
 ports_stay_sound (attach a) v is was = subst AreSoundPorts (sym (with_attached_ports (v.attached ++ a ∷ []) v)) was
-ports_stay_sound (detach p) v is was = subst AreSoundPorts (sym (with_attached_ports (without_customer_port p v.attached) v)) was
+ports_stay_sound (detach p) v is was = subst AreSoundPorts (sym (with_attached_ports (without_customer_port p v.attached) (with_port_forgotten p v))) was
+ports_stay_sound (customer p bytes) v is was = was
 
 -- ---- the configuration
 

@@ -40,8 +40,9 @@ use Rattle.bridge_api.specs.Parsing.{Parsed, parsed}
 use Rattle.bridge_api.specs.Parsing as parsing
 use Rattle.bridge_api.specs.Hearing.{with_csnp_due, with_adjacency, left_up, all_srm_set_at, entered_up, changed_at, heard_hello, heard_lsp, heard_csnp, heard_psnp, with_csnp, with_psnp, heard_as, heard_at, after_receive, with_carrier_at, with_carrier, with_port_metric, with_metric_at, with_metric}
 use Rattle.bridge_api.specs.Ticking.{later, leaves, leaving_from, flags_cleared_at_all, counts_lowered, expired, is_old, refreshed, readied, after_sending_at, after_sending_from, after_sending, after_tick}
-use Rattle.bridge_api.specs.Services.{with_attached, without_customer_port}
-use Rattle.bridge_api.specs.Step.{second, frame, carrier, metric, attach, detach, step}
+use Rattle.bridge_api.specs.Customers.{after_entry}
+use Rattle.bridge_api.specs.Services.{with_attached, without_customer_port, with_port_forgotten}
+use Rattle.bridge_api.specs.Step.{second, frame, carrier, metric, attach, detach, customer, step}
 use Rattle.bridge_api.specs.Laws.{claims_or_none, claims_said, StepsCarryDatabase}
 use Rattle.bridge_api.proofs.Adjacent.{second_up, up_since}
 use Rattle.bridge_api.proofs.Places.{got_at}
@@ -290,7 +291,7 @@ kind_carries (parsing.csnp c) q port v few there =
     where_up (is_port_up port) q (claims_or_none (entries_in c.tlvs)) v (with_csnp c (entries_in c.tlvs) q v) (λ up. csnp_read_carries c (entries_in c.tlvs) q v (port_is_up q port v few there up))
 kind_carries (parsing.psnp s) q port v few there =
     where_up (is_port_up port) q (claims_or_none (entries_in s.tlvs)) v (with_psnp (entries_in s.tlvs) q v) (λ up. psnp_read_carries (entries_in s.tlvs) q v (port_is_up q port v few there up))
-kind_carries (parsing.customer da sa vid isid customer) q port v few there = standing q [] (control_of v)
+kind_carries (parsing.customer da sa vid isid payload) q port v few there = standing q [] (control_of v)
 
 heard_carries : (q : ℕ) (bytes : List ℕ) (o : Option BridgePort) (v : BridgeView) → length v.ports ≤ 32 → port_at v q ≡ o → Certificate q (claims_said (parsed bytes)) (control_of v) (control_of (heard_at q bytes o v))
 heard_carries q bytes None v few there = standing q (claims_said (parsed bytes)) (control_of v)
@@ -387,10 +388,11 @@ tick_carries v few = steps_compose 0 [] [] (control_of v) (control_of (readied v
 -- ---- every step
 
 pub steps_carry_database : StepsCarryDatabase
-unfolding after_receive with_carrier with_metric
+unfolding after_receive with_carrier with_metric with_port_forgotten after_entry
 steps_carry_database second v was = tick_carries v was.few
 steps_carry_database (frame q bytes) v was = heard_carries q bytes (port_at v q) v was.few refl
 steps_carry_database (carrier q on) v was = silence_serves_all 0 q [] (control_of v) (control_of (with_carrier q on v)) (with_carrier_carries q on (port_at v q) v was.few refl)
 steps_carry_database (metric q m) v was = silence_serves_all 0 q [] (control_of v) (control_of (with_metric q m v)) (with_metric_carries q m (port_at v q) v was.few refl)
 steps_carry_database (attach a) v was = attached_carries (v.attached ++ a ∷ []) v
-steps_carry_database (detach p) v was = attached_carries (without_customer_port p v.attached) v
+steps_carry_database (detach p) v was = attached_carries (without_customer_port p v.attached) (with_port_forgotten p v)
+steps_carry_database (customer p bytes) v was = standing 0 [] (control_of v)

@@ -21,8 +21,9 @@ use Rattle.bridge_api.specs.Parsing.{Parsed, parsed, hello_in}
 use Rattle.bridge_api.specs.Parsing as parsing
 use Rattle.bridge_api.specs.Hearing.{after_receive, with_carrier, with_port_metric, with_metric}
 use Rattle.bridge_api.specs.Ports.{heard_hello_port, with_carrier_port}
-use Rattle.bridge_api.specs.Services.{with_attached, without_customer_port}
-use Rattle.bridge_api.specs.Step.{Input, second, frame, carrier, metric, attach, detach, step}
+use Rattle.bridge_api.specs.Customers.{after_entry}
+use Rattle.bridge_api.specs.Services.{with_attached, without_customer_port, with_port_forgotten}
+use Rattle.bridge_api.specs.Step.{Input, second, frame, carrier, metric, attach, detach, customer, step}
 use Rattle.bridge_api.specs.Laws.{IsSoundView, SomeBridge, with_first_carrier, hearing_from}
 use Rattle.bridge_api.specs.Time.{seconds, IsSilentAt, steps, seconds_in, NeighboursAreKept, IsDown, NeighboursAreLost, KeepsSomebody}
 use Rattle.bridge_api.proofs.Adjacent.{up_keeps}
@@ -118,6 +119,14 @@ attached_silent : (attached : List Attachment) (v : BridgeView) (p : ℕ) → ad
 unfolding adjacency_at
 attached_silent attached v p = ap (λ (list : List BridgePort). adjacency_in (port_in list p)) (with_attached_ports attached v)
 
+detached_silent : (q p : ℕ) (v : BridgeView) → adjacency_at (step (detach q) v) p ≡ adjacency_at v p
+unfolding adjacency_at with_port_forgotten
+detached_silent q p v = attached_silent (without_customer_port q v.attached) (with_port_forgotten q v) p
+
+entry_silent : (q p : ℕ) (bytes : List ℕ) (v : BridgeView) → adjacency_at (step (customer q bytes) v) p ≡ adjacency_at v p
+unfolding adjacency_at after_entry
+entry_silent q p bytes v = refl
+
 -- so of silent inputs only the seconds count
 silent_steps : (inputs : List Input) (v : BridgeView) (p : ℕ) (a : Adjacency) → AllByRecursion (IsSilentAt p) inputs → adjacency_at v p ≡ Some a → adjacency_at (steps inputs v) p ≡ Some (after_seconds (seconds_in inputs) a)
 unfolding after_seconds
@@ -129,7 +138,8 @@ silent_steps (frame q bytes ∷ inputs) v p a all there = silent_steps inputs (s
 silent_steps (carrier q on ∷ inputs) v p a all there = silent_steps inputs (step (carrier q on) v) p a all.1 (carrier_silent v q p on all.0 ∙ there)
 silent_steps (metric q m ∷ inputs) v p a all there = silent_steps inputs (step (metric q m) v) p a all.1 (metric_silent v q p m ∙ there)
 silent_steps (attach x ∷ inputs) v p a all there = silent_steps inputs (step (attach x) v) p a all.1 (attached_silent (v.attached ++ x ∷ []) v p ∙ there)
-silent_steps (detach q ∷ inputs) v p a all there = silent_steps inputs (step (detach q) v) p a all.1 (attached_silent (without_customer_port q v.attached) v p ∙ there)
+silent_steps (detach q ∷ inputs) v p a all there = silent_steps inputs (step (detach q) v) p a all.1 (detached_silent q p v ∙ there)
+silent_steps (customer q bytes ∷ inputs) v p a all there = silent_steps inputs (step (customer q bytes) v) p a all.1 (entry_silent q p bytes v ∙ there)
 
 pub neighbours_are_kept : NeighboursAreKept
 neighbours_are_kept v p a n inputs left there kept all count some =

@@ -48,7 +48,8 @@ CarriesEntered HasEntered bytes = (da sa : Mac) (vid : Vid) (isid : Isid) (f : L
     → parsed bytes ≡ parsing.customer da sa vid isid f → HasEntered isid f
 
 -- a customer's frame leaves at a port that is attached to an I-SID in which it has entered
-pub record LeavesEntered (HasEntered : Isid → List ℕ → Type 0) (v : BridgeView) (port : ℕ) (bytes : List ℕ) : Type 0 where
+pub record LeavesEntered
+    (HasEntered : Isid → List ℕ → Type 0) (v : BridgeView) (port : ℕ) (bytes : List ℕ) : Type 0 where
   pub isid : Isid
   pub attached : IsAttachedTo v.attached port isid
   pub entered : HasEntered isid bytes

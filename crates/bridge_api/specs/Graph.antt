@@ -1,8 +1,7 @@
 -- The graph that a bridge reads from the LSPs that it holds (RFC 6329, 15 and 16; IEEE 802.1aq, 28).
-use Rattle.std.specs.Prelude.{◌≡◌, ◌↔◌, ℕ, ◌≤◌, List, [], length, true, false, Option, Some, None, if◌then◌else◌, ◌==◌, Contains, ◌-◌, slice_get, find}
-use Rattle.std.specs.Option.{option_map, option_and_then}
-use Rattle.std.specs.List.{filter_map}
-use Rattle.std.specs.FinMap.{get, entries}
+use Rattle.std.specs.Prelude.{◌≡◌, ◌↔◌, ℕ, ◌≤◌, List, length, true, false, Option, Some, None, ◌==◌, Contains, ◌-◌, slice_get, find}
+use Rattle.std.specs.Option.{option_and_then}
+use Rattle.std.specs.FinMap.{get}
 use Rattle.spb_types.specs.declared.address.SystemId.{SystemId}
 use Rattle.spb_types.specs.declared.address.LspId.{LspId}
 use Rattle.spb_types.specs.declared.graph.Graph.{Graph}
@@ -10,24 +9,20 @@ use Rattle.spb_types.specs.declared.graph.Member.{Member}
 use Rattle.spb_types.specs.declared.service.Vid.{Vid}
 use Rattle.spb_types.specs.declared.service.VidPlan.{VidPlan}
 use Rattle.spb_types.specs.declared.service.Attachment.{Attachment}
-use Rattle.spb_types.specs.declared.tables.Tables.{Tables}
 use Rattle.spb_types.specs.declared.tables.Path.{Path}
 use Rattle.spb_types.specs.declared.limits.TheConstants.{MOST_GRAPH_BRIDGES}
 use Rattle.spb_types.specs.Graph.{IsDistinct, IsValid}
 use Rattle.spb_types.specs.Ect.{mask_of}
 use Rattle.ect_trees.specs.Tree.{best_path}
 use Rattle.spb_tlvs.specs.declared.neighbours.Neighbour.{Neighbour}
-use Rattle.lsdb.specs.declared.version.Version.{Version}
-use Rattle.lsdb.specs.declared.version.Version.TheVariants.{Absent, Live, Dead}
 use Rattle.lsdb.specs.Entry.{Entry}
 use Rattle.lsdb.specs.Database.{Lsps, version_at}
 use Rattle.lsdb.specs.Time.{is_live}
-use Rattle.flooding.specs.Own.{own_id, is_originated, tlvs_of_body}
+use Rattle.flooding.specs.Own.{own_id}
 use Rattle.spb_content.specs.declared.content.Content.{Content}
 use Rattle.spb_content.specs.Content.{content_in}
 use Rattle.spb_content.specs.Local.{content_bytes, said_by}
-use Rattle.spb_content.specs.Graph.{Contents, systems_in, members_of, IsGraphOf, HasOwnPorts}
-use Rattle.spb_content.specs.Building.{said_graph}
+use Rattle.spb_content.specs.Graph.{systems_in, members_of, IsGraphOf, HasOwnPorts}
 use Rattle.fdb_build.specs.Tables.{unicast_rows}
 use Rattle.fdb_build.specs.Groups.{group_rows}
 use Rattle.bridge_api.specs.View.{BridgeView, metrics_of, is_up_at, neighbour_at}

@@ -78,8 +78,8 @@ pub record HasDatabase (v : BridgeView) : Type 0 where
   pub flags : HaveFlagsAt (up_ports v) v.database
   pub own : is_absent (version_at v.database (own_id v.id.system)) ≡ false
 
--- a configured bridge with at most 32 ports, each sound, and a sound database, in which its own LSP is current; and what
--- it has learned can be written
+-- a configured bridge with at most 32 ports, each sound, and a sound database, in which its own LSP is current; behind
+-- which bridges customers' addresses are, it has learned with their six bytes
 pub record IsSoundView (v : BridgeView) : Type 0 where
   pub config : HasConfig v
   pub few : length v.ports ≤ MOST_PORTS
@@ -228,8 +228,8 @@ claims_said (parsing.csnp c) = claims_or_none (entries_in c.tlvs)
 claims_said (parsing.psnp s) = claims_or_none (entries_in s.tlvs)
 claims_said (parsing.customer da sa vid isid payload) = []
 
--- a frame as the bridge with an address writes it: a PDU in a control frame, or a frame that carries a customer's, which
--- another bridge may have written
+-- a frame as the bridge with an address writes it: a PDU in a control frame, or a frame that carries a customer's,
+-- which another bridge may have written
 pub data IsWritten (sa : Mac) (bytes : List ℕ) : Type 0 where
   writes_hello : (h : HelloValue) → bytes ≡ control_bytes sa (hello_bytes h) → IsWritten sa bytes
   writes_lsp : (l : LspValue) → bytes ≡ control_bytes sa (lsp_bytes l) → IsWritten sa bytes

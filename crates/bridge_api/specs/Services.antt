@@ -38,8 +38,8 @@ with_attached attached v = originated_if_changed (record v { attached = attached
 abbrev pub with_attachment : Attachment → BridgeView → BridgeView
 with_attachment a v = with_attached (v.attached ++ a ∷ []) v
 
--- a bridge that forgot what it has learned at a customer port, and, where this is the last one of its I-SID, all that it
--- has learned in the I-SID (IEEE 802.1Q, 8.7)
+-- a bridge that forgot what it has learned at a customer port, and, where this is the last one of its I-SID, all that
+-- it has learned in the I-SID (IEEE 802.1Q, 8.7)
 unfoldable pub with_port_forgotten : ℕ → BridgeView → BridgeView
 with_port_forgotten port v = with_learned (after_detach (tenant_of v) port).learned v
 

@@ -90,11 +90,11 @@ pub trait Bridge: Drop {
         ensures still_made { (shown self.new).blank ≡ false }
         ensures kind { (shown self.new).kind ≡ (shown self.old).kind };
 
-    /// A customer's frame, of 14 to 2,000 bytes, enters at a customer port that is attached. The bridge learns where its
-    /// source is, if that is an individual address, and then sends it on towards its destination: at another customer
-    /// port, in a backbone frame to another bridge, or, where the destination is a group address or isn't known, at all
-    /// other ports of its I-SID and to the group address of the own source and the I-SID (IEEE 802.1Q, 8.6 to 8.8; IEEE
-    /// 802.1ah, 25). It is dropped where no port leads to the other bridge.
+    /// A customer's frame, of 14 to 2,000 bytes, enters at a customer port that is attached. The bridge learns where
+    /// its source is, if that is an individual address, and then sends it on towards its destination: at another
+    /// customer port, in a backbone frame to another bridge, or, where the destination is a group address or isn't
+    /// known, at all other ports of its I-SID and to the group address of the own source and the I-SID (IEEE 802.1Q,
+    /// 8.6 to 8.8; IEEE 802.1ah, 25). It is dropped where no port leads to the other bridge.
     fn customer(&mut self, port: u16, frame: &[u8], outbox: &mut Outbox) -> Result<(), NoMemory>
         requires made { (shown self.old).blank ≡ false }
         requires attached { (shown self.old).view.failed ≡ false → IsAttachedPort (shown self.old).view port }

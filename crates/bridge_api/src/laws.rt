@@ -34,7 +34,8 @@ pub fn steps_keep_neighbours()
 
 /// Each frame that is sent and heard as a hello names its sender and port, the state there, and nobody but the
 /// neighbour that is kept; an LSP that is sent is the one that its sender holds, and what a frame claims is just what
-/// its sender holds. In each second one hello is sent at each port with carrier, and nothing at others.
+/// its sender holds. Any other frame carries a customer's. In each second one hello is sent at each port with carrier,
+/// and nothing at others.
 pub fn frames_are_heard()
     ensures sound { SentIsSound }
     ensures one_hello { OneHello }
@@ -44,16 +45,14 @@ pub fn frames_are_heard()
     control_again();
 }
 
-/// Service instances don't mix at a bridge. Whatever comes in, each frame that is sent carries, and each that leaves at a
-/// customer port is, byte for byte, one that entered in the same I-SID; and it leaves at a port of that I-SID. What is
-/// learned at a customer port is learned in its I-SID.
+/// Service instances don't mix at a bridge. A frame that is sent carries, and one that leaves at a customer port is,
+/// byte for byte, a customer's frame that has just come in, and in the same I-SID; and it leaves at a port of that
+/// I-SID, where what was learned at customer ports was learned at ports of its I-SID. That stays so.
 pub fn services_stay_apart()
     ensures sent { SentHasEntered }
     ensures left { LeftHasEntered }
     ensures places { StepsKeepPlaces }
-{
-    control_again();
-}
+{}
 
 /// In each second all is sent that is to be sent at an Up port, and afterwards no SSN flag stands anywhere and no CSNP
 /// is due.

@@ -16,20 +16,26 @@
 //! 2. In `impl Bridge`, define `shown` as a function of that value (`specs/Shown.antt`). Its `view` is a `BridgeView`,
 //!    in which a part that isn't kept yet is as after `configure`.
 //! 3. Do the work of each call in a private function, which answers by `?`. Where it answers `Ok`, its contract names
-//!    the view afterwards, such as `after_tick`, and the frames, such as `sent_in_tick`. The trait's call tests first
-//!    whether the bridge is failed, then calls that function, and marks the bridge failed where no memory was found. A
-//!    question about tables tests the same, and marks nothing (`own_tables` of `specs/Graph.antt`).
+//!    the view afterwards, such as `after_tick`, and the frames, such as `sent_in_tick` or `moved_by_receive`. The
+//!    trait's call tests first whether the bridge is failed, then calls that function, and marks the bridge failed
+//!    where no memory was found. A question about tables tests the same, and marks nothing (`own_tables` of
+//!    `specs/Tables.antt`).
 //! 4. What a step makes of the list of ports is said port by port: `later` and `with_csnp_due` for a tick,
 //!    `heard_hello_port` for a hello, `with_carrier_port` for carrier (`specs/Ports.antt`) and `with_port_metric` for a
 //!    metric. What it makes of the LSPs that are held is said part by part: `counts_lowered`, `expired`, `refreshed`
 //!    and `after_sending` for a tick (`specs/Ticking.antt`), `changed_at` where something came to pass at a port, and
 //!    `heard_lsp`, `heard_csnp` and `heard_psnp` for what is heard of other LSPs (`specs/Hearing.antt`), each with
 //!    `originated_if_changed` after it (`specs/Own.antt`); so it is where a customer port is attached or detached
-//!    (`specs/Services.antt`). The lemmas `tick_is`, `heard_is`, `deaf_is`,
-//!    `with_carrier_is`, `with_metric_is` and `with_attached_is` of `proofs/Changes.antt` say that the steps of a view are these, and
-//!    `changed_ports`, `heard_hello_ports`, `with_carrier_ports`, `with_metric_ports` and `tick_ports` what becomes of
-//!    the ports.
-//! 5. A test makes boxes of it as `Box<dyn Bridge>` and calls them through the trait, since no proof says that memory
+//!    (`specs/Services.antt`). The lemmas `tick_is`, `heard_is`, `deaf_is`, `with_carrier_is`, `with_metric_is` and
+//!    `with_attached_is` of `proofs/Changes.antt` say that the steps of a view are these, and `changed_ports`,
+//!    `heard_hello_ports`, `with_carrier_ports`, `with_metric_ports` and `tick_ports` what becomes of the ports.
+//! 5. What becomes of customers' frames is said over `tenant_of` the view and its `own_tables`, as crate `forwarding`
+//!    says it, whose functions do the work: `after_entry` and `moved_by_entry` for one that enters by `customer`, and
+//!    `forwarded` and `moved_by_receive` for a backbone frame that carries one (`specs/Customers.antt`). The outbox
+//!    gains both lists that are moved (`with_moved` of `specs/Step.antt`), or first frames of each where no memory was
+//!    found. Such a frame changes nothing but what is learned, and so does `with_port_forgotten`, which comes first
+//!    where a port is detached: `entry_is` and `forgotten_is` of `proofs/Changes.antt`.
+//! 6. A test makes boxes of it as `Box<dyn Bridge>` and calls them through the trait, since no proof says that memory
 //!    is found.
 #![tactic(auto)]
 
@@ -41,8 +47,7 @@ pub use laws::{
     bridges_are_sound, cut_says_nothing, entering_up_is_whole, few_are_held_and_sent,
     frames_are_heard, graphs_are_read_from_what_is_held, neighbours_come_up,
     numbers_rise_by_what_is_heard, own_lsps_are_renewed, seconds_serve_neighbours,
-    silent_lsps_expire, services_stay_apart,
-    silent_neighbours_are_lost, steps_carry_the_database,
+    services_stay_apart, silent_lsps_expire, silent_neighbours_are_lost, steps_carry_the_database,
     steps_keep_neighbours, steps_keep_the_bridge,
 };
 pub use outbox::Outbox;
