@@ -98,6 +98,9 @@ nothing_moved m old is = sent_none old ∙ ap (λ (x : Moved). with_moved x old)
 pub nothing_gained : (m : Moved) (old : Outbox) → GainsMoved m old old
 nothing_gained m old = record { wire = 0; left = 0; gained = sent_none old }
 
+pub wire_gained : (m : Moved) (old : Outbox) (wire : List (ℕ × List ℕ)) → wire ≡ old.wire → GainsMoved m old (record { wire = wire; left = old.left })
+wire_gained m old wire is = subst (λ (w : List (ℕ × List ℕ)). GainsMoved m old (record { wire = w; left = old.left })) (sym is) (nothing_gained m old)
+
 -- ---- what is sent of a frame that comes in
 
 none_by : (b : Bool) (m : Moved) → m ≡ nothing → (if b then m else nothing) ≡ nothing

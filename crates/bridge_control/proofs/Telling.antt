@@ -11,7 +11,7 @@ use Rattle.bridge_api.specs.Customers.{tenant_of, with_learned}
 use Rattle.bridge_api.specs.Services.{IsAttachedPort, CanAttach, with_attached, with_port_forgotten, without_customer_port}
 use Rattle.bridge_api.specs.Step.{Input}
 use Rattle.bridge_api.specs.Laws.{HasConfig, IsInput, attached_after}
-use Rattle.bridge_api.proofs.Attached.{config_after}
+use Rattle.bridge_api.proofs.Attached.{config_after, learned_after}
 use Rattle.bridge_api.proofs.Changes.{attached_to, with_attached_is}
 use Rattle.bridge_api.proofs.Saying.{is_local}
 use Rattle.bridge_control.specs.declared.machine.Machine.{Machine}
@@ -24,18 +24,18 @@ use Rattle.bridge_control.proofs.Owning.{after_same, ready_can}
 abbrev pub machine_with : Machine → List Attachment → Addresses → Machine
 machine_with m attached learned = record m { tenant = record m.tenant { attached = attached; learned = learned } }
 
-pub can_tell : (m n : Machine) (attached : List Attachment) (learned : Addresses) → IsReady m → HasConfig (attached_to attached (view_of m)) → n ≡ machine_with m attached learned → CanTell n
-can_tell m n attached learned ready config is =
+pub can_tell : (m n : Machine) (attached : List Attachment) (learned other : Addresses) → IsReady m → HasConfig (attached_to attached (with_learned other (view_of m))) → n ≡ machine_with m attached learned → CanTell n
+can_tell m n attached learned other ready config is =
     let can : CanOriginate m = ready_can m ready in
     subst CanTell (sym is) (record {
       can = record { few = can.few; place = can.place };
       system = ap (λ (o : Own). o.system) ready.current.own;
-      local = is_local (attached_to attached (view_of m)) config ready.sound.few ready.sound.ports;
+      local = is_local (attached_to attached (with_learned other (view_of m))) config ready.sound.few ready.sound.ports;
       ports = record { hellos = ready.current.ports.hellos; up = ready.current.ports.up; me = ready.current.ports.me };
     })
 
 pub can_tell_after : (m n : Machine) (input : Input) (learned : Addresses) → IsReady m → IsInput (view_of m) input → n ≡ machine_with m (attached_after input m.tenant.attached) learned → CanTell n
-can_tell_after m n input learned ready is same = can_tell m n (attached_after input m.tenant.attached) learned ready (config_after input (view_of m) is ready.sound.config) same
+can_tell_after m n input learned ready is same = can_tell m n (attached_after input m.tenant.attached) learned (learned_after input (view_of m)) ready (config_after input (view_of m) is ready.sound.config) same
 
 pub told_after : (m n k : Machine) (attached : List Attachment) (learned : Addresses) → n ≡ machine_with m attached learned → IsAfter (originated_if_changed (view_of n)) k → IsAfter (with_attached attached (with_learned learned (view_of m))) k
 told_after m n k attached learned is after =

@@ -165,9 +165,7 @@ impl ControlPlane {
         ensures still_made { self.new.blank ≡ false }
     {
         self.refuse_failed()?;
-        let ended = self
-            .machine
-            .customer(port, frame, &mut self.tables, outbox);
+        let ended = self.machine.customer(port, frame, &mut self.tables, outbox);
         self.failed = ended.is_err();
         ended
     }

@@ -17,9 +17,7 @@ use flooding::{Own, originate};
 use forwarding::Tenant;
 use lsdb::Database;
 use spb_content::{BridgeConfigFacts, Local, content_of};
-use spb_types::{
-    BridgeId, LEVEL_1, Mac, NoMemory, PortSet, Seq, SourceId, SystemId, VidPlan,
-};
+use spb_types::{BridgeId, LEVEL_1, Mac, NoMemory, PortSet, Seq, SourceId, SystemId, VidPlan};
 use std::alloc::Global;
 
 /// The id of a bridge that isn't configured.
@@ -134,8 +132,11 @@ impl Machine {
     {
         let vids = Vec::from_slice(self.alloc, self.vids.as_slice())?;
         let neighbours = neighbours_at(self.alloc, self.ports.as_slice())?;
-        let attached =
-            attached_members(self.alloc, self.id.system, self.tenant.attached.as_slice())?;
+        let attached = attached_members(
+            self.alloc,
+            self.id.system,
+            self.tenant.attached.as_slice(),
+        )?;
         Ok(Local {
             config: BridgeConfigFacts {
                 id: self.id,
