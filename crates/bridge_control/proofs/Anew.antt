@@ -34,7 +34,7 @@ idle_path m p bytes j ready has_carrier said idle =
 pub heard_ready : (m n : Machine) → IsReady m → n ≡ record m { heard = n.heard } → IsReady n
 heard_ready m n ready is = subst IsReady (sym is) (record {
   sound = ready.sound;
-  current = record { own = ready.current.own; ports = record { hellos = ready.current.ports.hellos; up = ready.current.ports.up } };
+  current = record { own = ready.current.own; ports = record { hellos = ready.current.ports.hellos; up = ready.current.ports.up; me = ready.current.ports.me } };
 })
 
 pub heard_view : (m n : Machine) → n ≡ record m { heard = n.heard } → view_of n ≡ view_of m

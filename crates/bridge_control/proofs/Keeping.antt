@@ -1,5 +1,5 @@
 -- A control plane between two calls.
-use Rattle.std.proofs.Common.{◌≡◌, ℕ, Bool, true, false, List, refl, sym, ap, ◌∙◌, subst, Some, Result, Ok, Err}
+use Rattle.std.proofs.Common.{◌≡◌, ℕ, Bool, true, false, List, refl, sym, ap, ◌∙◌, subst, Option, Some, None, Result, Ok, Err}
 use Rattle.std.specs.Prelude.{OnOk, ◌||◌}
 use Rattle.std.specs.Option.{option_map}
 use Rattle.std.specs.List.{list_any}
@@ -16,6 +16,8 @@ use Rattle.bridge_api.proofs.Sound.{configured_is_sound, steps_stay_sound}
 use Rattle.bridge_control.specs.declared.machine.Machine.{Machine}
 use Rattle.bridge_control.specs.Machine.{view_of, IsReady, IsAfter}
 use Rattle.bridge_control.specs.Plane.{Plane, plane_of, IsKept}
+use Rattle.bridge_control.specs.Kept.{AreOwn}
+use Rattle.spb_types.specs.declared.tables.Tables.{Tables}
 
 ready_after : (v : BridgeView) (m : Machine) → IsSoundView v → IsAfter v m → IsReady m
 ready_after v m sound is = record { sound = subst IsSoundView (sym is.view) sound; current = is.current }
@@ -24,18 +26,33 @@ stepped : {T : Type 0} (r : Result T NoMemory) (input : Input) (old m : Machine)
 stepped (Ok x) input old m ready is after e = ready_after (step input (view_of old)) m (steps_stay_sound input (view_of old) is ready.sound) after
 stepped (Err x) input old m ready is after e = absurd cc
 
--- after a step
+on_ok_is : {T P : Type 0} (r : Result T NoMemory) → OnOk r P → is_err r ≡ false → P
+on_ok_is (Ok x) is e = is
+on_ok_is (Err x) is e = absurd cc
+
+-- after a step that keeps tables of its own
+pub kept_with : {T : Type 0} (r : Result T NoMemory) (input : Input) (blank failed : Bool) (old m : Machine) (kept : Option Tables) → blank ≡ false → IsReady old → IsInput (view_of old) input → failed ≡ is_err r → OnOk r (IsAfter (step input (view_of old)) m)
+    → OnOk r (AreOwn (view_of m) kept) → IsKept blank failed m kept
+kept_with r input blank failed old m kept made ready is after_sending after own = record {
+  unfailed = λ e. absurd (let no : true ≡ false = sym e ∙ made in cc);
+  ready = λ e f. stepped r input old m ready is after (sym after_sending ∙ f);
+  tables = λ e f. on_ok_is r own (sym after_sending ∙ f);
+}
+
+-- after a step that keeps none
 pub kept_step : {T : Type 0} (r : Result T NoMemory) (input : Input) (blank failed : Bool) (old m : Machine) → blank ≡ false → IsReady old → IsInput (view_of old) input → failed ≡ is_err r → OnOk r (IsAfter (step input (view_of old)) m)
-    → IsKept blank failed m
+    → IsKept blank failed m None
 kept_step r input blank failed old m made ready is after_sending after = record {
   unfailed = λ e. absurd (let no : true ≡ false = sym e ∙ made in cc);
   ready = λ e f. stepped r input old m ready is after (sym after_sending ∙ f);
+  tables = λ e f. tt;
 }
 
-pub kept_configured : (c : BridgeConfig) (failed : Bool) (m : Machine) → IsWhole c → IsAfter (configured c) m → IsKept false failed m
+pub kept_configured : (c : BridgeConfig) (failed : Bool) (m : Machine) → IsWhole c → IsAfter (configured c) m → IsKept false failed m None
 kept_configured c failed m whole is = record {
   unfailed = λ e. absurd cc;
   ready = λ e f. ready_after (configured c) m (configured_is_sound c whole) is;
+  tables = λ e f. tt;
 }
 
 -- ---- questions

@@ -16,5 +16,6 @@ pub mod OwnTables
 pub mod Anew
 pub mod Tlvless
 pub mod Telling
+pub mod Moving
 pub mod Copies
 pub mod HeldAgain

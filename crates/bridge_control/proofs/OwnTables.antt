@@ -22,13 +22,15 @@ use Rattle.spb_content.proofs.Members.{weaker}
 use Rattle.fdb_build.specs.Tables.{ArePlans, unicast_rows}
 use Rattle.fdb_build.specs.Groups.{group_rows}
 use Rattle.bridge_api.specs.View.{BridgeView}
-use Rattle.bridge_api.specs.Graph.{contents_of, read_graph, own_tables, planned_for, own_path}
+use Rattle.bridge_api.specs.Tables.{contents_of, read_graph, own_tables}
+use Rattle.bridge_api.specs.Graph.{planned_for, own_path}
 use Rattle.bridge_api.specs.Laws.{HasConfig, IsSoundView}
 use Rattle.bridge_api.proofs.Saying.{vids_are_apart}
 use Rattle.bridge_api.proofs.GraphRead.{reads_each_once}
 use Rattle.bridge_api.proofs.OwnPorts.{own_ports_are_apart}
 use Rattle.bridge_control.specs.declared.machine.Machine.{Machine}
 use Rattle.bridge_control.specs.Machine.{view_of}
+use Rattle.bridge_control.specs.Kept.{AreOwn}
 use Rattle.bridge_control.specs.Plane.{Plane, plane_of}
 
 -- ---- one entry more
@@ -117,6 +119,14 @@ pub tables_shown : {E : Type 0} (blank failed : Bool) (m : Machine) (plane : Pla
     → IfOk r (λ t. t ≡ own_tables (view_of m)) → IfOk r (λ t. t ≡ own_tables plane.view)
 tables_shown blank failed m plane (Ok t) same is = is ∙ (tables_unfailed failed (view_of m) ∙ ap (λ (x : Plane). own_tables x.view) same)
 tables_shown blank failed m plane (Err e) same is = is
+
+-- tables that are kept
+pub kept_shown : (blank failed : Bool) (m : Machine) (plane : Plane) (kept : Tables) → plane_of blank failed m ≡ plane → AreOwn (view_of m) (Some kept) → kept ≡ own_tables plane.view
+kept_shown blank failed m plane kept same own = own ∙ (tables_unfailed failed (view_of m) ∙ ap (λ (x : Plane). own_tables x.view) same)
+
+pub copy_shown : {E : Type 0} (v : BridgeView) (kept : Tables) (r : Result Tables E) → kept ≡ own_tables v → IfOk r (λ t. t ≡ kept) → IfOk r (λ t. t ≡ own_tables v)
+copy_shown v kept (Ok t) own is = is ∙ own
+copy_shown v kept (Err e) own is = is
 
 -- ---- a path
 

@@ -45,7 +45,7 @@ current_with m ports db own current system body same alike =
 
 -- the body was made anew
 pub renewed_current : (m n : Machine) → FollowsPorts m → n ≡ record m { own = own_of (view_of m) } → IsCurrent n
-renewed_current m n follows is = subst IsCurrent (sym is) (record { own = refl; ports = record { hellos = follows.hellos; up = follows.up } })
+renewed_current m n follows is = subst IsCurrent (sym is) (record { own = refl; ports = record { hellos = follows.hellos; up = follows.up; me = follows.me } })
 
 pub renewed_after : (m n : Machine) → FollowsPorts m → n ≡ record m { own = own_of (view_of m) } → IsAfter (view_of m) n
 renewed_after m n follows is = record { view = ap view_of is; current = renewed_current m n follows is }

@@ -5,5 +5,7 @@ pub mod Heard
 pub mod HeldLsp
 pub mod Frames
 pub mod Made
+pub mod Carrying
+pub mod Kept
 pub mod Plane
 pub mod Attaching

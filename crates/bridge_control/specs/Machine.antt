@@ -1,6 +1,5 @@
 -- The bridge that a machine's fields say.
 use Rattle.std.specs.Prelude.{◌≡◌, ℕ, ◌+◌, ◌≤◌, List, [], ◌∷◌, length, true, false, replicate, Option, Some, None}
-use Rattle.std.specs.FinMap.{empty}
 use Rattle.spb_types.specs.declared.address.SystemId.{SystemId}
 use Rattle.spb_types.specs.declared.limits.TheConstants.{MOST_PORTS}
 use Rattle.flooding.specs.Own.{own_id}
@@ -15,16 +14,16 @@ use Rattle.bridge_api.specs.Ticking.{hello_frame}
 use Rattle.bridge_api.specs.Laws.{IsSoundView}
 use Rattle.bridge_control.specs.declared.machine.Machine.{Machine}
 
--- it has learned no address and counts no drop
+-- it counts no drop
 abbrev pub view_of : Machine → BridgeView
 view_of m = record {
   id = m.id;
-  source = m.source;
+  source = m.tenant.source;
   vids = m.vids;
   ports = m.ports.items;
   database = m.db;
-  attached = m.attached;
-  learned = empty;
+  attached = m.tenant.attached;
+  learned = m.tenant.learned;
   spent = m.own.spent;
   failed = false;
   drops = replicate 9 0;
@@ -35,10 +34,12 @@ abbrev pub hellos_from : SystemId → ℕ → List BridgePort → List (List ℕ
 hellos_from system p [] = []
 hellos_from system p (port ∷ ports) = hello_frame system p port ∷ hellos_from system (p + 1) ports
 
--- the frame that is kept for each port is its hello, and the ports that are kept as Up are those that are
+-- the frame that is kept for each port is its hello, the ports that are kept as Up are those that are, and the address
+-- from which customers' frames are sent is the own
 pub record FollowsPorts (m : Machine) : Type 0 where
   pub hellos : m.hellos.items ≡ hellos_from m.id.system 1 m.ports.items
   pub up : m.up ≡ up_from 1 m.ports.items
+  pub me : m.tenant.me ≡ m.id.system.mac
 
 -- the body that is kept of the own LSP is what the bridge has to say, and so are the hellos
 pub record IsCurrent (m : Machine) : Type 0 where

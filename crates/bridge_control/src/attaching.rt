@@ -6,8 +6,8 @@ ghost use Rattle.bridge_control.specs.Machine.{view_of, IsReady, IsAfter};
 ghost use Rattle.bridge_control.specs.Attaching.{CanTell};
 
 use crate::machine::Machine;
-use forwarding::without_customer_port;
-use spb_types::{Attachment, NoMemory, Seq};
+use forwarding::detach;
+use spb_types::{Attachment, NoMemory};
 
 impl Machine {
     /// Attaches a customer port to a service.
@@ -16,18 +16,17 @@ impl Machine {
         requires can { services.CanAttach (view_of self.old) attachment }
         ensures { OnOk result (IsAfter (services.with_attachment attachment (view_of self.old)) self.new) }
     {
-        self.attached.push(attachment)?;
+        self.tenant.attached.push(attachment)?;
         self.tell()
     }
 
-    /// Detaches a customer port.
+    /// Detaches a customer port, and forgets what was learned there.
     pub(crate) fn detach(&mut self, port: u16) -> Result<(), NoMemory>
         requires ready { IsReady self.old }
         requires attached { services.IsAttachedPort (view_of self.old) port }
         ensures { OnOk result (IsAfter (services.without_attachment port (view_of self.old)) self.new) }
     {
-        let others = without_customer_port(self.alloc, port, self.attached.as_slice())?;
-        self.attached = Seq::from_vec(others);
+        detach(self.alloc, &mut self.tenant, port)?;
         self.tell()
     }
 

@@ -7,9 +7,11 @@ ghost use Rattle.bridge_api.specs.Config.{IsWhole, IsMetric, configured};
 ghost use Rattle.bridge_api.specs.Hearing.{after_receive, with_carrier, with_metric};
 ghost use Rattle.bridge_api.specs.Services.{IsAttachedPort, CanAttach, attachment_of, with_attachment, without_attachment};
 ghost use Rattle.bridge_api.specs.Ticking.{after_tick, sent_in_tick};
-ghost use Rattle.bridge_api.specs.Step.{with_wire, Gains};
+ghost use Rattle.bridge_api.specs.Customers.{IsCustomerFrame, after_entry, moved_by_entry, moved_by_receive};
+ghost use Rattle.bridge_api.specs.Step.{with_wire, with_moved, Gains, GainsMoved};
 ghost use Rattle.bridge_api.specs.Graph.{own_tables, own_path};
 
+use crate::kept_tables::copy_of;
 use crate::machine::Machine;
 use crate::ports::port_at;
 use adjacency::Adjacency;
@@ -27,11 +29,13 @@ use std::marker::Model;
 /// them. It is blank until `configure` is called, and each call but `is_blank`, `is_failed` and `configure` has the
 /// condition that it isn't blank. A call that finds no memory leaves it failed: from then on each call that can answer
 /// `NoMemory` answers it and changes nothing.
-#[derive(Debug, Drop)]
+#[derive(Drop)]
 pub struct ControlPlane {
     blank: bool,
     failed: bool,
     machine: Machine,
+    /// The tables, where they were made since what is held last changed.
+    tables: Option<Tables>,
 }
 
 impl Model for ControlPlane {
@@ -46,7 +50,7 @@ impl Model for ControlPlane {
 
     ghost view = { λ c. plane_of c.blank c.failed c.machine };
 
-    ghost invariant = { λ c. IsKept c.blank c.failed c.machine };
+    ghost invariant = { λ c. IsKept c.blank c.failed c.machine c.tables };
 }
 
 impl ControlPlane {
@@ -59,6 +63,7 @@ impl ControlPlane {
             blank: true,
             failed: false,
             machine: Machine::idle(alloc),
+            tables: None,
         }
     }
 
@@ -93,6 +98,7 @@ impl ControlPlane {
         ensures made { self.new.blank ≡ false }
     {
         self.blank = false;
+        self.tables = None;
         match Machine::configured(self.machine.alloc, config) {
             Ok(machine) => {
                 self.machine = machine;
@@ -118,23 +124,48 @@ impl ControlPlane {
         ensures made { self.new.blank ≡ false }
     {
         self.refuse_failed()?;
+        self.tables = None;
         let ended = self.machine.tick(outbox);
         self.failed = ended.is_err();
         ended
     }
 
-    /// Hears a frame, which may be any bytes, at a port. A frame of no use is dropped and changes nothing. Nothing is
-    /// sent.
-    pub fn receive(&mut self, port: u8, frame: &[u8]) -> Result<(), NoMemory>
+    /// Hears a frame, which may be any bytes, at a port. A frame of no use is dropped and changes nothing. A backbone
+    /// frame is relayed and delivered by the tables of the bridge.
+    pub fn receive(&mut self, port: u8, frame: &[u8], outbox: &mut Outbox) -> Result<(), NoMemory>
         requires made { self.old.blank ≡ false }
         requires port { self.old.view.failed ≡ false → IsPort self.old.view port }
         ensures view { OnOk result (self.new.view ≡ after_receive port frame.now self.old.view) }
+        ensures sent { OnOk result (outbox.new ≡ with_moved (moved_by_receive port frame.now self.old.view) outbox.old) }
         ensures memory { OnErr result (self.new.view.failed ≡ true) }
-        ensures failed { self.old.view.failed ≡ true → IsErr result × (self.new.view ≡ self.old.view) }
+        ensures gained { OnErr result
+            (GainsMoved (moved_by_receive port frame.now self.old.view) outbox.old outbox.new) }
+        ensures failed { self.old.view.failed ≡ true
+            → IsErr result × (self.new.view ≡ self.old.view) × (outbox.new ≡ outbox.old) }
         ensures still_made { self.new.blank ≡ false }
     {
         self.refuse_failed()?;
-        let ended = self.machine.receive(port, frame);
+        let ended = self.machine.receive(port, frame, &mut self.tables, outbox);
+        self.failed = ended.is_err();
+        ended
+    }
+
+    /// A customer's frame enters at a customer port that is attached, and is sent on by the tables of the bridge.
+    pub fn customer(&mut self, port: u16, frame: &[u8], outbox: &mut Outbox) -> Result<(), NoMemory>
+        requires made { self.old.blank ≡ false }
+        requires attached { self.old.view.failed ≡ false → IsAttachedPort self.old.view port }
+        requires frame { IsCustomerFrame frame.now }
+        ensures view { OnOk result (self.new.view ≡ after_entry port frame.now self.old.view) }
+        ensures sent { OnOk result (outbox.new ≡ with_moved (moved_by_entry port frame.now self.old.view) outbox.old) }
+        ensures memory { OnErr result (self.new.view.failed ≡ true) }
+        ensures gained { OnErr result
+            (GainsMoved (moved_by_entry port frame.now self.old.view) outbox.old outbox.new) }
+        ensures failed { self.old.view.failed ≡ true
+            → IsErr result × (self.new.view ≡ self.old.view) × (outbox.new ≡ outbox.old) }
+        ensures still_made { self.new.blank ≡ false }
+    {
+        self.refuse_failed()?;
+        let ended = self.machine.customer(port, frame, &mut self.tables, outbox);
         self.failed = ended.is_err();
         ended
     }
@@ -149,6 +180,7 @@ impl ControlPlane {
         ensures still_made { self.new.blank ≡ false }
     {
         self.refuse_failed()?;
+        self.tables = None;
         let ended = self.machine.carrier(port, on);
         self.failed = ended.is_err();
         ended
@@ -165,6 +197,7 @@ impl ControlPlane {
         ensures still_made { self.new.blank ≡ false }
     {
         self.refuse_failed()?;
+        self.tables = None;
         let ended = self.machine.set_metric(port, metric);
         self.failed = ended.is_err();
         ended
@@ -180,12 +213,13 @@ impl ControlPlane {
         ensures still_made { self.new.blank ≡ false }
     {
         self.refuse_failed()?;
+        self.tables = None;
         let ended = self.machine.attach(Attachment { port, isid, vid });
         self.failed = ended.is_err();
         ended
     }
 
-    /// Detaches a customer port that is attached.
+    /// Detaches a customer port that is attached, and forgets what was learned there.
     pub fn detach(&mut self, port: u16) -> Result<(), NoMemory>
         requires made { self.old.blank ≡ false }
         requires attached { self.old.view.failed ≡ false → IsAttachedPort self.old.view port }
@@ -195,6 +229,7 @@ impl ControlPlane {
         ensures still_made { self.new.blank ≡ false }
     {
         self.refuse_failed()?;
+        self.tables = None;
         let ended = self.machine.detach(port);
         self.failed = ended.is_err();
         ended
@@ -234,14 +269,18 @@ impl ControlPlane {
         self.machine.db.at(place)
     }
 
-    /// The tables of the bridge, made anew from the LSPs that it holds (IEEE 802.1aq, 8.8 and 28.10).
+    /// The tables of the bridge: a copy of those that are kept, or, where none are, made anew from the LSPs that it
+    /// holds (IEEE 802.1aq, 8.8 and 28.10).
     pub fn tables(&self) -> Result<Tables, NoMemory>
         requires { self.now.blank ≡ false }
         ensures tables { IfOk result (λ t. t ≡ own_tables self.now.view) }
         ensures failed { self.now.view.failed ≡ true → IsErr result }
     {
         self.refuse_failed()?;
-        self.machine.tables()
+        match &self.tables {
+            Some(kept) => copy_of(self.machine.alloc, kept),
+            None => self.machine.tables(),
+        }
     }
 
     /// The port by which frames to an address in a base VID leave, by those tables; None exactly where they have no row
@@ -251,8 +290,11 @@ impl ControlPlane {
         ensures port { IfOk result (λ port. port ≡ unicast_in (own_tables self.now.view).unicast vid mac) }
         ensures failed { self.now.view.failed ≡ true → IsErr result }
     {
-        let tables = self.tables()?;
-        Ok(unicast_of(&tables, vid, mac))
+        self.refuse_failed()?;
+        match &self.tables {
+            Some(kept) => Ok(unicast_of(kept, vid, mac)),
+            None => Ok(unicast_of(&self.machine.tables()?, vid, mac)),
+        }
     }
 
     /// The ports by which frames to a group address in a base VID leave, by those tables; none where they have no row
@@ -262,8 +304,11 @@ impl ControlPlane {
         ensures ports { IfOk result (λ ports. ports ≡ group_in (own_tables self.now.view).group vid mac) }
         ensures failed { self.now.view.failed ≡ true → IsErr result }
     {
-        let tables = self.tables()?;
-        Ok(group_of(&tables, vid, mac))
+        self.refuse_failed()?;
+        match &self.tables {
+            Some(kept) => Ok(group_of(kept, vid, mac)),
+            None => Ok(group_of(&self.machine.tables()?, vid, mac)),
+        }
     }
 
     /// The best path to a system in a base VID over the LSPs that the bridge holds, with its cost. None exactly where

@@ -1,5 +1,5 @@
 //! Hearing a frame.
-ghost use Rattle.std.specs.Prelude.{◌≡◌, ◌≤◌, true, false, OnOk, length};
+ghost use Rattle.std.specs.Prelude.{◌≡◌, ◌≤◌, true, false, OnOk, OnErr, length};
 ghost use Rattle.isis_pdu.specs.Pdu.{hello_of, lsp_of, csnp_of, psnp_of};
 ghost use Rattle.flooding.specs.Hearing.{hear_lsp_of};
 ghost use Rattle.flooding.specs.Placing.{holding};
@@ -7,26 +7,44 @@ ghost use Rattle.bridge_api.specs.View.{IsPort, has_carrier_at};
 ghost use Rattle.bridge_api.specs.Own.{originated_if_changed};
 ghost use Rattle.bridge_api.specs.Parsing as parsing;
 ghost use Rattle.bridge_api.specs.Hearing as api;
+ghost use Rattle.bridge_api.specs.Customers.{moved_by_receive};
+ghost use Rattle.bridge_api.specs.Step.{with_moved, GainsMoved};
+ghost use Rattle.forwarding.specs.Tenant.{nothing};
+ghost use Rattle.bridge_api.specs.Tables.{own_tables};
+ghost use Rattle.bridge_control.specs.Kept.{AreOwn};
 ghost use Rattle.bridge_control.specs.Machine.{view_of, IsReady, IsAfter, hears};
 
 use crate::heard::{HeardHello, put_heard, said_at};
 use crate::machine::Machine;
 use crate::parsing::{Message, parse};
 use crate::ports::{is_up, port_at, put_port};
+use bridge_api::Outbox;
 use flooding::{FloodError, Own};
 use isis_pdu::{Csnp, Hello, Lsp, Psnp};
 use lsdb::Database;
 use snp_sync::{entries_of_snp, hear_csnp, hear_psnp};
 use spb_tlvs::{SnpEntry, ThreeWay, TlvError};
-use spb_types::{NoMemory, PortSet};
+use spb_types::{NoMemory, PortSet, Tables};
 use std::alloc::Global;
 
 impl Machine {
-    /// Hears a frame, which may be any bytes, at a port.
-    pub(crate) fn receive(&mut self, port: u8, frame: &[u8]) -> Result<(), NoMemory>
+    /// Hears a frame, which may be any bytes, at a port. Where by it other LSPs may be held, no tables are kept.
+    pub(crate) fn receive(
+        &mut self,
+        port: u8,
+        frame: &[u8],
+        kept: &mut Option<Tables>,
+        outbox: &mut Outbox,
+    ) -> Result<(), NoMemory>
         requires ready { IsReady self.old }
         requires port { IsPort (view_of self.old) port }
-        ensures { OnOk result (IsAfter (api.after_receive port frame.now (view_of self.old)) self.new) }
+        requires tables { AreOwn (view_of self.old) kept.old }
+        ensures after { OnOk result (IsAfter (api.after_receive port frame.now (view_of self.old)) self.new) }
+        ensures sent { OnOk result
+            (outbox.new ≡ with_moved (moved_by_receive port frame.now (view_of self.old)) outbox.old) }
+        ensures gained { OnErr result
+            (GainsMoved (moved_by_receive port frame.now (view_of self.old)) outbox.old outbox.new) }
+        ensures kept { OnOk result (AreOwn (view_of self.new) kept.new) }
     {
         if !port_at(self.ports.as_slice(), port).adjacency.carrier {
             return Ok(());
@@ -34,7 +52,7 @@ impl Machine {
         if self.hear_again(port, frame) {
             return Ok(());
         }
-        self.hear_anew(port, frame)
+        self.hear_anew(port, frame, kept, outbox)
     }
 
     /// Hears a frame at a port with carrier if it brings the hello that came last there, and this only begins the
@@ -44,6 +62,8 @@ impl Machine {
         requires port { IsPort (view_of self.old) port }
         requires carrier { has_carrier_at (view_of self.old) port ≡ true }
         ensures heard { result ≡ true → IsAfter (api.after_receive port frame.now (view_of self.old)) self.new }
+        ensures sent { result ≡ true → moved_by_receive port frame.now (view_of self.old) ≡ nothing }
+        ensures tables { own_tables (view_of self.new) ≡ own_tables (view_of self.old) }
         ensures kept { result ≡ false → self.new ≡ self.old }
     {
         let Some(said) = said_at(self.heard.as_slice(), port, frame) else {
@@ -61,19 +81,40 @@ impl Machine {
     }
 
     /// Hears a frame at a port with carrier.
-    fn hear_anew(&mut self, port: u8, frame: &[u8]) -> Result<(), NoMemory>
+    fn hear_anew(
+        &mut self,
+        port: u8,
+        frame: &[u8],
+        kept: &mut Option<Tables>,
+        outbox: &mut Outbox,
+    ) -> Result<(), NoMemory>
         requires ready { IsReady self.old }
         requires port { IsPort (view_of self.old) port }
         requires carrier { has_carrier_at (view_of self.old) port ≡ true }
-        ensures { OnOk result (IsAfter (api.after_receive port frame.now (view_of self.old)) self.new) }
+        requires tables { AreOwn (view_of self.old) kept.old }
+        ensures after { OnOk result (IsAfter (api.after_receive port frame.now (view_of self.old)) self.new) }
+        ensures sent { OnOk result
+            (outbox.new ≡ with_moved (moved_by_receive port frame.now (view_of self.old)) outbox.old) }
+        ensures gained { OnErr result
+            (GainsMoved (moved_by_receive port frame.now (view_of self.old)) outbox.old outbox.new) }
+        ensures kept { OnOk result (AreOwn (view_of self.new) kept.new) }
     {
         match parse(&self.db, frame) {
-            Message::Hello(hello, way) => self.hear_new_hello(port, frame, &hello, &way),
-            Message::Lsp(lsp, near) => self.hear_lsp(port, &lsp, near),
-            Message::Csnp(csnp) => self.hear_csnp(port, &csnp),
-            Message::Psnp(psnp) => self.hear_psnp(port, &psnp),
+            Message::Hello(hello, way) => self.hear_new_hello(port, frame, &hello, &way, kept),
+            Message::Lsp(lsp, near) => {
+                *kept = None;
+                self.hear_lsp(port, &lsp, near)
+            }
+            Message::Csnp(csnp) => {
+                *kept = None;
+                self.hear_csnp(port, &csnp)
+            }
+            Message::Psnp(psnp) => {
+                *kept = None;
+                self.hear_psnp(port, &psnp)
+            }
             Message::Dropped(_) => Ok(()),
-            Message::Customer(_) => Ok(()),
+            Message::Customer(backbone) => self.relay(port, &backbone, frame, kept, outbox),
         }
     }
 
@@ -84,16 +125,19 @@ impl Machine {
         frame: &[u8],
         hello: &Hello<'_>,
         way: &ThreeWay,
+        kept: &mut Option<Tables>,
     ) -> Result<(), NoMemory>
         requires ready { IsReady self.old }
         requires port { IsPort (view_of self.old) port }
         requires carrier { has_carrier_at (view_of self.old) port ≡ true }
         requires state { way.now.state ≤ 2 }
         requires brings { parsing.parsed frame.now ≡ parsing.hello (hello_of hello.now) way.now }
-        ensures { OnOk result (IsAfter (hears (parsing.hello (hello_of hello.now) way.now) port (view_of self.old)) self.new) }
+        requires tables { AreOwn (view_of self.old) kept.old }
+        ensures after { OnOk result (IsAfter (hears (parsing.hello (hello_of hello.now) way.now) port (view_of self.old)) self.new) }
+        ensures kept { OnOk result (AreOwn (view_of self.new) kept.new) }
     {
         self.keep_hello(port, frame, hello, way)?;
-        self.hear_hello(port, hello, way)
+        self.hear_hello(port, hello, way, kept)
     }
 
     /// Keeps a hello as the one that came last to a port.
@@ -112,19 +156,28 @@ impl Machine {
         Ok(())
     }
 
-    /// Hears a hello at a port with carrier.
-    fn hear_hello(&mut self, port: u8, hello: &Hello<'_>, way: &ThreeWay) -> Result<(), NoMemory>
+    /// Hears a hello at a port with carrier. Where more than the holding count may change, no tables are kept.
+    fn hear_hello(
+        &mut self,
+        port: u8,
+        hello: &Hello<'_>,
+        way: &ThreeWay,
+        kept: &mut Option<Tables>,
+    ) -> Result<(), NoMemory>
         requires ready { IsReady self.old }
         requires port { IsPort (view_of self.old) port }
         requires carrier { has_carrier_at (view_of self.old) port ≡ true }
         requires state { way.now.state ≤ 2 }
-        ensures { OnOk result (IsAfter (hears (parsing.hello (hello_of hello.now) way.now) port (view_of self.old)) self.new) }
+        requires tables { AreOwn (view_of self.old) kept.old }
+        ensures after { OnOk result (IsAfter (hears (parsing.hello (hello_of hello.now) way.now) port (view_of self.old)) self.new) }
+        ensures kept { OnOk result (AreOwn (view_of self.new) kept.new) }
     {
         let mut new = port_at(self.ports.as_slice(), port);
         if new.adjacency.refresh(self.id.system, port, hello, way) {
             put_port(&mut self.ports, port, new);
             return Ok(());
         }
+        *kept = None;
         self.hear_other_hello(port, hello, way)
     }
 

@@ -1,17 +1,18 @@
 //! The IS-IS control plane of a bridge: what hellos, LSPs, sequence numbers PDUs, seconds, carrier and metrics make of
 //! it, as one step of `bridge_api` each. It keeps its ports in one list and its LSPs in one database, and takes each
-//! call as it comes.
+//! call as it comes. It sends customers' frames on by the tables that it makes of its LSPs.
 //!
-//! [`ControlPlane`] is a `Machine` with two marks: whether it is blank, and whether a call found no memory. What the
-//! machine makes of a frame stands in `hearing`, of a change at a port in `changing`, of a customer port that is attached
-//! or detached in `attaching`, and of a second in `ticking`; what a frame brings in `parsing`, in `heard` for the hello
-//! that came last to a port, and in `held_lsp` for an LSP that is held; what is sent in `hello`, `made` and `sending`,
-//! and the tables in `reading`.
+//! [`ControlPlane`] is a `Machine` with two marks, whether it is blank, and whether a call found no memory, and with the
+//! tables, while they are kept. What the machine makes of a frame stands in `hearing`, of a change at a port in
+//! `changing`, of a customer port that is attached or detached in `attaching`, of a customer's frame in `customers`, and
+//! of a second in `ticking`; what a frame brings in `parsing`, in `heard` for the hello that came last to a port, and in
+//! `held_lsp` for an LSP that is held; what is sent in `hello`, `made` and `sending`, and the tables in `reading` and
+//! `kept_tables`.
 //!
 //! # A kind of bridge
 //!
-//! It keeps a control plane, and beside it what it knows of its tables, if it keeps them: the control plane makes them
-//! anew at each question.
+//! It keeps a control plane, and beside it what else it knows of its tables, if it keeps more than the control plane
+//! does.
 //!
 //! 1. Write a struct with a field `control: ControlPlane`, and an `impl Model` for it whose `Value` is `Plane` and
 //!    whose `view` is that field. The invariant says of what is kept of the tables what it is of `b.control.view`.
@@ -44,10 +45,15 @@
 //! - An LSP takes a binary search and is compared with what is held under its id. Where the same is held live it isn't
 //!   read. Any other is gone over once for its TLVs and once for its checksum, and takes a second search, and a third one
 //!   and memory for its body if it is stored. A sequence numbers PDU takes what `snp_sync` says for its entries.
-//! - Each question about tables makes them anew: it goes over the database once, in time and memory of the bytes of the
-//!   live LSPs, and then takes what the graph of all that they say takes (`spb_content`), and the tables in it
-//!   (`fdb_build`). `unicast_port` and `group_ports` make them for their one answer. `path` makes the graph and one tree
-//!   in it (`ect_trees`), and copies one path.
+//! - The tables are made where a customer's frame enters or a backbone frame comes in and none are kept: this goes over
+//!   the database once, in time and memory of the bytes of the live LSPs, and then takes what the graph of all that they
+//!   say takes (`spb_content`), and the tables in it (`fdb_build`). They are kept over frames of both kinds, over what is
+//!   dropped, and over a hello that only begins the holding count anew. Any other call and frame forgets them, also where
+//!   the LSPs that are held stay as they are.
+//! - A frame of either kind takes a few look-ups in the tables, which go over their rows, and one copy for each port at
+//!   which it is sent or leaves, besides what `forwarding` says.
+//! - `tables` copies those that are kept, and `unicast_port` and `group_ports` look in them. Where none are kept, each
+//!   makes them for its one answer. `path` makes the graph and one tree in it (`ect_trees`), and copies one path.
 //! - No call copies the database.
 #![tactic(auto)]
 
@@ -56,10 +62,12 @@ pub use control_plane::ControlPlane;
 mod attaching;
 mod changing;
 mod control_plane;
+mod customers;
 mod heard;
 mod hearing;
 mod held_lsp;
 mod hello;
+mod kept_tables;
 mod machine;
 mod made;
 mod parsing;

@@ -12,12 +12,12 @@ use crate::heard::{HeardHello, none_heard};
 use crate::hello::hellos_of;
 use crate::ports::{attached_members, bare_ports, neighbours_at, up_ports};
 use bridge_api::{BridgeConfig, BridgePort};
+use customer_learning::Learned;
 use flooding::{Own, originate};
+use forwarding::Tenant;
 use lsdb::Database;
 use spb_content::{BridgeConfigFacts, Local, content_of};
-use spb_types::{
-    Attachment, BridgeId, LEVEL_1, Mac, NoMemory, PortSet, Seq, SourceId, SystemId, VidPlan,
-};
+use spb_types::{BridgeId, LEVEL_1, Mac, NoMemory, PortSet, Seq, SourceId, SystemId, VidPlan};
 use std::alloc::Global;
 
 /// The id of a bridge that isn't configured.
@@ -33,14 +33,14 @@ const REFRESH_AT: u16 = 300;
 
 /// What a configured bridge keeps. Between calls `own.body` is what the bridge has to say of itself, `hellos` are the
 /// hellos of its ports, and `up` are those that are Up. What is kept of the hellos that came only saves reading them.
-#[derive(Debug, Drop)]
+#[derive(Drop)]
 pub(crate) struct Machine {
     pub(crate) alloc: Global,
     pub(crate) id: BridgeId,
-    pub(crate) source: SourceId,
     pub(crate) vids: Seq<VidPlan>,
     pub(crate) ports: Vec<BridgePort>,
-    pub(crate) attached: Seq<Attachment>,
+    /// What the bridge knows of its customers. Its address is the own one.
+    pub(crate) tenant: Tenant,
     pub(crate) db: Database,
     pub(crate) own: Own,
     /// The hello of each port, as a control frame.
@@ -58,10 +58,14 @@ impl Machine {
         Machine {
             alloc,
             id: NO_ID,
-            source: SourceId { value: 0 },
             vids: Seq::new(alloc),
             ports: Vec::new(alloc),
-            attached: Seq::new(alloc),
+            tenant: Tenant {
+                me: NO_ID.system.mac,
+                source: SourceId { value: 0 },
+                attached: Seq::new(alloc),
+                learned: Learned::new(alloc),
+            },
             db: Database::new(alloc),
             own: Own {
                 system: NO_ID.system,
@@ -101,10 +105,14 @@ impl Machine {
         Ok(Machine {
             alloc,
             id: config.id,
-            source: config.source,
             vids: Seq::from_vec(vids),
             ports,
-            attached: Seq::from_vec(attached),
+            tenant: Tenant {
+                me: config.id.system.mac,
+                source: config.source,
+                attached: Seq::from_vec(attached),
+                learned: Learned::new(alloc),
+            },
             db: Database::new(alloc),
             own: Own {
                 system: config.id.system,
@@ -124,11 +132,15 @@ impl Machine {
     {
         let vids = Vec::from_slice(self.alloc, self.vids.as_slice())?;
         let neighbours = neighbours_at(self.alloc, self.ports.as_slice())?;
-        let attached = attached_members(self.alloc, self.id.system, self.attached.as_slice())?;
+        let attached = attached_members(
+            self.alloc,
+            self.id.system,
+            self.tenant.attached.as_slice(),
+        )?;
         Ok(Local {
             config: BridgeConfigFacts {
                 id: self.id,
-                source: self.source,
+                source: self.tenant.source,
                 vids: Seq::from_vec(vids),
             },
             neighbours: Seq::from_vec(neighbours),
@@ -165,7 +177,8 @@ impl Machine {
 
     /// Makes the hellos and the set of the Up ports anew, after neighbours were lost.
     pub(crate) fn renew_hellos(&mut self) -> Result<(), NoMemory>
-        requires { length self.old.ports.items ≤ 32 }
+        requires few { length self.old.ports.items ≤ 32 }
+        requires me { self.old.tenant.me ≡ self.old.id.system.mac }
         ensures view { OnOk result (view_of self.new ≡ view_of self.old) }
         ensures own { OnOk result (self.new.own ≡ self.old.own) }
         ensures ports { OnOk result (FollowsPorts self.new) }

@@ -9,7 +9,7 @@ use std::alloc::Global;
 use std::marker::Model;
 
 /// A bridge of the kind [`Kind::Plain`].
-#[derive(Debug, Drop)]
+#[derive(Drop)]
 pub struct PlainBridge {
     control: ControlPlane,
 }
@@ -62,8 +62,12 @@ impl Bridge for PlainBridge {
         self.control.tick(outbox)
     }
 
-    fn receive(&mut self, port: u8, frame: &[u8], _outbox: &mut Outbox) -> Result<(), NoMemory> {
-        self.control.receive(port, frame)
+    fn receive(&mut self, port: u8, frame: &[u8], outbox: &mut Outbox) -> Result<(), NoMemory> {
+        self.control.receive(port, frame, outbox)
+    }
+
+    fn customer(&mut self, port: u16, frame: &[u8], outbox: &mut Outbox) -> Result<(), NoMemory> {
+        self.control.customer(port, frame, outbox)
     }
 
     fn carrier(&mut self, port: u8, on: bool) -> Result<(), NoMemory> {

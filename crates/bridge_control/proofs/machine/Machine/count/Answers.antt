@@ -6,8 +6,11 @@ pub returns-then-not-count_down-clause-after : goal.returns-then-not-count_down-
 returns-then-not-count_down-clause-after c =
     counts_lowered_same c.args.self.now c.count_down.new.ports c.count_down.new.db c.requires c.count_down.ensures.ports c.count_down.ensures.db (sym c.count_down.ensures.lost ∙ c.if-not-count_down.true)
 
-pub renew_hellos-requires : goal.renew_hellos-requires
-renew_hellos-requires c = counts_lowered_few c.args.self.now c.count_down.new.ports c.requires c.count_down.ensures.ports
+pub renew_hellos-requires-clause-few : goal.renew_hellos-requires-clause-few
+renew_hellos-requires-clause-few c = counts_lowered_few c.args.self.now c.count_down.new.ports c.requires c.count_down.ensures.ports
+
+pub renew_hellos-requires-clause-me : goal.renew_hellos-requires-clause-me
+renew_hellos-requires-clause-me c = c.requires.current.ports.me
 
 pub renew_body-requires-clause-few : goal.renew_body-requires-clause-few
 renew_body-requires-clause-few c =

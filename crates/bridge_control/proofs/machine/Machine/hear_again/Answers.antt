@@ -1,4 +1,4 @@
-use Rattle.std.proofs.Common.{◌≡◌, [], Bool, sym, ap, ◌∙◌}
+use Rattle.std.proofs.Common.{◌≡◌, [], Bool, refl, sym, ap, ◌∙◌}
 use Rattle.std.specs.Prelude.{if◌then◌else◌}
 use Rattle.isis_pdu.specs.Pdu.{HelloValue}
 use Rattle.adjacency.specs.declared.port.Adjacency.{Adjacency}
@@ -12,6 +12,7 @@ use Rattle.bridge_control.proofs.Putting.{there_at, sound_there}
 use Rattle.bridge_control.proofs.Refreshed.{refreshed_after}
 use Rattle.bridge_control.proofs.Tlvless.{after_alike, change_alike}
 use Rattle.bridge_control.proofs.Anew.{heard_path}
+use Rattle.bridge_control.proofs.Moving.{unmoved, ports_tables}
 use Rattle.bridge_control.proofs.machine.Machine.hear_again.Goals as goal
 
 pub refresh-requires : goal.refresh-requires
@@ -43,3 +44,11 @@ returns-clause-heard c = λ _.
     ∙ c.refresh.ensures.kept done in
     after_same _ _ _ (heard_path (view_of m) p c.args.frame.now (parsing.hello h said.way) c.requires.carrier is.brings)
     (refreshed_after m p h said.way port new c.put_port.new.ports c.requires.ready c.requires.port there again heard kept c.put_port.ensures)
+
+pub returns-clause-sent : goal.returns-clause-sent
+returns-clause-sent c = λ _.
+    let is = c.in-Some.ensures in
+    unmoved (view_of c.args.self.now) c.args.port c.args.frame.now (parsing.hello (hello_saying c.in-Some.said is.tlvs) c.in-Some.said.way) is.brings refl
+
+pub returns-clause-tables : goal.returns-clause-tables
+returns-clause-tables c = ports_tables c.args.self.now c.put_port.new.ports

@@ -4,6 +4,7 @@ use Rattle.isis_pdu.specs.Pdu.{hello_of}
 use Rattle.adjacency.specs.declared.port.Adjacency.{Adjacency}
 use Rattle.bridge_control.proofs.Putting.{there_at, sound_there}
 use Rattle.bridge_control.proofs.Refreshed.{refreshed_after}
+use Rattle.bridge_control.proofs.Moving.{ports_tables, own_still}
 use Rattle.bridge_control.proofs.machine.Machine.hear_hello.Goals as goal
 
 pub refresh-requires : goal.refresh-requires
@@ -12,8 +13,11 @@ refresh-requires c =
     let sound = sound_there c.args.self.now c.args.port c.port_at-new.result c.requires.ready there in
     sound.adjacency
 
-pub returns-then-refresh : goal.returns-then-refresh
-returns-then-refresh c =
+pub returns-then-refresh-clause-kept : goal.returns-then-refresh-clause-kept
+returns-then-refresh-clause-kept c = own_still _ _ c.args.kept.now (ports_tables c.args.self.now c.put_port.new.ports) c.requires.tables
+
+pub returns-then-refresh-clause-after : goal.returns-then-refresh-clause-after
+returns-then-refresh-clause-after c =
     let m = c.args.self.now in
     let h = hello_of c.args.hello.now in
     let port = c.port_at-new.result in
