@@ -2,12 +2,14 @@
 //! is answered; and the script that is made for a number of bridges.
 #![tactic(auto)]
 
+pub use laws::forms_are_spelled;
 pub use refusal::Refusal;
 pub use runner::run;
 pub use status::Status;
 pub use words::Form;
 
 mod answer;
+mod laws;
 mod making;
 mod output;
 mod play;
