@@ -24,14 +24,15 @@ unfoldable pub made_text : ℕ → List ℕ
 made_text n = script_text (made n)
 
 module _ {B S K : Type 0} (holds : K → Option (List ℕ)) (is_reliable : K → Bool) where
-  -- the script for this number of bridges was written: to a sink, which was `sink`, with this status
+  -- The script for so many bridges was written to the sink. It ended with this status; of the network, the source and
+  -- the sink there is what each was before and what it is now.
   pub record Makes (bridges : ℕ) (status : Status) (network network' : NetworkOf B) (source source' : S) (sink sink' : K) : Type 0 where
     pub ends : (status ≡ Done) ⊎ (status ≡ NoMemory) ⊎ (status ≡ WriteFault)
-    -- the whole script, or a front of it where the run was cut short
+    -- The whole script is written, or a front of it where that was cut short.
     pub text : status ≡ Done → Appends (holds sink) (holds sink') (made_text bridges)
     pub front : IsTrue (is_cut status) → AppendsFront (holds sink) (holds sink') (made_text bridges)
-    -- nothing is read or played
+    -- Nothing is read or played.
     pub unread : source' ≡ source
     pub unplayed : network' ≡ network
-    -- over a sink that doesn't fail, only memory can run out
+    -- Over a sink that doesn't fail, only memory can run out.
     pub complete : IsTrue (is_reliable sink) → (status ≡ Done) ⊎ (status ≡ NoMemory)

@@ -36,11 +36,7 @@ fn write_line<K: Sink>(alloc: Global, command: &Command, sink: &mut K) -> Result
 }
 
 /// Writes the lines of some commands, each before the next is spelled.
-fn write_lines<K: Sink>(
-    alloc: Global,
-    commands: &[Command],
-    sink: &mut K,
-) -> Result<(), WriteError>
+fn write_lines<K: Sink>(alloc: Global, commands: &[Command], sink: &mut K) -> Result<(), WriteError>
     ensures all { OnOk result (Appends (K.holds sink.old) (K.holds sink.new) (script_text commands.now)) }
     ensures front { OnErr result (AppendsFront (K.holds sink.old) (K.holds sink.new) (script_text commands.now)) }
     ensures failed { IsErrOf result WriteError.Failed → Rose (K.faults sink.old) (K.faults sink.new) }

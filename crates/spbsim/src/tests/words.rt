@@ -101,7 +101,16 @@ fn check_usage(rt: &impl Abort, alloc: Global, words: &[String]) -> Result<(), F
 fn other_words_are_refused_and_nothing_is_read_or_written(rt: HostRuntime) -> Result<(), Fail> {
     let alloc = rt.alloc();
     check_usage(&rt, alloc, &[])?;
-    for words in ["", "--help", "help", "run fast", "Run", "run ", "run --help", "try 4"] {
+    for words in [
+        "",
+        "--help",
+        "help",
+        "run fast",
+        "Run",
+        "run ",
+        "run --help",
+        "try 4",
+    ] {
         check_usage(&rt, alloc, &words_of(alloc, words)?)?;
     }
     Ok(())
@@ -111,8 +120,22 @@ fn other_words_are_refused_and_nothing_is_read_or_written(rt: HostRuntime) -> Re
 fn a_script_is_made_for_4_to_96_bridges(rt: HostRuntime) -> Result<(), Fail> {
     let alloc = rt.alloc();
     for words in [
-        "make", "make ", "make 3", "make 0", "make 97", "make 100", "make 04", "make 004", "make +4",
-        "make 4 4", "make four", "make 4 ", "Make 4", "MAKE 4", "make 1:", "make /4",
+        "make",
+        "make ",
+        "make 3",
+        "make 0",
+        "make 97",
+        "make 100",
+        "make 04",
+        "make 004",
+        "make +4",
+        "make 4 4",
+        "make four",
+        "make 4 ",
+        "Make 4",
+        "MAKE 4",
+        "make 1:",
+        "make /4",
     ] {
         check_usage(&rt, alloc, &words_of(alloc, words)?)?;
     }
@@ -134,7 +157,10 @@ fn made(
         source(alloc, &[1])?,
         MemorySink::new(alloc, Vec::new(alloc), step),
     );
-    assert_eq!(rt; play(alloc, &words, &mut source, &mut sink), Ok(Status::Done));
+    assert_eq!(rt;
+        play(alloc, &words, &mut source, &mut sink),
+        Ok(Status::Done)
+    );
     assert_eq!(rt; source.faults(), 0);
     let text = std::str::from_utf8(sink.bytes())?;
     assert_eq!(rt; text.lines().count(), count);
