@@ -26,7 +26,9 @@ made_text n = script_text (made n)
 module _ {B S K : Type 0} (holds : K → Option (List ℕ)) (is_reliable : K → Bool) where
   -- The script for so many bridges was written to the sink. It ended with this status; of the network, the source and
   -- the sink there is what each was before and what it is now.
-  pub record Makes (bridges : ℕ) (status : Status) (network network' : NetworkOf B) (source source' : S) (sink sink' : K) : Type 0 where
+  pub record Makes
+      (bridges : ℕ) (status : Status)
+      (network network' : NetworkOf B) (source source' : S) (sink sink' : K) : Type 0 where
     pub ends : (status ≡ Done) ⊎ (status ≡ NoMemory) ⊎ (status ≡ WriteFault)
     -- The whole script is written, or a front of it where that was cut short.
     pub text : status ≡ Done → Appends (holds sink) (holds sink') (made_text bridges)

@@ -14,12 +14,16 @@ use Rattle.spb_run.specs.Output.{AppendsFront}
 use Rattle.spb_run.specs.Run.{is_written, is_ended, is_cut}
 use Rattle.spb_run.specs.Text.{is_too_long, text_of, fate_of, end_of, AllStates}
 
-module _ {B S K : Type 0} (shown : B → Shown) (left : S → Option (List ℕ)) (is_reliable_source : S → Bool) (holds : K → Option (List ℕ)) (is_reliable_sink : K → Bool) where
+module _
+    {B S K : Type 0} (shown : B → Shown) (left : S → Option (List ℕ)) (is_reliable_source : S → Bool)
+    (holds : K → Option (List ℕ)) (is_reliable_sink : K → Bool) where
   -- A script that the source had left was played on the network and answered to the sink. It ended with this status;
   -- of each of the three there is what it was before and what it is now.
-  pub record Runs (status : Status) (network network' : NetworkOf B) (source source' : S) (sink sink' : K) : Type 0 where
+  pub record Runs
+      (status : Status) (network network' : NetworkOf B) (source source' : S) (sink sink' : K) : Type 0 where
     -- The status is the script's fate and all of its text is written, unless the run was cut short.
-    pub fate : IsTrue (is_written status) → IfSome (left source) (λ script. status ≡ fate_of (state_of shown network) script)
+    pub fate : IsTrue (is_written status) → IfSome (left source) (λ script.
+        status ≡ fate_of (state_of shown network) script)
     pub text : IsTrue (is_written status) → IfSome (left source) (λ script.
         Appends (holds sink) (holds sink') (text_of (state_of shown network) script))
     pub ended : status ≡ Done → IsAtEnd (left source')
