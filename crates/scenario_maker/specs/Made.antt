@@ -1,9 +1,8 @@
+-- The script that is made for n bridges: a ring of n bridges with chords, and a service for each with three members.
 use Rattle.std.specs.Prelude.{ℕ, ◌+◌, ◌-◌, ◌*◌, ◌/◌, ◌%◌, ◌==◌, nat_lt, if◌then◌else◌, List, [], ◌∷◌, ◌++◌, map, flat_map, codes, decimal}
 use Rattle.std.specs.List.{range_with_len}
 use Rattle.scenario.specs.declared.command.Command.{Command}
 use Rattle.scenario.specs.declared.command.Command.TheVariants.{Vid, Bridge, Link, Isid, Attach, Down, Restart, Round, Drain, Frame, Show, Wiring}
-
--- The script that is made for n bridges: a ring of n bridges with chords, and a service for each with three members.
 
 -- ---- Numbers and names: bridges, links and services are numbered from 1
 

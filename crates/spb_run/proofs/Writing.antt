@@ -50,6 +50,9 @@ Writing-more holds faults is_reliable a b c bytes piece rest w more count reliab
     }
 
 -- nothing is a front of whatever is to be written
+pub AppendsFront-nil : (a : Option (List ℕ)) (bytes : List ℕ) → AppendsFront a a bytes
+AppendsFront-nil a bytes = AppendsFront-writes a a bytes bytes (Writes-nil a bytes)
+
 pub AppendsFront-none : (left a : Option (List ℕ)) (text : List ℕ → List ℕ) → IfSome left (λ script. AppendsFront a a (text script))
 AppendsFront-none None a text = tt
-AppendsFront-none (Some script) a text = AppendsFront-writes a a (text script) (text script) (Writes-nil a (text script))
+AppendsFront-none (Some script) a text = AppendsFront-nil a (text script)

@@ -4,3 +4,6 @@ pub mod Replying
 pub mod Text
 pub mod Output
 pub mod Run
+pub mod Words
+pub mod Running
+pub mod Making

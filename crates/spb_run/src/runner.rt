@@ -1,4 +1,4 @@
-ghost use Rattle.std.specs.Prelude.{◌≡◌, ◌≢◌, ◌≤◌, ◌<◌, ◌+◌, ◌↔◌, ◌⊎◌, Err, List, ℕ, length, false, map, string_bytes, codes, IsErrOf, IsTrue, OnOk, IfOk, OnErr, IfSome};
+ghost use Rattle.std.specs.Prelude.{◌≡◌, ◌≢◌, ◌≤◌, ◌<◌, ◌+◌, ◌↔◌, ◌⊎◌, Err, List, ℕ, length, false, map, string_bytes, IsErrOf, IsTrue, OnOk, IfOk, OnErr, IfSome};
 ghost use Rattle.std.specs.Io.KnownBytes.{Appends, Consumes, IsAtEnd};
 ghost use Rattle.std.specs.Str.Lines.{lines};
 ghost use Rattle.spb_network.specs.Applying.{IsReady};
@@ -11,12 +11,17 @@ ghost use Rattle.spb_run.specs.Output.{AppendsFront};
 ghost use Rattle.spb_run.specs.Play.{judged};
 ghost use Rattle.spb_run.specs.Replying.{IsAlive, IsNew};
 ghost use Rattle.spb_run.specs.Text.{most_bytes, is_too_long, played, text_of, fate_of, end_of, AllStates};
-ghost use Rattle.spb_run.specs.Run as forms;
+ghost use Rattle.spb_run.specs.Making.{Makes};
+ghost use Rattle.spb_run.specs.Running.{Runs};
+ghost use Rattle.spb_run.specs.Run as ends;
+ghost use Rattle.spb_run.specs.Words as spelled;
 
+use crate::making::make_script;
 use crate::output::write_all;
 use crate::play::play_line;
 use crate::script::{ReadError, next_line, read_script};
-use crate::{Refusal, Status};
+use crate::words::form_of;
+use crate::{Form, Refusal, Status};
 use bridge_api::Bridge;
 use spb_network::NetworkOf;
 use spb_outside::{Sink, Source, WriteError};
@@ -86,16 +91,6 @@ fn play_script<B: Bridge, K: Sink>(
     Ok(None)
 }
 
-/// Whether the program's words are just `run`.
-fn is_run(words: &[String]) -> bool
-    ensures { result ≡ forms.is_run (map string_bytes words.now) }
-{
-    match words {
-        [word] => word.as_str() == "run",
-        _ => false,
-    }
-}
-
 /// Plays a script that was read, and gives the status.
 fn status_of_script<B: Bridge, K: Sink>(
     alloc: Global,
@@ -105,17 +100,17 @@ fn status_of_script<B: Bridge, K: Sink>(
 ) -> Status
     requires alive { IsAlive B.shown network.old }
     requires short { length script.now ≤ most_bytes }
-    ensures fate { IsTrue (forms.is_written result) →
+    ensures fate { IsTrue (ends.is_written result) →
         result ≡ fate_of (state_of B.shown network.old) script.now }
-    ensures text { IsTrue (forms.is_written result) → Appends (K.holds sink.old) (K.holds sink.new)
+    ensures text { IsTrue (ends.is_written result) → Appends (K.holds sink.old) (K.holds sink.new)
         (text_of (state_of B.shown network.old) script.now) }
-    ensures state { IsTrue (forms.is_ended result) → state_of B.shown network.new
+    ensures state { IsTrue (ends.is_ended result) → state_of B.shown network.new
         ≡ end_of (state_of B.shown network.old) script.now }
-    ensures alive { IsTrue (forms.is_ended result) → IsAlive B.shown network.new }
+    ensures alive { IsTrue (ends.is_ended result) → IsAlive B.shown network.new }
     ensures ready { IsReady B.shown network.new }
-    ensures front { IsTrue (forms.is_cut result) → AppendsFront (K.holds sink.old) (K.holds sink.new)
+    ensures front { IsTrue (ends.is_cut result) → AppendsFront (K.holds sink.old) (K.holds sink.new)
         (text_of (state_of B.shown network.old) script.now) }
-    ensures other { IsTrue (forms.is_silent result) → ⊥ }
+    ensures other { IsTrue (ends.is_silent result) → ⊥ }
     ensures failed { result ≡ Status.WriteFault → Rose (K.faults sink.old) (K.faults sink.new) }
     ensures reliable { IsTrue (K.is_reliable sink.old) → result ≢ Status.WriteFault }
 {
@@ -127,11 +122,61 @@ fn status_of_script<B: Bridge, K: Sink>(
     }
 }
 
+/// Plays the script that the source gives. It is read whole before its first line is judged.
+fn run_script<B: Bridge, S: Source, K: Sink>(
+    alloc: Global,
+    network: &mut NetworkOf<B>,
+    source: &mut S,
+    sink: &mut K,
+) -> Status
+    requires { IsNew B.shown network.old }
+    ensures other { result ≢ Status.Usage }
+    ensures silent { IsTrue (ends.is_silent result) → sink.new ≡ sink.old }
+    ensures fate { IsTrue (ends.is_written result) → IfSome (S.left source.old) (λ script.
+        result ≡ fate_of (state_of B.shown network.old) script) }
+    ensures text { IsTrue (ends.is_written result) → IfSome (S.left source.old) (λ script.
+        Appends (K.holds sink.old) (K.holds sink.new)
+        (text_of (state_of B.shown network.old) script)) }
+    ensures ended { result ≡ Status.Done → IsAtEnd (S.left source.new) }
+    ensures state { IsTrue (ends.is_ended result) → IfSome (S.left source.old) (λ script.
+        state_of B.shown network.new
+        ≡ end_of (state_of B.shown network.old) script) }
+    ensures sound { IsTrue (ends.is_ended result) → IsSoundState (state_of B.shown network.new) }
+    ensures counted { IsTrue (ends.is_ended result) → IsCounted (state_of B.shown network.new) }
+    ensures ready { IsReady B.shown network.new }
+    ensures told { IsTrue (ends.is_ended result) → QuietTells (state_of B.shown network.new) }
+    ensures quiet { IfSome (S.left source.old) (λ script. is_too_long script ≡ false →
+        AllStates QuietTells (state_of B.shown network.old) 1 (lines script)) }
+    ensures front { IsTrue (ends.is_cut result) → IfSome (S.left source.old) (λ script.
+        AppendsFront (K.holds sink.old) (K.holds sink.new)
+        (text_of (state_of B.shown network.old) script)) }
+    ensures read_fault { result ≡ Status.ReadFault → Rose (S.faults source.old) (S.faults source.new) }
+    ensures write_fault { result ≡ Status.WriteFault → Rose (K.faults sink.old) (K.faults sink.new) }
+    ensures reliable_source { IsTrue (S.is_reliable source.old) → result ≢ Status.ReadFault }
+    ensures reliable_sink { IsTrue (K.is_reliable sink.old) → result ≢ Status.WriteFault }
+    ensures complete { IsTrue (S.is_reliable source.old) → IsTrue (K.is_reliable sink.old) →
+        IfSome (S.left source.old) (λ script.
+        (result ≡ fate_of (state_of B.shown network.old) script) ⊎ (result ≡ Status.NoMemory)) }
+    ensures few { (read : List ℕ) × Consumes (S.left source.old) (S.left source.new) read × (length read ≤ most_bytes + 1) }
+{
+    match read_script(alloc, source) {
+        Ok(script) => status_of_script(alloc, network, &script, sink),
+        Err(ReadError::Failed) => Status::ReadFault,
+        Err(ReadError::TooLong) => Status::TooLong,
+        Err(ReadError::NoMemory) => Status::NoMemory,
+    }
+}
+
 /// Runs the program with these words, which don't have its own name among them.
 ///
 /// For the words `run` it plays the script that the source gives, on a network that was just made, and writes the
 /// answers to the sink. The script is read whole before its first line is judged, and the answers to each line are
 /// written before the next is played.
+///
+/// For the words `make N` it writes the script that is made for N bridges, 4 to 96, to the sink, each line before the
+/// next is spelled, and reads and plays nothing. All its commands are in memory then.
+///
+/// All other words are `Usage`.
 pub fn run<B: Bridge, S: Source, K: Sink>(
     alloc: Global,
     words: &[String],
@@ -141,41 +186,22 @@ pub fn run<B: Bridge, S: Source, K: Sink>(
 ) -> Status
     requires { IsNew B.shown network.old }
 
-    // Usage comes exactly for other words, and then nothing is read, played or written.
-    ensures usage { (result ≡ Status.Usage) ↔ (forms.is_run (map string_bytes words.now) ≡ false) }
+    // Usage comes exactly for words that are no form, and then nothing is read, played or written.
+    ensures usage { (result ≡ Status.Usage) ↔ (spelled.form_of (map string_bytes words.now) ≡ None) }
     ensures idle { result ≡ Status.Usage → source.new ≡ source.old }
     ensures unplayed { result ≡ Status.Usage → network.new ≡ network.old }
-    ensures silent { IsTrue (forms.is_silent result) → sink.new ≡ sink.old }
+    ensures silent { IsTrue (ends.is_silent result) → sink.new ≡ sink.old }
 
-    // The status is the script's fate and all of its text is written, unless the run was cut short.
-    ensures fate { IsTrue (forms.is_written result) → IfSome (S.left source.old) (λ script.
-        result ≡ fate_of (state_of B.shown network.old) script) }
-    ensures text { IsTrue (forms.is_written result) → IfSome (S.left source.old) (λ script.
-        Appends (K.holds sink.old) (K.holds sink.new)
-        (text_of (state_of B.shown network.old) script)) }
-    ensures ended { result ≡ Status.Done → IsAtEnd (S.left source.new) }
+    // Of each form its own record of promises.
+    ensures runs { spelled.form_of (map string_bytes words.now) ≡ Some Form.Run →
+        Runs B.shown S.left S.is_reliable K.holds K.is_reliable
+        result network.old network.new source.old source.new sink.old sink.new }
+    ensures makes { (bridges : ℕ) → spelled.form_of (map string_bytes words.now) ≡ Some (Form.Make bridges) →
+        Makes K.holds K.is_reliable bridges
+        result network.old network.new source.old source.new sink.old sink.new }
 
-    // A run that ended by itself leaves the network as the accepted lines make it.
-    ensures state { IsTrue (forms.is_ended result) → IfSome (S.left source.old) (λ script.
-        state_of B.shown network.new
-        ≡ end_of (state_of B.shown network.old) script) }
-
-    // The network is sound then, with its sequence numbers far from the last one, and after every run it can be asked
-    // to apply commands.
-    ensures sound { IsTrue (forms.is_ended result) → IsSoundState (state_of B.shown network.new) }
-    ensures counted { IsTrue (forms.is_ended result) → IsCounted (state_of B.shown network.new) }
+    // After every run the network can be asked to apply commands.
     ensures ready { IsReady B.shown network.new }
-
-    // Where it is quiet then, every bridge is told what is there: its graph is the part of the wiring that it reaches,
-    // and its tables are those that are wired for it. And so it is after each line of the script that is accepted.
-    ensures told { IsTrue (forms.is_ended result) → QuietTells (state_of B.shown network.new) }
-    ensures quiet { IfSome (S.left source.old) (λ script. is_too_long script ≡ false →
-        AllStates QuietTells (state_of B.shown network.old) 1 (lines script)) }
-
-    // A run that was cut short wrote a front of the text.
-    ensures front { IsTrue (forms.is_cut result) → IfSome (S.left source.old) (λ script.
-        AppendsFront (K.holds sink.old) (K.holds sink.new)
-        (text_of (state_of B.shown network.old) script)) }
 
     // A fault comes only where the source or the sink failed in this call.
     ensures read_fault { result ≡ Status.ReadFault → Rose (S.faults source.old) (S.faults source.new) }
@@ -183,21 +209,12 @@ pub fn run<B: Bridge, S: Source, K: Sink>(
     ensures reliable_source { IsTrue (S.is_reliable source.old) → result ≢ Status.ReadFault }
     ensures reliable_sink { IsTrue (K.is_reliable sink.old) → result ≢ Status.WriteFault }
 
-    // So over a source and a sink that don't fail, only memory can run out.
-    ensures complete { IsTrue (forms.is_run (map string_bytes words.now)) → IsTrue (S.is_reliable source.old) →
-        IsTrue (K.is_reliable sink.old) → IfSome (S.left source.old) (λ script.
-        (result ≡ fate_of (state_of B.shown network.old) script) ⊎ (result ≡ Status.NoMemory)) }
-
     // At most one byte more is read than a script may have.
     ensures few { (read : List ℕ) × Consumes (S.left source.old) (S.left source.new) read × (length read ≤ most_bytes + 1) }
 {
-    if !is_run(words) {
-        return Status::Usage;
-    }
-    match read_script(alloc, source) {
-        Ok(script) => status_of_script(alloc, network, &script, sink),
-        Err(ReadError::Failed) => Status::ReadFault,
-        Err(ReadError::TooLong) => Status::TooLong,
-        Err(ReadError::NoMemory) => Status::NoMemory,
+    match form_of(words) {
+        Some(Form::Run) => run_script(alloc, network, source, sink),
+        Some(Form::Make(bridges)) => make_script(alloc, bridges, sink),
+        None => Status::Usage,
     }
 }

@@ -5,18 +5,18 @@ use crate::Refusal;
 /// How a run ended.
 #[derive(Clone, Copy, Debug, PartialEq, Eq, Hash)]
 pub enum Status {
-    /// The script was read to its end, and all answers are written.
+    /// The script was read to its end, and all answers are written; or the script that was made is written.
     Done,
     /// The line of this number, from 1, is the first that is refused. The answers before it and its `error` line are
     /// written.
     Refused(u32, Refusal),
     /// The words are no form of the program. Nothing was read or written.
     Usage,
-    /// No memory was found. A front of the answers is written.
+    /// No memory was found. A front of what was to be written is.
     NoMemory,
     /// A read failed. Nothing was written.
     ReadFault,
-    /// A write failed. A front of the answers is written.
+    /// A write failed. A front of what was to be written is.
     WriteFault,
     /// The script has more than 65,536 bytes. Nothing was written.
     TooLong,

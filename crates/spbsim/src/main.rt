@@ -1,5 +1,6 @@
 //! `spbsim run` plays a script of a shortest path backbone from standard input, and writes the answers to standard
-//! output. Its exit status is the number of the run's status, 0 to 6.
+//! output. `spbsim make N` writes such a script for N bridges, 4 to 96, to standard output. The exit status is the number
+//! of the status with which `run` of `spb_run` ends, 0 to 6.
 //!
 //! All of it is done by `spb_run::run`, over the standard streams: here stand the words, the rack of boxes that bridges
 //! are taken from, and the messages alone.
@@ -19,9 +20,11 @@ use std::env;
 use std::io::ErrorKind;
 use std::process::ExitCode;
 use std::rt::{Env, HostRuntime};
+use usage::usage_line;
 
 #[cfg(test)]
 mod tests;
+mod usage;
 
 /// How many blank boxes the rack has.
 const BOXES: usize = 256;
@@ -38,13 +41,13 @@ fn words(rt: &(impl Env + AllocGlobal)) -> Result<Vec<String>, Status> {
     }
 }
 
-/// The line for standard error: there is one for each status that isn't the script's own.
+/// The line for standard error that takes no memory: there is one for each status that is neither the script's own nor
+/// Usage, whose line is `usage_line`.
 fn message(status: Status) -> Option<&'static str>
-    ensures { is_some result ≡ nat_le 2 (status_number status) }
+    ensures { is_some result ≡ nat_le 3 (status_number status) }
 {
     match status {
-        Status::Done | Status::Refused(_, _) => None,
-        Status::Usage => Some("usage: spbsim run"),
+        Status::Done | Status::Refused(_, _) | Status::Usage => None,
         Status::NoMemory => Some("spbsim: out of memory"),
         Status::ReadFault => Some("spbsim: standard input can't be read"),
         Status::WriteFault => Some("spbsim: standard output can't be written"),
@@ -78,6 +81,12 @@ fn main(rt: HostRuntime) -> ExitCode {
     };
     if let Some(text) = message(status) {
         let _ = eprintln!(rt; "{text}");
+    }
+    // Where no memory is found for the line, none is written.
+    if status == Status::Usage {
+        if let Ok(line) = usage_line(rt.alloc()) {
+            let _ = eprintln!(rt; "{line}");
+        }
     }
     ExitCode::from(status.number())
 }

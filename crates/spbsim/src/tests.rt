@@ -16,6 +16,7 @@ mod refusals;
 mod restarts;
 mod runs;
 mod wiring;
+mod words;
 
 /// Two bridges with a link between them.
 const TWO: &str = "bridge A 32768 020000000001 00001 1

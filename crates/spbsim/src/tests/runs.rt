@@ -1,8 +1,8 @@
-//! Runs of the program: its words, the pieces in which it reads and writes, and how it ends.
+//! Runs of scripts: the pieces in which the program reads and writes, and how it ends.
 use super::examples::{EQUAL_COST_PATHS, EQUAL_COST_PATHS_OUT, POINT_TO_POINT, POINT_TO_POINT_OUT};
 use super::{check, check_in_pieces, words_of};
 use crate::{Status, message, play};
-use spb_outside::{MemorySink, MemorySource, Source};
+use spb_outside::{MemorySink, MemorySource};
 use spb_run::Refusal;
 use std::alloc::{AllocError, Global};
 use std::test::Fail;
@@ -42,32 +42,14 @@ fn a_script_has_at_most_65536_bytes(rt: HostRuntime) -> Result<(), Fail> {
 }
 
 /// A source of the bytes of POINT_TO_POINT, which fails at the reads of these numbers.
-fn source(alloc: Global, failing: &[u32]) -> Result<MemorySource, AllocError> {
+pub(super) fn source(alloc: Global, failing: &[u32]) -> Result<MemorySource, AllocError> {
     let bytes = Vec::from_slice(alloc, POINT_TO_POINT.as_bytes())?;
     Ok(MemorySource::new(bytes, Vec::from_slice(alloc, failing)?, 40))
 }
 
 /// A sink that fails at the writes of these numbers, and takes at most eight bytes at each other.
-fn sink(alloc: Global, failing: &[u32]) -> Result<MemorySink, AllocError> {
+pub(super) fn sink(alloc: Global, failing: &[u32]) -> Result<MemorySink, AllocError> {
     Ok(MemorySink::new(alloc, Vec::from_slice(alloc, failing)?, 8))
-}
-
-#[test]
-fn other_words_are_refused_and_nothing_is_read_or_written(rt: HostRuntime) -> Result<(), Fail> {
-    let alloc = rt.alloc();
-    for words in ["", "run fast", "Run", "run "] {
-        let words = words_of(alloc, words)?;
-        let (mut source, mut sink) = (source(alloc, &[])?, sink(alloc, &[])?);
-        assert_eq!(rt;
-            play(alloc, &words, &mut source, &mut sink),
-            Ok(Status::Usage)
-        );
-        assert_eq!(rt; sink.bytes(), b"".as_slice());
-        let mut into = [0; 5];
-        assert_eq!(rt; source.read(&mut into), Ok(5));
-        assert_eq!(rt; &into, b"# Two");
-    }
-    Ok(())
 }
 
 #[test]
@@ -106,7 +88,7 @@ fn each_status_has_its_number_and_its_message(rt: HostRuntime) {
     let texts = [
         (Status::Done, 0, None),
         (refused, 1, None),
-        (Status::Usage, 2, Some("usage: spbsim run")),
+        (Status::Usage, 2, None),
         (Status::NoMemory, 3, Some("spbsim: out of memory")),
         (
             Status::ReadFault,

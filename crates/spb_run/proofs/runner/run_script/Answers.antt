@@ -8,7 +8,7 @@ use Rattle.spb_run.specs.Text.{text_of, end_of}
 use Rattle.spb_run.proofs.Counting.{end_few}
 use Rattle.spb_run.proofs.Telling.{script_tells}
 use Rattle.spb_run.proofs.Writing.{AppendsFront-none}
-use Rattle.spb_run.proofs.runner.run.Goals as goal
+use Rattle.spb_run.proofs.runner.run_script.Goals as goal
 
 pub returns-in-Err-NoMemory-clause-front : goal.returns-in-Err-NoMemory-clause-front
 returns-in-Err-NoMemory-clause-front g c _ = AppendsFront-none (g.S.Source.left c.args.source.now) (g.K.Sink.holds c.args.sink.now) (text_of (state_of g.B.Bridge.shown c.args.network.now))
@@ -30,9 +30,6 @@ returns-in-Ok-clause-told g c ended =
     let alive = c.status_of_script.ensures.alive ended in
     let sound : IsSoundNetwork g.B.Bridge.shown c.status_of_script.new.network = ⊎_elim (λ h. absurd (true≢false (sym h ∙ alive.halted))) (λ n. n) alive.ready in
     counted_networks_tell (state_of g.B.Bridge.shown c.status_of_script.new.network) sound.state (returns-in-Ok-clause-counted g c ended)
-
-pub returns-then-not-is_run-clause-quiet : goal.returns-then-not-is_run-clause-quiet
-returns-then-not-is_run-clause-quiet g c = script_tells g.B.Bridge.shown c.args.network.now c.requires (g.S.Source.left c.args.source.now)
 
 pub returns-in-Ok-clause-quiet : goal.returns-in-Ok-clause-quiet
 returns-in-Ok-clause-quiet g c = script_tells g.B.Bridge.shown c.args.network.now c.requires (g.S.Source.left c.args.source.now)

@@ -1,0 +1,46 @@
+-- What the form `run` promises.
+use Rattle.std.specs.Prelude.{◌≡◌, ℕ, List, false, Option, Bool, IfSome, IsTrue, ◌⊎◌}
+use Rattle.std.specs.Io.KnownBytes.{Appends, IsAtEnd}
+use Rattle.std.specs.Str.Lines.{lines}
+use Rattle.bridge_api.specs.Shown.{Shown}
+use Rattle.spb_network.specs.declared.network.NetworkOf.{NetworkOf}
+use Rattle.spb_network.specs.Counted.{IsCounted}
+use Rattle.spb_network.specs.Network.{state_of}
+use Rattle.spb_network.specs.Sound.{IsSoundState}
+use Rattle.spb_network.specs.Telling.{QuietTells}
+use Rattle.spb_run.specs.declared.status.Status.{Status}
+use Rattle.spb_run.specs.declared.status.Status.TheVariants.{Done, NoMemory}
+use Rattle.spb_run.specs.Output.{AppendsFront}
+use Rattle.spb_run.specs.Run.{is_written, is_ended, is_cut}
+use Rattle.spb_run.specs.Text.{is_too_long, text_of, fate_of, end_of, AllStates}
+
+module _
+    {B S K : Type 0} (shown : B → Shown) (left : S → Option (List ℕ)) (is_reliable_source : S → Bool)
+    (holds : K → Option (List ℕ)) (is_reliable_sink : K → Bool) where
+  -- A script that the source had left was played on the network and answered to the sink. It ended with this status;
+  -- of each of the three there is what it was before and what it is now.
+  pub record Runs
+      (status : Status) (network network' : NetworkOf B) (source source' : S) (sink sink' : K) : Type 0 where
+    -- The status is the script's fate and all of its text is written, unless the run was cut short.
+    pub fate : IsTrue (is_written status) → IfSome (left source) (λ script.
+        status ≡ fate_of (state_of shown network) script)
+    pub text : IsTrue (is_written status) → IfSome (left source) (λ script.
+        Appends (holds sink) (holds sink') (text_of (state_of shown network) script))
+    pub ended : status ≡ Done → IsAtEnd (left source')
+    -- A run that ended by itself leaves the network as the accepted lines make it.
+    pub state : IsTrue (is_ended status) → IfSome (left source) (λ script.
+        state_of shown network' ≡ end_of (state_of shown network) script)
+    -- The network is sound then, with its sequence numbers far from the last one.
+    pub sound : IsTrue (is_ended status) → IsSoundState (state_of shown network')
+    pub counted : IsTrue (is_ended status) → IsCounted (state_of shown network')
+    -- Where it is quiet then, every bridge is told what is there: its graph is the part of the wiring that it reaches,
+    -- and its tables are those that are wired for it. And so it is after each line of the script that is accepted.
+    pub told : IsTrue (is_ended status) → QuietTells (state_of shown network')
+    pub quiet : IfSome (left source) (λ script. is_too_long script ≡ false →
+        AllStates QuietTells (state_of shown network) 1 (lines script))
+    -- A run that was cut short wrote a front of the text.
+    pub front : IsTrue (is_cut status) → IfSome (left source) (λ script.
+        AppendsFront (holds sink) (holds sink') (text_of (state_of shown network) script))
+    -- Over a source and a sink that don't fail, only memory can run out.
+    pub complete : IsTrue (is_reliable_source source) → IsTrue (is_reliable_sink sink) → IfSome (left source) (λ script.
+        (status ≡ fate_of (state_of shown network) script) ⊎ (status ≡ NoMemory))
