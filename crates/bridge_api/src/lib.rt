@@ -46,6 +46,7 @@ pub use laws::{
 };
 pub use outbox::Outbox;
 pub use port::BridgePort;
+pub use wire::Wire;
 
 mod bridge;
 mod config;
@@ -53,3 +54,4 @@ mod kind;
 mod laws;
 mod outbox;
 mod port;
+mod wire;
