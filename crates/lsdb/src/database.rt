@@ -1,4 +1,4 @@
-ghost use Rattle.std.specs.Prelude.{◌≡◌, ◌≤◌, ◌↔◌, ℕ, Some, None, true, false, IfOk, IfErr, IfSome, OnOk, OnErr, IsErrOf, IsNone, nat_eq, slice_get, map, take, drop};
+ghost use Rattle.std.specs.Prelude.{◌≡◌, ◌≤◌, ◌↔◌, ℕ, Some, None, true, false, IfOk, IfErr, IfSome, OnOk, OnErr, IsErrOf, IsNone, nat_eq, slice_get, map, take, drop, length};
 ghost use Rattle.std.specs.Option.{option_map, option_copied};
 ghost use Rattle.std.specs.FinMap as finite;
 ghost use Rattle.std.specs.List.{AllByRecursion, list_any};
@@ -162,7 +162,8 @@ fn first_flagged(held: &[Held]) -> usize
 
 // The place behind the last LSP that has flags, and 0 where none has.
 fn flagged_end(held: &[Held]) -> usize
-    ensures { list_any (λ h. has_flags (entry_of h)) (drop result held.now) ≡ false }
+    ensures behind { list_any (λ h. has_flags (entry_of h)) (drop result held.now) ≡ false }
+    ensures held { result ≤ length held.now }
 {
     for place in (0..held.len()).rev() {
         if item::has_flags(&held[place]) {
