@@ -52,6 +52,7 @@ pub use laws::{
 };
 pub use outbox::Outbox;
 pub use port::BridgePort;
+pub use wire::Wire;
 
 mod bridge;
 mod config;
@@ -59,3 +60,4 @@ mod kind;
 mod laws;
 mod outbox;
 mod port;
+mod wire;

@@ -1,5 +1,6 @@
 ghost use Rattle.std.specs.Prelude.{◌≡◌, []};
 
+use crate::wire::Wire;
 use spb_types::Seq;
 use std::alloc::Global;
 
@@ -7,7 +8,7 @@ use std::alloc::Global;
 #[derive(Debug, Drop)]
 pub struct Outbox {
     /// Frames sent at backbone ports.
-    pub wire: Seq<(u8, Seq<u8>)>,
+    pub wire: Wire,
     /// Frames that leave at customer ports.
     pub left: Seq<(u16, Seq<u8>)>,
 }
@@ -19,7 +20,7 @@ impl Outbox {
         ensures left { result.left ≡ [] }
     {
         Outbox {
-            wire: Seq::new(alloc),
+            wire: Wire::new(alloc),
             left: Seq::new(alloc),
         }
     }

@@ -4,6 +4,7 @@ pub mod Wire
 pub mod Following
 pub mod Owning
 pub mod Configuring
+pub mod Standing
 pub mod Sends
 pub mod Seconds
 pub mod Putting

@@ -114,7 +114,7 @@ pub among_next : (system : SystemId) (p : ℕ) (es : List (LspId × Entry)) (i :
 among_next system p es i o mid new before after =
     sent_as _ _ o new (sym (rw add-one (among_suc system p es i))) (sent_both (frames_among system p (take i es)) _ o mid new before after)
 
-among_split : (system : SystemId) (p : ℕ) (es : List (LspId × Entry)) (i : ℕ) → frames_among system p es ≡ frames_among system p (take i es) ++ frames_among system p (drop i es)
+pub among_split : (system : SystemId) (p : ℕ) (es : List (LspId × Entry)) (i : ℕ) → frames_among system p es ≡ frames_among system p (take i es) ++ frames_among system p (drop i es)
 among_split system p [] zero = refl
 among_split system p [] (suc i) = refl
 among_split system p (e ∷ es) zero = refl

@@ -21,7 +21,6 @@ const MOST_TLVS: usize = 26;
 
 /// Puts the hello of a port into the outbox if the port has carrier.
 pub(crate) fn send_hello(
-    alloc: Global,
     number: u8,
     port: &BridgePort,
     hello: &[u8],
@@ -33,8 +32,7 @@ pub(crate) fn send_hello(
     if !port.adjacency.carrier {
         return Ok(());
     }
-    let frame = Vec::from_slice(alloc, hello)?;
-    outbox.wire.push((number, Seq::from_vec(frame)))
+    outbox.wire.push_copy(number, hello)
 }
 
 /// The hellos of ports, in order, as control frames.

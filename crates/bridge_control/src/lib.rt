@@ -32,12 +32,13 @@
 //!   the neighbour or its circuit changes at its port, in constant time and with memory for a few short vectors; the set
 //!   then goes over the ports once. Where a neighbour is lost in a second, the hellos of all ports are made anew.
 //! - A tick in which no flags stand and no neighbour is lost goes three times over the ports and once over the database,
-//!   looks up the own LSP by a binary search, and compares no body, in time p + n. For each hello it takes memory once,
-//!   and copies the frame that is kept. Where flags stand or the bridge originated, it also goes over the database twice
-//!   to find the ports with SRM and those with SSN; once to make the frames of the LSPs with SRM, which it keeps for this
-//!   second; once for each Up port with SRM, to copy the frames of those to be sent there; and twice for each Up port
-//!   with SSN, for the entries and to clear these. It goes over the database once for each port at which CSNPs are due
-//!   and for each at which a neighbour is lost. Memory is taken for what is sent.
+//!   looks up the own LSP by a binary search, and compares no body, in time p + n. Each hello is a copy of the frame that
+//!   is kept, and takes memory only where the outbox has no vector to spare. Where flags stand or the bridge originated,
+//!   it also goes over the database three times, to find the ports with SRM, those with SSN, and the places of the first
+//!   and the last LSP with flags; and then over what lies between these: once to make the frames of the LSPs with SRM,
+//!   which it keeps for this second; once for each Up port with SRM, to copy the frames of those to be sent there; and
+//!   twice for each Up port with SSN, for the entries and to clear these. It goes over the database once for each port
+//!   at which CSNPs are due and for each at which a neighbour is lost. Memory is taken for what is sent.
 //! - A hello takes time in proportion to its length. The one that came last to a port is kept there: where the same
 //!   frame comes again it is compared, and not read. One that only begins the holding count anew changes its port and
 //!   nothing else. Memory is taken where another hello comes than the last time, for its frame, and where one changes

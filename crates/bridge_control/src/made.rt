@@ -21,20 +21,19 @@ use lsdb::{Database, Held};
 use spb_types::{NoMemory, PortSet, Seq, SystemId};
 use std::alloc::Global;
 
-/// The frames of the LSPs that are to be sent at some port, by their places. Where `has_srm` is false none are made.
+/// The frames of the LSPs that are to be sent at some port, by their places. None are made from place `end` on.
 pub(crate) fn frames_to_send(
     alloc: Global,
     system: SystemId,
     db: &Database,
-    has_srm: bool,
+    end: usize,
 ) -> Result<Vec<Option<Seq<u8>>>, NoMemory>
     requires sendable { AreSendable db.now }
     requires sized { AreSized db.now }
     ensures { IfOk result (λ frames. AreMadeOf system (entries db.now) frames.items) }
 {
-    let count = if has_srm { db.len() } else { 0 };
-    let mut frames = Vec::with_capacity(alloc, count)?;
-    'make: for place in 0..count {
+    let mut frames = Vec::with_capacity(alloc, end)?;
+    'make: for place in 0..end {
         frames.push(frame_at(alloc, system, db, place)?)?;
     }
     Ok(frames)

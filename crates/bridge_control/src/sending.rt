@@ -3,7 +3,7 @@ ghost use Rattle.std.specs.Prelude.{◌≡◌, ◌+◌, ◌≤◌, ◌∷◌, []
 ghost use Rattle.std.specs.List.{AllByRecursion};
 ghost use Rattle.std.specs.FinMap.{entries};
 ghost use Rattle.spb_types.specs.Ports.{has};
-ghost use Rattle.lsdb.specs.Database.{any_flags, is_srm_at, is_ssn_at};
+ghost use Rattle.lsdb.specs.Database.{any_flags, is_srm_at, is_ssn_at, AreFlagsWithin};
 ghost use Rattle.flooding.specs.Entries.{AreSendable};
 ghost use Rattle.snp_sync.specs.Sized.{AreSized};
 ghost use Rattle.snp_sync.specs.Sending.{bytes_in, all_ssn_cleared};
@@ -20,8 +20,8 @@ use crate::made::{frame_of, frames_to_send};
 use crate::ports::is_up;
 use bridge_api::{BridgePort, Outbox};
 use itag_frames::control_frame;
-use lsdb::Database;
-use snp_sync::{csnps, psnps};
+use lsdb::{Database, Flagged};
+use snp_sync::{csnps, psnps_within};
 use spb_types::{NoMemory, PortSet, Seq, SystemId};
 use std::alloc::Global;
 
@@ -48,10 +48,16 @@ pub(crate) fn send_all(
 {
     let srm = srm_ports(db, has_flags);
     let ssn = ssn_ports(db, has_flags);
-    let has_srm = srm != PortSet::none();
-    let made = frames_to_send(alloc, system, db, has_srm)?;
+    let places = flagged_places(db, has_flags);
+    let end = if srm == PortSet::none() { 0 } else { places.end };
+    let made = frames_to_send(alloc, system, db, end)?;
     let frames = made.as_slice();
-    let flags = Flags { srm, ssn, frames };
+    let flags = Flags {
+        srm,
+        ssn,
+        places,
+        frames,
+    };
     'send: for (place, port) in ports.iter().enumerate() {
         let number = place as u8 + 1;
         let hello = hellos[place].as_slice();
@@ -85,12 +91,26 @@ fn ssn_ports(db: &Database, has_flags: bool) -> PortSet
     }
 }
 
+/// The places outside of which no flags stand. Where `has_flags` is false there are none, and none are looked for.
+fn flagged_places(db: &Database, has_flags: bool) -> Flagged
+    requires { has_flags ≡ false → any_flags db.now ≡ false }
+    ensures { AreFlagsWithin result.first result.end db.now }
+{
+    if has_flags {
+        db.flagged()
+    } else {
+        Flagged { first: 0, end: 0 }
+    }
+}
+
 /// Where flags may stand: at ports that aren't in `srm` no LSP is to be sent, and at those that aren't in `ssn` none is
-/// to be acknowledged or asked for. `frames` are those that were made of LSPs, by their places.
+/// to be acknowledged or asked for; and outside of `places` there are no flags. `frames` are those that were made of
+/// LSPs, by their places.
 #[derive(Clone, Copy)]
 struct Flags<'a> {
     srm: PortSet,
     ssn: PortSet,
+    places: Flagged,
     frames: &'a [Option<Seq<u8>>],
 }
 
@@ -113,6 +133,7 @@ fn send_at(
     requires sized { AreSized db.old }
     requires srm { has flags.srm number ≡ false → is_srm_at number db.old ≡ false }
     requires ssn { has flags.ssn number ≡ false → is_ssn_at number db.old ≡ false }
+    requires places { AreFlagsWithin flags.places.first flags.places.end db.old }
     requires frames { AreMadeOf system (entries db.old) flags.frames.now }
     ensures sent { OnOk result (outbox.new ≡ with_wire (api.sent_at system number port.now db.old) outbox.old) }
     ensures after_sending { OnOk result (db.new ≡ api.after_sending_at number port.now db.old) }
@@ -150,12 +171,13 @@ fn send_to(
     requires sized { AreSized db.old }
     requires srm { has flags.srm number ≡ false → is_srm_at number db.old ≡ false }
     requires ssn { has flags.ssn number ≡ false → is_ssn_at number db.old ≡ false }
+    requires places { AreFlagsWithin flags.places.first flags.places.end db.old }
     requires frames { AreMadeOf system (entries db.old) flags.frames.now }
     ensures sent { OnOk result (outbox.new ≡ with_wire (api.sent_at system number port.now db.old) outbox.old) }
     ensures after_sending { OnOk result (db.new ≡ api.after_sending_at number port.now db.old) }
     ensures gained { OnErr result (Gains (api.sent_at system number port.now db.old) outbox.old outbox.new) }
 {
-    send_hello(alloc, number, port, hello, outbox)?;
+    send_hello(number, port, hello, outbox)?;
     if !is_up(port) {
         return Ok(());
     }
@@ -198,66 +220,65 @@ fn send_flagged(
     requires sized { AreSized db.old }
     requires srm { has flags.srm number ≡ false → is_srm_at number db.old ≡ false }
     requires ssn { has flags.ssn number ≡ false → is_ssn_at number db.old ≡ false }
+    requires places { AreFlagsWithin flags.places.first flags.places.end db.old }
     requires frames { AreMadeOf system (entries db.old) flags.frames.now }
     ensures sent { OnOk result (outbox.new ≡ with_wire (flagged_at system number db.old) outbox.old) }
     ensures after_sending { OnOk result (db.new ≡ all_ssn_cleared number db.old) }
     ensures gained { OnErr result (Gains (flagged_at system number db.old) outbox.old outbox.new) }
 {
-    let has_srm = flags.srm.has(number);
-    send_lsps(alloc, system, number, db, has_srm, flags.frames, outbox)?;
-    let has_ssn = flags.ssn.has(number);
-    send_requests(alloc, system, number, db, has_ssn, outbox)
+    send_lsps(alloc, system, number, db, flags, outbox)?;
+    send_requests(alloc, system, number, db, flags, outbox)
 }
 
-/// Puts PSNPs of what has SSN at a port into the outbox. Where `has_ssn` is false nothing has.
+/// Puts PSNPs of what has SSN at a port into the outbox.
 fn send_requests(
     alloc: Global,
     system: SystemId,
     number: u8,
     db: &mut Database,
-    has_ssn: bool,
+    flags: Flags<'_>,
     outbox: &mut Outbox,
 ) -> Result<(), NoMemory>
     requires low { 1 ≤ number }
     requires high { number ≤ 32 }
     requires sized { AreSized db.old }
-    requires idle { has_ssn ≡ false → is_ssn_at number db.old ≡ false }
+    requires ssn { has flags.ssn number ≡ false → is_ssn_at number db.old ≡ false }
+    requires places { AreFlagsWithin flags.places.first flags.places.end db.old }
     ensures sent { OnOk result (outbox.new ≡ with_wire (api.requests_at system number db.old) outbox.old) }
     ensures after_sending { OnOk result (db.new ≡ all_ssn_cleared number db.old) }
     ensures gained { OnErr result (Gains (api.requests_at system number db.old) outbox.old outbox.new) }
 {
-    if !has_ssn {
+    if !flags.ssn.has(number) {
         return Ok(());
     }
-    let pdus = psnps(alloc, db, system, number)?;
+    let pdus = psnps_within(alloc, db, system, number, flags.places)?;
     send_pdus(alloc, system, number, pdus.as_slice(), outbox)
 }
 
-/// Puts the LSPs that are to be sent at a port into the outbox, in order of id. Where `has_srm` is false there
-/// are none.
+/// Puts the LSPs that are to be sent at a port into the outbox, in order of id.
 fn send_lsps(
     alloc: Global,
     system: SystemId,
     number: u8,
     db: &Database,
-    has_srm: bool,
-    frames: &[Option<Seq<u8>>],
+    flags: Flags<'_>,
     outbox: &mut Outbox,
 ) -> Result<(), NoMemory>
     requires low { 1 ≤ number }
     requires high { number ≤ 32 }
     requires sendable { AreSendable db.now }
     requires sized { AreSized db.now }
-    requires idle { has_srm ≡ false → is_srm_at number db.now ≡ false }
-    requires frames { AreMadeOf system (entries db.now) frames.now }
+    requires srm { has flags.srm number ≡ false → is_srm_at number db.now ≡ false }
+    requires places { AreFlagsWithin flags.places.first flags.places.end db.now }
+    requires frames { AreMadeOf system (entries db.now) flags.frames.now }
     ensures sent { OnOk result (outbox.new ≡ with_wire (api.lsps_at system number db.now) outbox.old) }
     ensures gained { OnErr result (Gains (api.lsps_at system number db.now) outbox.old outbox.new) }
 {
-    if !has_srm {
+    if !flags.srm.has(number) {
         return Ok(());
     }
-    'send: for place in 0..db.len() {
-        send_lsp(alloc, system, number, db, place, frames, outbox)?;
+    'send: for place in flags.places.first..flags.places.end {
+        send_lsp(alloc, system, number, db, place, flags.frames, outbox)?;
     }
     Ok(())
 }

@@ -10,6 +10,13 @@ use crate::{DoubleError, Lane};
 use spb_types::{Dir, NoMemory};
 use std::alloc::Global;
 use std::marker::Model;
+use std::mem;
+
+/// The most bytes that a vector which is kept for a further frame has room for.
+const MOST_SPARE_BYTES: usize = 128;
+
+/// The most vectors that are kept for further frames.
+const MOST_SPARE: usize = 1024;
 
 /// A lane: the link by place in order of declaration, counted from 0, and a direction.
 #[derive(Clone, Copy, Debug, PartialEq, Eq)]
@@ -69,10 +76,12 @@ impl LinkLanes {
 }
 
 /// The lanes of a network's links, in order of declaration. A place past the last link is one where nothing happens.
-/// Contracts see the list of each link's two lanes.
+/// Contracts see the list of each link's two lanes. Beside them the vectors of small frames that came to their end are
+/// kept, so that further frames find memory there.
 #[derive(Debug, Drop)]
 pub struct Lanes {
     links: Vec<LinkLanes>,
+    spare: Vec<Vec<u8>>,
 }
 
 impl Model for Lanes {
@@ -91,6 +100,7 @@ impl Lanes {
     {
         Lanes {
             links: Vec::new(alloc),
+            spare: Vec::new(alloc),
         }
     }
 
@@ -155,6 +165,30 @@ impl Lanes {
             None => None,
             Some(lane) => lane.pop(),
         }
+    }
+
+    /// Keeps the vector of a frame that came to its end for a further one, if the frame is small and few are kept.
+    pub fn keep_spare(&mut self, frame: Vec<u8>)
+        ensures { self.new ≡ self.old }
+    {
+        if frame.capacity() <= MOST_SPARE_BYTES && self.spare.len() < MOST_SPARE {
+            let _kept = self.spare.push(frame);
+        }
+    }
+
+    /// Takes the vectors that are kept for further frames.
+    pub fn take_spare(&mut self) -> Vec<Vec<u8>>
+        ensures { self.new ≡ self.old }
+    {
+        let none = Vec::new(*self.spare.allocator());
+        mem::replace(&mut self.spare, none)
+    }
+
+    /// Keeps these vectors for further frames, in place of those that were kept.
+    pub fn put_spare(&mut self, spare: Vec<Vec<u8>>)
+        ensures { self.new ≡ self.old }
+    {
+        self.spare = spare;
     }
 
     /// The frame at a place of a lane, counted from 0 at the front, is lost. Nothing happens where there is none.

@@ -1,4 +1,4 @@
-use Rattle.std.specs.Prelude.{◌≡◌, ℕ, Bool, ◌||◌, map, Option, Some, None, if◌then◌else◌, nat_lt, slice_get}
+use Rattle.std.specs.Prelude.{◌≡◌, ◌≤◌, ℕ, length, Bool, false, ◌||◌, map, take, drop, Option, Some, None, if◌then◌else◌, nat_lt, slice_get}
 use Rattle.std.specs.declared.cmp.Ordering.{Ordering}
 use Rattle.std.specs.Ordering.{nat_cmp, ordering_then}
 use Rattle.std.specs.Cmp.Lexicographic.{slice_cmp}
@@ -102,6 +102,12 @@ each f db = from_sorted (map (λ e. (e.0, f e.0 e.1)) (entries db))
 -- whether an SRM or SSN flag stands anywhere: some LSP is to be sent, or to be acknowledged or asked for, at some port
 abbrev pub any_flags : Lsps → Bool
 any_flags db = list_any (λ e. has_flags e.1) (entries db)
+
+-- no flags stand at the places before the first, nor from the end on, which isn't past the last place
+pub record AreFlagsWithin (first end : ℕ) (db : Lsps) : Type 0 where
+  pub held : end ≤ length (entries db)
+  pub before : list_any (λ e. has_flags e.1) (take first (entries db)) ≡ false
+  pub behind : list_any (λ e. has_flags e.1) (drop end (entries db)) ≡ false
 
 -- whether some LSP is to be sent at a port, and whether some is to be acknowledged or asked for there
 abbrev pub is_srm_at : ℕ → Lsps → Bool

@@ -2,6 +2,7 @@ pub mod Version
 pub mod Entry
 pub mod Database
 pub mod Place
+pub mod Calm
 pub mod Certificate
 pub mod CertificateLaws
 pub mod MapLaws

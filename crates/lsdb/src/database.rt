@@ -1,12 +1,14 @@
-ghost use Rattle.std.specs.Prelude.{◌≡◌, ◌≤◌, ◌↔◌, ℕ, Some, None, false, IfOk, IfErr, IfSome, OnOk, OnErr, IsErrOf, IsNone, nat_eq, slice_get, map};
+ghost use Rattle.std.specs.Prelude.{◌≡◌, ◌≤◌, ◌↔◌, ℕ, Some, None, true, false, IfOk, IfErr, IfSome, OnOk, OnErr, IsErrOf, IsNone, nat_eq, slice_get, map, take, drop, length};
 ghost use Rattle.std.specs.Option.{option_map, option_copied};
 ghost use Rattle.std.specs.FinMap as finite;
 ghost use Rattle.std.specs.List.{AllByRecursion, list_any};
 ghost use Rattle.lsdb.specs.Version.{relation, is_absent};
 ghost use Rattle.lsdb.specs.Entry.{entry_of, CanBeHeld, IsClean, cleaned, with_flags, with_srm, with_ssn, with_flags_at, raised, purged, flags_cleared_at, aged, has_flags};
-ghost use Rattle.lsdb.specs.Database.{keyed, fits, version_at, changed, changed_at_place, version_at_place, version_if_held, StandsAt, each, any_flags, is_srm_at, is_ssn_at};
+ghost use Rattle.lsdb.specs.Database.{keyed, fits, version_at, changed, changed_at_place, version_at_place, version_if_held, StandsAt, each, any_flags, is_srm_at, is_ssn_at, AreFlagsWithin};
 ghost use Rattle.spb_types.specs.Ports.{has};
 ghost use Rattle.lsdb.specs.Place.{with_entry};
+ghost use Rattle.lsdb.specs.Calm.{LivesFor, AreCalm, lowered};
+ghost use Rattle.spb_types.specs.declared.ports.PortSet.{PortSet};
 
 use crate::search::{place_near, place_of};
 use crate::{Held, Relation, Version, item};
@@ -21,14 +23,18 @@ use thiserror::Error;
 #[derive(Debug, Drop)]
 pub struct Database {
     held: Vec<Held>,
+    /// For so many seconds nothing but lifetimes changes by age: no LSP has flags, and no live one dies. None where that
+    /// isn't known; each change but a second forgets it.
+    calm: Option<u16>,
 }
 
 impl Model for Database {
-    ghost use Rattle.std.specs.Prelude.{map};
+    ghost use Rattle.std.specs.Prelude.{map, IfSome};
     ghost use Rattle.std.specs.Coded.{codes};
     ghost use Rattle.std.specs.FinMap.{from_sorted, code};
     ghost use Rattle.lsdb.specs.Database.{Lsps, keyed};
     ghost use Rattle.lsdb.specs.Place.{IsSound};
+    ghost use Rattle.lsdb.specs.Calm.{AreCalm};
 
     ghost Value = { Lsps };
 
@@ -36,7 +42,7 @@ impl Model for Database {
 
     ghost view = { λ d. from_sorted (map keyed d.held.items) };
 
-    ghost invariant = { λ d. IsSound d.held.items };
+    ghost invariant = { λ d. IsSound d.held.items × IfSome d.calm (λ seconds. AreCalm seconds d.held.items) };
 }
 
 /// Why an LSP wasn't put in.
@@ -77,6 +83,14 @@ pub struct Found {
     pub version: Version,
 }
 
+/// Places of LSPs, counted from 0 in order of id, outside of which no flags stand: those from `first` on and before
+/// `end`.
+#[derive(Clone, Copy, Debug)]
+pub struct Flagged {
+    pub first: usize,
+    pub end: usize,
+}
+
 // Changes every LSP by `item::age`, and tells whether one then has flags.
 fn age_all(held: &mut Vec<Held>, up: PortSet) -> bool
     requires { AllByRecursion (λ h. IsClean (entry_of h)) held.old.items }
@@ -91,7 +105,39 @@ fn age_all(held: &mut Vec<Held>, up: PortSet) -> bool
     item::has_ports(flagged)
 }
 
-// Changes every LSP by `item::part`.
+// Lets a second pass at every LSP, of which none dies.
+fn lower_all(held: &mut Vec<Held>)
+    ensures { held.new.items ≡ map (with_entry lowered) held.old.items }
+{
+    for h in held.iter_mut() {
+        item::lower(h);
+    }
+}
+
+// So many seconds no live LSP dies.
+fn seconds_left(held: &[Held]) -> u16
+    ensures { AllByRecursion (λ h. LivesFor result (entry_of h)) held.now }
+{
+    let mut left = u16::MAX;
+    for h in held {
+        left = item::least_left(h, left);
+    }
+    left
+}
+
+// For how many seconds nothing but lifetimes changes by age, if no flags stand.
+fn calm_in(held: &[Held], flags: bool) -> Option<u16>
+    requires { flags ≡ list_any (λ h. has_flags (entry_of h)) held.now }
+    ensures { IfSome result (λ seconds. AreCalm seconds held.now) }
+{
+    if flags {
+        None
+    } else {
+        Some(seconds_left(held))
+    }
+}
+
+// Changes every LSP by `item::clear_flags`.
 fn clear_all_flags(held: &mut Vec<Held>, port: u8)
     requires low { 1 ≤ port }
     requires high { port ≤ MOST_PORTS }
@@ -100,6 +146,31 @@ fn clear_all_flags(held: &mut Vec<Held>, port: u8)
     for h in held.iter_mut() {
         item::clear_flags(h, port);
     }
+}
+
+// The place of the first LSP that has flags, and the one past the last LSP where none has.
+fn first_flagged(held: &[Held]) -> usize
+    ensures { list_any (λ h. has_flags (entry_of h)) (take result held.now) ≡ false }
+{
+    for place in 0..held.len() {
+        if item::has_flags(&held[place]) {
+            return place;
+        }
+    }
+    held.len()
+}
+
+// The place behind the last LSP that has flags, and 0 where none has.
+fn flagged_end(held: &[Held]) -> usize
+    ensures behind { list_any (λ h. has_flags (entry_of h)) (drop result held.now) ≡ false }
+    ensures held { result ≤ length held.now }
+{
+    for place in (0..held.len()).rev() {
+        if item::has_flags(&held[place]) {
+            return place + 1;
+        }
+    }
+    0
 }
 
 // The ports at which some LSP is to be sent.
@@ -131,6 +202,7 @@ impl Database {
     {
         Database {
             held: Vec::new(alloc),
+            calm: None,
         }
     }
 
@@ -240,6 +312,7 @@ impl Database {
     {
         let mut held = held;
         item::clean(&mut held);
+        self.calm = None;
         match place_of(&self.held, &held.id) {
             Ok(place) => {
                 self.held[place] = held;
@@ -266,6 +339,7 @@ impl Database {
     {
         match place_of(&self.held, id) {
             Ok(place) => {
+                self.calm = None;
                 item::raise(&mut self.held[place], to, lifetime, body);
                 Raised::Raised
             }
@@ -278,7 +352,10 @@ impl Database {
         ensures { self.new ≡ changed (with_flags srm ssn) self.old id.now }
     {
         match place_of(&self.held, id) {
-            Ok(place) => item::set_flags(&mut self.held[place], srm, ssn),
+            Ok(place) => {
+                self.calm = None;
+                item::set_flags(&mut self.held[place], srm, ssn)
+            }
             Err(_) => {}
         }
     }
@@ -290,7 +367,10 @@ impl Database {
         ensures { self.new ≡ changed (purged seq srm) self.old id.now }
     {
         match place_of(&self.held, id) {
-            Ok(place) => item::purge(&mut self.held[place], seq, srm),
+            Ok(place) => {
+                self.calm = None;
+                item::purge(&mut self.held[place], seq, srm)
+            }
             Err(_) => {}
         }
     }
@@ -303,7 +383,10 @@ impl Database {
         ensures { self.new ≡ changed (with_srm port on) self.old id.now }
     {
         match place_of(&self.held, id) {
-            Ok(place) => item::set_srm(&mut self.held[place], port, on),
+            Ok(place) => {
+                self.calm = None;
+                item::set_srm(&mut self.held[place], port, on)
+            }
             Err(_) => {}
         }
     }
@@ -316,7 +399,10 @@ impl Database {
         ensures { self.new ≡ changed (with_ssn port on) self.old id.now }
     {
         match place_of(&self.held, id) {
-            Ok(place) => item::set_ssn(&mut self.held[place], port, on),
+            Ok(place) => {
+                self.calm = None;
+                item::set_ssn(&mut self.held[place], port, on)
+            }
             Err(_) => {}
         }
     }
@@ -329,6 +415,7 @@ impl Database {
         ensures { self.new ≡ changed_at_place (with_srm port on) self.old place }
     {
         if place < self.held.len() {
+            self.calm = None;
             item::set_srm(&mut self.held[place], port, on);
         }
     }
@@ -341,6 +428,7 @@ impl Database {
         ensures { self.new ≡ changed_at_place (with_ssn port on) self.old place }
     {
         if place < self.held.len() {
+            self.calm = None;
             item::set_ssn(&mut self.held[place], port, on);
         }
     }
@@ -353,6 +441,7 @@ impl Database {
         ensures { self.new ≡ changed_at_place (with_flags_at port srm ssn) self.old place }
     {
         if place < self.held.len() {
+            self.calm = None;
             item::set_flags_at(&mut self.held[place], port, srm, ssn);
         }
     }
@@ -363,18 +452,53 @@ impl Database {
         requires high { port ≤ MOST_PORTS }
         ensures { self.new ≡ each (λ id e. flags_cleared_at port e) self.old }
     {
+        self.calm = None;
         clear_all_flags(&mut self.held, port);
     }
 
     /// A second passes: each live lifetime falls by one. At 0 the LSP is dead at its number, with lifetime 0 and the
     /// body 01, and is to be sent at every Up port; where it is to be acknowledged stays. That a dead LSP is kept as
     /// long as the bridge runs, and not for a minute alone (ISO/IEC 10589, 7.3.16.4), is *profile*. Tells, as
-    /// `has_flags`, whether any flag stands afterwards, in the same walk. Takes no memory.
+    /// `has_flags`, whether any flag stands afterwards, in the same walk; where it is known that none stands and that no
+    /// LSP dies, the walk does nothing but let the lifetimes fall. Takes no memory.
     pub fn age_one(&mut self, up: PortSet) -> bool
         ensures aged { self.new ≡ each (λ id e. aged up e) self.old }
         ensures flags { result ≡ any_flags self.new }
     {
-        age_all(&mut self.held, up)
+        if self.pass_calm_second() {
+            return false;
+        }
+        let flags = age_all(&mut self.held, up);
+        self.calm = calm_in(&self.held, flags);
+        flags
+    }
+
+    /// A second passes, if it is known to be one in which nothing but lifetimes changes. Tells whether it is, and else
+    /// changes nothing.
+    fn pass_calm_second(&mut self) -> bool
+        ensures aged { result ≡ true → (up : PortSet) → self.new ≡ each (λ id e. aged up e) self.old }
+        ensures flags { result ≡ true → any_flags self.new ≡ false }
+        ensures kept { result ≡ false → self.new ≡ self.old }
+    {
+        let Some(seconds) = self.calm else {
+            return false;
+        };
+        if seconds == 0 {
+            return false;
+        }
+        lower_all(&mut self.held);
+        self.calm = Some(seconds - 1);
+        true
+    }
+
+    /// From which place on flags stand, and before which place they end. Takes no memory.
+    pub fn flagged(&self) -> Flagged
+        ensures { AreFlagsWithin result.first result.end self.now }
+    {
+        Flagged {
+            first: first_flagged(&self.held),
+            end: flagged_end(&self.held),
+        }
     }
 
     /// The ports at which some LSP is to be sent.

@@ -4,6 +4,7 @@ ghost use Rattle.spb_types.specs.Ports.{has};
 ghost use Rattle.lsdb.specs.Entry as entry;
 ghost use Rattle.lsdb.specs.Entry.{entry_of, CanBeHeld, IsClean, cleaned, raised, with_flags, purged, with_srm, with_ssn, with_flags_at, flags_cleared_at, aged, has_flags};
 ghost use Rattle.lsdb.specs.Place.{with_entry};
+ghost use Rattle.lsdb.specs.Calm.{LivesFor, lowered};
 
 use crate::{Held, Version};
 use spb_types::limits::MOST_PORTS;
@@ -129,6 +130,25 @@ pub fn age(held: &mut Held, up: PortSet)
         } else {
             held.lifetime -= 1;
         }
+    }
+}
+
+/// Lets a second pass in which the LSP doesn't die.
+pub fn lower(held: &mut Held)
+    ensures { held.new ≡ with_entry lowered held.old }
+{
+    held.lifetime = held.lifetime.saturating_sub(1);
+}
+
+/// The greatest number of seconds up to `left` for which the LSP doesn't die.
+pub fn least_left(held: &Held, left: u16) -> u16
+    ensures most { result ≤ left }
+    ensures lives { LivesFor result (entry_of held.now) }
+{
+    if held.lifetime > 0 && held.lifetime <= left {
+        held.lifetime - 1
+    } else {
+        left
     }
 }
 

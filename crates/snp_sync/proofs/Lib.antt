@@ -2,6 +2,7 @@ pub mod Gathered
 pub mod Cuts
 pub mod CsnpChunks
 pub mod Places
+pub mod Within
 pub mod Heard
 pub mod Named
 pub mod IdNumbers

@@ -37,10 +37,13 @@ entries-changed f db k e at =
 -- ---- the entries before a place changed
 
 pub record ChangedTo (f : LspId → Entry → Entry) (old : Lsps) (k : ℕ) (new : Lsps) : Type 0 where
-  are : entries new ≡ map (changed_pair f) (take k (entries old)) ++ drop k (entries old)
+  pub are : entries new ≡ map (changed_pair f) (take k (entries old)) ++ drop k (entries old)
 
 pub changed_none : (f : LspId → Entry → Entry) (db : Lsps) → ChangedTo f db 0 db
 changed_none f db = record { are = refl }
+
+pub changed_from : (f : LspId → Entry → Entry) (old : Lsps) (k : ℕ) (new : Lsps) → entries new ≡ map (changed_pair f) (take k (entries old)) ++ drop k (entries old) → ChangedTo f old k new
+changed_from f old k new are = record { are = are }
 
 changed_next : (f : LspId → Entry → Entry) (old now new : Lsps) (k : ℕ) (e : LspId × Entry) → ChangedTo f old k now → k < len old → slice_get (entries now) k ≡ Some e → entries new ≡ set (entries now) k (changed_pair f e) → ChangedTo f old (k + 1) new
 changed_next f old now new k e so_far within at is = record {

@@ -1,10 +1,11 @@
 ghost use Rattle.std.specs.Prelude.{◌≡◌, ◌≤◌, ◌+◌, ◌*◌, IfOk, length};
 ghost use Rattle.lsdb.specs.Entry.{entry_of};
+ghost use Rattle.lsdb.specs.Database.{AreFlagsWithin};
 ghost use Rattle.snp_sync.specs.SnpEntries as snp;
 ghost use Rattle.snp_sync.specs.SnpEntries.{snp_entries_where, has_ssn_at};
 ghost use Rattle.snp_sync.specs.Chunks.{entry_tlvs};
 
-use lsdb::{Database, Held, Version};
+use lsdb::{Database, Flagged, Held, Version};
 use spb_tlvs::{SnpEntry, write_entries};
 use spb_types::NoMemory;
 use spb_types::limits::MOST_PORTS;
@@ -54,15 +55,21 @@ pub fn listed(alloc: Global, db: &Database) -> Result<Vec<SnpEntry>, NoMemory>
     Ok(entries)
 }
 
-/// The entries of the LSPs that are to be acknowledged or asked for at a port, in order of id. Room for those of one
-/// TLV is taken first.
-pub fn entries_with_ssn(alloc: Global, db: &Database, port: u8) -> Result<Vec<SnpEntry>, NoMemory>
+/// The entries of the LSPs that are to be acknowledged or asked for at a port, in order of id. No flags stand outside
+/// of the places `flagged`, where none are looked for. Room for those of one TLV is taken first.
+pub fn entries_with_ssn(
+    alloc: Global,
+    db: &Database,
+    port: u8,
+    flagged: Flagged,
+) -> Result<Vec<SnpEntry>, NoMemory>
     requires low { 1 ≤ port }
     requires high { port ≤ MOST_PORTS }
+    requires within { AreFlagsWithin flagged.first flagged.end db.now }
     ensures { IfOk result (λ v. v.items ≡ snp_entries_where (has_ssn_at port) db.now) }
 {
     let mut entries = Vec::with_capacity(alloc, ENTRIES_PER_TLV)?;
-    for place in 0..db.len() {
+    for place in flagged.first..flagged.end {
         if let Some(held) = db.at(place) {
             if held.ssn.has(port) {
                 entries.push(snp_entry(held))?;

@@ -1,5 +1,6 @@
 ghost use Rattle.std.specs.Prelude.{◌≡◌, ◌≤◌, ◌<◌, IfOk, OnOk, OnErr, map, length};
 ghost use Rattle.isis_pdu.specs.Spelling.{csnp_bytes, psnp_bytes};
+ghost use Rattle.lsdb.specs.Database.{AreFlagsWithin};
 ghost use Rattle.snp_sync.specs.Chunks.{chunks};
 ghost use Rattle.snp_sync.specs.Sending as sending;
 ghost use Rattle.snp_sync.specs.Sending.{bytes_in, csnp_for, psnp_for, csnps_of, all_ssn_cleared};
@@ -7,7 +8,7 @@ ghost use Rattle.snp_sync.specs.Sending.{bytes_in, csnp_for, psnp_for, csnps_of,
 use crate::entries::{entries_with_ssn, listed, tlvs_of};
 use crate::ids::{FIRST, LAST, successor};
 use isis_pdu::{Csnp, Psnp, write_csnp, write_psnp};
-use lsdb::Database;
+use lsdb::{Database, Flagged};
 use spb_tlvs::SnpEntry;
 use spb_types::limits::MOST_PORTS;
 use spb_types::{LspId, NoMemory, SystemId};
@@ -87,13 +88,14 @@ fn psnps_of(alloc: Global, entries: &[SnpEntry], me: SystemId) -> Result<Vec<Vec
     Ok(pdus)
 }
 
-/// Nothing is to be acknowledged or asked for at a port any longer.
-fn clear_ssn(db: &mut Database, port: u8)
+/// Nothing is to be acknowledged or asked for at a port any longer. No flags stand outside of the places `flagged`.
+fn clear_ssn(db: &mut Database, port: u8, flagged: Flagged)
     requires low { 1 ≤ port }
     requires high { port ≤ MOST_PORTS }
+    requires within { AreFlagsWithin flagged.first flagged.end db.old }
     ensures { db.new ≡ all_ssn_cleared port db.old }
 {
-    for place in 0..db.len() {
+    for place in flagged.first..flagged.end {
         if let Some(held) = db.at(place) {
             if held.ssn.has(port) {
                 db.set_ssn_at(place, port, false);
@@ -117,11 +119,30 @@ pub fn psnps(
     ensures ssn_cleared { OnOk result (db.new ≡ all_ssn_cleared port db.old) }
     ensures err { OnErr result (db.new ≡ db.old) }
 {
-    let entries = entries_with_ssn(alloc, db, port)?;
+    let flagged = db.flagged();
+    psnps_within(alloc, db, me, port, flagged)
+}
+
+/// The PSNPs at a port, as `psnps`, where it is known outside of which places no flags stand: only these are looked at.
+pub fn psnps_within(
+    alloc: Global,
+    db: &mut Database,
+    me: SystemId,
+    port: u8,
+    flagged: Flagged,
+) -> Result<Vec<Vec<u8>>, NoMemory>
+    requires low { 1 ≤ port }
+    requires high { port ≤ MOST_PORTS }
+    requires within { AreFlagsWithin flagged.first flagged.end db.old }
+    ensures ok { IfOk result (λ pdus. bytes_in pdus.items ≡ map psnp_bytes (sending.psnps_of me port db.old)) }
+    ensures ssn_cleared { OnOk result (db.new ≡ all_ssn_cleared port db.old) }
+    ensures err { OnErr result (db.new ≡ db.old) }
+{
+    let entries = entries_with_ssn(alloc, db, port, flagged)?;
     if entries.is_empty() {
         return Ok(Vec::new(alloc));
     }
     let pdus = psnps_of(alloc, &entries, me)?;
-    clear_ssn(db, port);
+    clear_ssn(db, port, flagged);
     Ok(pdus)
 }

@@ -8,7 +8,7 @@ ghost use Rattle.spb_network.specs.Events as event;
 ghost use Rattle.spb_network.specs.Network.{state_of, IsInOrder};
 
 use crate::{DeclaredLink, LinkEnd, NetworkOf, Out, boxes, link_ends};
-use bridge_api::{Bridge, Outbox};
+use bridge_api::{Bridge, Outbox, Wire};
 use link_model::LaneId;
 use scenario::Side;
 use spb_types::{NoMemory, Seq};
@@ -64,7 +64,8 @@ impl<B: Bridge> NetworkOf<B> {
             ≡ event.left_all (event.sent_all (state_of B.shown self.old) i outbox.wire) i outbox.left) }
         ensures boxes { self.new.boxes ≡ self.old.boxes }
     {
-        self.send_all(i, outbox.wire.into_vec())?;
+        let (frames, _) = outbox.wire.into_parts();
+        self.send_all(i, frames)?;
         self.leave_all(i, outbox.left.into_vec())
     }
 
@@ -77,16 +78,21 @@ impl<B: Bridge> NetworkOf<B> {
     {
         let mut outbox = self.outbox(i)?;
         boxes::tick(&mut self.boxes, i, &mut outbox)?;
-        self.send_all(i, outbox.wire.into_vec())
+        let (frames, spare) = outbox.wire.into_parts();
+        self.lanes.put_spare(spare);
+        self.send_all(i, frames)
     }
 
-    /// An empty outbox with room for a frame at each port of the bridge at a place.
-    fn outbox(&self, i: usize) -> Result<Outbox, NoMemory>
-        ensures { IfOk result (λ outbox. outbox.wire ≡ []) }
+    /// An empty outbox with room for a frame at each port of the bridge at a place, whose frames find memory in the
+    /// vectors of those that were delivered.
+    fn outbox(&mut self, i: usize) -> Result<Outbox, NoMemory>
+        ensures empty { IfOk result (λ outbox. outbox.wire ≡ []) }
+        ensures kept { self.new ≡ self.old }
     {
-        let wire = Vec::with_capacity(self.alloc, usize::from(self.world.ports(i)))?;
+        let spare = self.lanes.take_spare();
+        let room = usize::from(self.world.ports(i));
         Ok(Outbox {
-            wire: Seq::from_vec(wire),
+            wire: Wire::with_room(self.alloc, room, spare)?,
             left: Seq::new(self.alloc),
         })
     }
@@ -216,7 +222,11 @@ impl<B: Bridge> NetworkOf<B> {
     {
         match self.lanes.pop(lane) {
             None => Ok(()),
-            Some(frame) => self.hear_over(lane, frame.as_slice()),
+            Some(frame) => {
+                self.hear_over(lane, frame.as_slice())?;
+                self.lanes.keep_spare(frame);
+                Ok(())
+            }
         }
     }
 

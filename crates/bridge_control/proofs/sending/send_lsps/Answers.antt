@@ -1,13 +1,13 @@
-use Rattle.std.proofs.Common.{[], ◌≤◌, length, take, arith, ap, ◌∙◌}
-use Rattle.std.proofs.lemmas.List.{take_all}
-use Rattle.std.specs.FinMap.{entries, len-entries}
-use Rattle.bridge_control.proofs.Wire.{frames_among, among_next, among_some, among_sent, sent_as, sent_none, on_err}
+use Rattle.std.proofs.Common.{[], ◌≤◌, take, arith, sym, ◌∙◌}
+use Rattle.std.specs.FinMap.{entries}
+use Rattle.bridge_control.proofs.Wire.{frames_among, among_next, among_some, sent_as, sent_none, on_err}
 use Rattle.bridge_control.proofs.Sends.{no_lsps}
+use Rattle.bridge_control.proofs.Standing.{among_before, among_within}
 use Rattle.bridge_control.proofs.sending.send_lsps.Goals as goal
 
-pub returns-then-not-has_srm-clause-sent : goal.returns-then-not-has_srm-clause-sent
-returns-then-not-has_srm-clause-sent c =
-    sent_as [] _ c.args.outbox.now c.args.outbox.now (no_lsps c.args.system c.args.number c.args.db.now (c.requires.idle c.if-not-has_srm.true)) (sent_none c.args.outbox.now)
+pub returns-then-not-has-clause-sent : goal.returns-then-not-has-clause-sent
+returns-then-not-has-clause-sent c =
+    sent_as [] _ c.args.outbox.now c.args.outbox.now (no_lsps c.args.system c.args.number c.args.db.now (c.requires.srm (sym c.has.ensures ∙ c.if-not-has.true))) (sent_none c.args.outbox.now)
 
 pub returns-in_err-send_lsp-clause-gained : goal.returns-in_err-send_lsp-clause-gained
 returns-in_err-send_lsp-clause-gained c =
@@ -17,9 +17,12 @@ pub send-preserved : goal.send-preserved
 send-preserved c =
     among_next c.args.system c.args.number (entries c.args.db.now) c.send.place c.args.outbox.now c.send.outbox c.send_lsp.new.outbox c.send.invariant c.in_ok-send_lsp.ensures.sent
 
+pub send-init : goal.send-init
+send-init c = among_before c.args.system c.args.number c.args.flags.places.first c.args.flags.places.end c.args.db.now c.args.outbox.now c.requires.places
+
 pub returns-clause-sent : goal.returns-clause-sent
 returns-clause-sent c =
-    let past : length (entries c.args.db.now) ≤ c.send.place = omega (arith, c.len-place-end.ensures.len, len-entries c.args.db.now) in
+    let past : c.args.flags.places.end ≤ c.send.place = omega (arith, c.send-test.false) in
     sent_as (frames_among c.args.system c.args.number (take c.send.place (entries c.args.db.now))) _ c.args.outbox.now c.send.outbox
-    (ap (frames_among c.args.system c.args.number) (take_all c.send.place (entries c.args.db.now) past) ∙ among_sent c.args.system c.args.number c.args.db.now)
+    (among_within c.args.system c.args.number c.args.flags.places.first c.args.flags.places.end c.send.place c.args.db.now c.requires.places past)
     c.send.invariant

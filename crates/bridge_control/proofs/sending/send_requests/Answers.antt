@@ -1,15 +1,15 @@
-use Rattle.std.proofs.Common.{◌≡◌, [], length, rules}
+use Rattle.std.proofs.Common.{◌≡◌, [], length, rules, sym, ◌∙◌}
 use Rattle.std.proofs.lemmas.Result.{on_ok_weaker, on_err_weaker}
 use Rattle.bridge_control.proofs.Wire.{sent_none, sent_as, gained_as}
 use Rattle.bridge_control.proofs.Sends.{no_requests, nothing_cleared, fitting_psnps, requests_are}
 use Rattle.bridge_control.proofs.sending.send_requests.Goals as goal
 
-pub returns-then-not-has_ssn-clause-sent : goal.returns-then-not-has_ssn-clause-sent
-returns-then-not-has_ssn-clause-sent c =
-    sent_as [] _ c.args.outbox.now c.args.outbox.now (no_requests c.args.system c.args.number c.args.db.now (c.requires.idle c.if-not-has_ssn.true)) (sent_none c.args.outbox.now)
+pub returns-then-not-has-clause-sent : goal.returns-then-not-has-clause-sent
+returns-then-not-has-clause-sent c =
+    sent_as [] _ c.args.outbox.now c.args.outbox.now (no_requests c.args.system c.args.number c.args.db.now (c.requires.ssn (sym c.has.ensures ∙ c.if-not-has.true))) (sent_none c.args.outbox.now)
 
-pub returns-then-not-has_ssn-clause-after_sending : goal.returns-then-not-has_ssn-clause-after_sending
-returns-then-not-has_ssn-clause-after_sending c = nothing_cleared c.args.number c.args.db.now (c.requires.idle c.if-not-has_ssn.true)
+pub returns-then-not-has-clause-after_sending : goal.returns-then-not-has-clause-after_sending
+returns-then-not-has-clause-after_sending c = nothing_cleared c.args.number c.args.db.now (c.requires.ssn (sym c.has.ensures ∙ c.if-not-has.true))
 
 pub send_pdus-requires : goal.send_pdus-requires
 send_pdus-requires c =

@@ -3,7 +3,8 @@ use Rattle.std.specs.FinMap.{entries, len}
 use Rattle.spb_tlvs.specs.declared.entries.SnpEntry.{SnpEntry}
 use Rattle.lsdb.specs.Database.{keyed}
 use Rattle.snp_sync.specs.SnpEntries.{has_ssn_at}
-use Rattle.snp_sync.proofs.Gathered.{take_entry, pass_entry, no_entry, all_entries}
+use Rattle.snp_sync.proofs.Gathered.{take_entry, pass_entry, no_entry}
+use Rattle.snp_sync.proofs.Within.{gathered_before, gathered_within}
 use Rattle.snp_sync.proofs.entries.entries_with_ssn.Goals as goal
 use Rattle.snp_sync.proofs.entries.entries_with_ssn.Goals.{in-Some+then-has+in_ok-push, in-Some+else-has, in_default}
 
@@ -20,7 +21,10 @@ loop-place-preserved c =
       | in_default w ↦ no_entry (has_ssn_at c.args.port) es c.loop-place.place w.in_default.ensures.entry c.loop-place.entries.items c.match-at.entries.items c.loop-place.invariant (ap items w.entries-is)
     ]
 
+pub loop-place-init : goal.loop-place-init
+loop-place-init c = gathered_before c.args.port c.args.flagged.first c.args.flagged.end c.args.db.now _ c.requires.within c.in_ok-entries.ensures.items
+
 pub returns : goal.returns
 returns c =
-    let past : len c.args.db.now ≤ c.loop-place.place = omega (arith, c.len-place-end.ensures.len) in
-    all_entries (has_ssn_at c.args.port) c.args.db.now c.loop-place.place past c.loop-place.entries.items c.loop-place.invariant
+    let past : c.args.flagged.end ≤ c.loop-place.place = omega arith in
+    gathered_within c.args.port c.args.flagged.first c.args.flagged.end c.loop-place.place c.args.db.now c.loop-place.entries.items c.requires.within past c.loop-place.invariant

@@ -13,4 +13,4 @@ returns c =
     let all = YieldsList-from_slice c.deref.result.now c.iter.ensures.rest in
     any_from_yields_List (λ (h : Held). has_flags (entry_of h)) _ _ c.any.result c.any.ensures.ran all (λ x b q k. search (rules, tests))
     ∙ ap (list_any (λ (h : Held). has_flags (entry_of h))) c.deref.ensures.value
-    ∙ sym (flags_map c.self.inside.held.items c.self.invariant.sorted) ∙ ap (λ (db : Lsps). any_flags db) c.self.view_is
+    ∙ sym (flags_map c.self.inside.held.items c.self.invariant.0.sorted) ∙ ap (λ (db : Lsps). any_flags db) c.self.view_is

@@ -6,14 +6,14 @@ use Rattle.lsdb.proofs.database.Database.set_ssn_at.Goals as goal
 pub invariant_of-self : goal.invariant_of-self
 invariant_of-self c =
     let within : c.args.place < length c.self.inside.held.items = search rules in
-    place_sound _ c.args.place within c.self.invariant (with_ssn c.args.port c.args.on) _ _ c.index_mut.ensures.value c.set_ssn.ensures (λ clean. clean)
+    (place_sound _ c.args.place within c.self.invariant.0 (with_ssn c.args.port c.args.on) _ _ c.index_mut.ensures.value c.set_ssn.ensures (λ clean. clean), cc)
 
 pub returns-then-place-len : goal.returns-then-place-len
 returns-then-place-len c =
     let within : c.args.place < length c.self.inside.held.items = search rules in
-    place_map _ c.args.place within c.self.invariant (with_ssn c.args.port c.args.on) _ _ c.index_mut.ensures.value c.set_ssn.ensures _ c.self.view_is
+    place_map _ c.args.place within c.self.invariant.0 (with_ssn c.args.port c.args.on) _ _ c.index_mut.ensures.value c.set_ssn.ensures _ c.self.view_is
 
 pub returns-else-place-len : goal.returns-else-place-len
 returns-else-place-len c =
     let past : length c.self.inside.held.items ≤ c.args.place = search rules in
-    past_map _ c.args.place past c.self.invariant (with_ssn c.args.port c.args.on) _ c.self.view_is
+    past_map _ c.args.place past c.self.invariant.0 (with_ssn c.args.port c.args.on) _ c.self.view_is

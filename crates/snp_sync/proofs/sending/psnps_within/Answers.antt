@@ -2,7 +2,7 @@ use Rattle.std.proofs.Common.{◌≡◌, [], length, rules, sym, ap, ◌∙◌}
 use Rattle.snp_sync.specs.Sending.{bytes_in}
 use Rattle.snp_sync.specs.SnpEntries.{snp_entries_where, has_ssn_at}
 use Rattle.snp_sync.proofs.Silent.{nil_from, no_psnps, none_cleared}
-use Rattle.snp_sync.proofs.sending.psnps.Goals as goal
+use Rattle.snp_sync.proofs.sending.psnps_within.Goals as goal
 
 pub returns-then-is_empty-clause-ok : goal.returns-then-is_empty-clause-ok
 returns-then-is_empty-clause-ok c =
