@@ -26,3 +26,7 @@ pub mod Behind
 pub mod EndOnce
 pub mod Waits
 pub mod Numbers
+pub mod Chained
+pub mod Compared
+pub mod Tried
+pub mod Followed

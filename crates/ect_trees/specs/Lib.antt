@@ -8,3 +8,6 @@ pub mod Arcs
 pub mod Tree
 pub mod Waits
 pub mod Search
+pub mod Ways
+pub mod Trial
+pub mod Followers

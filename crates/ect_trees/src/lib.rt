@@ -12,11 +12,14 @@
 //! of its paths whole; [`Tree::path_to`] looks for the one that ends at the bridge, and copies it.
 #![tactic(auto)]
 
+pub use followers::Followers;
 pub use key::{PathKey, compare_keys};
 pub use roads::{Roads, tree_from};
 pub use tree::Tree;
 
+mod followers;
 mod fork;
+mod guess;
 mod index;
 mod key;
 pub mod laws;
@@ -24,4 +27,6 @@ mod mesh;
 mod roads;
 mod search;
 mod tree;
+mod trial;
 mod waiting;
+mod ways;

@@ -6,6 +6,8 @@ pub mod PortSets
 pub mod GroupTests
 pub mod GroupLemmas
 pub mod SetLemmas
+pub mod FollowerLemmas
+pub mod KeptLemmas
 pub mod ServiceLemmas
 pub mod GrowLemmas
 pub mod MakingLemmas

@@ -1,4 +1,4 @@
-use Rattle.std.proofs.Common.{◌≡◌, ℕ, zero, suc, ◌+◌, ◌≤◌, ◌<◌, Bool, true, false, true≢false, ◌&&◌, ◌||◌, List, [], ◌∷◌, ◌++◌, length, map, take, get_or, find, Option, Some, None, option_map, option_and_then, slice_get, refl, sym, ap, ◌∙◌, subst, append_assoc, take_all, arith, if◌then◌else◌}
+use Rattle.std.proofs.Common.{◌≡◌, ℕ, zero, suc, ◌+◌, ◌≤◌, ◌<◌, Bool, true, false, true≢false, ◌&&◌, ◌||◌, List, [], ◌∷◌, ◌++◌, length, map, take, get_or, find, Option, Some, None, option_map, refl, sym, ap, ◌∙◌, subst, append_assoc, take_all, arith, if◌then◌else◌}
 use Rattle.std.specs.List.{AllByRecursion, filter_map}
 use Rattle.std.specs.Option.{option_to_list}
 use Rattle.std.specs.List.{cons_option}
@@ -13,16 +13,11 @@ use Rattle.spb_types.specs.declared.address.SystemId.{SystemId}
 use Rattle.spb_types.specs.declared.graph.Edge.{Edge}
 use Rattle.spb_types.specs.declared.graph.Graph.{Graph}
 use Rattle.spb_types.specs.declared.graph.GraphBridge.{GraphBridge}
-use Rattle.spb_types.specs.declared.tables.Path.{Path}
 use Rattle.spb_types.specs.declared.tables.UnicastRow.{UnicastRow}
-use Rattle.ect_trees.specs.Path.{cost_of}
-use Rattle.ect_trees.specs.Best.{best_of}
-use Rattle.ect_trees.specs.Tree.{Paths, GivesBest, second_in}
 use Rattle.ect_trees.proofs.Among.{same_is, same_self}
 use Rattle.fdb_build.specs.declared.surroundings.Neighbour.{Neighbour}
 use Rattle.fdb_build.specs.declared.surroundings.Placed.{Placed}
-use Rattle.fdb_build.specs.declared.surroundings.Surroundings.{Surroundings}
-use Rattle.fdb_build.specs.Surroundings.{neighbour_by, AreKnown}
+use Rattle.fdb_build.specs.Surroundings.{neighbour_by, port_by, ports_by}
 
 either : (p q r s : Bool) → ((p && q) || (r && s)) ≡ true → (p || s) ≡ true
 either true q r s h = refl
@@ -102,20 +97,7 @@ pub All-ascending_by : {X : Type 0} (P : X → Type 0) (cmp : X → X → Orderi
 All-ascending_by P cmp [] h = tt
 All-ascending_by P cmp (x ∷ xs) h = All-inserted P cmp x (ascending_by cmp xs) h.0 (All-ascending_by P cmp xs h.1)
 
--- the second bridge of the path that a tree gives is that of the best path
-pub second_best : (g : Graph) (mask : ℕ) (me to : SystemId) (tree : Paths) → GivesBest g mask me tree
-    → second_in tree.paths to ≡ option_and_then (λ path. slice_get path 1) (best_of g mask me to)
-second_best g mask me to tree gives = ap (option_and_then (λ (p : Path). slice_get p.bridges 1)) (gives.best to) ∙ by (best_of g mask me to)
-  where
-    by : (o : Option (List SystemId)) → option_and_then (λ (p : Path). slice_get p.bridges 1) (option_map (λ p. record { cost = cost_of g p; bridges = p }) o) ≡ option_and_then (λ path. slice_get path 1) o
-    by None = refl
-    by (Some p) = refl
-
 -- ---- neighbours
-
--- the port towards a neighbour
-abbrev pub port_by : List Neighbour → SystemId → Option ℕ
-port_by ns y = option_map (λ n. n.port) (find (λ n. same_system n.system y) ns)
 
 -- an edge at `me` leads to one other bridge
 one_end : (e : Edge) (me : SystemId) → same_system e.a e.b ≡ false → same_system e.a me ≡ true → same_system e.b me ≡ false
@@ -157,9 +139,12 @@ port_by_neighbours (e ∷ es) me y apart =
 edges_apart : (g : Graph) → IsValid g → AllByRecursion (λ e. same_system e.a e.b ≡ false) g.edges
 edges_apart g valid = All-map (λ e. IsEdgeOf g e) (λ e. same_system e.a e.b ≡ false) g.edges (λ e i. i.apart) valid.edges
 
--- what the list of neighbours gives is the port of the edge
-pub port_known : (s : Surroundings) (y : SystemId) → AreKnown s → port_by s.neighbours.items y ≡ port_between s.roads.now s.me y
-port_known s y known = ap (λ ns. port_by ns y) known.neighbours ∙ port_by_neighbours s.roads.now.edges s.me y (edges_apart s.roads.now known.valid.valid)
+-- what the list of neighbours gives are the ports of the edges
+pub ports_known : (g : Graph) (me : SystemId) (ns : List Neighbour) → IsValid g → ns ≡ filter_map (neighbour_by me) g.edges → ports_by ns g.bridges ≡ map (λ b. port_between g me b.id.system) g.bridges
+ports_known g me ns valid e = λ i. map (λ (b : GraphBridge). each b i) g.bridges
+  where
+    each : (b : GraphBridge) → port_by ns b.id.system ≡ port_between g me b.id.system
+    each b = ap (λ t. port_by t b.id.system) e ∙ port_by_neighbours g.edges me b.id.system (edges_apart g valid)
 
 -- ---- bridges by ascending address
 

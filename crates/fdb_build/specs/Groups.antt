@@ -22,6 +22,7 @@ use Rattle.spb_types.specs.declared.service.Vid.{Vid}
 use Rattle.spb_types.specs.declared.service.VidPlan.{VidPlan}
 use Rattle.spb_types.specs.declared.tables.GroupRow.{GroupRow}
 use Rattle.ect_trees.specs.Best.{IsBest, best_of}
+pub use Rattle.ect_trees.specs.Followers.{after_in}
 use Rattle.ect_trees.specs.Laws.{AreAlike, LookAlike}
 use Rattle.fdb_build.specs.Tables.{mac_cmp, vid_cmp, ascending_by, AscendsBy, ArePlans}
 
@@ -99,12 +100,6 @@ sends_in g isid vid x = list_any (is_member isid vid x) g.members
 -- whether x receives what is sent to it
 abbrev pub receives_in : Graph → Isid → Vid → SystemId → Bool
 receives_in g isid vid x = list_any (is_member isid vid x) g.members
-
--- the bridge that directly follows m in a list of bridges
-abbrev pub after_in : SystemId → List SystemId → Option SystemId
-after_in m [] = None
-after_in m (x ∷ []) = None
-after_in m (x ∷ y ∷ ys) = if same_system x m then Some y else after_in m (y ∷ ys)
 
 -- the port of `me` to the bridge that follows it on the best path from s to r
 abbrev pub port_after : Graph → ℕ → SystemId → SystemId → SystemId → Option ℕ

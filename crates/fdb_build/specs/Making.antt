@@ -1,6 +1,6 @@
 -- How group rows are made: the members of each service of a VID, the ports behind `me` on the tree of each source, and
 -- rows to which ports are added.
-use Rattle.std.specs.Prelude.{◌≡◌, ℕ, List, [], map, Bool, true, false, ◌&&◌, ◌||◌, ◌==◌, ◌<◌, ◌^◌, Option, Some, None, unwrap_or, option_and_then, position, bit_or}
+use Rattle.std.specs.Prelude.{◌≡◌, ℕ, List, [], map, Bool, true, false, ◌&&◌, ◌||◌, ◌==◌, ◌<◌, ◌^◌, Option, Some, None, unwrap_or, position, bit_or, ◌⊎◌}
 use Rattle.std.specs.List.{list_any, slice_index_or}
 use Rattle.std.specs.BTreeMap.{BTreeMap, get}
 use Rattle.std.specs.Str.{bytes_eq}
@@ -9,7 +9,6 @@ use Rattle.std.specs.declared.cmp.Ordering.{Ordering}
 use Rattle.std.specs.Global.{Vec}
 use Rattle.spb_types.specs.Address.{same_system, group_address}
 use Rattle.spb_types.specs.Ect.{mask_of}
-use Rattle.spb_types.specs.Graph.{port_between}
 use Rattle.spb_types.specs.Ports.{has, no_ports, with_port}
 use Rattle.spb_types.specs.declared.address.Mac.{Mac}
 use Rattle.spb_types.specs.declared.address.SystemId.{SystemId}
@@ -21,11 +20,12 @@ use Rattle.spb_types.specs.declared.service.Isid.{Isid}
 use Rattle.spb_types.specs.declared.service.Vid.{Vid}
 use Rattle.spb_types.specs.declared.service.VidPlan.{VidPlan}
 use Rattle.spb_types.specs.declared.tables.GroupRow.{GroupRow}
-use Rattle.spb_types.specs.declared.tables.Path.{Path}
-use Rattle.ect_trees.specs.Tree.{Paths, path_in}
+use Rattle.ect_trees.specs.Arcs.{IsBridgeAt}
 use Rattle.fdb_build.specs.Tables.{mac_cmp, system_cmp}
-use Rattle.fdb_build.specs.Groups.{after_in, port_after, is_member}
+use Rattle.fdb_build.specs.Groups.{port_after, is_member}
+use Rattle.fdb_build.specs.declared.kept.Kept.{Kept}
 use Rattle.fdb_build.specs.declared.services.Services.{Services}
+use Rattle.fdb_build.specs.declared.sets.Sets.{Sets}
 
 -- ---- sets of ports
 
@@ -103,19 +103,33 @@ pub record AreServicesOf (g : Graph) (ms : List Member) (vid : Vid) (s : Service
 
 -- ---- the ports behind `me`
 
--- the port of `me` to the bridge that follows it on a path
-abbrev pub port_along : Graph → SystemId → Option Path → Option ℕ
-port_along g me path = option_and_then (λ next. port_between g me next)
-    (option_and_then (λ p. after_in me p.bridges) path)
+-- the sets of the ports towards the bridges at these places
+abbrev pub sets_by : List (Option ℕ) → List ℕ → List PortSet
+sets_by ports places = map (λ place. port_set (slice_index_or ports place None)) places
 
--- the sets of the ports behind `me` on the paths of a tree, by place of the bridge where each path ends
-abbrev pub sets_in : Graph → SystemId → Paths → List PortSet
-sets_in g me tree = map (λ b. port_set (port_along g me (path_in tree.paths b.id.system))) g.bridges
-
--- the same on the best paths from a source
+-- the sets of the ports behind `me` on the best paths from a source, by place of the bridge where each path ends
 abbrev pub sets_from : Graph → SystemId → VidPlan → SystemId → List PortSet
 sets_from g me plan source =
     map (λ b. port_set (port_after g (mask_of plan.ect) source b.id.system me)) g.bridges
+
+-- these are the sets under the mask of the plan, and under that of every plan if they are untied
+pub record AreSetsFrom (g : Graph) (me : SystemId) (plan : VidPlan) (source : SystemId) (s : Sets) : Type 0 where
+  pub sets_are : s.ports.items ≡ sets_from g me plan source
+  pub always : s.untied ≡ true → (other : VidPlan) → s.ports.items ≡ sets_from g me other source
+
+-- the sets that are kept of the source at a place
+abbrev pub kept_at : Kept → ℕ → Option (Vec PortSet)
+kept_at kept place = slice_index_or kept.sets.items place None
+
+-- what is kept are the sets of each source under the mask of every plan
+abbrev pub AreKept : Graph → SystemId → Kept → Type 0
+AreKept g me kept = (place : ℕ) (x : SystemId) (sets : Vec PortSet) → IsBridgeAt g place x
+    → kept_at kept place ≡ Some sets → (plan : VidPlan) → sets.items ≡ sets_from g me plan x
+
+-- the sets are kept if they are untied, beside those of the other places
+abbrev pub Keeps : ℕ → Sets → Kept → Kept → Type 0
+Keeps place sets old new = (i : ℕ) (kept : Vec PortSet) → kept_at new i ≡ Some kept
+    → ((i ≡ place) × (sets.untied ≡ true) × (kept ≡ sets.ports)) ⊎ (kept_at old i ≡ Some kept)
 
 -- ---- rows that grow
 
@@ -142,10 +156,19 @@ is_from s source sets isids mac p = list_any (λ isid.
     same_mac mac (group_address source.source.value isid.value)
     && is_towards sets (list_at isid_cmp s.receivers isid) p) isids
 
--- whether one of these bridges does, for one of the services to which it sends
+-- whether the bridge does, for one of the services to which it sends
+abbrev pub is_from_bridge : Graph → SystemId → VidPlan → Services → GraphBridge → Mac → ℕ → Bool
+is_from_bridge g me plan s b mac p =
+    is_from s b (sets_from g me plan b.id.system) (list_at system_cmp s.sends b.id.system) mac p
+
+-- whether one of these bridges does
 abbrev pub is_from_some : Graph → SystemId → VidPlan → Services → List GraphBridge → Mac → ℕ → Bool
-is_from_some g me plan s sources mac p = list_any (λ b.
-    is_from s b (sets_from g me plan b.id.system) (list_at system_cmp s.sends b.id.system) mac p) sources
+is_from_some g me plan s sources mac p = list_any (λ b. is_from_bridge g me plan s b mac p) sources
+
+-- the bridge at a place of the graph
+abbrev pub source_at : Graph → ℕ → GraphBridge
+source_at g place = slice_index_or g.bridges place
+    (record { id = record { priority = 0; system = record { mac = record { bytes = [] } } }; source = record { value = 0 } })
 
 -- a row of a VID
 abbrev pub row_of : Vid → Mac × PortSet → GroupRow

@@ -1,8 +1,8 @@
 -- What a bridge's tables are read from.
-use Rattle.std.specs.Prelude.{◌≡◌, List, map, Option, Some, None, if◌then◌else◌}
-use Rattle.std.specs.List.{filter_map}
+use Rattle.std.specs.Prelude.{◌≡◌, ℕ, List, map, find, option_map, Option, Some, None, if◌then◌else◌}
 use Rattle.spb_types.specs.Address.{same_system}
-use Rattle.spb_types.specs.Graph.{systems_of, IsValidFor}
+use Rattle.spb_types.specs.Graph.{systems_of, port_between, IsValidFor}
+use Rattle.spb_types.specs.declared.graph.GraphBridge.{GraphBridge}
 use Rattle.spb_types.specs.declared.address.SystemId.{SystemId}
 use Rattle.spb_types.specs.declared.graph.Edge.{Edge}
 use Rattle.spb_types.specs.declared.graph.Graph.{Graph}
@@ -20,10 +20,19 @@ neighbour_by me e = if same_system e.a me then Some (record { system = e.b; port
 abbrev pub AreAscending : Graph → List Placed → Type 0
 AreAscending g bridges = map (λ b. b.system) bridges ≡ ascending_by system_cmp (systems_of g.bridges)
 
--- the graph is valid, with the ports of `me` in it; and these are the neighbours of `me`, and the graph's bridges
+-- the port towards a bridge, if it is one of the neighbours
+abbrev pub port_by : List Neighbour → SystemId → Option ℕ
+port_by neighbours x = option_map (λ n. n.port) (find (λ n. same_system n.system x) neighbours)
+
+-- the ports towards the neighbours among these bridges, in the order of the bridges
+abbrev pub ports_by : List Neighbour → List GraphBridge → List (Option ℕ)
+ports_by neighbours bridges = map (λ b. port_by neighbours b.id.system) bridges
+
+-- the graph is valid, with the ports of `me` in it; these are the ports of `me` towards each bridge of the graph, in
+-- their order; and these are the graph's bridges
 pub record AreKnown (s : Surroundings) : Type 0 where
   pub valid : IsValidFor s.roads.now s.me
-  pub neighbours : s.neighbours.items ≡ filter_map (neighbour_by s.me) s.roads.now.edges
+  pub ports : s.ports.items ≡ map (λ b. port_between s.roads.now s.me b.id.system) s.roads.now.bridges
   pub bridges : AreAscending s.roads.now s.bridges.items
 
 -- what surrounds `me` in the graph

@@ -1,13 +1,14 @@
 //! The group rows of a bridge.
-ghost use Rattle.std.specs.Prelude.{◌≡◌, ◌≤◌, ◌++◌, ◌&&◌, map, OnOk, IfOk};
+ghost use Rattle.std.specs.Prelude.{◌≡◌, ◌≤◌, ◌<◌, ◌++◌, ◌&&◌, length, map, OnOk, IfOk};
 ghost use Rattle.std.specs.List.{flat_map, AllByRecursion};
 ghost use Rattle.std.specs.BTreeMap.{IsOrdered};
 ghost use Rattle.spb_types.specs.Ports.{has};
-ghost use Rattle.fdb_build.specs.Tables.{mac_cmp, system_cmp};
+ghost use Rattle.fdb_build.specs.Tables.{mac_cmp};
 ghost use Rattle.fdb_build.specs.Groups as groups;
 ghost use Rattle.fdb_build.specs.Making as making;
 ghost use Rattle.fdb_build.specs.Surroundings.{AreKnown};
 
+use crate::kept::Kept;
 use crate::services::Services;
 use crate::sets::{sets_from, union};
 use crate::surroundings::Surroundings;
@@ -58,35 +59,59 @@ fn add_services(
     Ok(())
 }
 
-/// Adds the ports for the services to which a bridge sends, if it does to some. Only then is its tree made.
+/// The bridge at a place of the graph.
+fn source_at(around: &Surroundings<'_>, place: usize) -> GraphBridge
+    requires { place < length around.now.roads.now.bridges }
+    ensures { result ≡ making.source_at around.now.roads.now place }
+{
+    around.roads.graph().bridges.as_slice()[place]
+}
+
+/// Adds the ports for the services to which the bridge at a place sends, if it does to some. Only then are its sets
+/// made, unless they are kept.
 fn add_source(
     alloc: Global,
     rows: &mut BTreeMap<Mac, PortSet>,
+    kept: &mut Kept,
     around: &Surroundings<'_>,
     plan: VidPlan,
     services: &Services,
-    source: GraphBridge,
+    place: usize,
 ) -> Result<(), NoMemory>
     requires known { AreKnown around.now }
     requires low { 1 ≤ plan.ect }
     requires high { plan.ect ≤ GREATEST_ECT }
-    ensures { OnOk result (making.Grew rows.old rows.new (making.is_from services.now source
-        (making.sets_from around.now.roads.now around.now.me plan source.id.system)
-        (making.list_at system_cmp services.now.sends source.id.system))) }
+    requires within { place < length around.now.roads.now.bridges }
+    requires kept { making.AreKept around.now.roads.now around.now.me kept.old }
+    ensures kept { OnOk result (making.AreKept around.now.roads.now around.now.me kept.new) }
+    ensures rows { OnOk result (making.Grew rows.old rows.new
+        (making.is_from_bridge around.now.roads.now around.now.me plan services.now
+        (making.source_at around.now.roads.now place))) }
 {
-    match services.sends.get(&source.id.system) {
-        None => Ok(()),
-        Some(isids) => {
-            let sets = sets_from(alloc, around, plan, source.id.system)?;
-            add_services(rows, services, source, sets.as_slice(), isids.as_slice())
-        }
+    let source = source_at(around, place);
+    let Some(isids) = services.sends.get(&source.id.system) else {
+        return Ok(());
+    };
+    if let Some(sets) = kept.at(place) {
+        return add_services(rows, services, source, sets.as_slice(), isids.as_slice());
     }
+    let sets = sets_from(alloc, around, plan, source.id.system)?;
+    add_services(
+        rows,
+        services,
+        source,
+        sets.ports.as_slice(),
+        isids.as_slice(),
+    )?;
+    kept.keep(place, sets);
+    Ok(())
 }
 
 /// Adds the ports for each source.
 fn add_sources(
     alloc: Global,
     rows: &mut BTreeMap<Mac, PortSet>,
+    kept: &mut Kept,
     around: &Surroundings<'_>,
     plan: VidPlan,
     services: &Services,
@@ -94,11 +119,13 @@ fn add_sources(
     requires known { AreKnown around.now }
     requires low { 1 ≤ plan.ect }
     requires high { plan.ect ≤ GREATEST_ECT }
-    ensures { OnOk result (making.Grew rows.old rows.new (making.is_from_some around.now.roads.now around.now.me
-        plan services.now around.now.roads.now.bridges)) }
+    requires kept { making.AreKept around.now.roads.now around.now.me kept.old }
+    ensures kept { OnOk result (making.AreKept around.now.roads.now around.now.me kept.new) }
+    ensures rows { OnOk result (making.Grew rows.old rows.new (making.is_from_some around.now.roads.now
+        around.now.me plan services.now around.now.roads.now.bridges)) }
 {
-    for source in around.roads.graph().bridges.as_slice() {
-        add_source(alloc, rows, around, plan, services, *source)?;
+    for place in 0..around.roads.graph().bridges.len() {
+        add_source(alloc, rows, kept, around, plan, services, place)?;
     }
     Ok(())
 }
@@ -126,18 +153,21 @@ fn put_rows(
 fn push_groups(
     alloc: Global,
     rows: &mut Vec<GroupRow>,
+    kept: &mut Kept,
     around: &Surroundings<'_>,
     plan: VidPlan,
 ) -> Result<(), NoMemory>
     requires known { AreKnown around.now }
     requires low { 1 ≤ plan.ect }
     requires high { plan.ect ≤ GREATEST_ECT }
-    ensures { OnOk result
+    requires kept { making.AreKept around.now.roads.now around.now.me kept.old }
+    ensures kept { OnOk result (making.AreKept around.now.roads.now around.now.me kept.new) }
+    ensures rows { OnOk result
         (rows.new.items ≡ rows.old.items ++ groups.group_rows_of_vid around.now.roads.now around.now.me plan) }
 {
     let services = Services::new(alloc, around, plan.vid)?;
     let mut of_vid = BTreeMap::new(alloc);
-    add_sources(alloc, &mut of_vid, around, plan, &services)?;
+    add_sources(alloc, &mut of_vid, kept, around, plan, &services)?;
     put_rows(rows, plan.vid, &of_vid)
 }
 
@@ -153,8 +183,9 @@ pub fn groups_of(
         rows.items ≡ flat_map (groups.group_rows_of_vid around.now.roads.now around.now.me) plans.now) }
 {
     let mut rows = Vec::new(alloc);
+    let mut kept = Kept::new(alloc, around.roads.graph().bridges.len())?;
     for plan in plans {
-        push_groups(alloc, &mut rows, around, *plan)?;
+        push_groups(alloc, &mut rows, &mut kept, around, *plan)?;
     }
     Ok(rows)
 }

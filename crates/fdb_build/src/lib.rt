@@ -15,6 +15,7 @@
 pub use tables::{tables_of, tables_over};
 
 mod groups;
+mod kept;
 pub mod laws;
 mod services;
 mod sets;

@@ -1,16 +1,13 @@
 //! Sets of ports behind a bridge: on the way from a source to each other bridge.
-ghost use Rattle.std.specs.Prelude.{◌≡◌, ◌≤◌, ◌<◌, ◌^◌, ℕ, position, IfOk};
-ghost use Rattle.std.specs.Option.{option_copied};
-ghost use Rattle.spb_types.specs.Address.{same_system};
+ghost use Rattle.std.specs.Prelude.{◌≡◌, ◌≤◌, ◌<◌, ◌^◌, ℕ, None, IfOk};
+ghost use Rattle.std.specs.List.{slice_index_or};
 ghost use Rattle.spb_types.specs.Ports.{has};
-ghost use Rattle.fdb_build.specs.Groups as groups;
 ghost use Rattle.fdb_build.specs.Making as making;
 ghost use Rattle.fdb_build.specs.Surroundings.{AreKnown};
 
 use crate::surroundings::Surroundings;
-use ect_trees::Tree;
 use spb_types::limits::GREATEST_ECT;
-use spb_types::{NoMemory, Path, PortSet, SystemId, VidPlan, ect_mask};
+use spb_types::{NoMemory, PortSet, SystemId, VidPlan, ect_mask};
 use std::alloc::Global;
 
 /// The ports of either set.
@@ -45,51 +42,36 @@ pub fn towards(sets: &[PortSet], places: &[usize]) -> PortSet
     ports
 }
 
-/// The place of a bridge on a path.
-fn place_on(path: &Path, system: SystemId) -> Option<usize>
-    ensures { result ≡ position (λ b. same_system b system) path.now.bridges }
-{
-    path.bridges.iter().position(|bridge| bridge.is(system))
+/// Sets of ports, by place of a bridge; and whether they are surely the same under every mask.
+#[derive(Drop)]
+pub struct Sets {
+    pub ports: Vec<PortSet>,
+    pub untied: bool,
 }
 
-/// The bridge that directly follows another on a path. None where the other isn't on it, or is its last.
-fn after(path: &Path, system: SystemId) -> Option<SystemId>
-    ensures { result ≡ groups.after_in system path.now.bridges }
-{
-    let place = place_on(path, system)?;
-    path.bridges.as_slice().get(place + 1).copied()
-}
-
-/// The port of `me` towards the bridge that follows it on a path, as a set; the empty one where none does.
-fn behind(around: &Surroundings<'_>, path: Option<&Path>) -> PortSet
+/// The port of `me` towards the bridge at a place, as a set; the empty one where no edge joins them.
+fn set_towards(around: &Surroundings<'_>, place: usize) -> PortSet
     requires { AreKnown around.now }
-    ensures { result ≡ making.port_set (making.port_along around.now.roads.now around.now.me (option_copied path.entry)) }
+    ensures { result ≡ making.port_set (slice_index_or around.now.ports.items place None) }
 {
-    let Some(path) = path else {
-        return PortSet::none();
-    };
-    let Some(next) = after(path, around.me) else {
-        return PortSet::none();
-    };
-    match around.port_towards(next) {
+    match around.port_at(place) {
         None => PortSet::none(),
         Some(port) => PortSet::none().with(port as u8),
     }
 }
 
-/// The sets of the ports behind `me` on the paths of a tree, by place of the bridge where each path ends. A path is
-/// looked for behind the one that was found last.
-fn sets_in(alloc: Global, around: &Surroundings<'_>, tree: &Tree) -> Result<Vec<PortSet>, NoMemory>
+/// The sets of the ports of `me` towards the bridges at these places.
+fn sets_by(
+    alloc: Global,
+    around: &Surroundings<'_>,
+    places: &[usize],
+) -> Result<Vec<PortSet>, NoMemory>
     requires { AreKnown around.now }
-    ensures { IfOk result (λ sets. sets.items ≡ making.sets_in around.now.roads.now around.now.me tree.now) }
+    ensures { IfOk result (λ sets. sets.items ≡ making.sets_by around.now.ports.items places.now) }
 {
-    let bridges = around.roads.graph().bridges.as_slice();
-    let mut sets = Vec::with_capacity(alloc, bridges.len())?;
-    let mut found = 0usize;
-    for bridge in bridges {
-        let path = tree.find_near(found, bridge.id.system);
-        found = found.saturating_add(usize::from(path.is_some()));
-        sets.push(behind(around, path))?;
+    let mut sets = Vec::with_capacity(alloc, places.len())?;
+    for place in places {
+        sets.push(set_towards(around, *place))?;
     }
     Ok(sets)
 }
@@ -100,12 +82,16 @@ pub fn sets_from(
     around: &Surroundings<'_>,
     plan: VidPlan,
     source: SystemId,
-) -> Result<Vec<PortSet>, NoMemory>
+) -> Result<Sets, NoMemory>
     requires known { AreKnown around.now }
     requires low { 1 ≤ plan.ect }
     requires high { plan.ect ≤ GREATEST_ECT }
-    ensures { IfOk result (λ sets. sets.items ≡ making.sets_from around.now.roads.now around.now.me plan source) }
+    ensures { IfOk result (making.AreSetsFrom around.now.roads.now around.now.me plan source) }
 {
-    let tree = around.roads.tree(alloc, source, ect_mask(plan.ect))?;
-    sets_in(alloc, around, &tree)
+    let mask = ect_mask(plan.ect);
+    let followers = around.roads.followers(alloc, source, mask, around.me)?;
+    Ok(Sets {
+        ports: sets_by(alloc, around, followers.places.as_slice())?,
+        untied: followers.untied,
+    })
 }

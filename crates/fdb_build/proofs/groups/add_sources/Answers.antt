@@ -1,8 +1,12 @@
+use Rattle.std.proofs.Common.{◌<◌, length, ap, arith}
 use Rattle.fdb_build.proofs.GrowLemmas.{source_more}
 use Rattle.fdb_build.proofs.groups.add_sources.Goals as goal
 
-pub loop-source-preserved : goal.loop-source-preserved
-loop-source-preserved c =
+pub loop-place-preserved : goal.loop-place-preserved
+loop-place-preserved c =
     let around = c.args.around.now in
-    source_more around.roads.now around.me c.args.plan c.args.services.now c.as_slice-source-items.result.now c.args.rows.now c.loop-source.rows c.add_source.new.rows c.loop-source.source-index _
-    c.loop-source-test.true c.in_ok-add_source.ensures c.loop-source.invariant
+    let g = around.roads.now in
+    let low : c.loop-place.place < length g.bridges = omega (arith, c.loop-place-test.true, c.len-place-end.ensures, ap (λ h. length h.bridges) c.graph.ensures) in (
+      c.in_ok-add_source.ensures.kept,
+      source_more g around.me c.args.plan c.args.services.now g.bridges c.args.rows.now c.loop-place.rows c.add_source.new.rows c.loop-place.place _ low c.in_ok-add_source.ensures.rows c.loop-place.invariant.1,
+    )

@@ -1,7 +1,7 @@
 use Rattle.std.proofs.Common.{◌+◌, sym, ap, ◌∙◌}
 use Rattle.std.specs.Prelude.{slice_get}
-use Rattle.fdb_build.proofs.SetLemmas.{after_place, after_nowhere, copied_get}
-use Rattle.fdb_build.proofs.sets.after.Goals as goal
+use Rattle.ect_trees.proofs.Followed.{after_place, after_nowhere, copied_get}
+use Rattle.ect_trees.proofs.followers.after.Goals as goal
 
 pub returns-in_err-place : goal.returns-in_err-place
 returns-in_err-place c =

@@ -1,0 +1,208 @@
+-- The bridge that directly follows another on a list of bridges, and on ways.
+use Rattle.std.proofs.Common.{◌≡◌, ◌≢◌, ℕ, zero, suc, ◌+◌, ◌<◌, ◌≤◌, Bool, true, false, true≢false, if◌then◌else◌, inl, inr, List, [], ◌∷◌, ◌++◌, length, map, take, get_or, Option, Some, None, option_map, unwrap_or, refl, sym, ap, ◌∙◌, subst, arith, Bor}
+use Rattle.std.specs.Prelude.{IfSome, is_some, option_copied, option_and_then, position, slice_get, nat_lt}
+use Rattle.std.specs.List.{position_or_len}
+use Rattle.std.proofs.Math.Seq.{take-length}
+use Rattle.std.proofs.lemmas.Bool.{ltb-true, ltb-false}
+use Rattle.std.proofs.lemmas.List.{map-append, take_more}
+use Rattle.std.proofs.lemmas.List.Quantifiers.{position-Some}
+use Rattle.std.proofs.lemmas.List.Sums.{fails_before_first}
+use Rattle.std.proofs.lemmas.Option.{slice_get-map, slice_get-get_or}
+use Rattle.spb_types.specs.Address.{same_system}
+use Rattle.spb_types.specs.Graph.{IsDistinct, systems_of}
+use Rattle.spb_types.specs.declared.address.SystemId.{SystemId}
+use Rattle.spb_types.specs.declared.graph.Graph.{Graph}
+use Rattle.spb_types.specs.declared.graph.GraphBridge.{GraphBridge}
+use Rattle.spb_types.specs.declared.tables.Path.{Path}
+use Rattle.ect_trees.specs.declared.mesh.Mesh.{Mesh}
+use Rattle.ect_trees.specs.declared.ways.Step.{Step}
+use Rattle.ect_trees.specs.Path.{cost_of}
+use Rattle.ect_trees.specs.Best.{best_of}
+use Rattle.ect_trees.specs.Tree.{Paths, path_in, GivesBest}
+use Rattle.ect_trees.specs.Arcs.{IsBridgeAt, AreReady}
+use Rattle.ect_trees.specs.Ways.{step_at, place_before, bridge_at, way_back, way_to, AreWays, HasHops}
+use Rattle.ect_trees.specs.Followers.{after_in, place_or_end, place_after, followers_of, followers_in_tree, IsFollower, FollowOnWays}
+use Rattle.ect_trees.proofs.Among.{same_is, same_self, among_right}
+use Rattle.ect_trees.proofs.Walks.{path_distinct}
+use Rattle.ect_trees.proofs.Places.{at_once, place_is, place_found_at, no_bridge}
+use Rattle.ect_trees.proofs.Chained.{bridge_is, is_way, stands, way_is, prior}
+
+-- it stands right behind the first place of m
+after_at : (m : SystemId) (p : List SystemId) (i : ℕ) (d : SystemId) → i < length p → same_system (get_or p i d) m ≡ true
+    → ((k : ℕ) → k < i → same_system (get_or p k d) m ≡ false) → after_in m p ≡ slice_get p (i + 1)
+after_at m [] i d low here before = absurd (omega (arith, low))
+after_at m (x ∷ []) zero d low here before = refl
+after_at m (x ∷ []) (suc i) d low here before = absurd (omega (arith, low))
+after_at m (x ∷ y ∷ ys) zero d low here before = ap (λ b. if b then Some y else after_in m (y ∷ ys)) here
+after_at m (x ∷ y ∷ ys) (suc i) d low here before =
+    let next : suc (i + 1) ≡ suc i + 1 = omega arith in
+    ap (λ b. if b then Some y else after_in m (y ∷ ys)) (before 0 (omega arith))
+    ∙ (after_at m (y ∷ ys) i d (omega (arith, low)) here (λ k less. before (suc k) (omega (arith, less)))
+    ∙ ap (slice_get (x ∷ y ∷ ys)) next)
+
+after_none : (m : SystemId) (p : List SystemId) → ((k : ℕ) (d : SystemId) → k < length p → same_system (get_or p k d) m ≡ false) → after_in m p ≡ None
+after_none m [] h = refl
+after_none m (x ∷ []) h = refl
+after_none m (x ∷ y ∷ ys) h =
+    ap (λ b. if b then Some y else after_in m (y ∷ ys)) (h 0 x (omega arith)) ∙ after_none m (y ∷ ys) (λ k d less. h (suc k) d (omega (arith, less)))
+
+past : (a b : ℕ) (t : Bool) → nat_lt a b ≡ t → (if t then Some a else None) ≡ None → b ≤ a
+past a b true e h = cc
+past a b false e h = ltb-false a b e
+
+-- the first place of m, and the one behind it
+pub after_place : (m : SystemId) (p : List SystemId) (i : ℕ) → position (λ b. same_system b m) p ≡ Some i → after_in m p ≡ slice_get p (i + 1)
+after_place m p i e =
+    let none : SystemId = record { mac = record { bytes = [] } } in
+    let first = position-Some (λ b. same_system b m) p i none e in
+    after_at m p i none first.0 first.1 first.2
+
+pub after_nowhere : (m : SystemId) (p : List SystemId) → position (λ b. same_system b m) p ≡ None → after_in m p ≡ None
+after_nowhere m p e =
+    let test : SystemId → Bool = λ b. same_system b m in
+    let all : length p ≤ position_or_len test p = past (position_or_len test p) (length p) (nat_lt (position_or_len test p) (length p)) refl e in
+    after_none m p (λ k d less. fails_before_first test p k d (omega (arith, less, all)))
+
+get_some : (xs : List SystemId) (i : ℕ) (v : SystemId) → i < length xs → v ≡ get_or xs i v → slice_get xs i ≡ Some v
+get_some [] i v low e = absurd (omega (arith, low))
+get_some (y ∷ ys) zero v low e = ap Some (sym e)
+get_some (y ∷ ys) (suc i) v low e = get_some ys i v (omega (arith, low)) e
+
+get_none : (xs : List SystemId) (i : ℕ) → length xs ≤ i → slice_get xs i ≡ None
+get_none [] i past = refl
+get_none (y ∷ ys) zero past = absurd (omega (arith, past))
+get_none (y ∷ ys) (suc i) past = get_none ys i (omega (arith, past))
+
+-- what a look-up by index copies
+pub copied_get : (xs : List SystemId) (i : ℕ) (r : Option (Bor SystemId)) → is_some r ≡ nat_lt i (length xs) → IfSome r (λ x. x.now ≡ get_or xs i x.now) → option_copied r ≡ slice_get xs i
+copied_get xs i None h k = sym (get_none xs i (ltb-false i (length xs) (sym h)))
+copied_get xs i (Some x) h k = sym (get_some xs i x.now (ltb-true i (length xs) (sym h)) k)
+
+-- ---- on ways
+
+-- at the end of a list, the last bridge follows the last but one
+pub after_end : (m w x : SystemId) (p : List SystemId) → IsDistinct (p ++ w ∷ []) → after_in m ((p ++ w ∷ []) ++ x ∷ []) ≡ (if same_system w m then Some x else after_in m (p ++ w ∷ []))
+after_end m w x [] d = refl
+after_end m w x (z ∷ []) d = by (same_system z m) (same_system w m) refl refl
+  where
+    by : (s t : Bool) → same_system z m ≡ s → same_system w m ≡ t → (if s then Some w else (if t then Some x else None)) ≡ (if t then Some x else (if s then Some w else None))
+    by true true a b = absurd (d.0 (inl (same_is z m a ∙ sym (same_is w m b))))
+    by true false a b = refl
+    by false true a b = refl
+    by false false a b = refl
+after_end m w x (z ∷ y ∷ p) d = by (same_system z m) (same_system w m) refl refl (after_end m w x (y ∷ p) d.1)
+  where
+    by : (s t : Bool) → same_system z m ≡ s → same_system w m ≡ t → after_in m (((y ∷ p) ++ w ∷ []) ++ x ∷ []) ≡ (if same_system w m then Some x else after_in m ((y ∷ p) ++ w ∷ [])) → (if s then Some y else after_in m (((y ∷ p) ++ w ∷ []) ++ x ∷ [])) ≡ (if t then Some x else (if s then Some y else after_in m ((y ∷ p) ++ w ∷ [])))
+    by true true a b ih = absurd (d.0 (among_right z (y ∷ p) (w ∷ []) (inl (same_is z m a ∙ sym (same_is w m b)))))
+    by true false a b ih = refl
+    by false t a b ih = ih ∙ ap (λ u. if u then Some x else after_in m ((y ∷ p) ++ w ∷ [])) b
+
+-- a way ends with the bridge at its place
+way_ends : (g : Graph) (a : SystemId) (steps : List (Option Step)) (n place : ℕ) → (p : List SystemId) × (way_back g a steps n place ≡ p ++ bridge_at g a place ∷ [])
+way_ends g a steps zero place = ([], refl)
+way_ends g a steps (suc n) place = (way_back g a steps n (place_before steps place), refl)
+
+-- what follows m on a way of one hop more
+after_one : (r : Mesh) (from : ℕ) (a : SystemId) (steps : List (Option Step)) → AreWays r from a steps → (n place : ℕ) (m : SystemId) → HasHops steps (suc n) place → after_in m (way_back r.graph a steps (suc n) place) ≡ (if same_system (bridge_at r.graph a (place_before steps place)) m then Some (bridge_at r.graph a place) else after_in m (way_back r.graph a steps n (place_before steps place)))
+after_one r from a steps w n place m h =
+    let g = r.graph in
+    let before = place_before steps place in
+    let k = prior r from a steps w n place h in
+    let x = stands r from a steps w before k.0 k.1 in
+    let way = is_way r from a steps w n before k.0 x.0 k.1 k.2 x.1 in
+    let ends = way_ends g a steps n before in
+    let distinct : IsDistinct (ends.0 ++ bridge_at g a before ∷ []) = subst IsDistinct ends.1 (path_distinct g a x.0 (way_back g a steps n before) way.path) in
+    ap (λ t. after_in m (t ++ bridge_at g a place ∷ [])) ends.1 ∙
+    (after_end m (bridge_at g a before) (bridge_at g a place) ends.0 distinct ∙
+    ap (λ t. if same_system (bridge_at g a before) m then Some (bridge_at g a place) else after_in m t) (sym ends.1))
+
+-- the bridge at a place is m where m stands there, and nowhere else
+is_m : (r : Mesh) (from : ℕ) (a : SystemId) (steps : List (Option Step)) → AreWays r from a steps → (place me n : ℕ) (m : SystemId) → IsBridgeAt r.graph me m → place ≡ me → same_system (bridge_at r.graph a place) m ≡ true
+is_m r from a steps w place me n m here e =
+    let own : bridge_at r.graph a place ≡ m = ap (bridge_at r.graph a) e ∙ bridge_is r.graph a m me here in
+    ap (λ t. same_system t m) own ∙ same_self m
+
+not_m : (r : Mesh) (from : ℕ) (a : SystemId) (steps : List (Option Step)) → AreWays r from a steps → (place me n : ℕ) (m : SystemId) → IsBridgeAt r.graph me m → HasHops steps n place → place ≢ me → same_system (bridge_at r.graph a place) m ≡ false
+not_m r from a steps w place me n m here h other = by (same_system (bridge_at r.graph a place) m) refl
+  where
+    by : (t : Bool) → same_system (bridge_at r.graph a place) m ≡ t → t ≡ false
+    by false e = refl
+    by true e =
+        let x = stands r from a steps w place h.0 h.1 in
+        let same : x.0 ≡ m = sym (bridge_is r.graph a x.0 place x.1) ∙ same_is (bridge_at r.graph a place) m e in
+        absurd (other (at_once (systems_of r.graph.bridges) place me m w.ready.valid.apart (subst (IsBridgeAt r.graph place) same x.1) here))
+
+-- what follows m on the way to a place follows it on the way to another, which is walked back to
+abbrev pub FollowsBack : Mesh → List (Option Step) → ℕ → ℕ → ℕ → ℕ → ℕ → Type 0
+FollowsBack r steps me n to left place = (from : ℕ) (a m : SystemId) → AreWays r from a steps → IsBridgeAt r.graph me m → HasHops steps n to → HasHops steps left place × (after_in m (way_back r.graph a steps n to) ≡ after_in m (way_back r.graph a steps left place))
+
+pub follows_none : (r : Mesh) (steps : List (Option Step)) (me n to : ℕ) → FollowsBack r steps me n to n to
+follows_none r steps me n to = λ from a m w here h. (h, refl)
+
+pub follows_more : (r : Mesh) (steps : List (Option Step)) (me n to left next place : ℕ) → left ≡ next + 1 → place_before steps place ≢ me → FollowsBack r steps me n to left place → FollowsBack r steps me n to next (place_before steps place)
+follows_more r steps me n to left next place one other f = λ from a m w here h.
+    let up : left ≡ suc next = omega (arith, one) in
+    let was = f from a m w here h in
+    let hops : HasHops steps (suc next) place = subst (λ t. HasHops steps t place) up was.0 in
+    let k = prior r from a steps w next place hops in
+    let apart = not_m r from a steps w (place_before steps place) me next m here k other in (
+      k,
+      was.1 ∙ (ap (λ t. after_in m (way_back r.graph a steps t place)) up ∙ (after_one r from a steps w next place m hops ∙ ap (λ t. if t then Some (bridge_at r.graph a place) else after_in m (way_back r.graph a steps next (place_before steps place))) apart)),
+    )
+
+-- no way
+pub follower_none : (r : Mesh) (steps : List (Option Step)) (me to none : ℕ) → step_at steps to ≡ None → none ≡ length steps → IsFollower r steps me to none
+follower_none r steps me to none e all = λ from a m x w here at.
+    let place = place_is r.graph to x w.ready.valid at in
+    all ∙ (w.places ∙ ap (place_after r.graph m) (sym (ap (λ i. option_map (λ (s : Step). way_back r.graph a steps s.hops i) (step_at steps i)) place ∙ ap (option_map (λ (s : Step). way_back r.graph a steps s.hops to)) e)))
+
+-- back at the source
+pub follower_end : (r : Mesh) (steps : List (Option Step)) (me to left place none : ℕ) (s : Step) → step_at steps to ≡ Some s → FollowsBack r steps me s.hops to left place → left ≡ 0 → none ≡ length steps → IsFollower r steps me to none
+follower_end r steps me to left place none s there f end all = λ from a m x w here at.
+    let was = f from a m w here (s, there, refl) in
+    let nothing : after_in m (way_back r.graph a steps s.hops to) ≡ None = was.1 ∙ ap (λ t. after_in m (way_back r.graph a steps t place)) end in
+    all ∙ (w.places ∙ (ap (place_or_end r.graph) (sym nothing) ∙ ap (place_after r.graph m) (sym (way_is r from a steps w to s x there at))))
+
+-- at a place behind m
+pub follower_found : (r : Mesh) (steps : List (Option Step)) (me to left place : ℕ) (s : Step) → step_at steps to ≡ Some s → FollowsBack r steps me s.hops to left place → 0 < left → place_before steps place ≡ me → IsFollower r steps me to place
+follower_found r steps me to zero place s there f some same = absurd (omega (arith, some))
+follower_found r steps me to (suc left) place s there f some same = λ from a m x w here at.
+    let was = f from a m w here (s, there, refl) in
+    let y = stands r from a steps w place was.0.0 was.0.1 in
+    let own : bridge_at r.graph a place ≡ y.0 = bridge_is r.graph a y.0 place y.1 in
+    let it = is_m r from a steps w (place_before steps place) me left m here same in
+    let next : after_in m (way_back r.graph a steps s.hops to) ≡ Some y.0 =
+    was.1 ∙ (after_one r from a steps w left place m was.0 ∙ (ap (λ t. if t then Some (bridge_at r.graph a place) else after_in m (way_back r.graph a steps left (place_before steps place))) it ∙ ap Some own)) in
+    let found = place_found_at r.graph place y.0 w.ready.valid y.1 in
+    ap (λ o. unwrap_or o (length r.graph.bridges)) (sym found) ∙ (ap (place_or_end r.graph) (sym next) ∙ ap (place_after r.graph m) (sym (way_is r from a steps w to s x there at)))
+
+-- one bridge more
+pub followers_more : (r : Mesh) (steps : List (Option Step)) (me place one : ℕ) (places : List ℕ) → place < length steps → IsFollower r steps me place one → FollowOnWays r steps me (take place r.graph.bridges) places → FollowOnWays r steps me (take (place + 1) r.graph.bridges) (places ++ one ∷ [])
+followers_more r steps me place one places low f all = λ from a m w here.
+    let bs = r.graph.bridges in
+    let within : place < length bs = omega (arith, low, w.places) in
+    let b : GraphBridge = get_or bs place no_bridge in
+    let at : IsBridgeAt r.graph place b.id.system = slice_get-map (λ (t : GraphBridge). t.id.system) bs place ∙ ap (option_map (λ (t : GraphBridge). t.id.system)) (slice_get-get_or bs place no_bridge within) in
+    let next : GraphBridge → ℕ = λ t. place_after r.graph m (way_to r.graph a steps t.id.system) in
+    (λ i. all from a m w here i ++ f from a m b.id.system w here at i ∷ []) ∙
+    (sym (map-append next (take place bs) (b ∷ [])) ∙ ap (map next) (sym (take_more bs place no_bridge within)))
+
+pub followers_all : (r : Mesh) (steps : List (Option Step)) (me place : ℕ) (places : List ℕ) → place ≡ length steps → FollowOnWays r steps me (take place r.graph.bridges) places → FollowOnWays r steps me r.graph.bridges places
+followers_all r steps me place places e all = λ from a m w here.
+    all from a m w here ∙ ap (map (λ b. place_after r.graph m (way_to r.graph a steps b.id.system))) (ap (λ t. take t r.graph.bridges) (e ∙ w.places) ∙ take-length r.graph.bridges)
+
+-- on best ways
+pub followers_best : (r : Mesh) (steps : List (Option Step)) (me from mask : ℕ) (a m : SystemId) (places : List ℕ) → AreWays r from a steps × ((x : SystemId) → way_to r.graph a steps x ≡ best_of r.graph mask a x) → IsBridgeAt r.graph me m → FollowOnWays r steps me r.graph.bridges places → places ≡ followers_of r.graph mask a m
+followers_best r steps me from mask a m places best here f = f from a m best.0 here ∙ (λ i. map (λ (b : GraphBridge). place_after r.graph m (best.1 b.id.system i)) r.graph.bridges)
+
+-- ---- on the paths of a tree
+
+on_path : (g : Graph) (m : SystemId) (o : Option (List SystemId)) → place_after g m (option_map (λ (p : Path). p.bridges) (option_map (λ p. record { cost = cost_of g p; bridges = p }) o)) ≡ place_after g m o
+on_path g m None = refl
+on_path g m (Some p) = refl
+
+pub followers_in_best : (g : Graph) (mask : ℕ) (source m : SystemId) (tree : Paths) → GivesBest g mask source tree → followers_in_tree g tree m g.bridges ≡ followers_of g mask source m
+followers_in_best g mask source m tree gives = λ i. map (λ (b : GraphBridge). each b i) g.bridges
+  where
+    each : (b : GraphBridge) → place_after g m (option_map (λ (p : Path). p.bridges) (path_in tree.paths b.id.system)) ≡ place_after g m (best_of g mask source b.id.system)
+    each b = ap (λ o. place_after g m (option_map (λ (p : Path). p.bridges) o)) (gives.best b.id.system) ∙ on_path g m (best_of g mask source b.id.system)
