@@ -11,6 +11,9 @@ use Rattle.spb_types.specs.declared.service.Isid.{Isid}
 use Rattle.spb_types.specs.declared.service.Vid.{Vid}
 use Rattle.spb_types.specs.Places.{changed_at}
 use Rattle.itag_frames.specs.Backbone.{backbone_bytes}
+use Rattle.isis_pdu.specs.Pdu.{HelloValue}
+use Rattle.spb_tlvs.specs.declared.three_way.ThreeWay.{ThreeWay}
+use Rattle.forwarding.specs.declared.moved.Moved.{Moved}
 use Rattle.forwarding.specs.Tenant.{nothing, each_with}
 use Rattle.bridge_api.specs.declared.port.BridgePort.{BridgePort}
 use Rattle.bridge_api.specs.View.{BridgeView, port_at}
@@ -58,6 +61,20 @@ relayed_at (Some port) p f v = relayed_if port.adjacency.carrier p f v
 pub relayed : (p : ℕ) (f : Frame) (v : BridgeView) → AreNoHellos (sent (frame p f) v)
 unfolding moved_by_receive
 relayed p f v = relayed_at (port_at v p) p f v
+
+-- ---- a hello makes nobody send anything
+
+nothing_if : (carrier : Bool) (j : Parsed) (p : ℕ) (f : Frame) (v : BridgeView) (h : HelloValue) (way : ThreeWay) → j ≡ parsing.hello h way → (if carrier then moved_as j p f v else nothing) ≡ nothing
+nothing_if true j p f v h way is = ap (λ (k : Parsed). moved_as k p f v) is
+nothing_if false j p f v h way is = refl
+
+nothing_at : (o : Option BridgePort) (p : ℕ) (f : Frame) (v : BridgeView) (h : HelloValue) (way : ThreeWay) → parsed f ≡ parsing.hello h way → moved_at p f o v ≡ nothing
+nothing_at None p f v h way is = refl
+nothing_at (Some port) p f v h way is = nothing_if port.adjacency.carrier (parsed f) p f v h way is
+
+pub hello_sends_none : (p : ℕ) (f : Frame) (v : BridgeView) (h : HelloValue) (way : ThreeWay) → parsed f ≡ parsing.hello h way → sent (frame p f) v ≡ []
+unfolding moved_by_receive
+hello_sends_none p f v h way is = ap (λ (m : Moved). m.wire) (nothing_at (port_at v p) p f v h way is)
 
 -- ---- a customer's frame that enters
 

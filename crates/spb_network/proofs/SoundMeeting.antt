@@ -55,6 +55,7 @@ use Rattle.bridge_api.proofs.Entering.{entering_up_is_whole}
 use Rattle.bridge_api.proofs.Serving.{seconds_serve, seconds_leave_nothing_due}
 use Rattle.bridge_api.proofs.FewHeld.{steps_hold_few}
 use Rattle.bridge_api.proofs.FewSent.{seconds_send_few}
+use Rattle.spb_network.proofs.CountedSent.{hello_sends_none}
 use Rattle.spb_network.proofs.BridgeLaws.{steps_stay_sound, steps_keep_bridge, hellos_are_heard, up_ports_are_up, steps_carry_database}
 
 -- ---- a bridge, seen at its first port
@@ -298,6 +299,21 @@ module _ (v w : BridgeView) (carriers : HaveFirstCarriers v w) where
       let bytes : List ℕ = first_of (sent second asking) in
       let heard : parsed bytes ≡ parsing.hello said_so.hello said_so.way = ap parsed (sym (only_sent (sent second asking) bytes said_so.bytes says_second said_so.sent)) ∙ said_so.heard in
       steps_hold_few 4 (frame 1 bytes) asked (omega arith) (said_so.hello, said_so.way, heard) (steps_hold_few 3 second v (omega arith) tt carriers.few)
+
+  -- neither of these first frames makes anybody send anything: each is heard as a hello
+  pub first_quiet : (u : BridgeView) → sent (frame 1 (first_of (sent second v))) u ≡ []
+  first_quiet u =
+      let bytes : List ℕ = first_of (sent second v) in
+      let said_so : IsHelloHeard v 1 = hello_from_at (system 1) (down true) v carriers.sound carriers.first refl tt tt in
+      let heard : parsed bytes ≡ parsing.hello said_so.hello said_so.way = ap parsed (sym (only_sent (sent second v) bytes said_so.bytes says_first said_so.sent)) ∙ said_so.heard in
+      hello_sends_none 1 bytes u said_so.hello said_so.way heard
+
+  pub second_quiet : (u : BridgeView) → sent (frame 1 (first_of (sent second asking))) u ≡ []
+  second_quiet u =
+      let bytes : List ℕ = first_of (sent second asking) in
+      let said_so : IsHelloHeard asking 1 = hello_from_at (system 2) (keeping Initializing (system 1, 1) 3) asking asking_sound asking_starts refl (refl, omega arith) (octets 1 (omega arith)) in
+      let heard : parsed bytes ≡ parsing.hello said_so.hello said_so.way = ap parsed (sym (only_sent (sent second asking) bytes said_so.bytes says_second said_so.sent)) ∙ said_so.heard in
+      hello_sends_none 1 bytes u said_so.hello said_so.way heard
 
   -- the port is Up, also after the next second
   pub met_up : is_up_at (step second met) 1 ≡ true

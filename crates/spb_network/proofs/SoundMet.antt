@@ -33,7 +33,7 @@ use Rattle.spb_network.specs.DeliveryLaws.{frames_at, pushed_all}
 use Rattle.spb_network.specs.MeetingLaws.{HaveMet, SomeBridgesMeet}
 use Rattle.spb_network.proofs.ListLemmas.{length-push}
 use Rattle.spb_network.proofs.SoundConfigured.{with_first_carrier, first_port, first_ports, first_still, first_attached}
-use Rattle.spb_network.proofs.SoundMeeting.{system, HaveFirstCarriers, SaysLsp, met, says_first, says_second, met_up, few_sent, hello_sent, lsp_sent}
+use Rattle.spb_network.proofs.SoundMeeting.{system, HaveFirstCarriers, SaysLsp, met, says_first, says_second, first_quiet, second_quiet, met_up, few_sent, hello_sent, lsp_sent}
 use Rattle.spb_network.proofs.SoundPlay.{networks_are_sound}
 use Rattle.spb_network.proofs.SoundWitness.{source, box, start, declarations, address, all_declared}
 use Rattle.spb_network.proofs.SentLanes.{stepped_once, stepped_here}
@@ -107,7 +107,7 @@ world = record {
 }
 
 abbrev at : BridgeView → BridgeView → List Frame → List Frame → ℕ → State
-at v w ab ba n = record { rule = rule.Plain; rack = []; world = world; views = v ∷ w ∷ []; lanes = record { ab = ab; ba = ba } ∷ []; rounds = 0; drained = 0; accepted = n }
+at v w ab ba n = record { rule = rule.Plain; rack = []; world = world; views = v ∷ w ∷ []; lanes = record { ab = ab; ba = ba } ∷ []; outs = []; rounds = 0; drained = 0; accepted = n }
 
 out_there : lane_out (link ∷ []) 0 1 ≡ Some (record { link = 0; dir = Ab })
 unfolding lane_out
@@ -118,17 +118,17 @@ ticks_first : (v w : BridgeView) (n : ℕ) (bytes : Frame) → sent second v ≡
 unfolding next_state at_bridge stepped lane_out
 ticks_first v w n bytes says = ap (λ (fs : List (ℕ × Frame)). counted (sent_all (at (step second v) w [] [] n) 0 fs)) says
 
-delivers_ab : (v w : BridgeView) (n : ℕ) (bytes : Frame) → next_state (at v w (bytes ∷ []) [] n) (command.Deliver (108 ∷ []) Ab) ≡ at v (step (frame 1 bytes) w) [] [] (next_count n)
+delivers_ab : (v w : BridgeView) (n : ℕ) (bytes : Frame) → sent (frame 1 bytes) w ≡ [] → next_state (at v w (bytes ∷ []) [] n) (command.Deliver (108 ∷ []) Ab) ≡ at v (step (frame 1 bytes) w) [] [] (next_count n)
 unfolding next_state at_link delivered stepped
-delivers_ab v w n bytes = refl
+delivers_ab v w n bytes quiet = ap (λ (fs : List (ℕ × Frame)). counted (sent_all (at v (step (frame 1 bytes) w) [] [] n) 1 fs)) quiet
 
 ticks_second : (v w : BridgeView) (n : ℕ) (bytes : Frame) → sent second w ≡ (1, bytes) ∷ [] → next_state (at v w [] [] n) (command.Tick (98 ∷ [])) ≡ at v (step second w) [] (bytes ∷ []) (next_count n)
 unfolding next_state at_bridge stepped lane_out
 ticks_second v w n bytes says = ap (λ (fs : List (ℕ × Frame)). counted (sent_all (at v (step second w) [] [] n) 1 fs)) says
 
-delivers_ba : (v w : BridgeView) (n : ℕ) (bytes : Frame) → next_state (at v w [] (bytes ∷ []) n) (command.Deliver (108 ∷ []) Ba) ≡ at (step (frame 1 bytes) v) w [] [] (next_count n)
+delivers_ba : (v w : BridgeView) (n : ℕ) (bytes : Frame) → sent (frame 1 bytes) v ≡ [] → next_state (at v w [] (bytes ∷ []) n) (command.Deliver (108 ∷ []) Ba) ≡ at (step (frame 1 bytes) v) w [] [] (next_count n)
 unfolding next_state at_link delivered stepped
-delivers_ba v w n bytes = refl
+delivers_ba v w n bytes quiet = ap (λ (fs : List (ℕ × Frame)). counted (sent_all (at (step (frame 1 bytes) v) w [] [] n) 0 fs)) quiet
 
 -- and none is refused
 tick_none : (v w : BridgeView) (ab ba : List Frame) (n : ℕ) → (refusal_of (at v w ab ba n) (command.Tick (97 ∷ [])) ≡ None) × (refusal_of (at v w ab ba n) (command.Tick (98 ∷ [])) ≡ None)
@@ -203,9 +203,9 @@ module _ (v w : BridgeView) (with_first_carrier : HaveFirstCarriers v w) where
       let n3 : ℕ = next_count n2 in
       let n4 : ℕ = next_count n3 in
       played_then (at v w [] [] n) (at v1 w (h ∷ []) [] n1) _ _ (tick_none v w [] [] n).0 (ticks_first v w n h (says_first v w with_first_carrier))
-      (played_then (at v1 w (h ∷ []) [] n1) (at v1 w1 [] [] n2) _ _ (deliver_none v1 w h n1).0 (delivers_ab v1 w n1 h)
+      (played_then (at v1 w (h ∷ []) [] n1) (at v1 w1 [] [] n2) _ _ (deliver_none v1 w h n1).0 (delivers_ab v1 w n1 h (first_quiet v w with_first_carrier w))
       (played_then (at v1 w1 [] [] n2) (at v1 w2 [] (g ∷ []) n3) _ _ (tick_none v1 w1 [] [] n2).1 (ticks_second v1 w1 n2 g (says_second v w with_first_carrier))
-      (played_then (at v1 w2 [] (g ∷ []) n3) (at v2 w2 [] [] n4) _ _ (deliver_none v1 w2 g n3).1 (delivers_ba v1 w2 n3 g)
+      (played_then (at v1 w2 [] (g ∷ []) n3) (at v2 w2 [] [] n4) _ _ (deliver_none v1 w2 g n3).1 (delivers_ba v1 w2 n3 g (second_quiet v w with_first_carrier v1))
       (record { accepted = ((tick_none v2 w2 [] [] n4).0, tt); met = meets n4 w2 }))))
 
 -- ---- the two bridges, when their link has come up

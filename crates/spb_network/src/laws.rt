@@ -31,8 +31,8 @@ pub fn wiring_gives_tables()
 {}
 
 /// A delivery takes the frame at the front of a lane, whose link is up, makes the bridge at the far end step once by
-/// it, and puts what that sends into the lanes that lead from there; nothing else is changed. An accepted `deliver`
-/// makes such a delivery.
+/// it, and puts what that sends into the lanes that lead from there; the customers' frames that leave the bridge have
+/// left, and nothing else is changed. An accepted `deliver` makes such a delivery.
 pub fn a_delivery_is_one_step()
     ensures delivered { FramesAreDelivered }
     ensures command { DeliverDelivers }

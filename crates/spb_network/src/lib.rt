@@ -22,7 +22,9 @@
 //! graph until a bridge, a link, a metric or what is attached changes. `path` makes the graph that the bridge reads and one
 //! tree in it, and looks through the bridges once for each name.
 //! An `attach` goes over all that is attached, once for the customer port and its I-SID and once for each attached port
-//! of its bridge, and a `detach` twice; neither takes memory for that.
+//! of its bridge, and a `detach` twice; neither takes memory for that. A `frame` goes over all that is attached once.
+//! What leaves at customer ports takes memory for its place in the answer, and is handed over with it; where nothing
+//! leaves, none is taken.
 #![tactic(auto)]
 
 pub use answer::{Answer, Out};
