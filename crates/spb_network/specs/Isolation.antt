@@ -1,4 +1,5 @@
--- Service instances don't mix in a network: what leaves at a customer port of an I-SID has entered at one, byte for byte.
+-- Service instances don't mix in a network: what leaves at a customer port of an I-SID has entered at one, byte for
+-- byte.
 use Rattle.std.specs.Prelude.{◌≡◌, ◌⊎◌, ℕ, List, [], ◌∷◌, ◌++◌, Some, None, slice_get}
 use Rattle.std.specs.List.{AllByRecursion}
 use Rattle.scenario.specs.declared.command.Command.{Command}
@@ -54,14 +55,28 @@ pub record LeftEntered (w : World) (Entered : Isid → List ℕ → Type 0) (out
   pub attached : IsPortOf w out.bridge out.port isid
   pub entered : Entered isid out.frame
 
--- whatever commands were accepted, quiet or not: each frame that leaves in the last of them leaves at a port that is
--- attached at that moment to an I-SID, and in this I-SID it entered by one of them, byte for byte
+-- each frame that leaves in one more command leaves at a port that is attached at that moment to an I-SID, and in this
+-- I-SID it entered by one of all these commands, byte for byte
+abbrev pub LastLeavesEntered : State → List Command → Command → Type 0
+LastLeavesEntered s cs c = let t : State = played_all s cs in
+    AllByRecursion (LeftEntered t.world (HasEntered s (cs ++ c ∷ []))) (outs_in (answer_of t c))
+
+-- so it is whatever commands were accepted, quiet or not
 abbrev pub ServicesStayApart : Type 0
 ServicesStayApart = (rule : KindRule) (rack : List Spare) (cs : List Command) (c : Command)
     → AllByRecursion IsAddressed (cs ++ c ∷ []) → AreAccepted (opening rule rack) (cs ++ c ∷ [])
-    → AllByRecursion (LeftEntered (played_all (opening rule rack) cs).world
-      (HasEntered (opening rule rack) (cs ++ c ∷ [])))
-    (outs_in (answer_of (played_all (opening rule rack) cs) c))
+    → LastLeavesEntered (opening rule rack) cs c
+
+-- a customer's frame leaves: by some accepted commands, in the last of them
+pub record SomeFrameLeaves : Type 0 where
+  pub rule : KindRule
+  pub rack : List Spare
+  pub commands : List Command
+  pub last : Command
+  pub addressed : AllByRecursion IsAddressed (commands ++ last ∷ [])
+  pub accepted : AreAccepted (opening rule rack) (commands ++ last ∷ [])
+  pub out : Out
+  pub leaves : outs_in (answer_of (played_all (opening rule rack) commands) last) ≡ out ∷ []
 
 -- ---- what holds at every moment, for any word that says of a frame that it has entered
 
@@ -87,7 +102,11 @@ abbrev pub IsThere : State → Command → Isid → List ℕ → Type 0
 IsThere s c isid f = IsOnItsWay s isid f ⊎ Enters s c isid f
 
 -- nothing else is on its way after the command, and nothing else leaves in it
+pub record IsKeptApart (s : State) (c : Command) : Type 0 where
+  pub apart : IsApart (IsThere s c) (next_state s c)
+  pub left : AllByRecursion (LeftEntered s.world (IsThere s c)) (outs_in (answer_of s c))
+
+-- so it is of each accepted command
 abbrev pub CommandsKeepApart : Type 0
 CommandsKeepApart = (s : State) (c : Command) → IsSoundState s → IsAddressed c → refusal_of s c ≡ None → s.outs ≡ []
-    → HavePlaces s.views
-    → IsApart (IsThere s c) (next_state s c) × AllByRecursion (LeftEntered s.world (IsThere s c)) (outs_in (answer_of s c))
+    → HavePlaces s.views → IsKeptApart s c
