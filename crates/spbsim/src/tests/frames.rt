@@ -10,6 +10,7 @@ const TO_ALL: &str = "ffffffffffff0a00000000010800";
 
 /// A frame to all from the host `..aa`, and one to that host from another.
 const X: &str = "ffffffffffff0a00000000aa0800";
+
 const Y: &str = "0a00000000aa0a00000000bb0800";
 
 /// Six bridges in a ring, which have settled, with a service at five of them: two ports of A, and one each of B to E.
@@ -65,8 +66,7 @@ drain 10
 fn a_frame_to_all_leaves_at_each_other_port_of_the_service(rt: HostRuntime) -> Result<(), Fail> {
     let alloc = rt.alloc();
     let lines = format!(in alloc; "show A\nframe A 1 {TO_ALL}\ndrain 100\n")?;
-    let text = format!(
-        in alloc;
+    let text = format!(in alloc;
         "show A quiet 5 3
 u 10 020000000002 1
 u 10 020000000003 1
@@ -90,12 +90,8 @@ out E 1 {TO_ALL}
 #[test]
 fn deliveries_order_what_leaves(rt: HostRuntime) -> Result<(), Fail> {
     let alloc = rt.alloc();
-    let lines = format!(
-        in alloc;
-        "frame A 1 {TO_ALL}\ndeliver L6 ba\ndeliver L5 ba\ndrain 100\n"
-    )?;
-    let text = format!(
-        in alloc;
+    let lines = format!(in alloc; "frame A 1 {TO_ALL}\ndeliver L6 ba\ndeliver L5 ba\ndrain 100\n")?;
+    let text = format!(in alloc;
         "out A 2 {TO_ALL}
 out E 1 {TO_ALL}
 out B 1 {TO_ALL}
@@ -110,8 +106,7 @@ out D 1 {TO_ALL}
 #[test]
 fn a_frame_from_the_wrong_side_is_dropped(rt: HostRuntime) -> Result<(), Fail> {
     let alloc = rt.alloc();
-    let lines = format!(
-        in alloc;
+    let lines = format!(in alloc;
         "frame A 1 {TO_ALL}
 deliver L1 ab
 down L1
@@ -138,8 +133,7 @@ deliver L2 ab
 
 /// What leaves while the host of MOVING moves.
 fn moved_outs(alloc: Global) -> Result<String, AllocError> {
-    format!(
-        in alloc;
+    format!(in alloc;
         "out A 1 {X}\nout C 1 {X}\nout B 1 {Y}\nout A 1 {X}\nout B 1 {X}\nout C 1 {Y}\n"
     )
 }
@@ -155,8 +149,7 @@ fn a_host_is_found_where_it_spoke_last(rt: HostRuntime) -> Result<(), Fail> {
 #[test]
 fn what_goes_to_a_port_that_was_detached_is_lost(rt: HostRuntime) -> Result<(), Fail> {
     let alloc = rt.alloc();
-    let lines = format!(
-        in alloc;
+    let lines = format!(in alloc;
         "{MOVING}detach C 1\nround 28\nframe A 1 {Y}\ndrain 10\nframe B 1 {X}\ndrain 10\n"
     )?;
     let text = format!(in alloc; "{}out A 1 {X}\n", moved_outs(alloc)?.as_str())?;
@@ -167,8 +160,7 @@ fn what_goes_to_a_port_that_was_detached_is_lost(rt: HostRuntime) -> Result<(), 
 #[test]
 fn services_stay_apart(rt: HostRuntime) -> Result<(), Fail> {
     let alloc = rt.alloc();
-    let lines = format!(
-        in alloc;
+    let lines = format!(in alloc;
         "isid 200 10\nattach A 2 200\nattach B 2 200\nround 28\nframe A 2 {X}\ndrain 10\nframe A 1 {X}\ndrain 10\n"
     )?;
     let text = format!(in alloc; "out B 2 {X}\nout B 1 {X}\nout C 1 {X}\n")?;
