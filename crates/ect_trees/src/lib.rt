@@ -10,6 +10,12 @@
 //! without memory. They are looked for at the places that labels guess, and other bridges by a hash of the system id;
 //! where a guess fails by the hash, and where many ids fall together by a scan of the graph's list. A tree keeps each
 //! of its paths whole; [`Tree::path_to`] looks for the one that ends at the bridge, and copies it.
+//!
+//! [`Roads::followers`] says which bridge directly follows another on each best path from a source, and needs no path
+//! whole: a quick search keeps the last step of each way, with no memory for a label, and what it finds is a guess. It
+//! is looked at before it is believed: each step once, and each arc once, with ids only where cost and hops tie; a guess
+//! that isn't right would cost a search for whole paths. So it takes two looks at each arc, a look at each bridge that
+//! waits for each that is settled, and the hops of each way once.
 #![tactic(auto)]
 
 pub use followers::Followers;

@@ -21,6 +21,8 @@ use Rattle.spb_types.specs.declared.service.Vid.{Vid}
 use Rattle.spb_types.specs.declared.service.VidPlan.{VidPlan}
 use Rattle.spb_types.specs.declared.tables.GroupRow.{GroupRow}
 use Rattle.ect_trees.specs.Arcs.{IsBridgeAt}
+use Rattle.ect_trees.specs.Followers.{followers_of}
+use Rattle.ect_trees.specs.declared.followers.Followers.{Followers}
 use Rattle.fdb_build.specs.Tables.{mac_cmp, system_cmp}
 use Rattle.fdb_build.specs.Groups.{port_after, is_member}
 use Rattle.fdb_build.specs.declared.kept.Kept.{Kept}
@@ -130,6 +132,11 @@ AreKept g me kept = (place : ℕ) (x : SystemId) (sets : Vec PortSet) → IsBrid
 abbrev pub Keeps : ℕ → Sets → Kept → Kept → Type 0
 Keeps place sets old new = (i : ℕ) (kept : Vec PortSet) → kept_at new i ≡ Some kept
     → ((i ≡ place) × (sets.untied ≡ true) × (kept ≡ sets.ports)) ⊎ (kept_at old i ≡ Some kept)
+
+-- the followers of `me` on the best paths from it, if there are any and they are untied, are so under every mask
+abbrev pub AreOwn : Graph → SystemId → Option Followers → Type 0
+AreOwn g me own = (f : Followers) → own ≡ Some f → f.untied ≡ true
+    → (mask : ℕ) → f.places.items ≡ followers_of g mask me me
 
 -- ---- rows that grow
 

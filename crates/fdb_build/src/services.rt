@@ -62,7 +62,7 @@ impl Services {
             return Ok(());
         }
         put(alloc, &mut self.sends, member.system, member.isid)?;
-        match around.place_of(member.system) {
+        match around.roads.place_of(member.system) {
             None => Ok(()),
             Some(place) => put(alloc, &mut self.receivers, member.isid, place),
         }

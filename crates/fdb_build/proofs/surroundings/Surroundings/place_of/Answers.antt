@@ -1,6 +1,0 @@
-use Rattle.std.proofs.Common.{sym}
-use Rattle.ect_trees.proofs.Places.{place_found_at}
-use Rattle.fdb_build.proofs.surroundings.Surroundings.place_of.Goals as goal
-
-pub returns-in-Some : goal.returns-in-Some
-returns-in-Some c = sym (place_found_at c.args.self.now.roads.now c.in-Some.place c.args.system c.requires.valid.valid c.in-Some.ensures)
