@@ -1,5 +1,5 @@
-//! The program's forms: the run of a script, which says what lines are refused, what is played on the network and what
-//! is answered; and the script that is made for a number of bridges.
+//! The forms of the program. A script is run: which lines are refused, what is played on the network, and what is
+//! answered. Or one is made for a number of bridges, and written.
 #![tactic(auto)]
 
 pub use laws::forms_are_spelled;
