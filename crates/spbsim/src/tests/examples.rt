@@ -520,6 +520,60 @@ path north south 10 20 2 north west south
 path south north 10 20 2 south west north
 ";
 
+/// `customers-frames.spb`.
+const CUSTOMERS_FRAMES: &str =
+    "# Two tenants on a metro ring. A host of the first tenant moves, and is found again once it has spoken. What the second
+# tenant sends to the same address leaves at no port of the first.
+vid 10 1
+bridge north 32768 020000000001 00001 2
+bridge east 32768 020000000002 00002 2
+bridge south 32768 020000000003 00003 2
+bridge west 32768 020000000004 00004 2
+link ne north 1 east 2 10
+link es east 1 south 2 10
+link sw south 1 west 2 10
+link wn west 1 north 2 10
+isid 100 10
+isid 200 10
+attach north 1 100
+attach east 1 100
+attach south 1 100
+attach north 2 200
+attach south 2 200
+round 32
+state
+# The host 0a00000000aa of the first tenant speaks to all at east. Then north answers it: at east alone it leaves.
+frame east 1 ffffffffffff0a00000000aa0800
+drain 100
+frame north 1 0a00000000aa0a00000000bb0800
+drain 100
+# It moves to south, and speaks there.
+frame south 1 ffffffffffff0a00000000aa0800
+drain 100
+frame north 1 0a00000000aa0a00000000bb0800
+drain 100
+# The second tenant doesn't know that address: the frame leaves at its other port, and at none of the first tenant.
+frame north 2 0a00000000aa0a00000000bb0800
+drain 100
+# East loses its link to the south, and all is well again by the other way round.
+down es
+round 32
+frame east 1 0a00000000bb0a00000000cc0800
+drain 100
+";
+
+/// `customers-frames.out`.
+const CUSTOMERS_FRAMES_OUT: &str = "state quiet
+out north 1 ffffffffffff0a00000000aa0800
+out south 1 ffffffffffff0a00000000aa0800
+out east 1 0a00000000aa0a00000000bb0800
+out east 1 ffffffffffff0a00000000aa0800
+out north 1 ffffffffffff0a00000000aa0800
+out south 1 0a00000000aa0a00000000bb0800
+out south 2 0a00000000aa0a00000000bb0800
+out north 1 0a00000000bb0a00000000cc0800
+";
+
 /// `undeclared-bridge.spb`.
 const UNDECLARED_BRIDGE: &str =
     "# A link names a bridge that isn't declared: the run ends there, and what came before is written.
@@ -548,6 +602,7 @@ fn each_example_is_answered_as_beside_it(rt: HostRuntime) -> Result<(), Fail> {
         (TWO_TENANTS, Status::Done, TWO_TENANTS_OUT),
         (TWO_WAYS, Status::Done, TWO_WAYS_OUT),
         (TWO_SERVICES, Status::Done, TWO_SERVICES_OUT),
+        (CUSTOMERS_FRAMES, Status::Done, CUSTOMERS_FRAMES_OUT),
         (UNDECLARED_BRIDGE, undeclared, UNDECLARED_BRIDGE_OUT),
     ] {
         check(&rt, rt.alloc(), script, status, text)?;
