@@ -49,7 +49,11 @@ pub(crate) fn send_all(
     let srm = srm_ports(db, has_flags);
     let ssn = ssn_ports(db, has_flags);
     let places = flagged_places(db, has_flags);
-    let end = if srm == PortSet::none() { 0 } else { places.end };
+    let end = if srm == PortSet::none() {
+        0
+    } else {
+        places.end
+    };
     let made = frames_to_send(alloc, system, db, end)?;
     let frames = made.as_slice();
     let flags = Flags {

@@ -4,7 +4,6 @@ use Rattle.std.specs.Prelude.{slice_get}
 use Rattle.bridge_api.specs.Step as comes
 use Rattle.bridge_api.specs.Shown.{views_of}
 use Rattle.spb_types.specs.Places.{changed_at}
-use Rattle.spb_network.specs.State.{State}
 use Rattle.spb_network.specs.Events.{sent_all}
 use Rattle.spb_network.specs.Network.{state_of, AreMade, Fits}
 use Rattle.spb_network.proofs.BoxLemmas.{on_ok}
@@ -18,13 +17,13 @@ returns-clause-state g c =
     let kept = c.outbox.ensures.kept in
     let views = c.in_ok-tick.ensures.views ∙ (λ j. changed_at (comes.step comes.second) (views_of shown (kept j).boxes.items) c.args.i) in
     let frames =
-        c.into_parts-frames.ensures ∙ ap (λ outbox. outbox.wire) c.in_ok-tick.ensures.sent
-        ∙ ap (λ w. w ++ option_map_or (comes.sent comes.second) (slice_get (views_of shown c.outbox.new.self.boxes.items) c.args.i) []) c.in_ok-outbox.ensures.empty
-        ∙ (λ j. option_map_or (comes.sent comes.second) (slice_get (views_of shown (kept j).boxes.items) c.args.i) []) in
+    c.into_parts-frames.ensures ∙ ap (λ outbox. outbox.wire) c.in_ok-tick.ensures.sent
+    ∙ ap (λ w. w ++ option_map_or (comes.sent comes.second) (slice_get (views_of shown c.outbox.new.self.boxes.items) c.args.i) []) c.in_ok-outbox.ensures.empty
+    ∙ (λ j. option_map_or (comes.sent comes.second) (slice_get (views_of shown (kept j).boxes.items) c.args.i) []) in
     let lanes = c.put_spare.ensures ∙ (λ j. (kept j).lanes) in
     on_ok c.send_all.result (λ e. e
-        ∙ (λ j. sent_all (state_of shown (record (kept j) { boxes = c.tick.new.boxes; lanes = lanes j })) c.args.i c.into_parts-frames.result.0.items)
-        ∙ stepped-is comes.second (state_of shown c.args.self.now) c.args.i _ _ views frames) c.send_all.ensures.state
+    ∙ (λ j. sent_all (state_of shown (record (kept j) { boxes = c.tick.new.boxes; lanes = lanes j })) c.args.i c.into_parts-frames.result.0.items)
+    ∙ stepped-is comes.second (state_of shown c.args.self.now) c.args.i _ _ views frames) c.send_all.ensures.state
 
 pub returns-clause-order : goal.returns-clause-order
 returns-clause-order g c =
