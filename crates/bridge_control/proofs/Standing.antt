@@ -1,12 +1,11 @@
 -- Places outside of which no flags stand: nothing is sent of them, and so it stays.
-use Rattle.std.specs.Prelude.{◌≡◌, ℕ, ◌≤◌, Bool, true, false, ◌||◌, List, [], ◌∷◌, ◌++◌, map, length, take, drop, zero, suc, if◌then◌else◌, Some}
-use Rattle.std.proofs.Common.{refl, sym, ap, subst, ◌∙◌, arith}
+use Rattle.std.specs.Prelude.{◌≡◌, ℕ, ◌≤◌, Bool, true, false, ◌||◌, List, [], ◌∷◌, ◌++◌, map, length, take, drop, zero, suc, if◌then◌else◌}
+use Rattle.std.proofs.Common.{refl, sym, ap, ◌∙◌, arith}
 use Rattle.std.proofs.lemmas.List.{take-map, drop-map, length-map, append-nil}
 use Rattle.std.specs.List.{list_any}
 use Rattle.std.specs.FinMap.{entries}
 use Rattle.spb_types.specs.declared.address.LspId.{LspId}
 use Rattle.spb_types.specs.declared.address.SystemId.{SystemId}
-use Rattle.spb_types.specs.Ports.{has}
 use Rattle.lsdb.specs.Entry.{Entry, has_ports, has_flags, with_ssn}
 use Rattle.lsdb.specs.Database.{Lsps, AreFlagsWithin}
 use Rattle.lsdb.proofs.Flags.{none_in}
@@ -18,7 +17,6 @@ use Rattle.bridge_api.specs.declared.outbox.Outbox.{Outbox}
 use Rattle.bridge_api.specs.View.{is_port_up}
 use Rattle.bridge_api.specs.Step.{with_wire}
 use Rattle.bridge_api.specs.Ticking.{lsp_frame, lsps_at, after_sending_at}
-use Rattle.bridge_control.specs.Frames.{frames_held}
 use Rattle.bridge_control.proofs.Wire.{frames_among, among_split, among_sent, sent_as, sent_none}
 
 or_parts : (a b : Bool) → (a || b) ≡ false → (a ≡ false) × (b ≡ false)

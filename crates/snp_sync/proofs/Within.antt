@@ -1,10 +1,9 @@
 -- Places outside of which no flags stand: nothing is gathered there, and nothing changes.
-use Rattle.std.specs.Prelude.{◌≡◌, ℕ, zero, suc, ◌+◌, ◌<◌, ◌≤◌, Bool, true, false, ◌||◌, cond, T, List, [], ◌∷◌, ◌++◌, map, filter, length, take, drop, if◌then◌else◌}
-use Rattle.std.proofs.Common.{refl, sym, ap, subst, ◌∙◌, arith, append-nil}
+use Rattle.std.specs.Prelude.{◌≡◌, ℕ, zero, suc, ◌+◌, ◌<◌, ◌≤◌, Bool, true, false, ◌||◌, cond, T, List, [], ◌∷◌, ◌++◌, map, filter, take, drop, if◌then◌else◌}
+use Rattle.std.proofs.Common.{refl, sym, ap, subst, ◌∙◌, arith}
 use Rattle.std.specs.List.{list_any}
 use Rattle.std.specs.FinMap.{is_sorted, entries, entries_sorted, from_sorted, len, len-entries, entries-from_sorted, same_entries_map}
 use Rattle.spb_types.specs.declared.address.LspId.{LspId}
-use Rattle.spb_types.specs.Ports.{has}
 use Rattle.spb_tlvs.specs.declared.entries.SnpEntry.{SnpEntry}
 use Rattle.lsdb.specs.Entry.{Entry, has_ports, has_flags, with_ssn}
 use Rattle.lsdb.specs.Database.{Lsps, id_cmp, each, AreFlagsWithin}

@@ -1,5 +1,5 @@
 use Rattle.std.proofs.Common.{◌≤◌, ◌++◌, ◌∷◌, [], Vec, Global, ap, ◌∙◌, arith}
-use Rattle.std.specs.FinMap.{entries, len}
+use Rattle.std.specs.FinMap.{entries}
 use Rattle.spb_tlvs.specs.declared.entries.SnpEntry.{SnpEntry}
 use Rattle.lsdb.specs.Database.{keyed}
 use Rattle.snp_sync.specs.SnpEntries.{has_ssn_at}

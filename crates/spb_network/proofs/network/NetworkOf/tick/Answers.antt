@@ -4,7 +4,6 @@ use Rattle.std.specs.Prelude.{slice_get}
 use Rattle.bridge_api.specs.Step as comes
 use Rattle.bridge_api.specs.Shown.{views_of}
 use Rattle.spb_types.specs.Places.{changed_at}
-use Rattle.spb_network.specs.State.{State}
 use Rattle.spb_network.specs.Events.{sent_all}
 use Rattle.spb_network.specs.Network.{state_of, AreMade, Fits}
 use Rattle.spb_network.proofs.BoxLemmas.{on_ok}
