@@ -64,6 +64,9 @@ impl<B: Bridge> NetworkOf<B> {
             ≡ event.left_all (event.sent_all (state_of B.shown self.old) i outbox.wire) i outbox.left) }
         ensures boxes { self.new.boxes ≡ self.old.boxes }
     {
+        if outbox.wire.is_empty() && outbox.left.is_empty() {
+            return Ok(());
+        }
         let (frames, _) = outbox.wire.into_parts();
         self.send_all(i, frames)?;
         self.leave_all(i, outbox.left.into_vec())
