@@ -1,5 +1,5 @@
 //! Tests of `scenario`.
-use scenario::{Command, FirstWord, KEYWORDS, Keyword, LineError, head, parse_line, print_command};
+use scenario::{Command, KEYWORDS, Keyword, LineError, parse_line, print_command};
 use spb_types::NoMemory;
 use std::alloc::Global;
 use std::process::Abort;
@@ -335,10 +335,7 @@ fn a_return_ends_no_word(rt: HostRuntime) {
 
 fn check_ignored(rt: &impl Abort, alloc: Global, line: &str) {
     let is_ignored = matches!(parsed(alloc, line.as_bytes()), Ok(None));
-    assert!(*rt;
-        is_ignored && head(line.as_bytes()).is_none(),
-        "at {line:?}"
-    );
+    assert!(*rt; is_ignored, "at {line:?}");
 }
 
 #[test]
@@ -349,7 +346,7 @@ fn blank_lines_and_comments_are_ignored(rt: HostRuntime) {
 }
 
 fn is_too_long(alloc: Global, line: &[u8]) -> bool {
-    parsed(alloc, line).err() == Some(LineError::Words(8193)) && head(line).is_none()
+    parsed(alloc, line).err() == Some(LineError::Words(8193))
 }
 
 /// That 8,192 of this byte are a line, and not one more.
@@ -376,21 +373,6 @@ fn the_longest_line_gives_its_command(rt: HostRuntime) {
     assert!(rt; matches!(tick, Ok(Some(Command::Tick(_)))));
     line.push(b'\r').expect(&rt, "out of memory");
     assert!(rt; is_too_long(rt.alloc(), line.as_slice()));
-}
-
-fn check_first(rt: &impl Abort, line: &str, column: usize, keyword: Option<Keyword>) {
-    let first = FirstWord { column, keyword };
-    assert_eq!(*rt; head(line.as_bytes()), Some(first), "at {line:?}");
-}
-
-#[test]
-fn the_first_word_tells_the_form(rt: HostRuntime) {
-    check_first(&rt, "tick", 1, Some(Keyword::Tick));
-    check_first(&rt, "  vid x", 3, Some(Keyword::Vid));
-    check_first(&rt, "\twiring A", 2, Some(Keyword::Wiring));
-    check_first(&rt, "drops A", 1, None);
-    check_first(&rt, " # tick", 2, None);
-    check_first(&rt, "tick\r", 1, None);
 }
 
 fn check_keyword(rt: &impl Abort, keyword: Keyword, text: &str) {

@@ -10,3 +10,8 @@ pub mod Octets
 pub mod HexText
 pub mod ValueTexts
 pub mod PrintedLines
+pub mod FeedSteps
+pub mod FeedLeft
+pub mod FeedLaws
+pub mod CutLines
+pub mod FirstEnd

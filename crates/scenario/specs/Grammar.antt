@@ -6,7 +6,6 @@ use Rattle.spb_types.specs.declared.link.Dir.{Dir}
 use Rattle.scenario.specs.declared.command.Command.{Command}
 use Rattle.scenario.specs.declared.command.Command.TheVariants as command
 use Rattle.scenario.specs.declared.keyword.Keyword.{Keyword}
-use Rattle.scenario.specs.declared.line.FirstWord.{FirstWord}
 use Rattle.scenario.specs.declared.keyword.Keyword.TheVariants.{Vid, Bridge, Link, Isid, Attach, Detach, Metric, Down, Up, Restart, Tick, Deliver, Lose, Double, Round, Drain, Frame, State, Show, Wiring, Db, Adj, Path}
 use Rattle.scenario.specs.declared.line.TheConstants.{LINE_LIMIT}
 use Rattle.scenario.specs.Words.{Word, Rest, rest_from, Reading, next, at_end}
@@ -176,13 +175,3 @@ line_of line =
     if nat_lt LINE_LIMIT (length line) then Err (LINE_LIMIT + 1)
     else (if is_comment line then Ok None
     else unless_blank (rest_from 1 line).words (rest_from 1 line))
-
-abbrev pub first_head : List Word → Option FirstWord
-first_head [] = None
-first_head (first ∷ words) = Some (record { column = first.column; keyword = keyword first.bytes })
-
--- the first word of a line that is neither too long nor a comment, with the keyword that it spells
-unfoldable pub head_of : List ℕ → Option FirstWord
-head_of line =
-    if nat_lt LINE_LIMIT (length line) then None
-    else (if is_comment line then None else first_head (rest_from 1 line).words)

@@ -1,9 +1,13 @@
-//! The line grammar of a script: what each line says, and where a line that says nothing goes wrong.
+//! The lines of a script: how its bytes are cut into lines, what each line says, and where a line that says nothing goes
+//! wrong.
+//!
+//! `Cutter` takes a script in pieces, from left to right, and gives its lines one after another. It looks at each byte
+//! once, and keeps no more than the line that was begun and the last one that it gave.
 //!
 //! A line is its words, apart by spaces or tabs: a keyword, and then what its form takes. `parse_line` reads it from
-//! left to right, once; `head` reads the first word alone. Both take time in proportion to the line: each byte of a
-//! word is looked at a few times, and the first word is compared with the keywords, of which there are 23. A line of
-//! more than 8,192 bytes is refused before it is looked at. Only the bytes of a frame take memory.
+//! left to right, once, and takes time in proportion to the line: each byte of a word is looked at a few times, and the
+//! first word is compared with the keywords, of which there are 23. A line of more than 8,192 bytes is refused before
+//! it is looked at. Only the bytes of a frame take memory.
 //!
 //! `print_command` is the way back: the line of a command, with single spaces, numbers without leading zeros and
 //! lower-case digits. What is printed for a command that some line spells, is read as that command, if memory is found
@@ -11,6 +15,7 @@
 #![tactic(auto)]
 
 mod command;
+mod cutter;
 mod error;
 mod field;
 #[tactic(auto, unfolding(crate::specs::Grammar::form_of))]
@@ -23,9 +28,13 @@ mod printing;
 mod words;
 
 pub use command::Command;
+pub use cutter::{Cut, Cutter, Cutting, LINES_LIMIT, SCRIPT_LIMIT, Stop};
 pub use error::LineError;
 pub use keyword::{KEYWORDS, Keyword};
-pub use laws::{printed_lines_spell, system_ids_are_octets};
-pub use line::{FirstWord, LINE_LIMIT, head, parse_line};
+pub use laws::{
+    lines_follow, pieces_are_fed_together, pieces_say_the_same, printed_lines_spell,
+    scripts_are_cut_into_lines, system_ids_are_octets,
+};
+pub use line::{LINE_LIMIT, parse_line};
 pub use printing::print_command;
 pub use spb_types::{Dir, Side};

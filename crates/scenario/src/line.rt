@@ -1,5 +1,5 @@
 ghost use Rattle.std.specs.Prelude.{◌≡◌, ◌≤◌, ◌↔◌, length};
-ghost use Rattle.scenario.specs.Grammar.{read, form_of, is_comment as is_comment_line, line_of, head_of};
+ghost use Rattle.scenario.specs.Grammar.{read, form_of, is_comment as is_comment_line, line_of};
 ghost use Rattle.scenario.specs.Answers.{Gives, Reads};
 ghost use Rattle.scenario.specs.Spelling.{Spells, IsBlankOrComment, IsRefusedAt};
 
@@ -12,15 +12,6 @@ use std::alloc::Global;
 
 /// How many bytes a line has at most, without its end.
 pub const LINE_LIMIT: usize = 8_192;
-
-/// The first word of a line.
-#[derive(Clone, Copy, Debug, PartialEq, Eq)]
-pub struct FirstWord {
-    /// The column of its first byte, counted from 1.
-    pub column: usize,
-    /// The keyword that it spells, if it spells one.
-    pub keyword: Option<Keyword>,
-}
 
 /// Whether a line is a comment: its very first byte is `#`.
 fn is_comment(line: &[u8]) -> bool
@@ -59,21 +50,6 @@ fn command(alloc: Global, keyword: Keyword, words: &mut Words<'_>) -> Result<Com
         Keyword::Adj => Ok(Command::Adj(forms::one_name(words)?)),
         Keyword::Path => forms::path(words),
     }
-}
-
-/// The first word of a line. None exactly where the line is blank, is a comment or has more than 8,192 bytes.
-#[tactic(auto, unfolding(crate::specs::Grammar::head_of, crate::specs::Words::next))]
-pub fn head(line: &[u8]) -> Option<FirstWord>
-    ensures { result ≡ head_of line.now }
-{
-    if line.len() > LINE_LIMIT || is_comment(line) {
-        return None;
-    }
-    let (column, word) = Words::new(line).next_word()?;
-    Some(FirstWord {
-        column,
-        keyword: Keyword::read(word),
-    })
 }
 
 /// What the grammar gives for a line.
