@@ -1,10 +1,10 @@
 -- Learned places stay among the ports of their I-SID.
-use Rattle.std.proofs.Common.{◌≡◌, ◌≢◌, ℕ, zero, suc, Bool, true, false, not, cond, eqb, eqb-true, eq-eqb, List, [], ◌∷◌, ◌++◌, take, filter, inl, inr, Option, Some, None, refl, sym, ap, subst, ◌∙◌, if◌then◌else◌}
+use Rattle.std.proofs.Common.{◌≡◌, ◌≢◌, ℕ, zero, suc, Bool, true, false, not, cond, eqb, eqb-true, eq-eqb, List, [], ◌∷◌, ◌++◌, take, inl, inr, Option, Some, None, refl, sym, ap, subst, ◌∙◌, if◌then◌else◌}
 use Rattle.std.specs.List.{AllByRecursion, list_any}
-use Rattle.std.specs.Map.{lookup, remove_entry}
+use Rattle.std.specs.Map.{remove_entry}
 use Rattle.std.specs.Option.{option_map}
 use Rattle.std.specs.Ordering.{eq_by_cmp}
-use Rattle.std.specs.FinMap.{get, insert, remove, get-insert, get-remove}
+use Rattle.std.specs.FinMap.{get, insert, get-insert, get-remove}
 use Rattle.std.proofs.lemmas.Bool.{false≢true}
 use Rattle.spb_types.specs.declared.address.Mac.{Mac}
 use Rattle.spb_types.specs.declared.service.Attachment.{Attachment}
@@ -14,10 +14,10 @@ use Rattle.customer_learning.specs.declared.place.Place.{Place}
 use Rattle.customer_learning.specs.declared.place.Place.TheVariants.{Local, Remote}
 use Rattle.customer_learning.proofs.Maps.{isids_total, tied, tied_is}
 use Rattle.forwarding.specs.declared.tenant.Tenant.{Tenant}
-use Rattle.forwarding.specs.Ports.{attachment_of, is_in, is_at_other_port, without_customer_port}
-use Rattle.forwarding.specs.Tenant.{Carried, after_backbone, after_customer, is_group, is_received, from_of, with_source, learned_at_entry}
-use Rattle.forwarding.specs.Laws.{IsAttachedTo, HasPlaces}
-use Rattle.forwarding.specs.Detaching.{without_port, learned_without, after_detach}
+use Rattle.forwarding.specs.Ports.{attachment_of, is_in, without_customer_port}
+use Rattle.forwarding.specs.Tenant.{is_group, is_received, from_of, with_source, learned_at_entry}
+use Rattle.forwarding.specs.Laws.{IsAttachedTo}
+use Rattle.forwarding.specs.Detaching.{learned_without}
 use Rattle.forwarding.specs.Placed.{IsPlaceIn, ArePlaced, PlacedIsFound, EntryKeepsPlaces, DeliveryKeepsPlaces, AreAttachedOnce, AttachingKeepsPlaces, DetachingKeepsPlaces}
 
 -- an address with its place

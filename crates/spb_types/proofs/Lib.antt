@@ -1,3 +1,4 @@
 pub mod PortLemmas
 pub mod Places
 pub mod SystemNumbers
+pub mod RowNumbers

@@ -1,5 +1,5 @@
 -- System ids are the same where they are the same as numbers.
-use Rattle.std.proofs.Common.{◌≡◌, ℕ, ◌+◌, ◌*◌, ◌<◌, Bool, true, false, List, [], ◌∷◌, length, refl, sym, ap, ◌∙◌, arith}
+use Rattle.std.proofs.Common.{◌≡◌, ℕ, ◌+◌, ◌*◌, ◌<◌, Bool, true, false, List, [], ◌∷◌, length, refl, sym, ◌∙◌, arith}
 use Rattle.std.specs.Prelude.{◌==◌}
 use Rattle.std.specs.List.{AllByRecursion}
 use Rattle.std.specs.Int.{w64, from_be_bytes}
@@ -12,7 +12,7 @@ abbrev digits : ℕ → List ℕ → ℕ
 digits n [] = n
 digits n (b ∷ bs) = digits (n * 256 + b) bs
 
-last_digit : (p q x y : ℕ) → x < 256 → y < 256 → p * 256 + x ≡ q * 256 + y → (p ≡ q) × (x ≡ y)
+pub last_digit : (p q x y : ℕ) → x < 256 → y < 256 → p * 256 + x ≡ q * 256 + y → (p ≡ q) × (x ≡ y)
 last_digit p q x y lx ly e = (omega (arith, e), omega (arith, e))
 
 -- equal numbers of as many digits have equal digits
@@ -25,7 +25,7 @@ same_digits (x ∷ xs) (y ∷ ys) p q len sx sy e =
     let here = last_digit p q x y sx.0 sy.0 rest.0 in
     (here.0, λ i. here.1 i ∷ rest.1 i)
 
-six : (P : List ℕ → Type 0) (m : List ℕ) → length m ≡ 6 → ((a b c d e f : ℕ) → P (a ∷ b ∷ c ∷ d ∷ e ∷ f ∷ [])) → P m
+pub six : (P : List ℕ → Type 0) (m : List ℕ) → length m ≡ 6 → ((a b c d e f : ℕ) → P (a ∷ b ∷ c ∷ d ∷ e ∷ f ∷ [])) → P m
 six P (a ∷ b ∷ c ∷ d ∷ e ∷ f ∷ []) h k = k a b c d e f
 six P _ h k = absurd (omega arith)
 

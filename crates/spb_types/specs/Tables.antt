@@ -1,5 +1,5 @@
 -- Questions to the tables of a bridge (IEEE 802.1aq, 8.8).
-use Rattle.std.specs.Prelude.{◌≡◌, ℕ, List, Bool, ◌==◌, ◌&&◌, Option, Some, None, find, option_map}
+use Rattle.std.specs.Prelude.{◌≡◌, ℕ, ◌/◌, ◌%◌, List, ◌∷◌, Bool, ◌==◌, ◌&&◌, Option, Some, None, find, option_map}
 use Rattle.std.specs.Str.{bytes_eq}
 use Rattle.spb_types.specs.declared.address.Mac.{Mac}
 use Rattle.spb_types.specs.declared.service.Vid.{Vid}
@@ -7,6 +7,10 @@ use Rattle.spb_types.specs.declared.ports.PortSet.{PortSet}
 use Rattle.spb_types.specs.declared.tables.UnicastRow.{UnicastRow}
 use Rattle.spb_types.specs.declared.tables.GroupRow.{GroupRow}
 use Rattle.spb_types.specs.Ports.{no_ports}
+
+-- the bytes of a VID, the low one first, and those of an address
+abbrev pub row_bytes : Vid → Mac → List ℕ
+row_bytes vid mac = (vid.value % 256) ∷ (vid.value / 256) ∷ mac.bytes
 
 -- whether a row is for this VID and this address
 abbrev pub is_row_for : Vid → Mac → UnicastRow → Bool

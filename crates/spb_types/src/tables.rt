@@ -1,6 +1,9 @@
-ghost use Rattle.std.specs.Prelude.{◌≡◌, ◌↔◌, IsTrue, find};
+ghost use Rattle.std.specs.Prelude.{◌≡◌, ◌↔◌, ◌<◌, ◌^◌, ◌==◌, ◌&&◌, IsTrue, find};
+ghost use Rattle.std.specs.Int.{w64, from_le_bytes};
+ghost use Rattle.std.specs.Str.{bytes_eq};
+ghost use Rattle.spb_types.specs.Address.{HasSixBytes};
 ghost use Rattle.std.specs.Option.{option_copied};
-ghost use Rattle.spb_types.specs.Tables.{is_row_for, unicast_in, is_group_row_for, group_in, IsIngress};
+ghost use Rattle.spb_types.specs.Tables.{row_bytes, is_row_for, unicast_in, is_group_row_for, group_in, IsIngress};
 
 use crate::{Mac, PortSet, Seq, SystemId, Vid};
 
@@ -34,6 +37,25 @@ pub struct Path {
     pub bridges: Seq<SystemId>,
 }
 
+/// A VID and an address as one number of eight bytes, in the order in which they stand in memory.
+fn number_of(vid: Vid, mac: Mac) -> u64
+    ensures number { result ≡ from_le_bytes w64 (row_bytes vid mac) }
+    ensures vid { vid.value < 2 ^ 16 }
+    ensures bytes { HasSixBytes (record { mac = mac }) }
+{
+    let [low, high] = vid.value.to_le_bytes();
+    let [a, b, c, d, e, f] = mac.bytes;
+    u64::from_le_bytes([low, high, a, b, c, d, e, f])
+}
+
+/// Whether the VID and the address of a row are these. Both are compared at once.
+#[tactic(auto, using(crate::proofs::RowNumbers::same_rows))]
+fn is_at(row_vid: Vid, row_mac: Mac, vid: Vid, mac: Mac) -> bool
+    ensures { result ≡ ((row_vid.value == vid.value) && bytes_eq row_mac.bytes mac.bytes) }
+{
+    number_of(row_vid, row_mac) == number_of(vid, mac)
+}
+
 /// The first unicast row for a VID and an address.
 fn row_for(tables: &Tables, vid: Vid, mac: Mac) -> Option<&UnicastRow>
     ensures { option_copied result ≡ find (is_row_for vid mac) tables.now.unicast }
@@ -41,7 +63,7 @@ fn row_for(tables: &Tables, vid: Vid, mac: Mac) -> Option<&UnicastRow>
     tables
         .unicast
         .iter()
-        .find(|row| row.vid == vid && row.mac == mac)
+        .find(|row| is_at(row.vid, row.mac, vid, mac))
 }
 
 /// The port by which frames to an address in a VID leave: that of the first unicast row for both. None exactly where
@@ -62,7 +84,7 @@ fn group_row_for(tables: &Tables, vid: Vid, mac: Mac) -> Option<&GroupRow>
     tables
         .group
         .iter()
-        .find(|group| group.vid == vid && group.mac == mac)
+        .find(|group| is_at(group.vid, group.mac, vid, mac))
 }
 
 /// The ports by which frames to a group address in a VID leave: those of the first group row for both, and none where
