@@ -1,14 +1,14 @@
 -- Ways by their last steps: each is a path, with the cost and the hops of its step.
-use Rattle.std.proofs.Common.{◌≡◌, ℕ, zero, suc, ◌+◌, ◌<◌, ◌≤◌, inl, inr, List, [], ◌∷◌, ◌++◌, length, Option, Some, None, IsSome, unwrap_or, option_map, get_or, refl, sym, ap, ◌∙◌, subst, arith, length-append}
+use Rattle.std.proofs.Common.{◌≡◌, ℕ, zero, suc, ◌+◌, ◌≤◌, inl, inr, List, [], ◌∷◌, ◌++◌, length, Option, Some, None, IsSome, unwrap_or, option_map, refl, sym, ap, ◌∙◌, subst, arith, length-append}
 use Rattle.std.proofs.lemmas.Option.{same_Some, none-some, slice_get_within, slice_get-get_or}
-use Rattle.spb_types.specs.Graph.{IsAmong, IsBridge, systems_of, cost_between}
+use Rattle.spb_types.specs.Graph.{IsAmong, systems_of, cost_between}
 use Rattle.spb_types.specs.declared.address.SystemId.{SystemId}
 use Rattle.spb_types.specs.declared.graph.Graph.{Graph}
 use Rattle.ect_trees.specs.declared.mesh.Mesh.{Mesh}
 use Rattle.ect_trees.specs.declared.ways.Step.{Step}
 use Rattle.ect_trees.specs.Path.{IsPath, cost_of}
 use Rattle.ect_trees.specs.Arcs.{IsBridgeAt, Leads, place_in}
-use Rattle.ect_trees.specs.Ways.{step_at, before_of, place_before, bridge_at, way_back, way_to, IsStart, IsOnward, IsSound, AreWays, HasHops}
+use Rattle.ect_trees.specs.Ways.{step_at, before_of, place_before, bridge_at, way_back, way_to, IsStart, IsOnward, AreWays, HasHops}
 use Rattle.ect_trees.proofs.Among.{among_parts}
 use Rattle.ect_trees.proofs.Walks.{step, path_single, path_snoc, cost-snoc}
 use Rattle.ect_trees.proofs.Places.{at_among, at_once, place_is, place_once}

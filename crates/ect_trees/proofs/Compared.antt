@@ -1,5 +1,5 @@
 -- Ways compared by their ids, from their ends back to the place where they part.
-use Rattle.std.proofs.Common.{◌≡◌, ◌≢◌, ℕ, zero, suc, ◌+◌, ◌<◌, ◌⊎◌, inl, inr, List, [], ◌∷◌, ◌++◌, length, map, Option, Some, refl, sym, ap, ◌∙◌, subst, arith, length-append, append-nil, Ordering}
+use Rattle.std.proofs.Common.{◌≡◌, ℕ, zero, suc, ◌+◌, ◌<◌, ◌⊎◌, inl, inr, List, [], ◌∷◌, ◌++◌, length, map, Option, refl, sym, ap, ◌∙◌, subst, arith, append-nil, Ordering}
 use Rattle.std.specs.Cmp.Lexicographic.{slice_cmp}
 use Rattle.std.proofs.lemmas.List.{map-append, length-map, append_assoc}
 use Rattle.spb_types.specs.Graph.{IsValid}
@@ -9,7 +9,7 @@ use Rattle.ect_trees.specs.declared.mesh.Mesh.{Mesh}
 use Rattle.ect_trees.specs.declared.ways.Step.{Step}
 use Rattle.ect_trees.specs.Key.{id_cmp, masked_id, inserted, sorted_ids}
 use Rattle.ect_trees.specs.Arcs.{IsBridgeAt}
-use Rattle.ect_trees.specs.Ways.{step_at, place_before, bridge_at, way_back, AreWays, HasHops, ids_of, Compares}
+use Rattle.ect_trees.specs.Ways.{place_before, bridge_at, way_back, AreWays, HasHops, ids_of, Compares}
 use Rattle.ect_trees.proofs.Behind.{behind_fork}
 use Rattle.ect_trees.proofs.Chained.{bridge_is, stands, prior}
 

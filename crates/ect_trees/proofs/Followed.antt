@@ -1,6 +1,6 @@
 -- The bridge that directly follows another on a list of bridges, and on ways.
-use Rattle.std.proofs.Common.{◌≡◌, ◌≢◌, ℕ, zero, suc, ◌+◌, ◌<◌, ◌≤◌, Bool, true, false, true≢false, if◌then◌else◌, inl, inr, List, [], ◌∷◌, ◌++◌, length, map, take, get_or, Option, Some, None, option_map, unwrap_or, refl, sym, ap, ◌∙◌, subst, arith, Bor}
-use Rattle.std.specs.Prelude.{IfSome, is_some, option_copied, option_and_then, position, slice_get, nat_lt}
+use Rattle.std.proofs.Common.{◌≡◌, ◌≢◌, ℕ, zero, suc, ◌+◌, ◌<◌, ◌≤◌, Bool, true, false, if◌then◌else◌, inl, List, [], ◌∷◌, ◌++◌, length, map, take, get_or, Option, Some, None, option_map, unwrap_or, refl, sym, ap, ◌∙◌, subst, arith, Bor}
+use Rattle.std.specs.Prelude.{IfSome, is_some, option_copied, position, slice_get, nat_lt}
 use Rattle.std.specs.List.{position_or_len}
 use Rattle.std.proofs.Math.Seq.{take-length}
 use Rattle.std.proofs.lemmas.Bool.{ltb-true, ltb-false}
@@ -19,7 +19,7 @@ use Rattle.ect_trees.specs.declared.ways.Step.{Step}
 use Rattle.ect_trees.specs.Path.{cost_of}
 use Rattle.ect_trees.specs.Best.{best_of}
 use Rattle.ect_trees.specs.Tree.{Paths, path_in, GivesBest}
-use Rattle.ect_trees.specs.Arcs.{IsBridgeAt, AreReady}
+use Rattle.ect_trees.specs.Arcs.{IsBridgeAt}
 use Rattle.ect_trees.specs.Ways.{step_at, place_before, bridge_at, way_back, way_to, AreWays, HasHops}
 use Rattle.ect_trees.specs.Followers.{after_in, place_or_end, place_after, followers_of, followers_in_tree, IsFollower, FollowOnWays}
 use Rattle.ect_trees.proofs.Among.{same_is, same_self, among_right}

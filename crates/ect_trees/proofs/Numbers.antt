@@ -52,7 +52,7 @@ digits_cmp (x ∷ xs) (y ∷ ys) p q len sx sy =
     digits_cmp xs ys (p * 256 + x) (q * 256 + y) (omega (arith, len)) sx.1 sy.1
     ∙ (ap (λ o. ordering_then o (slice_cmp nat_cmp xs ys)) (digit_cmp p q x y sx.0 sy.0) ∙ then_then (nat_cmp p q) (nat_cmp x y) (slice_cmp nat_cmp xs ys))
 
-eight : (P : List ℕ → Type 0) (m : List ℕ) → length m ≡ 8 → ((a b c d e f g h : ℕ) → P (a ∷ b ∷ c ∷ d ∷ e ∷ f ∷ g ∷ h ∷ [])) → P m
+pub eight : (P : List ℕ → Type 0) (m : List ℕ) → length m ≡ 8 → ((a b c d e f g h : ℕ) → P (a ∷ b ∷ c ∷ d ∷ e ∷ f ∷ g ∷ h ∷ [])) → P m
 eight P (a ∷ b ∷ c ∷ d ∷ e ∷ f ∷ g ∷ h ∷ []) l k = k a b c d e f g h
 eight P _ l k = absurd (omega arith)
 

@@ -1,5 +1,5 @@
 -- Entries of the frontier that compare equal are the same.
-use Rattle.std.proofs.Common.{◌≡◌, true, false, true≢false, refl, sym, subst, Ordering, Less, Equal, Greater, nat_cmp}
+use Rattle.std.proofs.Common.{◌≡◌, true, true≢false, refl, sym, subst, Ordering, Less, Equal, Greater, nat_cmp}
 use Rattle.std.specs.Ordering.{ordering_then, is_eq}
 use Rattle.std.proofs.lemmas.Cmp.{nat_cmp_total, tied_itself}
 use Rattle.ect_trees.specs.declared.waiting.Waiting.{Waiting}

@@ -1,13 +1,12 @@
 -- Ways that are low at every edge, by the cost and the hops of their steps, and by ids where these tie.
-use Rattle.std.proofs.Common.{◌≡◌, ℕ, zero, suc, ◌+◌, ◌-◌, ◌<◌, ◌≤◌, ◌⊎◌, inl, inr, List, [], ◌∷◌, ◌++◌, length, map, Bool, true, false, true≢false, Option, Some, None, IsSome, unwrap_or, refl, sym, ap, ◌∙◌, subst, arith, length-append, Ordering, Less, Equal, Greater, nat_cmp}
+use Rattle.std.proofs.Common.{◌≡◌, ℕ, suc, ◌+◌, ◌<◌, ◌≤◌, ◌⊎◌, inl, inr, List, [], ◌∷◌, ◌++◌, length, map, false, true≢false, Option, Some, None, IsSome, unwrap_or, refl, sym, ap, ◌∙◌, subst, arith, length-append, Ordering, Less, Equal, Greater, nat_cmp}
 use Rattle.std.specs.Ordering.{MatchOrdering, ordering_then, is_lt}
 use Rattle.std.specs.Cmp.Lexicographic.{slice_cmp}
 use Rattle.std.proofs.lemmas.Cmp.{ranked}
 use Rattle.std.proofs.lemmas.List.{length-map}
-use Rattle.std.proofs.lemmas.Option.{same_Some, none-some}
-use Rattle.spb_types.specs.Graph.{IsAmong, systems_of, cost_between}
+use Rattle.std.proofs.lemmas.Option.{same_Some}
+use Rattle.spb_types.specs.Graph.{IsAmong, cost_between}
 use Rattle.spb_types.specs.declared.address.SystemId.{SystemId}
-use Rattle.spb_types.specs.declared.graph.Graph.{Graph}
 use Rattle.ect_trees.specs.declared.key.PathKey.{PathKey}
 use Rattle.ect_trees.specs.declared.mesh.Arc.{Arc}
 use Rattle.ect_trees.specs.declared.mesh.Mesh.{Mesh}
@@ -15,18 +14,17 @@ use Rattle.ect_trees.specs.declared.ways.Step.{Step}
 use Rattle.ect_trees.specs.declared.trial.Verdict.{Verdict}
 use Rattle.ect_trees.specs.Path.{IsPath, cost_of, hops_of}
 use Rattle.ect_trees.specs.Key.{id_cmp, masked_id, sorted_ids, key_of, IsBelow}
-use Rattle.ect_trees.specs.Best.{best_of}
 use Rattle.ect_trees.specs.Low.{LowAt, AreLow}
-use Rattle.ect_trees.specs.Arcs.{IsBridgeAt, IsArcAt, Leads, AreReady, place_in, rows_of}
-use Rattle.ect_trees.specs.Ways.{step_at, place_before, before_of, bridge_at, way_back, way_to, IsOnward, AreWays, HasHops, ids_of, Compares}
+use Rattle.ect_trees.specs.Arcs.{IsBridgeAt, IsArcAt, Leads, place_in, rows_of}
+use Rattle.ect_trees.specs.Ways.{step_at, before_of, bridge_at, way_back, way_to, IsOnward, AreWays, ids_of, Compares}
 use Rattle.ect_trees.specs.Trial.{Covers, IsLowOver, ArcIsLow, PlacesAreLow, MakeWays, AreBestWays}
 use Rattle.ect_trees.proofs.Walks.{step, cost-snoc, map-snoc}
 use Rattle.ect_trees.proofs.KeyOrder.{not_below_itself}
 use Rattle.ect_trees.proofs.Behind.{before_end}
-use Rattle.ect_trees.proofs.Places.{at_within, place_is}
+use Rattle.ect_trees.proofs.Places.{at_within}
 use Rattle.ect_trees.proofs.Extended.{at_same}
 use Rattle.ect_trees.proofs.Low.{low_is_best}
-use Rattle.ect_trees.proofs.Chained.{IsWay, HasStep, bridge_is, is_way, stands, way_is, has_step}
+use Rattle.ect_trees.proofs.Chained.{IsWay, bridge_is, is_way, stands, way_is, has_step}
 
 -- a key below another costs less; or as much, with fewer hops; or both tie, and its ids are lower
 abbrev pub BelowBy : PathKey → PathKey → Type 0

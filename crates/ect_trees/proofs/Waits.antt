@@ -1,5 +1,5 @@
 -- The frontier as a list in no order: one is put in, one is taken out, and one that costs least is found.
-use Rattle.std.proofs.Common.{◌≡◌, ℕ, zero, suc, ◌+◌, ◌<◌, ◌≤◌, Bool, true, false, true≢false, not, cond, List, [], ◌∷◌, ◌++◌, length, get_or, Option, Some, None, refl, sym, ap, ◌∙◌, subst, arith, ltb}
+use Rattle.std.proofs.Common.{◌≡◌, ℕ, zero, suc, ◌+◌, ◌<◌, ◌≤◌, Bool, true, false, true≢false, not, cond, List, [], ◌∷◌, ◌++◌, length, get_or, Some, None, refl, sym, ap, ◌∙◌, subst, arith, ltb}
 use Rattle.std.specs.Ordering.{is_eq}
 use Rattle.std.specs.List.{swap_remove, position, position_or_len}
 use Rattle.std.proofs.lemmas.Bool.{ltb-false}

@@ -32,8 +32,8 @@ pub record IsLowOver (g : Graph) (a : SystemId) (steps : List (Option Step)) (m 
   pub end : Step
   pub there : step_at steps arc.to ≡ Some end
   pub low : (y : SystemId) → IsBridgeAt g arc.to y
-      → IsBelow (key_of g m (way_back g a steps s.hops place ++ y ∷ [])) (key_of g m (way_back g a steps end.hops arc.to))
-      → ⊥
+      → IsBelow (key_of g m (way_back g a steps s.hops place ++ y ∷ []))
+      (key_of g m (way_back g a steps end.hops arc.to)) → ⊥
 
 -- the same of an arc that leads on from the end of a way
 abbrev pub ArcIsLow : Mesh → ℕ → List (Option Step) → ℕ → Step → Arc → Verdict → Type 0

@@ -6,7 +6,8 @@ use spb_types::NoMemory;
 use std::alloc::Global;
 
 /// The steps that were found, by place; the cost of the way to each place, the greatest number where none is found yet;
-/// and the places from which the search has still to go on.
+/// the places from which the search has still to go on; and the number of the last that was taken among them, with the
+/// cost of the way there.
 #[derive(Drop)]
 struct Guess<'a> {
     mesh: &'a Mesh,
@@ -14,6 +15,7 @@ struct Guess<'a> {
     steps: Vec<Option<Step>>,
     costs: Vec<u64>,
     waiting: Vec<usize>,
+    taken: Nearest,
 }
 
 /// No step, at as many places.
@@ -34,18 +36,48 @@ fn cost_at(costs: &[u64], place: usize) -> u64 {
     }
 }
 
-/// The number of a place among these to which the way costs least.
-fn least_of(waiting: &[usize], costs: &[u64]) -> usize {
-    let mut least = 0;
-    let mut cost = u64::MAX;
-    for number in 0..waiting.len() {
-        let other = cost_at(costs, waiting[number]);
-        if other < cost {
-            least = number;
-            cost = other;
+/// The number of a place among those that wait, and the cost of the way there.
+#[derive(Clone, Copy)]
+struct Nearest {
+    number: usize,
+    cost: u64,
+}
+
+/// The nearest of the places from a number on, unless one is known that is as near. No place is nearer than `floor`, so
+/// the first that is as near ends the look.
+fn nearest_from(
+    waiting: &[usize],
+    costs: &[u64],
+    floor: u64,
+    first: usize,
+    known: Nearest,
+) -> Nearest {
+    let mut nearest = known;
+    for number in first..waiting.len() {
+        let cost = cost_at(costs, waiting[number]);
+        if cost < nearest.cost {
+            nearest = Nearest { number, cost };
+            if cost <= floor {
+                return nearest;
+            }
         }
     }
-    least
+    nearest
+}
+
+/// The number of a place among these to which the way costs least, looked for from a number on and then before it.
+/// Where many ways cost the same, the next one mostly stands right behind the last.
+fn least_of(waiting: &[usize], costs: &[u64], floor: u64, first: usize) -> usize {
+    let none = Nearest {
+        number: waiting.len(),
+        cost: u64::MAX,
+    };
+    let nearest = nearest_from(waiting, costs, floor, first, none);
+    if nearest.cost <= floor {
+        return nearest.number;
+    }
+    let before = &waiting[..first.min(waiting.len())];
+    nearest_from(before, costs, floor, 0, nearest).number
 }
 
 impl<'a> Guess<'a> {
@@ -58,17 +90,22 @@ impl<'a> Guess<'a> {
             steps: no_steps(alloc, places)?,
             costs: Vec::from_elem(alloc, u64::MAX, places)?,
             waiting: Vec::with_capacity(alloc, places)?,
+            taken: Nearest { number: 0, cost: 0 },
         })
     }
 
     /// Takes out one of the places that wait to which the way costs least.
     fn take_least(&mut self) -> Option<usize> {
-        let number = least_of(self.waiting.as_slice(), self.costs.as_slice());
-        if number < self.waiting.len() {
-            Some(self.waiting.swap_remove(number))
-        } else {
-            None
+        let last = self.taken;
+        let waiting = self.waiting.as_slice();
+        let number = least_of(waiting, self.costs.as_slice(), last.cost, last.number);
+        if number >= waiting.len() {
+            return None;
         }
+        let place = self.waiting.swap_remove(number);
+        let cost = cost_at(self.costs.as_slice(), place);
+        self.taken = Nearest { number, cost };
+        Some(place)
     }
 
     /// Whether a way of the same cost by the new step has fewer hops than by the old one, or as many and lower ids.

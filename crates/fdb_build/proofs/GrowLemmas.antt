@@ -1,10 +1,10 @@
 -- Rows that grow by ports: what one address gets, one test after another, and the rows that come of them.
 use Rattle.std.specs.Prelude.{ℕ, zero, suc, ◌≡◌, ◌<◌, ◌+◌, ◌^◌, Bool, true, false, ◌&&◌, ◌||◌, cond, List, [], ◌∷◌, length, map, take, Contains, Option, Some, None, unwrap_or, slice_get}
-use Rattle.std.specs.List.{list_any, slice_index_or}
+use Rattle.std.specs.List.{list_any}
 use Rattle.std.specs.BTreeMap.{BTreeMap, IsOrdered, get}
 use Rattle.std.specs.List.Sorted.{IsStrictlySortedBy}
 use Rattle.std.specs.Map.{keys_of, lookup}
-use Rattle.std.specs.Ordering.{is_eq, nat_cmp, ordering_then}
+use Rattle.std.specs.Ordering.{is_eq, ordering_then}
 use Rattle.std.proofs.Common.{refl, sym, ap, ◌∙◌, subst, inl, inr, get_or, true≢false, Ordering, Less, Equal, Greater}
 use Rattle.std.proofs.lemmas.Cmp.{nat_cmp_total, tied_itself}
 use Rattle.std.proofs.lemmas.List.Folds.{list_any_more}
@@ -22,13 +22,13 @@ use Rattle.spb_types.specs.declared.service.VidPlan.{VidPlan}
 use Rattle.spb_types.specs.declared.tables.GroupRow.{GroupRow}
 use Rattle.spb_types.proofs.PortLemmas.{has-no_ports}
 use Rattle.ect_trees.proofs.Members.{Has, has_map, has_from_contains, contains_from_has}
-use Rattle.fdb_build.specs.Tables.{mac_cmp, system_cmp, AscendsBy}
+use Rattle.fdb_build.specs.Tables.{mac_cmp, AscendsBy}
 use Rattle.fdb_build.specs.declared.services.Services.{Services}
 use Rattle.spb_types.specs.Address.{group_address}
 use Rattle.spb_types.specs.declared.graph.GraphBridge.{GraphBridge}
 use Rattle.spb_types.specs.declared.service.Isid.{Isid}
 use Rattle.fdb_build.specs.Groups.{group_cmp, ListPorts, leads_on, group_rows_of_vid}
-use Rattle.fdb_build.specs.Making.{union, is_towards, isid_cmp, list_at, sets_from, ports_at, same_mac, is_from, is_from_some, AreFilled, Grew, row_of}
+use Rattle.fdb_build.specs.Making.{union, is_towards, isid_cmp, list_at, sent_by, place_of, sets_from, ports_at, same_mac, is_from, is_from_some, AreFilled, Grew, row_of}
 use Rattle.fdb_build.proofs.GroupLemmas.{IsPortIn, macs_total, macs_tied, rows_one, vid_table}
 use Rattle.fdb_build.proofs.GroupTests.{test_leads, leads_test}
 use Rattle.fdb_build.proofs.RowLemmas.{port_among-le, port_among-low}
@@ -138,10 +138,10 @@ isid_more s source sets isids a b c i d mac ports low address set h g =
 
 -- one source more
 pub source_more : (g : Graph) (me : SystemId) (plan : VidPlan) (s : Services) (sources : List GraphBridge) (a b c : BTreeMap Mac PortSet) (i : ℕ) (d : GraphBridge) → i < length sources
-    → Grew b c (is_from s (get_or sources i d) (sets_from g me plan (get_or sources i d).id.system) (list_at system_cmp s.sends (get_or sources i d).id.system))
+    → Grew b c (is_from s (get_or sources i d) (sets_from g me plan (get_or sources i d).id.system) (sent_by s (place_of g (get_or sources i d).id.system)))
     → Grew a b (is_from_some g me plan s (take i sources)) → Grew a c (is_from_some g me plan s (take (i + 1) sources))
 source_more g me plan s sources a b c i d low h before =
-    grew_more (λ x. is_from s x (sets_from g me plan x.id.system) (list_at system_cmp s.sends x.id.system)) sources a b c i d (get_or sources i d) low refl h before
+    grew_more (λ x. is_from s x (sets_from g me plan x.id.system) (sent_by s (place_of g x.id.system))) sources a b c i d (get_or sources i d) low refl h before
 
 -- rows that were none have just the ports that pass
 pub grown : (rows m : BTreeMap Mac PortSet) (T : Mac → ℕ → Bool) → rows.entries ≡ [] → Grew rows m T → AreFilled m × ((q : Mac) (p : ℕ) → has (ports_at m q) p ≡ T q p)

@@ -12,3 +12,5 @@ pub mod ServiceLemmas
 pub mod GrowLemmas
 pub mod MakingLemmas
 pub mod OnePathLemmas
+pub mod TreeLemmas
+pub mod TreeWitness

@@ -1,13 +1,13 @@
 -- What the trees of all sources give is what leads on.
-use Rattle.std.specs.Prelude.{ℕ, zero, suc, ◌≡◌, ◌≤◌, ◌==◌, true, ◌&&◌, List, [], ◌∷◌, ◌++◌, map, Option, Some, None, IsSome, slice_get, Result, Ok, Err, OnOk}
+use Rattle.std.specs.Prelude.{ℕ, zero, suc, ◌≡◌, ◌≤◌, ◌==◌, Bool, true, ◌&&◌, List, [], ◌∷◌, ◌++◌, map, Option, Some, None, IsSome, slice_get, Result, Ok, Err, OnOk}
 use Rattle.std.specs.List.{list_any}
 use Rattle.std.specs.BTreeMap.{BTreeMap, IsOrdered}
-use Rattle.std.proofs.Common.{refl, sym, ap, ◌∙◌, subst, true≢false, eq-eqb, eqb-true}
+use Rattle.std.proofs.Common.{refl, sym, ap, ◌∙◌, subst, inl, inr, true≢false, eq-eqb, eqb-true}
 use Rattle.std.proofs.lemmas.Bool.{and_parts}
 use Rattle.std.proofs.lemmas.Slice.Eq.{bytes_eq-Decides}
-use Rattle.spb_types.specs.Address.{group_address}
+use Rattle.spb_types.specs.Address.{same_system, group_address}
 use Rattle.spb_types.specs.Ect.{mask_of}
-use Rattle.spb_types.specs.Graph.{IsBridge, IsValid, IsValidFor, ArePorts, systems_of}
+use Rattle.spb_types.specs.Graph.{IsAmong, IsBridge, IsValid, IsValidFor, ArePorts, systems_of}
 use Rattle.spb_types.specs.Ports.{has}
 use Rattle.spb_types.specs.declared.address.Mac.{Mac}
 use Rattle.spb_types.specs.declared.address.SystemId.{SystemId}
@@ -17,14 +17,16 @@ use Rattle.spb_types.specs.declared.graph.Member.{Member}
 use Rattle.spb_types.specs.declared.ports.PortSet.{PortSet}
 use Rattle.spb_types.specs.declared.service.Isid.{Isid}
 use Rattle.spb_types.specs.declared.service.VidPlan.{VidPlan}
+use Rattle.ect_trees.proofs.Among.{same_is, same_self}
+use Rattle.ect_trees.proofs.Extended.{at_same}
 use Rattle.ect_trees.proofs.Steps.{best_to_itself}
 use Rattle.ect_trees.proofs.Members.{Has, has_from_contains, contains_from_has}
 use Rattle.ect_trees.proofs.Places.{place_found, found_place}
 use Rattle.ect_trees.proofs.Walks.{path_bridges, path_start}
 use Rattle.spb_types.specs.declared.tables.GroupRow.{GroupRow}
-use Rattle.fdb_build.specs.Tables.{mac_cmp, system_cmp}
-use Rattle.fdb_build.specs.Groups.{Follows, LeadsOn, sends_in, leads_on, port_after, group_rows_of_vid}
-use Rattle.fdb_build.specs.Making.{port_set, set_at, is_towards, isid_cmp, list_at, same_isid, same_place, place_of, is_at, is_member_at, AreServicesOf, sets_from, same_mac, is_from, is_from_some, Grew, row_of}
+use Rattle.fdb_build.specs.Tables.{mac_cmp}
+use Rattle.fdb_build.specs.Groups.{Follows, LeadsOn, is_member, sends_in, leads_on, port_after, group_rows_of_vid}
+use Rattle.fdb_build.specs.Making.{port_set, set_at, is_towards, isid_cmp, list_at, sent_by, same_isid, same_place, place_of, is_at, is_member_at, AreServicesOf, sets_from, same_mac, is_from, is_from_some, Grew, row_of}
 use Rattle.fdb_build.specs.declared.services.Services.{Services}
 use Rattle.fdb_build.proofs.AscendLemmas.{All-has}
 use Rattle.fdb_build.proofs.GroupTests.{any_has, has_any, sends_is, is_sends, after_onward, onward_after, test_leads, leads_test, both}
@@ -55,11 +57,38 @@ at_is : (place : ℕ) (o : Option ℕ) → is_at place o ≡ true → o ≡ Some
 at_is place None h = absurd (true≢false (sym h))
 at_is place (Some p) h = ap Some (eqb-true p place h)
 
+-- a bridge's system is among those of the bridges
+bridge_among : (bs : List GraphBridge) (b : GraphBridge) → Has b bs → IsAmong b.id.system (systems_of bs)
+bridge_among [] b h = absurd h
+bridge_among (c ∷ bs) b (inl e) = inl (ap (λ (t : GraphBridge). t.id.system) e)
+bridge_among (c ∷ bs) b (inr h) = inr (bridge_among bs b h)
+
 module _ (g : Graph) (me : SystemId) (plan : VidPlan) (s : Services) (valid : IsValid g) (ports : ArePorts g.edges me) (services : AreServicesOf g g.members plan.vid s) where
   range : (mask : ℕ) (x r : SystemId) (p : ℕ) → port_after g mask x r me ≡ Some p → (1 ≤ p) × (p ≤ 32)
   range mask x r p e =
       let on = after_onward g mask x r me p valid e in
       (port_among-low g.edges me on.next p ports (sym on.leads), port_among-le g.edges me on.next p ports (sym on.leads))
+
+  -- a bridge of the graph stands at a place
+  stands : (b : GraphBridge) → Has b g.bridges → (place : ℕ) × (place_of g b.id.system ≡ Some place)
+  stands b h = by (place_of g b.id.system) refl (place_found g b.id.system (bridge_among g.bridges b h))
+    where
+      by : (o : Option ℕ) → place_of g b.id.system ≡ o → IsSome o → (place : ℕ) × (place_of g b.id.system ≡ Some place)
+      by None e i = cc
+      by (Some i) e k = (i, e)
+
+  -- the list at its place has what it sends to
+  sends_by : (x : SystemId) (place : ℕ) (isid : Isid) → place_of g x ≡ Some place → list_any (same_isid isid) (sent_by s (place_of g x)) ≡ sends_in g isid plan.vid x
+  sends_by x place isid e = ap (λ o. list_any (same_isid isid) (sent_by s o)) e ∙ (services.sends isid place ∙ ap (λ (t : Member → Bool). list_any t g.members) (λ i m. each m i))
+    where
+      it : (m : Member) → is_at place (place_of g m.system) ≡ true → same_system m.system x ≡ true
+      it m h = subst (λ t. same_system m.system t ≡ true) (at_same g place m.system x (found_place g m.system place (at_is place (place_of g m.system) h)) (found_place g x place e)) (same_self m.system)
+
+      there : (m : Member) → same_system m.system x ≡ true → is_at place (place_of g m.system) ≡ true
+      there m h = ap (is_at place) (ap (place_of g) (same_is m.system x h) ∙ e) ∙ eq-eqb place place refl
+
+      each : (m : Member) → is_member_at g isid plan.vid place m ≡ is_member isid plan.vid x m
+      each m = ap (λ t. t && ((m.isid.value == isid.value) && (m.vid.value == plan.vid.value))) (same_truth (is_at place (place_of g m.system)) (same_system m.system x) (it m) (there m))
 
   -- what a source sends to by way of a set
   record Found (b : GraphBridge) (isid : Isid) (p : ℕ) : Type 0 where
@@ -90,12 +119,12 @@ module _ (g : Graph) (me : SystemId) (plan : VidPlan) (s : Services) (valid : Is
 
   there : (q : Mac) (p : ℕ) → is_from_some g me plan s g.bridges q p ≡ true → LeadsOn g me plan q p
   there q p h =
-      let source = any_has (λ b. is_from s b (sets_from g me plan b.id.system) (list_at system_cmp s.sends b.id.system) q p) g.bridges h in
+      let source = any_has (λ b. is_from s b (sets_from g me plan b.id.system) (sent_by s (place_of g b.id.system)) q p) g.bridges h in
       let b : GraphBridge = source.0 in
-      let service = any_has (λ isid. same_mac q (group_address b.source.value isid.value) && is_towards (sets_from g me plan b.id.system) (list_at isid_cmp s.receivers isid) p) (list_at system_cmp s.sends b.id.system) source.2 in
+      let service = any_has (λ isid. same_mac q (group_address b.source.value isid.value) && is_towards (sets_from g me plan b.id.system) (list_at isid_cmp s.receivers isid) p) (sent_by s (place_of g b.id.system)) source.2 in
       let isid : Isid = service.0 in
       let parts = and_parts (same_mac q (group_address b.source.value isid.value)) _ service.2 in
-      let sends : sends_in g isid plan.vid b.id.system ≡ true = sym (services.sends b.id.system isid) ∙ has_any (same_isid isid) isid (list_at system_cmp s.sends b.id.system) service.1 (eq-eqb isid.value isid.value refl) in
+      let sends : sends_in g isid plan.vid b.id.system ≡ true = sym (sends_by b.id.system (stands b source.1).0 isid (stands b source.1).1) ∙ has_any (same_isid isid) isid (sent_by s (place_of g b.id.system)) service.1 (eq-eqb isid.value isid.value refl) in
       let f = towards_found b isid p parts.1 in
       let on = after_onward g (mask_of plan.ect) b.id.system f.member.system me p valid f.after in
       let bytes : q.bytes ≡ (group_address b.source.value isid.value).bytes = (bytes_eq-Decides _ _).0 parts.0 in
@@ -118,8 +147,8 @@ module _ (g : Graph) (me : SystemId) (plan : VidPlan) (s : Services) (valid : Is
 
   back : (q : Mac) (p : ℕ) → LeadsOn g me plan q p → is_from_some g me plan s g.bridges q p ≡ true
   back q p l =
-      has_any (λ c. is_from s c (sets_from g me plan c.id.system) (list_at system_cmp s.sends c.id.system) q p) b g.bridges (has_from_contains g.bridges b l.bridge)
-      (has_any (λ isid. same_mac q (group_address b.source.value isid.value) && is_towards sets (list_at isid_cmp s.receivers isid) p) l.isid (list_at system_cmp s.sends x) sent
+      has_any (λ c. is_from s c (sets_from g me plan c.id.system) (sent_by s (place_of g c.id.system)) q p) b g.bridges (has_from_contains g.bridges b l.bridge)
+      (has_any (λ isid. same_mac q (group_address b.source.value isid.value) && is_towards sets (list_at isid_cmp s.receivers isid) p) l.isid (sent_by s (place_of g x)) sent
       (both _ _ ((bytes_eq-Decides _ _).1 (ap (λ (a : Mac). a.bytes) l.address))
       (has_any (λ place. has (set_at sets place) p) place (list_at isid_cmp s.receivers l.isid) received
       (ap (λ (t : PortSet). has t p) set ∙ has_set (port_after g mask x r me) p after (range mask x r p after).0 (range mask x r p after).1))))
@@ -142,12 +171,15 @@ module _ (g : Graph) (me : SystemId) (plan : VidPlan) (s : Services) (valid : Is
       after : port_after g (mask_of plan.ect) l.source.id.system l.serves.receiver me ≡ Some p
       after = onward_after g (mask_of plan.ect) l.source.id.system l.serves.receiver me p valid (record { next = l.next; follows = l.serves.follows; leads = l.port_is })
 
-      sent : Has l.isid (list_at system_cmp s.sends l.source.id.system)
+      here_is : Has l.source g.bridges
+      here_is = has_from_contains g.bridges l.source l.bridge
+
+      sent : Has l.isid (sent_by s (place_of g l.source.id.system))
       sent =
-          let one = any_has (same_isid l.isid) (list_at system_cmp s.sends l.source.id.system) (services.sends l.source.id.system l.isid ∙ is_sends g l.isid plan.vid l.source.id.system l.sends) in
+          let one = any_has (same_isid l.isid) (sent_by s (place_of g l.source.id.system)) (sends_by x (stands b here_is).0 l.isid (stands b here_is).1 ∙ is_sends g l.isid plan.vid l.source.id.system l.sends) in
           let value : one.0.value ≡ l.isid.value = eqb-true one.0.value l.isid.value one.2 in
           let same : one.0 ≡ l.isid = λ i. record { value = value i } in
-          subst (λ i. Has i (list_at system_cmp s.sends l.source.id.system)) same one.1
+          subst (λ i. Has i (sent_by s (place_of g l.source.id.system))) same one.1
 
       m : Member
       m = record { system = l.serves.receiver; isid = l.isid; vid = plan.vid }

@@ -47,7 +47,7 @@ find_ascending cmp test x (y ∷ ys) ties here up (inr h) = by (test y) refl (fi
 both : (b c : Bool) → b ≡ true → c ≡ true → (b && c) ≡ true
 both b c e f = ap (λ x. x && c) e ∙ f
 
-names : (vid : Vid) (mac : Mac) (v : Vid) (m : Mac) → ((v.value == vid.value) && bytes_eq m.bytes mac.bytes) ≡ true → (v ≡ vid) × (m ≡ mac)
+pub names : (vid : Vid) (mac : Mac) (v : Vid) (m : Mac) → ((v.value == vid.value) && bytes_eq m.bytes mac.bytes) ≡ true → (v ≡ vid) × (m ≡ mac)
 names vid mac v m h =
     let parts = and_parts (v.value == vid.value) _ h in
     let number : v.value ≡ vid.value = eqb-true v.value vid.value parts.0 in
@@ -65,7 +65,7 @@ found_unicast rows r up h = ap (option_map (λ (s : UnicastRow). s.port)) (find_
         let n = names r.vid r.mac s.vid s.mac e in
         ap (λ (v : Vid). ordering_then (nat_cmp v.value r.vid.value) (mac_cmp s.mac r.mac)) n.0 ∙ (ap (λ m. ordering_then (nat_cmp r.vid.value r.vid.value) (mac_cmp m r.mac)) n.1 ∙ tied_itself rows_total r)
 
-found_group : (rows : List GroupRow) (r : GroupRow) → AscendsBy group_cmp rows → Has r rows → group_in rows r.vid r.mac ≡ r.ports
+pub found_group : (rows : List GroupRow) (r : GroupRow) → AscendsBy group_cmp rows → Has r rows → group_in rows r.vid r.mac ≡ r.ports
 found_group rows r up h = ap ports_of_row (find_ascending group_cmp (is_group_row_for r.vid r.mac) r rows ties (same_names r.vid r.mac) up h)
   where
     ties : (s : GroupRow) → is_group_row_for r.vid r.mac s ≡ true → group_cmp s r ≡ Equal
@@ -134,7 +134,7 @@ one_end e x y z h k = by (ends e x y h) (ends e x z k)
     by (inr p) (inl q) = sym p.0 ∙ (q.0 ∙ (sym p.1 ∙ q.1))
     by (inr p) (inr q) = sym p.0 ∙ q.0
 
-one_neighbour : (g : Graph) (x y z : SystemId) (p : ℕ) → IsValidFor g x → port_between g x y ≡ Some p → port_between g x z ≡ Some p → y ≡ z
+pub one_neighbour : (g : Graph) (x y z : SystemId) (p : ℕ) → IsValidFor g x → port_between g x y ≡ Some p → port_between g x z ≡ Some p → y ≡ z
 one_neighbour g x y z p valid h k =
     let one = edge_to g.edges x y p h in
     let other = edge_to g.edges x z p k in
@@ -142,7 +142,7 @@ one_neighbour g x y z p valid h k =
     one_end one.edge x y z one.joined (subst (λ e. joins e x z ≡ true) (sym same) other.joined)
 
 -- bridges joined by an edge have ports
-port_there : (es : List Edge) (x y : SystemId) → IsSome (cost_among es x y) → (p : ℕ) × (port_among es x y ≡ Some p)
+pub port_there : (es : List Edge) (x y : SystemId) → IsSome (cost_among es x y) → (p : ℕ) × (port_among es x y ≡ Some p)
 port_there [] x y h = cc
 port_there (e ∷ es) x y h = by (joins e x y) h (port_there es x y)
   where
@@ -164,7 +164,7 @@ same_way_back g mask s r m c f = record {
 }
 
 -- the best path to s from who follows m
-back_from : (g : Graph) (mask : ℕ) (s r m c : SystemId) → IsValid g → (f : Follows g mask s r m c) → IsBest g mask c s (c ∷ m ∷ reverse f.before)
+pub back_from : (g : Graph) (mask : ℕ) (s r m c : SystemId) → IsValid g → (f : Follows g mask s r m c) → IsBest g mask c s (c ∷ m ∷ reverse f.before)
 back_from g mask s r m c valid f =
     let path : IsBest g mask s r ((f.before ++ m ∷ []) ++ c ∷ f.after) = subst (λ p. IsBest g mask s r p) (sym (append_assoc f.before (m ∷ []) (c ∷ f.after))) f.best in
     let front : IsBest g mask s c ((f.before ++ m ∷ []) ++ c ∷ []) = best_front g mask s r c (f.before ++ m ∷ []) f.after valid path in
@@ -197,7 +197,7 @@ leads_joined : (g : Graph) (a b m c : SystemId) (l r : List SystemId) → Leads 
 leads_joined g a b m c [] r w = w.2.1
 leads_joined g a b m c (x ∷ l) r w = leads_joined g x b m c l r w.2
 
-path_joined : (g : Graph) (a b m c : SystemId) (l r : List SystemId) → IsPath g a b (l ++ m ∷ c ∷ r) → IsSome (cost_between g m c)
+pub path_joined : (g : Graph) (a b m c : SystemId) (l r : List SystemId) → IsPath g a b (l ++ m ∷ c ∷ r) → IsSome (cost_between g m c)
 path_joined g a b m c [] r w = w.1.1
 path_joined g a b m c (x ∷ l) r w = leads_joined g x b m c l r w.1
 

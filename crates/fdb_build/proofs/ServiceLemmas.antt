@@ -1,23 +1,20 @@
 -- The members of the services of a VID, one after another.
-use Rattle.std.specs.Prelude.{ℕ, ◌≡◌, ◌<◌, ◌+◌, ◌==◌, Bool, true, false, not, ◌&&◌, ◌||◌, if◌then◌else◌, List, [], ◌∷◌, ◌++◌, length, take, Some, None, Result, Ok, Err, OnOk}
+use Rattle.std.specs.Prelude.{ℕ, zero, suc, replicate, ◌≡◌, ◌<◌, ◌+◌, ◌==◌, Bool, true, false, not, ◌&&◌, ◌||◌, if◌then◌else◌, List, [], ◌∷◌, ◌++◌, length, take, Some, None, Result, Ok, Err, OnOk}
+use Rattle.std.specs.Global.{Vec}
 use Rattle.std.specs.List.{list_any}
 use Rattle.std.specs.Ordering.{nat_cmp, is_eq}
 use Rattle.std.specs.declared.cmp.Ordering.{Ordering}
-use Rattle.std.proofs.Common.{refl, sym, ap, ◌∙◌, get_or, true≢false, Less, Equal, Greater, eq-eqb, eqb-true}
-use Rattle.std.proofs.lemmas.Cmp.{nat_cmp_total, nat_list_cmp_total, tied_itself}
+use Rattle.std.proofs.Common.{arith, refl, sym, ap, ◌∙◌, subst, get_or, true≢false, Less, Equal, Greater, eq-eqb, eqb-true}
+use Rattle.std.proofs.lemmas.Cmp.{nat_cmp_total, tied_itself}
+use Rattle.std.proofs.Math.ListN.{set}
+use Rattle.std.proofs.lemmas.List.{length-map, length-set, length-replicate, map-append, map-set, replicate_more, get_or-map, get_or-set_same, get_or-set_other}
 use Rattle.std.proofs.lemmas.List.Folds.{list_any-append, list_any_more}
-use Rattle.std.proofs.lemmas.Slice.Eq.{bytes_eq-Decides}
-use Rattle.spb_types.specs.Address.{same_system}
-use Rattle.spb_types.specs.declared.address.SystemId.{SystemId}
 use Rattle.spb_types.specs.declared.graph.Graph.{Graph}
 use Rattle.spb_types.specs.declared.graph.Member.{Member}
 use Rattle.spb_types.specs.declared.service.Isid.{Isid}
 use Rattle.spb_types.specs.declared.service.Vid.{Vid}
-use Rattle.ect_trees.proofs.Among.{same_is}
-use Rattle.ect_trees.proofs.Placing.{nat_tied, ids_tied}
-use Rattle.fdb_build.specs.Tables.{system_cmp}
-use Rattle.fdb_build.specs.Groups.{is_member}
-use Rattle.fdb_build.specs.Making.{isid_cmp, list_at, same_isid, same_place, place_of, is_at, is_member_at, Added, AreServicesOf}
+use Rattle.ect_trees.proofs.Placing.{nat_tied}
+use Rattle.fdb_build.specs.Making.{isid_cmp, list_at, lists_in, sent_at, same_isid, same_place, place_of, is_at, is_member_at, Added, AreServicesOf}
 use Rattle.fdb_build.specs.declared.services.Services.{Services}
 use Rattle.fdb_build.proofs.PortSets.{same_truth}
 
@@ -25,11 +22,6 @@ eq_is : (o : Ordering) → is_eq o ≡ true → o ≡ Equal
 eq_is Less h = absurd (true≢false (sym h))
 eq_is Equal h = refl
 eq_is Greater h = absurd (true≢false (sym h))
-
-pub systems_tie : (x y : SystemId) → is_eq (system_cmp x y) ≡ same_system x y
-systems_tie x y = same_truth (is_eq (system_cmp x y)) (same_system x y)
-    (λ h. (bytes_eq-Decides x.mac.bytes y.mac.bytes).1 (ids_tied x.mac.bytes y.mac.bytes (eq_is (system_cmp x y) h)))
-    (λ h. ap is_eq (ap (system_cmp x) (sym (same_is x y h)) ∙ tied_itself nat_list_cmp_total x.mac.bytes))
 
 pub numbers_tie : (m n : ℕ) → is_eq (nat_cmp m n) ≡ (m == n)
 numbers_tie m n = same_truth (is_eq (nat_cmp m n)) (m == n)
@@ -70,56 +62,95 @@ on_ok (Err e) f h = h
 -- the member is in another VID
 pub added_none : (g : Graph) (vid : Vid) (m : Member) (s : Services) → (m.vid.value == vid.value) ≡ false → Added g vid m s s
 added_none g vid m s other = record {
-  sends = λ x isid. sym (ap (λ c. list_any (same_isid isid) (list_at system_cmp s.sends x) || c) (no (same_system m.system x) (m.isid.value == isid.value)) ∙ or_false (list_any (same_isid isid) (list_at system_cmp s.sends x)));
+  places = refl;
+  sends = λ isid place. sym (ap (λ c. list_any (same_isid isid) (sent_at s place) || c) (no (is_at place (place_of g m.system)) (m.isid.value == isid.value)) ∙ or_false (list_any (same_isid isid) (sent_at s place)));
   receives = λ isid place. sym (ap (λ c. list_any (same_place place) (list_at isid_cmp s.receivers isid) || c) (no (is_at place (place_of g m.system)) (m.isid.value == isid.value)) ∙ or_false (list_any (same_place place) (list_at isid_cmp s.receivers isid)));
 }
   where
     no : (b c : Bool) → (b && (c && (m.vid.value == vid.value))) ≡ false
     no b c = ap (λ d. b && (c && d)) other ∙ (ap (λ d. b && d) (and_false c) ∙ and_false b)
 
+-- its bridge stands nowhere
+pub added_nowhere : (g : Graph) (vid : Vid) (m : Member) (s : Services) → place_of g m.system ≡ None → Added g vid m s s
+added_nowhere g vid m s nowhere = record {
+  places = refl;
+  sends = λ isid place.
+      sym (ap (λ o. list_any (same_isid isid) (sent_at s place) || (is_at place o && ((m.isid.value == isid.value) && (m.vid.value == vid.value)))) nowhere ∙ or_false (list_any (same_isid isid) (sent_at s place)));
+  receives = λ isid place.
+      sym (ap (λ o. list_any (same_place place) (list_at isid_cmp s.receivers isid) || (is_at place o && ((m.isid.value == isid.value) && (m.vid.value == vid.value)))) nowhere ∙ or_false (list_any (same_place place) (list_at isid_cmp s.receivers isid)));
+}
+
+abbrev list_items : Vec Isid → List Isid
+list_items v = v.items
+
+-- the list at a place after one at a place got an item more
+list_more : (lists : List (List Isid)) (at : ℕ) (item : Isid) (place : ℕ) → at < length lists → get_or (set lists at (get_or lists at [] ++ item ∷ [])) place [] ≡ (if at == place then get_or lists place [] ++ item ∷ [] else get_or lists place [])
+list_more lists at item place low = by (at == place) refl
+  where
+    longer : List Isid
+    longer = get_or lists at [] ++ item ∷ []
+
+    by : (b : Bool) → (at == place) ≡ b → get_or (set lists at longer) place [] ≡ (if b then get_or lists place [] ++ item ∷ [] else get_or lists place [])
+    by true e = subst (λ p. get_or (set lists at longer) p [] ≡ get_or lists p [] ++ item ∷ []) (eqb-true at place e) (get_or-set_same lists at longer [] low)
+    by false e = get_or-set_other lists at place longer [] (λ h. true≢false (sym (eq-eqb at place (sym h)) ∙ e))
+
 -- the lists after one member more of this VID
-module _ (g : Graph) (vid : Vid) (m : Member) (old new : Services) (same : (m.vid.value == vid.value) ≡ true)
-    (sends : (x : SystemId) → list_at system_cmp new.sends x ≡ (if is_eq (system_cmp m.system x) then list_at system_cmp old.sends x ++ m.isid ∷ [] else list_at system_cmp old.sends x)) where
-  sends_more : (x : SystemId) (isid : Isid) → list_any (same_isid isid) (list_at system_cmp new.sends x) ≡ (list_any (same_isid isid) (list_at system_cmp old.sends x) || is_member isid vid x m)
-  sends_more x isid =
-      any_put (same_isid isid) (is_eq (system_cmp m.system x)) (list_at system_cmp old.sends x) (list_at system_cmp new.sends x) m.isid (sends x)
-      ∙ ap (λ c. list_any (same_isid isid) (list_at system_cmp old.sends x) || c)
-      (ap (λ b. b && (m.isid.value == isid.value)) (systems_tie m.system x)
-      ∙ ap (λ c. same_system m.system x && c) (sym (ap (λ d. (m.isid.value == isid.value) && d) same ∙ and_true (m.isid.value == isid.value))))
+pub added : (g : Graph) (vid : Vid) (m : Member) (old new : Services) (at : ℕ) → (m.vid.value == vid.value) ≡ true → Some at ≡ place_of g m.system → at < length old.sends.items
+    → lists_in new.sends.items ≡ set (lists_in old.sends.items) at (get_or (lists_in old.sends.items) at [] ++ m.isid ∷ [])
+    → ((isid : Isid) → list_at isid_cmp new.receivers isid ≡ (if is_eq (isid_cmp m.isid isid) then list_at isid_cmp old.receivers isid ++ at ∷ [] else list_at isid_cmp old.receivers isid)) → Added g vid m old new
+added g vid m old new at same there low sends more = record {
+  places = sym (length-map new.sends.items list_items) ∙ (ap length sends ∙ (length-set (lists_in old.sends.items) at _ ∙ length-map old.sends.items list_items));
+  sends = λ isid place.
+      any_put (same_isid isid) (at == place) (sent_at old place) (sent_at new place) m.isid
+      (ap (λ lists. get_or lists place []) sends ∙ list_more (lists_in old.sends.items) at m.isid place (omega (arith, low, length-map old.sends.items list_items)))
+      ∙ ap (λ c. list_any (same_isid isid) (sent_at old place) || c)
+      (ap (λ c. (at == place) && c) (sym (ap (λ d. (m.isid.value == isid.value) && d) same ∙ and_true (m.isid.value == isid.value)))
+      ∙ ap (λ o. is_at place o && ((m.isid.value == isid.value) && (m.vid.value == vid.value))) there);
+  receives = λ isid place.
+      any_put (same_place place) (is_eq (isid_cmp m.isid isid)) (list_at isid_cmp old.receivers isid) (list_at isid_cmp new.receivers isid) at (more isid)
+      ∙ ap (λ c. list_any (same_place place) (list_at isid_cmp old.receivers isid) || c)
+      (ap (λ b. b && (at == place)) (numbers_tie m.isid.value isid.value)
+      ∙ (swapped (m.isid.value == isid.value) (at == place)
+      ∙ (ap (λ o. is_at place o && ((m.isid.value == isid.value) && true)) there
+      ∙ ap (λ d. is_at place (place_of g m.system) && ((m.isid.value == isid.value) && d)) (sym same))));
+}
 
-  pub added_no_place : place_of g m.system ≡ None → ((isid : Isid) → list_at isid_cmp new.receivers isid ≡ list_at isid_cmp old.receivers isid) → Added g vid m old new
-  added_no_place nowhere kept = record {
-    sends = sends_more;
-    receives = λ isid place.
-        ap (list_any (same_place place)) (kept isid)
-        ∙ sym (ap (λ o. list_any (same_place place) (list_at isid_cmp old.receivers isid) || (is_at place o && ((m.isid.value == isid.value) && (m.vid.value == vid.value)))) nowhere ∙ or_false (list_any (same_place place) (list_at isid_cmp old.receivers isid)));
-  }
+-- no member yet
+empty_list : (n i : ℕ) → get_or {A = List Isid} (replicate n []) i [] ≡ []
+empty_list zero i = refl
+empty_list (suc n) zero = refl
+empty_list (suc n) (suc i) = empty_list n i
 
-  pub added : (at : ℕ) → Some at ≡ place_of g m.system
-      → ((isid : Isid) → list_at isid_cmp new.receivers isid ≡ (if is_eq (isid_cmp m.isid isid) then list_at isid_cmp old.receivers isid ++ at ∷ [] else list_at isid_cmp old.receivers isid)) → Added g vid m old new
-  added at there more = record {
-    sends = sends_more;
-    receives = λ isid place.
-        any_put (same_place place) (is_eq (isid_cmp m.isid isid)) (list_at isid_cmp old.receivers isid) (list_at isid_cmp new.receivers isid) at (more isid)
-        ∙ ap (λ c. list_any (same_place place) (list_at isid_cmp old.receivers isid) || c)
-        (ap (λ b. b && (at == place)) (numbers_tie m.isid.value isid.value)
-        ∙ (swapped (m.isid.value == isid.value) (at == place)
-        ∙ (ap (λ o. is_at place o && ((m.isid.value == isid.value) && true)) there
-        ∙ ap (λ d. is_at place (place_of g m.system) && ((m.isid.value == isid.value) && d)) (sym same))));
-  }
+pub services_none : (g : Graph) (vid : Vid) (s : Services) → lists_in s.sends.items ≡ replicate (length g.bridges) [] → ((isid : Isid) → list_at isid_cmp s.receivers isid ≡ []) → AreServicesOf g [] vid s
+services_none g vid s sends none = record {
+  places = sym (length-map s.sends.items list_items) ∙ (ap length sends ∙ length-replicate (length g.bridges) []);
+  sends = λ isid place. ap (list_any (same_isid isid)) (ap (λ lists. get_or lists place []) sends ∙ empty_list (length g.bridges) place);
+  receives = λ isid place. ap (list_any (same_place place)) (none isid);
+}
 
 -- one member more
 pub services_more : (g : Graph) (ms : List Member) (vid : Vid) (old new : Services) (i : ℕ) (m : Member) → i < length ms → (d : Member) → m ≡ get_or ms i d
     → Added g vid m old new → AreServicesOf g (take i ms) vid old → AreServicesOf g (take (i + 1) ms) vid new
 services_more g ms vid old new i m low d is a before = record {
-  sends = λ x isid.
-      a.sends x isid
-      ∙ (ap (λ b. b || is_member isid vid x m) (before.sends x isid)
-      ∙ (ap (λ (n : Member). list_any (is_member isid vid x) (take i ms) || is_member isid vid x n) is
-      ∙ sym (list_any_more (is_member isid vid x) ms i d low)));
+  places = a.places ∙ before.places;
+  sends = λ isid place.
+      a.sends isid place
+      ∙ (ap (λ b. b || is_member_at g isid vid place m) (before.sends isid place)
+      ∙ (ap (λ (n : Member). list_any (is_member_at g isid vid place) (take i ms) || is_member_at g isid vid place n) is
+      ∙ sym (list_any_more (is_member_at g isid vid place) ms i d low)));
   receives = λ isid place.
       a.receives isid place
       ∙ (ap (λ b. b || is_member_at g isid vid place m) (before.receives isid place)
       ∙ (ap (λ (n : Member). list_any (is_member_at g isid vid place) (take i ms) || is_member_at g isid vid place n) is
       ∙ sym (list_any_more (is_member_at g isid vid place) ms i d low)));
 }
+
+-- a list among others that gets one item more
+pub put_there : (lists : List (Vec Isid)) (i : ℕ) (old new : Vec Isid) (item : Isid) → i < length lists → old ≡ get_or lists i old → new.items ≡ old.items ++ item ∷ [] → lists_in (set lists i new) ≡ set (lists_in lists) i (get_or (lists_in lists) i [] ++ item ∷ [])
+put_there lists i old new item low here more =
+    let read : old.items ≡ get_or (lists_in lists) i [] = ap list_items here ∙ sym (get_or-map list_items lists i old [] low) in
+    map-set list_items lists i new ∙ ap (λ t. set (lists_in lists) i t) (more ∙ ap (λ t. t ++ item ∷ []) read)
+
+-- one empty list more
+pub empty_more : (old new : List (Vec Isid)) (one : Vec Isid) (n : ℕ) → new ≡ old ++ one ∷ [] → lists_in old ≡ replicate n [] → one.items ≡ [] → lists_in new ≡ replicate (n + 1) []
+empty_more old new one n e h k = ap lists_in e ∙ (map-append list_items old (one ∷ []) ∙ ((λ i. h i ++ k i ∷ []) ∙ replicate_more n []))

@@ -1,5 +1,6 @@
 pub mod Tables
 pub mod Groups
 pub mod OnePath
+pub mod GroupTrees
 pub mod Surroundings
 pub mod Making

@@ -1,6 +1,6 @@
 -- How group rows are made: the members of each service of a VID, the ports behind `me` on the tree of each source, and
 -- rows to which ports are added.
-use Rattle.std.specs.Prelude.{◌≡◌, ℕ, List, [], map, Bool, true, false, ◌&&◌, ◌||◌, ◌==◌, ◌<◌, ◌^◌, Option, Some, None, unwrap_or, position, bit_or, ◌⊎◌}
+use Rattle.std.specs.Prelude.{◌≡◌, ℕ, List, [], length, map, Bool, true, false, ◌&&◌, ◌||◌, ◌==◌, ◌<◌, ◌^◌, Option, Some, None, unwrap_or, position, bit_or, ◌⊎◌}
 use Rattle.std.specs.List.{list_any, slice_index_or}
 use Rattle.std.specs.BTreeMap.{BTreeMap, get}
 use Rattle.std.specs.Str.{bytes_eq}
@@ -23,8 +23,8 @@ use Rattle.spb_types.specs.declared.tables.GroupRow.{GroupRow}
 use Rattle.ect_trees.specs.Arcs.{IsBridgeAt}
 use Rattle.ect_trees.specs.Followers.{followers_of}
 use Rattle.ect_trees.specs.declared.followers.Followers.{Followers}
-use Rattle.fdb_build.specs.Tables.{mac_cmp, system_cmp}
-use Rattle.fdb_build.specs.Groups.{port_after, is_member}
+use Rattle.fdb_build.specs.Tables.{mac_cmp}
+use Rattle.fdb_build.specs.Groups.{port_after}
 use Rattle.fdb_build.specs.declared.kept.Kept.{Kept}
 use Rattle.fdb_build.specs.declared.services.Services.{Services}
 use Rattle.fdb_build.specs.declared.sets.Sets.{Sets}
@@ -81,27 +81,38 @@ abbrev pub is_member_at : Graph → Isid → Vid → ℕ → Member → Bool
 is_member_at g isid vid place m =
     is_at place (place_of g m.system) && ((m.isid.value == isid.value) && (m.vid.value == vid.value))
 
--- whether one of these members sends from this system to this service
-abbrev pub sends_among : List Member → Vid → SystemId → Isid → Bool
-sends_among ms vid x isid = list_any (is_member isid vid x) ms
+-- whether one of these members is of this service at the bridge of this place; each member sends to it and receives
+abbrev pub is_member_among : Graph → List Member → Vid → Isid → ℕ → Bool
+is_member_among g ms vid isid place = list_any (is_member_at g isid vid place) ms
 
--- whether one of these members receives from this service at the bridge of this place
-abbrev pub receives_among : Graph → List Member → Vid → Isid → ℕ → Bool
-receives_among g ms vid isid place = list_any (is_member_at g isid vid place) ms
+-- the lists that stand in a list
+abbrev pub lists_in : {V : Type 0} → List (Vec V) → List (List V)
+lists_in lists = map (λ v. v.items) lists
+
+-- the services to which the bridge at a place sends
+abbrev pub sent_at : Services → ℕ → List Isid
+sent_at s place = slice_index_or (lists_in s.sends.items) place []
+
+-- the same, none where there is no such bridge
+abbrev pub sent_by : Services → Option ℕ → List Isid
+sent_by s None = []
+sent_by s (Some place) = sent_at s place
 
 -- a member was added to the services in a VID, if it is in that VID
 pub record Added (g : Graph) (vid : Vid) (m : Member) (old new : Services) : Type 0 where
-  pub sends : (x : SystemId) (isid : Isid) → list_any (same_isid isid) (list_at system_cmp new.sends x)
-      ≡ (list_any (same_isid isid) (list_at system_cmp old.sends x) || is_member isid vid x m)
+  pub places : length new.sends.items ≡ length old.sends.items
+  pub sends : (isid : Isid) (place : ℕ) → list_any (same_isid isid) (sent_at new place)
+      ≡ (list_any (same_isid isid) (sent_at old place) || is_member_at g isid vid place m)
   pub receives : (isid : Isid) (place : ℕ) → list_any (same_place place) (list_at isid_cmp new.receivers isid)
       ≡ (list_any (same_place place) (list_at isid_cmp old.receivers isid) || is_member_at g isid vid place m)
 
 -- the services in a VID of these members
 pub record AreServicesOf (g : Graph) (ms : List Member) (vid : Vid) (s : Services) : Type 0 where
-  pub sends : (x : SystemId) (isid : Isid)
-      → list_any (same_isid isid) (list_at system_cmp s.sends x) ≡ sends_among ms vid x isid
+  pub places : length s.sends.items ≡ length g.bridges
+  pub sends : (isid : Isid) (place : ℕ)
+      → list_any (same_isid isid) (sent_at s place) ≡ is_member_among g ms vid isid place
   pub receives : (isid : Isid) (place : ℕ)
-      → list_any (same_place place) (list_at isid_cmp s.receivers isid) ≡ receives_among g ms vid isid place
+      → list_any (same_place place) (list_at isid_cmp s.receivers isid) ≡ is_member_among g ms vid isid place
 
 -- ---- the ports behind `me`
 
@@ -166,7 +177,7 @@ is_from s source sets isids mac p = list_any (λ isid.
 -- whether the bridge does, for one of the services to which it sends
 abbrev pub is_from_bridge : Graph → SystemId → VidPlan → Services → GraphBridge → Mac → ℕ → Bool
 is_from_bridge g me plan s b mac p =
-    is_from s b (sets_from g me plan b.id.system) (list_at system_cmp s.sends b.id.system) mac p
+    is_from s b (sets_from g me plan b.id.system) (sent_by s (place_of g b.id.system)) mac p
 
 -- whether one of these bridges does
 abbrev pub is_from_some : Graph → SystemId → VidPlan → Services → List GraphBridge → Mac → ℕ → Bool
@@ -175,7 +186,10 @@ is_from_some g me plan s sources mac p = list_any (λ b. is_from_bridge g me pla
 -- the bridge at a place of the graph
 abbrev pub source_at : Graph → ℕ → GraphBridge
 source_at g place = slice_index_or g.bridges place
-    (record { id = record { priority = 0; system = record { mac = record { bytes = [] } } }; source = record { value = 0 } })
+    (record {
+      id = record { priority = 0; system = record { mac = record { bytes = [] } } };
+      source = record { value = 0 };
+    })
 
 -- a row of a VID
 abbrev pub row_of : Vid → Mac × PortSet → GroupRow

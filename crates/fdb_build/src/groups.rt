@@ -89,20 +89,15 @@ fn add_source(
         (making.source_at around.now.roads.now place))) }
 {
     let source = source_at(around, place);
-    let Some(isids) = services.sends.get(&source.id.system) else {
+    let isids = services.sent_at(place);
+    if isids.is_empty() {
         return Ok(());
-    };
+    }
     if let Some(sets) = kept.at(place) {
-        return add_services(rows, services, source, sets.as_slice(), isids.as_slice());
+        return add_services(rows, services, source, sets.as_slice(), isids);
     }
     let sets = sets_from(alloc, around, plan, source.id.system)?;
-    add_services(
-        rows,
-        services,
-        source,
-        sets.ports.as_slice(),
-        isids.as_slice(),
-    )?;
+    add_services(rows, services, source, sets.ports.as_slice(), isids)?;
     kept.keep(place, sets);
     Ok(())
 }

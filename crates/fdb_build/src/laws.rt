@@ -1,6 +1,7 @@
 //! The laws of a bridge's tables. Each is the contract of a function that does nothing.
 ghost use Rattle.fdb_build.specs.Tables.{RowsAreTable, TableIsOne, SameRows, OrderSaysNothingOfRows};
 ghost use Rattle.fdb_build.specs.OnePath.{OnePath, SameWayBack, GroupLeadsOn};
+ghost use Rattle.fdb_build.specs.GroupTrees.{RowsLeadOn, RowsLeadToFollowers, FollowersAccept, NothingElsewhere, TreeHangsTogether, ReceiversAreOnTree, SomeServiceHasTransit};
 ghost use Rattle.fdb_build.specs.Groups.{GroupRowsAreTable, GroupTableIsOne, SameGroups, OrderSaysNothingOfGroups};
 
 /// In a valid graph the unicast rows that `unicast_rows` computes are just those of the bridges with a best path, each
@@ -52,4 +53,18 @@ pub fn frames_go_one_path()
     ensures path { OnePath }
     ensures back { SameWayBack }
     ensures group { GroupLeadsOn }
+{}
+
+/// What a source sends to a service goes down one tree: by its group row each bridge sends on just to those that follow
+/// it on the way to a receiver, and each of these takes it from that bridge alone. A bridge that isn't on the tree sends
+/// nothing on, and is sent nothing. The tree leads to each other receiver that the source reaches, one edge further
+/// with each bridge.
+pub fn group_rows_make_trees()
+    ensures rows { RowsLeadOn }
+    ensures towards { RowsLeadToFollowers }
+    ensures accept { FollowersAccept }
+    ensures elsewhere { NothingElsewhere }
+    ensures together { TreeHangsTogether }
+    ensures receivers { ReceiversAreOnTree }
+    ensures some { SomeServiceHasTransit }
 {}

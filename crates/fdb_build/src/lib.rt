@@ -5,12 +5,12 @@
 //! looks by place. [`tables_of`] makes the roads of the graph once for all VIDs, and [`tables_over`] takes those that are
 //! there.
 //!
-//! For the group rows, the members in a base VID are gathered in maps: the services of each source, and the places of
-//! each service's receivers. Each bridge that sends in the VID takes one search for the bridges that follow `me` on the
-//! best paths from it, whatever number of services it sends to. Where no two paths to a bridge tie in cost and hops, what
-//! follows is the same under every mask, and is kept for the next base VIDs; so a source without ties takes one search for
-//! all VIDs. A service with m members then takes m looks for each source. Where a graph has no members nothing is searched
-//! but the ways from `me`.
+//! For the group rows, the members in a base VID are gathered: the services of each source, by its place, and the
+//! places of each service's receivers, in a map. Each bridge that sends in the VID takes one search for the bridges that
+//! follow `me` on the best paths from it, whatever number of services it sends to. Where no two paths to a bridge tie in
+//! cost and hops, what follows is the same under every mask, and is kept for the next base VIDs; so a source without
+//! ties takes one search for all VIDs. A service with m members then takes m looks for each source. Where a graph has no
+//! members nothing is searched but the ways from `me`.
 #![tactic(auto)]
 
 pub use tables::{tables_of, tables_over};

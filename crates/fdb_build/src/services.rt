@@ -1,5 +1,6 @@
 //! The members of the services in a base VID, gathered once for all its trees.
-ghost use Rattle.std.specs.Prelude.{◌≡◌, ◌++◌, ◌∷◌, [], ℕ, OnOk, IfOk, if◌then◌else◌};
+ghost use Rattle.std.specs.Prelude.{◌≡◌, ◌<◌, ◌++◌, ◌∷◌, [], ℕ, length, replicate, OnOk, IfOk, if◌then◌else◌};
+ghost use Rattle.std.specs.List.{slice_index_or, slice_set};
 ghost use Rattle.std.specs.Ordering.{is_eq};
 ghost use Rattle.spb_types.specs.Ports.{has};
 ghost use Rattle.fdb_build.specs.Making as making;
@@ -7,16 +8,37 @@ ghost use Rattle.fdb_build.specs.Surroundings.{AreKnown};
 
 use crate::sets::towards;
 use crate::surroundings::Surroundings;
-use spb_types::{Isid, Member, NoMemory, PortSet, SystemId, Vid};
+use spb_types::{Isid, Member, NoMemory, PortSet, Vid};
 use std::alloc::Global;
 use std::collections::BTreeMap;
 
-/// Of a base VID: the services to which each system sends, and the places in the graph of the bridges that receive from
-/// each service.
+/// Of a base VID: the services to which each bridge sends, by its place in the graph, and the places of the bridges
+/// that receive from each service.
 #[derive(Drop)]
 pub struct Services {
-    pub sends: BTreeMap<SystemId, Vec<Isid>>,
+    pub sends: Vec<Vec<Isid>>,
     pub receivers: BTreeMap<Isid, Vec<usize>>,
+}
+
+/// As many empty lists.
+fn empty_lists(alloc: Global, count: usize) -> Result<Vec<Vec<Isid>>, NoMemory>
+    ensures { IfOk result (λ lists. making.lists_in lists.items ≡ replicate count []) }
+{
+    let mut lists = Vec::with_capacity(alloc, count)?;
+    for _place in 0..count {
+        lists.push(Vec::new(alloc))?;
+    }
+    Ok(lists)
+}
+
+/// Puts an item behind the list at a place.
+fn put_at(lists: &mut Vec<Vec<Isid>>, place: usize, item: Isid) -> Result<(), NoMemory>
+    requires { place < length lists.old.items }
+    ensures { OnOk result (making.lists_in lists.new.items ≡ slice_set (making.lists_in lists.old.items) place
+        (slice_index_or (making.lists_in lists.old.items) place [] ++ item ∷ [])) }
+{
+    lists[place].push(item)?;
+    Ok(())
 }
 
 /// A list of one item.
@@ -55,17 +77,18 @@ impl Services {
         vid: Vid,
         member: Member,
     ) -> Result<(), NoMemory>
-        requires { AreKnown around.now }
+        requires known { AreKnown around.now }
+        requires places { length self.old.sends.items ≡ length around.now.roads.now.bridges }
         ensures { OnOk result (making.Added around.now.roads.now vid member self.old self.new) }
     {
         if member.vid != vid {
             return Ok(());
         }
-        put(alloc, &mut self.sends, member.system, member.isid)?;
-        match around.roads.place_of(member.system) {
-            None => Ok(()),
-            Some(place) => put(alloc, &mut self.receivers, member.isid, place),
-        }
+        let Some(place) = around.roads.place_of(member.system) else {
+            return Ok(());
+        };
+        put_at(&mut self.sends, place, member.isid)?;
+        put(alloc, &mut self.receivers, member.isid, place)
     }
 
     /// The services of the graph's members in this VID.
@@ -74,13 +97,24 @@ impl Services {
         ensures { IfOk result (making.AreServicesOf around.now.roads.now around.now.roads.now.members vid) }
     {
         let mut services = Services {
-            sends: BTreeMap::new(alloc),
+            sends: empty_lists(alloc, around.roads.graph().bridges.len())?,
             receivers: BTreeMap::new(alloc),
         };
         for member in around.roads.graph().members.as_slice() {
             services.add(alloc, around, vid, *member)?;
         }
         Ok(services)
+    }
+
+    /// The services to which the bridge at a place sends.
+    pub fn sent_at(&self, place: usize) -> &[Isid]
+        ensures { result.now ≡ making.sent_at self.now place }
+    {
+        if place < self.sends.len() {
+            self.sends[place].as_slice()
+        } else {
+            &[]
+        }
     }
 
     /// The ports in the sets of the places of the bridges that receive from a service.

@@ -1,4 +1,4 @@
-use Rattle.std.proofs.Common.{◌≡◌, ◌+◌, ◌++◌, ◌∷◌, [], length, take, sym, ap, subst, arith}
+use Rattle.std.proofs.Common.{◌≡◌, ◌+◌, length, take, sym, subst, arith}
 use Rattle.ect_trees.specs.Followers.{FollowOnWays}
 use Rattle.ect_trees.proofs.Followed.{followers_more, followers_all}
 use Rattle.ect_trees.proofs.followers.followers_by.Goals as goal

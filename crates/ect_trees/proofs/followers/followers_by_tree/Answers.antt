@@ -1,4 +1,4 @@
-use Rattle.std.proofs.Common.{false, true≢false, ◌∙◌, sym}
+use Rattle.std.proofs.Common.{true≢false, ◌∙◌, sym}
 use Rattle.ect_trees.proofs.Followed.{followers_in_best}
 use Rattle.ect_trees.proofs.followers.followers_by_tree.Goals as goal
 

@@ -1,4 +1,4 @@
-use Rattle.std.proofs.Common.{◌≡◌, ℕ, true, false, true≢false, refl, sym, ◌∙◌, subst}
+use Rattle.std.proofs.Common.{◌≡◌, ℕ, true≢false, refl, sym, ◌∙◌, subst}
 use Rattle.ect_trees.specs.Arcs.{IsBridgeAt}
 use Rattle.ect_trees.specs.Trial.{Covers}
 use Rattle.ect_trees.specs.Followers.{followers_of}

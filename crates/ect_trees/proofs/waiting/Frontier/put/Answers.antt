@@ -1,4 +1,4 @@
-use Rattle.std.proofs.Common.{◌≡◌, ◌∙◌, ◌++◌, ◌∷◌, [], sym, ap, subst, cond, true}
+use Rattle.std.proofs.Common.{◌∙◌, sym, ap, subst, cond, true}
 use Rattle.std.specs.Ordering.{is_eq}
 use Rattle.ect_trees.specs.Waits.{waits, waiting_cmp, WaitOnce}
 use Rattle.ect_trees.proofs.Waits.{put_waits, put_once}

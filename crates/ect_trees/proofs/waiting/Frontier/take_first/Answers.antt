@@ -1,4 +1,4 @@
-use Rattle.std.proofs.Common.{◌≡◌, ◌∙◌, ◌<◌, ◌≤◌, ℕ, length, get_or, sym, ap, subst, cond, true, false, arith}
+use Rattle.std.proofs.Common.{◌≡◌, ◌∙◌, ◌<◌, ◌≤◌, ℕ, length, get_or, sym, ap, subst, cond, false, arith}
 use Rattle.std.specs.Ordering.{is_eq}
 use Rattle.ect_trees.specs.declared.waiting.Waiting.{Waiting}
 use Rattle.ect_trees.specs.Waits.{waits, waiting_cmp}

@@ -1,6 +1,6 @@
-use Rattle.std.proofs.Common.{◌≡◌, ◌+◌, ◌-◌, ◌⊎◌, inl, inr, sym, ap, ◌∙◌, subst, arith}
+use Rattle.std.proofs.Common.{◌≡◌, ◌+◌, ◌-◌, ◌⊎◌, inl, inr, sym, ◌∙◌, subst, arith}
 use Rattle.std.specs.Cmp.Lexicographic.{slice_cmp}
-use Rattle.ect_trees.specs.Key.{id_cmp, inserted}
+use Rattle.ect_trees.specs.Key.{id_cmp}
 use Rattle.ect_trees.proofs.Compared.{WalksBack, walked_more, walked_all}
 use Rattle.ect_trees.proofs.ways.Ways.compare_back.Goals as goal
 use Rattle.ect_trees.proofs.ways.Ways.compare_back.Goals.{then-loop-left-test+else-place-other, else-loop-left-test}

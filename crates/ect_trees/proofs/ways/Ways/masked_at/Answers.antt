@@ -1,4 +1,4 @@
-use Rattle.std.proofs.Common.{◌≡◌, ◌<◌, length, sym, ap, ◌∙◌, arith}
+use Rattle.std.proofs.Common.{length, sym, ap, ◌∙◌, arith}
 use Rattle.spb_types.specs.Address.{masked}
 use Rattle.ect_trees.proofs.Places.{at_within, read_bridge}
 use Rattle.ect_trees.proofs.ways.Ways.masked_at.Goals as goal
