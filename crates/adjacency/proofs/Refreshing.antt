@@ -1,5 +1,5 @@
 -- A hello that only begins the holding count anew.
-use Rattle.std.proofs.Common.{◌≡◌, ℕ, ◌≤◌, ◌<◌, Bool, true, false, refl, sym, ap, ◌∙◌, subst, arith}
+use Rattle.std.proofs.Common.{◌≡◌, ℕ, ◌<◌, Bool, true, false, refl, sym, ap, ◌∙◌, subst, arith}
 use Rattle.std.specs.Prelude.{◌&&◌, not, ◌==◌, nat_lt, if◌then◌else◌}
 use Rattle.std.proofs.lemmas.Bool.{eqb-true, eq-eqb, ne_eqb, ltb-true}
 use Rattle.std.proofs.lemmas.Bool.Decides.{nat_tests}
@@ -10,12 +10,11 @@ use Rattle.isis_pdu.specs.Pdu.{HelloValue}
 use Rattle.spb_tlvs.specs.declared.three_way.ThreeWay.{ThreeWay}
 use Rattle.adjacency.specs.declared.state.AdjState.{AdjState}
 use Rattle.adjacency.specs.declared.state.AdjState.TheVariants.{Down, Initializing, Up}
-use Rattle.adjacency.specs.declared.state.AdjacencyChange.{AdjacencyChange}
 use Rattle.adjacency.specs.declared.state.AdjacencyChange.TheVariants as did
 use Rattle.adjacency.specs.declared.port.Adjacency.{Adjacency}
 use Rattle.adjacency.specs.States.{next_state, state_numbered}
 use Rattle.adjacency.specs.Hearing.{End, same_end, sender, is_discarded}
-use Rattle.adjacency.specs.Adjacency.{SoundIn, IsSound, down, keeping, led_to, is_up, state_towards, after_hello, after_hello_heard, is_new_up, change_of, change_by_hello, is_refreshed}
+use Rattle.adjacency.specs.Adjacency.{SoundIn, IsSound, down, keeping, led_to, is_up, state_towards, after_hello, after_hello_heard, change_of, change_by_hello, is_refreshed}
 
 and_true : (a b : Bool) → (a && b) ≡ true → (a ≡ true) × (b ≡ true)
 and_true true b e = (refl, e)

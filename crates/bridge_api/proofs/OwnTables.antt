@@ -18,7 +18,7 @@ use Rattle.ect_trees.proofs.Reached.{part_looks_alike}
 use Rattle.fdb_build.proofs.TableLemmas.{same_rows}
 use Rattle.fdb_build.proofs.GroupLemmas.{same_groups}
 use Rattle.spb_content.specs.Graph as said
-use Rattle.spb_content.specs.Graph.{Contents, systems_in, said_of, link_said, cost_said, IsGraphOf}
+use Rattle.spb_content.specs.Graph.{Contents, systems_in, link_said, IsGraphOf}
 use Rattle.spb_content.specs.Building.{has_inst, said_graph}
 use Rattle.spb_content.specs.Laws.{HasAllLinks}
 use Rattle.spb_content.proofs.Members.{Has, has_from_contains, contains_from_has}

@@ -6,6 +6,7 @@ pub mod Owning
 pub mod Configuring
 pub mod Standing
 pub mod Sends
+pub mod Unused
 pub mod Seconds
 pub mod Putting
 pub mod Foreign

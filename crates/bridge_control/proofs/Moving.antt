@@ -1,6 +1,6 @@
 -- What customers' frames make of a machine, and what it sends then.
 use Rattle.std.proofs.Common.{◌≡◌, ℕ, Bool, true, false, List, refl, sym, ap, ◌∙◌, subst, Option, Some, None, Result}
-use Rattle.std.specs.Prelude.{OnOk, OnErr, if◌then◌else◌, take}
+use Rattle.std.specs.Prelude.{OnOk, OnErr, if◌then◌else◌}
 use Rattle.std.specs.Global.{Vec}
 use Rattle.std.proofs.lemmas.List.{append-nil}
 use Rattle.spb_types.specs.declared.tables.Tables.{Tables}
@@ -15,13 +15,12 @@ use Rattle.bridge_api.specs.View.{BridgeView, port_at, has_carrier_in, has_carri
 use Rattle.bridge_api.specs.Own.{own_of, body_of}
 use Rattle.bridge_api.specs.Customers.{with_learned, after_entry, moved_by_entry, moved_as, moved_at, moved_by_receive}
 use Rattle.bridge_api.specs.Parsing.{Parsed, parsed}
-use Rattle.bridge_api.specs.Hearing.{after_receive}
 use Rattle.bridge_api.specs.Step.{with_moved, GainsMoved}
 use Rattle.bridge_api.specs.Tables.{own_tables}
 use Rattle.bridge_control.specs.declared.machine.Machine.{Machine}
 use Rattle.bridge_control.specs.Carrying.{carrying, forwarded_by}
 use Rattle.bridge_control.specs.Kept.{AreOwn}
-use Rattle.bridge_control.specs.Machine.{view_of, IsCurrent, IsReady, IsAfter, heard_by, hears}
+use Rattle.bridge_control.specs.Machine.{view_of, IsCurrent, IsAfter, heard_by, hears}
 use Rattle.bridge_control.proofs.Telling.{tenant_is}
 
 -- ---- what a machine has learned

@@ -1,5 +1,5 @@
 -- A second of a machine.
-use Rattle.std.proofs.Common.{◌≡◌, ◌≤◌, ◌+◌, ◌-◌, ℕ, Bool, true, false, List, [], ◌∷◌, map, length, refl, sym, ap, ◌∙◌, subst, Option, Some, None, arith}
+use Rattle.std.proofs.Common.{◌≡◌, ◌≤◌, ◌+◌, ◌-◌, ℕ, Bool, true, false, List, [], ◌∷◌, map, take, drop, length, refl, sym, ap, ◌∙◌, subst, Option, Some, None, arith}
 use Rattle.std.specs.Prelude.{◌||◌, if◌then◌else◌}
 use Rattle.std.specs.Global.{Vec}
 use Rattle.std.proofs.lemmas.List.{length-map}
@@ -32,9 +32,10 @@ use Rattle.bridge_api.proofs.DataSteps.{can_originate}
 use Rattle.bridge_api.proofs.TimeLsps.{older_lasts, expired_holds as expired_holds_at}
 use Rattle.bridge_control.specs.declared.machine.Machine.{Machine}
 use Rattle.bridge_control.specs.Machine.{view_of, hellos_from, FollowsPorts, IsReady, CanOriginate, IsAfter}
-use Rattle.bridge_control.specs.Ports.{has_lost}
+use Rattle.bridge_control.specs.Ports.{AreSoundPorts, AreUnused, has_lost}
 use Rattle.bridge_control.proofs.Following.{alike_refl, alike_later, alike_undue, neighbours_later}
 use Rattle.bridge_control.proofs.Owning.{said_alike, current_with, after_same, renewed_after}
+use Rattle.bridge_control.proofs.Unused.{unused_later, sent_first, done_first}
 
 neither : (a b : Bool) → (a || b) ≡ false → (a ≡ false) × (b ≡ false)
 neither true b e = absurd cc
@@ -152,8 +153,18 @@ readied_holds v sound =
     let w : BridgeView = expired (counts_lowered v) in
     refreshed_keeps w (can_originate w (config_kept v w refl sound.config) (few_later v.ports sound.few) (all_later v.ports sound.ports)) (expired_holds v sound)
 
-pub readied_few : (m n : Machine) → IsReady m → IsAfter (readied (view_of m)) n → length n.ports.items ≤ 32
-readied_few m n ready is = after_few (readied (view_of m)) n (subst (λ (ps : List BridgePort). length ps ≤ 32) (sym (readied_ports (view_of m))) (few_later m.ports.items ready.sound.few)) is.view
+-- the ports of the bridge that sends
+readied_are : (m n : Machine) → IsAfter (readied (view_of m)) n → map later m.ports.items ≡ n.ports.items
+readied_are m n is = sym (ap (λ (v : BridgeView). v.ports) is.view ∙ readied_ports (view_of m))
+
+pub readied_long : (m n : Machine) (used : ℕ) → IsAfter (readied (view_of m)) n → used ≤ length m.ports.items → used ≤ length n.ports.items
+readied_long m n used is within = omega (arith, within, ap length (readied_are m n is), length-map m.ports.items later)
+
+pub readied_sound : (m n : Machine) → IsReady m → IsAfter (readied (view_of m)) n → AreSoundPorts n.ports.items
+readied_sound m n ready is = subst AreSoundPorts (readied_are m n is) (all_later m.ports.items ready.sound.ports)
+
+pub readied_unused : (m n : Machine) (used : ℕ) → IsReady m → IsAfter (readied (view_of m)) n → AreUnused (drop used m.ports.items) → AreUnused (drop used n.ports.items)
+readied_unused m n used ready is unused = subst (λ (ports : List BridgePort). AreUnused (drop used ports)) (readied_are m n is) (unused_later used m.ports.items ready.sound.ports unused)
 
 pub readied_sendable : (m n : Machine) → IsReady m → IsAfter (readied (view_of m)) n → AreSendable n.db
 readied_sendable m n ready is = subst (λ (u : BridgeView). AreSendable u.database) (sym is.view) (readied_holds (view_of m) ready.sound).sendable
@@ -177,3 +188,14 @@ after_sending_after v m ports db is undue are = record {
 pub tick_frames : (v : BridgeView) (m : Machine) → IsAfter (readied v) m → sent_from m.id.system 1 m.ports.items m.db ≡ sent_in_tick v
 unfolding sent_in_tick
 tick_frames v m is = ap (λ (u : BridgeView). sent_from u.id.system 1 u.ports u.database) is.view
+
+-- all that is sent is sent at the first ports, if the others have no carrier
+pub first_frames : (m n : Machine) (used : ℕ) (ports : List BridgePort) → IsReady m → IsAfter (readied (view_of m)) n → AreUnused (drop used m.ports.items) → ports ≡ n.ports.items → sent_from n.id.system 1 (take used ports) n.db ≡ sent_in_tick (view_of m)
+first_frames m n used ports ready is unused are =
+    ap (λ (l : List BridgePort). sent_from n.id.system 1 (take used l) n.db) are
+    ∙ (sent_first n.id.system used n.ports.items n.db (readied_sound m n ready is) (readied_unused m n used ready is unused) ∙ tick_frames (view_of m) n is)
+
+pub first_done : (m n : Machine) (used : ℕ) (ports : List BridgePort) → IsReady m → IsAfter (readied (view_of m)) n → AreUnused (drop used m.ports.items) → ports ≡ n.ports.items → after_sending_from 1 (take used ports) n.db ≡ after_sending_from 1 n.ports.items n.db
+first_done m n used ports ready is unused are =
+    ap (λ (l : List BridgePort). after_sending_from 1 (take used l) n.db) are
+    ∙ done_first used n.ports.items n.db (readied_sound m n ready is) (readied_unused m n used ready is unused)

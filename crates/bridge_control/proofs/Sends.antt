@@ -142,10 +142,29 @@ pub sent_silent : (me : SystemId) (p : ℕ) (port : BridgePort) (db : Lsps) → 
 sent_silent me p port db dark up =
     ap (λ (b : Bool). if b then (p, hello_frame me p port) ∷ [] else []) (sym dark) ∙ sent_down me p port db up
 
-pub sent_up : (me : SystemId) (p : ℕ) (port : BridgePort) (db : Lsps) → is_port_up port ≡ true → sent_at me p port db ≡ hellos_at me p port ++ (summaries_at me p port db ++ flagged_at me p db)
-sent_up me p port db up =
-    ap (λ (b : Bool). hellos_at me p port ++ (if b then summaries_at me p port db ++ lsps_at me p db ++ requests_at me p db else [])) up
-    ∙ ap (λ (fs : List (ℕ × List ℕ)). hellos_at me p port ++ fs) (append_assoc (summaries_at me p port db) (lsps_at me p db) (requests_at me p db))
+-- at an Up port CSNPs come first
+pub synced_up : (me : SystemId) (p : ℕ) (port : BridgePort) (db : Lsps) → is_port_up port ≡ true → synced_at me p port db ≡ summaries_at me p port db ++ flagged_at me p db
+synced_up me p port db up =
+    ap (λ (b : Bool). if b then summaries_at me p port db ++ lsps_at me p db ++ requests_at me p db else []) up
+    ∙ append_assoc (summaries_at me p port db) (lsps_at me p db) (requests_at me p db)
+
+-- a port at which a hello alone can be sent
+synced_by : (up : Bool) (first second third : List (ℕ × List ℕ)) → (up ≡ true → [] ≡ first) → (up ≡ true → [] ≡ second) → (up ≡ true → [] ≡ third) → (if up then first ++ second ++ third else []) ≡ []
+synced_by true first second third one two three = λ i. sym (one refl) i ++ sym (two refl) i ++ sym (three refl) i
+synced_by false first second third one two three = refl
+
+pub hello_alone : (me : SystemId) (p : ℕ) (port : BridgePort) (db : Lsps) → (is_port_up port ≡ true → port.csnp_due ≡ false) → (is_port_up port ≡ true → is_srm_at p db ≡ false) → (is_port_up port ≡ true → is_ssn_at p db ≡ false) → hellos_at me p port ≡ sent_at me p port db
+hello_alone me p port db due srm ssn =
+    sym (append-nil (hellos_at me p port))
+    ∙ ap (λ (fs : List (ℕ × List ℕ)). hellos_at me p port ++ fs)
+    (sym (synced_by (is_port_up port) (summaries_at me p port db) (lsps_at me p db) (requests_at me p db) (λ up. no_summaries me p port db (due up)) (λ up. no_lsps me p db (srm up)) (λ up. no_requests me p db (ssn up))))
+
+cleared_if : (up : Bool) (db new : Lsps) → (up ≡ true → db ≡ new) → db ≡ (if up then new else db)
+cleared_if true db new is = is refl
+cleared_if false db new is = refl
+
+pub none_cleared_at : (p : ℕ) (port : BridgePort) (db : Lsps) → (is_port_up port ≡ true → is_ssn_at p db ≡ false) → db ≡ after_sending_at p port db
+none_cleared_at p port db ssn = cleared_if (is_port_up port) db (all_ssn_cleared p db) (λ up. nothing_cleared p db (ssn up))
 
 -- the hello that is kept is sent
 pub said_hello : (me : SystemId) (p : ℕ) (port : BridgePort) (hello : List ℕ) (o new : Outbox) → hello ≡ hello_frame me p port → new ≡ with_wire (hello_if port.adjacency.carrier p hello) o → new ≡ with_wire (hellos_at me p port) o

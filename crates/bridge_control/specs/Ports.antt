@@ -1,4 +1,4 @@
-use Rattle.std.specs.Prelude.{◌≡◌, List, Bool, ◌&&◌, not}
+use Rattle.std.specs.Prelude.{◌≡◌, ℕ, List, Bool, false, ◌&&◌, not}
 use Rattle.std.specs.List.{AllByRecursion, list_any}
 use Rattle.bridge_api.specs.declared.port.BridgePort.{BridgePort}
 use Rattle.adjacency.specs.declared.port.Adjacency.{Adjacency}
@@ -10,11 +10,19 @@ use Rattle.bridge_api.specs.Laws.{IsSoundPort}
 abbrev pub AreSoundPorts : List BridgePort → Type 0
 AreSoundPorts ports = AllByRecursion IsSoundPort ports
 
+-- none of these ports has carrier
+abbrev pub AreUnused : List BridgePort → Type 0
+AreUnused ports = AllByRecursion (λ port. port.adjacency.carrier ≡ false) ports
+
 -- two adjacencies in one state, with the same neighbour and circuit: hellos say the same of them
 pub record IsSameEnd (a b : Adjacency) : Type 0 where
   pub state : b.state ≡ a.state
   pub neighbour : b.neighbour ≡ a.neighbour
   pub circuit : b.circuit ≡ a.circuit
+
+-- a port with another holding count
+abbrev pub with_hold : ℕ → BridgePort → BridgePort
+with_hold hold port = record port { adjacency = record port.adjacency { hold = hold } }
 
 -- whether the neighbour at a port is lost in this second
 abbrev pub loses : BridgePort → Bool

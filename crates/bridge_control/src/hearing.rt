@@ -17,7 +17,7 @@ ghost use Rattle.bridge_control.specs.Machine.{view_of, IsReady, IsAfter, hears}
 use crate::heard::{HeardHello, put_heard, said_at};
 use crate::machine::Machine;
 use crate::parsing::{Message, parse};
-use crate::ports::{is_up, port_at, put_port};
+use crate::ports::{is_up, port_at, put_hold, put_port};
 use bridge_api::Outbox;
 use flooding::{FloodError, Own};
 use isis_pdu::{Csnp, Hello, Lsp, Psnp};
@@ -76,7 +76,7 @@ impl Machine {
         {
             return false;
         }
-        put_port(&mut self.ports, port, new);
+        put_hold(&mut self.ports, port, new.adjacency.hold);
         true
     }
 

@@ -31,8 +31,9 @@
 //! - The hello of each port is kept as a frame, and so is the set of the Up ports. A hello is made anew where the state,
 //!   the neighbour or its circuit changes at its port, in constant time and with memory for a few short vectors; the set
 //!   then goes over the ports once. Where a neighbour is lost in a second, the hellos of all ports are made anew.
-//! - A tick in which no flags stand and no neighbour is lost goes three times over the ports and once over the database,
-//!   looks up the own LSP by a binary search, and compares no body, in time p + n. Each hello is a copy of the frame that
+//! - A tick in which no flags stand and no neighbour is lost looks for the last port with carrier, from the last port on,
+//!   goes twice over the ports up to that one, and once over all; goes once over the database, looks up the own LSP by a
+//!   binary search, and compares no body, in time p + n. Each hello is a copy of the frame that
 //!   is kept, and takes memory only where the outbox has no vector to spare. Where flags stand or the bridge originated,
 //!   it also goes over the database three times, to find the ports with SRM, those with SSN, and the places of the first
 //!   and the last LSP with flags; and then over what lies between these: once to make the frames of the LSPs with SRM,

@@ -1,16 +1,17 @@
 //! Work on the ports of a bridge.
-ghost use Rattle.std.specs.Prelude.{◌≡◌, ◌-◌, ◌≤◌, Bool, true, false, length, map, Some, IfOk, slice_get, slice_set, if◌then◌else◌};
+ghost use Rattle.std.specs.Prelude.{◌≡◌, ◌-◌, ◌≤◌, Bool, true, false, length, map, drop, Some, IfOk, slice_get, slice_set, if◌then◌else◌};
 ghost use Rattle.std.specs.List.{AllByRecursion};
 ghost use Rattle.adjacency.specs.Adjacency as adjacency;
 ghost use Rattle.lsdb.specs.Entry.{srm_set_at, flags_cleared_at};
 ghost use Rattle.lsdb.specs.Database.{each};
+ghost use Rattle.bridge_api.specs.declared.port.BridgePort.{BridgePort};
 ghost use Rattle.bridge_api.specs.View.{is_port_up, up_from, port_in};
 ghost use Rattle.bridge_api.specs.Config.{port_without_carrier};
 ghost use Rattle.bridge_api.specs.Own as own;
 ghost use Rattle.bridge_api.specs.Hearing as api;
 ghost use Rattle.bridge_api.specs.Ticking as ticking;
 ghost use Rattle.bridge_api.specs.Laws.{IsSoundPort};
-ghost use Rattle.bridge_control.specs.Ports.{AreSoundPorts, IsSameEnd, loses, has_lost};
+ghost use Rattle.bridge_control.specs.Ports.{AreSoundPorts, AreUnused, IsSameEnd, with_hold, loses, has_lost};
 
 use adjacency::{AdjState, Adjacency, AdjacencyChange};
 use bridge_api::BridgePort;
@@ -56,6 +57,16 @@ pub(crate) fn put_port(ports: &mut Vec<BridgePort>, port: u8, new: BridgePort)
     ensures { ports.new.items ≡ slice_set ports.old.items (port - 1) new }
 {
     ports[usize::from(port) - 1] = new;
+}
+
+/// Gives the port of a number another holding count.
+pub(crate) fn put_hold(ports: &mut Vec<BridgePort>, port: u8, hold: u16)
+    requires low { 1 ≤ port }
+    requires high { port ≤ length ports.old.items }
+    ensures { (was : BridgePort) → port_in ports.old.items port ≡ Some was
+        → ports.new.items ≡ slice_set ports.old.items (port - 1) (with_hold hold was) }
+{
+    ports[usize::from(port) - 1].adjacency.hold = hold;
 }
 
 pub(crate) fn is_up(port: &BridgePort) -> bool
@@ -134,17 +145,34 @@ fn member_of(system: SystemId, a: &Attachment) -> Member
     }
 }
 
+/// How many ports there are up to the last with carrier.
+pub(crate) fn ports_in_use(ports: &[BridgePort]) -> usize
+    ensures within { result ≤ length ports.now }
+    ensures last { (port : BridgePort) → port_in ports.now result ≡ Some port → port.adjacency.carrier ≡ true }
+    ensures unused { AreUnused (drop result ports.now) }
+{
+    'search: for place in (0..ports.len()).rev() {
+        if ports[place].adjacency.carrier {
+            return place + 1;
+        }
+    }
+    0
+}
+
 /// A second passes at each port: the holding counts fall. Where the neighbour at an Up port is lost, the flags of the
-/// port are cleared and nothing is due there any more. Tells whether a neighbour is lost at any port.
-pub(crate) fn count_down(ports: &mut Vec<BridgePort>, db: &mut Database) -> bool
+/// port are cleared and nothing is due there any more. Tells whether a neighbour is lost at any port. Only the first
+/// ports, so many, are gone over: a second changes nothing at one without carrier.
+pub(crate) fn count_down(ports: &mut Vec<BridgePort>, used: usize, db: &mut Database) -> bool
     requires few { length ports.old.items ≤ 32 }
     requires sound { AreSoundPorts ports.old.items }
+    requires within { used ≤ length ports.old.items }
+    requires unused { AreUnused (drop used ports.old.items) }
     ensures ports { ports.new.items ≡ map ticking.later ports.old.items }
     ensures db { db.new ≡ each (λ id e. ticking.flags_cleared_at_all (ticking.leaving_from 1 ports.old.items) e) db.old }
     ensures lost { result ≡ has_lost ports.old.items }
 {
     let mut lost = false;
-    'count: for place in 0..ports.len() {
+    'count: for place in 0..used {
         if count_down_at(place as u8 + 1, &mut ports[place], db) {
             lost = true;
         }

@@ -1,5 +1,5 @@
 //! What a bridge sends in a second: to each port its hello, and to an Up one CSNPs, LSPs and PSNPs, as frames.
-ghost use Rattle.std.specs.Prelude.{◌≡◌, ◌+◌, ◌≤◌, ◌∷◌, [], true, false, length, map, slice_get, ℕ, IfOk, OnOk, OnErr, if◌then◌else◌};
+ghost use Rattle.std.specs.Prelude.{◌≡◌, ◌+◌, ◌≤◌, ◌∷◌, ◌&&◌, ◌||◌, not, [], true, false, length, map, slice_get, ℕ, IfOk, OnOk, OnErr, if◌then◌else◌};
 ghost use Rattle.std.specs.List.{AllByRecursion};
 ghost use Rattle.std.specs.FinMap.{entries};
 ghost use Rattle.spb_types.specs.Ports.{has};
@@ -118,7 +118,7 @@ struct Flags<'a> {
     frames: &'a [Option<Seq<u8>>],
 }
 
-/// Puts what is sent at a port into the outbox. That is nothing at one without carrier that isn't Up.
+/// Puts what is sent at a port into the outbox: mostly that is its hello alone.
 #[inline(always)]
 fn send_at(
     alloc: Global,
@@ -143,48 +143,55 @@ fn send_at(
     ensures after_sending { OnOk result (db.new ≡ api.after_sending_at number port.now db.old) }
     ensures gained { OnErr result (Gains (api.sent_at system number port.now db.old) outbox.old outbox.new) }
 {
-    if is_silent(port) {
+    send_hello(number, port, hello, outbox)?;
+    if is_synced(number, port, flags.srm, flags.ssn) {
         return Ok(());
     }
-    send_to(alloc, system, number, port, hello, db, flags, outbox)
+    sync(alloc, system, number, port, db, flags, outbox)
 }
 
-/// Whether a port has no carrier and isn't Up.
-fn is_silent(port: &BridgePort) -> bool
-    ensures carrier { result ≡ true → port.now.adjacency.carrier ≡ false }
-    ensures up { result ≡ true → is_port_up port.now ≡ false }
+/// Whether nothing but a hello can be sent at a port: it isn't Up, or no CSNPs are due there and neither set has it, the
+/// ports at which LSPs are to be sent and those at which they are to be acknowledged or asked for.
+fn is_synced(number: u8, port: &BridgePort, srm: PortSet, ssn: PortSet) -> bool
+    requires low { 1 ≤ number }
+    requires high { number ≤ 32 }
+    ensures exact { result ≡ (not (is_port_up port.now)
+        || (not port.now.csnp_due && not (has srm number) && not (has ssn number))) }
+    ensures up { result ≡ false → is_port_up port.now ≡ true }
+    ensures due { result ≡ true → is_port_up port.now ≡ true → port.now.csnp_due ≡ false }
+    ensures srm { result ≡ true → is_port_up port.now ≡ true → has srm number ≡ false }
+    ensures ssn { result ≡ true → is_port_up port.now ≡ true → has ssn number ≡ false }
 {
-    !port.adjacency.carrier && !is_up(port)
+    if !is_up(port) {
+        return true;
+    }
+    !port.csnp_due && !srm.has(number) && !ssn.has(number)
 }
 
-/// Puts what is sent at a port into the outbox. What the flags rule out isn't looked for.
-fn send_to(
+/// Puts what is sent at an Up port, but for its hello, into the outbox. What the flags rule out isn't looked for.
+#[cold]
+fn sync(
     alloc: Global,
     system: SystemId,
     number: u8,
     port: &BridgePort,
-    hello: &[u8],
     db: &mut Database,
     flags: Flags<'_>,
     outbox: &mut Outbox,
 ) -> Result<(), NoMemory>
     requires low { 1 ≤ number }
     requires high { number ≤ 32 }
-    requires hello { hello.now ≡ api.hello_frame system number port.now }
+    requires up { is_port_up port.now ≡ true }
     requires sendable { AreSendable db.old }
     requires sized { AreSized db.old }
     requires srm { has flags.srm number ≡ false → is_srm_at number db.old ≡ false }
     requires ssn { has flags.ssn number ≡ false → is_ssn_at number db.old ≡ false }
     requires places { AreFlagsWithin flags.places.first flags.places.end db.old }
     requires frames { AreMadeOf system (entries db.old) flags.frames.now }
-    ensures sent { OnOk result (outbox.new ≡ with_wire (api.sent_at system number port.now db.old) outbox.old) }
+    ensures sent { OnOk result (outbox.new ≡ with_wire (api.synced_at system number port.now db.old) outbox.old) }
     ensures after_sending { OnOk result (db.new ≡ api.after_sending_at number port.now db.old) }
-    ensures gained { OnErr result (Gains (api.sent_at system number port.now db.old) outbox.old outbox.new) }
+    ensures gained { OnErr result (Gains (api.synced_at system number port.now db.old) outbox.old outbox.new) }
 {
-    send_hello(number, port, hello, outbox)?;
-    if !is_up(port) {
-        return Ok(());
-    }
     send_summaries(alloc, system, number, port, db, outbox)?;
     send_flagged(alloc, system, number, db, flags, outbox)
 }

@@ -1,4 +1,4 @@
-use Rattle.std.proofs.Common.{◌≡◌, ℕ, List, [], ◌∷◌, ◌++◌, length, refl, sym, ap, arith, rules}
+use Rattle.std.proofs.Common.{◌≡◌, ℕ, List, [], ◌∷◌, ◌++◌, length, refl, ap, arith, rules}
 use Rattle.std.specs.Prelude.{slice_index}
 use Rattle.spb_tlvs.specs.Number.{two, four}
 use Rattle.spb_tlvs.proofs.entries.octets_of.Goals as goal

@@ -4,31 +4,31 @@ use Rattle.bridge_control.proofs.machine.Machine.count.Goals as goal
 
 pub returns-then-not-count_down-clause-after : goal.returns-then-not-count_down-clause-after
 returns-then-not-count_down-clause-after c =
-    counts_lowered_same c.args.self.now c.count_down.new.ports c.count_down.new.db c.requires c.count_down.ensures.ports c.count_down.ensures.db (sym c.count_down.ensures.lost ∙ c.if-not-count_down.true)
+    counts_lowered_same c.args.self.now c.count_down.new.ports c.count_down.new.db c.requires.ready c.count_down.ensures.ports c.count_down.ensures.db (sym c.count_down.ensures.lost ∙ c.if-not-count_down.true)
 
 pub renew_hellos-requires-clause-few : goal.renew_hellos-requires-clause-few
-renew_hellos-requires-clause-few c = counts_lowered_few c.args.self.now c.count_down.new.ports c.requires c.count_down.ensures.ports
+renew_hellos-requires-clause-few c = counts_lowered_few c.args.self.now c.count_down.new.ports c.requires.ready c.count_down.ensures.ports
 
 pub renew_hellos-requires-clause-me : goal.renew_hellos-requires-clause-me
-renew_hellos-requires-clause-me c = c.requires.current.ports.me
+renew_hellos-requires-clause-me c = c.requires.ready.current.ports.me
 
 pub renew_body-requires-clause-few : goal.renew_body-requires-clause-few
 renew_body-requires-clause-few c =
     let m = c.args.self.now in
     let is = counts_lowered_view_anew m c.renew_hellos.new.self c.count_down.new.ports c.count_down.new.db c.count_down.ensures.ports c.count_down.ensures.db c.in_ok-renew_hellos.ensures.view in
-    counts_lowered_few_anew m c.renew_hellos.new.self c.requires is
+    counts_lowered_few_anew m c.renew_hellos.new.self c.requires.ready is
 
 pub renew_body-requires-clause-system : goal.renew_body-requires-clause-system
 renew_body-requires-clause-system c =
     let m = c.args.self.now in
     let is = counts_lowered_view_anew m c.renew_hellos.new.self c.count_down.new.ports c.count_down.new.db c.count_down.ensures.ports c.count_down.ensures.db c.in_ok-renew_hellos.ensures.view in
-    counts_lowered_system_anew m c.renew_hellos.new.self c.requires is c.in_ok-renew_hellos.ensures.own
+    counts_lowered_system_anew m c.renew_hellos.new.self c.requires.ready is c.in_ok-renew_hellos.ensures.own
 
 pub renew_body-requires-clause-local : goal.renew_body-requires-clause-local
 renew_body-requires-clause-local c =
     let m = c.args.self.now in
     let is = counts_lowered_view_anew m c.renew_hellos.new.self c.count_down.new.ports c.count_down.new.db c.count_down.ensures.ports c.count_down.ensures.db c.in_ok-renew_hellos.ensures.view in
-    counts_lowered_local_anew m c.renew_hellos.new.self c.requires is
+    counts_lowered_local_anew m c.renew_hellos.new.self c.requires.ready is
 
 pub returns-clause-after : goal.returns-clause-after
 returns-clause-after c =

@@ -1,12 +1,14 @@
-use Rattle.std.proofs.Common.{◌≡◌, [], Bool, refl, sym, ap, ◌∙◌}
-use Rattle.std.specs.Prelude.{if◌then◌else◌}
+use Rattle.std.proofs.Common.{◌≡◌, ◌-◌, [], Bool, refl, sym, ap, ◌∙◌}
+use Rattle.std.specs.Prelude.{slice_set, if◌then◌else◌}
 use Rattle.isis_pdu.specs.Pdu.{HelloValue}
 use Rattle.adjacency.specs.declared.port.Adjacency.{Adjacency}
 use Rattle.adjacency.specs.Adjacency.{after_hello, change_by_hello}
 use Rattle.adjacency.specs.declared.state.AdjacencyChange.TheVariants as did
 use Rattle.bridge_api.specs.Parsing as parsing
+use Rattle.bridge_api.specs.Hearing.{with_adjacency}
 use Rattle.bridge_control.specs.Heard.{hello_saying}
 use Rattle.bridge_control.specs.Machine.{view_of}
+use Rattle.bridge_control.specs.Ports.{with_hold}
 use Rattle.bridge_control.proofs.Owning.{after_same}
 use Rattle.bridge_control.proofs.Putting.{there_at, sound_there}
 use Rattle.bridge_control.proofs.Refreshed.{refreshed_after}
@@ -42,8 +44,10 @@ returns-clause-heard c = λ _.
     let kept : change_by_hello m.id.system p h said.way port.adjacency ≡ did.Kept =
     sym (ap (λ (k : HelloValue). change_by_hello m.id.system p k said.way port.adjacency) c.hello.ensures ∙ change_alike m.id.system p said [] is.tlvs said.way port.adjacency)
     ∙ c.refresh.ensures.kept done in
+    let put : c.put_hold.new.ports.items ≡ slice_set m.ports.items (p - 1) (with_adjacency new port) =
+    c.put_hold.ensures port there ∙ ap (slice_set m.ports.items (p - 1)) (ap (λ (a : Adjacency). with_hold a.hold port) again ∙ sym (ap (λ (a : Adjacency). with_adjacency a port) again)) in
     after_same _ _ _ (heard_path (view_of m) p c.args.frame.now (parsing.hello h said.way) c.requires.carrier is.brings)
-    (refreshed_after m p h said.way port new c.put_port.new.ports c.requires.ready c.requires.port there again heard kept c.put_port.ensures)
+    (refreshed_after m p h said.way port new c.put_hold.new.ports c.requires.ready c.requires.port there again heard kept put)
 
 pub returns-clause-sent : goal.returns-clause-sent
 returns-clause-sent c = λ _.
@@ -51,4 +55,4 @@ returns-clause-sent c = λ _.
     unmoved (view_of c.args.self.now) c.args.port c.args.frame.now (parsing.hello (hello_saying c.in-Some.said is.tlvs) c.in-Some.said.way) is.brings refl
 
 pub returns-clause-tables : goal.returns-clause-tables
-returns-clause-tables c = ports_tables c.args.self.now c.put_port.new.ports
+returns-clause-tables c = ports_tables c.args.self.now c.put_hold.new.ports

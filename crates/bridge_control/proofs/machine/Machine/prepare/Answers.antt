@@ -8,7 +8,7 @@ pub refresh-requires-clause-can : goal.refresh-requires-clause-can
 refresh-requires-clause-can c =
     let n = c.count.new.self in
     let is = expired_after (counts_lowered (view_of c.args.self.now)) n n.up c.age_one-flags.new.self c.in_ok-lost.ensures.after c.in_ok-lost.ensures.after.current.ports.up c.age_one-flags.ensures.aged in
-    expired_can c.args.self.now (record n { db = c.age_one-flags.new.self }) c.requires is
+    expired_can c.args.self.now (record n { db = c.age_one-flags.new.self }) c.requires.ready is
 
 pub refresh-requires-clause-current : goal.refresh-requires-clause-current
 refresh-requires-clause-current c =
@@ -20,4 +20,4 @@ pub refresh-requires-clause-said : goal.refresh-requires-clause-said
 refresh-requires-clause-said c = λ none fresh.
     let n = c.count.new.self in
     let is = expired_after (counts_lowered (view_of c.args.self.now)) n n.up c.age_one-flags.new.self c.in_ok-lost.ensures.after c.in_ok-lost.ensures.after.current.ports.up c.age_one-flags.ensures.aged in
-    idle_said c.args.self.now (record n { db = c.age_one-flags.new.self }) c.requires is (sym c.in_ok-lost.ensures.lost ∙ none) fresh
+    idle_said c.args.self.now (record n { db = c.age_one-flags.new.self }) c.requires.ready is (sym c.in_ok-lost.ensures.lost ∙ none) fresh
