@@ -90,7 +90,7 @@ name_stands (n ∷ names) (suc i) k name apart at =
     ∙ ap (λ (j : ℕ). Some j) (omega arith))
 
 -- no two bridges have one name, so each is found by its own
-place_named : (w : World) (i : ℕ) (name : List ℕ) → ArePairwise (λ x y. x ≢ y) (names_of w.bridges) → slice_get (names_of w.bridges) i ≡ Some name → place_of name w.bridges ≡ Some i
+pub place_named : (w : World) (i : ℕ) (name : List ℕ) → ArePairwise (λ x y. x ≢ y) (names_of w.bridges) → slice_get (names_of w.bridges) i ≡ Some name → place_of name w.bridges ≡ Some i
 place_named w i name apart at =
     position_from-zero (bytes_eq name) (names_of w.bridges)
     ∙ (name_stands (names_of w.bridges) i 0 name apart at

@@ -65,7 +65,7 @@ none_said : (s : State) (q : Question) (o : Option ℕ) → ((i : ℕ) → outs_
 none_said s q None silent = refl
 none_said s q (Some i) silent = silent i
 
-asked_silent : (s : State) (c : Command) → outs_in (answer_to_asked s c) ≡ []
+pub asked_silent : (s : State) (c : Command) → outs_in (answer_to_asked s c) ≡ []
 asked_silent s (command.Show name) = none_said s (record { bridge = name; answer = λ t i. Show name (is_quiet t) (show_at t i) }) (place_of name s.world.bridges) (λ i. refl)
 asked_silent s (command.Wiring name) = none_said s (record { bridge = name; answer = λ t i. Wiring name (wired_tables t.world i) }) (place_of name s.world.bridges) (λ i. refl)
 asked_silent s (command.Db name) = none_said s (record { bridge = name; answer = λ t i. Db name (db_at t i) }) (place_of name s.world.bridges) (λ i. refl)

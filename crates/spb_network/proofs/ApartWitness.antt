@@ -35,15 +35,15 @@ use Rattle.spb_network.proofs.ApartOuts.{stepped_outs}
 abbrev system : Mac
 system = record { bytes = 2 ∷ 0 ∷ 0 ∷ 0 ∷ 0 ∷ 1 ∷ [] }
 
-abbrev name : List ℕ
+abbrev pub name : List ℕ
 name = 97 ∷ []
 
 -- a frame to all
-abbrev bytes : List ℕ
+abbrev pub bytes : List ℕ
 bytes = 255 ∷ 255 ∷ 255 ∷ 255 ∷ 255 ∷ 255 ∷ 2 ∷ 0 ∷ 0 ∷ 0 ∷ 0 ∷ 9 ∷ 8 ∷ 0 ∷ []
 
 -- a VID, a bridge, a service, and two ports in it
-abbrev declarations : List Command
+abbrev pub declarations : List Command
 declarations =
     command.Vid 100 1
     ∷ command.Bridge name 32768 system (source 1) 1
@@ -52,19 +52,19 @@ declarations =
     ∷ command.Attach name 2 7
     ∷ []
 
-abbrev start : State
+abbrev pub start : State
 start = opening rule.Plain (box ∷ [])
 
-abbrev enters : Command
+abbrev pub enters : Command
 enters = command.Frame name 1 bytes
 
-abbrev at_port : ℕ → Attachment
+abbrev pub at_port : ℕ → Attachment
 at_port port = attachment_of port (record { value = 7 }) (record { value = 100 })
 
 abbrev attached : List Attachment
 attached = at_port 1 ∷ at_port 2 ∷ []
 
-abbrev bridge : DeclaredBridge
+abbrev pub bridge : DeclaredBridge
 bridge = bridge_of 32768 system (source 1) 1
 
 abbrev world : World

@@ -1,7 +1,6 @@
 -- Ticks, deliveries, and frames that are lost or doubled.
-use Rattle.std.proofs.Common.{◌≡◌, inl, inr, ◌≤◌, ◌<◌, ◌+◌, ℕ, Bool, true, false, List, [], length, refl, sym, ap, ◌∙◌, subst, Option, Some, None, slice_get, arith}
+use Rattle.std.proofs.Common.{◌≡◌, inl, inr, ◌≤◌, ◌<◌, ◌+◌, ℕ, Bool, true, false, List, length, refl, sym, ap, ◌∙◌, subst, Option, Some, None, slice_get, arith}
 use Rattle.std.specs.Prelude.{◌==◌, not, if◌then◌else◌}
-use Rattle.std.specs.Option.{option_map_or}
 use Rattle.std.proofs.lemmas.Bool.{cases_eq}
 use Rattle.spb_types.specs.declared.address.BridgeId.{BridgeId}
 use Rattle.spb_types.specs.declared.address.LspId.{LspId}
@@ -19,11 +18,11 @@ use Rattle.bridge_api.specs.Parsing.{is_hello}
 use Rattle.bridge_api.specs.Step.{Input, second, frame, step, sent}
 use Rattle.bridge_api.specs.Laws.{IsSoundView, claims_of}
 use Rattle.bridge_api.specs.Counting as counting
-use Rattle.bridge_api.specs.Counting.{Answered, is_claiming, gain_of}
+use Rattle.bridge_api.specs.Counting.{Answered, is_claiming}
 use Rattle.spb_network.specs.declared.declaration.DeclaredLink.{DeclaredLink}
 use Rattle.spb_network.specs.World.{things_of}
 use Rattle.spb_network.specs.State.{State, links_of, far_end, lane_at, with_frames}
-use Rattle.spb_network.specs.Events.{sent_all, stepped, ticked, heard_over, delivered_front, delivered, lost, doubled}
+use Rattle.spb_network.specs.Events.{stepped, ticked, heard_over, delivered_front, delivered, lost, doubled}
 use Rattle.spb_network.specs.Sound.{AreShort}
 use Rattle.spb_network.specs.Counted.{IsCopy, is_held, is_said, hellos_in, hellos_to, IsWithin, IsCountedBy}
 use Rattle.spb_network.proofs.BoxLemmas.{All-get}

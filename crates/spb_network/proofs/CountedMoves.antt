@@ -24,7 +24,7 @@ use Rattle.bridge_api.specs.Laws.{IsSoundView, IsSent, IsHeldAt, claims_said, cl
 use Rattle.bridge_api.specs.Time as time
 use Rattle.bridge_api.specs.Time.{AgedFrom}
 use Rattle.bridge_api.specs.Counting as counting
-use Rattle.bridge_api.specs.Counting.{IsKnown, Learned, Answered}
+use Rattle.bridge_api.specs.Counting.{IsKnown, Learned}
 use Rattle.spb_network.specs.declared.declaration.DeclaredBridge.{DeclaredBridge}
 use Rattle.spb_network.specs.declared.declaration.DeclaredLink.{DeclaredLink}
 use Rattle.spb_network.specs.World.{World, Bridges, things_of, graph_bridges}

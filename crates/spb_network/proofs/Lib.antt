@@ -29,6 +29,8 @@ pub mod SoundConfigured
 pub mod SoundNames
 pub mod SoundPlay
 pub mod SoundWitness
+pub mod Standing
+pub mod StandingSteps
 pub mod SoundMeeting
 pub mod Wired
 pub mod Linked
@@ -75,6 +77,7 @@ pub mod QuietLists
 pub mod QuietLaws
 pub mod QuietTruth
 pub mod QuietPaths
+pub mod AtRest
 pub mod Telling
 pub mod QuietWalks
 pub mod QuietStates
@@ -92,3 +95,13 @@ pub mod ApartLeaving
 pub mod ApartPlay
 pub mod ApartLaws
 pub mod ApartWitness
+pub mod OnceLists
+pub mod OnceBridge
+pub mod OnceOuts
+pub mod OnceStep
+pub mod OnceEntry
+pub mod OnceEnd
+pub mod OnceEvents
+pub mod OnceTree
+pub mod OnceLaws
+pub mod OnceWitness

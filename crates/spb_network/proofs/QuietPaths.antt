@@ -175,7 +175,7 @@ frames_go_one_path s i j v w plan rest at_v at_w planned =
 
 -- ---- what is answered
 
-place_within : (bridges : Bridges) (name : List ℕ) (i : ℕ) → place_of name bridges ≡ Some i → i < length bridges
+pub place_within : (bridges : Bridges) (name : List ℕ) (i : ℕ) → place_of name bridges ≡ Some i → i < length bridges
 place_within bridges name i at =
     let within = (position-Some (bytes_eq name) (names_of bridges) i [] at).0 in
     let same = length-map bridges (λ e. e.0) in

@@ -62,7 +62,7 @@ up_is_port v (suc q) up = by (slice_get v.ports q) refl (sym (ap is_up_in (port_
     by None at is = cc
     by (Some port) at is = record { low = omega arith; high = omega (arith, slice_get_within v.ports q port at) }
 
-up_is_linked : (s : State) → IsSoundState s → (i : ℕ) (v : BridgeView) (p : ℕ) → slice_get s.views i ≡ Some v → is_up_at v p ≡ true → ends_live_link (links_of s) i p ≡ true
+pub up_is_linked : (s : State) → IsSoundState s → (i : ℕ) (v : BridgeView) (p : ℕ) → slice_get s.views i ≡ Some v → is_up_at v p ≡ true → ends_live_link (links_of s) i p ≡ true
 up_is_linked s sound i v p at up = sym (sound.carriers i v p at (up_is_port v p up)) ∙ by (has_carrier_at v p) refl
   where
     by : (b : Bool) → has_carrier_at v p ≡ b → b ≡ true

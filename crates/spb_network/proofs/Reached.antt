@@ -160,7 +160,7 @@ member_is c m h = at (filter_map_has (member_of c.0) m c.1.services h)
     at : (s : _) × Has s c.1.services × (member_of c.0 s ≡ Some m) → m.system ≡ c.0
     at (s, k, e) = of_test (_) (record { system = c.0; isid = s.2.isid; vid = s.1 }) refl e
 
-attached_place : (i : ℕ) (x : ℕ × Attachment) (a : Attachment) → attachment_at i x ≡ Some a → (x.0 ≡ i) × (x.1 ≡ a)
+pub attached_place : (i : ℕ) (x : ℕ × Attachment) (a : Attachment) → attachment_at i x ≡ Some a → (x.0 ≡ i) × (x.1 ≡ a)
 attached_place i x a h = by (x.0 == i) refl h
   where
     by : (b : Bool) → (x.0 == i) ≡ b → (if b then Some x.1 else None) ≡ Some a → (x.0 ≡ i) × (x.1 ≡ a)
@@ -171,7 +171,7 @@ place_attached : (i : ℕ) (x : ℕ × Attachment) → x.0 ≡ i → attachment_
 place_attached i x e = ap (λ b. if b then Some x.1 else None) (eq-eqb x.0 i e)
 
 -- a member by what is attached to a bridge is one of the wiring
-by_wiring : (s : State) (j : ℕ) (w : BridgeView) (m : Member) → IsSoundState s → slice_get s.views j ≡ Some w → IsMemberBy w m → Has m (world_graph s.world).members
+pub by_wiring : (s : State) (j : ℕ) (w : BridgeView) (m : Member) → IsSoundState s → slice_get s.views j ≡ Some w → IsMemberBy w m → Has m (world_graph s.world).members
 by_wiring s j w m sound at k =
     let bs : Bridges = s.world.bridges in
     let a : Attachment = k.0 in

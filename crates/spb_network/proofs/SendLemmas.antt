@@ -52,6 +52,10 @@ left_all-named s i name frames at = ap (λ (o : Option (List ℕ)). record s { o
 pub left_all-unnamed : (s : State) (i : ℕ) (frames : List (ℕ × Frame)) → slice_get (names_of s.world.bridges) i ≡ None → left_all s i frames ≡ s
 left_all-unnamed s i frames at = ap (λ (o : Option (List ℕ)). record s { outs = s.outs ++ outs_at o frames }) at ∙ ap (λ (outs : List Out). record s { outs = outs }) (append-none s.outs)
 
+-- and so where it sends nothing, and nothing leaves
+pub stepped-silent : (input : Input) (s : State) (i : ℕ) (views : List BridgeView) (frames lefts : List (ℕ × Frame)) → views ≡ changed_at (step input) s.views i → frames ≡ option_map_or (sent input) (slice_get s.views i) [] → lefts ≡ option_map_or (left_by input) (slice_get s.views i) [] → frames ≡ [] → lefts ≡ [] → record s { views = views } ≡ stepped input s i
+stepped-silent input s i views frames lefts e f l none nobody = sym (left_all-none (record s { views = views }) i) ∙ stepped-moved input s i views [] [] e (sym none ∙ f) (sym nobody ∙ l)
+
 -- and so where nothing leaves
 pub stepped-is : (input : Input) (s : State) (i : ℕ) (views : List BridgeView) (frames : List (ℕ × Frame)) → views ≡ changed_at (step input) s.views i → frames ≡ option_map_or (sent input) (slice_get s.views i) [] → no_sent ≡ option_map_or (left_by input) (slice_get s.views i) [] → sent_all (record s { views = views }) i frames ≡ stepped input s i
 stepped-is input s i views frames e f l = sym (left_all-none (sent_all (record s { views = views }) i frames) i) ∙ stepped-moved input s i views frames no_sent e f l

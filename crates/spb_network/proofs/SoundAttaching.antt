@@ -98,7 +98,7 @@ both_all P Q R [] f p q = tt
 both_all P Q R (x ∷ xs) f p q = (f x p.0 q.0, both_all P Q R xs f p.1 q.1)
 
 -- each thing that is attached is in its service
-in_service : (w : World) (xs : Attachments) → AllByRecursion (IsAttachedIn w.bridges w.services) xs → (i : ℕ) → AllByRecursion (λ x. x.0 ≡ i → vid_of_isid w.services x.1.isid.value ≡ Some x.1.vid) xs
+pub in_service : (w : World) (xs : Attachments) → AllByRecursion (IsAttachedIn w.bridges w.services) xs → (i : ℕ) → AllByRecursion (λ x. x.0 ≡ i → vid_of_isid w.services x.1.isid.value ≡ Some x.1.vid) xs
 in_service w [] all i = tt
 in_service w (x ∷ xs) all i = (λ e. all.0.service, in_service w xs all.1 i)
 

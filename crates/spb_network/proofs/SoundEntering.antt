@@ -1,5 +1,5 @@
 -- A customer's frame that enters keeps what is sound of a network.
-use Rattle.std.proofs.Common.{◌≡◌, ◌≤◌, ℕ, true, ◌&&◌, List, length, Option, Some, None, slice_get, refl}
+use Rattle.std.proofs.Common.{◌≡◌, ◌≤◌, ℕ, true, ◌&&◌, List, length, None, refl}
 use Rattle.spb_types.specs.declared.limits.TheConstants.{MOST_CUSTOMER_PORTS}
 use Rattle.bridge_api.specs.Step as comes
 use Rattle.bridge_api.specs.Customers.{IsCustomerFrame}

@@ -1,10 +1,6 @@
 -- Where a network whose sequence numbers are counted is quiet, every bridge is told.
-use Rattle.std.proofs.Common.{◌≡◌, ◌≤◌, ℕ, suc, List, [], ◌∷◌, length, Option, Some, None, slice_get, refl, ap, ◌∙◌, arith}
-use Rattle.std.specs.List.{AllByRecursion, filter_map, cons_option}
-use Rattle.std.specs.FinMap.{entries}
-use Rattle.spb_types.specs.declared.limits.TheConstants.{MOST_GRAPH_BRIDGES}
+use Rattle.std.proofs.Common.{◌≡◌, ◌≤◌, Option, None, ap, ◌∙◌}
 use Rattle.bridge_api.specs.View.{BridgeView}
-use Rattle.bridge_api.specs.Graph.{contents_of, read_entry}
 use Rattle.scenario.specs.declared.command.Command.{Command}
 use Rattle.spb_network.specs.State.{State}
 use Rattle.spb_network.specs.Refusing.{refusal_of}
@@ -19,48 +15,23 @@ use Rattle.spb_network.specs.Quiet.{failing}
 use Rattle.spb_network.specs.Questions.{no_tables}
 use Rattle.spb_network.specs.Telling.{QuietTells, CountedNetworksTell, NetworksTell, ShowIsTrue}
 use Rattle.spb_network.proofs.QuietLists.{nil_of, of_nil}
-use Rattle.spb_network.proofs.QuietLaws.{quiet_says}
 use Rattle.spb_network.proofs.Linked.{quiet_is_shared}
 use Rattle.spb_network.proofs.QuietTruth.{quiet_is_true}
 use Rattle.spb_network.proofs.QuietPaths.{frames_go_one_path}
-use Rattle.spb_network.proofs.CountedEnds.{few_held}
+use Rattle.spb_network.proofs.AtRest.{at_rest}
+use Rattle.spb_network.proofs.OnceLaws.{leaves_once_at_rest}
 use Rattle.spb_network.proofs.CountedPlay.{networks_are_counted}
 use Rattle.spb_network.proofs.SoundPlay.{commands_keep_sound, networks_are_sound}
 use Rattle.spb_network.proofs.CountedStays.{stays_counted}
 
--- no more is read than is held
-read_few : {X Y : Type 0} (f : X → Option Y) (xs : List X) → length (filter_map f xs) ≤ length xs
-read_few f [] = omega arith
-read_few f (x ∷ xs) = at (f x) (read_few f xs)
-  where
-    at : (o : Option _) → length (filter_map f xs) ≤ length xs → length (cons_option o (filter_map f xs)) ≤ length (x ∷ xs)
-    at None few = omega (arith, few)
-    at (Some y) few = omega (arith, few)
-
-contents_few : (s : State) (i : ℕ) (v : BridgeView) → IsSoundState s → IsCounted s → slice_get s.views i ≡ Some v → length (contents_of v) ≤ MOST_GRAPH_BRIDGES
-contents_few s i v sound counted at =
-    let read = read_few read_entry (entries v.database) in
-    let held = few_held s i v sound counted at in
-    omega (arith, read, held)
-
-all_views : (P : BridgeView → Type 0) (views : List BridgeView) → ((i : ℕ) (v : BridgeView) → slice_get views i ≡ Some v → P v) → AllByRecursion P views
-all_views P [] each = tt
-all_views P (v ∷ views) each = (each 0 v refl, all_views P views (λ i w at. each (suc i) w at))
-
 pub counted_networks_tell : CountedNetworksTell
 counted_networks_tell s sound counted quiet =
-    let says = (quiet_says s).quiet.0 quiet in
-    let rest : IsAtRest s = record {
-      sound = sound;
-      calm = says.0;
-      bodies = says.1;
-      fresh = counted.by.fresh;
-      few = all_views (λ v. length (contents_of v) ≤ MOST_GRAPH_BRIDGES) s.views (λ i v at. contents_few s i v sound counted at);
-    } in
+    let rest : IsAtRest s = at_rest s sound counted quiet in
     record {
       told = λ i v at. quiet_is_true s i v rest at;
-      shared = λ v w joined. quiet_is_shared s v w sound says.0 says.1 joined;
+      shared = λ v w joined. quiet_is_shared s v w sound rest.calm rest.bodies joined;
       paths = λ i j v w plan at_v at_w planned. frames_go_one_path s i j v w plan rest at_v at_w planned;
+      once = λ none. leaves_once_at_rest s rest none;
     }
 
 pub networks_tell : NetworksTell

@@ -75,7 +75,7 @@ ends_apart : (bs : Bridges) (dir : Dir) (l : DeclaredLink) → IsLink bs l → (
 ends_apart bs Ab l is e = is.apart e
 ends_apart bs Ba l is e = is.apart (sym e)
 
-systems_apart : (s : State) (x y : SystemId) → IsSoundState s → IsLinkOf s.world x y → same_system x y ≡ false
+pub systems_apart : (s : State) (x y : SystemId) → IsSoundState s → IsLinkOf s.world x y → same_system x y ≡ false
 systems_apart s x y sound p =
     let is = is_link s.world sound.world p.place p.link p.there in
     apart_is x y (λ e. ends_apart s.world.bridges p.dir p.link is
@@ -103,7 +103,7 @@ cost_is : (bs : Bridges) (dir : Dir) (l : DeclaredLink) → max (entry_over bs d
 cost_is bs Ab l = refl
 cost_is bs Ba l = omega arith
 
-port_is : (s : State) (x y : SystemId) (dir : Dir) (l : DeclaredLink) → system_at s.world.bridges (near_end dir l).bridge ≡ x → system_at s.world.bridges (far_end dir l).bridge ≡ y → same_system x y ≡ false → (near_end dir l).port ≡ port_at (edge_of s.world.bridges l) x
+pub port_is : (s : State) (x y : SystemId) (dir : Dir) (l : DeclaredLink) → system_at s.world.bridges (near_end dir l).bridge ≡ x → system_at s.world.bridges (far_end dir l).bridge ≡ y → same_system x y ≡ false → (near_end dir l).port ≡ port_at (edge_of s.world.bridges l) x
 port_is s x y Ab l near far apart = sym (ap (λ b. if b then l.a.port else l.b.port) (subst (λ z. same_system (system_at s.world.bridges l.a.bridge) z ≡ true) near (same_self (system_at s.world.bridges l.a.bridge))))
 port_is s x y Ba l near far apart =
     sym (ap (λ b. if b then l.a.port else l.b.port) (ap (λ z. same_system z x) far ∙ apart_is y x (λ e. true≢false (sym (same_self x) ∙ (ap (same_system x) (sym e) ∙ apart)))))

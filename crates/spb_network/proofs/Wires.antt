@@ -53,7 +53,7 @@ or_true : (b : Bool) → (b || true) ≡ true
 or_true true = refl
 or_true false = refl
 
-between : (d e : Dir) (l m : DeclaredLink) → (near_end d l).bridge ≡ (near_end e m).bridge → (far_end d l).bridge ≡ (far_end e m).bridge → is_between l m.a.bridge m.b.bridge ≡ true
+pub between : (d e : Dir) (l m : DeclaredLink) → (near_end d l).bridge ≡ (near_end e m).bridge → (far_end d l).bridge ≡ (far_end e m).bridge → is_between l m.a.bridge m.b.bridge ≡ true
 between Ab Ab l m near far = rw (eq-eqb l.a.bridge m.a.bridge near, eq-eqb l.b.bridge m.b.bridge far) refl
 between Ba Ba l m near far = rw (eq-eqb l.a.bridge m.a.bridge far, eq-eqb l.b.bridge m.b.bridge near) refl
 between Ab Ba l m near far = rw (eq-eqb l.a.bridge m.b.bridge near, eq-eqb l.b.bridge m.a.bridge far) (or_true _)

@@ -15,7 +15,7 @@ use Rattle.spb_network.specs.declared.declaration.DeclaredLink.{DeclaredLink}
 use Rattle.spb_network.specs.declared.declaration.LinkEnd.{LinkEnd}
 use Rattle.link_model.specs.declared.lanes.LaneId.{LaneId}
 use Rattle.link_model.specs.Lanes.{rest, no_frames, first_full_from}
-use Rattle.spb_network.specs.World.{World, names_of, vid_of_isid}
+use Rattle.spb_network.specs.World.{names_of, vid_of_isid}
 use Rattle.spb_network.specs.Declaring.{end_on, with_live, with_end_metric}
 use Rattle.spb_network.specs.Attaching.{with_attachment_at, without_attachment_at}
 use Rattle.spb_types.specs.Places.{changed_at}

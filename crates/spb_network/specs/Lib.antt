@@ -28,3 +28,5 @@ pub mod CountedLaws
 pub mod RestartLaws
 pub mod Telling
 pub mod Isolation
+pub mod Once
+pub mod UnderWay

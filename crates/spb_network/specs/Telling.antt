@@ -1,5 +1,5 @@
 -- What a user can rely on where a network is quiet, whatever commands made it.
-use Rattle.std.specs.Prelude.{◌≡◌, ◌↔◌, ℕ, ◌≤◌, List, length, Contains, true, Some, slice_get}
+use Rattle.std.specs.Prelude.{◌≡◌, ◌↔◌, ℕ, ◌≤◌, List, [], length, Contains, true, Some, slice_get}
 use Rattle.std.specs.List.{AllByRecursion}
 use Rattle.spb_types.specs.declared.service.VidPlan.{VidPlan}
 use Rattle.scenario.specs.declared.command.Command.{Command}
@@ -15,14 +15,17 @@ use Rattle.spb_network.specs.Counted.{IsCounted, most_commands}
 use Rattle.spb_network.specs.Quiet.{IsQuiet}
 use Rattle.spb_network.specs.Truth.{AreJoined, HoldTheSame, IsTold}
 use Rattle.spb_network.specs.PathLaws.{GoOnePath}
+use Rattle.spb_network.specs.Once.{LeavesOnce}
 
 -- every bridge has its part of the wiring right, any two that a walk joins hold the same, and between any two the path
--- is that of the wiring and frames go that way, there and back, in each declared VID
+-- is that of the wiring and frames go that way, there and back, in each declared VID; and between commands, a group
+-- frame that enters and is delivered leaves where it has to, once
 pub record AreTold (s : State) : Type 0 where
   pub told : (i : ℕ) (v : BridgeView) → slice_get s.views i ≡ Some v → IsTold s i v
   pub shared : (v w : BridgeView) → AreJoined s v w → HoldTheSame v w
   pub paths : (i j : ℕ) (v w : BridgeView) (plan : VidPlan) → slice_get s.views i ≡ Some v
       → slice_get s.views j ≡ Some w → Contains s.world.vids plan → GoOnePath s v w plan
+  pub once : s.outs ≡ [] → LeavesOnce s
 
 -- where the network is quiet, every bridge is told
 abbrev pub QuietTells : State → Type 0

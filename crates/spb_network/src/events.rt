@@ -1,5 +1,5 @@
 //! The events of a network: what comes to one bridge, and what becomes of the frames that it sends and that leave it.
-ghost use Rattle.std.specs.Prelude.{◌≡◌, [], slice_get, OnOk, IfOk, IfSome};
+ghost use Rattle.std.specs.Prelude.{◌≡◌, [], true, slice_get, OnOk, IfOk, IfSome};
 ghost use Rattle.bridge_api.specs.Config.{IsMetric};
 ghost use Rattle.bridge_api.specs.Step as comes;
 ghost use Rattle.spb_network.specs.World.{IsEnd, IsLink};
@@ -64,9 +64,6 @@ impl<B: Bridge> NetworkOf<B> {
             ≡ event.left_all (event.sent_all (state_of B.shown self.old) i outbox.wire) i outbox.left) }
         ensures boxes { self.new.boxes ≡ self.old.boxes }
     {
-        if outbox.wire.is_empty() && outbox.left.is_empty() {
-            return Ok(());
-        }
         let (frames, _) = outbox.wire.into_parts();
         self.send_all(i, frames)?;
         self.leave_all(i, outbox.left.into_vec())
@@ -110,6 +107,9 @@ impl<B: Bridge> NetworkOf<B> {
     {
         let mut outbox = Outbox::new(self.alloc);
         boxes::hear(&mut self.boxes, end.bridge, end.port, frame, &mut outbox)?;
+        if is_empty(&outbox) {
+            return Ok(());
+        }
         self.send_on(end.bridge, outbox)
     }
 
@@ -266,4 +266,13 @@ impl<B: Bridge> NetworkOf<B> {
     {
         self.lanes.double(lane, place)
     }
+}
+
+/// Whether nothing is in an outbox.
+fn is_empty(outbox: &Outbox) -> bool
+    ensures wire { result ≡ true → outbox.now.wire ≡ [] }
+    ensures left { result ≡ true → outbox.now.left ≡ [] }
+    ensures empty { outbox.now.wire ≡ [] → outbox.now.left ≡ [] → result ≡ true }
+{
+    outbox.wire.is_empty() && outbox.left.is_empty()
 }

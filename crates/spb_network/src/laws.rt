@@ -11,6 +11,7 @@ ghost use Rattle.spb_network.specs.Quiet.{QuietSays};
 ghost use Rattle.spb_network.specs.RestartLaws.{RestartIsNew};
 ghost use Rattle.spb_network.specs.DeliveryLaws.{FramesAreDelivered, DeliverDelivers};
 ghost use Rattle.spb_network.specs.Isolation.{CommandsKeepApart, ServicesStayApart, SomeFrameLeaves};
+ghost use Rattle.spb_network.specs.Once.{ExactlyOnce, NetworksDeliverOnce, SomeFramePasses};
 
 /// Whatever comes to the bridges of a sound network, and whatever becomes of its frames and links, it stays sound.
 pub fn events_keep_sound()
@@ -97,9 +98,9 @@ pub fn quiet_paths_are_wired()
 {}
 
 /// Where a sound network whose sequence numbers are counted is quiet, every bridge has its part of the wiring right,
-/// any two that a walk joins hold the same, and between any two frames go one path. So it is whatever commands were
-/// accepted, at most 120,000 of them. Where `show` says quiet, it has the rows of `wiring`. Some commands lead to a
-/// quiet network of two bridges, whose link went down again.
+/// any two that a walk joins hold the same, between any two frames go one path, and a group frame leaves exactly once
+/// where it has to. So it is whatever commands were accepted, at most 120,000 of them. Where `show` says quiet, it has
+/// the rows of `wiring`. Some commands lead to a quiet network of two bridges, whose link went down again.
 pub fn quiet_can_be_relied_on()
     ensures counted { CountedNetworksTell }
     ensures always { NetworksTell }
@@ -114,4 +115,13 @@ pub fn services_stay_apart()
     ensures network { ServicesStayApart }
     ensures command { CommandsKeepApart }
     ensures some { SomeFrameLeaves }
+{}
+
+/// In a quiet network a frame with a group destination enters, and frames are delivered, in any order, until none is on
+/// its way: the frame leaves once at each other port of its service that a walk over links joins to the first, and
+/// nowhere else. So it is whatever commands led to the quiet network, at most 120,000 of them; and some do.
+pub fn group_frames_leave_once()
+    ensures counted { ExactlyOnce }
+    ensures always { NetworksDeliverOnce }
+    ensures some { SomeFramePasses }
 {}

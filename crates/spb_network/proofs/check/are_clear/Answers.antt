@@ -1,4 +1,4 @@
-use Rattle.std.proofs.Common.{◌||◌, ◌&&◌, ap, not, sym, ◌∙◌, refl}
+use Rattle.std.proofs.Common.{sym, ◌∙◌, refl}
 use Rattle.spb_network.specs.World.{things_of, is_at_port, is_between}
 use Rattle.spb_network.specs.Declaring.{is_free_port, is_unlinked}
 use Rattle.spb_network.proofs.ListLemmas.{none_of}
