@@ -32,3 +32,13 @@ column_words (Some column) = decimal column ∷ []
 -- a refused line: `error LINE NUMBER NAME`, with the number and the name of the reason, and the column
 unfoldable pub error_text : ℕ → ℕ → List ℕ → Option ℕ → List ℕ
 error_text at number name column = line (codes "error") (decimal at ∷ decimal number ∷ name ∷ column_words column)
+
+-- a count and its name
+abbrev pub count_words : List ℕ → ℕ → List (List ℕ)
+count_words name count = name ∷ decimal count ∷ []
+
+-- what was counted of the answers to a script for so many bridges: `try N lines L shows S same M outs O`
+unfoldable pub try_text : ℕ → ℕ → ℕ → ℕ → ℕ → List ℕ
+try_text bridges lines shows same outs = line (codes "try")
+    (decimal bridges ∷ count_words (codes "lines") lines ++ count_words (codes "shows") shows
+    ++ count_words (codes "same") same ++ count_words (codes "outs") outs)

@@ -129,3 +129,33 @@ fn put_column(text: &mut Text, column: Option<usize>) -> Result<(), NoMemory>
         Some(column) => text.number(column as u64),
     }
 }
+
+/// The line of what was counted of the answers to a script for so many bridges: `try N lines L shows S same M outs O`.
+#[tactic(auto, unfolding(crate::specs::Lines::try_text))]
+pub fn try_text(
+    alloc: Global,
+    bridges: u8,
+    lines: u64,
+    shows: u64,
+    same: u64,
+    outs: u64,
+) -> Result<Vec<u8>, NoMemory>
+    ensures { IfOk result (λ bytes. bytes.items ≡ texts.try_text bridges lines shows same outs) }
+{
+    let mut text = Text::new(alloc);
+    text.push(b"try")?;
+    text.number(u64::from(bridges))?;
+    put_count(&mut text, b"lines", lines)?;
+    put_count(&mut text, b"shows", shows)?;
+    put_count(&mut text, b"same", same)?;
+    put_count(&mut text, b"outs", outs)?;
+    text.end()?;
+    Ok(text.into_bytes())
+}
+
+fn put_count(text: &mut Text, name: &[u8], count: u64) -> Result<(), NoMemory>
+    ensures { OnOk result (text.new ≡ text.old ++ flat_map spaced (texts.count_words name.now count)) }
+{
+    text.word(name)?;
+    text.number(count)
+}

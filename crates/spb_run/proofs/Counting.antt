@@ -1,31 +1,16 @@
--- A run accepts no more commands than its script has lines, and so its network is counted.
-use Rattle.std.proofs.Common.{◌≡◌, ◌≤◌, ◌+◌, ℕ, suc, List, [], ◌∷◌, length, ap, Option, Some, None, Result, Ok, Err, arith}
-use Rattle.std.specs.List.{slice_split}
-use Rattle.std.specs.Str.Lines.{lines, lines_of_parts}
-use Rattle.std.proofs.lemmas.List.Sums.{count_by-le-length}
-use Rattle.std.proofs.lemmas.List.Splits.{length-slice_split}
+-- A run accepts no more commands than its script has lines.
+use Rattle.std.proofs.Common.{◌≤◌, ◌+◌, ℕ, suc, List, [], ◌∷◌, length, Option, Some, None, Result, Ok, Err, arith}
 use Rattle.scenario.specs.declared.command.Command.{Command}
+use Rattle.scenario.specs.declared.cutter.Stop.{Stop}
+use Rattle.scenario.specs.declared.cutter.Stop.TheVariants as stop
 use Rattle.scenario.specs.Grammar.{line_of}
 use Rattle.spb_network.specs.declared.reason.Reason.{Reason}
 use Rattle.spb_network.specs.State.{State}
 use Rattle.spb_network.specs.Refusing.{refusal_of}
-use Rattle.spb_network.specs.Counted.{most_commands}
 use Rattle.spb_network.proofs.CountedStays.{one_accepted}
 use Rattle.spb_run.specs.declared.refusal.Refusal.{Refusal}
 use Rattle.spb_run.specs.Play.{Judged, judged, judged_by, judged_as}
-use Rattle.spb_run.specs.Text.{Played, joined, play, end_of, most_bytes}
-use Rattle.spb_run.proofs.LinesOf.{is_newline, lines_one}
-
--- ---- the lines of a script
-
-parts_few : (parts : List (List ℕ)) → length (lines_of_parts parts) ≤ length parts
-parts_few [] = omega arith
-parts_few ([] ∷ []) = omega arith
-parts_few ((b ∷ bs) ∷ []) = let one = ap length (lines_one (b ∷ bs) (λ e. absurd cc)) in omega (arith, one)
-parts_few (line ∷ part ∷ parts) = let more = parts_few (part ∷ parts) in omega (arith, more)
-
-pub lines_few : (bs : List ℕ) → length (lines bs) ≤ length bs + 1
-lines_few bs = omega (arith, parts_few (slice_split is_newline bs), length-slice_split is_newline bs, count_by-le-length is_newline bs)
+use Rattle.spb_run.specs.Text.{Played, joined, ended, play}
 
 -- ---- the commands of lines
 
@@ -46,14 +31,15 @@ joined_few : (n number : ℕ) (j : Judged) (o : Option Refusal) (rest : Played) 
 joined_few n number j None rest here more = more
 joined_few n number j (Some why) rest here more = here
 
-play_few : (s : State) (number : ℕ) (ls : List (List ℕ)) → (play s number ls).state.accepted ≤ s.accepted + length ls
-play_few s number [] = omega arith
-play_few s number (line ∷ ls) =
+ended_few : (s : State) (number : ℕ) (end : Option Stop) → (ended s number end).state.accepted ≤ s.accepted
+ended_few s number None = omega arith
+ended_few s number (Some stop.Long) = omega arith
+ended_few s number (Some stop.Over) = omega arith
+
+pub play_few : (s : State) (number : ℕ) (ls : List (List ℕ)) (end : Option Stop) → (play s number ls end).state.accepted ≤ s.accepted + length ls
+play_few s number [] end = omega (arith, ended_few s number end)
+play_few s number (line ∷ ls) end =
     let next : State = (judged s number line).state in
     let here : next.accepted ≤ s.accepted + 1 = line_one s number line in
-    let more : (play next (number + 1) ls).state.accepted ≤ next.accepted + length ls = play_few next (number + 1) ls in
-    joined_few (s.accepted + suc (length ls)) number (judged s number line) (judged s number line).refused (play next (number + 1) ls) (omega (arith, here)) (omega (arith, here, more))
-
--- a script that isn't too long has few lines
-pub end_few : (s : State) (script : List ℕ) → s.accepted ≡ 0 → length script ≤ most_bytes → (end_of s script).accepted ≤ most_commands
-end_few s script none short = omega (arith, none, short, play_few s 1 (lines script), lines_few script)
+    let more : (play next (number + 1) ls end).state.accepted ≤ next.accepted + length ls = play_few next (number + 1) ls end in
+    joined_few (s.accepted + suc (length ls)) number (judged s number line) (judged s number line).refused (play next (number + 1) ls end) (omega (arith, here)) (omega (arith, here, more))

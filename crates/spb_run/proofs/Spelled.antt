@@ -5,8 +5,8 @@ use Rattle.std.proofs.lemmas.Bool.Decides.{nat_tests}
 use Rattle.std.proofs.lemmas.Slice.Eq.{bytes_eq-Decides}
 use Rattle.scenario_maker.proofs.Numbers.{decimal_one, decimal_pair}
 use Rattle.spb_run.specs.declared.words.Form.{Form}
-use Rattle.spb_run.specs.declared.words.Form.TheVariants.{Run, Make}
-use Rattle.spb_run.specs.Words.{is_digit_from, if_made, bridges_of, form_of, IsForm, words_of, FormsAreSpelled}
+use Rattle.spb_run.specs.declared.words.Form.TheVariants.{Run, Make, Try}
+use Rattle.spb_run.specs.Words.{is_digit_from, if_made, bridges_of, with_number, form_of, IsForm, words_of, FormsAreSpelled}
 
 -- ---- tests
 
@@ -104,23 +104,43 @@ spelled_by n false e low high =
 
 -- ---- forms
 
-map_some : (o : Option ℕ) (f : Form) → option_map Make o ≡ Some f → (n : ℕ) × (o ≡ Some n) × (f ≡ Make n)
-map_some None f e = absurd cc
-map_some (Some n) f e = (n, refl, sym (same_some (Make n) f e))
+map_some : (g : ℕ → Form) (o : Option ℕ) (f : Form) → option_map g o ≡ Some f → (n : ℕ) × (o ≡ Some n) × (f ≡ g n)
+map_some g None f e = absurd cc
+map_some g (Some n) f e = (n, refl, sym (same_some (g n) f e))
 
 read_run : (word : List ℕ) (f : Form) → f ≡ Run → word ≡ codes "run" → IsForm f × (word ∷ [] ≡ words_of f)
 read_run word Run e same = (tt, ap (λ w. w ∷ []) same)
 read_run word (Make n) e same = absurd cc
+read_run word (Try n) e same = absurd cc
 
-words_make : (word number : List ℕ) (n : ℕ) → word ≡ codes "make" → number ≡ decimal n → word ∷ number ∷ [] ≡ words_of (Make n)
-words_make word number n p q = ap (λ w. w ∷ number ∷ []) p ∙ ap (λ w. codes "make" ∷ w ∷ []) q
+two_words : (word number first : List ℕ) (n : ℕ) → word ≡ first → number ≡ decimal n → word ∷ number ∷ [] ≡ first ∷ decimal n ∷ []
+two_words word number first n p q = ap (λ w. w ∷ number ∷ []) p ∙ ap (λ w. first ∷ w ∷ []) q
 
 read_make : (word number : List ℕ) (n : ℕ) (f : Form) → f ≡ Make n → word ≡ codes "make" → (4 ≤ n) × (n ≤ 96) × (number ≡ decimal n)
     → IsForm f × (word ∷ number ∷ [] ≡ words_of f)
 read_make word number n Run e same r = absurd cc
+read_make word number n (Try m) e same r = absurd cc
 read_make word number n (Make m) e same r =
     let one : m ≡ n = cc in
-    ((omega (arith, r.0, one), omega (arith, r.1, one)), words_make word number m same (r.2 ∙ ap decimal (sym one)))
+    ((omega (arith, r.0, one), omega (arith, r.1, one)), two_words word number (codes "make") m same (r.2 ∙ ap decimal (sym one)))
+
+read_try : (word number : List ℕ) (n : ℕ) (f : Form) → f ≡ Try n → word ≡ codes "try" → (4 ≤ n) × (n ≤ 96) × (number ≡ decimal n)
+    → IsForm f × (word ∷ number ∷ [] ≡ words_of f)
+read_try word number n Run e same r = absurd cc
+read_try word number n (Make m) e same r = absurd cc
+read_try word number n (Try m) e same r =
+    let one : m ≡ n = cc in
+    ((omega (arith, r.0, one), omega (arith, r.1, one)), two_words word number (codes "try") m same (r.2 ∙ ap decimal (sym one)))
+
+numbered_read : (word number : List ℕ) (f : Form) (a b : Bool) → bytes_eq word (codes "make") ≡ a → bytes_eq word (codes "try") ≡ b
+    → with_number (if a then Some Make else (if b then Some Try else None)) number ≡ Some f → IsForm f × (word ∷ number ∷ [] ≡ words_of f)
+numbered_read word number f true b p q e =
+    let m = map_some Make (bridges_of number) f e in
+    read_make word number m.0 f m.2 ((bytes_eq-Decides word (codes "make")).0 p) (read number m.0 m.1)
+numbered_read word number f false true p q e =
+    let m = map_some Try (bridges_of number) f e in
+    read_try word number m.0 f m.2 ((bytes_eq-Decides word (codes "try")).0 q) (read number m.0 m.1)
+numbered_read word number f false false p q e = absurd cc
 
 form_read : (words : List (List ℕ)) (f : Form) → form_of words ≡ Some f → IsForm f × (words ≡ words_of f)
 form_read [] f e = absurd cc
@@ -128,14 +148,13 @@ form_read (word ∷ []) f e =
     let t = if_some (bytes_eq word (codes "run")) (Some Run) f e in
     read_run word f (sym (same_some Run f t.1)) ((bytes_eq-Decides word (codes "run")).0 t.0)
 form_read (word ∷ number ∷ []) f e =
-    let t = if_some (bytes_eq word (codes "make")) (option_map Make (bridges_of number)) f e in
-    let m = map_some (bridges_of number) f t.1 in
-    read_make word number m.0 f m.2 ((bytes_eq-Decides word (codes "make")).0 t.0) (read number m.0 m.1)
+    numbered_read word number f (bytes_eq word (codes "make")) (bytes_eq word (codes "try")) refl refl e
 form_read (a ∷ b ∷ c ∷ more) f e = absurd cc
 
 form_spelled : (f : Form) → IsForm f → form_of (words_of f) ≡ Some f
 form_spelled Run is = refl
 form_spelled (Make n) is = ap (option_map Make) (spelled_by n (nat_le 10 n) refl is.0 is.1)
+form_spelled (Try n) is = ap (option_map Try) (spelled_by n (nat_le 10 n) refl is.0 is.1)
 
 pub forms_are_spelled : FormsAreSpelled
 forms_are_spelled words f = (form_read words f, λ s. ap form_of s.1 ∙ form_spelled f s.0)

@@ -1,7 +1,5 @@
 -- Every state that an accepted line leaves tells, where it is quiet.
 use Rattle.std.proofs.Common.{◌≡◌, false, true, ◌≤◌, ◌+◌, ℕ, List, [], ◌∷◌, length, refl, sym, ap, ◌∙◌, true≢false, ⊎_elim, Option, Some, None, IfSome, Result, Ok, Err, arith}
-use Rattle.std.specs.Str.Lines.{lines}
-use Rattle.std.proofs.lemmas.Bool.Decides.{nat_tests}
 use Rattle.scenario.specs.declared.command.Command.{Command}
 use Rattle.scenario.specs.Grammar.{line_of}
 use Rattle.bridge_api.specs.Shown.{Shown}
@@ -14,16 +12,17 @@ use Rattle.spb_network.specs.Refusing.{refusal_of}
 use Rattle.spb_network.specs.Sound.{IsSoundState}
 use Rattle.spb_network.specs.SoundLaws.{IsAddressed}
 use Rattle.spb_network.specs.Counted.{IsCounted, most_commands}
-use Rattle.spb_network.specs.Telling.{QuietTells}
 use Rattle.spb_network.proofs.SoundPlay.{commands_keep_sound}
 use Rattle.spb_network.proofs.CountedStays.{stays_counted}
 use Rattle.spb_network.proofs.Telling.{counted_networks_tell}
 use Rattle.spb_run.specs.declared.refusal.Refusal.{Refusal}
 use Rattle.spb_run.specs.Play.{judged, judged_by, judged_as}
 use Rattle.spb_run.specs.Replying.{IsNew}
-use Rattle.spb_run.specs.Text.{most_bytes, is_too_long, IfAccepted, AllStates}
+use Rattle.spb_run.specs.States.{IsTrusted}
+use Rattle.spb_run.specs.Text.{lines_played, IfAccepted, AllStates}
 use Rattle.spb_run.proofs.Addressed.{line_addressed}
-use Rattle.spb_run.proofs.Counting.{lines_few, line_one}
+use Rattle.spb_run.proofs.Counting.{line_one}
+use Rattle.spb_run.proofs.Taking.{lines_few}
 
 -- ---- what stays so
 
@@ -50,14 +49,19 @@ if_accepted : {P : Type 0} (o : Option Refusal) → P → IfAccepted o P
 if_accepted None holds = holds
 if_accepted (Some why) holds = tt
 
-all_tell : (s : State) (number : ℕ) (ls : List (List ℕ)) → IsKept s → s.accepted + length ls ≤ most_commands → AllStates QuietTells s number ls
+trusted : (s : State) → IsKept s → s.accepted ≤ most_commands → IsTrusted s
+trusted s kept few =
+    let counted = kept.counted few in
+    record { sound = kept.sound; counted = counted; told = counted_networks_tell s kept.sound counted }
+
+all_tell : (s : State) (number : ℕ) (ls : List (List ℕ)) → IsKept s → s.accepted + length ls ≤ most_commands → AllStates IsTrusted s number ls
 all_tell s number [] kept few = tt
 all_tell s number (line ∷ ls) kept few =
     let next : State = (judged s number line).state in
     let later : IsKept next = line_kept s number line kept in
     let one : next.accepted ≤ s.accepted + 1 = line_one s number line in
     if_accepted (judged s number line).refused (
-      counted_networks_tell next later.sound (later.counted (omega (arith, few, one))),
+      trusted next later (omega (arith, few, one)),
       all_tell next (number + 1) ls later (omega (arith, few, one)),
     )
 
@@ -67,14 +71,11 @@ module _ {B : Type 0} (shown : B → Shown) (n : NetworkOf B) (new : IsNew shown
       let sound : IsSoundNetwork shown n = ⊎_elim (λ h. absurd (true≢false (sym h ∙ new.alive.halted))) (λ m. m) new.alive.ready in
       record { sound = sound.state; counted = sound.counted }
 
-  short_tells : (script : List ℕ) → is_too_long script ≡ false → AllStates QuietTells (state_of shown n) 1 (lines script)
-  short_tells script short =
+  lines_tell : (script : List ℕ) → AllStates IsTrusted (state_of shown n) 1 (lines_played script)
+  lines_tell script =
       let none : (state_of shown n).accepted ≡ 0 = ap (λ (s : State). s.accepted) new.opening in
-      let bytes : length script ≤ most_bytes = grind (arith, nat_tests) in
-      let few : length (lines script) ≤ length script + 1 = lines_few script in
-      all_tell (state_of shown n) 1 (lines script) kept (omega (arith, none, bytes, few))
+      all_tell (state_of shown n) 1 (lines_played script) kept (omega (arith, none, lines_few script))
 
-  -- of a script that isn't too long
-  pub script_tells : (left : Option (List ℕ)) → IfSome left (λ script. is_too_long script ≡ false → AllStates QuietTells (state_of shown n) 1 (lines script))
+  pub script_tells : (left : Option (List ℕ)) → IfSome left (λ script. AllStates IsTrusted (state_of shown n) 1 (lines_played script))
   script_tells None = tt
-  script_tells (Some script) = short_tells script
+  script_tells (Some script) = lines_tell script

@@ -1,13 +1,6 @@
-use Rattle.std.specs.Prelude.{ℕ, List, [], ◌∷◌, Bool, true, false, codes}
-use Rattle.std.specs.Str.{bytes_eq}
+use Rattle.std.specs.Prelude.{ℕ, Bool, true, false}
 use Rattle.spb_run.specs.declared.status.Status.{Status}
 use Rattle.spb_run.specs.declared.status.Status.TheVariants.{Done, Refused, Usage, NoMemory, ReadFault, WriteFault, TooLong}
-
--- whether the program's words are just `run`
-abbrev pub is_run : List (List ℕ) → Bool
-is_run [] = false
-is_run (word ∷ []) = bytes_eq word (codes "run")
-is_run (word ∷ another ∷ more) = false
 
 -- the number of a status, which is the program's exit status
 abbrev pub status_number : Status → ℕ
@@ -52,8 +45,8 @@ is_cut TooLong = false
 -- whether nothing is written
 abbrev pub is_silent : Status → Bool
 is_silent Usage = true
-is_silent ReadFault = true
-is_silent TooLong = true
+is_silent ReadFault = false
+is_silent TooLong = false
 is_silent Done = false
 is_silent (Refused line why) = false
 is_silent NoMemory = false

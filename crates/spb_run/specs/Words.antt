@@ -2,7 +2,7 @@
 use Rattle.std.specs.Prelude.{◌≡◌, ◌↔◌, ℕ, ◌≤◌, ⊤, ◌+◌, ◌-◌, ◌*◌, nat_le, ◌&&◌, Bool, if◌then◌else◌, List, [], ◌∷◌, Option, Some, None, option_map, codes, decimal}
 use Rattle.std.specs.Str.{bytes_eq}
 use Rattle.spb_run.specs.declared.words.Form.{Form}
-use Rattle.spb_run.specs.declared.words.Form.TheVariants.{Run, Make}
+use Rattle.spb_run.specs.declared.words.Form.TheVariants.{Run, Make, Try}
 
 -- whether a byte is a decimal digit from this one on
 abbrev pub is_digit_from : ℕ → ℕ → Bool
@@ -19,21 +19,32 @@ bridges_of (tens ∷ ones ∷ []) =
     if is_digit_from 49 tens && is_digit_from 48 ones then if_made (10 * (tens - 48) + (ones - 48)) else None
 bridges_of _ = None
 
--- `run`, or `make` and a number of bridges
+-- a form that takes a number of bridges, by its first word
+abbrev pub numbered_form : List ℕ → Option (ℕ → Form)
+numbered_form word =
+    if bytes_eq word (codes "make") then Some Make else (if bytes_eq word (codes "try") then Some Try else None)
+
+abbrev pub with_number : Option (ℕ → Form) → List ℕ → Option Form
+with_number None number = None
+with_number (Some form) number = option_map form (bridges_of number)
+
+-- `run`, or `make` or `try` and a number of bridges
 abbrev pub form_of : List (List ℕ) → Option Form
 form_of (word ∷ []) = if bytes_eq word (codes "run") then Some Run else None
-form_of (word ∷ number ∷ []) = if bytes_eq word (codes "make") then option_map Make (bridges_of number) else None
+form_of (word ∷ number ∷ []) = with_number (numbered_form word) number
 form_of _ = None
 
 -- the number of bridges of a form is in range
 abbrev pub IsForm : Form → Type 0
 IsForm Run = ⊤
 IsForm (Make n) = (4 ≤ n) × (n ≤ 96)
+IsForm (Try n) = (4 ≤ n) × (n ≤ 96)
 
 -- how a form is spelled
 abbrev pub words_of : Form → List (List ℕ)
 words_of Run = codes "run" ∷ []
 words_of (Make n) = codes "make" ∷ decimal n ∷ []
+words_of (Try n) = codes "try" ∷ decimal n ∷ []
 
 -- words are a form exactly where they spell it
 abbrev pub FormsAreSpelled : Type 0

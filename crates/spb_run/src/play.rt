@@ -19,8 +19,8 @@ use spb_types::NoMemory;
 use std::alloc::Global;
 
 /// The reply to a line that is outside the grammar from a column on.
-fn misspelled(alloc: Global, number: u32, column: usize) -> Result<Reply, NoMemory>
-    ensures { IfOk result (λ reply. (reply.text.items ≡ texts.error_text number 1 (codes "Words") (Some column))
+pub(crate) fn misspelled(alloc: Global, number: u32, column: usize) -> Result<Reply, NoMemory>
+    ensures { IfOk result (λ reply. (reply.text.items ≡ play.misspelled_text number column)
         × (reply.refused ≡ Some (refusal.Words column))) }
 {
     Ok(Reply {

@@ -5,20 +5,21 @@ use crate::Refusal;
 /// How a run ended.
 #[derive(Clone, Copy, Debug, PartialEq, Eq, Hash)]
 pub enum Status {
-    /// The script was read to its end, and all answers are written; or the script that was made is written.
+    /// The script was read to its end, and all answers are written; or the script that was made, or the line of what was
+    /// counted of it, is written.
     Done,
-    /// The line of this number, from 1, is the first that is refused. The answers before it and its `error` line are
-    /// written.
+    /// The line of this number, from 1, or of a script that was made the command, is the first that is refused. The answers
+    /// before it and its `error` line are written; of a script that was made, that line alone.
     Refused(u32, Refusal),
     /// The words are no form of the program. Nothing was read or written.
     Usage,
     /// No memory was found. A front of what was to be written is.
     NoMemory,
-    /// A read failed. Nothing was written.
+    /// A read failed. The answers to the whole lines before it are written, all of which are accepted.
     ReadFault,
     /// A write failed. A front of what was to be written is.
     WriteFault,
-    /// The script has more than 65,536 bytes. Nothing was written.
+    /// The script has more than 8,388,608 bytes, or more than 100,000 lines. The answers before that are written.
     TooLong,
 }
 

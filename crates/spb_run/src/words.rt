@@ -8,6 +8,8 @@ pub enum Form {
     Run,
     /// `make N`: the script for N bridges is written, 4 to 96.
     Make(u8),
+    /// `try N`: the script for N bridges is played, 4 to 96, and what its answers say is counted.
+    Try(u8),
 }
 
 /// The number, if scripts are made for so many bridges.
@@ -44,6 +46,7 @@ pub(crate) fn form_of(words: &[String]) -> Option<Form>
         [word, number] if word.as_str() == "make" => {
             bridges_of(number.as_bytes()).map(Form::Make)
         }
+        [word, number] if word.as_str() == "try" => { bridges_of(number.as_bytes()).map(Form::Try) }
         _ => None,
     }
 }

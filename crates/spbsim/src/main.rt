@@ -1,6 +1,6 @@
 //! `spbsim run` plays a script of a shortest path backbone from standard input, and writes the answers to standard
-//! output. `spbsim make N` writes such a script for N bridges, 4 to 96, to standard output. The exit status is the number
-//! of the status with which `run` of `spb_run` ends, 0 to 6.
+//! output. `spbsim make N` writes such a script for N bridges, 4 to 96, to standard output, and `spbsim try N` plays it
+//! and counts what is answered. The exit status is the number of the status with which `run` of `spb_run` ends, 0 to 6.
 //!
 //! All of it is done by `spb_run::run`, over the standard streams: here stand the words, the rack of boxes that bridges
 //! are taken from, and the messages alone.
@@ -51,7 +51,7 @@ fn message(status: Status) -> Option<&'static str>
         Status::NoMemory => Some("spbsim: out of memory"),
         Status::ReadFault => Some("spbsim: standard input can't be read"),
         Status::WriteFault => Some("spbsim: standard output can't be written"),
-        Status::TooLong => Some("spbsim: the script has more than 65536 bytes"),
+        Status::TooLong => Some("spbsim: the script has more than 8388608 bytes or 100000 lines"),
     }
 }
 

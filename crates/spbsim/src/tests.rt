@@ -9,12 +9,14 @@ mod boxes;
 mod customers;
 mod databases;
 mod examples;
+mod fabrics;
 mod frames;
 mod hellos;
 mod quiet;
 mod refusals;
 mod restarts;
 mod runs;
+mod tries;
 mod wiring;
 mod words;
 
@@ -64,7 +66,7 @@ fn check(
     check_in_pieces(rt, alloc, 50, script, status, text)
 }
 
-/// Asserts what lines behind a script answer, where all are accepted.
+/// Asserts what lines behind a script answer, where all are accepted, in pieces of one byte and of fifty.
 fn check_done(
     rt: &impl Abort,
     alloc: Global,
@@ -73,5 +75,8 @@ fn check_done(
     text: &str,
 ) -> Result<(), Fail> {
     let script = format!(in alloc; "{before}{lines}")?;
-    check(rt, alloc, script.as_str(), Status::Done, text)
+    for step in [1, 50] {
+        check_in_pieces(rt, alloc, step, script.as_str(), Status::Done, text)?;
+    }
+    Ok(())
 }

@@ -65,7 +65,7 @@ drain 10
 #[test]
 fn a_frame_to_all_leaves_at_each_other_port_of_the_service(rt: HostRuntime) -> Result<(), Fail> {
     let alloc = rt.alloc();
-    let lines = format!(in alloc; "show A\nframe A 1 {TO_ALL}\ndrain 100\n")?;
+    let lines = format!(in alloc; "show A\nframe A 1 {TO_ALL}\ndrain 100\nstate\n")?;
     let text = format!(in alloc;
         "show A quiet 5 3
 u 10 020000000002 1
@@ -81,6 +81,7 @@ out B 1 {TO_ALL}
 out C 1 {TO_ALL}
 out D 1 {TO_ALL}
 out E 1 {TO_ALL}
+state quiet
 "
     )?;
     check_done(&rt, alloc, RING, lines.as_str(), text.as_str())
@@ -90,13 +91,16 @@ out E 1 {TO_ALL}
 #[test]
 fn deliveries_order_what_leaves(rt: HostRuntime) -> Result<(), Fail> {
     let alloc = rt.alloc();
-    let lines = format!(in alloc; "frame A 1 {TO_ALL}\ndeliver L6 ba\ndeliver L5 ba\ndrain 100\n")?;
+    let lines = format!(in alloc;
+        "frame A 1 {TO_ALL}\ndeliver L6 ba\ndeliver L5 ba\ndrain 100\nstate\n"
+    )?;
     let text = format!(in alloc;
         "out A 2 {TO_ALL}
 out E 1 {TO_ALL}
 out B 1 {TO_ALL}
 out C 1 {TO_ALL}
 out D 1 {TO_ALL}
+state quiet
 "
     )?;
     check_done(&rt, alloc, RING, lines.as_str(), text.as_str())

@@ -33,12 +33,56 @@ fn scripts_are_answered_in_pieces_of_any_size(rt: HostRuntime) -> Result<(), Fai
 }
 
 #[test]
-fn a_script_has_at_most_65536_bytes(rt: HostRuntime) -> Result<(), Fail> {
+fn a_script_has_at_most_100000_lines(rt: HostRuntime) -> Result<(), Fail> {
     let alloc = rt.alloc();
-    let mut script = "\n".repeat(alloc, 65_536)?;
+    let mut script = "\n".repeat(alloc, 100_000)?;
     check(&rt, alloc, script.as_str(), Status::Done, "")?;
     script.push('\n')?;
     check(&rt, alloc, script.as_str(), Status::TooLong, "")
+}
+
+#[test]
+fn a_script_has_at_most_8388608_bytes(rt: HostRuntime) -> Result<(), Fail> {
+    let alloc = rt.alloc();
+    let letters = "x".repeat(alloc, 8190)?;
+    let line = format!(in alloc; "#{letters}\n")?;
+    let mut script = line.repeat(alloc, 1024)?;
+    check_in_pieces(&rt, alloc, 100_000, script.as_str(), Status::Done, "")?;
+    script.push('#')?;
+    check_in_pieces(&rt, alloc, 100_000, script.as_str(), Status::TooLong, "")
+}
+
+#[test]
+fn the_answers_before_a_script_is_too_long_stand(rt: HostRuntime) -> Result<(), Fail> {
+    let alloc = rt.alloc();
+    let ends = "\n".repeat(alloc, 100_000)?;
+    let script = format!(in alloc; "{POINT_TO_POINT}{ends}")?;
+    check(
+        &rt,
+        alloc,
+        script.as_str(),
+        Status::TooLong,
+        POINT_TO_POINT_OUT,
+    )
+}
+
+#[test]
+fn a_line_that_is_too_long_is_refused(rt: HostRuntime) -> Result<(), Fail> {
+    let alloc = rt.alloc();
+    let letters = "x".repeat(alloc, 8192)?;
+    for (end, column) in [
+        ("", 1),
+        ("\r\n", 1),
+        ("\r", 8193),
+        ("x", 8193),
+        ("\rx", 8193),
+    ] {
+        let script = format!(in alloc; "state\n{letters}{end}")?;
+        let text = format!(in alloc; "state quiet\nerror 2 1 Words {column}\n")?;
+        let status = Status::Refused(2, Refusal::Words(column));
+        check(&rt, alloc, script.as_str(), status, text.as_str())?;
+    }
+    Ok(())
 }
 
 /// A source of the bytes of POINT_TO_POINT, which fails at the reads of these numbers.
@@ -53,16 +97,23 @@ pub(super) fn sink(alloc: Global, failing: &[u32]) -> Result<MemorySink, AllocEr
 }
 
 #[test]
-fn a_failed_read_leaves_nothing_written(rt: HostRuntime) -> Result<(), Fail> {
+fn a_failed_read_leaves_the_answers_to_whole_lines(rt: HostRuntime) -> Result<(), Fail> {
     let alloc = rt.alloc();
     let words = words_of(alloc, "run")?;
-    for failing in [1, 3] {
-        let (mut source, mut sink) = (source(alloc, &[failing])?, sink(alloc, &[])?);
+    let fronts = [
+        (1, b"".as_slice()),
+        (2, b"".as_slice()),
+        (4, b"state quiet\nstate quiet\n"),
+    ];
+    for (failing, front) in fronts {
+        let bytes = Vec::from_slice(alloc, b"state\nstate\nstate\n".as_slice())?;
+        let mut source = MemorySource::new(bytes, Vec::from_slice(alloc, &[failing])?, 5);
+        let mut sink = sink(alloc, &[])?;
         assert_eq!(rt;
             play(alloc, &words, &mut source, &mut sink),
             Ok(Status::ReadFault)
         );
-        assert_eq!(rt; sink.bytes(), b"".as_slice());
+        assert_eq!(rt; sink.bytes(), front);
     }
     Ok(())
 }
@@ -103,7 +154,7 @@ fn each_status_has_its_number_and_its_message(rt: HostRuntime) {
         (
             Status::TooLong,
             6,
-            Some("spbsim: the script has more than 65536 bytes"),
+            Some("spbsim: the script has more than 8388608 bytes or 100000 lines"),
         ),
     ];
     for (status, number, text) in texts {

@@ -109,7 +109,12 @@ fn other_words_are_refused_and_nothing_is_read_or_written(rt: HostRuntime) -> Re
         "Run",
         "run ",
         "run --help",
-        "try 4",
+        "try",
+        "try 3",
+        "try 97",
+        "try 04",
+        "try 4 4",
+        "Try 4",
     ] {
         check_usage(&rt, alloc, &words_of(alloc, words)?)?;
     }
@@ -202,6 +207,6 @@ fn a_failed_write_leaves_a_front_of_the_script(rt: HostRuntime) -> Result<(), Fa
 #[test]
 fn the_usage_names_each_form(rt: HostRuntime) -> Result<(), Fail> {
     let line = usage_line(rt.alloc())?;
-    assert_eq!(rt; line.as_str(), "Usage: spbsim <run | make N>");
+    assert_eq!(rt; line.as_str(), "Usage: spbsim <run | make N | try N>");
     Ok(())
 }
