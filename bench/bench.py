@@ -74,7 +74,7 @@ def workloads():
     yield "  and wiring of each", fabric + [f"wiring b{k}" for k in range(1, count + 1)], FULL * 2 * links
     chain = [(k, k + 1) for k in range(1, 96)]
     yield "96 bridges in a line, round 1000", list(wired(96, chain)) + ["round 1000"], 1000 * 2 * len(chain)
-    # as many comments of one byte, each with its line feed, as fit into the 65,536 bytes of a script
+    # 65,536 bytes of comments of one byte, each with its line feed
     yield "32,768 lines", ["#"] * 32768, 0
 
 
