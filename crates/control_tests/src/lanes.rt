@@ -1,15 +1,21 @@
 //! Tests of `link_model`.
 use link_model::{DoubleError, Lane, LaneId, Lanes, NoFrame, Pushed};
+use shared_frames::Frame;
 use spb_types::limits::MOST_FRAMES;
 use spb_types::{Dir, NoMemory};
 use std::alloc::Global;
 use std::process::Abort;
 use std::test::Fail;
 
+/// A frame of so many bytes, which are all the same.
+fn frame_of(alloc: Global, byte: u8, len: usize) -> Result<Frame, NoMemory> {
+    Frame::from_vec(vec![in alloc; byte; len]?)
+}
+
 fn lane_of(alloc: Global, frames: &[u8]) -> Result<Lane, NoMemory> {
     let mut lane = Lane::new(alloc);
     for frame in frames {
-        let _ = lane.push(vec![in alloc; *frame; usize::from(*frame)]?)?;
+        let _ = lane.push(frame_of(alloc, *frame, usize::from(*frame))?)?;
     }
     Ok(lane)
 }
@@ -58,9 +64,9 @@ fn a_frame_is_lost_or_doubled_at_its_place(rt: HostRuntime) -> Result<(), Fail> 
 fn the_frame_after_1024_and_a_copy_after_them_are_lost(rt: HostRuntime) -> Result<(), Fail> {
     let mut lane = Lane::new(rt.alloc());
     for _ in 0..MOST_FRAMES {
-        assert!(rt; lane.push(vec![in rt.alloc(); 1]?)? == Pushed::Kept);
+        assert!(rt; lane.push(frame_of(rt.alloc(), 1, 1)?)? == Pushed::Kept);
     }
-    assert!(rt; lane.push(vec![in rt.alloc(); 2]?)? == Pushed::Dropped);
+    assert!(rt; lane.push(frame_of(rt.alloc(), 2, 1)?)? == Pushed::Dropped);
     assert!(rt; lane.double(0) == Ok(()));
     assert!(rt; lane.len() == MOST_FRAMES);
     Ok(())
@@ -80,10 +86,10 @@ fn frames_stand_in_the_lane_of_their_link_and_direction(rt: HostRuntime) -> Resu
         link: 1,
         dir: Dir::Ba,
     };
-    lanes.push(back, vec![in rt.alloc(); 7]?)?;
+    lanes.push(back, frame_of(rt.alloc(), 7, 1)?)?;
     assert_eq!(rt; lanes.first_full(), Some(back));
-    lanes.push(there, vec![in rt.alloc(); 8]?)?;
-    lanes.push(there, vec![in rt.alloc(); 9]?)?;
+    lanes.push(there, frame_of(rt.alloc(), 8, 1)?)?;
+    lanes.push(there, frame_of(rt.alloc(), 9, 1)?)?;
     lanes.double(there, 1)?;
     lanes.lose(there, 0);
     assert!(rt; lanes.frames(there) == 2 && lanes.frames(back) == 1);

@@ -1,5 +1,5 @@
-//! The tests of the crates of the control plane: `link_model`, `lsdb`, `flooding`, `snp_sync`, `ect_trees` and
-//! `fdb_build`. One module tests one crate.
+//! The tests of the crates of the control plane: `link_model`, `lsdb`, `flooding`, `snp_sync`, `ect_trees`,
+//! `fork_trees` and `fdb_build`. One module tests one crate.
 //!
 //! Nothing else stands here, and nothing stands on this crate. A crate with tests is proved twice, with and without
 //! them; so those of the lower crates, which see them from outside, stand above them. (`format_tests` has the others.)
@@ -58,6 +58,8 @@ mod databases;
 mod fixtures;
 #[cfg(test)]
 mod floods;
+#[cfg(test)]
+mod kept_trees;
 #[cfg(test)]
 mod lanes;
 #[cfg(test)]

@@ -10,7 +10,7 @@ use std::process::Abort;
 use std::test::Fail;
 
 /// Four bridges in a square, whose two ways from corner to corner tie.
-fn square(alloc: Global) -> Result<Graph, NoMemory>
+pub(crate) fn square(alloc: Global) -> Result<Graph, NoMemory>
     ensures { IfOk result IsValid }
 {
     let bridges = vec![in alloc; bridge!(1), bridge!(2), bridge!(3), bridge!(4)]?;

@@ -42,7 +42,7 @@ leads_alike g h me a b [] s r l = (s.bridges a r, l.1)
 leads_alike g h me a b (x ∷ xs) s r l =
     (s.bridges a r, subst (λ o. IsSome o) (s.costs a x r) l.1, leads_alike g h me x b xs s (next_reached g me a x b xs r l) l.2)
 
-path_alike : (g h : Graph) (a b : SystemId) (p : List SystemId) → ArePathsAlike g h a → IsPath g a b p → IsPath h a b p
+pub path_alike : (g h : Graph) (a b : SystemId) (p : List SystemId) → ArePathsAlike g h a → IsPath g a b p → IsPath h a b p
 path_alike g h a b [] s w = absurd w
 path_alike g h a b (x ∷ xs) s w = (w.0, leads_alike g h a x b xs s (path_reached g a b x (x ∷ xs) w (inl refl)) w.1, w.2)
 
@@ -53,7 +53,7 @@ along_alike g h me x b (y ∷ ys) s r l =
     let more : cost_along g y ys ≡ cost_along h y ys = along_alike g h me y b ys s (next_reached g me x y b ys r l) l.2 in
     omega (arith, one, more)
 
-cost_alike : (g h : Graph) (a b : SystemId) (p : List SystemId) → ArePathsAlike g h a → IsPath g a b p → cost_of g p ≡ cost_of h p
+pub cost_alike : (g h : Graph) (a b : SystemId) (p : List SystemId) → ArePathsAlike g h a → IsPath g a b p → cost_of g p ≡ cost_of h p
 cost_alike g h a b [] s w = refl
 cost_alike g h a b (x ∷ xs) s w = along_alike g h a x b xs s (path_reached g a b x (x ∷ xs) w (inl refl)) w.1
 
@@ -61,7 +61,7 @@ map_alike : (f k : SystemId → List ℕ) (p : List SystemId) → ((x : SystemId
 map_alike f k [] s = refl
 map_alike f k (x ∷ p) s = let one : f x ≡ k x = s x (inl refl) in let more : map f p ≡ map k p = map_alike f k p (λ y i. s y (inr i)) in cc
 
-key_alike : (g h : Graph) (mask : ℕ) (a b : SystemId) (p : List SystemId) → ArePathsAlike g h a → IsPath g a b p → key_of g mask p ≡ key_of h mask p
+pub key_alike : (g h : Graph) (mask : ℕ) (a b : SystemId) (p : List SystemId) → ArePathsAlike g h a → IsPath g a b p → key_of g mask p ≡ key_of h mask p
 key_alike g h mask a b p s w =
     let cost : cost_of g p ≡ cost_of h p = cost_alike g h a b p s w in
     let ids : map (masked_id g mask) p ≡ map (masked_id h mask) p = map_alike (masked_id g mask) (masked_id h mask) p (λ x i. ap (masked mask) (s.ids x (path_reached g a b x p w i))) in
@@ -84,7 +84,7 @@ best_of_same g h mask a b v w same keys = both_at (best_of_cases g mask a b v) (
     both_at (inr m) (inr n) = m.1 ∙ (ap Some (best_unique h mask a b m.0 n.0 (best_there m.0 m.2) n.2) ∙ sym n.1)
 
 -- so have graphs whose paths from a are alike, both ways
-best_of_alike : (g h : Graph) (mask : ℕ) (a b : SystemId) → IsValid g → IsValid h → ArePathsAlike g h a → ArePathsAlike h g a → best_of g mask a b ≡ best_of h mask a b
+pub best_of_alike : (g h : Graph) (mask : ℕ) (a b : SystemId) → IsValid g → IsValid h → ArePathsAlike g h a → ArePathsAlike h g a → best_of g mask a b ≡ best_of h mask a b
 best_of_alike g h mask a b v w there back =
     best_of_same g h mask a b v w (λ p. (path_alike g h a b p there, path_alike h g a b p back)) (λ p k. key_alike g h mask a b p there k)
 
@@ -109,7 +109,7 @@ same_best g h mask a b v w s = best_of_alike g h mask a b v w (paths_seen g h a 
 
 -- ---- graphs that are alike
 
-paths_of_alike : (g h : Graph) (me : SystemId) → IsValid g → IsValid h → AreAlike g h → ArePathsAlike g h me
+pub paths_of_alike : (g h : Graph) (me : SystemId) → IsValid g → IsValid h → AreAlike g h → ArePathsAlike g h me
 paths_of_alike g h me v w s = record {
   bridges = λ x r. bridge_there g h x (λ b e. (s.bridges b).0) (reached_bridge g me x r);
   ids = λ x r. same_id g h x v w (λ b e. (s.bridges b).0) (reached_bridge g me x r);

@@ -11,6 +11,10 @@ pub mod Masked
 pub mod Steps
 pub mod Low
 pub mod Frontier
+pub mod Avoiding
+pub mod Reaching
+pub mod Forgetting
+pub mod Repairing
 pub mod Joining
 pub mod Reached
 pub mod Cut
@@ -24,6 +28,7 @@ pub mod Settled
 pub mod Ends
 pub mod Behind
 pub mod EndOnce
+pub mod TreesAlike
 pub mod Waits
 pub mod Numbers
 pub mod Chained

@@ -162,6 +162,11 @@ settled_within s settled ls ls' now next first f relaxed =
     let few : suc (length f.done) ≤ length (graph_of s).bridges = done_within (graph_of s) (f.bridge ∷ f.done) front.apart front.bridges in
     omega (arith, few, f.count)
 
+pub settled_few : (s : Search) (settled : ℕ) (ls : List (Option Label)) (front : List Waiting) → Settling s settled ls front → settled ≤ length (graph_of s).bridges
+settled_few s settled ls front set =
+    let few : length set.done ≤ length (graph_of s).bridges = done_within (graph_of s) set.done set.front_is.apart set.front_is.bridges in
+    omega (arith, few, set.count)
+
 -- once its arcs are relaxed, one more is done
 pub settling_more : (s : Search) (settled : ℕ) (ls ls' : List (Option Label)) (now next : List Waiting) (first : Waiting) → First s settled ls now first → IsState s ls' next → RelaxesAll s first.place ls ls' now next → Settling s (settled + 1) ls' next
 settling_more s settled ls ls' now next first f state relaxed = record {

@@ -11,6 +11,7 @@ use Rattle.ect_trees.specs.declared.key.PathKey.{PathKey}
 use Rattle.ect_trees.specs.Path.{Leads, IsPath}
 use Rattle.ect_trees.specs.Key.{key_of, key_cmp, IsBelow}
 use Rattle.ect_trees.specs.Best.{IsBest, best_of}
+use Rattle.ect_trees.specs.Tree.{Paths, GivesBest, IsGrown}
 
 -- keys are totally ordered, and only equal keys tie
 pub record AreKeysOrdered : Type 0 where
@@ -92,6 +93,15 @@ pub record AreAlike (g h : Graph) : Type 0 where
 abbrev pub OrderSaysNothing : Type 0
 OrderSaysNothing = (g h : Graph) (mask : ℕ) (a b : SystemId)
     → IsValid g → IsValid h → AreAlike g h → best_of g mask a b ≡ best_of h mask a b
+
+-- nor do the trees of these paths with their costs
+abbrev pub TreesAlike : Type 0
+TreesAlike = (g h : Graph) (mask : ℕ) (a : SystemId) (t : Paths)
+    → IsValid g → IsValid h → AreAlike g h → GivesBest h mask a t → GivesBest g mask a t
+
+-- a tree whose labels are the best paths has the best paths
+abbrev pub GrownIsBest : Type 0
+GrownIsBest = (g : Graph) (mask : ℕ) (t : Paths) → IsValid g → IsGrown g mask t → GivesBest g mask t.source t
 
 -- ---- what a bridge sees of a graph
 

@@ -8,6 +8,8 @@ pub mod Arcs
 pub mod Tree
 pub mod Waits
 pub mod Search
+pub mod Change
+pub mod Repair
 pub mod Ways
 pub mod Trial
 pub mod Followers

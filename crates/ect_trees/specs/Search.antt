@@ -23,29 +23,42 @@ use Rattle.ect_trees.specs.Frontier.{Front, During}
 abbrev pub graph_of : Search → Graph
 graph_of s = s.mesh.now.graph
 
--- the label is a path to x with its cost
-pub record IsLabel (s : Search) (x : SystemId) (l : Label) : Type 0 where
-  pub path : IsPath (graph_of s) s.source x l.bridges.items
-  pub cost_is : l.cost ≡ cost_of (graph_of s) l.bridges.items
+-- the label is a path from a to x with its cost
+pub record IsLabelFrom (g : Graph) (a x : SystemId) (l : Label) : Type 0 where
+  pub path : IsPath g a x l.bridges.items
+  pub cost_is : l.cost ≡ cost_of g l.bridges.items
 
 -- the label at a place
 abbrev pub label_at : List (Option Label) → ℕ → Option Label
 label_at ls place = slice_index_or ls place None
 
--- there is a place for each bridge, and each label is a path to its bridge with its cost
-pub record AreLabels (s : Search) (ls : List (Option Label)) : Type 0 where
-  pub places : length ls ≡ length (graph_of s).bridges
-  pub each : (place : ℕ) (x : SystemId) (l : Label) → IsBridgeAt (graph_of s) place x → label_at ls place ≡ Some l
-      → IsLabel s x l
+-- there is a place for each bridge, and each label is a path from a to its bridge with its cost
+pub record AreLabelsFrom (g : Graph) (a : SystemId) (ls : List (Option Label)) : Type 0 where
+  pub places : length ls ≡ length g.bridges
+  pub each : (place : ℕ) (x : SystemId) (l : Label) → IsBridgeAt g place x → label_at ls place ≡ Some l
+      → IsLabelFrom g a x l
 
 -- the path of the label at the place of x
-abbrev pub way_of : Search → List (Option Label) → SystemId → Option (List SystemId)
-way_of s ls x = option_map (λ l. l.bridges.items) (label_at ls (place_in (graph_of s).bridges x))
+abbrev pub way_in : Graph → List (Option Label) → SystemId → Option (List SystemId)
+way_in g ls x = option_map (λ l. l.bridges.items) (label_at ls (place_in g.bridges x))
 
--- the labels are the best paths
-pub record AreBest (s : Search) (ls : List (Option Label)) : Type 0 where
-  pub labels : AreLabels s ls
-  pub best : (x : SystemId) → way_of s ls x ≡ best_of (graph_of s) s.mask s.source x
+-- the labels are the best paths from a
+pub record AreBestFrom (g : Graph) (mask : ℕ) (a : SystemId) (ls : List (Option Label)) : Type 0 where
+  pub labels : AreLabelsFrom g a ls
+  pub best : (x : SystemId) → way_in g ls x ≡ best_of g mask a x
+
+-- the same of a search
+abbrev pub IsLabel : Search → SystemId → Label → Type 0
+IsLabel s x l = IsLabelFrom (graph_of s) s.source x l
+
+abbrev pub AreLabels : Search → List (Option Label) → Type 0
+AreLabels s ls = AreLabelsFrom (graph_of s) s.source ls
+
+abbrev pub way_of : Search → List (Option Label) → SystemId → Option (List SystemId)
+way_of s ls x = way_in (graph_of s) ls x
+
+abbrev pub AreBest : Search → List (Option Label) → Type 0
+AreBest s ls = AreBestFrom (graph_of s) s.mask s.source ls
 
 -- the entry of a label in the frontier
 abbrev pub entry_of : Label → ℕ → Waiting
@@ -164,8 +177,12 @@ pub data IsRelaxed (s : Search) (arc : Arc) (ls ls' : List (Option Label)) (fron
       → Improves s arc l (label_at ls arc.to) (Some new) → IsSet arc.to new ls ls' front front'
       → IsRelaxed s arc ls ls' front front'
 
+-- the path of a label with its cost
+abbrev pub path_of : Label → Path
+path_of l = record { cost = l.cost; bridges = l.bridges.items }
+
 -- the paths of the labels
 abbrev pub paths_in : List (Option Label) → List Path
 paths_in [] = []
 paths_in (None ∷ ls) = paths_in ls
-paths_in (Some l ∷ ls) = record { cost = l.cost; bridges = l.bridges.items } ∷ paths_in ls
+paths_in (Some l ∷ ls) = path_of l ∷ paths_in ls

@@ -5,13 +5,15 @@ ghost use Rattle.spb_types.specs.Address.{same_system};
 ghost use Rattle.spb_types.specs.Graph.{IsValid};
 ghost use Rattle.ect_trees.specs.Arcs.{AreReady};
 ghost use Rattle.ect_trees.specs.Followers as followers;
+ghost use Rattle.ect_trees.specs.Search.{path_of};
 
 use crate::guess::guessed;
 use crate::mesh::Mesh;
+use crate::search::Label;
 use crate::tree::{Tree, tree_over};
 use crate::trial::{Verdict, verdict_of};
 use crate::ways::Ways;
-use spb_types::{NoMemory, Path, SystemId};
+use spb_types::{NoMemory, SystemId};
 use std::alloc::Global;
 
 /// For each bridge of a graph, the place of the one that directly follows a bridge `me` on the best path there from a
@@ -44,7 +46,7 @@ fn follower(ways: &Ways<'_>, me: usize, to: usize) -> usize
 }
 
 /// The same for each place.
-fn followers_by(alloc: Global, ways: &Ways<'_>, me: usize) -> Result<Vec<usize>, NoMemory>
+fn followers_on_ways(alloc: Global, ways: &Ways<'_>, me: usize) -> Result<Vec<usize>, NoMemory>
     ensures { IfOk result (λ places. followers.FollowOnWays ways.now.mesh.now ways.now.steps.now me
         ways.now.mesh.now.graph.bridges places.items) }
 {
@@ -56,38 +58,38 @@ fn followers_by(alloc: Global, ways: &Ways<'_>, me: usize) -> Result<Vec<usize>,
 }
 
 /// The place of a bridge on a path.
-fn place_on(path: &Path, system: SystemId) -> Option<usize>
-    ensures { result ≡ position (λ b. same_system b system) path.now.bridges }
+fn place_on(path: &[SystemId], system: SystemId) -> Option<usize>
+    ensures { result ≡ position (λ b. same_system b system) path.now }
 {
-    path.bridges.iter().position(|bridge| bridge.is(system))
+    path.iter().position(|bridge| bridge.is(system))
 }
 
 /// The bridge that directly follows another on a path. None where the other isn't on it, or is its last.
-fn after(path: &Path, system: SystemId) -> Option<SystemId>
-    ensures { result ≡ followers.after_in system path.now.bridges }
+fn after(path: &[SystemId], system: SystemId) -> Option<SystemId>
+    ensures { result ≡ followers.after_in system path.now }
 {
     let place = place_on(path, system)?;
-    path.bridges.as_slice().get(place + 1).copied()
+    path.get(place + 1).copied()
 }
 
-/// The place of the bridge that directly follows `me` on a path, or the number of bridges where none does.
-fn follower_on(mesh: &Mesh, path: Option<&Path>, me: SystemId) -> usize
+/// The place of the bridge that directly follows `me` on the path of a label, or the number of bridges where none does.
+fn follower_on(mesh: &Mesh, label: Option<&Label>, me: SystemId) -> usize
     requires { IsValid mesh.now.graph }
     ensures { result ≡ followers.place_after mesh.now.graph me
-        (option_map (λ p. p.bridges) (option_copied path.entry)) }
+        (option_map (λ p. p.bridges) (option_map path_of (option_copied label.entry))) }
 {
     let none = mesh.graph.bridges.len();
-    let Some(path) = path else {
+    let Some(label) = label else {
         return none;
     };
-    match after(path, me) {
+    match after(label.bridges.as_slice(), me) {
         None => none,
         Some(next) => mesh.place_of(next).unwrap_or(none),
     }
 }
 
 /// The followers of `me` on the whole paths of a tree.
-fn followers_in(
+pub(crate) fn followers_in(
     alloc: Global,
     mesh: &Mesh,
     tree: &Tree,
@@ -100,8 +102,8 @@ fn followers_in(
     let bridges = mesh.graph.bridges.as_slice();
     let mut places = Vec::with_capacity(alloc, bridges.len())?;
     for bridge in bridges {
-        let path = tree.find_near(places.len(), bridge.id.system);
-        places.push(follower_on(mesh, path, me))?;
+        let label = tree.find_near(places.len(), bridge.id.system);
+        places.push(follower_on(mesh, label, me))?;
     }
     Ok(places)
 }
@@ -151,7 +153,7 @@ pub(crate) fn followers_over(
         Verdict::Untied => true,
     };
     Ok(Followers {
-        places: followers_by(alloc, &ways, place)?,
+        places: followers_on_ways(alloc, &ways, place)?,
         untied,
     })
 }

@@ -1,5 +1,5 @@
 //! The laws of keys and of best paths. Each is the contract of a function that does nothing.
-ghost use Rattle.ect_trees.specs.Laws.{AreKeysOrdered, KeepsOrder, NoTieIsLeast, BestIsUnique, BestExists, BestOfNone, BestOfSome, BestToItself, BestReversed, FrontIsBest, BackIsBest, OrderSaysNothing, AlikeHaveSamePorts, LookAlikeFromEach, LooksBack, LooksOn, SameBest, PartLooksAlike, SomeGraphIsCut};
+ghost use Rattle.ect_trees.specs.Laws.{AreKeysOrdered, KeepsOrder, NoTieIsLeast, BestIsUnique, BestExists, BestOfNone, BestOfSome, BestToItself, BestReversed, FrontIsBest, BackIsBest, OrderSaysNothing, TreesAlike, GrownIsBest, AlikeHaveSamePorts, LookAlikeFromEach, LooksBack, LooksOn, SameBest, PartLooksAlike, SomeGraphIsCut};
 ghost use Rattle.ect_trees.specs.Low.{LowIsBest, BestIsLow};
 
 /// Keys are totally ordered, and only equal keys tie.
@@ -58,6 +58,16 @@ pub fn parts_of_best_are_best()
 /// In valid graphs best paths don't depend on the order of a graph's lists, nor on the order of an edge's ends.
 pub fn order_says_nothing()
     ensures { OrderSaysNothing }
+{}
+
+/// A tree of the best paths of one graph has those of each valid graph that is alike, with their costs.
+pub fn trees_are_alike()
+    ensures { TreesAlike }
+{}
+
+/// A tree whose labels are the best paths has the best paths.
+pub fn grown_trees_give_best()
+    ensures { GrownIsBest }
 {}
 
 /// Valid graphs that are alike have the same costs and ports, and look alike from every bridge.

@@ -9,19 +9,30 @@
 //! those behind the fork of the two paths are masked and put in order; where that are one or two of each, as mostly,
 //! without memory. They are looked for at the places that labels guess, and other bridges by a hash of the system id;
 //! where a guess fails by the hash, and where many ids fall together by a scan of the graph's list. A tree keeps each
-//! of its paths whole; [`Tree::path_to`] looks for the one that ends at the bridge, and copies it.
+//! of its paths whole, with its cost, at the place of its bridge in the graph's list; [`Tree::path_to`] looks for the
+//! one that ends at the bridge, and copies it.
+//!
+//! [`Tree::repair`] brings a tree up to date after one edge changed. It takes a look at the hops of each path, and drops
+//! the paths over that edge; then at the arcs into each bridge without a path, and at those of the edge; and then it
+//! settles, as above, the bridges whose path is new, each once, and no others.
 //!
 //! [`Roads::followers`] says which bridge directly follows another on each best path from a source, and needs no path
 //! whole: a quick search keeps the last step of each way, with no memory for a label, and what it finds is a guess. It
 //! is looked at before it is believed: each step once, and each arc once, with ids only where cost and hops tie; a guess
 //! that isn't right would cost a search for whole paths. So it takes two looks at each arc, a look at each bridge that
-//! waits for each that is settled, and the hops of each way once.
+//! waits for each that is settled, and the hops of each way once. [`Roads::followers_by`] reads the same off a tree that
+//! is kept ([`Trees`]): it takes the hops of each path once, and a look-up for the bridge that follows.
+//!
+//! Whether a path with one arc more is better than another is asked of [`Search::better`], over [`Roads::mesh`].
 #![tactic(auto)]
 
 pub use followers::Followers;
 pub use key::{PathKey, compare_keys};
+pub use mesh::{Arc, Mesh};
 pub use roads::{Roads, tree_from};
+pub use search::{Label, Search};
 pub use tree::Tree;
+pub use trees::Trees;
 
 mod followers;
 mod fork;
@@ -30,9 +41,11 @@ mod index;
 mod key;
 pub mod laws;
 mod mesh;
+mod repair;
 mod roads;
 mod search;
 mod tree;
+mod trees;
 mod trial;
 mod waiting;
 mod ways;

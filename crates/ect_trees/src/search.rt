@@ -1,4 +1,4 @@
-ghost use Rattle.std.specs.Prelude.{◌≡◌, ◌+◌, ◌-◌, ◌<◌, ◌∷◌, [], length, replicate, None, Some, IfOk, OnOk, IsTrue, MatchBool};
+ghost use Rattle.std.specs.Prelude.{◌≡◌, ◌+◌, ◌-◌, ◌<◌, ◌≤◌, ◌∷◌, [], length, replicate, None, Some, IfOk, OnOk, IsTrue, MatchBool};
 ghost use Rattle.std.specs.Ordering.{nat_cmp, ordering_then};
 ghost use Rattle.spb_types.specs.Graph.{IsAmong, IsValid};
 ghost use Rattle.spb_types.specs.declared.address.SystemId.{SystemId};
@@ -9,12 +9,12 @@ ghost use Rattle.ect_trees.specs.Search as search;
 use crate::fork::{NOWHERE, Near, compare_ids};
 use crate::mesh::{Arc, Mesh};
 use crate::waiting::{Frontier, Waiting};
-use spb_types::{NoMemory, Path, Seq, SystemId};
+use spb_types::{NoMemory, SystemId};
 use std::alloc::Global;
 use std::cmp::Ordering;
 
 /// A path from the source that was found, with its cost, and where the two bridges before its last may stand.
-#[derive(Drop)]
+#[derive(Debug, Drop)]
 pub struct Label {
     pub cost: u64,
     pub bridges: Vec<SystemId>,
@@ -31,6 +31,18 @@ pub struct Search<'a> {
 }
 
 impl Label {
+    /// A path with its cost.
+    pub fn new(cost: u64, bridges: Vec<SystemId>) -> Self
+        ensures cost { result.cost ≡ cost }
+        ensures bridges { result.bridges.items ≡ bridges.items }
+    {
+        Label {
+            cost,
+            bridges,
+            near: NOWHERE,
+        }
+    }
+
     /// Whether the bridge is on the path.
     fn passes(&self, system: SystemId) -> bool
         ensures { MatchBool result (IsAmong system self.now.bridges.items)
@@ -130,11 +142,7 @@ impl<'a> Search<'a> {
     fn first(&self, alloc: Global) -> Result<Label, NoMemory>
         ensures { IfOk result (search.IsFirst self.now.source) }
     {
-        Ok(Label {
-            cost: 0,
-            bridges: Vec::from_slice(alloc, &[self.source])?,
-            near: NOWHERE,
-        })
+        Ok(Label::new(0, Vec::from_slice(alloc, &[self.source])?))
     }
 
     /// Whether the label's path, whose last bridges may stand at these places, has lower ids than the old one without its
@@ -196,8 +204,9 @@ impl<'a> Search<'a> {
         }
     }
 
-    /// The path of `label` and an arc from its end, if it is a path and better than the one that `old` has.
-    fn better(
+    /// The path of `label` and an arc from its end, if it is a path and better than the one that `old` has. None exactly
+    /// where the path of `label` passes the arc's end, or `old` has a path that this one isn't better than.
+    pub fn better(
         &self,
         alloc: Global,
         label: &Label,
@@ -227,7 +236,7 @@ impl<'a> Search<'a> {
     }
 
     /// Gives the arc's end the path by way of the arc, if that is better.
-    fn relax(
+    pub(crate) fn relax(
         &self,
         alloc: Global,
         labels: &mut Vec<Option<Label>>,
@@ -271,7 +280,7 @@ impl<'a> Search<'a> {
     }
 
     /// Settles the bridges that wait, in order of cost, until none waits. Says how many were settled.
-    fn settle(
+    pub(crate) fn settle(
         &self,
         alloc: Global,
         labels: &mut Vec<Option<Label>>,
@@ -280,7 +289,8 @@ impl<'a> Search<'a> {
         requires ready { AreReady self.now.mesh.now }
         requires state { search.IsState self.now labels.old.items front.old }
         requires front { search.IsFront self.now labels.old.items front.old [] }
-        ensures { OnOk result (search.AreBest self.now labels.new.items) }
+        ensures best { OnOk result (search.AreBest self.now labels.new.items) }
+        ensures few { IfOk result (λ settled. settled ≤ length (search.graph_of self.now).bridges) }
     {
         let mut settled = 0;
         while let Some(first) = front.take_first() {
@@ -303,20 +313,4 @@ impl<'a> Search<'a> {
         }
         Ok(labels)
     }
-}
-
-/// The paths of the labels, in order.
-pub fn paths_of(alloc: Global, labels: Vec<Option<Label>>) -> Result<Vec<Path>, NoMemory>
-    ensures { IfOk result (λ paths. paths.items ≡ search.paths_in labels.items) }
-{
-    let mut paths = Vec::with_capacity(alloc, labels.len())?;
-    for label in labels {
-        if let Some(Label { cost, bridges, .. }) = label {
-            paths.push(Path {
-                cost,
-                bridges: Seq::from_vec(bridges),
-            })?;
-        }
-    }
-    Ok(paths)
 }

@@ -1,4 +1,5 @@
 pub mod RowLemmas
+pub mod ServeLemmas
 pub mod AscendLemmas
 pub mod SortLemmas
 pub mod TableLemmas

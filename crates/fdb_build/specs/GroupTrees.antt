@@ -49,7 +49,8 @@ abbrev pub IsOnTree : Graph → VidPlan → GraphBridge → Isid → SystemId �
 IsOnTree g plan source isid c =
     (c ≡ source.id.system) ⊎ ((m : SystemId) × FollowsOnTree g plan source isid m c)
 
--- each bridge of the list follows the one before it, the first of them m, and the last is c
+-- each bridge of the list follows the one before it, the first follows m, and the last is c; an empty list leads from a
+-- bridge to itself
 abbrev pub LeadsDown : Graph → VidPlan → GraphBridge → Isid → SystemId → List SystemId → SystemId → Type 0
 LeadsDown g plan source isid m [] c = m ≡ c
 LeadsDown g plan source isid m (x ∷ xs) c =

@@ -144,6 +144,10 @@ abbrev pub Keeps : ℕ → Sets → Kept → Kept → Type 0
 Keeps place sets old new = (i : ℕ) (kept : Vec PortSet) → kept_at new i ≡ Some kept
     → ((i ≡ place) × (sets.untied ≡ true) × (kept ≡ sets.ports)) ⊎ (kept_at old i ≡ Some kept)
 
+-- a search can be made from every source under the mask of the plan
+abbrev pub CanFollow : (SystemId → ℕ → Type 0) → VidPlan → Type 0
+CanFollow can plan = (source : SystemId) → can source (mask_of plan.ect)
+
 -- the followers of `me` on the best paths from it, if there are any and they are untied, are so under every mask
 abbrev pub AreOwn : Graph → SystemId → Option Followers → Type 0
 AreOwn g me own = (f : Followers) → own ≡ Some f → f.untied ≡ true

@@ -9,6 +9,7 @@ ghost use Rattle.fdb_build.specs.Making as making;
 ghost use Rattle.fdb_build.specs.Surroundings.{AreKnown};
 
 use crate::kept::Kept;
+use crate::searches::Searches;
 use crate::services::Services;
 use crate::sets::{sets_from, union};
 use crate::surroundings::Surroundings;
@@ -69,11 +70,12 @@ fn source_at(around: &Surroundings<'_>, place: usize) -> GraphBridge
 
 /// Adds the ports for the services to which the bridge at a place sends, if it does to some. Only then are its sets
 /// made, unless they are kept.
-fn add_source(
+fn add_source<S: Searches>(
     alloc: Global,
     rows: &mut BTreeMap<Mac, PortSet>,
     kept: &mut Kept,
     around: &Surroundings<'_>,
+    searches: S,
     plan: VidPlan,
     services: &Services,
     place: usize,
@@ -81,6 +83,7 @@ fn add_source(
     requires known { AreKnown around.now }
     requires low { 1 ≤ plan.ect }
     requires high { plan.ect ≤ GREATEST_ECT }
+    requires can { making.CanFollow (S.can searches around.now.roads.now) plan }
     requires within { place < length around.now.roads.now.bridges }
     requires kept { making.AreKept around.now.roads.now around.now.me kept.old }
     ensures kept { OnOk result (making.AreKept around.now.roads.now around.now.me kept.new) }
@@ -96,31 +99,33 @@ fn add_source(
     if let Some(sets) = kept.at(place) {
         return add_services(rows, services, source, sets.as_slice(), isids);
     }
-    let sets = sets_from(alloc, around, plan, source.id.system)?;
+    let sets = sets_from(alloc, around, searches, plan, source.id.system)?;
     add_services(rows, services, source, sets.ports.as_slice(), isids)?;
     kept.keep(place, sets);
     Ok(())
 }
 
 /// Adds the ports for each source.
-fn add_sources(
+fn add_sources<S: Searches>(
     alloc: Global,
     rows: &mut BTreeMap<Mac, PortSet>,
     kept: &mut Kept,
     around: &Surroundings<'_>,
+    searches: S,
     plan: VidPlan,
     services: &Services,
 ) -> Result<(), NoMemory>
     requires known { AreKnown around.now }
     requires low { 1 ≤ plan.ect }
     requires high { plan.ect ≤ GREATEST_ECT }
+    requires can { making.CanFollow (S.can searches around.now.roads.now) plan }
     requires kept { making.AreKept around.now.roads.now around.now.me kept.old }
     ensures kept { OnOk result (making.AreKept around.now.roads.now around.now.me kept.new) }
     ensures rows { OnOk result (making.Grew rows.old rows.new (making.is_from_some around.now.roads.now
         around.now.me plan services.now around.now.roads.now.bridges)) }
 {
     for place in 0..around.roads.graph().bridges.len() {
-        add_source(alloc, rows, kept, around, plan, services, place)?;
+        add_source(alloc, rows, kept, around, searches, plan, services, place)?;
     }
     Ok(())
 }
@@ -145,16 +150,18 @@ fn put_rows(
 }
 
 /// Puts the group rows for a VID behind the others, by ascending address.
-fn push_groups(
+fn push_groups<S: Searches>(
     alloc: Global,
     rows: &mut Vec<GroupRow>,
     kept: &mut Kept,
     around: &Surroundings<'_>,
+    searches: S,
     plan: VidPlan,
 ) -> Result<(), NoMemory>
     requires known { AreKnown around.now }
     requires low { 1 ≤ plan.ect }
     requires high { plan.ect ≤ GREATEST_ECT }
+    requires can { making.CanFollow (S.can searches around.now.roads.now) plan }
     requires kept { making.AreKept around.now.roads.now around.now.me kept.old }
     ensures kept { OnOk result (making.AreKept around.now.roads.now around.now.me kept.new) }
     ensures rows { OnOk result
@@ -162,25 +169,27 @@ fn push_groups(
 {
     let services = Services::new(alloc, around, plan.vid)?;
     let mut of_vid = BTreeMap::new(alloc);
-    add_sources(alloc, &mut of_vid, kept, around, plan, &services)?;
+    add_sources(alloc, &mut of_vid, kept, around, searches, plan, &services)?;
     put_rows(rows, plan.vid, &of_vid)
 }
 
 /// The group rows for each of the plans, in order.
-pub fn groups_of(
+pub fn groups_of<S: Searches>(
     alloc: Global,
     around: &Surroundings<'_>,
+    searches: S,
     plans: &[VidPlan],
 ) -> Result<Vec<GroupRow>, NoMemory>
     requires known { AreKnown around.now }
     requires ects { AllByRecursion (λ p. (1 ≤ p.ect) × (p.ect ≤ GREATEST_ECT)) plans.now }
+    requires can { AllByRecursion (making.CanFollow (S.can searches around.now.roads.now)) plans.now }
     ensures { IfOk result (λ rows.
         rows.items ≡ flat_map (groups.group_rows_of_vid around.now.roads.now around.now.me) plans.now) }
 {
     let mut rows = Vec::new(alloc);
     let mut kept = Kept::new(alloc, around.roads.graph().bridges.len())?;
     for plan in plans {
-        push_groups(alloc, &mut rows, &mut kept, around, *plan)?;
+        push_groups(alloc, &mut rows, &mut kept, around, searches, *plan)?;
     }
     Ok(rows)
 }

@@ -5,6 +5,7 @@ ghost use Rattle.spb_types.specs.Ports.{has};
 ghost use Rattle.fdb_build.specs.Making as making;
 ghost use Rattle.fdb_build.specs.Surroundings.{AreKnown};
 
+use crate::searches::Searches;
 use crate::surroundings::Surroundings;
 use spb_types::limits::GREATEST_ECT;
 use spb_types::{NoMemory, PortSet, SystemId, VidPlan, ect_mask};
@@ -77,19 +78,21 @@ fn sets_by(
 }
 
 /// The sets of the ports behind `me` on the best paths from a source, by place of the bridge where each path ends.
-pub fn sets_from(
+pub fn sets_from<S: Searches>(
     alloc: Global,
     around: &Surroundings<'_>,
+    searches: S,
     plan: VidPlan,
     source: SystemId,
 ) -> Result<Sets, NoMemory>
     requires known { AreKnown around.now }
     requires low { 1 ≤ plan.ect }
     requires high { plan.ect ≤ GREATEST_ECT }
+    requires can { making.CanFollow (S.can searches around.now.roads.now) plan }
     ensures { IfOk result (making.AreSetsFrom around.now.roads.now around.now.me plan source) }
 {
     let mask = ect_mask(plan.ect);
-    let followers = around.roads.followers(alloc, source, mask, around.me)?;
+    let followers = searches.followers(alloc, around.roads, source, mask, around.me)?;
     Ok(Sets {
         ports: sets_by(alloc, around, followers.places.as_slice())?,
         untied: followers.untied,

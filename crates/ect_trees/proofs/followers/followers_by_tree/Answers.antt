@@ -4,6 +4,6 @@ use Rattle.ect_trees.proofs.followers.followers_by_tree.Goals as goal
 
 pub returns : goal.returns
 returns c = record {
-  places_are = c.in_ok-followers_in.ensures ∙ followers_in_best c.args.mesh.now.graph c.args.mask c.args.source c.args.me _ c.in_ok-tree.ensures;
+  places_are = c.in_ok-followers_in.ensures ∙ followers_in_best c.args.mesh.now.graph c.args.mask c.args.source c.args.me _ c.in_ok-tree.ensures.best;
   always = λ t. absurd (true≢false (sym t));
 }

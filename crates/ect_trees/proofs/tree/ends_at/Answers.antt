@@ -5,5 +5,5 @@ use Rattle.ect_trees.proofs.tree.ends_at.Goals as goal
 
 pub returns-in-Some : goal.returns-in-Some
 returns-in-Some c =
-    let last = subst (λ t. slice_get t (length t - 1) ≡ Some c.in-Some.end.now) c.as_slice.ensures (sym c.in-Some.ensures.value) in
-    c.eq.ensures ∙ sym (ends_at_last c.args.path.now.bridges c.in-Some.end.now c.args.to last)
+    let last = subst (λ t. slice_get t (length t - 1) ≡ Some c.in-Some.end.now) c.as_slice.ensures.value (sym c.in-Some.ensures.value) in
+    c.eq.ensures ∙ sym (ends_at_last c.args.label.now.bridges.items c.in-Some.end.now c.args.to last)

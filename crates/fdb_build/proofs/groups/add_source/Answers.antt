@@ -7,7 +7,7 @@ use Rattle.fdb_build.proofs.KeptLemmas.{one_kept, source_stands, sent_there, sen
 use Rattle.fdb_build.proofs.groups.add_source.Goals as goal
 
 pub returns-in-Some-clause-rows : goal.returns-in-Some-clause-rows
-returns-in-Some-clause-rows c =
+returns-in-Some-clause-rows g c =
     let around = c.args.around.now in
     let g = around.roads.now in
     let source = c.source_at-source.result in
@@ -19,7 +19,7 @@ returns-in-Some-clause-rows c =
     c.add_services.ensures
 
 pub returns-clause-rows : goal.returns-clause-rows
-returns-clause-rows c =
+returns-clause-rows g c =
     let around = c.args.around.now in
     let g = around.roads.now in
     let source = c.source_at-source.result in
@@ -28,7 +28,7 @@ returns-clause-rows c =
     from_bridge g around.me c.args.plan c.args.services.now c.args.rows.now c.add_services-2.new.rows source (source_at g c.args.place) c.as_slice-2.result.now c.sent_at-isids.result.now c.source_at-source.ensures made sends c.in_ok-add_services.ensures
 
 pub returns-clause-kept : goal.returns-clause-kept
-returns-clause-kept c =
+returns-clause-kept g c =
     let around = c.args.around.now in
     let g = around.roads.now in
     let source = c.source_at-source.result in
@@ -36,7 +36,7 @@ returns-clause-kept c =
     one_kept g around.me c.args.plan c.args.place source.id.system c.in_ok-sets.sets c.args.kept.now c.keep.new.self at c.in_ok-sets.ensures c.keep.ensures c.requires.kept
 
 pub returns-then-is_empty-clause-rows : goal.returns-then-is_empty-clause-rows
-returns-then-is_empty-clause-rows c =
+returns-then-is_empty-clause-rows g c =
     let around = c.args.around.now in
     let g = around.roads.now in
     let none = eqb-true (length c.sent_at-isids.result.now) 0 (sym c.is_empty.ensures ∙ c.if-is_empty.true) in

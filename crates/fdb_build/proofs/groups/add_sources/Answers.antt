@@ -3,7 +3,7 @@ use Rattle.fdb_build.proofs.GrowLemmas.{source_more}
 use Rattle.fdb_build.proofs.groups.add_sources.Goals as goal
 
 pub loop-place-preserved : goal.loop-place-preserved
-loop-place-preserved c =
+loop-place-preserved g c =
     let around = c.args.around.now in
     let g = around.roads.now in
     let low : c.loop-place.place < length g.bridges = omega (arith, c.loop-place-test.true, c.len-place-end.ensures, ap (λ h. length h.bridges) c.graph.ensures) in (

@@ -5,7 +5,7 @@ use Rattle.fdb_build.proofs.FollowerLemmas.{sets_are_from}
 use Rattle.fdb_build.proofs.sets.sets_from.Goals as goal
 
 pub returns : goal.returns
-returns c =
+returns g c =
     let around = c.args.around.now in
     let f = c.in_ok-followers.followers in
     sets_are_from around.roads.now around.me c.args.source c.args.plan around.ports.items f _ c.requires.known.valid.valid c.requires.known.ports

@@ -39,7 +39,7 @@ returns c =
     let none = none_waits c.new-front.result c.new-front.ensures in
     let empty : c.in_ok-labels.labels.items ≡ replicate (length (graph_of s).bridges) None = c.in_ok-labels.ensures ∙ ap (λ n. replicate n None) c.len.ensures in
     elim c.match-place_of.branch [
-      | in-Some+in_ok-first+in_ok-set_label+in_ok-settle w ↦ subst (λ (v : Vec (Option Label) Global). AreBest s v.items) (sym w.labels-is) w.in_ok-settle.ensures
+      | in-Some+in_ok-first+in_ok-set_label+in_ok-settle w ↦ subst (λ (v : Vec (Option Label) Global). AreBest s v.items) (sym w.labels-is) w.in_ok-settle.ensures.best
       | in_default w ↦
           let out : IsBridge (graph_of s) s.source → ⊥ = λ h. true≢false (sym (subst (λ o. IsSome o) (sym c.place_of.ensures ∙ w.in_default.is) (place_found (graph_of s) s.source h))) in
           subst (λ (v : Vec (Option Label) Global). AreBest s v.items) (sym w.labels-is)

@@ -1,6 +1,6 @@
 use Rattle.std.proofs.Common.{◌+◌, ◌≤◌, length, arith}
 use Rattle.ect_trees.specs.Search.{graph_of}
-use Rattle.ect_trees.proofs.Settled.{settling_none, taken_first, settled_within, settling_more, settled_all}
+use Rattle.ect_trees.proofs.Settled.{settling_none, taken_first, settled_within, settling_more, settled_all, settled_few}
 use Rattle.ect_trees.proofs.search.Search.settle.Goals as goal
 
 pub loop-first-init : goal.loop-first-init
@@ -34,5 +34,8 @@ loop-first-smaller c =
     let within : c.loop-first.settled + 1 ≤ length (graph_of s).bridges = settled_within s c.loop-first.settled c.loop-first.labels.items c.relax_all.new.labels.items c.take_first.new.self c.relax_all.new.front c.in-Some.first first c.in_ok-relax_all.ensures.done in
     omega (arith, within)
 
-pub returns : goal.returns
-returns c = settled_all c.args.self.now c.loop-first.settled c.loop-first.labels.items c.loop-first.front c.requires.ready c.loop-first.invariant c.in_default.ensures.none
+pub returns-clause-best : goal.returns-clause-best
+returns-clause-best c = settled_all c.args.self.now c.loop-first.settled c.loop-first.labels.items c.loop-first.front c.requires.ready c.loop-first.invariant c.in_default.ensures.none
+
+pub returns-clause-few : goal.returns-clause-few
+returns-clause-few c = settled_few c.args.self.now c.loop-first.settled c.loop-first.labels.items c.loop-first.front c.loop-first.invariant

@@ -1,0 +1,4 @@
+pub mod WithEdge
+pub mod Kept
+pub mod Found
+pub mod Changes
