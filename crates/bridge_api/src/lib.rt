@@ -52,7 +52,6 @@ pub use laws::{
 };
 pub use outbox::Outbox;
 pub use port::BridgePort;
-pub use wire::Wire;
 
 mod bridge;
 mod config;
@@ -60,4 +59,3 @@ mod kind;
 mod laws;
 mod outbox;
 mod port;
-mod wire;

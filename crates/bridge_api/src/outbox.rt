@@ -1,6 +1,6 @@
 ghost use Rattle.std.specs.Prelude.{◌≡◌, []};
 
-use crate::wire::Wire;
+use shared_frames::Frame;
 use spb_types::Seq;
 use std::alloc::Global;
 
@@ -8,7 +8,7 @@ use std::alloc::Global;
 #[derive(Debug, Drop)]
 pub struct Outbox {
     /// Frames sent at backbone ports.
-    pub wire: Wire,
+    pub wire: Seq<(u8, Frame)>,
     /// Frames that leave at customer ports.
     pub left: Seq<(u16, Seq<u8>)>,
 }
@@ -20,7 +20,7 @@ impl Outbox {
         ensures left { result.left ≡ [] }
     {
         Outbox {
-            wire: Wire::new(alloc),
+            wire: Seq::new(alloc),
             left: Seq::new(alloc),
         }
     }

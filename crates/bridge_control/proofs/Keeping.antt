@@ -8,7 +8,7 @@ use Rattle.spb_types.specs.declared.memory.NoMemory.{NoMemory}
 use Rattle.lsdb.specs.Database.{any_flags}
 use Rattle.bridge_api.specs.declared.port.BridgePort.{BridgePort}
 use Rattle.bridge_api.specs.declared.config.BridgeConfig.{BridgeConfig}
-use Rattle.bridge_api.specs.View.{BridgeView, port_in, adjacency_at, is_csnp_due_in, is_csnp_due_at, has_flags}
+use Rattle.bridge_api.specs.View.{BridgeView, port_in, has_carrier_in, has_carrier_at, adjacency_at, is_csnp_due_in, is_csnp_due_at, has_flags}
 use Rattle.bridge_api.specs.Config.{IsWhole, configured}
 use Rattle.bridge_api.specs.Step.{Input, step}
 use Rattle.bridge_api.specs.Laws.{IsInput, IsSoundView}
@@ -66,6 +66,11 @@ pub due_is : (blank failed : Bool) (m : Machine) (plane : Plane) (p : ℕ) (port
 unfolding is_csnp_due_at
 due_is blank failed m plane p ports port same are there =
     sym (ap is_csnp_due_in (sym (ap (λ (ps : List BridgePort). port_in ps p) (are ∙ ap (λ (x : Plane). x.view.ports) same)) ∙ there))
+
+pub carrier_is : (blank failed : Bool) (m : Machine) (plane : Plane) (p : ℕ) (ports : List BridgePort) (port : BridgePort) → plane_of blank failed m ≡ plane → ports ≡ m.ports.items → port_in ports p ≡ Some port → port.adjacency.carrier ≡ has_carrier_at plane.view p
+unfolding has_carrier_at
+carrier_is blank failed m plane p ports port same are there =
+    sym (ap has_carrier_in (sym (ap (λ (ps : List BridgePort). port_in ps p) (are ∙ ap (λ (x : Plane). x.view.ports) same)) ∙ there))
 
 flags_by : (a b c : Bool) → a ≡ b → a ≡ true → a ≡ (b || c)
 flags_by a true c e t = t

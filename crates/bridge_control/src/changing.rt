@@ -11,7 +11,7 @@ use crate::machine::Machine;
 use crate::ports::{is_same_end, is_up, port_at, put_port, set_srm_for_all, up_ports};
 use adjacency::AdjacencyChange;
 use bridge_api::BridgePort;
-use spb_types::{NoMemory, Seq};
+use spb_types::NoMemory;
 
 impl Machine {
     /// Carrier comes or goes at a port.
@@ -114,7 +114,7 @@ impl Machine {
             return Ok(());
         }
         let hello = hello_frame(self.alloc, self.id.system, port, new)?;
-        put_hello(&mut self.hellos, port, Seq::from_vec(hello));
+        put_hello(&mut self.hellos, port, hello);
         self.up = up_ports(self.ports.as_slice());
         Ok(())
     }

@@ -1,24 +1,29 @@
-ghost use Rattle.std.specs.Prelude.{◌≡◌, true, false, ◌↔◌, IfOk, OnOk, OnErr, IsErr, Some};
+ghost use Rattle.std.specs.Prelude.{◌≡◌, true, false, ◌↔◌, ◌&&◌, IfOk, IfSome, OnOk, OnErr, IsErr, Some};
 ghost use Rattle.std.specs.Option.{option_map, option_copied};
+ghost use Rattle.spb_types.specs.Graph.{IsValidFor};
 ghost use Rattle.spb_types.specs.Tables.{unicast_in, group_in};
+ghost use Rattle.fdb_build.specs.Tables.{ArePlans};
 ghost use Rattle.lsdb.specs.Database.{keyed};
-ghost use Rattle.bridge_api.specs.View.{IsPort, is_csnp_due_at, adjacency_at, has_flags, entry_at};
+ghost use Rattle.bridge_api.specs.View.{IsPort, has_carrier_at, is_csnp_due_at, adjacency_at, has_flags, entry_at};
 ghost use Rattle.bridge_api.specs.Config.{IsWhole, IsMetric, configured};
 ghost use Rattle.bridge_api.specs.Hearing.{after_receive, with_carrier, with_metric};
 ghost use Rattle.bridge_api.specs.Services.{IsAttachedPort, CanAttach, attachment_of, with_attachment, without_attachment};
 ghost use Rattle.bridge_api.specs.Ticking.{after_tick, sent_in_tick};
 ghost use Rattle.bridge_api.specs.Customers.{IsCustomerFrame, after_entry, moved_by_entry, moved_by_receive};
 ghost use Rattle.bridge_api.specs.Step.{with_wire, with_moved, Gains, GainsMoved};
-ghost use Rattle.bridge_api.specs.Graph.{own_tables, own_path};
+ghost use Rattle.bridge_api.specs.Graph.{read_graph, own_tables, own_path};
+ghost use Rattle.bridge_control.specs.Carrying.{carries_customer};
 
 use crate::kept_tables::copy_of;
 use crate::machine::Machine;
+use crate::parsing::is_customer;
 use crate::ports::port_at;
 use adjacency::Adjacency;
 use bridge_api::{BridgeConfig, Outbox};
 use lsdb::Held;
 use spb_types::{
-    Attachment, Isid, Mac, NoMemory, Path, PortSet, SystemId, Tables, Vid, group_of, unicast_of,
+    Attachment, BridgeId, Graph, Isid, Mac, NoMemory, Path, PortSet, SystemId, Tables, Vid,
+    VidPlan, group_of, unicast_of,
 };
 use std::alloc::Global;
 use std::marker::Model;
@@ -320,5 +325,70 @@ impl ControlPlane {
     {
         self.refuse_failed()?;
         self.machine.path(to, vid)
+    }
+
+    /// The id of the bridge.
+    pub fn id(&self) -> BridgeId
+        ensures { result ≡ self.now.view.id }
+    {
+        self.machine.id
+    }
+
+    /// The base VIDs of the bridge, with the numbers of their ECT algorithms. A bridge that works has sound ones.
+    pub fn vids(&self) -> &[VidPlan]
+        ensures vids { result.now ≡ self.now.view.vids }
+        ensures plans { self.now.blank ≡ false → self.now.view.failed ≡ false → ArePlans result.now }
+    {
+        self.machine.vids.as_slice()
+    }
+
+    /// The graph of all that the bridge reads from the LSPs that it holds, in which its tables are made.
+    pub fn graph(&self) -> Result<Graph, NoMemory>
+        requires { self.now.blank ≡ false }
+        ensures graph { IfOk result (λ g. g ≡ read_graph self.now.view) }
+        ensures valid { IfOk result (λ g. IsValidFor g self.now.view.id.system) }
+        ensures failed { self.now.view.failed ≡ true → IsErr result }
+    {
+        self.refuse_failed()?;
+        self.machine.graph()
+    }
+
+    /// The tables that are kept, if some are.
+    pub fn kept_tables(&self) -> Option<&Tables>
+        requires made { self.now.blank ≡ false }
+        requires unfailed { self.now.view.failed ≡ false }
+        ensures { IfSome result (λ t. t.now ≡ own_tables self.now.view) }
+    {
+        self.tables.as_ref()
+    }
+
+    /// Keeps these tables, which are those of the bridge, for the frames that come before anything changes them.
+    pub fn keep_tables(&mut self, tables: Tables)
+        requires made { self.old.blank ≡ false }
+        requires own { tables ≡ own_tables self.old.view }
+        ensures { self.new ≡ self.old }
+    {
+        self.tables = Some(tables);
+    }
+
+    /// Whether a frame that comes to a port is one that the bridge sends on by its tables.
+    pub fn needs_tables(&self, port: u8, frame: &[u8]) -> bool
+        requires made { self.now.blank ≡ false }
+        requires port { IsPort self.now.view port }
+        ensures { result ≡ (has_carrier_at self.now.view port && carries_customer frame.now) }
+    {
+        port_at(self.machine.ports.as_slice(), port)
+            .adjacency
+            .carrier
+            && is_customer(frame)
+    }
+
+    /// Marks the control plane failed, as a call that found no memory does.
+    pub fn fail(&mut self)
+        requires { self.old.blank ≡ false }
+        ensures view { self.new.view ≡ record self.old.view { failed = true } }
+        ensures made { self.new.blank ≡ false }
+    {
+        self.failed = true;
     }
 }

@@ -73,7 +73,7 @@ fn send_moved(alloc: Global, moved: Moved, outbox: &mut Outbox) -> Result<(), No
     ensures sent { OnOk result (outbox.new ≡ with_moved moved outbox.old) }
     ensures gained { OnErr result (GainsMoved moved outbox.old outbox.new) }
 {
-    outbox.wire.append(moved.wire)?;
+    put_behind(alloc, moved.wire, &mut outbox.wire)?;
     put_behind(alloc, moved.left, &mut outbox.left)
 }
 

@@ -8,9 +8,10 @@ ghost use Rattle.bridge_control.specs.Machine.{hellos_from};
 use bridge_api::{BridgePort, Outbox};
 use isis_pdu::{Hello, write_hello};
 use itag_frames::control_frame;
+use shared_frames::Frame;
 use spb_content::AREAS_AND_PROTOCOLS;
 use spb_tlvs::{ThreeWay, write_three_way};
-use spb_types::{LEVEL_1, NoMemory, Seq, SystemId};
+use spb_types::{LEVEL_1, NoMemory, SystemId};
 use std::alloc::Global;
 
 /// How long a neighbour is to hold this bridge, in seconds.
@@ -23,7 +24,7 @@ const MOST_TLVS: usize = 26;
 pub(crate) fn send_hello(
     number: u8,
     port: &BridgePort,
-    hello: &[u8],
+    hello: &Frame,
     outbox: &mut Outbox,
 ) -> Result<(), NoMemory>
     ensures ok { OnOk result (outbox.new ≡ with_wire (hello_if port.now.adjacency.carrier number hello.now) outbox.old) }
@@ -32,7 +33,7 @@ pub(crate) fn send_hello(
     if !port.adjacency.carrier {
         return Ok(());
     }
-    outbox.wire.push_copy(number, hello)
+    outbox.wire.push((number, hello.share()?))
 }
 
 /// The hellos of ports, in order, as control frames.
@@ -40,20 +41,20 @@ pub(crate) fn hellos_of(
     alloc: Global,
     system: SystemId,
     ports: &[BridgePort],
-) -> Result<Vec<Seq<u8>>, NoMemory>
+) -> Result<Vec<Frame>, NoMemory>
     requires { length ports.now ≤ 32 }
     ensures { IfOk result (λ hellos. hellos.items ≡ hellos_from system 1 ports.now) }
 {
     let mut hellos = Vec::with_capacity(alloc, ports.len())?;
     'make: for (place, port) in ports.iter().enumerate() {
         let frame = hello_frame(alloc, system, place as u8 + 1, port)?;
-        hellos.push(Seq::from_vec(frame))?;
+        hellos.push(frame)?;
     }
     Ok(hellos)
 }
 
 /// Keeps another hello for the port of a number.
-pub(crate) fn put_hello(hellos: &mut Vec<Seq<u8>>, port: u8, hello: Seq<u8>)
+pub(crate) fn put_hello(hellos: &mut Vec<Frame>, port: u8, hello: Frame)
     requires low { 1 ≤ port }
     requires high { port ≤ length hellos.old.items }
     ensures { hellos.new.items ≡ slice_set hellos.old.items (port - 1) hello }
@@ -67,8 +68,8 @@ pub(crate) fn hello_frame(
     system: SystemId,
     number: u8,
     port: &BridgePort,
-) -> Result<Vec<u8>, NoMemory>
-    ensures { IfOk result (λ frame. frame.items ≡ api.hello_frame system number port.now) }
+) -> Result<Frame, NoMemory>
+    ensures { IfOk result (λ frame. frame ≡ api.hello_frame system number port.now) }
 {
     let tlvs = hello_tlvs(alloc, port.adjacency.three_way(number))?;
     let hello = Hello {
@@ -79,7 +80,7 @@ pub(crate) fn hello_frame(
         tlvs: tlvs.as_slice(),
     };
     let pdu = write_hello(alloc, &hello)?;
-    control_frame(alloc, system.mac, pdu.as_slice())
+    Frame::from_vec(control_frame(alloc, system.mac, pdu.as_slice())?)
 }
 
 fn hello_tlvs(alloc: Global, way: ThreeWay) -> Result<Vec<u8>, NoMemory>

@@ -31,15 +31,16 @@
 //! - The hello of each port is kept as a frame, and so is the set of the Up ports. A hello is made anew where the state,
 //!   the neighbour or its circuit changes at its port, in constant time and with memory for a few short vectors; the set
 //!   then goes over the ports once. Where a neighbour is lost in a second, the hellos of all ports are made anew.
-//! - A tick in which no flags stand and no neighbour is lost looks for the last port with carrier, from the last port on,
-//!   goes twice over the ports up to that one, and once over all; goes once over the database, looks up the own LSP by a
-//!   binary search, and compares no body, in time p + n. Each hello is a copy of the frame that
-//!   is kept, and takes memory only where the outbox has no vector to spare. Where flags stand or the bridge originated,
-//!   it also goes over the database three times, to find the ports with SRM, those with SSN, and the places of the first
-//!   and the last LSP with flags; and then over what lies between these: once to make the frames of the LSPs with SRM,
-//!   which it keeps for this second; once for each Up port with SRM, to copy the frames of those to be sent there; and
-//!   twice for each Up port with SSN, for the entries and to clear these. It goes over the database once for each port
-//!   at which CSNPs are due and for each at which a neighbour is lost. Memory is taken for what is sent.
+//! - A tick in which no flags stand and no neighbour is lost looks for the last port with carrier, from the last port
+//!   on, goes twice over the ports up to that one, and once over all; goes once over the database, looks up the own LSP
+//!   by a binary search, and compares no body, in time p + n. Each hello is the frame that is kept, of which no byte is
+//!   copied, and takes no memory but its place in the outbox. Where flags stand or the bridge originated, it also goes
+//!   over the database three times, to find the ports with SRM, those with SSN, and the places of the first and the
+//!   last LSP with flags; and then over what lies between these: once to make the frames of the LSPs with SRM, which
+//!   all ports share; once for each Up port with SRM, to send the frames of those to be sent there; and twice for each
+//!   Up port with SSN, for the entries and to clear these. It goes over the database once for each port at which CSNPs
+//!   are due and for each at which a neighbour is lost. Memory is taken for each LSP with SRM once, and for each CSNP
+//!   and PSNP.
 //! - A hello takes time in proportion to its length. The one that came last to a port is kept there: where the same
 //!   frame comes again it is compared, and not read. One that only begins the holding count anew changes its port and
 //!   nothing else. Memory is taken where another hello comes than the last time, for its frame, and where one changes
@@ -52,8 +53,8 @@
 //!   say takes (`spb_content`), and the tables in it (`fdb_build`). They are kept over frames of both kinds, over what is
 //!   dropped, and over a hello that only begins the holding count anew. Any other call and frame forgets them, also where
 //!   the LSPs that are held stay as they are.
-//! - A frame of either kind takes a few look-ups in the tables, which go over their rows, and one copy for each port at
-//!   which it is sent or leaves, besides what `forwarding` says.
+//! - A frame of either kind takes a few look-ups in the tables, which go over their rows, besides what `forwarding`
+//!   says.
 //! - `tables` copies those that are kept, and `unicast_port` and `group_ports` look in them. Where none are kept, each
 //!   makes them for its one answer. `path` makes the graph and one tree in it (`ect_trees`), and copies one path.
 //! - No call copies the database.

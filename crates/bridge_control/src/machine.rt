@@ -16,6 +16,7 @@ use customer_learning::Learned;
 use flooding::{Own, originate};
 use forwarding::Tenant;
 use lsdb::Database;
+use shared_frames::Frame;
 use spb_content::{BridgeConfigFacts, Local, content_of};
 use spb_types::{BridgeId, LEVEL_1, Mac, NoMemory, PortSet, Seq, SourceId, SystemId, VidPlan};
 use std::alloc::Global;
@@ -44,7 +45,7 @@ pub(crate) struct Machine {
     pub(crate) db: Database,
     pub(crate) own: Own,
     /// The hello of each port, as a control frame.
-    pub(crate) hellos: Vec<Seq<u8>>,
+    pub(crate) hellos: Vec<Frame>,
     pub(crate) up: PortSet,
     /// The hello that came last to each port.
     pub(crate) heard: Vec<Option<HeardHello>>,

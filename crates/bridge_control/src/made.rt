@@ -1,4 +1,4 @@
-//! The frames of the LSPs that are to be sent, made once in a second and copied for each port.
+//! The frames of the LSPs that are to be sent, made once in a second and shared by the ports.
 ghost use Rattle.std.specs.Prelude.{◌≡◌, slice_get, IfOk};
 ghost use Rattle.std.specs.Option.{option_copied};
 ghost use Rattle.std.specs.FinMap.{entries};
@@ -18,7 +18,8 @@ use flooding::lsp_of;
 use isis_pdu::{append_lsp, lsp_length};
 use itag_frames::control_head;
 use lsdb::{Database, Held};
-use spb_types::{NoMemory, PortSet, Seq, SystemId};
+use shared_frames::Frame;
+use spb_types::{NoMemory, PortSet, SystemId};
 use std::alloc::Global;
 
 /// The frames of the LSPs that are to be sent at some port, by their places. None are made from place `end` on.
@@ -27,7 +28,7 @@ pub(crate) fn frames_to_send(
     system: SystemId,
     db: &Database,
     end: usize,
-) -> Result<Vec<Option<Seq<u8>>>, NoMemory>
+) -> Result<Vec<Option<Frame>>, NoMemory>
     requires sendable { AreSendable db.now }
     requires sized { AreSized db.now }
     ensures { IfOk result (λ frames. AreMadeOf system (entries db.now) frames.items) }
@@ -45,7 +46,7 @@ fn frame_at(
     system: SystemId,
     db: &Database,
     place: usize,
-) -> Result<Option<Seq<u8>>, NoMemory>
+) -> Result<Option<Frame>, NoMemory>
     requires sendable { AreSendable db.now }
     requires sized { AreSized db.now }
     ensures { IfOk result (λ frame. IsMadeAt system (slice_get (entries db.now) place) (Some frame)) }
@@ -57,35 +58,35 @@ fn frame_at(
         return Ok(None);
     }
     let frame = lsp_frame(alloc, system, held)?;
-    Ok(Some(Seq::from_vec(frame)))
+    Ok(Some(frame))
 }
 
-/// The frame of the LSP that is held: a copy of the one that was made, if one was.
+/// The frame of the LSP that is held: the one that was made, if one was.
 pub(crate) fn frame_of(
     alloc: Global,
     system: SystemId,
     held: &Held,
-    made: Option<&Option<Seq<u8>>>,
-) -> Result<Vec<u8>, NoMemory>
+    made: Option<&Option<Frame>>,
+) -> Result<Frame, NoMemory>
     requires written { CanWrite kinds.Lsp (tlvs_of_body held.now.body) }
     requires id { IsId held.now.id.system }
     requires made { IsMadeOf system (keyed held.now) (option_copied made) }
-    ensures { IfOk result (λ frame. frame.items ≡ api.lsp_frame system (lsp_in held.now.id (entry_of held.now))) }
+    ensures { IfOk result (λ frame. frame ≡ api.lsp_frame system (lsp_in held.now.id (entry_of held.now))) }
 {
     match made {
-        Some(Some(frame)) => Ok(Vec::from_slice(alloc, frame.as_slice())?),
+        Some(Some(frame)) => frame.share(),
         _ => lsp_frame(alloc, system, held),
     }
 }
 
 /// The LSP that is held, as a control frame, into which it is written at once.
-fn lsp_frame(alloc: Global, system: SystemId, held: &Held) -> Result<Vec<u8>, NoMemory>
+fn lsp_frame(alloc: Global, system: SystemId, held: &Held) -> Result<Frame, NoMemory>
     requires written { CanWrite kinds.Lsp (tlvs_of_body held.now.body) }
     requires id { IsId held.now.id.system }
-    ensures { IfOk result (λ frame. frame.items ≡ api.lsp_frame system (lsp_in held.now.id (entry_of held.now))) }
+    ensures { IfOk result (λ frame. frame ≡ api.lsp_frame system (lsp_in held.now.id (entry_of held.now))) }
 {
     let lsp = lsp_of(held);
     let mut frame = control_head(alloc, system.mac, lsp_length(&lsp))?;
     append_lsp(&mut frame, &lsp)?;
-    Ok(frame)
+    Frame::from_vec(frame)
 }

@@ -6,6 +6,7 @@ ghost use Rattle.spb_tlvs.specs.Tlv.{values_with};
 ghost use Rattle.itag_frames.specs.Frame.{contents};
 ghost use Rattle.flooding.specs.Entries.{AreSendable};
 ghost use Rattle.bridge_api.specs.Parsing as api;
+ghost use Rattle.bridge_control.specs.Carrying.{carries_customer};
 ghost use Rattle.bridge_control.specs.Message.{Says};
 
 use crate::held_lsp::held_lsp;
@@ -28,6 +29,17 @@ pub(crate) enum Message<'a> {
     Psnp(Psnp<'a>),
     /// A customer's frame over the backbone.
     Customer(Backbone<'a>),
+}
+
+/// Whether a frame brings a customer's frame over the backbone.
+pub(crate) fn is_customer(frame: &[u8]) -> bool
+    ensures { result ≡ carries_customer frame.now }
+{
+    match classify(frame) {
+        Ok(Frame::Backbone(_)) => true,
+        Ok(Frame::Control(_)) => false,
+        Err(_) => false,
+    }
 }
 
 /// What a frame brings. It may be any bytes. An LSP that is held in `db` as it is isn't read again.

@@ -94,7 +94,7 @@ fn contents(alloc: Global, db: &Database) -> Result<Vec<(SystemId, Content)>, No
 
 impl Machine {
     /// The graph of all that the bridge reads.
-    fn graph(&self) -> Result<Graph, NoMemory>
+    pub(crate) fn graph(&self) -> Result<Graph, NoMemory>
         requires { IsSoundView (view_of self.now) }
         ensures graph { IfOk result (λ g. g ≡ read.read_graph (view_of self.now)) }
         ensures valid { IfOk result (λ g. IsValidFor g self.now.id.system) }

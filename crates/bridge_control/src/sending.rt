@@ -21,18 +21,19 @@ use crate::ports::is_up;
 use bridge_api::{BridgePort, Outbox};
 use itag_frames::control_frame;
 use lsdb::{Database, Flagged};
+use shared_frames::Frame;
 use snp_sync::{csnps, psnps_within};
-use spb_types::{NoMemory, PortSet, Seq, SystemId};
+use spb_types::{NoMemory, PortSet, SystemId};
 use std::alloc::Global;
 
 /// Puts what is sent at each port into the outbox, port by port: `hellos` has the hello of each. Where `has_flags` is
 /// false no flags stand, and no LSPs and PSNPs are looked for; nor are they at a port at which none stand. The frame of
-/// an LSP is made once, and copied for each port.
+/// an LSP is made once, and shared by the ports.
 pub(crate) fn send_all(
     alloc: Global,
     system: SystemId,
     ports: &[BridgePort],
-    hellos: &[Seq<u8>],
+    hellos: &[Frame],
     db: &mut Database,
     has_flags: bool,
     outbox: &mut Outbox,
@@ -64,7 +65,7 @@ pub(crate) fn send_all(
     };
     'send: for (place, port) in ports.iter().enumerate() {
         let number = place as u8 + 1;
-        let hello = hellos[place].as_slice();
+        let hello = &hellos[place];
         send_at(alloc, system, number, port, hello, db, flags, outbox)?;
     }
     Ok(())
@@ -115,7 +116,7 @@ struct Flags<'a> {
     srm: PortSet,
     ssn: PortSet,
     places: Flagged,
-    frames: &'a [Option<Seq<u8>>],
+    frames: &'a [Option<Frame>],
 }
 
 /// Puts what is sent at a port into the outbox: mostly that is its hello alone.
@@ -125,7 +126,7 @@ fn send_at(
     system: SystemId,
     number: u8,
     port: &BridgePort,
-    hello: &[u8],
+    hello: &Frame,
     db: &mut Database,
     flags: Flags<'_>,
     outbox: &mut Outbox,
@@ -301,7 +302,7 @@ fn send_lsp(
     number: u8,
     db: &Database,
     place: usize,
-    frames: &[Option<Seq<u8>>],
+    frames: &[Option<Frame>],
     outbox: &mut Outbox,
 ) -> Result<(), NoMemory>
     requires low { 1 ≤ number }
@@ -353,13 +354,13 @@ fn send_pdu(
     ensures kept { OnErr result (outbox.new ≡ outbox.old) }
 {
     let frame = control_frame(alloc, system.mac, pdu)?;
-    send_frame(number, frame, outbox)
+    send_frame(number, Frame::from_vec(frame)?, outbox)
 }
 
 /// Puts a frame into the outbox.
-fn send_frame(number: u8, frame: Vec<u8>, outbox: &mut Outbox) -> Result<(), NoMemory>
-    ensures sent { OnOk result (outbox.new ≡ with_wire ((number, frame.items) ∷ []) outbox.old) }
+fn send_frame(number: u8, frame: Frame, outbox: &mut Outbox) -> Result<(), NoMemory>
+    ensures sent { OnOk result (outbox.new ≡ with_wire ((number, frame) ∷ []) outbox.old) }
     ensures kept { OnErr result (outbox.new ≡ outbox.old) }
 {
-    outbox.wire.push((number, Seq::from_vec(frame)))
+    outbox.wire.push((number, frame))
 }

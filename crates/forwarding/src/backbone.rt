@@ -9,6 +9,7 @@ use crate::step::{Step, step_of};
 use crate::{Moved, Tenant};
 use customer_learning::Place;
 use itag_frames::Backbone;
+use shared_frames::Frame;
 use spb_types::{NoMemory, Seq, Tables, mac_in};
 use std::alloc::Global;
 
@@ -50,16 +51,15 @@ pub fn from_backbone(
 }
 
 // The frame at each port at which it is relayed.
-fn relayed(
-    alloc: Global,
-    step: Step,
-    port: u8,
-    whole: &[u8],
-) -> Result<Seq<(u8, Seq<u8>)>, NoMemory>
+fn relayed(alloc: Global, step: Step, port: u8, whole: &[u8]) -> Result<Seq<(u8, Frame)>, NoMemory>
     ensures { IfOk result (λ wire. wire ≡ spec.each_with whole.now (spec.relayed_at port step)) }
 {
     let ports = step.relayed_at(alloc, port)?;
-    on_wire(alloc, whole, &ports)
+    if ports.is_empty() {
+        return Ok(Seq::new(alloc));
+    }
+    let whole = Frame::from_vec(Vec::from_slice(alloc, whole)?)?;
+    on_wire(alloc, &whole, &ports)
 }
 
 fn is_taken(here: bool, tenant: &Tenant, frame: &Backbone<'_>) -> bool

@@ -1,19 +1,19 @@
-//! Copies of a frame, one for each port.
+//! A frame at several ports: shared at backbone ports, and a copy at each customer port.
 ghost use Rattle.std.specs.Prelude.{◌≡◌, IfOk};
 ghost use Rattle.forwarding.specs.Ports.{but_for};
 ghost use Rattle.forwarding.specs.Tenant.{each_with};
 
+use shared_frames::Frame;
 use spb_types::{NoMemory, Seq};
 use std::alloc::Global;
 
 /// The frame at each of these backbone ports.
-pub fn on_wire(alloc: Global, frame: &[u8], ports: &[u8]) -> Result<Seq<(u8, Seq<u8>)>, NoMemory>
+pub fn on_wire(alloc: Global, frame: &Frame, ports: &[u8]) -> Result<Seq<(u8, Frame)>, NoMemory>
     ensures { IfOk result (λ out. out ≡ each_with frame.now ports.now) }
 {
     let mut out = Seq::new(alloc);
     for port in ports {
-        let copy = Seq::from_vec(Vec::from_slice(alloc, frame)?);
-        out.push((*port, copy))?;
+        out.push((*port, frame.share()?))?;
     }
     Ok(out)
 }

@@ -9,6 +9,7 @@ use crate::ports::{attachment_of, ports_in, receiving_ports};
 use crate::{DropReason, Moved, Tenant};
 use customer_learning::Place;
 use itag_frames::encapsulate;
+use shared_frames::Frame;
 use spb_types::{
     Attachment, Mac, NoMemory, Seq, Tables, group_address, group_of, mac_in, unicast_of,
 };
@@ -95,11 +96,11 @@ fn sent_to(
     frame: &[u8],
     da: Mac,
     ports: &[u8],
-) -> Result<Seq<(u8, Seq<u8>)>, NoMemory>
+) -> Result<Seq<(u8, Frame)>, NoMemory>
     ensures { IfOk result (λ wire. wire ≡ spec.sent_to tenant.now entry frame.now da ports.now) }
 {
     let carrying = encapsulate(alloc, da, tenant.me, entry.vid, entry.isid, frame)?;
-    on_wire(alloc, &carrying, ports)
+    on_wire(alloc, &Frame::from_vec(carrying)?, ports)
 }
 
 fn sent_towards(
@@ -166,7 +167,7 @@ fn sent_to_group(
     entry: Attachment,
     frame: &[u8],
     da: Mac,
-) -> Result<Seq<(u8, Seq<u8>)>, NoMemory>
+) -> Result<Seq<(u8, Frame)>, NoMemory>
     ensures { IfOk result
         (λ wire. wire ≡ spec.sent_to tenant.now entry frame.now da (ports_in (group_in tables.now.group entry.vid da))) }
 {
@@ -181,7 +182,7 @@ fn to_other_bridges(
     tables: &Tables,
     entry: Attachment,
     frame: &[u8],
-) -> Result<Seq<(u8, Seq<u8>)>, NoMemory>
+) -> Result<Seq<(u8, Frame)>, NoMemory>
     ensures { IfOk result (λ wire. wire ≡ (spec.flooded tenant.now tables.now entry frame.now).wire) }
 {
     let da = group_address(tenant.source, entry.isid);

@@ -1,7 +1,8 @@
 //! Customers' frames: what a bridge makes of one that enters at a customer port, and of a backbone frame that carries
 //! one. The tables of the bridge are given, and so is what it has learned, which the frames change.
 //!
-//! Each frame that leaves is a copy. Besides that a call takes the time of a few look-ups in the tables and of a walk
+//! A frame is made or copied once, which the backbone ports at which it is sent share, and once for each customer port
+//! at which it leaves. Besides that a call takes the time of a few look-ups in the tables and of a walk
 //! over the attached ports; where a frame leaves at every port of its I-SID, the ports are put in order one by one.
 #![tactic(auto)]
 

@@ -2,6 +2,7 @@ ghost use Rattle.std.specs.Prelude.{◌≡◌};
 ghost use Rattle.forwarding.specs.Tenant as spec;
 
 use crate::DropReason;
+use shared_frames::Frame;
 use spb_types::Seq;
 use std::alloc::Global;
 
@@ -9,7 +10,7 @@ use std::alloc::Global;
 #[derive(Debug, Drop)]
 pub struct Moved {
     /// Frames sent at backbone ports.
-    pub wire: Seq<(u8, Seq<u8>)>,
+    pub wire: Seq<(u8, Frame)>,
     /// Frames that leave at customer ports.
     pub left: Seq<(u16, Seq<u8>)>,
     /// Why the frame is dropped, if it is.

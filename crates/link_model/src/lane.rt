@@ -4,9 +4,10 @@ ghost use Rattle.std.specs.Result.{OkIff};
 ghost use Rattle.link_model.specs.declared.lane.DoubleError.TheVariants as double_errors;
 ghost use Rattle.link_model.specs.Lane.{pushed, doubled, has_room, after_double, after_lose};
 
+use shared_frames::Frame;
 use spb_types::NoMemory;
 use spb_types::limits::MOST_FRAMES;
-use std::alloc::{AllocError, AllocFailed, Global};
+use std::alloc::{AllocFailed, Global};
 use std::collections::VecDeque;
 use std::marker::Model;
 use thiserror::Error;
@@ -15,17 +16,17 @@ use thiserror::Error;
 /// the list of the frames' bytes, the front first.
 #[derive(Debug, Drop)]
 pub struct Lane {
-    frames: VecDeque<Vec<u8>>,
+    frames: VecDeque<Frame>,
 }
 
 impl Model for Lane {
-    ghost use Rattle.std.specs.Prelude.{List, ℕ, ◌≤◌, map};
+    ghost use Rattle.std.specs.Prelude.{List, ℕ, ◌≤◌};
     ghost use Rattle.std.specs.VecDeque.{deque_len};
     ghost use Rattle.spb_types.specs.declared.limits.TheConstants.{MOST_FRAMES};
 
     ghost Value = { List (List ℕ) };
 
-    ghost view = { λ lane. map (λ frame. frame.items) lane.frames.items };
+    ghost view = { λ lane. lane.frames.items };
 
     ghost invariant = { λ lane. deque_len lane.frames ≤ MOST_FRAMES };
 }
@@ -50,15 +51,15 @@ pub enum DoubleError {
     /// The lane has no frame at that place.
     #[error("no frame at that place")]
     NoFrame,
-    /// No memory was found for the copy.
+    /// No memory was found.
     #[error("out of memory")]
     NoMemory,
 }
 
-impl From<AllocError> for DoubleError {
+impl From<NoMemory> for DoubleError {
     ghost from_gives = { λ _ e. e ≡ double_errors.NoMemory };
 
-    fn from(_refused: AllocError) -> Self {
+    fn from(_refused: NoMemory) -> Self {
         DoubleError::NoMemory
     }
 }
@@ -97,9 +98,9 @@ impl Lane {
     }
 
     /// Sends a frame into the lane. It is lost exactly where 1,024 frames stand.
-    pub fn push(&mut self, frame: Vec<u8>) -> Result<Pushed, NoMemory>
+    pub fn push(&mut self, frame: Frame) -> Result<Pushed, NoMemory>
         ensures dropped { (result ≡ Ok Pushed.Dropped) ↔ (has_room self.old ≡ false) }
-        ensures ok { OnOk result (self.new ≡ pushed self.old frame.items) }
+        ensures ok { OnOk result (self.new ≡ pushed self.old frame) }
         ensures err { OnErr result (self.new ≡ self.old) }
     {
         if self.frames.len() == MOST_FRAMES {
@@ -127,8 +128,8 @@ impl Lane {
     }
 
     /// Takes the frame at the front. None exactly where the lane is empty.
-    pub fn pop(&mut self) -> Option<Vec<u8>>
-        ensures { MatchOption result ((self.old ≡ []) × (self.new ≡ [])) (λ frame. self.old ≡ frame.items ∷ self.new) }
+    pub fn pop(&mut self) -> Option<Frame>
+        ensures { MatchOption result ((self.old ≡ []) × (self.new ≡ [])) (λ frame. self.old ≡ frame ∷ self.new) }
     {
         self.frames.pop_front()
     }
@@ -145,21 +146,21 @@ impl Lane {
         }
     }
 
-    /// Puts a copy of the frame at place `k`, counted from 0 at the front, right behind it; the copy is lost where
+    /// Puts the frame at place `k`, counted from 0 at the front, right behind itself once more; that one is lost where
     /// 1,024 frames stand. `NoFrame` exactly where `k` isn't below the length. After an error nothing changes.
     pub fn double(&mut self, k: usize) -> Result<(), DoubleError>
         ensures no_frame { IsErrOf result DoubleError.NoFrame ↔ (length self.old ≤ k) }
         ensures ok { OnOk result (self.new ≡ after_double self.old k (slice_get self.old k)) }
         ensures err { OnErr result (self.new ≡ self.old) }
     {
-        let Some(frame) = self.at(k) else {
+        let Some(frame) = self.frames.get(k) else {
             return Err(DoubleError::NoFrame);
         };
         if self.frames.len() == MOST_FRAMES {
             return Ok(());
         }
-        let copy = Vec::from_slice(*self.frames.allocator(), frame)?;
-        self.frames.insert(k + 1, copy)?;
+        let again = frame.share()?;
+        self.frames.insert(k + 1, again)?;
         Ok(())
     }
 

@@ -7,16 +7,10 @@ ghost use Rattle.link_model.specs.Lanes.{lane_in, lane_of, rest, no_frames, chan
 ghost use Rattle.link_model.specs.Lending.{LendsLane, LendsLaneAt};
 
 use crate::{DoubleError, Lane};
+use shared_frames::Frame;
 use spb_types::{Dir, NoMemory};
 use std::alloc::Global;
 use std::marker::Model;
-use std::mem;
-
-/// The most bytes that a vector which is kept for a further frame has room for.
-const MOST_SPARE_BYTES: usize = 128;
-
-/// The most vectors that are kept for further frames.
-const MOST_SPARE: usize = 1024;
 
 /// A lane: the link by place in order of declaration, counted from 0, and a direction.
 #[derive(Clone, Copy, Debug, PartialEq, Eq)]
@@ -76,12 +70,10 @@ impl LinkLanes {
 }
 
 /// The lanes of a network's links, in order of declaration. A place past the last link is one where nothing happens.
-/// Contracts see the list of each link's two lanes. Beside them the vectors of small frames that came to their end are
-/// kept, so that further frames find memory there.
+/// Contracts see the list of each link's two lanes.
 #[derive(Debug, Drop)]
 pub struct Lanes {
     links: Vec<LinkLanes>,
-    spare: Vec<Vec<u8>>,
 }
 
 impl Model for Lanes {
@@ -100,7 +92,6 @@ impl Lanes {
     {
         Lanes {
             links: Vec::new(alloc),
-            spare: Vec::new(alloc),
         }
     }
 
@@ -142,9 +133,9 @@ impl Lanes {
     }
 
     /// A frame goes into a lane. It is lost where 1,024 frames stand. After NoMemory nothing changed.
-    pub fn push(&mut self, id: LaneId, frame: Vec<u8>) -> Result<(), NoMemory>
+    pub fn push(&mut self, id: LaneId, frame: Frame) -> Result<(), NoMemory>
         ensures ok { OnOk result (self.new
-            ≡ changed_frames (λ frames. pushed frames frame.items) self.old id.link id.dir) }
+            ≡ changed_frames (λ frames. pushed frames frame) self.old id.link id.dir) }
         ensures err { OnErr result (self.new ≡ self.old) }
     {
         match self.lane_mut(id) {
@@ -157,38 +148,14 @@ impl Lanes {
     }
 
     /// Takes the frame at the front of a lane. None exactly where there is none.
-    pub fn pop(&mut self, id: LaneId) -> Option<Vec<u8>>
-        ensures frame { option_map (λ frame. frame.items) result ≡ slice_get (lane_of self.old id.link id.dir) 0 }
+    pub fn pop(&mut self, id: LaneId) -> Option<Frame>
+        ensures frame { result ≡ slice_get (lane_of self.old id.link id.dir) 0 }
         ensures rest { self.new ≡ changed_frames rest self.old id.link id.dir }
     {
         match self.lane_mut(id) {
             None => None,
             Some(lane) => lane.pop(),
         }
-    }
-
-    /// Keeps the vector of a frame that came to its end for a further one, if the frame is small and few are kept.
-    pub fn keep_spare(&mut self, frame: Vec<u8>)
-        ensures { self.new ≡ self.old }
-    {
-        if frame.capacity() <= MOST_SPARE_BYTES && self.spare.len() < MOST_SPARE {
-            let _kept = self.spare.push(frame);
-        }
-    }
-
-    /// Takes the vectors that are kept for further frames.
-    pub fn take_spare(&mut self) -> Vec<Vec<u8>>
-        ensures { self.new ≡ self.old }
-    {
-        let none = Vec::new(*self.spare.allocator());
-        mem::replace(&mut self.spare, none)
-    }
-
-    /// Keeps these vectors for further frames, in place of those that were kept.
-    pub fn put_spare(&mut self, spare: Vec<Vec<u8>>)
-        ensures { self.new ≡ self.old }
-    {
-        self.spare = spare;
     }
 
     /// The frame at a place of a lane, counted from 0 at the front, is lost. Nothing happens where there is none.
@@ -203,8 +170,8 @@ impl Lanes {
         }
     }
 
-    /// The frame at a place of a lane, counted from 0 at the front, is doubled: its copy stands right behind it, and is
-    /// lost where 1,024 frames stand. Nothing happens where there is no frame. After NoMemory nothing changed.
+    /// The frame at a place of a lane, counted from 0 at the front, is doubled: it stands right behind itself once more,
+    /// or is lost there where 1,024 frames stand. Nothing happens where there is no frame. After NoMemory nothing changed.
     pub fn double(&mut self, id: LaneId, place: usize) -> Result<(), NoMemory>
         ensures ok { OnOk result (self.new
             ≡ changed_frames (λ frames. after_double frames place (slice_get frames place)) self.old id.link id.dir) }

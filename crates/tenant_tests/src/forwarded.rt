@@ -52,7 +52,7 @@ fn a_customers_frame_is_flooded(rt: HostRuntime) -> Result<(), Fail> {
     assert_eq!(rt; moved.left.as_slice()[0].1.as_slice(), TO_ALL.as_slice());
     assert_eq!(rt; moved.wire.len(), 1);
     assert_eq!(rt; moved.wire.as_slice()[0].0, 1);
-    assert_eq!(rt; moved.wire.as_slice()[0].1.len(), 36);
+    assert_eq!(rt; moved.wire.as_slice()[0].1.as_slice().len(), 36);
     assert_eq!(rt;
         tenant.learned.find(isid(), mac(10, 1)),
         Some(Place::Local(1))

@@ -30,4 +30,4 @@ returns c =
     let tlvs : c.as_slice.result.now ≡ hello_tlvs (said c.args.number c.args.port.now.adjacency) = c.as_slice.ensures.value ∙ (c.in_ok-tlvs.ensures.tlvs ∙ ap hello_tlvs c.three_way.ensures) in
     let pdu : c.as_slice-2.result.now ≡ hello_bytes (hello_at c.args.system c.args.number c.args.port.now) =
     c.as_slice-2.ensures.value ∙ (c.in_ok-pdu.ensures ∙ ap (λ (bytes : List ℕ). hello_bytes (record { circuit_type = 1; source = c.args.system; holding = 3; circuit = c.args.number; tlvs = bytes })) tlvs) in
-    IfOk-weaker c.control_frame.result _ _ (λ frame is. is ∙ ap (control_bytes c.args.system.mac) pdu) c.control_frame.ensures.bytes
+    IfOk-weaker c.from_vec.result _ _ (λ frame is. is ∙ (c.in_ok-control_frame.ensures.bytes ∙ ap (control_bytes c.args.system.mac) pdu)) c.from_vec.ensures

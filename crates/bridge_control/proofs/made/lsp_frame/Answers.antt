@@ -1,4 +1,5 @@
 use Rattle.std.proofs.Common.{◌≡◌, ◌+◌, ◌++◌, length, sym, ap, ◌∙◌, subst, arith}
+use Rattle.std.proofs.lemmas.Result.{IfOk-weaker}
 use Rattle.isis_pdu.specs.declared.kind.Kind.TheVariants as kinds
 use Rattle.isis_pdu.specs.Pdu.{LspValue}
 use Rattle.isis_pdu.specs.Spelling.{CanWrite, lsp_bytes}
@@ -22,6 +23,7 @@ returns c =
     let l : LspValue = lsp_in c.args.held.now.id (entry_of c.args.held.now) in
     let size : length (lsp_bytes l) ≡ 27 + length l.tlvs = lsp_short l c.requires.id in
     let tlvs : length c.lsp_of-lsp.result.tlvs.now ≡ length l.tlvs = ap (λ (m : LspValue). length m.tlvs) c.lsp_of-lsp.ensures in
-    c.in_ok-append_lsp.ensures
+    let bytes = c.in_ok-append_lsp.ensures
     ∙ (ap (λ (m : LspValue). c.in_ok-frame.frame.items ++ lsp_bytes m) c.lsp_of-lsp.ensures
-    ∙ c.in_ok-frame.ensures (lsp_bytes l) (omega (arith, size, tlvs, c.lsp_length.ensures.length)))
+    ∙ c.in_ok-frame.ensures (lsp_bytes l) (omega (arith, size, tlvs, c.lsp_length.ensures.length))) in
+    IfOk-weaker c.from_vec.result _ _ (λ frame is. is ∙ bytes) c.from_vec.ensures

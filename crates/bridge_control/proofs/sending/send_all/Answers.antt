@@ -8,7 +8,7 @@ pub bounds-hellos-place : goal.bounds-hellos-place
 bounds-hellos-place c = omega (arith, c.send-test.true, ap length c.requires.hellos, length_hellos c.args.system 1 c.args.ports.now)
 
 pub send_at-requires-clause-hello : goal.send_at-requires-clause-hello
-send_at-requires-clause-hello c = hello_there c.args.system c.args.ports.now c.args.hellos.now c.send.place _ c.index-hellos-place.result c.as_slice-hello.result.now c.send-test.true c.requires.hellos (c.as_slice-hello.ensures ∙ c.index-hellos-place.is)
+send_at-requires-clause-hello c = hello_there c.args.system c.args.ports.now c.args.hellos.now c.send.place _ c.index-hellos-place.result c.index-hellos-place.result c.send-test.true c.requires.hellos c.index-hellos-place.is
 
 pub returns-in_err-send_at-clause-gained : goal.returns-in_err-send_at-clause-gained
 returns-in_err-send_at-clause-gained c =

@@ -17,5 +17,5 @@ put_hello-requires-clause-high c = omega (arith, c.requires.port.high, few_hello
 
 pub returns : goal.returns
 returns c =
-    put_anew c.args.self.now c.args.port c.args.new.now c.put_port.new.ports c.put_hello.new.hellos c.from_vec.result c.up_ports-self.result c.requires.port.low c.requires.ports c.put_port.ensures
-    (c.from_vec.ensures ∙ c.in_ok-hello.ensures) c.put_hello.ensures (c.up_ports-self.ensures ∙ ap (up_from 1) c.as_slice-2.ensures.value)
+    put_anew c.args.self.now c.args.port c.args.new.now c.put_port.new.ports c.put_hello.new.hellos c.in_ok-hello.hello c.up_ports-self.result c.requires.port.low c.requires.ports c.put_port.ensures
+    c.in_ok-hello.ensures c.put_hello.ensures (c.up_ports-self.ensures ∙ ap (up_from 1) c.as_slice-2.ensures.value)

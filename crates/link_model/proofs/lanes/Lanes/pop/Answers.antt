@@ -8,4 +8,4 @@ returns-in-None-clause-rest c =
 
 pub returns-in-Some-clause-rest : goal.returns-in-Some-clause-rest
 returns-in-Some-clause-rest c =
-    let all = c.args.self.now in let k = c.args.id.link in let dir = c.args.id.dir in frames-set rest all k dir c.in-Some.lane.now _ (lent-lane all k dir c.lane_mut.result c.in-Some.lane c.lane_mut.ensures.lane c.in-Some.is) (rest-of (λ v. v.items) c.in-Some.lane.now c.pop.new.self c.pop.result c.pop.ensures)
+    let all = c.args.self.now in let k = c.args.id.link in let dir = c.args.id.dir in frames-set rest all k dir c.in-Some.lane.now _ (lent-lane all k dir c.lane_mut.result c.in-Some.lane c.lane_mut.ensures.lane c.in-Some.is) (rest-of (λ v. v) c.in-Some.lane.now c.pop.new.self c.pop.result c.pop.ensures)

@@ -4,11 +4,11 @@ use Rattle.link_model.proofs.lanes.Lanes.push.Goals as goal
 
 pub returns-in-None-clause-ok : goal.returns-in-None-clause-ok
 returns-in-None-clause-ok c =
-    let all = c.args.self.now in let k = c.args.id.link in let dir = c.args.id.dir in frames-none (λ frames. pushed frames c.args.frame.items) all k dir (lent-none all k dir c.lane_mut.result c.lane_mut.ensures.lane c.in-None.is)
+    let all = c.args.self.now in let k = c.args.id.link in let dir = c.args.id.dir in frames-none (λ frames. pushed frames c.args.frame) all k dir (lent-none all k dir c.lane_mut.result c.lane_mut.ensures.lane c.in-None.is)
 
 pub returns-in_ok-_pushed-in-Some-clause-ok : goal.returns-in_ok-_pushed-in-Some-clause-ok
 returns-in_ok-_pushed-in-Some-clause-ok c =
-    let all = c.args.self.now in let k = c.args.id.link in let dir = c.args.id.dir in frames-set (λ frames. pushed frames c.args.frame.items) all k dir c.in-Some.lane.now _ (lent-lane all k dir c.lane_mut.result c.in-Some.lane c.lane_mut.ensures.lane c.in-Some.is) c.in_ok-_pushed-in-Some.ensures.ok
+    let all = c.args.self.now in let k = c.args.id.link in let dir = c.args.id.dir in frames-set (λ frames. pushed frames c.args.frame) all k dir c.in-Some.lane.now _ (lent-lane all k dir c.lane_mut.result c.in-Some.lane c.lane_mut.ensures.lane c.in-Some.is) c.in_ok-_pushed-in-Some.ensures.ok
 
 pub returns-in_err-_pushed-in-Some-clause-err : goal.returns-in_err-_pushed-in-Some-clause-err
 returns-in_err-_pushed-in-Some-clause-err c =
