@@ -37,13 +37,15 @@ start = record { begun = []; line = []; number = 0; taken = 0; stopped = None }
 abbrev pub is_lf : ℕ → Bool
 is_lf byte = byte == 10
 
--- whether the next byte is past the limits. It isn't where the line has 8,193 bytes, of which the last is then a CR, and
--- the next byte shows that it has more than 8,192 without its end
+-- whether the next byte is past the limits. It isn't where the line has 8,193 bytes, of which the last is then a CR,
+-- and the next byte shows that it has more than 8,192 without its end
 unfoldable pub is_over : Cuts → ℕ → Bool
 is_over c byte =
-    (nat_le most_bytes c.taken || nat_le most_lines c.number) && not (nat_lt longest_line (length c.begun) && not (is_lf byte))
+    (nat_le most_bytes c.taken || nat_le most_lines c.number)
+    && not (nat_lt longest_line (length c.begun) && not (is_lf byte))
 
--- whether a line that begins with these bytes has more than 8,192 without its end. A CR at byte 8,193 may belong to the end
+-- whether a line that begins with these bytes has more than 8,192 without its end. A CR at byte 8,193 may belong to the
+-- end
 abbrev pub is_long : List ℕ → Bool
 is_long bytes = nat_lt longest_line (length (strip_carriage_return bytes))
 

@@ -1,5 +1,5 @@
 -- How a command is printed.
-use Rattle.std.specs.Prelude.{ℕ, ◌/◌, ◌%◌, List, [], ◌∷◌, ◌++◌, codes, decimal, slice_index}
+use Rattle.std.specs.Prelude.{ℕ, Bool, true, false, ◌/◌, ◌%◌, List, [], ◌∷◌, ◌++◌, codes, decimal, slice_index}
 use Rattle.std.specs.List.{flat_map}
 use Rattle.hex.specs.Hex.{encode_lower, lower_digits}
 use Rattle.scenario.specs.declared.command.Command.{Command}
@@ -46,6 +46,16 @@ words_of (command.Wiring bridge) = text_of Wiring ∷ bridge ∷ []
 words_of (command.Db bridge) = text_of Db ∷ bridge ∷ []
 words_of (command.Adj bridge) = text_of Adj ∷ bridge ∷ []
 words_of (command.Path from to vid) = text_of Path ∷ from ∷ to ∷ decimal vid ∷ []
+
+-- whether a command asks something
+abbrev pub is_question : Command → Bool
+is_question command.State = true
+is_question (command.Show bridge) = true
+is_question (command.Wiring bridge) = true
+is_question (command.Db bridge) = true
+is_question (command.Adj bridge) = true
+is_question (command.Path from to vid) = true
+is_question c = false
 
 -- a word with a space before it
 abbrev pub spaced : List ℕ → List ℕ

@@ -1,9 +1,9 @@
-ghost use Rattle.std.specs.Prelude.{◌≡◌, ◌++◌, ◌∷◌, [], ◌<◌, decimal, IfOk, OnOk};
+ghost use Rattle.std.specs.Prelude.{◌≡◌, ◌++◌, ◌∷◌, [], ◌<◌, decimal, IfOk, IsTrue, OnOk};
 ghost use Rattle.hex.specs.Hex.{encode_lower};
 ghost use Rattle.scenario.specs.declared.command.Command.TheVariants as command;
 ghost use Rattle.scenario.specs.Keywords.{text_of};
 ghost use Rattle.scenario.specs.Spelling.{side_text, dir_text};
-ghost use Rattle.scenario.specs.Printing.{hex_digit as lower_digit, source_text, spaced, command_text};
+ghost use Rattle.scenario.specs.Printing.{hex_digit as lower_digit, source_text, spaced, command_text, is_question};
 
 use crate::command::Command;
 use crate::keyword::Keyword;
@@ -315,6 +315,21 @@ fn put_path(text: &mut Text, from: Name, to: Name, vid: u64) -> Result<(), NoMem
     text.number(vid)
 }
 
+/// The words of a command that asks something, and none of another.
+fn put_question(text: &mut Text, command: &Command) -> Result<(), NoMemory>
+    ensures { IsTrue (is_question command.now) → OnOk result (text.new ≡ text.old ++ command_text command.now) }
+{
+    match command {
+        Command::State => text.keyword(Keyword::State),
+        Command::Show(name) => put_one_name(text, Keyword::Show, *name),
+        Command::Wiring(name) => put_one_name(text, Keyword::Wiring, *name),
+        Command::Db(name) => put_one_name(text, Keyword::Db, *name),
+        Command::Adj(name) => put_one_name(text, Keyword::Adj, *name),
+        Command::Path { from, to, vid } => put_path(text, *from, *to, *vid),
+        _ => Ok(()),
+    }
+}
+
 /// The words of a command, by its form.
 fn put_command(text: &mut Text, command: &Command) -> Result<(), NoMemory>
     ensures { OnOk result (text.new ≡ text.old ++ command_text command.now) }
@@ -354,12 +369,7 @@ fn put_command(text: &mut Text, command: &Command) -> Result<(), NoMemory>
             port,
             frame,
         } => put_frame(text, *bridge, *port, frame.as_slice()),
-        Command::State => text.keyword(Keyword::State),
-        Command::Show(name) => put_one_name(text, Keyword::Show, *name),
-        Command::Wiring(name) => put_one_name(text, Keyword::Wiring, *name),
-        Command::Db(name) => put_one_name(text, Keyword::Db, *name),
-        Command::Adj(name) => put_one_name(text, Keyword::Adj, *name),
-        Command::Path { from, to, vid } => put_path(text, *from, *to, *vid),
+        _ => put_question(text, command),
     }
 }
 

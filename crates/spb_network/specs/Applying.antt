@@ -27,8 +27,7 @@ module _ {B : Type 0} (shown : B → Shown) where
   IsKept n = (kept : Conditions) → n.kept ≡ Some kept → kept ≡ conditions_of (state_of shown n)
 
   -- a network at which no command ran out of memory: its boxes are made, its state is sound, its sequence numbers are
-  -- counted while no more commands were accepted than a script can have, what left was answered, and what it keeps of
-  -- quiet is so
+  -- counted while at most 120,000 commands were accepted, what left was answered, and what it keeps of quiet is so
   pub record IsSoundNetwork (n : NetworkOf B) : Type 0 where
     pub made : AreMade shown n.boxes.items
     pub state : IsSoundState (state_of shown n)

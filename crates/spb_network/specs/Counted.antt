@@ -89,7 +89,7 @@ pub record IsCountedBy (allowance : ℕ) (s : State) : Type 0 where
   pub bound : (i : ℕ) (v : BridgeView) (id : LspId) → slice_get s.views i ≡ Some v → IsOwnNumber v.id.system id
       → IsWithin s i v id allowance
 
--- so many accepted commands are counted, more than a script can have
+-- so many accepted commands are counted; a script has at most 100,000 lines
 abbrev pub most_commands : ℕ
 most_commands = 120000
 

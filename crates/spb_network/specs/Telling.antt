@@ -41,7 +41,8 @@ abbrev pub NetworksTell : Type 0
 NetworksTell = (rule : KindRule) (rack : List Spare) (cs : List Command) → AllByRecursion IsAddressed cs
     → AreAccepted (opening rule rack) cs → length cs ≤ most_commands → QuietTells (played_all (opening rule rack) cs)
 
--- some commands lead to two bridges with a link between them, which went down again, and the network is quiet
+-- some commands, no more than are counted, are accepted from the opening on, and lead to a quiet network of two bridges
+-- and one link
 pub record SomeNetworkIsQuiet : Type 0 where
   pub rule : KindRule
   pub rack : List Spare

@@ -8,17 +8,18 @@ ghost use Rattle.spb_network.specs.Events as event;
 ghost use Rattle.spb_network.specs.Network.{state_of, IsInOrder};
 
 use crate::{DeclaredLink, LinkEnd, NetworkOf, Out, boxes, link_ends};
-use bridge_api::{Bridge, Outbox, Wire};
+use bridge_api::{Bridge, Outbox};
 use link_model::LaneId;
 use scenario::Side;
+use shared_frames::Frame;
 use spb_types::{NoMemory, Seq};
 
 impl<B: Bridge> NetworkOf<B> {
     /// A frame goes out at a port of the bridge at a place. It is lost where no link that is up ends there.
-    fn send_over(&mut self, i: usize, port: u8, frame: Vec<u8>) -> Result<(), NoMemory>
+    fn send_over(&mut self, i: usize, port: u8, frame: Frame) -> Result<(), NoMemory>
         ensures state { OnOk result (state_of B.shown self.new
             ≡ event.sent_over (state_of B.shown self.old)
-            (lane_out (links_of (state_of B.shown self.old)) i port) frame.items) }
+            (lane_out (links_of (state_of B.shown self.old)) i port) frame) }
         ensures boxes { self.new.boxes ≡ self.old.boxes }
     {
         match self.world.live_lane(i, port) {
@@ -28,13 +29,13 @@ impl<B: Bridge> NetworkOf<B> {
     }
 
     /// The bridge at a place sends frames, each at a port.
-    fn send_all(&mut self, i: usize, frames: Vec<(u8, Seq<u8>)>) -> Result<(), NoMemory>
+    fn send_all(&mut self, i: usize, frames: Vec<(u8, Frame)>) -> Result<(), NoMemory>
         ensures state { OnOk result (state_of B.shown self.new
             ≡ event.sent_all (state_of B.shown self.old) i frames.items) }
         ensures boxes { self.new.boxes ≡ self.old.boxes }
     {
         for (port, frame) in frames {
-            self.send_over(i, port, frame.into_vec())?;
+            self.send_over(i, port, frame)?;
         }
         Ok(())
     }
@@ -64,8 +65,7 @@ impl<B: Bridge> NetworkOf<B> {
             ≡ event.left_all (event.sent_all (state_of B.shown self.old) i outbox.wire) i outbox.left) }
         ensures boxes { self.new.boxes ≡ self.old.boxes }
     {
-        let (frames, _) = outbox.wire.into_parts();
-        self.send_all(i, frames)?;
+        self.send_all(i, outbox.wire.into_vec())?;
         self.leave_all(i, outbox.left.into_vec())
     }
 
@@ -78,21 +78,16 @@ impl<B: Bridge> NetworkOf<B> {
     {
         let mut outbox = self.outbox(i)?;
         boxes::tick(&mut self.boxes, i, &mut outbox)?;
-        let (frames, spare) = outbox.wire.into_parts();
-        self.lanes.put_spare(spare);
-        self.send_all(i, frames)
+        self.send_all(i, outbox.wire.into_vec())
     }
 
-    /// An empty outbox with room for a frame at each port of the bridge at a place, whose frames find memory in the
-    /// vectors of those that were delivered.
-    fn outbox(&mut self, i: usize) -> Result<Outbox, NoMemory>
-        ensures empty { IfOk result (λ outbox. outbox.wire ≡ []) }
-        ensures kept { self.new ≡ self.old }
+    /// An empty outbox with room for a frame at each port of the bridge at a place.
+    fn outbox(&self, i: usize) -> Result<Outbox, NoMemory>
+        ensures { IfOk result (λ outbox. outbox.wire ≡ []) }
     {
-        let spare = self.lanes.take_spare();
         let room = usize::from(self.world.ports(i));
         Ok(Outbox {
-            wire: Wire::with_room(self.alloc, room, spare)?,
+            wire: Seq::from_vec(Vec::with_capacity(self.alloc, room)?),
             left: Seq::new(self.alloc),
         })
     }
@@ -225,11 +220,7 @@ impl<B: Bridge> NetworkOf<B> {
     {
         match self.lanes.pop(lane) {
             None => Ok(()),
-            Some(frame) => {
-                self.hear_over(lane, frame.as_slice())?;
-                self.lanes.keep_spare(frame);
-                Ok(())
-            }
+            Some(frame) => self.hear_over(lane, frame.as_slice()),
         }
     }
 

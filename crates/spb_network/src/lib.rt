@@ -9,8 +9,8 @@
 //!
 //! **Costs.** A frame that is sent finds its link in constant time, and a name is found so on average. A
 //! round takes a call of each bridge and one for each frame that stands in a lane. A tick takes memory for an outbox
-//! with room for a frame at each port of the bridge. A delivery takes none of its own: the vector of a small frame that
-//! was delivered is kept for the hellos of the next ticks. A delivery of `drain` looks for the
+//! with room for a frame at each port of the bridge, and a delivery none of its own. A frame that a bridge sends at
+//! several ports stands in their lanes as one, whose bytes they share. A delivery of `drain` looks for the
 //! first lane that isn't empty. A restart asks each link twice, and takes memory for the new bridge and for the metric of
 //! each of its ports. Frames are moved and not copied, and nothing grows with the number of rounds.
 //! Which conditions of quiet fail asks each link, lane and bridge once, walks over each database once with a look-up by

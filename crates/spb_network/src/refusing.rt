@@ -1,6 +1,7 @@
 //! Why each command is refused.
-ghost use Rattle.std.specs.Prelude.{◌≡◌};
+ghost use Rattle.std.specs.Prelude.{◌≡◌, IsTrue};
 ghost use Rattle.spb_network.specs.Refusing as refuse;
+ghost use Rattle.spb_network.specs.Play.{is_event};
 ghost use Rattle.spb_network.specs.Questions.{question_of};
 ghost use Rattle.spb_network.specs.Network.{state_of};
 
@@ -171,6 +172,34 @@ impl<B: Bridge> NetworkOf<B> {
         None
     }
 
+    /// Why an event is refused, if it is.
+    fn event_refusal(&self, command: &Command) -> Option<Reason>
+        ensures { IsTrue (is_event command.now) →
+            result ≡ refuse.refusal_of (state_of B.shown self.now) command.now }
+    {
+        match command {
+            Command::Metric { link, metric, .. } => self.world.metric_refusal(*link, *metric),
+            Command::Down(name) => self.world.down_refusal(*name),
+            Command::Up(name) => self.world.up_refusal(*name),
+            Command::Restart(name) => self.restart_refusal(*name),
+            Command::Tick(name) => self.world.unnamed_refusal(*name),
+            Command::Deliver { link, dir } => self.frame_refusal(*link, *dir, 0),
+            Command::Lose { link, dir, place } | Command::Double { link, dir, place } => {
+                self.frame_refusal(*link, *dir, *place)
+            }
+            Command::Round(n) => self.round_refusal(*n),
+            Command::Drain(n) => self.drain_refusal(*n),
+            Command::Frame {
+                bridge,
+                port,
+                frame,
+            } => self
+                .world
+                .named_entry_refusal(*bridge, *port, frame.as_slice()),
+            _ => None,
+        }
+    }
+
     /// Why a command is refused, if it is: the first reason in order of number that holds. Takes no memory.
     pub fn refusal(&self, command: &Command) -> Option<Reason>
         ensures { result ≡ refuse.refusal_of (state_of B.shown self.now) command.now }
@@ -199,26 +228,13 @@ impl<B: Bridge> NetworkOf<B> {
                 self.world.named_attach_refusal(*bridge, *port, *isid)
             }
             Command::Detach { bridge, port } => self.world.named_detach_refusal(*bridge, *port),
-            Command::Frame {
-                bridge,
-                port,
-                frame,
-            } => self
-                .world
-                .named_entry_refusal(*bridge, *port, frame.as_slice()),
-            Command::Metric { link, metric, .. } => self.world.metric_refusal(*link, *metric),
-            Command::Down(name) => self.world.down_refusal(*name),
-            Command::Up(name) => self.world.up_refusal(*name),
-            Command::Restart(name) => self.restart_refusal(*name),
-            Command::Tick(name) => self.world.unnamed_refusal(*name),
-            Command::Deliver { link, dir } => self.frame_refusal(*link, *dir, 0),
-            Command::Lose { link, dir, place } | Command::Double { link, dir, place } => {
-                self.frame_refusal(*link, *dir, *place)
-            }
-            Command::Round(n) => self.round_refusal(*n),
-            Command::Drain(n) => self.drain_refusal(*n),
             Command::Path { from, to, vid } => self.world.path_refusal(*from, *to, *vid),
-            _ => self.world.asked_refusal(command),
+            Command::State
+            | Command::Show(_)
+            | Command::Wiring(_)
+            | Command::Db(_)
+            | Command::Adj(_) => self.world.asked_refusal(command),
+            _ => self.event_refusal(command),
         }
     }
 }

@@ -1,5 +1,4 @@
 use Rattle.std.proofs.Common.{◌≡◌, ap, sym, subst, ◌∙◌, None, slice_get}
-use Rattle.std.specs.Option.{option_map}
 use Rattle.link_model.specs.Lanes.{rest}
 use Rattle.spb_network.specs.State.{State, lane_at}
 use Rattle.spb_network.specs.Events.{delivered, delivered_front}
@@ -20,7 +19,7 @@ pub returns-in-None-clause-state : goal.returns-in-None-clause-state
 unfolding delivered
 returns-in-None-clause-state g c =
     let s : State = state_of g.B.Bridge.shown c.args.self.now in
-    let none : slice_get (lane_at s c.args.lane.link c.args.lane.dir) 0 ≡ None = sym c.pop.ensures.frame ∙ ap (option_map (λ frame. frame.items)) c.in-None.is in
+    let none : slice_get (lane_at s c.args.lane.link c.args.lane.dir) 0 ≡ None = sym c.pop.ensures.frame ∙ c.in-None.is in
     ap (λ l. record s { lanes = l }) (c.pop.ensures.rest ∙ sym (rest-none c.args.lane.dir s.lanes c.args.lane.link none)) ∙ sym (ap (delivered_front s c.args.lane.link c.args.lane.dir) none)
 
 pub returns-in-None-clause-order : goal.returns-in-None-clause-order

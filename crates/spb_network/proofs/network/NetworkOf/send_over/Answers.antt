@@ -8,4 +8,4 @@ use Rattle.spb_network.proofs.network.NetworkOf.send_over.Goals as goal
 pub returns-in-Some-clause-state : goal.returns-in-Some-clause-state
 returns-in-Some-clause-state g c =
     let s : State = state_of g.B.Bridge.shown c.args.self.now in
-    on_ok c.push.result (λ e. ap (λ l. record s { lanes = l }) e ∙ sym (sent-live s (lane_out (links_of s) c.args.i c.args.port) c.in-Some.lane c.args.frame.items (sym c.live_lane.ensures ∙ c.in-Some.is))) c.push.ensures.ok
+    on_ok c.push.result (λ e. ap (λ l. record s { lanes = l }) e ∙ sym (sent-live s (lane_out (links_of s) c.args.i c.args.port) c.in-Some.lane c.args.frame (sym c.live_lane.ensures ∙ c.in-Some.is))) c.push.ensures.ok

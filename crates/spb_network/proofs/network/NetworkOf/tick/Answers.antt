@@ -3,8 +3,6 @@ use Rattle.std.specs.Option.{option_map_or}
 use Rattle.std.specs.Prelude.{slice_get}
 use Rattle.bridge_api.specs.Step as comes
 use Rattle.bridge_api.specs.Shown.{views_of}
-use Rattle.spb_types.specs.Places.{changed_at}
-use Rattle.spb_network.specs.Events.{sent_all}
 use Rattle.spb_network.specs.Network.{state_of, AreMade, Fits}
 use Rattle.spb_network.proofs.BoxLemmas.{on_ok}
 use Rattle.spb_network.proofs.SendLemmas.{stepped-is, frames-none}
@@ -14,16 +12,11 @@ use Rattle.spb_network.proofs.network.NetworkOf.tick.Goals as goal
 pub returns-clause-state : goal.returns-clause-state
 returns-clause-state g c =
     let shown = g.B.Bridge.shown in
-    let kept = c.outbox.ensures.kept in
-    let views = c.in_ok-tick.ensures.views ∙ (λ j. changed_at (comes.step comes.second) (views_of shown (kept j).boxes.items) c.args.i) in
     let frames =
-    c.into_parts-frames.ensures ∙ ap (λ outbox. outbox.wire) c.in_ok-tick.ensures.sent
-    ∙ ap (λ w. w ++ option_map_or (comes.sent comes.second) (slice_get (views_of shown c.outbox.new.self.boxes.items) c.args.i) []) c.in_ok-outbox.ensures.empty
-    ∙ (λ j. option_map_or (comes.sent comes.second) (slice_get (views_of shown (kept j).boxes.items) c.args.i) []) in
-    let lanes = c.put_spare.ensures ∙ (λ j. (kept j).lanes) in
+    c.into_vec.ensures ∙ ap (λ outbox. outbox.wire) c.in_ok-tick.ensures.sent
+    ∙ ap (λ w. w ++ option_map_or (comes.sent comes.second) (slice_get (views_of shown c.args.self.now.boxes.items) c.args.i) []) c.in_ok-outbox.ensures in
     on_ok c.send_all.result (λ e. e
-    ∙ (λ j. sent_all (state_of shown (record (kept j) { boxes = c.tick.new.boxes; lanes = lanes j })) c.args.i c.into_parts-frames.result.0.items)
-    ∙ stepped-is comes.second (state_of shown c.args.self.now) c.args.i _ _ views frames (frames-none (state_of shown c.args.self.now).views c.args.i)) c.send_all.ensures.state
+    ∙ stepped-is comes.second (state_of shown c.args.self.now) c.args.i _ _ c.in_ok-tick.ensures.views frames (frames-none (state_of shown c.args.self.now).views c.args.i)) c.send_all.ensures.state
 
 pub returns-clause-order : goal.returns-clause-order
 returns-clause-order g c =
