@@ -11,7 +11,7 @@ use Rattle.spb_run.specs.declared.refusal.Refusal.{Refusal}
 use Rattle.spb_run.specs.declared.status.Status.{Status}
 use Rattle.spb_run.specs.declared.status.Status.TheVariants.{Done}
 use Rattle.spb_run.specs.Output.{AppendsFront}
-use Rattle.spb_run.specs.Pieces.{whole_part, bytes_before, Does, StandsAt, GoesOn, Ends, Breaks, Finishes, Completes, WritesWhole, ReadsLittle, to_come}
+use Rattle.spb_run.specs.Pieces.{whole_part, bytes_before, Does, StandsAt, GoesOn, Ends, Breaks, Finishes, Completes, WritesWhole, ReadsLittle, most_piece, to_come}
 use Rattle.spb_run.specs.Play.{Judged, judged}
 use Rattle.spb_run.specs.Run.{is_written}
 use Rattle.spb_run.specs.Text.{Played, joined, ended, play, play_lines, played, text_of}
@@ -200,7 +200,7 @@ module _ {S K : Type 0}
       pub piece_own : IsTrue (is_written status)
       piece_own = own_status s u status ((reading.read ++ p) ++ []) all.written (all.does [])
 
-    pub piece_reads : (R : ℕ → Type 0) → ((k : ℕ) → R k → n ≤ k) → length p ≤ 8192 → length p + count ≤ most_bytes + 1 → ReadsLittle (left old) l R
+    pub piece_reads : (R : ℕ → Type 0) → ((k : ℕ) → R k → n ≤ k) → length p ≤ most_piece → length p + count ≤ most_bytes + 1 → ReadsLittle (left old) l R
     piece_reads R later short fits = record {
       read = reading.read ++ p;
       consumed = more_consumed;

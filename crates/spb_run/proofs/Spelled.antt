@@ -1,12 +1,14 @@
 -- The words of a form are those that spell it.
-use Rattle.std.proofs.Common.{◌≡◌, ℕ, ◌+◌, ◌-◌, ◌*◌, ◌/◌, ◌%◌, ◌≤◌, ◌<◌, Bool, true, false, ◌&&◌, if◌then◌else◌, nat_le, List, [], ◌∷◌, Option, Some, None, option_map, decimal, codes, refl, sym, ap, ◌∙◌, arith}
+use Rattle.std.proofs.Common.{◌≡◌, ℕ, ◌+◌, ◌-◌, ◌*◌, ◌/◌, ◌%◌, ◌≤◌, ◌<◌, Bool, true, false, ◌&&◌, if◌then◌else◌, nat_le, List, [], ◌∷◌, Option, Some, None, option_map, decimal, codes, refl, sym, ap, ◌∙◌, subst, ◌⊎◌, inl, inr, arith}
 use Rattle.std.specs.Str.{bytes_eq}
 use Rattle.std.proofs.lemmas.Bool.Decides.{nat_tests}
 use Rattle.std.proofs.lemmas.Slice.Eq.{bytes_eq-Decides}
 use Rattle.scenario_maker.proofs.Numbers.{decimal_one, decimal_pair}
+use Rattle.spb_network.specs.declared.kind_rule.KindRule.{KindRule}
+use Rattle.spb_network.specs.declared.kind_rule.KindRule.TheVariants.{Plain, Swift, Mixed}
 use Rattle.spb_run.specs.declared.words.Form.{Form}
 use Rattle.spb_run.specs.declared.words.Form.TheVariants.{Run, Make, Try}
-use Rattle.spb_run.specs.Words.{is_digit_from, if_made, bridges_of, with_number, form_of, IsForm, words_of, FormsAreSpelled}
+use Rattle.spb_run.specs.Words.{is_digit_from, if_made, bridges_of, name_of_rule, rule_named, rule_told, make_form, try_by, try_form, form_of, IsForm, Spells, run_alone, run_kind, make_number, try_alone, try_kind, FormsAreSpelled}
 
 -- ---- tests
 
@@ -102,59 +104,112 @@ spelled_by n false e low high =
     let small : n < 10 = grind (arith, nat_tests) in
     ap bridges_of (decimal_one n small) ∙ one_spelled (48 + n) n refl low small
 
+-- ---- rules
+
+by_name : (word : List ℕ) (rule : KindRule) (a b c : Bool) → bytes_eq word (codes "plain") ≡ a → bytes_eq word (codes "swift") ≡ b → bytes_eq word (codes "mixed") ≡ c
+    → (if a then Some Plain else (if b then Some Swift else (if c then Some Mixed else None))) ≡ Some rule → word ≡ name_of_rule rule
+by_name word rule true b c p q r e = (bytes_eq-Decides word (codes "plain")).0 p ∙ ap name_of_rule (same_some Plain rule e)
+by_name word rule false true c p q r e = (bytes_eq-Decides word (codes "swift")).0 q ∙ ap name_of_rule (same_some Swift rule e)
+by_name word rule false false true p q r e = (bytes_eq-Decides word (codes "mixed")).0 r ∙ ap name_of_rule (same_some Mixed rule e)
+by_name word rule false false false p q r e = absurd cc
+
+-- how a rule is told: by `--kind` and its name, or the plain one by nothing
+abbrev Tells : KindRule → List (List ℕ) → Type 0
+Tells rule words = (words ≡ codes "--kind" ∷ name_of_rule rule ∷ []) ⊎ ((rule ≡ Plain) × (words ≡ []))
+
+told_read : (words : List (List ℕ)) (rule : KindRule) → rule_told words ≡ Some rule → Tells rule words
+told_read [] rule e = inr (sym (same_some Plain rule e), refl)
+told_read (word ∷ []) rule e = absurd cc
+told_read (word ∷ name ∷ []) rule e =
+    let t = if_some (bytes_eq word (codes "--kind")) (rule_named name) rule e in
+    let kind = (bytes_eq-Decides word (codes "--kind")).0 t.0 in
+    let named = by_name name rule (bytes_eq name (codes "plain")) (bytes_eq name (codes "swift")) (bytes_eq name (codes "mixed")) refl refl refl t.1 in
+    inl (ap (λ w. w ∷ name ∷ []) kind ∙ ap (λ w. codes "--kind" ∷ w ∷ []) named)
+told_read (a ∷ b ∷ c ∷ more) rule e = absurd cc
+
 -- ---- forms
 
-map_some : (g : ℕ → Form) (o : Option ℕ) (f : Form) → option_map g o ≡ Some f → (n : ℕ) × (o ≡ Some n) × (f ≡ g n)
+map_some : {X : Type 0} (g : X → Form) (o : Option X) (f : Form) → option_map g o ≡ Some f → (x : X) × (o ≡ Some x) × (f ≡ g x)
 map_some g None f e = absurd cc
-map_some g (Some n) f e = (n, refl, sym (same_some (g n) f e))
+map_some g (Some x) f e = (x, refl, sym (same_some (g x) f e))
 
-read_run : (word : List ℕ) (f : Form) → f ≡ Run → word ≡ codes "run" → IsForm f × (word ∷ [] ≡ words_of f)
-read_run word Run e same = (tt, ap (λ w. w ∷ []) same)
-read_run word (Make n) e same = absurd cc
-read_run word (Try n) e same = absurd cc
+-- words that are spelled so, and a form that is this one
+abbrev Reads : Form → List (List ℕ) → Type 0
+Reads f words = IsForm f × Spells f words
 
-two_words : (word number first : List ℕ) (n : ℕ) → word ≡ first → number ≡ decimal n → word ∷ number ∷ [] ≡ first ∷ decimal n ∷ []
-two_words word number first n p q = ap (λ w. w ∷ number ∷ []) p ∙ ap (λ w. first ∷ w ∷ []) q
+run_read : (word : List ℕ) (others : List (List ℕ)) (rule : KindRule) → word ≡ codes "run" → Tells rule others → Reads (Run rule) (word ∷ others)
+run_read word others rule first (inl told) =
+    (tt, subst (λ ws. Spells (Run rule) ws) (sym (ap (λ w. w ∷ others) first ∙ ap (λ ws. codes "run" ∷ ws) told)) (run_kind rule))
+run_read word others rule first (inr plain) = (
+  tt,
+  subst (λ r. Spells (Run r) (word ∷ others)) (sym plain.0)
+      (subst (λ ws. Spells (Run Plain) ws) (sym (ap (λ w. w ∷ others) first ∙ ap (λ ws. codes "run" ∷ ws) plain.1)) run_alone),
+)
 
-read_make : (word number : List ℕ) (n : ℕ) (f : Form) → f ≡ Make n → word ≡ codes "make" → (4 ≤ n) × (n ≤ 96) × (number ≡ decimal n)
-    → IsForm f × (word ∷ number ∷ [] ≡ words_of f)
-read_make word number n Run e same r = absurd cc
-read_make word number n (Try m) e same r = absurd cc
-read_make word number n (Make m) e same r =
-    let one : m ≡ n = cc in
-    ((omega (arith, r.0, one), omega (arith, r.1, one)), two_words word number (codes "make") m same (r.2 ∙ ap decimal (sym one)))
-
-read_try : (word number : List ℕ) (n : ℕ) (f : Form) → f ≡ Try n → word ≡ codes "try" → (4 ≤ n) × (n ≤ 96) × (number ≡ decimal n)
-    → IsForm f × (word ∷ number ∷ [] ≡ words_of f)
-read_try word number n Run e same r = absurd cc
-read_try word number n (Make m) e same r = absurd cc
-read_try word number n (Try m) e same r =
-    let one : m ≡ n = cc in
-    ((omega (arith, r.0, one), omega (arith, r.1, one)), two_words word number (codes "try") m same (r.2 ∙ ap decimal (sym one)))
-
-numbered_read : (word number : List ℕ) (f : Form) (a b : Bool) → bytes_eq word (codes "make") ≡ a → bytes_eq word (codes "try") ≡ b
-    → with_number (if a then Some Make else (if b then Some Try else None)) number ≡ Some f → IsForm f × (word ∷ number ∷ [] ≡ words_of f)
-numbered_read word number f true b p q e =
+make_read : (word : List ℕ) (others : List (List ℕ)) (f : Form) → word ≡ codes "make" → make_form others ≡ Some f → Reads f (word ∷ others)
+make_read word [] f first e = absurd cc
+make_read word (number ∷ []) f first e =
     let m = map_some Make (bridges_of number) f e in
-    read_make word number m.0 f m.2 ((bytes_eq-Decides word (codes "make")).0 p) (read number m.0 m.1)
-numbered_read word number f false true p q e =
-    let m = map_some Try (bridges_of number) f e in
-    read_try word number m.0 f m.2 ((bytes_eq-Decides word (codes "try")).0 q) (read number m.0 m.1)
-numbered_read word number f false false p q e = absurd cc
+    let n = m.0 in
+    let r = read number n m.1 in
+    subst (λ g. Reads g (word ∷ number ∷ [])) (sym m.2)
+    ((r.0, r.1), subst (λ ws. Spells (Make n) ws) (sym (ap (λ w. w ∷ number ∷ []) first ∙ ap (λ w. codes "make" ∷ w ∷ []) r.2)) (make_number n))
+make_read word (a ∷ b ∷ more) f first e = absurd cc
 
-form_read : (words : List (List ℕ)) (f : Form) → form_of words ≡ Some f → IsForm f × (words ≡ words_of f)
+both_some : (o : Option ℕ) (p : Option KindRule) (f : Form) → try_by o p ≡ Some f
+    → (n : ℕ) × (rule : KindRule) × (o ≡ Some n) × (p ≡ Some rule) × (f ≡ Try n rule)
+both_some None p f e = absurd cc
+both_some (Some n) None f e = absurd cc
+both_some (Some n) (Some rule) f e = (n, rule, refl, refl, sym (same_some (Try n rule) f e))
+
+try_told : (word number : List ℕ) (others : List (List ℕ)) (n : ℕ) (rule : KindRule) → word ≡ codes "try" → number ≡ decimal n → Tells rule others → Spells (Try n rule) (word ∷ number ∷ others)
+try_told word number others n rule first same (inl told) =
+    subst (λ ws. Spells (Try n rule) ws)
+    (sym (ap (λ w. w ∷ number ∷ others) first ∙ ap (λ w. codes "try" ∷ w ∷ others) same ∙ ap (λ ws. codes "try" ∷ decimal n ∷ ws) told)) (try_kind n rule)
+try_told word number others n rule first same (inr plain) =
+    subst (λ r. Spells (Try n r) (word ∷ number ∷ others)) (sym plain.0)
+    (subst (λ ws. Spells (Try n Plain) ws)
+    (sym (ap (λ w. w ∷ number ∷ others) first ∙ ap (λ w. codes "try" ∷ w ∷ others) same ∙ ap (λ ws. codes "try" ∷ decimal n ∷ ws) plain.1)) (try_alone n))
+
+try_read : (word : List ℕ) (others : List (List ℕ)) (f : Form) → word ≡ codes "try" → try_form others ≡ Some f → Reads f (word ∷ others)
+try_read word [] f first e = absurd cc
+try_read word (number ∷ others) f first e =
+    let m = both_some (bridges_of number) (rule_told others) f e in
+    let n = m.0 in
+    let rule = m.1 in
+    let r = read number n m.2 in
+    subst (λ g. Reads g (word ∷ number ∷ others)) (sym m.4)
+    ((r.0, r.1), try_told word number others n rule first r.2 (told_read others rule m.3))
+
+by_first : (word : List ℕ) (others : List (List ℕ)) (f : Form) (a b c : Bool) → bytes_eq word (codes "run") ≡ a → bytes_eq word (codes "make") ≡ b → bytes_eq word (codes "try") ≡ c
+    → (if a then option_map Run (rule_told others) else (if b then make_form others else (if c then try_form others else None))) ≡ Some f → Reads f (word ∷ others)
+by_first word others f true b c p q r e =
+    let m = map_some Run (rule_told others) f e in
+    subst (λ g. Reads g (word ∷ others)) (sym m.2) (run_read word others m.0 ((bytes_eq-Decides word (codes "run")).0 p) (told_read others m.0 m.1))
+by_first word others f false true c p q r e = make_read word others f ((bytes_eq-Decides word (codes "make")).0 q) e
+by_first word others f false false true p q r e = try_read word others f ((bytes_eq-Decides word (codes "try")).0 r) e
+by_first word others f false false false p q r e = absurd cc
+
+form_read : (words : List (List ℕ)) (f : Form) → form_of words ≡ Some f → Reads f words
 form_read [] f e = absurd cc
-form_read (word ∷ []) f e =
-    let t = if_some (bytes_eq word (codes "run")) (Some Run) f e in
-    read_run word f (sym (same_some Run f t.1)) ((bytes_eq-Decides word (codes "run")).0 t.0)
-form_read (word ∷ number ∷ []) f e =
-    numbered_read word number f (bytes_eq word (codes "make")) (bytes_eq word (codes "try")) refl refl e
-form_read (a ∷ b ∷ c ∷ more) f e = absurd cc
+form_read (word ∷ others) f e =
+    by_first word others f (bytes_eq word (codes "run")) (bytes_eq word (codes "make")) (bytes_eq word (codes "try")) refl refl refl e
 
-form_spelled : (f : Form) → IsForm f → form_of (words_of f) ≡ Some f
-form_spelled Run is = refl
-form_spelled (Make n) is = ap (option_map Make) (spelled_by n (nat_le 10 n) refl is.0 is.1)
-form_spelled (Try n) is = ap (option_map Try) (spelled_by n (nat_le 10 n) refl is.0 is.1)
+told_spelled : (rule : KindRule) → rule_told (codes "--kind" ∷ name_of_rule rule ∷ []) ≡ Some rule
+told_spelled Plain = refl
+told_spelled Swift = refl
+told_spelled Mixed = refl
+
+try_spelled : (n : ℕ) (rule : KindRule) (others : List (List ℕ)) → 4 ≤ n → n ≤ 96 → rule_told others ≡ Some rule → try_form (decimal n ∷ others) ≡ Some (Try n rule)
+try_spelled n rule others low high told =
+    ap (λ o. try_by o (rule_told others)) (spelled_by n (nat_le 10 n) refl low high) ∙ ap (try_by (Some n)) told
+
+form_spelled : (f : Form) (words : List (List ℕ)) → Spells f words → IsForm f → form_of words ≡ Some f
+form_spelled f words run_alone is = refl
+form_spelled f words (run_kind rule) is = ap (option_map Run) (told_spelled rule)
+form_spelled f words (make_number n) is = ap (option_map Make) (spelled_by n (nat_le 10 n) refl is.0 is.1)
+form_spelled f words (try_alone n) is = try_spelled n Plain [] is.0 is.1 refl
+form_spelled f words (try_kind n rule) is = try_spelled n rule (codes "--kind" ∷ name_of_rule rule ∷ []) is.0 is.1 (told_spelled rule)
 
 pub forms_are_spelled : FormsAreSpelled
-forms_are_spelled words f = (form_read words f, λ s. ap form_of s.1 ∙ form_spelled f s.0)
+forms_are_spelled words f = (form_read words f, λ s. form_spelled f words s.1 s.0)

@@ -14,6 +14,10 @@ use Rattle.spb_run.specs.Text.{Played, play, play_lines, text_of, fate_of, end_o
 
 -- ---- bytes
 
+-- how many bytes are read at once, at most
+abbrev pub most_piece : ℕ
+most_piece = 8192
+
 -- the whole lines: all bytes up to the last LF
 abbrev pub whole_part : List ℕ → List ℕ
 whole_part [] = []

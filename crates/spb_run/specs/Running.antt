@@ -1,11 +1,9 @@
 -- What the form `run` promises.
 use Rattle.std.specs.Prelude.{◌≡◌, ℕ, List, Option, Bool, IfSome, IsTrue, ◌⊎◌}
 use Rattle.std.specs.Io.KnownBytes.{Appends, IsAtEnd}
-use Rattle.bridge_api.specs.Shown.{Shown}
-use Rattle.spb_network.specs.declared.network.NetworkOf.{NetworkOf}
 use Rattle.spb_network.specs.Counted.{IsCounted}
-use Rattle.spb_network.specs.Network.{state_of}
 use Rattle.spb_network.specs.Sound.{IsSoundState}
+use Rattle.spb_network.specs.State.{State}
 use Rattle.spb_network.specs.Telling.{QuietTells}
 use Rattle.spb_run.specs.declared.status.Status.{Status}
 use Rattle.spb_run.specs.declared.status.Status.TheVariants.{Done, Refused, NoMemory, ReadFault}
@@ -18,45 +16,38 @@ use Rattle.spb_run.specs.States.{IsTrusted}
 use Rattle.spb_run.specs.Text.{lines_played, text_of, fate_of, end_of, commands_in, AllStates}
 
 module _
-    {B S K : Type 0} (shown : B → Shown) (left : S → Option (List ℕ)) (is_reliable_source : S → Bool)
+    {S K : Type 0} (left : S → Option (List ℕ)) (is_reliable_source : S → Bool)
     (holds : K → Option (List ℕ)) (is_reliable_sink : K → Bool) where
-  -- A script that the source had left was played on the network and answered to the sink. It ended with this status;
-  -- of each of the three there is what it was before and what it is now.
-  pub record Runs
-      (status : Status) (network network' : NetworkOf B) (source source' : S) (sink sink' : K) : Type 0 where
+  -- A script that the source had left was played on a network and answered to the sink. It ended with this status; of
+  -- the network's state, the source and the sink there is what each was before and what it is now.
+  pub record Runs (status : Status) (s t : State) (source source' : S) (sink sink' : K) : Type 0 where
     -- The status is the script's fate and all of its text is written, unless the run was cut short.
-    pub fate : IsTrue (is_written status) → IfSome (left source) (λ script.
-        status ≡ fate_of (state_of shown network) script)
+    pub fate : IsTrue (is_written status) → IfSome (left source) (λ script. status ≡ fate_of s script)
     pub text : IsTrue (is_written status) → IfSome (left source) (λ script.
-        Appends (holds sink) (holds sink') (text_of (state_of shown network) script))
+        Appends (holds sink) (holds sink') (text_of s script))
     pub ended : status ≡ Done → IsAtEnd (left source')
     -- A run that ended by itself leaves the network as the accepted lines make it.
-    pub state : IsTrue (is_ended status) → IfSome (left source) (λ script.
-        state_of shown network' ≡ end_of (state_of shown network) script)
-    -- The network is sound then, with its sequence numbers far from the last one. Where it is quiet then, every bridge is
-    -- told what is there: its graph is the part of the wiring that it reaches, and its tables are those that are wired
-    -- for it. And so it is after each line of the script that is accepted.
-    pub sound : IsTrue (is_ended status) → IsSoundState (state_of shown network')
-    pub counted : IsTrue (is_ended status) → IsCounted (state_of shown network')
-    pub told : IsTrue (is_ended status) → QuietTells (state_of shown network')
-    pub quiet : IfSome (left source) (λ script.
-        AllStates IsTrusted (state_of shown network) 1 (lines_played script))
-    -- Where it is quiet after some line, a group frame that enters by the next one, and is then delivered, leaves once at
-    -- each other port where it has to.
-    pub once : IfSome (left source) (λ script.
-        AllDeliverOnce (state_of shown network) (commands_in (state_of shown network) 1 (lines_played script)))
+    pub state : IsTrue (is_ended status) → IfSome (left source) (λ script. t ≡ end_of s script)
+    -- The network is sound then, with its sequence numbers far from the last one. Where it is quiet then, every bridge
+    -- is told what is there: its graph is the part of the wiring that it reaches, and its tables are those that are
+    -- wired for it. And so it is after each line of the script that is accepted.
+    pub sound : IsTrue (is_ended status) → IsSoundState t
+    pub counted : IsTrue (is_ended status) → IsCounted t
+    pub told : IsTrue (is_ended status) → QuietTells t
+    pub quiet : IfSome (left source) (λ script. AllStates IsTrusted s 1 (lines_played script))
+    -- Where it is quiet after some line, a group frame that enters by the next one, and is then delivered, leaves once
+    -- at each other port where it has to.
+    pub once : IfSome (left source) (λ script. AllDeliverOnce s (commands_in s 1 (lines_played script)))
     -- Quiet or not, what leaves has entered the same service: each frame that an accepted line lets out leaves at a
     -- port that is attached at that moment to an I-SID, and in this I-SID it entered by a line so far, byte for byte.
-    pub apart : IfSome (left source) (λ script.
-        AllLeaveEntered (state_of shown network) (commands_in (state_of shown network) 1 (lines_played script)))
+    pub apart : IfSome (left source) (λ script. AllLeaveEntered s (commands_in s 1 (lines_played script)))
     -- A run that was cut short wrote a front of the text.
     pub front : IsTrue (is_cut status) → IfSome (left source) (λ script.
-        AppendsFront (holds sink) (holds sink') (text_of (state_of shown network) script))
+        AppendsFront (holds sink) (holds sink') (text_of s script))
     -- Where a read failed, all whole lines that the source gave are accepted, and just their answers are written.
-    pub whole : status ≡ ReadFault →
-        WritesWhole holds (state_of shown network) (left source) (left source') sink sink'
+    pub whole : status ≡ ReadFault → WritesWhole holds s (left source) (left source') sink sink'
     -- At most one byte more is read than a script may have, and little behind a line that is refused.
     pub reads : ReadsLittle (left source) (left source') (λ n. (why : Refusal) × (status ≡ Refused n why))
     -- Over a source and a sink that don't fail, only memory can run out.
     pub complete : IsTrue (is_reliable_source source) → IsTrue (is_reliable_sink sink) → IfSome (left source) (λ script.
-        (status ≡ fate_of (state_of shown network) script) ⊎ (status ≡ NoMemory))
+        (status ≡ fate_of s script) ⊎ (status ≡ NoMemory))

@@ -1,8 +1,13 @@
--- What holds of each state that an accepted line of a script leaves.
+-- The state that a script begins with, and what holds of each one that an accepted line leaves.
+use Rattle.spb_network.specs.declared.kind_rule.KindRule.{KindRule}
 use Rattle.spb_network.specs.Counted.{IsCounted}
 use Rattle.spb_network.specs.Sound.{IsSoundState}
 use Rattle.spb_network.specs.State.{State}
 use Rattle.spb_network.specs.Telling.{QuietTells}
+
+-- the state of a network whose bridges take boxes by this rule
+abbrev pub ruled : KindRule → State → State
+ruled rule s = record s { rule = rule }
 
 -- the network is sound, with its sequence numbers far from the last one, and where it is quiet, it tells what is there
 pub record IsTrusted (s : State) : Type 0 where

@@ -3,10 +3,7 @@ use Rattle.std.specs.Prelude.{◌≡◌, ℕ, List, Option, Some, None, Bool, Is
 use Rattle.std.specs.Io.KnownBytes.{Appends}
 use Rattle.report.specs.Lines.{error_text, try_text}
 use Rattle.scenario_maker.specs.Made.{made}
-use Rattle.bridge_api.specs.Shown.{Shown}
-use Rattle.spb_network.specs.declared.network.NetworkOf.{NetworkOf}
 use Rattle.spb_network.specs.declared.reason.Reason.{Reason}
-use Rattle.spb_network.specs.Network.{state_of}
 use Rattle.spb_network.specs.Reason.{reason_number, name_of}
 use Rattle.spb_network.specs.State.{State}
 use Rattle.spb_run.specs.declared.counts.Counts.{Counts}
@@ -35,28 +32,23 @@ outcome_of (Some stop) = Refused stop.0 (refusal.Command stop.1)
 abbrev pub tried : State → ℕ → Applied
 tried s bridges = applied s 1 (made bridges)
 
-module _ {B S K : Type 0} (shown : B → Shown) (holds : K → Option (List ℕ)) (is_reliable : K → Bool) where
-  -- The script for so many bridges was played on the network, and one line was written to the sink. It ended with this
-  -- status; of the network, the source and the sink there is what each was before and what it is now.
+module _ {S K : Type 0} (holds : K → Option (List ℕ)) (is_reliable : K → Bool) where
+  -- The script for so many bridges was played on a network, and one line was written to the sink. It ended with this
+  -- status; of the network's state, the source and the sink there is what each was before and what it is now.
   pub record Tries
-      (bridges : ℕ) (status : Status)
-      (network network' : NetworkOf B) (source source' : S) (sink sink' : K) : Type 0 where
+      (bridges : ℕ) (status : Status) (s t : State) (source source' : S) (sink sink' : K) : Type 0 where
     -- It ends as its commands do, unless it was cut short.
-    pub ends : (status ≡ outcome_of (tried (state_of shown network) bridges).refused)
-        ⊎ (status ≡ NoMemory) ⊎ (status ≡ WriteFault)
+    pub ends : (status ≡ outcome_of (tried s bridges).refused) ⊎ (status ≡ NoMemory) ⊎ (status ≡ WriteFault)
     -- The one line is written, or a front of it where that was cut short.
-    pub text : IsTrue (is_ended status) →
-        Appends (holds sink) (holds sink') (summary_of bridges (tried (state_of shown network) bridges))
+    pub text : IsTrue (is_ended status) → Appends (holds sink) (holds sink') (summary_of bridges (tried s bridges))
     pub front : IsTrue (is_cut status) →
-        AppendsFront (holds sink) (holds sink') (summary_of bridges (tried (state_of shown network) bridges))
+        AppendsFront (holds sink) (holds sink') (summary_of bridges (tried s bridges))
     -- It leaves the network as the accepted commands make it.
-    pub state : IsTrue (is_ended status) →
-        state_of shown network' ≡ (tried (state_of shown network) bridges).state
+    pub state : IsTrue (is_ended status) → t ≡ (tried s bridges).state
     -- Nothing is read.
     pub unread : source' ≡ source
     -- Over a sink that doesn't fail, only memory can run out.
     pub complete : IsTrue (is_reliable sink) →
-        (status ≡ outcome_of (tried (state_of shown network) bridges).refused) ⊎ (status ≡ NoMemory)
+        (status ≡ outcome_of (tried s bridges).refused) ⊎ (status ≡ NoMemory)
     -- And it is Done then, where the rack has boxes enough: of each kind that the rule uses, one more than bridges.
-    pub done : HasBoxes (state_of shown network).rule (state_of shown network).rack bridges → IsTrue (is_reliable sink)
-        → (status ≡ Done) ⊎ (status ≡ NoMemory)
+    pub done : HasBoxes s.rule s.rack bridges → IsTrue (is_reliable sink) → (status ≡ Done) ⊎ (status ≡ NoMemory)

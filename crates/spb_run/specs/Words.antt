@@ -1,6 +1,8 @@
 -- The words of the program, its own name aside: they are one of these forms, spelled exactly so, or none.
 use Rattle.std.specs.Prelude.{◌≡◌, ◌↔◌, ℕ, ◌≤◌, ⊤, ◌+◌, ◌-◌, ◌*◌, nat_le, ◌&&◌, Bool, if◌then◌else◌, List, [], ◌∷◌, Option, Some, None, option_map, codes, decimal}
 use Rattle.std.specs.Str.{bytes_eq}
+use Rattle.spb_network.specs.declared.kind_rule.KindRule.{KindRule}
+use Rattle.spb_network.specs.declared.kind_rule.KindRule.TheVariants.{Plain, Swift, Mixed}
 use Rattle.spb_run.specs.declared.words.Form.{Form}
 use Rattle.spb_run.specs.declared.words.Form.TheVariants.{Run, Make, Try}
 
@@ -19,33 +21,62 @@ bridges_of (tens ∷ ones ∷ []) =
     if is_digit_from 49 tens && is_digit_from 48 ones then if_made (10 * (tens - 48) + (ones - 48)) else None
 bridges_of _ = None
 
--- a form that takes a number of bridges, by its first word
-abbrev pub numbered_form : List ℕ → Option (ℕ → Form)
-numbered_form word =
-    if bytes_eq word (codes "make") then Some Make else (if bytes_eq word (codes "try") then Some Try else None)
+-- the name of a rule by which bridges take boxes
+abbrev pub name_of_rule : KindRule → List ℕ
+name_of_rule Plain = codes "plain"
+name_of_rule Swift = codes "swift"
+name_of_rule Mixed = codes "mixed"
 
-abbrev pub with_number : Option (ℕ → Form) → List ℕ → Option Form
-with_number None number = None
-with_number (Some form) number = option_map form (bridges_of number)
+-- the rule that a word names
+abbrev pub rule_named : List ℕ → Option KindRule
+rule_named word =
+    if bytes_eq word (codes "plain") then Some Plain
+    else (if bytes_eq word (codes "swift") then Some Swift
+    else (if bytes_eq word (codes "mixed") then Some Mixed else None))
 
--- `run`, or `make` or `try` and a number of bridges
+-- the rule that the last words of a form tell: `--kind` and a name, or no word where all bridges are plain
+abbrev pub rule_told : List (List ℕ) → Option KindRule
+rule_told [] = Some Plain
+rule_told (word ∷ name ∷ []) = if bytes_eq word (codes "--kind") then rule_named name else None
+rule_told _ = None
+
+-- behind `make`: a number of bridges
+abbrev pub make_form : List (List ℕ) → Option Form
+make_form (number ∷ []) = option_map Make (bridges_of number)
+make_form _ = None
+
+-- behind `try`: a number of bridges and a rule
+abbrev pub try_by : Option ℕ → Option KindRule → Option Form
+try_by (Some n) (Some rule) = Some (Try n rule)
+try_by _ _ = None
+
+abbrev pub try_form : List (List ℕ) → Option Form
+try_form (number ∷ others) = try_by (bridges_of number) (rule_told others)
+try_form [] = None
+
+-- the form that words are, by the first of them
 abbrev pub form_of : List (List ℕ) → Option Form
-form_of (word ∷ []) = if bytes_eq word (codes "run") then Some Run else None
-form_of (word ∷ number ∷ []) = with_number (numbered_form word) number
-form_of _ = None
+form_of (word ∷ others) =
+    if bytes_eq word (codes "run") then option_map Run (rule_told others)
+    else (if bytes_eq word (codes "make") then make_form others
+    else (if bytes_eq word (codes "try") then try_form others else None))
+form_of [] = None
 
 -- the number of bridges of a form is in range
 abbrev pub IsForm : Form → Type 0
-IsForm Run = ⊤
+IsForm (Run rule) = ⊤
 IsForm (Make n) = (4 ≤ n) × (n ≤ 96)
-IsForm (Try n) = (4 ≤ n) × (n ≤ 96)
+IsForm (Try n rule) = (4 ≤ n) × (n ≤ 96)
 
--- how a form is spelled
-abbrev pub words_of : Form → List (List ℕ)
-words_of Run = codes "run" ∷ []
-words_of (Make n) = codes "make" ∷ decimal n ∷ []
-words_of (Try n) = codes "try" ∷ decimal n ∷ []
+-- how a form is spelled: the rule is told last, by `--kind` and its name, and no word tells that all bridges are plain
+pub data Spells : Form → List (List ℕ) → Type 0 where
+  run_alone : Spells (Run Plain) (codes "run" ∷ [])
+  run_kind : (rule : KindRule) → Spells (Run rule) (codes "run" ∷ codes "--kind" ∷ name_of_rule rule ∷ [])
+  make_number : (n : ℕ) → Spells (Make n) (codes "make" ∷ decimal n ∷ [])
+  try_alone : (n : ℕ) → Spells (Try n Plain) (codes "try" ∷ decimal n ∷ [])
+  try_kind : (n : ℕ) (rule : KindRule)
+      → Spells (Try n rule) (codes "try" ∷ decimal n ∷ codes "--kind" ∷ name_of_rule rule ∷ [])
 
 -- words are a form exactly where they spell it
 abbrev pub FormsAreSpelled : Type 0
-FormsAreSpelled = (words : List (List ℕ)) (f : Form) → (form_of words ≡ Some f) ↔ (IsForm f × (words ≡ words_of f))
+FormsAreSpelled = (words : List (List ℕ)) (f : Form) → (form_of words ≡ Some f) ↔ (IsForm f × Spells f words)

@@ -4,8 +4,8 @@ ghost use Rattle.spb_run.specs.Commands.{LinesPlayCommands};
 ghost use Rattle.spb_run.specs.MadeLaws.{MadeIsAccepted, MadeIsApplied};
 ghost use Rattle.spb_run.specs.Words.{FormsAreSpelled};
 
-/// Words are a form exactly where they spell it: `run` alone, or `make` or `try` and a number from 4 to 96 without a
-/// leading zero.
+/// Words are a form exactly where they spell it: `run`, or `make` or `try` and a number from 4 to 96 without a leading
+/// zero, and behind `run` and `try N` nothing, or `--kind` and `plain`, `swift` or `mixed`.
 pub fn forms_are_spelled()
     ensures { FormsAreSpelled }
 {}

@@ -1,14 +1,14 @@
 //! A script that is played in pieces, as the source gives them.
-ghost use Rattle.std.specs.Prelude.{[], List, ℕ, ◌≡◌, ◌≢◌, ◌≤◌, ◌<◌, ◌+◌, None, Some, Ok, Err, length, IfOk, IfNone, IfSome, IsErrOf, IsTrue, OnOk, OnErr, MatchResult, Option, ⊤};
-ghost use Rattle.std.specs.Io.KnownBytes.{Appends, IsAtEnd};
+ghost use Rattle.std.specs.Prelude.{[], List, ℕ, ◌≡◌, ◌≢◌, ◌≤◌, ◌<◌, ◌+◌, None, Some, Ok, Err, length, take, IfOk, IfNone, IfSome, IsErr, IsErrOf, IsOk, IsTrue, OnOk, OnErr, MatchResult, Option, ⊤};
+ghost use Rattle.std.specs.Io.KnownBytes.{Appends, Consumes, IsAtEnd, Keeps};
 ghost use Rattle.spb_network.specs.Applying.{IsReady};
 ghost use Rattle.spb_network.specs.Network.{state_of};
 ghost use Rattle.spb_outside.specs.Faults.{Rose};
 ghost use Rattle.spb_run.specs.Output.{AppendsFront};
 ghost use Rattle.spb_run.specs.declared.pieces.Break.TheVariants.{Read as ReadBreak};
 ghost use Rattle.spb_run.specs.Break.{break_of};
-ghost use Rattle.spb_run.specs.Pieces.{Finishes, Completes, WritesWhole, ReadsLittle, GoesOn, Ends, Breaks, StandsAt, to_come, Accepts, Stops, shown_lines};
-ghost use Rattle.scenario.specs.Cutting.{longest_line, most_lines, start};
+ghost use Rattle.spb_run.specs.Pieces.{Finishes, Completes, WritesWhole, ReadsLittle, most_piece, GoesOn, Ends, Breaks, StandsAt, to_come, Accepts, Stops, shown_lines};
+ghost use Rattle.scenario.specs.Cutting.{longest_line, most_bytes, most_lines, start};
 ghost use Rattle.spb_run.specs.Play.{judged, misspelled_text};
 ghost use Rattle.spb_run.specs.declared.refusal.Refusal.{Refusal};
 ghost use Rattle.spb_run.specs.Run.{is_written};
@@ -210,6 +210,25 @@ fn end_script<B: Bridge, K: Sink>(
     }
 }
 
+/// Reads the next piece of a script into the front of the buffer, behind the bytes that were `read` before, and says how
+/// many bytes it has: none at the end of the input alone. After an error nothing was read.
+fn read_piece<S: Source>(source: &mut S, buffer: &mut [u8], read: usize) -> Result<usize, Failed>
+    requires going { read ≤ most_bytes }
+    requires room { most_piece ≤ length buffer.old }
+    ensures short { IfOk result (λ count. count ≤ most_piece) }
+    ensures few { IfOk result (λ count. read + count ≤ most_bytes + 1) }
+    ensures bytes { IfOk result (λ count.
+        Consumes (S.left source.old) (S.left source.new) (take count buffer.new)) }
+    ensures end { result ≡ Ok 0 → IsAtEnd (S.left source.new) }
+    ensures kept { OnErr result (Keeps (S.left source.old) (S.left source.new)) }
+    ensures count { S.faults source.old ≤ S.faults source.new }
+    ensures failed { IsErr result → Rose (S.faults source.old) (S.faults source.new) }
+    ensures reliable { IsTrue (S.is_reliable source.old) → IsOk result × IsTrue (S.is_reliable source.new) }
+{
+    let room = (MOST_READ - read).min(PIECE);
+    source.read(&mut buffer[..room])
+}
+
 /// Plays the script that the source gives. Each line is answered before the next is played, and all whole lines of a
 /// piece are played before the next is read.
 pub(crate) fn play_script<B: Bridge, S: Source, K: Sink>(
@@ -243,8 +262,7 @@ pub(crate) fn play_script<B: Bridge, S: Source, K: Sink>(
     let mut read = 0;
     let mut buffer = [0; PIECE];
     loop {
-        let room = (MOST_READ - read).min(PIECE);
-        let count = source.read(&mut buffer[..room])?;
+        let count = read_piece(source, &mut buffer, read)?;
         if count == 0 {
             return Ok(end_script(alloc, network, &mut cutter, &mut number, sink)?);
         }

@@ -1,6 +1,7 @@
 //! `spbsim run` plays a script of a shortest path backbone from standard input, and writes the answers to standard
 //! output. `spbsim make N` writes such a script for N bridges, 4 to 96, to standard output, and `spbsim try N` plays it
-//! and counts what is answered. The exit status is the number of the status with which `run` of `spb_run` ends, 0 to 6.
+//! and counts what is answered. Behind `run` and `try N`, `--kind plain`, `--kind swift` or `--kind mixed` tells which
+//! boxes the bridges take. The exit status is the number of the status with which `run` of `spb_run` ends, 0 to 6.
 //!
 //! All of it is done by `spb_run::run`, over the standard streams: here stand the words, the rack of boxes that bridges
 //! are taken from, and the messages alone.
@@ -20,13 +21,14 @@ use std::env;
 use std::io::ErrorKind;
 use std::process::ExitCode;
 use std::rt::{Env, HostRuntime};
+use swift_bridge::SwiftBridge;
 use usage::usage_line;
 
 #[cfg(test)]
 mod tests;
 mod usage;
 
-/// How many blank boxes the rack has.
+/// How many blank boxes of each kind the rack has.
 const BOXES: usize = 256;
 
 /// The program's words, without its name. A word that isn't text is none of the program's, so there is no form for it.
@@ -65,6 +67,7 @@ fn play<S: Source, K: Sink>(
     let mut rack: Vec<Box<dyn Bridge>> = Vec::new(alloc);
     for _ in 0..BOXES {
         rack.push(Box::new(alloc, PlainBridge::blank(alloc))?)?;
+        rack.push(Box::new(alloc, SwiftBridge::blank(alloc))?)?;
     }
     let mut network = Network::new(alloc, rack);
     Ok(run(alloc, words, &mut network, source, sink))

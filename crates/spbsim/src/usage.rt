@@ -3,14 +3,16 @@ use std::alloc::{AllocError, Global};
 
 /// The first line of the program's usage, as `clap` renders it. Nothing here compares words: `spb_run` does.
 pub(crate) fn usage_line(alloc: Global) -> Result<String, AllocError> {
+    let kind = Arg::new(alloc, "kind").long("kind").value_name("K");
     let made = Arg::new(alloc, "N").required(true);
     let tried = Arg::new(alloc, "N").required(true);
+    let tried_kind = Arg::new(alloc, "kind").long("kind").value_name("K");
     let mut program = Command::new(alloc, "spbsim")
-        .subcommand(Command::new(alloc, "run"))?
+        .subcommand(Command::new(alloc, "run").arg(kind)?)?
         .subcommand(Command::new(alloc, "make").arg(made)?)?
-        .subcommand(Command::new(alloc, "try").arg(tried)?)?
+        .subcommand(Command::new(alloc, "try").arg(tried)?.arg(tried_kind)?)?
         .subcommand_required(true)
-        .subcommand_value_name("run | make N | try N");
+        .subcommand_value_name("run [--kind K] | make N | try N [--kind K]");
     let usage = program.render_usage()?;
     let first = usage.as_str().lines().next().unwrap_or("");
     String::from_str(alloc, first)

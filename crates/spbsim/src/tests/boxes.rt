@@ -18,9 +18,15 @@ use std::alloc::Global;
 use std::process::Abort;
 use std::test::Fail;
 
-/// Asserts that two bridges are declared on the network of a rack until it has no blank box for the second.
-fn check_spent<B: Bridge>(rt: &impl Abort, alloc: Global, rack: Vec<B>) -> Result<(), Fail> {
-    let words = words_of(alloc, "run")?;
+/// Asserts that two bridges are declared on the network of a rack until it has no blank box for the line of this number.
+fn check_spent<B: Bridge>(
+    rt: &impl Abort,
+    alloc: Global,
+    words: &str,
+    rack: Vec<B>,
+    number: u32,
+) -> Result<(), Fail> {
+    let words = words_of(alloc, words)?;
     let mut network = NetworkOf::new(alloc, rack);
     let mut source = MemorySource::new(
         Vec::from_slice(alloc, TWO.as_bytes())?,
@@ -30,9 +36,10 @@ fn check_spent<B: Bridge>(rt: &impl Abort, alloc: Global, rack: Vec<B>) -> Resul
     let mut sink = MemorySink::new(alloc, Vec::new(alloc), 100);
     assert_eq!(rt;
         run(alloc, &words, &mut network, &mut source, &mut sink),
-        Status::Refused(2, Refusal::Command(Reason::RackSpent))
+        Status::Refused(number, Refusal::Command(Reason::RackSpent))
     );
-    assert_eq!(rt; sink.bytes(), b"error 2 12 RackSpent\n".as_slice());
+    let text = format!(in alloc; "error {number} 12 RackSpent\n")?;
+    assert_eq!(rt; sink.bytes(), text.as_bytes());
     Ok(())
 }
 
@@ -41,7 +48,20 @@ fn each_bridge_takes_a_box(rt: HostRuntime) -> Result<(), Fail> {
     let alloc = rt.alloc();
     let mut rack: Vec<Box<dyn Bridge>> = Vec::new(alloc);
     rack.push(Box::new(alloc, PlainBridge::blank(alloc))?)?;
-    check_spent(&rt, alloc, rack)
+    check_spent(&rt, alloc, "run", rack, 2)
+}
+
+#[test]
+fn each_bridge_takes_a_box_of_its_kind(rt: HostRuntime) -> Result<(), Fail> {
+    let alloc = rt.alloc();
+    for (words, number) in [("run --kind swift", 1), ("run --kind mixed", 2)] {
+        let mut rack: Vec<Box<dyn Bridge>> = Vec::new(alloc);
+        for _ in 0..2 {
+            rack.push(Box::new(alloc, PlainBridge::blank(alloc))?)?;
+        }
+        check_spent(&rt, alloc, words, rack, number)?;
+    }
+    Ok(())
 }
 
 /// What a bridge without ports is configured with.
@@ -73,7 +93,7 @@ fn a_box_that_is_not_blank_is_never_taken(rt: HostRuntime) -> Result<(), Fail> {
     let mut rack: Vec<Box<dyn Bridge>> = Vec::new(alloc);
     rack.push(Box::new(alloc, PlainBridge::blank(alloc))?)?;
     rack.push(Box::new(alloc, used)?)?;
-    check_spent(&rt, alloc, rack)
+    check_spent(&rt, alloc, "run", rack, 2)
 }
 
 /// The address of the bridge of a number.

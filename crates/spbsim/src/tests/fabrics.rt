@@ -111,18 +111,34 @@ fn check_left(rt: &impl Abort, alloc: Global, text: &str, service: u32) -> Resul
     Ok(())
 }
 
+/// What these words answer to the script.
+fn answers(rt: &impl Abort, alloc: Global, words: &str) -> Result<MemorySink, Fail> {
+    let script = script(alloc)?;
+    let words = words_of(alloc, words)?;
+    let bytes = Vec::from_slice(alloc, script.as_bytes())?;
+    let mut source = MemorySource::new(bytes, Vec::new(alloc), 4096);
+    let mut sink = MemorySink::new(alloc, Vec::new(alloc), 4096);
+    let status = play(alloc, &words, &mut source, &mut sink);
+    assert_eq!(*rt; status, Ok(Status::Done));
+    Ok(sink)
+}
+
+#[test]
+fn bridges_of_each_kind_answer_alike(rt: HostRuntime) -> Result<(), Fail> {
+    let plain = answers(&rt, rt.alloc(), "run --kind plain")?;
+    for words in ["run --kind swift", "run --kind mixed"] {
+        let sink = answers(&rt, rt.alloc(), words)?;
+        assert!(rt; sink.bytes() == plain.bytes(), "{words}");
+    }
+    Ok(())
+}
+
 #[test]
 fn each_frame_leaves_once_and_each_quiet_table_is_that_of_the_wiring(
     rt: HostRuntime,
 ) -> Result<(), Fail> {
     let alloc = rt.alloc();
-    let script = script(alloc)?;
-    let words = words_of(alloc, "run")?;
-    let bytes = Vec::from_slice(alloc, script.as_bytes())?;
-    let mut source = MemorySource::new(bytes, Vec::new(alloc), 4096);
-    let mut sink = MemorySink::new(alloc, Vec::new(alloc), 4096);
-    let status = play(alloc, &words, &mut source, &mut sink);
-    assert_eq!(rt; status, Ok(Status::Done));
+    let sink = answers(&rt, alloc, "run")?;
     let text = std::str::from_utf8(sink.bytes())?;
     assert_eq!(rt; text.split("show ").count(), 37);
     for answers in text.split("show ").skip(1) {

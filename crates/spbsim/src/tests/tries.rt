@@ -31,7 +31,21 @@ fn what_is_played_of_a_made_script_is_counted(rt: HostRuntime) -> Result<(), Fai
     let line = "try 24 lines 395 shows 72 same 72 outs 96\n";
     check(&rt, alloc, "try 24", 4096, line)?;
     let line = "try 4 lines 72 shows 12 same 12 outs 16\n";
-    check(&rt, alloc, "try 4", 1, line)
+    check(&rt, alloc, "try 4", 1, line)?;
+    for words in [
+        "try 4 --kind plain",
+        "try 4 --kind swift",
+        "try 4 --kind mixed",
+    ] {
+        check(&rt, alloc, words, 100, line)?;
+    }
+    Ok(())
+}
+
+#[test]
+fn bridges_of_both_kinds_are_counted_alike(rt: HostRuntime) -> Result<(), Fail> {
+    let line = "try 24 lines 395 shows 72 same 72 outs 96\n";
+    check(&rt, rt.alloc(), "try 24 --kind mixed", 4096, line)
 }
 
 #[test]

@@ -1,4 +1,5 @@
 //! The words of the program: which are a form, and what `make N` writes.
+use super::examples::{POINT_TO_POINT, POINT_TO_POINT_OUT};
 use super::runs::{sink, source};
 use super::words_of;
 use crate::{Status, play, usage_line};
@@ -97,26 +98,70 @@ fn check_usage(rt: &impl Abort, alloc: Global, words: &[String]) -> Result<(), F
     Ok(())
 }
 
+/// Words that are no form: those of one call on each line.
+const OTHER_WORDS: &str = "--help
+help
+run fast
+Run
+run --help
+try
+try 3
+try 97
+try 04
+try 4 4
+Try 4
+run plain
+run --kind
+run --kind=plain
+run --kind Plain
+run --kind fast
+run --kind plain swift
+run --kind plain --kind plain
+run -kind plain
+run --Kind plain
+run  --kind plain
+run plain --kind
+--kind plain run
+try --kind plain 8
+try --kind 8 plain
+try 8 --kind
+try 8 --kind=swift
+try 8 --kind Swift
+try 8 swift
+try 8 swift --kind
+try 8 --kind swift 8
+try 97 --kind mixed
+try 08 --kind mixed
+try --kind mixed
+--kind mixed try 8
+";
+
 #[test]
 fn other_words_are_refused_and_nothing_is_read_or_written(rt: HostRuntime) -> Result<(), Fail> {
     let alloc = rt.alloc();
     check_usage(&rt, alloc, &[])?;
-    for words in [
-        "",
-        "--help",
-        "help",
-        "run fast",
-        "Run",
-        "run ",
-        "run --help",
-        "try",
-        "try 3",
-        "try 97",
-        "try 04",
-        "try 4 4",
-        "Try 4",
-    ] {
+    for words in ["", "run ", "run --kind plain "] {
         check_usage(&rt, alloc, &words_of(alloc, words)?)?;
+    }
+    for words in OTHER_WORDS.lines() {
+        check_usage(&rt, alloc, &words_of(alloc, words)?)?;
+    }
+    Ok(())
+}
+
+#[test]
+fn plain_bridges_may_be_told(rt: HostRuntime) -> Result<(), Fail> {
+    let alloc = rt.alloc();
+    for words in ["run", "run --kind plain"] {
+        let words = words_of(alloc, words)?;
+        let bytes = Vec::from_slice(alloc, POINT_TO_POINT.as_bytes())?;
+        let mut source = MemorySource::new(bytes, Vec::new(alloc), 100);
+        let mut sink = MemorySink::new(alloc, Vec::new(alloc), 100);
+        assert_eq!(rt;
+            play(alloc, &words, &mut source, &mut sink),
+            Ok(Status::Done)
+        );
+        assert_eq!(rt; std::str::from_utf8(sink.bytes())?, POINT_TO_POINT_OUT);
     }
     Ok(())
 }
@@ -140,6 +185,8 @@ fn a_script_is_made_for_4_to_96_bridges(rt: HostRuntime) -> Result<(), Fail> {
         "Make 4",
         "MAKE 4",
         "make 1:",
+        "make 4 --kind plain",
+        "make --kind plain 4",
         "make /4",
     ] {
         check_usage(&rt, alloc, &words_of(alloc, words)?)?;
@@ -207,6 +254,9 @@ fn a_failed_write_leaves_a_front_of_the_script(rt: HostRuntime) -> Result<(), Fa
 #[test]
 fn the_usage_names_each_form(rt: HostRuntime) -> Result<(), Fail> {
     let line = usage_line(rt.alloc())?;
-    assert_eq!(rt; line.as_str(), "Usage: spbsim <run | make N | try N>");
+    assert_eq!(rt;
+        line.as_str(),
+        "Usage: spbsim <run [--kind K] | make N | try N [--kind K]>"
+    );
     Ok(())
 }

@@ -1,24 +1,47 @@
 use Rattle.std.proofs.Common.{◌≡◌, ◌≢◌, ◌⊎◌, inl, inr, ℕ, Some, map, string_bytes, refl, sym, ap, ◌∙◌, subst, ⊎_elim}
+use Rattle.spb_network.specs.declared.kind_rule.KindRule.{KindRule}
+use Rattle.spb_network.specs.Network.{state_of}
+use Rattle.spb_network.specs.State.{State}
 use Rattle.spb_run.specs.declared.status.Status.{Status}
 use Rattle.spb_run.specs.declared.status.Status.TheVariants.{NoMemory, WriteFault}
-use Rattle.spb_run.specs.declared.words.Form.TheVariants.{Try}
+use Rattle.spb_run.specs.declared.words.Form.TheVariants.{Run, Try}
+use Rattle.spb_run.specs.Running.{Runs}
+use Rattle.spb_run.specs.States.{ruled}
 use Rattle.spb_run.specs.Trying.{Tries}
 use Rattle.spb_run.proofs.runner.run.Goals as goal
 
-one_number : (m n : ℕ) → Some (Try m) ≡ Some (Try n) → m ≡ n
-one_number m n e = cc
+one_rule : (a b : KindRule) → Some (Run a) ≡ Some (Run b) → a ≡ b
+one_rule a b e = cc
+
+one_number : (m n : ℕ) (a b : KindRule) → Some (Try m a) ≡ Some (Try n b) → (m ≡ n) × (a ≡ b)
+one_number m n a b e = (cc, cc)
 
 -- where no write failed, it ended as it should, or memory ran out
 unless_written : (status fate : Status) → (status ≡ fate) ⊎ (status ≡ NoMemory) ⊎ (status ≡ WriteFault) → status ≢ WriteFault
     → (status ≡ fate) ⊎ (status ≡ NoMemory)
 unless_written status fate ends written = ⊎_elim (λ e. inl e) (λ r. ⊎_elim (λ e. inr e) (λ w. absurd (written w)) r) ends
 
+pub returns-in-Some-Run-clause-runs : goal.returns-in-Some-Run-clause-runs
+returns-in-Some-Run-clause-runs g c rule e =
+    let state = state_of g.B.Bridge.shown in
+    let same = one_rule c.in-Some-Run.rule rule (ap Some (sym c.in-Some-Run.field-0-is) ∙ sym c.in-Some-Run.is ∙ c.form_of.ensures.form ∙ e) in
+    let begins : state c.set_rule.new.self ≡ ruled rule (state c.args.network.now) = c.set_rule.ensures.state ∙ ap (λ r. ruled r (state c.args.network.now)) same in
+    subst (λ (s : State). Runs g.S.Source.left g.S.Source.is_reliable g.K.Sink.holds g.K.Sink.is_reliable c.run_script.result
+    s (state c.run_script.new.network) c.args.source.now c.run_script.new.source c.args.sink.now c.run_script.new.sink) begins c.run_script.ensures.runs
+
+pub returns-in-Some-Run-clause-few : goal.returns-in-Some-Run-clause-few
+returns-in-Some-Run-clause-few g c = let reads = c.run_script.ensures.runs.reads in (reads.read, reads.consumed, reads.few)
+
 pub returns-in-Some-Try-clause-tries : goal.returns-in-Some-Try-clause-tries
-returns-in-Some-Try-clause-tries g c bridges e =
+returns-in-Some-Try-clause-tries g c bridges rule e =
+    let state = state_of g.B.Bridge.shown in
     let tried = c.try_script.ensures in
-    let same = one_number c.in-Some-Try.bridges bridges (ap Some (sym c.in-Some-Try.field-0-is) ∙ sym c.in-Some-Try.is ∙ c.form_of.ensures.form ∙ e) in
-    subst (λ n. Tries g.B.Bridge.shown g.K.Sink.holds g.K.Sink.is_reliable n c.try_script.result c.args.network.now c.try_script.new.network
-    c.args.source.now c.args.source.now c.args.sink.now c.try_script.new.sink) same
+    let same = one_number c.in-Some-Try.bridges bridges c.in-Some-Try.rule rule (ap Some (sym c.in-Some-Try.field-0-is) ∙ sym c.in-Some-Try.is ∙ c.form_of.ensures.form ∙ e) in
+    let begins : state c.set_rule-in-Some-Try.new.self ≡ ruled rule (state c.args.network.now) = c.set_rule-in-Some-Try.ensures.state ∙ ap (λ r. ruled r (state c.args.network.now)) same.1 in
+    subst (λ (s : State). Tries g.K.Sink.holds g.K.Sink.is_reliable bridges c.try_script.result s (state c.try_script.new.network)
+    c.args.source.now c.args.source.now c.args.sink.now c.try_script.new.sink) begins
+    (subst (λ n. Tries g.K.Sink.holds g.K.Sink.is_reliable n c.try_script.result (state c.set_rule-in-Some-Try.new.self) (state c.try_script.new.network)
+    c.args.source.now c.args.source.now c.args.sink.now c.try_script.new.sink) same.0
     (record {
       ends = tried.ends;
       text = tried.text;
@@ -27,4 +50,4 @@ returns-in-Some-Try-clause-tries g c bridges e =
       unread = refl;
       complete = λ h. unless_written c.try_script.result _ tried.ends (tried.reliable h);
       done = tried.done;
-    })
+    }))
