@@ -2,9 +2,11 @@
 """Runs spbsim on made workloads, and prints what each takes in one table.
 
     bench/bench.py [--count] [PROGRAM ..]
+    bench/bench.py --kinds [--count]
 
 Without arguments it measures the program built in this repository (build it first, by ./build).
-Each further program that takes the word `run` and a script on standard input is measured beside it.
+Each further program that takes the word `run` and a script on standard input is measured beside it. With --kinds it
+measures scripts that change links and ask for tables after each change, with bridges of either kind.
 
 Processor time depends on the machine and on what else it does. With --count there is a column of instructions, which
 valgrind counts (Debian's package of that name); that takes some fifty times as long, so the longest workload has none.
@@ -78,6 +80,31 @@ def workloads():
     yield "32,768 lines", ["#"] * 32768, 0
 
 
+def changes(count, links, services, changed):
+    """A script that changes one metric after another, and asks two bridges for their tables after each change."""
+    yield from ("vid 10 1", "vid 20 2", "vid 30 3", "vid 40 4")
+    yield from list(wired(count, mesh(count, links)))[1:]
+    pick = random.Random(2)
+    for number in range(1, services + 1):
+        yield f"isid {1000 + number} {10 * (1 + number % 4)}"
+        for bridge in pick.sample(range(1, count + 1), 4):
+            yield f"attach b{bridge} {number} {1000 + number}"
+    yield f"round {FULL}"
+    for number in range(1, changed + 1):
+        yield f"metric l{pick.randint(1, links)} a {20 + number % 9}"
+        yield "round 8"
+        yield "show b1"
+        yield "show b2"
+
+
+def by_kind():
+    """Name and script of each workload that is run with bridges of each kind."""
+    yield "24 bridges, 100 links, 60 changes", changes(24, 100, 60, 60)
+    yield "48 bridges, 200 links, 60 changes", changes(48, 200, 60, 60)
+    yield "96 bridges, 400 links, 60 changes", changes(96, 400, 60, 60)
+    yield "48 bridges, 60 links, 60 changes", changes(48, 60, 60, 60)
+
+
 def high_water(pid):
     """The most memory that a process has had so far, in MB; None once it has ended."""
     try:
@@ -88,7 +115,7 @@ def high_water(pid):
     return int(found.group(1)) / 1024 if found else None
 
 
-def measure(program, path):
+def measure(program, path, words=("run",)):
     """Processor seconds, peak memory in MB and exit status of one run.
 
     What the system tells of a child after its end counts the memory of the process that it was forked from as well, so
@@ -96,7 +123,7 @@ def measure(program, path):
     """
     peak = 0.0
     with open(path, "rb") as script, open(os.devnull, "wb") as nowhere:
-        process = subprocess.Popen([program, "run"], stdin=script, stdout=nowhere, stderr=nowhere)
+        process = subprocess.Popen([program, *words], stdin=script, stdout=nowhere, stderr=nowhere)
         while True:
             peak = max(peak, high_water(process.pid) or 0.0)
             pid, status, usage = os.wait4(process.pid, os.WNOHANG)
@@ -105,11 +132,11 @@ def measure(program, path):
             time.sleep(0.0005)
 
 
-def instructions(program, path):
+def instructions(program, path, words=("run",)):
     """How many instructions a run takes, by valgrind."""
-    words = ["valgrind", "--tool=callgrind", f"--callgrind-out-file={os.devnull}", program, "run"]
+    counted = ["valgrind", "--tool=callgrind", f"--callgrind-out-file={os.devnull}", program, *words]
     with open(path, "rb") as script:
-        run = subprocess.run(words, stdin=script, stdout=subprocess.DEVNULL, stderr=subprocess.PIPE, text=True)
+        run = subprocess.run(counted, stdin=script, stdout=subprocess.DEVNULL, stderr=subprocess.PIPE, text=True)
     found = re.search(r"Collected : (\d+)", run.stderr)
     return int(found.group(1)) if found else None
 
@@ -118,11 +145,30 @@ def instructions(program, path):
 LONG = 5.0
 
 
+def compare_kinds(counts):
+    """The workloads that change links and ask for tables, with bridges of each kind."""
+    print(f"{'workload':44} {'kind':8} {'cpu s':>8} {'peak MB':>8}" + (f" {'10^6 instr.':>12}" if counts else ""))
+    for name, lines in by_kind():
+        with tempfile.NamedTemporaryFile("w", suffix=".spb", delete=False) as script:
+            script.write("\n".join(lines) + "\n")
+        for kind in ("plain", "swift"):
+            words = ("run", "--kind", kind)
+            seconds, memory, status = measure(BUILT, script.name, words)
+            row = f"{name:44} {kind:8} {seconds:8.2f} {memory:8.1f}"
+            if counts:
+                count = instructions(BUILT, script.name, words)
+                row += f" {count / 1e6:12,.1f}" if count else f" {'-':>12}"
+            print(row + ("" if status == 0 else f"  status {status}"), flush=True)
+        os.unlink(script.name)
+
+
 def main():
     words = sys.argv[1:]
     counts = "--count" in words
     if counts and not shutil.which("valgrind"):
         sys.exit("bench: --count needs valgrind on the path")
+    if "--kinds" in words:
+        return compare_kinds(counts)
     programs = [BUILT] + [word for word in words if word != "--count"]
     head = f"{'workload':44} {'program':16} {'cpu s':>8} {'peak MB':>8} {'hellos/s':>13}"
     print(head + (f" {'10^6 instr.':>12}" if counts else ""))
