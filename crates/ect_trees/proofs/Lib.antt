@@ -4,6 +4,7 @@ pub mod Walks
 pub mod Members
 pub mod KeyOrder
 pub mod Least
+pub mod Lesser
 pub mod Exists
 pub mod Places
 pub mod Placed

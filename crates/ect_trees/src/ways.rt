@@ -1,9 +1,10 @@
 //! Ways that are told by the last step of each: the way to a place is that to the place before it, and the place.
-ghost use Rattle.std.specs.Prelude.{◌≡◌, ◌∷◌, [], IfOk};
+ghost use Rattle.std.specs.Prelude.{◌≡◌, ℕ, List, ◌∷◌, [], false, IfOk, slice_get};
+ghost use Rattle.std.specs.Ordering.{is_eq};
 ghost use Rattle.std.specs.Cmp.Lexicographic.{slice_cmp};
 ghost use Rattle.spb_types.specs.Graph.{IsValid};
 ghost use Rattle.spb_types.specs.declared.address.SystemId.{SystemId};
-ghost use Rattle.ect_trees.specs.Key.{id_cmp, masked_id};
+ghost use Rattle.ect_trees.specs.Key.{id_cmp, inserted, masked_id};
 ghost use Rattle.ect_trees.specs.Arcs.{IsBridgeAt};
 ghost use Rattle.ect_trees.specs.Ways as ways;
 
@@ -112,8 +113,47 @@ impl<'a> Ways<'a> {
         compare_masked(low, other_low).then(compare_masked(high, other_high))
     }
 
-    /// Compares the PATHIDs of ways of as many hops, from their ends back to the place where they part.
+    /// Compares the PATHIDs of ways of as many hops, from their ends back to the place where they part. The least ids
+    /// mostly decide, and then nothing is put in order.
     fn compare_back(
+        &self,
+        alloc: Global,
+        hops: usize,
+        a: usize,
+        b: usize,
+    ) -> Result<Ordering, NoMemory>
+        ensures { IfOk result (ways.Compares self.now.mesh.now self.now.mask self.now.steps.now hops a b) }
+    {
+        let order = self.compare_least(hops, a, b);
+        if order.is_ne() {
+            return Ok(order);
+        }
+        self.compare_sorted(alloc, hops, a, b)
+    }
+
+    /// Compares the least masked ids of ways of as many hops behind the place where they part. Unless these are equal,
+    /// they decide.
+    fn compare_least(&self, hops: usize, a: usize, b: usize) -> Ordering
+        ensures { is_eq result ≡ false
+            → ways.Compares self.now.mesh.now self.now.mask self.now.steps.now hops a b result }
+    {
+        let mut least = None;
+        let mut other_least = None;
+        let mut place = a;
+        let mut other = b;
+        let mut left = hops;
+        while left > 0 && place != other {
+            least = lesser(least, self.masked_at(place));
+            other_least = lesser(other_least, self.masked_at(other));
+            place = self.place_before(place);
+            other = self.place_before(other);
+            left -= 1;
+        }
+        compare_if_some(least, other_least)
+    }
+
+    /// Compares all masked ids of ways of as many hops behind the place where they part.
+    fn compare_sorted(
         &self,
         alloc: Global,
         hops: usize,
@@ -135,5 +175,26 @@ impl<'a> Ways<'a> {
             left -= 1;
         }
         Ok(ids.as_slice().cmp(&others.as_slice()))
+    }
+}
+
+/// The lesser of two masked ids, the first of which may be missing.
+fn lesser(least: Option<[u8; 8]>, id: [u8; 8]) -> Option<[u8; 8]>
+    ensures { (ids : List (List ℕ)) → slice_get ids 0 ≡ least → slice_get (inserted id ids) 0 ≡ result }
+{
+    match least {
+        Some(other) if compare_masked(id, other).is_gt() => least,
+        _ => Some(id),
+    }
+}
+
+/// Compares two masked ids; where one is missing they count as equal.
+fn compare_if_some(least: Option<[u8; 8]>, other: Option<[u8; 8]>) -> Ordering
+    ensures { (ids others : List (List ℕ)) → slice_get ids 0 ≡ least → slice_get others 0 ≡ other
+        → is_eq result ≡ false → result ≡ slice_cmp id_cmp ids others }
+{
+    match (least, other) {
+        (Some(least), Some(other)) => compare_masked(least, other),
+        _ => Ordering::Equal,
     }
 }

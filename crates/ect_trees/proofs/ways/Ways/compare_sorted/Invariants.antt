@@ -1,5 +1,5 @@
 use Rattle.ect_trees.proofs.Compared.{WalksBack}
-use Rattle.ect_trees.proofs.ways.Ways.compare_back.Given as goal
+use Rattle.ect_trees.proofs.ways.Ways.compare_sorted.Given as goal
 
 abbrev pub invariant-loop-left : goal.invariant-loop-left
 invariant-loop-left l =

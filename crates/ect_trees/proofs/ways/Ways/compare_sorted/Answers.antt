@@ -2,8 +2,8 @@ use Rattle.std.proofs.Common.{◌≡◌, ◌+◌, ◌-◌, ◌⊎◌, inl, inr, 
 use Rattle.std.specs.Cmp.Lexicographic.{slice_cmp}
 use Rattle.ect_trees.specs.Key.{id_cmp}
 use Rattle.ect_trees.proofs.Compared.{WalksBack, walked_more, walked_all}
-use Rattle.ect_trees.proofs.ways.Ways.compare_back.Goals as goal
-use Rattle.ect_trees.proofs.ways.Ways.compare_back.Goals.{then-loop-left-test+else-place-other, else-loop-left-test}
+use Rattle.ect_trees.proofs.ways.Ways.compare_sorted.Goals as goal
+use Rattle.ect_trees.proofs.ways.Ways.compare_sorted.Goals.{then-loop-left-test+else-place-other, else-loop-left-test}
 
 pub loop-left-preserved : goal.loop-left-preserved
 loop-left-preserved c =
