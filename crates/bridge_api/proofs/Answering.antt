@@ -23,7 +23,8 @@ use Rattle.flooding.proofs.Owns.{own_is_not_spent}
 use Rattle.flooding.proofs.Steps.{beyond_is}
 use Rattle.snp_sync.specs.Hearing.{claims_in, hear_entries_of, hear_csnp_of}
 use Rattle.snp_sync.proofs.Stays.{entries_dont_spend}
-use Rattle.bridge_api.specs.View.{BridgeView, up_ports}
+use Rattle.bridge_api.specs.declared.drops.Drops.{Drops}
+use Rattle.bridge_api.specs.View.{BridgeView, up_ports, with_drops}
 use Rattle.bridge_api.specs.Own.{body_of, own_of, own_entry, holding_of, with_holding, is_said, originating, originated_if_changed}
 use Rattle.bridge_api.specs.Parsing.{Parsed, parsed, hello_in, is_hello}
 use Rattle.bridge_api.specs.Parsing as parsing
@@ -35,7 +36,7 @@ use Rattle.bridge_api.proofs.Changes.{FrameStep, idle, by_hello, by_lsp, by_csnp
 use Rattle.bridge_api.proofs.HeldIds.{own_is}
 use Rattle.bridge_api.proofs.Learning.{IsSameLsp, same_lsp, same_again, LeavesWithin, lsp_rule_leaves, snp_rule_leaves, missed_same, first_claim}
 use Rattle.bridge_api.proofs.OwnLsp.{system_mine, originated_mine}
-use Rattle.bridge_api.proofs.OwnLspSteps.{held_body}
+use Rattle.bridge_api.proofs.OwnLspSteps.{held_body, counted_body}
 use Rattle.bridge_api.proofs.TimeOwn.{said_as}
 
 -- ---- a claim of the own id
@@ -134,11 +135,11 @@ all_low [] low = tt
 all_low (c ∷ claims) low = (low c.id c.version (inl (refl, refl)), all_low claims (λ id a claimed. low id a (inr claimed)))
 
 -- a bridge that heard, of which the holding is what the claims make of it
-answers_heard : (v : BridgeView) (claims : List Claim) (h : Holding) → body_in (own_entry v) ≡ body_of v → v.spent ≡ false
-    → AnsweredAs (body_of v) claims (own_id v.id.system) (own_entry v) (get h.db (own_id v.id.system)) → h.own ≡ own_of v → Answers v claims (originated_if_changed (with_holding h v))
-answers_heard v claims h says fresh own same =
-    let w : BridgeView = with_holding h v in
-    let told : body_in (own_entry w) ≡ body_of w = still_says (body_of v) claims (own_id v.id.system) (own_entry v) (own_entry w) own says ∙ sym (held_body h v) in
+answers_heard : (v : BridgeView) (claims : List Claim) (h : Holding) (drops : Drops) → body_in (own_entry v) ≡ body_of v → v.spent ≡ false
+    → AnsweredAs (body_of v) claims (own_id v.id.system) (own_entry v) (get h.db (own_id v.id.system)) → h.own ≡ own_of v → Answers v claims (originated_if_changed (with_drops drops (with_holding h v)))
+answers_heard v claims h drops says fresh own same =
+    let w : BridgeView = with_drops drops (with_holding h v) in
+    let told : body_in (own_entry w) ≡ body_of w = still_says (body_of v) claims (own_id v.id.system) (own_entry v) (own_entry w) own says ∙ sym (counted_body drops (with_holding h v) ∙ held_body h v) in
     subst (Answers v claims) (sym (stands_still w told)) (record { own = own; fresh = ap (λ (o : Own). o.spent) same ∙ fresh })
 
 module _ (q : ℕ) (bytes : List ℕ) (v : BridgeView) (was : IsSoundView v) (far : IsFar (frame q bytes) v) (other : is_hello bytes ≡ false) where
@@ -162,7 +163,7 @@ module _ (q : ℕ) (bytes : List ℕ) (v : BridgeView) (was : IsSoundView v) (fa
       let h : Holding = holding_of v in
       let low : AreLow (claim_of g.lsp ∷ []) = low_as (parsing.lsp g.lsp) g.is in
       answers_as (parsing.lsp g.lsp) (originated_if_changed (heard_lsp g.lsp q v)) g.is g.after
-      (answers_heard v (claim_of g.lsp ∷ []) (hear_lsp_of up q g.lsp h) says_own far.fresh
+      (answers_heard v (claim_of g.lsp ∷ []) (hear_lsp_of up q g.lsp h) (heard_lsp g.lsp q v).drops says_own far.fresh
       (own_claimed (lsp_rule up q g.lsp) up (claim_of g.lsp) h (own_id v.id.system) (lsp_rule_leaves up q g.lsp) (lsp_rule_says up q g.lsp) refl low.0)
       (own_is_not_spent (lsp_rule up q g.lsp) up (claim_of g.lsp) h low.0))
   frame_answers (by_csnp g) =
@@ -176,7 +177,7 @@ module _ (q : ℕ) (bytes : List ℕ) (v : BridgeView) (was : IsSoundView v) (fa
       (entries_answered up q claims h (own_of v) id refl refl low) (missed_same up q g.csnp.start g.csnp.end claims h id) in
       answers_as (parsing.csnp g.csnp) (originated_if_changed (heard_csnp g.csnp g.entries q v)) g.is g.after
       (subst (λ es. Answers v (claims_or_none es) (originated_if_changed (heard_csnp g.csnp g.entries q v))) (sym g.read)
-      (answers_heard v claims (hear_csnp_of up q g.csnp.start g.csnp.end claims h) says_own far.fresh own (entries_dont_spend up q claims h low)))
+      (answers_heard v claims (hear_csnp_of up q g.csnp.start g.csnp.end claims h) (heard_csnp g.csnp g.entries q v).drops says_own far.fresh own (entries_dont_spend up q claims h low)))
     where
       missed_answered : (body : List ℕ) (claims : List Claim) (id : LspId) (o m n : Option Entry) → AnsweredAs body claims id o m → IsSameLsp m n → AnsweredAs body claims id o n
       missed_answered body claims id o m n (still first) same = still (same_again o m n first same)
@@ -188,7 +189,7 @@ module _ (q : ℕ) (bytes : List ℕ) (v : BridgeView) (was : IsSoundView v) (fa
       let low : AreLow claims = subst (λ es. AreLow (claims_or_none es)) g.read (low_as (parsing.psnp g.psnp) g.is) in
       answers_as (parsing.psnp g.psnp) (originated_if_changed (heard_psnp g.entries q v)) g.is g.after
       (subst (λ es. Answers v (claims_or_none es) (originated_if_changed (heard_psnp g.entries q v))) (sym g.read)
-      (answers_heard v claims (hear_entries_of up q claims h) says_own far.fresh (entries_answered up q claims h (own_of v) (own_id v.id.system) refl refl low) (entries_dont_spend up q claims h low)))
+      (answers_heard v claims (hear_entries_of up q claims h) (heard_psnp g.entries q v).drops says_own far.fresh (entries_answered up q claims h (own_of v) (own_id v.id.system) refl refl low) (entries_dont_spend up q claims h low)))
 
   pub frame_answered : Answers v (claims_said (parsed bytes)) (step (frame q bytes) v)
   frame_answered = frame_answers (frame_step v q bytes)

@@ -15,6 +15,8 @@ use Rattle.spb_tlvs.specs.declared.entries.SnpEntry.{SnpEntry}
 use Rattle.spb_tlvs.specs.declared.three_way.ThreeWay.{ThreeWay}
 use Rattle.customer_learning.specs.Known.{Addresses}
 use Rattle.forwarding.specs.Tenant.{after_backbone}
+use Rattle.forwarding.specs.declared.drop_reason.DropReason.{DropReason}
+use Rattle.forwarding.specs.declared.drop_reason.DropReason.TheVariants as drop
 use Rattle.lsdb.specs.Database.{Lsps}
 use Rattle.snp_sync.specs.Reading.{entries_in}
 use Rattle.adjacency.specs.declared.state.AdjacencyChange.{AdjacencyChange}
@@ -23,12 +25,13 @@ use Rattle.adjacency.specs.declared.port.Adjacency.{Adjacency}
 use Rattle.adjacency.specs.Adjacency.{after_hello, change_by_hello, after_carrier, change_of}
 use Rattle.bridge_api.specs.declared.port.BridgePort.{BridgePort}
 use Rattle.bridge_api.specs.declared.config.BridgeConfig.{BridgeConfig}
-use Rattle.bridge_api.specs.View.{BridgeView, port_in, port_at, with_port_at, is_port_up}
+use Rattle.bridge_api.specs.declared.drops.Drops.{Drops}
+use Rattle.bridge_api.specs.View.{BridgeView, port_in, port_at, with_port_at, with_drops, is_port_up}
 use Rattle.bridge_api.specs.Own.{own_entry, is_said, originating, originated_if_changed}
 use Rattle.bridge_api.specs.Config.{bare, configured}
 use Rattle.bridge_api.specs.Parsing.{Parsed, parsed}
 use Rattle.bridge_api.specs.Parsing as parsing
-use Rattle.bridge_api.specs.Hearing.{with_csnp_due, with_adjacency, left_up, changed_at, all_srm_set_at, heard_lsp, heard_csnp, heard_psnp, with_csnp, with_psnp, heard_as, heard_at, heard_hello, after_receive, with_carrier_at, with_carrier, with_port_metric, with_metric_at, with_metric}
+use Rattle.bridge_api.specs.Hearing.{after_drop, with_csnp_due, with_adjacency, left_up, changed_at, all_srm_set_at, heard_lsp, heard_csnp, heard_psnp, with_csnp, with_psnp, heard_as, heard_at, heard_hello, after_receive, with_carrier_at, with_carrier, with_port_metric, with_metric_at, with_metric}
 use Rattle.bridge_api.specs.Tables.{own_tables}
 use Rattle.bridge_api.specs.Customers.{tenant_of, with_learned, carried_by, after_entry}
 use Rattle.bridge_api.specs.Services.{with_attached, with_port_forgotten}
@@ -43,13 +46,13 @@ use Rattle.bridge_api.proofs.Adjacent.{kept_whole, not_discarded}
 abbrev pub with_lsps : Lsps → Bool → BridgeView → BridgeView
 with_lsps db spent v = record v { database = db; spent = spent }
 
--- and with other ports
-abbrev pub with_and_parts : List BridgePort → Lsps → Bool → BridgeView → BridgeView
-with_and_parts ports db spent v = record v { ports = ports; database = db; spent = spent }
+-- and with other ports and counts
+abbrev pub with_and_parts : List BridgePort → Lsps → Bool → Drops → BridgeView → BridgeView
+with_and_parts ports db spent drops v = record v { ports = ports; database = db; spent = spent; drops = drops }
 
 -- nothing else changed
 abbrev pub KeepsRest : BridgeView → BridgeView → Type 0
-KeepsRest v w = w ≡ with_and_parts w.ports w.database w.spent v
+KeepsRest v w = w ≡ with_and_parts w.ports w.database w.spent w.drops v
 
 -- what is nothing but a bridge that keeps the rest keeps it
 pub rest_of : (v w u : BridgeView) → w ≡ u → KeepsRest v u → KeepsRest v w
@@ -70,7 +73,7 @@ pub originated_if_changed_rest : (v u : BridgeView) → KeepsRest v u → KeepsR
 originated_if_changed_rest v u rest =
     originated_if_changed_is u
     ∙ (ap (λ (x : BridgeView). with_lsps (originated_if_changed u).database (originated_if_changed u).spent x) rest
-    ∙ ap (λ (ports : List BridgePort). with_and_parts ports (originated_if_changed u).database (originated_if_changed u).spent v) (sym (originated_if_changed_ports u)))
+    ∙ ap (λ (x : BridgeView). with_and_parts x.ports (originated_if_changed u).database (originated_if_changed u).spent x.drops v) (sym (originated_if_changed_is u)))
 
 pub refreshed_is : (v : BridgeView) → refreshed v ≡ with_lsps (refreshed v).database (refreshed v).spent v
 unfolding refreshed
@@ -83,7 +86,7 @@ pub refreshed_rest : (v u : BridgeView) → KeepsRest v u → KeepsRest v (refre
 refreshed_rest v u rest =
     refreshed_is u
     ∙ (ap (λ (x : BridgeView). with_lsps (refreshed u).database (refreshed u).spent x) rest
-    ∙ ap (λ (ports : List BridgePort). with_and_parts ports (refreshed u).database (refreshed u).spent v) (sym (refreshed_ports u)))
+    ∙ ap (λ (x : BridgeView). with_and_parts x.ports (refreshed u).database (refreshed u).spent x.drops v) (sym (refreshed_is u)))
 
 pub configured_is : (c : BridgeConfig) → configured c ≡ with_lsps (configured c).database (configured c).spent (bare c)
 unfolding configured
@@ -181,9 +184,9 @@ pub data Learns (v : BridgeView) (q : ℕ) (bytes : List ℕ) (learned : Address
   nothing_new : learned ≡ v.learned → Learns v q bytes learned
   from_customer : (da sa : Mac) (vid : Vid) (isid : Isid) (f : List ℕ) → parsed bytes ≡ parsing.customer da sa vid isid f → learned ≡ (after_backbone (tenant_of v) (own_tables v) q (carried_by da sa vid isid f)).learned → Learns v q bytes learned
 
--- what a frame did: nothing but that something is learned, or one of these
+-- what a frame did: nothing but that something is learned or counted, or one of these
 pub data FrameStep (v : BridgeView) (q : ℕ) (bytes : List ℕ) (w : BridgeView) : Type 0 where
-  idle : (learned : Addresses) → Learns v q bytes learned → w ≡ with_learned learned v → FrameStep v q bytes w
+  idle : (learned : Addresses) → Learns v q bytes learned → w ≡ with_drops w.drops (with_learned learned v) → FrameStep v q bytes w
   by_hello : HelloStep v q bytes w → FrameStep v q bytes w
   by_lsp : LspStep v q bytes w → FrameStep v q bytes w
   by_csnp : CsnpStep v q bytes w → FrameStep v q bytes w
@@ -192,21 +195,24 @@ pub data FrameStep (v : BridgeView) (q : ℕ) (bytes : List ℕ) (w : BridgeView
 idles : (v : BridgeView) (q : ℕ) (bytes : List ℕ) → FrameStep v q bytes v
 idles v q bytes = idle v.learned (nothing_new refl) refl
 
+drops_it : (reason : DropReason) (v : BridgeView) (q : ℕ) (bytes : List ℕ) → FrameStep v q bytes (after_drop reason v)
+drops_it reason v q bytes = idle v.learned (nothing_new refl) refl
+
 -- at a port that is Up, or not
-if_up : (b : Bool) (v w : BridgeView) (q : ℕ) (bytes : List ℕ) → (b ≡ true → FrameStep v q bytes w) → FrameStep v q bytes (if b then w else v)
+if_up : (b : Bool) (v w : BridgeView) (q : ℕ) (bytes : List ℕ) → (b ≡ true → FrameStep v q bytes w) → FrameStep v q bytes (if b then w else after_drop drop.NotAdjacent v)
 if_up true v w q bytes up = up refl
-if_up false v w q bytes up = idles v q bytes
+if_up false v w q bytes up = drops_it drop.NotAdjacent v q bytes
 
 csnp_is_read_as : (es : Result (List SnpEntry) TlvError) (c : CsnpValue) (v : BridgeView) (q : ℕ) (bytes : List ℕ) (port : BridgePort) → entries_in c.tlvs ≡ es → parsed bytes ≡ parsing.csnp c → port_at v q ≡ Some port → port.adjacency.carrier ≡ true → is_port_up port ≡ true → FrameStep v q bytes (with_csnp c es q v)
 csnp_is_read_as (Ok es) c v q bytes port read is there has_carrier up = by_csnp (record { port = port; csnp = c; entries = es; there = there; carrier = has_carrier; up = up; is = is; read = read; after = refl })
-csnp_is_read_as (Err e) c v q bytes port read is there has_carrier up = idles v q bytes
+csnp_is_read_as (Err e) c v q bytes port read is there has_carrier up = drops_it drop.Tlv v q bytes
 
 psnp_is_read_as : (es : Result (List SnpEntry) TlvError) (s : PsnpValue) (v : BridgeView) (q : ℕ) (bytes : List ℕ) (port : BridgePort) → entries_in s.tlvs ≡ es → parsed bytes ≡ parsing.psnp s → port_at v q ≡ Some port → port.adjacency.carrier ≡ true → is_port_up port ≡ true → FrameStep v q bytes (with_psnp es q v)
 psnp_is_read_as (Ok es) s v q bytes port read is there has_carrier up = by_psnp (record { port = port; psnp = s; entries = es; there = there; carrier = has_carrier; up = up; is = is; read = read; after = refl })
-psnp_is_read_as (Err e) s v q bytes port read is there has_carrier up = idles v q bytes
+psnp_is_read_as (Err e) s v q bytes port read is there has_carrier up = drops_it drop.Tlv v q bytes
 
 by_kind : (j : Parsed) (v : BridgeView) (q : ℕ) (bytes : List ℕ) (port : BridgePort) → parsed bytes ≡ j → port_at v q ≡ Some port → port.adjacency.carrier ≡ true → FrameStep v q bytes (heard_as j q port v)
-by_kind (parsing.dropped reason) v q bytes port e there has_carrier = idles v q bytes
+by_kind (parsing.dropped reason) v q bytes port e there has_carrier = drops_it reason v q bytes
 by_kind (parsing.hello h way) v q bytes port e there has_carrier = by_hello (record { port = port; hello = h; way = way; there = there; carrier = has_carrier; is = e; after = refl })
 by_kind (parsing.lsp l) v q bytes port e there has_carrier =
     if_up (is_port_up port) v (originated_if_changed (heard_lsp l q v)) q bytes (λ up. by_lsp (record { port = port; lsp = l; there = there; carrier = has_carrier; up = up; is = e; after = refl }))
@@ -215,9 +221,9 @@ by_kind (parsing.psnp s) v q bytes port e there has_carrier = if_up (is_port_up 
 by_kind (parsing.customer da sa vid isid f) v q bytes port e there has_carrier =
     idle (after_backbone (tenant_of v) (own_tables v) q (carried_by da sa vid isid f)).learned (from_customer da sa vid isid f e refl) refl
 
-by_carrier : (has_carrier : Bool) (v : BridgeView) (q : ℕ) (bytes : List ℕ) (port : BridgePort) → port_at v q ≡ Some port → port.adjacency.carrier ≡ has_carrier → FrameStep v q bytes (if has_carrier then heard_as (parsed bytes) q port v else v)
+by_carrier : (has_carrier : Bool) (v : BridgeView) (q : ℕ) (bytes : List ℕ) (port : BridgePort) → port_at v q ≡ Some port → port.adjacency.carrier ≡ has_carrier → FrameStep v q bytes (if has_carrier then heard_as (parsed bytes) q port v else after_drop drop.NotAdjacent v)
 by_carrier true v q bytes port there has_carrier = by_kind (parsed bytes) v q bytes port refl there has_carrier
-by_carrier false v q bytes port there has_carrier = idles v q bytes
+by_carrier false v q bytes port there has_carrier = drops_it drop.NotAdjacent v q bytes
 
 by_port : (o : Option BridgePort) (v : BridgeView) (q : ℕ) (bytes : List ℕ) → port_at v q ≡ o → FrameStep v q bytes (heard_at q bytes o v)
 by_port None v q bytes e = idles v q bytes
@@ -250,7 +256,7 @@ frame_ports v q bytes =
 pub but_learned : (v w : BridgeView) → KeepsRest v w → KeepsRest (with_learned w.learned v) w
 but_learned v w rest = subst (λ (learned : Addresses). KeepsRest (with_learned learned v) w) (sym (ap (λ (u : BridgeView). u.learned) rest)) rest
 
-idle_rest : (v w : BridgeView) (learned : Addresses) → w ≡ with_learned learned v → KeepsRest (with_learned w.learned v) w
+idle_rest : (v w : BridgeView) (learned : Addresses) → w ≡ with_drops w.drops (with_learned learned v) → KeepsRest (with_learned w.learned v) w
 idle_rest v w learned e = subst (λ (u : BridgeView). KeepsRest (with_learned u.learned v) u) (sym e) refl
 
 pub frame_rest : (v : BridgeView) (q : ℕ) (bytes : List ℕ) → KeepsRest (with_learned (after_receive q bytes v).learned v) (after_receive q bytes v)
@@ -342,7 +348,7 @@ pub forgotten_is : (port : ℕ) (v : BridgeView) → with_port_forgotten port v 
 unfolding with_port_forgotten
 forgotten_is port v = refl
 
-pub entry_is : (port : ℕ) (bytes : List ℕ) (v : BridgeView) → after_entry port bytes v ≡ with_learned (after_entry port bytes v).learned v
+pub entry_is : (port : ℕ) (bytes : List ℕ) (v : BridgeView) → after_entry port bytes v ≡ with_drops (after_entry port bytes v).drops (with_learned (after_entry port bytes v).learned v)
 unfolding after_entry
 entry_is port bytes v = refl
 
@@ -395,16 +401,16 @@ pub when_false : {X : Type 0} (b : Bool) (x y : X) → b ≡ false → (if b the
 when_false true x y e = absurd cc
 when_false false x y e = refl
 
--- at a port with carrier a frame is heard by its kind, and at one without it isn't heard
+-- at a port with carrier a frame is heard by its kind, and at one without it is dropped
 pub heard_is : (v : BridgeView) (q : ℕ) (bytes : List ℕ) (port : BridgePort) → 1 ≤ q → slice_get v.ports (q - 1) ≡ Some port → port.adjacency.carrier ≡ true → after_receive q bytes v ≡ heard_as (parsed bytes) q port v
 unfolding after_receive
 heard_is v q bytes port low at has_carrier =
-    ap (λ (o : Option BridgePort). heard_at q bytes o v) (port_found v q low ∙ at) ∙ when_true port.adjacency.carrier (heard_as (parsed bytes) q port v) v has_carrier
+    ap (λ (o : Option BridgePort). heard_at q bytes o v) (port_found v q low ∙ at) ∙ when_true port.adjacency.carrier (heard_as (parsed bytes) q port v) (after_drop drop.NotAdjacent v) has_carrier
 
-pub deaf_is : (v : BridgeView) (q : ℕ) (bytes : List ℕ) (port : BridgePort) → 1 ≤ q → slice_get v.ports (q - 1) ≡ Some port → port.adjacency.carrier ≡ false → after_receive q bytes v ≡ v
+pub deaf_is : (v : BridgeView) (q : ℕ) (bytes : List ℕ) (port : BridgePort) → 1 ≤ q → slice_get v.ports (q - 1) ≡ Some port → port.adjacency.carrier ≡ false → after_receive q bytes v ≡ after_drop drop.NotAdjacent v
 unfolding after_receive
 deaf_is v q bytes port low at dark =
-    ap (λ (o : Option BridgePort). heard_at q bytes o v) (port_found v q low ∙ at) ∙ when_false port.adjacency.carrier (heard_as (parsed bytes) q port v) v dark
+    ap (λ (o : Option BridgePort). heard_at q bytes o v) (port_found v q low ∙ at) ∙ when_false port.adjacency.carrier (heard_as (parsed bytes) q port v) (after_drop drop.NotAdjacent v) dark
 
 pub with_carrier_is : (v : BridgeView) (q : ℕ) (on : Bool) (port : BridgePort) → 1 ≤ q → slice_get v.ports (q - 1) ≡ Some port → with_carrier q on v ≡ with_carrier_at q on (Some port) v
 unfolding with_carrier

@@ -1,3 +1,4 @@
+pub mod Counts
 pub mod Places
 pub mod Adjacent
 pub mod Changes
@@ -45,3 +46,4 @@ pub mod OthersRead
 pub mod SaidNeighbours
 pub mod Attached
 pub mod SaidMembers
+pub mod Dropped

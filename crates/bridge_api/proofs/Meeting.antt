@@ -71,7 +71,7 @@ carrier_at c (m ∷ ms) ports some =
       adjacency = refl;
     }
 
-with_carrier_starts : (c : BridgeConfig) → 1 ≤ length c.metrics → Starts c.id.system (down true) (with_first_carrier c)
+pub with_carrier_starts : (c : BridgeConfig) → 1 ≤ length c.metrics → Starts c.id.system (down true) (with_first_carrier c)
 with_carrier_starts c some = carrier_at c c.metrics (configured_ports c) some
 
 -- what it sends first is its hello at that port

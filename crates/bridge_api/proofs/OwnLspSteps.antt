@@ -34,7 +34,10 @@ use Rattle.adjacency.specs.Adjacency.{after_hello, change_by_hello, after_carrie
 use Rattle.spb_types.specs.declared.service.Attachment.{Attachment}
 use Rattle.bridge_api.specs.declared.port.BridgePort.{BridgePort}
 use Rattle.bridge_api.specs.declared.config.BridgeConfig.{BridgeConfig}
-use Rattle.bridge_api.specs.View.{BridgeView, with_port_at, is_port_up, up_ports}
+use Rattle.bridge_api.specs.declared.drops.Drops.{Drops}
+use Rattle.forwarding.specs.declared.drop_reason.DropReason.TheVariants as drop
+use Rattle.bridge_api.specs.Drops.{counted}
+use Rattle.bridge_api.specs.View.{BridgeView, with_port_at, is_port_up, up_ports, with_drops}
 use Rattle.bridge_api.specs.Own.{neighbour_in, neighbours_from, member_of, body_of, own_of, holding_of, with_holding, own_entry, body_in, is_said, Lasts, IsAlive, originating, originated_if_changed}
 use Rattle.bridge_api.specs.Config.{bare, configured}
 use Rattle.bridge_api.specs.Hearing.{with_csnp_due, with_adjacency, left_up, all_srm_set_at, changed_at, heard_lsp, heard_csnp, heard_psnp, after_receive, with_port_metric}
@@ -61,6 +64,11 @@ Lives v = v.spent ≡ false → IsAlive (own_entry v)
 pub held_body : (h : Holding) (v : BridgeView) → body_of (with_holding h v) ≡ body_of v
 unfolding body_of
 held_body h v = refl
+
+-- and doesn't read the counts
+pub counted_body : (drops : Drops) (v : BridgeView) → body_of (with_drops drops v) ≡ body_of v
+unfolding body_of
+counted_body drops v = refl
 
 -- nor by ports with the same neighbours
 pub moved_body : (ports : List BridgePort) (db : Lsps) (v : BridgeView) → neighbours_from 1 ports ≡ neighbours_from 1 v.ports → body_of (record v { ports = ports; database = db }) ≡ body_of v
@@ -172,8 +180,13 @@ srm_set_saying p port v same was =
     moved_saying (slice_set v.ports (p - 1) (with_csnp_due true port)) (each (λ x e. srm_set_at p e) v.database) v same
     (λ says. subst (Says (body_of v)) (sym (get-each (λ x e. srm_set_at p e) v.database id)) (mapped_says (body_of v) (srm_set_at p) (own_entry v) (λ e. srm_set_says (body_of v) p e (is_absent e.version)) says)) was
 
+-- the counts aren't said
+counted_saying : (drops : Drops) (v : BridgeView) → IsSaying v → IsSaying (with_drops drops v)
+unfolding body_of
+counted_saying drops v was = record { said = was.said; alive = was.alive }
+
 changed_saying : (heard : AdjacencyChange) (p : ℕ) (port : BridgePort) (v : BridgeView) → IsSaying v → IsSaying (changed_at heard p port v)
-changed_saying Discarded p port v was = was
+changed_saying Discarded p port v was = counted_saying (counted drop.Hello 1 v.drops) v was
 changed_saying Kept p port v was = originated_if_changed_saying (with_port_at p port v) was.alive
 changed_saying LeftUp p port v was = originated_if_changed_saying (left_up p port v) (left_lives p port v was.alive)
 changed_saying CameUp p port v was =
@@ -285,15 +298,15 @@ tick_saying v was =
 
 -- ---- every step
 
--- what was learned isn't said
-learned_saying : (learned : Addresses) (v : BridgeView) → IsSaying v → IsSaying (with_learned learned v)
+-- what was learned and counted isn't said
+learned_saying : (learned : Addresses) (drops : Drops) (v : BridgeView) → IsSaying v → IsSaying (with_drops drops (with_learned learned v))
 unfolding body_of
-learned_saying learned v was = record { said = was.said; alive = was.alive }
+learned_saying learned drops v was = record { said = was.said; alive = was.alive }
 
 frame_saying : (q : ℕ) (bytes : List ℕ) (v : BridgeView) → IsSaying v → IsSaying (after_receive q bytes v)
 frame_saying q bytes v was =
     elim (frame_step v q bytes) [
-      | idle learned how e ↦ subst IsSaying (sym e) (learned_saying learned v was)
+      | idle learned how e ↦ subst IsSaying (sym e) (learned_saying learned (after_receive q bytes v).drops v was)
       | by_hello g ↦
           subst IsSaying (sym g.after)
           (changed_saying (change_by_hello v.id.system q g.hello g.way g.port.adjacency) q (with_adjacency (after_hello v.id.system q g.hello g.way g.port.adjacency) g.port) v was)
@@ -320,8 +333,8 @@ steps_stay_saying (metric q m) v was =
       | inr g ↦ subst IsSaying (sym g.after) (originated_if_changed_saying (with_port_at q (with_port_metric m g.port) v) was.alive)
     ]
 steps_stay_saying (attach a) v was = attached_saying (v.attached ++ a ∷ []) v was
-steps_stay_saying (detach p) v was = attached_saying (without_customer_port p v.attached) (with_port_forgotten p v) (learned_saying (with_port_forgotten p v).learned v was)
-steps_stay_saying (customer p bytes) v was = learned_saying (after_entry p bytes v).learned v was
+steps_stay_saying (detach p) v was = attached_saying (without_customer_port p v.attached) (with_port_forgotten p v) (learned_saying (with_port_forgotten p v).learned v.drops v was)
+steps_stay_saying (customer p bytes) v was = learned_saying (after_entry p bytes v).learned (after_entry p bytes v).drops v was
 
 -- ---- the configured bridge
 

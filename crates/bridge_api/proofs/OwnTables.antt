@@ -25,6 +25,7 @@ use Rattle.spb_content.proofs.Members.{Has, has_from_contains, contains_from_has
 use Rattle.spb_content.proofs.Links.{ends_said, reached_said}
 use Rattle.spb_content.proofs.Uncut.{IsSaid, all_chosen, said_graph_has_all_links}
 use Rattle.spb_content.proofs.Whole.{is_bridge, bridges_are, are_bridges, members_are, are_members}
+use Rattle.bridge_api.specs.Drops.{no_drops}
 use Rattle.bridge_api.specs.View.{BridgeView}
 use Rattle.bridge_api.specs.Graph.{read_entry, contents_of, CutSaysNothing, SomeGraphIsOwn}
 use Rattle.bridge_api.proofs.GraphRead.{reads_each_once}
@@ -146,7 +147,7 @@ nobody = record {
   learned = empty;
   spent = false;
   failed = false;
-  drops = [];
+  drops = no_drops;
 }
 
 none_held : nobody.database ≡ empty

@@ -38,7 +38,8 @@ use Rattle.bridge_api.specs.View.{BridgeView, port_in, port_at, with_port_at, is
 use Rattle.bridge_api.specs.Own.{own_entry, is_said, holding_of, originating, originated_if_changed}
 use Rattle.bridge_api.specs.Parsing.{Parsed, parsed}
 use Rattle.bridge_api.specs.Parsing as parsing
-use Rattle.bridge_api.specs.Hearing.{with_csnp_due, with_adjacency, left_up, all_srm_set_at, entered_up, changed_at, heard_hello, heard_lsp, heard_csnp, heard_psnp, with_csnp, with_psnp, heard_as, heard_at, after_receive, with_carrier_at, with_carrier, with_port_metric, with_metric_at, with_metric}
+use Rattle.forwarding.specs.declared.drop_reason.DropReason.TheVariants as drop
+use Rattle.bridge_api.specs.Hearing.{after_drop, with_csnp_due, with_adjacency, left_up, all_srm_set_at, entered_up, changed_at, heard_hello, heard_lsp, heard_csnp, heard_psnp, with_csnp, with_psnp, heard_as, heard_at, after_receive, with_carrier_at, with_carrier, with_port_metric, with_metric_at, with_metric}
 use Rattle.bridge_api.specs.Ticking.{later, leaves, leaving_from, flags_cleared_at_all, counts_lowered, expired, is_old, refreshed, readied, after_sending_at, after_sending_from, after_sending, after_tick}
 use Rattle.bridge_api.specs.Customers.{after_entry}
 use Rattle.bridge_api.specs.Services.{with_attached, without_customer_port, with_port_forgotten}
@@ -275,7 +276,7 @@ psnp_read_carries (Err e) q v up = standing q [] (control_of v)
 psnp_read_carries (Ok entries) q v up = then_originated_if_changed q (claims_in entries) v (heard_psnp entries q v) (entries_are_certified (up_ports v) q (claims_in entries) (holding_of v) up)
 
 -- or dropped
-where_up : (b : Bool) (q : ℕ) (claims : List Claim) (v w : BridgeView) → (b ≡ true → Certificate q claims (control_of v) (control_of w)) → Certificate q claims (control_of v) (control_of (if b then w else v))
+where_up : (b : Bool) (q : ℕ) (claims : List Claim) (v w : BridgeView) → (b ≡ true → Certificate q claims (control_of v) (control_of w)) → Certificate q claims (control_of v) (control_of (if b then w else after_drop drop.NotAdjacent v))
 where_up true q claims v w step = step refl
 where_up false q claims v w step = standing q claims (control_of v)
 

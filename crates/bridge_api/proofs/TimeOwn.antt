@@ -28,6 +28,7 @@ use Rattle.snp_sync.specs.Sending.{ssn_cleared as ssn_cleared_entry, all_ssn_cle
 use Rattle.spb_content.specs.Local.{content_bytes}
 use Rattle.adjacency.specs.Adjacency.{neighbour_of, is_up, after_second}
 use Rattle.bridge_api.specs.declared.port.BridgePort.{BridgePort}
+use Rattle.bridge_api.specs.declared.drops.Drops.{Drops}
 use Rattle.bridge_api.specs.declared.config.BridgeConfig.{BridgeConfig}
 use Rattle.bridge_api.specs.View.{BridgeView, port_at, neighbour_at, is_port_up, is_up_in, is_up_at, up_ports}
 use Rattle.bridge_api.specs.Own.{neighbour_in, neighbours_from, member_of, body_of, own_of, holding_of, own_entry, body_in, is_said, Lasts, IsAlive, originating}
@@ -55,12 +56,12 @@ use Rattle.bridge_api.proofs.TimeLsps.{older_lasts, older_ages, up_second, expir
 abbrev says : BridgeView → List Neighbour → List ℕ
 says v list = 1 ∷ content_bytes (record { config = record { id = v.id; source = v.source; vids = v.vids }; neighbours = list; attached = map (member_of v.id.system) v.attached })
 
-psnp_chunks_say : (ports : List BridgePort) (db : Lsps) (spent : Bool) (v : BridgeView) → body_of (with_and_parts ports db spent v) ≡ says v (neighbours_from 1 ports)
+psnp_chunks_say : (ports : List BridgePort) (db : Lsps) (spent : Bool) (drops : Drops) (v : BridgeView) → body_of (with_and_parts ports db spent drops v) ≡ says v (neighbours_from 1 ports)
 unfolding body_of
-psnp_chunks_say ports db spent v = refl
+psnp_chunks_say ports db spent drops v = refl
 
 second_says : (v : BridgeView) → body_of (step second v) ≡ says v (neighbours_from 1 (step second v).ports)
-second_says v = let w : BridgeView = step second v in ap body_of (tick_rest v) ∙ psnp_chunks_say w.ports w.database w.spent v
+second_says v = let w : BridgeView = step second v in ap body_of (tick_rest v) ∙ psnp_chunks_say w.ports w.database w.spent w.drops v
 
 expired_says : (v : BridgeView) → body_of (expired (counts_lowered v)) ≡ body_of (step second v)
 unfolding body_of

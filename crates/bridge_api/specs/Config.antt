@@ -11,6 +11,7 @@ use Rattle.spb_tlvs.specs.Capability.{IsTree}
 use Rattle.adjacency.specs.Adjacency.{down}
 use Rattle.bridge_api.specs.declared.port.BridgePort.{BridgePort}
 use Rattle.bridge_api.specs.declared.config.BridgeConfig.{BridgeConfig}
+use Rattle.bridge_api.specs.Drops.{no_drops}
 use Rattle.bridge_api.specs.View.{BridgeView}
 use Rattle.bridge_api.specs.Own.{originating}
 use Rattle.spb_types.specs.declared.limits.TheConstants.{GREATEST_ISID, GREATEST_METRIC, MOST_CUSTOMER_PORTS, MOST_ISIDS, MOST_PORTS, MOST_VIDS, SOURCE_IDS}
@@ -83,7 +84,7 @@ bare c = record {
   learned = empty;
   spent = false;
   failed = false;
-  drops = replicate 9 0;
+  drops = no_drops;
 }
 
 -- the bridge right after its configuration: it has originated its own LSP, at number 1

@@ -9,9 +9,11 @@ use Rattle.customer_learning.specs.declared.place.Place.{Place}
 use Rattle.customer_learning.specs.declared.place.Place.TheVariants.{Local, Remote}
 use Rattle.forwarding.specs.declared.moved.Moved.{Moved}
 use Rattle.forwarding.specs.declared.tenant.Tenant.{Tenant}
-use Rattle.forwarding.specs.Tenant.{Carried, nothing, after_customer, of_customer, after_backbone, of_backbone}
+use Rattle.forwarding.specs.Tenant.{Carried, nothing, after_customer, of_customer, after_backbone, of_backbone, step_of, dropped_by}
+use Rattle.forwarding.specs.declared.drop_reason.DropReason.{DropReason}
 use Rattle.bridge_api.specs.declared.port.BridgePort.{BridgePort}
 use Rattle.bridge_api.specs.View.{BridgeView, port_at}
+use Rattle.bridge_api.specs.Drops.{counted_for}
 use Rattle.bridge_api.specs.Tables.{own_tables}
 use Rattle.bridge_api.specs.Parsing.{Parsed, parsed}
 use Rattle.bridge_api.specs.Parsing as parsing
@@ -39,23 +41,33 @@ AreLearned learned = (isid : Isid) → AllByRecursion (λ e. IsLearned e.1) (kno
 
 -- ---- a customer's frame that enters at a customer port
 
--- the bridge afterwards, which has learned where the source is
-unfoldable pub after_entry : ℕ → List ℕ → BridgeView → BridgeView
-after_entry port frame v = with_learned (after_customer (tenant_of v) port frame).learned v
-
--- and what it sends, and what leaves: the tables are its own
+-- what it sends, and what leaves, or why the frame is dropped: the tables are its own
 unfoldable pub moved_by_entry : ℕ → List ℕ → BridgeView → Moved
 moved_by_entry port frame v = of_customer (tenant_of v) (own_tables v) port frame
+
+-- and the bridge afterwards, which has learned where the source is, also of a frame that is dropped, which it counts
+unfoldable pub after_entry : ℕ → List ℕ → BridgeView → BridgeView
+after_entry port frame v = record v {
+  learned = (after_customer (tenant_of v) port frame).learned;
+  drops = counted_for (moved_by_entry port frame v).dropped v.drops;
+}
 
 -- ---- a backbone frame that comes in at a backbone port
 
 abbrev pub carried_by : Mac → Mac → Vid → Isid → List ℕ → Carried
 carried_by da sa vid isid customer = record { da = da; sa = sa; vid = vid; isid = isid; customer = customer }
 
--- the bridge afterwards
+-- why it is dropped, if it is
+abbrev pub reason_for_carried : Mac → Mac → Vid → Isid → List ℕ → ℕ → BridgeView → Option DropReason
+reason_for_carried da sa vid isid customer p v =
+    dropped_by (step_of (tenant_of v) (own_tables v) p (carried_by da sa vid isid customer))
+
+-- the bridge afterwards, which counts a frame that it drops
 abbrev pub forwarded : Mac → Mac → Vid → Isid → List ℕ → ℕ → BridgeView → BridgeView
-forwarded da sa vid isid customer p v =
-    with_learned (after_backbone (tenant_of v) (own_tables v) p (carried_by da sa vid isid customer)).learned v
+forwarded da sa vid isid customer p v = record v {
+  learned = (after_backbone (tenant_of v) (own_tables v) p (carried_by da sa vid isid customer)).learned;
+  drops = counted_for (reason_for_carried da sa vid isid customer p v) v.drops;
+}
 
 -- and what it sends, and what leaves. No other frame makes it send anything at once
 abbrev pub moved_as : Parsed → ℕ → List ℕ → BridgeView → Moved

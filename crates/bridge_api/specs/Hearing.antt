@@ -6,25 +6,30 @@ use Rattle.spb_tlvs.specs.declared.entries.SnpEntry.{SnpEntry}
 use Rattle.spb_tlvs.specs.declared.three_way.ThreeWay.{ThreeWay}
 use Rattle.lsdb.specs.Database.{each}
 use Rattle.lsdb.specs.Entry.{srm_set_at, flags_cleared_at}
-use Rattle.flooding.specs.Hearing.{hear_lsp_of}
+use Rattle.flooding.specs.Hearing.{hear_lsp_of, is_full_for_lsp}
 use Rattle.snp_sync.specs.Reading.{entries_in}
-use Rattle.snp_sync.specs.Hearing.{claims_in, hear_entries_of, hear_csnp_of}
+use Rattle.snp_sync.specs.Hearing.{claims_in, hear_entries_of, hear_csnp_of, full_count}
 use Rattle.adjacency.specs.declared.state.AdjacencyChange.{AdjacencyChange}
 use Rattle.adjacency.specs.declared.state.AdjacencyChange.TheVariants as did
 use Rattle.adjacency.specs.declared.port.Adjacency.{Adjacency}
 use Rattle.adjacency.specs.Adjacency.{after_hello, change_by_hello, after_carrier, change_of}
 use Rattle.bridge_api.specs.declared.port.BridgePort.{BridgePort}
-use Rattle.bridge_api.specs.View.{BridgeView, port_at, with_port_at, is_port_up, up_ports}
+use Rattle.bridge_api.specs.View.{BridgeView, port_at, with_port_at, with_drops, is_port_up, up_ports}
 use Rattle.bridge_api.specs.Own.{holding_of, with_holding, originated_if_changed}
 use Rattle.bridge_api.specs.Parsing.{Parsed, parsed}
 use Rattle.bridge_api.specs.Parsing as parsing
 use Rattle.bridge_api.specs.Customers.{forwarded}
+use Rattle.bridge_api.specs.Drops.{counted}
 use Rattle.forwarding.specs.declared.drop_reason.DropReason.{DropReason}
 use Rattle.forwarding.specs.declared.drop_reason.DropReason.TheVariants as drop
 
--- a frame that is dropped changes nothing: the counts aren't kept yet
+-- a frame that is dropped is counted, and changes nothing else
 abbrev pub after_drop : DropReason → BridgeView → BridgeView
-after_drop reason v = v
+after_drop reason v = with_drops (counted reason 1 v.drops) v
+
+-- what finds no place in the database is counted, each entry of a sequence numbers PDU for itself
+abbrev pub with_full : ℕ → BridgeView → BridgeView
+with_full n v = with_drops (counted drop.Full n v.drops) v
 
 -- a port with another adjacency, with CSNPs due or not, and with another metric
 abbrev pub with_adjacency : Adjacency → BridgePort → BridgePort
@@ -67,13 +72,19 @@ heard_hello h way p port v =
 -- a bridge that heard an LSP, or a complete or a partial sequence numbers PDU with these entries, at its port number p
 -- (ISO/IEC 10589, 7.3.15.1 and 7.3.15.2)
 abbrev pub heard_lsp : LspValue → ℕ → BridgeView → BridgeView
-heard_lsp l p v = with_holding (hear_lsp_of (up_ports v) p l (holding_of v)) v
+heard_lsp l p v =
+    with_full (if is_full_for_lsp (up_ports v) p l (holding_of v) then 1 else 0)
+    (with_holding (hear_lsp_of (up_ports v) p l (holding_of v)) v)
 
 abbrev pub heard_csnp : CsnpValue → List SnpEntry → ℕ → BridgeView → BridgeView
-heard_csnp c entries p v = with_holding (hear_csnp_of (up_ports v) p c.start c.end (claims_in entries) (holding_of v)) v
+heard_csnp c entries p v =
+    with_full (full_count (up_ports v) p (claims_in entries) (holding_of v))
+    (with_holding (hear_csnp_of (up_ports v) p c.start c.end (claims_in entries) (holding_of v)) v)
 
 abbrev pub heard_psnp : List SnpEntry → ℕ → BridgeView → BridgeView
-heard_psnp entries p v = with_holding (hear_entries_of (up_ports v) p (claims_in entries) (holding_of v)) v
+heard_psnp entries p v =
+    with_full (full_count (up_ports v) p (claims_in entries) (holding_of v))
+    (with_holding (hear_entries_of (up_ports v) p (claims_in entries) (holding_of v)) v)
 
 -- sequence numbers PDUs are dropped where their entries can't be read
 abbrev pub with_csnp : CsnpValue → Result (List SnpEntry) TlvError → ℕ → BridgeView → BridgeView

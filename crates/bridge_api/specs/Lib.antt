@@ -1,3 +1,4 @@
+pub mod Drops
 pub mod View
 pub mod Tables
 pub mod Shown
@@ -18,3 +19,4 @@ pub mod Graph
 pub mod Few
 pub mod Time
 pub mod Counting
+pub mod Dropping

@@ -18,6 +18,7 @@ use Rattle.adjacency.specs.declared.port.Adjacency.{Adjacency}
 use Rattle.adjacency.specs.Hearing.{End}
 use Rattle.adjacency.specs.Adjacency.{neighbour_of, is_up}
 use Rattle.bridge_api.specs.declared.port.BridgePort.{BridgePort}
+use Rattle.bridge_api.specs.declared.drops.Drops.{Drops}
 
 -- a bridge: its configuration, its backbone ports from number 1 on, the LSPs that it holds, the customer ports that are
 -- attached, the customers' addresses that it has learned for each I-SID, whether its own sequence numbers are spent,
@@ -32,7 +33,7 @@ pub record BridgeView : Type 0 where
   pub learned : Addresses
   pub spent : Bool
   pub failed : Bool
-  pub drops : List ℕ
+  pub drops : Drops
 
 -- the number of a port of the bridge
 pub record IsPort (v : BridgeView) (port : ℕ) : Type 0 where
@@ -49,6 +50,10 @@ port_at v p = port_in v.ports p
 -- the bridge with another state of its port of this number
 abbrev pub with_port_at : ℕ → BridgePort → BridgeView → BridgeView
 with_port_at p port v = record v { ports = slice_set v.ports (p - 1) port }
+
+-- the bridge with other counts of dropped frames
+abbrev pub with_drops : Drops → BridgeView → BridgeView
+with_drops drops v = record v { drops = drops }
 
 -- the metrics of the links at the ports, in order
 abbrev pub metrics_of : List BridgePort → List ℕ

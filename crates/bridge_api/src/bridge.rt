@@ -2,6 +2,7 @@ use crate::config::BridgeConfig;
 use crate::kind::Kind;
 use crate::outbox::Outbox;
 use adjacency::Adjacency;
+use forwarding::DropReason;
 use lsdb::Held;
 use spb_types::{Isid, Mac, NoMemory, Path, PortSet, SystemId, Tables, Vid};
 
@@ -19,6 +20,7 @@ pub trait Bridge: Drop {
     ghost use Rattle.lsdb.specs.Database.{keyed};
     ghost use Rattle.bridge_api.specs.Shown.{Shown};
     ghost use Rattle.bridge_api.specs.View.{IsPort, is_csnp_due_at, adjacency_at, has_flags, entry_at};
+    ghost use Rattle.bridge_api.specs.Drops.{count_of};
     ghost use Rattle.bridge_api.specs.Config.{IsWhole, IsMetric, configured};
     ghost use Rattle.bridge_api.specs.Customers.{IsCustomerFrame, after_entry, moved_by_entry, moved_by_receive};
     ghost use Rattle.bridge_api.specs.Hearing.{after_receive, with_carrier, with_metric};
@@ -68,11 +70,12 @@ pub trait Bridge: Drop {
         ensures made { (shown self.new).blank ≡ false }
         ensures kind { (shown self.new).kind ≡ (shown self.old).kind };
 
-    /// Hears a frame, which may be any bytes, at a port. A frame of no use, or at a port without carrier, is dropped
-    /// and changes nothing. A hello moves the adjacency (RFC 5303, 3.2): where the port leaves Up its flags are
-    /// cleared, and where it enters Up every LSP is to be sent there and CSNPs are due. LSPs and sequence numbers PDUs
-    /// are heard only at a port that is Up (ISO/IEC 10589, 7.3.15). Afterwards the bridge originates if it has
-    /// something else to say.
+    /// Hears a frame, which may be any bytes, at a port. A frame of no use, or at a port without carrier, is dropped:
+    /// this raises one count (`DropReason`) and changes nothing else. A hello moves the adjacency (RFC 5303, 3.2):
+    /// where the port leaves Up its flags are cleared, and where it enters Up every LSP is to be sent there and CSNPs
+    /// are due. LSPs and sequence numbers PDUs are heard only at a port that is Up (ISO/IEC 10589, 7.3.15). What finds
+    /// no place in the database is counted as `Full`, each entry for itself, and the rest is heard. Afterwards the
+    /// bridge originates if it has something else to say.
     ///
     /// A backbone frame that comes by the port that leads to its source is relayed and delivered by the bridge's
     /// tables, and where it is delivered the bridge learns its customer's source (IEEE 802.1ah, 25; IEEE 802.1aq).
@@ -94,7 +97,7 @@ pub trait Bridge: Drop {
     /// its source is, if that is an individual address, and then sends it on towards its destination: at another
     /// customer port, in a backbone frame to another bridge, or, where the destination is a group address or isn't
     /// known, at all other ports of its I-SID and to the group address of the own source and the I-SID (IEEE 802.1Q,
-    /// 8.6 to 8.8; IEEE 802.1ah, 25). It is dropped where no port leads to the other bridge.
+    /// 8.6 to 8.8; IEEE 802.1ah, 25). Where no port leads to the other bridge it is dropped, and counted as `NoWay`.
     fn customer(&mut self, port: u16, frame: &[u8], outbox: &mut Outbox) -> Result<(), NoMemory>
         requires made { (shown self.old).blank ≡ false }
         requires attached { (shown self.old).view.failed ≡ false → IsAttachedPort (shown self.old).view port }
@@ -184,6 +187,12 @@ pub trait Bridge: Drop {
     fn entry(&self, place: usize) -> Option<&Held>
         requires { (shown self.now).blank ≡ false }
         ensures { option_map keyed (option_copied result) ≡ entry_at (shown self.now).view place };
+
+    /// How many frames were dropped for a reason, and for `Full` how many LSPs and entries of sequence numbers PDUs. It
+    /// stops at the greatest `u64`.
+    fn drops(&self, reason: DropReason) -> u64
+        requires { (shown self.now).blank ≡ false }
+        ensures { result ≡ count_of reason (shown self.now).view.drops };
 
     /// The tables of the bridge over the LSPs that it holds, by ascending VID and address (IEEE 802.1aq, 8.8 and 28.10):
     /// for each of its base VIDs and each other bridge that it reaches, the port towards that bridge; and for each group
@@ -282,6 +291,10 @@ impl Bridge for Box<dyn Bridge> {
 
     fn entry(&self, place: usize) -> Option<&Held> {
         (**self).entry(place)
+    }
+
+    fn drops(&self, reason: DropReason) -> u64 {
+        (**self).drops(reason)
     }
 
     fn tables(&self) -> Result<Tables, NoMemory> {

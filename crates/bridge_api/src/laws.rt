@@ -5,6 +5,7 @@ ghost use Rattle.bridge_api.specs.Duties.{SecondsServe, SecondsLeaveNothingDue};
 ghost use Rattle.bridge_api.specs.Few.{ConfiguredHoldsFew, StepsHoldFew, SecondsSendFew};
 ghost use Rattle.bridge_api.specs.Graph.{ReadsWhatIsHeld, ReadsEachOnce, ReadsItself, ReadsOthers, OwnPortsAreApart, SaysItsNeighbours, MembersAreSaid, CutSaysNothing, SomeGraphIsOwn};
 ghost use Rattle.bridge_api.specs.Time.{NeighboursAreKept, NeighboursAreLost, KeepsSomebody, SecondsAge, LspsLast, LspsExpire, SecondsStandStill, SecondsRenew, SecondsSpend, SpentStandsStill, OwnLspLasts, OwnLspIsRenewed, AloneStaysAlone, EveryNineHundred};
+ghost use Rattle.bridge_api.specs.Dropping.{DroppedFramesCountOnce, HeardFramesCountEntries, EntriesWithoutWayCountOnce, OtherEntriesCountNothing, OtherStepsCountNothing, SomeDrops};
 ghost use Rattle.bridge_api.specs.Counting.{StepsHoldIds, StepsLearn, StepsLearnVersions, StepsAnswer, StepsOriginate, StepsDontSpend, ConfiguredIsFar, SomeIsFar};
 
 use itag_frames::control_again;
@@ -160,4 +161,17 @@ pub fn numbers_rise_by_what_is_heard()
     ensures fresh { StepsDontSpend }
     ensures configured { ConfiguredIsFar }
     ensures some { SomeIsFar }
+{}
+
+/// A frame that is dropped raises the count of the one reason for which it is dropped, by one, and changes and sends
+/// nothing. Any other frame raises no count but that of what finds no place in the database, once for each such entry
+/// of a sequence numbers PDU. A customer's frame is dropped only where no port leads on, which is counted once; what its
+/// source taught the bridge stays. Nothing else raises a count. There are bridges that drop frames.
+pub fn dropped_frames_are_counted()
+    ensures dropped { DroppedFramesCountOnce }
+    ensures heard { HeardFramesCountEntries }
+    ensures without_way { EntriesWithoutWayCountOnce }
+    ensures entries { OtherEntriesCountNothing }
+    ensures others { OtherStepsCountNothing }
+    ensures some { SomeDrops }
 {}

@@ -33,19 +33,20 @@
 //!    says it, whose functions do the work: `after_entry` and `moved_by_entry` for one that enters by `customer`, and
 //!    `forwarded` and `moved_by_receive` for a backbone frame that carries one (`specs/Customers.antt`). The outbox
 //!    gains both lists that are moved (`with_moved` of `specs/Step.antt`), or first frames of each where no memory was
-//!    found. Such a frame changes nothing but what is learned, and so does `with_port_forgotten`, which comes first
-//!    where a port is detached: `entry_is` and `forgotten_is` of `proofs/Changes.antt`.
+//!    found. Such a frame changes nothing but what is learned and counted, and `with_port_forgotten`, which comes first
+//!    where a port is detached, nothing but what is learned: `entry_is` and `forgotten_is` of `proofs/Changes.antt`.
 //! 6. A test makes boxes of it as `Box<dyn Bridge>` and calls them through the trait, since no proof says that memory
 //!    is found.
 #![tactic(auto)]
 
 pub use bridge::Bridge;
 pub use config::BridgeConfig;
+pub use drops::Drops;
 pub use forwarding::DropReason;
 pub use kind::Kind;
 pub use laws::{
-    bridges_are_sound, cut_says_nothing, entering_up_is_whole, few_are_held_and_sent,
-    frames_are_heard, graphs_are_read_from_what_is_held, neighbours_come_up,
+    bridges_are_sound, cut_says_nothing, dropped_frames_are_counted, entering_up_is_whole,
+    few_are_held_and_sent, frames_are_heard, graphs_are_read_from_what_is_held, neighbours_come_up,
     numbers_rise_by_what_is_heard, own_lsps_are_renewed, seconds_serve_neighbours,
     services_stay_apart, silent_lsps_expire, silent_neighbours_are_lost, steps_carry_the_database,
     steps_keep_neighbours, steps_keep_the_bridge,
@@ -55,6 +56,7 @@ pub use port::BridgePort;
 
 mod bridge;
 mod config;
+mod drops;
 mod kind;
 mod laws;
 mod outbox;

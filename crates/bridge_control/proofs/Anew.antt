@@ -2,12 +2,14 @@
 use Rattle.std.proofs.Common.{◌≡◌, ℕ, Bool, true, List, refl, sym, ap, ◌∙◌, subst, Option, Some, None}
 use Rattle.std.specs.Prelude.{if◌then◌else◌}
 use Rattle.bridge_api.specs.declared.port.BridgePort.{BridgePort}
+use Rattle.forwarding.specs.declared.drop_reason.DropReason.{DropReason}
 use Rattle.forwarding.specs.declared.drop_reason.DropReason.TheVariants as drop
 use Rattle.bridge_api.specs.View.{BridgeView, port_at, has_carrier_in, has_carrier_at}
 use Rattle.bridge_api.specs.Parsing.{Parsed, parsed}
+use Rattle.bridge_api.specs.Parsing as parsing
 use Rattle.bridge_api.specs.Hearing.{after_drop, heard_as, heard_at, after_receive}
 use Rattle.bridge_control.specs.declared.machine.Machine.{Machine}
-use Rattle.bridge_control.specs.Machine.{view_of, IsReady, IsAfter, heard_by, hears}
+use Rattle.bridge_control.specs.Machine.{view_of, IsReady, heard_by, hears}
 
 heard_in : (o : Option BridgePort) (v : BridgeView) (p : ℕ) (bytes : List ℕ) (j : Parsed) → has_carrier_in o ≡ true → parsed bytes ≡ j → heard_by j p o v ≡ heard_at p bytes o v
 heard_in None v p bytes j has_carrier said = refl
@@ -20,15 +22,14 @@ pub heard_path : (v : BridgeView) (p : ℕ) (bytes : List ℕ) (j : Parsed) → 
 unfolding has_carrier_at after_receive
 heard_path v p bytes j has_carrier said = heard_in (port_at v p) v p bytes j has_carrier said
 
-idle_in : (o : Option BridgePort) (v : BridgeView) (p : ℕ) (j : Parsed) → ((port : BridgePort) → heard_as j p port v ≡ v) → heard_by j p o v ≡ v
-idle_in None v p j idle = refl
-idle_in (Some port) v p j idle = idle port
+dropped_in : (o : Option BridgePort) (v : BridgeView) (p : ℕ) (reason : DropReason) → has_carrier_in o ≡ true → heard_by (parsing.dropped reason) p o v ≡ after_drop reason v
+dropped_in None v p reason has_carrier = absurd cc
+dropped_in (Some port) v p reason has_carrier = refl
 
--- it is heard as what changes nothing
-pub idle_path : (m : Machine) (p : ℕ) (bytes : List ℕ) (j : Parsed) → IsReady m → has_carrier_at (view_of m) p ≡ true → parsed bytes ≡ j → ((port : BridgePort) → heard_as j p port (view_of m) ≡ view_of m)
-    → IsAfter (after_receive p bytes (view_of m)) m
-idle_path m p bytes j ready has_carrier said idle =
-    record { view = sym (sym (heard_path (view_of m) p bytes j has_carrier said) ∙ idle_in (port_at (view_of m) p) (view_of m) p j idle); current = ready.current }
+-- a frame that every bridge drops
+pub dropped_path : (v : BridgeView) (p : ℕ) (bytes : List ℕ) (reason : DropReason) → has_carrier_at v p ≡ true → parsed bytes ≡ parsing.dropped reason → after_drop reason v ≡ after_receive p bytes v
+unfolding has_carrier_at
+dropped_path v p bytes reason has_carrier said = sym (dropped_in (port_at v p) v p reason has_carrier) ∙ heard_path v p bytes (parsing.dropped reason) has_carrier said
 
 -- what is kept of the hellos that came doesn't matter
 pub heard_ready : (m n : Machine) → IsReady m → n ≡ record m { heard = n.heard } → IsReady n

@@ -5,7 +5,8 @@ use Rattle.std.specs.Prelude.{is_some, nat_lt, not, ◌||◌, if◌then◌else�
 use Rattle.std.specs.FinMap.{get, insert, len}
 use Rattle.spb_types.specs.declared.address.LspId.{LspId}
 use Rattle.spb_types.specs.declared.ports.PortSet.{PortSet}
-use Rattle.isis_pdu.specs.Pdu.{LspValue}
+use Rattle.isis_pdu.specs.Pdu.{LspValue, CsnpValue}
+use Rattle.spb_tlvs.specs.declared.entries.SnpEntry.{SnpEntry}
 use Rattle.lsdb.specs.declared.version.Relation.{Relation}
 use Rattle.lsdb.specs.Version.{is_absent, relation}
 use Rattle.lsdb.specs.Entry.{Entry}
@@ -14,22 +15,26 @@ use Rattle.lsdb.specs.Certificate.{Claim}
 use Rattle.lsdb.proofs.LookupLemmas.{get-insert_same, get-insert_other, same_or_not, get-each, is_some-option_map}
 use Rattle.flooding.specs.declared.own.Own.{Own}
 use Rattle.flooding.specs.Own.{own_id}
-use Rattle.flooding.specs.Hearing.{Holding, lsp_rule, snp_rule, claim_of, heard_by, own_after, lacks_place, after_claim, hear_lsp_of, hear_entry_of}
+use Rattle.flooding.specs.Hearing.{Holding, lsp_rule, snp_rule, claim_of, heard_by, own_after, lacks_place, after_claim, hear_lsp_of, is_full_for_lsp, hear_entry_of}
 use Rattle.flooding.specs.Placing.{holding}
 use Rattle.flooding.proofs.Owns.{own_stands}
-use Rattle.snp_sync.specs.Hearing.{hear_entries_of, ids_of, is_missed, flag_if, hear_csnp_of}
+use Rattle.forwarding.specs.declared.drop_reason.DropReason.TheVariants as drop
+use Rattle.snp_sync.specs.Hearing.{claims_in, full_count, hear_entries_of, ids_of, is_missed, flag_if, hear_csnp_of}
 use Rattle.snp_sync.proofs.Stays.{entries_leave_own}
 use Rattle.bridge_api.specs.declared.port.BridgePort.{BridgePort}
-use Rattle.bridge_api.specs.View.{BridgeView, IsPort, port_at, is_port_up, up_from, up_ports}
+use Rattle.bridge_api.specs.declared.drops.Drops.{Drops}
+use Rattle.bridge_api.specs.Drops.{counted}
+use Rattle.bridge_api.specs.View.{BridgeView, IsPort, port_at, with_drops, is_port_up, up_from, up_ports}
 use Rattle.bridge_api.specs.Own.{holding_of, with_holding, originated_if_changed}
 use Rattle.bridge_api.specs.Parsing.{Parsed, parsed}
 use Rattle.bridge_api.specs.Parsing as parsing
-use Rattle.bridge_api.specs.Hearing.{heard_as, heard_lsp, after_receive}
+use Rattle.bridge_api.specs.Hearing.{after_drop, heard_as, heard_lsp, heard_csnp, heard_psnp, after_receive}
 use Rattle.bridge_api.proofs.Changes.{when_true, heard_is, deaf_is}
 use Rattle.bridge_control.specs.declared.machine.Machine.{Machine}
 use Rattle.bridge_control.specs.Machine.{view_of, IsCurrent, IsReady, CanOriginate, IsAfter, heard_by as heard_in, hears}
 use Rattle.bridge_control.proofs.Following.{alike_refl}
-use Rattle.bridge_control.proofs.Owning.{current_with}
+use Rattle.bridge_control.proofs.Counting.{counted_current}
+use Rattle.bridge_control.proofs.Owning.{current_with, after_same}
 use Rattle.bridge_control.proofs.Putting.{got}
 
 -- ---- what is held stays held
@@ -88,15 +93,16 @@ pub record HasHeard (m : Machine) (h : Holding) : Type 0 where
   pub system : h.own.system ≡ m.own.system
   pub body : h.own.body ≡ m.own.body
 
-pub heard_can : (m : Machine) (h : Holding) (db : Lsps) (own : Own) → IsReady m → HasHeard m h → holding db own ≡ h → CanOriginate (record m { db = db; own = own })
-heard_can m h db own ready heard is = record {
+pub heard_can : (m : Machine) (h : Holding) (db : Lsps) (own : Own) (drops : Drops) → IsReady m → HasHeard m h → holding db own ≡ h → CanOriginate (record m { db = db; own = own; drops = drops })
+heard_can m h db own drops ready heard is = record {
   few = ready.sound.few;
   place = or_left (is_some (get db (own_id m.id.system))) (nat_lt (len db) MOST_LSPS) (ap (λ (x : Holding). is_some (get x.db (own_id m.id.system))) is ∙ heard.held);
 }
 
-pub heard_current : (m : Machine) (h : Holding) (db : Lsps) (own : Own) → IsReady m → HasHeard m h → holding db own ≡ h → IsCurrent (record m { db = db; own = own })
-heard_current m h db own ready heard is =
-    current_with m m.ports db own ready.current (ap (λ (x : Holding). x.own.system) is ∙ heard.system) (ap (λ (x : Holding). x.own.body) is ∙ heard.body) refl (alike_refl m.id.system 1 m.ports.items)
+pub heard_current : (m : Machine) (h : Holding) (db : Lsps) (own : Own) (drops : Drops) → IsReady m → HasHeard m h → holding db own ≡ h → IsCurrent (record m { db = db; own = own; drops = drops })
+heard_current m h db own drops ready heard is =
+    counted_current (record m { db = db; own = own }) drops
+    (current_with m m.ports db own ready.current (ap (λ (x : Holding). x.own.system) is ∙ heard.system) (ap (λ (x : Holding). x.own.body) is ∙ heard.body) refl (alike_refl m.id.system 1 m.ports.items))
 
 pub lsp_heard : (m : Machine) (up : PortSet) (p : ℕ) (l : LspValue) → IsReady m → HasHeard m (hear_lsp_of up p l (holding m.db m.own))
 lsp_heard m up p l ready =
@@ -125,22 +131,46 @@ pub hears_is : (j : Parsed) (p : ℕ) (v : BridgeView) (port : BridgePort) → p
 hears_is j p v port there = ap (λ (o : Option BridgePort). heard_in j p o v) there
 
 pub hears_lsp : (l : LspValue) (p : ℕ) (v : BridgeView) (port : BridgePort) → port_at v p ≡ Some port → is_port_up port ≡ true → hears (parsing.lsp l) p v ≡ originated_if_changed (heard_lsp l p v)
-hears_lsp l p v port there up = hears_is (parsing.lsp l) p v port there ∙ when_true (is_port_up port) (originated_if_changed (heard_lsp l p v)) v up
+hears_lsp l p v port there up = hears_is (parsing.lsp l) p v port there ∙ when_true (is_port_up port) (originated_if_changed (heard_lsp l p v)) (after_drop drop.NotAdjacent v) up
 
 -- the machine that heard an LSP at an Up port
-pub heard_lsp_path : (m : Machine) (up : PortSet) (p : ℕ) (l : LspValue) (db : Lsps) (own : Own) (port : BridgePort) → IsReady m → up ≡ up_from 1 m.ports.items → holding db own ≡ hear_lsp_of up p l (holding m.db m.own) → port_at (view_of m) p ≡ Some port → is_port_up port ≡ true → originated_if_changed (view_of (record m { db = db; own = own })) ≡ hears (parsing.lsp l) p (view_of m)
-heard_lsp_path m up p l db own port ready is_up is there has_carrier =
+pub heard_lsp_path : (m : Machine) (up : PortSet) (p : ℕ) (l : LspValue) (db : Lsps) (own : Own) (drops : Drops) (port : BridgePort) → IsReady m → up ≡ up_from 1 m.ports.items → holding db own ≡ hear_lsp_of up p l (holding m.db m.own)
+    → drops ≡ counted drop.Full (if is_full_for_lsp up p l (holding m.db m.own) then 1 else 0) m.drops → port_at (view_of m) p ≡ Some port → is_port_up port ≡ true → originated_if_changed (view_of (record m { db = db; own = own; drops = drops })) ≡ hears (parsing.lsp l) p (view_of m)
+heard_lsp_path m up p l db own drops port ready is_up is counts there has_carrier =
     let v : BridgeView = view_of m in
     let whole : holding db own ≡ hear_lsp_of (up_ports v) p l (holding_of v) = is ∙ (λ i. hear_lsp_of (is_up i) p l (holding m.db (ready.current.own i))) in
-    ap (λ (h : Holding). originated_if_changed (with_holding h v)) whole ∙ sym (hears_lsp l p v port there has_carrier)
+    let full : drops ≡ (heard_lsp l p v).drops = counts ∙ (λ i. counted drop.Full (if is_full_for_lsp (is_up i) p l (holding m.db (ready.current.own i)) then 1 else 0) m.drops) in
+    (λ i. originated_if_changed (with_drops (full i) (with_holding (whole i) v))) ∙ sym (hears_lsp l p v port there has_carrier)
+
+-- or the entries of a sequence numbers PDU
+full_path : (m : Machine) (up : PortSet) (p : ℕ) (claims : List Claim) (drops : Drops) → IsReady m → up ≡ up_from 1 m.ports.items → drops ≡ counted drop.Full (full_count up p claims (holding m.db m.own)) m.drops
+    → drops ≡ counted drop.Full (full_count (up_ports (view_of m)) p claims (holding_of (view_of m))) m.drops
+full_path m up p claims drops ready is_up counts = counts ∙ (λ i. counted drop.Full (full_count (is_up i) p claims (holding m.db (ready.current.own i))) m.drops)
+
+pub heard_psnp_path : (m : Machine) (up : PortSet) (p : ℕ) (entries : List SnpEntry) (db : Lsps) (own : Own) (drops : Drops) → IsReady m → up ≡ up_from 1 m.ports.items → holding db own ≡ hear_entries_of up p (claims_in entries) (holding m.db m.own)
+    → drops ≡ counted drop.Full (full_count up p (claims_in entries) (holding m.db m.own)) m.drops → originated_if_changed (view_of (record m { db = db; own = own; drops = drops })) ≡ originated_if_changed (heard_psnp entries p (view_of m))
+heard_psnp_path m up p entries db own drops ready is_up is counts =
+    let v : BridgeView = view_of m in
+    let whole : holding db own ≡ hear_entries_of (up_ports v) p (claims_in entries) (holding_of v) = is ∙ (λ i. hear_entries_of (is_up i) p (claims_in entries) (holding m.db (ready.current.own i))) in
+    let full : drops ≡ (heard_psnp entries p v).drops = full_path m up p (claims_in entries) drops ready is_up counts in
+    λ i. originated_if_changed (with_drops (full i) (with_holding (whole i) v))
+
+pub heard_csnp_path : (m : Machine) (up : PortSet) (p : ℕ) (c : CsnpValue) (entries : List SnpEntry) (db : Lsps) (own : Own) (drops : Drops) → IsReady m → up ≡ up_from 1 m.ports.items → holding db own ≡ hear_csnp_of up p c.start c.end (claims_in entries) (holding m.db m.own)
+    → drops ≡ counted drop.Full (full_count up p (claims_in entries) (holding m.db m.own)) m.drops → originated_if_changed (view_of (record m { db = db; own = own; drops = drops })) ≡ originated_if_changed (heard_csnp c entries p (view_of m))
+heard_csnp_path m up p c entries db own drops ready is_up is counts =
+    let v : BridgeView = view_of m in
+    let whole : holding db own ≡ hear_csnp_of (up_ports v) p c.start c.end (claims_in entries) (holding_of v) = is ∙ (λ i. hear_csnp_of (is_up i) p c.start c.end (claims_in entries) (holding m.db (ready.current.own i))) in
+    let full : drops ≡ (heard_csnp c entries p v).drops = full_path m up p (claims_in entries) drops ready is_up counts in
+    λ i. originated_if_changed (with_drops (full i) (with_holding (whole i) v))
 
 -- a frame is heard at a port with carrier as what it is taken for
 pub received_path : (v : BridgeView) (p : ℕ) (bytes : List ℕ) (j : Parsed) (port : BridgePort) → IsPort v p → port_at v p ≡ Some port → port.adjacency.carrier ≡ true → parsed bytes ≡ j → hears j p v ≡ after_receive p bytes v
 received_path v p bytes j port is there has_carrier said =
     hears_is j p v port there ∙ (ap (λ (k : Parsed). heard_as k p port v) (sym said) ∙ sym (heard_is v p bytes port is.low (got v p port is there) has_carrier))
 
-pub deaf_after : (m : Machine) (p : ℕ) (bytes : List ℕ) (port : BridgePort) → IsReady m → IsPort (view_of m) p → port_at (view_of m) p ≡ Some port → port.adjacency.carrier ≡ false → IsAfter (after_receive p bytes (view_of m)) m
-deaf_after m p bytes port ready is there dark = record { view = sym (deaf_is (view_of m) p bytes port is.low (got (view_of m) p port is there) dark); current = ready.current }
+-- and dropped at one without
+pub deaf_after : (m n : Machine) (p : ℕ) (bytes : List ℕ) (port : BridgePort) → IsPort (view_of m) p → port_at (view_of m) p ≡ Some port → port.adjacency.carrier ≡ false → IsAfter (after_drop drop.NotAdjacent (view_of m)) n → IsAfter (after_receive p bytes (view_of m)) n
+deaf_after m n p bytes port is there dark dropped = after_same _ _ n (sym (deaf_is (view_of m) p bytes port is.low (got (view_of m) p port is there) dark)) dropped
 
 pub not_true : (b : Bool) → not b ≡ true → b ≡ false
 not_true true e = absurd cc
@@ -149,9 +179,3 @@ not_true false e = refl
 pub not_false : (b : Bool) → not b ≡ false → b ≡ true
 not_false true e = refl
 not_false false e = absurd cc
-
--- a frame that is heard as what changes nothing
-pub idle_after : (m : Machine) (p : ℕ) (bytes : List ℕ) (j : Parsed) (port : BridgePort) → IsReady m → IsPort (view_of m) p → port_at (view_of m) p ≡ Some port → port.adjacency.carrier ≡ true → parsed bytes ≡ j → heard_as j p port (view_of m) ≡ view_of m → IsAfter (after_receive p bytes (view_of m)) m
-idle_after m p bytes j port ready is there has_carrier said idle =
-    let v : BridgeView = view_of m in
-    record { view = sym (heard_is v p bytes port is.low (got v p port is there) has_carrier ∙ (ap (λ (k : Parsed). heard_as k p port v) said ∙ idle)); current = ready.current }

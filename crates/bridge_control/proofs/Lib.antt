@@ -4,6 +4,7 @@ pub mod Wire
 pub mod Following
 pub mod Owning
 pub mod Configuring
+pub mod Counting
 pub mod Standing
 pub mod Sends
 pub mod Unused

@@ -7,13 +7,15 @@ use Rattle.spb_types.specs.declared.tables.Tables.{Tables}
 use Rattle.customer_learning.specs.Known.{Addresses}
 use Rattle.forwarding.specs.declared.moved.Moved.{Moved}
 use Rattle.forwarding.specs.declared.tenant.Tenant.{Tenant}
-use Rattle.forwarding.specs.Tenant.{parts, nothing, after_customer, of_customer, after_backbone, of_backbone}
+use Rattle.forwarding.specs.Tenant.{parts, nothing, after_customer, of_customer, after_backbone, of_backbone, step_of, dropped_by}
 use Rattle.itag_frames.specs.declared.frame.Backbone.{Backbone}
 use Rattle.bridge_api.specs.declared.outbox.Outbox.{Outbox}
 use Rattle.bridge_api.specs.declared.port.BridgePort.{BridgePort}
-use Rattle.bridge_api.specs.View.{BridgeView, port_at, has_carrier_in, has_carrier_at}
+use Rattle.bridge_api.specs.declared.drops.Drops.{Drops}
+use Rattle.bridge_api.specs.Drops.{counted_for}
+use Rattle.bridge_api.specs.View.{BridgeView, port_at, with_drops, has_carrier_in, has_carrier_at}
 use Rattle.bridge_api.specs.Own.{own_of, body_of}
-use Rattle.bridge_api.specs.Customers.{with_learned, after_entry, moved_by_entry, moved_as, moved_at, moved_by_receive}
+use Rattle.bridge_api.specs.Customers.{tenant_of, with_learned, after_entry, moved_by_entry, moved_as, moved_at, moved_by_receive}
 use Rattle.bridge_api.specs.Parsing.{Parsed, parsed}
 use Rattle.bridge_api.specs.Step.{with_moved, GainsMoved}
 use Rattle.bridge_api.specs.Tables.{own_tables}
@@ -25,20 +27,24 @@ use Rattle.bridge_control.proofs.Telling.{tenant_is}
 
 -- ---- what a machine has learned
 
-learned_own : (v : BridgeView) (learned : Addresses) → own_of v ≡ own_of (with_learned learned v)
+learned_own : (v : BridgeView) (learned : Addresses) (drops : Drops) → own_of v ≡ own_of (with_drops drops (with_learned learned v))
 unfolding body_of
-learned_own v learned = refl
+learned_own v learned drops = refl
 
-learned_current : (m : Machine) (learned : Addresses) → IsCurrent m → IsCurrent (record m { tenant = record m.tenant { learned = learned } })
-learned_current m learned current = record {
-  own = current.own ∙ learned_own (view_of m) learned;
+-- the machine that has learned this, and counted what it drops
+abbrev pub learning : Machine → Addresses → Drops → Machine
+learning m learned drops = record m { tenant = record m.tenant { learned = learned }; drops = drops }
+
+learned_current : (m : Machine) (learned : Addresses) (drops : Drops) → IsCurrent m → IsCurrent (learning m learned drops)
+learned_current m learned drops current = record {
+  own = current.own ∙ learned_own (view_of m) learned drops;
   ports = record { hellos = current.ports.hellos; up = current.ports.up; me = current.ports.me };
 }
 
 -- the tables stay, whatever is known of the customers
-pub tenant_tables : (m : Machine) (tenant : Tenant) (tables : Tables) → tables ≡ own_tables (view_of m) → tables ≡ own_tables (view_of (record m { tenant = tenant }))
+pub tenant_tables : (m : Machine) (tenant : Tenant) (drops : Drops) (tables : Tables) → tables ≡ own_tables (view_of m) → tables ≡ own_tables (view_of (record m { tenant = tenant; drops = drops }))
 unfolding own_tables
-tenant_tables m tenant tables own = own
+tenant_tables m tenant drops tables own = own
 
 -- and whatever becomes of the ports
 pub ports_tables : (m : Machine) (ports : Vec BridgePort) → own_tables (view_of (record m { ports = ports })) ≡ own_tables (view_of m)
@@ -51,13 +57,13 @@ own_still v w (Some tables) same own = own ∙ sym same
 
 -- ---- a customer's frame enters
 
-pub entered_after : (m : Machine) (tenant : Tenant) (port : ℕ) (frame : List ℕ) → IsCurrent m → tenant ≡ after_customer m.tenant port frame
-    → IsAfter (after_entry port frame (view_of m)) (record m { tenant = tenant })
+pub entered_after : (m : Machine) (tenant : Tenant) (drops : Drops) (moved : Moved) (port : ℕ) (frame : List ℕ) → IsCurrent m → tenant ≡ after_customer m.tenant port frame → moved ≡ moved_by_entry port frame (view_of m) → drops ≡ counted_for moved.dropped m.drops
+    → IsAfter (after_entry port frame (view_of m)) (record m { tenant = tenant; drops = drops })
 unfolding after_entry
-entered_after m tenant port frame current is =
-    subst (λ (t : Tenant). IsAfter (after_entry port frame (view_of m)) (record m { tenant = t })) (sym is) (record {
-      view = ap (λ (t : Tenant). with_learned (after_customer t port frame).learned (view_of m)) (tenant_is m current.ports.me);
-      current = learned_current m (after_customer m.tenant port frame).learned current;
+entered_after m tenant drops moved port frame current is moves counts =
+    subst (λ (t : Tenant). IsAfter (after_entry port frame (view_of m)) (record m { tenant = t; drops = drops })) (sym is) (record {
+      view = λ i. with_drops ((counts ∙ ap (λ (x : Moved). counted_for x.dropped m.drops) moves) i) (with_learned (after_customer (tenant_is m current.ports.me i) port frame).learned (view_of m));
+      current = learned_current m (after_customer m.tenant port frame).learned drops current;
     })
 
 pub entered_moved : (m : Machine) (tables : Tables) (moved : Moved) (port : ℕ) (frame : List ℕ) → IsCurrent m → tables ≡ own_tables (view_of m) → moved ≡ of_customer m.tenant tables port frame
@@ -67,12 +73,15 @@ entered_moved m tables moved port frame current own is = is ∙ (λ i. of_custom
 
 -- ---- a backbone frame comes in
 
-pub relayed_after : (m : Machine) (tenant : Tenant) (tables : Tables) (port : ℕ) (f : Backbone) → IsCurrent m → tables ≡ own_tables (view_of m) → tenant ≡ after_backbone m.tenant tables port (parts f)
-    → IsAfter (forwarded_by f port (view_of m)) (record m { tenant = tenant })
-relayed_after m tenant tables port f current own is =
-    subst (λ (t : Tenant). IsAfter (forwarded_by f port (view_of m)) (record m { tenant = t })) (sym is) (record {
-      view = λ i. with_learned (after_backbone (tenant_is m current.ports.me i) (own i) port (parts f)).learned (view_of m);
-      current = learned_current m (after_backbone m.tenant tables port (parts f)).learned current;
+pub relayed_after : (m : Machine) (tenant : Tenant) (drops : Drops) (tables : Tables) (moved : Moved) (port : ℕ) (f : Backbone) (whole : List ℕ) → IsCurrent m → tables ≡ own_tables (view_of m) → tenant ≡ after_backbone m.tenant tables port (parts f)
+    → moved ≡ of_backbone m.tenant tables port (parts f) whole → drops ≡ counted_for moved.dropped m.drops → IsAfter (forwarded_by f port (view_of m)) (record m { tenant = tenant; drops = drops })
+relayed_after m tenant drops tables moved port f whole current own is moves counts =
+    let dropped : drops ≡ counted_for (dropped_by (step_of m.tenant tables port (parts f))) m.drops = counts ∙ ap (λ (x : Moved). counted_for x.dropped m.drops) moves in
+    let same : drops ≡ counted_for (dropped_by (step_of (tenant_of (view_of m)) (own_tables (view_of m)) port (parts f))) m.drops =
+    dropped ∙ (λ i. counted_for (dropped_by (step_of (tenant_is m current.ports.me i) (own i) port (parts f))) m.drops) in
+    subst (λ (t : Tenant). IsAfter (forwarded_by f port (view_of m)) (record m { tenant = t; drops = drops })) (sym is) (record {
+      view = λ i. with_drops (same i) (with_learned (after_backbone (tenant_is m current.ports.me i) (own i) port (parts f)).learned (view_of m));
+      current = learned_current m (after_backbone m.tenant tables port (parts f)).learned drops current;
     })
 
 pub relayed_moved : (m : Machine) (tables : Tables) (moved : Moved) (port : ℕ) (f : Backbone) (whole : List ℕ) → IsCurrent m → tables ≡ own_tables (view_of m)

@@ -1,5 +1,5 @@
 -- The bridge that a machine's fields say.
-use Rattle.std.specs.Prelude.{◌≡◌, ℕ, ◌+◌, ◌≤◌, List, [], ◌∷◌, length, true, false, replicate, Option, Some, None}
+use Rattle.std.specs.Prelude.{◌≡◌, ℕ, ◌+◌, ◌≤◌, List, [], ◌∷◌, length, true, false, Option, Some, None}
 use Rattle.spb_types.specs.declared.address.SystemId.{SystemId}
 use Rattle.spb_types.specs.declared.limits.TheConstants.{MOST_PORTS}
 use Rattle.flooding.specs.Own.{own_id}
@@ -14,7 +14,6 @@ use Rattle.bridge_api.specs.Ticking.{hello_frame}
 use Rattle.bridge_api.specs.Laws.{IsSoundView}
 use Rattle.bridge_control.specs.declared.machine.Machine.{Machine}
 
--- it counts no drop
 abbrev pub view_of : Machine → BridgeView
 view_of m = record {
   id = m.id;
@@ -26,7 +25,7 @@ view_of m = record {
   learned = m.tenant.learned;
   spent = m.own.spent;
   failed = false;
-  drops = replicate 9 0;
+  drops = m.drops;
 }
 
 -- the hellos of ports, of those from number p on

@@ -1,4 +1,4 @@
--- Frames of LSPs that are made once in a second, and copied for each port at which the LSP is to be sent.
+-- Frames of LSPs that are made once in a second, and shared by all ports at which the LSP is to be sent.
 use Rattle.std.specs.Prelude.{◌≡◌, ℕ, List, Option, Some, None, slice_get, ⊤}
 use Rattle.spb_types.specs.declared.address.SystemId.{SystemId}
 use Rattle.spb_types.specs.declared.address.LspId.{LspId}

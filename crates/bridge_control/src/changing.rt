@@ -10,7 +10,7 @@ use crate::hello::{hello_frame, put_hello};
 use crate::machine::Machine;
 use crate::ports::{is_same_end, is_up, port_at, put_port, set_srm_for_all, up_ports};
 use adjacency::AdjacencyChange;
-use bridge_api::BridgePort;
+use bridge_api::{BridgePort, DropReason};
 use spb_types::NoMemory;
 
 impl Machine {
@@ -54,7 +54,10 @@ impl Machine {
         ensures { OnOk result (IsAfter (api.changed_at heard port new (view_of self.old)) self.new) }
     {
         match heard {
-            AdjacencyChange::Discarded => Ok(()),
+            AdjacencyChange::Discarded => {
+                self.count_drop(DropReason::Hello);
+                Ok(())
+            }
             AdjacencyChange::Kept => self.keep(port, &new),
             AdjacencyChange::LeftUp => self.leave(port, &new),
             AdjacencyChange::CameUp => self.enter(port, &new),

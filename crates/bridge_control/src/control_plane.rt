@@ -4,6 +4,7 @@ ghost use Rattle.spb_types.specs.Graph.{IsValidFor};
 ghost use Rattle.spb_types.specs.Tables.{unicast_in, group_in};
 ghost use Rattle.fdb_build.specs.Tables.{ArePlans};
 ghost use Rattle.lsdb.specs.Database.{keyed};
+ghost use Rattle.bridge_api.specs.Drops.{count_of};
 ghost use Rattle.bridge_api.specs.View.{IsPort, has_carrier_at, is_csnp_due_at, adjacency_at, has_flags, entry_at};
 ghost use Rattle.bridge_api.specs.Config.{IsWhole, IsMetric, configured};
 ghost use Rattle.bridge_api.specs.Hearing.{after_receive, with_carrier, with_metric};
@@ -19,7 +20,7 @@ use crate::machine::Machine;
 use crate::parsing::is_customer;
 use crate::ports::port_at;
 use adjacency::Adjacency;
-use bridge_api::{BridgeConfig, Outbox};
+use bridge_api::{BridgeConfig, DropReason, Outbox};
 use lsdb::Held;
 use spb_types::{
     Attachment, BridgeId, Graph, Isid, Mac, NoMemory, Path, PortSet, SystemId, Tables, Vid,
@@ -135,8 +136,8 @@ impl ControlPlane {
         ended
     }
 
-    /// Hears a frame, which may be any bytes, at a port. A frame of no use is dropped and changes nothing. A backbone
-    /// frame is relayed and delivered by the tables of the bridge.
+    /// Hears a frame, which may be any bytes, at a port. A frame of no use is dropped, which raises one count and changes
+    /// nothing else. A backbone frame is relayed and delivered by the tables of the bridge.
     pub fn receive(&mut self, port: u8, frame: &[u8], outbox: &mut Outbox) -> Result<(), NoMemory>
         requires made { self.old.blank ≡ false }
         requires port { self.old.view.failed ≡ false → IsPort self.old.view port }
@@ -272,6 +273,14 @@ impl ControlPlane {
         ensures { option_map keyed (option_copied result) ≡ entry_at self.now.view place }
     {
         self.machine.db.at(place)
+    }
+
+    /// How many frames were dropped for a reason, and for `Full` how many LSPs and entries of sequence numbers PDUs.
+    pub fn drops(&self, reason: DropReason) -> u64
+        requires { self.now.blank ≡ false }
+        ensures { result ≡ count_of reason self.now.view.drops }
+    {
+        self.machine.drops.of(reason)
     }
 
     /// The tables of the bridge: a copy of those that are kept, or, where none are, made anew from the LSPs that it

@@ -38,6 +38,7 @@ impl Machine {
         let tables = self.tables_or(kept.take())?;
         let moved = from_customer(self.alloc, &mut self.tenant, &tables, port, frame)?;
         *kept = Some(tables);
+        self.drops.raise_for(moved.dropped);
         send_moved(self.alloc, moved, outbox)
     }
 
@@ -64,6 +65,7 @@ impl Machine {
         let tables = self.tables_or(kept.take())?;
         let moved = from_backbone(self.alloc, &mut self.tenant, &tables, port, frame, whole)?;
         *kept = Some(tables);
+        self.drops.raise_for(moved.dropped);
         send_moved(self.alloc, moved, outbox)
     }
 }

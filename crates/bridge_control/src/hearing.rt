@@ -1,7 +1,7 @@
 //! Hearing a frame.
-ghost use Rattle.std.specs.Prelude.{◌≡◌, ◌≤◌, true, false, OnOk, OnErr, length};
+ghost use Rattle.std.specs.Prelude.{◌≡◌, ◌≤◌, true, false, IfOk, OnOk, OnErr, length, if◌then◌else◌};
 ghost use Rattle.isis_pdu.specs.Pdu.{hello_of, lsp_of, csnp_of, psnp_of};
-ghost use Rattle.flooding.specs.Hearing.{hear_lsp_of};
+ghost use Rattle.flooding.specs.Hearing.{hear_lsp_of, is_full_for_lsp};
 ghost use Rattle.flooding.specs.Placing.{holding};
 ghost use Rattle.bridge_api.specs.View.{IsPort, has_carrier_at};
 ghost use Rattle.bridge_api.specs.Own.{originated_if_changed};
@@ -18,7 +18,7 @@ use crate::heard::{HeardHello, put_heard, said_at};
 use crate::machine::Machine;
 use crate::parsing::{Message, parse};
 use crate::ports::{is_up, port_at, put_hold, put_port};
-use bridge_api::Outbox;
+use bridge_api::{DropReason, Outbox};
 use flooding::{FloodError, Own};
 use isis_pdu::{Csnp, Hello, Lsp, Psnp};
 use lsdb::Database;
@@ -28,7 +28,8 @@ use spb_types::{NoMemory, PortSet, Tables};
 use std::alloc::Global;
 
 impl Machine {
-    /// Hears a frame, which may be any bytes, at a port. Where by it other LSPs may be held, no tables are kept.
+    /// Hears a frame, which may be any bytes, at a port. One that is dropped is counted, and changes nothing else. Where
+    /// by it other LSPs may be held, no tables are kept.
     pub(crate) fn receive(
         &mut self,
         port: u8,
@@ -47,6 +48,7 @@ impl Machine {
         ensures kept { OnOk result (AreOwn (view_of self.new) kept.new) }
     {
         if !port_at(self.ports.as_slice(), port).adjacency.carrier {
+            self.count_drop(DropReason::NotAdjacent);
             return Ok(());
         }
         if self.hear_again(port, frame) {
@@ -113,7 +115,10 @@ impl Machine {
                 *kept = None;
                 self.hear_psnp(port, &psnp)
             }
-            Message::Dropped(_) => Ok(()),
+            Message::Dropped(reason) => {
+                self.count_drop(reason);
+                Ok(())
+            }
             Message::Customer(backbone) => self.relay(port, &backbone, frame, kept, outbox),
         }
     }
@@ -208,9 +213,10 @@ impl Machine {
         ensures { OnOk result (IsAfter (hears (parsing.lsp (lsp_of lsp.now)) port (view_of self.old)) self.new) }
     {
         if !is_up(&port_at(self.ports.as_slice(), port)) {
+            self.count_drop(DropReason::NotAdjacent);
             return Ok(());
         }
-        hear_lsp_if_it_fits(
+        let full = hear_lsp_if_it_fits(
             self.alloc,
             &mut self.db,
             self.up,
@@ -219,6 +225,7 @@ impl Machine {
             &mut self.own,
             near,
         )?;
+        self.drops.raise_times(DropReason::Full, full);
         if !lsp.id.system.is(self.id.system) {
             return Ok(());
         }
@@ -232,12 +239,16 @@ impl Machine {
         ensures { OnOk result (IsAfter (hears (parsing.csnp (csnp_of csnp.now)) port (view_of self.old)) self.new) }
     {
         if !is_up(&port_at(self.ports.as_slice(), port)) {
+            self.count_drop(DropReason::NotAdjacent);
             return Ok(());
         }
         match entries_of_snp(self.alloc, csnp.tlvs) {
             Ok(entries) => self.hear_listed(port, csnp, entries.as_slice()),
             Err(TlvError::NoMemory) => Err(NoMemory),
-            Err(TlvError::Cut | TlvError::Range) => Ok(()),
+            Err(TlvError::Cut | TlvError::Range) => {
+                self.count_drop(DropReason::Tlv);
+                Ok(())
+            }
         }
     }
 
@@ -252,7 +263,7 @@ impl Machine {
         requires port { IsPort (view_of self.old) port }
         ensures { OnOk result (IsAfter (originated_if_changed (api.heard_csnp (csnp_of csnp.now) entries.now port (view_of self.old))) self.new) }
     {
-        hear_csnp(
+        let full = hear_csnp(
             self.alloc,
             &mut self.db,
             self.up,
@@ -262,6 +273,7 @@ impl Machine {
             entries,
             &mut self.own,
         )?;
+        self.drops.raise_times(DropReason::Full, full);
         self.originate_if_changed()
     }
 
@@ -272,12 +284,16 @@ impl Machine {
         ensures { OnOk result (IsAfter (hears (parsing.psnp (psnp_of psnp.now)) port (view_of self.old)) self.new) }
     {
         if !is_up(&port_at(self.ports.as_slice(), port)) {
+            self.count_drop(DropReason::NotAdjacent);
             return Ok(());
         }
         match entries_of_snp(self.alloc, psnp.tlvs) {
             Ok(entries) => self.hear_requests(port, entries.as_slice()),
             Err(TlvError::NoMemory) => Err(NoMemory),
-            Err(TlvError::Cut | TlvError::Range) => Ok(()),
+            Err(TlvError::Cut | TlvError::Range) => {
+                self.count_drop(DropReason::Tlv);
+                Ok(())
+            }
         }
     }
 
@@ -287,7 +303,7 @@ impl Machine {
         requires port { IsPort (view_of self.old) port }
         ensures { OnOk result (IsAfter (originated_if_changed (api.heard_psnp entries.now port (view_of self.old))) self.new) }
     {
-        hear_psnp(
+        let full = hear_psnp(
             self.alloc,
             &mut self.db,
             self.up,
@@ -295,11 +311,13 @@ impl Machine {
             entries,
             &mut self.own,
         )?;
+        self.drops.raise_times(DropReason::Full, full);
         self.originate_if_changed()
     }
 }
 
-/// Hears an LSP, which is looked for at the place `near` first. One that finds no place in the database is dropped.
+/// Hears an LSP, which is looked for at the place `near` first. One that finds no place in the database changes nothing.
+/// The answer is how many found none, 0 or 1.
 fn hear_lsp_if_it_fits(
     alloc: Global,
     db: &mut Database,
@@ -308,15 +326,18 @@ fn hear_lsp_if_it_fits(
     lsp: &Lsp<'_>,
     own: &mut Own,
     near: usize,
-) -> Result<(), NoMemory>
+) -> Result<u64, NoMemory>
     requires low { 1 ≤ port }
     requires high { port ≤ 32 }
     requires body { 1 ≤ length own.old.body }
-    ensures { OnOk result (holding db.new own.new ≡ hear_lsp_of up port (lsp_of lsp.now) (holding db.old own.old)) }
+    ensures full { IfOk result (λ n.
+        n ≡ (if is_full_for_lsp up port (lsp_of lsp.now) (holding db.old own.old) then 1 else 0)) }
+    ensures heard { OnOk result
+        (holding db.new own.new ≡ hear_lsp_of up port (lsp_of lsp.now) (holding db.old own.old)) }
 {
     match flooding::hear_lsp_near(alloc, db, up, port, lsp, own, near) {
-        Ok(()) => Ok(()),
-        Err(FloodError::Full) => Ok(()),
+        Ok(()) => Ok(0),
+        Err(FloodError::Full) => Ok(1),
         Err(FloodError::NoMemory) => Err(NoMemory),
     }
 }

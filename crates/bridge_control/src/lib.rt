@@ -18,6 +18,11 @@
 //!    whose `view` is that field. The invariant says of what is kept of the tables what it is of `b.control.view`.
 //! 2. In `impl Bridge`, give the kind, and blank and view as the value has them. Forward each call, which needs no
 //!    proof. One that changes what the tables are read from forgets those that are kept.
+//! 3. A kind that makes its tables in its own way asks before it forwards a frame whether this is sent on by tables
+//!    (`needs_tables`) and none are kept (`kept_tables`). Then it makes them, from the `graph` of all that the bridge
+//!    reads, its `id` and its `vids`, and gives them to the control plane (`keep_tables`), which sends the frame on by
+//!    them. Where it finds no memory for them it marks the control plane failed (`fail`). It answers questions about
+//!    tables by those that are kept, or by its own.
 //!
 //! # Costs
 //!

@@ -7,11 +7,13 @@ ghost use Rattle.flooding.specs.Own.{own_id};
 ghost use Rattle.bridge_api.specs.Config as config_specs;
 ghost use Rattle.bridge_api.specs.Ticking as ticking;
 ghost use Rattle.bridge_api.specs.Own as api;
+ghost use Rattle.bridge_api.specs.Hearing as hearing;
+ghost use Rattle.bridge_api.specs.Tables.{own_tables};
 
 use crate::heard::{HeardHello, none_heard};
 use crate::hello::hellos_of;
 use crate::ports::{attached_members, bare_ports, neighbours_at, up_ports};
-use bridge_api::{BridgeConfig, BridgePort};
+use bridge_api::{BridgeConfig, BridgePort, DropReason, Drops};
 use customer_learning::Learned;
 use flooding::{Own, originate};
 use forwarding::Tenant;
@@ -47,6 +49,8 @@ pub(crate) struct Machine {
     /// The hello of each port, as a control frame.
     pub(crate) hellos: Vec<Frame>,
     pub(crate) up: PortSet,
+    /// How many frames were dropped.
+    pub(crate) drops: Drops,
     /// The hello that came last to each port.
     pub(crate) heard: Vec<Option<HeardHello>>,
 }
@@ -75,6 +79,7 @@ impl Machine {
             },
             hellos: Vec::new(alloc),
             up: PortSet::none(),
+            drops: Drops::none(),
             heard: Vec::new(alloc),
         }
     }
@@ -122,6 +127,7 @@ impl Machine {
             },
             hellos,
             up,
+            drops: Drops::none(),
             heard,
         })
     }
@@ -187,6 +193,15 @@ impl Machine {
         self.hellos = hellos_of(self.alloc, self.id.system, self.ports.as_slice())?;
         self.up = up_ports(self.ports.as_slice());
         Ok(())
+    }
+
+    /// Counts a frame that is dropped, by which nothing else changes.
+    pub(crate) fn count_drop(&mut self, reason: DropReason)
+        requires { IsCurrent self.old }
+        ensures after { IsAfter (hearing.after_drop reason (view_of self.old)) self.new }
+        ensures tables { own_tables (view_of self.new) ≡ own_tables (view_of self.old) }
+    {
+        self.drops.raise(reason);
     }
 
     /// Originates (ISO/IEC 10589, 7.3.7).

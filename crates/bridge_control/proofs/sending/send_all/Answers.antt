@@ -1,4 +1,4 @@
-use Rattle.std.proofs.Common.{length, ap, ◌∙◌, arith}
+use Rattle.std.proofs.Common.{length, ap, arith}
 use Rattle.bridge_control.proofs.Following.{length_hellos, hello_there}
 use Rattle.bridge_control.proofs.Wire.{ports_some, on_err}
 use Rattle.bridge_control.proofs.Sends.{sending_next}

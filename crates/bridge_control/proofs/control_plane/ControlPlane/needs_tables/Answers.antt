@@ -1,5 +1,4 @@
-use Rattle.std.proofs.Common.{◌≡◌, ◌&&◌, Bool, ap, sym, ◌∙◌}
-use Rattle.bridge_api.specs.View.{has_carrier_at}
+use Rattle.std.proofs.Common.{◌&&◌, Bool, ap, sym, ◌∙◌}
 use Rattle.bridge_control.specs.Carrying.{carries_customer}
 use Rattle.bridge_control.proofs.Keeping.{carrier_is}
 use Rattle.bridge_control.proofs.control_plane.ControlPlane.needs_tables.Goals as goal

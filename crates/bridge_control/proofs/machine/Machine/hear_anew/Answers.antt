@@ -5,8 +5,8 @@ use Rattle.bridge_api.specs.Parsing as parsing
 use Rattle.bridge_control.specs.Carrying.{carrying}
 use Rattle.bridge_control.specs.Machine.{view_of}
 use Rattle.bridge_control.proofs.Owning.{after_same}
-use Rattle.bridge_control.proofs.Anew.{heard_path, idle_path}
-use Rattle.bridge_control.proofs.Moving.{unmoved, moved_path, forwarded_hears, nothing_moved, nothing_gained, sent_moved, gained_moved}
+use Rattle.bridge_control.proofs.Anew.{heard_path, dropped_path}
+use Rattle.bridge_control.proofs.Moving.{unmoved, moved_path, forwarded_hears, nothing_moved, nothing_gained, sent_moved, gained_moved, own_still}
 use Rattle.bridge_control.proofs.Wire.{on_ok, on_err}
 use Rattle.bridge_control.proofs.machine.Machine.hear_anew.Goals as goal
 
@@ -68,10 +68,14 @@ returns-in-Psnp-clause-sent c =
 pub returns-in-Psnp-clause-gained : goal.returns-in-Psnp-clause-gained
 returns-in-Psnp-clause-gained c = on_err c.hear_psnp.result (nothing_gained _ c.args.outbox.now)
 
--- nothing
+-- a frame that every bridge drops
 
 pub returns-in-Dropped-clause-after : goal.returns-in-Dropped-clause-after
-returns-in-Dropped-clause-after c = idle_path c.args.self.now c.args.port c.args.frame.now _ c.requires.ready c.requires.carrier c.in-Dropped.ensures (λ port. refl)
+returns-in-Dropped-clause-after c =
+    after_same _ _ c.count_drop.new.self (dropped_path (view_of c.args.self.now) c.args.port c.args.frame.now c.in-Dropped.reason c.requires.carrier c.in-Dropped.ensures) c.count_drop.ensures.after
+
+pub returns-in-Dropped-clause-kept : goal.returns-in-Dropped-clause-kept
+returns-in-Dropped-clause-kept c = own_still _ _ c.args.kept.now c.count_drop.ensures.tables c.requires.tables
 
 pub returns-in-Dropped-clause-sent : goal.returns-in-Dropped-clause-sent
 returns-in-Dropped-clause-sent c =

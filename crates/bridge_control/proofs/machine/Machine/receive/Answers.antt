@@ -15,7 +15,10 @@ pub returns-then-not-port_at-clause-after : goal.returns-then-not-port_at-clause
 returns-then-not-port_at-clause-after c =
     let port = c.port_at.result in
     let there = there_at c.args.self.now c.as_slice.result.now c.args.port port c.as_slice.ensures.value c.port_at.ensures in
-    deaf_after c.args.self.now c.args.port c.args.frame.now port c.requires.ready c.requires.port there (not_true port.adjacency.carrier c.if-not-port_at.true)
+    deaf_after c.args.self.now c.count_drop.new.self c.args.port c.args.frame.now port c.requires.port there (not_true port.adjacency.carrier c.if-not-port_at.true) c.count_drop.ensures.after
+
+pub returns-then-not-port_at-clause-kept : goal.returns-then-not-port_at-clause-kept
+returns-then-not-port_at-clause-kept c = own_still _ _ c.args.kept.now c.count_drop.ensures.tables c.requires.tables
 
 pub returns-then-not-port_at-clause-sent : goal.returns-then-not-port_at-clause-sent
 returns-then-not-port_at-clause-sent c =

@@ -20,7 +20,8 @@ returns-in_err-moved-clause-gained c = on_err _ (nothing_gained _ c.args.outbox.
 
 pub returns-clause-after : goal.returns-clause-after
 returns-clause-after c =
-    on_ok c.send_moved.result (relayed_after c.args.self.now c.from_backbone.new.tenant c.in_ok-tables.tables c.args.port c.args.frame.now c.requires.ready.current c.in_ok-tables.ensures c.in_ok-moved.ensures.learned)
+    on_ok c.send_moved.result
+    (relayed_after c.args.self.now c.from_backbone.new.tenant c.raise_for.new.self c.in_ok-tables.tables c.in_ok-moved.moved c.args.port c.args.frame.now c.args.whole.now c.requires.ready.current c.in_ok-tables.ensures c.in_ok-moved.ensures.learned c.in_ok-moved.ensures.moved c.raise_for.ensures)
 
 pub returns-clause-sent : goal.returns-clause-sent
 returns-clause-sent c =
@@ -31,4 +32,4 @@ returns-clause-gained c =
     gained_moved c.send_moved.result _ _ c.args.outbox.now c.send_moved.new.outbox (relayed_moved c.args.self.now c.in_ok-tables.tables c.in_ok-moved.moved c.args.port c.args.frame.now c.args.whole.now c.requires.ready.current c.in_ok-tables.ensures c.in_ok-moved.ensures.moved) c.send_moved.ensures.gained
 
 pub returns-clause-kept : goal.returns-clause-kept
-returns-clause-kept c = on_ok c.send_moved.result (tenant_tables c.args.self.now c.from_backbone.new.tenant c.in_ok-tables.tables c.in_ok-tables.ensures)
+returns-clause-kept c = on_ok c.send_moved.result (tenant_tables c.args.self.now c.from_backbone.new.tenant c.raise_for.new.self c.in_ok-tables.tables c.in_ok-tables.ensures)
