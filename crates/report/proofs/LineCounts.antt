@@ -20,7 +20,7 @@ use Rattle.report.specs.Tables.{unicast_line, group_line, quiet_words, tables_he
 use Rattle.report.specs.Database.{id_text, version_words, held_line, db_text}
 use Rattle.report.specs.Adjacencies.{due_text, neighbour_words, state_words, adjacency_words, port_line, port_lines, adj_text}
 use Rattle.report.specs.Lines as lines
-use Rattle.report.specs.Laws.{LacksNewline, IsName, HasLines, TablesHaveLines, DatabaseHasLines, AdjacenciesHaveLines, PathIsLine, OutIsLine, StateIsLine, ErrorIsLine}
+use Rattle.report.specs.Laws.{LacksNewline, IsName, HasLines, TablesHaveLines, DatabaseHasLines, AdjacenciesHaveLines, PathIsLine, DropsIsLine, OutIsLine, StateIsLine, ErrorIsLine}
 use Rattle.report.proofs.Newlines.{newlines-append, append_lacks, spaced_lack, decimal_lacks, hex_lacks, name_lacks, ports_lack}
 
 -- words without LF, one list after another
@@ -155,6 +155,14 @@ unfolding lines.path_text
 path_is_line from to vid cost names f g h =
     is_line (codes "path") (from ∷ to ∷ decimal vid ∷ lines.way_words cost names) refl
     (name_lacks from f, (name_lacks to g, (decimal_lacks vid, way_lacks cost names (names_lack names (recursion_from_All IsName names h)))))
+
+numbers_lack : (numbers : List ℕ) → AllByRecursion LacksNewline (map decimal numbers)
+numbers_lack [] = tt
+numbers_lack (n ∷ ns) = (decimal_lacks n, numbers_lack ns)
+
+pub drops_is_line : DropsIsLine
+unfolding lines.drops_text
+drops_is_line name counts h = is_line (codes "drops") (name ∷ map decimal counts) refl (name_lacks name h, numbers_lack counts)
 
 pub out_is_line : OutIsLine
 unfolding lines.out_text

@@ -11,7 +11,7 @@ use Rattle.report.specs.Ports.{ports_of}
 use Rattle.report.specs.Tables.{tables_text}
 use Rattle.report.specs.Database.{db_text}
 use Rattle.report.specs.Adjacencies.{adj_text}
-use Rattle.report.specs.Lines.{path_text, out_text, state_text, error_text}
+use Rattle.report.specs.Lines.{path_text, drops_text, out_text, state_text, error_text}
 
 -- the ports that are written for a set are just those of the set, ascending
 pub record ListsPorts (set : PortSet) : Type 0 where
@@ -56,6 +56,9 @@ AdjacenciesHaveLines = (name : List ℕ) (ports : List (Adjacency × Bool)) → 
 abbrev pub PathIsLine : Type 0
 PathIsLine = (from to : List ℕ) (vid cost : ℕ) (names : List (List ℕ)) → IsName from → IsName to → All IsName names
     → HasLines 1 (path_text from to vid cost names)
+
+abbrev pub DropsIsLine : Type 0
+DropsIsLine = (name counts : List ℕ) → IsName name → HasLines 1 (drops_text name counts)
 
 abbrev pub OutIsLine : Type 0
 OutIsLine = (name : List ℕ) (port : ℕ) (frame : List ℕ) → IsName name → HasLines 1 (out_text name port frame)

@@ -12,6 +12,10 @@ way_words cost (name ∷ names) = decimal cost ∷ decimal (length names) ∷ na
 unfoldable pub path_text : List ℕ → List ℕ → ℕ → ℕ → List (List ℕ) → List ℕ
 path_text from to vid cost names = line (codes "path") (from ∷ to ∷ decimal vid ∷ way_words cost names)
 
+-- how many frames a bridge dropped: `drops NAME` and the counts
+unfoldable pub drops_text : List ℕ → List ℕ → List ℕ
+drops_text name counts = line (codes "drops") (name ∷ map decimal counts)
+
 -- a customer frame that leaves a bridge: `out NAME PORT FRAME`
 unfoldable pub out_text : List ℕ → ℕ → List ℕ → List ℕ
 out_text name port frame = line (codes "out") (name ∷ decimal port ∷ encode_lower frame ∷ [])

@@ -1,5 +1,5 @@
 //! The laws of the texts. Each is the contract of a function that does nothing.
-ghost use Rattle.report.specs.Laws.{PortsAreThoseOfTheSet, TablesHaveLines, DatabaseHasLines, AdjacenciesHaveLines, PathIsLine, OutIsLine, StateIsLine, ErrorIsLine};
+ghost use Rattle.report.specs.Laws.{PortsAreThoseOfTheSet, TablesHaveLines, DatabaseHasLines, AdjacenciesHaveLines, PathIsLine, DropsIsLine, OutIsLine, StateIsLine, ErrorIsLine};
 
 /// The ports that are written for a set are just those of the set, ascending.
 pub fn ports_are_those_of_the_set()
@@ -12,6 +12,7 @@ pub fn answers_are_lines()
     ensures database { DatabaseHasLines }
     ensures adjacencies { AdjacenciesHaveLines }
     ensures path { PathIsLine }
+    ensures drops { DropsIsLine }
     ensures out { OutIsLine }
     ensures state { StateIsLine }
     ensures error { ErrorIsLine }

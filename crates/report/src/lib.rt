@@ -8,7 +8,7 @@
 pub use adjacencies::adj_text;
 pub use database::db_text;
 pub use laws::{answers_are_lines, ports_are_those_of_the_set};
-pub use lines::{error_text, out_text, path_text, state_text, try_text};
+pub use lines::{drops_text, error_text, out_text, path_text, state_text, try_text};
 pub use tables::tables_text;
 
 mod adjacencies;

@@ -51,6 +51,28 @@ fn put_names(text: &mut Text, names: &[Name]) -> Result<(), NoMemory>
     Ok(())
 }
 
+/// The answer that tells how many frames a bridge dropped, by the reason: `drops NAME` and the nine counts, in order.
+#[tactic(auto, unfolding(crate::specs::Lines::drops_text))]
+pub fn drops_text(alloc: Global, name: Name, counts: &[u64; 9]) -> Result<Vec<u8>, NoMemory>
+    ensures { IfOk result (λ bytes. bytes.items ≡ texts.drops_text name counts.now) }
+{
+    let mut text = Text::new(alloc);
+    text.push(b"drops")?;
+    text.word(name.bytes())?;
+    put_numbers(&mut text, counts)?;
+    text.end()?;
+    Ok(text.into_bytes())
+}
+
+fn put_numbers(text: &mut Text, numbers: &[u64]) -> Result<(), NoMemory>
+    ensures { OnOk result (text.new ≡ text.old ++ flat_map spaced (map decimal numbers.now)) }
+{
+    for number in numbers {
+        text.number(*number)?;
+    }
+    Ok(())
+}
+
 /// The answer for a customer frame that leaves a bridge: `out NAME PORT FRAME`.
 #[tactic(auto, unfolding(crate::specs::Lines::out_text))]
 pub fn out_text(alloc: Global, name: Name, port: u16, frame: &[u8]) -> Result<Vec<u8>, NoMemory>

@@ -6,7 +6,7 @@ use Rattle.spb_types.specs.declared.link.Dir.{Dir}
 use Rattle.scenario.specs.declared.command.Command.{Command}
 use Rattle.scenario.specs.declared.command.Command.TheVariants as command
 use Rattle.scenario.specs.declared.keyword.Keyword.{Keyword}
-use Rattle.scenario.specs.declared.keyword.Keyword.TheVariants.{Vid, Bridge, Link, Isid, Attach, Detach, Metric, Down, Up, Restart, Tick, Deliver, Lose, Double, Round, Drain, Frame, State, Show, Wiring, Db, Adj, Path}
+use Rattle.scenario.specs.declared.keyword.Keyword.TheVariants.{Vid, Bridge, Link, Isid, Attach, Detach, Metric, Down, Up, Restart, Tick, Deliver, Lose, Double, Round, Drain, Frame, State, Show, Wiring, Db, Adj, Path, Drops}
 use Rattle.scenario.specs.declared.line.TheConstants.{LINE_LIMIT}
 use Rattle.scenario.specs.Words.{Word, Rest, rest_from, Reading, next, at_end}
 use Rattle.scenario.specs.WordForms.{name, number, system, source, frame, dir, side}
@@ -149,6 +149,7 @@ form_of Path = do
   to ← a_name
   vid ← a_number
   gives (command.Path from to vid)
+form_of Drops = one_name command.Drops
 
 -- a line whose first byte is `#`
 abbrev pub is_comment : List ℕ → Bool

@@ -4,7 +4,7 @@ use Rattle.std.specs.List.{flat_map}
 use Rattle.hex.specs.Hex.{encode_lower, lower_digits}
 use Rattle.scenario.specs.declared.command.Command.{Command}
 use Rattle.scenario.specs.declared.command.Command.TheVariants as command
-use Rattle.scenario.specs.declared.keyword.Keyword.TheVariants.{Vid, Bridge, Link, Isid, Attach, Detach, Metric, Down, Up, Restart, Tick, Deliver, Lose, Double, Round, Drain, Frame, State, Show, Wiring, Db, Adj, Path}
+use Rattle.scenario.specs.declared.keyword.Keyword.TheVariants.{Vid, Bridge, Link, Isid, Attach, Detach, Metric, Down, Up, Restart, Tick, Deliver, Lose, Double, Round, Drain, Frame, State, Show, Wiring, Db, Adj, Path, Drops}
 use Rattle.scenario.specs.Keywords.{text_of}
 use Rattle.scenario.specs.Spelling.{side_text, dir_text}
 
@@ -46,6 +46,7 @@ words_of (command.Wiring bridge) = text_of Wiring ∷ bridge ∷ []
 words_of (command.Db bridge) = text_of Db ∷ bridge ∷ []
 words_of (command.Adj bridge) = text_of Adj ∷ bridge ∷ []
 words_of (command.Path from to vid) = text_of Path ∷ from ∷ to ∷ decimal vid ∷ []
+words_of (command.Drops bridge) = text_of Drops ∷ bridge ∷ []
 
 -- whether a command asks something
 abbrev pub is_question : Command → Bool
@@ -55,6 +56,7 @@ is_question (command.Wiring bridge) = true
 is_question (command.Db bridge) = true
 is_question (command.Adj bridge) = true
 is_question (command.Path from to vid) = true
+is_question (command.Drops bridge) = true
 is_question c = false
 
 -- a word with a space before it

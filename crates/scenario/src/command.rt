@@ -101,4 +101,6 @@ pub enum Command {
         to: Name,
         vid: u64,
     },
+    /// `drops B`: how many frames bridge B dropped, by the reason.
+    Drops(Name),
 }

@@ -6,7 +6,7 @@
 //!
 //! A line is its words, apart by spaces or tabs: a keyword, and then what its form takes. `parse_line` reads it from
 //! left to right, once, and takes time in proportion to the line: each byte of a word is looked at a few times, and the
-//! first word is compared with the keywords, of which there are 23. A line of more than 8,192 bytes is refused before
+//! first word is compared with the keywords, of which there are 24. A line of more than 8,192 bytes is refused before
 //! it is looked at. Only the bytes of a frame take memory.
 //!
 //! `print_command` is the way back: the line of a command, with single spaces, numbers without leading zeros and

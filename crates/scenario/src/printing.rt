@@ -326,6 +326,7 @@ fn put_question(text: &mut Text, command: &Command) -> Result<(), NoMemory>
         Command::Db(name) => put_one_name(text, Keyword::Db, *name),
         Command::Adj(name) => put_one_name(text, Keyword::Adj, *name),
         Command::Path { from, to, vid } => put_path(text, *from, *to, *vid),
+        Command::Drops(name) => put_one_name(text, Keyword::Drops, *name),
         _ => Ok(()),
     }
 }

@@ -20,7 +20,7 @@ use Rattle.bridge_api.specs.Customers.{tenant_of}
 use Rattle.bridge_api.specs.Apart.{CarriesEntered}
 use Rattle.bridge_api.specs.Laws.{IsSoundView}
 use Rattle.spb_network.specs.declared.answer.Answer.{Answer}
-use Rattle.spb_network.specs.declared.answer.Answer.TheVariants.{Outs, Show, Wiring, Db, Adj}
+use Rattle.spb_network.specs.declared.answer.Answer.TheVariants.{Outs, Show, Wiring, Db, Adj, Drops}
 use Rattle.spb_network.specs.declared.answer.Out.{Out}
 use Rattle.spb_network.specs.declared.declaration.DeclaredBridge.{DeclaredBridge}
 use Rattle.spb_network.specs.declared.declaration.DeclaredLink.{DeclaredLink}
@@ -32,7 +32,7 @@ use Rattle.spb_network.specs.State.{State}
 use Rattle.spb_network.specs.Events.{ticked, delivered, lost, doubled, with_metric_at_end, with_metrics_over, with_metric_changed, port_attached, port_detached, frame_entered, switched_off, switched_on, rounds, drained}
 use Rattle.spb_network.specs.Restarting.{restarted}
 use Rattle.spb_network.specs.Refusing.{box_for, refusal_at_found, link_refusal_at_found, named_link_refusal, metric_refusal, named_attach_refusal, named_detach_refusal, named_entry_refusal, refusal_of}
-use Rattle.spb_network.specs.Questions.{Question, is_quiet, show_at, db_at, adj_at}
+use Rattle.spb_network.specs.Questions.{Question, is_quiet, show_at, db_at, adj_at, drops_at}
 use Rattle.spb_network.specs.Paths.{declared_vid, path_at, path_answer, path_found, path_from}
 use Rattle.spb_network.specs.Play.{config_of, boxed, declared, linked, link_between_found, named_link, at_place, at_bridge, at_link, with_vid_more, with_service_more, with_rounds, with_drain, played, counted, next_state, answer_at_found, answer_to_asked, answer_of}
 use Rattle.spb_network.specs.Sound.{IsSoundState}
@@ -70,6 +70,7 @@ asked_silent s (command.Show name) = none_said s (record { bridge = name; answer
 asked_silent s (command.Wiring name) = none_said s (record { bridge = name; answer = λ t i. Wiring name (wired_tables t.world i) }) (place_of name s.world.bridges) (λ i. refl)
 asked_silent s (command.Db name) = none_said s (record { bridge = name; answer = λ t i. Db name (db_at t i) }) (place_of name s.world.bridges) (λ i. refl)
 asked_silent s (command.Adj name) = none_said s (record { bridge = name; answer = λ t i. Adj name (adj_at t i) }) (place_of name s.world.bridges) (λ i. refl)
+asked_silent s (command.Drops name) = none_said s (record { bridge = name; answer = λ t i. Drops name (drops_at t i) }) (place_of name s.world.bridges) (λ i. refl)
 asked_silent s (command.Path from to vid) = none_said s (record { bridge = from; answer = λ t i. path_from t i from to vid }) (place_of from s.world.bridges) (λ i. path_silent s i from to (place_of to s.world.bridges) (declared_vid s.world.vids vid))
 asked_silent s _ = refl
 

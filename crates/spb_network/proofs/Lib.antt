@@ -48,6 +48,7 @@ pub mod PortLemmas
 pub mod RowLemmas
 pub mod CommandFits
 pub mod DeclaredLemmas
+pub mod Halts
 pub mod HintLemmas
 pub mod Chains
 pub mod Tested

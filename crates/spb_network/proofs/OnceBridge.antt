@@ -30,7 +30,7 @@ use Rattle.forwarding.specs.declared.tenant.Tenant.{Tenant}
 use Rattle.forwarding.specs.Ports.{attachment_of, but_for, is_in, is_served, is_way, ports_in, ports_of}
 use Rattle.forwarding.specs.Tenant.{Carried, after_customer, after_delivery, delivered_going, each_with, entered_by, entered_going, flooded, going_by, is_delivered, is_group, is_of_another, is_taken, left_of, nothing, of_backbone, relayed_at, step_of, to_of, way_on}
 use Rattle.bridge_api.specs.declared.port.BridgePort.{BridgePort}
-use Rattle.bridge_api.specs.View.{BridgeView, has_carrier_at, has_carrier_in, port_at}
+use Rattle.bridge_api.specs.View.{BridgeView, has_carrier_at, has_carrier_in, port_at, with_drops}
 use Rattle.bridge_api.specs.Tables.{own_tables}
 use Rattle.bridge_api.specs.Customers.{IsCustomerFrame, after_entry, carried_by, forwarded, moved_as, moved_at, moved_by_entry, moved_by_receive, tenant_of, with_learned}
 use Rattle.bridge_api.specs.Hearing.{after_drop, after_receive, heard_as, heard_at}
@@ -38,6 +38,7 @@ use Rattle.bridge_api.specs.Config.{IsAttachment, vids_of}
 use Rattle.bridge_api.specs.Laws.{HasConfig}
 use Rattle.bridge_api.specs.Parsing.{Parsed, by_content, parsed}
 use Rattle.bridge_api.specs.Parsing as parsing
+use Rattle.spb_network.specs.UnderWay.{HasLearned}
 use Rattle.bridge_api.proofs.Octets.{AreSmall, bytes_small, octets_small, small_both}
 
 -- ---- where it enters
@@ -52,7 +53,7 @@ module _ (v : BridgeView) (p : ℕ) (f : List ℕ) (a : Attachment) (at : attach
       ∙ ap (λ (b : Bool). entered_going t (own_tables v) a f (if b then Everywhere else going_by (place_in t.learned a.isid (to_of f)))) group
 
 -- the bridge has learned an address, and is else as it was
-pub entry_learns : (v : BridgeView) (p : ℕ) (f : List ℕ) → after_entry p f v ≡ with_learned (after_entry p f v).learned v
+pub entry_learns : (v : BridgeView) (p : ℕ) (f : List ℕ) → HasLearned v (after_entry p f v)
 unfolding after_entry
 entry_learns v p f = refl
 
@@ -72,17 +73,17 @@ module _ (v : BridgeView) (q : ℕ) (bytes : List ℕ) (da sa : Mac) (vid : Vid)
           ap (λ (b : Bool). if b then moved_as (parsed bytes) q bytes v else nothing) has
           ∙ ap (λ (j : Parsed). moved_as j q bytes v) taken
 
-  pub receiving_learns : after_receive q bytes v ≡ with_learned (after_receive q bytes v).learned v
+  pub receiving_learns : HasLearned v (after_receive q bytes v)
   unfolding after_receive has_carrier_at
   receiving_learns = by (port_at v q) carrier
     where
-      by : (o : Option BridgePort) → has_carrier_in o ≡ true → heard_at q bytes o v ≡ with_learned (heard_at q bytes o v).learned v
+      by : (o : Option BridgePort) → has_carrier_in o ≡ true → HasLearned v (heard_at q bytes o v)
       by None has = absurd (false≢true has)
       by (Some port) has =
           let is : heard_at q bytes (Some port) v ≡ forwarded da sa vid isid f q v =
           ap (λ (b : Bool). if b then heard_as (parsed bytes) q port v else after_drop drop.NotAdjacent v) has
           ∙ ap (λ (j : Parsed). heard_as j q port v) taken in
-          is ∙ ap (λ (u : BridgeView). with_learned u.learned v) (sym is)
+          is ∙ ap (λ (u : BridgeView). with_drops u.drops (with_learned u.learned v)) (sym is)
 
   -- it passes the ingress check, has the I-SID of its group address, and isn't addressed to this bridge; and there each
   -- port of the I-SID is in its VID

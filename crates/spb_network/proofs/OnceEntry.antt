@@ -19,7 +19,7 @@ use Rattle.forwarding.specs.Laws.{IsAttachedTo}
 use Rattle.forwarding.specs.Ports.{attachment_of, but_for, ports_in, ports_of}
 use Rattle.forwarding.specs.Tenant.{each_with}
 use Rattle.bridge_api.specs.View.{BridgeView}
-use Rattle.bridge_api.specs.Customers.{after_entry, with_learned}
+use Rattle.bridge_api.specs.Customers.{after_entry}
 use Rattle.bridge_api.specs.Step.{Input, customer, sent, left_by}
 use Rattle.spb_network.specs.declared.answer.Out.{Out}
 use Rattle.spb_network.specs.declared.declaration.DeclaredLink.{DeclaredLink}
@@ -30,7 +30,7 @@ use Rattle.spb_network.specs.DeliveryLaws.{IsOneStep, frames_at, pushed_all}
 use Rattle.spb_network.specs.Sound.{IsSoundState}
 use Rattle.spb_network.specs.Quiet.{AreEmpty}
 use Rattle.spb_network.specs.Once.{IsReceivingAt, IsRight, left_at}
-use Rattle.spb_network.specs.UnderWay.{Journey, carrier_of, leads_over, comes_over, IsUnderWay}
+use Rattle.spb_network.specs.UnderWay.{Journey, carrier_of, leads_over, comes_over, IsUnderWay, HasLearned}
 use Rattle.spb_network.proofs.ApartOuts.{place_named}
 use Rattle.spb_network.proofs.FitsLemmas.{link_there}
 use Rattle.spb_network.proofs.SentLanes.{stepped_once, stepped_here, stepped_beside, stepped_rest, stepped_outs}
@@ -188,16 +188,16 @@ module _ (s : State) (b p : ℕ) (f : List ℕ) (v : BridgeView) (a : Attachment
 
   -- ---- the bridges
 
-  views : (i : ℕ) (y : BridgeView) → slice_get t.views i ≡ Some y → (u : BridgeView) × (slice_get s.views i ≡ Some u) × (y ≡ with_learned y.learned u)
+  views : (i : ℕ) (y : BridgeView) → slice_get t.views i ≡ Some y → (u : BridgeView) × (slice_get s.views i ≡ Some u) × HasLearned u y
   views i y at_i = by (cases_eq i b)
     where
       step_is : IsOneStep s t b x v
       step_is = stepped_once x s b v at
 
-      by : (i ≡ b) ⊎ (i ≢ b) → (u : BridgeView) × (slice_get s.views i ≡ Some u) × (y ≡ with_learned y.learned u)
+      by : (i ≡ b) ⊎ (i ≢ b) → (u : BridgeView) × (slice_get s.views i ≡ Some u) × HasLearned u y
       by (inl same) =
           let y_is : y ≡ after_entry p f v = some-is y (after_entry p f v) (sym at_i ∙ (ap (slice_get t.views) same ∙ step_is.after)) in
-          (v, ap (slice_get s.views) same ∙ at, y_is ∙ (entry_learns v p f ∙ ap (λ (z : BridgeView). with_learned z.learned v) (sym y_is)))
+          (v, ap (slice_get s.views) same ∙ at, subst (HasLearned v) (sym y_is) (entry_learns v p f))
       by (inr apart) = (y, sym (step_is.others i apart) ∙ at_i, refl)
 
   -- the frame has entered

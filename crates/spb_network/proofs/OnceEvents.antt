@@ -107,6 +107,7 @@ module _ (start : State) (j : Journey) (is : IsJourney start j) where
   command_stays s before (command.Wiring name) on sound none accepted way = question_stays s before (command.Wiring name) refl (asked_silent s (command.Wiring name)) none way
   command_stays s before (command.Db name) on sound none accepted way = question_stays s before (command.Db name) refl (asked_silent s (command.Db name)) none way
   command_stays s before (command.Adj name) on sound none accepted way = question_stays s before (command.Adj name) refl (asked_silent s (command.Adj name)) none way
+  command_stays s before (command.Drops name) on sound none accepted way = question_stays s before (command.Drops name) refl (asked_silent s (command.Drops name)) none way
   command_stays s before (command.Path from to vid) on sound none accepted way = question_stays s before (command.Path from to vid) refl (asked_silent s (command.Path from to vid)) none way
   command_stays s before (command.Vid vid ect) on sound none accepted way = absurd (false≢true on)
   command_stays s before (command.Bridge name priority system source ports) on sound none accepted way = absurd (false≢true on)

@@ -19,7 +19,7 @@ use Rattle.customer_learning.specs.Known.{same_mac}
 use Rattle.forwarding.specs.Laws.{IsAttachedTo}
 use Rattle.forwarding.specs.Ports.{but_for, is_in, ports_in, ports_of}
 use Rattle.forwarding.specs.Tenant.{each_with, is_group, to_of}
-use Rattle.bridge_api.specs.View.{BridgeView, has_carrier_at}
+use Rattle.bridge_api.specs.View.{BridgeView, has_carrier_at, with_drops}
 use Rattle.bridge_api.specs.Config.{ArePairwise}
 use Rattle.bridge_api.specs.Tables.{own_tables}
 use Rattle.bridge_api.specs.Customers.{with_learned}
@@ -36,7 +36,7 @@ use Rattle.spb_network.specs.DeliveryLaws.{frames_at, pushed_all, IsDelivery}
 use Rattle.spb_network.specs.Sound.{IsSoundState}
 use Rattle.spb_network.specs.Truth.{AreLinked, IsWalk}
 use Rattle.spb_network.specs.Once.{IsReceivingAt, IsRight, left_at}
-use Rattle.spb_network.specs.UnderWay.{Journey, carrier_of, leads_over, comes_over, IsTree, IsUnderWay}
+use Rattle.spb_network.specs.UnderWay.{Journey, carrier_of, leads_over, comes_over, IsTree, IsUnderWay, HasLearned}
 use Rattle.spb_network.proofs.ApartOuts.{place_named}
 use Rattle.spb_network.proofs.Delivered.{frames_are_delivered}
 use Rattle.spb_network.proofs.FitsLemmas.{far_is_port, link_there}
@@ -66,7 +66,7 @@ pub record IsJourney (start : State) (j : Journey) : Type 0 where
 
 -- ---- small steps
 
-pub tables_stay : (v u : BridgeView) → v ≡ with_learned v.learned u → own_tables v ≡ own_tables u
+pub tables_stay : (v u : BridgeView) → HasLearned u v → own_tables v ≡ own_tables u
 unfolding own_tables
 tables_stay v u same = ap own_tables same
 
@@ -216,7 +216,7 @@ module _ (start : State) (j : Journey) (is : IsJourney start j) (served : ℕ �
   at : slice_get s.views c ≡ Some v
   at = d.heard.before
 
-  was : (u : BridgeView) × (slice_get start.views c ≡ Some u) × (v ≡ with_learned v.learned u)
+  was : (u : BridgeView) × (slice_get start.views c ≡ Some u) × HasLearned u v
   was = under.views c v at
 
   tables_are : own_tables v ≡ wired_tables w c
@@ -261,7 +261,7 @@ module _ (start : State) (j : Journey) (is : IsJourney start j) (served : ℕ �
       leaves_at_each v q bytes j.to j.from j.vid j.isid j.frame carries taken way is.isid away is.group is.customers one_vid (no_ports_of j.isid v.attached)
       ∙ ap (λ (as_attached : List Attachment). each_with j.frame (ports_of j.isid as_attached)) attached
 
-  learns : step (frame q bytes) v ≡ with_learned (step (frame q bytes) v).learned v
+  learns : HasLearned v (step (frame q bytes) v)
   learns = receiving_learns v q bytes j.to j.from j.vid j.isid j.frame carries taken
 
   -- it doesn't go back
@@ -451,14 +451,15 @@ module _ (start : State) (j : Journey) (is : IsJourney start j) (served : ℕ �
 
   -- ---- the bridges
 
-  views2 : (i : ℕ) (x : BridgeView) → slice_get t.views i ≡ Some x → (u : BridgeView) × (slice_get start.views i ≡ Some u) × (x ≡ with_learned x.learned u)
+  views2 : (i : ℕ) (x : BridgeView) → slice_get t.views i ≡ Some x → (u : BridgeView) × (slice_get start.views i ≡ Some u) × HasLearned u x
   views2 i x at_i = by (cases_eq i c)
     where
-      by : (i ≡ c) ⊎ (i ≢ c) → (u : BridgeView) × (slice_get start.views i ≡ Some u) × (x ≡ with_learned x.learned u)
+      by : (i ≡ c) ⊎ (i ≢ c) → (u : BridgeView) × (slice_get start.views i ≡ Some u) × HasLearned u x
       by (inl same) =
           let x_is : x ≡ step (frame q bytes) v = some-is x (step (frame q bytes) v) (sym at_i ∙ (ap (slice_get t.views) same ∙ d.heard.after)) in
-          let next : step (frame q bytes) v ≡ with_learned (step (frame q bytes) v).learned was.0 = learns ∙ ap (with_learned (step (frame q bytes) v).learned) was.2 in
-          (was.0, ap (slice_get start.views) same ∙ was.1, x_is ∙ (next ∙ ap (λ (y : BridgeView). with_learned y.learned was.0) (sym x_is)))
+          let heard : BridgeView = step (frame q bytes) v in
+          let next : HasLearned was.0 heard = learns ∙ ap (λ (y : BridgeView). with_drops heard.drops (with_learned heard.learned y)) was.2 in
+          (was.0, ap (slice_get start.views) same ∙ was.1, subst (HasLearned was.0) (sym x_is) next)
       by (inr apart) = under.views i x (sym (d.heard.others i apart) ∙ at_i)
 
   pub served_next : IsUnderWay start j served2 t (before ++ t.outs)

@@ -16,6 +16,7 @@ pub mod Restarting
 pub mod Refusing
 pub mod Play
 pub mod Applying
+pub mod Halting
 pub mod Holding
 pub mod SoundLaws
 pub mod Truth

@@ -9,10 +9,11 @@ use Rattle.adjacency.specs.declared.port.Adjacency.{Adjacency}
 use Rattle.scenario.specs.declared.command.Command.{Command}
 use Rattle.scenario.specs.declared.command.Command.TheVariants as command
 use Rattle.spb_types.specs.declared.tables.Tables.{Tables}
+use Rattle.bridge_api.specs.Drops.{no_drops, counts_in}
 use Rattle.bridge_api.specs.Graph.{own_tables}
 use Rattle.bridge_api.specs.declared.port.BridgePort.{BridgePort}
 use Rattle.spb_network.specs.declared.answer.Answer.{Answer}
-use Rattle.spb_network.specs.declared.answer.Answer.TheVariants.{Silent, Show, Wiring, Db, Adj}
+use Rattle.spb_network.specs.declared.answer.Answer.TheVariants.{Silent, Show, Wiring, Db, Adj, Drops}
 use Rattle.spb_network.specs.World.{wired_tables}
 use Rattle.spb_network.specs.State.{State}
 use Rattle.spb_network.specs.Paths.{path_from}
@@ -56,6 +57,10 @@ adjacencies_of ports = map (λ port. (port.adjacency, port.csnp_due)) ports
 abbrev pub adj_at : State → ℕ → List (Adjacency × Bool)
 adj_at s i = option_map_or (λ v. adjacencies_of v.ports) (slice_get s.views i) []
 
+-- how many frames the bridge at place i dropped, by the reason
+abbrev pub drops_at : State → ℕ → List ℕ
+drops_at s i = counts_in (option_map_or (λ v. v.drops) (slice_get s.views i) no_drops)
+
 -- a question about a bridge: its name, and the answer about the bridge at a place
 pub record Question : Type 0 where
   pub bridge : List ℕ
@@ -69,6 +74,7 @@ question_of (command.Wiring name) =
     Some (record { bridge = name; answer = λ s i. Wiring name (wired_tables s.world i) })
 question_of (command.Db name) = Some (record { bridge = name; answer = λ s i. Db name (db_at s i) })
 question_of (command.Adj name) = Some (record { bridge = name; answer = λ s i. Adj name (adj_at s i) })
+question_of (command.Drops name) = Some (record { bridge = name; answer = λ s i. Drops name (drops_at s i) })
 question_of (command.Path from to vid) =
     Some (record { bridge = from; answer = λ s i. path_from s i from to vid })
 question_of _ = None

@@ -10,7 +10,7 @@ use Rattle.spb_types.specs.declared.service.Isid.{Isid}
 use Rattle.spb_types.specs.declared.service.Vid.{Vid}
 use Rattle.itag_frames.specs.Backbone.{backbone_bytes}
 use Rattle.link_model.specs.Lane.{Frame}
-use Rattle.bridge_api.specs.View.{BridgeView}
+use Rattle.bridge_api.specs.View.{BridgeView, with_drops}
 use Rattle.bridge_api.specs.Customers.{with_learned}
 use Rattle.spb_network.specs.declared.answer.Out.{Out}
 use Rattle.spb_network.specs.declared.declaration.DeclaredLink.{DeclaredLink}
@@ -78,14 +78,18 @@ abbrev pub comes_over : World → Journey → (ℕ → Bool) → Dir → Declare
 comes_over w j served dir l =
     leads_over w j dir l && (served (near_end dir l).bridge && not (served (far_end dir l).bridge))
 
--- Since the frame entered, the network `start` has become s, and these frames left. Bridges learned addresses, and else
--- they are as they were. A lane has the frame where it comes over the link, and else nothing. A bridge has served it
--- only after the one that leads to it, and so a walk joins it to the first. What left has left where it had to, once at
--- each such port of the bridges that have served it.
+-- the bridge has learned addresses and counted drops since it was u, and else it is as it was
+abbrev pub HasLearned : BridgeView → BridgeView → Type 0
+HasLearned u v = v ≡ with_drops v.drops (with_learned v.learned u)
+
+-- Since the frame entered, the network `start` has become s, and these frames left. Bridges learned addresses and
+-- counted drops, and else they are as they were. A lane has the frame where it comes over the link, and else
+-- nothing. A bridge has served it only after the one that leads to it, and so a walk joins it to the first. What
+-- left has left where it had to, once at each such port of the bridges that have served it.
 pub record IsUnderWay (start : State) (j : Journey) (served : ℕ → Bool) (s : State) (outs : List Out) : Type 0 where
   pub world : s.world ≡ start.world
   pub views : (i : ℕ) (v : BridgeView) → slice_get s.views i ≡ Some v
-      → (u : BridgeView) × (slice_get start.views i ≡ Some u) × (v ≡ with_learned v.learned u)
+      → (u : BridgeView) × (slice_get start.views i ≡ Some u) × HasLearned u v
   pub lanes : (k : ℕ) (dir : Dir) (l : DeclaredLink) → slice_get (links_of start) k ≡ Some l
       → lane_at s k dir ≡ (if comes_over start.world j served dir l then carrier_of j ∷ [] else [])
   pub first : served j.bridge ≡ true

@@ -53,4 +53,9 @@ pub enum Answer {
         cost: u64,
         names: Seq<Name>,
     },
+    /// How many frames a bridge dropped: a count for each [`DropReason`](bridge_api::DropReason), in its order.
+    Drops {
+        bridge: Name,
+        counts: [u64; 9],
+    },
 }

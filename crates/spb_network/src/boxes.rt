@@ -3,6 +3,7 @@ ghost use Rattle.std.specs.Prelude.{◌≡◌, ◌≤◌, [], ◌++◌, false, l
 ghost use Rattle.std.specs.Option.{option_map_or};
 ghost use Rattle.bridge_api.specs.Config.{IsMetric};
 ghost use Rattle.bridge_api.specs.Customers.{IsCustomerFrame};
+ghost use Rattle.bridge_api.specs.Drops.{counts_in};
 ghost use Rattle.bridge_api.specs.Step as comes;
 ghost use Rattle.bridge_api.specs.Step.{sent, left_by, step, with_wire};
 ghost use Rattle.bridge_api.specs.Shown.{views_of};
@@ -11,7 +12,7 @@ ghost use Rattle.spb_network.specs.Questions as question;
 ghost use Rattle.spb_network.specs.Network.{AreMade, IsPortAt, CanAttachAt, IsAttachedAt};
 
 use adjacency::Adjacency;
-use bridge_api::{Bridge, Outbox};
+use bridge_api::{Bridge, DropReason, Outbox};
 use lsdb::DbRow;
 use spb_types::{Attachment, NoMemory};
 use std::alloc::Global;
@@ -180,6 +181,24 @@ pub fn adjacencies_of<B: Bridge>(
         ports.push((bridge.adjacent(port), bridge.due(port)))?;
     }
     Ok(ports)
+}
+
+/// How many frames a bridge dropped: a count for each reason, in order.
+pub fn drop_counts<B: Bridge>(bridge: &B) -> [u64; 9]
+    requires { (B.shown bridge.now).blank ≡ false }
+    ensures { result ≡ counts_in (B.shown bridge.now).view.drops }
+{
+    [
+        bridge.drops(DropReason::Frame),
+        bridge.drops(DropReason::Pdu),
+        bridge.drops(DropReason::Tlv),
+        bridge.drops(DropReason::NotAdjacent),
+        bridge.drops(DropReason::Hello),
+        bridge.drops(DropReason::Ingress),
+        bridge.drops(DropReason::NoWay),
+        bridge.drops(DropReason::Mismatch),
+        bridge.drops(DropReason::Full),
+    ]
 }
 
 /// A row for each LSP id that a bridge holds, in order of id.

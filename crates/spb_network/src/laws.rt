@@ -1,5 +1,6 @@
 //! What holds of a network at every moment. Each law is the contract of a function that does nothing.
 ghost use Rattle.spb_network.specs.Holding.{TheFirstReasonIsGiven};
+ghost use Rattle.spb_network.specs.Halting.{HaltsWithoutMemory};
 ghost use Rattle.spb_network.specs.SoundLaws.{EventsKeepSound, CommandsKeepSound, NetworksAreSound, SomeNetworkIsBusy};
 ghost use Rattle.spb_network.specs.CountedLaws.{EventsKeepCounted, CommandsKeepCounted, NetworksAreCounted, NumbersStayLow, BridgesStayFar, NothingIsFull, SomeCountedIsBusy};
 ghost use Rattle.spb_network.specs.WiringLaws.{SoundIsWired, NetworksAreWired};
@@ -12,6 +13,8 @@ ghost use Rattle.spb_network.specs.RestartLaws.{RestartIsNew};
 ghost use Rattle.spb_network.specs.DeliveryLaws.{FramesAreDelivered, DeliverDelivers};
 ghost use Rattle.spb_network.specs.Isolation.{CommandsKeepApart, ServicesStayApart, SomeFrameLeaves};
 ghost use Rattle.spb_network.specs.Once.{ExactlyOnce, NetworksDeliverOnce, SomeFramePasses};
+
+use bridge_api::Bridge;
 
 /// Whatever comes to the bridges of a sound network, and whatever becomes of its frames and links, it stays sound.
 pub fn events_keep_sound()
@@ -56,6 +59,12 @@ pub fn some_network_is_busy()
 /// A command is refused for the reason of the least number that holds of it, and accepted exactly where none holds.
 pub fn the_first_reason_is_given()
     ensures { TheFirstReasonIsGiven }
+{}
+
+/// Of commands that are applied one after another to a network that hasn't halted, one answers `Halted` exactly where
+/// one before it found no memory.
+pub fn networks_halt_without_memory<B: Bridge>()
+    ensures { HaltsWithoutMemory B.shown }
 {}
 
 /// Whatever commands are accepted, at most 120,000 of them, with at most 20,000 rounds, and in whatever order frames are

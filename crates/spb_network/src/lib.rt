@@ -31,10 +31,10 @@ pub use answer::{Answer, Out};
 pub use declaration::{DeclaredBridge, DeclaredLink, LinkEnd};
 pub use kind_rule::KindRule;
 pub use laws::{
-    a_delivery_is_one_step, a_restart_begins_anew, events_keep_sound, networks_are_sound,
-    numbers_stay_bounded, quiet_can_be_relied_on, quiet_is_true, quiet_paths_are_wired,
-    quiet_says_what_it_reads_like, services_stay_apart, some_network_is_busy,
-    the_first_reason_is_given, wiring_gives_tables,
+    a_delivery_is_one_step, a_restart_begins_anew, events_keep_sound, group_frames_leave_once,
+    networks_are_sound, networks_halt_without_memory, numbers_stay_bounded, quiet_can_be_relied_on,
+    quiet_is_true, quiet_paths_are_wired, quiet_says_what_it_reads_like, services_stay_apart,
+    some_network_is_busy, the_first_reason_is_given, wiring_gives_tables,
 };
 pub use network::{Network, NetworkOf};
 pub use reason::{ApplyError, Reason};

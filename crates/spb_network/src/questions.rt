@@ -61,8 +61,11 @@ pub(crate) fn asked(command: &Command) -> Option<Name>
     ensures { result ≡ option_map (λ q. q.bridge) (question.question_of command.now) }
 {
     match command {
-        Command::Show(name) | Command::Wiring(name) | Command::Db(name) | Command::Adj(name) =>
-            Some(*name),
+        Command::Show(name)
+        | Command::Wiring(name)
+        | Command::Db(name)
+        | Command::Adj(name)
+        | Command::Drops(name) => Some(*name),
         Command::Path { from, .. } => Some(*from),
         _ => None,
     }
@@ -136,6 +139,7 @@ impl<B: Bridge> NetworkOf<B> {
             Command::Db(name) => self.db(*name, place),
             Command::Adj(name) => self.adj(*name, place),
             Command::Path { from, to, vid } => self.path(*from, *to, *vid, place),
+            Command::Drops(name) => Ok(self.drops(*name, place)),
             _ => Ok(Answer::Silent),
         }
     }
@@ -225,6 +229,28 @@ impl<B: Bridge> NetworkOf<B> {
         match self.boxes.get(place) {
             None => Ok(Vec::new(self.alloc)),
             Some(bridge) => boxes::adjacencies_of(self.alloc, bridge, count),
+        }
+    }
+
+    /// How many frames a bridge dropped, by the reason.
+    fn drops(&self, bridge: Name, place: usize) -> Answer
+        requires { IsInOrder B.shown self.now }
+        ensures { result ≡ answers.Drops bridge (question.drops_at (state_of B.shown self.now) place) }
+    {
+        Answer::Drops {
+            bridge,
+            counts: self.drop_counts(place),
+        }
+    }
+
+    /// How many frames the bridge at a place dropped: a count for each reason, in order.
+    fn drop_counts(&self, place: usize) -> [u64; 9]
+        requires { IsInOrder B.shown self.now }
+        ensures { result ≡ question.drops_at (state_of B.shown self.now) place }
+    {
+        match self.boxes.get(place) {
+            None => [0; 9],
+            Some(bridge) => boxes::drop_counts(bridge),
         }
     }
 }

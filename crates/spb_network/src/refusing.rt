@@ -233,7 +233,8 @@ impl<B: Bridge> NetworkOf<B> {
             | Command::Show(_)
             | Command::Wiring(_)
             | Command::Db(_)
-            | Command::Adj(_) => self.world.asked_refusal(command),
+            | Command::Adj(_)
+            | Command::Drops(_) => self.world.asked_refusal(command),
             _ => self.event_refusal(command),
         }
     }

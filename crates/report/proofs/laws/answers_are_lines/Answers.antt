@@ -1,4 +1,4 @@
-use Rattle.report.proofs.LineCounts.{tables_have_lines, database_has_lines, adjacencies_have_lines, path_is_line, out_is_line, state_is_line, error_is_line}
+use Rattle.report.proofs.LineCounts.{tables_have_lines, database_has_lines, adjacencies_have_lines, path_is_line, drops_is_line, out_is_line, state_is_line, error_is_line}
 use Rattle.report.proofs.laws.answers_are_lines.Goals as goal
 
 pub returns-clause-tables : goal.returns-clause-tables
@@ -12,6 +12,9 @@ returns-clause-adjacencies c = adjacencies_have_lines
 
 pub returns-clause-path : goal.returns-clause-path
 returns-clause-path c = path_is_line
+
+pub returns-clause-drops : goal.returns-clause-drops
+returns-clause-drops c = drops_is_line
 
 pub returns-clause-out : goal.returns-clause-out
 returns-clause-out c = out_is_line
