@@ -76,6 +76,7 @@ forms_read keyword.Wiring = λ a p x. (tt, tt)
 forms_read keyword.Db = λ a p x. (tt, tt)
 forms_read keyword.Adj = λ a p x. (tt, tt)
 forms_read keyword.Path = λ a p x b q y c r z. (tt, tt)
+forms_read keyword.Drops = λ a p x. (tt, tt)
 
 pub line_read : (line : List ℕ) (c : Command) → line_of line ≡ Ok (Some c) → IsRead c
 line_read line c read =

@@ -3,10 +3,10 @@ use Rattle.std.specs.Prelude.{ℕ, List, [], Some, None, codes}
 use Rattle.std.specs.List.{flat_map}
 use Rattle.report.specs.Adjacencies.{adj_text}
 use Rattle.report.specs.Database.{db_text}
-use Rattle.report.specs.Lines.{out_text, path_text, state_text}
+use Rattle.report.specs.Lines.{drops_text, out_text, path_text, state_text}
 use Rattle.report.specs.Tables.{tables_text}
 use Rattle.spb_network.specs.declared.answer.Answer.{Answer}
-use Rattle.spb_network.specs.declared.answer.Answer.TheVariants.{Silent, Outs, State, Show, Wiring, Db, Adj, Path}
+use Rattle.spb_network.specs.declared.answer.Answer.TheVariants.{Silent, Outs, State, Show, Wiring, Db, Adj, Path, Drops}
 use Rattle.spb_network.specs.declared.answer.Out.{Out}
 
 -- a customer frame that leaves
@@ -23,3 +23,4 @@ text_of_answer (Wiring bridge tables) = tables_text (codes "wiring") bridge None
 text_of_answer (Db bridge rows) = db_text bridge rows
 text_of_answer (Adj bridge ports) = adj_text bridge ports
 text_of_answer (Path from to vid cost names) = path_text from to vid.value cost names
+text_of_answer (Drops bridge counts) = drops_text bridge counts

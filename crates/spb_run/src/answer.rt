@@ -2,7 +2,7 @@ ghost use Rattle.std.specs.Prelude.{◌≡◌, IfOk};
 ghost use Rattle.std.specs.List.{flat_map};
 ghost use Rattle.spb_run.specs.Answer.{text_of_out, text_of_answer};
 
-use report::{adj_text, db_text, out_text, path_text, state_text, tables_text};
+use report::{adj_text, db_text, drops_text, out_text, path_text, state_text, tables_text};
 use spb_network::{Answer, Out};
 use spb_types::NoMemory;
 use std::alloc::Global;
@@ -42,5 +42,6 @@ pub(crate) fn answer_text(alloc: Global, answer: &Answer) -> Result<Vec<u8>, NoM
             cost,
             names,
         } => path_text(alloc, *from, *to, *vid, *cost, names.as_slice()),
+        Answer::Drops { bridge, counts } => drops_text(alloc, *bridge, counts),
     }
 }
