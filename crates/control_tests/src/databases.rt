@@ -4,6 +4,7 @@ ghost use Rattle.lsdb.specs.Entry.{CanBeHeld};
 
 use crate::fixtures::{dead, held, live, lsp_id as id, put};
 use lsdb::{Database, PutError, Raised, Relation, Version, compare, join};
+use spb_types::limits::MOST_PORTS;
 use spb_types::{LspId, PortSet};
 use std::alloc::{AllocError, Global};
 use std::process::Abort;
@@ -157,6 +158,32 @@ fn the_last_second_makes_an_lsp_dead(rt: HostRuntime) {
     check(&rt, rt.alloc(), &db, id(1, 0), dead);
 }
 
+/// Sets or clears one flag of an LSP, or sets all its flags, or clears those of a port.
+fn set_srm(db: &mut Database, id: LspId, port: u8, on: bool)
+    requires low { 1 ≤ port }
+    requires high { port ≤ MOST_PORTS }
+{
+    db.set_srm(&id, port, on);
+}
+
+fn set_ssn(db: &mut Database, id: LspId, port: u8, on: bool)
+    requires low { 1 ≤ port }
+    requires high { port ≤ MOST_PORTS }
+{
+    db.set_ssn(&id, port, on);
+}
+
+fn set_flags(db: &mut Database, id: LspId, srm: u32, ssn: u32) {
+    db.set_flags(&id, PortSet { bits: srm }, PortSet { bits: ssn });
+}
+
+fn clear_port(db: &mut Database, port: u8)
+    requires low { 1 ≤ port }
+    requires high { port ≤ MOST_PORTS }
+{
+    db.clear_port(port);
+}
+
 #[test]
 fn flags_are_told_with_ageing(rt: HostRuntime) {
     let mut db = Database::new(rt.alloc());
@@ -164,13 +191,13 @@ fn flags_are_told_with_ageing(rt: HostRuntime) {
     put_absent(&rt, rt.alloc(), &mut db, id(2, 0));
     put_live(&rt, rt.alloc(), &mut db, id(1, 0), 9);
     check_told_twice(&rt, &mut db, true);
-    db.set_flags(&id(1, 0), PortSet::none(), PortSet::none().with(32));
+    set_flags(&mut db, id(1, 0), 0, 0x8000_0000);
     check_told_twice(&rt, &mut db, true);
-    db.set_ssn(&id(1, 0), 32, false);
+    set_ssn(&mut db, id(1, 0), 32, false);
     check_told_twice(&rt, &mut db, false);
-    db.set_srm(&id(2, 0), 1, true);
+    set_srm(&mut db, id(2, 0), 1, true);
     check_told_twice(&rt, &mut db, true);
-    db.clear_port(1);
+    clear_port(&mut db, 1);
     for _ in 0..4 {
         age(&rt, &mut db, UP, false);
     }
@@ -220,26 +247,31 @@ fn an_id_that_isnt_held_is_not_raised(rt: HostRuntime) {
     check_held(&rt, &db, id(2, 0), false);
 }
 
+/// Makes a live LSP dead, which is to be sent at these ports.
+fn purge(db: &mut Database, id: LspId, srm: u32) {
+    if let Version::Live { seq, sum: _ } = db.version_at(&id) {
+        db.purge(&id, seq, PortSet { bits: srm });
+    }
+}
+
 #[test]
 fn flags_are_set_and_cleared(rt: HostRuntime) {
     let mut db = Database::new(rt.alloc());
     let own = id(1, 0);
     put_live(&rt, rt.alloc(), &mut db, own, 2);
-    db.set_srm(&own, 32, true);
-    db.set_ssn(&own, 2, true);
-    db.set_ssn(&own, 3, false);
-    db.set_srm(&id(9, 0), 1, true);
+    set_srm(&mut db, own, 32, true);
+    set_ssn(&mut db, own, 2, true);
+    set_ssn(&mut db, own, 3, false);
+    set_srm(&mut db, id(9, 0), 1, true);
     let flags = "Live { seq: 7, sum: 9 } for 2 srm 80000002 ssn 2 body [1, 9, 0]";
     check(&rt, rt.alloc(), &db, own, flags);
-    db.clear_port(2);
+    clear_port(&mut db, 2);
     let flags = "Live { seq: 7, sum: 9 } for 2 srm 80000000 ssn 0 body [1, 9, 0]";
     check(&rt, rt.alloc(), &db, own, flags);
-    db.set_flags(&own, PortSet::none(), PortSet::none().with(5));
+    set_flags(&mut db, own, 0, 0b1_0000);
     let flags = "Live { seq: 7, sum: 9 } for 2 srm 0 ssn 10 body [1, 9, 0]";
     check(&rt, rt.alloc(), &db, own, flags);
-    if let Version::Live { seq, sum: _ } = db.version_at(&own) {
-        db.purge(&own, seq, PortSet::none().with(1));
-    }
+    purge(&mut db, own, 0b1);
     let dead = "Dead { seq: 7 } for 0 srm 1 ssn 0 body [1]";
     check(&rt, rt.alloc(), &db, own, dead);
     check_version(&rt, &db, own, Version::Dead { seq: 7 });

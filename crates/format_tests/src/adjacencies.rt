@@ -6,6 +6,8 @@ use crate::fixtures::system;
 use adjacency::{AdjState, Adjacency, AdjacencyChange};
 use isis_pdu::Hello;
 use spb_tlvs::ThreeWay;
+use spb_types::SystemId;
+use std::process::Abort;
 
 fn hello(source: u8, holding: u16) -> Hello<'static> {
     Hello {
@@ -66,6 +68,41 @@ fn is_discarded(hello: &Hello, way: &ThreeWay) -> bool
         && port == port_in(AdjState::Up)
 }
 
+/// A's port hears a hello, which does this.
+fn check_hear(
+    rt: &impl Abort,
+    port: &mut Adjacency,
+    hello: &Hello<'_>,
+    way: &ThreeWay,
+    heard: AdjacencyChange,
+)
+    requires state { way.now.state ≤ 2 }
+    requires sound { IsSound port.old }
+    ensures { IsSound port.new }
+{
+    assert!(*rt; port.carrier);
+    assert_eq!(*rt; port.hear(system(1), 1, hello, way), heard);
+}
+
+/// Asserts what a hello of B, in a state, does to A's port in a state, and in which state that is afterwards.
+fn check_cell(
+    rt: &impl Abort,
+    state: AdjState,
+    received: AdjState,
+    after: AdjState,
+    heard: AdjacencyChange,
+) {
+    let mut port = port_in(state);
+    check_hear(rt, &mut port, &hello(2, 3), &way(received), heard);
+    let hold = if after == AdjState::Down { 0 } else { 3 };
+    assert_eq!(*rt;
+        (port.state, port.hold),
+        (after, hold),
+        "from {state:?} by {received:?}"
+    );
+    assert_eq!(*rt; port.neighbour == system(2), after != AdjState::Down);
+}
+
 #[test]
 fn the_nine_cells_of_the_table(rt: HostRuntime) {
     let down = AdjState::Down;
@@ -82,19 +119,12 @@ fn the_nine_cells_of_the_table(rt: HostRuntime) {
         (up, init, up, AdjacencyChange::Kept),
         (up, up, up, AdjacencyChange::Kept),
     ] {
-        let mut port = port_in(state);
-        assert_eq!(rt;
-            port.hear(system(1), 1, &hello(2, 3), &way(received)),
-            heard
-        );
-        let hold = if after == AdjState::Down { 0 } else { 3 };
-        assert_eq!(rt;
-            (port.state, port.hold),
-            (after, hold),
-            "from {state:?} by {received:?}"
-        );
-        assert_eq!(rt; port.neighbour == system(2), after != AdjState::Down);
+        check_cell(&rt, state, received, after, heard);
     }
+}
+
+fn is_port(rt: &impl Abort, port: &Adjacency, expected: Adjacency) {
+    assert_eq!(*rt; *port, expected);
 }
 
 #[test]
@@ -105,11 +135,9 @@ fn holding_time_0_makes_it_down(rt: HostRuntime) {
         (AdjState::Up, AdjacencyChange::LeftUp),
     ] {
         let mut port = port_in(state);
-        assert_eq!(rt;
-            port.hear(system(1), 1, &hello(2, 0), &way(AdjState::Initializing)),
-            heard
-        );
-        assert_eq!(rt; port, Adjacency::down(true));
+        let way = way(AdjState::Initializing);
+        check_hear(&rt, &mut port, &hello(2, 0), &way, heard);
+        is_port(&rt, &port, Adjacency::down(true));
     }
 }
 
@@ -131,79 +159,91 @@ fn hellos_of_no_use_are_discarded(rt: HostRuntime) {
     assert!(rt; !is_discarded(&both_levels, &up));
 }
 
+/// Asserts the state of a port, and the system and the circuit that it keeps.
+fn is_kept(rt: &impl Abort, port: &Adjacency, kept: (AdjState, SystemId, u32)) {
+    assert_eq!(*rt; (port.state, port.neighbour, port.circuit), kept);
+}
+
 #[test]
 fn another_neighbour_or_circuit_begins_anew(rt: HostRuntime) {
     let mut moved = way(AdjState::Initializing);
     moved.circuit = 7;
     let mut port = port_in(AdjState::Up);
-    assert_eq!(rt;
-        port.hear(system(1), 1, &hello(2, 3), &moved),
-        AdjacencyChange::CameUp
-    );
-    assert_eq!(rt;
-        (port.state, port.neighbour, port.circuit),
-        (AdjState::Up, system(2), 7)
-    );
-    assert_eq!(rt;
-        port.hear(system(1), 1, &hello(3, 3), &way(AdjState::Down)),
-        AdjacencyChange::LeftUp
-    );
-    assert_eq!(rt;
-        (port.state, port.neighbour, port.circuit),
-        (AdjState::Initializing, system(3), 1)
-    );
-    assert_eq!(rt;
-        port.hear(system(1), 1, &hello(2, 3), &way(AdjState::Up)),
-        AdjacencyChange::Kept
-    );
-    assert_eq!(rt; port, Adjacency::down(true));
+    let came_up = AdjacencyChange::CameUp;
+    check_hear(&rt, &mut port, &hello(2, 3), &moved, came_up);
+    is_kept(&rt, &port, (AdjState::Up, system(2), 7));
+    let left_up = AdjacencyChange::LeftUp;
+    check_hear(&rt, &mut port, &hello(3, 3), &way(AdjState::Down), left_up);
+    is_kept(&rt, &port, (AdjState::Initializing, system(3), 1));
+    let kept = AdjacencyChange::Kept;
+    check_hear(&rt, &mut port, &hello(2, 3), &way(AdjState::Up), kept);
+    is_port(&rt, &port, Adjacency::down(true));
+}
+
+/// A second passes at a port, which does this.
+fn check_tick(rt: &impl Abort, port: &mut Adjacency, change: AdjacencyChange)
+    requires { IsSound port.old }
+    ensures { IsSound port.new }
+{
+    assert_eq!(*rt; port.tick(), change);
 }
 
 #[test]
-fn the_neighbour_is_lost_when_the_count_or_the_carrier_ends(rt: HostRuntime) {
+fn the_neighbour_is_lost_when_the_count_ends(rt: HostRuntime) {
     let mut port = port_in(AdjState::Up);
-    assert_eq!(rt; port.tick(), AdjacencyChange::Kept);
+    check_tick(&rt, &mut port, AdjacencyChange::Kept);
     assert_eq!(rt; (port.state, port.hold), (AdjState::Up, 1));
-    assert_eq!(rt; port.tick(), AdjacencyChange::LeftUp);
-    assert_eq!(rt; port, Adjacency::down(true));
-    assert_eq!(rt; port.tick(), AdjacencyChange::Kept);
+    check_tick(&rt, &mut port, AdjacencyChange::LeftUp);
+    is_port(&rt, &port, Adjacency::down(true));
+    check_tick(&rt, &mut port, AdjacencyChange::Kept);
+}
 
-    let mut port = port_in(AdjState::Up);
-    assert_eq!(rt; port.set_carrier(true), AdjacencyChange::Kept);
-    assert_eq!(rt; port, port_in(AdjState::Up));
-    assert_eq!(rt; port.set_carrier(false), AdjacencyChange::LeftUp);
-    assert_eq!(rt; port, Adjacency::down(false));
-    assert_eq!(rt; port.set_carrier(true), AdjacencyChange::Kept);
-    assert_eq!(rt; port, Adjacency::down(true));
+/// Carrier comes to a port or goes, which does this, and leaves the port so.
+fn check_carrier(
+    rt: &impl Abort,
+    port: &mut Adjacency,
+    on: bool,
+    change: AdjacencyChange,
+    after: Adjacency,
+)
+    requires { IsSound port.old }
+    ensures { IsSound port.new }
+{
+    assert_eq!(*rt; port.set_carrier(on), change);
+    is_port(rt, port, after);
+}
+
+#[test]
+fn the_neighbour_is_lost_when_the_carrier_goes(rt: HostRuntime) {
+    let up = port_in(AdjState::Up);
+    let mut port = up;
+    check_carrier(&rt, &mut port, true, AdjacencyChange::Kept, up);
+    let off = Adjacency::down(false);
+    check_carrier(&rt, &mut port, false, AdjacencyChange::LeftUp, off);
+    let on = Adjacency::down(true);
+    check_carrier(&rt, &mut port, true, AdjacencyChange::Kept, on);
+}
+
+/// Asserts what A's port in a state says as the port of this number.
+fn check_said(rt: &impl Abort, state: AdjState, port: u8, expected: ThreeWay) {
+    assert_eq!(*rt; port_in(state).three_way(port), expected);
 }
 
 #[test]
 fn the_own_hello_names_the_neighbour_unless_down(rt: HostRuntime) {
-    assert_eq!(rt;
-        port_in(AdjState::Down).three_way(1),
-        ThreeWay {
-            state: 2,
-            circuit: 1,
-            neighbour: None
-        }
-    );
     let named = Some((system(2), 1));
-    assert_eq!(rt;
-        port_in(AdjState::Initializing).three_way(4),
-        ThreeWay {
-            state: 1,
-            circuit: 4,
-            neighbour: named
-        }
-    );
-    assert_eq!(rt;
-        port_in(AdjState::Up).three_way(4),
-        ThreeWay {
-            state: 0,
-            circuit: 4,
-            neighbour: named
-        }
-    );
+    for (kept, port, state, neighbour) in [
+        (AdjState::Down, 1, 2, None),
+        (AdjState::Initializing, 4, 1, named),
+        (AdjState::Up, 4, 0, named),
+    ] {
+        let said = ThreeWay {
+            state,
+            circuit: u32::from(port),
+            neighbour,
+        };
+        check_said(&rt, kept, port, said);
+    }
 }
 
 /// How many seconds A's port in this state keeps its neighbour after the hello, if that only begins the count anew.
@@ -220,10 +260,18 @@ fn refreshed(state: AdjState, hello: &Hello, way: &ThreeWay) -> Option<u16> {
 fn a_hello_that_says_the_same_begins_the_count_anew(rt: HostRuntime) {
     let up = AdjState::Up;
     let init = AdjState::Initializing;
-    assert_eq!(rt; refreshed(up, &hello(2, 9), &way(up)), Some(9));
-    assert_eq!(rt; refreshed(up, &hello(2, 9), &way(init)), Some(9));
-    assert_eq!(rt; refreshed(up, &hello(2, 9), &way(AdjState::Down)), None);
-    assert_eq!(rt; refreshed(up, &hello(2, 0), &way(up)), None);
-    assert_eq!(rt; refreshed(up, &hello(3, 9), &way(up)), None);
-    assert_eq!(rt; refreshed(init, &hello(2, 9), &way(up)), None);
+    for (state, from, holding, said, count) in [
+        (up, 2, 9, up, Some(9)),
+        (up, 2, 9, init, Some(9)),
+        (up, 2, 9, AdjState::Down, None),
+        (up, 2, 0, up, None),
+        (up, 3, 9, up, None),
+        (init, 2, 9, up, None),
+    ] {
+        assert_eq!(rt;
+            refreshed(state, &hello(from, holding), &way(said)),
+            count,
+            "of {from} for {holding}"
+        );
+    }
 }

@@ -7,11 +7,9 @@ use std::process::Abort;
 use std::test::Fail;
 
 /// A hello of system 1 at its circuit 1, to a neighbour that isn't known yet.
-pub(crate) const HELLO: [u8; 36] = [
-    0x83, 0x14, 0x01, 0x00, 0x11, 0x01, 0x00, 0x00, 0x01, 0x02, 0x00, 0x00, 0x00, 0x00, 0x01, 0x00,
-    0x03, 0x00, 0x24, 0x01, 0x01, 0x04, 0x03, 0x49, 0x00, 0x01, 0x81, 0x01, 0xc1, 0xf0, 0x05, 0x02,
-    0x00, 0x00, 0x00, 0x01,
-];
+pub(crate) const HELLO: &[u8] = b"\
+    \x83\x14\x01\x00\x11\x01\x00\x00\x01\x02\x00\x00\x00\x00\x01\x00\x03\x00\x24\x01\x01\x04\x03\x49\
+    \x00\x01\x81\x01\xc1\xf0\x05\x02\x00\x00\x00\x01";
 
 /// The system 02-00-00-00-00 and this byte.
 pub(crate) const fn system(last: u8) -> SystemId
@@ -40,6 +38,19 @@ pub(crate) fn hex(alloc: Global, numbers: &str) -> Result<Vec<u8>, Fail> {
         bytes.push(u8::from_str_radix(number, 16)?)?;
     }
     Ok(bytes)
+}
+
+/// The bytes, with others at some places.
+pub(crate) fn changed(
+    alloc: Global,
+    bytes: &[u8],
+    changes: &[(usize, u8)],
+) -> Result<Vec<u8>, Fail> {
+    let mut changed = Vec::from_slice(alloc, bytes)?;
+    for (place, byte) in changes {
+        *changed.get_mut(*place).ok_or("no such place")? = *byte;
+    }
+    Ok(changed)
 }
 
 pub(crate) fn are_bytes(rt: &impl Abort, found: &[u8], want: &[u8]) {

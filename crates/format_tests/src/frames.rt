@@ -1,37 +1,37 @@
 //! Tests of `itag_frames`.
-use crate::fixtures::{HELLO, are_bytes, system};
+use crate::fixtures::{HELLO, are_bytes, changed, system};
 use itag_frames::{Frame, FrameError, classify, control_frame};
+use std::process::Abort;
 use std::test::Fail;
 
 /// The control frame of [`HELLO`].
-const FRAME: [u8; 53] = [
-    0x01, 0x80, 0xc2, 0x00, 0x00, 0x14, 2, 0, 0, 0, 0, 1, 0x00, 0x27, 0xfe, 0xfe, 0x03, 0x83, 0x14,
-    1, 0, 0x11, 1, 0, 0, 1, 2, 0, 0, 0, 0, 1, 0, 3, 0, 0x24, 1, 1, 4, 3, 0x49, 0, 1, 0x81, 1, 0xc1,
-    0xf0, 5, 2, 0, 0, 0, 1,
-];
+const FRAME: &[u8] = b"\
+    \x01\x80\xc2\x00\x00\x14\x02\x00\x00\x00\x00\x01\x00\x27\xfe\xfe\x03\x83\x14\x01\x00\x11\x01\x00\
+    \x00\x01\x02\x00\x00\x00\x00\x01\x00\x03\x00\x24\x01\x01\x04\x03\x49\x00\x01\x81\x01\xc1\xf0\x05\
+    \x02\x00\x00\x00\x01";
 
 #[test]
 fn a_hello_in_its_control_frame(rt: HostRuntime) -> Result<(), Fail> {
-    let frame = control_frame(rt.alloc(), system(1).mac, &HELLO)?;
-    are_bytes(&rt, &frame, &FRAME);
-    match classify(&FRAME) {
-        Ok(Frame::Control(pdu)) => are_bytes(&rt, pdu, &HELLO),
+    let frame = control_frame(rt.alloc(), system(1).mac, HELLO)?;
+    are_bytes(&rt, &frame, FRAME);
+    match classify(FRAME) {
+        Ok(Frame::Control(pdu)) => are_bytes(&rt, pdu, HELLO),
         _ => panic!(rt; "no control frame"),
     }
     Ok(())
 }
 
+fn is_refused(rt: &impl Abort, frame: &[u8], want: FrameError) {
+    assert!(*rt; classify(frame).err() == Some(want));
+}
+
 #[test]
-fn frames_that_are_no_control_frames(rt: HostRuntime) {
-    assert!(rt; matches!(classify(&FRAME[..16]), Err(FrameError::Short)));
-    assert!(rt; matches!(classify(&FRAME[..52]), Err(FrameError::NotBackbone)));
-    let mut other = FRAME;
-    other[5] = 0x15;
-    assert!(rt; matches!(classify(&other), Err(FrameError::NotBackbone)));
-    let mut other = FRAME;
-    other[16] = 0x13;
-    assert!(rt; matches!(classify(&other), Err(FrameError::NotBackbone)));
-    let mut other = FRAME;
-    other[13] = 2;
-    assert!(rt; matches!(classify(&other), Err(FrameError::NotBackbone)));
+fn frames_that_are_no_control_frames(rt: HostRuntime) -> Result<(), Fail> {
+    is_refused(&rt, &FRAME[..16], FrameError::Short);
+    is_refused(&rt, &FRAME[..52], FrameError::NotBackbone);
+    for change in [(5, 0x15), (16, 0x13), (13, 2)] {
+        let frame = changed(rt.alloc(), FRAME, &[change])?;
+        is_refused(&rt, &frame, FrameError::NotBackbone);
+    }
+    Ok(())
 }

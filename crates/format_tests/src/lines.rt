@@ -52,7 +52,9 @@ db A |Db(A)
 adj A|Adj(A)
 adj\tA|Adj(A)
 path A B 10|Path { from: A, to: B, vid: 10 }
-path A\tA  0010 |Path { from: A, to: A, vid: 10 }";
+path A\tA  0010 |Path { from: A, to: A, vid: 10 }
+drops A|Drops(A)
+ drops\t\tb-2 |Drops(b-2)";
 
 // Lines, and what is printed for their commands: a line of each form with tabs, more blanks, leading zeros and digits in
 // upper case, and the least and the greatest values.
@@ -84,7 +86,8 @@ show  A\t|show A
  wiring\tA|wiring A
 db A |db A
 adj\tA|adj A
-path A\tA  0010 |path A A 10";
+path A\tA  0010 |path A A 10
+ drops\t\tb-2 |drops b-2";
 
 // Lines outside the grammar, each behind the column of the first word that doesn't fit. For each form: a wrong word at
 // each place, a missing word, an extra one, and the keyword in upper case.
@@ -203,7 +206,11 @@ const REFUSED_FORMS: &str = "\
 10|path A A x
 9|path A A
 12|path A A 7 x
-1|PATH";
+1|PATH
+7|drops 9
+6|drops
+9|drops A x
+1|DROPS";
 
 // The same for names, numbers, digits, blanks and keywords.
 const REFUSED_WORDS: &str = "\
@@ -237,7 +244,7 @@ const REFUSED_WORDS: &str = "\
 2| # comment
 2|\t#
 7|state # comment
-1|drops A
+1|drop A
 1|vids 1 1
 1|vi 1 1
 1|tickA

@@ -2,7 +2,7 @@
 
 ghost use Rattle.std.specs.Prelude.{◌≤◌, length};
 
-use crate::fixtures::{HELLO, are_bytes, lsp_id, system};
+use crate::fixtures::{HELLO, are_bytes, changed, hex, lsp_id, system};
 use isis_pdu::{
     Csnp, Hello, Lsp, Pdu, PduError, check_ok, decode, lsp_sum, write_csnp, write_hello, write_lsp,
     write_psnp,
@@ -13,63 +13,49 @@ use std::process::Abort;
 use std::test::Fail;
 
 /// An LSP of number 1 without a neighbour.
-const FIRST_LSP: [u8; 61] = [
-    0x83, 0x1b, 0x01, 0x00, 0x12, 0x01, 0x00, 0x00, 0x00, 0x3d, 0x04, 0xb0, 0x02, 0x00, 0x00, 0x00,
-    0x00, 0x01, 0x00, 0x00, 0x00, 0x00, 0x00, 0x01, 0x4f, 0xd7, 0x01, 0x01, 0x04, 0x03, 0x49, 0x00,
-    0x01, 0x81, 0x01, 0xc1, 0x90, 0x17, 0x00, 0x00, 0x01, 0x13, 0x00, 0x00, 0x00, 0x00, 0x00, 0x00,
-    0x00, 0x00, 0x00, 0x00, 0x00, 0x00, 0x80, 0x00, 0x00, 0x00, 0x00, 0x01, 0x00,
-];
+const FIRST_LSP: &[u8] = b"\
+    \x83\x1b\x01\x00\x12\x01\x00\x00\x00\x3d\x04\xb0\x02\x00\x00\x00\x00\x01\x00\x00\x00\x00\x00\x01\
+    \x4f\xd7\x01\x01\x04\x03\x49\x00\x01\x81\x01\xc1\x90\x17\x00\x00\x01\x13\x00\x00\x00\x00\x00\x00\
+    \x00\x00\x00\x00\x00\x00\x80\x00\x00\x00\x00\x01\x00";
 
 /// A PSNP of one entry.
-const PSNP: [u8; 35] = [
-    0x83, 0x11, 0x01, 0x00, 0x1a, 0x01, 0x00, 0x00, 0x00, 0x23, 0x02, 0x00, 0x00, 0x00, 0x00, 0x01,
-    0x00, 0x09, 0x10, 0x04, 0xae, 0x02, 0x00, 0x00, 0x00, 0x00, 0x02, 0x00, 0x00, 0x00, 0x00, 0x00,
-    0x02, 0xc2, 0xf3,
-];
+const PSNP: &[u8] = b"\
+    \x83\x11\x01\x00\x1a\x01\x00\x00\x00\x23\x02\x00\x00\x00\x00\x01\x00\x09\x10\x04\xae\x02\x00\x00\
+    \x00\x00\x02\x00\x00\x00\x00\x00\x02\xc2\xf3";
 
 /// A CSNP of the same entry, over all ids.
-const CSNP: [u8; 51] = [
-    0x83, 0x21, 0x01, 0x00, 0x18, 0x01, 0x00, 0x00, 0x00, 0x33, 0x02, 0x00, 0x00, 0x00, 0x00, 0x01,
-    0x00, 0x00, 0x00, 0x00, 0x00, 0x00, 0x00, 0x00, 0x00, 0xff, 0xff, 0xff, 0xff, 0xff, 0xff, 0xff,
-    0xff, 0x09, 0x10, 0x04, 0xae, 0x02, 0x00, 0x00, 0x00, 0x00, 0x02, 0x00, 0x00, 0x00, 0x00, 0x00,
-    0x02, 0xc2, 0xf3,
-];
+const CSNP: &[u8] = b"\
+    \x83\x21\x01\x00\x18\x01\x00\x00\x00\x33\x02\x00\x00\x00\x00\x01\x00\x00\x00\x00\x00\x00\x00\x00\
+    \x00\xff\xff\xff\xff\xff\xff\xff\xff\x09\x10\x04\xae\x02\x00\x00\x00\x00\x02\x00\x00\x00\x00\x00\
+    \x02\xc2\xf3";
 
 /// A dead LSP: the fixed part alone.
-const DEAD_LSP: [u8; 27] = [
-    0x83, 0x1b, 0x01, 0x00, 0x12, 0x01, 0x00, 0x00, 0x00, 0x1b, 0x00, 0x00, 0x02, 0x00, 0x00, 0x00,
-    0x00, 0x02, 0x00, 0x00, 0x00, 0x00, 0x00, 0x02, 0x00, 0x00, 0x01,
-];
+const DEAD_LSP: &[u8] = b"\
+    \x83\x1b\x01\x00\x12\x01\x00\x00\x00\x1b\x00\x00\x02\x00\x00\x00\x00\x02\x00\x00\x00\x00\x00\x02\
+    \x00\x00\x01";
 
 /// The front of another implementation's hello of 1,497 bytes, which padding fills up: levels 1 and 2, TLVs 1, 129, 132
 /// and 240.
-const FOREIGN_HELLO: [u8; 53] = [
-    0x83, 0x14, 0x01, 0x00, 0x11, 0x01, 0x00, 0x00, 0x03, 0x19, 0x21, 0x68, 0x00, 0x10, 0x02, 0x00,
-    0x1e, 0x05, 0xd9, 0x01, 0x01, 0x04, 0x03, 0x49, 0x00, 0x02, 0x81, 0x02, 0xcc, 0x8e, 0x84, 0x04,
-    0x0a, 0x00, 0x00, 0x02, 0xf0, 0x0f, 0x00, 0x00, 0x00, 0x00, 0x03, 0x19, 0x21, 0x68, 0x00, 0x10,
-    0x01, 0x00, 0x00, 0x00, 0x05,
-];
+const FOREIGN_HELLO: &[u8] = b"\
+    \x83\x14\x01\x00\x11\x01\x00\x00\x03\x19\x21\x68\x00\x10\x02\x00\x1e\x05\xd9\x01\x01\x04\x03\x49\
+    \x00\x02\x81\x02\xcc\x8e\x84\x04\x0a\x00\x00\x02\xf0\x0f\x00\x00\x00\x00\x03\x19\x21\x68\x00\x10\
+    \x01\x00\x00\x00\x05";
 
 /// Another implementation's LSP of a pseudonode's second fragment, with TLVs 1, 129, 137, 134, 132, 135, 250 and an
 /// empty 200.
 /// Its header says an id length of 6 and 3 areas.
-const FOREIGN_LSP: [u8; 74] = [
-    0x83, 0x1b, 0x01, 0x06, 0x12, 0x01, 0x00, 0x03, 0x00, 0x4a, 0x04, 0xa9, 0x19, 0x21, 0x68, 0x00,
-    0x10, 0x02, 0x03, 0x01, 0x00, 0x00, 0x01, 0x2f, 0x79, 0x09, 0x03, 0x01, 0x04, 0x03, 0x49, 0x00,
-    0x02, 0x81, 0x02, 0xcc, 0x8e, 0x89, 0x06, 0x72, 0x74, 0x72, 0x2d, 0x62, 0x32, 0x86, 0x04, 0x0a,
-    0x00, 0x00, 0x02, 0x84, 0x04, 0x0a, 0x00, 0x00, 0x02, 0x87, 0x08, 0x00, 0x00, 0x00, 0x0a, 0x18,
-    0x0a, 0x00, 0x01, 0xfa, 0x03, 0x01, 0x02, 0x03, 0xc8, 0x00,
-];
+const FOREIGN_LSP: &[u8] = b"\
+    \x83\x1b\x01\x06\x12\x01\x00\x03\x00\x4a\x04\xa9\x19\x21\x68\x00\x10\x02\x03\x01\x00\x00\x01\x2f\
+    \x79\x09\x03\x01\x04\x03\x49\x00\x02\x81\x02\xcc\x8e\x89\x06\x72\x74\x72\x2d\x62\x32\x86\x04\x0a\
+    \x00\x00\x02\x84\x04\x0a\x00\x00\x02\x87\x08\x00\x00\x00\x0a\x18\x0a\x00\x01\xfa\x03\x01\x02\x03\
+    \xc8\x00";
 
 /// Another implementation's CSNP of three entries and a password.
-const FOREIGN_CSNP: [u8; 92] = [
-    0x83, 0x21, 0x01, 0x00, 0x18, 0x01, 0x00, 0x03, 0x00, 0x5c, 0x19, 0x21, 0x68, 0x00, 0x10, 0x01,
-    0x00, 0x00, 0x00, 0x00, 0x00, 0x00, 0x00, 0x00, 0x00, 0xff, 0xff, 0xff, 0xff, 0xff, 0xff, 0xff,
-    0xff, 0x09, 0x30, 0x04, 0xa7, 0x19, 0x21, 0x68, 0x00, 0x10, 0x01, 0x00, 0x00, 0x00, 0x00, 0x01,
-    0x31, 0x8a, 0x3c, 0x04, 0xa9, 0x19, 0x21, 0x68, 0x00, 0x10, 0x02, 0x03, 0x01, 0x00, 0x00, 0x01,
-    0x2f, 0x79, 0x09, 0x00, 0x00, 0x19, 0x21, 0x68, 0x00, 0x10, 0x03, 0x00, 0x00, 0x00, 0x00, 0x00,
-    0x07, 0x00, 0x00, 0x0a, 0x07, 0x01, 0x73, 0x65, 0x63, 0x72, 0x65, 0x74,
-];
+const FOREIGN_CSNP: &[u8] = b"\
+    \x83\x21\x01\x00\x18\x01\x00\x03\x00\x5c\x19\x21\x68\x00\x10\x01\x00\x00\x00\x00\x00\x00\x00\x00\
+    \x00\xff\xff\xff\xff\xff\xff\xff\xff\x09\x30\x04\xa7\x19\x21\x68\x00\x10\x01\x00\x00\x00\x00\x01\
+    \x31\x8a\x3c\x04\xa9\x19\x21\x68\x00\x10\x02\x03\x01\x00\x00\x01\x2f\x79\x09\x00\x00\x19\x21\x68\
+    \x00\x10\x03\x00\x00\x00\x00\x00\x07\x00\x00\x0a\x07\x01\x73\x65\x63\x72\x65\x74";
 
 fn system_of(bytes: [u8; 6]) -> SystemId {
     SystemId { mac: Mac { bytes } }
@@ -93,8 +79,8 @@ fn a_hello_is_written_and_read(rt: HostRuntime) -> Result<(), Fail> {
         circuit: 1,
         tlvs: &[1, 4, 3, 0x49, 0, 1, 0x81, 1, 0xc1, 0xf0, 5, 2, 0, 0, 0, 1],
     };
-    are_bytes(&rt, &write_hello(rt.alloc(), &hello)?, &HELLO);
-    is_read(&rt, &HELLO, Pdu::Hello(hello));
+    are_bytes(&rt, &write_hello(rt.alloc(), &hello)?, HELLO);
+    is_read(&rt, HELLO, Pdu::Hello(hello));
     Ok(())
 }
 
@@ -110,7 +96,7 @@ fn the_first_lsp_is_read(rt: HostRuntime) {
         flags: 1,
         tlvs,
     };
-    is_read(&rt, &FIRST_LSP, Pdu::Lsp(lsp));
+    is_read(&rt, FIRST_LSP, Pdu::Lsp(lsp));
     assert_eq!(rt; lsp_sum(&id, 1, 1, tlvs), 0x4fd7);
     assert!(rt; check_ok(&FIRST_LSP[12..]));
 }
@@ -125,7 +111,7 @@ fn a_dead_lsp_is_read(rt: HostRuntime) {
         flags: 1,
         tlvs: &[],
     };
-    is_read(&rt, &DEAD_LSP, Pdu::Lsp(lsp));
+    is_read(&rt, DEAD_LSP, Pdu::Lsp(lsp));
 }
 
 /// Reads a PDU and writes it again. Nothing where it is refused.
@@ -141,72 +127,68 @@ fn written_again(alloc: Global, bytes: &[u8]) -> Result<Vec<u8>, NoMemory>
     }
 }
 
-fn is_written_again(rt: &impl Abort, alloc: Global, bytes: &[u8]) -> Result<(), NoMemory>
-    requires { length bytes.now ≤ 1497 }
-{
+fn is_written_again(rt: &impl Abort, alloc: Global, bytes: &[u8]) -> Result<(), NoMemory> {
+    assert!(*rt; bytes.len() <= 1497);
     are_bytes(rt, &written_again(alloc, bytes)?, bytes);
     Ok(())
 }
 
 #[test]
 fn pdus_are_written_again(rt: HostRuntime) -> Result<(), Fail> {
-    is_written_again(&rt, rt.alloc(), &HELLO)?;
-    is_written_again(&rt, rt.alloc(), &FIRST_LSP)?;
-    is_written_again(&rt, rt.alloc(), &DEAD_LSP)?;
-    is_written_again(&rt, rt.alloc(), &CSNP)?;
-    is_written_again(&rt, rt.alloc(), &PSNP)?;
+    for pdu in [HELLO, FIRST_LSP, DEAD_LSP, CSNP, PSNP] {
+        is_written_again(&rt, rt.alloc(), pdu)?;
+    }
     Ok(())
 }
 
-/// The TLVs of an LSP of a bridge with this source id and a neighbour at port 1 with this metric.
-fn with_neighbour(source: u8, neighbour: u8, metric: u8) -> [u8; 55] {
-    [
-        0x01, 0x04, 0x03, 0x49, 0x00, 0x01, 0x81, 0x01, 0xc1, 0x16, 0x13, 0x02, 0x00, 0x00, 0x00,
-        0x00, neighbour, 0x00, 0x00, 0x00, metric, 0x08, 0x1d, 0x06, 0x00, 0x00, metric, 0x01,
-        0x00, 0x01, 0x90, 0x17, 0x00, 0x00, 0x01, 0x13, 0x00, 0x00, 0x00, 0x00, 0x00, 0x00, 0x00,
-        0x00, 0x00, 0x00, 0x00, 0x00, 0x80, 0x00, 0x00, 0x00, 0x00, source, 0x00,
-    ]
+/// The checksum of an LSP at a number: of a bridge with this source id and a neighbour at port 1 with this metric.
+fn sum_of(alloc: Global, source: u8, neighbour: u8, seq: u32, metric: u8) -> Result<u16, Fail> {
+    let tlvs = format!(in alloc;
+        "01 04 03 49 00 01 81 01 c1
+        16 13 02 00 00 00 00 {neighbour:02x} 00 00 00 {metric:02x} 08 1d 06 00 00 {metric:02x} 01 00 01
+        90 17 00 00 01 13 00 00 00 00 00 00 00 00 00 00 00 00 80 00 00 00 00 {source:02x} 00"
+    )?;
+    let tlvs = hex(alloc, tlvs.as_str())?;
+    Ok(lsp_sum(&lsp_id(system(source)), seq, 1, &tlvs))
 }
 
 #[test]
-fn checksums(rt: HostRuntime) {
-    let wanted = [
+fn checksums(rt: HostRuntime) -> Result<(), Fail> {
+    for (own, neighbour, seq, metric, sum) in [
         (1, 2, 2, 10, 0xa512),
         (1, 2, 4, 10, 0xa114),
         (1, 2, 3, 15, 0x9e0e),
         (2, 1, 2, 10, 0xc2f3),
         (2, 1, 8, 15, 0xb1f4),
         (2, 1, 3, 20, 0xb6ea),
-    ];
-    for (own, neighbour, seq, metric, sum) in wanted {
-        let tlvs = with_neighbour(own, neighbour, metric);
-        assert_eq!(rt;
-            lsp_sum(&lsp_id(system(own)), seq, 1, &tlvs),
-            sum,
-            "of {own} at {seq}"
-        );
+    ] {
+        let found = sum_of(rt.alloc(), own, neighbour, seq, metric)?;
+        assert_eq!(rt; found, sum, "of {own} at {seq}");
     }
+    Ok(())
 }
 
 #[test]
-fn the_checksum_of_another_first_lsp(rt: HostRuntime) {
-    let mut other = FIRST_LSP;
-    other[59] = 2;
-    assert_eq!(rt; lsp_sum(&lsp_id(system(2)), 1, 1, &other[27..]), 0x69bb);
+fn the_checksum_of_another_first_lsp(rt: HostRuntime) -> Result<(), Fail> {
+    let other = changed(rt.alloc(), &FIRST_LSP[27..], &[(32, 2)])?;
+    assert_eq!(rt; lsp_sum(&lsp_id(system(2)), 1, 1, &other), 0x69bb);
+    Ok(())
 }
 
-/// What is answered of the first LSP with the byte at one place changed.
-fn refusal_with(place: usize, byte: u8) -> Option<PduError> {
-    let mut bytes = FIRST_LSP;
-    if place < bytes.len() {
-        bytes[place] = byte;
-    }
-    decode(&bytes).err()
+/// Asserts what is answered of the first LSP with other bytes at some places.
+fn is_refused_with(
+    rt: &impl Abort,
+    alloc: Global,
+    changes: &[(usize, u8)],
+    want: PduError,
+) -> Result<(), Fail> {
+    is_refused(rt, &changed(alloc, FIRST_LSP, changes)?, want);
+    Ok(())
 }
 
 #[test]
-fn refusals(rt: HostRuntime) {
-    let wanted = [
+fn refusals(rt: HostRuntime) -> Result<(), Fail> {
+    for (place, byte, refusal) in [
         (0, 0x82, PduError::NotIsis),
         (2, 2, PduError::NotIsis),
         (3, 5, PduError::NotIsis),
@@ -219,10 +201,10 @@ fn refusals(rt: HostRuntime) {
         (9, 0x3c, PduError::TlvCut),
         (37, 0x18, PduError::TlvCut),
         (60, 1, PduError::Sum),
-    ];
-    for (place, byte, refusal) in wanted {
-        assert_eq!(rt; refusal_with(place, byte), Some(refusal), "at {place}");
+    ] {
+        is_refused_with(&rt, rt.alloc(), &[(place, byte)], refusal)?;
     }
+    Ok(())
 }
 
 #[test]
@@ -232,29 +214,31 @@ fn a_cut_lsp_is_refused(rt: HostRuntime) {
 }
 
 #[test]
-fn a_checksum_of_0_is_refused_but_for_a_sequence_number_of_0(rt: HostRuntime) {
-    let mut bytes = FIRST_LSP;
-    bytes[24] = 0;
-    bytes[25] = 0;
-    is_refused(&rt, &bytes, PduError::Sum);
-    bytes[23] = 0;
-    assert!(rt; decode(&bytes).is_ok());
+fn a_checksum_of_0_is_refused_but_for_a_sequence_number_of_0(rt: HostRuntime) -> Result<(), Fail> {
+    let alloc = rt.alloc();
+    is_refused_with(&rt, alloc, &[(24, 0), (25, 0)], PduError::Sum)?;
+    let new = changed(alloc, FIRST_LSP, &[(24, 0), (25, 0), (23, 0)])?;
+    assert!(rt; decode(&new).is_ok());
     // another type is refused before another length
-    bytes[4] = 0x19;
-    bytes[9] = 0xff;
-    is_refused(&rt, &bytes, PduError::Kind);
+    let other = changed(alloc, &new, &[(4, 0x19), (9, 0xff)])?;
+    is_refused(&rt, &other, PduError::Kind);
+    Ok(())
 }
 
 /// Appends a padding TLV with so many bytes of 0.
 fn pad(bytes: &mut Vec<u8>, len: u8) -> Result<(), AllocError> {
-    bytes.extend_from_slice(&[8, len])?;
-    bytes.extend_from_slice(&[0; 255][..usize::from(len)])
+    bytes.push(8)?;
+    bytes.push(len)?;
+    for _ in 0..len {
+        bytes.push(0)?;
+    }
+    Ok(())
 }
 
 #[test]
 fn a_padded_hello_of_another_implementation(rt: HostRuntime) -> Result<(), Fail> {
     let mut bytes = Vec::new(rt.alloc());
-    bytes.extend_from_slice(&FOREIGN_HELLO)?;
+    bytes.extend_from_slice(FOREIGN_HELLO)?;
     for len in [255, 255, 255, 255, 255, 157] {
         pad(&mut bytes, len)?;
     }
@@ -284,7 +268,7 @@ fn an_lsp_of_another_implementation(rt: HostRuntime) {
         flags: 3,
         tlvs: &FOREIGN_LSP[27..],
     };
-    is_read(&rt, &FOREIGN_LSP, Pdu::Lsp(lsp));
+    is_read(&rt, FOREIGN_LSP, Pdu::Lsp(lsp));
 }
 
 #[test]
@@ -300,7 +284,7 @@ fn a_csnp_of_another_implementation(rt: HostRuntime) -> Result<(), Fail> {
         tlvs: &FOREIGN_CSNP[33..],
     };
     let mut frame = Vec::new(rt.alloc());
-    frame.extend_from_slice(&FOREIGN_CSNP)?;
+    frame.extend_from_slice(FOREIGN_CSNP)?;
     frame.extend_from_slice(&[0xa5; 4])?;
     is_read(&rt, &frame, Pdu::Csnp(csnp));
     Ok(())

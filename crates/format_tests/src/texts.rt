@@ -3,7 +3,9 @@
 use crate::fixtures::{lsp_id, system};
 use adjacency::{AdjState, Adjacency};
 use lsdb::{DbRow, Version};
-use report::{adj_text, db_text, error_text, out_text, path_text, state_text, tables_text};
+use report::{
+    adj_text, db_text, drops_text, error_text, out_text, path_text, state_text, tables_text,
+};
 use spb_types::{GroupRow, Mac, Name, NoMemory, PortSet, Seq, Tables, UnicastRow, Vid};
 use std::alloc::Global;
 use std::process::Abort;
@@ -185,6 +187,16 @@ fn a_path_is_cost_hops_and_names_or_none(rt: HostRuntime) {
     check(&rt, text, "path A A 10 0 0 A\n");
     let text = path_text(alloc, a, d, VID, 0, &[]);
     check(&rt, text, "path A D 10 none\n");
+}
+
+#[test]
+fn drops_are_a_name_and_nine_counts(rt: HostRuntime) {
+    let counts = [1, 0, 20, 300, 4, 65_536, 7, 0, 18_446_744_073_709_551_615];
+    check(
+        &rt,
+        drops_text(rt.alloc(), name(&rt, "C-3"), &counts),
+        "drops C-3 1 0 20 300 4 65536 7 0 18446744073709551615\n",
+    );
 }
 
 #[test]

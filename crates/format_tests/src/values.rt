@@ -4,6 +4,7 @@ use spb_types::{
     LspId, Mac, Name, PortSet, Seq, Short, ect_mask, lsp_id_in, mac_in, take_u8, take_u16,
     take_u24, take_u32, u16_in, u24_in, u32_in,
 };
+use std::alloc::Global;
 use std::fmt::Debug;
 use std::process::Abort;
 
@@ -81,23 +82,33 @@ fn ports_enter_and_leave_a_set(rt: HostRuntime) {
     check_number(&rt, PortSet::none().bits, 0);
 }
 
+/// The list of these bytes.
+fn list_of(rt: &impl Abort, alloc: Global, bytes: &[u8]) -> Seq<u8> {
+    Seq::from_vec(Vec::from_slice(alloc, bytes).expect(rt, "out of memory"))
+}
+
+/// Asserts that a list has these bytes.
+fn check_list(rt: &impl Abort, list: Seq<u8>, bytes: &[u8]) {
+    assert!(*rt; list.is_empty() == bytes.is_empty());
+    assert!(*rt; list.len() == bytes.len() && list.iter().count() == bytes.len());
+    are_bytes(rt, list.as_slice(), bytes);
+    are_bytes(rt, list.into_vec().as_slice(), bytes);
+}
+
 #[test]
 fn a_list_gives_back_its_items(rt: HostRuntime) {
-    assert!(rt; Seq::<u8>::new(rt.alloc()).is_empty());
-    let list = Seq::from_vec(vec![in rt.alloc(); 7, 8].expect(&rt, "out of memory"));
-    assert!(rt; list.len() == 2 && !list.is_empty() && list.iter().count() == 2);
-    are_bytes(&rt, list.as_slice(), &[7, 8]);
-    are_bytes(&rt, list.into_vec().as_slice(), &[7, 8]);
+    check_list(&rt, Seq::new(rt.alloc()), &[]);
+    check_list(&rt, list_of(&rt, rt.alloc(), &[7, 8]), &[7, 8]);
 }
 
 #[test]
 fn a_list_is_cut_changed_and_lengthened(rt: HostRuntime) {
-    let mut list = Seq::from_vec(vec![in rt.alloc(); 7, 8].expect(&rt, "out of memory"));
+    let mut list = list_of(&rt, rt.alloc(), &[7, 8]);
     list.truncate(1);
     assert!(rt; list.len() == 1);
     list.set(0, 9);
     list.push(6).expect(&rt, "out of memory");
-    are_bytes(&rt, list.into_vec().as_slice(), &[9, 6]);
+    check_list(&rt, list, &[9, 6]);
 }
 
 #[test]

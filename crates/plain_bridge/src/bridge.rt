@@ -1,7 +1,7 @@
 ghost use Rattle.std.specs.Prelude.{◌≡◌, true, false};
 
 use adjacency::Adjacency;
-use bridge_api::{Bridge, BridgeConfig, Kind, Outbox};
+use bridge_api::{Bridge, BridgeConfig, DropReason, Kind, Outbox};
 use bridge_control::ControlPlane;
 use lsdb::Held;
 use spb_types::{Isid, Mac, NoMemory, Path, PortSet, SystemId, Tables, Vid};
@@ -100,6 +100,10 @@ impl Bridge for PlainBridge {
 
     fn entry(&self, place: usize) -> Option<&Held> {
         self.control.entry(place)
+    }
+
+    fn drops(&self, reason: DropReason) -> u64 {
+        self.control.drops(reason)
     }
 
     fn tables(&self) -> Result<Tables, NoMemory> {

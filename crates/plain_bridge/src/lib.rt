@@ -5,5 +5,3 @@
 pub use bridge::PlainBridge;
 
 mod bridge;
-#[cfg(test)]
-mod tests;

@@ -8,7 +8,7 @@ ghost use Rattle.swift_bridge.specs.Lent.{Rests};
 
 use crate::following::{masks_of, trees_of};
 use adjacency::Adjacency;
-use bridge_api::{Bridge, BridgeConfig, Kind, Outbox};
+use bridge_api::{Bridge, BridgeConfig, DropReason, Kind, Outbox};
 use bridge_control::ControlPlane;
 use fdb_build::tables_by;
 use fork_trees::TreeSet;
@@ -250,6 +250,10 @@ impl Bridge for SwiftBridge {
 
     fn entry(&self, place: usize) -> Option<&Held> {
         self.control.entry(place)
+    }
+
+    fn drops(&self, reason: DropReason) -> u64 {
+        self.control.drops(reason)
     }
 
     fn tables(&self) -> Result<Tables, NoMemory> {

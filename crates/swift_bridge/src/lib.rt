@@ -14,5 +14,3 @@ pub use bridge::SwiftBridge;
 
 mod bridge;
 mod following;
-#[cfg(test)]
-mod tests;

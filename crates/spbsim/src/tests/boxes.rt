@@ -18,21 +18,19 @@ use std::alloc::Global;
 use std::process::Abort;
 use std::test::Fail;
 
-/// Asserts that two bridges are declared on the network of a rack until it has no blank box for the line of this number.
+/// Asserts that a script is played on the network of a rack until that has no blank box for the line of this number.
 fn check_spent<B: Bridge>(
     rt: &impl Abort,
     alloc: Global,
     words: &str,
     rack: Vec<B>,
+    script: &str,
     number: u32,
 ) -> Result<(), Fail> {
     let words = words_of(alloc, words)?;
     let mut network = NetworkOf::new(alloc, rack);
-    let mut source = MemorySource::new(
-        Vec::from_slice(alloc, TWO.as_bytes())?,
-        Vec::new(alloc),
-        100,
-    );
+    let bytes = Vec::from_slice(alloc, script.as_bytes())?;
+    let mut source = MemorySource::new(bytes, Vec::new(alloc), 100);
     let mut sink = MemorySink::new(alloc, Vec::new(alloc), 100);
     assert_eq!(rt;
         run(alloc, &words, &mut network, &mut source, &mut sink),
@@ -43,23 +41,28 @@ fn check_spent<B: Bridge>(
     Ok(())
 }
 
-#[test]
-fn each_bridge_takes_a_box(rt: HostRuntime) -> Result<(), Fail> {
-    let alloc = rt.alloc();
-    let mut rack: Vec<Box<dyn Bridge>> = Vec::new(alloc);
-    rack.push(Box::new(alloc, PlainBridge::blank(alloc))?)?;
-    check_spent(&rt, alloc, "run", rack, 2)
-}
+/// TWO, and then B restarts twice.
+const RESTARTED: &str = "bridge A 32768 020000000001 00001 1
+bridge B 32768 020000000002 00002 1
+link L1 A 1 B 1 10
+restart B
+restart B
+";
 
 #[test]
-fn each_bridge_takes_a_box_of_its_kind(rt: HostRuntime) -> Result<(), Fail> {
+fn each_bridge_and_each_restart_takes_a_box_of_its_kind(rt: HostRuntime) -> Result<(), Fail> {
     let alloc = rt.alloc();
-    for (words, number) in [("run --kind swift", 1), ("run --kind mixed", 2)] {
+    for (words, boxes, script, number) in [
+        ("run", 1, TWO, 2),
+        ("run --kind swift", 2, TWO, 1),
+        ("run --kind mixed", 2, TWO, 2),
+        ("run", 3, RESTARTED, 5),
+    ] {
         let mut rack: Vec<Box<dyn Bridge>> = Vec::new(alloc);
-        for _ in 0..2 {
+        for _ in 0..boxes {
             rack.push(Box::new(alloc, PlainBridge::blank(alloc))?)?;
         }
-        check_spent(&rt, alloc, words, rack, number)?;
+        check_spent(&rt, alloc, words, rack, script, number)?;
     }
     Ok(())
 }
@@ -93,7 +96,7 @@ fn a_box_that_is_not_blank_is_never_taken(rt: HostRuntime) -> Result<(), Fail> {
     let mut rack: Vec<Box<dyn Bridge>> = Vec::new(alloc);
     rack.push(Box::new(alloc, PlainBridge::blank(alloc))?)?;
     rack.push(Box::new(alloc, used)?)?;
-    check_spent(&rt, alloc, "run", rack, 2)
+    check_spent(&rt, alloc, "run", rack, TWO, 2)
 }
 
 /// The address of the bridge of a number.

@@ -574,6 +574,49 @@ out south 2 0a00000000aa0a00000000bb0800
 out north 1 0a00000000bb0a00000000cc0800
 ";
 
+/// `drops-in-between.spb`.
+const DROPS_IN_BETWEEN: &str =
+    "# A link of a ring fails. At once east sends the other way round to south; but north hasn't heard of it, and to south
+# still goes over east: it drops the frame, and counts it. Once all have heard of the failure, the frame arrives.
+vid 10 1
+bridge north 32768 020000000001 00001 2
+bridge east 32768 020000000002 00002 2
+bridge south 32768 020000000003 00003 2
+bridge west 32768 020000000004 00004 2
+link ne north 1 east 2 10
+link es east 1 south 2 10
+link sw south 1 west 2 10
+link wn west 1 north 2 10
+isid 100 10
+attach east 1 100
+attach south 1 100
+round 32
+state
+# The host 0a00000000aa speaks at south, so that east knows where it is.
+frame south 1 ffffffffffff0a00000000aa0800
+drain 100
+drops north
+# The link between east and south fails, and a host at east sends to that host.
+down es
+frame east 1 0a00000000aa0a00000000bb0800
+drain 100
+drops north
+# It sends again after 32 seconds.
+round 32
+frame east 1 0a00000000aa0a00000000bb0800
+drain 100
+drops north
+";
+
+/// `drops-in-between.out`.
+const DROPS_IN_BETWEEN_OUT: &str = "state quiet
+out east 1 ffffffffffff0a00000000aa0800
+drops north 0 0 0 0 0 0 0 0 0
+drops north 0 0 0 0 0 0 1 0 0
+out south 1 0a00000000aa0a00000000bb0800
+drops north 0 0 0 0 0 0 1 0 0
+";
+
 /// `undeclared-bridge.spb`.
 const UNDECLARED_BRIDGE: &str =
     "# A link names a bridge that isn't declared: the run ends there, and what came before is written.
@@ -603,6 +646,7 @@ fn each_example_is_answered_as_beside_it(rt: HostRuntime) -> Result<(), Fail> {
         (TWO_WAYS, Status::Done, TWO_WAYS_OUT),
         (TWO_SERVICES, Status::Done, TWO_SERVICES_OUT),
         (CUSTOMERS_FRAMES, Status::Done, CUSTOMERS_FRAMES_OUT),
+        (DROPS_IN_BETWEEN, Status::Done, DROPS_IN_BETWEEN_OUT),
         (UNDECLARED_BRIDGE, undeclared, UNDECLARED_BRIDGE_OUT),
     ] {
         check(&rt, rt.alloc(), script, status, text)?;

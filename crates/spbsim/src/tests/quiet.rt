@@ -1,7 +1,5 @@
 //! Whether a network is quiet, and the tables of its bridges.
-use super::databases::{CHANGED, CHANGED_ANSWER};
-use super::hellos::{GIVEN_UP, GIVEN_UP_ANSWER};
-use super::{TWO, check_done};
+use super::check_scripts;
 use std::test::Fail;
 
 /// Three bridges with two ports each and one base VID.
@@ -11,85 +9,66 @@ bridge B 32768 020000000002 00002 2
 bridge C 32768 020000000003 00003 2
 ";
 
-/// A metric changes in a triangle: A's tables follow when A has heard of it.
-const DEARER: &str = "link L1 A 1 B 1 10
+/// Behind THREE.
+const CHANGES: &str = "\
+== A metric changes in a triangle: A's tables follow when A has heard of it.
+link L1 A 1 B 1 10
 link L2 A 2 C 1 7
 link L3 B 2 C 2 8
 round 28
 show A
+> show A quiet 2 0
+> u 10 020000000002 1
+> u 10 020000000003 2
 metric L1 b 20
 show A
+> show A busy 2 0
+> u 10 020000000002 1
+> u 10 020000000003 2
 wiring A
+> wiring A 2 0
+> u 10 020000000002 2
+> u 10 020000000003 2
 round 28
 show A
-";
-
-const DEARER_ANSWER: &str = "show A quiet 2 0
-u 10 020000000002 1
-u 10 020000000003 2
-show A busy 2 0
-u 10 020000000002 1
-u 10 020000000003 2
-wiring A 2 0
-u 10 020000000002 2
-u 10 020000000003 2
-show A quiet 2 0
-u 10 020000000002 2
-u 10 020000000003 2
-";
-
-/// In a line of three bridges, the far link fails and comes back.
-const FAR_LINK: &str = "link L1 A 1 B 1 10
+> show A quiet 2 0
+> u 10 020000000002 2
+> u 10 020000000003 2
+== In a line of three bridges, the far link fails and comes back.
+link L1 A 1 B 1 10
 link L2 B 2 C 1 10
 round 28
 down L2
 round 28
 show A
+> show A quiet 1 0
+> u 10 020000000002 1
 up L2
 round 28
 show A
-";
-
-const FAR_LINK_ANSWER: &str = "show A quiet 1 0
-u 10 020000000002 1
-show A quiet 2 0
-u 10 020000000002 1
-u 10 020000000003 1
+> show A quiet 2 0
+> u 10 020000000002 1
+> u 10 020000000003 1
 ";
 
 #[test]
-fn one_bridge_alone_is_quiet(rt: HostRuntime) -> Result<(), Fail> {
-    let alone = "vid 10 1\nbridge A 32768 020000000001 00001 0\n";
-    check_done(&rt, rt.alloc(), alone, "show A\n", "show A quiet 0 0\n")
+fn tables_follow_a_change_when_it_is_heard_of(rt: HostRuntime) -> Result<(), Fail> {
+    check_scripts(&rt, rt.alloc(), THREE, CHANGES)
 }
 
-#[test]
-fn an_empty_network_is_quiet(rt: HostRuntime) -> Result<(), Fail> {
-    check_done(&rt, rt.alloc(), "", "state\n", "state quiet\n")
-}
+/// Networks in which nothing is left to be said.
+const SILENT: &str = "\
+== An empty network is quiet.
+state
+> state quiet
+== One bridge alone is quiet.
+vid 10 1
+bridge A 32768 020000000001 00001 0
+show A
+> show A quiet 0 0
+";
 
 #[test]
-fn a_neighbour_that_is_given_up_makes_a_network_busy(rt: HostRuntime) -> Result<(), Fail> {
-    let alloc = rt.alloc();
-    let lines = format!(in alloc; "{GIVEN_UP}state\n")?;
-    let text = format!(in alloc; "{GIVEN_UP_ANSWER}state busy q1 q2\n")?;
-    check_done(&rt, alloc, TWO, lines.as_str(), text.as_str())
-}
-
-#[test]
-fn flags_make_a_network_busy_until_they_are_cleared(rt: HostRuntime) -> Result<(), Fail> {
-    let alloc = rt.alloc();
-    let lines = format!(in alloc; "round 4\nstate\nround 1\nstate\n{CHANGED}state\n")?;
-    let text = format!(in alloc; "state busy q3\nstate quiet\n{CHANGED_ANSWER}state quiet\n")?;
-    check_done(&rt, alloc, TWO, lines.as_str(), text.as_str())
-}
-
-#[test]
-fn tables_follow_a_metric_when_it_is_heard_of(rt: HostRuntime) -> Result<(), Fail> {
-    check_done(&rt, rt.alloc(), THREE, DEARER, DEARER_ANSWER)
-}
-
-#[test]
-fn tables_follow_a_link_that_fails_and_comes_back(rt: HostRuntime) -> Result<(), Fail> {
-    check_done(&rt, rt.alloc(), THREE, FAR_LINK, FAR_LINK_ANSWER)
+fn a_network_without_links_is_quiet(rt: HostRuntime) -> Result<(), Fail> {
+    check_scripts(&rt, rt.alloc(), "", SILENT)
 }

@@ -27,25 +27,19 @@ fn check(rt: &impl Abort, alloc: Global, words: &str, step: usize, line: &str) -
 
 #[test]
 fn what_is_played_of_a_made_script_is_counted(rt: HostRuntime) -> Result<(), Fail> {
-    let alloc = rt.alloc();
-    let line = "try 24 lines 395 shows 72 same 72 outs 96\n";
-    check(&rt, alloc, "try 24", 4096, line)?;
-    let line = "try 4 lines 72 shows 12 same 12 outs 16\n";
-    check(&rt, alloc, "try 4", 1, line)?;
-    for words in [
-        "try 4 --kind plain",
-        "try 4 --kind swift",
-        "try 4 --kind mixed",
+    let of_24 = "try 24 lines 395 shows 72 same 72 outs 96\n";
+    let of_4 = "try 4 lines 72 shows 12 same 12 outs 16\n";
+    for (words, step, line) in [
+        ("try 24", 4096, of_24),
+        ("try 24 --kind mixed", 4096, of_24),
+        ("try 4", 1, of_4),
+        ("try 4 --kind plain", 100, of_4),
+        ("try 4 --kind swift", 100, of_4),
+        ("try 4 --kind mixed", 100, of_4),
     ] {
-        check(&rt, alloc, words, 100, line)?;
+        check(&rt, rt.alloc(), words, step, line)?;
     }
     Ok(())
-}
-
-#[test]
-fn bridges_of_both_kinds_are_counted_alike(rt: HostRuntime) -> Result<(), Fail> {
-    let line = "try 24 lines 395 shows 72 same 72 outs 96\n";
-    check(&rt, rt.alloc(), "try 24 --kind mixed", 4096, line)
 }
 
 #[test]

@@ -3,7 +3,7 @@ use Rattle.std.proofs.lemmas.Result.{on_ok_weaker}
 use Rattle.bridge_api.specs.Step.{second}
 use Rattle.bridge_api.specs.Shown.{view_in}
 use Rattle.bridge_api.proofs.Listed.{stepped_one, sent_one}
-use Rattle.plain_bridge.proofs.tests.tick_at.Goals as goal
+use Rattle.bridge_tests.proofs.plain.tick_at.Goals as goal
 
 pub returns-clause-views : goal.returns-clause-views
 returns-clause-views g c =

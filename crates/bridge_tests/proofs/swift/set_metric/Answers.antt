@@ -2,7 +2,7 @@ use Rattle.std.proofs.Common.{arith}
 use Rattle.std.proofs.lemmas.Result.{on_ok_weaker}
 use Rattle.bridge_api.specs.Step.{metric}
 use Rattle.bridge_api.proofs.Certified.{ports_after}
-use Rattle.swift_bridge.proofs.tests.set_metric.Goals as goal
+use Rattle.bridge_tests.proofs.swift.set_metric.Goals as goal
 
 pub returns-clause-port : goal.returns-clause-port
 returns-clause-port g c =
