@@ -11,6 +11,8 @@ mod databases;
 mod drops;
 mod examples;
 mod fabrics;
+mod failing_box;
+mod faults;
 mod frames;
 mod hellos;
 mod quiet;
