@@ -146,7 +146,7 @@ def main():
     parser.add_argument("--steps", type=int, default=1_000_000, help="for boxes: at most so many steps")
     parser.add_argument("--scripts", type=int, default=10_000, help="at most so many scripts")
     parser.add_argument("--seconds", type=int, default=300, help="nothing new begins after so many seconds")
-    told = parser.parse_args()
+    told = parser.parse_intermixed_args()
     return try_boxes(told) if told.what == "boxes" else try_scripts(told)
 
 

@@ -45,7 +45,7 @@ class Fabric:
 
     def question(self):
         pick = self.pick
-        word = pick.choice(("state", "show", "wiring", "db", "adj", "path"))
+        word = pick.choice(("state", "show", "wiring", "db", "adj", "drops", "path"))
         if word == "state":
             return word
         if word == "path":
