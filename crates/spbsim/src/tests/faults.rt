@@ -38,9 +38,7 @@ u 10 020000000003 2
 ";
 
 #[test]
-fn a_read_or_a_write_that_fails_leaves_a_front_of_the_answers(
-    rt: HostRuntime,
-) -> Result<(), Fail> {
+fn a_read_or_a_write_that_fails_leaves_a_front_of_the_answers(rt: HostRuntime) -> Result<(), Fail> {
     let alloc = rt.alloc();
     let words = words_of(alloc, "run")?;
     // Each read and each write moves one byte. The numbers of the read and of the write that fails, counted from 1; 0
