@@ -20,16 +20,17 @@ def main():
     told = parser.parse_args()
     program = failing.Failing(told.program)
     failures = []
-    print(f"{'script':24} {'bytes':>5} {'calls':>6} {'tried':>6} {'status 0':>9} {'status 4':>9} {'status 5':>9} {'failures':>9}")
+    print(f"{'script':24} {'bytes':>5} {'calls':>6} {'tried':>6} {'status 4':>9} {'status 5':>9} {'failures':>9}")
     for name, path, right in failing.scripts():
         for most_bytes in (0, 7, 1):
             _, calls = program.counts(path, right, MOST_BYTES=most_bytes)
             numbers = failing.spread(calls, told.most)
             statuses, wrong = program.sweep(path, right, "FAIL_IO", numbers, told.jobs, MOST_BYTES=most_bytes)
-            wrong += [f"{count} runs ended with status {status}" for status, count in statuses.items() if status not in (4, 5)]
-            print(f"{name:24} {most_bytes or 'all':>5} {calls:6} {len(numbers):6} {statuses.get(0, 0):9} {statuses.get(4, 0):9}"
-                  f" {statuses.get(5, 0):9} {len(wrong):9}", flush=True)
-            failures += [f"{name}, {most_bytes or 'all'} bytes: {line}" for line in wrong]
+            wrong += failing.unwanted(statuses, (4, 5))
+            moved = most_bytes or "all"
+            print(f"{name:24} {moved:>5} {calls:6} {len(numbers):6} {statuses.get(4, 0):9} {statuses.get(5, 0):9}"
+                  f" {len(wrong):9}", flush=True)
+            failures += [f"{name}, {moved} bytes: {line}" for line in wrong]
     print(*failures, sep="\n", end="\n" if failures else "")
     return 1 if failures else 0
 

@@ -33,6 +33,11 @@ def spread(count, most):
     return sorted({1 + k * (count - 1) // max(most - 1, 1) for k in range(most)})
 
 
+def unwanted(statuses, wanted):
+    """A line for each status that isn't wanted."""
+    return [f"{count} runs ended with status {status}" for status, count in statuses.items() if status not in wanted]
+
+
 class Failing:
     """The program and the library that lets its calls fail, compiled into a folder of its own."""
 
@@ -77,5 +82,5 @@ class Failing:
             for number, status, output in pool.map(one, numbers):
                 statuses[status] = statuses.get(status, 0) + 1
                 if not right.startswith(output) or (status == 0 and output != right):
-                    wrong.append(f"{name}={number}: status {status}, and {len(output)} bytes that aren't the right ones")
+                    wrong.append(f"{name}={number}: status {status} and {len(output)} bytes, not the right ones")
         return statuses, wrong

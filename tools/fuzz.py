@@ -6,8 +6,8 @@
 
 `boxes` puts the crate of tools/fuzz_boxes into a copy of this repository and runs it by `rt try`, which takes some
 minutes to compile. In it the same happens to a plain and a swift bridge of one configuration: seconds, frames of all
-kinds with fields by chance, damaged ones, bytes by chance, carrier, metrics, customer ports and customers' frames. After
-each step both have to show the same. At the end it tells what was reached.
+kinds with fields by chance, damaged ones, bytes by chance, carrier, metrics, customer ports and customers' frames.
+After each step both have to show the same. At the end it tells what was reached.
 
 `scripts` writes scripts by the grammar, some of them damaged, and has the built program play each twice: as one file,
 and through a pipe in pieces of sizes by chance. Output and status have to be the same.
@@ -31,7 +31,7 @@ import made_scripts
 
 HERE = os.path.dirname(os.path.abspath(__file__))
 TOP = os.path.dirname(HERE)
-USES = "spb_types shared_frames isis_pdu spb_tlvs itag_frames lsdb adjacency forwarding bridge_api plain_bridge swift_bridge"
+USES = "spb_types shared_frames isis_pdu spb_tlvs itag_frames lsdb adjacency bridge_api plain_bridge swift_bridge"
 # the seconds that compiling may take
 COMPILING = 1200
 
@@ -59,8 +59,8 @@ def try_boxes(told):
         # One step of the interpreter, which is too slow; the compiled run is the one that counts.
         words = ["rt", "try", "--steps", "1", "--seconds", str(told.seconds + 300)]
         words += ["--", str(told.seed), str(told.steps), str(told.seconds)]
-        ended = subprocess.run(words, cwd=crate, stdin=subprocess.DEVNULL, stdout=subprocess.PIPE, stderr=subprocess.PIPE,
-                               text=True, timeout=told.seconds + COMPILING)
+        ended = subprocess.run(words, cwd=crate, stdin=subprocess.DEVNULL, stdout=subprocess.PIPE,
+                               stderr=subprocess.PIPE, text=True, timeout=told.seconds + COMPILING)
     print(ended.stdout, end="")
     if ended.returncode:
         print(ended.stderr, end="", file=sys.stderr)
@@ -89,8 +89,8 @@ def pieces(script, pick):
 
 def in_pieces(program, script, pick):
     """Status and output of a run that is given its script in pieces, some of them late."""
-    process = subprocess.Popen([program, "run"], stdin=subprocess.PIPE, stdout=subprocess.PIPE, stderr=subprocess.DEVNULL,
-                               bufsize=0)
+    process = subprocess.Popen([program, "run"], stdin=subprocess.PIPE, stdout=subprocess.PIPE,
+                               stderr=subprocess.DEVNULL, bufsize=0)
     parts = [(part, pick.random() < 0.02) for part in pieces(script, pick)]
 
     def give():

@@ -73,7 +73,8 @@ class Fabric:
             del self.attached[bridge, port]
             return f"detach {bridge} {port}"
         to = pick.choice(("ffffffffffff", "0a0000000001", "0A0000000002"))
-        return f"frame {bridge} {port} {to}0a000000000{pick.randint(1, 3)}0800{pick.randbytes(pick.randint(0, 9)).hex()}"
+        rest = pick.randbytes(pick.randint(0, 9)).hex()
+        return f"frame {bridge} {port} {to}0a000000000{pick.randint(1, 3)}0800{rest}"
 
     def event(self):
         pick = self.pick

@@ -24,9 +24,9 @@ def main():
         allocations, _ = program.counts(path, right)
         numbers = failing.spread(allocations, told.most)
         statuses, wrong = program.sweep(path, right, "FAIL_ALLOCATION", numbers, told.jobs)
-        wrong += [f"{count} runs ended with status {status}" for status, count in statuses.items() if status not in (0, 3)]
-        print(f"{name:24} {allocations:12} {len(numbers):8} {statuses.get(0, 0):9} {statuses.get(3, 0):9} {len(wrong):9}",
-              flush=True)
+        wrong += failing.unwanted(statuses, (0, 3))
+        print(f"{name:24} {allocations:12} {len(numbers):8} {statuses.get(0, 0):9} {statuses.get(3, 0):9}"
+              f" {len(wrong):9}", flush=True)
         failures += [f"{name}: {line}" for line in wrong]
     print(*failures, sep="\n", end="\n" if failures else "")
     return 1 if failures else 0
