@@ -1,30 +1,26 @@
 -- The bridge that directly follows another on a list of bridges, and on ways.
-use Rattle.std.proofs.Common.{◌≡◌, ◌≢◌, ℕ, zero, suc, ◌+◌, ◌<◌, ◌≤◌, Bool, true, false, if◌then◌else◌, inl, List, [], ◌∷◌, ◌++◌, length, map, take, get_or, Option, Some, None, option_map, unwrap_or, refl, sym, ap, ◌∙◌, subst, arith, Bor}
+use Rattle.std.proofs.Common.{◌≡◌, ◌≢◌, ℕ, zero, suc, ◌+◌, ◌<◌, ◌≤◌, Bool, true, false, if◌then◌else◌, inl, List, [], ◌∷◌, ◌++◌, length, get_or, Option, Some, None, option_map, unwrap_or, refl, sym, ap, ◌∙◌, subst, arith, Bor}
 use Rattle.std.specs.Prelude.{IfSome, is_some, option_copied, position, slice_get, nat_lt}
 use Rattle.std.specs.List.{position_or_len}
-use Rattle.std.proofs.Math.Seq.{take-length}
 use Rattle.std.proofs.lemmas.Bool.{ltb-true, ltb-false}
-use Rattle.std.proofs.lemmas.List.{map-append, take_more}
 use Rattle.std.proofs.lemmas.List.Quantifiers.{position-Some}
 use Rattle.std.proofs.lemmas.List.Sums.{fails_before_first}
-use Rattle.std.proofs.lemmas.Option.{slice_get-map, slice_get-get_or}
 use Rattle.spb_types.specs.Address.{same_system}
 use Rattle.spb_types.specs.Graph.{IsDistinct, systems_of}
 use Rattle.spb_types.specs.declared.address.SystemId.{SystemId}
 use Rattle.spb_types.specs.declared.graph.Graph.{Graph}
-use Rattle.spb_types.specs.declared.graph.GraphBridge.{GraphBridge}
 use Rattle.spb_types.specs.declared.tables.Path.{Path}
 use Rattle.ect_trees.specs.declared.mesh.Mesh.{Mesh}
 use Rattle.ect_trees.specs.declared.ways.Step.{Step}
 use Rattle.ect_trees.specs.Path.{cost_of}
 use Rattle.ect_trees.specs.Best.{best_of}
-use Rattle.ect_trees.specs.Tree.{Paths, path_in, GivesBest}
+use Rattle.ect_trees.specs.Tree.{Paths, GivesBest}
 use Rattle.ect_trees.specs.Arcs.{IsBridgeAt}
 use Rattle.ect_trees.specs.Ways.{step_at, place_before, bridge_at, way_back, way_to, AreWays, HasHops}
-use Rattle.ect_trees.specs.Followers.{after_in, place_or_end, place_after, followers_of, followers_in_tree, IsFollower, FollowOnWays}
+use Rattle.ect_trees.specs.Followers.{after_in, place_or_end, place_after, IsFollower, FollowsOnWay, FollowsInTree}
 use Rattle.ect_trees.proofs.Among.{same_is, same_self, among_right}
 use Rattle.ect_trees.proofs.Walks.{path_distinct}
-use Rattle.ect_trees.proofs.Places.{at_once, place_is, place_found_at, no_bridge}
+use Rattle.ect_trees.proofs.Places.{at_once, place_is, place_found_at}
 use Rattle.ect_trees.proofs.Chained.{bridge_is, is_way, stands, way_is, prior}
 
 -- it stands right behind the first place of m
@@ -151,20 +147,20 @@ follows_more r steps me n to left next place one other f = λ from a m w here h.
     )
 
 -- no way
-pub follower_none : (r : Mesh) (steps : List (Option Step)) (me to none : ℕ) → step_at steps to ≡ None → none ≡ length steps → IsFollower r steps me to none
+pub follower_none : (r : Mesh) (steps : List (Option Step)) (me to none : ℕ) → step_at steps to ≡ None → none ≡ length steps → FollowsOnWay r steps me to none
 follower_none r steps me to none e all = λ from a m x w here at.
     let place = place_is r.graph to x w.ready.valid at in
     all ∙ (w.places ∙ ap (place_after r.graph m) (sym (ap (λ i. option_map (λ (s : Step). way_back r.graph a steps s.hops i) (step_at steps i)) place ∙ ap (option_map (λ (s : Step). way_back r.graph a steps s.hops to)) e)))
 
 -- back at the source
-pub follower_end : (r : Mesh) (steps : List (Option Step)) (me to left place none : ℕ) (s : Step) → step_at steps to ≡ Some s → FollowsBack r steps me s.hops to left place → left ≡ 0 → none ≡ length steps → IsFollower r steps me to none
+pub follower_end : (r : Mesh) (steps : List (Option Step)) (me to left place none : ℕ) (s : Step) → step_at steps to ≡ Some s → FollowsBack r steps me s.hops to left place → left ≡ 0 → none ≡ length steps → FollowsOnWay r steps me to none
 follower_end r steps me to left place none s there f end all = λ from a m x w here at.
     let was = f from a m w here (s, there, refl) in
     let nothing : after_in m (way_back r.graph a steps s.hops to) ≡ None = was.1 ∙ ap (λ t. after_in m (way_back r.graph a steps t place)) end in
     all ∙ (w.places ∙ (ap (place_or_end r.graph) (sym nothing) ∙ ap (place_after r.graph m) (sym (way_is r from a steps w to s x there at))))
 
 -- at a place behind m
-pub follower_found : (r : Mesh) (steps : List (Option Step)) (me to left place : ℕ) (s : Step) → step_at steps to ≡ Some s → FollowsBack r steps me s.hops to left place → 0 < left → place_before steps place ≡ me → IsFollower r steps me to place
+pub follower_found : (r : Mesh) (steps : List (Option Step)) (me to left place : ℕ) (s : Step) → step_at steps to ≡ Some s → FollowsBack r steps me s.hops to left place → 0 < left → place_before steps place ≡ me → FollowsOnWay r steps me to place
 follower_found r steps me to zero place s there f some same = absurd (omega (arith, some))
 follower_found r steps me to (suc left) place s there f some same = λ from a m x w here at.
     let was = f from a m w here (s, there, refl) in
@@ -176,24 +172,9 @@ follower_found r steps me to (suc left) place s there f some same = λ from a m 
     let found = place_found_at r.graph place y.0 w.ready.valid y.1 in
     ap (λ o. unwrap_or o (length r.graph.bridges)) (sym found) ∙ (ap (place_or_end r.graph) (sym next) ∙ ap (place_after r.graph m) (sym (way_is r from a steps w to s x there at)))
 
--- one bridge more
-pub followers_more : (r : Mesh) (steps : List (Option Step)) (me place one : ℕ) (places : List ℕ) → place < length steps → IsFollower r steps me place one → FollowOnWays r steps me (take place r.graph.bridges) places → FollowOnWays r steps me (take (place + 1) r.graph.bridges) (places ++ one ∷ [])
-followers_more r steps me place one places low f all = λ from a m w here.
-    let bs = r.graph.bridges in
-    let within : place < length bs = omega (arith, low, w.places) in
-    let b : GraphBridge = get_or bs place no_bridge in
-    let at : IsBridgeAt r.graph place b.id.system = slice_get-map (λ (t : GraphBridge). t.id.system) bs place ∙ ap (option_map (λ (t : GraphBridge). t.id.system)) (slice_get-get_or bs place no_bridge within) in
-    let next : GraphBridge → ℕ = λ t. place_after r.graph m (way_to r.graph a steps t.id.system) in
-    (λ i. all from a m w here i ++ f from a m b.id.system w here at i ∷ []) ∙
-    (sym (map-append next (take place bs) (b ∷ [])) ∙ ap (map next) (sym (take_more bs place no_bridge within)))
-
-pub followers_all : (r : Mesh) (steps : List (Option Step)) (me place : ℕ) (places : List ℕ) → place ≡ length steps → FollowOnWays r steps me (take place r.graph.bridges) places → FollowOnWays r steps me r.graph.bridges places
-followers_all r steps me place places e all = λ from a m w here.
-    all from a m w here ∙ ap (map (λ b. place_after r.graph m (way_to r.graph a steps b.id.system))) (ap (λ t. take t r.graph.bridges) (e ∙ w.places) ∙ take-length r.graph.bridges)
-
 -- on best ways
-pub followers_best : (r : Mesh) (steps : List (Option Step)) (me from mask : ℕ) (a m : SystemId) (places : List ℕ) → AreWays r from a steps × ((x : SystemId) → way_to r.graph a steps x ≡ best_of r.graph mask a x) → IsBridgeAt r.graph me m → FollowOnWays r steps me r.graph.bridges places → places ≡ followers_of r.graph mask a m
-followers_best r steps me from mask a m places best here f = f from a m best.0 here ∙ (λ i. map (λ (b : GraphBridge). place_after r.graph m (best.1 b.id.system i)) r.graph.bridges)
+pub follower_best : (r : Mesh) (steps : List (Option Step)) (me from to mask place : ℕ) (a m : SystemId) → AreWays r from a steps × ((x : SystemId) → way_to r.graph a steps x ≡ best_of r.graph mask a x) → IsBridgeAt r.graph me m → FollowsOnWay r steps me to place → IsFollower r.graph mask a m to place
+follower_best r steps me from to mask place a m best here f = λ x at. f from a m x best.0 here at ∙ ap (place_after r.graph m) (best.1 x)
 
 -- ---- on the paths of a tree
 
@@ -201,8 +182,6 @@ on_path : (g : Graph) (m : SystemId) (o : Option (List SystemId)) → place_afte
 on_path g m None = refl
 on_path g m (Some p) = refl
 
-pub followers_in_best : (g : Graph) (mask : ℕ) (source m : SystemId) (tree : Paths) → GivesBest g mask source tree → followers_in_tree g tree m g.bridges ≡ followers_of g mask source m
-followers_in_best g mask source m tree gives = λ i. map (λ (b : GraphBridge). each b i) g.bridges
-  where
-    each : (b : GraphBridge) → place_after g m (option_map (λ (p : Path). p.bridges) (path_in tree.paths b.id.system)) ≡ place_after g m (best_of g mask source b.id.system)
-    each b = ap (λ o. place_after g m (option_map (λ (p : Path). p.bridges) o)) (gives.best b.id.system) ∙ on_path g m (best_of g mask source b.id.system)
+pub follower_in_best : (g : Graph) (mask : ℕ) (source m : SystemId) (tree : Paths) (to place : ℕ) → GivesBest g mask source tree → FollowsInTree g tree m to place → IsFollower g mask source m to place
+follower_in_best g mask source m tree to place gives f = λ x at.
+    f x at ∙ (ap (λ o. place_after g m (option_map (λ (p : Path). p.bridges) o)) (gives.best x) ∙ on_path g m (best_of g mask source x))

@@ -36,3 +36,4 @@ pub mod Chained
 pub mod Compared
 pub mod Tried
 pub mod Followed
+pub mod Kept

@@ -8,10 +8,10 @@ use Rattle.ect_trees.specs.Path.{IsPath, cost_of}
 use Rattle.ect_trees.specs.Best.{IsBest, best_of}
 use Rattle.ect_trees.specs.Tree.{Paths, GivesBest, path_in, best_path}
 use Rattle.ect_trees.specs.Laws.{AreAlike, TreesAlike, GrownIsBest}
-use Rattle.ect_trees.specs.Followers.{followers_of, followers_in_tree}
+use Rattle.ect_trees.specs.Followers.{IsFollower, FollowsInTree}
 use Rattle.ect_trees.proofs.Exists.{best_of_cases}
 use Rattle.ect_trees.proofs.Alike.{cost_alike, paths_of_alike, order_says_nothing}
-use Rattle.ect_trees.proofs.Followed.{followers_in_best}
+use Rattle.ect_trees.proofs.Followed.{follower_in_best}
 use Rattle.ect_trees.proofs.Ends.{paths_are_best}
 
 -- a path with its cost
@@ -40,7 +40,7 @@ pub grown_is_best : GrownIsBest
 grown_is_best g mask t v grown =
     record { from = refl; best = λ to. ap (λ ps. path_in ps to) grown.paths_are ∙ paths_are_best g mask t.source t.labels to v grown.best }
 
--- followers read off such a tree
-pub followers_alike : (g h : Graph) (mask : ℕ) (source m : SystemId) (places : List ℕ) (t : Paths) → IsValid g → IsValid h → AreAlike g h → GivesBest h mask source t → places ≡ followers_in_tree g t m g.bridges → places ≡ followers_of g mask source m
-followers_alike g h mask source m places t v w s best e =
-    e ∙ followers_in_best g mask source m t (trees_alike g h mask source t v w s best)
+-- a follower read off such a tree
+pub follower_alike : (g h : Graph) (mask : ℕ) (source m : SystemId) (to place : ℕ) (t : Paths) → IsValid g → IsValid h → AreAlike g h → GivesBest h mask source t → FollowsInTree g t m to place → IsFollower g mask source m to place
+follower_alike g h mask source m to place t v w s best f =
+    follower_in_best g mask source m t to place (trees_alike g h mask source t v w s best) f

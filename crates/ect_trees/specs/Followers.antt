@@ -1,10 +1,8 @@
 -- The bridges that directly follow a bridge on best paths.
-use Rattle.std.specs.Prelude.{◌≡◌, ℕ, List, [], ◌∷◌, length, map, true, Option, Some, None, option_map, option_and_then, unwrap_or, position, if◌then◌else◌}
+use Rattle.std.specs.Prelude.{◌≡◌, ℕ, List, [], ◌∷◌, length, Option, Some, None, option_map, option_and_then, unwrap_or, position, if◌then◌else◌}
 use Rattle.spb_types.specs.Address.{same_system}
 use Rattle.spb_types.specs.declared.address.SystemId.{SystemId}
 use Rattle.spb_types.specs.declared.graph.Graph.{Graph}
-use Rattle.ect_trees.specs.declared.followers.Followers.{Followers}
-use Rattle.spb_types.specs.declared.graph.GraphBridge.{GraphBridge}
 use Rattle.ect_trees.specs.declared.mesh.Mesh.{Mesh}
 use Rattle.ect_trees.specs.declared.ways.Step.{Step}
 use Rattle.ect_trees.specs.Arcs.{IsBridgeAt}
@@ -27,31 +25,27 @@ place_or_end g next = unwrap_or (option_and_then (λ x. position (λ b. same_sys
 abbrev pub place_after : Graph → SystemId → Option (List SystemId) → ℕ
 place_after g m way = place_or_end g (option_and_then (after_in m) way)
 
--- for each bridge, the place of the one that directly follows m on the best path there
-abbrev pub followers_of : Graph → ℕ → SystemId → SystemId → List ℕ
-followers_of g mask source m = map (λ b. place_after g m (best_of g mask source b.id.system)) g.bridges
+-- this is the place of the bridge that directly follows m on the best path from a source to the bridge at a place, or
+-- the number of bridges where none does
+abbrev pub IsFollower : Graph → ℕ → SystemId → SystemId → ℕ → ℕ → Type 0
+IsFollower g mask source m to place = (x : SystemId) → IsBridgeAt g to x
+    → place ≡ place_after g m (best_of g mask source x)
 
--- these are the followers of m under the mask, and under every mask if they are untied
-pub record AreFollowers (g : Graph) (mask : ℕ) (source m : SystemId) (f : Followers) : Type 0 where
-  pub places_are : f.places.items ≡ followers_of g mask source m
-  pub always : f.untied ≡ true → (other : ℕ) → f.places.items ≡ followers_of g other source m
+-- the same, where the source and m are told by their places
+abbrev pub IsFollowerAt : Graph → ℕ → ℕ → ℕ → ℕ → ℕ → Type 0
+IsFollowerAt g mask from me to place = (a m : SystemId) → IsBridgeAt g from a → IsBridgeAt g me m
+    → IsFollower g mask a m to place
 
 -- ---- by ways
 
 -- this is the place that directly follows m on the way to the bridge at a place
-abbrev pub IsFollower : Mesh → List (Option Step) → ℕ → ℕ → ℕ → Type 0
-IsFollower r steps me to place = (from : ℕ) (a m x : SystemId) → AreWays r from a steps
+abbrev pub FollowsOnWay : Mesh → List (Option Step) → ℕ → ℕ → ℕ → Type 0
+FollowsOnWay r steps me to place = (from : ℕ) (a m x : SystemId) → AreWays r from a steps
     → IsBridgeAt r.graph me m → IsBridgeAt r.graph to x → place ≡ place_after r.graph m (way_to r.graph a steps x)
-
--- the same for each of these bridges
-abbrev pub FollowOnWays : Mesh → List (Option Step) → ℕ → List GraphBridge → List ℕ → Type 0
-FollowOnWays r steps me bridges places = (from : ℕ) (a m : SystemId) → AreWays r from a steps
-    → IsBridgeAt r.graph me m
-    → places ≡ map (λ b. place_after r.graph m (way_to r.graph a steps b.id.system)) bridges
 
 -- ---- by the whole paths of a tree
 
--- for each of these bridges, the place of the one that directly follows m on the path of the tree
-abbrev pub followers_in_tree : Graph → Paths → SystemId → List GraphBridge → List ℕ
-followers_in_tree g tree m bridges =
-    map (λ b. place_after g m (option_map (λ p. p.bridges) (path_in tree.paths b.id.system))) bridges
+-- this is the place that directly follows m on the path of the tree to the bridge at a place
+abbrev pub FollowsInTree : Graph → Paths → SystemId → ℕ → ℕ → Type 0
+FollowsInTree g tree m to place = (x : SystemId) → IsBridgeAt g to x
+    → place ≡ place_after g m (option_map (λ p. p.bridges) (path_in tree.paths x))

@@ -13,3 +13,4 @@ pub mod Repair
 pub mod Ways
 pub mod Trial
 pub mod Followers
+pub mod Routes

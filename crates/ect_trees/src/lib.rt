@@ -16,17 +16,20 @@
 //! the paths over that edge; then at the arcs into each bridge without a path, and at those of the edge; and then it
 //! settles, as above, the bridges whose path is new, each once, and no others.
 //!
-//! [`Roads::followers`] says which bridge directly follows another on each best path from a source, and needs no path
-//! whole: a quick search keeps the last step of each way, with no memory for a label, and what it finds is a guess. It
-//! is looked at before it is believed: each step once, and each arc once, with ids only where cost and hops tie; a guess
-//! that isn't right would cost a search for whole paths. So it takes two looks at each arc, a look at each bridge that
-//! waits for each that is settled, and the hops of each way once. [`Roads::followers_by`] reads the same off a tree that
-//! is kept ([`Trees`]): it takes the hops of each path once, and a look-up for the bridge that follows.
+//! A [`Forest`] says which bridge directly follows another on the best path from a source. [`Forest::grow`] searches
+//! the best paths from a source under a mask, and keeps them as routes. They are guessed by a quick search, which keeps
+//! the last step of each way, with no memory for a label. The guess is looked at before it is believed: each step once,
+//! and each arc once, with ids only where cost and hops tie. Where it isn't right, whole paths are searched, and those
+//! are kept. So a source and a mask cost a search once: two looks at each arc, and a look at each bridge that waits for
+//! each that is settled. Where no path ties with another, the routes serve under every mask. [`Forest::follower`] then
+//! takes a look at the routes that are kept from its source, and the hops of one way, without memory; where no routes
+//! serve, it searches whole paths for that answer alone. [`Roads::follower_by`] reads the same off a tree that is kept
+//! ([`Trees`]): it takes the hops of one path, and a look-up for the bridge that follows.
 //!
 //! Whether a path with one arc more is better than another is asked of [`Search::better`], over [`Roads::mesh`].
 #![tactic(auto)]
 
-pub use followers::Followers;
+pub use forest::Forest;
 pub use key::{PathKey, compare_keys};
 pub use mesh::{Arc, Mesh};
 pub use roads::{Roads, tree_from};
@@ -35,6 +38,7 @@ pub use tree::Tree;
 pub use trees::Trees;
 
 mod followers;
+mod forest;
 mod fork;
 mod guess;
 mod index;
@@ -43,6 +47,7 @@ pub mod laws;
 mod mesh;
 mod repair;
 mod roads;
+mod routes;
 mod search;
 mod tree;
 mod trees;

@@ -34,26 +34,40 @@ pub struct Ways<'a> {
     pub steps: &'a [Option<Step>],
 }
 
+/// The step to a place, if there is one.
+pub fn step_at(steps: &[Option<Step>], place: usize) -> Option<Step>
+    ensures { result ≡ ways.step_at steps.now place }
+{
+    if place < steps.len() {
+        steps[place]
+    } else {
+        None
+    }
+}
+
+/// The place before another on the way there.
+pub fn place_before(steps: &[Option<Step>], place: usize) -> usize
+    ensures { result ≡ ways.place_before steps.now place }
+{
+    match step_at(steps, place) {
+        None => 0,
+        Some(step) => step.before,
+    }
+}
+
 impl<'a> Ways<'a> {
     /// The step to a place, if there is one.
     pub fn step_at(&self, place: usize) -> Option<Step>
         ensures { result ≡ ways.step_at self.now.steps.now place }
     {
-        if place < self.steps.len() {
-            self.steps[place]
-        } else {
-            None
-        }
+        step_at(self.steps, place)
     }
 
     /// The place before another on the way there.
     pub fn place_before(&self, place: usize) -> usize
         ensures { result ≡ ways.place_before self.now.steps.now place }
     {
-        match self.step_at(place) {
-            None => 0,
-            Some(step) => step.before,
-        }
+        place_before(self.steps, place)
     }
 
     /// The masked id of the bridge at a place.

@@ -1,0 +1,64 @@
+-- Paths that are kept: under which masks they serve, and what follows on them.
+use Rattle.std.proofs.Common.{◌≡◌, ◌≢◌, ℕ, ◌⊎◌, inl, inr, List, get_or, Option, Result, Ok, Err, IfOk, refl, sym, subst}
+use Rattle.std.specs.Global.{Vec}
+use Rattle.spb_types.specs.declared.address.SystemId.{SystemId}
+use Rattle.spb_types.specs.Graph.{IsValid}
+use Rattle.spb_types.specs.declared.graph.Graph.{Graph}
+use Rattle.spb_types.specs.declared.graph.GraphBridge.{GraphBridge}
+use Rattle.ect_trees.specs.declared.mesh.Mesh.{Mesh}
+use Rattle.ect_trees.specs.declared.routes.Form.{Form}
+use Rattle.ect_trees.specs.declared.routes.Routes.{Routes}
+use Rattle.ect_trees.specs.declared.trial.Verdict.{Verdict}
+use Rattle.ect_trees.specs.declared.ways.Step.{Step}
+use Rattle.ect_trees.specs.Arcs.{IsBridgeAt}
+use Rattle.ect_trees.specs.Followers.{IsFollower, IsFollowerAt, FollowsOnWay, FollowsInTree}
+use Rattle.ect_trees.specs.Routes.{AreBestAt, IsUntied, LeadBy}
+use Rattle.ect_trees.specs.Tree.{Paths, GivesBest}
+use Rattle.ect_trees.specs.Trial.{Covers}
+use Rattle.ect_trees.proofs.Places.{no_bridge, read_bridge}
+use Rattle.ect_trees.proofs.Followed.{follower_best, follower_in_best}
+
+-- a verdict that isn't bad holds under its own mask
+pub covers_own : (v : Verdict) (mask : ℕ) → v ≢ Verdict.Wrong → Covers mask v mask
+covers_own Verdict.Wrong mask fine = absurd (fine refl)
+covers_own Verdict.Tied mask fine = refl
+covers_own Verdict.Untied mask fine = tt
+
+-- and under another if nothing ties
+covers_too : (own mask : ℕ) (v : Verdict) → Covers own v own → (own ≡ mask) ⊎ (v ≡ Verdict.Untied) → Covers own v mask
+covers_too own mask v c (inl e) = subst (Covers own v) e c
+covers_too own mask v c (inr e) = subst (λ w. Covers own w mask) (sym e) tt
+
+-- on paths that are told by steps
+pub led_on_ways : (g : Graph) (t : Routes) (steps : Vec (Option Step)) (v : Verdict) (me to place : ℕ) → t.form ≡ Form.Steps steps v → ((r : Mesh) → FollowsOnWay r steps.items me to place) → LeadBy g t me to place
+led_on_ways g t steps v me to place e f = λ from mask routes serve a m whence here.
+    let best : AreBestAt g t.from t.mask (Form.Steps steps v) = subst (AreBestAt g t.from t.mask) e routes in
+    let also : (t.mask ≡ mask) ⊎ (v ≡ Verdict.Untied) = subst (λ w. (t.mask ≡ mask) ⊎ IsUntied w) e serve.1 in
+    let own = best.1 mask (covers_too t.mask mask v best.0 also) in
+    let source : IsBridgeAt g t.from a = subst (λ n. IsBridgeAt g n a) (sym serve.0) whence in
+    let start : IsBridgeAt own.mesh.graph t.from a = subst (λ h. IsBridgeAt h t.from a) (sym own.graph_is) source in
+    let it : IsBridgeAt own.mesh.graph me m = subst (λ h. IsBridgeAt h me m) (sym own.graph_is) here in
+    subst (λ h. IsFollower h mask a m to place) own.graph_is
+    (follower_best own.mesh steps.items me t.from to mask place a m (own.best a start) it (f own.mesh))
+
+same_mask : (own mask : ℕ) → (own ≡ mask) ⊎ ⊥ → own ≡ mask
+same_mask own mask (inl e) = e
+same_mask own mask (inr n) = absurd n
+
+-- on whole paths
+pub led_in_tree : (g : Graph) (t : Routes) (tree : Paths) (me to place : ℕ) → t.form ≡ Form.Whole tree → ((m : SystemId) → IsBridgeAt g me m → FollowsInTree g tree m to place) → LeadBy g t me to place
+led_in_tree g t tree me to place e f = λ from mask routes serve a m whence here.
+    let best : AreBestAt g t.from t.mask (Form.Whole tree) = subst (AreBestAt g t.from t.mask) e routes in
+    let also : (t.mask ≡ mask) ⊎ IsUntied (Form.Whole tree) = subst (λ w. (t.mask ≡ mask) ⊎ IsUntied w) e serve.1 in
+    let source : IsBridgeAt g t.from a = subst (λ n. IsBridgeAt g n a) (sym serve.0) whence in
+    let gives : GivesBest g mask a tree = subst (λ n. GivesBest g n a tree) (same_mask t.mask mask also) (best a source) in
+    follower_in_best g mask a m tree to place gives (f m here)
+
+-- on a path that is searched anew, between the bridges that are read at two places
+pub found_anew : {E : Type 0} (g h : Graph) (bs : List GraphBridge) (mask from me to : ℕ) (r : Result ℕ E) → IsValid g → bs ≡ g.bridges → g ≡ h → IfOk r (IsFollower g mask (get_or bs from no_bridge).id.system (get_or bs me no_bridge).id.system to) → IfOk r (IsFollowerAt h mask from me to)
+found_anew g h bs mask from me to (Err e) valid read same f = tt
+found_anew g h bs mask from me to (Ok place) valid read same f =
+    let at : IsFollowerAt g mask from me to place = λ a m whence here.
+    let own : IsFollower g mask (get_or bs from no_bridge).id.system m to place = subst (λ s. IsFollower g mask (get_or bs from no_bridge).id.system s to place) (read_bridge g bs me m valid read here).0 f in
+    subst (λ s. IsFollower g mask s m to place) (read_bridge g bs from a valid read whence).0 own in
+    subst (λ k. IsFollowerAt k mask from me to place) same at

@@ -1,0 +1,52 @@
+-- The best paths from a bridge, as they are kept.
+use Rattle.std.specs.Prelude.{◌≡◌, ℕ, List, All, Option, ◌⊎◌}
+use Rattle.std.specs.Global.{Vec}
+use Rattle.spb_types.specs.declared.address.SystemId.{SystemId}
+use Rattle.spb_types.specs.declared.graph.Graph.{Graph}
+use Rattle.ect_trees.specs.declared.mesh.Mesh.{Mesh}
+use Rattle.ect_trees.specs.declared.routes.Form.{Form}
+use Rattle.ect_trees.specs.declared.routes.Routes.{Routes}
+use Rattle.ect_trees.specs.declared.trial.Verdict.{Verdict}
+use Rattle.ect_trees.specs.declared.ways.Step.{Step}
+use Rattle.ect_trees.specs.Arcs.{IsBridgeAt}
+use Rattle.ect_trees.specs.Best.{best_of}
+use Rattle.ect_trees.specs.Followers.{IsFollowerAt}
+use Rattle.ect_trees.specs.Tree.{GivesBest}
+use Rattle.ect_trees.specs.Trial.{Covers}
+use Rattle.ect_trees.specs.Ways.{way_to, AreWays}
+
+-- the steps make the best ways from the bridge at a place under the mask m
+pub record AreBestSteps (g : Graph) (from m : ℕ) (steps : List (Option Step)) : Type 0 where
+  pub mesh : Mesh
+  pub graph_is : mesh.graph ≡ g
+  pub best : (a : SystemId) → IsBridgeAt mesh.graph from a → AreWays mesh from a steps
+      × ((x : SystemId) → way_to mesh.graph a steps x ≡ best_of mesh.graph m a x)
+
+-- the paths are the best ones from the bridge at a place: those that are told by steps under each mask of which the
+-- verdict says it, which it does of this mask; and those that are whole under this mask
+abbrev pub AreBestAt : Graph → ℕ → ℕ → Form → Type 0
+AreBestAt g from mask (Form.Steps steps v) = Covers mask v mask
+    × ((m : ℕ) → Covers mask v m → AreBestSteps g from m steps.items)
+AreBestAt g from mask (Form.Whole tree) = (a : SystemId) → IsBridgeAt g from a → GivesBest g mask a tree
+
+-- these are routes in the graph
+abbrev pub AreRoutes : Graph → Routes → Type 0
+AreRoutes g t = AreBestAt g t.from t.mask t.form
+
+-- they are so under every mask
+abbrev pub IsUntied : Form → Type 0
+IsUntied (Form.Steps steps v) = v ≡ Verdict.Untied
+IsUntied (Form.Whole tree) = ⊥
+
+-- the routes are those from this place, under this mask too
+abbrev pub Serve : Routes → ℕ → ℕ → Type 0
+Serve t from mask = (t.from ≡ from) × ((t.mask ≡ mask) ⊎ IsUntied t.form)
+
+-- on routes of the graph, this is the place of the bridge that follows the one at a place on the path to another, under
+-- each mask under which they serve
+abbrev pub LeadBy : Graph → Routes → ℕ → ℕ → ℕ → Type 0
+LeadBy g t me to place = (from mask : ℕ) → AreRoutes g t → Serve t from mask → IsFollowerAt g mask from me to place
+
+-- each of these routes is one in the graph
+abbrev pub AreGrown : Graph → List (Vec Routes) → Type 0
+AreGrown g rows = All (λ row. All (AreRoutes g) row.items) rows
