@@ -1,9 +1,11 @@
 -- The ports towards the bridges that follow `me` on best paths, by their places.
-use Rattle.std.specs.Prelude.{ℕ, zero, suc, ◌≡◌, ◌≤◌, List, [], ◌∷◌, length, map, Bool, true, false, Option, Some, None, option_map, option_and_then, unwrap_or, position, slice_get, if◌then◌else◌}
+use Rattle.std.specs.Prelude.{ℕ, zero, suc, ◌≡◌, ◌≤◌, ◌<◌, List, [], ◌∷◌, length, map, Bool, true, false, Option, Some, None, option_map, option_and_then, unwrap_or, position, slice_get, if◌then◌else◌}
 use Rattle.std.proofs.Common.{refl, sym, ap, ◌∙◌, subst, arith, get_or, inl, inr, true≢false, IsSome}
+use Rattle.std.proofs.lemmas.List.{length-map}
 use Rattle.std.proofs.lemmas.Option.{same_Some, none-some}
 use Rattle.spb_types.specs.Address.{same_system}
 use Rattle.spb_types.specs.Ect.{mask_of}
+use Rattle.spb_types.specs.Ports.{no_ports}
 use Rattle.spb_types.specs.Graph.{IsAmong, IsBridge, IsValid, ArePorts, systems_of, port_between}
 use Rattle.spb_types.specs.declared.address.SystemId.{SystemId}
 use Rattle.spb_types.specs.declared.graph.Graph.{Graph}
@@ -12,16 +14,14 @@ use Rattle.spb_types.specs.declared.service.VidPlan.{VidPlan}
 use Rattle.ect_trees.specs.Path.{IsPath}
 use Rattle.ect_trees.specs.Best.{best_of}
 use Rattle.ect_trees.specs.Arcs.{IsBridgeAt, place_in}
-use Rattle.ect_trees.specs.Followers.{after_in, place_or_end, place_after, followers_of, AreFollowers}
-use Rattle.ect_trees.specs.declared.followers.Followers.{Followers}
+use Rattle.ect_trees.specs.Followers.{after_in, place_or_end, place_after, IsFollowerAt}
 use Rattle.ect_trees.proofs.Among.{same_self}
 use Rattle.ect_trees.proofs.Exists.{best_of_some}
 use Rattle.ect_trees.proofs.Places.{place_at, place_found, place_found_at}
 use Rattle.ect_trees.proofs.Walks.{path_bridges, path_end}
 use Rattle.fdb_build.specs.Tables.{port_towards, unicast_row}
 use Rattle.fdb_build.specs.Groups.{port_after}
-use Rattle.fdb_build.specs.Making.{port_set, sets_by, sets_from, AreSetsFrom}
-use Rattle.fdb_build.specs.declared.sets.Sets.{Sets}
+use Rattle.fdb_build.specs.Making.{port_set, set_at, sets_from}
 use Rattle.fdb_build.proofs.RowLemmas.{port_among-le, port_among-low}
 
 -- what is read at the place of a bridge
@@ -69,18 +69,20 @@ port_of_follower g mask me s x ports valid e =
 
 -- ---- sets
 
-pub sets_of_followers : (g : Graph) (me source : SystemId) (plan : VidPlan) (ports : List (Option ℕ)) (places : List ℕ) → IsValid g → ports ≡ ports_in g me → places ≡ followers_of g (mask_of plan.ect) source me → sets_by ports places ≡ sets_from g me plan source
-sets_of_followers g me source plan ports places valid e f = ap (sets_by ports) f ∙ each g.bridges
-  where
-    each : (bs : List GraphBridge) → sets_by ports (map (λ (b : GraphBridge). place_after g me (best_of g (mask_of plan.ect) source b.id.system)) bs) ≡ map (λ (b : GraphBridge). port_set (port_after g (mask_of plan.ect) source b.id.system me)) bs
-    each [] = refl
-    each (b ∷ bs) = λ i. port_set (port_of_follower g (mask_of plan.ect) me source b.id.system ports valid e i) ∷ each bs i
+-- the set of the port towards the bridge that follows `me` on the way to the bridge at a place
+pub set_of_follower : (g : Graph) (me : SystemId) (plan : VidPlan) (mask place source to next : ℕ) (a x : SystemId) (ports : List (Option ℕ)) → IsValid g → ports ≡ ports_in g me → mask ≡ mask_of plan.ect
+    → IsBridgeAt g place me → IsBridgeAt g source a → IsBridgeAt g to x → IsFollowerAt g mask source place to next → port_set (get_or ports next None) ≡ set_at (sets_from g me plan a) to
+set_of_follower g me plan mask place source to next a x ports valid e same here from at follows =
+    let m : ℕ = mask_of plan.ect in
+    let follower : next ≡ place_after g me (best_of g m a x) = subst (λ t. next ≡ place_after g me (best_of g t a x)) same (follows a me from here x at) in
+    ap port_set (ap (λ n. get_or ports n None) follower ∙ port_of_follower g m me a x ports valid e) ∙
+    sym (read_there (λ y. port_set (port_after g m a y me)) no_ports g.bridges to x at)
 
-pub sets_are_from : (g : Graph) (me source : SystemId) (plan : VidPlan) (ports : List (Option ℕ)) (f : Followers) (s : Sets) → IsValid g → ports ≡ ports_in g me → AreFollowers g (mask_of plan.ect) source me f → s.ports.items ≡ sets_by ports f.places.items → s.untied ≡ f.untied → AreSetsFrom g me plan source s
-sets_are_from g me source plan ports f s valid e followers made untied = record {
-  sets_are = made ∙ sets_of_followers g me source plan ports f.places.items valid e followers.places_are;
-  always = λ t other. made ∙ sets_of_followers g me source other ports f.places.items valid e (followers.always (sym untied ∙ t) (mask_of other.ect));
-}
+-- within the ports of `me` a bridge stands
+pub within_ports : (g : Graph) (me : SystemId) (to : ℕ) (ports : List (Option ℕ)) → ports ≡ ports_in g me → to < length ports → to < length g.bridges
+within_ports g me to ports e within =
+    let long : length ports ≡ length g.bridges = ap length e ∙ length-map g.bridges (λ b. port_between g me b.id.system) in
+    omega (arith, long, within)
 
 -- a port that is read is one of a bridge
 port_at_bridge : (g : Graph) (me : SystemId) (bs : List GraphBridge) (place p : ℕ) → get_or (map (λ (b : GraphBridge). port_between g me b.id.system) bs) place None ≡ Some p → (x : SystemId) × (port_between g me x ≡ Some p)
@@ -110,15 +112,12 @@ port_after_me g mask me x valid = ap (option_and_then (λ y. port_between g me y
     by (Some p) e = second_follows g me x p ((best_of_some g mask me x p valid).0 e).path
 
 -- the port towards the bridge that follows on the way to the bridge at a place
-pub port_by_follower : (g : Graph) (mask : ℕ) (me x : SystemId) (place : ℕ) (ports : List (Option ℕ)) (followers : List ℕ) → IsValid g → ports ≡ ports_in g me → followers ≡ followers_of g mask me me → IsBridgeAt g place x → option_and_then (λ next. get_or ports next None) (slice_get followers place) ≡ port_towards g mask me x
-port_by_follower g mask me x place ports followers valid e f at =
-    ap (option_and_then (λ next. get_or ports next None)) (ap (λ t. slice_get t place) f ∙ there g.bridges place at) ∙
-    (port_of_follower g mask me me x ports valid e ∙ port_after_me g mask me x valid)
-  where
-    there : (bs : List GraphBridge) (i : ℕ) → slice_get (systems_of bs) i ≡ Some x → slice_get (map (λ (b : GraphBridge). place_after g me (best_of g mask me b.id.system)) bs) i ≡ Some (place_after g me (best_of g mask me x))
-    there [] i h = absurd (none-some x h)
-    there (b ∷ bs) zero h = ap (λ t. Some (place_after g me (best_of g mask me t))) (same_Some b.id.system x h)
-    there (b ∷ bs) (suc i) h = there bs i h
+pub port_by_follower : (g : Graph) (me x : SystemId) (plan : VidPlan) (mask place to next : ℕ) (ports : List (Option ℕ)) → IsValid g → ports ≡ ports_in g me → mask ≡ mask_of plan.ect
+    → IsBridgeAt g place me → IsBridgeAt g to x → IsFollowerAt g mask place place to next → get_or ports next None ≡ port_towards g (mask_of plan.ect) me x
+port_by_follower g me x plan mask place to next ports valid e same here at follows =
+    let m : ℕ = mask_of plan.ect in
+    let follower : next ≡ place_after g me (best_of g m me x) = subst (λ t. next ≡ place_after g me (best_of g t me x)) same (follows me me here here x at) in
+    ap (λ n. get_or ports n None) follower ∙ (port_of_follower g m me me x ports valid e ∙ port_after_me g m me x valid)
 
 -- there is no way to what isn't a bridge of the graph
 pub no_port_towards : (g : Graph) (mask : ℕ) (me x : SystemId) → IsValid g → position (λ b. same_system b.id.system x) g.bridges ≡ None → port_towards g mask me x ≡ None

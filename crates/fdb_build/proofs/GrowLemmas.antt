@@ -1,11 +1,11 @@
 -- Rows that grow by ports: what one address gets, one test after another, and the rows that come of them.
-use Rattle.std.specs.Prelude.{ℕ, zero, suc, ◌≡◌, ◌<◌, ◌+◌, ◌^◌, Bool, true, false, ◌&&◌, ◌||◌, cond, List, [], ◌∷◌, length, map, take, Contains, Option, Some, None, unwrap_or, slice_get}
+use Rattle.std.specs.Prelude.{ℕ, zero, suc, ◌≡◌, ◌<◌, ◌≤◌, ◌+◌, ◌^◌, Bool, true, false, ◌&&◌, ◌||◌, cond, List, [], ◌∷◌, length, map, take, Contains, Option, Some, None, unwrap_or, slice_get}
 use Rattle.std.specs.List.{list_any}
 use Rattle.std.specs.BTreeMap.{BTreeMap, IsOrdered, get}
 use Rattle.std.specs.List.Sorted.{IsStrictlySortedBy}
 use Rattle.std.specs.Map.{keys_of, lookup}
 use Rattle.std.specs.Ordering.{is_eq, ordering_then}
-use Rattle.std.proofs.Common.{refl, sym, ap, ◌∙◌, subst, inl, inr, get_or, true≢false, Ordering, Less, Equal, Greater}
+use Rattle.std.proofs.Common.{refl, sym, ap, ◌∙◌, subst, inl, inr, get_or, take_all, true≢false, Ordering, Less, Equal, Greater}
 use Rattle.std.proofs.lemmas.Cmp.{nat_cmp_total, tied_itself}
 use Rattle.std.proofs.lemmas.List.Folds.{list_any_more}
 use Rattle.std.proofs.lemmas.Map.Entries.{btree_map_get_place, place_from_lookup}
@@ -105,9 +105,6 @@ grew_put old new mac ports some small u = record { ports = λ q p. at q p (is_eq
 
 -- ---- one test after another
 
-pub grew_start : (rows : BTreeMap Mac PortSet) → Grew rows rows (λ q p. false)
-grew_start rows = record { ports = λ q p. sym (or_false (has (ports_at rows q) p)); filled = λ h. h }
-
 pub grew_on : (a b c : BTreeMap Mac PortSet) (T U V : Mac → ℕ → Bool) → Grew a b T → Grew b c U → ((q : Mac) (p : ℕ) → V q p ≡ (T q p || U q p)) → Grew a c V
 grew_on a b c T U V g h e = record {
   ports = λ q p. h.ports q p ∙ (ap (λ x. x || U q p) (g.ports q p) ∙ or_or (has (ports_at a q) p) (T q p) (U q p) (V q p) (e q p));
@@ -126,15 +123,29 @@ grew_as : (b c : BTreeMap Mac PortSet) (T U : Mac → ℕ → Bool) → ((q : Ma
 grew_as b c T U e h = record { ports = λ q p. h.ports q p ∙ ap (λ x. has (ports_at b q) p || x) (e q p); filled = h.filled }
 
 -- one service more
-pub isid_more : (s : Services) (source : GraphBridge) (sets : List PortSet) (isids : List Isid) (a b c : BTreeMap Mac PortSet) (i : ℕ) (d : Isid) (mac : Mac) (ports : PortSet) → i < length isids
-    → mac ≡ group_address source.source.value (get_or isids i d).value → ((p : ℕ) → has ports p ≡ is_towards sets (list_at isid_cmp s.receivers (get_or isids i d)) p)
+pub isid_more : (s : Services) (source : GraphBridge) (sets : List PortSet) (isids items : List Isid) (a b c : BTreeMap Mac PortSet) (i : ℕ) (d : Isid) (from : ℕ) (mac : Mac) (ports : PortSet) (receivers : List ℕ)
+    → items ≡ isids → i < length items → from ≡ source.source.value → mac ≡ group_address from (get_or items i d).value
+    → receivers ≡ list_at isid_cmp s.receivers (get_or items i d) → ((p : ℕ) → has ports p ≡ is_towards sets receivers p)
     → Grew b c (λ q p. same_mac q mac && has ports p) → Grew a b (is_from s source sets (take i isids)) → Grew a c (is_from s source sets (take (i + 1) isids))
-isid_more s source sets isids a b c i d mac ports low address set h g =
-    grew_more f isids a b c i d (get_or isids i d) low refl
-    (grew_as b c (λ q p. same_mac q mac && has ports p) (f (get_or isids i d)) (λ q p. ap (λ m. same_mac q m && has ports p) address ∙ ap (λ t. same_mac q (group_address source.source.value (get_or isids i d).value) && t) (set p)) h) g
+isid_more s source sets isids items a b c i d from mac ports receivers same low of address received set h g =
+    let low_there : i < length isids = subst (λ (l : List Isid). i < length l) same low in
+    grew_more f isids a b c i d isid low_there (ap (λ (l : List Isid). get_or l i d) same)
+    (grew_as b c (λ q p. same_mac q mac && has ports p) (f isid) (λ q p. ap (λ m. same_mac q m && has ports p) there ∙ ap (λ t. same_mac q (group_address source.source.value isid.value) && t) (set p ∙ ap (λ l. is_towards sets l p) received)) h) g
   where
+    isid : Isid
+    isid = get_or items i d
+
     f : Isid → Mac → ℕ → Bool
     f isid q p = same_mac q (group_address source.source.value isid.value) && is_towards sets (list_at isid_cmp s.receivers isid) p
+
+    there : mac ≡ group_address source.source.value (get_or items i d).value
+    there = address ∙ ap (λ n. group_address n (get_or items i d).value) of
+
+-- the services of all that were gone through
+pub isids_all : (s : Services) (source : GraphBridge) (sets : List PortSet) (isids items : List Isid) (a b : BTreeMap Mac PortSet) (i : ℕ) → items ≡ isids → length items ≤ i
+    → Grew a b (is_from s source sets (take i isids)) → Grew a b (is_from s source sets isids)
+isids_all s source sets isids items a b i same low g =
+    subst (λ l. Grew a b (is_from s source sets l)) (take_all i isids (subst (λ (l : List Isid). length l ≤ i) same low)) g
 
 -- one source more
 pub source_more : (g : Graph) (me : SystemId) (plan : VidPlan) (s : Services) (sources : List GraphBridge) (a b c : BTreeMap Mac PortSet) (i : ℕ) (d : GraphBridge) → i < length sources

@@ -8,9 +8,11 @@ pub mod GroupTests
 pub mod GroupLemmas
 pub mod SetLemmas
 pub mod FollowerLemmas
-pub mod KeptLemmas
+pub mod SourceLemmas
 pub mod ServiceLemmas
 pub mod GrowLemmas
+pub mod StrangerLemmas
+pub mod PlannedLemmas
 pub mod MakingLemmas
 pub mod OnePathLemmas
 pub mod TreeLemmas

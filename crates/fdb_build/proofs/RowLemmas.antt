@@ -16,7 +16,7 @@ use Rattle.spb_types.specs.declared.graph.GraphBridge.{GraphBridge}
 use Rattle.spb_types.specs.declared.tables.UnicastRow.{UnicastRow}
 use Rattle.ect_trees.proofs.Among.{same_is, same_self}
 use Rattle.fdb_build.specs.declared.surroundings.Neighbour.{Neighbour}
-use Rattle.fdb_build.specs.declared.surroundings.Placed.{Placed}
+use Rattle.fdb_build.specs.declared.layout.Placed.{Placed}
 use Rattle.fdb_build.specs.Surroundings.{neighbour_by, port_by, ports_by}
 
 either : (p q r s : Bool) → ((p && q) || (r && s)) ≡ true → (p || s) ≡ true

@@ -1,14 +1,19 @@
--- Trees serve for each source.
-use Rattle.std.proofs.Common.{◌≡◌, ℕ, zero, suc, Bool, List, [], ◌∷◌, inl, inr, refl, slice_get, Some}
+-- Trees serve for each plan.
+use Rattle.std.proofs.Common.{◌≡◌, ℕ, zero, suc, Bool, List, [], ◌∷◌, map, inl, inr, refl, sym, subst, slice_get, Some}
 use Rattle.std.specs.List.{AllByRecursion}
+use Rattle.spb_types.specs.Ect.{mask_of}
 use Rattle.spb_types.specs.Graph.{IsAmong, IsBridge, systems_of}
 use Rattle.spb_types.specs.declared.address.SystemId.{SystemId}
 use Rattle.spb_types.specs.declared.graph.Graph.{Graph}
 use Rattle.spb_types.specs.declared.service.VidPlan.{VidPlan}
 use Rattle.ect_trees.specs.Arcs.{IsBridgeAt}
 use Rattle.ect_trees.proofs.Members.{Has, contains_from_has}
-use Rattle.fdb_build.specs.Making.{CanFollow}
+use Rattle.fdb_build.specs.Layout.{IsLayoutOf}
 use Rattle.fdb_build.specs.Searches.{Serve, CanRead}
+use Rattle.fdb_build.specs.Tables.{vid_cmp}
+use Rattle.fdb_build.specs.declared.layout.Layout.{Layout}
+use Rattle.fdb_build.specs.declared.layout.Planned.{Planned}
+use Rattle.fdb_build.proofs.RowLemmas.{All-ascending_by}
 
 among_at : (ys : List SystemId) (i : ℕ) (x : SystemId) → slice_get ys i ≡ Some x → IsAmong x ys
 among_at [] zero x h = absurd (cc)
@@ -24,9 +29,22 @@ all_of : {X : Type 0} (P : X → Type 0) (xs : List X) → ((x : X) → Has x xs
 all_of P [] h = tt
 all_of P (x ∷ xs) h = (h x (inl refl), all_of P xs (λ y k. h y (inr k)))
 
-pub can_follow : (h : Graph) (has : SystemId → ℕ → Bool) (g : Graph) (plans : List VidPlan) → Serve h has g plans → AllByRecursion (CanFollow (CanRead h has g)) plans
-can_follow h has g plans s = all_of (CanFollow (CanRead h has g)) plans (λ p k x. record {
-  valid = s.valid;
-  alike = s.alike;
-  there = λ b. s.there x p b (contains_from_has plans p k);
-})
+all_plans : (P : VidPlan → Type 0) (ps : List Planned) → AllByRecursion P (map (λ (p : Planned). p.plan) ps) → AllByRecursion (λ (p : Planned). P p.plan) ps
+all_plans P [] h = tt
+all_plans P (p ∷ ps) h = (h.0, all_plans P ps h.1)
+
+-- what holds of each plan holds of each in a layout
+pub in_layout : (P : VidPlan → Type 0) (g : Graph) (vids : List VidPlan) (l : Layout) → IsLayoutOf g vids l → AllByRecursion P vids → AllByRecursion (λ (p : Planned). P p.plan) l.plans.items
+in_layout P g vids l is h =
+    all_plans P l.plans.items (subst (AllByRecursion P) (sym is.order) (All-ascending_by P vid_cmp vids h))
+
+-- trees that serve can be read under the mask of each plan of a layout
+pub can_follow : (h : Graph) (has : SystemId → ℕ → Bool) (g : Graph) (vids : List VidPlan) (l : Layout) → Serve h has g vids → IsLayoutOf g vids l
+    → AllByRecursion (λ (p : Planned). CanRead h has g (mask_of p.plan.ect)) l.plans.items
+can_follow h has g vids l s is =
+    in_layout (λ q. CanRead h has g (mask_of q.ect)) g vids l is
+    (all_of (λ q. CanRead h has g (mask_of q.ect)) vids (λ q k. record {
+      valid = s.valid;
+      alike = s.alike;
+      there = λ x b. s.there x q b (contains_from_has vids q k);
+    }))

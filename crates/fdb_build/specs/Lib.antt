@@ -5,3 +5,5 @@ pub mod Searches
 pub mod GroupTrees
 pub mod Surroundings
 pub mod Making
+pub mod Layout
+pub mod Fabric

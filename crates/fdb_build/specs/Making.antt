@@ -1,6 +1,6 @@
 -- How group rows are made: the members of each service of a VID, the ports behind `me` on the tree of each source, and
 -- rows to which ports are added.
-use Rattle.std.specs.Prelude.{◌≡◌, ℕ, List, [], length, map, Bool, true, false, ◌&&◌, ◌||◌, ◌==◌, ◌<◌, ◌^◌, Option, Some, None, unwrap_or, position, bit_or, ◌⊎◌}
+use Rattle.std.specs.Prelude.{◌≡◌, ℕ, List, [], length, map, Bool, true, false, ◌&&◌, ◌||◌, ◌==◌, ◌<◌, ◌^◌, Option, Some, None, unwrap_or, position, bit_or}
 use Rattle.std.specs.List.{list_any, slice_index_or}
 use Rattle.std.specs.BTreeMap.{BTreeMap, get}
 use Rattle.std.specs.Str.{bytes_eq}
@@ -20,14 +20,9 @@ use Rattle.spb_types.specs.declared.service.Isid.{Isid}
 use Rattle.spb_types.specs.declared.service.Vid.{Vid}
 use Rattle.spb_types.specs.declared.service.VidPlan.{VidPlan}
 use Rattle.spb_types.specs.declared.tables.GroupRow.{GroupRow}
-use Rattle.ect_trees.specs.Arcs.{IsBridgeAt}
-use Rattle.ect_trees.specs.Followers.{followers_of}
-use Rattle.ect_trees.specs.declared.followers.Followers.{Followers}
 use Rattle.fdb_build.specs.Tables.{mac_cmp}
 use Rattle.fdb_build.specs.Groups.{port_after}
-use Rattle.fdb_build.specs.declared.kept.Kept.{Kept}
 use Rattle.fdb_build.specs.declared.services.Services.{Services}
-use Rattle.fdb_build.specs.declared.sets.Sets.{Sets}
 
 -- ---- sets of ports
 
@@ -116,42 +111,10 @@ pub record AreServicesOf (g : Graph) (ms : List Member) (vid : Vid) (s : Service
 
 -- ---- the ports behind `me`
 
--- the sets of the ports towards the bridges at these places
-abbrev pub sets_by : List (Option ℕ) → List ℕ → List PortSet
-sets_by ports places = map (λ place. port_set (slice_index_or ports place None)) places
-
 -- the sets of the ports behind `me` on the best paths from a source, by place of the bridge where each path ends
 abbrev pub sets_from : Graph → SystemId → VidPlan → SystemId → List PortSet
 sets_from g me plan source =
     map (λ b. port_set (port_after g (mask_of plan.ect) source b.id.system me)) g.bridges
-
--- these are the sets under the mask of the plan, and under that of every plan if they are untied
-pub record AreSetsFrom (g : Graph) (me : SystemId) (plan : VidPlan) (source : SystemId) (s : Sets) : Type 0 where
-  pub sets_are : s.ports.items ≡ sets_from g me plan source
-  pub always : s.untied ≡ true → (other : VidPlan) → s.ports.items ≡ sets_from g me other source
-
--- the sets that are kept of the source at a place
-abbrev pub kept_at : Kept → ℕ → Option (Vec PortSet)
-kept_at kept place = slice_index_or kept.sets.items place None
-
--- what is kept are the sets of each source under the mask of every plan
-abbrev pub AreKept : Graph → SystemId → Kept → Type 0
-AreKept g me kept = (place : ℕ) (x : SystemId) (sets : Vec PortSet) → IsBridgeAt g place x
-    → kept_at kept place ≡ Some sets → (plan : VidPlan) → sets.items ≡ sets_from g me plan x
-
--- the sets are kept if they are untied, beside those of the other places
-abbrev pub Keeps : ℕ → Sets → Kept → Kept → Type 0
-Keeps place sets old new = (i : ℕ) (kept : Vec PortSet) → kept_at new i ≡ Some kept
-    → ((i ≡ place) × (sets.untied ≡ true) × (kept ≡ sets.ports)) ⊎ (kept_at old i ≡ Some kept)
-
--- a search can be made from every source under the mask of the plan
-abbrev pub CanFollow : (SystemId → ℕ → Type 0) → VidPlan → Type 0
-CanFollow can plan = (source : SystemId) → can source (mask_of plan.ect)
-
--- the followers of `me` on the best paths from it, if there are any and they are untied, are so under every mask
-abbrev pub AreOwn : Graph → SystemId → Option Followers → Type 0
-AreOwn g me own = (f : Followers) → own ≡ Some f → f.untied ≡ true
-    → (mask : ℕ) → f.places.items ≡ followers_of g mask me me
 
 -- ---- rows that grow
 

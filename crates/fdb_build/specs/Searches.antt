@@ -15,8 +15,8 @@ pub record Serve (h : Graph) (has : SystemId → ℕ → Bool) (g : Graph) (plan
   pub there : (x : SystemId) (plan : VidPlan) → IsBridge g x → Contains plans plan
       → has x (mask_of plan.ect) ≡ true
 
--- they serve for the best paths in g from this source under this mask
-pub record CanRead (h : Graph) (has : SystemId → ℕ → Bool) (g : Graph) (source : SystemId) (mask : ℕ) : Type 0 where
+-- they serve for the best paths in g under this mask
+pub record CanRead (h : Graph) (has : SystemId → ℕ → Bool) (g : Graph) (mask : ℕ) : Type 0 where
   pub valid : IsValid h
   pub alike : AreAlike g h
-  pub there : IsBridge g source → has source mask ≡ true
+  pub there : (x : SystemId) → IsBridge g x → has x mask ≡ true

@@ -6,9 +6,10 @@ use Rattle.spb_types.specs.declared.graph.GraphBridge.{GraphBridge}
 use Rattle.spb_types.specs.declared.address.SystemId.{SystemId}
 use Rattle.spb_types.specs.declared.graph.Edge.{Edge}
 use Rattle.spb_types.specs.declared.graph.Graph.{Graph}
+use Rattle.ect_trees.specs.Arcs.{IsBridgeAt}
 use Rattle.fdb_build.specs.Tables.{ascending_by, system_cmp}
 use Rattle.fdb_build.specs.declared.surroundings.Neighbour.{Neighbour}
-use Rattle.fdb_build.specs.declared.surroundings.Placed.{Placed}
+use Rattle.fdb_build.specs.declared.layout.Placed.{Placed}
 use Rattle.fdb_build.specs.declared.surroundings.Surroundings.{Surroundings}
 
 -- the neighbour that an edge joins to `me`, with the port at `me`, if the edge is at `me`
@@ -28,12 +29,12 @@ port_by neighbours x = option_map (λ n. n.port) (find (λ n. same_system n.syst
 abbrev pub ports_by : List Neighbour → List GraphBridge → List (Option ℕ)
 ports_by neighbours bridges = map (λ b. port_by neighbours b.id.system) bridges
 
--- the graph is valid, with the ports of `me` in it; these are the ports of `me` towards each bridge of the graph, in
--- their order; and these are the graph's bridges
+-- the graph is valid, with the ports of `me` in it; `me` stands at this place of the graph; and these are the ports of
+-- `me` towards each bridge of the graph, in their order
 pub record AreKnown (s : Surroundings) : Type 0 where
   pub valid : IsValidFor s.roads.now s.me
+  pub here : IsBridgeAt s.roads.now s.place s.me
   pub ports : s.ports.items ≡ map (λ b. port_between s.roads.now s.me b.id.system) s.roads.now.bridges
-  pub bridges : AreAscending s.roads.now s.bridges.items
 
 -- what surrounds `me` in the graph
 pub record Surround (g : Graph) (me : SystemId) (s : Surroundings) : Type 0 where

@@ -2,21 +2,21 @@
 ghost use Rattle.std.specs.Prelude.{◌≡◌, ◌≤◌, ◌<◌, ◌++◌, ◌&&◌, length, map, OnOk, IfOk};
 ghost use Rattle.std.specs.List.{flat_map, AllByRecursion};
 ghost use Rattle.std.specs.BTreeMap.{IsOrdered};
+ghost use Rattle.spb_types.specs.Ect.{mask_of};
 ghost use Rattle.spb_types.specs.Ports.{has};
 ghost use Rattle.fdb_build.specs.Tables.{mac_cmp};
 ghost use Rattle.fdb_build.specs.Groups as groups;
 ghost use Rattle.fdb_build.specs.Making as making;
+ghost use Rattle.fdb_build.specs.Layout.{IsPlanned};
 ghost use Rattle.fdb_build.specs.Surroundings.{AreKnown};
 
-use crate::kept::Kept;
+use crate::layout::Planned;
 use crate::searches::Searches;
 use crate::services::Services;
-use crate::sets::{sets_from, union};
+use crate::sets::{ports_behind, union};
 use crate::surroundings::Surroundings;
 use spb_types::limits::GREATEST_ECT;
-use spb_types::{
-    GraphBridge, GroupRow, Isid, Mac, NoMemory, PortSet, SourceId, Vid, VidPlan, group_address,
-};
+use spb_types::{GraphBridge, GroupRow, Mac, NoMemory, PortSet, Vid, VidPlan, group_address};
 use std::alloc::Global;
 use std::collections::BTreeMap;
 
@@ -42,24 +42,6 @@ fn add_ports(rows: &mut BTreeMap<Mac, PortSet>, mac: Mac, ports: PortSet) -> Res
     Ok(())
 }
 
-/// Adds the ports behind `me` on the tree of a source, for the services to which it sends.
-fn add_services(
-    rows: &mut BTreeMap<Mac, PortSet>,
-    services: &Services,
-    source: GraphBridge,
-    sets: &[PortSet],
-    isids: &[Isid],
-) -> Result<(), NoMemory>
-    ensures { OnOk result
-        (making.Grew rows.old rows.new (making.is_from services.now source sets.now isids.now)) }
-{
-    for isid in isids {
-        let ports = services.ports_to(*isid, sets);
-        add_ports(rows, group_address(source.source, *isid), ports)?;
-    }
-    Ok(())
-}
-
 /// The bridge at a place of the graph.
 fn source_at(around: &Surroundings<'_>, place: usize) -> GraphBridge
     requires { place < length around.now.roads.now.bridges }
@@ -68,12 +50,10 @@ fn source_at(around: &Surroundings<'_>, place: usize) -> GraphBridge
     around.roads.graph().bridges.as_slice()[place]
 }
 
-/// Adds the ports for the services to which the bridge at a place sends, if it does to some. Only then are its sets
-/// made, unless they are kept.
+/// Adds the ports for the services to which the bridge at a place sends.
 fn add_source<S: Searches>(
     alloc: Global,
     rows: &mut BTreeMap<Mac, PortSet>,
-    kept: &mut Kept,
     around: &Surroundings<'_>,
     searches: S,
     plan: VidPlan,
@@ -83,25 +63,18 @@ fn add_source<S: Searches>(
     requires known { AreKnown around.now }
     requires low { 1 ≤ plan.ect }
     requires high { plan.ect ≤ GREATEST_ECT }
-    requires can { making.CanFollow (S.can searches around.now.roads.now) plan }
+    requires can { S.can searches around.now.roads.now (mask_of plan.ect) }
     requires within { place < length around.now.roads.now.bridges }
-    requires kept { making.AreKept around.now.roads.now around.now.me kept.old }
-    ensures kept { OnOk result (making.AreKept around.now.roads.now around.now.me kept.new) }
-    ensures rows { OnOk result (making.Grew rows.old rows.new
+    ensures { OnOk result (making.Grew rows.old rows.new
         (making.is_from_bridge around.now.roads.now around.now.me plan services.now
         (making.source_at around.now.roads.now place))) }
 {
-    let source = source_at(around, place);
-    let isids = services.sent_at(place);
-    if isids.is_empty() {
-        return Ok(());
+    let source = source_at(around, place).source;
+    for isid in services.sent_at(place) {
+        let receivers = services.receivers_of(*isid);
+        let ports = ports_behind(alloc, around, searches, plan, place, receivers)?;
+        add_ports(rows, group_address(source, *isid), ports)?;
     }
-    if let Some(sets) = kept.at(place) {
-        return add_services(rows, services, source, sets.as_slice(), isids);
-    }
-    let sets = sets_from(alloc, around, searches, plan, source.id.system)?;
-    add_services(rows, services, source, sets.ports.as_slice(), isids)?;
-    kept.keep(place, sets);
     Ok(())
 }
 
@@ -109,7 +82,6 @@ fn add_source<S: Searches>(
 fn add_sources<S: Searches>(
     alloc: Global,
     rows: &mut BTreeMap<Mac, PortSet>,
-    kept: &mut Kept,
     around: &Surroundings<'_>,
     searches: S,
     plan: VidPlan,
@@ -118,14 +90,12 @@ fn add_sources<S: Searches>(
     requires known { AreKnown around.now }
     requires low { 1 ≤ plan.ect }
     requires high { plan.ect ≤ GREATEST_ECT }
-    requires can { making.CanFollow (S.can searches around.now.roads.now) plan }
-    requires kept { making.AreKept around.now.roads.now around.now.me kept.old }
-    ensures kept { OnOk result (making.AreKept around.now.roads.now around.now.me kept.new) }
-    ensures rows { OnOk result (making.Grew rows.old rows.new (making.is_from_some around.now.roads.now
+    requires can { S.can searches around.now.roads.now (mask_of plan.ect) }
+    ensures { OnOk result (making.Grew rows.old rows.new (making.is_from_some around.now.roads.now
         around.now.me plan services.now around.now.roads.now.bridges)) }
 {
     for place in 0..around.roads.graph().bridges.len() {
-        add_source(alloc, rows, kept, around, searches, plan, services, place)?;
+        add_source(alloc, rows, around, searches, plan, services, place)?;
     }
     Ok(())
 }
@@ -153,23 +123,26 @@ fn put_rows(
 fn push_groups<S: Searches>(
     alloc: Global,
     rows: &mut Vec<GroupRow>,
-    kept: &mut Kept,
     around: &Surroundings<'_>,
     searches: S,
-    plan: VidPlan,
+    planned: &Planned,
 ) -> Result<(), NoMemory>
     requires known { AreKnown around.now }
-    requires low { 1 ≤ plan.ect }
-    requires high { plan.ect ≤ GREATEST_ECT }
-    requires can { making.CanFollow (S.can searches around.now.roads.now) plan }
-    requires kept { making.AreKept around.now.roads.now around.now.me kept.old }
-    ensures kept { OnOk result (making.AreKept around.now.roads.now around.now.me kept.new) }
-    ensures rows { OnOk result
-        (rows.new.items ≡ rows.old.items ++ groups.group_rows_of_vid around.now.roads.now around.now.me plan) }
+    requires planned { IsPlanned around.now.roads.now planned.now }
+    requires can { S.can searches around.now.roads.now (mask_of planned.now.plan.ect) }
+    ensures { OnOk result (rows.new.items
+        ≡ rows.old.items ++ groups.group_rows_of_vid around.now.roads.now around.now.me planned.now.plan) }
 {
-    let services = Services::new(alloc, around, plan.vid)?;
+    let plan = planned.plan;
     let mut of_vid = BTreeMap::new(alloc);
-    add_sources(alloc, &mut of_vid, kept, around, searches, plan, &services)?;
+    add_sources(
+        alloc,
+        &mut of_vid,
+        around,
+        searches,
+        plan,
+        &planned.services,
+    )?;
     put_rows(rows, plan.vid, &of_vid)
 }
 
@@ -178,18 +151,17 @@ pub fn groups_of<S: Searches>(
     alloc: Global,
     around: &Surroundings<'_>,
     searches: S,
-    plans: &[VidPlan],
+    plans: &[Planned],
 ) -> Result<Vec<GroupRow>, NoMemory>
     requires known { AreKnown around.now }
-    requires ects { AllByRecursion (λ p. (1 ≤ p.ect) × (p.ect ≤ GREATEST_ECT)) plans.now }
-    requires can { AllByRecursion (making.CanFollow (S.can searches around.now.roads.now)) plans.now }
+    requires planned { AllByRecursion (IsPlanned around.now.roads.now) plans.now }
+    requires can { AllByRecursion (λ p. S.can searches around.now.roads.now (mask_of p.plan.ect)) plans.now }
     ensures { IfOk result (λ rows.
-        rows.items ≡ flat_map (groups.group_rows_of_vid around.now.roads.now around.now.me) plans.now) }
+        rows.items ≡ flat_map (λ p. groups.group_rows_of_vid around.now.roads.now around.now.me p.plan) plans.now) }
 {
     let mut rows = Vec::new(alloc);
-    let mut kept = Kept::new(alloc, around.roads.graph().bridges.len())?;
-    for plan in plans {
-        push_groups(alloc, &mut rows, &mut kept, around, searches, *plan)?;
+    for planned in plans {
+        push_groups(alloc, &mut rows, around, searches, planned)?;
     }
     Ok(rows)
 }

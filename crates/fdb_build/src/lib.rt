@@ -1,23 +1,29 @@
 //! The forwarding tables of a bridge in a graph: its unicast rows and its group rows (IEEE 802.1aq, 8.8 and 28.10).
 //!
-//! The bridges are sorted by address once, and the ports of the bridge towards its neighbours are put at their places in
-//! the graph. Each base VID then takes the bridges that follow `me` on the best paths from it, by place, and each row two
-//! looks by place. [`tables_of`] makes the roads of the graph once for all VIDs, and [`tables_over`] takes those that are
-//! there. [`tables_by`] reads what follows off trees that are there already, and makes no search.
+//! A [`Fabric`] is a graph with its base VIDs, made ready once for the tables of all its bridges. The bridges are
+//! sorted by address, and for each base VID the members are gathered: the services of each source, by its place in the
+//! graph, and the places of each service's receivers, in a map. Then the best paths from each bridge that sends are
+//! searched once under the mask of each VID in which it sends; where no two paths to a bridge tie in cost and hops, one
+//! search serves for all masks. [`Fabric::grow_from`] searches the paths from a bridge whose tables are wanted. All
+//! these are kept.
 //!
-//! For the group rows, the members in a base VID are gathered: the services of each source, by its place, and the
-//! places of each service's receivers, in a map. Each bridge that sends in the VID takes one search for the bridges that
-//! follow `me` on the best paths from it, whatever number of services it sends to. Where no two paths to a bridge tie in
-//! cost and hops, what follows is the same under every mask, and is kept for the next base VIDs; so a source without
-//! ties takes one search for all VIDs. A service with m members then takes m looks for each source. Where a graph has no
-//! members nothing is searched but the ways from `me`.
+//! [`Fabric::tables`] makes no search where the paths are kept. The ports of the bridge towards its neighbours are put
+//! at their places. For each VID the unicast rows then take one way back for each bridge of the graph; the group rows
+//! take one way back for each source, each service to which it sends, and each of that service's receivers. A way back
+//! goes from the end of a path towards its source, until it comes to the bridge whose tables these are; it takes no
+//! memory. Where a graph has no members nothing is searched but the paths from that bridge.
+//!
+//! [`tables_of`] makes a fabric for one bridge alone. [`tables_by`] reads the same tables off trees that are there
+//! already, and makes no search.
 #![tactic(auto)]
 
-pub use tables::{tables_by, tables_of, tables_over};
+pub use fabric::Fabric;
+pub use tables::{tables_by, tables_of};
 
+mod fabric;
 mod groups;
-mod kept;
 pub mod laws;
+mod layout;
 mod searches;
 mod services;
 mod sets;

@@ -1,69 +1,73 @@
-//! Who gives the bridges that follow a bridge on best paths.
-ghost use Rattle.std.specs.Prelude.{⊤, IfOk};
-ghost use Rattle.ect_trees.specs.Followers.{AreFollowers};
+//! Who says which bridge directly follows another on a best path.
+ghost use Rattle.std.specs.Prelude.{◌≡◌, IfOk};
+ghost use Rattle.ect_trees.specs.Followers.{IsFollowerAt};
 ghost use Rattle.fdb_build.specs.Searches.{CanRead};
 
-use ect_trees::{Followers, Roads, Trees};
-use spb_types::{NoMemory, SystemId};
+use ect_trees::{Forest, Roads, Trees};
+use spb_types::NoMemory;
 use std::alloc::Global;
 
-/// Who gives, over the roads of a graph, the bridges that follow another on the best paths from a source.
+/// Who says, over the roads of a graph, which bridge directly follows another on the best path from a source.
 pub(crate) trait Searches: Copy {
-    ghost use Rattle.std.specs.Prelude.{ℕ, IfOk};
-    ghost use Rattle.spb_types.specs.declared.address.SystemId.{SystemId};
+    ghost use Rattle.std.specs.Prelude.{ℕ, ◌<◌, length, IfOk};
     ghost use Rattle.spb_types.specs.declared.graph.Graph.{Graph};
-    ghost use Rattle.ect_trees.specs.Followers.{AreFollowers};
+    ghost use Rattle.ect_trees.specs.Followers.{IsFollowerAt};
 
-    /// It has what it needs for this source under this mask in this graph.
-    ghost can: { Self → Graph → SystemId → ℕ → Type 0 };
+    /// It has what it needs for this mask in this graph.
+    ghost can: { Self → Graph → ℕ → Type 0 };
 
-    /// The bridges that directly follow `me` on the best paths from `source` under `mask`.
-    fn followers(
+    /// The place of the bridge that directly follows the one at the place `me` on the best path under a mask from the
+    /// bridge at one place to that at another, or the number of bridges where none does.
+    fn follower(
         self,
         alloc: Global,
         roads: &Roads,
-        source: SystemId,
+        from: usize,
         mask: u8,
-        me: SystemId,
-    ) -> Result<Followers, NoMemory>
-        requires { can self roads.now source mask }
-        ensures { IfOk result (AreFollowers roads.now mask source me) };
+        me: usize,
+        to: usize,
+    ) -> Result<usize, NoMemory>
+        requires can { can self roads.now mask }
+        requires from { from < length roads.now.bridges }
+        requires me { me < length roads.now.bridges }
+        ensures { IfOk result (IsFollowerAt roads.now mask from me to) };
 }
 
-/// Each search is made anew, over the roads.
+/// The best paths that a forest of the same graph keeps.
 #[derive(Clone, Copy)]
-pub(crate) struct Anew;
+pub(crate) struct Grown<'a> {
+    pub forest: &'a Forest,
+}
 
-impl Searches for Anew {
-    ghost can = { λ _ _ _ _. ⊤ };
+impl<'a> Searches for Grown<'a> {
+    ghost can = { λ grown g mask. grown.forest.now ≡ g };
 
-    fn followers(
+    fn follower(
         self,
         alloc: Global,
         roads: &Roads,
-        source: SystemId,
+        from: usize,
         mask: u8,
-        me: SystemId,
-    ) -> Result<Followers, NoMemory> {
-        roads.followers(alloc, source, mask, me)
+        me: usize,
+        to: usize,
+    ) -> Result<usize, NoMemory> {
+        self.forest.follower(alloc, from, mask, me, to)
     }
 }
 
-/// They are read off trees that are there. From what is no bridge there is no tree, and it is searched.
+/// Trees that are there, from each bridge of a graph that is alike.
 impl<T: Trees> Searches for &T {
-    ghost can = { λ trees g source mask. CanRead (T.graph trees.now) (T.has trees.now) g source mask };
+    ghost can = { λ trees g mask. CanRead (T.graph trees.now) (T.has trees.now) g mask };
 
-    fn followers(
+    fn follower(
         self,
         alloc: Global,
         roads: &Roads,
-        source: SystemId,
+        from: usize,
         mask: u8,
-        me: SystemId,
-    ) -> Result<Followers, NoMemory> {
-        match roads.place_of(source) {
-            None => roads.followers(alloc, source, mask, me),
-            Some(_) => roads.followers_by(alloc, self, source, mask, me),
-        }
+        me: usize,
+        to: usize,
+    ) -> Result<usize, NoMemory> {
+        Ok(roads.follower_by(self, from, mask, me, to))
     }
 }

@@ -1,14 +1,12 @@
 //! The members of the services in a base VID, gathered once for all its trees.
-ghost use Rattle.std.specs.Prelude.{◌≡◌, ◌<◌, ◌++◌, ◌∷◌, [], ℕ, length, replicate, OnOk, IfOk, if◌then◌else◌};
+ghost use Rattle.std.specs.Prelude.{◌≡◌, ◌<◌, ◌++◌, ◌∷◌, [], length, replicate, OnOk, IfOk, if◌then◌else◌};
 ghost use Rattle.std.specs.List.{slice_index_or, slice_set};
 ghost use Rattle.std.specs.Ordering.{is_eq};
-ghost use Rattle.spb_types.specs.Ports.{has};
+ghost use Rattle.spb_types.specs.Graph.{IsValid};
 ghost use Rattle.fdb_build.specs.Making as making;
-ghost use Rattle.fdb_build.specs.Surroundings.{AreKnown};
 
-use crate::sets::towards;
-use crate::surroundings::Surroundings;
-use spb_types::{Isid, Member, NoMemory, PortSet, Vid};
+use ect_trees::Roads;
+use spb_types::{Isid, Member, NoMemory, Vid};
 use std::alloc::Global;
 use std::collections::BTreeMap;
 
@@ -73,18 +71,18 @@ impl Services {
     fn add(
         &mut self,
         alloc: Global,
-        around: &Surroundings<'_>,
+        roads: &Roads,
         vid: Vid,
         member: Member,
     ) -> Result<(), NoMemory>
-        requires known { AreKnown around.now }
-        requires places { length self.old.sends.items ≡ length around.now.roads.now.bridges }
-        ensures { OnOk result (making.Added around.now.roads.now vid member self.old self.new) }
+        requires valid { IsValid roads.now }
+        requires places { length self.old.sends.items ≡ length roads.now.bridges }
+        ensures { OnOk result (making.Added roads.now vid member self.old self.new) }
     {
         if member.vid != vid {
             return Ok(());
         }
-        let Some(place) = around.roads.place_of(member.system) else {
+        let Some(place) = roads.place_of(member.system) else {
             return Ok(());
         };
         put_at(&mut self.sends, place, member.isid)?;
@@ -92,16 +90,16 @@ impl Services {
     }
 
     /// The services of the graph's members in this VID.
-    pub fn new(alloc: Global, around: &Surroundings<'_>, vid: Vid) -> Result<Self, NoMemory>
-        requires { AreKnown around.now }
-        ensures { IfOk result (making.AreServicesOf around.now.roads.now around.now.roads.now.members vid) }
+    pub fn new(alloc: Global, roads: &Roads, vid: Vid) -> Result<Self, NoMemory>
+        requires { IsValid roads.now }
+        ensures { IfOk result (making.AreServicesOf roads.now roads.now.members vid) }
     {
         let mut services = Services {
-            sends: empty_lists(alloc, around.roads.graph().bridges.len())?,
+            sends: empty_lists(alloc, roads.graph().bridges.len())?,
             receivers: BTreeMap::new(alloc),
         };
-        for member in around.roads.graph().members.as_slice() {
-            services.add(alloc, around, vid, *member)?;
+        for member in roads.graph().members.as_slice() {
+            services.add(alloc, roads, vid, *member)?;
         }
         Ok(services)
     }
@@ -117,14 +115,13 @@ impl Services {
         }
     }
 
-    /// The ports in the sets of the places of the bridges that receive from a service.
-    pub fn ports_to(&self, isid: Isid, sets: &[PortSet]) -> PortSet
-        ensures { (p : ℕ) → has result p
-            ≡ making.is_towards sets.now (making.list_at making.isid_cmp self.now.receivers isid) p }
+    /// The places of the bridges that receive from a service.
+    pub fn receivers_of(&self, isid: Isid) -> &[usize]
+        ensures { result.now ≡ making.list_at making.isid_cmp self.now.receivers isid }
     {
         match self.receivers.get(&isid) {
-            None => PortSet::none(),
-            Some(places) => towards(sets, places.as_slice()),
+            None => &[],
+            Some(places) => places.as_slice(),
         }
     }
 }

@@ -5,8 +5,6 @@ use Rattle.fdb_build.proofs.groups.add_sources.Goals as goal
 pub loop-place-preserved : goal.loop-place-preserved
 loop-place-preserved g c =
     let around = c.args.around.now in
-    let g = around.roads.now in
-    let low : c.loop-place.place < length g.bridges = omega (arith, c.loop-place-test.true, c.len-place-end.ensures, ap (λ h. length h.bridges) c.graph.ensures) in (
-      c.in_ok-add_source.ensures.kept,
-      source_more g around.me c.args.plan c.args.services.now g.bridges c.args.rows.now c.loop-place.rows c.add_source.new.rows c.loop-place.place _ low c.in_ok-add_source.ensures.rows c.loop-place.invariant.1,
-    )
+    let roads = around.roads.now in
+    let low : c.loop-place.place < length roads.bridges = omega (arith, c.loop-place-test.true, c.len-place-end.ensures, ap (λ h. length h.bridges) c.graph.ensures) in
+    source_more roads around.me c.args.plan c.args.services.now roads.bridges c.args.rows.now c.loop-place.rows c.add_source.new.rows c.loop-place.place _ low c.in_ok-add_source.ensures c.loop-place.invariant

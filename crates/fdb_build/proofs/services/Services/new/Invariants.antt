@@ -3,4 +3,4 @@ use Rattle.fdb_build.specs.Making.{AreServicesOf}
 use Rattle.fdb_build.proofs.services.Services.new.Given as goal
 
 abbrev pub invariant-loop-member : goal.invariant-loop-member
-invariant-loop-member l = AreServicesOf l.around.roads.now (take l.member-index l.member-items) l.vid l.services
+invariant-loop-member l = AreServicesOf l.roads (take l.member-index l.member-items) l.vid l.services

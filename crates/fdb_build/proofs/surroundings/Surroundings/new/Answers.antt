@@ -1,6 +1,6 @@
-use Rattle.std.proofs.Common.{refl, ap, subst, ◌∙◌}
+use Rattle.std.proofs.Common.{refl, ap, ◌∙◌}
 use Rattle.std.specs.List.{filter_map}
-use Rattle.fdb_build.specs.Surroundings.{neighbour_by, ports_by, AreAscending}
+use Rattle.fdb_build.specs.Surroundings.{neighbour_by, ports_by}
 use Rattle.fdb_build.proofs.RowLemmas.{ports_known}
 use Rattle.fdb_build.proofs.surroundings.Surroundings.new.Goals as goal
 
@@ -11,11 +11,11 @@ returns c =
     let neighbours = c.in_ok-neighbours.ensures ∙ ap (λ h. filter_map (neighbour_by me) h.edges) c.graph.ensures in
     record {
       known = record {
-        valid = c.requires;
+        valid = c.requires.valid;
+        here = c.requires.here;
         ports =
             c.in_ok-ports.ensures ∙ ((λ i. ports_by (c.as_slice.ensures.value i) (c.graph-2.ensures i).bridges) ∙
-            ports_known g me c.in_ok-neighbours.neighbours.items c.requires.valid neighbours);
-        bridges = subst (λ h. AreAscending h c.in_ok-bridges.bridges.items) c.graph-3.ensures c.in_ok-bridges.ensures;
+            ports_known g me c.in_ok-neighbours.neighbours.items c.requires.valid.valid neighbours);
       };
       graph_is = refl;
       me_is = refl;
