@@ -27,7 +27,7 @@ use Rattle.forwarding.specs.declared.tenant.Tenant.{Tenant}
 use Rattle.forwarding.specs.Tenant.{Carried, nothing, dropped_by, step_of, relayed_at, each_with, is_delivered, is_taken, after_delivery, left_of, after_customer, entered_by, entered_going, going_of, to_of, sent_towards}
 use Rattle.bridge_api.specs.declared.port.BridgePort.{BridgePort}
 use Rattle.bridge_api.specs.declared.drops.Drops.{Drops}
-use Rattle.bridge_api.specs.Drops.{counted, counted_for}
+use Rattle.bridge_api.specs.Drops.{raised_at, raised_for}
 use Rattle.bridge_api.specs.View.{BridgeView, port_in, port_at, with_port_at, with_drops, is_port_up, up_ports}
 use Rattle.bridge_api.specs.Own.{body_of, own_entry, holding_of, with_holding, body_in, is_said, originating, originated_if_changed}
 use Rattle.bridge_api.specs.Parsing.{Parsed, parsed}
@@ -81,7 +81,7 @@ stands_by false drops v is said = stands_still (with_drops drops v) (said is ∙
 full_drops : (l : LspValue) (p : ℕ) (v : BridgeView) → IsSoundView v → is_full_for_lsp (up_ports v) p l (holding_of v) ≡ true → originated_if_changed (heard_lsp l p v) ≡ after_drop drop.Full v
 full_drops l p v was full =
     let heard : heard_lsp l p v ≡ after_drop drop.Full v = λ i. with_full (if full i then 1 else 0) (with_holding (full_stays l p v full i) v) in
-    ap originated_if_changed heard ∙ stands_by v.spent (counted drop.Full 1 v.drops) v refl was.own.said
+    ap originated_if_changed heard ∙ stands_by v.spent (raised_at drop.Full 1 v.drops) v refl was.own.said
 
 lsp_drops : (up full : Bool) (l : LspValue) (p : ℕ) (v : BridgeView) (reason : DropReason) → IsSoundView v → is_full_for_lsp (up_ports v) p l (holding_of v) ≡ full
     → (if up then (if full then Some drop.Full else None) else Some drop.NotAdjacent) ≡ Some reason
@@ -106,7 +106,7 @@ psnp_drops false es p v reason why = counts_as drop.NotAdjacent reason v _ refl 
 abbrev forwarded_so : Step → Carried → BridgeView → BridgeView
 forwarded_so s f v = record v {
   learned = (after_delivery (is_taken (is_delivered s) (tenant_of v) f) (tenant_of v) f).learned;
-  drops = counted_for (dropped_by s) v.drops;
+  drops = raised_for (dropped_by s) v.drops;
 }
 
 abbrev moved_so : Step → ℕ → List ℕ → Carried → BridgeView → Moved
@@ -165,7 +165,7 @@ lsp_counts : (up full : Bool) (l : LspValue) (p : ℕ) (v : BridgeView) → is_f
     → (if up then (if full then Some drop.Full else None) else Some drop.NotAdjacent) ≡ None
     → (if up then originated_if_changed (heard_lsp l p v) else after_drop drop.NotAdjacent v).drops ≡ v.drops
 lsp_counts true true l p v full why = absurd cc
-lsp_counts true false l p v full why = originated_counts (heard_lsp l p v) ∙ ap (λ (b : Bool). counted drop.Full (if b then 1 else 0) v.drops) full
+lsp_counts true false l p v full why = originated_counts (heard_lsp l p v) ∙ ap (λ (b : Bool). raised_at drop.Full (if b then 1 else 0) v.drops) full
 lsp_counts false full l p v is why = absurd cc
 
 -- how many of the entries that were read find no place
@@ -173,13 +173,13 @@ abbrev full_in : Result (List SnpEntry) TlvError → ℕ → BridgeView → ℕ
 full_in es p v = full_count (up_ports v) p (claims_or_none es) (holding_of v)
 
 csnp_counts : (up : Bool) (es : Result (List SnpEntry) TlvError) (c : CsnpValue) (p : ℕ) (v : BridgeView) → (if up then reason_if_unread es else Some drop.NotAdjacent) ≡ None
-    → (if up then with_csnp c es p v else after_drop drop.NotAdjacent v).drops ≡ counted drop.Full (full_in es p v) v.drops
+    → (if up then with_csnp c es p v else after_drop drop.NotAdjacent v).drops ≡ raised_at drop.Full (full_in es p v) v.drops
 csnp_counts true (Err e) c p v why = absurd cc
 csnp_counts true (Ok es) c p v why = originated_counts (heard_csnp c es p v)
 csnp_counts false es c p v why = absurd cc
 
 psnp_counts : (up : Bool) (es : Result (List SnpEntry) TlvError) (p : ℕ) (v : BridgeView) → (if up then reason_if_unread es else Some drop.NotAdjacent) ≡ None
-    → (if up then with_psnp es p v else after_drop drop.NotAdjacent v).drops ≡ counted drop.Full (full_in es p v) v.drops
+    → (if up then with_psnp es p v else after_drop drop.NotAdjacent v).drops ≡ raised_at drop.Full (full_in es p v) v.drops
 psnp_counts true (Err e) p v why = absurd cc
 psnp_counts true (Ok es) p v why = originated_counts (heard_psnp es p v)
 psnp_counts false es p v why = absurd cc
@@ -187,7 +187,7 @@ psnp_counts false es p v why = absurd cc
 not_dropped : (heard : AdjacencyChange) → reason_if_discarded heard ≡ None → heard ≡ did.Discarded → ⊥
 not_dropped heard why is = let wrong : Some drop.Hello ≡ None = sym (ap reason_if_discarded is) ∙ why in absurd cc
 
-counts_entries : (j : Parsed) (p : ℕ) (port : BridgePort) (v : BridgeView) → reason_as j p port v ≡ None → (heard_as j p port v).drops ≡ counted drop.Full (full_count (up_ports v) p (entries_said j) (holding_of v)) v.drops
+counts_entries : (j : Parsed) (p : ℕ) (port : BridgePort) (v : BridgeView) → reason_as j p port v ≡ None → (heard_as j p port v).drops ≡ raised_at drop.Full (full_count (up_ports v) p (entries_said j) (holding_of v)) v.drops
 counts_entries (parsing.dropped r) p port v why = absurd cc
 counts_entries (parsing.hello h way) p port v why =
     let heard : AdjacencyChange = change_by_hello v.id.system p h way port.adjacency in
@@ -195,11 +195,11 @@ counts_entries (parsing.hello h way) p port v why =
 counts_entries (parsing.lsp l) p port v why = lsp_counts (is_port_up port) (is_full_for_lsp (up_ports v) p l (holding_of v)) l p v refl why
 counts_entries (parsing.csnp c) p port v why = csnp_counts (is_port_up port) (entries_in c.tlvs) c p v why
 counts_entries (parsing.psnp s) p port v why = psnp_counts (is_port_up port) (entries_in s.tlvs) p v why
-counts_entries (parsing.customer da sa vid isid f) p port v why = ap (λ (o : Option DropReason). counted_for o v.drops) why
+counts_entries (parsing.customer da sa vid isid f) p port v why = ap (λ (o : Option DropReason). raised_for o v.drops) why
 
 counts_by_carrier : (has_carrier : Bool) (p : ℕ) (bytes : List ℕ) (port : BridgePort) (v : BridgeView)
     → (if has_carrier then reason_as (parsed bytes) p port v else Some drop.NotAdjacent) ≡ None
-    → (if has_carrier then heard_as (parsed bytes) p port v else after_drop drop.NotAdjacent v).drops ≡ counted drop.Full (full_count (up_ports v) p (entries_said (parsed bytes)) (holding_of v)) v.drops
+    → (if has_carrier then heard_as (parsed bytes) p port v else after_drop drop.NotAdjacent v).drops ≡ raised_at drop.Full (full_count (up_ports v) p (entries_said (parsed bytes)) (holding_of v)) v.drops
 counts_by_carrier true p bytes port v why = counts_entries (parsed bytes) p port v why
 counts_by_carrier false p bytes port v why = absurd cc
 
@@ -228,9 +228,9 @@ no_way : (p : ℕ) (bytes : List ℕ) (v : BridgeView) (reason : DropReason) →
 unfolding moved_by_entry
 no_way p bytes v reason why = no_way_entering (after_customer (tenant_of v) p bytes) (own_tables v) bytes _ reason why
 
-entry_counts : (p : ℕ) (bytes : List ℕ) (v : BridgeView) (o : Option DropReason) → (moved_by_entry p bytes v).dropped ≡ o → after_entry p bytes v ≡ with_drops (counted_for o v.drops) (with_learned (after_entry p bytes v).learned v)
+entry_counts : (p : ℕ) (bytes : List ℕ) (v : BridgeView) (o : Option DropReason) → (moved_by_entry p bytes v).dropped ≡ o → after_entry p bytes v ≡ with_drops (raised_for o v.drops) (with_learned (after_entry p bytes v).learned v)
 unfolding after_entry
-entry_counts p bytes v o is = ap (λ (x : Option DropReason). with_drops (counted_for x v.drops) (with_learned (after_customer (tenant_of v) p bytes).learned v)) is
+entry_counts p bytes v o is = ap (λ (x : Option DropReason). with_drops (raised_for x v.drops) (with_learned (after_customer (tenant_of v) p bytes).learned v)) is
 
 pub entries_without_way_count_once : EntriesWithoutWayCountOnce
 entries_without_way_count_once p bytes reason v why = (no_way p bytes v reason why, entry_counts p bytes v (Some reason) why)

@@ -36,7 +36,7 @@ use Rattle.bridge_api.specs.declared.port.BridgePort.{BridgePort}
 use Rattle.bridge_api.specs.declared.config.BridgeConfig.{BridgeConfig}
 use Rattle.bridge_api.specs.declared.drops.Drops.{Drops}
 use Rattle.forwarding.specs.declared.drop_reason.DropReason.TheVariants as drop
-use Rattle.bridge_api.specs.Drops.{counted}
+use Rattle.bridge_api.specs.Drops.{raised_at}
 use Rattle.bridge_api.specs.View.{BridgeView, with_port_at, is_port_up, up_ports, with_drops}
 use Rattle.bridge_api.specs.Own.{neighbour_in, neighbours_from, member_of, body_of, own_of, holding_of, with_holding, own_entry, body_in, is_said, Lasts, IsAlive, originating, originated_if_changed}
 use Rattle.bridge_api.specs.Config.{bare, configured}
@@ -186,7 +186,7 @@ unfolding body_of
 counted_saying drops v was = record { said = was.said; alive = was.alive }
 
 changed_saying : (heard : AdjacencyChange) (p : ℕ) (port : BridgePort) (v : BridgeView) → IsSaying v → IsSaying (changed_at heard p port v)
-changed_saying Discarded p port v was = counted_saying (counted drop.Hello 1 v.drops) v was
+changed_saying Discarded p port v was = counted_saying (raised_at drop.Hello 1 v.drops) v was
 changed_saying Kept p port v was = originated_if_changed_saying (with_port_at p port v) was.alive
 changed_saying LeftUp p port v was = originated_if_changed_saying (left_up p port v) (left_lives p port v was.alive)
 changed_saying CameUp p port v was =

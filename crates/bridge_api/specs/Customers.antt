@@ -13,7 +13,7 @@ use Rattle.forwarding.specs.Tenant.{Carried, nothing, after_customer, of_custome
 use Rattle.forwarding.specs.declared.drop_reason.DropReason.{DropReason}
 use Rattle.bridge_api.specs.declared.port.BridgePort.{BridgePort}
 use Rattle.bridge_api.specs.View.{BridgeView, port_at}
-use Rattle.bridge_api.specs.Drops.{counted_for}
+use Rattle.bridge_api.specs.Drops.{raised_for}
 use Rattle.bridge_api.specs.Tables.{own_tables}
 use Rattle.bridge_api.specs.Parsing.{Parsed, parsed}
 use Rattle.bridge_api.specs.Parsing as parsing
@@ -49,7 +49,7 @@ moved_by_entry port frame v = of_customer (tenant_of v) (own_tables v) port fram
 unfoldable pub after_entry : ℕ → List ℕ → BridgeView → BridgeView
 after_entry port frame v = record v {
   learned = (after_customer (tenant_of v) port frame).learned;
-  drops = counted_for (moved_by_entry port frame v).dropped v.drops;
+  drops = raised_for (moved_by_entry port frame v).dropped v.drops;
 }
 
 -- ---- a backbone frame that comes in at a backbone port
@@ -66,7 +66,7 @@ reason_for_carried da sa vid isid customer p v =
 abbrev pub forwarded : Mac → Mac → Vid → Isid → List ℕ → ℕ → BridgeView → BridgeView
 forwarded da sa vid isid customer p v = record v {
   learned = (after_backbone (tenant_of v) (own_tables v) p (carried_by da sa vid isid customer)).learned;
-  drops = counted_for (reason_for_carried da sa vid isid customer p v) v.drops;
+  drops = raised_for (reason_for_carried da sa vid isid customer p v) v.drops;
 }
 
 -- and what it sends, and what leaves. No other frame makes it send anything at once

@@ -12,7 +12,7 @@ use Rattle.adjacency.specs.Adjacency.{change_by_hello}
 use Rattle.forwarding.specs.declared.drop_reason.DropReason.{DropReason}
 use Rattle.forwarding.specs.declared.drop_reason.DropReason.TheVariants as drop
 use Rattle.bridge_api.specs.declared.port.BridgePort.{BridgePort}
-use Rattle.bridge_api.specs.Drops.{counted}
+use Rattle.bridge_api.specs.Drops.{raised_at}
 use Rattle.bridge_api.specs.View.{BridgeView, port_at, is_port_up, up_ports}
 use Rattle.bridge_api.specs.Own.{holding_of}
 use Rattle.bridge_api.specs.Parsing.{Parsed, parsed}
@@ -85,7 +85,7 @@ abbrev pub HeardFramesCountEntries : Type 0
 HeardFramesCountEntries = (p : ℕ) (bytes : List ℕ) (port : BridgePort) (v : BridgeView) → port_at v p ≡ Some port
     → reason_for p bytes v ≡ None
     → (after_receive p bytes v).drops
-    ≡ counted drop.Full (full_count (up_ports v) p (entries_said (parsed bytes)) (holding_of v)) v.drops
+    ≡ raised_at drop.Full (full_count (up_ports v) p (entries_said (parsed bytes)) (holding_of v)) v.drops
 
 -- a customer's frame is dropped for no other reason than that no port leads on, which is counted once; what its source
 -- taught the bridge stays

@@ -40,21 +40,21 @@ count_of Mismatch d = d.mismatch
 count_of Full d = d.full
 
 -- that count went up so many times, and no other did
-abbrev pub counted : DropReason → ℕ → Drops → Drops
-counted Frame n d = record d { frame = raised n d.frame }
-counted Pdu n d = record d { pdu = raised n d.pdu }
-counted Tlv n d = record d { tlv = raised n d.tlv }
-counted NotAdjacent n d = record d { not_adjacent = raised n d.not_adjacent }
-counted Hello n d = record d { hello = raised n d.hello }
-counted Ingress n d = record d { ingress = raised n d.ingress }
-counted NoWay n d = record d { no_way = raised n d.no_way }
-counted Mismatch n d = record d { mismatch = raised n d.mismatch }
-counted Full n d = record d { full = raised n d.full }
+abbrev pub raised_at : DropReason → ℕ → Drops → Drops
+raised_at Frame n d = record d { frame = raised n d.frame }
+raised_at Pdu n d = record d { pdu = raised n d.pdu }
+raised_at Tlv n d = record d { tlv = raised n d.tlv }
+raised_at NotAdjacent n d = record d { not_adjacent = raised n d.not_adjacent }
+raised_at Hello n d = record d { hello = raised n d.hello }
+raised_at Ingress n d = record d { ingress = raised n d.ingress }
+raised_at NoWay n d = record d { no_way = raised n d.no_way }
+raised_at Mismatch n d = record d { mismatch = raised n d.mismatch }
+raised_at Full n d = record d { full = raised n d.full }
 
 -- what is dropped for a reason is counted once
-abbrev pub counted_for : Option DropReason → Drops → Drops
-counted_for None d = d
-counted_for (Some reason) d = counted reason 1 d
+abbrev pub raised_for : Option DropReason → Drops → Drops
+raised_for None d = d
+raised_for (Some reason) d = raised_at reason 1 d
 
 -- the nine counts, in order
 abbrev pub counts_in : Drops → List ℕ

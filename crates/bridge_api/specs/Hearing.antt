@@ -19,17 +19,17 @@ use Rattle.bridge_api.specs.Own.{holding_of, with_holding, originated_if_changed
 use Rattle.bridge_api.specs.Parsing.{Parsed, parsed}
 use Rattle.bridge_api.specs.Parsing as parsing
 use Rattle.bridge_api.specs.Customers.{forwarded}
-use Rattle.bridge_api.specs.Drops.{counted}
+use Rattle.bridge_api.specs.Drops.{raised_at}
 use Rattle.forwarding.specs.declared.drop_reason.DropReason.{DropReason}
 use Rattle.forwarding.specs.declared.drop_reason.DropReason.TheVariants as drop
 
 -- a frame that is dropped is counted, and changes nothing else
 abbrev pub after_drop : DropReason → BridgeView → BridgeView
-after_drop reason v = with_drops (counted reason 1 v.drops) v
+after_drop reason v = with_drops (raised_at reason 1 v.drops) v
 
 -- what finds no place in the database is counted, each entry of a sequence numbers PDU for itself
 abbrev pub with_full : ℕ → BridgeView → BridgeView
-with_full n v = with_drops (counted drop.Full n v.drops) v
+with_full n v = with_drops (raised_at drop.Full n v.drops) v
 
 -- a port with another adjacency, with CSNPs due or not, and with another metric
 abbrev pub with_adjacency : Adjacency → BridgePort → BridgePort

@@ -56,14 +56,14 @@ impl Drops {
 
     /// Counts one more frame that was dropped for a reason.
     pub fn raise(&mut self, reason: DropReason)
-        ensures { self.new ≡ spec.counted reason 1 self.old }
+        ensures { self.new ≡ spec.raised_at reason 1 self.old }
     {
         self.raise_times(reason, 1);
     }
 
     /// Counts a frame that was dropped for a reason, if it was.
     pub fn raise_for(&mut self, dropped: Option<DropReason>)
-        ensures { self.new ≡ spec.counted_for dropped self.old }
+        ensures { self.new ≡ spec.raised_for dropped self.old }
     {
         if let Some(reason) = dropped {
             self.raise(reason);
@@ -72,7 +72,7 @@ impl Drops {
 
     /// Counts this many more frames that were dropped for a reason.
     pub fn raise_times(&mut self, reason: DropReason, times: u64)
-        ensures { self.new ≡ spec.counted reason times self.old }
+        ensures { self.new ≡ spec.raised_at reason times self.old }
     {
         match reason {
             DropReason::Frame => self.frame = raised(self.frame, times),
