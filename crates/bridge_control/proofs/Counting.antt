@@ -2,7 +2,7 @@
 use Rattle.std.proofs.Common.{◌≡◌, refl, ap, ◌∙◌}
 use Rattle.forwarding.specs.declared.drop_reason.DropReason.{DropReason}
 use Rattle.bridge_api.specs.declared.drops.Drops.{Drops}
-use Rattle.bridge_api.specs.Drops.{counted}
+use Rattle.bridge_api.specs.Drops.{raised_at}
 use Rattle.bridge_api.specs.View.{BridgeView, with_drops}
 use Rattle.bridge_api.specs.Own.{own_of, body_of}
 use Rattle.bridge_api.specs.Hearing.{after_drop}
@@ -21,7 +21,7 @@ counted_current m drops current = record {
   ports = record { hellos = current.ports.hellos; up = current.ports.up; me = current.ports.me };
 }
 
-pub dropped_after : (m : Machine) (reason : DropReason) (drops : Drops) → IsCurrent m → drops ≡ counted reason 1 m.drops → IsAfter (after_drop reason (view_of m)) (record m { drops = drops })
+pub dropped_after : (m : Machine) (reason : DropReason) (drops : Drops) → IsCurrent m → drops ≡ raised_at reason 1 m.drops → IsAfter (after_drop reason (view_of m)) (record m { drops = drops })
 dropped_after m reason drops current is = record { view = ap (λ (d : Drops). with_drops d (view_of m)) is; current = counted_current m drops current }
 
 -- the tables stay

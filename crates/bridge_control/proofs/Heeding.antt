@@ -23,7 +23,7 @@ use Rattle.snp_sync.specs.Hearing.{claims_in, full_count, hear_entries_of, ids_o
 use Rattle.snp_sync.proofs.Stays.{entries_leave_own}
 use Rattle.bridge_api.specs.declared.port.BridgePort.{BridgePort}
 use Rattle.bridge_api.specs.declared.drops.Drops.{Drops}
-use Rattle.bridge_api.specs.Drops.{counted}
+use Rattle.bridge_api.specs.Drops.{raised_at}
 use Rattle.bridge_api.specs.View.{BridgeView, IsPort, port_at, with_drops, is_port_up, up_from, up_ports}
 use Rattle.bridge_api.specs.Own.{holding_of, with_holding, originated_if_changed}
 use Rattle.bridge_api.specs.Parsing.{Parsed, parsed}
@@ -135,20 +135,20 @@ hears_lsp l p v port there up = hears_is (parsing.lsp l) p v port there ∙ when
 
 -- the machine that heard an LSP at an Up port
 pub heard_lsp_path : (m : Machine) (up : PortSet) (p : ℕ) (l : LspValue) (db : Lsps) (own : Own) (drops : Drops) (port : BridgePort) → IsReady m → up ≡ up_from 1 m.ports.items → holding db own ≡ hear_lsp_of up p l (holding m.db m.own)
-    → drops ≡ counted drop.Full (if is_full_for_lsp up p l (holding m.db m.own) then 1 else 0) m.drops → port_at (view_of m) p ≡ Some port → is_port_up port ≡ true → originated_if_changed (view_of (record m { db = db; own = own; drops = drops })) ≡ hears (parsing.lsp l) p (view_of m)
+    → drops ≡ raised_at drop.Full (if is_full_for_lsp up p l (holding m.db m.own) then 1 else 0) m.drops → port_at (view_of m) p ≡ Some port → is_port_up port ≡ true → originated_if_changed (view_of (record m { db = db; own = own; drops = drops })) ≡ hears (parsing.lsp l) p (view_of m)
 heard_lsp_path m up p l db own drops port ready is_up is counts there has_carrier =
     let v : BridgeView = view_of m in
     let whole : holding db own ≡ hear_lsp_of (up_ports v) p l (holding_of v) = is ∙ (λ i. hear_lsp_of (is_up i) p l (holding m.db (ready.current.own i))) in
-    let full : drops ≡ (heard_lsp l p v).drops = counts ∙ (λ i. counted drop.Full (if is_full_for_lsp (is_up i) p l (holding m.db (ready.current.own i)) then 1 else 0) m.drops) in
+    let full : drops ≡ (heard_lsp l p v).drops = counts ∙ (λ i. raised_at drop.Full (if is_full_for_lsp (is_up i) p l (holding m.db (ready.current.own i)) then 1 else 0) m.drops) in
     (λ i. originated_if_changed (with_drops (full i) (with_holding (whole i) v))) ∙ sym (hears_lsp l p v port there has_carrier)
 
 -- or the entries of a sequence numbers PDU
-full_path : (m : Machine) (up : PortSet) (p : ℕ) (claims : List Claim) (drops : Drops) → IsReady m → up ≡ up_from 1 m.ports.items → drops ≡ counted drop.Full (full_count up p claims (holding m.db m.own)) m.drops
-    → drops ≡ counted drop.Full (full_count (up_ports (view_of m)) p claims (holding_of (view_of m))) m.drops
-full_path m up p claims drops ready is_up counts = counts ∙ (λ i. counted drop.Full (full_count (is_up i) p claims (holding m.db (ready.current.own i))) m.drops)
+full_path : (m : Machine) (up : PortSet) (p : ℕ) (claims : List Claim) (drops : Drops) → IsReady m → up ≡ up_from 1 m.ports.items → drops ≡ raised_at drop.Full (full_count up p claims (holding m.db m.own)) m.drops
+    → drops ≡ raised_at drop.Full (full_count (up_ports (view_of m)) p claims (holding_of (view_of m))) m.drops
+full_path m up p claims drops ready is_up counts = counts ∙ (λ i. raised_at drop.Full (full_count (is_up i) p claims (holding m.db (ready.current.own i))) m.drops)
 
 pub heard_psnp_path : (m : Machine) (up : PortSet) (p : ℕ) (entries : List SnpEntry) (db : Lsps) (own : Own) (drops : Drops) → IsReady m → up ≡ up_from 1 m.ports.items → holding db own ≡ hear_entries_of up p (claims_in entries) (holding m.db m.own)
-    → drops ≡ counted drop.Full (full_count up p (claims_in entries) (holding m.db m.own)) m.drops → originated_if_changed (view_of (record m { db = db; own = own; drops = drops })) ≡ originated_if_changed (heard_psnp entries p (view_of m))
+    → drops ≡ raised_at drop.Full (full_count up p (claims_in entries) (holding m.db m.own)) m.drops → originated_if_changed (view_of (record m { db = db; own = own; drops = drops })) ≡ originated_if_changed (heard_psnp entries p (view_of m))
 heard_psnp_path m up p entries db own drops ready is_up is counts =
     let v : BridgeView = view_of m in
     let whole : holding db own ≡ hear_entries_of (up_ports v) p (claims_in entries) (holding_of v) = is ∙ (λ i. hear_entries_of (is_up i) p (claims_in entries) (holding m.db (ready.current.own i))) in
@@ -156,7 +156,7 @@ heard_psnp_path m up p entries db own drops ready is_up is counts =
     λ i. originated_if_changed (with_drops (full i) (with_holding (whole i) v))
 
 pub heard_csnp_path : (m : Machine) (up : PortSet) (p : ℕ) (c : CsnpValue) (entries : List SnpEntry) (db : Lsps) (own : Own) (drops : Drops) → IsReady m → up ≡ up_from 1 m.ports.items → holding db own ≡ hear_csnp_of up p c.start c.end (claims_in entries) (holding m.db m.own)
-    → drops ≡ counted drop.Full (full_count up p (claims_in entries) (holding m.db m.own)) m.drops → originated_if_changed (view_of (record m { db = db; own = own; drops = drops })) ≡ originated_if_changed (heard_csnp c entries p (view_of m))
+    → drops ≡ raised_at drop.Full (full_count up p (claims_in entries) (holding m.db m.own)) m.drops → originated_if_changed (view_of (record m { db = db; own = own; drops = drops })) ≡ originated_if_changed (heard_csnp c entries p (view_of m))
 heard_csnp_path m up p c entries db own drops ready is_up is counts =
     let v : BridgeView = view_of m in
     let whole : holding db own ≡ hear_csnp_of (up_ports v) p c.start c.end (claims_in entries) (holding_of v) = is ∙ (λ i. hear_csnp_of (is_up i) p c.start c.end (claims_in entries) (holding m.db (ready.current.own i))) in

@@ -22,3 +22,4 @@ pub mod Telling
 pub mod Moving
 pub mod Copies
 pub mod HeldAgain
+pub mod Compared

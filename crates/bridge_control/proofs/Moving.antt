@@ -12,7 +12,7 @@ use Rattle.itag_frames.specs.declared.frame.Backbone.{Backbone}
 use Rattle.bridge_api.specs.declared.outbox.Outbox.{Outbox}
 use Rattle.bridge_api.specs.declared.port.BridgePort.{BridgePort}
 use Rattle.bridge_api.specs.declared.drops.Drops.{Drops}
-use Rattle.bridge_api.specs.Drops.{counted_for}
+use Rattle.bridge_api.specs.Drops.{raised_for}
 use Rattle.bridge_api.specs.View.{BridgeView, port_at, with_drops, has_carrier_in, has_carrier_at}
 use Rattle.bridge_api.specs.Own.{own_of, body_of}
 use Rattle.bridge_api.specs.Customers.{tenant_of, with_learned, after_entry, moved_by_entry, moved_as, moved_at, moved_by_receive}
@@ -57,12 +57,12 @@ own_still v w (Some tables) same own = own ∙ sym same
 
 -- ---- a customer's frame enters
 
-pub entered_after : (m : Machine) (tenant : Tenant) (drops : Drops) (moved : Moved) (port : ℕ) (frame : List ℕ) → IsCurrent m → tenant ≡ after_customer m.tenant port frame → moved ≡ moved_by_entry port frame (view_of m) → drops ≡ counted_for moved.dropped m.drops
+pub entered_after : (m : Machine) (tenant : Tenant) (drops : Drops) (moved : Moved) (port : ℕ) (frame : List ℕ) → IsCurrent m → tenant ≡ after_customer m.tenant port frame → moved ≡ moved_by_entry port frame (view_of m) → drops ≡ raised_for moved.dropped m.drops
     → IsAfter (after_entry port frame (view_of m)) (record m { tenant = tenant; drops = drops })
 unfolding after_entry
 entered_after m tenant drops moved port frame current is moves counts =
     subst (λ (t : Tenant). IsAfter (after_entry port frame (view_of m)) (record m { tenant = t; drops = drops })) (sym is) (record {
-      view = λ i. with_drops ((counts ∙ ap (λ (x : Moved). counted_for x.dropped m.drops) moves) i) (with_learned (after_customer (tenant_is m current.ports.me i) port frame).learned (view_of m));
+      view = λ i. with_drops ((counts ∙ ap (λ (x : Moved). raised_for x.dropped m.drops) moves) i) (with_learned (after_customer (tenant_is m current.ports.me i) port frame).learned (view_of m));
       current = learned_current m (after_customer m.tenant port frame).learned drops current;
     })
 
@@ -74,11 +74,11 @@ entered_moved m tables moved port frame current own is = is ∙ (λ i. of_custom
 -- ---- a backbone frame comes in
 
 pub relayed_after : (m : Machine) (tenant : Tenant) (drops : Drops) (tables : Tables) (moved : Moved) (port : ℕ) (f : Backbone) (whole : List ℕ) → IsCurrent m → tables ≡ own_tables (view_of m) → tenant ≡ after_backbone m.tenant tables port (parts f)
-    → moved ≡ of_backbone m.tenant tables port (parts f) whole → drops ≡ counted_for moved.dropped m.drops → IsAfter (forwarded_by f port (view_of m)) (record m { tenant = tenant; drops = drops })
+    → moved ≡ of_backbone m.tenant tables port (parts f) whole → drops ≡ raised_for moved.dropped m.drops → IsAfter (forwarded_by f port (view_of m)) (record m { tenant = tenant; drops = drops })
 relayed_after m tenant drops tables moved port f whole current own is moves counts =
-    let dropped : drops ≡ counted_for (dropped_by (step_of m.tenant tables port (parts f))) m.drops = counts ∙ ap (λ (x : Moved). counted_for x.dropped m.drops) moves in
-    let same : drops ≡ counted_for (dropped_by (step_of (tenant_of (view_of m)) (own_tables (view_of m)) port (parts f))) m.drops =
-    dropped ∙ (λ i. counted_for (dropped_by (step_of (tenant_is m current.ports.me i) (own i) port (parts f))) m.drops) in
+    let dropped : drops ≡ raised_for (dropped_by (step_of m.tenant tables port (parts f))) m.drops = counts ∙ ap (λ (x : Moved). raised_for x.dropped m.drops) moves in
+    let same : drops ≡ raised_for (dropped_by (step_of (tenant_of (view_of m)) (own_tables (view_of m)) port (parts f))) m.drops =
+    dropped ∙ (λ i. raised_for (dropped_by (step_of (tenant_is m current.ports.me i) (own i) port (parts f))) m.drops) in
     subst (λ (t : Tenant). IsAfter (forwarded_by f port (view_of m)) (record m { tenant = t; drops = drops })) (sym is) (record {
       view = λ i. with_drops (same i) (with_learned (after_backbone (tenant_is m current.ports.me i) (own i) port (parts f)).learned (view_of m));
       current = learned_current m (after_backbone m.tenant tables port (parts f)).learned drops current;

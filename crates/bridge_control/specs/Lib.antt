@@ -9,3 +9,4 @@ pub mod Carrying
 pub mod Kept
 pub mod Plane
 pub mod Attaching
+pub mod Reading

@@ -19,6 +19,7 @@ use crate::kept_tables::copy_of;
 use crate::machine::Machine;
 use crate::parsing::is_customer;
 use crate::ports::port_at;
+use crate::shared_reading::Reading;
 use adjacency::Adjacency;
 use bridge_api::{BridgeConfig, DropReason, Outbox};
 use lsdb::Held;
@@ -360,6 +361,19 @@ impl ControlPlane {
     {
         self.refuse_failed()?;
         self.machine.graph()
+    }
+
+    /// The same graph, made ready for tables: what is kept, if the bridge holds what that was read of and has its base
+    /// VIDs, and else what it reads anew.
+    pub fn reading(&self, kept: Option<Reading>) -> Result<Reading, NoMemory>
+        requires { self.now.blank ≡ false }
+        ensures reading { IfOk result (λ r.
+            r ≡ record { graph = read_graph self.now.view; vids = self.now.view.vids }) }
+        ensures valid { IfOk result (λ r. IsValidFor r.graph self.now.view.id.system) }
+        ensures failed { self.now.view.failed ≡ true → IsErr result }
+    {
+        self.refuse_failed()?;
+        self.machine.reading(kept)
     }
 
     /// The tables that are kept, if some are.

@@ -34,7 +34,7 @@ fn tlvs_of(body: &[u8]) -> &[u8]
 }
 
 /// Whether this is the id of the LSP that its system originates.
-fn is_originated(id: &LspId) -> bool
+pub(crate) fn is_originated(id: &LspId) -> bool
     ensures { result ≡ own.is_originated id.now.system id.now }
 {
     id.pseudonode == 0 && id.number == 0
@@ -79,7 +79,7 @@ fn push_read(
 }
 
 /// What a bridge reads of all systems from the LSPs that it holds, in order of their ids.
-fn contents(alloc: Global, db: &Database) -> Result<Vec<(SystemId, Content)>, NoMemory>
+pub(crate) fn contents(alloc: Global, db: &Database) -> Result<Vec<(SystemId, Content)>, NoMemory>
     ensures read { IfOk result (λ list. list.items ≡ filter_map read.read_entry (entries db.now)) }
     ensures few { IfOk result (λ list. length list.items ≤ MOST_LSPS) }
 {

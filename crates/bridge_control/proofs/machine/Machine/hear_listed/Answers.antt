@@ -1,7 +1,7 @@
 use Rattle.std.proofs.Common.{ap, ◌∙◌}
 use Rattle.std.proofs.lemmas.Result.{on_ok_weaker}
 use Rattle.forwarding.specs.declared.drop_reason.DropReason.TheVariants as drop
-use Rattle.bridge_api.specs.Drops.{counted}
+use Rattle.bridge_api.specs.Drops.{raised_at}
 use Rattle.isis_pdu.specs.Pdu.{csnp_of}
 use Rattle.flooding.specs.Placing.{holding}
 use Rattle.snp_sync.specs.Hearing.{claims_in, hear_csnp_of}
@@ -32,5 +32,5 @@ pub returns : goal.returns
 returns c =
     let m = c.args.self.now in
     on_ok_weaker c.originate_if_changed.result
-    (after_same _ _ c.originate_if_changed.new.self (heard_csnp_path m m.up c.args.port (csnp_of c.args.csnp.now) c.args.entries.now c.hear_csnp.new.db c.hear_csnp.new.own c.raise_times.new.self c.requires.ready c.requires.ready.current.ports.up c.in_ok-full.ensures.heard (c.raise_times.ensures ∙ ap (λ n. counted drop.Full n m.drops) c.in_ok-full.ensures.full)))
+    (after_same _ _ c.originate_if_changed.new.self (heard_csnp_path m m.up c.args.port (csnp_of c.args.csnp.now) c.args.entries.now c.hear_csnp.new.db c.hear_csnp.new.own c.raise_times.new.self c.requires.ready c.requires.ready.current.ports.up c.in_ok-full.ensures.heard (c.raise_times.ensures ∙ ap (λ n. raised_at drop.Full n m.drops) c.in_ok-full.ensures.full)))
     c.originate_if_changed.ensures

@@ -4,7 +4,7 @@ use Rattle.isis_pdu.specs.Pdu.{lsp_of}
 use Rattle.flooding.specs.Hearing.{hear_lsp_of}
 use Rattle.flooding.specs.Placing.{holding}
 use Rattle.forwarding.specs.declared.drop_reason.DropReason.TheVariants as drop
-use Rattle.bridge_api.specs.Drops.{counted}
+use Rattle.bridge_api.specs.Drops.{raised_at}
 use Rattle.bridge_control.proofs.Owning.{some_body, after_same}
 use Rattle.spb_types.specs.Address.{same_system}
 use Rattle.bridge_control.proofs.Putting.{there_at}
@@ -41,7 +41,7 @@ returns-then-not-is c =
     let other : same_system l.id.system m.id.system ≡ false = sym c.is.ensures ∙ c.if-not-is.true in
     record {
       view = heard_still m up c.args.port l db own drops c.requires.ready other c.in_ok-full.ensures.heard
-          ∙ heard_lsp_path m up c.args.port l db own drops c.port_at.result c.requires.ready c.requires.ready.current.ports.up c.in_ok-full.ensures.heard (c.raise_times.ensures ∙ ap (λ n. counted drop.Full n c.args.self.now.drops) c.in_ok-full.ensures.full) there (sym c.is_up.ensures ∙ c.if-not-is_up.false);
+          ∙ heard_lsp_path m up c.args.port l db own drops c.port_at.result c.requires.ready c.requires.ready.current.ports.up c.in_ok-full.ensures.heard (c.raise_times.ensures ∙ ap (λ n. raised_at drop.Full n c.args.self.now.drops) c.in_ok-full.ensures.full) there (sym c.is_up.ensures ∙ c.if-not-is_up.false);
       current = heard_current m (hear_lsp_of up c.args.port l (holding m.db m.own)) db own drops c.requires.ready (lsp_heard m up c.args.port l c.requires.ready) c.in_ok-full.ensures.heard;
     }
 
@@ -50,5 +50,5 @@ returns c =
     let m = c.args.self.now in
     let there = there_at m c.as_slice.result.now c.args.port c.port_at.result c.as_slice.ensures.value c.port_at.ensures in
     on_ok_weaker c.originate_if_changed.result
-    (after_same _ _ c.originate_if_changed.new.self (heard_lsp_path m m.up c.args.port (lsp_of c.args.lsp.now) c.hear_lsp_if_it_fits.new.db c.hear_lsp_if_it_fits.new.own c.raise_times.new.self c.port_at.result c.requires.ready c.requires.ready.current.ports.up c.in_ok-full.ensures.heard (c.raise_times.ensures ∙ ap (λ n. counted drop.Full n c.args.self.now.drops) c.in_ok-full.ensures.full) there (sym c.is_up.ensures ∙ c.if-not-is_up.false)))
+    (after_same _ _ c.originate_if_changed.new.self (heard_lsp_path m m.up c.args.port (lsp_of c.args.lsp.now) c.hear_lsp_if_it_fits.new.db c.hear_lsp_if_it_fits.new.own c.raise_times.new.self c.port_at.result c.requires.ready c.requires.ready.current.ports.up c.in_ok-full.ensures.heard (c.raise_times.ensures ∙ ap (λ n. raised_at drop.Full n c.args.self.now.drops) c.in_ok-full.ensures.full) there (sym c.is_up.ensures ∙ c.if-not-is_up.false)))
     c.originate_if_changed.ensures

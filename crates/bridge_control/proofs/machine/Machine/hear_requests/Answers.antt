@@ -1,7 +1,7 @@
 use Rattle.std.proofs.Common.{ap, ◌∙◌}
 use Rattle.std.proofs.lemmas.Result.{on_ok_weaker}
 use Rattle.forwarding.specs.declared.drop_reason.DropReason.TheVariants as drop
-use Rattle.bridge_api.specs.Drops.{counted}
+use Rattle.bridge_api.specs.Drops.{raised_at}
 use Rattle.flooding.specs.Placing.{holding}
 use Rattle.snp_sync.specs.Hearing.{claims_in, hear_entries_of}
 use Rattle.bridge_control.proofs.Owning.{some_body, after_same}
@@ -29,5 +29,5 @@ pub returns : goal.returns
 returns c =
     let m = c.args.self.now in
     on_ok_weaker c.originate_if_changed.result
-    (after_same _ _ c.originate_if_changed.new.self (heard_psnp_path m m.up c.args.port c.args.entries.now c.hear_psnp.new.db c.hear_psnp.new.own c.raise_times.new.self c.requires.ready c.requires.ready.current.ports.up c.in_ok-full.ensures.heard (c.raise_times.ensures ∙ ap (λ n. counted drop.Full n m.drops) c.in_ok-full.ensures.full)))
+    (after_same _ _ c.originate_if_changed.new.self (heard_psnp_path m m.up c.args.port c.args.entries.now c.hear_psnp.new.db c.hear_psnp.new.own c.raise_times.new.self c.requires.ready c.requires.ready.current.ports.up c.in_ok-full.ensures.heard (c.raise_times.ensures ∙ ap (λ n. raised_at drop.Full n m.drops) c.in_ok-full.ensures.full)))
     c.originate_if_changed.ensures

@@ -1,0 +1,175 @@
+//! What bridges that hold the same LSPs can share: the graph that they read, made ready for their tables.
+ghost use Rattle.std.specs.Prelude.{◌≡◌, ◌++◌, map, true, false, None, Some, IfOk, OnOk, IsTrue};
+ghost use Rattle.std.specs.List.{filter_map};
+ghost use Rattle.std.specs.Option.{option_to_list};
+ghost use Rattle.std.specs.FinMap.{entries};
+ghost use Rattle.spb_types.specs.Graph.{IsValidFor};
+ghost use Rattle.lsdb.specs.Database.{keyed};
+ghost use Rattle.fdb_build.specs.Groups.{group_rows};
+ghost use Rattle.fdb_build.specs.Tables.{unicast_rows};
+ghost use Rattle.bridge_api.specs.Graph as read;
+ghost use Rattle.bridge_api.specs.Laws.{IsSoundView};
+ghost use Rattle.bridge_control.specs.Machine.{view_of};
+ghost use Rattle.bridge_control.specs.Reading as reading;
+
+use crate::machine::Machine;
+use crate::reading::{contents, is_originated};
+use ect_trees::Roads;
+use fdb_build::Fabric;
+use lsdb::{Database, Held, Version};
+use spb_content::said_graph_of;
+use spb_types::{NoMemory, SystemId, Tables, VidPlan};
+use std::alloc::Global;
+use std::marker::Model;
+
+/// A live LSP that its system originates.
+#[derive(Drop)]
+pub struct LiveLsp {
+    pub system: SystemId,
+    pub body: Vec<u8>,
+}
+
+/// The graph that a bridge read from the LSPs that it held, made ready for tables; and these LSPs, by which a bridge
+/// sees whether it reads the same. Contracts see the graph and the base VIDs.
+#[derive(Drop)]
+pub struct Reading {
+    lsps: Vec<LiveLsp>,
+    fabric: Fabric,
+}
+
+impl Model for Reading {
+    ghost use Rattle.fdb_build.specs.Fabric.{FabricView};
+    ghost use Rattle.bridge_control.specs.Reading.{IsReadOf};
+
+    ghost Value = { FabricView };
+
+    ghost view = { λ r. r.fabric };
+
+    ghost invariant = { λ r. IsReadOf r.lsps.items r.fabric.graph };
+}
+
+impl Reading {
+    /// Searches the best paths from a bridge, from which its unicast rows are read, unless they are kept.
+    pub fn grow_from(&mut self, alloc: Global, me: SystemId) -> Result<(), NoMemory>
+        ensures { self.new ≡ self.old }
+    {
+        self.fabric.grow_from(alloc, me)
+    }
+
+    /// The tables of a bridge in the graph.
+    pub fn tables(&self, alloc: Global, me: SystemId) -> Result<Tables, NoMemory>
+        requires { IsValidFor self.now.graph me }
+        ensures { IfOk result (λ t. t ≡ record {
+          unicast = unicast_rows self.now.graph me self.now.vids;
+          group = group_rows self.now.graph me self.now.vids;
+        }) }
+    {
+        self.fabric.tables(alloc, me)
+    }
+}
+
+/// Whether an LSP that is held is live, and is one that its system originates. Nothing else is read.
+fn is_read(held: &Held) -> bool
+    ensures read { result ≡ true → read.read_entry (keyed held.now)
+        ≡ Some (reading.said_in held.now.id.system held.now.body) }
+    ensures other { result ≡ false → read.read_entry (keyed held.now) ≡ None }
+{
+    is_originated(&held.id) && matches!(held.version, Version::Live { .. })
+}
+
+/// Whether an LSP that is held is this one.
+fn is_same(held: &Held, lsp: &LiveLsp) -> bool
+    ensures { IsTrue result → read.read_entry (keyed held.now) ≡ Some (reading.content_of lsp.now) }
+{
+    is_read(held) && held.id.system == lsp.system && held.body.as_slice() == lsp.body.as_slice()
+}
+
+/// Whether just these LSPs are read of what is held. They are compared, and not read.
+fn are_held(db: &Database, lsps: &[LiveLsp]) -> bool
+    ensures { IsTrue result → filter_map read.read_entry (entries db.now) ≡ map reading.content_of lsps.now }
+{
+    let mut next = 0;
+    for place in 0..db.len() {
+        let Some(held) = db.at(place) else {
+            return false;
+        };
+        if is_read(held) {
+            if next >= lsps.len() || !is_same(held, &lsps[next]) {
+                return false;
+            }
+            next += 1;
+        }
+    }
+    next == lsps.len()
+}
+
+/// Whether two lists of base VIDs are the same.
+fn are_same(vids: &[VidPlan], others: &[VidPlan]) -> bool
+    ensures { IsTrue result → vids.now ≡ others.now }
+{
+    vids == others
+}
+
+/// Puts a copy of an LSP that is held behind the others, if it is one that is read.
+fn push_lsp(alloc: Global, lsps: &mut Vec<LiveLsp>, held: &Held) -> Result<(), NoMemory>
+    ensures { OnOk result (map reading.content_of lsps.new.items
+        ≡ map reading.content_of lsps.old.items ++ option_to_list (read.read_entry (keyed held.now))) }
+{
+    if is_read(held) {
+        lsps.push(LiveLsp {
+            system: held.id.system,
+            body: Vec::from_slice(alloc, held.body.as_slice())?,
+        })?;
+    }
+    Ok(())
+}
+
+/// Copies of the LSPs that are read, in order of their ids.
+fn read_lsps(alloc: Global, db: &Database) -> Result<Vec<LiveLsp>, NoMemory>
+    ensures { IfOk result (λ lsps.
+        map reading.content_of lsps.items ≡ filter_map read.read_entry (entries db.now)) }
+{
+    let mut lsps = Vec::new(alloc);
+    for place in 0..db.len() {
+        if let Some(held) = db.at(place) {
+            push_lsp(alloc, &mut lsps, held)?;
+        }
+    }
+    Ok(lsps)
+}
+
+impl Machine {
+    /// The graph of all that the bridge reads, made ready for its tables.
+    fn read_anew(&self) -> Result<Reading, NoMemory>
+        requires { IsSoundView (view_of self.now) }
+        ensures reading { IfOk result (λ r.
+            r ≡ record { graph = read.read_graph (view_of self.now); vids = self.now.vids }) }
+        ensures valid { IfOk result (λ r. IsValidFor r.graph self.now.id.system) }
+    {
+        let lsps = read_lsps(self.alloc, &self.db)?;
+        let list = contents(self.alloc, &self.db)?;
+        let graph = said_graph_of(self.alloc, list.as_slice())?;
+        let roads = Roads::over(self.alloc, graph)?;
+        Ok(Reading {
+            lsps,
+            fabric: Fabric::new(self.alloc, roads, self.vids.as_slice())?,
+        })
+    }
+
+    /// The same: what is kept, if the bridge holds what that was read of and has its base VIDs, and else what it reads
+    /// anew.
+    pub(crate) fn reading(&self, kept: Option<Reading>) -> Result<Reading, NoMemory>
+        requires { IsSoundView (view_of self.now) }
+        ensures reading { IfOk result (λ r.
+            r ≡ record { graph = read.read_graph (view_of self.now); vids = self.now.vids }) }
+        ensures valid { IfOk result (λ r. IsValidFor r.graph self.now.id.system) }
+    {
+        if let Some(reading) = kept
+            && are_same(reading.fabric.vids(), self.vids.as_slice())
+            && are_held(&self.db, reading.lsps.as_slice())
+        {
+            return Ok(reading);
+        }
+        self.read_anew()
+    }
+}
