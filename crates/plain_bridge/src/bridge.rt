@@ -1,5 +1,7 @@
-ghost use Rattle.std.specs.Prelude.{◌≡◌, true, false};
+ghost use Rattle.std.specs.Prelude.{◌≡◌, true, false, IfOk, IsErr, OnOk, OnErr};
+ghost use Rattle.bridge_api.specs.Tables.{own_tables};
 
+use crate::shared::SharedReading;
 use adjacency::Adjacency;
 use bridge_api::{Bridge, BridgeConfig, DropReason, Kind, Outbox};
 use bridge_control::ControlPlane;
@@ -12,6 +14,8 @@ use std::marker::Model;
 #[derive(Drop)]
 pub struct PlainBridge {
     control: ControlPlane,
+    alloc: Global,
+    shared: Option<SharedReading>,
 }
 
 impl Model for PlainBridge {
@@ -25,6 +29,12 @@ impl Model for PlainBridge {
     ghost view = { λ b. b.control };
 }
 
+/// Whether a B-TAG follows the two addresses of a frame, as in each that carries a customer's (IEEE 802.1ah, 9.7). Any
+/// other is heard without tables.
+fn has_b_tag(frame: &[u8]) -> bool {
+    frame.len() > 13 && frame[12] == 0x88 && frame[13] == 0xa8
+}
+
 impl PlainBridge {
     /// A bridge that isn't configured. It keeps the allocator, and takes no memory.
     pub fn blank(alloc: Global) -> Self
@@ -33,6 +43,72 @@ impl PlainBridge {
     {
         PlainBridge {
             control: ControlPlane::blank(alloc),
+            alloc,
+            shared: None,
+        }
+    }
+
+    /// The same, of a bridge that shares with others what its tables are made of.
+    pub fn sharing(alloc: Global, shared: SharedReading) -> Self
+        ensures blank { result.blank ≡ true }
+        ensures failed { result.view.failed ≡ false }
+    {
+        PlainBridge {
+            control: ControlPlane::blank(alloc),
+            alloc,
+            shared: Some(shared),
+        }
+    }
+
+    /// The tables of the bridge in the graph that it reads, or that another has read of the same LSPs.
+    fn tables_with(&self, shared: &SharedReading) -> Result<Tables, NoMemory>
+        requires made { self.now.blank ≡ false }
+        requires unfailed { self.now.view.failed ≡ false }
+        ensures { IfOk result (λ t. t ≡ own_tables self.now.view) }
+    {
+        let me = self.control.id().system;
+        let mut reading = self.control.reading(shared.take())?;
+        reading.grow_from(self.alloc, me)?;
+        let tables = reading.tables(self.alloc, me);
+        shared.keep(reading);
+        tables
+    }
+
+    /// The tables of the bridge: those that are kept, or, where none are, made of what bridges share.
+    fn made_tables(&self) -> Result<Tables, NoMemory>
+        requires { self.now.blank ≡ false }
+        ensures tables { IfOk result (λ t. t ≡ own_tables self.now.view) }
+        ensures failed { self.now.view.failed ≡ true → IsErr result }
+    {
+        if self.control.is_failed() {
+            return Err(NoMemory);
+        }
+        match &self.shared {
+            Some(shared) if self.control.kept_tables().is_none() => self.tables_with(shared),
+            _ => self.control.tables(),
+        }
+    }
+
+    /// The tables are kept that the next frame is sent on by, if none are.
+    fn prepare(&mut self) -> Result<(), NoMemory>
+        requires made { self.old.blank ≡ false }
+        requires unfailed { self.old.view.failed ≡ false }
+        ensures same { OnOk result (self.new ≡ self.old) }
+        ensures memory { OnErr result (self.new.view.failed ≡ true) }
+        ensures still_made { self.new.blank ≡ false }
+    {
+        if self.control.kept_tables().is_some() {
+            return Ok(());
+        }
+        match self.made_tables() {
+            Ok(tables) => {
+                self.control.keep_tables(tables);
+                Ok(())
+            }
+            Err(refused) => {
+                self.control.fail();
+                Err(refused)
+            }
         }
     }
 }
@@ -63,10 +139,16 @@ impl Bridge for PlainBridge {
     }
 
     fn receive(&mut self, port: u8, frame: &[u8], outbox: &mut Outbox) -> Result<(), NoMemory> {
+        if has_b_tag(frame) && !self.control.is_failed() && self.control.needs_tables(port, frame) {
+            self.prepare()?;
+        }
         self.control.receive(port, frame, outbox)
     }
 
     fn customer(&mut self, port: u16, frame: &[u8], outbox: &mut Outbox) -> Result<(), NoMemory> {
+        if !self.control.is_failed() {
+            self.prepare()?;
+        }
         self.control.customer(port, frame, outbox)
     }
 
@@ -107,7 +189,7 @@ impl Bridge for PlainBridge {
     }
 
     fn tables(&self) -> Result<Tables, NoMemory> {
-        self.control.tables()
+        self.made_tables()
     }
 
     fn unicast_port(&self, vid: Vid, mac: Mac) -> Result<Option<u8>, NoMemory> {
