@@ -34,7 +34,7 @@ use Rattle.spb_network.specs.Restarting.{restarted}
 use Rattle.spb_network.specs.Refusing.{box_for, refusal_at_found, link_refusal_at_found, named_link_refusal, metric_refusal, named_attach_refusal, named_detach_refusal, named_entry_refusal, refusal_of}
 use Rattle.spb_network.specs.Questions.{Question, is_quiet, show_at, db_at, adj_at, drops_at}
 use Rattle.spb_network.specs.Paths.{declared_vid, path_at, path_answer, path_found, path_from}
-use Rattle.spb_network.specs.Play.{config_of, boxed, declared, linked, link_between_found, named_link, at_place, at_bridge, at_link, with_vid_more, with_service_more, with_rounds, with_drain, played, counted, next_state, answer_at_found, answer_to_asked, answer_of}
+use Rattle.spb_network.specs.Play.{config_of, boxed, declared, linked, link_between_found, named_link, at_place, at_bridge, at_link, with_vid_more, with_service_more, with_rounds, with_drain, played, accepted_once, next_state, answer_at_found, answer_to_asked, answer_of}
 use Rattle.spb_network.specs.Sound.{IsSoundState}
 use Rattle.spb_network.specs.SoundLaws.{IsAddressed}
 use Rattle.spb_network.specs.Isolation.{IsPortOf, Enters, outs_in, LeftEntered, IsApart}
@@ -233,7 +233,7 @@ module _ (Entered : Isid → List ℕ → Type 0) (s : State) (sound : IsSoundSt
   played_separate (command.Drain n) addressed accepted enters = drain_separate n
   played_separate _ addressed accepted enters = separate
 
-  counted_apart : (t : State) → IsSeparate Entered Left t → IsApart Entered (counted t)
+  counted_apart : (t : State) → IsSeparate Entered Left t → IsApart Entered (accepted_once t)
   counted_apart t after = let is : IsApart Entered t = apart_of Entered Left t after in record { lanes = is.lanes; places = is.places }
 
   -- services stay apart, and what leaves has entered

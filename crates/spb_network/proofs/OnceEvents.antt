@@ -14,7 +14,7 @@ use Rattle.spb_network.specs.declared.answer.Out.{Out}
 use Rattle.spb_network.specs.State.{State, lane_at}
 use Rattle.spb_network.specs.Events.{delivered_front, delivered, delivered_over, delivered_first, drained}
 use Rattle.spb_network.specs.Refusing.{refusal_of}
-use Rattle.spb_network.specs.Play.{counted, with_drain, played, next_state, played_all, answer_of}
+use Rattle.spb_network.specs.Play.{accepted_once, with_drain, played, next_state, played_all, answer_of}
 use Rattle.spb_network.specs.Sound.{IsSoundState}
 use Rattle.spb_network.specs.SoundLaws.{IsAddressed, AreAccepted}
 use Rattle.spb_network.specs.Isolation.{outs_in}
@@ -84,19 +84,19 @@ module _ (start : State) (j : Journey) (is : IsJourney start j) where
   deliver_stays s before name dir sound none way =
       let of = deliver_delivers s name dir sound none in
       let t : State = played s (command.Deliver name dir) in
-      same_way start j t (counted t) (before ++ t.outs) refl refl refl
+      same_way start j t (accepted_once t) (before ++ t.outs) refl refl refl
       (record { served = with_served way.served _; under = served_next start j is way.served s before way.under sound of.place dir of.bytes of.behind t of.delivery })
 
   drain_stays : (s : State) (before : List Out) (n : ℕ) → IsSoundState s → IsOnTheWay start j s (before ++ s.outs) → StaysOnTheWay s before (command.Drain n)
   unfolding next_state with_drain
   drain_stays s before n sound way =
-      same_way start j (drained n s) (counted (with_drain n s)) (before ++ (drained n s).outs) refl refl refl (all_drained n s before sound way)
+      same_way start j (drained n s) (accepted_once (with_drain n s)) (before ++ (drained n s).outs) refl refl refl (all_drained n s before sound way)
 
   question_stays : (s : State) (before : List Out) (c : Command) → played s c ≡ s → outs_in (answer_of s c) ≡ [] → s.outs ≡ [] → IsOnTheWay start j s (before ++ s.outs) → StaysOnTheWay s before c
   unfolding next_state
   question_stays s before c same silent none way =
-      subst (λ (t : State). IsOnTheWay start j (counted t) (before ++ outs_in (answer_of s c))) (sym same)
-      (same_way start j s (counted s) (before ++ outs_in (answer_of s c)) refl refl refl
+      subst (λ (t : State). IsOnTheWay start j (accepted_once t) (before ++ outs_in (answer_of s c))) (sym same)
+      (same_way start j s (accepted_once s) (before ++ outs_in (answer_of s c)) refl refl refl
       (subst (λ (outs : List Out). IsOnTheWay start j s (before ++ outs)) (none ∙ sym silent) way))
 
   command_stays : (s : State) (before : List Out) (c : Command) → is_onward c ≡ true → IsSoundState s → s.outs ≡ [] → refusal_of s c ≡ None → IsOnTheWay start j s (before ++ s.outs) → StaysOnTheWay s before c

@@ -25,7 +25,7 @@ use Rattle.spb_network.specs.Attaching.{entry_refusal}
 use Rattle.spb_network.specs.State.{State}
 use Rattle.spb_network.specs.Events.{stepped, frame_entered}
 use Rattle.spb_network.specs.Refusing.{refusal_at_found, named_entry_refusal}
-use Rattle.spb_network.specs.Play.{at_place, at_bridge, counted, played, next_state, played_all, answer_of}
+use Rattle.spb_network.specs.Play.{at_place, at_bridge, accepted_once, played, next_state, played_all, answer_of}
 use Rattle.spb_network.specs.Sound.{IsSoundState, opening}
 use Rattle.spb_network.specs.Truth.{IsAtRest}
 use Rattle.spb_network.specs.Isolation.{outs_in}
@@ -133,7 +133,7 @@ module _ (s : State) (b p : ℕ) (f : List ℕ) (v : BridgeView) (a : Attachment
     unfolding next_state
     entered =
         let t : State = played s enters in
-        same_way s j t (counted t) t.outs refl refl refl (subst (λ (y : State). IsOnTheWay s j y y.outs) (sym played_is) set_out)
+        same_way s j t (accepted_once t) t.outs refl refl refl (subst (λ (y : State). IsOnTheWay s j y y.outs) (sym played_is) set_out)
 
     nothing_left : (next_state s enters).outs ≡ []
     unfolding next_state
@@ -165,7 +165,7 @@ leaves_once_at_rest s rest none name b p f cs named passage =
     leaves_once s b p f v found.0 rest view.1 found.1 input.1 passage.octets passage.group none name cs named passage
 
 pub exactly_once : ExactlyOnce
-exactly_once s sound counted quiet none = leaves_once_at_rest s (at_rest s sound counted quiet) none
+exactly_once s sound accepted_once quiet none = leaves_once_at_rest s (at_rest s sound accepted_once quiet) none
 
 none_between : (cs : List Command) (s : State) → s.outs ≡ [] → (played_all s cs).outs ≡ []
 unfolding next_state

@@ -27,7 +27,7 @@ use Rattle.link_model.specs.Lanes.{lane_of}
 use Rattle.spb_network.specs.State.{State, is_live, next_box, lane_out}
 use Rattle.spb_network.specs.Events.{sent_all, stepped, delivered, switched_on}
 use Rattle.spb_network.specs.Refusing.{declared_refusal, named_link_refusal, unnamed_refusal, frame_refusal, refusal_of}
-use Rattle.spb_network.specs.Play.{config_of, with_vid_more, declared, linked, named_link, at_bridge, at_link, next_count, counted, next_state, played_all}
+use Rattle.spb_network.specs.Play.{config_of, with_vid_more, declared, linked, named_link, at_bridge, at_link, next_count, accepted_once, next_state, played_all}
 use Rattle.spb_network.specs.SoundLaws.{AreAccepted}
 use Rattle.spb_network.specs.DeliveryLaws.{frames_at, pushed_all}
 use Rattle.spb_network.specs.MeetingLaws.{HaveMet, SomeBridgesMeet}
@@ -116,19 +116,19 @@ out_there = refl
 -- what each command makes of it
 ticks_first : (v w : BridgeView) (n : ℕ) (bytes : Frame) → sent second v ≡ (1, bytes) ∷ [] → next_state (at v w [] [] n) (command.Tick (97 ∷ [])) ≡ at (step second v) w (bytes ∷ []) [] (next_count n)
 unfolding next_state at_bridge stepped lane_out
-ticks_first v w n bytes says = ap (λ (fs : List (ℕ × Frame)). counted (sent_all (at (step second v) w [] [] n) 0 fs)) says
+ticks_first v w n bytes says = ap (λ (fs : List (ℕ × Frame)). accepted_once (sent_all (at (step second v) w [] [] n) 0 fs)) says
 
 delivers_ab : (v w : BridgeView) (n : ℕ) (bytes : Frame) → sent (frame 1 bytes) w ≡ [] → next_state (at v w (bytes ∷ []) [] n) (command.Deliver (108 ∷ []) Ab) ≡ at v (step (frame 1 bytes) w) [] [] (next_count n)
 unfolding next_state at_link delivered stepped
-delivers_ab v w n bytes quiet = ap (λ (fs : List (ℕ × Frame)). counted (sent_all (at v (step (frame 1 bytes) w) [] [] n) 1 fs)) quiet
+delivers_ab v w n bytes quiet = ap (λ (fs : List (ℕ × Frame)). accepted_once (sent_all (at v (step (frame 1 bytes) w) [] [] n) 1 fs)) quiet
 
 ticks_second : (v w : BridgeView) (n : ℕ) (bytes : Frame) → sent second w ≡ (1, bytes) ∷ [] → next_state (at v w [] [] n) (command.Tick (98 ∷ [])) ≡ at v (step second w) [] (bytes ∷ []) (next_count n)
 unfolding next_state at_bridge stepped lane_out
-ticks_second v w n bytes says = ap (λ (fs : List (ℕ × Frame)). counted (sent_all (at v (step second w) [] [] n) 1 fs)) says
+ticks_second v w n bytes says = ap (λ (fs : List (ℕ × Frame)). accepted_once (sent_all (at v (step second w) [] [] n) 1 fs)) says
 
 delivers_ba : (v w : BridgeView) (n : ℕ) (bytes : Frame) → sent (frame 1 bytes) v ≡ [] → next_state (at v w [] (bytes ∷ []) n) (command.Deliver (108 ∷ []) Ba) ≡ at (step (frame 1 bytes) v) w [] [] (next_count n)
 unfolding next_state at_link delivered stepped
-delivers_ba v w n bytes quiet = ap (λ (fs : List (ℕ × Frame)). counted (sent_all (at (step (frame 1 bytes) v) w [] [] n) 0 fs)) quiet
+delivers_ba v w n bytes quiet = ap (λ (fs : List (ℕ × Frame)). accepted_once (sent_all (at (step (frame 1 bytes) v) w [] [] n) 0 fs)) quiet
 
 -- and none is refused
 tick_none : (v w : BridgeView) (ab ba : List Frame) (n : ℕ) → (refusal_of (at v w ab ba n) (command.Tick (97 ∷ [])) ≡ None) × (refusal_of (at v w ab ba n) (command.Tick (98 ∷ [])) ≡ None)

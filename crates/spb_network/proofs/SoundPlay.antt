@@ -25,7 +25,7 @@ use Rattle.spb_network.specs.State.{State, Spare}
 use Rattle.spb_network.specs.Events.{ticked, delivered, lost, doubled, with_metrics_over, with_metric_changed, port_attached, port_detached, frame_entered, switched_off, switched_on, rounds, drained}
 use Rattle.spb_network.specs.Restarting.{restarted}
 use Rattle.spb_network.specs.Refusing.{box_for, declared_refusal, link_refusal_at_found, named_link_refusal, refusal_at_found, metric_refusal, named_attach_refusal, named_detach_refusal, named_entry_refusal, refusal_of}
-use Rattle.spb_network.specs.Play.{config_of, boxed, declared, linked, link_between_found, named_link, at_place, at_bridge, at_link, with_vid_more, with_service_more, with_rounds, with_drain, played, counted, next_state, played_all}
+use Rattle.spb_network.specs.Play.{config_of, boxed, declared, linked, link_between_found, named_link, at_place, at_bridge, at_link, with_vid_more, with_service_more, with_rounds, with_drain, played, accepted_once, next_state, played_all}
 use Rattle.spb_network.specs.Sound.{IsSoundState, opening}
 use Rattle.spb_network.specs.SoundLaws.{Keeps, EventsKeepSound, IsAddress, IsAddressed, CommandsKeepSound, AreAccepted, NetworksAreSound}
 use Rattle.spb_network.proofs.BridgeLaws.{configured_is_sound, configured_has_no_carrier}
@@ -250,7 +250,7 @@ played_sound s _ sound addressed none = sound
 
 pub commands_keep_sound : CommandsKeepSound
 unfolding next_state
-commands_keep_sound s c sound addressed none = sound_again (played s c) (counted (played s c)) refl refl refl (played_sound s c sound addressed none)
+commands_keep_sound s c sound addressed none = sound_again (played s c) (accepted_once (played s c)) refl refl refl (played_sound s c sound addressed none)
 
 all_sound : (s : State) (cs : List Command) → IsSoundState s → AllByRecursion IsAddressed cs → AreAccepted s cs → IsSoundState (played_all s cs)
 all_sound s [] sound addressed accepted = sound

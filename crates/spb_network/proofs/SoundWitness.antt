@@ -16,7 +16,7 @@ use Rattle.spb_types.specs.Places.{changed_at}
 use Rattle.spb_network.specs.State.{State, Spare, next_box, lane_out}
 use Rattle.spb_network.specs.Events.{sent_all, stepped, switched_on}
 use Rattle.spb_network.specs.Refusing.{declared_refusal, named_link_refusal, unnamed_refusal}
-use Rattle.spb_network.specs.Play.{config_of, with_vid_more, declared, linked, named_link, at_bridge, counted, next_state, played_all}
+use Rattle.spb_network.specs.Play.{config_of, with_vid_more, declared, linked, named_link, at_bridge, accepted_once, next_state, played_all}
 use Rattle.spb_network.specs.Sound.{opening}
 use Rattle.spb_network.specs.SoundLaws.{IsAddress, AreAccepted, IsBusy, SomeNetworkIsBusy}
 use Rattle.spb_network.proofs.SoundConfigured.{with_first_carrier, first_hello, IsHello, first_heard}
@@ -69,7 +69,7 @@ first = config_of (record { vids = plan_of 100 1 ∷ []; bridges = []; links = [
 
 -- the network after the bridge's second, in which it sent these frames
 abbrev sending : List (ℕ × List ℕ) → State
-sending fs = let s : State = played_all start declarations in counted (sent_all (record s { views = changed_at (step second) s.views 0 }) 0 fs)
+sending fs = let s : State = played_all start declarations in accepted_once (sent_all (record s { views = changed_at (step second) s.views 0 }) 0 fs)
 
 one_frame : (bytes : List ℕ) → IsHello bytes → IsBusy (sending ((1, bytes) ∷ []))
 unfolding next_state vid_refusal with_vid with_bridge with_link with_live next_box lane_out stepped switched_on with_vid_more declared linked named_link

@@ -27,7 +27,7 @@ use Rattle.spb_network.specs.State.{State, Spare, links_of, is_live, kind_at, se
 use Rattle.spb_network.specs.Events.{with_metrics_over, port_attached, attached_in_found, frame_entered, switched_off, switched_on, flushed, rounds, drained}
 use Rattle.spb_network.specs.Restarting.{box_at, restart_config, restarted, restarted_as}
 use Rattle.spb_network.specs.Refusing.{box_for, declared_refusal, link_refusal_at_found, named_link_refusal, refusal_at_found, unnamed_refusal, named_attach_refusal, named_entry_refusal, round_refusal, drain_refusal, down_refusal, restart_refusal, refusal_of}
-use Rattle.spb_network.specs.Play.{boxed, declared, linked, link_between_found, named_link, at_place, at_bridge, at_link, with_vid_more, with_service_more, with_rounds, with_drain, counted, next_state}
+use Rattle.spb_network.specs.Play.{boxed, declared, linked, link_between_found, named_link, at_place, at_bridge, at_link, with_vid_more, with_service_more, with_rounds, with_drain, accepted_once, next_state}
 use Rattle.spb_network.specs.Sound.{IsSoundState}
 use Rattle.spb_network.specs.SoundLaws.{IsAddress, IsAddressed}
 use Rattle.spb_network.proofs.SoundPlay.{commands_keep_sound}
@@ -133,7 +133,7 @@ boxed_goes s name priority system source ports m r d None stands six none at som
 boxed_goes s name priority system source ports m r d (Some place) stands six none at some =
     let b : DeclaredBridge = bridge_of priority system source ports in
     arrives s (command.Bridge name priority system source ports) (record (bare s) { rack = remove s.rack place; world = with_bridge s.world name b }) m r d stands.sound six none
-    (ap (λ o. bare (counted (boxed s name b o))) at) (fewer m s place stands.boxes) stands.rounds stands.drained
+    (ap (λ o. bare (accepted_once (boxed s name b o))) at) (fewer m s place stands.boxes) stands.rounds stands.drained
 
 pub bridge_goes : (s : State) (name : List ℕ) (priority : ℕ) (system : Mac) (source : SourceId) (ports m r d : ℕ) → Stands (suc m) r d s → IsAddress system
     → bridge_refusal s.world name priority system source ports ≡ None
@@ -156,7 +156,7 @@ link_goes s name a port_a b port_b cost i j m r d stands at to none =
     let same : n ≡ length s.world.links = stands.sound.fits.lanes in
     arrives s (command.Link name a port_a b port_b cost) (record (bare s) { world = with_live true (with_link s.world name l) (length s.world.links) }) m r d stands.sound tt
     ((λ k. link_refusal_at_found s.world name (at k) port_a (to k) port_b cost) ∙ none)
-    ((λ k. bare (counted (link_between_found s name (at k) port_a (to k) port_b cost)))
+    ((λ k. bare (accepted_once (link_between_found s name (at k) port_a (to k) port_b cost)))
     ∙ bare-carrier_over true (record u { world = with_live true u.world n }) (slice_get (links_of u) n)
     ∙ ap (λ (x : State). record x { world = with_live true x.world n }) (bare-metrics_over t l)
     ∙ ap (λ k. record (bare s) { world = with_live true (with_link s.world name l) k }) same)
@@ -169,7 +169,7 @@ unfolding next_state named_attach_refusal at_bridge port_attached
 attach_goes s name port isid i vid m r d stands at within none =
     arrives s (command.Attach name port isid) (record (bare s) { world = with_attachment_at s.world i (attachment_of port (record { value = isid }) vid) }) m r d stands.sound tt
     (ap (refusal_at_found (λ i. attach_refusal s.world i port isid)) at ∙ none)
-    (ap (λ o. bare (counted (at_place (λ t i. port_attached t i port isid) s o))) at
+    (ap (λ o. bare (accepted_once (at_place (λ t i. port_attached t i port isid) s o))) at
     ∙ ap (λ o. bare (attached_in_found s i port isid o)) within
     ∙ bare-stepped (comes.attach (attachment_of port (record { value = isid }) vid)) (record s { world = with_attachment_at s.world i (attachment_of port (record { value = isid }) vid) }) i)
     stands.boxes stands.rounds stands.drained
@@ -182,7 +182,7 @@ unfolding next_state named_entry_refusal at_bridge
 frame_goes s name port bytes i m r d stands at none =
     arrives s (command.Frame name port bytes) (bare s) m r d stands.sound tt
     (ap (refusal_at_found (λ i. entry_refusal s.world i port bytes)) at ∙ none)
-    (ap (λ o. bare (counted (at_place (λ t i. frame_entered t i port bytes) s o))) at ∙ bare-stepped (comes.customer port bytes) s i)
+    (ap (λ o. bare (accepted_once (at_place (λ t i. frame_entered t i port bytes) s o))) at ∙ bare-stepped (comes.customer port bytes) s i)
     stands.boxes stands.rounds stands.drained
 
 pub show_goes : (s : State) (name : List ℕ) (i m r d : ℕ) → Stands m r d s → place_of name s.world.bridges ≡ Some i → Goes m r d s (command.Show name) s.world
@@ -216,7 +216,7 @@ down_goes s name k m r d stands at live =
     let t : State = flushed s k in
     arrives s (command.Down name) (record (bare s) { world = with_live false s.world k }) m r d stands.sound tt
     (ap (refusal_at_found (λ k. reason_unless (is_live (links_of s) k) AlreadyDown)) at ∙ reason_none _ AlreadyDown live)
-    (ap (λ o. bare (counted (at_place switched_off s o))) at ∙ bare-carrier_over false (record t { world = with_live false t.world k }) (slice_get (links_of s) k))
+    (ap (λ o. bare (accepted_once (at_place switched_off s o))) at ∙ bare-carrier_over false (record t { world = with_live false t.world k }) (slice_get (links_of s) k))
     stands.boxes stands.rounds stands.drained
 
 restarted_goes : (s : State) (name : List ℕ) (i m r d : ℕ) (b : Option DeclaredBridge) (o : Option ℕ) → Stands (suc m) r d s → refusal_of s (command.Restart name) ≡ None
@@ -233,4 +233,4 @@ restart_goes s name i m r d stands at =
     let some : is_some (box_at s i) ≡ true = has_box (kind_at s.rule i) s.rack (omega arith) in
     restarted_goes s name i m r d (slice_get (things_of s.world.bridges) i) (box_at s i) stands
     (ap (refusal_at_found (λ i. reason_unless (is_some (box_at s i)) RackSpent)) at ∙ reason_none _ RackSpent some)
-    (ap (λ o. bare (counted (at_place restarted s o))) at)
+    (ap (λ o. bare (accepted_once (at_place restarted s o))) at)

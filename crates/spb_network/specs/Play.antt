@@ -1,9 +1,10 @@
 -- What an accepted command makes of a network, and what it answers.
-use Rattle.std.specs.Prelude.{ℕ, ◌+◌, List, [], ◌∷◌, ◌++◌, length, Bool, true, false, if◌then◌else◌, replicate, remove, Option, Some, None, min}
+use Rattle.std.specs.Prelude.{ℕ, ◌+◌, List, [], ◌∷◌, ◌++◌, length, Bool, true, false, if◌then◌else◌, replicate, remove, Option, Some, None}
 use Rattle.scenario.specs.declared.command.Command.{Command}
 use Rattle.scenario.specs.declared.command.Command.TheVariants as command
 use Rattle.bridge_api.specs.declared.config.BridgeConfig.{BridgeConfig}
 use Rattle.bridge_api.specs.Config.{configured}
+pub use Rattle.bridge_api.specs.Drops.{next_count}
 use Rattle.spb_network.specs.declared.answer.Answer.{Answer}
 use Rattle.spb_network.specs.declared.answer.Answer.TheVariants.{Silent, Outs}
 use Rattle.spb_network.specs.declared.answer.Answer.TheVariants as answers
@@ -106,17 +107,13 @@ played s (command.Round n) = with_rounds n s
 played s (command.Drain n) = with_drain n s
 played s _ = s
 
--- one more, up to the greatest number of 64 bits
-abbrev pub next_count : ℕ → ℕ
-next_count n = min (n + 1) 18446744073709551615
-
 -- one accepted command more, and what left in it is answered
-abbrev pub counted : State → State
-counted s = record s { accepted = next_count s.accepted; outs = [] }
+abbrev pub accepted_once : State → State
+accepted_once s = record s { accepted = next_count s.accepted; outs = [] }
 
 -- the state after an accepted command
 unfoldable pub next_state : State → Command → State
-next_state s c = counted (played s c)
+next_state s c = accepted_once (played s c)
 
 -- the answer by the place that was found for the name of the bridge
 abbrev pub answer_at_found : State → Option Question → Option ℕ → Answer

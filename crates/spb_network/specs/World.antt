@@ -19,6 +19,7 @@ use Rattle.spb_network.specs.declared.declaration.DeclaredBridge.{DeclaredBridge
 use Rattle.spb_network.specs.declared.declaration.DeclaredLink.{DeclaredLink}
 use Rattle.spb_network.specs.declared.declaration.LinkEnd.{LinkEnd}
 use Rattle.spb_types.specs.declared.tables.Tables.{Tables}
+use Rattle.fdb_build.specs.Fabric.{FabricView}
 use Rattle.fdb_build.specs.Tables.{ArePlans, unicast_rows}
 use Rattle.fdb_build.specs.Groups.{group_rows}
 use Rattle.spb_types.specs.declared.limits.TheConstants.{GREATEST_ISID, GREATEST_METRIC, MOST_BRIDGES, MOST_CUSTOMER_PORTS, MOST_PORTS, MOST_VIDS}
@@ -181,6 +182,10 @@ pub record Sound (w : World) : Type 0 where
   pub services_apart : ArePairwise (λ x y. x.0.value ≢ y.0.value) w.services
   pub attached : AllByRecursion (IsAttachedIn w.bridges w.services) w.attached
   pub attached_apart : ArePairwise AreAtTwoPorts w.attached
+
+-- the wiring and the base VIDs, of which its tables are made
+abbrev pub wired_fabric : World → FabricView
+wired_fabric w = record { graph = world_graph w; vids = w.vids }
 
 -- the tables that the wiring gives the bridge at a place
 unfoldable pub wired_tables : World → ℕ → Tables

@@ -4,27 +4,25 @@
 //! implementation. What is declared stands in a [`World`]; beside it stand the boxes and, by the same place as the
 //! links, the two lanes of each link. [`NetworkOf::apply`] is one step of play, as `specs/Play.antt` says: a command
 //! that is refused names the first reason in order of number and changes nothing. What holds of a network at every
-//! moment stands in `specs/Sound.antt`, and is a clause of each call; what a quiet network knows of its wiring stands in
-//! `specs/Truth.antt`; and that service instances don't mix in it, quiet or not, in `specs/Isolation.antt`.
+//! moment stands in `specs/Sound.antt`, and is a clause of each call; what a quiet network knows of its wiring stands
+//! in `specs/Truth.antt`; and that service instances don't mix in it, quiet or not, in `specs/Isolation.antt`.
 //!
-//! **Costs.** A frame that is sent finds its link in constant time, and a name is found so on average. A
-//! round takes a call of each bridge and one for each frame that stands in a lane. A tick takes memory for an outbox
-//! with room for a frame at each port of the bridge, and a delivery none of its own. A frame that a bridge sends at
-//! several ports stands in their lanes as one, whose bytes they share. A delivery of `drain` looks for the
-//! first lane that isn't empty. A restart asks each link twice, and takes memory for the new bridge and for the metric of
-//! each of its ports. Frames are moved and not copied, and nothing grows with the number of rounds.
-//! Which conditions of quiet fail asks each link, lane and bridge once, walks over each database once with a look-up by
-//! hash for each live LSP, and takes memory for an entry of a table for each LSP id with one live version; bodies are
-//! compared where an earlier bridge holds the same version. The answer is kept until a command is played that is no
-//! question, so that the questions `state` and `show` after it take constant time for it. `show` makes the bridge's
-//! tables anew.
-//! `wiring` makes them over the roads of the wiring, which are made at the first such question, and kept with their
-//! graph until a bridge, a link, a metric or what is attached changes. `path` makes the graph that the bridge reads and one
-//! tree in it, and looks through the bridges once for each name.
-//! An `attach` goes over all that is attached, once for the customer port and its I-SID and once for each attached port
-//! of its bridge, and a `detach` twice; neither takes memory for that. A `frame` goes over all that is attached once.
-//! What leaves at customer ports takes memory for its place in the answer, and is handed over with it; where nothing
-//! leaves, none is taken.
+//! **Costs.** A frame that is sent finds its link in constant time, and a name is found so on average. A round takes a
+//! call of each bridge and one for each frame that stands in a lane. A tick takes memory for an outbox with room for a
+//! frame at each port of the bridge, and a delivery none of its own. A frame that a bridge sends at several ports
+//! stands in their lanes as one, whose bytes they share. A delivery of `drain` looks for the first lane that isn't
+//! empty. A restart asks each link twice, and takes memory for the new bridge and for the metric of each of its ports.
+//! Frames are moved and not copied, and nothing grows with the number of rounds. Which conditions of quiet fail asks
+//! each link, lane and bridge once, walks over each database once with a look-up by hash for each live LSP, and takes
+//! memory for an entry of a table for each LSP id with one live version; bodies are compared where an earlier bridge
+//! holds the same version. The answer is kept until a command is played that is no question, so that the questions
+//! `state` and `show` after it take constant time for it. `show` makes the bridge's tables anew. `wiring` makes them of
+//! the fabric of the wiring (`fdb_build`), which is made at the first such question, and kept with what was searched in
+//! it until a base VID, a bridge, a link, a metric or what is attached changes. `path` makes the graph that the bridge
+//! reads and one tree in it, and looks through the bridges once for each name. An `attach` goes over all that is
+//! attached, once for the customer port and its I-SID and once for each attached port of its bridge, and a `detach`
+//! twice; neither takes memory for that. A `frame` goes over all that is attached once. What leaves at customer ports
+//! takes memory for its place in the answer, and is handed over with it; where nothing leaves, none is taken.
 #![tactic(auto)]
 
 pub use answer::{Answer, Out};

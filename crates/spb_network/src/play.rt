@@ -328,7 +328,10 @@ impl<B: Bridge> NetworkOf<B> {
         ensures { self.new ≡ self.old }
     {
         match command {
-            Command::Wiring(_) => self.world.keep_roads(self.alloc),
+            Command::Wiring(name) => match self.world.bridge_place(*name) {
+                None => Ok(()),
+                Some(place) => self.world.prepare_tables(self.alloc, place),
+            },
             _ => Ok(()),
         }
     }

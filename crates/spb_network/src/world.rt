@@ -10,7 +10,7 @@ use crate::reason::reason_unless;
 use crate::{DeclaredBridge, DeclaredLink, LinkEnd, Reason, check, link_ends};
 use bridge_api::BridgeConfig;
 use ect_trees::Roads;
-use fdb_build::{tables_of, tables_over};
+use fdb_build::{Fabric, tables_of};
 use indexmap::IndexMap;
 use link_model::LaneId;
 use scenario::Side;
@@ -25,8 +25,8 @@ use std::alloc::Global;
 use std::marker::Model;
 
 /// What is declared: the base VIDs, the bridges, the links and the services, each in order of declaration; and what is
-/// attached, each by the place of its bridge, in order of attaching. The roads of the wiring are kept from the first
-/// question about it until a bridge, a link, a metric or what is attached changes.
+/// attached, each by the place of its bridge, in order of attaching. The fabric of the wiring is kept from the first
+/// question about it until a base VID, a bridge, a link, a metric or what is attached changes.
 #[derive(Drop)]
 pub struct World {
     vids: Vec<VidPlan>,
@@ -35,7 +35,7 @@ pub struct World {
     services: IndexMap<Isid, Vid>,
     attached: Vec<(usize, Attachment)>,
     hints: Hints,
-    kept: Option<Roads>,
+    kept: Option<Fabric>,
 }
 
 impl Model for World {
@@ -47,7 +47,7 @@ impl Model for World {
     ghost view = { λ w. record { vids = w.vids.items; bridges = w.bridges.entries; links = w.links.entries; services = w.services.entries; attached = w.attached.items } };
 
     ghost invariant = { λ w. state.Sound (record { vids = w.vids.items; bridges = w.bridges.entries; links = w.links.entries; services = w.services.entries; attached = w.attached.items })
-        × IfSome w.kept (λ roads. roads ≡ state.world_graph (record { vids = w.vids.items; bridges = w.bridges.entries; links = w.links.entries; services = w.services.entries; attached = w.attached.items })) };
+        × IfSome w.kept (λ fabric. fabric ≡ state.wired_fabric (record { vids = w.vids.items; bridges = w.bridges.entries; links = w.links.entries; services = w.services.entries; attached = w.attached.items })) };
 }
 
 impl World {
@@ -253,26 +253,40 @@ impl World {
         })
     }
 
-    /// Makes the roads of the wiring, unless they are kept. Nothing that is declared changes.
-    pub fn keep_roads(&mut self, alloc: Global) -> Result<(), NoMemory>
+    /// Makes the fabric of the wiring, unless it is kept. Nothing that is declared changes.
+    fn keep_fabric(&mut self, alloc: Global) -> Result<(), NoMemory>
         ensures { self.new ≡ self.old }
     {
         if self.kept.is_none() {
             let graph = self.graph(alloc)?;
-            self.kept = Some(Roads::over(alloc, graph)?);
+            let roads = Roads::over(alloc, graph)?;
+            self.kept = Some(Fabric::new(alloc, roads, self.vids.as_slice())?);
         }
         Ok(())
     }
 
-    /// The tables that the wiring gives the bridge at a place, over the roads that are kept. Where none are, they are
-    /// made for this question alone.
+    /// Makes ready what the tables that the wiring gives the bridge at a place are made of: its fabric, and the best
+    /// paths from the bridge in it. Nothing that is declared changes.
+    pub fn prepare_tables(&mut self, alloc: Global, place: usize) -> Result<(), NoMemory>
+        ensures { self.new ≡ self.old }
+    {
+        self.keep_fabric(alloc)?;
+        let me = system_at(&self.bridges, place);
+        match &mut self.kept {
+            None => Ok(()),
+            Some(fabric) => fabric.grow_from(alloc, me),
+        }
+    }
+
+    /// The tables that the wiring gives the bridge at a place. Where no fabric of the wiring is kept, they are made for
+    /// this question alone.
     #[tactic(auto, unfolding(crate::specs::World::wired_tables))]
     pub fn wired_tables(&self, alloc: Global, place: usize) -> Result<Tables, NoMemory>
         ensures { IfOk result (λ tables. tables ≡ state.wired_tables self.now place) }
     {
         let me = system_at(&self.bridges, place);
         match &self.kept {
-            Some(roads) => tables_over(alloc, roads, me, self.vids.as_slice()),
+            Some(fabric) => fabric.tables(alloc, me),
             None => {
                 let graph = self.graph(alloc)?;
                 tables_of(alloc, &graph, me, self.vids.as_slice())
@@ -451,6 +465,7 @@ impl World {
             vid: Vid { value: vid as u16 },
             ect: ect as u8,
         })?;
+        self.kept = None;
         Ok(())
     }
 

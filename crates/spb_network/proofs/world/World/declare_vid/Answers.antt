@@ -21,7 +21,7 @@ invariant_of-self-2 c =
     let old : World = record { vids = c.self.inside.vids.items; bridges = c.self.inside.bridges.entries; links = c.self.inside.links.entries; services = c.self.inside.services.entries; attached = c.self.inside.attached.items } in
     let none = ap (λ w. vid_refusal w c.args.vid c.args.ect) c.self.view_is ∙ c.requires in
     let new = vid_refusal_none old c.args.vid c.args.ect none in
-    (rw c.in_ok-push.ensures.items (Sound-with_vid old (plan_of c.args.vid c.args.ect) c.self.invariant.0 new.new), c.self.invariant.1)
+    (rw c.in_ok-push.ensures.items (Sound-with_vid old (plan_of c.args.vid c.args.ect) c.self.invariant.0 new.new), tt)
 
 pub returns-clause-ok : goal.returns-clause-ok
 unfolding with_vid

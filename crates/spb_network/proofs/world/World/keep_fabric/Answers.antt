@@ -1,5 +1,5 @@
 use Rattle.spb_network.proofs.ValidLemmas.{valid}
-use Rattle.spb_network.proofs.world.World.keep_roads.Goals as goal
+use Rattle.spb_network.proofs.world.World.keep_fabric.Goals as goal
 
 pub over-requires : goal.over-requires
 over-requires c =
