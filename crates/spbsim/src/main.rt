@@ -11,7 +11,7 @@ ghost use Rattle.std.specs.Prelude.{◌≡◌, is_some, nat_le};
 ghost use Rattle.spb_run.specs.Run.{status_number};
 
 use bridge_api::Bridge;
-use plain_bridge::PlainBridge;
+use plain_bridge::{PlainBridge, SharedReading};
 use spb_network::Network;
 use spb_outside::{Sink, Source, StdSink, StdSource};
 use spb_run::{Status, run};
@@ -65,8 +65,9 @@ fn play<S: Source, K: Sink>(
     sink: &mut K,
 ) -> Result<Status, NoMemory> {
     let mut rack: Vec<Box<dyn Bridge>> = Vec::new(alloc);
+    let shared = SharedReading::new(alloc)?;
     for _ in 0..BOXES {
-        rack.push(Box::new(alloc, PlainBridge::blank(alloc))?)?;
+        rack.push(Box::new(alloc, PlainBridge::sharing(alloc, shared.share()?))?)?;
         rack.push(Box::new(alloc, SwiftBridge::blank(alloc))?)?;
     }
     let mut network = Network::new(alloc, rack);
