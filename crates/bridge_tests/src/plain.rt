@@ -10,7 +10,7 @@ use crate::fixtures::{
 use adjacency::{AdjState, Adjacency};
 use bridge_api::{Bridge, Kind, Outbox};
 use lsdb::{DbRow, Version};
-use plain_bridge::PlainBridge;
+use plain_bridge::{PlainBridge, SharedReading};
 use spb_types::{Isid, Mac, NoMemory, PortSet, SourceId, SystemId, UnicastRow, Vid, group_address};
 use std::alloc::Global;
 use std::process::Abort;
@@ -251,24 +251,53 @@ fn port_to<B: Bridge>(bridge: &B, vid: Vid, to: Mac) -> Result<Option<u8>, NoMem
     bridge.unicast_port(vid, to)
 }
 
+/// The row to the bridge of a number, which is the neighbour at port 1.
+fn row_to(number: u8) -> UnicastRow {
+    UnicastRow {
+        vid: VID,
+        mac: mac(number),
+        port: 1,
+    }
+}
+
+/// Asserts which rows two blank bridges have, each alone and once they have met.
+fn check_rows<B: Bridge>(
+    rt: &impl Abort,
+    alloc: Global,
+    a: &mut B,
+    b: &mut B,
+) -> Result<(), NoMemory>
+    requires a { (B.shown a.old).blank ≡ true }
+    requires b { (B.shown b.old).blank ≡ true }
+{
+    make_two_in_vid_10(alloc, a, b)?;
+    assert_eq!(*rt; rows_of(a)?, (0, 0, None));
+    meet(alloc, a, b, 2)?;
+    greet(alloc, a, b)?;
+    assert_eq!(*rt; rows_of(a)?, (1, 0, Some(row_to(2))));
+    assert_eq!(*rt; rows_of(b)?, (1, 0, Some(row_to(1))));
+    assert_eq!(*rt; port_to(a, VID, mac(2))?, Some(1));
+    assert_eq!(*rt; port_to(a, OTHER_VID, mac(2))?, None);
+    assert_eq!(*rt; port_to(b, VID, mac(2))?, None);
+    Ok(())
+}
+
 #[test]
 fn two_boxes_show_each_other_in_their_tables(rt: HostRuntime) -> Result<(), Fail> {
     let alloc = rt.alloc();
     let mut a: Box<dyn Bridge> = Box::new(alloc, PlainBridge::blank(alloc))?;
     let mut b: Box<dyn Bridge> = Box::new(alloc, PlainBridge::blank(alloc))?;
-    make_two_in_vid_10(alloc, &mut a, &mut b)?;
-    assert_eq!(rt; rows_of(&a)?, (0, 0, None));
-    meet(alloc, &mut a, &mut b, 2)?;
-    greet(alloc, &mut a, &mut b)?;
-    let row = UnicastRow {
-        vid: VID,
-        mac: mac(2),
-        port: 1,
-    };
-    assert_eq!(rt; rows_of(&a)?, (1, 0, Some(row)));
-    assert_eq!(rt; port_to(&a, VID, mac(2))?, Some(1));
-    assert_eq!(rt; port_to(&a, OTHER_VID, mac(2))?, None);
-    assert_eq!(rt; port_to(&b, VID, mac(2))?, None);
+    check_rows(&rt, alloc, &mut a, &mut b)?;
+    Ok(())
+}
+
+#[test]
+fn boxes_that_share_what_they_read_have_their_own_rows(rt: HostRuntime) -> Result<(), Fail> {
+    let alloc = rt.alloc();
+    let shared = SharedReading::new(alloc)?;
+    let mut a = PlainBridge::sharing(alloc, shared.share()?);
+    let mut b = PlainBridge::sharing(alloc, shared);
+    check_rows(&rt, alloc, &mut a, &mut b)?;
     Ok(())
 }
 

@@ -2,7 +2,7 @@
 ghost use Rattle.std.specs.Prelude.{◌≤◌};
 ghost use Rattle.lsdb.specs.Entry.{CanBeHeld};
 
-use crate::fixtures::{dead, held, live, lsp_id as id, put};
+use crate::fixtures::{are_equal, dead, held, live, lsp_id as id, put};
 use lsdb::{Database, PutError, Raised, Relation, Version, compare, join};
 use spb_types::limits::MOST_PORTS;
 use spb_types::{LspId, PortSet};
@@ -10,8 +10,8 @@ use std::alloc::{AllocError, Global};
 use std::process::Abort;
 
 fn check_order(rt: &impl Abort, a: Version, h: Version, relation: Relation, top: Version) {
-    assert!(*rt; compare(a, h) == relation, "{a:?} and {h:?}");
-    assert!(*rt; join(a, h) == top, "{a:?} and {h:?}");
+    are_equal(rt, &(a, h, compare(a, h)), &(a, h, relation));
+    are_equal(rt, &(a, h, join(a, h)), &(a, h, top));
 }
 
 #[test]
@@ -28,12 +28,17 @@ fn versions_stand_in_their_order(rt: HostRuntime) {
     check_order(&rt, dead(5), dead(6), Relation::Older, dead(6));
 }
 
+/// Asserts the version of which a PDU with this sequence number, lifetime and checksum speaks.
+fn check_claimed(rt: &impl Abort, seq: u32, lifetime: u16, sum: u16, version: Version) {
+    are_equal(rt, &Version::claimed(seq, lifetime, sum), &version);
+}
+
 #[test]
 fn a_pdu_speaks_of_a_version(rt: HostRuntime) {
-    assert_eq!(rt; Version::claimed(0, 1200, 7), Version::Absent);
-    assert_eq!(rt; Version::claimed(9, 0, 7), dead(9));
-    assert_eq!(rt; Version::claimed(9, 1, 7), live(9, 7));
-    assert_eq!(rt; live(9, 7).number(), 9);
+    check_claimed(&rt, 0, 1200, 7, Version::Absent);
+    check_claimed(&rt, 9, 0, 7, dead(9));
+    check_claimed(&rt, 9, 1, 7, live(9, 7));
+    are_equal(&rt, &live(9, 7).number(), &9);
     assert!(rt; Version::Absent.is_absent() && !live(9, 7).is_absent());
 }
 
@@ -65,11 +70,15 @@ fn text_of(alloc: Global, db: &Database, id: LspId) -> Result<String, AllocError
 
 fn check(rt: &impl Abort, alloc: Global, db: &Database, id: LspId, expected: &str) {
     let text = text_of(alloc, db, id).expect(rt, "out of memory");
-    assert_eq!(*rt; text.as_str(), expected);
+    are_equal(rt, &text.as_str(), &expected);
 }
 
 fn check_place(rt: &impl Abort, db: &Database, place: usize, id: Option<LspId>) {
-    assert_eq!(*rt; db.at(place).map(|held| held.id), id);
+    let found = match db.at(place) {
+        Some(held) => Some(held.id),
+        None => None,
+    };
+    are_equal(rt, &found, &id);
 }
 
 fn check_held(rt: &impl Abort, db: &Database, id: LspId, held: bool) {
@@ -77,12 +86,11 @@ fn check_held(rt: &impl Abort, db: &Database, id: LspId, held: bool) {
 }
 
 fn check_version(rt: &impl Abort, db: &Database, id: LspId, version: Version) {
-    assert_eq!(*rt; db.version_at(&id), version);
+    are_equal(rt, &db.version_at(&id), &version);
 }
 
 fn check_len(rt: &impl Abort, db: &Database, len: usize) {
-    assert_eq!(*rt; db.len(), len);
-    assert!(*rt; db.is_empty() == (len == 0));
+    are_equal(rt, &(db.len(), db.is_empty()), &(len, len == 0));
 }
 
 #[test]
@@ -219,9 +227,10 @@ fn raise(
     let (version, lifetime, body) = to;
     match compare(version, db.version_at(&id)) {
         Relation::Newer => {
-            assert_eq!(*rt; db.raise(&id, version, lifetime, body), outcome);
+            let raised = db.raise(&id, version, lifetime, body);
+            are_equal(rt, &raised, &outcome);
         }
-        other => assert!(*rt; false, "{other:?}"),
+        other => are_equal(rt, &other, &Relation::Newer),
     }
 }
 
@@ -279,7 +288,7 @@ fn flags_are_set_and_cleared(rt: HostRuntime) {
 
 fn check_text(rt: &impl Abort, alloc: Global, error: PutError, expected: &str) {
     let text = format!(in alloc; "{error}").expect(rt, "out of memory");
-    assert_eq!(*rt; text.as_str(), expected);
+    are_equal(rt, &text.as_str(), &expected);
 }
 
 #[test]

@@ -6,6 +6,7 @@ use flooding::Own;
 use lsdb::{Database, Held, Version};
 use spb_types::{LspId, Mac, PortSet, Seq, SystemId};
 use std::alloc::Global;
+use std::fmt::Debug;
 use std::process::Abort;
 
 /// The ports 1, 2 and 3.
@@ -115,4 +116,13 @@ pub(crate) fn put(
 {
     let held = held(rt, alloc, id, version, lifetime, flags);
     assert!(*rt; db.put(held).is_ok());
+}
+
+/// Asserts that these are equal. An assertion is proved once here, and not at each type.
+pub(crate) fn are_equal<T: PartialEq + Debug>(rt: &impl Abort, found: &T, want: &T) {
+    assert_eq!(*rt; found, want);
+}
+
+pub(crate) fn are_bytes(rt: &impl Abort, found: &[u8], want: &[u8]) {
+    are_equal(rt, &found, &want);
 }

@@ -4,7 +4,9 @@ ghost use Rattle.std.specs.Prelude.{◌≡◌, ◌≤◌};
 ghost use Rattle.isis_pdu.specs.declared.kind.Kind.TheVariants as kinds;
 ghost use Rattle.isis_pdu.specs.Spelling.{CanWrite};
 
-use crate::fixtures::{UP, WITH_NEIGHBOUR, dead, live, lsp_id, own, put, seq, system};
+use crate::fixtures::{
+    UP, WITH_NEIGHBOUR, are_bytes, are_equal, dead, live, lsp_id, own, put, seq, system,
+};
 use flooding::{FloodError, Own, hear_lsp, lsp_of, originate, to_send, write_held};
 use isis_pdu::{Lsp, Pdu, decode};
 use lsdb::{Database, Held, Version};
@@ -44,14 +46,12 @@ fn row_of(db: &Database, id: &LspId) -> Row {
 }
 
 fn check_row(rt: &impl Abort, db: &Database, id: &LspId, expected: Row) {
-    assert_eq!(*rt; row_of(db, id), expected);
+    are_equal(rt, &row_of(db, id), &expected);
 }
 
 fn check_body(rt: &impl Abort, db: &Database, id: &LspId, expected: &[u8]) {
-    assert_eq!(*rt;
-        db.find(id).map(|held| held.body.as_slice()),
-        Some(expected)
-    );
+    let held = db.find(id).expect(rt, "nothing is held");
+    are_bytes(rt, held.body.as_slice(), expected);
 }
 
 /// An LSP of this sequence number, lifetime and checksum, with a body of three bytes.
@@ -83,14 +83,25 @@ fn hear(
     hear_lsp(alloc, db, up, port, lsp, own)
 }
 
+/// Asserts what stands under the id, and whether the bridge is spent, after which claim.
+fn check_outcome(
+    rt: &impl Abort,
+    claim: (u32, u16, u16),
+    found: (Row, bool),
+    outcome: (Row, bool),
+) {
+    are_equal(rt, &(claim, found), &(claim, outcome));
+}
+
 /// That bridge 1, where this version is held, if any, hears this claim of the id at port 2, after which this stands
 /// under the id, and the bridge is spent or not.
-fn check_heard(
+fn check_answered(
     rt: &impl Abort,
     alloc: Global,
     before: Option<Version>,
-    (id, claim): (LspId, (u32, u16, u16)),
-    (outcome, spent): (Row, bool),
+    id: LspId,
+    claim: (u32, u16, u16),
+    outcome: (Row, bool),
 ) {
     let mut db = Database::new(alloc);
     if let Some(version) = before {
@@ -98,34 +109,56 @@ fn check_heard(
     }
     let mut own = own(rt, alloc, b"\x01\x09\x01\x07");
     let heard = hear(rt, alloc, &mut db, UP, 2, &lsp(id, claim), &mut own);
-    assert!(*rt; heard.is_ok(), "{before:?} and {claim:?}");
-    assert!(*rt; row_of(&db, &id) == outcome, "{before:?} and {claim:?}");
-    assert!(*rt; own.spent == spent, "{before:?} and {claim:?}");
+    are_equal(rt, &heard, &Ok(()));
+    check_outcome(rt, claim, (row_of(&db, &id), own.spent), outcome);
 }
 
+/// The same of the first LSP of system 2, after which the bridge is not spent.
+fn check_heard(
+    rt: &impl Abort,
+    alloc: Global,
+    before: Option<Version>,
+    claim: (u32, u16, u16),
+    outcome: Row,
+) {
+    check_answered(rt, alloc, before, lsp_id(2, 0), claim, (outcome, false));
+}
+
+// Newer: stored, also where it is dead, and where nothing is held (for a dead one that is *profile*).
 #[test]
-fn each_row_of_the_table_gives_its_version_and_flags(rt: HostRuntime) {
-    let id = lsp_id(2, 0);
-    let (none, lived, died) = (Some(Version::Absent), Some(live(7, 9)), Some(dead(7)));
-    for (before, claim, outcome) in [
-        // Newer: stored, also where it is dead, and where nothing is held (for a dead one that is *profile*).
-        (lived, (8, 30, 5), row(live(8, 5), 30, 3, 0b101, 0b010)),
-        (lived, (7, 0, 0), row(dead(7), 0, 1, 0b101, 0b010)),
-        (none, (1, 30, 5), row(live(1, 5), 30, 3, 0b101, 0b010)),
-        (None, (1, 0, 5), row(dead(1), 0, 1, 0b101, 0b010)),
-        // Equal: acknowledged, but not where it is absent; lifetime and body aren't taken.
-        (lived, (7, 30, 9), row(live(7, 9), 500, 3, 0b001, 0b110)),
-        (died, (7, 0, 9), row(dead(7), 0, 1, 0b001, 0b110)),
-        (none, (0, 30, 9), row(Version::Absent, 0, 0, 0b011, 0b110)),
-        (None, (0, 30, 9), None),
-        // Older: the neighbour gets what is held.
-        (lived, (6, 30, 9), row(live(7, 9), 500, 3, 0b011, 0b100)),
-        (died, (7, 30, 9), row(dead(7), 0, 1, 0b011, 0b100)),
-        // Confused: dead, and sent to all.
-        (lived, (7, 30, 5), row(dead(7), 0, 1, 0b111, 0)),
-    ] {
-        check_heard(&rt, rt.alloc(), before, (id, claim), (outcome, false));
-    }
+fn a_newer_lsp_is_stored(rt: HostRuntime) {
+    let (none, lived) = (Some(Version::Absent), Some(live(7, 9)));
+    let newer = row(live(8, 5), 30, 3, 0b101, 0b010);
+    check_heard(&rt, rt.alloc(), lived, (8, 30, 5), newer);
+    let died = row(dead(7), 0, 1, 0b101, 0b010);
+    check_heard(&rt, rt.alloc(), lived, (7, 0, 0), died);
+    let first = row(live(1, 5), 30, 3, 0b101, 0b010);
+    check_heard(&rt, rt.alloc(), none, (1, 30, 5), first);
+    let first_dead = row(dead(1), 0, 1, 0b101, 0b010);
+    check_heard(&rt, rt.alloc(), None, (1, 0, 5), first_dead);
+}
+
+// Equal: acknowledged, but not where it is absent; lifetime and body aren't taken.
+#[test]
+fn an_equal_lsp_is_acknowledged(rt: HostRuntime) {
+    let lived = row(live(7, 9), 500, 3, 0b001, 0b110);
+    check_heard(&rt, rt.alloc(), Some(live(7, 9)), (7, 30, 9), lived);
+    let died = row(dead(7), 0, 1, 0b001, 0b110);
+    check_heard(&rt, rt.alloc(), Some(dead(7)), (7, 0, 9), died);
+    let none = row(Version::Absent, 0, 0, 0b011, 0b110);
+    check_heard(&rt, rt.alloc(), Some(Version::Absent), (0, 30, 9), none);
+    check_heard(&rt, rt.alloc(), None, (0, 30, 9), None);
+}
+
+// Older: the neighbour gets what is held. Confused: dead, and sent to all.
+#[test]
+fn an_older_lsp_gets_what_is_held_and_a_confused_one_ends_it(rt: HostRuntime) {
+    let lived = row(live(7, 9), 500, 3, 0b011, 0b100);
+    check_heard(&rt, rt.alloc(), Some(live(7, 9)), (6, 30, 9), lived);
+    let died = row(dead(7), 0, 1, 0b011, 0b100);
+    check_heard(&rt, rt.alloc(), Some(dead(7)), (7, 30, 9), died);
+    let ended = row(dead(7), 0, 1, 0b111, 0);
+    check_heard(&rt, rt.alloc(), Some(live(7, 9)), (7, 30, 5), ended);
 }
 
 /// The own LSP renewed, and a dead one, each sent to all. The body is 01 09 01 07.
@@ -137,35 +170,34 @@ fn dead_at(seq: u32) -> Row {
     row(dead(seq), 0, 1, 0b111, 0)
 }
 
+// The own LSP goes past the claim. At the last number it is dead.
+#[test]
+fn claims_of_the_own_lsp_are_answered(rt: HostRuntime) {
+    let (id, lived, last) = (lsp_id(1, 0), Some(live(7, 9)), u32::MAX);
+    let past = (renewed(10, 0xfbe4), false);
+    check_answered(&rt, rt.alloc(), lived, id, (9, 30, 5), past);
+    let next = (renewed(8, 0xffe2), false);
+    check_answered(&rt, rt.alloc(), lived, id, (7, 30, 5), next);
+    check_answered(&rt, rt.alloc(), lived, id, (7, 0, 0), next);
+    let anew = (renewed(4, 0x08de), false);
+    check_answered(&rt, rt.alloc(), None, id, (3, 0, 0), anew);
+    let spent = (dead_at(last), true);
+    check_answered(&rt, rt.alloc(), lived, id, (last, 30, 5), spent);
+}
+
+// Every other own id is dead at the claim's number. An equal and an older claim are as of any id.
 #[test]
 fn claims_of_own_ids_are_answered(rt: HostRuntime) {
     let (own, other) = (lsp_id(1, 0), lsp_id(1, 5));
     let (lived, last) = (Some(live(7, 9)), u32::MAX);
-    for (before, claimed, outcome) in [
-        // The own LSP goes past the claim.
-        (lived, (own, (9, 30, 5)), (renewed(10, 0xfbe4), false)),
-        (lived, (own, (7, 30, 5)), (renewed(8, 0xffe2), false)),
-        (lived, (own, (7, 0, 0)), (renewed(8, 0xffe2), false)),
-        (None, (own, (3, 0, 0)), (renewed(4, 0x08de), false)),
-        // At the last number it is dead.
-        (lived, (own, (last, 30, 5)), (dead_at(last), true)),
-        // Every other own id is dead at the claim's number.
-        (lived, (other, (9, 30, 5)), (dead_at(9), false)),
-        (None, (other, (last, 30, 5)), (dead_at(last), false)),
-        // An equal and an older claim are as of any id.
-        (
-            lived,
-            (own, (7, 30, 9)),
-            (row(live(7, 9), 500, 3, 0b001, 0b110), false),
-        ),
-        (
-            lived,
-            (own, (6, 30, 9)),
-            (row(live(7, 9), 500, 3, 0b011, 0b100), false),
-        ),
-    ] {
-        check_heard(&rt, rt.alloc(), before, claimed, outcome);
-    }
+    let ended = (dead_at(9), false);
+    check_answered(&rt, rt.alloc(), lived, other, (9, 30, 5), ended);
+    let ended = (dead_at(last), false);
+    check_answered(&rt, rt.alloc(), None, other, (last, 30, 5), ended);
+    let equal = (row(live(7, 9), 500, 3, 0b001, 0b110), false);
+    check_answered(&rt, rt.alloc(), lived, own, (7, 30, 9), equal);
+    let older = (row(live(7, 9), 500, 3, 0b011, 0b100), false);
+    check_answered(&rt, rt.alloc(), lived, own, (6, 30, 9), older);
 }
 
 /// That these are the ids of what is to be sent at the port.
@@ -174,7 +206,13 @@ fn check_to_send(rt: &impl Abort, alloc: Global, db: &Database, port: u8, ids: &
     requires high { port ≤ MOST_PORTS }
 {
     let found = to_send(alloc, db, port).expect(rt, "out of memory");
-    assert_eq!(*rt; found.as_slice(), ids);
+    are_equal(rt, &found.as_slice(), &ids);
+}
+
+/// Asserts that the LSP is held as it was heard.
+fn check_lsp(rt: &impl Abort, db: &Database, lsp: &Lsp<'_>) {
+    let held = db.find(&lsp.id).expect(rt, "nothing is held");
+    are_equal(rt, &lsp_of(held), lsp);
 }
 
 fn check_heard_and_sent_on(rt: &impl Abort, alloc: Global, lsp: &Lsp<'_>) {
@@ -183,10 +221,10 @@ fn check_heard_and_sent_on(rt: &impl Abort, alloc: Global, lsp: &Lsp<'_>) {
     let mut own = own(rt, alloc, &[1]);
     own.system = system(2);
     let heard = hear(rt, alloc, &mut db, up, 1, lsp, &mut own);
-    assert_eq!(*rt; heard, Ok(()));
+    are_equal(rt, &heard, &Ok(()));
     check_row(rt, &db, &lsp.id, row(live(1, 0x4fd7), 1200, 35, 0b10, 0b01));
     check_body(rt, &db, &lsp.id, &FIRST_LSP[26..]);
-    assert_eq!(*rt; db.find(&lsp.id).map(|held| lsp_of(held)), Some(*lsp));
+    check_lsp(rt, &db, lsp);
     check_to_send(rt, alloc, &db, 2, &[lsp.id]);
     check_to_send(rt, alloc, &db, 1, &[]);
 }
@@ -283,5 +321,5 @@ fn a_dead_lsp_is_its_header_alone(rt: HostRuntime) {
         ssn: PortSet::none(),
     };
     let bytes = write_held(rt.alloc(), &held).expect(&rt, "out of memory");
-    assert_eq!(rt; bytes.as_slice(), DEAD_LSP);
+    are_bytes(&rt, bytes.as_slice(), DEAD_LSP);
 }

@@ -2,8 +2,9 @@
 ghost use Rattle.std.specs.Prelude.{◌≡◌, [], ◌∷◌, IfOk};
 ghost use Rattle.spb_types.specs.Graph.{IsValid};
 
-use crate::trees::square;
-use ect_trees::{Tree, Trees, tree_from};
+use crate::fixtures::are_equal;
+use crate::trees::{path, square, tree};
+use ect_trees::{Tree, Trees};
 use fork_trees::TreeSet;
 use spb_types::{BridgeId, Edge, Graph, GraphBridge, Mac, NoMemory, Seq, SourceId, SystemId};
 use std::alloc::Global;
@@ -13,86 +14,103 @@ use std::test::Fail;
 const MASKS: [u8; 2] = [0x00, 0xff];
 
 /// The cost of a tree's path to a bridge, and behind it the bridges on it. Empty where there is no path.
-fn path_of(alloc: Global, tree: &Tree, to: u8) -> Result<Vec<u64>, NoMemory> {
-    let mut path = Vec::new(alloc);
-    if let Some(found) = tree.path_to(alloc, system!(to))? {
-        path.push(found.cost)?;
+fn path_of(rt: &impl Abort, alloc: Global, tree: &Tree, to: u8) -> Vec<u64> {
+    let mut bridges = Vec::new(alloc);
+    if let Some(found) = path(rt, alloc, tree, to) {
+        bridges.push(found.cost).expect(rt, "out of memory");
         for system in found.bridges.as_slice() {
-            path.push(u64::from(system.mac.bytes[5]))?;
+            bridges
+                .push(u64::from(system.mac.bytes[5]))
+                .expect(rt, "out of memory");
         }
     }
-    Ok(path)
+    bridges
+}
+
+/// The trees have the same paths to the bridges 1 to 4.
+fn check_same(rt: &impl Abort, alloc: Global, found: &Tree, want: &Tree) {
+    for to in 1..5 {
+        let found = path_of(rt, alloc, found, to);
+        let want = path_of(rt, alloc, want, to);
+        are_equal(rt, &found.as_slice(), &want.as_slice());
+    }
+}
+
+/// The set's tree from a bridge, under no contract.
+fn kept<'a>(rt: &impl Abort, set: &'a TreeSet, from: u8, mask: u8) -> &'a Tree {
+    set.tree(system!(from), mask).expect(rt, "no tree")
 }
 
 /// The tree from a bridge has the paths of one that is searched in the graph as it is now.
-fn assert_best(
-    rt: &impl Abort,
-    alloc: Global,
-    set: &TreeSet,
-    from: u8,
-    mask: u8,
-) -> Result<(), Fail> {
-    let tree = set.tree(system!(from), mask).ok_or("no tree")?;
-    let anew = tree_from(alloc, set.graph(), system!(from), mask)?;
-    for to in 1..5 {
-        let want = path_of(alloc, &anew, to)?;
-        assert_eq!(*rt; path_of(alloc, tree, to)?.as_slice(), want.as_slice());
-    }
-    Ok(())
+fn check_best(rt: &impl Abort, alloc: Global, set: &TreeSet, from: u8, mask: u8) {
+    let anew = tree(rt, alloc, set.graph(), from, mask);
+    check_same(rt, alloc, kept(rt, set, from, mask), &anew);
 }
 
 /// Every tree of the set has these paths.
-fn assert_all_best(rt: &impl Abort, alloc: Global, set: &TreeSet) -> Result<(), Fail> {
+fn check_all_best(rt: &impl Abort, alloc: Global, set: &TreeSet) {
     for from in 1..5 {
-        for mask in MASKS {
-            assert_best(rt, alloc, set, from, mask)?;
-        }
+        check_best(rt, alloc, set, from, 0x00);
+        check_best(rt, alloc, set, from, 0xff);
     }
-    Ok(())
-}
-
-/// The cost of the best path between two bridges, if there is one.
-fn cost_of(alloc: Global, set: &TreeSet, from: u8, to: u8) -> Result<Option<u64>, Fail> {
-    let tree = set.tree(system!(from), 0).ok_or("no tree")?;
-    let path = tree.path_to(alloc, system!(to))?;
-    Ok(path.map(|path| path.cost))
 }
 
 /// Sets or removes the edge.
-fn change(alloc: Global, set: &mut TreeSet, edge: Edge, present: bool) -> Result<(), Fail> {
-    if !set.can_have(&edge) {
-        return Err("no edge of the graph")?;
-    }
-    set.change_edge(alloc, &edge, present)?;
-    Ok(())
+fn change(rt: &impl Abort, alloc: Global, set: &mut TreeSet, edge: Edge, present: bool) {
+    assert!(*rt; set.can_have(&edge));
+    set.change_edge(alloc, &edge, present)
+        .expect(rt, "out of memory");
+}
+
+/// Asserts the cost of the best path between two bridges, if there is one.
+fn check_cost(rt: &impl Abort, alloc: Global, set: &TreeSet, from: u8, to: u8, want: Option<u64>) {
+    let found = match path(rt, alloc, kept(rt, set, from, 0), to) {
+        Some(path) => Some(path.cost),
+        None => None,
+    };
+    are_equal(rt, &found, &want);
+}
+
+/// Sets the edge between two bridges, or removes it, after which the best path between them has this cost, and every tree
+/// is as one that is searched anew.
+fn check_changed(
+    rt: &impl Abort,
+    alloc: Global,
+    set: &mut TreeSet,
+    (a, b, cost): (u8, u8, u32),
+    present: bool,
+    want: Option<u64>,
+) {
+    change(rt, alloc, set, edge!(a, b, cost), present);
+    check_cost(rt, alloc, set, a, b, want);
+    check_all_best(rt, alloc, set);
 }
 
 #[test]
 fn trees_follow_each_change(rt: HostRuntime) -> Result<(), Fail> {
     let graph = square(rt.alloc())?;
     let mut set = TreeSet::new(rt.alloc(), &graph, &MASKS)?;
-    for (a, b, cost, present, want) in [
-        (2, 1, 40, true, Some(30)),
-        (1, 2, 5, true, Some(5)),
-        (4, 2, 10, false, Some(25)),
-        (1, 4, 20, true, Some(20)),
-        (1, 2, 5, false, None),
-        (2, 3, 7, true, Some(7)),
-    ] {
-        change(rt.alloc(), &mut set, edge!(a, b, cost), present)?;
-        assert_eq!(rt; cost_of(rt.alloc(), &set, a, b)?, want);
-        assert_all_best(&rt, rt.alloc(), &set)?;
-    }
+    check_changed(&rt, rt.alloc(), &mut set, (2, 1, 40), true, Some(30));
+    check_changed(&rt, rt.alloc(), &mut set, (1, 2, 5), true, Some(5));
+    check_changed(&rt, rt.alloc(), &mut set, (4, 2, 10), false, Some(25));
+    check_changed(&rt, rt.alloc(), &mut set, (1, 4, 20), true, Some(20));
+    check_changed(&rt, rt.alloc(), &mut set, (1, 2, 5), false, None);
+    check_changed(&rt, rt.alloc(), &mut set, (2, 3, 7), true, Some(7));
     Ok(())
+}
+
+/// Asserts how many labels the last change computed.
+fn check_relabelled(rt: &impl Abort, set: &TreeSet, want: u64) {
+    are_equal(rt, &set.relabelled(), &want);
 }
 
 #[test]
 fn a_change_of_ports_computes_nothing(rt: HostRuntime) -> Result<(), Fail> {
     let graph = square(rt.alloc())?;
     let mut set = TreeSet::new(rt.alloc(), &graph, &MASKS)?;
-    change(rt.alloc(), &mut set, edge!(1, 7, 2, 7, 10), true)?;
-    change(rt.alloc(), &mut set, edge!(1, 4, 10), false)?;
-    assert_eq!(rt; set.relabelled(), 0);
+    change(&rt, rt.alloc(), &mut set, edge!(1, 7, 2, 7, 10), true);
+    change(&rt, rt.alloc(), &mut set, edge!(1, 4, 10), false);
+    check_relabelled(&rt, &set, 0);
     Ok(())
 }
 
@@ -101,43 +119,43 @@ fn has_tree<T: Trees>(trees: &T, from: u8, mask: u8) -> bool {
     trees.tree_of(system!(from), mask).is_some()
 }
 
+fn check_tree(rt: &impl Abort, set: &TreeSet, from: u8, mask: u8, want: bool) {
+    are_equal(
+        rt,
+        &(from, mask, has_tree(set, from, mask)),
+        &(from, mask, want),
+    );
+}
+
 #[test]
 fn other_bridges_and_masks_have_no_trees(rt: HostRuntime) -> Result<(), Fail> {
     let graph = square(rt.alloc())?;
     let masks = [0x00, 0x44, 0x00];
     let set = TreeSet::new(rt.alloc(), &graph, &masks)?;
-    for (from, mask, want) in [
-        (1, 0x00, true),
-        (4, 0x44, true),
-        (5, 0x00, false),
-        (1, 0xff, false),
-    ] {
-        assert_eq!(rt;
-            has_tree(&set, from, mask),
-            want,
-            "from {from} under mask {mask}"
-        );
-    }
-    assert_eq!(rt; set.masks(), masks.as_slice());
+    check_tree(&rt, &set, 1, 0x00, true);
+    check_tree(&rt, &set, 4, 0x44, true);
+    check_tree(&rt, &set, 5, 0x00, false);
+    check_tree(&rt, &set, 1, 0xff, false);
+    are_equal(&rt, &set.masks(), &masks.as_slice());
     assert!(rt; !set.has_failed());
     Ok(())
+}
+
+fn check_edge(rt: &impl Abort, set: &TreeSet, edge: Edge, want: bool) {
+    are_equal(rt, &(edge, set.can_have(&edge)), &(edge, want));
 }
 
 #[test]
 fn edges_join_two_bridges_at_a_cost(rt: HostRuntime) -> Result<(), Fail> {
     let graph = square(rt.alloc())?;
     let set = TreeSet::new(rt.alloc(), &graph, &[])?;
-    for (edge, want) in [
-        (edge!(4, 1, 1), true),
-        (edge!(1, 2, 16_777_214), true),
-        (edge!(1, 5, 10), false),
-        (edge!(5, 1, 10), false),
-        (edge!(3, 3, 10), false),
-        (edge!(1, 2, 0), false),
-        (edge!(1, 2, 16_777_215), false),
-    ] {
-        assert_eq!(rt; set.can_have(&edge), want);
-    }
+    check_edge(&rt, &set, edge!(4, 1, 1), true);
+    check_edge(&rt, &set, edge!(1, 2, 16_777_214), true);
+    check_edge(&rt, &set, edge!(1, 5, 10), false);
+    check_edge(&rt, &set, edge!(5, 1, 10), false);
+    check_edge(&rt, &set, edge!(3, 3, 10), false);
+    check_edge(&rt, &set, edge!(1, 2, 0), false);
+    check_edge(&rt, &set, edge!(1, 2, 16_777_215), false);
     Ok(())
 }
 
@@ -172,11 +190,10 @@ fn apart(alloc: Global) -> Result<Graph, NoMemory>
 }
 
 /// Joins each of the bridges 1 to 96 to the next.
-fn join_all(alloc: Global, set: &mut TreeSet) -> Result<(), Fail> {
+fn join_all(rt: &impl Abort, alloc: Global, set: &mut TreeSet) {
     for number in 1..96 {
-        change(alloc, set, edge!(number, number + 1, 10), true)?;
+        change(rt, alloc, set, edge!(number, number + 1, 10), true);
     }
-    Ok(())
 }
 
 /// Of a line of bridges the tree of the last changes at each other bridge, and each other tree at the last. The line is
@@ -184,9 +201,9 @@ fn join_all(alloc: Global, set: &mut TreeSet) -> Result<(), Fail> {
 #[test]
 fn one_edge_of_a_line_changes_few_labels(rt: HostRuntime) -> Result<(), Fail> {
     let mut line = TreeSet::new(rt.alloc(), &apart(rt.alloc())?, &[])?;
-    join_all(rt.alloc(), &mut line)?;
+    join_all(&rt, rt.alloc(), &mut line);
     let mut set = TreeSet::new(rt.alloc(), line.graph(), &[0])?;
-    change(rt.alloc(), &mut set, edge!(95, 96, 15), true)?;
-    assert_eq!(rt; set.relabelled(), 190);
+    change(&rt, rt.alloc(), &mut set, edge!(95, 96, 15), true);
+    check_relabelled(&rt, &set, 190);
     Ok(())
 }

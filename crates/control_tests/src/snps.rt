@@ -3,7 +3,9 @@
 //! three Up ports, of which the second hears. Checksums and PDUs were made by hand.
 ghost use Rattle.std.specs.Prelude.{◌≤◌};
 
-use crate::fixtures::{UP, WITH_NEIGHBOUR, dead, live, lsp_id, own, put, system};
+use crate::fixtures::{
+    UP, WITH_NEIGHBOUR, are_bytes, are_equal, dead, live, lsp_id, own, put, system,
+};
 use isis_pdu::{Csnp, Pdu, decode};
 use lsdb::{Database, Version};
 use snp_sync::{csnps, entries_of_snp, hear_csnp, hear_psnp, psnps, successor};
@@ -12,7 +14,6 @@ use spb_types::limits::MOST_PORTS;
 use spb_types::{LspId, Mac, SystemId};
 use std::alloc::Global;
 use std::process::Abort;
-use std::test::Fail;
 
 /// The PSNP of system 1 for the LSP 2 of system 2.
 const PSNP: [u8; 35] = [
@@ -114,7 +115,8 @@ fn check_heard(
     rt: &impl Abort,
     alloc: Global,
     before: Before,
-    (id, claim): (LspId, (u32, u16, u16)),
+    id: LspId,
+    claim: (u32, u16, u16),
     outcome: Row,
 ) {
     let mut db = Database::new(alloc);
@@ -122,92 +124,83 @@ fn check_heard(
         put_held(rt, alloc, &mut db, id, version, (srm, ssn));
     }
     hear_in_psnp(rt, alloc, &mut db, &[entry(id, claim)], 0);
-    assert!(*rt; row_of(&db, &id) == outcome, "{before:?} and {claim:?}");
+    let found = row_of(&db, &id);
+    are_equal(rt, &(before, claim, found), &(before, claim, outcome));
+}
+
+/// The same of the first LSP of system 2.
+fn check_other(
+    rt: &impl Abort,
+    alloc: Global,
+    before: Before,
+    claim: (u32, u16, u16),
+    outcome: Row,
+) {
+    check_heard(rt, alloc, before, lsp_id(2, 0), claim, outcome);
 }
 
 #[test]
 fn a_newer_entry_is_asked_for(rt: HostRuntime) {
     let (lived, died) = ((5, 600, 7), (5, 0, 0));
+    let older = was(live(4, 9), 0b011, 0b100);
+    let older_asked = row(live(4, 9), 1198, 0b001, 0b110);
+    check_other(&rt, rt.alloc(), older, lived, older_asked);
     let asked = row(Version::Absent, 0, 0, 0b010);
-    for (before, claim, outcome) in [
-        (
-            was(live(4, 9), 0b011, 0b100),
-            lived,
-            row(live(4, 9), 1198, 0b001, 0b110),
-        ),
-        (None, lived, asked),
-        (None, died, asked),
-        (was(Version::Absent, 0, 0), lived, asked),
-        (
-            was(live(5, 9), 0b011, 0b100),
-            died,
-            row(live(5, 9), 1198, 0b001, 0b110),
-        ),
-    ] {
-        check_heard(&rt, rt.alloc(), before, (lsp_id(2, 0), claim), outcome);
-    }
+    check_other(&rt, rt.alloc(), None, lived, asked);
+    check_other(&rt, rt.alloc(), None, died, asked);
+    let absent = was(Version::Absent, 0, 0);
+    check_other(&rt, rt.alloc(), absent, lived, asked);
+    let still_live = was(live(5, 9), 0b011, 0b100);
+    let still_live_asked = row(live(5, 9), 1198, 0b001, 0b110);
+    check_other(&rt, rt.alloc(), still_live, died, still_live_asked);
 }
 
 #[test]
 fn an_equal_entry_needs_no_sending(rt: HostRuntime) {
-    for (before, claim, outcome) in [
-        (
-            was(live(5, 7), 0b011, 0b110),
-            (5, 600, 7),
-            row(live(5, 7), 1198, 0b001, 0b110),
-        ),
-        (
-            was(dead(5), 0b011, 0b100),
-            (5, 0, 0),
-            row(dead(5), 0, 0b001, 0b100),
-        ),
-        (
-            was(Version::Absent, 0, 0b100),
-            (0, 0, 0),
-            row(Version::Absent, 0, 0, 0b100),
-        ),
-        (None, (0, 600, 7), None),
-    ] {
-        check_heard(&rt, rt.alloc(), before, (lsp_id(2, 0), claim), outcome);
-    }
+    let lived = was(live(5, 7), 0b011, 0b110);
+    let lived_kept = row(live(5, 7), 1198, 0b001, 0b110);
+    check_other(&rt, rt.alloc(), lived, (5, 600, 7), lived_kept);
+    let died = was(dead(5), 0b011, 0b100);
+    let died_kept = row(dead(5), 0, 0b001, 0b100);
+    check_other(&rt, rt.alloc(), died, (5, 0, 0), died_kept);
+    let absent = was(Version::Absent, 0, 0b100);
+    let absent_kept = row(Version::Absent, 0, 0, 0b100);
+    check_other(&rt, rt.alloc(), absent, (0, 0, 0), absent_kept);
+    check_other(&rt, rt.alloc(), None, (0, 600, 7), None);
 }
 
 #[test]
 fn an_older_entry_gets_what_is_held(rt: HostRuntime) {
-    for (before, claim, outcome) in [
-        (
-            was(live(6, 7), 0b001, 0b110),
-            (5, 600, 7),
-            row(live(6, 7), 1198, 0b011, 0b100),
-        ),
-        (was(dead(5), 0, 0b010), (0, 0, 0), row(dead(5), 0, 0b010, 0)),
-    ] {
-        check_heard(&rt, rt.alloc(), before, (lsp_id(2, 0), claim), outcome);
-    }
+    let newer = was(live(6, 7), 0b001, 0b110);
+    let newer_sent = row(live(6, 7), 1198, 0b011, 0b100);
+    check_other(&rt, rt.alloc(), newer, (5, 600, 7), newer_sent);
+    let died = was(dead(5), 0, 0b010);
+    let died_sent = row(dead(5), 0, 0b010, 0);
+    check_other(&rt, rt.alloc(), died, (0, 0, 0), died_sent);
 }
 
 #[test]
 fn a_confused_entry_ends_the_lsp(rt: HostRuntime) {
     let before = was(live(5, 7), 0, 0b010);
-    let claim = (5, 600, 8);
     let outcome = row(dead(5), 0, 0b111, 0);
-    check_heard(&rt, rt.alloc(), before, (lsp_id(2, 0), claim), outcome);
+    check_other(&rt, rt.alloc(), before, (5, 600, 8), outcome);
 }
 
 #[test]
 fn an_entry_of_an_own_id_is_answered(rt: HostRuntime) {
+    let (alloc, last) = (rt.alloc(), u32::MAX);
+    let before = was(live(4, 9), 0b001, 0b100);
     let (mine, other) = (lsp_id(1, 0), lsp_id(1, 3));
-    let last = u32::MAX;
-    for (id, claim, outcome) in [
-        (mine, (9, 600, 7), row(live(10, 0x951a), 1200, 0b111, 0)),
-        (mine, (4, 600, 7), row(live(5, 0x9f15), 1200, 0b111, 0)),
-        (mine, (last, 600, 7), row(dead(last), 0, 0b111, 0)),
-        (other, (9, 600, 7), row(dead(9), 0, 0b111, 0)),
-        (mine, (3, 600, 7), row(live(4, 9), 1198, 0b011, 0b100)),
-    ] {
-        let before = was(live(4, 9), 0b001, 0b100);
-        check_heard(&rt, rt.alloc(), before, (id, claim), outcome);
-    }
+    let past = row(live(10, 0x951a), 1200, 0b111, 0);
+    check_heard(&rt, alloc, before, mine, (9, 600, 7), past);
+    let next = row(live(5, 0x9f15), 1200, 0b111, 0);
+    check_heard(&rt, alloc, before, mine, (4, 600, 7), next);
+    let spent = row(dead(last), 0, 0b111, 0);
+    check_heard(&rt, alloc, before, mine, (last, 600, 7), spent);
+    let ended = row(dead(9), 0, 0b111, 0);
+    check_heard(&rt, alloc, before, other, (9, 600, 7), ended);
+    let older = row(live(4, 9), 1198, 0b011, 0b100);
+    check_heard(&rt, alloc, before, mine, (3, 600, 7), older);
 }
 
 /// The database of so many live LSPs, from system 1 on.
@@ -220,15 +213,15 @@ fn filled(rt: &impl Abort, alloc: Global, count: u16) -> Database {
     db
 }
 
-/// Asserts at which ports the LSPs of systems are to be sent.
-fn check_srm(rt: &impl Abort, db: &Database, expected: &[(u16, u32)]) {
-    for (of, srm) in expected {
-        let found = match db.find(&lsp_id(*of, 0)) {
-            Some(held) => Some(held.srm.bits),
-            None => None,
-        };
-        assert!(*rt; found == Some(*srm), "system {of}");
-    }
+/// Asserts at which ports a system's LSP is to be sent.
+fn check_srm(rt: &impl Abort, db: &Database, of: u16, srm: u32) {
+    let held = db.find(&lsp_id(of, 0)).expect(rt, "nothing is held");
+    are_equal(rt, &(of, held.srm.bits), &(of, srm));
+}
+
+/// Asserts how many LSPs are held.
+fn check_len(rt: &impl Abort, db: &Database, len: usize) {
+    are_equal(rt, &db.len(), &len);
 }
 
 #[test]
@@ -242,28 +235,28 @@ fn entries_without_a_place_are_counted(rt: HostRuntime) {
         entry(lsp_id(3002, 0), (1, 600, 7)),
     ];
     hear_in_psnp(&rt, alloc, &mut db, &entries, 2);
-    assert!(rt; db.len() == 2048);
-    check_srm(&rt, &db, &[(7, 0b010), (8, 0)]);
+    check_len(&rt, &db, 2048);
+    check_srm(&rt, &db, 7, 0b010);
+    check_srm(&rt, &db, 8, 0);
     let range = (lsp_id(8, 0), lsp_id(9, 0));
     hear_in_csnp(&rt, alloc, &mut db, range, &entries, 2);
-    assert!(rt; db.len() == 2048);
-    check_srm(&rt, &db, &[(7, 0b010), (8, 0b010), (9, 0b010), (10, 0)]);
+    check_len(&rt, &db, 2048);
+    check_srm(&rt, &db, 7, 0b010);
+    check_srm(&rt, &db, 8, 0b010);
+    check_srm(&rt, &db, 9, 0b010);
+    check_srm(&rt, &db, 10, 0);
 }
 
 #[test]
 fn a_csnp_is_answered_with_what_its_sender_lacks(rt: HostRuntime) {
     let alloc = rt.alloc();
     let mut db = Database::new(alloc);
-    for (of, version) in [
-        (2, live(5, 7)),
-        (3, dead(5)),
-        (4, live(5, 7)),
-        (5, Version::Absent),
-        (6, live(5, 7)),
-        (7, live(5, 7)),
-    ] {
-        put_held(&rt, alloc, &mut db, lsp_id(of, 0), version, (0, 0));
-    }
+    put_held(&rt, alloc, &mut db, lsp_id(2, 0), live(5, 7), (0, 0));
+    put_held(&rt, alloc, &mut db, lsp_id(3, 0), dead(5), (0, 0));
+    put_held(&rt, alloc, &mut db, lsp_id(4, 0), live(5, 7), (0, 0));
+    put_held(&rt, alloc, &mut db, lsp_id(5, 0), Version::Absent, (0, 0));
+    put_held(&rt, alloc, &mut db, lsp_id(6, 0), live(5, 7), (0, 0));
+    put_held(&rt, alloc, &mut db, lsp_id(7, 0), live(5, 7), (0, 0));
     let entries = [
         entry(lsp_id(9, 0), (0, 0, 0)),
         entry(lsp_id(4, 0), (5, 600, 7)),
@@ -271,11 +264,12 @@ fn a_csnp_is_answered_with_what_its_sender_lacks(rt: HostRuntime) {
     let range = (lsp_id(2, 1), lsp_id(6, 0));
     hear_in_csnp(&rt, alloc, &mut db, range, &entries, 0);
     // 2 lies before the range and 7 behind it; 4 is named, and 5 is absent.
-    check_srm(
-        &rt,
-        &db,
-        &[(2, 0), (3, 0b010), (4, 0), (5, 0), (6, 0b010), (7, 0)],
-    );
+    check_srm(&rt, &db, 2, 0);
+    check_srm(&rt, &db, 3, 0b010);
+    check_srm(&rt, &db, 4, 0);
+    check_srm(&rt, &db, 5, 0);
+    check_srm(&rt, &db, 6, 0b010);
+    check_srm(&rt, &db, 7, 0);
 }
 
 /// The PSNPs of system 1 for its port 2.
@@ -283,8 +277,9 @@ fn psnps_at_2(rt: &impl Abort, alloc: Global, db: &mut Database) -> Vec<Vec<u8>>
     psnps(alloc, db, system(1), 2).expect(rt, "out of memory")
 }
 
-fn are_bytes(rt: &impl Abort, found: &[u8], want: &[u8]) {
-    assert_eq!(*rt; found, want);
+/// Asserts what stands under an id.
+fn check_row(rt: &impl Abort, db: &Database, id: &LspId, expected: Row) {
+    are_equal(rt, &row_of(db, id), &expected);
 }
 
 #[test]
@@ -297,8 +292,8 @@ fn a_psnp_acknowledges_once(rt: HostRuntime) {
     let pdus = psnps_at_2(&rt, alloc, &mut db);
     assert!(rt; pdus.len() == 1);
     are_bytes(&rt, pdus[0].as_slice(), &PSNP);
-    assert!(rt; row_of(&db, &first) == row(live(2, 0xc2f3), 1198, 0b010, 0b100));
-    assert!(rt; row_of(&db, &second) == row(live(2, 7), 1198, 0b010, 0b100));
+    check_row(&rt, &db, &first, row(live(2, 0xc2f3), 1198, 0b010, 0b100));
+    check_row(&rt, &db, &second, row(live(2, 7), 1198, 0b010, 0b100));
     assert!(rt; psnps_at_2(&rt, alloc, &mut db).is_empty());
 }
 
@@ -309,35 +304,43 @@ type Chunk = (usize, LspId, LspId, usize);
 fn check_entries(rt: &impl Abort, entries: &[SnpEntry], from: u16) {
     let mut number = from;
     for entry in entries {
-        assert!(*rt; entry.id == lsp_id(number, 0), "system {number}");
+        are_equal(rt, &entry.id, &lsp_id(number, 0));
         number = number.wrapping_add(1);
+    }
+}
+
+/// The entries of SNPs' TLVs, under no contract.
+fn entries_in(rt: &impl Abort, alloc: Global, tlvs: &[u8]) -> Vec<SnpEntry> {
+    entries_of_snp(alloc, tlvs).expect(rt, "no entries")
+}
+
+/// What a CSNP is, under no contract.
+fn csnp_of<'a>(rt: &impl Abort, pdu: &'a [u8]) -> Csnp<'a> {
+    match decode(pdu) {
+        Ok(Pdu::Csnp(csnp)) => csnp,
+        _ => panic!(*rt; "no CSNP"),
     }
 }
 
 /// Asserts what a CSNP of system 1 is, and that it names systems in order from this number on.
 fn check_csnp(rt: &impl Abort, alloc: Global, pdu: &[u8], expected: Chunk, from: u16) {
-    let Ok(
-        Pdu::Csnp(
-            Csnp {
-                source,
-                start,
-                end,
-                tlvs,
-            },
-        ),
-    ) = decode(pdu)
-    else {
-        panic!(*rt; "no CSNP");
-    };
-    let entries = entries_of_snp(alloc, tlvs).expect(rt, "no entries");
-    assert!(*rt; source == system(1) && (pdu.len(), start, end, entries.len()) == expected);
-    check_entries(rt, &entries, from);
+    let csnp = csnp_of(rt, pdu);
+    let entries = entries_in(rt, alloc, csnp.tlvs);
+    let found = (pdu.len(), csnp.start, csnp.end, entries.len());
+    are_equal(rt, &csnp.source, &system(1));
+    are_equal(rt, &found, &expected);
+    check_entries(rt, entries.as_slice(), from);
+}
+
+/// The CSNPs of system 1, under no contract.
+fn csnps_of_1(rt: &impl Abort, alloc: Global, db: &Database) -> Vec<Vec<u8>> {
+    csnps(alloc, db, system(1)).expect(rt, "out of memory")
 }
 
 /// Asserts what the CSNPs of system 1 about this many LSPs are. Together they list each of them once, in order.
 fn check_csnps(rt: &impl Abort, alloc: Global, count: u16, expected: &[Chunk]) {
     let db = filled(rt, alloc, count);
-    let pdus = csnps(alloc, &db, system(1)).expect(rt, "out of memory");
+    let pdus = csnps_of_1(rt, alloc, &db);
     assert!(*rt; pdus.len() == expected.len());
     let mut from = 1_u16;
     for (pdu, chunk) in pdus.iter().zip(expected) {
@@ -376,46 +379,53 @@ fn an_absent_lsp_is_not_listed(rt: HostRuntime) {
         Version::Absent,
         (0, 0b010),
     );
-    let pdus = csnps(alloc, &db, system(1)).expect(&rt, "out of memory");
+    let pdus = csnps_of_1(&rt, alloc, &db);
     assert!(rt; pdus.len() == 1);
     check_csnp(&rt, alloc, pdus[0].as_slice(), (67, FIRST, LAST, 2), 1);
     assert!(rt; psnps_at_2(&rt, alloc, &mut db).len() == 1);
 }
 
 fn check_read(rt: &impl Abort, alloc: Global, tlvs: &[u8], expected: &[SnpEntry]) {
-    let entries = entries_of_snp(alloc, tlvs).expect(rt, "no entries");
-    assert_eq!(*rt; entries.as_slice(), expected);
+    let entries = entries_in(rt, alloc, tlvs);
+    are_equal(rt, &entries.as_slice(), &expected);
+}
+
+fn extend(rt: &impl Abort, bytes: &mut Vec<u8>, more: &[u8]) {
+    bytes.extend_from_slice(more).expect(rt, "out of memory");
 }
 
 #[test]
-fn entries_are_read_of_each_tlv(rt: HostRuntime) -> Result<(), Fail> {
-    let alloc = rt.alloc();
-    let mut tlvs = Vec::from_slice(alloc, &PSNP[17..])?;
-    tlvs.extend_from_slice(&[137, 1, 7])?;
-    tlvs.extend_from_slice(&PSNP[17..])?;
+fn entries_are_read_of_each_tlv(rt: HostRuntime) {
+    let mut tlvs = Vec::new(rt.alloc());
+    extend(&rt, &mut tlvs, &PSNP[17..]);
+    extend(&rt, &mut tlvs, &[137, 1, 7]);
+    extend(&rt, &mut tlvs, &PSNP[17..]);
     let known = entry(lsp_id(2, 0), (2, 1198, 0xc2f3));
-    check_read(&rt, alloc, &tlvs, &[known, known]);
-    tlvs.extend_from_slice(&[9, 1, 7])?;
-    assert!(rt; entries_of_snp(alloc, &tlvs).err() == Some(TlvError::Cut));
-    Ok(())
+    check_read(&rt, rt.alloc(), tlvs.as_slice(), &[known, known]);
+    extend(&rt, &mut tlvs, &[9, 1, 7]);
+    let cut = entries_of_snp(rt.alloc(), tlvs.as_slice());
+    are_equal(&rt, &cut.err(), &Some(TlvError::Cut));
+}
+
+fn check_successor(rt: &impl Abort, from: LspId, to: LspId) {
+    are_equal(rt, &successor(from), &to);
+}
+
+/// The id of these bytes.
+fn id_of(bytes: [u8; 6], pseudonode: u8, number: u8) -> LspId {
+    LspId {
+        system: SystemId { mac: Mac { bytes } },
+        pseudonode,
+        number,
+    }
 }
 
 #[test]
 fn the_successor_carries(rt: HostRuntime) {
-    let id = |bytes: [u8; 6], pseudonode: u8, number: u8| LspId {
-        system: SystemId { mac: Mac { bytes } },
-        pseudonode,
-        number,
-    };
-    for (from, to) in [
-        (id([2, 0, 0, 0, 0, 1], 0, 0), id([2, 0, 0, 0, 0, 1], 0, 1)),
-        (id([2, 0, 0, 0, 0, 1], 0, 255), id([2, 0, 0, 0, 0, 1], 1, 0)),
-        (
-            id([2, 0, 255, 255, 255, 255], 255, 255),
-            id([2, 1, 0, 0, 0, 0], 0, 0),
-        ),
-        (LAST, FIRST),
-    ] {
-        assert!(rt; successor(from) == to);
-    }
+    let one = [2, 0, 0, 0, 0, 1];
+    check_successor(&rt, id_of(one, 0, 0), id_of(one, 0, 1));
+    check_successor(&rt, id_of(one, 0, 255), id_of(one, 1, 0));
+    let last = id_of([2, 0, 255, 255, 255, 255], 255, 255);
+    check_successor(&rt, last, id_of([2, 1, 0, 0, 0, 0], 0, 0));
+    check_successor(&rt, LAST, FIRST);
 }

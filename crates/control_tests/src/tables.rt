@@ -3,10 +3,11 @@ ghost use Rattle.std.specs.Prelude.{◌≤◌, [], ◌∷◌, IfOk};
 ghost use Rattle.spb_types.specs.Graph.{IsValidFor};
 ghost use Rattle.fdb_build.specs.Tables.{ArePlans};
 
+use crate::fixtures::are_equal;
 use fdb_build::tables_of;
 use spb_types::{
     BridgeId, Edge, Graph, GraphBridge, GroupRow, Isid, Mac, Member, NoMemory, PortSet, Seq,
-    SourceId, SystemId, UnicastRow, Vid, VidPlan,
+    SourceId, SystemId, Tables, UnicastRow, Vid, VidPlan,
 };
 use std::alloc::Global;
 use std::process::Abort;
@@ -35,30 +36,26 @@ macro_rules! member {
     };
 }
 
-/// The tables have these unicast rows, by VID, last byte of the address and port, and no group rows.
-fn assert_rows(
-    rt: &impl Abort,
-    alloc: Global,
-    graph: &Graph,
-    me: SystemId,
-    vids: &[VidPlan],
-    want: &[(u16, u8, u8)],
-) -> Result<(), NoMemory>
+/// The tables of a bridge, under no contract: the tests ask for nothing but what they are.
+fn tables(rt: &impl Abort, alloc: Global, graph: &Graph, me: SystemId, vids: &[VidPlan]) -> Tables
     requires graph { IsValidFor graph.now me }
     requires vids { ArePlans vids.now }
 {
-    let tables = tables_of(alloc, graph, me, vids)?;
-    assert_eq!(rt; tables.unicast.len(), want.len());
+    tables_of(alloc, graph, me, vids).expect(rt, "out of memory")
+}
+
+/// The tables have these unicast rows, by VID, last byte of the address and port, and no group rows.
+fn check_rows(rt: &impl Abort, tables: &Tables, want: &[(u16, u8, u8)]) {
+    are_equal(rt, &tables.unicast.len(), &want.len());
     for (row, (vid, last, port)) in tables.unicast.iter().zip(want) {
         let want = UnicastRow {
             vid: Vid { value: *vid },
             mac: mac!(*last),
             port: *port,
         };
-        assert_eq!(rt; *row, want);
+        are_equal(rt, row, &want);
     }
-    assert!(rt; tables.group.is_empty());
-    Ok(())
+    assert!(*rt; tables.group.is_empty());
 }
 
 /// Bridges 1, 2, 4, 3 in a square, whose two ways from corner to corner tie, and bridge 9, which has no edge.
@@ -105,6 +102,7 @@ fn triangle(alloc: Global, cost: u32) -> Result<Graph, NoMemory>
 fn ties_fall_by_the_mask_of_the_vid(rt: HostRuntime) -> Result<(), Fail> {
     let graph = square(rt.alloc())?;
     let vids = [plan!(20, 2), plan!(10, 1)];
+    let one = tables(&rt, rt.alloc(), &graph, system!(1), &vids);
     let rows = [
         (10, 2, 5),
         (10, 3, 32),
@@ -113,7 +111,8 @@ fn ties_fall_by_the_mask_of_the_vid(rt: HostRuntime) -> Result<(), Fail> {
         (20, 3, 32),
         (20, 4, 32),
     ];
-    assert_rows(&rt, rt.alloc(), &graph, system!(1), &vids, &rows)?;
+    check_rows(&rt, &one, &rows);
+    let four = tables(&rt, rt.alloc(), &graph, system!(4), &vids);
     let back = [
         (10, 1, 8),
         (10, 2, 8),
@@ -122,50 +121,52 @@ fn ties_fall_by_the_mask_of_the_vid(rt: HostRuntime) -> Result<(), Fail> {
         (20, 2, 8),
         (20, 3, 6),
     ];
-    assert_rows(&rt, rt.alloc(), &graph, system!(4), &vids, &back)?;
+    check_rows(&rt, &four, &back);
     Ok(())
 }
 
 #[test]
 fn a_bridge_without_edges_has_no_rows(rt: HostRuntime) -> Result<(), Fail> {
     let graph = square(rt.alloc())?;
-    assert_rows(&rt, rt.alloc(), &graph, system!(9), &[plan!(10, 1)], &[])?;
-    assert_rows(&rt, rt.alloc(), &graph, system!(1), &[], &[])?;
+    let nine = tables(&rt, rt.alloc(), &graph, system!(9), &[plan!(10, 1)]);
+    check_rows(&rt, &nine, &[]);
+    let without_vids = tables(&rt, rt.alloc(), &graph, system!(1), &[]);
+    check_rows(&rt, &without_vids, &[]);
+    Ok(())
+}
+
+/// Bridge 1 of the triangle with an edge of this cost to bridge 3 comes there through this port.
+fn check_port(rt: &impl Abort, alloc: Global, cost: u32, port: u8) -> Result<(), NoMemory>
+    requires low { 1 ≤ cost }
+    requires high { cost ≤ 1000 }
+{
+    let graph = triangle(alloc, cost)?;
+    let vids = [plan!(4094, 16), plan!(1, 2)];
+    let tables = tables(rt, alloc, &graph, system!(1), &vids);
+    let rows = [(1, 2, 2), (1, 3, port), (4094, 2, 2), (4094, 3, port)];
+    check_rows(rt, &tables, &rows);
     Ok(())
 }
 
 #[test]
 fn rows_lead_to_the_second_bridge(rt: HostRuntime) -> Result<(), Fail> {
-    for (cost, port) in [(19, 3), (20, 3), (21, 2)] {
-        let graph = triangle(rt.alloc(), cost)?;
-        let vids = [plan!(4094, 16), plan!(1, 2)];
-        let rows = [(1, 2, 2), (1, 3, port), (4094, 2, 2), (4094, 3, port)];
-        assert_rows(&rt, rt.alloc(), &graph, system!(1), &vids, &rows)?;
-    }
+    check_port(&rt, rt.alloc(), 19, 3)?;
+    check_port(&rt, rt.alloc(), 20, 3)?;
+    check_port(&rt, rt.alloc(), 21, 2)?;
     Ok(())
 }
 
 /// The tables have these group rows in VID 10, by address and the bits of the ports.
-fn assert_groups(
-    rt: &impl Abort,
-    alloc: Global,
-    graph: &Graph,
-    me: SystemId,
-    want: &[([u8; 6], u32)],
-) -> Result<(), NoMemory>
-    requires graph { IsValidFor graph.now me }
-{
-    let tables = tables_of(alloc, graph, me, &[plan!(10, 1)])?;
-    assert_eq!(rt; tables.group.len(), want.len());
+fn check_groups(rt: &impl Abort, tables: &Tables, want: &[([u8; 6], u32)]) {
+    are_equal(rt, &tables.group.len(), &want.len());
     for (row, (bytes, bits)) in tables.group.iter().zip(want) {
         let want = GroupRow {
             vid: Vid { value: 10 },
             mac: Mac { bytes: *bytes },
             ports: PortSet { bits: *bits },
         };
-        assert_eq!(rt; *row, want);
+        are_equal(rt, row, &want);
     }
-    Ok(())
 }
 
 /// Bridges 1 to 6 in a ring: port 1 leads to the next bridge, port 2 to the one before. All but 6 are members.
@@ -205,13 +206,15 @@ fn group_rows_lead_to_the_members_behind(rt: HostRuntime) -> Result<(), Fail> {
         ([3, 0, 2, 0, 0, 100], 0b10),
         ([3, 0, 5, 0, 0, 100], 0b01),
     ];
-    assert_groups(&rt, rt.alloc(), &graph, system!(1), &one)?;
+    let tables_of_one = tables(&rt, rt.alloc(), &graph, system!(1), &[plan!(10, 1)]);
+    check_groups(&rt, &tables_of_one, &one);
     let six = [
         ([3, 0, 1, 0, 0, 100], 0b10),
         ([3, 0, 2, 0, 0, 100], 0b10),
         ([3, 0, 5, 0, 0, 100], 0b01),
     ];
-    assert_groups(&rt, rt.alloc(), &graph, system!(6), &six)?;
+    let tables_of_six = tables(&rt, rt.alloc(), &graph, system!(6), &[plan!(10, 1)]);
+    check_groups(&rt, &tables_of_six, &six);
     Ok(())
 }
 
@@ -236,6 +239,7 @@ fn line(alloc: Global) -> Result<Graph, NoMemory>
 fn sources_with_one_address_share_a_row(rt: HostRuntime) -> Result<(), Fail> {
     let graph = line(rt.alloc())?;
     let rows = [([3, 0, 1, 0, 0, 100], 0b11), ([3, 0, 2, 0, 0, 100], 0b11)];
-    assert_groups(&rt, rt.alloc(), &graph, system!(2), &rows)?;
+    let tables = tables(&rt, rt.alloc(), &graph, system!(2), &[plan!(10, 1)]);
+    check_groups(&rt, &tables, &rows);
     Ok(())
 }

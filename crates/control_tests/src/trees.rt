@@ -2,7 +2,8 @@
 ghost use Rattle.std.specs.Prelude.{IfOk};
 ghost use Rattle.spb_types.specs.Graph.{IsValid};
 
-use ect_trees::{PathKey, compare_keys, tree_from};
+use crate::fixtures::{are_bytes, are_equal};
+use ect_trees::{PathKey, Tree, compare_keys, tree_from};
 use spb_types::{BridgeId, Edge, Graph, GraphBridge, Mac, NoMemory, Path, Seq, SourceId, SystemId};
 use std::alloc::Global;
 use std::cmp::Ordering;
@@ -80,118 +81,143 @@ fn detour(alloc: Global) -> Result<Graph, NoMemory>
     })
 }
 
-fn key(alloc: Global, (cost, hops, last): (u64, u32, u8)) -> Result<PathKey, NoMemory> {
-    let ids = vec![in alloc; [0x80, 0, 2, 0, 0, 0, 0, last]]?;
-    Ok(PathKey {
+fn key(rt: &impl Abort, alloc: Global, cost: u64, hops: u32, last: u8) -> PathKey {
+    let ids = vec![in alloc; [0x80, 0, 2, 0, 0, 0, 0, last]].expect(rt, "out of memory");
+    PathKey {
         cost,
         hops,
         ids: Seq::from_vec(ids),
-    })
-}
-
-fn ends(alloc: Global, path: &Option<Path>) -> Result<Vec<u8>, NoMemory> {
-    let mut ends = Vec::new(alloc);
-    if let Some(path) = path {
-        for system in path.bridges.as_slice() {
-            ends.push(system.mac.bytes[5])?;
-        }
     }
-    Ok(ends)
 }
 
-/// Asserts that the best path has this cost and these bridges, by the last byte of each. No bridges: there is none.
-fn assert_best(
-    rt: &impl Abort,
-    alloc: Global,
-    graph: &Graph,
-    mask: u8,
-    cost: u64,
-    want: &[u8],
-) -> Result<(), NoMemory>
+/// The tree from a bridge, under no contract: the tests ask for nothing but what it is.
+pub(crate) fn tree(rt: &impl Abort, alloc: Global, graph: &Graph, from: u8, mask: u8) -> Tree
     requires { IsValid graph.now }
 {
-    if let [from, .., to] = want {
-        let tree = tree_from(alloc, graph, system!(*from), mask)?;
-        let path = tree.path_to(alloc, system!(*to))?;
-        let found = ends(alloc, &path)?;
-        assert_eq!(rt; found.as_slice(), want, "under mask {mask}");
-        assert_eq!(rt; path.map(|path| path.cost), Some(cost));
+    tree_from(alloc, graph, system!(from), mask).expect(rt, "out of memory")
+}
+
+/// The tree's path to a bridge, under no contract.
+pub(crate) fn path(rt: &impl Abort, alloc: Global, tree: &Tree, to: u8) -> Option<Path> {
+    tree.path_to(alloc, system!(to)).expect(rt, "out of memory")
+}
+
+/// The last byte of each bridge on a path.
+fn ends(rt: &impl Abort, alloc: Global, path: &Path) -> Vec<u8> {
+    let mut ends = Vec::new(alloc);
+    for system in path.bridges.as_slice() {
+        ends.push(system.mac.bytes[5]).expect(rt, "out of memory");
     }
-    Ok(())
+    ends
+}
+
+/// Asserts that the tree's path to a bridge has this cost and these bridges, by the last byte of each.
+fn check_path(rt: &impl Abort, alloc: Global, tree: &Tree, to: u8, cost: u64, want: &[u8]) {
+    let path = path(rt, alloc, tree, to).expect(rt, "no path");
+    are_equal(rt, &path.cost, &cost);
+    are_bytes(rt, ends(rt, alloc, &path).as_slice(), want);
+}
+
+/// Asserts that the best path has this cost and these bridges, by the last byte of each.
+fn check_best(rt: &impl Abort, alloc: Global, graph: &Graph, mask: u8, cost: u64, want: &[u8])
+    requires { IsValid graph.now }
+{
+    let from = want.first().copied().expect(rt, "no bridges");
+    let to = want.last().copied().expect(rt, "no bridges");
+    let tree = tree(rt, alloc, graph, from, mask);
+    check_path(rt, alloc, &tree, to, cost, want);
 }
 
 #[test]
 fn ties_fall_by_masked_ids(rt: HostRuntime) -> Result<(), Fail> {
     let graph = square(rt.alloc())?;
-    for (mask, cost, want) in [
-        (0x00, 20, [1, 2, 4]),
-        (0xff, 20, [1, 3, 4]),
-        (0x00, 20, [4, 2, 1]),
-        (0xff, 20, [4, 3, 1]),
-    ] {
-        assert_best(&rt, rt.alloc(), &graph, mask, cost, &want)?;
-    }
+    check_best(&rt, rt.alloc(), &graph, 0x00, 20, &[1, 2, 4]);
+    check_best(&rt, rt.alloc(), &graph, 0xff, 20, &[1, 3, 4]);
+    check_best(&rt, rt.alloc(), &graph, 0x00, 20, &[4, 2, 1]);
+    check_best(&rt, rt.alloc(), &graph, 0xff, 20, &[4, 3, 1]);
+    Ok(())
+}
+
+/// Asserts the best path from 1 to 8 with a priority of bridge 3.
+fn check_ladder(
+    rt: &impl Abort,
+    alloc: Global,
+    priority: u16,
+    mask: u8,
+    want: &[u8],
+) -> Result<(), NoMemory> {
+    let graph = ladder(alloc, priority)?;
+    check_best(rt, alloc, &graph, mask, 30, want);
     Ok(())
 }
 
 #[test]
 fn ids_compare_in_sorted_order(rt: HostRuntime) -> Result<(), Fail> {
-    for (priority, mask, want) in [
-        (32768, 0x00, [1, 5, 2, 8]),
-        (32768, 0x44, [1, 3, 4, 8]),
-        (32768, 0xff, [1, 5, 2, 8]),
-        (4096, 0x00, [1, 3, 4, 8]),
-        (4096, 0xff, [1, 5, 2, 8]),
-    ] {
-        let graph = ladder(rt.alloc(), priority)?;
-        assert_best(&rt, rt.alloc(), &graph, mask, 30, &want)?;
-    }
+    check_ladder(&rt, rt.alloc(), 32768, 0x00, &[1, 5, 2, 8])?;
+    check_ladder(&rt, rt.alloc(), 32768, 0x44, &[1, 3, 4, 8])?;
+    check_ladder(&rt, rt.alloc(), 32768, 0xff, &[1, 5, 2, 8])?;
+    check_ladder(&rt, rt.alloc(), 4096, 0x00, &[1, 3, 4, 8])?;
+    check_ladder(&rt, rt.alloc(), 4096, 0xff, &[1, 5, 2, 8])?;
     Ok(())
 }
 
+/// Asserts how a key of this cost, so many hops and this id compares with another.
+fn check_keys(
+    rt: &impl Abort,
+    alloc: Global,
+    a: (u64, u32, u8),
+    b: (u64, u32, u8),
+    want: Ordering,
+) {
+    let first = key(rt, alloc, a.0, a.1, a.2);
+    let second = key(rt, alloc, b.0, b.1, b.2);
+    are_equal(rt, &compare_keys(&first, &second), &want);
+}
+
 #[test]
-fn keys_compare_by_cost_then_hops_then_ids(rt: HostRuntime) -> Result<(), Fail> {
-    for (a, b, want) in [
-        ((10, 2, 9), (20, 1, 1), Ordering::Less),
-        ((10, 2, 9), (10, 3, 1), Ordering::Less),
-        ((10, 2, 9), (10, 2, 1), Ordering::Greater),
-        ((10, 2, 9), (10, 2, 9), Ordering::Equal),
-    ] {
-        let (a, b) = (key(rt.alloc(), a)?, key(rt.alloc(), b)?);
-        assert_eq!(rt; compare_keys(&a, &b), want);
-    }
-    Ok(())
+fn keys_compare_by_cost_then_hops_then_ids(rt: HostRuntime) {
+    check_keys(&rt, rt.alloc(), (10, 2, 9), (20, 1, 1), Ordering::Less);
+    check_keys(&rt, rt.alloc(), (10, 2, 9), (10, 3, 1), Ordering::Less);
+    check_keys(&rt, rt.alloc(), (10, 2, 9), (10, 2, 1), Ordering::Greater);
+    check_keys(&rt, rt.alloc(), (10, 2, 9), (10, 2, 9), Ordering::Equal);
+}
+
+/// Asserts the best paths of that graph under a mask.
+fn check_detour(rt: &impl Abort, alloc: Global, graph: &Graph, mask: u8)
+    requires { IsValid graph.now }
+{
+    check_best(rt, alloc, graph, mask, 30, &[1, 9, 4]);
+    check_best(rt, alloc, graph, mask, 30, &[4, 9, 1]);
+    check_best(rt, alloc, graph, mask, 20, &[1, 2, 3]);
+    check_best(rt, alloc, graph, mask, 20, &[9, 1, 2]);
+    check_best(rt, alloc, graph, mask, 30, &[9, 4, 3]);
 }
 
 #[test]
 fn fewer_hops_win_at_equal_cost(rt: HostRuntime) -> Result<(), Fail> {
     let graph = detour(rt.alloc())?;
-    for mask in [0x00, 0xff] {
-        assert_best(&rt, rt.alloc(), &graph, mask, 30, &[1, 9, 4])?;
-        assert_best(&rt, rt.alloc(), &graph, mask, 30, &[4, 9, 1])?;
-        assert_best(&rt, rt.alloc(), &graph, mask, 20, &[1, 2, 3])?;
-        assert_best(&rt, rt.alloc(), &graph, mask, 20, &[9, 1, 2])?;
-        assert_best(&rt, rt.alloc(), &graph, mask, 30, &[9, 4, 3])?;
-    }
+    check_detour(&rt, rt.alloc(), &graph, 0x00);
+    check_detour(&rt, rt.alloc(), &graph, 0xff);
     Ok(())
+}
+
+/// Asserts that the tree has no path to a bridge.
+fn has_no_path(rt: &impl Abort, alloc: Global, tree: &Tree, to: u8) {
+    assert!(*rt; path(rt, alloc, tree, to).is_none(), "to {to}");
 }
 
 #[test]
 fn no_path_is_none(rt: HostRuntime) -> Result<(), Fail> {
     let graph = detour(rt.alloc())?;
-    let tree = tree_from(rt.alloc(), &graph, system!(7), 0)?;
-    assert_eq!(rt; tree.source(), system!(7));
-    let own = tree.path_to(rt.alloc(), system!(7))?;
-    assert_eq!(rt; ends(rt.alloc(), &own)?.as_slice(), [7].as_slice());
-    assert_eq!(rt; own.map(|path| path.cost), Some(0));
+    let alone = tree(&rt, rt.alloc(), &graph, 7, 0);
+    are_equal(&rt, &alone.source(), &system!(7));
+    check_path(&rt, rt.alloc(), &alone, 7, 0, &[7]);
     for to in [1, 2, 3, 4, 9, 5] {
-        let path = tree.path_to(rt.alloc(), system!(to))?;
-        assert!(rt; path.is_none());
+        has_no_path(&rt, rt.alloc(), &alone, to);
     }
-    let strange = tree_from(rt.alloc(), &graph, system!(5), 0)?;
+    let strange = tree(&rt, rt.alloc(), &graph, 5, 0);
     for to in [1, 5, 7] {
-        let path = strange.path_to(rt.alloc(), system!(to))?;
-        assert!(rt; path.is_none());
+        has_no_path(&rt, rt.alloc(), &strange, to);
     }
     Ok(())
 }

@@ -5,7 +5,7 @@ ghost use Rattle.spb_types.specs.Graph.{IsDistinct};
 ghost use Rattle.spb_content.specs.Graph.{systems_in};
 ghost use Rattle.spb_content.specs.Local.{IsLocal};
 
-use crate::fixtures::{are_bytes, hex, system};
+use crate::fixtures::{are_bytes, are_equal, hex, system};
 use spb_content::{
     BridgeConfigFacts, Content, Inst, Local, content_of, graph_of, read_content, said_graph_of,
 };
@@ -15,7 +15,6 @@ use spb_types::{
 };
 use std::alloc::Global;
 use std::process::Abort;
-use std::test::Fail;
 
 /// An entry for the system with this last byte.
 fn entry(to: u8, metric: u32, port: u16) -> Neighbour
@@ -59,11 +58,19 @@ fn linked(alloc: Global, neighbours: Seq<Neighbour>) -> Local
     }
 }
 
+/// What a bridge says of itself, under no contract: the tests ask for nothing but what it is.
+fn said(rt: &impl Abort, alloc: Global, local: &Local) -> Vec<u8>
+    requires { IsLocal local.now }
+{
+    content_of(alloc, local).expect(rt, "out of memory")
+}
+
 /// The TLVs of bridge 1 with so many neighbours.
-fn written(alloc: Global, count: u8) -> Result<Vec<u8>, NoMemory>
+fn written(rt: &impl Abort, alloc: Global, count: u8) -> Vec<u8>
     requires { count ≤ 32 }
 {
-    content_of(alloc, &linked(alloc, neighbours(alloc, count)?))
+    let neighbours = neighbours(alloc, count).expect(rt, "out of memory");
+    said(rt, alloc, &linked(alloc, neighbours))
 }
 
 /// The TLVs of that bridge with one neighbour, made by hand.
@@ -72,59 +79,57 @@ const TLVS: &str = "01 04 03 49 00 01 81 01 c1
     90 17 00 00 01 13 00 00 00 00 00 00 00 00 00 00 00 00 80 00 00 00 00 01 00";
 
 #[test]
-fn a_bridge_with_a_neighbour_writes_its_tlvs(rt: HostRuntime) -> Result<(), Fail> {
-    let content = written(rt.alloc(), 1)?;
-    are_bytes(&rt, &content, &hex(rt.alloc(), TLVS)?);
-    Ok(())
+fn a_bridge_with_a_neighbour_writes_its_tlvs(rt: HostRuntime) {
+    let content = written(&rt, rt.alloc(), 1);
+    are_bytes(
+        &rt,
+        content.as_slice(),
+        hex(&rt, rt.alloc(), TLVS).as_slice(),
+    );
+}
+
+/// What is read of these TLVs, under no contract.
+fn read(rt: &impl Abort, alloc: Global, tlvs: &[u8]) -> Content {
+    read_content(alloc, tlvs).expect(rt, "refused")
 }
 
 /// Asserts that the content has an SPB-Inst with this priority and this source id.
 fn has_inst(rt: &impl Abort, content: &Content, priority: u16, source: u32) {
-    let found = content.inst.as_ref();
-    let found = found.map(|inst| (inst.priority, inst.source.value));
-    assert_eq!(rt; found, Some((priority, source)));
+    let inst = content.inst.as_ref().expect(rt, "no SPB-Inst");
+    are_equal(rt, &(inst.priority, inst.source.value), &(priority, source));
 }
 
 #[test]
-fn what_is_written_is_read(rt: HostRuntime) -> Result<(), Fail> {
-    let tlvs = written(rt.alloc(), 1)?;
-    let content = read_content(rt.alloc(), &tlvs)?;
-    let counts = (content.neighbours.len(), content.services.len());
-    assert_eq!(rt; counts, (1, 0));
+fn what_is_written_is_read(rt: HostRuntime) {
+    let tlvs = written(&rt, rt.alloc(), 1);
+    let content = read(&rt, rt.alloc(), tlvs.as_slice());
+    are_equal(&rt, &content.neighbours.len(), &1);
+    are_equal(&rt, &content.services.len(), &0);
     has_inst(&rt, &content, 32768, 1);
-    Ok(())
 }
 
-/// How many neighbours the TLV 22 of this number names, and the last of them.
-fn neighbours_of(
+/// Asserts that the TLV 22 of this number names so many neighbours, of which this is the last.
+fn has_neighbours(
+    rt: &impl Abort,
     alloc: Global,
     tlvs: &[u8],
     nth: usize,
-) -> Result<(usize, Option<Neighbour>), Fail> {
-    let value = find_tlv(tlvs, 22, nth).ok_or("too few TLVs 22")?;
-    let read = read_neighbours(alloc, value)?;
-    Ok((read.len(), read.last().copied()))
-}
-
-fn are_neighbours(rt: &impl Abort, found: (usize, Option<Neighbour>), want: (usize, Neighbour)) {
-    assert_eq!(rt; found, (want.0, Some(want.1)));
+    count: usize,
+    last: Neighbour,
+) {
+    let value = find_tlv(tlvs, 22, nth).expect(rt, "too few TLVs 22");
+    let read = read_neighbours(alloc, value).expect(rt, "refused");
+    are_equal(rt, &read.len(), &count);
+    are_equal(rt, &read.last().copied(), &Some(last));
 }
 
 #[test]
-fn the_fourteenth_neighbour_takes_a_second_tlv(rt: HostRuntime) -> Result<(), Fail> {
-    let tlvs = written(rt.alloc(), 14)?;
-    are_neighbours(
-        &rt,
-        neighbours_of(rt.alloc(), &tlvs, 0)?,
-        (13, entry(14, 10, 13)),
-    );
-    are_neighbours(
-        &rt,
-        neighbours_of(rt.alloc(), &tlvs, 1)?,
-        (1, entry(15, 10, 14)),
-    );
-    assert!(rt; find_tlv(&tlvs, 22, 2).is_none());
-    Ok(())
+fn the_fourteenth_neighbour_takes_a_second_tlv(rt: HostRuntime) {
+    let tlvs = written(&rt, rt.alloc(), 14);
+    let (first, second) = (entry(14, 10, 13), entry(15, 10, 14));
+    has_neighbours(&rt, rt.alloc(), tlvs.as_slice(), 0, 13, first);
+    has_neighbours(&rt, rt.alloc(), tlvs.as_slice(), 1, 1, second);
+    assert!(rt; find_tlv(tlvs.as_slice(), 22, 2).is_none());
 }
 
 /// Bridge 1 with a service in a base VID: an attached customer port, or a member of a graph.
@@ -140,8 +145,8 @@ fn attached(isid: u32, vid: u16) -> Member
 }
 
 /// Bridge 1 with two VIDs, two neighbours and three services, of which one is attached at two ports.
-fn serving(alloc: Global) -> Result<Local, NoMemory>
-    ensures { IfOk result IsLocal }
+fn serving(rt: &impl Abort, alloc: Global) -> Local
+    ensures { IsLocal result }
 {
     let vids = [
         VidPlan {
@@ -160,18 +165,18 @@ fn serving(alloc: Global) -> Result<Local, NoMemory>
         attached(100, 10),
         attached(200, 10),
     ];
-    Ok(Local {
+    Local {
         config: BridgeConfigFacts {
             id: BridgeId {
                 priority: 32768,
                 system: system(1),
             },
             source: SourceId { value: 1 },
-            vids: Seq::from_vec(Vec::from_slice(alloc, &vids)?),
+            vids: Seq::from_vec(Vec::from_slice(alloc, &vids).expect(rt, "out of memory")),
         },
-        neighbours: Seq::from_vec(Vec::from_slice(alloc, &neighbours)?),
-        attached: Seq::from_vec(Vec::from_slice(alloc, &ports)?),
-    })
+        neighbours: Seq::from_vec(Vec::from_slice(alloc, &neighbours).expect(rt, "out of memory")),
+        attached: Seq::from_vec(Vec::from_slice(alloc, &ports).expect(rt, "out of memory")),
+    }
 }
 
 /// Its TLVs, made by hand: a TLV 22 with two entries of 19 bytes, the SPB-Inst with the trees of the VIDs 10 and 20,
@@ -185,10 +190,13 @@ const SERVING: &str = "01 04 03 49 00 01 81 01 c1
     90 10 00 00 03 0c 02 00 00 00 00 01 00 14 c0 00 01 2c";
 
 #[test]
-fn vids_and_services_are_written_ascending(rt: HostRuntime) -> Result<(), Fail> {
-    let content = content_of(rt.alloc(), &serving(rt.alloc())?)?;
-    are_bytes(&rt, &content, &hex(rt.alloc(), SERVING)?);
-    Ok(())
+fn vids_and_services_are_written_ascending(rt: HostRuntime) {
+    let content = said(&rt, rt.alloc(), &serving(&rt, rt.alloc()));
+    are_bytes(
+        &rt,
+        content.as_slice(),
+        hex(&rt, rt.alloc(), SERVING).as_slice(),
+    );
 }
 
 /// A cut SPB-Inst, and then three without trees: of another topology, with the priority 0x8000 and the source id 1, and
@@ -199,81 +207,81 @@ const INSTS: &str = "90 05 00 00 01 01 00
     90 17 00 00 01 13 00 00 00 00 00 00 00 00 00 00 00 00 10 00 00 00 00 02 00";
 
 #[test]
-fn the_first_inst_that_can_be_read_counts(rt: HostRuntime) -> Result<(), Fail> {
-    let content = read_content(rt.alloc(), &hex(rt.alloc(), INSTS)?)?;
+fn the_first_inst_that_can_be_read_counts(rt: HostRuntime) {
+    let tlvs = hex(&rt, rt.alloc(), INSTS);
+    let content = read(&rt, rt.alloc(), tlvs.as_slice());
     has_inst(&rt, &content, 0x8000, 1);
-    Ok(())
+}
+
+/// The items as a list of their own.
+fn list_of<T: Copy>(rt: &impl Abort, alloc: Global, items: &[T]) -> Seq<T> {
+    Seq::from_vec(Vec::from_slice(alloc, items).expect(rt, "out of memory"))
 }
 
 /// What a bridge says with these neighbours and services.
 fn bridge(
+    rt: &impl Abort,
     alloc: Global,
     neighbours: &[Neighbour],
     services: &[(Mac, Vid, Service)],
-) -> Result<Content, NoMemory> {
+) -> Content {
     let inst = Inst {
         priority: 32768,
         source: SourceId { value: 1 },
         trees: Seq::new(alloc),
     };
-    Ok(Content {
+    Content {
         inst: Some(inst),
-        neighbours: Seq::from_vec(Vec::from_slice(alloc, neighbours)?),
-        services: Seq::from_vec(Vec::from_slice(alloc, services)?),
-    })
+        neighbours: list_of(rt, alloc, neighbours),
+        services: list_of(rt, alloc, services),
+    }
 }
 
 /// The systems 1, 2 and 3 with what they say: these neighbours each, and the first one these services.
 fn systems(
+    rt: &impl Abort,
     alloc: Global,
     neighbours: [&[Neighbour]; 3],
     services: &[(Mac, Vid, Service)],
-) -> Result<Vec<(SystemId, Content)>, NoMemory>
-    ensures apart { IfOk result (λ list. IsDistinct (systems_in list.items)) }
-    ensures few { IfOk result (λ list. length list.items ≤ 65535) }
+) -> Vec<(SystemId, Content)>
+    ensures apart { IsDistinct (systems_in result.items) }
+    ensures few { length result.items ≤ 65535 }
 {
     let [one, two, three] = neighbours;
-    let mut list = Vec::new(alloc);
-    list.push((system(1), bridge(alloc, one, services)?))?;
-    list.push((system(2), bridge(alloc, two, &[])?))?;
-    list.push((system(3), bridge(alloc, three, &[])?))?;
-    Ok(list)
+    let one = (system(1), bridge(rt, alloc, one, services));
+    let two = (system(2), bridge(rt, alloc, two, &[]));
+    let three = (system(3), bridge(rt, alloc, three, &[]));
+    vec![in alloc; one, two, three].expect(rt, "out of memory")
 }
 
-/// How many bridges, edges and members a graph has.
-fn sizes(graph: &Graph) -> (usize, usize, usize) {
-    (graph.bridges.len(), graph.edges.len(), graph.members.len())
-}
-
-/// Asserts that the graph from this system on has so many bridges, edges and members.
-fn has_sizes(
+/// The graph of their links from this system on, under no contract.
+fn graph(
     rt: &impl Abort,
     alloc: Global,
-    from: SystemId,
-    list: &[(SystemId, Content)],
-    want: (usize, usize, usize),
-) -> Result<(), Fail>
-    requires apart { IsDistinct (systems_in list.now) }
-    requires few { length list.now ≤ 65535 }
-{
-    let graph = graph_of(alloc, from, list)?;
-    assert_eq!(rt; sizes(&graph), want);
-    Ok(())
+    from: u8,
+    neighbours: [&[Neighbour]; 3],
+    services: &[(Mac, Vid, Service)],
+) -> Graph {
+    let list = systems(rt, alloc, neighbours, services);
+    graph_of(alloc, system(from), list.as_slice()).expect(rt, "out of memory")
 }
 
-/// Asserts that the graph from system 1 on has these edges.
-fn has_edges(
+/// The graph of all that they say, under no contract.
+fn said_graph(
     rt: &impl Abort,
     alloc: Global,
-    list: &[(SystemId, Content)],
-    want: &[Edge],
-) -> Result<(), Fail>
-    requires apart { IsDistinct (systems_in list.now) }
-    requires few { length list.now ≤ 65535 }
-{
-    let graph = graph_of(alloc, system(1), list)?;
-    assert_eq!(rt; graph.edges.as_slice(), want);
-    Ok(())
+    neighbours: [&[Neighbour]; 3],
+    services: &[(Mac, Vid, Service)],
+) -> Graph {
+    let list = systems(rt, alloc, neighbours, services);
+    said_graph_of(alloc, list.as_slice()).expect(rt, "out of memory")
+}
+
+/// Asserts how many bridges, edges and members a graph has.
+fn has_sizes(rt: &impl Abort, graph: &Graph, bridges: usize, edges: usize, members: usize) {
+    are_equal(rt, &graph.bridges.len(), &bridges);
+    are_equal(rt, &graph.edges.len(), &edges);
+    are_equal(rt, &graph.members.len(), &members);
 }
 
 /// An edge between two systems and their ports.
@@ -288,54 +296,55 @@ fn edge(a: (u8, u16), b: (u8, u16), cost: u32) -> Edge {
 }
 
 #[test]
-fn a_link_costs_the_greater_metric(rt: HostRuntime) -> Result<(), Fail> {
+fn a_link_costs_the_greater_metric(rt: HostRuntime) {
     let one = [entry(2, 10, 1)];
     let two = [entry(3, 16_777_214, 4), entry(1, 30, 7)];
     let three = [entry(2, 1, 5)];
-    let list = systems(rt.alloc(), [&one, &two, &three], &[])?;
+    let graph = graph(&rt, rt.alloc(), 1, [&one, &two, &three], &[]);
     let edges = [edge((1, 1), (2, 7), 30), edge((2, 4), (3, 5), 16_777_214)];
-    has_edges(&rt, rt.alloc(), &list, &edges)?;
-    has_sizes(&rt, rt.alloc(), system(1), &list, (3, 2, 0))
+    are_equal(&rt, &graph.edges.as_slice(), &edges.as_slice());
+    has_sizes(&rt, &graph, 3, 2, 0);
 }
 
 #[test]
-fn what_one_end_lists_is_no_link(rt: HostRuntime) -> Result<(), Fail> {
+fn what_one_end_lists_is_no_link(rt: HostRuntime) {
     let one = [entry(1, 10, 1), entry(2, 10, 2), entry(9, 10, 3)];
     let two = [entry(3, 10, 1)];
-    let list = systems(rt.alloc(), [&one, &two, &[]], &[])?;
-    has_sizes(&rt, rt.alloc(), system(1), &list, (1, 0, 0))
+    let graph = graph(&rt, rt.alloc(), 1, [&one, &two, &[]], &[]);
+    has_sizes(&rt, &graph, 1, 0, 0);
 }
 
 #[test]
-fn the_first_entry_hides_the_others(rt: HostRuntime) -> Result<(), Fail> {
+fn the_first_entry_hides_the_others(rt: HostRuntime) {
     let one = [entry(2, 0, 1), entry(2, 10, 2)];
     let two = [entry(1, 10, 1), entry(3, 10, 2)];
     let three = [entry(2, 16_777_215, 1), entry(2, 10, 2)];
-    let list = systems(rt.alloc(), [&one, &two, &three], &[])?;
-    has_sizes(&rt, rt.alloc(), system(2), &list, (1, 0, 0))
+    let graph = graph(&rt, rt.alloc(), 2, [&one, &two, &three], &[]);
+    has_sizes(&rt, &graph, 1, 0, 0);
 }
 
 #[test]
-fn what_is_not_reached_is_cut(rt: HostRuntime) -> Result<(), Fail> {
+fn what_is_not_reached_is_cut(rt: HostRuntime) {
     let one = [entry(9, 10, 1)];
     let two = [entry(3, 10, 1)];
     let three = [entry(2, 10, 1)];
     let services = [service(1, 100, true, true)];
-    let list = systems(rt.alloc(), [&one, &two, &three], &services)?;
-    has_sizes(&rt, rt.alloc(), system(2), &list, (2, 1, 0))?;
-    has_sizes(&rt, rt.alloc(), system(1), &list, (1, 0, 1))?;
-    has_sizes(&rt, rt.alloc(), system(4), &list, (0, 0, 0))
+    let lists = [one.as_slice(), &two, &three];
+    let of_two = graph(&rt, rt.alloc(), 2, lists, &services);
+    has_sizes(&rt, &of_two, 2, 1, 0);
+    let of_one = graph(&rt, rt.alloc(), 1, lists, &services);
+    has_sizes(&rt, &of_one, 1, 0, 1);
+    let of_none = graph(&rt, rt.alloc(), 4, lists, &services);
+    has_sizes(&rt, &of_none, 0, 0, 0);
 }
 
 #[test]
-fn all_that_is_said_makes_a_graph(rt: HostRuntime) -> Result<(), Fail> {
+fn all_that_is_said_makes_a_graph(rt: HostRuntime) {
     let two = [entry(3, 10, 1)];
     let three = [entry(2, 10, 1)];
     let services = [service(1, 100, true, true)];
-    let list = systems(rt.alloc(), [&[], &two, &three], &services)?;
-    let graph = said_graph_of(rt.alloc(), &list)?;
-    assert_eq!(rt; sizes(&graph), (3, 1, 1));
-    Ok(())
+    let graph = said_graph(&rt, rt.alloc(), [&[], &two, &three], &services);
+    has_sizes(&rt, &graph, 3, 1, 1);
 }
 
 /// A service at the address of a system in VID 10, with its T and R bits.
@@ -348,29 +357,15 @@ fn service(at: u8, isid: u32, transmit: bool, receive: bool) -> (Mac, Vid, Servi
     (system(at).mac, Vid { value: 10 }, service)
 }
 
-/// Asserts that the graph from system 1 on has these members.
-fn has_members(
-    rt: &impl Abort,
-    alloc: Global,
-    list: &[(SystemId, Content)],
-    want: &[Member],
-) -> Result<(), Fail>
-    requires apart { IsDistinct (systems_in list.now) }
-    requires few { length list.now ≤ 65535 }
-{
-    let graph = graph_of(alloc, system(1), list)?;
-    assert_eq!(rt; graph.members.as_slice(), want);
-    Ok(())
-}
-
 #[test]
-fn members_send_and_take_at_their_own_mac(rt: HostRuntime) -> Result<(), Fail> {
+fn members_send_and_take_at_their_own_mac(rt: HostRuntime) {
     let services = [
         service(1, 100, true, false),
         service(1, 101, false, true),
         service(2, 102, true, true),
         service(1, 103, true, true),
     ];
-    let list = systems(rt.alloc(), [&[], &[], &[]], &services)?;
-    has_members(&rt, rt.alloc(), &list, &[attached(103, 10)])
+    let graph = graph(&rt, rt.alloc(), 1, [&[], &[], &[]], &services);
+    let members = [attached(103, 10)];
+    are_equal(&rt, &graph.members.as_slice(), &members.as_slice());
 }

@@ -1,264 +1,227 @@
 //! Tests of `scenario`'s `Cutter`.
+use crate::fixtures::are_bytes;
 use scenario::{Cut, Cutter, Cutting};
-use spb_types::NoMemory;
 use std::alloc::Global;
 use std::process::Abort;
-use std::test::Fail;
-
-// Scripts, and their lines, each with `|` behind it.
-const SCRIPTS: [(&str, &str); 10] = [
-    ("", ""),
-    ("\n", "|"),
-    ("a\nbc\n", "a|bc|"),
-    ("a\r\nbc\r\n\r\n", "a|bc||"),
-    ("a\n\n\nb", "a|||b|"),
-    ("a\r", "a\r|"),
-    ("a\n\r", "a|\r|"),
-    ("a\rb\r\r\nc", "a\rb\r|c|"),
-    ("\r\n\r", "|\r|"),
-    ("# one\n state \r\n\ttick A", "# one| state |\ttick A|"),
-];
 
 /// What a piece answers, under no contract: the tests ask for nothing but what it is.
-fn fed(cutter: &mut Cutter, piece: &[u8]) -> Result<Cut, NoMemory> {
-    cutter.feed(piece)
+fn fed(rt: &impl Abort, cutter: &mut Cutter, piece: &[u8]) -> Cut {
+    cutter.feed(piece).expect(rt, "out of memory")
 }
 
-/// The last line answered, and `|` behind it.
-fn put_line(cutter: &Cutter, text: &mut Vec<u8>) -> Result<(), NoMemory> {
-    text.extend_from_slice(cutter.line())?;
-    text.push(b'|')?;
-    Ok(())
+/// What the end answers, under no contract.
+fn ended(cutter: &mut Cutter) -> Cutting {
+    cutter.end()
+}
+
+/// Asserts what an answer says.
+fn is_what(rt: &impl Abort, found: Cutting, want: Cutting) {
+    assert_eq!(*rt; found, want);
+}
+
+/// Feeds a piece, of which so many bytes are taken.
+fn check_fed(rt: &impl Abort, cutter: &mut Cutter, piece: &[u8], used: usize, what: Cutting) {
+    let cut = fed(rt, cutter, piece);
+    assert_eq!(*rt; cut.used, used);
+    is_what(rt, cut.what, what);
+}
+
+/// Puts the last line answered to the text, and `|` behind it.
+fn put_line(rt: &impl Abort, cutter: &Cutter, text: &mut Vec<u8>) {
+    text.extend_from_slice(cutter.line())
+        .expect(rt, "out of memory");
+    text.push(b'|').expect(rt, "out of memory");
 }
 
 /// Feeds a piece as long as it gives lines, which are put to the text, and says what it answers then.
-fn feed_all(
-    rt: &impl Abort,
-    cutter: &mut Cutter,
-    piece: &[u8],
-    text: &mut Vec<u8>,
-) -> Result<Cutting, NoMemory> {
+fn feed_all(rt: &impl Abort, cutter: &mut Cutter, piece: &[u8], text: &mut Vec<u8>) -> Cutting {
     let mut rest = piece;
     for _ in 0..piece.len() {
-        let cut = fed(cutter, rest)?;
+        let cut = fed(rt, cutter, rest);
         rest = rest.get(cut.used..).expect(rt, "no more than the piece");
         if cut.what != Cutting::Line {
-            return Ok(cut.what);
+            return cut.what;
         }
-        put_line(cutter, text)?;
+        put_line(rt, cutter, text);
     }
-    Ok(fed(cutter, rest)?.what)
+    fed(rt, cutter, rest).what
+}
+
+/// Ends a script, of which a last line is put to the text.
+fn end_all(rt: &impl Abort, cutter: &mut Cutter, text: &mut Vec<u8>) {
+    if ended(cutter) == Cutting::Line {
+        put_line(rt, cutter, text);
+    }
+    is_what(rt, ended(cutter), Cutting::More);
 }
 
 /// The lines of a script in pieces of this length, each with `|` behind it.
-fn lines_of(
-    rt: &impl Abort,
-    alloc: Global,
-    script: &[u8],
-    len: usize,
-) -> Result<Vec<u8>, NoMemory> {
+fn lines_of(rt: &impl Abort, alloc: Global, script: &[u8], len: usize) -> Vec<u8> {
     let mut text = Vec::new(alloc);
     let mut cutter = Cutter::new(alloc);
     for piece in script.chunks(len.max(1)) {
-        assert_eq!(*rt; feed_all(rt, &mut cutter, piece, &mut text)?, Cutting::More);
+        let what = feed_all(rt, &mut cutter, piece, &mut text);
+        is_what(rt, what, Cutting::More);
     }
-    if cutter.end() == Cutting::Line {
-        put_line(&cutter, &mut text)?;
-    }
-    assert_eq!(*rt; cutter.end(), Cutting::More);
-    Ok(text)
+    end_all(rt, &mut cutter, &mut text);
+    text
 }
 
-/// The script has these lines, in whatever pieces of one length it comes.
-fn check_script(
-    rt: &impl Abort,
-    alloc: Global,
-    script: &str,
-    expected: &str,
-) -> Result<(), NoMemory> {
+/// The script has these lines, each with `|` behind it, in whatever pieces of one length it comes.
+fn check_script(rt: &impl Abort, alloc: Global, script: &str, expected: &str) {
     for len in 1..script.len() + 2 {
-        let found = lines_of(rt, alloc, script.as_bytes(), len)?;
-        assert_eq!(*rt; found.as_slice(), expected.as_bytes());
+        let found = lines_of(rt, alloc, script.as_bytes(), len);
+        are_bytes(rt, found.as_slice(), expected.as_bytes());
     }
-    Ok(())
 }
 
 #[test]
-fn a_script_has_the_same_lines_in_whatever_pieces(rt: HostRuntime) -> Result<(), Fail> {
-    for (script, expected) in SCRIPTS {
-        check_script(&rt, rt.alloc(), script, expected)?;
-    }
-    Ok(())
+fn a_script_has_the_same_lines_in_whatever_pieces(rt: HostRuntime) {
+    check_script(&rt, rt.alloc(), "", "");
+    check_script(&rt, rt.alloc(), "\n", "|");
+    check_script(&rt, rt.alloc(), "a\nbc\n", "a|bc|");
+    check_script(&rt, rt.alloc(), "a\r\nbc\r\n\r\n", "a|bc||");
+    check_script(&rt, rt.alloc(), "a\n\n\nb", "a|||b|");
+    check_script(&rt, rt.alloc(), "a\r", "a\r|");
+    check_script(&rt, rt.alloc(), "a\n\r", "a|\r|");
+    check_script(&rt, rt.alloc(), "a\rb\r\r\nc", "a\rb\r|c|");
+    check_script(&rt, rt.alloc(), "\r\n\r", "|\r|");
+    let script = "# one\n state \r\n\ttick A";
+    check_script(&rt, rt.alloc(), script, "# one| state |\ttick A|");
 }
 
 /// So many letters, and these bytes behind them.
-fn letters(alloc: Global, count: usize, behind: &[u8]) -> Result<Vec<u8>, NoMemory> {
-    let mut bytes = vec![in alloc; b'a'; count]?;
-    bytes.extend_from_slice(behind)?;
-    Ok(bytes)
+fn letters(rt: &impl Abort, alloc: Global, count: usize, behind: &[u8]) -> Vec<u8> {
+    let mut bytes = vec![in alloc; b'a'; count].expect(rt, "out of memory");
+    bytes.extend_from_slice(behind).expect(rt, "out of memory");
+    bytes
 }
 
-/// What a script answers that begins with so many letters and these bytes, and how many of its bytes are then taken. One
-/// byte a piece answers the same.
-fn begun_with(
-    rt: &impl Abort,
-    alloc: Global,
-    count: usize,
-    behind: &[u8],
-) -> Result<Cut, NoMemory> {
-    let script = letters(alloc, count, behind)?;
-    let mut whole = Cutter::new(alloc);
-    let cut = fed(&mut whole, &script)?;
-    let mut single = Cutter::new(alloc);
+/// Feeds one byte a piece as long as more is asked for, and says what is answered then and how many bytes are taken.
+fn fed_by_bytes(rt: &impl Abort, cutter: &mut Cutter, script: &[u8]) -> Cut {
     let mut used = 0_usize;
-    let mut what = Cutting::More;
     for piece in script.chunks(1) {
-        if what == Cutting::More {
-            let one = fed(&mut single, piece)?;
-            used = used.wrapping_add(one.used);
-            what = one.what;
+        let cut = fed(rt, cutter, piece);
+        used = used.wrapping_add(cut.used);
+        if cut.what != Cutting::More {
+            return Cut {
+                used,
+                what: cut.what,
+            };
         }
     }
-    assert_eq!(*rt; Cut { used, what }, cut);
-    assert_eq!(*rt; single.line(), whole.line());
-    assert_eq!(*rt;
-        fed(&mut whole, b"")?.what,
-        if cut.what == Cutting::Line {
-            Cutting::More
-        } else {
-            cut.what
-        }
-    );
-    Ok(cut)
+    Cut {
+        used,
+        what: Cutting::More,
+    }
 }
 
-/// Checks what such a script answers.
+/// Behind an answer nothing more is answered to no bytes: more is asked for, or the script has failed.
+fn check_stays(rt: &impl Abort, cutter: &mut Cutter, what: Cutting) {
+    let again = match what {
+        Cutting::Line => Cutting::More,
+        failed => failed,
+    };
+    is_what(rt, fed(rt, cutter, b"").what, again);
+}
+
+/// A script that begins with so many letters and these bytes answers this when so many bytes are taken. One byte a piece
+/// answers the same.
 fn check_begun(
     rt: &impl Abort,
     alloc: Global,
     count: usize,
     behind: &[u8],
-    expected: Cut,
-) -> Result<(), NoMemory> {
-    assert_eq!(*rt; begun_with(rt, alloc, count, behind)?, expected);
-    Ok(())
+    used: usize,
+    what: Cutting,
+) {
+    let script = letters(rt, alloc, count, behind);
+    let mut whole = Cutter::new(alloc);
+    check_fed(rt, &mut whole, script.as_slice(), used, what);
+    let mut single = Cutter::new(alloc);
+    let cut = fed_by_bytes(rt, &mut single, script.as_slice());
+    assert_eq!(*rt; cut.used, used);
+    is_what(rt, cut.what, what);
+    are_bytes(rt, single.line(), whole.line());
+    check_stays(rt, &mut whole, what);
 }
 
 #[test]
-fn a_line_has_at_most_8192_bytes_without_its_end(rt: HostRuntime) -> Result<(), Fail> {
-    let alloc = rt.alloc();
-    let line = |used| Cut {
-        used,
-        what: Cutting::Line,
-    };
-    let long = |used| Cut {
-        used,
-        what: Cutting::Long,
-    };
-    check_begun(&rt, alloc, 8192, b"\nb", line(8193))?;
-    check_begun(&rt, alloc, 8192, b"\r\nb", line(8194))?;
-    check_begun(&rt, alloc, 8191, b"\r\r\nb", line(8194))?;
-    check_begun(&rt, alloc, 8192, b"\rb\n", long(8194))?;
-    check_begun(&rt, alloc, 8192, b"\r\r\n", long(8194))?;
-    check_begun(&rt, alloc, 8192, b"b\n", long(8193))?;
-    check_begun(&rt, alloc, 9000, b"\n", long(8193))?;
-    Ok(())
+fn a_line_has_at_most_8192_bytes_without_its_end(rt: HostRuntime) {
+    let (line, long) = (Cutting::Line, Cutting::Long);
+    check_begun(&rt, rt.alloc(), 8192, b"\nb", 8193, line);
+    check_begun(&rt, rt.alloc(), 8192, b"\r\nb", 8194, line);
+    check_begun(&rt, rt.alloc(), 8191, b"\r\r\nb", 8194, line);
+    check_begun(&rt, rt.alloc(), 8192, b"\rb\n", 8194, long);
+    check_begun(&rt, rt.alloc(), 8192, b"\r\r\n", 8194, long);
+    check_begun(&rt, rt.alloc(), 8192, b"b\n", 8193, long);
+    check_begun(&rt, rt.alloc(), 9000, b"\n", 8193, long);
 }
 
 /// What the end answers behind so many letters and these bytes, and how long the line is.
-fn ended_with(alloc: Global, count: usize, behind: &[u8]) -> Result<(Cutting, usize), NoMemory> {
+fn check_ended(
+    rt: &impl Abort,
+    alloc: Global,
+    count: usize,
+    behind: &[u8],
+    what: Cutting,
+    len: usize,
+) {
+    let script = letters(rt, alloc, count, behind);
     let mut cutter = Cutter::new(alloc);
-    fed(&mut cutter, &letters(alloc, count, behind)?)?;
-    let what = cutter.end();
-    Ok((what, cutter.line().len()))
+    fed(rt, &mut cutter, script.as_slice());
+    is_what(rt, ended(&mut cutter), what);
+    assert_eq!(*rt; cutter.line().len(), len);
 }
 
 #[test]
-fn a_return_at_the_end_of_a_script_is_part_of_its_last_line(rt: HostRuntime) -> Result<(), Fail> {
-    let alloc = rt.alloc();
-    assert_eq!(rt; ended_with(alloc, 8192, b"")?, (Cutting::Line, 8192));
-    assert_eq!(rt; ended_with(alloc, 8191, b"\r")?, (Cutting::Line, 8192));
-    assert_eq!(rt; ended_with(alloc, 8192, b"\r")?, (Cutting::Long, 0));
-    assert_eq!(rt; ended_with(alloc, 0, b"\n")?, (Cutting::More, 0));
-    Ok(())
+fn a_return_at_the_end_of_a_script_is_part_of_its_last_line(rt: HostRuntime) {
+    check_ended(&rt, rt.alloc(), 8192, b"", Cutting::Line, 8192);
+    check_ended(&rt, rt.alloc(), 8191, b"\r", Cutting::Line, 8192);
+    check_ended(&rt, rt.alloc(), 8192, b"\r", Cutting::Long, 0);
+    check_ended(&rt, rt.alloc(), 0, b"\n", Cutting::More, 0);
 }
 
 /// A cutter behind so many lines of so many bytes, the LF among them.
-fn behind_lines(
-    rt: &impl Abort,
-    alloc: Global,
-    lines: usize,
-    len: usize,
-) -> Result<Cutter, NoMemory> {
+fn behind_lines(rt: &impl Abort, alloc: Global, lines: usize, len: usize) -> Cutter {
     let mut cutter = Cutter::new(alloc);
-    let piece = letters(alloc, len.saturating_sub(1), b"\n")?;
+    let piece = letters(rt, alloc, len.saturating_sub(1), b"\n");
     for _ in 0..lines {
-        assert_eq!(*rt;
-            fed(&mut cutter, &piece)?,
-            Cut {
-                used: len,
-                what: Cutting::Line
-            }
-        );
+        check_fed(rt, &mut cutter, piece.as_slice(), len, Cutting::Line);
     }
-    Ok(cutter)
+    cutter
 }
 
 #[test]
-fn a_script_has_at_most_100000_lines(rt: HostRuntime) -> Result<(), Fail> {
-    let mut cutter = behind_lines(&rt, rt.alloc(), 100_000, 1)?;
-    assert_eq!(rt; fed(&mut cutter, b"")?.what, Cutting::More);
-    let over = Cut {
-        used: 0,
-        what: Cutting::Over,
-    };
-    assert_eq!(rt; fed(&mut cutter, b"\n")?, over);
-    assert_eq!(rt; fed(&mut cutter, b"")?, over);
-    Ok(())
+fn a_script_has_at_most_100000_lines(rt: HostRuntime) {
+    let mut cutter = behind_lines(&rt, rt.alloc(), 100_000, 1);
+    check_fed(&rt, &mut cutter, b"", 0, Cutting::More);
+    check_fed(&rt, &mut cutter, b"\n", 0, Cutting::Over);
+    check_fed(&rt, &mut cutter, b"", 0, Cutting::Over);
 }
 
 #[test]
-fn a_script_has_at_most_8388608_bytes(rt: HostRuntime) -> Result<(), Fail> {
-    let alloc = rt.alloc();
-    let mut cutter = behind_lines(&rt, alloc, 1023, 8192)?;
-    let last = letters(alloc, 8192, b"\n")?;
-    let over = Cut {
-        used: 8192,
-        what: Cutting::Over,
-    };
-    assert_eq!(rt; fed(&mut cutter, &last)?, over);
-    assert_eq!(rt; fed(&mut cutter, b"\n")?.what, Cutting::Over);
-    Ok(())
+fn a_script_has_at_most_8388608_bytes(rt: HostRuntime) {
+    let mut cutter = behind_lines(&rt, rt.alloc(), 1023, 8192);
+    let last = letters(&rt, rt.alloc(), 8192, b"\n");
+    check_fed(&rt, &mut cutter, last.as_slice(), 8192, Cutting::Over);
+    is_what(&rt, fed(&rt, &mut cutter, b"\n").what, Cutting::Over);
 }
 
 /// Byte 8,388,608 is a CR, and byte 8,193 of its line.
-fn at_the_last_return(rt: &impl Abort, alloc: Global) -> Result<Cutter, NoMemory> {
-    let mut cutter = behind_lines(rt, alloc, 1022, 8192)?;
-    fed(&mut cutter, &letters(alloc, 8190, b"\n")?)?;
-    let last = letters(alloc, 8192, b"\r")?;
-    assert_eq!(*rt;
-        fed(&mut cutter, &last)?,
-        Cut {
-            used: 8193,
-            what: Cutting::More
-        }
-    );
-    Ok(cutter)
+fn at_the_last_return(rt: &impl Abort, alloc: Global) -> Cutter {
+    let mut cutter = behind_lines(rt, alloc, 1022, 8192);
+    let line = letters(rt, alloc, 8190, b"\n");
+    fed(rt, &mut cutter, line.as_slice());
+    let last = letters(rt, alloc, 8192, b"\r");
+    check_fed(rt, &mut cutter, last.as_slice(), 8193, Cutting::More);
+    cutter
 }
 
 #[test]
-fn a_line_that_is_too_long_is_told_before_the_end_of_the_room(rt: HostRuntime) -> Result<(), Fail> {
-    let mut cutter = at_the_last_return(&rt, rt.alloc())?;
-    let long = Cut {
-        used: 1,
-        what: Cutting::Long,
-    };
-    assert_eq!(rt; fed(&mut cutter, b"b")?, long);
-    let mut other = at_the_last_return(&rt, rt.alloc())?;
-    let over = Cut {
-        used: 0,
-        what: Cutting::Over,
-    };
-    assert_eq!(rt; fed(&mut other, b"\n")?, over);
-    Ok(())
+fn a_line_that_is_too_long_is_told_before_the_end_of_the_room(rt: HostRuntime) {
+    let mut cutter = at_the_last_return(&rt, rt.alloc());
+    check_fed(&rt, &mut cutter, b"b", 1, Cutting::Long);
+    let mut other = at_the_last_return(&rt, rt.alloc());
+    check_fed(&rt, &mut other, b"\n", 0, Cutting::Over);
 }

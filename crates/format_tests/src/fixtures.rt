@@ -3,8 +3,8 @@ ghost use Rattle.std.specs.Prelude.{◌≡◌, [], ◌∷◌};
 
 use spb_types::{LspId, Mac, SystemId};
 use std::alloc::Global;
+use std::fmt::Debug;
 use std::process::Abort;
-use std::test::Fail;
 
 /// A hello of system 1 at its circuit 1, to a neighbour that isn't known yet.
 pub(crate) const HELLO: &[u8] = b"\
@@ -32,27 +32,43 @@ pub(crate) const fn lsp_id(system: SystemId) -> LspId {
 }
 
 /// The bytes of these hexadecimal numbers.
-pub(crate) fn hex(alloc: Global, numbers: &str) -> Result<Vec<u8>, Fail> {
+pub(crate) fn hex(rt: &impl Abort, alloc: Global, numbers: &str) -> Vec<u8> {
     let mut bytes = Vec::new(alloc);
     for number in numbers.split_whitespace() {
-        bytes.push(u8::from_str_radix(number, 16)?)?;
+        let byte = u8::from_str_radix(number, 16).expect(rt, numbers);
+        bytes.push(byte).expect(rt, "out of memory");
     }
-    Ok(bytes)
+    bytes
 }
 
-/// The bytes, with others at some places.
+/// The bytes, with another one at this place.
 pub(crate) fn changed(
+    rt: &impl Abort,
     alloc: Global,
     bytes: &[u8],
-    changes: &[(usize, u8)],
-) -> Result<Vec<u8>, Fail> {
-    let mut changed = Vec::from_slice(alloc, bytes)?;
-    for (place, byte) in changes {
-        *changed.get_mut(*place).ok_or("no such place")? = *byte;
-    }
-    Ok(changed)
+    place: usize,
+    byte: u8,
+) -> Vec<u8> {
+    let mut changed = Vec::from_slice(alloc, bytes).expect(rt, "out of memory");
+    *changed.get_mut(place).expect(rt, "no such place") = byte;
+    changed
+}
+
+/// Asserts that these are equal. An assertion is proved once here, and not at each type.
+pub(crate) fn are_equal<T: PartialEq + Debug>(rt: &impl Abort, found: &T, want: &T) {
+    assert_eq!(*rt; found, want);
 }
 
 pub(crate) fn are_bytes(rt: &impl Abort, found: &[u8], want: &[u8]) {
-    assert_eq!(rt; found, want);
+    are_equal(rt, &found, &want);
+}
+
+/// The text by which a value is shown.
+pub(crate) fn shown<T: Debug>(rt: &impl Abort, alloc: Global, value: &T) -> String {
+    format!(in alloc; "{value:?}").expect(rt, "out of memory")
+}
+
+/// Asserts that text.
+pub(crate) fn is_shown<T: Debug>(rt: &impl Abort, alloc: Global, value: &T, want: &str) {
+    are_equal(rt, &shown(rt, alloc, value).as_str(), &want);
 }

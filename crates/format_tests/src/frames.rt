@@ -1,8 +1,8 @@
 //! Tests of `itag_frames`.
-use crate::fixtures::{HELLO, are_bytes, changed, system};
+use crate::fixtures::{HELLO, are_bytes, are_equal, changed, system};
 use itag_frames::{Frame, FrameError, classify, control_frame};
+use std::alloc::Global;
 use std::process::Abort;
-use std::test::Fail;
 
 /// The control frame of [`HELLO`].
 const FRAME: &[u8] = b"\
@@ -11,27 +11,30 @@ const FRAME: &[u8] = b"\
     \x02\x00\x00\x00\x01";
 
 #[test]
-fn a_hello_in_its_control_frame(rt: HostRuntime) -> Result<(), Fail> {
-    let frame = control_frame(rt.alloc(), system(1).mac, HELLO)?;
-    are_bytes(&rt, &frame, FRAME);
+fn a_hello_in_its_control_frame(rt: HostRuntime) {
+    let frame = control_frame(rt.alloc(), system(1).mac, HELLO).expect(&rt, "out of memory");
+    are_bytes(&rt, frame.as_slice(), FRAME);
     match classify(FRAME) {
         Ok(Frame::Control(pdu)) => are_bytes(&rt, pdu, HELLO),
         _ => panic!(rt; "no control frame"),
     }
-    Ok(())
 }
 
 fn is_refused(rt: &impl Abort, frame: &[u8], want: FrameError) {
-    assert!(*rt; classify(frame).err() == Some(want));
+    are_equal(rt, &classify(frame).err(), &Some(want));
+}
+
+/// Asserts that the frame is none of the backbone with another byte at a place.
+fn is_refused_with(rt: &impl Abort, alloc: Global, place: usize, byte: u8) {
+    let frame = changed(rt, alloc, FRAME, place, byte);
+    is_refused(rt, frame.as_slice(), FrameError::NotBackbone);
 }
 
 #[test]
-fn frames_that_are_no_control_frames(rt: HostRuntime) -> Result<(), Fail> {
+fn frames_that_are_no_control_frames(rt: HostRuntime) {
     is_refused(&rt, &FRAME[..16], FrameError::Short);
     is_refused(&rt, &FRAME[..52], FrameError::NotBackbone);
-    for change in [(5, 0x15), (16, 0x13), (13, 2)] {
-        let frame = changed(rt.alloc(), FRAME, &[change])?;
-        is_refused(&rt, &frame, FrameError::NotBackbone);
-    }
-    Ok(())
+    is_refused_with(&rt, rt.alloc(), 5, 0x15);
+    is_refused_with(&rt, rt.alloc(), 16, 0x13);
+    is_refused_with(&rt, rt.alloc(), 13, 2);
 }

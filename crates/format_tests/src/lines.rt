@@ -1,6 +1,6 @@
 //! Tests of `scenario`.
+use crate::fixtures::{are_bytes, are_equal, is_shown, shown};
 use scenario::{Command, KEYWORDS, Keyword, LineError, parse_line, print_command};
-use spb_types::NoMemory;
 use std::alloc::Global;
 use std::process::Abort;
 
@@ -250,21 +250,22 @@ const REFUSED_WORDS: &str = "\
 1|tickA
 8|tick A A";
 
-// Lines that are ignored.
-const IGNORED: [&str; 6] = ["", " ", "\t \t", "#", "# tick A", "#tick A\r"];
-
 /// What a line gives, under no contract: the tests ask for nothing but what it is.
 fn parsed(alloc: Global, line: &[u8]) -> Result<Option<Command>, LineError> {
     parse_line(alloc, line)
 }
 
+/// The command that a line of this row gives.
+fn command_of(rt: &impl Abort, alloc: Global, line: &[u8], row: &str) -> Command {
+    let command = parsed(alloc, line).expect(rt, row);
+    command.expect(rt, row)
+}
+
 /// The row is a line and the command that it spells.
 fn check_spelled(rt: &impl Abort, alloc: Global, row: &str) {
-    let (line, _) = row.split_once('|').expect(rt, "a row");
-    let command = parsed(alloc, line.as_bytes()).expect(rt, line);
-    let command = command.expect(rt, line);
-    let found = format!(in alloc; "{line}|{command:?}").expect(rt, "out of memory");
-    assert_eq!(*rt; found.as_str(), row);
+    let (line, expected) = row.split_once('|').expect(rt, "a row");
+    let command = command_of(rt, alloc, line.as_bytes(), row);
+    is_shown(rt, alloc, &command, expected);
 }
 
 #[test]
@@ -275,21 +276,18 @@ fn spelled_lines_give_their_commands(rt: HostRuntime) {
 }
 
 /// What is printed for a command, under no contract.
-fn printed(alloc: Global, command: &Command) -> Result<Vec<u8>, NoMemory> {
-    print_command(alloc, command)
+fn printed(rt: &impl Abort, alloc: Global, command: &Command) -> Vec<u8> {
+    print_command(alloc, command).expect(rt, "out of memory")
 }
 
 /// The line gives a command for which this is printed, and that is read as the same command.
 fn check_printed(rt: &impl Abort, alloc: Global, line: &str, expected: &str) {
-    let command = parsed(alloc, line.as_bytes()).expect(rt, line);
-    let command = command.expect(rt, line);
-    let text = printed(alloc, &command).expect(rt, "out of memory");
-    assert_eq!(*rt; text.as_slice(), expected.as_bytes());
-    let again = parsed(alloc, text.as_slice()).expect(rt, expected);
-    let again = again.expect(rt, expected);
-    let found = format!(in alloc; "{again:?}").expect(rt, "out of memory");
-    let meant = format!(in alloc; "{command:?}").expect(rt, "out of memory");
-    assert_eq!(*rt; found.as_str(), meant.as_str());
+    let command = command_of(rt, alloc, line.as_bytes(), line);
+    let text = printed(rt, alloc, &command);
+    are_bytes(rt, text.as_slice(), expected.as_bytes());
+    let again = command_of(rt, alloc, text.as_slice(), line);
+    let meant = shown(rt, alloc, &command);
+    is_shown(rt, alloc, &again, meant.as_str());
 }
 
 /// The row is a line and what is printed for its command, which is printed so again.
@@ -306,29 +304,35 @@ fn printed_commands_are_read_back(rt: HostRuntime) {
     }
 }
 
-/// The row is a column and a line that is refused there; column 0 stands for a line that is not.
-fn check_refused(rt: &impl Abort, alloc: Global, row: &str) {
-    let (_, line) = row.split_once('|').expect(rt, "a row");
-    let column = match parsed(alloc, line.as_bytes()) {
+/// The column where a line is refused; 0 stands for a line that is not.
+fn column_of(alloc: Global, line: &[u8]) -> usize {
+    match parsed(alloc, line) {
         Err(LineError::Words(column)) => column,
         _ => 0,
-    };
-    let found = format!(in alloc; "{column}|{line}").expect(rt, "out of memory");
-    assert_eq!(*rt; found.as_str(), row);
+    }
+}
+
+/// The row is a column and a line that is refused there.
+fn check_refused(rt: &impl Abort, alloc: Global, row: &str) {
+    let (column, line) = row.split_once('|').expect(rt, "a row");
+    let found = shown(rt, alloc, &column_of(alloc, line.as_bytes()));
+    are_equal(rt, &(found.as_str(), line), &(column, line));
+}
+
+fn check_all_refused(rt: &impl Abort, alloc: Global, rows: &str) {
+    for row in rows.lines() {
+        check_refused(rt, alloc, row);
+    }
 }
 
 #[test]
 fn forms_that_do_not_fit_are_refused_at_their_column(rt: HostRuntime) {
-    for row in REFUSED_FORMS.lines() {
-        check_refused(&rt, rt.alloc(), row);
-    }
+    check_all_refused(&rt, rt.alloc(), REFUSED_FORMS);
 }
 
 #[test]
 fn words_that_do_not_fit_are_refused_at_their_column(rt: HostRuntime) {
-    for row in REFUSED_WORDS.lines() {
-        check_refused(&rt, rt.alloc(), row);
-    }
+    check_all_refused(&rt, rt.alloc(), REFUSED_WORDS);
 }
 
 /// A carriage return that ends a line is part of its last word.
@@ -341,15 +345,18 @@ fn a_return_ends_no_word(rt: HostRuntime) {
 }
 
 fn check_ignored(rt: &impl Abort, alloc: Global, line: &str) {
-    let is_ignored = matches!(parsed(alloc, line.as_bytes()), Ok(None));
-    assert!(*rt; is_ignored, "at {line:?}");
+    let command = parsed(alloc, line.as_bytes()).expect(rt, line);
+    are_equal(rt, &(line, command.is_none()), &(line, true));
 }
 
 #[test]
 fn blank_lines_and_comments_are_ignored(rt: HostRuntime) {
-    for line in IGNORED {
-        check_ignored(&rt, rt.alloc(), line);
-    }
+    check_ignored(&rt, rt.alloc(), "");
+    check_ignored(&rt, rt.alloc(), " ");
+    check_ignored(&rt, rt.alloc(), "\t \t");
+    check_ignored(&rt, rt.alloc(), "#");
+    check_ignored(&rt, rt.alloc(), "# tick A");
+    check_ignored(&rt, rt.alloc(), "#tick A\r");
 }
 
 fn is_too_long(alloc: Global, line: &[u8]) -> bool {
@@ -376,27 +383,31 @@ fn the_longest_line_gives_its_command(rt: HostRuntime) {
     let mut line = vec![in rt.alloc(); b' '; 8186].expect(&rt, "out of memory");
     line.extend_from_slice(b"tick A")
         .expect(&rt, "out of memory");
-    let tick = parsed(rt.alloc(), line.as_slice());
-    assert!(rt; matches!(tick, Ok(Some(Command::Tick(_)))));
+    let tick = command_of(&rt, rt.alloc(), line.as_slice(), "the longest line");
+    is_shown(&rt, rt.alloc(), &tick, "Tick(A)");
     line.push(b'\r').expect(&rt, "out of memory");
     assert!(rt; is_too_long(rt.alloc(), line.as_slice()));
 }
 
 fn check_keyword(rt: &impl Abort, keyword: Keyword, text: &str) {
     assert!(*rt; Keyword::read(text.as_bytes()) == Some(keyword), "{text}");
-    assert_eq!(*rt; keyword.text(), text.as_bytes());
+    are_bytes(rt, keyword.text(), text.as_bytes());
+}
+
+fn check_keywords(rt: &impl Abort, keywords: &[(Keyword, &str)]) {
+    for (keyword, text) in keywords {
+        check_keyword(rt, *keyword, text);
+    }
 }
 
 #[test]
 fn a_keyword_is_read_from_its_text(rt: HostRuntime) {
-    for (keyword, text) in KEYWORDS {
-        check_keyword(&rt, keyword, text);
-    }
+    check_keywords(&rt, &KEYWORDS);
 }
 
 fn check_error(rt: &impl Abort, alloc: Global, error: LineError, expected: &str) {
     let text = format!(in alloc; "{error}").expect(rt, "out of memory");
-    assert_eq!(*rt; text.as_str(), expected);
+    are_equal(rt, &text.as_str(), &expected);
 }
 
 #[test]

@@ -1,4 +1,5 @@
 //! Tests of `scenario_maker`.
+use crate::fixtures::{are_equal, shown};
 use scenario::{Command, LineError, parse_line};
 use scenario_maker::make;
 use std::alloc::Global;
@@ -60,9 +61,8 @@ fn parsed(alloc: Global, line: &str) -> Result<Option<Command>, LineError> {
 fn check_line(rt: &impl Abort, alloc: Global, script: &[Command], place: usize, line: &str) {
     let command = parsed(alloc, line).expect(rt, line).expect(rt, line);
     let found = script.get(place.wrapping_sub(1)).expect(rt, line);
-    let found = format!(in alloc; "{found:?}").expect(rt, "out of memory");
-    let wanted = format!(in alloc; "{command:?}").expect(rt, "out of memory");
-    assert_eq!(*rt; found.as_str(), wanted.as_str(), "at {line}");
+    let (found, wanted) = (shown(rt, alloc, found), shown(rt, alloc, &command));
+    are_equal(rt, &(place, found.as_str()), &(place, wanted.as_str()));
 }
 
 #[test]
@@ -90,7 +90,7 @@ fn the_lines_for_24_bridges_are_at_their_places(rt: HostRuntime) {
 }
 
 fn check_count(rt: &impl Abort, script: &[Command], count: usize) {
-    assert_eq!(*rt; script.len(), count);
+    are_equal(rt, &script.len(), &count);
 }
 
 #[test]

@@ -2,15 +2,14 @@
 
 ghost use Rattle.std.specs.Prelude.{◌≤◌, length};
 
-use crate::fixtures::{HELLO, are_bytes, changed, hex, lsp_id, system};
+use crate::fixtures::{HELLO, are_bytes, are_equal, changed, hex, lsp_id, system};
 use isis_pdu::{
     Csnp, Hello, Lsp, Pdu, PduError, check_ok, decode, lsp_sum, write_csnp, write_hello, write_lsp,
     write_psnp,
 };
 use spb_types::{LspId, Mac, NoMemory, SystemId};
-use std::alloc::{AllocError, Global};
+use std::alloc::Global;
 use std::process::Abort;
-use std::test::Fail;
 
 /// An LSP of number 1 without a neighbour.
 const FIRST_LSP: &[u8] = b"\
@@ -62,16 +61,16 @@ fn system_of(bytes: [u8; 6]) -> SystemId {
 }
 
 fn is_read(rt: &impl Abort, bytes: &[u8], want: Pdu<'_>) {
-    assert_eq!(rt; decode(bytes), Ok(want));
+    are_equal(rt, &decode(bytes), &Ok(want));
 }
 
 fn is_refused(rt: &impl Abort, bytes: &[u8], want: PduError) {
-    assert_eq!(rt; decode(bytes), Err(want));
+    are_equal(rt, &decode(bytes), &Err(want));
 }
 
 #[test]
 #[tactic(auto, unfolding(isis_pdu::specs::Tlvs::is_whole_after))]
-fn a_hello_is_written_and_read(rt: HostRuntime) -> Result<(), Fail> {
+fn a_hello_is_written_and_read(rt: HostRuntime) {
     let hello = Hello {
         circuit_type: 1,
         source: system(1),
@@ -79,9 +78,13 @@ fn a_hello_is_written_and_read(rt: HostRuntime) -> Result<(), Fail> {
         circuit: 1,
         tlvs: &[1, 4, 3, 0x49, 0, 1, 0x81, 1, 0xc1, 0xf0, 5, 2, 0, 0, 0, 1],
     };
-    are_bytes(&rt, &write_hello(rt.alloc(), &hello)?, HELLO);
+    let written = write_hello(rt.alloc(), &hello).expect(&rt, "out of memory");
+    are_bytes(&rt, written.as_slice(), HELLO);
     is_read(&rt, HELLO, Pdu::Hello(hello));
-    Ok(())
+}
+
+fn is_sum(rt: &impl Abort, found: u16, want: u16) {
+    are_equal(rt, &found, &want);
 }
 
 #[test]
@@ -97,7 +100,7 @@ fn the_first_lsp_is_read(rt: HostRuntime) {
         tlvs,
     };
     is_read(&rt, FIRST_LSP, Pdu::Lsp(lsp));
-    assert_eq!(rt; lsp_sum(&id, 1, 1, tlvs), 0x4fd7);
+    is_sum(&rt, lsp_sum(&id, 1, 1, tlvs), 0x4fd7);
     assert!(rt; check_ok(&FIRST_LSP[12..]));
 }
 
@@ -127,84 +130,84 @@ fn written_again(alloc: Global, bytes: &[u8]) -> Result<Vec<u8>, NoMemory>
     }
 }
 
-fn is_written_again(rt: &impl Abort, alloc: Global, bytes: &[u8]) -> Result<(), NoMemory> {
+fn is_written_again(rt: &impl Abort, alloc: Global, bytes: &[u8]) {
     assert!(*rt; bytes.len() <= 1497);
-    are_bytes(rt, &written_again(alloc, bytes)?, bytes);
-    Ok(())
+    let written = written_again(alloc, bytes).expect(rt, "out of memory");
+    are_bytes(rt, written.as_slice(), bytes);
 }
 
 #[test]
-fn pdus_are_written_again(rt: HostRuntime) -> Result<(), Fail> {
-    for pdu in [HELLO, FIRST_LSP, DEAD_LSP, CSNP, PSNP] {
-        is_written_again(&rt, rt.alloc(), pdu)?;
-    }
-    Ok(())
+fn pdus_are_written_again(rt: HostRuntime) {
+    is_written_again(&rt, rt.alloc(), HELLO);
+    is_written_again(&rt, rt.alloc(), FIRST_LSP);
+    is_written_again(&rt, rt.alloc(), DEAD_LSP);
+    is_written_again(&rt, rt.alloc(), CSNP);
+    is_written_again(&rt, rt.alloc(), PSNP);
 }
 
-/// The checksum of an LSP at a number: of a bridge with this source id and a neighbour at port 1 with this metric.
-fn sum_of(alloc: Global, source: u8, neighbour: u8, seq: u32, metric: u8) -> Result<u16, Fail> {
+/// Asserts the checksum of an LSP at a number: of a bridge with this source id, which says these TLVs of itself.
+fn sum_is(rt: &impl Abort, source: u8, seq: u32, tlvs: &[u8], want: u16) {
+    is_sum(rt, lsp_sum(&lsp_id(system(source)), seq, 1, tlvs), want);
+}
+
+/// The same where the TLVs name a neighbour at port 1 with this metric.
+fn check_sum(
+    rt: &impl Abort,
+    alloc: Global,
+    source: u8,
+    neighbour: u8,
+    seq: u32,
+    metric: u8,
+    want: u16,
+) {
     let tlvs = format!(in alloc;
         "01 04 03 49 00 01 81 01 c1
         16 13 02 00 00 00 00 {neighbour:02x} 00 00 00 {metric:02x} 08 1d 06 00 00 {metric:02x} 01 00 01
         90 17 00 00 01 13 00 00 00 00 00 00 00 00 00 00 00 00 80 00 00 00 00 {source:02x} 00"
-    )?;
-    let tlvs = hex(alloc, tlvs.as_str())?;
-    Ok(lsp_sum(&lsp_id(system(source)), seq, 1, &tlvs))
+    );
+    let tlvs = hex(rt, alloc, tlvs.expect(rt, "out of memory").as_str());
+    sum_is(rt, source, seq, tlvs.as_slice(), want);
 }
 
 #[test]
-fn checksums(rt: HostRuntime) -> Result<(), Fail> {
-    for (own, neighbour, seq, metric, sum) in [
-        (1, 2, 2, 10, 0xa512),
-        (1, 2, 4, 10, 0xa114),
-        (1, 2, 3, 15, 0x9e0e),
-        (2, 1, 2, 10, 0xc2f3),
-        (2, 1, 8, 15, 0xb1f4),
-        (2, 1, 3, 20, 0xb6ea),
-    ] {
-        let found = sum_of(rt.alloc(), own, neighbour, seq, metric)?;
-        assert_eq!(rt; found, sum, "of {own} at {seq}");
-    }
-    Ok(())
+fn checksums(rt: HostRuntime) {
+    check_sum(&rt, rt.alloc(), 1, 2, 2, 10, 0xa512);
+    check_sum(&rt, rt.alloc(), 1, 2, 4, 10, 0xa114);
+    check_sum(&rt, rt.alloc(), 1, 2, 3, 15, 0x9e0e);
+    check_sum(&rt, rt.alloc(), 2, 1, 2, 10, 0xc2f3);
+    check_sum(&rt, rt.alloc(), 2, 1, 8, 15, 0xb1f4);
+    check_sum(&rt, rt.alloc(), 2, 1, 3, 20, 0xb6ea);
 }
 
 #[test]
-fn the_checksum_of_another_first_lsp(rt: HostRuntime) -> Result<(), Fail> {
-    let other = changed(rt.alloc(), &FIRST_LSP[27..], &[(32, 2)])?;
-    assert_eq!(rt; lsp_sum(&lsp_id(system(2)), 1, 1, &other), 0x69bb);
-    Ok(())
+fn the_checksum_of_another_first_lsp(rt: HostRuntime) {
+    let other = changed(&rt, rt.alloc(), &FIRST_LSP[27..], 32, 2);
+    sum_is(&rt, 2, 1, other.as_slice(), 0x69bb);
 }
 
-/// Asserts what is answered of the first LSP with other bytes at some places.
-fn is_refused_with(
-    rt: &impl Abort,
-    alloc: Global,
-    changes: &[(usize, u8)],
-    want: PduError,
-) -> Result<(), Fail> {
-    is_refused(rt, &changed(alloc, FIRST_LSP, changes)?, want);
-    Ok(())
+/// Asserts what is answered of the first LSP with another byte at a place.
+fn is_refused_with(rt: &impl Abort, alloc: Global, place: usize, byte: u8, want: PduError) {
+    is_refused(
+        rt,
+        changed(rt, alloc, FIRST_LSP, place, byte).as_slice(),
+        want,
+    );
 }
 
 #[test]
-fn refusals(rt: HostRuntime) -> Result<(), Fail> {
-    for (place, byte, refusal) in [
-        (0, 0x82, PduError::NotIsis),
-        (2, 2, PduError::NotIsis),
-        (3, 5, PduError::NotIsis),
-        (5, 0, PduError::NotIsis),
-        (7, 2, PduError::NotIsis),
-        (4, 0x13, PduError::Kind),
-        (1, 0x1a, PduError::Kind),
-        (9, 0x1a, PduError::Length),
-        (9, 0x3e, PduError::Length),
-        (9, 0x3c, PduError::TlvCut),
-        (37, 0x18, PduError::TlvCut),
-        (60, 1, PduError::Sum),
-    ] {
-        is_refused_with(&rt, rt.alloc(), &[(place, byte)], refusal)?;
-    }
-    Ok(())
+fn refusals(rt: HostRuntime) {
+    is_refused_with(&rt, rt.alloc(), 0, 0x82, PduError::NotIsis);
+    is_refused_with(&rt, rt.alloc(), 2, 2, PduError::NotIsis);
+    is_refused_with(&rt, rt.alloc(), 3, 5, PduError::NotIsis);
+    is_refused_with(&rt, rt.alloc(), 5, 0, PduError::NotIsis);
+    is_refused_with(&rt, rt.alloc(), 7, 2, PduError::NotIsis);
+    is_refused_with(&rt, rt.alloc(), 4, 0x13, PduError::Kind);
+    is_refused_with(&rt, rt.alloc(), 1, 0x1a, PduError::Kind);
+    is_refused_with(&rt, rt.alloc(), 9, 0x1a, PduError::Length);
+    is_refused_with(&rt, rt.alloc(), 9, 0x3e, PduError::Length);
+    is_refused_with(&rt, rt.alloc(), 9, 0x3c, PduError::TlvCut);
+    is_refused_with(&rt, rt.alloc(), 37, 0x18, PduError::TlvCut);
+    is_refused_with(&rt, rt.alloc(), 60, 1, PduError::Sum);
 }
 
 #[test]
@@ -214,35 +217,42 @@ fn a_cut_lsp_is_refused(rt: HostRuntime) {
 }
 
 #[test]
-fn a_checksum_of_0_is_refused_but_for_a_sequence_number_of_0(rt: HostRuntime) -> Result<(), Fail> {
+fn a_checksum_of_0_is_refused_but_for_a_sequence_number_of_0(rt: HostRuntime) {
     let alloc = rt.alloc();
-    is_refused_with(&rt, alloc, &[(24, 0), (25, 0)], PduError::Sum)?;
-    let new = changed(alloc, FIRST_LSP, &[(24, 0), (25, 0), (23, 0)])?;
-    assert!(rt; decode(&new).is_ok());
+    let one = changed(&rt, alloc, FIRST_LSP, 24, 0);
+    let zero = changed(&rt, alloc, one.as_slice(), 25, 0);
+    is_refused(&rt, zero.as_slice(), PduError::Sum);
+    let new = changed(&rt, alloc, zero.as_slice(), 23, 0);
+    assert!(rt; decode(new.as_slice()).is_ok());
     // another type is refused before another length
-    let other = changed(alloc, &new, &[(4, 0x19), (9, 0xff)])?;
-    is_refused(&rt, &other, PduError::Kind);
-    Ok(())
+    let other = changed(&rt, alloc, new.as_slice(), 4, 0x19);
+    let longer = changed(&rt, alloc, other.as_slice(), 9, 0xff);
+    is_refused(&rt, longer.as_slice(), PduError::Kind);
 }
 
 /// Appends a padding TLV with so many bytes of 0.
-fn pad(bytes: &mut Vec<u8>, len: u8) -> Result<(), AllocError> {
-    bytes.push(8)?;
-    bytes.push(len)?;
+fn pad(rt: &impl Abort, bytes: &mut Vec<u8>, len: u8) {
+    bytes.push(8).expect(rt, "out of memory");
+    bytes.push(len).expect(rt, "out of memory");
     for _ in 0..len {
-        bytes.push(0)?;
+        bytes.push(0).expect(rt, "out of memory");
     }
-    Ok(())
+}
+
+/// That hello, padded to its 1,497 bytes.
+fn padded(rt: &impl Abort, alloc: Global) -> Vec<u8> {
+    let mut bytes = Vec::from_slice(alloc, FOREIGN_HELLO).expect(rt, "out of memory");
+    for _ in 0..5 {
+        pad(rt, &mut bytes, 255);
+    }
+    pad(rt, &mut bytes, 157);
+    bytes
 }
 
 #[test]
-fn a_padded_hello_of_another_implementation(rt: HostRuntime) -> Result<(), Fail> {
-    let mut bytes = Vec::new(rt.alloc());
-    bytes.extend_from_slice(FOREIGN_HELLO)?;
-    for len in [255, 255, 255, 255, 255, 157] {
-        pad(&mut bytes, len)?;
-    }
-    assert_eq!(rt; bytes.len(), 1497);
+fn a_padded_hello_of_another_implementation(rt: HostRuntime) {
+    let bytes = padded(&rt, rt.alloc());
+    assert!(rt; bytes.len() == 1497);
     let hello = Hello {
         circuit_type: 3,
         source: system_of([0x19, 0x21, 0x68, 0, 0x10, 2]),
@@ -250,8 +260,7 @@ fn a_padded_hello_of_another_implementation(rt: HostRuntime) -> Result<(), Fail>
         circuit: 1,
         tlvs: &bytes[20..],
     };
-    is_read(&rt, &bytes, Pdu::Hello(hello));
-    Ok(())
+    is_read(&rt, bytes.as_slice(), Pdu::Hello(hello));
 }
 
 #[test]
@@ -272,7 +281,7 @@ fn an_lsp_of_another_implementation(rt: HostRuntime) {
 }
 
 #[test]
-fn a_csnp_of_another_implementation(rt: HostRuntime) -> Result<(), Fail> {
+fn a_csnp_of_another_implementation(rt: HostRuntime) {
     let csnp = Csnp {
         source: system_of([0x19, 0x21, 0x68, 0, 0x10, 1]),
         start: lsp_id(system_of([0; 6])),
@@ -283,9 +292,9 @@ fn a_csnp_of_another_implementation(rt: HostRuntime) -> Result<(), Fail> {
         },
         tlvs: &FOREIGN_CSNP[33..],
     };
-    let mut frame = Vec::new(rt.alloc());
-    frame.extend_from_slice(FOREIGN_CSNP)?;
-    frame.extend_from_slice(&[0xa5; 4])?;
-    is_read(&rt, &frame, Pdu::Csnp(csnp));
-    Ok(())
+    let mut frame = Vec::from_slice(rt.alloc(), FOREIGN_CSNP).expect(&rt, "out of memory");
+    frame
+        .extend_from_slice(&[0xa5; 4])
+        .expect(&rt, "out of memory");
+    is_read(&rt, frame.as_slice(), Pdu::Csnp(csnp));
 }

@@ -1,38 +1,32 @@
 //! Tests of `spb_outside`.
-use spb_outside::{Failed, MemorySink, MemorySource, Sink, Source, StdSink, StdSource, WriteError};
+use crate::fixtures::{are_bytes, are_equal};
+use spb_outside::{MemorySink, MemorySource, Sink, Source, StdSink, StdSource, WriteError};
 use std::process::Abort;
-use std::test::Fail;
 
 /// Asserts what a source gives at a read of eight bytes, and how many of its reads have failed.
-fn check_read(
-    rt: &impl Abort,
-    source: &mut MemorySource,
-    expected: Result<&[u8], Failed>,
-    faults: u64,
-) {
+fn check_read(rt: &impl Abort, source: &mut MemorySource, expected: &[u8], faults: u64) {
     let mut into = [0; 8];
-    match (source.read(&mut into), expected) {
-        (Ok(count), Ok(bytes)) => assert_eq!(*rt; into.get(..count), Some(bytes)),
-        (found, expected) => assert_eq!(*rt; found.is_ok(), expected.is_ok()),
-    }
-    assert_eq!(*rt; source.faults(), faults);
+    let count = source.read(&mut into).expect(rt, "a fault");
+    are_equal(rt, &into.get(..count), &Some(expected));
+    are_equal(rt, &source.faults(), &faults);
+}
+
+/// Asserts that a read fails, and how many have failed then.
+fn check_failed_read(rt: &impl Abort, source: &mut MemorySource, faults: u64) {
+    let mut into = [0; 8];
+    assert!(*rt; source.read(&mut into).is_err());
+    are_equal(rt, &source.faults(), &faults);
 }
 
 #[test]
-fn a_source_in_memory_gives_its_bytes_in_steps_and_fails_where_listed(
-    rt: HostRuntime,
-) -> Result<(), Fail> {
-    let bytes = Vec::from_slice(rt.alloc(), b"abcde")?;
-    let mut source = MemorySource::new(bytes, vec![in rt.alloc(); 2]?, 3);
-    for (expected, faults) in [
-        (Ok(b"abc".as_slice()), 0),
-        (Err(Failed), 1),
-        (Ok(b"de"), 1),
-        (Ok(b""), 1),
-    ] {
-        check_read(&rt, &mut source, expected, faults);
-    }
-    Ok(())
+fn a_source_in_memory_gives_its_bytes_in_steps_and_fails_where_listed(rt: HostRuntime) {
+    let bytes = Vec::from_slice(rt.alloc(), b"abcde").expect(&rt, "out of memory");
+    let plan = vec![in rt.alloc(); 2].expect(&rt, "out of memory");
+    let mut source = MemorySource::new(bytes, plan, 3);
+    check_read(&rt, &mut source, b"abc", 0);
+    check_failed_read(&rt, &mut source, 1);
+    check_read(&rt, &mut source, b"de", 1);
+    check_read(&rt, &mut source, b"", 1);
 }
 
 /// Asserts how many bytes a sink takes of these, how many of its writes have failed, and what it has then.
@@ -44,34 +38,29 @@ fn check_written(
     faults: u64,
     all: &[u8],
 ) {
-    assert_eq!(*rt; sink.write(bytes), taken);
-    assert_eq!(*rt; sink.faults(), faults);
-    assert_eq!(*rt; sink.bytes(), all);
+    are_equal(rt, &sink.write(bytes), &taken);
+    are_equal(rt, &sink.faults(), &faults);
+    are_bytes(rt, sink.bytes(), all);
 }
 
 #[test]
-fn a_sink_in_memory_takes_bytes_in_steps_and_fails_where_listed(
-    rt: HostRuntime,
-) -> Result<(), Fail> {
-    let mut sink = MemorySink::new(rt.alloc(), vec![in rt.alloc(); 2, 4]?, 3);
-    for (bytes, taken, faults, all) in [
-        (b"abcde".as_slice(), Ok(3), 0, b"abc".as_slice()),
-        (b"de", Err(WriteError::Failed), 1, b"abc"),
-        (b"de", Ok(2), 1, b"abcde"),
-        (b"", Err(WriteError::Failed), 2, b"abcde"),
-        (b"", Ok(0), 2, b"abcde"),
-    ] {
-        check_written(&rt, &mut sink, bytes, taken, faults, all);
-    }
-    Ok(())
+fn a_sink_in_memory_takes_bytes_in_steps_and_fails_where_listed(rt: HostRuntime) {
+    let plan = vec![in rt.alloc(); 2, 4].expect(&rt, "out of memory");
+    let mut sink = MemorySink::new(rt.alloc(), plan, 3);
+    let failed = Err(WriteError::Failed);
+    check_written(&rt, &mut sink, b"abcde", Ok(3), 0, b"abc");
+    check_written(&rt, &mut sink, b"de", failed, 1, b"abc");
+    check_written(&rt, &mut sink, b"de", Ok(2), 1, b"abcde");
+    check_written(&rt, &mut sink, b"", failed, 2, b"abcde");
+    check_written(&rt, &mut sink, b"", Ok(0), 2, b"abcde");
 }
 
 #[test]
 fn the_standard_streams_begin_with_no_fault(rt: HostRuntime) {
     let mut source = StdSource::new(rt.stdin());
-    assert_eq!(rt; source.read(&mut []), Ok(0));
-    assert_eq!(rt; source.faults(), 0);
+    are_equal(&rt, &source.read(&mut []), &Ok(0));
+    are_equal(&rt, &source.faults(), &0);
     let mut sink = StdSink::new(rt.stdout());
-    assert_eq!(rt; sink.write(b""), Ok(0));
-    assert_eq!(rt; sink.faults(), 0);
+    are_equal(&rt, &sink.write(b""), &Ok(0));
+    are_equal(&rt, &sink.faults(), &0);
 }

@@ -1,6 +1,6 @@
 //! Tests of `report`: each text as a script's answer shows it.
 
-use crate::fixtures::{lsp_id, system};
+use crate::fixtures::{are_bytes, lsp_id, system};
 use adjacency::{AdjState, Adjacency};
 use lsdb::{DbRow, Version};
 use report::{
@@ -67,7 +67,7 @@ const fn kept(state: AdjState, last: u8, circuit: u32, hold: u16) -> Adjacency {
 
 fn check(rt: &impl Abort, text: Result<Vec<u8>, NoMemory>, expected: &str) {
     let text = text.expect(rt, "out of memory");
-    assert_eq!(*rt; text.as_slice(), expected.as_bytes());
+    are_bytes(rt, text.as_slice(), expected.as_bytes());
 }
 
 #[test]

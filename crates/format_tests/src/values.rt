@@ -1,5 +1,5 @@
 //! Tests of `spb_types`.
-use crate::fixtures::{are_bytes, system};
+use crate::fixtures::{are_bytes, are_equal, system};
 use spb_types::{
     LspId, Mac, Name, PortSet, Seq, Short, ect_mask, lsp_id_in, mac_in, take_u8, take_u16,
     take_u24, take_u32, u16_in, u24_in, u32_in,
@@ -70,7 +70,7 @@ fn systems_are_the_same_by_all_six_bytes(rt: HostRuntime) {
 }
 
 fn check_number(rt: &impl Abort, found: u32, expected: u32) {
-    assert_eq!(*rt; found, expected);
+    are_equal(rt, &found, &expected);
 }
 
 #[test]
@@ -132,7 +132,7 @@ fn check_taken<T: PartialEq + Debug + Drop>(
     found: Result<T, Short>,
     expected: Result<T, Short>,
 ) {
-    assert_eq!(*rt; found, expected);
+    are_equal(rt, &found, &expected);
 }
 
 #[test]
