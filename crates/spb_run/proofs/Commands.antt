@@ -26,7 +26,7 @@ use Rattle.spb_run.specs.declared.refusal.Refusal.{Refusal}
 use Rattle.spb_run.specs.Commands.{LinesPlayCommands, AllLeaveEntered, AllDeliverOnce}
 use Rattle.spb_run.specs.Play.{Judged, judged, judged_by, judged_as}
 use Rattle.spb_run.specs.Replying.{IsNew}
-use Rattle.spb_run.specs.Text.{Played, joined, ended, play, lines_played, commands_joined, commands_in}
+use Rattle.spb_run.specs.Text.{Played, joined, concluded, play, lines_played, commands_joined, commands_in}
 use Rattle.spb_run.proofs.Addressed.{HasOctets, IsRead, line_read}
 use Rattle.spb_run.proofs.Taking.{lines_few}
 
@@ -81,13 +81,13 @@ leads_joined : (s : State) (number : ℕ) (j : Judged) (o : Option Refusal) (p :
 leads_joined s number j None p ds here later = leads_more s j.state p.state j.commands ds here later
 leads_joined s number j (Some why) p ds here later = here
 
-leads_ended : (s : State) (number : ℕ) (end : Option Stop) → Leads s [] (ended s number end).state
-leads_ended s number None = leads_nothing s
-leads_ended s number (Some stop.Long) = leads_nothing s
-leads_ended s number (Some stop.Over) = leads_nothing s
+leads_concluded : (s : State) (number : ℕ) (end : Option Stop) → Leads s [] (concluded s number end).state
+leads_concluded s number None = leads_nothing s
+leads_concluded s number (Some stop.Long) = leads_nothing s
+leads_concluded s number (Some stop.Over) = leads_nothing s
 
 lines_lead : (s : State) (number : ℕ) (ls : List (List ℕ)) (end : Option Stop) → Leads s (commands_in s number ls) (play s number ls end).state
-lines_lead s number [] end = leads_ended s number end
+lines_lead s number [] end = leads_concluded s number end
 lines_lead s number (line ∷ ls) end =
     leads_joined s number (judged s number line) (judged s number line).refused
     (play (judged s number line).state (number + 1) ls end) (commands_in (judged s number line).state (number + 1) ls)

@@ -10,7 +10,7 @@ use Rattle.spb_network.specs.Refusing.{refusal_of}
 use Rattle.spb_network.proofs.CountedStays.{one_accepted}
 use Rattle.spb_run.specs.declared.refusal.Refusal.{Refusal}
 use Rattle.spb_run.specs.Play.{Judged, judged, judged_by, judged_as}
-use Rattle.spb_run.specs.Text.{Played, joined, ended, play}
+use Rattle.spb_run.specs.Text.{Played, joined, concluded, play}
 
 -- ---- the commands of lines
 
@@ -31,13 +31,13 @@ joined_few : (n number : ℕ) (j : Judged) (o : Option Refusal) (rest : Played) 
 joined_few n number j None rest here more = more
 joined_few n number j (Some why) rest here more = here
 
-ended_few : (s : State) (number : ℕ) (end : Option Stop) → (ended s number end).state.accepted ≤ s.accepted
-ended_few s number None = omega arith
-ended_few s number (Some stop.Long) = omega arith
-ended_few s number (Some stop.Over) = omega arith
+concluded_few : (s : State) (number : ℕ) (end : Option Stop) → (concluded s number end).state.accepted ≤ s.accepted
+concluded_few s number None = omega arith
+concluded_few s number (Some stop.Long) = omega arith
+concluded_few s number (Some stop.Over) = omega arith
 
 pub play_few : (s : State) (number : ℕ) (ls : List (List ℕ)) (end : Option Stop) → (play s number ls end).state.accepted ≤ s.accepted + length ls
-play_few s number [] end = omega (arith, ended_few s number end)
+play_few s number [] end = omega (arith, concluded_few s number end)
 play_few s number (line ∷ ls) end =
     let next : State = (judged s number line).state in
     let here : next.accepted ≤ s.accepted + 1 = line_one s number line in

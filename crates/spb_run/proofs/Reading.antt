@@ -14,7 +14,7 @@ use Rattle.spb_run.specs.Output.{AppendsFront}
 use Rattle.spb_run.specs.Pieces.{whole_part, bytes_before, Does, StandsAt, GoesOn, Ends, Breaks, Finishes, Completes, WritesWhole, ReadsLittle, most_piece, to_come}
 use Rattle.spb_run.specs.Play.{Judged, judged}
 use Rattle.spb_run.specs.Run.{is_written}
-use Rattle.spb_run.specs.Text.{Played, joined, ended, play, play_lines, played, text_of}
+use Rattle.spb_run.specs.Text.{Played, joined, concluded, play, play_lines, played, text_of}
 use Rattle.spb_run.proofs.Counting.{play_few}
 use Rattle.spb_run.proofs.Taking.{takes_stands, takes_taken, takes_before, whole_cut, lines_few}
 use Rattle.spb_run.proofs.Going.{Follows, goes_more, to_come_follows, ends_after, breaks_after}
@@ -73,14 +73,14 @@ written_joined : (n : ℕ) (j : Judged) (r : Option Refusal) (p : Played) → Is
 written_joined n j None p own = own
 written_joined n j (Some why) p own = refl
 
-written_ended : (s : State) (n : ℕ) (end : Option Stop) → IsTrue (is_written (ended s n end).status)
-written_ended s n None = refl
-written_ended s n (Some stop.Long) = refl
-written_ended s n (Some stop.Over) = refl
+written_concluded : (s : State) (n : ℕ) (end : Option Stop) → IsTrue (is_written (concluded s n end).status)
+written_concluded s n None = refl
+written_concluded s n (Some stop.Long) = refl
+written_concluded s n (Some stop.Over) = refl
 
 -- however lines end, the text is written whole
 play_written : (s : State) (n : ℕ) (ls : List (List ℕ)) (end : Option Stop) → IsTrue (is_written (play s n ls end).status)
-play_written s n [] end = written_ended s n end
+play_written s n [] end = written_concluded s n end
 play_written s n (l ∷ ls) end = let j : Judged = judged s n l in written_joined n j j.refused (play j.state (n + 1) ls end) (play_written j.state (n + 1) ls end)
 
 own_status : (s t : State) (status : Status) (script written : List ℕ) → Does (to_come s 1 start script) written status t → IsTrue (is_written status)

@@ -25,18 +25,18 @@ joined number line (Some why) rest = record { text = line.text; status = Refused
 
 -- behind the lines of a script. One that is too long is refused, with the number that it has and the column of its
 -- first byte past the limit; where the script is too long, nothing more is written
-abbrev pub ended : State → ℕ → Option Stop → Played
-ended s number None = record { text = []; status = Done; state = s }
-ended s number (Some stop.Long) = record {
+abbrev pub concluded : State → ℕ → Option Stop → Played
+concluded s number None = record { text = []; status = Done; state = s }
+concluded s number (Some stop.Long) = record {
   text = misspelled_text number (longest_line + 1);
   status = Refused number (Words (longest_line + 1));
   state = s;
 }
-ended s number (Some stop.Over) = record { text = []; status = TooLong; state = s }
+concluded s number (Some stop.Over) = record { text = []; status = TooLong; state = s }
 
 -- lines from a state on, the first of which has this number, and why they end before the script does, if they do
 abbrev pub play : State → ℕ → List (List ℕ) → Option Stop → Played
-play s number [] end = ended s number end
+play s number [] end = concluded s number end
 play s number (line ∷ rest) end =
     joined number (judged s number line) (judged s number line).refused
     (play (judged s number line).state (number + 1) rest end)

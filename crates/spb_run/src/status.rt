@@ -1,4 +1,4 @@
-ghost use Rattle.std.specs.Prelude.{◌≡◌};
+ghost use Rattle.std.specs.Prelude.{◌≡◌, is_some, nat_le};
 
 use crate::Refusal;
 
@@ -38,6 +38,20 @@ impl Status {
             Status::ReadFault => 4,
             Status::WriteFault => 5,
             Status::TooLong => 6,
+        }
+    }
+    /// The line for standard error that says why a run was cut short: there is one for each status from 3 on.
+    pub fn message(&self) -> Option<&'static str>
+        ensures { is_some result ≡ nat_le 3 (status_number self.now) }
+    {
+        match self {
+            Status::Done | Status::Refused(_, _) | Status::Usage => None,
+            Status::NoMemory => Some("spbsim: out of memory"),
+            Status::ReadFault => Some("spbsim: standard input can't be read"),
+            Status::WriteFault => Some("spbsim: standard output can't be written"),
+            Status::TooLong => Some(
+                "spbsim: the script has more than 8388608 bytes or 100000 lines",
+            ),
         }
     }
 }

@@ -3,16 +3,13 @@
 //! and counts what is answered. Behind `run` and `try N`, `--kind plain`, `--kind swift` or `--kind mixed` tells which
 //! boxes the bridges take. The exit status is the number of the status with which `run` of `spb_run` ends, 0 to 6.
 //!
-//! All of it is done by `spb_run::run`, over the standard streams: here stand the words, the rack of boxes that bridges
-//! are taken from, and the messages alone.
+//! All of it is done by `spb_run::run`, over the standard streams: here stand the words, and the rack of boxes that
+//! bridges are taken from.
 #![tactic(auto)]
-
-ghost use Rattle.std.specs.Prelude.{◌≡◌, is_some, nat_le};
-ghost use Rattle.spb_run.specs.Run.{status_number};
 
 use bridge_api::Bridge;
 use plain_bridge::{PlainBridge, SharedReading};
-use spb_network::Network;
+use spb_network::NetworkOf;
 use spb_outside::{Sink, Source, StdSink, StdSource};
 use spb_run::{Status, run};
 use spb_types::NoMemory;
@@ -43,21 +40,7 @@ fn words(rt: &(impl Env + AllocGlobal)) -> Result<Vec<String>, Status> {
     }
 }
 
-/// The line for standard error that takes no memory: there is one for each status that is neither the script's own nor
-/// Usage, whose line is `usage_line`.
-fn message(status: Status) -> Option<&'static str>
-    ensures { is_some result ≡ nat_le 3 (status_number status) }
-{
-    match status {
-        Status::Done | Status::Refused(_, _) | Status::Usage => None,
-        Status::NoMemory => Some("spbsim: out of memory"),
-        Status::ReadFault => Some("spbsim: standard input can't be read"),
-        Status::WriteFault => Some("spbsim: standard output can't be written"),
-        Status::TooLong => Some("spbsim: the script has more than 8388608 bytes or 100000 lines"),
-    }
-}
-
-/// Makes a rack of blank boxes and the network of it, and runs the program with these words.
+/// Makes a rack of blank boxes, and runs the program with these words on the network of it.
 fn play<S: Source, K: Sink>(
     alloc: Global,
     words: &[String],
@@ -70,8 +53,19 @@ fn play<S: Source, K: Sink>(
         rack.push(Box::new(alloc, PlainBridge::sharing(alloc, shared.share()?))?)?;
         rack.push(Box::new(alloc, SwiftBridge::blank(alloc))?)?;
     }
-    let mut network = Network::new(alloc, rack);
-    Ok(run(alloc, words, &mut network, source, sink))
+    Ok(play_on(alloc, words, rack, source, sink))
+}
+
+/// Runs the program with these words on the network of a rack.
+fn play_on<B: Bridge, S: Source, K: Sink>(
+    alloc: Global,
+    words: &[String],
+    rack: Vec<B>,
+    source: &mut S,
+    sink: &mut K,
+) -> Status {
+    let mut network = NetworkOf::new(alloc, rack);
+    run(alloc, words, &mut network, source, sink)
 }
 
 fn main(rt: HostRuntime) -> ExitCode {
@@ -83,10 +77,10 @@ fn main(rt: HostRuntime) -> ExitCode {
         }
         Err(status) => status,
     };
-    if let Some(text) = message(status) {
+    // This line takes no memory; that of the usage does, and isn't written where none is found.
+    if let Some(text) = status.message() {
         let _ = eprintln!(rt; "{text}");
     }
-    // Where no memory is found for the line, none is written.
     if status == Status::Usage {
         if let Ok(line) = usage_line(rt.alloc()) {
             let _ = eprintln!(rt; "{line}");

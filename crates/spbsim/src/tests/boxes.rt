@@ -4,19 +4,17 @@ ghost use Rattle.bridge_api.specs.Config.{IsWhole};
 ghost use Rattle.spb_network.specs.Network.{state_of, IsPortAt};
 ghost use Rattle.spb_run.specs.Replying.{IsAlive};
 
-use super::{TWO, words_of};
-use crate::{Status, run};
+use super::{TWO, are_equal, sink, source, text_of, words_of};
+use crate::{Status, play_on};
 use adjacency::Adjacency;
 use bridge_api::{Bridge, BridgeConfig};
 use plain_bridge::PlainBridge;
 use scenario::Command;
 use spb_network::{ApplyError, KindRule, NetworkOf, Reason};
-use spb_outside::{MemorySink, MemorySource};
 use spb_run::Refusal;
 use spb_types::{BridgeId, LspId, Mac, Name, Seq, SourceId, SystemId};
 use std::alloc::Global;
 use std::process::Abort;
-use std::test::Fail;
 
 /// Asserts that a script is played on the network of a rack until that has no blank box for the line of this number.
 fn check_spent<B: Bridge>(
@@ -26,19 +24,15 @@ fn check_spent<B: Bridge>(
     rack: Vec<B>,
     script: &str,
     number: u32,
-) -> Result<(), Fail> {
-    let words = words_of(alloc, words)?;
-    let mut network = NetworkOf::new(alloc, rack);
-    let bytes = Vec::from_slice(alloc, script.as_bytes())?;
-    let mut source = MemorySource::new(bytes, Vec::new(alloc), 100);
-    let mut sink = MemorySink::new(alloc, Vec::new(alloc), 100);
-    assert_eq!(rt;
-        run(alloc, &words, &mut network, &mut source, &mut sink),
-        Status::Refused(number, Refusal::Command(Reason::RackSpent))
-    );
-    let text = format!(in alloc; "error {number} 12 RackSpent\n")?;
-    assert_eq!(rt; sink.bytes(), text.as_bytes());
-    Ok(())
+) {
+    let words = words_of(rt, alloc, words);
+    let mut source = source(rt, alloc, script, 100, 0);
+    let mut sink = sink(rt, alloc, 100, 0);
+    let status = play_on(alloc, &words, rack, &mut source, &mut sink);
+    let why = Refusal::Command(Reason::RackSpent);
+    are_equal(rt, &status, &Status::Refused(number, why));
+    let text = format!(in alloc; "error {number} 12 RackSpent\n").expect(rt, "out of memory");
+    are_equal(rt, &text_of(rt, &sink), &text.as_str());
 }
 
 /// TWO, and then B restarts twice.
@@ -49,22 +43,38 @@ restart B
 restart B
 ";
 
-#[test]
-fn each_bridge_and_each_restart_takes_a_box_of_its_kind(rt: HostRuntime) -> Result<(), Fail> {
-    let alloc = rt.alloc();
-    for (words, boxes, script, number) in [
-        ("run", 1, TWO, 2),
-        ("run --kind swift", 2, TWO, 1),
-        ("run --kind mixed", 2, TWO, 2),
-        ("run", 3, RESTARTED, 5),
-    ] {
-        let mut rack: Vec<Box<dyn Bridge>> = Vec::new(alloc);
-        for _ in 0..boxes {
-            rack.push(Box::new(alloc, PlainBridge::blank(alloc))?)?;
-        }
-        check_spent(&rt, alloc, words, rack, script, number)?;
+/// A blank box.
+fn blank(rt: &impl Abort, alloc: Global) -> Box<PlainBridge> {
+    Box::new(alloc, PlainBridge::blank(alloc)).expect(rt, "out of memory")
+}
+
+/// Puts a box to a rack.
+fn put<B: Bridge>(rt: &impl Abort, rack: &mut Vec<B>, bridge: B) {
+    rack.push(bridge).expect(rt, "out of memory");
+}
+
+/// Asserts that of a rack of so many blank boxes.
+fn check_blank_spent(
+    rt: &impl Abort,
+    alloc: Global,
+    words: &str,
+    boxes: u32,
+    script: &str,
+    number: u32,
+) {
+    let mut rack: Vec<Box<dyn Bridge>> = Vec::new(alloc);
+    for _ in 0..boxes {
+        put(rt, &mut rack, blank(rt, alloc));
     }
-    Ok(())
+    check_spent(rt, alloc, words, rack, script, number);
+}
+
+#[test]
+fn each_bridge_and_each_restart_takes_a_box_of_its_kind(rt: HostRuntime) {
+    check_blank_spent(&rt, rt.alloc(), "run", 1, TWO, 2);
+    check_blank_spent(&rt, rt.alloc(), "run --kind swift", 2, TWO, 1);
+    check_blank_spent(&rt, rt.alloc(), "run --kind mixed", 2, TWO, 2);
+    check_blank_spent(&rt, rt.alloc(), "run", 3, RESTARTED, 5);
 }
 
 /// What a bridge without ports is configured with.
@@ -88,15 +98,20 @@ fn portless(alloc: Global) -> BridgeConfig
     }
 }
 
-#[test]
-fn a_box_that_is_not_blank_is_never_taken(rt: HostRuntime) -> Result<(), Fail> {
-    let alloc = rt.alloc();
+/// A box that is not blank.
+fn used(rt: &impl Abort, alloc: Global) -> Box<PlainBridge> {
     let mut used = PlainBridge::blank(alloc);
-    used.configure(&portless(alloc))?;
+    used.configure(&portless(alloc)).expect(rt, "out of memory");
+    Box::new(alloc, used).expect(rt, "out of memory")
+}
+
+#[test]
+fn a_box_that_is_not_blank_is_never_taken(rt: HostRuntime) {
+    let alloc = rt.alloc();
     let mut rack: Vec<Box<dyn Bridge>> = Vec::new(alloc);
-    rack.push(Box::new(alloc, PlainBridge::blank(alloc))?)?;
-    rack.push(Box::new(alloc, used)?)?;
-    check_spent(&rt, alloc, "run", rack, TWO, 2)
+    put(&rt, &mut rack, blank(&rt, alloc));
+    put(&rt, &mut rack, used(&rt, alloc));
+    check_spent(&rt, alloc, "run", rack, TWO, 2);
 }
 
 /// The address of the bridge of a number.
@@ -168,27 +183,27 @@ fn own_id(number: u8) -> LspId {
     }
 }
 
+/// A name of a command.
+fn name(rt: &impl Abort, word: &[u8]) -> Name {
+    Name::new(word).expect(rt, "no name")
+}
+
 /// Asserts what the boxes of two bridges answer, which are declared on the network of a rack after its rule was set.
-fn check_boxes<B: Bridge>(rt: &impl Abort, alloc: Global, rack: Vec<B>) -> Result<(), Fail> {
+fn check_boxes<B: Bridge>(rt: &impl Abort, alloc: Global, rack: Vec<B>) {
     let mut network = NetworkOf::new(alloc, rack);
     network.set_rule(KindRule::Plain);
-    let a = Name::new(b"A").ok_or("no name")?;
-    let b = Name::new(b"B").ok_or("no name")?;
-    let link = Name::new(b"L1").ok_or("no name")?;
-    declare_two(&mut network, a, b, link)?;
+    let (a, b, link) = (name(rt, b"A"), name(rt, b"B"), name(rt, b"L1"));
+    declare_two(&mut network, a, b, link).expect(rt, "refused");
     let lit = Adjacency::down(true);
-    assert_eq!(rt; asked(&network, 0), Some((lit, own_id(1))));
-    assert_eq!(rt; asked(&network, 1), Some((lit, own_id(2))));
-    assert_eq!(rt; asked(&network, 2), None);
-    Ok(())
+    are_equal(rt, &asked(&network, 0), &Some((lit, own_id(1))));
+    are_equal(rt, &asked(&network, 1), &Some((lit, own_id(2))));
+    are_equal(rt, &asked(&network, 2), &None);
 }
 
 #[test]
-fn the_boxes_of_a_network_can_be_asked(rt: HostRuntime) -> Result<(), Fail> {
-    let alloc = rt.alloc();
-    let mut rack: Vec<Box<dyn Bridge>> = Vec::new(alloc);
-    for _ in 0..2 {
-        rack.push(Box::new(alloc, PlainBridge::blank(alloc))?)?;
-    }
-    check_boxes(&rt, alloc, rack)
+fn the_boxes_of_a_network_can_be_asked(rt: HostRuntime) {
+    let mut rack: Vec<Box<dyn Bridge>> = Vec::new(rt.alloc());
+    put(&rt, &mut rack, blank(&rt, rt.alloc()));
+    put(&rt, &mut rack, blank(&rt, rt.alloc()));
+    check_boxes(&rt, rt.alloc(), rack);
 }

@@ -1,7 +1,7 @@
 //! Customer ports that are attached and detached.
-use super::{check_all_refused, check_done, check_scripts};
-use std::alloc::{AllocError, Global};
-use std::test::Fail;
+use super::{check_all_refused, check_done, check_scripts, joined};
+use std::alloc::Global;
+use std::process::Abort;
 
 /// A bridge without links, and a service.
 pub(super) const ONE: &str = "vid 10 1
@@ -24,13 +24,13 @@ detach A 1|10 NotAttached
 attach A 1 100; detach A 1; detach A 1|10 NotAttached";
 
 #[test]
-fn a_port_that_cant_be_attached_or_detached_has_a_reason(rt: HostRuntime) -> Result<(), Fail> {
-    check_all_refused(&rt, rt.alloc(), ONE, REFUSED)
+fn a_port_that_cant_be_attached_or_detached_has_a_reason(rt: HostRuntime) {
+    check_all_refused(&rt, rt.alloc(), ONE, REFUSED);
 }
 
 /// A port of one bridge is another than the port of this number of another bridge.
 #[test]
-fn ports_are_those_of_one_bridge(rt: HostRuntime) -> Result<(), Fail> {
+fn ports_are_those_of_one_bridge(rt: HostRuntime) {
     let lines = "bridge B 32768 020000000002 00002 0
 attach A 1 100
 attach B 1 100
@@ -39,16 +39,27 @@ attach A 1 100
 detach B 1
 detach A 1
 ";
-    check_done(&rt, rt.alloc(), ONE, lines, "")
+    check_done(&rt, rt.alloc(), ONE, lines, "");
+}
+
+/// Puts a service, and a port that is attached to it.
+fn put_service(rt: &impl Abort, alloc: Global, script: &mut String, n: u32) {
+    let lines = format!(in alloc; "isid {n} 10\nattach A {n} {n}\n").expect(rt, "out of memory");
+    script.push_str(lines.as_str()).expect(rt, "out of memory");
 }
 
 /// 61 services, a bridge, and 60 of its ports attached, each to a service of its own.
-fn sixty(alloc: Global) -> Result<String, AllocError> {
-    let mut script = format!(in alloc; "vid 10 1\nisid 61 10\nbridge A 0 020000000001 00001 0\n")?;
+fn sixty(rt: &impl Abort, alloc: Global) -> String {
+    let mut script = joined(
+        rt,
+        alloc,
+        "vid 10 1\nisid 61 10\n",
+        "bridge A 0 020000000001 00001 0\n",
+    );
     for n in 1..=60 {
-        script.push_str(format!(in alloc; "isid {n} 10\nattach A {n} {n}\n")?.as_str())?;
+        put_service(rt, alloc, &mut script, n);
     }
-    Ok(script)
+    script
 }
 
 /// Behind those lines. Too many I-SIDs come before a port that is attached.
@@ -59,11 +70,11 @@ attach A 65 61|6 Range
 attach A 60 1|10 Attached";
 
 #[test]
-fn the_61st_i_sid_of_a_bridge_is_one_too_many(rt: HostRuntime) -> Result<(), Fail> {
-    let before = sixty(rt.alloc())?;
-    check_all_refused(&rt, rt.alloc(), before.as_str(), SIXTY)?;
+fn the_61st_i_sid_of_a_bridge_is_one_too_many(rt: HostRuntime) {
+    let before = sixty(&rt, rt.alloc());
+    check_all_refused(&rt, rt.alloc(), before.as_str(), SIXTY);
     let lines = "attach A 61 1\ndetach A 60\nattach A 60 61\n";
-    check_done(&rt, rt.alloc(), before.as_str(), lines, "")
+    check_done(&rt, rt.alloc(), before.as_str(), lines, "");
 }
 
 /// Two bridges with a service at a port of each. All 20 bits of the source of X stand in its group address.
@@ -104,6 +115,6 @@ show X
 ";
 
 #[test]
-fn what_is_attached_is_a_member_until_it_is_detached(rt: HostRuntime) -> Result<(), Fail> {
-    check_scripts(&rt, rt.alloc(), SERVED, MEMBERS)
+fn what_is_attached_is_a_member_until_it_is_detached(rt: HostRuntime) {
+    check_scripts(&rt, rt.alloc(), SERVED, MEMBERS);
 }

@@ -1,6 +1,5 @@
 //! LSPs, and the databases that hold them.
 use super::{TWO, check_scripts};
-use std::test::Fail;
 
 /// Behind TWO. (A comes up over the link to B by a hello of each.)
 const DATABASES: &str = "\
@@ -91,6 +90,6 @@ db B
 ";
 
 #[test]
-fn databases_hold_what_each_bridge_said_last(rt: HostRuntime) -> Result<(), Fail> {
-    check_scripts(&rt, rt.alloc(), TWO, DATABASES)
+fn databases_hold_what_each_bridge_said_last(rt: HostRuntime) {
+    check_scripts(&rt, rt.alloc(), TWO, DATABASES);
 }

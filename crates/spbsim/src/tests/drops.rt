@@ -4,7 +4,6 @@ use super::{TWO, check, check_done};
 use crate::Status;
 use spb_network::Reason;
 use spb_run::Refusal;
-use std::test::Fail;
 
 /// Two bridges that hear each other drop nothing.
 const NONE: &str = "round 5
@@ -22,6 +21,10 @@ deliver L1 ab
 deliver L1 ab
 drops B
 drops A
+";
+
+const NOT_ADJACENT_TOLD: &str = "drops B 0 0 0 1 0 0 0 0 0
+drops A 0 0 0 0 0 0 0 0 0
 ";
 
 /// A frame comes to C by the way on which its source was before a link failed. A new box of C has dropped nothing.
@@ -71,30 +74,17 @@ drops A 0 0 0 0 0 0 1 0 0
 ";
 
 #[test]
-fn each_dropped_frame_is_counted_by_its_reason(rt: HostRuntime) -> Result<(), Fail> {
-    for (before, lines, text) in [
-        (TWO, NONE, "drops A 0 0 0 0 0 0 0 0 0\n"),
-        (
-            TWO,
-            NOT_ADJACENT,
-            "drops B 0 0 0 1 0 0 0 0 0\ndrops A 0 0 0 0 0 0 0 0 0\n",
-        ),
-        (RING, INGRESS, INGRESS_TOLD),
-        (MIDDLE, NO_WAY, NO_WAY_TOLD),
-    ] {
-        check_done(&rt, rt.alloc(), before, lines, text)?;
-    }
-    Ok(())
+fn each_dropped_frame_is_counted_by_its_reason(rt: HostRuntime) {
+    let alloc = rt.alloc();
+    check_done(&rt, alloc, TWO, NONE, "drops A 0 0 0 0 0 0 0 0 0\n");
+    check_done(&rt, alloc, TWO, NOT_ADJACENT, NOT_ADJACENT_TOLD);
+    check_done(&rt, alloc, RING, INGRESS, INGRESS_TOLD);
+    check_done(&rt, alloc, MIDDLE, NO_WAY, NO_WAY_TOLD);
 }
 
 #[test]
-fn a_bridge_that_is_not_declared_has_no_drops(rt: HostRuntime) -> Result<(), Fail> {
+fn a_bridge_that_is_not_declared_has_no_drops(rt: HostRuntime) {
     let status = Status::Refused(1, Refusal::Command(Reason::NoSuchName));
-    check(
-        &rt,
-        rt.alloc(),
-        "drops A\n",
-        status,
-        "error 1 2 NoSuchName\n",
-    )
+    let text = "error 1 2 NoSuchName\n";
+    check(&rt, rt.alloc(), "drops A\n", status, text);
 }

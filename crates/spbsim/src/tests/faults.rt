@@ -1,10 +1,9 @@
 //! Reads, writes and boxes that fail in the middle of a run.
 use super::failing_box::FailingBox;
-use super::{TWO, words_of};
-use crate::{Status, play, run};
-use spb_network::NetworkOf;
-use spb_outside::{MemorySink, MemorySource};
-use std::test::Fail;
+use super::{TWO, are_equal, check_call, joined, sink, source, text_of, words_of};
+use crate::{Status, play_on};
+use std::alloc::Global;
+use std::process::Abort;
 
 /// The link between A and B becomes dearer than the way over C.
 const DEARER: &str = "vid 10 1
@@ -37,30 +36,28 @@ u 10 020000000002 2
 u 10 020000000003 2
 ";
 
+/// Asserts how the run over DEARER ends, and how many bytes of its answer are written, where each read and each write moves
+/// one byte, and the read and the write of these numbers fail.
+fn check_front(rt: &impl Abort, alloc: Global, failing: (u32, u32), status: Status, count: usize) {
+    let source = source(rt, alloc, DEARER, 1, failing.0);
+    let sink = sink(rt, alloc, 1, failing.1);
+    let front = DEARER_ANSWER.get(..count).expect(rt, "no front");
+    check_call(rt, alloc, "run", source, sink, status, front);
+}
+
+/// The first `show A` ends with byte 188, and is answered by 57 bytes.
 #[test]
-fn a_read_or_a_write_that_fails_leaves_a_front_of_the_answers(rt: HostRuntime) -> Result<(), Fail> {
+fn a_read_or_a_write_that_fails_leaves_a_front_of_the_answers(rt: HostRuntime) {
     let alloc = rt.alloc();
-    let words = words_of(alloc, "run")?;
-    // Each read and each write moves one byte. The numbers of the read and of the write that fails, counted from 1; 0
-    // is none. The first `show A` ends with byte 188, and is answered by 57 bytes.
-    for (read, write, status, written) in [
-        (0, 0, Status::Done, DEARER_ANSWER.len()),
-        (1, 0, Status::ReadFault, 0),
-        (2, 0, Status::ReadFault, 0),
-        (3, 0, Status::ReadFault, 0),
-        (188, 0, Status::ReadFault, 0),
-        (189, 0, Status::ReadFault, 57),
-        (0, 1, Status::WriteFault, 0),
-        (0, 2, Status::WriteFault, 1),
-        (0, 3, Status::WriteFault, 2),
-    ] {
-        let bytes = Vec::from_slice(alloc, DEARER.as_bytes())?;
-        let mut source = MemorySource::new(bytes, Vec::from_slice(alloc, &[read])?, 1);
-        let mut sink = MemorySink::new(alloc, Vec::from_slice(alloc, &[write])?, 1);
-        assert_eq!(rt; play(alloc, &words, &mut source, &mut sink), Ok(status));
-        assert_eq!(rt; Some(sink.bytes()), DEARER_ANSWER.as_bytes().get(..written));
-    }
-    Ok(())
+    check_front(&rt, alloc, (0, 0), Status::Done, DEARER_ANSWER.len());
+    check_front(&rt, alloc, (1, 0), Status::ReadFault, 0);
+    check_front(&rt, alloc, (2, 0), Status::ReadFault, 0);
+    check_front(&rt, alloc, (3, 0), Status::ReadFault, 0);
+    check_front(&rt, alloc, (188, 0), Status::ReadFault, 0);
+    check_front(&rt, alloc, (189, 0), Status::ReadFault, 57);
+    check_front(&rt, alloc, (0, 1), Status::WriteFault, 0);
+    check_front(&rt, alloc, (0, 2), Status::WriteFault, 1);
+    check_front(&rt, alloc, (0, 3), Status::WriteFault, 2);
 }
 
 /// Behind TWO: hellos up to the second of A.
@@ -82,22 +79,15 @@ p 1 up 020000000002 1 3 due
 ";
 
 #[test]
-fn a_box_without_memory_ends_a_run(rt: HostRuntime) -> Result<(), Fail> {
+fn a_box_without_memory_ends_a_run(rt: HostRuntime) {
     let alloc = rt.alloc();
-    let words = words_of(alloc, "run")?;
-    let mut rack = Vec::new(alloc);
-    for _ in 0..2 {
-        rack.push(FailingBox::blank(alloc))?;
-    }
-    let mut network = NetworkOf::new(alloc, rack);
-    let script = format!(in alloc; "{TWO}{HELLOS}")?;
-    let bytes = Vec::from_slice(alloc, script.as_bytes())?;
-    let mut source = MemorySource::new(bytes, Vec::new(alloc), 50);
-    let mut sink = MemorySink::new(alloc, Vec::new(alloc), 50);
-    assert_eq!(rt;
-        run(alloc, &words, &mut network, &mut source, &mut sink),
-        Status::NoMemory
-    );
-    assert_eq!(rt; sink.bytes(), HELLOS_ANSWER.as_bytes());
-    Ok(())
+    let (first, second) = (FailingBox::blank(alloc), FailingBox::blank(alloc));
+    let rack = vec![in alloc; first, second].expect(&rt, "out of memory");
+    let script = joined(&rt, alloc, TWO, HELLOS);
+    let words = words_of(&rt, alloc, "run");
+    let mut source = source(&rt, alloc, script.as_str(), 50, 0);
+    let mut sink = sink(&rt, alloc, 50, 0);
+    let status = play_on(alloc, &words, rack, &mut source, &mut sink);
+    are_equal(&rt, &status, &Status::NoMemory);
+    are_equal(&rt, &text_of(&rt, &sink), &HELLOS_ANSWER);
 }

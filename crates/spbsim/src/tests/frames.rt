@@ -1,8 +1,8 @@
 //! Customers' frames: where they leave, and why one can't enter.
 use super::customers::ONE;
-use super::{check_all_refused, check_done, check_refused, check_scripts};
-use std::alloc::{AllocError, Global};
-use std::test::Fail;
+use super::{check_all_refused, check_done, check_refused, check_scripts, joined};
+use std::alloc::Global;
+use std::process::Abort;
 
 /// Six bridges in a ring, which have settled, with a service at five of them: two ports of A, and one each of B to E.
 pub(super) const RING: &str = "vid 10 1
@@ -88,8 +88,8 @@ deliver L2 ab
 ";
 
 #[test]
-fn a_frame_to_all_leaves_at_each_other_port_of_the_service(rt: HostRuntime) -> Result<(), Fail> {
-    check_scripts(&rt, rt.alloc(), RING, TO_ALL)
+fn a_frame_to_all_leaves_at_each_other_port_of_the_service(rt: HostRuntime) {
+    check_scripts(&rt, rt.alloc(), RING, TO_ALL);
 }
 
 /// A in the middle between B and C, with a service at a port of each, and settled.
@@ -146,8 +146,8 @@ drain 10
 ";
 
 #[test]
-fn a_frame_to_a_host_leaves_where_it_spoke_last(rt: HostRuntime) -> Result<(), Fail> {
-    check_scripts(&rt, rt.alloc(), MIDDLE, TO_A_HOST)
+fn a_frame_to_a_host_leaves_where_it_spoke_last(rt: HostRuntime) {
+    check_scripts(&rt, rt.alloc(), MIDDLE, TO_A_HOST);
 }
 
 /// Frames that can't enter behind ONE. A name comes before the range of a port or a frame, and both before what isn't
@@ -160,26 +160,30 @@ frame A 65 ffffffffffff0a00000000010800|6 Range
 frame A 1 ffffffffffff0a00000000010800|10 NotAttached";
 
 #[test]
-fn a_frame_that_cant_enter_has_a_reason(rt: HostRuntime) -> Result<(), Fail> {
-    check_all_refused(&rt, rt.alloc(), ONE, REFUSED)
+fn a_frame_that_cant_enter_has_a_reason(rt: HostRuntime) {
+    check_all_refused(&rt, rt.alloc(), ONE, REFUSED);
 }
 
 /// Lines by which a port is attached, and a frame of so many bytes enters there.
-fn frame_lines(alloc: Global, bytes: usize) -> Result<String, AllocError> {
-    let frame = "0a".repeat(alloc, bytes)?;
-    format!(in alloc; "attach A 1 100\nframe A 1 {frame}")
+fn frame_lines(rt: &impl Abort, alloc: Global, bytes: usize) -> String {
+    let frame = "0a".repeat(alloc, bytes).expect(rt, "out of memory");
+    joined(rt, alloc, "attach A 1 100\nframe A 1 ", frame.as_str())
+}
+
+fn check_too_short_or_long(rt: &impl Abort, alloc: Global, bytes: usize) {
+    let lines = frame_lines(rt, alloc, bytes);
+    check_refused(rt, alloc, ONE, lines.as_str(), "6 Range");
+}
+
+fn check_enters(rt: &impl Abort, alloc: Global, bytes: usize) {
+    let lines = frame_lines(rt, alloc, bytes);
+    check_done(rt, alloc, ONE, lines.as_str(), "");
 }
 
 #[test]
-fn frames_have_14_to_2000_bytes(rt: HostRuntime) -> Result<(), Fail> {
-    let alloc = rt.alloc();
-    for bytes in [13, 2001] {
-        let lines = frame_lines(alloc, bytes)?;
-        check_refused(&rt, alloc, ONE, lines.as_str(), "6 Range")?;
-    }
-    for bytes in [14, 2000] {
-        let lines = frame_lines(alloc, bytes)?;
-        check_done(&rt, alloc, ONE, lines.as_str(), "")?;
-    }
-    Ok(())
+fn frames_have_14_to_2000_bytes(rt: HostRuntime) {
+    check_too_short_or_long(&rt, rt.alloc(), 13);
+    check_too_short_or_long(&rt, rt.alloc(), 2001);
+    check_enters(&rt, rt.alloc(), 14);
+    check_enters(&rt, rt.alloc(), 2000);
 }

@@ -1,6 +1,5 @@
 //! Hellos, and the adjacencies that they bring and take.
 use super::{TWO, check_scripts};
-use std::test::Fail;
 
 /// Behind TWO.
 const HELLOS: &str = "\
@@ -70,6 +69,6 @@ adj A
 ";
 
 #[test]
-fn hellos_bring_bridges_up_and_down(rt: HostRuntime) -> Result<(), Fail> {
-    check_scripts(&rt, rt.alloc(), TWO, HELLOS)
+fn hellos_bring_bridges_up_and_down(rt: HostRuntime) {
+    check_scripts(&rt, rt.alloc(), TWO, HELLOS);
 }

@@ -3,30 +3,28 @@ use super::{check, check_all_refused, check_done};
 use crate::Status;
 use spb_network::Reason;
 use spb_run::Refusal;
-use std::test::Fail;
+use std::alloc::Global;
+use std::process::Abort;
+
+/// Asserts that the line of this number ends the run.
+fn check_ended(rt: &impl Abort, alloc: Global, script: &str, line: u32, why: Refusal, text: &str) {
+    check(rt, alloc, script, Status::Refused(line, why), text);
+}
 
 #[test]
-fn the_first_refused_line_ends_the_run(rt: HostRuntime) -> Result<(), Fail> {
+fn the_first_refused_line_ends_the_run(rt: HostRuntime) {
+    let alloc = rt.alloc();
+    let script = "frobnicate\nwiring A\n";
+    let text = "error 1 1 Words 1\n";
+    check_ended(&rt, alloc, script, 1, Refusal::Words(1), text);
+    let script = "# a comment\r\n\n \t\npath\n";
+    let text = "error 4 1 Words 5\n";
+    check_ended(&rt, alloc, script, 4, Refusal::Words(5), text);
+    let text = "error 1 1 Words 10\n";
+    check_ended(&rt, alloc, "wiring A B", 1, Refusal::Words(10), text);
     let unknown = Refusal::Command(Reason::NoSuchName);
-    for (script, line, why, text) in [
-        (
-            "frobnicate\nwiring A\n",
-            1,
-            Refusal::Words(1),
-            "error 1 1 Words 1\n",
-        ),
-        (
-            "# a comment\r\n\n \t\npath\n",
-            4,
-            Refusal::Words(5),
-            "error 4 1 Words 5\n",
-        ),
-        ("wiring A B", 1, Refusal::Words(10), "error 1 1 Words 10\n"),
-        ("tick A\n", 1, unknown, "error 1 2 NoSuchName\n"),
-    ] {
-        check(&rt, rt.alloc(), script, Status::Refused(line, why), text)?;
-    }
-    Ok(())
+    let text = "error 1 2 NoSuchName\n";
+    check_ended(&rt, alloc, "tick A\n", 1, unknown, text);
 }
 
 /// Two bridges with a link between them, and ports that have none.
@@ -87,9 +85,9 @@ vid 10 1; isid 0 10|6 Range
 restart A|2 NoSuchName";
 
 #[test]
-fn a_refused_line_has_a_column_or_a_reason(rt: HostRuntime) -> Result<(), Fail> {
-    check_all_refused(&rt, rt.alloc(), SPARE, REFUSED)?;
-    check_all_refused(&rt, rt.alloc(), "", REFUSED_FIRST)
+fn a_refused_line_has_a_column_or_a_reason(rt: HostRuntime) {
+    check_all_refused(&rt, rt.alloc(), SPARE, REFUSED);
+    check_all_refused(&rt, rt.alloc(), "", REFUSED_FIRST);
 }
 
 /// Sixteen base VIDs, each with an ECT algorithm of its own.
@@ -103,8 +101,8 @@ vid 17 17|6 Range
 vid 16 1|3 NameTaken";
 
 #[test]
-fn the_seventeenth_vid_is_one_too_many(rt: HostRuntime) -> Result<(), Fail> {
+fn the_seventeenth_vid_is_one_too_many(rt: HostRuntime) {
     let lines = "isid 1 16\nbridge A 0 020000000001 00001 0\n";
-    check_done(&rt, rt.alloc(), SIXTEEN, lines, "")?;
-    check_all_refused(&rt, rt.alloc(), SIXTEEN, SEVENTEENTH)
+    check_done(&rt, rt.alloc(), SIXTEEN, lines, "");
+    check_all_refused(&rt, rt.alloc(), SIXTEEN, SEVENTEENTH);
 }

@@ -1,6 +1,5 @@
 //! Bridges that restart: what they hold afterwards, and what becomes of the LSPs of their lives before.
 use super::{TWO, check_scripts};
-use std::test::Fail;
 
 /// Behind TWO.
 const RESTARTS: &str = "\
@@ -51,6 +50,6 @@ state
 ";
 
 #[test]
-fn a_restarted_bridge_begins_anew(rt: HostRuntime) -> Result<(), Fail> {
-    check_scripts(&rt, rt.alloc(), TWO, RESTARTS)
+fn a_restarted_bridge_begins_anew(rt: HostRuntime) {
+    check_scripts(&rt, rt.alloc(), TWO, RESTARTS);
 }

@@ -1,164 +1,145 @@
 //! Runs of scripts: the pieces in which the program reads and writes, and how it ends.
 use super::examples::{EQUAL_COST_PATHS, EQUAL_COST_PATHS_OUT, POINT_TO_POINT, POINT_TO_POINT_OUT};
-use super::{check, check_in_pieces, words_of};
-use crate::{Status, message, play};
-use spb_outside::{MemorySink, MemorySource};
+use super::{are_equal, check, check_call, check_in_pieces, joined, sink, source};
+use crate::Status;
 use spb_run::Refusal;
-use std::alloc::{AllocError, Global};
-use std::test::Fail;
+use std::alloc::Global;
+use std::process::Abort;
 
-#[test]
-fn scripts_are_answered_in_pieces_of_any_size(rt: HostRuntime) -> Result<(), Fail> {
-    let alloc = rt.alloc();
-    for step in [1, 7, 4096, 100_000] {
-        check_in_pieces(&rt, alloc, step, "", Status::Done, "")?;
-        check_in_pieces(
-            &rt,
-            alloc,
-            step,
-            POINT_TO_POINT,
-            Status::Done,
-            POINT_TO_POINT_OUT,
-        )?;
-        check_in_pieces(
-            &rt,
-            alloc,
-            step,
-            EQUAL_COST_PATHS,
-            Status::Done,
-            EQUAL_COST_PATHS_OUT,
-        )?;
-    }
-    Ok(())
+/// Asserts what three scripts answer, where each read and each write moves at most `step` bytes.
+fn check_pieces(rt: &impl Abort, alloc: Global, step: usize) {
+    let done = Status::Done;
+    check_in_pieces(rt, alloc, step, "", done, "");
+    check_in_pieces(rt, alloc, step, POINT_TO_POINT, done, POINT_TO_POINT_OUT);
+    check_in_pieces(
+        rt,
+        alloc,
+        step,
+        EQUAL_COST_PATHS,
+        done,
+        EQUAL_COST_PATHS_OUT,
+    );
 }
 
 #[test]
-fn a_script_has_at_most_100000_lines(rt: HostRuntime) -> Result<(), Fail> {
-    let alloc = rt.alloc();
-    let mut script = "\n".repeat(alloc, 100_000)?;
-    check(&rt, alloc, script.as_str(), Status::Done, "")?;
-    script.push('\n')?;
-    check(&rt, alloc, script.as_str(), Status::TooLong, "")
+fn scripts_are_answered_in_pieces_of_any_size(rt: HostRuntime) {
+    check_pieces(&rt, rt.alloc(), 1);
+    check_pieces(&rt, rt.alloc(), 7);
+    check_pieces(&rt, rt.alloc(), 4096);
+    check_pieces(&rt, rt.alloc(), 100_000);
+}
+
+/// So many times a text.
+fn repeated(rt: &impl Abort, alloc: Global, text: &str, times: usize) -> String {
+    text.repeat(alloc, times).expect(rt, "out of memory")
 }
 
 #[test]
-fn a_script_has_at_most_8388608_bytes(rt: HostRuntime) -> Result<(), Fail> {
+fn a_script_has_at_most_100000_lines(rt: HostRuntime) {
     let alloc = rt.alloc();
-    let letters = "x".repeat(alloc, 8190)?;
-    let line = format!(in alloc; "#{letters}\n")?;
-    let mut script = line.repeat(alloc, 1024)?;
-    check_in_pieces(&rt, alloc, 100_000, script.as_str(), Status::Done, "")?;
-    script.push('#')?;
-    check_in_pieces(&rt, alloc, 100_000, script.as_str(), Status::TooLong, "")
+    let script = repeated(&rt, alloc, "\n", 100_000);
+    check(&rt, alloc, script.as_str(), Status::Done, "");
+    let script = repeated(&rt, alloc, "\n", 100_001);
+    check(&rt, alloc, script.as_str(), Status::TooLong, "");
 }
 
 #[test]
-fn the_answers_before_a_script_is_too_long_stand(rt: HostRuntime) -> Result<(), Fail> {
+fn a_script_has_at_most_8388608_bytes(rt: HostRuntime) {
     let alloc = rt.alloc();
-    let ends = "\n".repeat(alloc, 100_000)?;
-    let script = format!(in alloc; "{POINT_TO_POINT}{ends}")?;
+    let letters = repeated(&rt, alloc, "x", 8190);
+    let line = joined(&rt, alloc, "#", letters.as_str());
+    let line = joined(&rt, alloc, line.as_str(), "\n");
+    let script = repeated(&rt, alloc, line.as_str(), 1024);
+    check_in_pieces(&rt, alloc, 100_000, script.as_str(), Status::Done, "");
+    let script = joined(&rt, alloc, script.as_str(), "#");
+    check_in_pieces(&rt, alloc, 100_000, script.as_str(), Status::TooLong, "");
+}
+
+#[test]
+fn the_answers_before_a_script_is_too_long_stand(rt: HostRuntime) {
+    let alloc = rt.alloc();
+    let ends = repeated(&rt, alloc, "\n", 100_000);
+    let script = joined(&rt, alloc, POINT_TO_POINT, ends.as_str());
     check(
         &rt,
         alloc,
         script.as_str(),
         Status::TooLong,
         POINT_TO_POINT_OUT,
-    )
+    );
+}
+
+/// Asserts that a line of 8,192 letters and this end is refused at this column.
+fn check_long(rt: &impl Abort, alloc: Global, end: &str, column: usize) {
+    let letters = repeated(rt, alloc, "x", 8192);
+    let script = format!(in alloc; "state\n{}{end}", letters.as_str()).expect(rt, "out of memory");
+    let text = format!(in alloc; "state quiet\nerror 2 1 Words {column}\n").expect(
+        rt,
+        "out of memory",
+    );
+    let status = Status::Refused(2, Refusal::Words(column));
+    check(rt, alloc, script.as_str(), status, text.as_str());
 }
 
 #[test]
-fn a_line_that_is_too_long_is_refused(rt: HostRuntime) -> Result<(), Fail> {
-    let alloc = rt.alloc();
-    let letters = "x".repeat(alloc, 8192)?;
-    for (end, column) in [
-        ("", 1),
-        ("\r\n", 1),
-        ("\r", 8193),
-        ("x", 8193),
-        ("\rx", 8193),
-    ] {
-        let script = format!(in alloc; "state\n{letters}{end}")?;
-        let text = format!(in alloc; "state quiet\nerror 2 1 Words {column}\n")?;
-        let status = Status::Refused(2, Refusal::Words(column));
-        check(&rt, alloc, script.as_str(), status, text.as_str())?;
-    }
-    Ok(())
+fn a_line_that_is_too_long_is_refused(rt: HostRuntime) {
+    check_long(&rt, rt.alloc(), "", 1);
+    check_long(&rt, rt.alloc(), "\r\n", 1);
+    check_long(&rt, rt.alloc(), "\r", 8193);
+    check_long(&rt, rt.alloc(), "x", 8193);
+    check_long(&rt, rt.alloc(), "\rx", 8193);
 }
 
-/// A source of the bytes of POINT_TO_POINT, which fails at the reads of these numbers.
-pub(super) fn source(alloc: Global, failing: &[u32]) -> Result<MemorySource, AllocError> {
-    let bytes = Vec::from_slice(alloc, POINT_TO_POINT.as_bytes())?;
-    Ok(MemorySource::new(bytes, Vec::from_slice(alloc, failing)?, 40))
-}
-
-/// A sink that fails at the writes of these numbers, and takes at most eight bytes at each other.
-pub(super) fn sink(alloc: Global, failing: &[u32]) -> Result<MemorySink, AllocError> {
-    Ok(MemorySink::new(alloc, Vec::from_slice(alloc, failing)?, 8))
+/// Asserts what is written where the read of this number fails.
+fn check_failed_read(rt: &impl Abort, alloc: Global, failing: u32, front: &str) {
+    let source = source(rt, alloc, "state\nstate\nstate\n", 5, failing);
+    let sink = sink(rt, alloc, 8, 0);
+    check_call(rt, alloc, "run", source, sink, Status::ReadFault, front);
 }
 
 #[test]
-fn a_failed_read_leaves_the_answers_to_whole_lines(rt: HostRuntime) -> Result<(), Fail> {
-    let alloc = rt.alloc();
-    let words = words_of(alloc, "run")?;
-    let fronts = [
-        (1, b"".as_slice()),
-        (2, b"".as_slice()),
-        (4, b"state quiet\nstate quiet\n"),
-    ];
-    for (failing, front) in fronts {
-        let bytes = Vec::from_slice(alloc, b"state\nstate\nstate\n".as_slice())?;
-        let mut source = MemorySource::new(bytes, Vec::from_slice(alloc, &[failing])?, 5);
-        let mut sink = sink(alloc, &[])?;
-        assert_eq!(rt;
-            play(alloc, &words, &mut source, &mut sink),
-            Ok(Status::ReadFault)
-        );
-        assert_eq!(rt; sink.bytes(), front);
-    }
-    Ok(())
+fn a_failed_read_leaves_the_answers_to_whole_lines(rt: HostRuntime) {
+    check_failed_read(&rt, rt.alloc(), 1, "");
+    check_failed_read(&rt, rt.alloc(), 2, "");
+    check_failed_read(&rt, rt.alloc(), 4, "state quiet\nstate quiet\n");
+}
+
+/// Asserts what these words write, eight bytes at each write, where the write of this number fails.
+pub(super) fn check_failed_write(
+    rt: &impl Abort,
+    alloc: Global,
+    words: &str,
+    failing: u32,
+    front: &str,
+) {
+    let source = source(rt, alloc, POINT_TO_POINT, 40, 0);
+    let sink = sink(rt, alloc, 8, failing);
+    check_call(rt, alloc, words, source, sink, Status::WriteFault, front);
 }
 
 #[test]
-fn a_failed_write_leaves_a_front_of_the_answers(rt: HostRuntime) -> Result<(), Fail> {
-    let alloc = rt.alloc();
-    let words = words_of(alloc, "run")?;
-    for (failing, front) in [(1, b"".as_slice()), (3, b"wiring A 1 0\nu 1")] {
-        let (mut source, mut sink) = (source(alloc, &[])?, sink(alloc, &[failing])?);
-        assert_eq!(rt;
-            play(alloc, &words, &mut source, &mut sink),
-            Ok(Status::WriteFault)
-        );
-        assert_eq!(rt; sink.bytes(), front);
-    }
-    Ok(())
+fn a_failed_write_leaves_a_front_of_the_answers(rt: HostRuntime) {
+    check_failed_write(&rt, rt.alloc(), "run", 1, "");
+    check_failed_write(&rt, rt.alloc(), "run", 3, "wiring A 1 0\nu 1");
+}
+
+fn check_status(rt: &impl Abort, status: Status, number: u8, text: Option<&str>) {
+    are_equal(rt, &status.number(), &number);
+    are_equal(rt, &status.message(), &text);
 }
 
 #[test]
 fn each_status_has_its_number_and_its_message(rt: HostRuntime) {
     let refused = Status::Refused(1, Refusal::Words(1));
-    let texts = [
-        (Status::Done, 0, None),
-        (refused, 1, None),
-        (Status::Usage, 2, None),
-        (Status::NoMemory, 3, Some("spbsim: out of memory")),
-        (
-            Status::ReadFault,
-            4,
-            Some("spbsim: standard input can't be read"),
-        ),
-        (
-            Status::WriteFault,
-            5,
-            Some("spbsim: standard output can't be written"),
-        ),
-        (
-            Status::TooLong,
-            6,
-            Some("spbsim: the script has more than 8388608 bytes or 100000 lines"),
-        ),
-    ];
-    for (status, number, text) in texts {
-        assert_eq!(rt; status.number(), number);
-        assert_eq!(rt; message(status), text);
-    }
+    let no_memory = "spbsim: out of memory";
+    let no_read = "spbsim: standard input can't be read";
+    let no_write = "spbsim: standard output can't be written";
+    let too_long = "spbsim: the script has more than 8388608 bytes or 100000 lines";
+    check_status(&rt, Status::Done, 0, None);
+    check_status(&rt, refused, 1, None);
+    check_status(&rt, Status::Usage, 2, None);
+    check_status(&rt, Status::NoMemory, 3, Some(no_memory));
+    check_status(&rt, Status::ReadFault, 4, Some(no_read));
+    check_status(&rt, Status::WriteFault, 5, Some(no_write));
+    check_status(&rt, Status::TooLong, 6, Some(too_long));
 }

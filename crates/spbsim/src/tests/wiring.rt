@@ -1,6 +1,5 @@
 //! The tables that the wiring gives, and the paths of a quiet network.
 use super::check_scripts;
-use std::test::Fail;
 
 /// Links that fail.
 const DOWN: &str = "\
@@ -29,8 +28,8 @@ wiring A
 ";
 
 #[test]
-fn a_link_that_is_down_is_no_wiring_and_keeps_its_metric(rt: HostRuntime) -> Result<(), Fail> {
-    check_scripts(&rt, rt.alloc(), "", DOWN)
+fn a_link_that_is_down_is_no_wiring_and_keeps_its_metric(rt: HostRuntime) {
+    check_scripts(&rt, rt.alloc(), "", DOWN);
 }
 
 /// Four bridges in a square, and two base VIDs whose masks prefer different ways across it.
@@ -83,6 +82,6 @@ path B B 10
 ";
 
 #[test]
-fn each_vid_has_the_paths_of_its_own_mask(rt: HostRuntime) -> Result<(), Fail> {
-    check_scripts(&rt, rt.alloc(), SQUARE, MASKS)
+fn each_vid_has_the_paths_of_its_own_mask(rt: HostRuntime) {
+    check_scripts(&rt, rt.alloc(), SQUARE, MASKS);
 }

@@ -1,12 +1,11 @@
 //! The words of the program: which are a form, and what `make N` writes.
 use super::examples::{POINT_TO_POINT, POINT_TO_POINT_OUT};
-use super::runs::{sink, source};
-use super::words_of;
-use crate::{Status, play, usage_line};
+use super::runs::check_failed_write;
+use super::{are_equal, check_call, ending, sink, source, text_of, words_of};
+use crate::{Status, usage_line};
 use spb_outside::{MemorySink, MemorySource, Source};
 use std::alloc::Global;
 use std::process::Abort;
-use std::test::Fail;
 
 /// The script for four bridges.
 const MADE_4: &str = "\
@@ -84,18 +83,21 @@ frame b4 1 ffffffffffff0a00000000040800
 drain 100000
 ";
 
-/// Asserts that these words are no form: nothing is read or written.
-fn check_usage(rt: &impl Abort, alloc: Global, words: &[String]) -> Result<(), Fail> {
-    let (mut source, mut sink) = (source(alloc, &[])?, sink(alloc, &[])?);
-    assert_eq!(rt;
-        play(alloc, words, &mut source, &mut sink),
-        Ok(Status::Usage)
-    );
-    assert_eq!(rt; sink.bytes(), b"".as_slice());
+/// Asserts what a source gives at its next read, of five bytes.
+fn check_next(rt: &impl Abort, source: &mut MemorySource, bytes: &[u8; 5]) {
     let mut into = [0; 5];
-    assert_eq!(rt; source.read(&mut into), Ok(5));
-    assert_eq!(rt; &into, b"# Two");
-    Ok(())
+    are_equal(rt, &source.read(&mut into), &Ok(5));
+    are_equal(rt, &into, bytes);
+}
+
+/// Asserts that these words are no form: nothing is read or written.
+fn check_usage(rt: &impl Abort, alloc: Global, words: &[String]) {
+    let mut source = source(rt, alloc, POINT_TO_POINT, 40, 0);
+    let mut sink = sink(rt, alloc, 8, 0);
+    let status = ending(rt, alloc, words, &mut source, &mut sink);
+    are_equal(rt, &status, &Status::Usage);
+    are_equal(rt, &text_of(rt, &sink), &"");
+    check_next(rt, &mut source, b"# Two");
 }
 
 /// Words that are no form: those of one call on each line. An empty line and a blank at the end are an empty word.
@@ -158,95 +160,77 @@ make /4
 ";
 
 #[test]
-fn other_words_are_refused_and_nothing_is_read_or_written(rt: HostRuntime) -> Result<(), Fail> {
+fn other_words_are_refused_and_nothing_is_read_or_written(rt: HostRuntime) {
     let alloc = rt.alloc();
-    check_usage(&rt, alloc, &[])?;
+    check_usage(&rt, alloc, &[]);
     for words in OTHER_WORDS.lines() {
-        check_usage(&rt, alloc, &words_of(alloc, words)?)?;
+        check_usage(&rt, alloc, &words_of(&rt, alloc, words));
     }
-    Ok(())
+}
+
+/// Asserts that a script is played for these words.
+fn check_played(rt: &impl Abort, alloc: Global, words: &str) {
+    let source = source(rt, alloc, POINT_TO_POINT, 100, 0);
+    let sink = sink(rt, alloc, 100, 0);
+    check_call(
+        rt,
+        alloc,
+        words,
+        source,
+        sink,
+        Status::Done,
+        POINT_TO_POINT_OUT,
+    );
 }
 
 #[test]
-fn plain_bridges_may_be_told(rt: HostRuntime) -> Result<(), Fail> {
-    let alloc = rt.alloc();
-    for words in ["run", "run --kind plain"] {
-        let words = words_of(alloc, words)?;
-        let bytes = Vec::from_slice(alloc, POINT_TO_POINT.as_bytes())?;
-        let mut source = MemorySource::new(bytes, Vec::new(alloc), 100);
-        let mut sink = MemorySink::new(alloc, Vec::new(alloc), 100);
-        assert_eq!(rt;
-            play(alloc, &words, &mut source, &mut sink),
-            Ok(Status::Done)
-        );
-        assert_eq!(rt; std::str::from_utf8(sink.bytes())?, POINT_TO_POINT_OUT);
-    }
-    Ok(())
+fn plain_bridges_may_be_told(rt: HostRuntime) {
+    check_played(&rt, rt.alloc(), "run");
+    check_played(&rt, rt.alloc(), "run --kind plain");
 }
 
 /// Asserts how many lines `make N` writes, where each write takes at most `step` bytes, and gives them.
-fn made(
-    rt: &impl Abort,
-    alloc: Global,
-    words: &str,
-    step: usize,
-    count: usize,
-) -> Result<MemorySink, Fail> {
-    assert!(rt; step >= 1);
-    let words = words_of(alloc, words)?;
+fn made(rt: &impl Abort, alloc: Global, words: &str, step: usize, count: usize) -> MemorySink {
+    let words = words_of(rt, alloc, words);
     // A source that fails at once isn't asked.
-    let (mut source, mut sink) = (
-        source(alloc, &[1])?,
-        MemorySink::new(alloc, Vec::new(alloc), step),
-    );
-    assert_eq!(rt;
-        play(alloc, &words, &mut source, &mut sink),
-        Ok(Status::Done)
-    );
-    assert_eq!(rt; source.faults(), 0);
-    let text = std::str::from_utf8(sink.bytes())?;
-    assert_eq!(rt; text.lines().count(), count);
-    Ok(sink)
+    let mut source = source(rt, alloc, POINT_TO_POINT, 40, 1);
+    let mut sink = sink(rt, alloc, step, 0);
+    let status = ending(rt, alloc, &words, &mut source, &mut sink);
+    are_equal(rt, &status, &Status::Done);
+    are_equal(rt, &text_of(rt, &sink).lines().count(), &count);
+    sink
+}
+
+/// Asserts what the script for four bridges is, where each write takes at most `step` bytes.
+fn check_made_4(rt: &impl Abort, alloc: Global, step: usize) {
+    let sink = made(rt, alloc, "make 4", step, 72);
+    are_equal(rt, &text_of(rt, &sink), &MADE_4);
 }
 
 #[test]
-fn the_script_for_four_bridges_is_written(rt: HostRuntime) -> Result<(), Fail> {
-    for step in [1, 7, 100_000] {
-        let sink = made(&rt, rt.alloc(), "make 4", step, 72)?;
-        assert_eq!(rt; std::str::from_utf8(sink.bytes())?, MADE_4);
-    }
-    Ok(())
+fn the_script_for_four_bridges_is_written(rt: HostRuntime) {
+    check_made_4(&rt, rt.alloc(), 1);
+    check_made_4(&rt, rt.alloc(), 7);
+    check_made_4(&rt, rt.alloc(), 100_000);
 }
 
 #[test]
-fn scripts_have_so_many_lines(rt: HostRuntime) -> Result<(), Fail> {
-    for (words, count) in [("make 9", 153), ("make 10", 169), ("make 96", 1559)] {
-        let _ = made(&rt, rt.alloc(), words, 4096, count)?;
-    }
-    Ok(())
+fn scripts_have_so_many_lines(rt: HostRuntime) {
+    let _ = made(&rt, rt.alloc(), "make 9", 4096, 153);
+    let _ = made(&rt, rt.alloc(), "make 10", 4096, 169);
+    let _ = made(&rt, rt.alloc(), "make 96", 4096, 1559);
 }
 
 #[test]
-fn a_failed_write_leaves_a_front_of_the_script(rt: HostRuntime) -> Result<(), Fail> {
-    let alloc = rt.alloc();
-    let words = words_of(alloc, "make 4")?;
-    for (failing, front) in [(1, ""), (2, "vid 10 1"), (4, "vid 10 1\nvid 20 2")] {
-        let (mut source, mut sink) = (source(alloc, &[])?, sink(alloc, &[failing])?);
-        assert_eq!(rt;
-            play(alloc, &words, &mut source, &mut sink),
-            Ok(Status::WriteFault)
-        );
-        assert_eq!(rt; std::str::from_utf8(sink.bytes())?, front);
-    }
-    Ok(())
+fn a_failed_write_leaves_a_front_of_the_script(rt: HostRuntime) {
+    check_failed_write(&rt, rt.alloc(), "make 4", 1, "");
+    check_failed_write(&rt, rt.alloc(), "make 4", 2, "vid 10 1");
+    check_failed_write(&rt, rt.alloc(), "make 4", 4, "vid 10 1\nvid 20 2");
 }
 
 #[test]
-fn the_usage_names_each_form(rt: HostRuntime) -> Result<(), Fail> {
-    let line = usage_line(rt.alloc())?;
-    assert_eq!(rt;
-        line.as_str(),
-        "Usage: spbsim <run [--kind K] | make N | try N [--kind K]>"
-    );
-    Ok(())
+fn the_usage_names_each_form(rt: HostRuntime) {
+    let line = usage_line(rt.alloc()).expect(&rt, "out of memory");
+    let text = "Usage: spbsim <run [--kind K] | make N | try N [--kind K]>";
+    are_equal(&rt, &line.as_str(), &text);
 }
