@@ -1,11 +1,31 @@
 //! What the tests of both kinds share: A and B, each with one port, at the two ends of a link.
 ghost use Rattle.std.specs.Prelude.{◌≡◌, ◌≤◌, true, false, length, IfOk, OnOk};
-ghost use Rattle.bridge_api.specs.Config.{IsWhole};
+ghost use Rattle.bridge_api.specs.Config.{IsMetric, IsWhole};
 
+use adjacency::Adjacency;
 use bridge_api::{Bridge, BridgeConfig, Outbox};
 use lsdb::Version;
 use spb_types::{BridgeId, Mac, NoMemory, Seq, SourceId, SystemId, Vid, VidPlan};
-use std::alloc::{AllocError, Global};
+use std::alloc::Global;
+use std::fmt::Debug;
+use std::process::Abort;
+
+/// Asserts that these are equal. An assertion is proved once here, and not at each type.
+pub(crate) fn are_equal<T: PartialEq + Debug>(rt: &impl Abort, found: &T, want: &T) {
+    assert_eq!(*rt; found, want);
+}
+
+/// A blank plain bridge in a box.
+macro_rules! boxed {
+    ($rt:expr) => {{
+        let blank = plain_bridge::PlainBridge::blank($rt.alloc());
+        let boxed: Box<dyn bridge_api::Bridge> =
+            Box::new($rt.alloc(), blank).expect(&$rt, "out of memory");
+        boxed
+    }};
+}
+
+pub(crate) use boxed;
 
 /// The configuration of a bridge with one port. Its address ends in this number, which is its source too.
 macro_rules! one_port {
@@ -58,7 +78,7 @@ fn config_in_vid_10(alloc: Global, last: u8) -> Result<BridgeConfig, NoMemory>
 }
 
 /// The configuration of a bridge with two ports and no VID.
-pub(crate) fn config_of_two_ports(alloc: Global, last: u8) -> Result<BridgeConfig, NoMemory>
+fn config_of_two_ports(alloc: Global, last: u8) -> Result<BridgeConfig, NoMemory>
     ensures whole { IfOk result IsWhole }
     ensures ports { IfOk result (λ c. c.ports ≡ 2) }
 {
@@ -71,7 +91,7 @@ pub(crate) fn config_of_two_ports(alloc: Global, last: u8) -> Result<BridgeConfi
 }
 
 /// Makes a blank bridge that of a configuration with one port or more, with carrier at the first.
-pub(crate) fn make_of<B: Bridge>(bridge: &mut B, config: &BridgeConfig) -> Result<(), NoMemory>
+fn make_of<B: Bridge>(bridge: &mut B, config: &BridgeConfig) -> Result<(), NoMemory>
     requires blank { (B.shown bridge.old).blank ≡ true }
     requires whole { IsWhole config.now }
     requires port { 1 ≤ config.now.ports }
@@ -82,155 +102,220 @@ pub(crate) fn make_of<B: Bridge>(bridge: &mut B, config: &BridgeConfig) -> Resul
     bridge.carrier(1, true)
 }
 
-/// Makes a blank bridge one with one port and no VID, with carrier at its port.
-pub(crate) fn make<B: Bridge>(alloc: Global, bridge: &mut B, last: u8) -> Result<(), NoMemory>
-    requires { (B.shown bridge.old).blank ≡ true }
-    ensures made { OnOk result ((B.shown bridge.new).blank ≡ false) }
-    ensures port { OnOk result (1 ≤ length (B.shown bridge.new).view.ports) }
+/// A second passes. The bridge stays made, with as many ports.
+fn ticked<B: Bridge>(bridge: &mut B, outbox: &mut Outbox) -> Result<(), NoMemory>
+    requires { (B.shown bridge.old).blank ≡ false }
+    ensures still_made { (B.shown bridge.new).blank ≡ false }
+    ensures still_ports { OnOk result (length (B.shown bridge.new).view.ports ≡ length (B.shown bridge.old).view.ports) }
 {
-    make_of(bridge, &config(alloc, last)?)
+    bridge.tick(outbox)
 }
 
-/// The same in the VID 10.
-pub(crate) fn make_in_vid_10<B: Bridge>(
-    alloc: Global,
+/// The same, with memory.
+fn tick<B: Bridge>(rt: &impl Abort, bridge: &mut B, outbox: &mut Outbox)
+    requires { (B.shown bridge.old).blank ≡ false }
+    ensures still_made { (B.shown bridge.new).blank ≡ false }
+    ensures still_ports { length (B.shown bridge.new).view.ports ≡ length (B.shown bridge.old).view.ports }
+{
+    match ticked(bridge, outbox) {
+        Ok(()) => {}
+        Err(_) => panic!(*rt; "out of memory"),
+    }
+}
+
+/// A frame comes to a port. The bridge stays made, with as many ports.
+fn heard<B: Bridge>(
     bridge: &mut B,
-    last: u8,
-) -> Result<(), NoMemory>
-    requires { (B.shown bridge.old).blank ≡ true }
-    ensures made { OnOk result ((B.shown bridge.new).blank ≡ false) }
-    ensures port { OnOk result (1 ≤ length (B.shown bridge.new).view.ports) }
-{
-    make_of(bridge, &config_in_vid_10(alloc, last)?)
-}
-
-/// Makes two blank bridges A and B, with one port and no VID, with carrier at their ports.
-pub(crate) fn make_two<B: Bridge>(alloc: Global, a: &mut B, b: &mut B) -> Result<(), NoMemory>
-    requires a { (B.shown a.old).blank ≡ true }
-    requires b { (B.shown b.old).blank ≡ true }
-    ensures a { OnOk result ((B.shown a.new).blank ≡ false) }
-    ensures a_port { OnOk result (1 ≤ length (B.shown a.new).view.ports) }
-    ensures b { OnOk result ((B.shown b.new).blank ≡ false) }
-    ensures b_port { OnOk result (1 ≤ length (B.shown b.new).view.ports) }
-{
-    make(alloc, a, 1)?;
-    make(alloc, b, 2)
-}
-
-/// The same in the VID 10.
-pub(crate) fn make_two_in_vid_10<B: Bridge>(
-    alloc: Global,
-    a: &mut B,
-    b: &mut B,
-) -> Result<(), NoMemory>
-    requires a { (B.shown a.old).blank ≡ true }
-    requires b { (B.shown b.old).blank ≡ true }
-    ensures a { OnOk result ((B.shown a.new).blank ≡ false) }
-    ensures a_port { OnOk result (1 ≤ length (B.shown a.new).view.ports) }
-    ensures b { OnOk result ((B.shown b.new).blank ≡ false) }
-    ensures b_port { OnOk result (1 ≤ length (B.shown b.new).view.ports) }
-{
-    make_in_vid_10(alloc, a, 1)?;
-    make_in_vid_10(alloc, b, 2)
-}
-
-/// A second passes at `from`, and all that it sends comes to the port 1 of `to`.
-pub(crate) fn greet<B: Bridge>(alloc: Global, from: &mut B, to: &mut B) -> Result<(), NoMemory>
-    requires from { (B.shown from.old).blank ≡ false }
-    requires to { (B.shown to.old).blank ≡ false }
-    requires port { 1 ≤ length (B.shown to.old).view.ports }
-    ensures from { (B.shown from.new).blank ≡ false }
-    ensures from_port { OnOk result (length (B.shown from.new).view.ports ≡ length (B.shown from.old).view.ports) }
-    ensures to { (B.shown to.new).blank ≡ false }
-    ensures to_port { OnOk result (length (B.shown to.new).view.ports ≡ length (B.shown to.old).view.ports) }
-{
-    let mut outbox = Outbox::new(alloc);
-    from.tick(&mut outbox)?;
-    'hear: for sent in outbox.wire.as_slice() {
-        to.receive(1, sent.1.as_slice(), &mut Outbox::new(alloc))?;
-    }
-    Ok(())
-}
-
-/// Seconds pass at both, and each hears what the other sends.
-pub(crate) fn meet<B: Bridge>(
-    alloc: Global,
-    a: &mut B,
-    b: &mut B,
-    rounds: u8,
-) -> Result<(), NoMemory>
-    requires a { (B.shown a.old).blank ≡ false }
-    requires b { (B.shown b.old).blank ≡ false }
-    requires a_port { 1 ≤ length (B.shown a.old).view.ports }
-    requires b_port { 1 ≤ length (B.shown b.old).view.ports }
-    ensures a { (B.shown a.new).blank ≡ false }
-    ensures b { (B.shown b.new).blank ≡ false }
-    ensures a_port { OnOk result (1 ≤ length (B.shown a.new).view.ports) }
-    ensures b_port { OnOk result (1 ≤ length (B.shown b.new).view.ports) }
-{
-    'meet: for _ in 0..rounds {
-        greet(alloc, a, b)?;
-        greet(alloc, b, a)?;
-    }
-    Ok(())
-}
-
-/// The version and the lifetime that a bridge holds at a place.
-pub(crate) fn held_at<B: Bridge>(bridge: &B, place: usize) -> (Version, u16)
-    requires { (B.shown bridge.now).blank ≡ false }
-{
-    match bridge.entry(place) {
-        Some(held) => (held.version, held.lifetime),
-        None => (Version::Absent, 0),
-    }
-}
-
-/// Whether what is held at a place is to be sent at the port 1, and is to be acknowledged or asked for there.
-pub(crate) fn flags_at<B: Bridge>(bridge: &B, place: usize) -> (bool, bool)
-    requires { (B.shown bridge.now).blank ≡ false }
-{
-    match bridge.entry(place) {
-        Some(held) => (held.srm.has(1), held.ssn.has(1)),
-        None => (false, false),
-    }
-}
-
-/// A frame comes to the port 1.
-pub(crate) fn hear<B: Bridge>(
-    bridge: &mut B,
+    port: u8,
     frame: &[u8],
     outbox: &mut Outbox,
 ) -> Result<(), NoMemory>
     requires made { (B.shown bridge.old).blank ≡ false }
-    requires port { 1 ≤ length (B.shown bridge.old).view.ports }
+    requires low { 1 ≤ port }
+    requires high { port ≤ length (B.shown bridge.old).view.ports }
     ensures still_made { (B.shown bridge.new).blank ≡ false }
-    ensures still_port { OnOk result (length (B.shown bridge.new).view.ports ≡ length (B.shown bridge.old).view.ports) }
+    ensures still_ports { OnOk result (length (B.shown bridge.new).view.ports ≡ length (B.shown bridge.old).view.ports) }
 {
-    bridge.receive(1, frame, outbox)
+    bridge.receive(port, frame, outbox)
+}
+
+/// The same, with memory.
+fn hear<B: Bridge>(rt: &impl Abort, bridge: &mut B, port: u8, frame: &[u8], outbox: &mut Outbox)
+    requires made { (B.shown bridge.old).blank ≡ false }
+    requires low { 1 ≤ port }
+    requires high { port ≤ length (B.shown bridge.old).view.ports }
+    ensures still_made { (B.shown bridge.new).blank ≡ false }
+    ensures still_ports { length (B.shown bridge.new).view.ports ≡ length (B.shown bridge.old).view.ports }
+{
+    match heard(bridge, port, frame, outbox) {
+        Ok(()) => {}
+        Err(_) => panic!(*rt; "out of memory"),
+    }
+}
+
+/// The metric of the link at the port 1 is set. The bridge stays made, with as many ports.
+fn metric_set<B: Bridge>(bridge: &mut B, metric: u32) -> Result<(), NoMemory>
+    requires made { (B.shown bridge.old).blank ≡ false }
+    requires port { 1 ≤ length (B.shown bridge.old).view.ports }
+    requires metric { IsMetric metric }
+    ensures still_made { (B.shown bridge.new).blank ≡ false }
+    ensures still_ports { OnOk result (length (B.shown bridge.new).view.ports ≡ length (B.shown bridge.old).view.ports) }
+{
+    bridge.set_metric(1, metric)
+}
+
+/// The same, with memory.
+fn set_metric<B: Bridge>(rt: &impl Abort, bridge: &mut B, metric: u32)
+    requires made { (B.shown bridge.old).blank ≡ false }
+    requires port { 1 ≤ length (B.shown bridge.old).view.ports }
+    requires metric { IsMetric metric }
+    ensures still_made { (B.shown bridge.new).blank ≡ false }
+    ensures still_ports { length (B.shown bridge.new).view.ports ≡ length (B.shown bridge.old).view.ports }
+{
+    match metric_set(bridge, metric) {
+        Ok(()) => {}
+        Err(_) => panic!(*rt; "out of memory"),
+    }
+}
+
+/// A bridge that was configured, with one port or more. What it is called with has no conditions here.
+#[derive(Drop)]
+pub(crate) struct Made<B: Bridge> {
+    alloc: Global,
+    pub(crate) bridge: B,
+    ports: u8,
+    ghost made: { (B.shown bridge).blank ≡ false },
+    ghost shown_ports: { length (B.shown bridge).view.ports ≡ ports },
+    ghost some: { 1 ≤ ports },
+}
+
+impl<B: Bridge> Made<B> {
+    /// A blank bridge becomes that of a configuration, with carrier at the port 1.
+    fn of(rt: &impl Abort, alloc: Global, blank: B, config: &BridgeConfig) -> Self
+        requires blank { (B.shown blank).blank ≡ true }
+        requires whole { IsWhole config.now }
+        requires port { 1 ≤ config.now.ports }
+    {
+        let mut bridge = blank;
+        match make_of(&mut bridge, config) {
+            Ok(()) => Made {
+                alloc,
+                bridge,
+                ports: config.ports,
+            },
+            Err(_) => panic!(*rt; "out of memory"),
+        }
+    }
+
+    /// A blank bridge becomes one with one port and no VID. Its address ends in this number.
+    pub(crate) fn new(rt: &impl Abort, alloc: Global, blank: B, last: u8) -> Self
+        requires { (B.shown blank).blank ≡ true }
+    {
+        let config = config(alloc, last).expect(rt, "out of memory");
+        Self::of(rt, alloc, blank, &config)
+    }
+
+    /// The same in the VID 10.
+    pub(crate) fn in_vid_10(rt: &impl Abort, alloc: Global, blank: B, last: u8) -> Self
+        requires { (B.shown blank).blank ≡ true }
+    {
+        let config = config_in_vid_10(alloc, last).expect(rt, "out of memory");
+        Self::of(rt, alloc, blank, &config)
+    }
+
+    /// The same with two ports and no VID.
+    pub(crate) fn of_two_ports(rt: &impl Abort, alloc: Global, blank: B, last: u8) -> Self
+        requires { (B.shown blank).blank ≡ true }
+    {
+        let config = config_of_two_ports(alloc, last).expect(rt, "out of memory");
+        Self::of(rt, alloc, blank, &config)
+    }
+
+    /// What is sent as a second passes.
+    pub(crate) fn tick(&mut self, rt: &impl Abort) -> Outbox {
+        let mut outbox = Outbox::new(self.alloc);
+        tick(rt, &mut self.bridge, &mut outbox);
+        outbox
+    }
+
+    /// What is sent as a frame comes to a port.
+    pub(crate) fn hear_at(&mut self, rt: &impl Abort, port: u8, frame: &[u8]) -> Outbox {
+        assert!(*rt; 1 <= port && port <= self.ports);
+        let mut outbox = Outbox::new(self.alloc);
+        hear(rt, &mut self.bridge, port, frame, &mut outbox);
+        outbox
+    }
+
+    /// The same at the port 1.
+    pub(crate) fn hear(&mut self, rt: &impl Abort, frame: &[u8]) -> Outbox {
+        self.hear_at(rt, 1, frame)
+    }
+
+    /// Sets the metric of the link at the port 1.
+    pub(crate) fn set_metric(&mut self, rt: &impl Abort, metric: u32)
+        requires { IsMetric metric }
+    {
+        set_metric(rt, &mut self.bridge, metric);
+    }
+
+    /// A second passes, and all that is sent comes to the port 1 of another.
+    pub(crate) fn greet(&mut self, rt: &impl Abort, to: &mut Self) {
+        let outbox = self.tick(rt);
+        for sent in outbox.wire.as_slice() {
+            to.hear(rt, sent.1.as_slice());
+        }
+    }
+
+    /// Seconds pass, and what is sent is lost.
+    pub(crate) fn pass(&mut self, rt: &impl Abort, seconds: u16) {
+        for _ in 0..seconds {
+            self.tick(rt);
+        }
+    }
+
+    /// The adjacency at the port 1, whether CSNPs are due there, and whether there is a flag.
+    pub(crate) fn seen(&self) -> (Adjacency, bool, bool) {
+        let bridge = &self.bridge;
+        (bridge.adjacent(1), bridge.due(1), bridge.has_flag())
+    }
+
+    /// The version and the lifetime that are held at a place.
+    pub(crate) fn held_at(&self, place: usize) -> (Version, u16) {
+        match self.bridge.entry(place) {
+            Some(held) => (held.version, held.lifetime),
+            None => (Version::Absent, 0),
+        }
+    }
+
+    /// Whether what is held at a place is to be sent at the port 1, and is to be acknowledged or asked for there.
+    pub(crate) fn flags_at(&self, place: usize) -> (bool, bool) {
+        match self.bridge.entry(place) {
+            Some(held) => (held.srm.has(1), held.ssn.has(1)),
+            None => (false, false),
+        }
+    }
+}
+
+/// Seconds pass at both, and each hears what the other sends.
+pub(crate) fn meet<B: Bridge>(rt: &impl Abort, a: &mut Made<B>, b: &mut Made<B>, rounds: u8) {
+    for _ in 0..rounds {
+        a.greet(rt, b);
+        b.greet(rt, a);
+    }
 }
 
 /// The bytes, with others at some places.
 pub(crate) fn changed(
+    rt: &impl Abort,
     alloc: Global,
     bytes: &[u8],
     changes: &[(usize, u8)],
-) -> Result<Vec<u8>, AllocError> {
-    let mut changed = Vec::from_slice(alloc, bytes)?;
+) -> Vec<u8> {
+    let mut changed = Vec::from_slice(alloc, bytes).expect(rt, "out of memory");
     for (place, byte) in changes {
         if let Some(other) = changed.get_mut(*place) {
             *other = *byte;
         }
     }
-    Ok(changed)
-}
-
-/// Seconds pass at a bridge, and what it sends is lost.
-pub(crate) fn pass<B: Bridge>(alloc: Global, bridge: &mut B, seconds: u16) -> Result<(), NoMemory>
-    requires { (B.shown bridge.old).blank ≡ false }
-    ensures { (B.shown bridge.new).blank ≡ false }
-{
-    'pass: for _ in 0..seconds {
-        bridge.tick(&mut Outbox::new(alloc))?;
-    }
-    Ok(())
+    changed
 }

@@ -1,12 +1,10 @@
 //! Tests of `plain_bridge`: bridges in boxes, at the two ends of a link.
-ghost use Rattle.std.specs.Prelude.{◌≡◌, ◌≤◌, ◌<◌, true, false, length, vec_len, All, OnOk};
+ghost use Rattle.std.specs.Prelude.{◌≡◌, ◌<◌, true, false, vec_len, All, OnOk};
 ghost use Rattle.bridge_api.specs.Step.{second, with_wire};
 ghost use Rattle.bridge_api.specs.Among.{stepped_at, sent_from_place};
 ghost use Rattle.bridge_api.specs.Shown.{views_of};
 
-use crate::fixtures::{
-    changed, flags_at, greet, hear, held_at, make, make_two, make_two_in_vid_10, meet, pass,
-};
+use crate::fixtures::{Made, are_equal, boxed, changed, meet};
 use adjacency::{AdjState, Adjacency};
 use bridge_api::{Bridge, Kind, Outbox};
 use lsdb::{DbRow, Version};
@@ -14,7 +12,6 @@ use plain_bridge::{PlainBridge, SharedReading};
 use spb_types::{Isid, Mac, NoMemory, PortSet, SourceId, SystemId, UnicastRow, Vid, group_address};
 use std::alloc::Global;
 use std::process::Abort;
-use std::test::Fail;
 
 /// A's first hello, as the whole control frame.
 const FIRST_HELLO: &[u8] = b"\
@@ -37,26 +34,11 @@ const OLD_LSP: &[u8] = b"\
 fn is_only_frame(rt: &impl Abort, outbox: &Outbox, frame: &[u8]) {
     match outbox.wire.as_slice() {
         [sent] => {
-            assert_eq!(*rt; sent.0, 1);
-            assert_eq!(*rt; sent.1.as_slice(), frame);
+            are_equal(rt, &sent.0, &1);
+            are_equal(rt, &sent.1.as_slice(), &frame);
         }
         _ => panic!(*rt; "not one frame"),
     }
-}
-
-/// A second passes at a bridge, which sends this frame alone.
-fn check_sent<B: Bridge>(
-    rt: &impl Abort,
-    alloc: Global,
-    bridge: &mut B,
-    frame: &[u8],
-) -> Result<(), NoMemory>
-    requires { (B.shown bridge.old).blank ≡ false }
-{
-    let mut outbox = Outbox::new(alloc);
-    bridge.tick(&mut outbox)?;
-    is_only_frame(rt, &outbox, frame);
-    Ok(())
 }
 
 /// Ticks one of several bridges. The others stay as they were.
@@ -74,143 +56,143 @@ fn tick_at<B: Bridge>(
     bridges[place].tick(outbox)
 }
 
-/// The state of the port 1, and whether CSNPs are due there.
-fn port_of<B: Bridge>(bridge: &B) -> (AdjState, bool)
-    requires made { (B.shown bridge.now).blank ≡ false }
-    requires port { 1 ≤ length (B.shown bridge.now).view.ports }
-{
-    (bridge.adjacent(1).state, bridge.due(1))
-}
-
-/// The address of the neighbour at the port 1.
-fn neighbour_of<B: Bridge>(bridge: &B) -> [u8; 6]
-    requires made { (B.shown bridge.now).blank ≡ false }
-    requires port { 1 ≤ length (B.shown bridge.now).view.ports }
-{
-    bridge.adjacent(1).neighbour.mac.bytes
-}
-
-fn has_flag<B: Bridge>(bridge: &B) -> bool
-    requires { (B.shown bridge.now).blank ≡ false }
-{
-    bridge.has_flag()
+/// Asserts the state of the port 1, and whether CSNPs are due there.
+fn check_port<B: Bridge>(rt: &impl Abort, made: &Made<B>, expected: (AdjState, bool)) {
+    let (adjacency, due, _) = made.seen();
+    are_equal(rt, &(adjacency.state, due), &expected);
 }
 
 /// What is held, in order, but for the bodies.
-fn rows<B: Bridge>(alloc: Global, bridge: &B) -> Result<Vec<DbRow>, NoMemory>
-    requires { (B.shown bridge.now).blank ≡ false }
-{
+fn rows<B: Bridge>(rt: &impl Abort, alloc: Global, made: &Made<B>) -> Vec<DbRow> {
     let mut rows = Vec::new(alloc);
     for place in 0..2048 {
-        if let Some(held) = bridge.entry(place) {
-            rows.push(held.row())?;
+        if let Some(held) = made.bridge.entry(place) {
+            rows.push(held.row()).expect(rt, "out of memory");
         }
     }
-    Ok(rows)
-}
-
-/// The adjacency at the port 1, whether CSNPs are due there, and whether there is a flag.
-fn seen<B: Bridge>(bridge: &B) -> (Adjacency, bool, bool)
-    requires made { (B.shown bridge.now).blank ≡ false }
-    requires port { 1 ≤ length (B.shown bridge.now).view.ports }
-{
-    (bridge.adjacent(1), bridge.due(1), bridge.has_flag())
+    rows
 }
 
 /// Whether a frame that comes to the port 1 changes nothing there and nothing that is held, but for the bodies, and
 /// nothing is sent.
-fn is_dropped<B: Bridge>(alloc: Global, bridge: &mut B, frame: &[u8]) -> Result<bool, NoMemory>
-    requires made { (B.shown bridge.old).blank ≡ false }
-    requires port { 1 ≤ length (B.shown bridge.old).view.ports }
-    ensures still_made { (B.shown bridge.new).blank ≡ false }
-    ensures still_port { OnOk result (length (B.shown bridge.new).view.ports ≡ length (B.shown bridge.old).view.ports) }
-{
-    let before = seen(bridge);
-    let held_before = rows(alloc, bridge)?;
-    let mut outbox = Outbox::new(alloc);
-    hear(bridge, frame, &mut outbox)?;
-    let held_after = rows(alloc, bridge)?;
+fn drops_it<B: Bridge>(rt: &impl Abort, alloc: Global, made: &mut Made<B>, frame: &[u8]) -> bool {
+    let before = made.seen();
+    let held_before = rows(rt, alloc, made);
+    let outbox = made.hear(rt, frame);
+    let held_after = rows(rt, alloc, made);
     let same_rows = held_after.as_slice() == held_before.as_slice();
-    Ok(outbox.wire.is_empty() && seen(bridge) == before && same_rows)
+    outbox.wire.is_empty() && made.seen() == before && same_rows
+}
+
+/// Asserts that a frame is dropped.
+fn is_dropped<B: Bridge>(rt: &impl Abort, alloc: Global, made: &mut Made<B>, frame: &[u8]) {
+    assert!(*rt; drops_it(rt, alloc, made, frame));
+}
+
+/// Asserts what a bridge says first.
+fn check_first_hello<B: Bridge>(rt: &impl Abort, alloc: Global, a: B)
+    requires { (B.shown a).blank ≡ true }
+{
+    let mut a = Made::new(rt, alloc, a, 1);
+    a.set_metric(rt, 20);
+    is_only_frame(rt, &a.tick(rt), FIRST_HELLO);
 }
 
 #[test]
-fn the_first_hello_names_nobody(rt: HostRuntime) -> Result<(), Fail> {
-    let alloc = rt.alloc();
-    let mut a: Box<dyn Bridge> = Box::new(alloc, PlainBridge::blank(alloc))?;
-    make(alloc, &mut a, 1)?;
-    a.set_metric(1, 20)?;
-    check_sent(&rt, alloc, &mut a, FIRST_HELLO)?;
-    Ok(())
+fn the_first_hello_names_nobody(rt: HostRuntime) {
+    check_first_hello(&rt, rt.alloc(), boxed!(rt));
+}
+
+/// Asserts what a bridge says once it has heard another.
+fn check_next_hello<B: Bridge>(rt: &impl Abort, alloc: Global, a: B, b: B)
+    requires a { (B.shown a).blank ≡ true }
+    requires b { (B.shown b).blank ≡ true }
+{
+    let mut a = Made::new(rt, alloc, a, 1);
+    let mut b = Made::new(rt, alloc, b, 2);
+    b.greet(rt, &mut a);
+    is_only_frame(rt, &a.tick(rt), INITIALIZING_HELLO);
 }
 
 #[test]
-fn the_next_hello_names_the_neighbour_that_was_heard(rt: HostRuntime) -> Result<(), Fail> {
+fn the_next_hello_names_the_neighbour_that_was_heard(rt: HostRuntime) {
     let alloc = rt.alloc();
-    let (mut a, mut b) = (PlainBridge::blank(alloc), PlainBridge::blank(alloc));
-    make_two(alloc, &mut a, &mut b)?;
-    greet(alloc, &mut b, &mut a)?;
-    check_sent(&rt, alloc, &mut a, INITIALIZING_HELLO)?;
-    Ok(())
+    check_next_hello(
+        &rt,
+        alloc,
+        PlainBridge::blank(alloc),
+        PlainBridge::blank(alloc),
+    );
 }
 
 /// Asserts of what kind a bridge is, and that it isn't failed, and is blank or not.
 fn check_kind<B: Bridge>(rt: &impl Abort, bridge: &B, is_blank: bool) {
-    assert_eq!(*rt; bridge.kind(), Kind::Plain);
-    assert_eq!(*rt; (bridge.is_blank(), bridge.is_failed()), (is_blank, false));
+    are_equal(rt, &bridge.kind(), &Kind::Plain);
+    are_equal(
+        rt,
+        &(bridge.is_blank(), bridge.is_failed()),
+        &(is_blank, false),
+    );
 }
 
-/// Asserts the state of the port 1, and whether CSNPs are due there.
-fn check_port<B: Bridge>(rt: &impl Abort, bridge: &B, expected: (AdjState, bool))
-    requires made { (B.shown bridge.now).blank ≡ false }
-    requires port { 1 ≤ length (B.shown bridge.now).view.ports }
+/// Asserts whether there is a flag.
+fn check_flag<B: Bridge>(rt: &impl Abort, made: &Made<B>, flag: bool) {
+    assert!(*rt; made.bridge.has_flag() == flag);
+}
+
+/// Asserts how two bridges come up with each other.
+fn come_up<B: Bridge>(rt: &impl Abort, alloc: Global, a: B, b: B)
+    requires a { (B.shown a).blank ≡ true }
+    requires b { (B.shown b).blank ≡ true }
 {
-    assert_eq!(*rt; port_of(bridge), expected);
+    check_kind(rt, &a, true);
+    let mut a = Made::new(rt, alloc, a, 1);
+    let mut b = Made::new(rt, alloc, b, 2);
+    check_kind(rt, &a.bridge, false);
+    check_port(rt, &a, (AdjState::Down, false));
+    check_flag(rt, &a, false);
+    a.greet(rt, &mut b);
+    check_port(rt, &b, (AdjState::Initializing, false));
+    b.greet(rt, &mut a);
+    check_port(rt, &a, (AdjState::Up, true));
+    a.greet(rt, &mut b);
+    check_port(rt, &b, (AdjState::Up, true));
 }
 
 #[test]
-fn two_boxes_come_up_with_each_other(rt: HostRuntime) -> Result<(), Fail> {
-    let alloc = rt.alloc();
-    let mut a: Box<dyn Bridge> = Box::new(alloc, PlainBridge::blank(alloc))?;
-    let mut b: Box<dyn Bridge> = Box::new(alloc, PlainBridge::blank(alloc))?;
-    check_kind(&rt, &a, true);
-    make_two(alloc, &mut a, &mut b)?;
-    check_kind(&rt, &a, false);
-    check_port(&rt, &a, (AdjState::Down, false));
-    assert!(rt; !has_flag(&a));
-    greet(alloc, &mut a, &mut b)?;
-    check_port(&rt, &b, (AdjState::Initializing, false));
-    greet(alloc, &mut b, &mut a)?;
-    check_port(&rt, &a, (AdjState::Up, true));
-    greet(alloc, &mut a, &mut b)?;
-    check_port(&rt, &b, (AdjState::Up, true));
-    Ok(())
+fn two_boxes_come_up_with_each_other(rt: HostRuntime) {
+    come_up(&rt, rt.alloc(), boxed!(rt), boxed!(rt));
+}
+
+/// Asserts the version at a place.
+fn check_version<B: Bridge>(rt: &impl Abort, made: &Made<B>, place: usize, version: Version) {
+    are_equal(rt, &made.held_at(place).0, &version);
 }
 
 /// Asserts that a bridge has no flag, and holds these versions and nothing else.
-fn check_held<B: Bridge>(rt: &impl Abort, bridge: &B, versions: [Version; 2])
-    requires { (B.shown bridge.now).blank ≡ false }
-{
-    assert!(*rt; !has_flag(bridge));
-    assert_eq!(*rt; [held_at(bridge, 0).0, held_at(bridge, 1).0], versions);
-    assert_eq!(*rt; held_at(bridge, 2).0, Version::Absent);
+fn check_held<B: Bridge>(rt: &impl Abort, made: &Made<B>, versions: [Version; 2]) {
+    check_flag(rt, made, false);
+    check_version(rt, made, 0, versions[0]);
+    check_version(rt, made, 1, versions[1]);
+    check_version(rt, made, 2, Version::Absent);
 }
 
-#[test]
-fn two_boxes_come_to_hold_the_same(rt: HostRuntime) -> Result<(), Fail> {
-    let alloc = rt.alloc();
-    let mut a: Box<dyn Bridge> = Box::new(alloc, PlainBridge::blank(alloc))?;
-    let mut b: Box<dyn Bridge> = Box::new(alloc, PlainBridge::blank(alloc))?;
-    make_two(alloc, &mut a, &mut b)?;
+/// Asserts what two bridges hold, each alone and once they have met.
+fn come_to_hold_the_same<B: Bridge>(rt: &impl Abort, alloc: Global, a: B, b: B)
+    requires a { (B.shown a).blank ≡ true }
+    requires b { (B.shown b).blank ≡ true }
+{
+    let mut a = Made::new(rt, alloc, a, 1);
+    let mut b = Made::new(rt, alloc, b, 2);
     let alone = Version::Live {
         seq: 1,
         sum: 0x4fd7,
     };
-    assert_eq!(rt; held_at(&a, 0), (alone, 1200));
-    meet(alloc, &mut a, &mut b, 1)?;
-    assert!(rt; has_flag(&a));
-    meet(alloc, &mut a, &mut b, 1)?;
-    greet(alloc, &mut a, &mut b)?;
+    are_equal(rt, &a.held_at(0), &(alone, 1200));
+    meet(rt, &mut a, &mut b, 1);
+    check_flag(rt, &a, true);
+    meet(rt, &mut a, &mut b, 1);
+    a.greet(rt, &mut b);
     let of_a = Version::Live {
         seq: 2,
         sum: 0xa512,
@@ -219,9 +201,13 @@ fn two_boxes_come_to_hold_the_same(rt: HostRuntime) -> Result<(), Fail> {
         seq: 2,
         sum: 0xc2f3,
     };
-    check_held(&rt, &a, [of_a, of_b]);
-    check_held(&rt, &b, [of_a, of_b]);
-    Ok(())
+    check_held(rt, &a, [of_a, of_b]);
+    check_held(rt, &b, [of_a, of_b]);
+}
+
+#[test]
+fn two_boxes_come_to_hold_the_same(rt: HostRuntime) {
+    come_to_hold_the_same(&rt, rt.alloc(), boxed!(rt), boxed!(rt));
 }
 
 const VID: Vid = Vid { value: 10 };
@@ -236,19 +222,29 @@ const fn mac(last: u8) -> Mac {
 }
 
 /// How many unicast and group rows a bridge has in its tables, and the first unicast row.
-fn rows_of<B: Bridge>(bridge: &B) -> Result<(usize, usize, Option<UnicastRow>), NoMemory>
-    requires { (B.shown bridge.now).blank ≡ false }
-{
-    let tables = bridge.tables()?;
+type Rows = (usize, usize, Option<UnicastRow>);
+
+/// Asserts which rows a bridge has.
+fn check_rows<B: Bridge>(rt: &impl Abort, made: &Made<B>, expected: Rows) {
+    let tables = made.bridge.tables().expect(rt, "out of memory");
     let first = tables.unicast.as_slice().first().copied();
-    Ok((tables.unicast.len(), tables.group.len(), first))
+    let found = (tables.unicast.len(), tables.group.len(), first);
+    are_equal(rt, &found, &expected);
 }
 
-/// The port by which frames to an address leave.
-fn port_to<B: Bridge>(bridge: &B, vid: Vid, to: Mac) -> Result<Option<u8>, NoMemory>
-    requires { (B.shown bridge.now).blank ≡ false }
-{
-    bridge.unicast_port(vid, to)
+/// Asserts by which port frames to the bridge of a number leave.
+fn check_port_to<B: Bridge>(
+    rt: &impl Abort,
+    made: &Made<B>,
+    vid: Vid,
+    to: u8,
+    expected: Option<u8>,
+) {
+    let port = made
+        .bridge
+        .unicast_port(vid, mac(to))
+        .expect(rt, "out of memory");
+    are_equal(rt, &port, &expected);
 }
 
 /// The row to the bridge of a number, which is the neighbour at port 1.
@@ -260,168 +256,205 @@ fn row_to(number: u8) -> UnicastRow {
     }
 }
 
-/// Asserts which rows two blank bridges have, each alone and once they have met.
-fn check_rows<B: Bridge>(
+/// Asserts which rows two bridges have, each alone and once they have met.
+fn have_each_other<B: Bridge>(rt: &impl Abort, alloc: Global, a: B, b: B)
+    requires a { (B.shown a).blank ≡ true }
+    requires b { (B.shown b).blank ≡ true }
+{
+    let mut a = Made::in_vid_10(rt, alloc, a, 1);
+    let mut b = Made::in_vid_10(rt, alloc, b, 2);
+    check_rows(rt, &a, (0, 0, None));
+    meet(rt, &mut a, &mut b, 2);
+    a.greet(rt, &mut b);
+    check_rows(rt, &a, (1, 0, Some(row_to(2))));
+    check_rows(rt, &b, (1, 0, Some(row_to(1))));
+    check_port_to(rt, &a, VID, 2, Some(1));
+    check_port_to(rt, &a, OTHER_VID, 2, None);
+    check_port_to(rt, &b, VID, 2, None);
+}
+
+#[test]
+fn two_boxes_show_each_other_in_their_tables(rt: HostRuntime) {
+    have_each_other(&rt, rt.alloc(), boxed!(rt), boxed!(rt));
+}
+
+#[test]
+fn boxes_that_share_what_they_read_have_their_own_rows(rt: HostRuntime) {
+    let alloc = rt.alloc();
+    let shared = SharedReading::new(alloc).expect(&rt, "out of memory");
+    let a = PlainBridge::sharing(alloc, shared.share().expect(&rt, "out of memory"));
+    have_each_other(&rt, alloc, a, PlainBridge::sharing(alloc, shared));
+}
+
+/// Asserts the cost of the path to the bridge of a number, and how many bridges stand on it.
+fn check_path<B: Bridge>(
     rt: &impl Abort,
-    alloc: Global,
-    a: &mut B,
-    b: &mut B,
-) -> Result<(), NoMemory>
-    requires a { (B.shown a.old).blank ≡ true }
-    requires b { (B.shown b.old).blank ≡ true }
-{
-    make_two_in_vid_10(alloc, a, b)?;
-    assert_eq!(*rt; rows_of(a)?, (0, 0, None));
-    meet(alloc, a, b, 2)?;
-    greet(alloc, a, b)?;
-    assert_eq!(*rt; rows_of(a)?, (1, 0, Some(row_to(2))));
-    assert_eq!(*rt; rows_of(b)?, (1, 0, Some(row_to(1))));
-    assert_eq!(*rt; port_to(a, VID, mac(2))?, Some(1));
-    assert_eq!(*rt; port_to(a, OTHER_VID, mac(2))?, None);
-    assert_eq!(*rt; port_to(b, VID, mac(2))?, None);
-    Ok(())
+    made: &Made<B>,
+    to: u8,
+    vid: Vid,
+    expected: Option<(u64, usize)>,
+) {
+    let to = SystemId { mac: mac(to) };
+    let found = match made.bridge.path(to, vid).expect(rt, "out of memory") {
+        Some(path) => Some((path.cost, path.bridges.len())),
+        None => None,
+    };
+    are_equal(rt, &found, &expected);
 }
 
-#[test]
-fn two_boxes_show_each_other_in_their_tables(rt: HostRuntime) -> Result<(), Fail> {
-    let alloc = rt.alloc();
-    let mut a: Box<dyn Bridge> = Box::new(alloc, PlainBridge::blank(alloc))?;
-    let mut b: Box<dyn Bridge> = Box::new(alloc, PlainBridge::blank(alloc))?;
-    check_rows(&rt, alloc, &mut a, &mut b)?;
-    Ok(())
-}
-
-#[test]
-fn boxes_that_share_what_they_read_have_their_own_rows(rt: HostRuntime) -> Result<(), Fail> {
-    let alloc = rt.alloc();
-    let shared = SharedReading::new(alloc)?;
-    let mut a = PlainBridge::sharing(alloc, shared.share()?);
-    let mut b = PlainBridge::sharing(alloc, shared);
-    check_rows(&rt, alloc, &mut a, &mut b)?;
-    Ok(())
-}
-
-/// The cost of the path to the bridge of a number, and how many bridges stand on it.
-fn path_to<B: Bridge>(bridge: &B, to: u8, vid: Vid) -> Result<Option<(u64, usize)>, NoMemory>
-    requires { (B.shown bridge.now).blank ≡ false }
-{
-    match bridge.path(SystemId { mac: mac(to) }, vid)? {
-        Some(path) => Ok(Some((path.cost, path.bridges.len()))),
-        None => Ok(None),
-    }
-}
-
-/// The ports by which frames to a service of the bridge of a number leave.
-fn ports_to<B: Bridge>(bridge: &B, source: u32) -> Result<PortSet, NoMemory>
-    requires { (B.shown bridge.now).blank ≡ false }
-{
+/// Asserts by which ports frames to a service of the bridge of a number leave.
+fn check_ports_to<B: Bridge>(rt: &impl Abort, made: &Made<B>, source: u32, expected: PortSet) {
     let group = group_address(SourceId { value: source }, Isid { value: 100 });
-    bridge.group_ports(VID, group)
+    let ports = made
+        .bridge
+        .group_ports(VID, group)
+        .expect(rt, "out of memory");
+    are_equal(rt, &ports, &expected);
+}
+
+/// Asserts the paths of a bridge, alone and once it has met another, and that it has no group ports.
+fn check_paths<B: Bridge>(rt: &impl Abort, alloc: Global, a: B, b: B)
+    requires a { (B.shown a).blank ≡ true }
+    requires b { (B.shown b).blank ≡ true }
+{
+    let mut a = Made::in_vid_10(rt, alloc, a, 1);
+    let mut b = Made::in_vid_10(rt, alloc, b, 2);
+    check_path(rt, &a, 2, VID, None);
+    meet(rt, &mut a, &mut b, 2);
+    a.greet(rt, &mut b);
+    check_path(rt, &a, 2, VID, Some((10, 2)));
+    check_path(rt, &a, 1, VID, Some((0, 1)));
+    check_path(rt, &a, 2, OTHER_VID, None);
+    check_ports_to(rt, &a, 2, PortSet::none());
 }
 
 #[test]
-fn a_box_tells_its_paths_and_no_group_ports_without_members(rt: HostRuntime) -> Result<(), Fail> {
-    let alloc = rt.alloc();
-    let mut a: Box<dyn Bridge> = Box::new(alloc, PlainBridge::blank(alloc))?;
-    let mut b: Box<dyn Bridge> = Box::new(alloc, PlainBridge::blank(alloc))?;
-    make_two_in_vid_10(alloc, &mut a, &mut b)?;
-    assert_eq!(rt; path_to(&a, 2, VID)?, None);
-    meet(alloc, &mut a, &mut b, 2)?;
-    greet(alloc, &mut a, &mut b)?;
-    assert_eq!(rt; path_to(&a, 2, VID)?, Some((10, 2)));
-    assert_eq!(rt; path_to(&a, 1, VID)?, Some((0, 1)));
-    assert_eq!(rt; path_to(&a, 2, OTHER_VID)?, None);
-    assert_eq!(rt; ports_to(&a, 2)?, PortSet::none());
-    Ok(())
+fn a_box_tells_its_paths_and_no_group_ports_without_members(rt: HostRuntime) {
+    check_paths(&rt, rt.alloc(), boxed!(rt), boxed!(rt));
+}
+
+/// Asserts the number of the first LSP that is held.
+fn check_number<B: Bridge>(rt: &impl Abort, made: &Made<B>, number: u32) {
+    are_equal(rt, &made.held_at(0).0.number(), &number);
 }
 
 /// Asserts the flags of the first two LSPs that are held, and the number of the first.
-fn check_flags<B: Bridge>(rt: &impl Abort, bridge: &B, flags: [(bool, bool); 2], number: u32)
-    requires { (B.shown bridge.now).blank ≡ false }
+fn check_flags<B: Bridge>(rt: &impl Abort, made: &Made<B>, flags: [(bool, bool); 2], number: u32) {
+    are_equal(rt, &[made.flags_at(0), made.flags_at(1)], &flags);
+    check_number(rt, made, number);
+}
+
+/// Asserts the address of the neighbour at the port 1.
+fn check_neighbour<B: Bridge>(rt: &impl Abort, made: &Made<B>, last: u8) {
+    are_equal(rt, &made.seen().0.neighbour.mac, &mac(last));
+}
+
+/// Asserts what is to be sent once another neighbour is heard at an Up port.
+fn hears_another<B: Bridge>(rt: &impl Abort, alloc: Global, a: B, b: B)
+    requires a { (B.shown a).blank ≡ true }
+    requires b { (B.shown b).blank ≡ true }
 {
-    assert_eq!(*rt; [flags_at(bridge, 0), flags_at(bridge, 1)], flags);
-    assert_eq!(*rt; held_at(bridge, 0).0.number(), number);
-}
-
-#[test]
-fn another_neighbour_at_an_up_port_gets_all_and_is_owed_nothing(
-    rt: HostRuntime,
-) -> Result<(), Fail> {
-    let alloc = rt.alloc();
-    let mut a: Box<dyn Bridge> = Box::new(alloc, PlainBridge::blank(alloc))?;
-    let mut b: Box<dyn Bridge> = Box::new(alloc, PlainBridge::blank(alloc))?;
-    make_two(alloc, &mut a, &mut b)?;
-    meet(alloc, &mut a, &mut b, 2)?;
-    check_port(&rt, &a, (AdjState::Up, false));
-    check_flags(&rt, &a, [(false, false), (false, true)], 2);
+    let mut a = Made::new(rt, alloc, a, 1);
+    let mut b = Made::new(rt, alloc, b, 2);
+    meet(rt, &mut a, &mut b, 2);
+    check_port(rt, &a, (AdjState::Up, false));
+    check_flags(rt, &a, [(false, false), (false, true)], 2);
     // C's hello when it has heard A's circuit 1.
-    let hello = changed(alloc, INITIALIZING_HELLO, &[(11, 3), (31, 3), (58, 1)])?;
-    hear(&mut a, &hello, &mut Outbox::new(alloc))?;
-    assert_eq!(rt; neighbour_of(&a), [2, 0, 0, 0, 0, 3]);
-    check_port(&rt, &a, (AdjState::Up, true));
-    check_flags(&rt, &a, [(true, false), (true, false)], 3);
-    Ok(())
+    let changes = [(11, 3), (31, 3), (58, 1)];
+    let hello = changed(rt, alloc, INITIALIZING_HELLO, &changes);
+    a.hear(rt, &hello);
+    check_neighbour(rt, &a, 3);
+    check_port(rt, &a, (AdjState::Up, true));
+    check_flags(rt, &a, [(true, false), (true, false)], 3);
 }
 
 #[test]
-fn a_greater_number_of_an_own_lsp_is_answered(rt: HostRuntime) -> Result<(), Fail> {
-    let alloc = rt.alloc();
-    let mut a: Box<dyn Bridge> = Box::new(alloc, PlainBridge::blank(alloc))?;
-    let mut b: Box<dyn Bridge> = Box::new(alloc, PlainBridge::blank(alloc))?;
-    make_two(alloc, &mut a, &mut b)?;
+fn another_neighbour_at_an_up_port_gets_all_and_is_owed_nothing(rt: HostRuntime) {
+    hears_another(&rt, rt.alloc(), boxed!(rt), boxed!(rt));
+}
+
+/// Asserts that a bridge goes past a greater number of its own LSP, once it is Up.
+fn answers_a_greater_number<B: Bridge>(rt: &impl Abort, alloc: Global, a: B, b: B)
+    requires a { (B.shown a).blank ≡ true }
+    requires b { (B.shown b).blank ≡ true }
+{
+    let mut a = Made::new(rt, alloc, a, 1);
+    let mut b = Made::new(rt, alloc, b, 2);
     // It isn't Up yet.
-    assert!(rt; is_dropped(alloc, &mut a, OLD_LSP)?);
-    assert_eq!(rt; held_at(&a, 0).0.number(), 1);
-    meet(alloc, &mut a, &mut b, 1)?;
-    hear(&mut a, OLD_LSP, &mut Outbox::new(alloc))?;
-    assert_eq!(rt; held_at(&a, 0).0.number(), 10);
-    Ok(())
+    is_dropped(rt, alloc, &mut a, OLD_LSP);
+    check_number(rt, &a, 1);
+    meet(rt, &mut a, &mut b, 1);
+    a.hear(rt, OLD_LSP);
+    check_number(rt, &a, 10);
 }
 
 #[test]
-fn an_own_lsp_of_lifetime_300_is_originated_anew(rt: HostRuntime) -> Result<(), Fail> {
-    let alloc = rt.alloc();
-    let mut a: Box<dyn Bridge> = Box::new(alloc, PlainBridge::blank(alloc))?;
-    make(alloc, &mut a, 1)?;
-    pass(alloc, &mut a, 899)?;
-    let before = held_at(&a, 0);
-    assert_eq!(rt; (before.0.number(), before.1), (1, 301));
-    pass(alloc, &mut a, 1)?;
-    let after = held_at(&a, 0);
-    assert_eq!(rt; (after.0.number(), after.1), (2, 1200));
-    Ok(())
+fn a_greater_number_of_an_own_lsp_is_answered(rt: HostRuntime) {
+    answers_a_greater_number(&rt, rt.alloc(), boxed!(rt), boxed!(rt));
+}
+
+/// Asserts the number and the lifetime of the first LSP that is held, once seconds have passed.
+fn check_after<B: Bridge>(rt: &impl Abort, made: &mut Made<B>, seconds: u16, found: (u32, u16)) {
+    made.pass(rt, seconds);
+    let held = made.held_at(0);
+    are_equal(rt, &(held.0.number(), held.1), &found);
+}
+
+/// Asserts that a bridge originates anew at lifetime 300.
+fn originates_anew<B: Bridge>(rt: &impl Abort, alloc: Global, a: B)
+    requires { (B.shown a).blank ≡ true }
+{
+    let mut a = Made::new(rt, alloc, a, 1);
+    check_after(rt, &mut a, 899, (1, 301));
+    check_after(rt, &mut a, 1, (2, 1200));
 }
 
 #[test]
-fn a_box_drops_garbage_and_stays_as_it_was(rt: HostRuntime) -> Result<(), Fail> {
-    let alloc = rt.alloc();
-    let mut a: Box<dyn Bridge> = Box::new(alloc, PlainBridge::blank(alloc))?;
-    let mut b: Box<dyn Bridge> = Box::new(alloc, PlainBridge::blank(alloc))?;
-    make_two(alloc, &mut a, &mut b)?;
-    meet(alloc, &mut a, &mut b, 1)?;
-    assert!(rt; is_dropped(alloc, &mut a, &[])?);
-    assert!(rt; is_dropped(alloc, &mut a, b"no frame of the backbone")?);
-    assert!(rt; is_dropped(alloc, &mut a, &FIRST_HELLO[..52])?);
+fn an_own_lsp_of_lifetime_300_is_originated_anew(rt: HostRuntime) {
+    originates_anew(&rt, rt.alloc(), boxed!(rt));
+}
+
+/// Asserts that two bridges that have met drop garbage.
+fn drops_garbage<B: Bridge>(rt: &impl Abort, alloc: Global, a: B, b: B)
+    requires a { (B.shown a).blank ≡ true }
+    requires b { (B.shown b).blank ≡ true }
+{
+    let mut a = Made::new(rt, alloc, a, 1);
+    let mut b = Made::new(rt, alloc, b, 2);
+    meet(rt, &mut a, &mut b, 1);
+    is_dropped(rt, alloc, &mut a, &[]);
+    is_dropped(rt, alloc, &mut a, b"no frame of the backbone");
+    is_dropped(rt, alloc, &mut a, &FIRST_HELLO[..52]);
     // Its own hello.
-    assert!(rt; is_dropped(alloc, &mut a, FIRST_HELLO)?);
-    let other_protocol = changed(alloc, FIRST_HELLO, &[(17, 0x82)])?;
-    assert!(rt; is_dropped(alloc, &mut b, &other_protocol)?);
-    let without_three_way = changed(alloc, FIRST_HELLO, &[(46, 0xf1)])?;
-    assert!(rt; is_dropped(alloc, &mut b, &without_three_way)?);
-    assert!(rt; !is_dropped(alloc, &mut b, FIRST_HELLO)?);
-    Ok(())
+    is_dropped(rt, alloc, &mut a, FIRST_HELLO);
+    let other_protocol = changed(rt, alloc, FIRST_HELLO, &[(17, 0x82)]);
+    is_dropped(rt, alloc, &mut b, &other_protocol);
+    let without_three_way = changed(rt, alloc, FIRST_HELLO, &[(46, 0xf1)]);
+    is_dropped(rt, alloc, &mut b, &without_three_way);
+    assert!(*rt; !drops_it(rt, alloc, &mut b, FIRST_HELLO));
 }
 
 #[test]
-fn one_box_of_several_ticks(rt: HostRuntime) -> Result<(), Fail> {
-    let alloc = rt.alloc();
-    let mut a: Box<dyn Bridge> = Box::new(alloc, PlainBridge::blank(alloc))?;
-    let mut b: Box<dyn Bridge> = Box::new(alloc, PlainBridge::blank(alloc))?;
-    make(alloc, &mut a, 2)?;
-    make(alloc, &mut b, 1)?;
-    let mut boxes = vec![in alloc; a, b]?;
+fn a_box_drops_garbage_and_stays_as_it_was(rt: HostRuntime) {
+    drops_garbage(&rt, rt.alloc(), boxed!(rt), boxed!(rt));
+}
+
+/// Asserts that of two bridges the second alone ticks.
+fn one_of_two_ticks<B: Bridge>(rt: &impl Abort, alloc: Global, a: B, b: B)
+    requires a { (B.shown a).blank ≡ true }
+    requires b { (B.shown b).blank ≡ true }
+{
+    let a = Made::new(rt, alloc, a, 2);
+    let b = Made::new(rt, alloc, b, 1);
+    let mut boxes = Vec::new(alloc);
+    boxes.push(a.bridge).expect(rt, "out of memory");
+    boxes.push(b.bridge).expect(rt, "out of memory");
     let mut outbox = Outbox::new(alloc);
-    tick_at(&mut boxes, 1, &mut outbox)?;
-    is_only_frame(&rt, &outbox, FIRST_HELLO);
-    Ok(())
+    tick_at(&mut boxes, 1, &mut outbox).expect(rt, "out of memory");
+    is_only_frame(rt, &outbox, FIRST_HELLO);
+}
+
+#[test]
+fn one_box_of_several_ticks(rt: HostRuntime) {
+    one_of_two_ticks(&rt, rt.alloc(), boxed!(rt), boxed!(rt));
 }

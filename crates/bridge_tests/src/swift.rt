@@ -1,28 +1,16 @@
 //! Tests of `swift_bridge`: its trees.
-ghost use Rattle.std.specs.Prelude.{◌≡◌, ◌≤◌, false, length, OnOk};
-ghost use Rattle.bridge_api.specs.Config.{IsMetric};
+ghost use Rattle.std.specs.Prelude.{◌≡◌, false, OnOk};
 
-use crate::fixtures::{make_two_in_vid_10, meet};
+use crate::fixtures::{Made, are_equal, meet};
 use bridge_api::{Bridge, Kind};
 use spb_types::NoMemory;
 use std::alloc::Global;
-use std::test::Fail;
+use std::process::Abort;
 use swift_bridge::SwiftBridge;
-
-/// Sets the metric of the link at the port 1.
-fn set_metric<B: Bridge>(bridge: &mut B, metric: u32) -> Result<(), NoMemory>
-    requires made { (B.shown bridge.old).blank ≡ false }
-    requires port { 1 ≤ length (B.shown bridge.old).view.ports }
-    requires metric { IsMetric metric }
-    ensures made { (B.shown bridge.new).blank ≡ false }
-    ensures port { OnOk result (1 ≤ length (B.shown bridge.new).view.ports) }
-{
-    bridge.set_metric(1, metric)
-}
 
 /// What the trees of a bridge say: of how many bridges they are, the cost of the one edge, and how many labels were
 /// computed anew.
-fn said_by(bridge: &mut SwiftBridge) -> Result<(usize, u32, u64), NoMemory>
+fn trees_of(bridge: &mut SwiftBridge) -> Result<(usize, u32, u64), NoMemory>
     requires { bridge.old.blank ≡ false }
     ensures { OnOk result (bridge.new ≡ bridge.old) }
 {
@@ -34,22 +22,51 @@ fn said_by(bridge: &mut SwiftBridge) -> Result<(usize, u32, u64), NoMemory>
     }
 }
 
+/// The same, with memory.
+fn trees_with_memory(rt: &impl Abort, bridge: &mut SwiftBridge) -> (usize, u32, u64)
+    requires { bridge.old.blank ≡ false }
+    ensures { bridge.new ≡ bridge.old }
+{
+    match trees_of(bridge) {
+        Ok(said) => said,
+        Err(_) => panic!(*rt; "out of memory"),
+    }
+}
+
+/// The same of a bridge that was made.
+fn said_by(rt: &impl Abort, made: &mut Made<SwiftBridge>) -> (usize, u32, u64) {
+    trees_with_memory(rt, &mut made.bridge)
+}
+
+/// Asserts how many rows its tables have.
+fn check_rows(rt: &impl Abort, made: &Made<SwiftBridge>, rows: usize) {
+    let tables = made.bridge.tables().expect(rt, "out of memory");
+    are_equal(rt, &tables.unicast.len(), &rows);
+}
+
+/// A swift bridge in the VID 10.
+fn made(rt: &impl Abort, alloc: Global, last: u8) -> Made<SwiftBridge> {
+    let blank = SwiftBridge::blank(alloc);
+    are_equal(rt, &blank.kind(), &Kind::Swift);
+    Made::in_vid_10(rt, alloc, blank, last)
+}
+
+/// Asserts what the trees of A say of a metric of B, before and after it is set.
+fn check_trees(rt: &impl Abort, a: &mut Made<SwiftBridge>, b: &mut Made<SwiftBridge>) {
+    meet(rt, a, b, 5);
+    are_equal(rt, &said_by(rt, a), &(2, 10, 0));
+    b.set_metric(rt, 20);
+    meet(rt, a, b, 3);
+    let changed = said_by(rt, a);
+    are_equal(rt, &(changed.0, changed.1), &(2, 20));
+    assert!(*rt; changed.2 > 0);
+    check_rows(rt, a, 1);
+    are_equal(rt, &said_by(rt, a), &changed);
+}
+
 #[test]
-fn trees_follow_a_metric(rt: HostRuntime) -> Result<(), Fail> {
-    let alloc = rt.alloc();
-    let mut a = SwiftBridge::blank(alloc);
-    let mut b = SwiftBridge::blank(alloc);
-    assert_eq!(rt; a.kind(), Kind::Swift);
-    make_two_in_vid_10(alloc, &mut a, &mut b)?;
-    meet(alloc, &mut a, &mut b, 5)?;
-    assert_eq!(rt; said_by(&mut a)?, (2, 10, 0));
-    set_metric(&mut b, 20)?;
-    meet(alloc, &mut a, &mut b, 3)?;
-    let changed = said_by(&mut a)?;
-    assert_eq!(rt; (changed.0, changed.1), (2, 20));
-    assert!(rt; changed.2 > 0);
-    let tables = a.tables()?;
-    assert_eq!(rt; tables.unicast.len(), 1);
-    assert_eq!(rt; said_by(&mut a)?, changed);
-    Ok(())
+fn trees_follow_a_metric(rt: HostRuntime) {
+    let mut a = made(&rt, rt.alloc(), 1);
+    let mut b = made(&rt, rt.alloc(), 2);
+    check_trees(&rt, &mut a, &mut b);
 }
