@@ -409,8 +409,8 @@ heard_is v q bytes port low at has_carrier =
 
 pub deaf_is : (v : BridgeView) (q : ℕ) (bytes : List ℕ) (port : BridgePort) → 1 ≤ q → slice_get v.ports (q - 1) ≡ Some port → port.adjacency.carrier ≡ false → after_receive q bytes v ≡ after_drop drop.NotAdjacent v
 unfolding after_receive
-deaf_is v q bytes port low at dark =
-    ap (λ (o : Option BridgePort). heard_at q bytes o v) (port_found v q low ∙ at) ∙ when_false port.adjacency.carrier (heard_as (parsed bytes) q port v) (after_drop drop.NotAdjacent v) dark
+deaf_is v q bytes port low at none =
+    ap (λ (o : Option BridgePort). heard_at q bytes o v) (port_found v q low ∙ at) ∙ when_false port.adjacency.carrier (heard_as (parsed bytes) q port v) (after_drop drop.NotAdjacent v) none
 
 pub with_carrier_is : (v : BridgeView) (q : ℕ) (on : Bool) (port : BridgePort) → 1 ≤ q → slice_get v.ports (q - 1) ≡ Some port → with_carrier q on v ≡ with_carrier_at q on (Some port) v
 unfolding with_carrier

@@ -95,22 +95,22 @@ carrier_is_kept : (a : Adjacency) → change_of a (after_carrier true a) ≡ Kep
 carrier_is_kept a = kept_by (is_up a.state) (same_end (a.neighbour, a.circuit) (a.neighbour, a.circuit)) (same_itself a.neighbour a.circuit)
 
 -- the port with carrier
-abbrev lit : BridgePort → BridgePort
-lit port = with_adjacency (after_carrier true port.adjacency) port
+abbrev given_carrier : BridgePort → BridgePort
+given_carrier port = with_adjacency (after_carrier true port.adjacency) port
 
-lit_neighbours : (p i : ℕ) (port : BridgePort) (ports : List BridgePort) → slice_get ports i ≡ Some port → neighbours_from p (slice_set ports i (lit port)) ≡ neighbours_from p ports
-lit_neighbours p i port [] is = refl
-lit_neighbours p zero port (x ∷ ports) is =
+neighbours_given_carrier : (p i : ℕ) (port : BridgePort) (ports : List BridgePort) → slice_get ports i ≡ Some port → neighbours_from p (slice_set ports i (given_carrier port)) ≡ neighbours_from p ports
+neighbours_given_carrier p i port [] is = refl
+neighbours_given_carrier p zero port (x ∷ ports) is =
     let same : x ≡ port = let found : Some x ≡ Some port = is in cc in
     ap (λ (y : BridgePort). if is_port_up y then neighbour_in p y ∷ neighbours_from (p + 1) ports else neighbours_from (p + 1) ports) (sym same)
-lit_neighbours p (suc i) port (x ∷ ports) is = ap (λ (list : List Neighbour). if is_port_up x then neighbour_in p x ∷ list else list) (lit_neighbours (p + 1) i port ports is)
+neighbours_given_carrier p (suc i) port (x ∷ ports) is = ap (λ (list : List Neighbour). if is_port_up x then neighbour_in p x ∷ list else list) (neighbours_given_carrier (p + 1) i port ports is)
 
 -- the bridge has the same to say
-lit_stands : (v : BridgeView) (q : ℕ) (port : BridgePort) → body_in (own_entry v) ≡ body_of v → slice_get v.ports (q - 1) ≡ Some port → with_carrier_at q true (Some port) v ≡ with_port_at q (lit port) v
-lit_stands v q port says is =
-    let w : BridgeView = with_port_at q (lit port) v in
-    let same : body_of w ≡ body_of v = moved_body w.ports v.database v (lit_neighbours 1 (q - 1) port v.ports is) in
-    ap (λ (did : AdjacencyChange). changed_at did q (lit port) v) (carrier_is_kept port.adjacency) ∙ stands_still w (says ∙ sym same)
+given_carrier_stands : (v : BridgeView) (q : ℕ) (port : BridgePort) → body_in (own_entry v) ≡ body_of v → slice_get v.ports (q - 1) ≡ Some port → with_carrier_at q true (Some port) v ≡ with_port_at q (given_carrier port) v
+given_carrier_stands v q port says is =
+    let w : BridgeView = with_port_at q (given_carrier port) v in
+    let same : body_of w ≡ body_of v = moved_body w.ports v.database v (neighbours_given_carrier 1 (q - 1) port v.ports is) in
+    ap (λ (did : AdjacencyChange). changed_at did q (given_carrier port) v) (carrier_is_kept port.adjacency) ∙ stands_still w (says ∙ sym same)
 
 -- ---- the steps
 
@@ -128,7 +128,7 @@ step_counts (carrier q true) n v says other low b =
     elim (carrier_step v q true) [
       | inl e ↦ subst (Counts (n + 0)) (sym e) (record { number = omega (arith, b.number); fresh = b.fresh })
       | inr g ↦
-          subst (Counts (n + 0)) (sym (g.after ∙ lit_stands v q g.port says (found v.ports q g.port g.there).1))
+          subst (Counts (n + 0)) (sym (g.after ∙ given_carrier_stands v q g.port says (found v.ports q g.port g.there).1))
           (record { number = omega (arith, b.number); fresh = b.fresh })
     ]
 step_counts (carrier q false) n v says other low b = carrier_grows Below below_grows n q false v low b

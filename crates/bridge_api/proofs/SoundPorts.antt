@@ -194,7 +194,7 @@ no_carrier_metrics : (metrics : List ℕ) → metrics_of (map port_without_carri
 no_carrier_metrics [] = refl
 no_carrier_metrics (m ∷ ms) = ap (λ (list : List ℕ). m ∷ list) (no_carrier_metrics ms)
 
--- a port that is found there is dark
+-- a port that is found there has no carrier
 no_carrier_found : {X : Type 0} (f : Option BridgePort → X) (x : X) → f None ≡ x → ((m : ℕ) → f (Some (port_without_carrier m)) ≡ x) → (metrics : List ℕ) (i : ℕ) → f (slice_get (map port_without_carrier metrics) i) ≡ x
 no_carrier_found f x none some [] i = none
 no_carrier_found f x none some (m ∷ ms) zero = some m

@@ -15,7 +15,7 @@ use itag_frames::control_again;
 /// holds its own LSP alone. What a sound bridge says of itself can be written, and fits one LSP.
 pub fn bridges_are_sound()
     ensures configured { ConfiguredIsSound }
-    ensures dark { ConfiguredHasNoCarrier }
+    ensures no_carrier { ConfiguredHasNoCarrier }
     ensures own { ConfiguredHoldsOwn }
     ensures says { SoundCanSay }
     ensures steps { StepsStaySound }

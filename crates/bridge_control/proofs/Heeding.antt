@@ -170,7 +170,7 @@ received_path v p bytes j port is there has_carrier said =
 
 -- and dropped at one without
 pub deaf_after : (m n : Machine) (p : ℕ) (bytes : List ℕ) (port : BridgePort) → IsPort (view_of m) p → port_at (view_of m) p ≡ Some port → port.adjacency.carrier ≡ false → IsAfter (after_drop drop.NotAdjacent (view_of m)) n → IsAfter (after_receive p bytes (view_of m)) n
-deaf_after m n p bytes port is there dark dropped = after_same _ _ n (sym (deaf_is (view_of m) p bytes port is.low (got (view_of m) p port is there) dark)) dropped
+deaf_after m n p bytes port is there none dropped = after_same _ _ n (sym (deaf_is (view_of m) p bytes port is.low (got (view_of m) p port is there) none)) dropped
 
 pub not_true : (b : Bool) → not b ≡ true → b ≡ false
 not_true true e = absurd cc

@@ -123,22 +123,22 @@ pub unmoved : (v : BridgeView) (p : ℕ) (bytes : List ℕ) (j : Parsed) → par
 unfolding moved_by_receive
 unmoved v p bytes j said none = unmoved_at (port_at v p) v p bytes j said none
 
-moved_dark : (b : Bool) (m : Moved) → b ≡ false → (if b then m else nothing) ≡ nothing
-moved_dark true m dark = absurd cc
-moved_dark false m dark = refl
+moved_without_carrier : (b : Bool) (m : Moved) → b ≡ false → (if b then m else nothing) ≡ nothing
+moved_without_carrier true m none = absurd cc
+moved_without_carrier false m none = refl
 
-pub dark_unmoved : (v : BridgeView) (p : ℕ) (bytes : List ℕ) (port : BridgePort) → port_at v p ≡ Some port → port.adjacency.carrier ≡ false → moved_by_receive p bytes v ≡ nothing
+pub unmoved_without_carrier : (v : BridgeView) (p : ℕ) (bytes : List ℕ) (port : BridgePort) → port_at v p ≡ Some port → port.adjacency.carrier ≡ false → moved_by_receive p bytes v ≡ nothing
 unfolding moved_by_receive
-dark_unmoved v p bytes port there dark = ap (λ (o : Option BridgePort). moved_at p bytes o v) there ∙ moved_dark port.adjacency.carrier (moved_as (parsed bytes) p bytes v) dark
+unmoved_without_carrier v p bytes port there none = ap (λ (o : Option BridgePort). moved_at p bytes o v) there ∙ moved_without_carrier port.adjacency.carrier (moved_as (parsed bytes) p bytes v) none
 
-moved_lit : (b : Bool) (m : Moved) → b ≡ true → (if b then m else nothing) ≡ m
-moved_lit true m lit = refl
-moved_lit false m lit = absurd cc
+moved_with_carrier : (b : Bool) (m : Moved) → b ≡ true → (if b then m else nothing) ≡ m
+moved_with_carrier true m has = refl
+moved_with_carrier false m has = absurd cc
 
 moved_in : (o : Option BridgePort) (v : BridgeView) (p : ℕ) (bytes : List ℕ) (j : Parsed) → has_carrier_in o ≡ true → parsed bytes ≡ j → moved_as j p bytes v ≡ moved_at p bytes o v
 moved_in None v p bytes j has_carrier said = absurd cc
 moved_in (Some port) v p bytes j has_carrier said =
-    ap (λ (k : Parsed). moved_as k p bytes v) (sym said) ∙ sym (moved_lit port.adjacency.carrier (moved_as (parsed bytes) p bytes v) has_carrier)
+    ap (λ (k : Parsed). moved_as k p bytes v) (sym said) ∙ sym (moved_with_carrier port.adjacency.carrier (moved_as (parsed bytes) p bytes v) has_carrier)
 
 pub moved_path : (v : BridgeView) (p : ℕ) (bytes : List ℕ) (j : Parsed) → has_carrier_at v p ≡ true → parsed bytes ≡ j → moved_as j p bytes v ≡ moved_by_receive p bytes v
 unfolding has_carrier_at moved_by_receive

@@ -139,8 +139,8 @@ sent_down me p port db up =
 
 -- nothing is sent at a port without carrier that isn't Up
 pub sent_silent : (me : SystemId) (p : ℕ) (port : BridgePort) (db : Lsps) → port.adjacency.carrier ≡ false → is_port_up port ≡ false → [] ≡ sent_at me p port db
-sent_silent me p port db dark up =
-    ap (λ (b : Bool). if b then (p, hello_frame me p port) ∷ [] else []) (sym dark) ∙ sent_down me p port db up
+sent_silent me p port db none up =
+    ap (λ (b : Bool). if b then (p, hello_frame me p port) ∷ [] else []) (sym none) ∙ sent_down me p port db up
 
 -- at an Up port CSNPs come first
 pub synced_up : (me : SystemId) (p : ℕ) (port : BridgePort) (db : Lsps) → is_port_up port ≡ true → synced_at me p port db ≡ summaries_at me p port db ++ flagged_at me p db

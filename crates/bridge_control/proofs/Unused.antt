@@ -20,16 +20,16 @@ use Rattle.bridge_control.proofs.Sends.{sent_silent, after_sending_down}
 
 -- what a second, and sending, make of it
 record IsIdle (port : BridgePort) : Type 0 where
-  pub dark : port.adjacency.carrier ≡ false
+  pub no_carrier : port.adjacency.carrier ≡ false
   pub down : is_port_up port ≡ false
   pub still : later port ≡ port
   pub stays : leaves port ≡ false
   pub keeps : loses port ≡ false
 
 state_down : (s : AdjState) (a : Adjacency) → SoundIn s a → a.carrier ≡ false → s ≡ Down
-state_down Down a sound dark = refl
-state_down Initializing a sound dark = absurd (let no : true ≡ false = sym sound.1 ∙ dark in cc)
-state_down Up a sound dark = absurd (let no : true ≡ false = sym sound.1 ∙ dark in cc)
+state_down Down a sound no_carrier = refl
+state_down Initializing a sound no_carrier = absurd (let no : true ≡ false = sym sound.1 ∙ no_carrier in cc)
+state_down Up a sound no_carrier = absurd (let no : true ≡ false = sym sound.1 ∙ no_carrier in cc)
 
 not_due : (due up : Bool) → (due ≡ true → up ≡ true) → up ≡ false → due ≡ false
 not_due true up is none = absurd (let no : true ≡ false = sym (is refl) ∙ none in cc)
@@ -39,11 +39,11 @@ later_down : (a : Adjacency) (due : Bool) (metric : ℕ) → a.state ≡ Down �
 later_down a due metric down none = cc
 
 is_idle : (port : BridgePort) → IsSoundPort port → port.adjacency.carrier ≡ false → IsIdle port
-is_idle port sound dark =
-    let down : port.adjacency.state ≡ Down = state_down port.adjacency.state port.adjacency sound.adjacency dark in
+is_idle port sound no_carrier =
+    let down : port.adjacency.state ≡ Down = state_down port.adjacency.state port.adjacency sound.adjacency no_carrier in
     let up : is_port_up port ≡ false = ap is_up down in
     record {
-      dark = dark;
+      no_carrier = no_carrier;
       down = up;
       still = later_down port.adjacency port.csnp_due port.metric down (not_due port.csnp_due (is_port_up port) sound.csnp_due up);
       stays = ap (λ (b : Bool). b && not (is_port_up (later port))) up;
@@ -117,7 +117,7 @@ lost_counted n ports lost sound unused is = is ∙ lost_rest n ports (rest_idle 
 none_sent : (me : SystemId) (q : ℕ) (ports : List BridgePort) (db : Lsps) → AreIdle ports → sent_from me q ports db ≡ []
 none_sent me q [] db idle = refl
 none_sent me q (port ∷ ports) db idle =
-    (λ i. sym (sent_silent me q port db idle.0.dark idle.0.down) i ++ sent_from me (q + 1) ports (after_sending_at q port db)) ∙ none_sent me (q + 1) ports (after_sending_at q port db) idle.1
+    (λ i. sym (sent_silent me q port db idle.0.no_carrier idle.0.down) i ++ sent_from me (q + 1) ports (after_sending_at q port db)) ∙ none_sent me (q + 1) ports (after_sending_at q port db) idle.1
 
 sent_rest : (me : SystemId) (q n : ℕ) (ports : List BridgePort) (db : Lsps) → AreIdle (drop n ports) → sent_from me q (take n ports) db ≡ sent_from me q ports db
 sent_rest me q zero ports db idle = sym (none_sent me q ports db idle)

@@ -5,7 +5,7 @@ use Rattle.std.proofs.lemmas.List.FromFn.{length-map-range_with_len}
 use Rattle.scenario.specs.declared.command.Command.{Command}
 use Rattle.scenario.specs.declared.command.Command.TheVariants as command
 use Rattle.scenario_maker.specs.Laws.{MadeIsLong}
-use Rattle.scenario_maker.specs.Made.{chord_count, base_vids, bridge, ring_link, nth_chord, bridges, ring, chords, network, service, members, services, attachments, questions_of, questions, settled, sent, traffic, declarations, after_failure, after_restart, events, ring_name, bridge_name}
+use Rattle.scenario_maker.specs.Made.{chord_count, base_vids, bridge, ring_link, nth_chord, bridges, ring, chords, network, service, members, services, attachments, questions_of, questions, convergence, sent, traffic, declarations, after_failure, after_restart, events, ring_name, bridge_name}
 
 joined : (a b : List Command) (m n : ℕ) → length a ≡ m → length b ≡ n → length (a ++ b) ≡ m + n
 joined a b m n p q = omega (arith, length-append a b)
@@ -33,26 +33,26 @@ declarations_long n =
     (joined (network n) (services n) _ _ (network_long n) (length-map-range_with_len service 1 n))
     (flat_long (members n) 3 (λ k. refl) 1 n)
 
-settled_long : (n : ℕ) → length (settled n) ≡ 1 + 2 * n
-settled_long n = one_more (command.Round (4 * n + 16)) (questions n) _ (flat_long questions_of 2 (λ k. refl) 1 n)
+convergence_long : (n : ℕ) → length (convergence n) ≡ 1 + 2 * n
+convergence_long n = one_more (command.Round (4 * n + 16)) (questions n) _ (flat_long questions_of 2 (λ k. refl) 1 n)
 
 traffic_long : (n : ℕ) → length (traffic n) ≡ 2 * n
 traffic_long n = flat_long sent 2 (λ k. refl) 1 n
 
 after_failure_long : (n : ℕ) → length (after_failure n) ≡ 2 + 2 * n
-after_failure_long n = one_more (command.Down (ring_name 1)) (settled n) _ (settled_long n) ∙ omega arith
+after_failure_long n = one_more (command.Down (ring_name 1)) (convergence n) _ (convergence_long n) ∙ omega arith
 
 after_restart_long : (n : ℕ) → length (after_restart n) ≡ 2 + 4 * n
 after_restart_long n =
-    one_more (command.Restart (bridge_name 2)) (settled n ++ traffic n) _
-    (joined (settled n) (traffic n) _ _ (settled_long n) (traffic_long n))
+    one_more (command.Restart (bridge_name 2)) (convergence n ++ traffic n) _
+    (joined (convergence n) (traffic n) _ _ (convergence_long n) (traffic_long n))
     ∙ omega arith
 
 events_long : (n : ℕ) → length (events n) ≡ 1 + 2 * n + 2 * n + (2 + 2 * n) + (2 + 4 * n)
 events_long n =
-    joined (settled n ++ traffic n ++ after_failure n) (after_restart n) _ _
-    (joined (settled n ++ traffic n) (after_failure n) _ _
-    (joined (settled n) (traffic n) _ _ (settled_long n) (traffic_long n))
+    joined (convergence n ++ traffic n ++ after_failure n) (after_restart n) _ _
+    (joined (convergence n ++ traffic n) (after_failure n) _ _
+    (joined (convergence n) (traffic n) _ _ (convergence_long n) (traffic_long n))
     (after_failure_long n))
     (after_restart_long n)
 

@@ -105,8 +105,8 @@ abbrev pub questions : ℕ → List Command
 questions n = flat_map questions_of (numbers n)
 
 -- rounds, in which the network should become quiet, and then the questions about each bridge
-abbrev pub settled : ℕ → List Command
-settled n = Round (4 * n + 16) ∷ questions n
+abbrev pub convergence : ℕ → List Command
+convergence n = Round (4 * n + 16) ∷ questions n
 
 -- a frame of customer k to all: the broadcast address, the customer's own, and two bytes
 abbrev pub frame_bytes : ℕ → List ℕ
@@ -125,13 +125,13 @@ abbrev pub declarations : ℕ → List Command
 declarations n = network n ++ services n ++ attachments n
 
 abbrev pub after_failure : ℕ → List Command
-after_failure n = Down (ring_name 1) ∷ settled n
+after_failure n = Down (ring_name 1) ∷ convergence n
 
 abbrev pub after_restart : ℕ → List Command
-after_restart n = Restart (bridge_name 2) ∷ settled n ++ traffic n
+after_restart n = Restart (bridge_name 2) ∷ convergence n ++ traffic n
 
 abbrev pub events : ℕ → List Command
-events n = settled n ++ traffic n ++ after_failure n ++ after_restart n
+events n = convergence n ++ traffic n ++ after_failure n ++ after_restart n
 
 abbrev pub made : ℕ → List Command
 made n = declarations n ++ events n

@@ -37,9 +37,9 @@ fn push_questions(script: &mut Vec<Command>, n: u8) -> Result<(), NoMemory>
 }
 
 /// Rounds, and then the questions about each bridge.
-fn push_settled(script: &mut Vec<Command>, n: u8) -> Result<(), NoMemory>
+fn push_convergence(script: &mut Vec<Command>, n: u8) -> Result<(), NoMemory>
     requires { n ≤ 96 }
-    ensures { OnOk result (script.new.items ≡ script.old.items ++ made.settled n) }
+    ensures { OnOk result (script.new.items ≡ script.old.items ++ made.convergence n) }
 {
     script.push(Command::Round(4 * u64::from(n) + 16))?;
     push_questions(script, n)?;
@@ -77,7 +77,7 @@ fn push_failure(script: &mut Vec<Command>, n: u8) -> Result<(), NoMemory>
     ensures { OnOk result (script.new.items ≡ script.old.items ++ made.after_failure n) }
 {
     script.push(Command::Down(ring_name(1)))?;
-    push_settled(script, n)?;
+    push_convergence(script, n)?;
     Ok(())
 }
 
@@ -87,7 +87,7 @@ fn push_restart(alloc: Global, script: &mut Vec<Command>, n: u8) -> Result<(), N
     ensures { OnOk result (script.new.items ≡ script.old.items ++ made.after_restart n) }
 {
     script.push(Command::Restart(bridge_name(2)))?;
-    push_settled(script, n)?;
+    push_convergence(script, n)?;
     push_traffic(alloc, script, n)?;
     Ok(())
 }
@@ -97,7 +97,7 @@ pub(crate) fn push_events(alloc: Global, script: &mut Vec<Command>, n: u8) -> Re
     requires { n ≤ 96 }
     ensures { OnOk result (script.new.items ≡ script.old.items ++ made.events n) }
 {
-    push_settled(script, n)?;
+    push_convergence(script, n)?;
     push_traffic(alloc, script, n)?;
     push_failure(script, n)?;
     push_restart(alloc, script, n)?;

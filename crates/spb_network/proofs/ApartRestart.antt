@@ -11,7 +11,7 @@ use Rattle.spb_network.specs.declared.answer.Out.{Out}
 use Rattle.spb_network.specs.World.{things_of}
 use Rattle.spb_network.specs.State.{State, links_of}
 use Rattle.spb_network.specs.Events.{with_carrier_at_end, flushed}
-use Rattle.spb_network.specs.Restarting.{restart_config, ends_here, end_here, end_away, link_cut, cut_link, cut_from, lit_link, lit_from, box_at, replaced, restarted_as, restarted}
+use Rattle.spb_network.specs.Restarting.{restart_config, ends_here, end_here, end_away, link_cut, cut_link, cut_from, with_link_carrier, with_carriers_from, box_at, replaced, restarted_as, restarted}
 use Rattle.spb_network.specs.Sound.{IsSoundState}
 use Rattle.spb_network.proofs.BridgeLaws.{configured_is_sound}
 use Rattle.spb_network.proofs.ApartBridge.{configured_is_placed}
@@ -47,17 +47,17 @@ module _ (Entered : Isid → List ℕ → Type 0) (Left : Out → Type 0) where
 
   -- ---- it gets carrier
 
-  lit_if : (s : State) (e : LinkEnd) (b : Bool) → IsSeparate Entered Left s → IsSeparate Entered Left (if b then with_carrier_at_end true s e else s)
-  lit_if s e true separate = separate_with_carrier Entered Left true s e separate
-  lit_if s e false separate = separate
+  carrier_given_if : (s : State) (e : LinkEnd) (b : Bool) → IsSeparate Entered Left s → IsSeparate Entered Left (if b then with_carrier_at_end true s e else s)
+  carrier_given_if s e true separate = separate_with_carrier Entered Left true s e separate
+  carrier_given_if s e false separate = separate
 
-  lit_found : (s : State) (i : ℕ) (o : Option DeclaredLink) → IsSeparate Entered Left s → IsSeparate Entered Left (lit_link s i o)
-  lit_found s i None separate = separate
-  lit_found s i (Some l) separate = lit_if s (end_here l i) (ends_here l i) separate
+  found_link_carrier : (s : State) (i : ℕ) (o : Option DeclaredLink) → IsSeparate Entered Left s → IsSeparate Entered Left (with_link_carrier s i o)
+  found_link_carrier s i None separate = separate
+  found_link_carrier s i (Some l) separate = carrier_given_if s (end_here l i) (ends_here l i) separate
 
-  lit_all : (n k i : ℕ) (s : State) → IsSeparate Entered Left s → IsSeparate Entered Left (lit_from n k i s)
-  lit_all zero k i s separate = separate
-  lit_all (suc n) k i s separate = lit_all n (k + 1) i (lit_link s i (slice_get (links_of s) k)) (lit_found s i (slice_get (links_of s) k) separate)
+  carriers_given : (n k i : ℕ) (s : State) → IsSeparate Entered Left s → IsSeparate Entered Left (with_carriers_from n k i s)
+  carriers_given zero k i s separate = separate
+  carriers_given (suc n) k i s separate = carriers_given n (k + 1) i (with_link_carrier s i (slice_get (links_of s) k)) (found_link_carrier s i (slice_get (links_of s) k) separate)
 
   -- ---- it restarts
 
@@ -79,7 +79,7 @@ module _ (Entered : Isid → List ℕ → Type 0) (Left : Out → Type 0) where
       let n : ℕ = length (links_of s) in
       let t : State = cut_from n 0 i s in
       let c : BridgeConfig = restart_config s i b in
-      lit_all n 0 i (replaced t i c place) (replaced_separate t i c place (restart_whole s i b sound there) (cut_all n 0 i s separate))
+      carriers_given n 0 i (replaced t i c place) (replaced_separate t i c place (restart_whole s i b sound there) (cut_all n 0 i s separate))
 
   pub separate_restarted : (s : State) (i : ℕ) → IsSoundState s → IsSeparate Entered Left s → IsSeparate Entered Left (restarted s i)
   unfolding restarted

@@ -203,8 +203,8 @@ Counted-off s n k sound counted low =
     let t : State = flushed s k in
     let emptied : IsCountedBy (n + 0) t = counted_fewer s n 0 (changed_at (λ x. no_frames) s.lanes k) counted (in_flushed s.lanes k) (hellos-flushed (links_of s) s.lanes k) in
     let tracked : IsTracked (λ j. n + 0) t = tracked_from (n + 0) t (core_of t (Sound-flushed s k sound)) emptied in
-    let dark : IsTracked (λ j. n + 0) (record t { world = with_live false t.world k }) = tracked_live false (λ j. n + 0) t k (λ is dir. flushed_lane s.lanes k dir) tracked in
+    let tracked_down : IsTracked (λ j. n + 0) (record t { world = with_live false t.world k }) = tracked_live false (λ j. n + 0) t k (λ is dir. flushed_lane s.lanes k dir) tracked in
     counted_tracked (λ j. n + 0 + 1) (n + 2) (with_carrier_over false (record t { world = with_live false t.world k }) (slice_get (links_of s) k))
-    (over_ends false (record t { world = with_live false t.world k }) (λ j. n + 0) 1 (slice_get (links_of s) k) dark (λ j. omega (arith, low)) (λ l is j.
+    (over_ends false (record t { world = with_live false t.world k }) (λ j. n + 0) 1 (slice_get (links_of s) k) tracked_down (λ j. omega (arith, low)) (λ l is j.
     gains_apart l.a.bridge l.b.bridge j (carrier l.a.port false) (carrier l.b.port false) (link-apart s k l (core_of s sound) is) (omega arith) (omega arith)))
     (λ j. omega arith)

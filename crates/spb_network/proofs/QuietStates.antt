@@ -20,7 +20,7 @@ use Rattle.spb_network.specs.Sound.{ends_live_link, IsSoundState}
 use Rattle.spb_network.specs.Quiet.{holds_q1, IsUpTowards, HaveMet}
 use Rattle.spb_network.specs.Quieting.{is_end_up, is_link_up, are_links_up}
 use Rattle.spb_network.proofs.BoxLemmas.{All-get}
-use Rattle.spb_network.proofs.SoundLaws.{dark}
+use Rattle.spb_network.proofs.SoundLaws.{without_carrier}
 use Rattle.spb_network.proofs.QuietLists.{both_true, by_first, from_first, each_of, all_of}
 use Rattle.spb_network.proofs.QuietLaws.{met, from_have_met, port_of}
 
@@ -67,7 +67,7 @@ up_is_linked s sound i v p at up = sym (sound.carriers i v p at (up_is_port v p 
   where
     by : (b : Bool) → has_carrier_at v p ≡ b → b ≡ true
     by true is = refl
-    by false is = absurd (true≢false (sym up ∙ (dark v p (All-get IsSoundView s.views i v sound.views at) is).1))
+    by false is = absurd (true≢false (sym up ∙ (without_carrier v p (All-get IsSoundView s.views i v sound.views at) is).1))
 
 end_view : (views : List BridgeView) (e : LinkEnd) → is_end_up views e ≡ true → (v : BridgeView) × (slice_get views e.bridge ≡ Some v) × (is_up_at v e.port ≡ true)
 end_view views e h = by (slice_get views e.bridge) refl h

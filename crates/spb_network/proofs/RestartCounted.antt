@@ -29,7 +29,7 @@ use Rattle.spb_network.specs.declared.declaration.LinkEnd.{LinkEnd}
 use Rattle.spb_network.specs.World.{World, things_of, is_between, AreApart, AllApart}
 use Rattle.spb_network.specs.State.{State, links_of, near_end, far_end}
 use Rattle.spb_network.specs.Events.{with_carrier_at_end, flushed}
-use Rattle.spb_network.specs.Restarting.{restart_config, ends_here, end_here, end_away, link_cut, cut_link, cut_from, lit_link, lit_from, replaced, restarted_in, restarted_as, restarted, box_at}
+use Rattle.spb_network.specs.Restarting.{restart_config, ends_here, end_here, end_away, link_cut, cut_link, cut_from, with_link_carrier, with_carriers_from, replaced, restarted_in, restarted_as, restarted, box_at}
 use Rattle.spb_network.specs.Sound.{IsSoundState}
 use Rattle.spb_network.specs.Counted.{IsCopy, is_held, is_said, IsWeak, hellos_to, IsOwnOf, IsCountedBy}
 use Rattle.spb_network.proofs.BoxLemmas.{All-get, All-set}
@@ -279,23 +279,23 @@ module _ (s : State) (i : ℕ) (b : DeclaredBridge) (c : BridgeConfig) (place a 
 
 -- ---- it gets carrier
 
-lit_if : (s : State) (a : ℕ) (e : LinkEnd) (b : Bool) → a < last_number → IsTracked (λ j. a) s → IsTracked (λ j. a) (if b then with_carrier_at_end true s e else s)
-lit_if s a e true small tracked = tracked_more (λ j. a + gain_at e.bridge (carrier e.port true) j) (λ j. a) (with_carrier_at_end true s e) (λ j. let none = no_gain e.bridge j e.port in omega (arith, none)) (tracked_carrier true s (λ j. a) e tracked (λ j. small))
-lit_if s a e false small tracked = tracked
+carrier_given_if : (s : State) (a : ℕ) (e : LinkEnd) (b : Bool) → a < last_number → IsTracked (λ j. a) s → IsTracked (λ j. a) (if b then with_carrier_at_end true s e else s)
+carrier_given_if s a e true small tracked = tracked_more (λ j. a + gain_at e.bridge (carrier e.port true) j) (λ j. a) (with_carrier_at_end true s e) (λ j. let none = no_gain e.bridge j e.port in omega (arith, none)) (tracked_carrier true s (λ j. a) e tracked (λ j. small))
+carrier_given_if s a e false small tracked = tracked
 
-lit_link_kept : (s : State) (a i : ℕ) (o : Option DeclaredLink) → a < last_number → IsTracked (λ j. a) s → IsTracked (λ j. a) (lit_link s i o)
-lit_link_kept s a i None small tracked = tracked
-lit_link_kept s a i (Some l) small tracked = lit_if s a (end_here l i) (ends_here l i) small tracked
+link_carrier_kept : (s : State) (a i : ℕ) (o : Option DeclaredLink) → a < last_number → IsTracked (λ j. a) s → IsTracked (λ j. a) (with_link_carrier s i o)
+link_carrier_kept s a i None small tracked = tracked
+link_carrier_kept s a i (Some l) small tracked = carrier_given_if s a (end_here l i) (ends_here l i) small tracked
 
-lit_from_kept : (n k i a : ℕ) (s : State) → a < last_number → IsTracked (λ j. a) s → IsTracked (λ j. a) (lit_from n k i s)
-lit_from_kept zero k i a s small tracked = tracked
-lit_from_kept (suc n) k i a s small tracked = lit_from_kept n (k + 1) i a (lit_link s i (slice_get (links_of s) k)) small (lit_link_kept s a i (slice_get (links_of s) k) small tracked)
+carriers_from_kept : (n k i a : ℕ) (s : State) → a < last_number → IsTracked (λ j. a) s → IsTracked (λ j. a) (with_carriers_from n k i s)
+carriers_from_kept zero k i a s small tracked = tracked
+carriers_from_kept (suc n) k i a s small tracked = carriers_from_kept n (k + 1) i a (with_link_carrier s i (slice_get (links_of s) k)) small (link_carrier_kept s a i (slice_get (links_of s) k) small tracked)
 
 -- ---- the bridge restarts
 
 counted_in : (s : State) (a i : ℕ) (b : DeclaredBridge) (place : ℕ) → IsSoundState s → IsCountedBy a s → a + 2 < last_number → slice_get (things_of s.world.bridges) i ≡ Some b → IsCountedBy (a + 2) (restarted_in s i (restart_config s i b) place)
 counted_in s a i b place sound counted small there =
-    counted_tracked (λ j. a + 1) (a + 2) (lit_from n 0 i u) (lit_from_kept n 0 i (a + 1) u (omega (arith, small)) tracked) (λ j. omega arith)
+    counted_tracked (λ j. a + 1) (a + 2) (with_carriers_from n 0 i u) (carriers_from_kept n 0 i (a + 1) u (omega (arith, small)) tracked) (λ j. omega arith)
   where
     n : ℕ
     n = length (links_of s)
@@ -353,22 +353,22 @@ counts-cut_from : (n k i : ℕ) (s : State) → counts (cut_from n k i s) ≡ co
 counts-cut_from zero k i s = refl
 counts-cut_from (suc n) k i s = counts-cut_from n (k + 1) i (cut_link s i k (slice_get (links_of s) k)) ∙ counts-cut_link s i k (slice_get (links_of s) k)
 
-counts-if_lit : (s : State) (e : LinkEnd) (b : Bool) → counts (if b then with_carrier_at_end true s e else s) ≡ counts s
-counts-if_lit s e true = carrier_at true s e
-counts-if_lit s e false = refl
+counts-if_carrier : (s : State) (e : LinkEnd) (b : Bool) → counts (if b then with_carrier_at_end true s e else s) ≡ counts s
+counts-if_carrier s e true = carrier_at true s e
+counts-if_carrier s e false = refl
 
-counts-lit_link : (s : State) (i : ℕ) (o : Option DeclaredLink) → counts (lit_link s i o) ≡ counts s
-counts-lit_link s i None = refl
-counts-lit_link s i (Some l) = counts-if_lit s (end_here l i) (ends_here l i)
+counts-with_link_carrier : (s : State) (i : ℕ) (o : Option DeclaredLink) → counts (with_link_carrier s i o) ≡ counts s
+counts-with_link_carrier s i None = refl
+counts-with_link_carrier s i (Some l) = counts-if_carrier s (end_here l i) (ends_here l i)
 
-counts-lit_from : (n k i : ℕ) (s : State) → counts (lit_from n k i s) ≡ counts s
-counts-lit_from zero k i s = refl
-counts-lit_from (suc n) k i s = counts-lit_from n (k + 1) i (lit_link s i (slice_get (links_of s) k)) ∙ counts-lit_link s i (slice_get (links_of s) k)
+counts-with_carriers_from : (n k i : ℕ) (s : State) → counts (with_carriers_from n k i s) ≡ counts s
+counts-with_carriers_from zero k i s = refl
+counts-with_carriers_from (suc n) k i s = counts-with_carriers_from n (k + 1) i (with_link_carrier s i (slice_get (links_of s) k)) ∙ counts-with_link_carrier s i (slice_get (links_of s) k)
 
 counts-restarted_in : (s : State) (i : ℕ) (c : BridgeConfig) (place : ℕ) → counts (restarted_in s i c place) ≡ counts s
 counts-restarted_in s i c place =
     let n : ℕ = length (links_of s) in
-    counts-lit_from n 0 i (replaced (cut_from n 0 i s) i c place) ∙ counts-cut_from n 0 i s
+    counts-with_carriers_from n 0 i (replaced (cut_from n 0 i s) i c place) ∙ counts-cut_from n 0 i s
 
 counts-restarted_as : (s : State) (i : ℕ) (o : Option DeclaredBridge) (box : Option ℕ) → counts (restarted_as s i o box) ≡ counts s
 counts-restarted_as s i None box = refl

@@ -22,7 +22,7 @@ use Rattle.spb_network.specs.Sound.{ends_live_link, HaveCarrierOfLinks, IsSoundS
 use Rattle.spb_network.proofs.BoxLemmas.{All-get}
 use Rattle.spb_network.proofs.BridgeLaws.{steps_keep_neighbours}
 use Rattle.spb_network.proofs.FitsLemmas.{link_there, far_is_port}
-use Rattle.spb_network.proofs.SoundLaws.{dark}
+use Rattle.spb_network.proofs.SoundLaws.{without_carrier}
 use Rattle.spb_network.proofs.SoundLaneIds.{turned, near-turned, at_parts, at_itself, lane_of_end}
 use Rattle.spb_network.proofs.SoundMoves.{IsCore, nothing_in}
 use Rattle.spb_network.proofs.SoundSteps.{in_flushed, flushed_lane}
@@ -106,17 +106,17 @@ pub far_live : (s : State) (k : ℕ) (l : DeclaredLink) (dir : Dir) (b : Bool) �
 far_live s k l dir b sound at is = subst (λ (e : LinkEnd). ends_live_link (links_of s) e.bridge e.port ≡ b) (near-turned dir l) (near_live s k l (turned dir) b sound.world at is)
 
 again_there : (e : LinkEnd) (j p : ℕ) (links : List DeclaredLink) (b : Bool) → is_at e j p ≡ b → ends_live_link links e.bridge e.port ≡ true → (if b then true else (if b then false else ends_live_link links j p)) ≡ ends_live_link links j p
-again_there e j p links true at lit = let parts = at_parts e j p at in sym lit ∙ (λ k. ends_live_link links (parts.0 k) (parts.1 k))
-again_there e j p links false at lit = refl
+again_there e j p links true at has = let parts = at_parts e j p at in sym has ∙ (λ k. ends_live_link links (parts.0 k) (parts.1 k))
+again_there e j p links false at has = refl
 
 pub cut_world : (s : State) (k : ℕ) (e : LinkEnd) → (link_cut s k e).world ≡ s.world
 cut_world s k e = with_carrier_world true (with_carrier_at_end false (flushed s k) e) e ∙ with_carrier_world false (flushed s k) e
 
 pub Sound-link_cut : (s : State) (k : ℕ) (e : LinkEnd) → IsSoundState s → ends_live_link (links_of s) e.bridge e.port ≡ true → IsSoundState (link_cut s k e)
-Sound-link_cut s k e sound lit =
+Sound-link_cut s k e sound has =
     sound_from x (core_with_carrier true u e (core_with_carrier false t e (core_of t emptied)))
     (subst (λ (w : World). HaveCarrierOfLinks (things_of w.links) x.views) (sym (cut_world s k e))
-    (λ j v p at port. both j v p at port ∙ again_there e j p (links_of s) (is_at e j p) refl lit))
+    (λ j v p at port. both j v p at port ∙ again_there e j p (links_of s) (is_at e j p) refl has))
     (stepped_with_metric (comes.carrier e.port true) u e.bridge refl (stepped_with_metric (comes.carrier e.port false) t e.bridge refl emptied.metrics))
     (stepped_attached (comes.carrier e.port true) u e.bridge refl (stepped_attached (comes.carrier e.port false) t e.bridge refl emptied.attached))
   where
@@ -261,7 +261,7 @@ cut_here s k l dir sound at = record {
     alone : IsAlone u.views e.bridge e.port
     alone w at_w =
         let port : IsPort w e.port = far_is_port u k l dir core.world core.fits there w at_w in
-        (dark w e.port (All-get IsSoundView u.views e.bridge w core.views at_w)
+        (without_carrier w e.port (All-get IsSoundView u.views e.bridge w core.views at_w)
         (off e.bridge w e.port at_w port ∙ if_true (is_at e e.bridge e.port) false (ends_live_link (links_of s) e.bridge e.port) (at_itself e e.bridge e.port refl refl))).0
 
 -- a link that is down was so before
@@ -269,7 +269,7 @@ cut_dead : (s : State) (k : ℕ) (l : DeclaredLink) (dir : Dir) → IsSoundState
 cut_dead s k l dir sound at dead = record {
   empty = λ d. sound.idle k d (live_at (links_of s) k l false at dead);
   alone = λ w at_w.
-      (dark w (far_end dir l).port (All-get IsSoundView s.views (far_end dir l).bridge w sound.views at_w)
+      (without_carrier w (far_end dir l).port (All-get IsSoundView s.views (far_end dir l).bridge w sound.views at_w)
       (sound.carriers (far_end dir l).bridge w (far_end dir l).port at_w (far_is_port s k l dir sound.world sound.fits at w at_w) ∙ far_live s k l dir false sound at dead)).0;
 }
 

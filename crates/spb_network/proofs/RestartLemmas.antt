@@ -5,7 +5,7 @@ use Rattle.spb_network.specs.declared.declaration.DeclaredLink.{DeclaredLink}
 use Rattle.spb_network.specs.declared.declaration.LinkEnd.{LinkEnd}
 use Rattle.spb_network.specs.World.{Bridges, IsEnd, IsLink}
 use Rattle.spb_network.specs.State.{State, links_of}
-use Rattle.spb_network.specs.Restarting.{port_metric, port_metrics, end_here, end_away, cut_link, cut_from, lit_link, lit_from}
+use Rattle.spb_network.specs.Restarting.{port_metric, port_metrics, end_here, end_away, cut_link, cut_from, with_link_carrier, with_carriers_from}
 
 suc-less : (e i : ℕ) → i < e → e - i ≡ suc (e - (i + 1))
 suc-less e i h = omega arith
@@ -13,8 +13,8 @@ suc-less e i h = omega arith
 pub cut-step : (s : State) (i e k : ℕ) → k < e → cut_from (e - k) k i s ≡ cut_from (e - (k + 1)) (k + 1) i (cut_link s i k (slice_get (links_of s) k))
 cut-step s i e k h = ap (λ m. cut_from m k i s) (suc-less e k h)
 
-pub lit-step : (s : State) (i e k : ℕ) → k < e → lit_from (e - k) k i s ≡ lit_from (e - (k + 1)) (k + 1) i (lit_link s i (slice_get (links_of s) k))
-lit-step s i e k h = ap (λ m. lit_from m k i s) (suc-less e k h)
+pub carriers-step : (s : State) (i e k : ℕ) → k < e → with_carriers_from (e - k) k i s ≡ with_carriers_from (e - (k + 1)) (k + 1) i (with_link_carrier s i (slice_get (links_of s) k))
+carriers-step s i e k h = ap (λ m. with_carriers_from m k i s) (suc-less e k h)
 
 pub metrics-step : (links : List DeclaredLink) (i e k : ℕ) → k < e → port_metrics links i (e - k) (k + 1) ≡ port_metric links i (k + 1) ∷ port_metrics links i (e - (k + 1)) (k + 1 + 1)
 metrics-step links i e k h = ap (λ m. port_metrics links i m (k + 1)) (suc-less e k h)

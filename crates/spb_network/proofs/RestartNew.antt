@@ -27,7 +27,7 @@ use Rattle.spb_network.specs.declared.declaration.LinkEnd.{LinkEnd}
 use Rattle.spb_network.specs.World.{World, things_of}
 use Rattle.spb_network.specs.State.{State, Spare, links_of}
 use Rattle.spb_network.specs.Events.{with_carrier_at_end, flushed}
-use Rattle.spb_network.specs.Restarting.{restart_config, ends_here, end_here, end_away, link_cut, cut_link, cut_from, lit_link, lit_from, replaced, restarted_in, restarted_as, restarted, box_at}
+use Rattle.spb_network.specs.Restarting.{restart_config, ends_here, end_here, end_away, link_cut, cut_link, cut_from, with_link_carrier, with_carriers_from, replaced, restarted_in, restarted_as, restarted, box_at}
 use Rattle.spb_network.specs.Sound.{IsSoundState}
 use Rattle.spb_network.specs.RestartLaws.{with_carriers, number_in, IsNew, RestartIsNew}
 use Rattle.spb_network.proofs.BridgeLaws.{configured_is_sound, configured_holds_own, steps_stay_sound, steps_keep_bridge, steps_carry_database, steps_originate, steps_dont_spend}
@@ -37,7 +37,7 @@ use Rattle.spb_network.proofs.SoundEvents.{core_of, stepped_views, with_carrier_
 use Rattle.spb_network.proofs.CountedMoves.{is_within, shown_at}
 use Rattle.spb_network.proofs.RestartCut.{and_both, either, leads_away, here_is, world-cut_from, Sound-cut_from}
 use Rattle.spb_network.proofs.RestartConfig.{restart_whole}
-use Rattle.spb_network.proofs.RestartSound.{world-lit_from}
+use Rattle.spb_network.proofs.RestartSound.{world-with_carriers_from}
 
 -- ---- the rack
 
@@ -56,17 +56,17 @@ rack_cut_from : (n k i : ℕ) (s : State) → (cut_from n k i s).rack ≡ s.rack
 rack_cut_from zero k i s = refl
 rack_cut_from (suc n) k i s = rack_cut_from n (k + 1) i (cut_link s i k (slice_get (links_of s) k)) ∙ rack_cut_link s i k (slice_get (links_of s) k)
 
-rack_lit : (s : State) (e : LinkEnd) (b : Bool) → (if b then with_carrier_at_end true s e else s).rack ≡ s.rack
-rack_lit s e true = rack_carrier true s e
-rack_lit s e false = refl
+rack_carrier_if : (s : State) (e : LinkEnd) (b : Bool) → (if b then with_carrier_at_end true s e else s).rack ≡ s.rack
+rack_carrier_if s e true = rack_carrier true s e
+rack_carrier_if s e false = refl
 
-rack_lit_link : (s : State) (i : ℕ) (o : Option DeclaredLink) → (lit_link s i o).rack ≡ s.rack
-rack_lit_link s i None = refl
-rack_lit_link s i (Some l) = rack_lit s (end_here l i) (ends_here l i)
+rack_link_carrier : (s : State) (i : ℕ) (o : Option DeclaredLink) → (with_link_carrier s i o).rack ≡ s.rack
+rack_link_carrier s i None = refl
+rack_link_carrier s i (Some l) = rack_carrier_if s (end_here l i) (ends_here l i)
 
-rack_lit_from : (n k i : ℕ) (s : State) → (lit_from n k i s).rack ≡ s.rack
-rack_lit_from zero k i s = refl
-rack_lit_from (suc n) k i s = rack_lit_from n (k + 1) i (lit_link s i (slice_get (links_of s) k)) ∙ rack_lit_link s i (slice_get (links_of s) k)
+rack_carriers_from : (n k i : ℕ) (s : State) → (with_carriers_from n k i s).rack ≡ s.rack
+rack_carriers_from zero k i s = refl
+rack_carriers_from (suc n) k i s = rack_carriers_from n (k + 1) i (with_link_carrier s i (slice_get (links_of s) k)) ∙ rack_link_carrier s i (slice_get (links_of s) k)
 
 -- ---- the view
 
@@ -83,43 +83,43 @@ AreFrom links k ls = (m : ℕ) (l : DeclaredLink) → slice_get ls m ≡ Some l 
 abbrev HaveTwoEnds : List DeclaredLink → Type 0
 HaveTwoEnds links = (m : ℕ) (l : DeclaredLink) → slice_get links m ≡ Some l → l.a.bridge ≢ l.b.bridge
 
-lit_view_if : (s : State) (i : ℕ) (l : DeclaredLink) (v : BridgeView) (b : Bool) → ends_here l i ≡ b → l.a.bridge ≢ l.b.bridge → slice_get s.views i ≡ Some v → slice_get (if b then with_carrier_at_end true s (end_here l i) else s).views i ≡ Some (if b then step (carrier (end_here l i).port true) v else v)
-lit_view_if s i l v true here apart at =
+view_with_carrier_if : (s : State) (i : ℕ) (l : DeclaredLink) (v : BridgeView) (b : Bool) → ends_here l i ≡ b → l.a.bridge ≢ l.b.bridge → slice_get s.views i ≡ Some v → slice_get (if b then with_carrier_at_end true s (end_here l i) else s).views i ≡ Some (if b then step (carrier (end_here l i).port true) v else v)
+view_with_carrier_if s i l v true here apart at =
     let e : LinkEnd = end_here l i in
     let leads = leads_away l i here in
     let place : e.bridge ≡ i = ap (λ (f : LinkEnd). f.bridge) (here_is l i leads.dir apart leads.near) ∙ leads.near in
     ap (λ (vs : List BridgeView). slice_get vs i) (stepped_views (comes.carrier e.port true) s e.bridge)
     ∙ (ap (λ (j : ℕ). slice_get (changed_at (step (carrier e.port true)) s.views j) i) place
     ∙ get_changed (step (carrier e.port true)) s.views i v at)
-lit_view_if s i l v false here apart at = at
+view_with_carrier_if s i l v false here apart at = at
 
 world_if : (s : State) (e : LinkEnd) (b : Bool) → (if b then with_carrier_at_end true s e else s).world ≡ s.world
 world_if s e true = with_carrier_world true s e
 world_if s e false = refl
 
-lit_view_link : (s : State) (i : ℕ) (l : DeclaredLink) (o : Option DeclaredLink) (v : BridgeView) → o ≡ Some l → l.a.bridge ≢ l.b.bridge → slice_get s.views i ≡ Some v → slice_get (lit_link s i o).views i ≡ Some (if ends_here l i then step (carrier (end_here l i).port true) v else v)
-lit_view_link s i l None v is apart at = absurd cc
-lit_view_link s i l (Some m) v is apart at =
+view_with_link_carrier : (s : State) (i : ℕ) (l : DeclaredLink) (o : Option DeclaredLink) (v : BridgeView) → o ≡ Some l → l.a.bridge ≢ l.b.bridge → slice_get s.views i ≡ Some v → slice_get (with_link_carrier s i o).views i ≡ Some (if ends_here l i then step (carrier (end_here l i).port true) v else v)
+view_with_link_carrier s i l None v is apart at = absurd cc
+view_with_link_carrier s i l (Some m) v is apart at =
     let same : l ≡ m = cc in
-    subst (λ (h : DeclaredLink). slice_get (lit_link s i (Some h)).views i ≡ Some (if ends_here l i then step (carrier (end_here l i).port true) v else v)) same (lit_view_if s i l v (ends_here l i) refl apart at)
+    subst (λ (h : DeclaredLink). slice_get (with_link_carrier s i (Some h)).views i ≡ Some (if ends_here l i then step (carrier (end_here l i).port true) v else v)) same (view_with_carrier_if s i l v (ends_here l i) refl apart at)
 
-links_lit : (s : State) (i : ℕ) (o : Option DeclaredLink) → (lit_link s i o).world ≡ s.world
-links_lit s i None = refl
-links_lit s i (Some l) = world_if s (end_here l i) (ends_here l i)
+world_of_link_carrier : (s : State) (i : ℕ) (o : Option DeclaredLink) → (with_link_carrier s i o).world ≡ s.world
+world_of_link_carrier s i None = refl
+world_of_link_carrier s i (Some l) = world_if s (end_here l i) (ends_here l i)
 
-lit_view : (ls : List DeclaredLink) (k i : ℕ) (s : State) (v : BridgeView) → AreFrom (links_of s) k ls → HaveTwoEnds ls → slice_get s.views i ≡ Some v → slice_get (lit_from (length ls) k i s).views i ≡ Some (with_carriers ls i v)
-lit_view [] k i s v from two at = at
-lit_view (l ∷ ls) k i s v from two at =
-    let t : State = lit_link s i (slice_get (links_of s) k) in
+view_with_carriers : (ls : List DeclaredLink) (k i : ℕ) (s : State) (v : BridgeView) → AreFrom (links_of s) k ls → HaveTwoEnds ls → slice_get s.views i ≡ Some v → slice_get (with_carriers_from (length ls) k i s).views i ≡ Some (with_carriers ls i v)
+view_with_carriers [] k i s v from two at = at
+view_with_carriers (l ∷ ls) k i s v from two at =
+    let t : State = with_link_carrier s i (slice_get (links_of s) k) in
     let here : k ≡ k + 0 = omega arith in
     let first : slice_get (links_of s) k ≡ Some l = ap (slice_get (links_of s)) here ∙ from zero l refl in
-    let world : t.world ≡ s.world = links_lit s i (slice_get (links_of s) k) in
-    lit_view ls (k + 1) i t (if ends_here l i then step (carrier (end_here l i).port true) v else v)
+    let world : t.world ≡ s.world = world_of_link_carrier s i (slice_get (links_of s) k) in
+    view_with_carriers ls (k + 1) i t (if ends_here l i then step (carrier (end_here l i).port true) v else v)
     (λ m h there.
     let next : k + 1 + m ≡ k + suc m = omega arith in
     ap (λ (w : World). slice_get (things_of w.links) (k + 1 + m)) world ∙ (ap (slice_get (links_of s)) next ∙ from (suc m) h there))
     (λ m h there. two (suc m) h there)
-    (lit_view_link s i l (slice_get (links_of s) k) v first (two zero l refl) at)
+    (view_with_link_carrier s i l (slice_get (links_of s) k) v first (two zero l refl) at)
 
 -- ---- the number
 
@@ -181,10 +181,10 @@ begun_new c whole = record {
 
 new_in : (s : State) (i : ℕ) (b : DeclaredBridge) (place : ℕ) → IsSoundState s → slice_get (things_of s.world.bridges) i ≡ Some b → IsNew s (restarted_in s i (restart_config s i b) place) i b place
 new_in s i b place sound there = record {
-  view = lit_view (links_of s) 0 i u (configured c) from (λ m l at. (link_there s m l sound.world at).apart) (got_at t.views i (configured c) within);
+  view = view_with_carriers (links_of s) 0 i u (configured c) from (λ m l at. (link_there s m l sound.world at).apart) (got_at t.views i (configured c) within);
   number = (begun_carriers (links_of s) i (configured c) (begun_new c (restart_whole s i b sound there))).number;
-  rack = rack_lit_from n 0 i u ∙ ap (λ (rack : List Spare). remove rack place) (rack_cut_from n 0 i s);
-  world = world-lit_from n 0 i u ∙ world;
+  rack = rack_carriers_from n 0 i u ∙ ap (λ (rack : List Spare). remove rack place) (rack_cut_from n 0 i s);
+  world = world-with_carriers_from n 0 i u ∙ world;
 }
   where
     n : ℕ

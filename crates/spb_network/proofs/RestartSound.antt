@@ -26,7 +26,7 @@ use Rattle.spb_network.specs.declared.declaration.LinkEnd.{LinkEnd}
 use Rattle.spb_network.specs.World.{World, things_of, attached_at}
 use Rattle.spb_network.specs.State.{State, links_of, is_live, near_end, far_end, is_at, lane_out}
 use Rattle.spb_network.specs.Events.{with_carrier_at_end}
-use Rattle.spb_network.specs.Restarting.{restart_config, ends_here, end_here, cut_from, lit_link, lit_from, replaced, restarted_in, restarted_as, restarted, box_at}
+use Rattle.spb_network.specs.Restarting.{restart_config, ends_here, end_here, cut_from, with_link_carrier, with_carriers_from, replaced, restarted_in, restarted_as, restarted, box_at}
 use Rattle.spb_network.specs.Network.{HasPorts, Fits}
 use Rattle.spb_network.specs.Sound.{metric_at, ends_live_link, HaveLinkMetrics, AreAttached, IsShown, AreShown, IsFrameFrom, LinkAgrees, AllAgree, IsSoundState}
 use Rattle.spb_network.proofs.BoxLemmas.{All-set}
@@ -194,41 +194,41 @@ module _ (s : State) (i : ℕ) (b : DeclaredBridge) (c : BridgeConfig) (place : 
 
 -- of the bridge at place i the links before place k that are up have given it carrier, and no other; other bridges have
 -- it where a link that is up ends
-pub record IsLitTo (s : State) (i k : ℕ) : Type 0 where
+pub record HaveCarrierTo (s : State) (i k : ℕ) : Type 0 where
   pub carriers : ℕ → ℕ → Bool
   pub have : HaveCarrier s.views carriers
   pub low : (j p : ℕ) → carriers j p ≡ true → ends_live_link (links_of s) j p ≡ true
   pub others : (j p : ℕ) → j ≢ i → carriers j p ≡ ends_live_link (links_of s) j p
-  pub lit : (m : ℕ) (l : DeclaredLink) (dir : Dir) → m < k → slice_get (links_of s) m ≡ Some l → l.live ≡ true → (near_end dir l).bridge ≡ i → carriers i (near_end dir l).port ≡ true
+  pub given : (m : ℕ) (l : DeclaredLink) (dir : Dir) → m < k → slice_get (links_of s) m ≡ Some l → l.live ≡ true → (near_end dir l).bridge ≡ i → carriers i (near_end dir l).port ≡ true
 
 -- what is sound but for carrier
-pub record IsUnlit (s : State) (i k : ℕ) : Type 0 where
+pub record IsSoundButCarrier (s : State) (i k : ℕ) : Type 0 where
   pub core : IsCore s
   pub metrics : HaveLinkMetrics (links_of s) s.views
   pub attached : AreAttached s.world s.views
-  pub lit : IsLitTo s i k
+  pub given : HaveCarrierTo s i k
 
-end_lit : (s : State) (i m : ℕ) (l : DeclaredLink) (dir : Dir) (lit : IsLitTo s i m) → (near_end dir l).bridge ≡ i → (e : LinkEnd) → e ≡ near_end dir l → (if is_at e i (near_end dir l).port then true else lit.carriers i (near_end dir l).port) ≡ true
-end_lit s i m l dir lit near e is = if_true (is_at e i (near_end dir l).port) true (lit.carriers i (near_end dir l).port) (at_itself e i (near_end dir l).port (ap (λ (f : LinkEnd). f.bridge) is ∙ near) (ap (λ (f : LinkEnd). f.port) is))
+end_given : (s : State) (i m : ℕ) (l : DeclaredLink) (dir : Dir) (given : HaveCarrierTo s i m) → (near_end dir l).bridge ≡ i → (e : LinkEnd) → e ≡ near_end dir l → (if is_at e i (near_end dir l).port then true else given.carriers i (near_end dir l).port) ≡ true
+end_given s i m l dir given near e is = if_true (is_at e i (near_end dir l).port) true (given.carriers i (near_end dir l).port) (at_itself e i (near_end dir l).port (ap (λ (f : LinkEnd). f.bridge) is ∙ near) (ap (λ (f : LinkEnd). f.port) is))
 
-more_lit : (b was : Bool) → was ≡ true → (if b then true else was) ≡ true
-more_lit true was is = refl
-more_lit false was is = is
+more_given : (b was : Bool) → was ≡ true → (if b then true else was) ≡ true
+more_given true was is = refl
+more_given false was is = is
 
 -- the link at place k, which is up, gives carrier
-lit_here : (s : State) (i k : ℕ) (l : DeclaredLink) → IsUnlit s i k → slice_get (links_of s) k ≡ Some l → ends_here l i ≡ true → ends_live_link (links_of s) (end_here l i).bridge (end_here l i).port ≡ true → l.a.bridge ≢ l.b.bridge → IsUnlit (with_carrier_at_end true s (end_here l i)) i (k + 1)
-lit_here s i k l unlit at here live apart = record {
-  core = core_with_carrier true s e unlit.core;
-  metrics = stepped_with_metric (comes.carrier e.port true) s e.bridge refl unlit.metrics;
-  attached = stepped_attached (comes.carrier e.port true) s e.bridge refl unlit.attached;
-  lit = record {
+given_here : (s : State) (i k : ℕ) (l : DeclaredLink) → IsSoundButCarrier s i k → slice_get (links_of s) k ≡ Some l → ends_here l i ≡ true → ends_live_link (links_of s) (end_here l i).bridge (end_here l i).port ≡ true → l.a.bridge ≢ l.b.bridge → IsSoundButCarrier (with_carrier_at_end true s (end_here l i)) i (k + 1)
+given_here s i k l part at here live apart = record {
+  core = core_with_carrier true s e part.core;
+  metrics = stepped_with_metric (comes.carrier e.port true) s e.bridge refl part.metrics;
+  attached = stepped_attached (comes.carrier e.port true) s e.bridge refl part.attached;
+  given = record {
     carriers = now;
-    have = carrier_stands true s e unlit.lit.carriers unlit.lit.have;
+    have = carrier_stands true s e part.given.carriers part.given.have;
     low = λ j p is. ap (λ (w : World). ends_live_link (things_of w.links) j p) world ∙ low j p (is_at e j p) refl is;
     others = λ j p other.
-        if_false (is_at e j p) true (unlit.lit.carriers j p) (away e j p (λ same. other (sym same ∙ place)))
-        ∙ (unlit.lit.others j p other ∙ sym (ap (λ (w : World). ends_live_link (things_of w.links) j p) world));
-    lit = λ m h dir below there is near. lit m h dir below (ap (λ (w : World). slice_get (things_of w.links) m) (sym world) ∙ there) is near;
+        if_false (is_at e j p) true (part.given.carriers j p) (away e j p (λ same. other (sym same ∙ place)))
+        ∙ (part.given.others j p other ∙ sym (ap (λ (w : World). ends_live_link (things_of w.links) j p) world));
+    given = λ m h dir below there is near. given m h dir below (ap (λ (w : World). slice_get (things_of w.links) m) (sym world) ∙ there) is near;
   };
 }
   where
@@ -239,7 +239,7 @@ lit_here s i k l unlit at here live apart = record {
     leads = leads_away l i here
 
     now : ℕ → ℕ → Bool
-    now j p = if is_at e j p then true else unlit.lit.carriers j p
+    now j p = if is_at e j p then true else part.given.carriers j p
 
     world : (with_carrier_at_end true s e).world ≡ s.world
     world = with_carrier_world true s e
@@ -247,34 +247,34 @@ lit_here s i k l unlit at here live apart = record {
     place : e.bridge ≡ i
     place = ap (λ (f : LinkEnd). f.bridge) (here_is l i leads.dir apart leads.near) ∙ leads.near
 
-    low : (j p : ℕ) (b : Bool) → is_at e j p ≡ b → (if b then true else unlit.lit.carriers j p) ≡ true → ends_live_link (links_of s) j p ≡ true
+    low : (j p : ℕ) (b : Bool) → is_at e j p ≡ b → (if b then true else part.given.carriers j p) ≡ true → ends_live_link (links_of s) j p ≡ true
     low j p true at_e is = let parts = at_parts e j p at_e in sym (λ x. ends_live_link (links_of s) (parts.0 x) (parts.1 x)) ∙ live
-    low j p false at_e is = unlit.lit.low j p is
+    low j p false at_e is = part.given.low j p is
 
-    lit : (m : ℕ) (h : DeclaredLink) (dir : Dir) → m < k + 1 → slice_get (links_of s) m ≡ Some h → h.live ≡ true → (near_end dir h).bridge ≡ i → now i (near_end dir h).port ≡ true
-    lit m h dir below there is near =
+    given : (m : ℕ) (h : DeclaredLink) (dir : Dir) → m < k + 1 → slice_get (links_of s) m ≡ Some h → h.live ≡ true → (near_end dir h).bridge ≡ i → now i (near_end dir h).port ≡ true
+    given m h dir below there is near =
         elim (cases_eq m k) [
           | inl this ↦
               let same : l ≡ h = some-is l h (sym at ∙ (ap (slice_get (links_of s)) (sym this) ∙ there)) in
               let end : e ≡ near_end dir h = ap (λ (x : DeclaredLink). end_here x i) same ∙ here_is h i dir (subst (λ (x : DeclaredLink). x.a.bridge ≢ x.b.bridge) same apart) near in
-              end_lit s i k h dir unlit.lit near e end
-          | inr other ↦ more_lit (is_at e i (near_end dir h).port) (unlit.lit.carriers i (near_end dir h).port) (unlit.lit.lit m h dir (omega (arith, below, other)) there is near)
+              end_given s i k h dir part.given near e end
+          | inr other ↦ more_given (is_at e i (near_end dir h).port) (part.given.carriers i (near_end dir h).port) (part.given.given m h dir (omega (arith, below, other)) there is near)
         ]
 
 -- one that isn't up, or isn't a link of the bridge, gives none
-lit_not : (s : State) (i k : ℕ) (o : Option DeclaredLink) → IsUnlit s i k → slice_get (links_of s) k ≡ o → ((l : DeclaredLink) → o ≡ Some l → ends_here l i ≡ false) → IsUnlit s i (k + 1)
-lit_not s i k o unlit at none = record {
-  core = unlit.core;
-  metrics = unlit.metrics;
-  attached = unlit.attached;
-  lit = record { carriers = unlit.lit.carriers; have = unlit.lit.have; low = unlit.lit.low; others = unlit.lit.others; lit = lit };
+given_not : (s : State) (i k : ℕ) (o : Option DeclaredLink) → IsSoundButCarrier s i k → slice_get (links_of s) k ≡ o → ((l : DeclaredLink) → o ≡ Some l → ends_here l i ≡ false) → IsSoundButCarrier s i (k + 1)
+given_not s i k o part at none = record {
+  core = part.core;
+  metrics = part.metrics;
+  attached = part.attached;
+  given = record { carriers = part.given.carriers; have = part.given.have; low = part.given.low; others = part.given.others; given = given };
 }
   where
-    lit : (m : ℕ) (h : DeclaredLink) (dir : Dir) → m < k + 1 → slice_get (links_of s) m ≡ Some h → h.live ≡ true → (near_end dir h).bridge ≡ i → unlit.lit.carriers i (near_end dir h).port ≡ true
-    lit m h dir below there is near =
+    given : (m : ℕ) (h : DeclaredLink) (dir : Dir) → m < k + 1 → slice_get (links_of s) m ≡ Some h → h.live ≡ true → (near_end dir h).bridge ≡ i → part.given.carriers i (near_end dir h).port ≡ true
+    given m h dir below there is near =
         elim (cases_eq m k) [
           | inl this ↦ absurd (true≢false (sym (is_here h i dir is near) ∙ none h (sym at ∙ (ap (slice_get (links_of s)) (sym this) ∙ there))))
-          | inr other ↦ unlit.lit.lit m h dir (omega (arith, below, other)) there is near
+          | inr other ↦ part.given.given m h dir (omega (arith, below, other)) there is near
         ]
 
 -- the links that are up in a state
@@ -283,31 +283,31 @@ live_here s i k l core at here =
     let leads = leads_away l i here in
     subst (λ (e : LinkEnd). ends_live_link (links_of s) e.bridge e.port ≡ true) (sym (here_is l i leads.dir (link_there s k l core.world at).apart leads.near)) (near_live s k l leads.dir true core.world at leads.live)
 
-lit_if : (s : State) (i k : ℕ) (l : DeclaredLink) (b : Bool) → ends_here l i ≡ b → IsUnlit s i k → slice_get (links_of s) k ≡ Some l → IsUnlit (if b then with_carrier_at_end true s (end_here l i) else s) i (k + 1)
-lit_if s i k l true here unlit at = lit_here s i k l unlit at here (live_here s i k l unlit.core at here) (link_there s k l unlit.core.world at).apart
-lit_if s i k l false here unlit at = lit_not s i k (Some l) unlit at (λ m is. ap (λ (x : DeclaredLink). ends_here x i) (sym (some-is l m is)) ∙ here)
+carrier_given_if : (s : State) (i k : ℕ) (l : DeclaredLink) (b : Bool) → ends_here l i ≡ b → IsSoundButCarrier s i k → slice_get (links_of s) k ≡ Some l → IsSoundButCarrier (if b then with_carrier_at_end true s (end_here l i) else s) i (k + 1)
+carrier_given_if s i k l true here part at = given_here s i k l part at here (live_here s i k l part.core at here) (link_there s k l part.core.world at).apart
+carrier_given_if s i k l false here part at = given_not s i k (Some l) part at (λ m is. ap (λ (x : DeclaredLink). ends_here x i) (sym (some-is l m is)) ∙ here)
 
-lit_link_to : (s : State) (i k : ℕ) (o : Option DeclaredLink) → IsUnlit s i k → slice_get (links_of s) k ≡ o → IsUnlit (lit_link s i o) i (k + 1)
-lit_link_to s i k None unlit at = lit_not s i k None unlit at (λ m is. absurd cc)
-lit_link_to s i k (Some l) unlit at = lit_if s i k l (ends_here l i) refl unlit at
+given_link_to : (s : State) (i k : ℕ) (o : Option DeclaredLink) → IsSoundButCarrier s i k → slice_get (links_of s) k ≡ o → IsSoundButCarrier (with_link_carrier s i o) i (k + 1)
+given_link_to s i k None part at = given_not s i k None part at (λ m is. absurd cc)
+given_link_to s i k (Some l) part at = carrier_given_if s i k l (ends_here l i) refl part at
 
-lit_from_to : (n k i : ℕ) (s : State) → IsUnlit s i k → IsUnlit (lit_from n k i s) i (k + n)
-lit_from_to zero k i s unlit = subst (IsUnlit s i) (omega arith) unlit
-lit_from_to (suc n) k i s unlit =
-    let t : State = lit_link s i (slice_get (links_of s) k) in
-    subst (IsUnlit (lit_from n (k + 1) i t) i) (omega arith) (lit_from_to n (k + 1) i t (lit_link_to s i k (slice_get (links_of s) k) unlit refl))
+given_from_to : (n k i : ℕ) (s : State) → IsSoundButCarrier s i k → IsSoundButCarrier (with_carriers_from n k i s) i (k + n)
+given_from_to zero k i s part = subst (IsSoundButCarrier s i) (omega arith) part
+given_from_to (suc n) k i s part =
+    let t : State = with_link_carrier s i (slice_get (links_of s) k) in
+    subst (IsSoundButCarrier (with_carriers_from n (k + 1) i t) i) (omega arith) (given_from_to n (k + 1) i t (given_link_to s i k (slice_get (links_of s) k) part refl))
 
 world_if : (s : State) (e : LinkEnd) (b : Bool) → (if b then with_carrier_at_end true s e else s).world ≡ s.world
 world_if s e true = with_carrier_world true s e
 world_if s e false = refl
 
-world-lit_link : (s : State) (i : ℕ) (o : Option DeclaredLink) → (lit_link s i o).world ≡ s.world
-world-lit_link s i None = refl
-world-lit_link s i (Some l) = world_if s (end_here l i) (ends_here l i)
+world-with_link_carrier : (s : State) (i : ℕ) (o : Option DeclaredLink) → (with_link_carrier s i o).world ≡ s.world
+world-with_link_carrier s i None = refl
+world-with_link_carrier s i (Some l) = world_if s (end_here l i) (ends_here l i)
 
-pub world-lit_from : (n k i : ℕ) (s : State) → (lit_from n k i s).world ≡ s.world
-world-lit_from zero k i s = refl
-world-lit_from (suc n) k i s = world-lit_from n (k + 1) i (lit_link s i (slice_get (links_of s) k)) ∙ world-lit_link s i (slice_get (links_of s) k)
+pub world-with_carriers_from : (n k i : ℕ) (s : State) → (with_carriers_from n k i s).world ≡ s.world
+world-with_carriers_from zero k i s = refl
+world-with_carriers_from (suc n) k i s = world-with_carriers_from n (k + 1) i (with_link_carrier s i (slice_get (links_of s) k)) ∙ world-with_link_carrier s i (slice_get (links_of s) k)
 
 -- when all have given it carrier, it has it where a link that is up ends
 both_ways : (b c : Bool) → (b ≡ true → c ≡ true) → (c ≡ true → b ≡ true) → b ≡ c
@@ -320,23 +320,23 @@ link_live [] k l at live = absurd cc
 link_live (h ∷ links) zero l at live = let same : h ≡ l = cc in ap (λ (m : DeclaredLink). m.live) (sym same) ∙ live
 link_live (h ∷ links) (suc k) l at live = link_live links k l at live
 
-lit_all : (s : State) (i k : ℕ) → IsUnlit s i k → length (links_of s) ≤ k → IsSoundState s
-lit_all s i k unlit all = sound_from s unlit.core (λ j v p at port. unlit.lit.have j v p at port ∙ equal j p) unlit.metrics unlit.attached
+carriers_given : (s : State) (i k : ℕ) → IsSoundButCarrier s i k → length (links_of s) ≤ k → IsSoundState s
+carriers_given s i k part all = sound_from s part.core (λ j v p at port. part.given.have j v p at port ∙ equal j p) part.metrics part.attached
   where
-    by_lane : (p : ℕ) (o : Option LaneId) → lane_out (links_of s) i p ≡ o → carriers_by (links_of s) o ≡ true → unlit.lit.carriers i p ≡ true
+    by_lane : (p : ℕ) (o : Option LaneId) → lane_out (links_of s) i p ≡ o → carriers_by (links_of s) o ≡ true → part.given.carriers i p ≡ true
     by_lane p None out live = absurd (true≢false (sym live))
     by_lane p (Some lane) out live =
         let leads : LeadsFrom (links_of s) i p lane.link lane.dir = lane_leads (links_of s) i p lane out in
-        subst (λ (q : ℕ). unlit.lit.carriers i q ≡ true) leads.port
-        (unlit.lit.lit lane.link leads.link lane.dir (omega (arith, is_within (links_of s) lane.link leads.link leads.there, all)) leads.there (link_live (links_of s) lane.link leads.link leads.there live) leads.bridge)
+        subst (λ (q : ℕ). part.given.carriers i q ≡ true) leads.port
+        (part.given.given lane.link leads.link lane.dir (omega (arith, is_within (links_of s) lane.link leads.link leads.there, all)) leads.there (link_live (links_of s) lane.link leads.link leads.there live) leads.bridge)
 
-    equal : (j p : ℕ) → unlit.lit.carriers j p ≡ ends_live_link (links_of s) j p
+    equal : (j p : ℕ) → part.given.carriers j p ≡ ends_live_link (links_of s) j p
     equal j p =
         elim (cases_eq j i) [
           | inl here ↦
-              both_ways (unlit.lit.carriers j p) (ends_live_link (links_of s) j p) (unlit.lit.low j p)
-              (λ live. ap (λ (m : ℕ). unlit.lit.carriers m p) here ∙ by_lane p (lane_out (links_of s) i p) refl (sym (ap (λ (m : ℕ). ends_live_link (links_of s) m p) here) ∙ live))
-          | inr other ↦ unlit.lit.others j p other
+              both_ways (part.given.carriers j p) (ends_live_link (links_of s) j p) (part.given.low j p)
+              (λ live. ap (λ (m : ℕ). part.given.carriers m p) here ∙ by_lane p (lane_out (links_of s) i p) refl (sym (ap (λ (m : ℕ). ends_live_link (links_of s) m p) here) ∙ live))
+          | inr other ↦ part.given.others j p other
         ]
 
 -- ---- the bridge restarts
@@ -377,13 +377,13 @@ config_is s t i b sound world there = record {
   attached = ap (λ (w : World). attached_at w i) (sym world);
 }
 
-lit_before : (x y : Bool) → (if x then false else y) ≡ true → y ≡ true
-lit_before true y is = absurd (true≢false (sym is))
-lit_before false y is = is
+given_before : (x y : Bool) → (if x then false else y) ≡ true → y ≡ true
+given_before true y is = absurd (true≢false (sym is))
+given_before false y is = is
 
 pub Sound-restarted_in : (s : State) (i : ℕ) (b : DeclaredBridge) (place : ℕ) → IsSoundState s → slice_get (things_of s.world.bridges) i ≡ Some b → IsSoundState (restarted_in s i (restart_config s i b) place)
 Sound-restarted_in s i b place sound there =
-    lit_all (lit_from n 0 i u) i (0 + n) (lit_from_to n 0 i u unlit) (omega (arith, same))
+    carriers_given (with_carriers_from n 0 i u) i (0 + n) (given_from_to n 0 i u part) (omega (arith, same))
   where
     n : ℕ
     n = length (links_of s)
@@ -406,20 +406,20 @@ Sound-restarted_in s i b place sound there =
     here : slice_get (things_of t.world.bridges) i ≡ Some b
     here = ap (λ (w : World). slice_get (things_of w.bridges) i) world ∙ there
 
-    same : length (links_of (lit_from n 0 i u)) ≡ n
-    same = ap (λ (w : World). length (things_of w.links)) (world-lit_from n 0 i u ∙ world)
+    same : length (links_of (with_carriers_from n 0 i u)) ≡ n
+    same = ap (λ (w : World). length (things_of w.links)) (world-with_carriers_from n 0 i u ∙ world)
 
-    unlit : IsUnlit u i 0
-    unlit = record {
+    part : IsSoundButCarrier u i 0
+    part = record {
       core = core_replaced t i b (restart_config s i b) place after (all_cut s i sound) here config;
       metrics = restarted_metrics s t i b sound after world there;
       attached = attached_replaced t i b (restart_config s i b) place after (all_cut s i sound) here config;
-      lit = record {
+      given = record {
         carriers = λ j p. if j == i then false else ends_live_link (links_of t) j p;
         have = carriers_replaced t i b (restart_config s i b) place after (all_cut s i sound) here config;
-        low = λ j p is. lit_before (j == i) (ends_live_link (links_of t) j p) is;
+        low = λ j p is. given_before (j == i) (ends_live_link (links_of t) j p) is;
         others = λ j p other. if_false (j == i) false (ends_live_link (links_of t) j p) (ne_eqb j i other);
-        lit = λ m l dir below at live near. absurd (omega (arith, below));
+        given = λ m l dir below at live near. absurd (omega (arith, below));
       };
     }
 

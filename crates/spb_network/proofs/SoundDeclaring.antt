@@ -26,7 +26,7 @@ use Rattle.spb_network.proofs.BoxLemmas.{All-get}
 use Rattle.spb_network.proofs.ListLemmas.{All-push, things_of-push, length-push}
 use Rattle.spb_network.proofs.WorldLemmas.{IsNewBridge, Sound-with_bridge, IsNewLink, Sound-with_link}
 use Rattle.spb_network.proofs.FitsLemmas.{end_is_port, link_there}
-use Rattle.spb_network.proofs.SoundLaws.{dark}
+use Rattle.spb_network.proofs.SoundLaws.{without_carrier}
 use Rattle.spb_network.proofs.SoundLane.{some-is}
 use Rattle.spb_network.proofs.SoundLaneIds.{at_itself, lane_of_end, LeadsFrom, lane_leads}
 use Rattle.spb_network.proofs.SoundMoves.{IsCore}
@@ -55,7 +55,7 @@ pub record IsNewView (w : World) (b : DeclaredBridge) (v : BridgeView) : Type 0 
   pub attached : v.attached ≡ []
   pub ports : HasPorts v b
   pub sound : IsSoundView v
-  pub dark : (p : ℕ) → has_carrier_at v p ≡ false
+  pub no_carrier : (p : ℕ) → has_carrier_at v p ≡ false
 
 fits_bridge : (s : State) (rack : List Spare) (name : List ℕ) (b : DeclaredBridge) (v : BridgeView) → Fits s → HasPorts v b → Fits (record s { rack = rack; world = with_bridge s.world name b; views = s.views ++ v ∷ [] })
 unfolding with_bridge
@@ -111,9 +111,9 @@ far_within : (s : State) (k : ℕ) (dir : Dir) (l : DeclaredLink) → Sound s.wo
 far_within s k Ab l sound fits at = omega (arith, (link_there s k l sound at).b.bridge, fits.bridges)
 far_within s k Ba l sound fits at = omega (arith, (link_there s k l sound at).a.bridge, fits.bridges)
 
-unlit : (s : State) (p : ℕ) (o : Option LaneId) → Sound s.world → Fits s → lane_out (links_of s) (length s.views) p ≡ o → false ≡ carriers_by (links_of s) o
-unlit s p None sound fits out = refl
-unlit s p (Some lane) sound fits out =
+no_carrier_out : (s : State) (p : ℕ) (o : Option LaneId) → Sound s.world → Fits s → lane_out (links_of s) (length s.views) p ≡ o → false ≡ carriers_by (links_of s) o
+no_carrier_out s p None sound fits out = refl
+no_carrier_out s p (Some lane) sound fits out =
     let leads : LeadsFrom (links_of s) (length s.views) p lane.link lane.dir = lane_leads (links_of s) (length s.views) p lane out in
     absurd (omega (arith, near_within s lane.link lane.dir leads.link sound fits leads.there, leads.bridge))
 
@@ -121,7 +121,7 @@ carriers_bridge : (s : State) (v : BridgeView) → Sound s.world → Fits s → 
 carriers_bridge s v sound fits carriers none i u p at port =
     elim (got_push s.views v i u at) [
       | inl old ↦ carriers i u p old.1 port
-      | inr new ↦ ap (λ (x : BridgeView). has_carrier_at x p) (sym new.1) ∙ (none p ∙ (unlit s p (lane_out (links_of s) (length s.views) p) sound fits refl ∙ ap (λ (j : ℕ). ends_live_link (links_of s) j p) (sym new.0)))
+      | inr new ↦ ap (λ (x : BridgeView). has_carrier_at x p) (sym new.1) ∙ (none p ∙ (no_carrier_out s p (lane_out (links_of s) (length s.views) p) sound fits refl ∙ ap (λ (j : ℕ). ends_live_link (links_of s) j p) (sym new.0)))
     ]
 
 -- what is there within the old bridges
@@ -144,7 +144,7 @@ Sound-new_bridge s rack name b v sound declared distinct new = record {
   fits = fits_bridge s rack name b v sound.fits new.ports;
   shown = shown_bridge s name b v sound.fits sound.shown new.shown;
   views = All-push IsSoundView s.views v sound.views new.sound;
-  carriers = carriers_bridge s v sound.world sound.fits sound.carriers new.dark;
+  carriers = carriers_bridge s v sound.world sound.fits sound.carriers new.no_carrier;
   metrics = λ k dir l u at at_u. sound.metrics k dir l u at (old_view s.views v (near_end dir l).bridge u (near_within s k dir l sound.world sound.fits at) at_u);
   attached = attached_bridge s name b v sound.world sound.fits sound.attached new.attached;
   short = sound.short;
@@ -246,7 +246,7 @@ new_agrees : (s : State) (dir : Dir) (l : DeclaredLink) (v w : BridgeView) → I
 new_agrees s dir l v w sound new at =
     let none : has_carrier_at v (near_end dir l).port ≡ false =
     sound.carriers (near_end dir l).bridge v (near_end dir l).port at (near_port s dir l v sound.fits new.link at) ∙ free_end (links_of s) dir l (lane_out (links_of s) (near_end dir l).bridge (near_end dir l).port) new.apart refl in
-    let is = dark v (near_end dir l).port (All-get IsSoundView s.views (near_end dir l).bridge v sound.views at) none in
+    let is = without_carrier v (near_end dir l).port (All-get IsSoundView s.views (near_end dir l).bridge v sound.views at) none in
     let nobody : neighbour_at v (near_end dir l).port ≡ None = is.0 in
     let not_up : is_up_at v (near_end dir l).port ≡ false = is.1 in
     record {

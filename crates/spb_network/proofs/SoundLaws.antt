@@ -49,9 +49,9 @@ carrier_beside v q on p is apart = steps_keep_carrier (carrier q on) v p is ∙ 
 -- ---- a port without carrier
 
 no_carrier_in : (s : AdjState) (a : Adjacency) → SoundIn s a → a.carrier ≡ false → (kept_in s (a.neighbour, a.circuit) ≡ None) × (is_up s ≡ false)
-no_carrier_in Down a sound dark = (refl, refl)
-no_carrier_in Initializing a sound dark = absurd (true≢false (sym sound.1 ∙ dark))
-no_carrier_in Up a sound dark = absurd (true≢false (sym sound.1 ∙ dark))
+no_carrier_in Down a sound none = (refl, refl)
+no_carrier_in Initializing a sound none = absurd (true≢false (sym sound.1 ∙ none))
+no_carrier_in Up a sound none = absurd (true≢false (sym sound.1 ∙ none))
 
 no_carrier_at : (b : Bool) (ports : List BridgePort) (i : ℕ) → AllByRecursion IsSoundPort ports → has_carrier_in (if b then slice_get ports i else None) ≡ false → (option_and_then (λ port. neighbour_of port.adjacency) (if b then slice_get ports i else None) ≡ None) × (is_up_in (if b then slice_get ports i else None) ≡ false)
 no_carrier_at false ports i sound none = (refl, refl)
@@ -60,6 +60,6 @@ no_carrier_at true (port ∷ ports) zero sound none = no_carrier_in port.adjacen
 no_carrier_at true (port ∷ ports) (suc i) sound none = no_carrier_at true ports i sound.1 none
 
 -- keeps no neighbour, and isn't Up
-pub dark : (v : BridgeView) (p : ℕ) → IsSoundView v → has_carrier_at v p ≡ false → (neighbour_at v p ≡ None) × (is_up_at v p ≡ false)
+pub without_carrier : (v : BridgeView) (p : ℕ) → IsSoundView v → has_carrier_at v p ≡ false → (neighbour_at v p ≡ None) × (is_up_at v p ≡ false)
 unfolding neighbour_at is_up_at has_carrier_at
-dark v p sound none = no_carrier_at (nat_le 1 p) v.ports (p - 1) sound.ports none
+without_carrier v p sound none = no_carrier_at (nat_le 1 p) v.ports (p - 1) sound.ports none

@@ -127,7 +127,7 @@ new_view w name priority system source ports sound six new = record {
   attached = configured_attached c;
   ports = record { ports = (configured_has_no_carrier c whole).ports };
   sound = configured_is_sound c whole;
-  dark = (configured_has_no_carrier c whole).carrier;
+  no_carrier = (configured_has_no_carrier c whole).carrier;
 }
   where
     c : BridgeConfig

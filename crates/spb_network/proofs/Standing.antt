@@ -15,7 +15,7 @@ use Rattle.spb_network.specs.declared.declaration.DeclaredLink.{DeclaredLink}
 use Rattle.spb_network.specs.declared.declaration.LinkEnd.{LinkEnd}
 use Rattle.spb_network.specs.State.{State, links_of, is_live, far_end, lane_out, lane_at, with_frames}
 use Rattle.spb_network.specs.Events.{sent_over, sent_all, stepped, ticked, heard_over, delivered_front, delivered, with_carrier_at_end, with_carrier_over, with_metrics_over, flushed, ticked_from, delivered_times, lane_served, link_served, served_from, all_ticked, one_round, rounds, delivered_over, delivered_first, drained}
-use Rattle.spb_network.specs.Restarting.{ends_here, end_here, end_away, link_cut, cut_link, cut_from, lit_link, lit_from, replaced, restarted_in}
+use Rattle.spb_network.specs.Restarting.{ends_here, end_here, end_away, link_cut, cut_link, cut_from, with_link_carrier, with_carriers_from, replaced, restarted_in}
 
 -- a network without its bridges and lanes
 abbrev pub bare : State → State
@@ -112,20 +112,20 @@ bare-cut_from : (n k i : ℕ) (s : State) → bare (cut_from n k i s) ≡ bare s
 bare-cut_from zero k i s = refl
 bare-cut_from (suc n) k i s = bare-cut_from n (k + 1) i (cut_link s i k (slice_get (links_of s) k)) ∙ bare-cut_link s i k (slice_get (links_of s) k)
 
-bare-lit : (s : State) (e : LinkEnd) (b : Bool) → bare (if b then with_carrier_at_end true s e else s) ≡ bare s
-bare-lit s e true = bare-stepped (comes.carrier e.port true) s e.bridge
-bare-lit s e false = refl
+bare-carrier_if : (s : State) (e : LinkEnd) (b : Bool) → bare (if b then with_carrier_at_end true s e else s) ≡ bare s
+bare-carrier_if s e true = bare-stepped (comes.carrier e.port true) s e.bridge
+bare-carrier_if s e false = refl
 
-bare-lit_link : (s : State) (i : ℕ) (o : Option DeclaredLink) → bare (lit_link s i o) ≡ bare s
-bare-lit_link s i None = refl
-bare-lit_link s i (Some l) = bare-lit s (end_here l i) (ends_here l i)
+bare-with_link_carrier : (s : State) (i : ℕ) (o : Option DeclaredLink) → bare (with_link_carrier s i o) ≡ bare s
+bare-with_link_carrier s i None = refl
+bare-with_link_carrier s i (Some l) = bare-carrier_if s (end_here l i) (ends_here l i)
 
-bare-lit_from : (n k i : ℕ) (s : State) → bare (lit_from n k i s) ≡ bare s
-bare-lit_from zero k i s = refl
-bare-lit_from (suc n) k i s = bare-lit_from n (k + 1) i (lit_link s i (slice_get (links_of s) k)) ∙ bare-lit_link s i (slice_get (links_of s) k)
+bare-with_carriers_from : (n k i : ℕ) (s : State) → bare (with_carriers_from n k i s) ≡ bare s
+bare-with_carriers_from zero k i s = refl
+bare-with_carriers_from (suc n) k i s = bare-with_carriers_from n (k + 1) i (with_link_carrier s i (slice_get (links_of s) k)) ∙ bare-with_link_carrier s i (slice_get (links_of s) k)
 
 pub bare-restarted_in : (s : State) (i : ℕ) (c : BridgeConfig) (place : ℕ) → bare (restarted_in s i c place) ≡ record (bare s) { rack = remove s.rack place }
 bare-restarted_in s i c place =
     let n : ℕ = length (links_of s) in
     let cut : bare (cut_from n 0 i s) ≡ bare s = bare-cut_from n 0 i s in
-    bare-lit_from n 0 i (replaced (cut_from n 0 i s) i c place) ∙ ap (λ (t : State). record t { rack = remove t.rack place }) cut
+    bare-with_carriers_from n 0 i (replaced (cut_from n 0 i s) i c place) ∙ ap (λ (t : State). record t { rack = remove t.rack place }) cut

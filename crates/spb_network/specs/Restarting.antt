@@ -67,14 +67,14 @@ cut_from zero k i s = s
 cut_from (suc n) k i s = cut_from n (k + 1) i (cut_link s i k (slice_get (links_of s) k))
 
 -- the bridge at place i gets carrier at its end of a link that is up
-abbrev pub lit_link : State → ℕ → Option DeclaredLink → State
-lit_link s i None = s
-lit_link s i (Some l) = if ends_here l i then with_carrier_at_end true s (end_here l i) else s
+abbrev pub with_link_carrier : State → ℕ → Option DeclaredLink → State
+with_link_carrier s i None = s
+with_link_carrier s i (Some l) = if ends_here l i then with_carrier_at_end true s (end_here l i) else s
 
 -- so it is with so many links, from place k on
-abbrev pub lit_from : ℕ → ℕ → ℕ → State → State
-lit_from zero k i s = s
-lit_from (suc n) k i s = lit_from n (k + 1) i (lit_link s i (slice_get (links_of s) k))
+abbrev pub with_carriers_from : ℕ → ℕ → ℕ → State → State
+with_carriers_from zero k i s = s
+with_carriers_from (suc n) k i s = with_carriers_from n (k + 1) i (with_link_carrier s i (slice_get (links_of s) k))
 
 -- ---- the box
 
@@ -90,7 +90,9 @@ replaced s i c place = record s { rack = remove s.rack place; views = slice_set 
 -- each link of the bridge that is up is cut, in order of declaration; then the box is replaced; and then the new one
 -- gets carrier over these links, in order
 abbrev pub restarted_in : State → ℕ → BridgeConfig → ℕ → State
-restarted_in s i c place = let n : ℕ = length (links_of s) in lit_from n 0 i (replaced (cut_from n 0 i s) i c place)
+restarted_in s i c place =
+    let n : ℕ = length (links_of s) in
+    with_carriers_from n 0 i (replaced (cut_from n 0 i s) i c place)
 
 -- by the declared bridge and the box that were found
 abbrev pub restarted_as : State → ℕ → Option DeclaredBridge → Option ℕ → State

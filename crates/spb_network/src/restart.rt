@@ -173,10 +173,10 @@ impl<B: Bridge> NetworkOf<B> {
     }
 
     /// The bridge at place i gets carrier over the link at a place, if it is one of its links that is up.
-    fn light_link(&mut self, i: usize, place: usize) -> Result<(), NoMemory>
+    fn set_link_carrier(&mut self, i: usize, place: usize) -> Result<(), NoMemory>
         requires { IsInOrder B.shown self.old }
         ensures state { OnOk result (state_of B.shown self.new
-            ≡ restart.lit_link (state_of B.shown self.old) i
+            ≡ restart.with_link_carrier (state_of B.shown self.old) i
             (slice_get (links_of (state_of B.shown self.old)) place)) }
         ensures order { OnOk result (IsInOrder B.shown self.new) }
         ensures world { self.new.world ≡ self.old.world }
@@ -194,14 +194,14 @@ impl<B: Bridge> NetworkOf<B> {
     }
 
     /// The bridge at a place gets carrier over each of its links that is up, in order of declaration.
-    fn light_links(&mut self, i: usize) -> Result<(), NoMemory>
+    fn set_link_carriers(&mut self, i: usize) -> Result<(), NoMemory>
         requires { IsInOrder B.shown self.old }
         ensures state { OnOk result (state_of B.shown self.new
-            ≡ restart.lit_from (length (links_of (state_of B.shown self.old))) 0 i (state_of B.shown self.old)) }
+            ≡ restart.with_carriers_from (length (links_of (state_of B.shown self.old))) 0 i (state_of B.shown self.old)) }
         ensures order { OnOk result (IsInOrder B.shown self.new) }
     {
         for place in 0..self.world.link_count() {
-            self.light_link(i, place)?;
+            self.set_link_carrier(i, place)?;
         }
         Ok(())
     }
@@ -220,7 +220,7 @@ impl<B: Bridge> NetworkOf<B> {
         let config = self.restart_config(i, bridge)?;
         self.cut_links(i)?;
         self.replace_box(i, bridge, place, &config)?;
-        self.light_links(i)
+        self.set_link_carriers(i)
     }
 
     /// The bridge at a place restarts. Nothing happens where there is none, or no box for it.

@@ -5,7 +5,7 @@ use Rattle.scenario.specs.declared.cutter.Cut.{Cut}
 use Rattle.scenario.specs.declared.cutter.Cutting.{Cutting}
 use Rattle.scenario.specs.declared.cutter.Cutting.TheVariants.{More, Line, Long, Over}
 use Rattle.scenario.specs.declared.cutter.Stop.{Stop}
-use Rattle.scenario.specs.Cutting.{Cuts, Lines, told, fed, ended, lines_of, lines_left}
+use Rattle.scenario.specs.Cutting.{Cuts, Lines, cut_before, fed, ended, lines_of, lines_left}
 use Rattle.spb_network.specs.State.{State}
 use Rattle.spb_run.specs.declared.refusal.Refusal.{Refusal}
 use Rattle.spb_run.specs.declared.status.Status.{Status}
@@ -55,7 +55,7 @@ joined_stops n j None p q w status t done other does = absurd (other (sym does.e
 joined_stops n j (Some why) p q w status t done other does = does
 
 pub told_stops : (what : Cutting) (c : Cuts) (s t : State) (n : ℕ) (rest : Lines) (w : List ℕ) (status : Status) → status ≢ Done → Does (play_lines s n (shown_lines what c)) w status t
-    → Does (play_lines s n (told (what, c) rest)) w status t
+    → Does (play_lines s n (cut_before (what, c) rest)) w status t
 told_stops More c s t n rest w status other does = absurd (other (sym does.ends))
 told_stops Line c s t n rest w status other does =
     let j : Judged = judged s n c.line in
@@ -68,7 +68,7 @@ joined_front n j None p q none = (q.text, ap (λ l. l ++ q.text) (sym (ap (λ l.
 joined_front n j (Some why) p q none = ([], sym (append-nil j.text))
 
 -- its text comes first
-pub told_front : (what : Cutting) (c : Cuts) (s : State) (n : ℕ) (lines : Lines) → (rest : List ℕ) × ((play_lines s n (told (what, c) lines)).text ≡ (play_lines s n (shown_lines what c)).text ++ rest)
+pub told_front : (what : Cutting) (c : Cuts) (s : State) (n : ℕ) (lines : Lines) → (rest : List ℕ) × ((play_lines s n (cut_before (what, c) lines)).text ≡ (play_lines s n (shown_lines what c)).text ++ rest)
 told_front More c s n lines = ((play_lines s n lines).text, refl)
 told_front Line c s n lines = let j : Judged = judged s n c.line in joined_front n j j.refused (play j.state (n + 1) [] None) (play j.state (n + 1) lines.0 lines.1) refl
 told_front Long c s n lines = ([], sym (append-nil _))
@@ -143,7 +143,7 @@ module _ {K : Type 0} (holds : K → Option (List ℕ)) where
       grown = accepts.grown;
     }
 
-    comes : (s : State) (n : ℕ) (q : List ℕ) → to_come s n c (p ++ q) ≡ play_lines s n (told (x.what, d) (lines_left d (drop x.used p ++ q)))
+    comes : (s : State) (n : ℕ) (q : List ℕ) → to_come s n c (p ++ q) ≡ play_lines s n (cut_before (x.what, d) (lines_left d (drop x.used p ++ q)))
     comes s n q = ap (play_lines s n) (lines_of_left c (p ++ q) going ∙ so.follow q)
 
     pub step_ends : (status : Status) (s t : State) (n : ℕ) (a b : K) → Stops holds (shown_lines x.what d) status s t n a b → Ends holds p status s t n c a b
@@ -243,7 +243,7 @@ module _ {K : Type 0} (holds : K → Option (List ℕ)) (faults : K → ℕ) (is
 
 module _ {K : Type 0} (holds : K → Option (List ℕ)) (s t : State) (n m : ℕ) (c d : Cuts) (what : Cutting) (a b : K) (going : c.stopped ≡ None) (is : (what, d) ≡ ended c) where
   end_lines : to_come s n c [] ≡ play_lines s n (shown_lines what d)
-  end_lines = ap (play_lines s n) (lines_of_left c [] going ∙ ap (λ (w : Cutting × Cuts). told w ([], None)) (sym is))
+  end_lines = ap (play_lines s n) (lines_of_left c [] going ∙ ap (λ (w : Cutting × Cuts). cut_before w ([], None)) (sym is))
 
   pub end_front : AppendsFront (holds a) (holds b) (play_lines s n (shown_lines what d)).text → AppendsFront (holds a) (holds b) (to_come s n c []).text
   end_front front = subst (λ (p : Played). AppendsFront (holds a) (holds b) p.text) (sym end_lines) front

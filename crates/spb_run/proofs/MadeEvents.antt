@@ -2,7 +2,7 @@
 use Rattle.std.proofs.Common.{◌≡◌, ℕ, suc, ◌+◌, ◌-◌, ◌*◌, ◌≤◌, ◌<◌, true, false, List, [], ◌∷◌, ◌++◌, Option, Some, None, refl, ap, ◌∙◌, subst, arith}
 use Rattle.scenario.specs.declared.command.Command.{Command}
 use Rattle.scenario.specs.declared.command.Command.TheVariants as command
-use Rattle.scenario_maker.specs.Made.{bridge_name, ring_name, chord_count, frame_bytes, questions_of, questions, settled, sent, traffic, declarations, after_failure, after_restart, events, made}
+use Rattle.scenario_maker.specs.Made.{bridge_name, ring_name, chord_count, frame_bytes, questions_of, questions, convergence, sent, traffic, declarations, after_failure, after_restart, events, made}
 use Rattle.spb_network.specs.declared.reason.Reason.{Reason}
 use Rattle.spb_network.specs.World.{World, place_of}
 use Rattle.spb_network.specs.Declaring.{with_live}
@@ -47,8 +47,8 @@ runs_questions_of Q n m r d j are some high =
 runs_questions : (Q : World → Type 0) (n m r d : ℕ) → AreReady n Q → Runs (Stays m r d Q) (questions n) (Stays m r d Q)
 runs_questions Q n m r d are = runs_all_numbered (λ j. Stays m r d Q) questions_of n (λ j some high. runs_questions_of Q n m r d j are some high)
 
-runs_settled : (Q : World → Type 0) (n m r d : ℕ) → AreReady n Q → r + (4 * n + 16) ≤ 20000 → Runs (Stays m r d Q) (settled n) (Stays m (r + (4 * n + 16)) d Q)
-runs_settled Q n m r d are high =
+runs_convergence : (Q : World → Type 0) (n m r d : ℕ) → AreReady n Q → r + (4 * n + 16) ≤ 20000 → Runs (Stays m r d Q) (convergence n) (Stays m (r + (4 * n + 16)) d Q)
+runs_convergence Q n m r d are high =
     runs_more (Stays m r d Q) (Stays m (r + (4 * n + 16)) d Q) (Stays m (r + (4 * n + 16)) d Q) (command.Round (4 * n + 16) ∷ []) (questions n)
     (runs_step m r d m (r + (4 * n + 16)) d Q Q (command.Round (4 * n + 16)) (λ w. w) (λ s stands so. (round_goes s (4 * n + 16) m r d stands (omega arith) high, so)))
     (runs_questions Q n m (r + (4 * n + 16)) d are)
@@ -87,29 +87,29 @@ still_ready n w so = record { bridges = so.bridges; own = so.attached.own }
 
 runs_failure : (n m r d : ℕ) → 4 ≤ n → r + (4 * n + 16) ≤ 20000 → Runs (Stays m r d (IsWhole n)) (after_failure n) (Stays m (r + (4 * n + 16)) d (IsReady n))
 runs_failure n m r d least high =
-    runs_more (Stays m r d (IsWhole n)) (Stays m r d (IsReady n)) (Stays m (r + (4 * n + 16)) d (IsReady n)) (command.Down (ring_name 1) ∷ []) (settled n)
+    runs_more (Stays m r d (IsWhole n)) (Stays m r d (IsReady n)) (Stays m (r + (4 * n + 16)) d (IsReady n)) (command.Down (ring_name 1) ∷ []) (convergence n)
     (runs_step m r d m r d (IsWhole n) (IsReady n) (command.Down (ring_name 1)) (λ w. with_live false w 0) (λ s stands so.
     let first = first_place s.world.links n (chord_count n + 1) least (omega arith) so.links in
     (down_goes s (ring_name 1) 0 m r d stands first.0 first.1, still_ready n s.world so)))
-    (runs_settled (IsReady n) n m r d (λ w so. so) high)
+    (runs_convergence (IsReady n) n m r d (λ w so. so) high)
 
 runs_restart : (n m r d : ℕ) → 4 ≤ n → r + (4 * n + 16) ≤ 20000 → d + n * 100000 ≤ 100000000
     → Runs (Stays (suc m) r d (IsReady n)) (after_restart n) (Stays m (r + (4 * n + 16)) (d + n * 100000) (IsReady n))
 runs_restart n m r d least high all =
-    runs_more (Stays (suc m) r d (IsReady n)) (Stays m r d (IsReady n)) (Stays m (r + (4 * n + 16)) (d + n * 100000) (IsReady n)) (command.Restart (bridge_name 2) ∷ []) (settled n ++ traffic n)
+    runs_more (Stays (suc m) r d (IsReady n)) (Stays m r d (IsReady n)) (Stays m (r + (4 * n + 16)) (d + n * 100000) (IsReady n)) (command.Restart (bridge_name 2) ∷ []) (convergence n ++ traffic n)
     (runs_step (suc m) r d m r d (IsReady n) (IsReady n) (command.Restart (bridge_name 2)) (λ w. w) (λ s stands so.
     (restart_goes s (bridge_name 2) 1 m r d stands (bridge_place s.world.bridges (n + 1) 2 so.bridges (omega arith) (omega arith) 1 (omega arith)), so)))
-    (runs_more (Stays m r d (IsReady n)) (Stays m (r + (4 * n + 16)) d (IsReady n)) (Stays m (r + (4 * n + 16)) (d + n * 100000) (IsReady n)) (settled n) (traffic n)
-    (runs_settled (IsReady n) n m r d (λ w so. so) high) (runs_traffic (IsReady n) n m (r + (4 * n + 16)) d (λ w so. so) all))
+    (runs_more (Stays m r d (IsReady n)) (Stays m (r + (4 * n + 16)) d (IsReady n)) (Stays m (r + (4 * n + 16)) (d + n * 100000) (IsReady n)) (convergence n) (traffic n)
+    (runs_convergence (IsReady n) n m r d (λ w so. so) high) (runs_traffic (IsReady n) n m (r + (4 * n + 16)) d (λ w so. so) all))
 
 -- ---- the whole script
 
 runs_events : (n : ℕ) → 4 ≤ n → n ≤ 96 → Runs (Stays 1 0 0 (IsWhole n)) (events n) (Stays 0 (0 + (4 * n + 16) + (4 * n + 16) + (4 * n + 16)) (0 + n * 100000 + n * 100000) (IsReady n))
 runs_events n least few =
-    runs_more (Stays 1 0 0 (IsWhole n)) (Stays 1 (0 + (4 * n + 16) + (4 * n + 16)) (0 + n * 100000) (IsReady n)) (Stays 0 (0 + (4 * n + 16) + (4 * n + 16) + (4 * n + 16)) (0 + n * 100000 + n * 100000) (IsReady n)) (settled n ++ traffic n ++ after_failure n) (after_restart n)
-    (runs_more (Stays 1 0 0 (IsWhole n)) (Stays 1 (0 + (4 * n + 16)) (0 + n * 100000) (IsWhole n)) (Stays 1 (0 + (4 * n + 16) + (4 * n + 16)) (0 + n * 100000) (IsReady n)) (settled n ++ traffic n) (after_failure n)
-    (runs_more (Stays 1 0 0 (IsWhole n)) (Stays 1 (0 + (4 * n + 16)) 0 (IsWhole n)) (Stays 1 (0 + (4 * n + 16)) (0 + n * 100000) (IsWhole n)) (settled n) (traffic n)
-    (runs_settled (IsWhole n) n 1 0 0 (ready n) (omega arith))
+    runs_more (Stays 1 0 0 (IsWhole n)) (Stays 1 (0 + (4 * n + 16) + (4 * n + 16)) (0 + n * 100000) (IsReady n)) (Stays 0 (0 + (4 * n + 16) + (4 * n + 16) + (4 * n + 16)) (0 + n * 100000 + n * 100000) (IsReady n)) (convergence n ++ traffic n ++ after_failure n) (after_restart n)
+    (runs_more (Stays 1 0 0 (IsWhole n)) (Stays 1 (0 + (4 * n + 16)) (0 + n * 100000) (IsWhole n)) (Stays 1 (0 + (4 * n + 16) + (4 * n + 16)) (0 + n * 100000) (IsReady n)) (convergence n ++ traffic n) (after_failure n)
+    (runs_more (Stays 1 0 0 (IsWhole n)) (Stays 1 (0 + (4 * n + 16)) 0 (IsWhole n)) (Stays 1 (0 + (4 * n + 16)) (0 + n * 100000) (IsWhole n)) (convergence n) (traffic n)
+    (runs_convergence (IsWhole n) n 1 0 0 (ready n) (omega arith))
     (runs_traffic (IsWhole n) n 1 (0 + (4 * n + 16)) 0 (ready n) (omega arith)))
     (runs_failure n 1 (0 + (4 * n + 16)) (0 + n * 100000) least (omega arith)))
     (runs_restart n 0 (0 + (4 * n + 16) + (4 * n + 16)) (0 + n * 100000) least (omega arith) (omega arith))

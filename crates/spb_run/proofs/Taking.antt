@@ -9,7 +9,7 @@ use Rattle.scenario.specs.declared.cutter.Cut.{Cut}
 use Rattle.scenario.specs.declared.cutter.Cutting.{Cutting}
 use Rattle.scenario.specs.declared.cutter.Cutting.TheVariants.{More, Line, Long, Over}
 use Rattle.scenario.specs.declared.cutter.Stop.TheVariants as stop
-use Rattle.scenario.specs.Cutting.{Cuts, Lines, longest_line, most_lines, most_bytes, start, is_lf, is_over, is_long, grown, cut_off, stopped_by, after_byte, one_more, fed_bytes, fed_by, fed, ended, told, lines_left, lines_by, lines_of}
+use Rattle.scenario.specs.Cutting.{Cuts, Lines, longest_line, most_lines, most_bytes, start, is_lf, is_over, is_long, grown, cut_off, stopped_by, after_byte, one_more, fed_bytes, fed_by, fed, ended, cut_before, lines_left, lines_by, lines_of}
 use Rattle.spb_run.specs.Pieces.{whole_part, bytes_before, Takes, takes_none, takes_more, takes_line, StandsAt, shown_lines}
 
 -- ---- what is taken, by what a piece answers
@@ -57,13 +57,13 @@ uses_some c (b ∷ bs) = uses_step c b bs (is_over c b) (after_byte c b) (fed_by
 -- ---- the lines that are still to come
 
 abbrev Follows : Cuts → List ℕ → List ℕ → Lines → Cut × Cuts → Type 0
-Follows c p q lines f = lines ≡ told (f.0.what, f.1) (lines_left f.1 (drop f.0.used p ++ q))
+Follows c p q lines f = lines ≡ cut_before (f.0.what, f.1) (lines_left f.1 (drop f.0.used p ++ q))
 
 follows_step : (c : Cuts) (b : ℕ) (bs q : List ℕ) (o : Bool) (w : Cutting × Cuts) (f : Cut × Cuts) → Follows w.1 bs q (lines_left w.1 (bs ++ q)) f
-    → Follows c (b ∷ bs) q (if o then ([], Some stop.Over) else told w (lines_left w.1 (bs ++ q))) (if o then over_at c else one_more w f)
+    → Follows c (b ∷ bs) q (if o then ([], Some stop.Over) else cut_before w (lines_left w.1 (bs ++ q))) (if o then over_at c else one_more w f)
 follows_step c b bs q true w f more = refl
 follows_step c b bs q false (More, d) f more =
-    subst (λ k. lines_left d (bs ++ q) ≡ told (f.0.what, f.1) (lines_left f.1 (drop k (b ∷ bs) ++ q))) (one_suc f.0.used) more
+    subst (λ k. lines_left d (bs ++ q) ≡ cut_before (f.0.what, f.1) (lines_left f.1 (drop k (b ∷ bs) ++ q))) (one_suc f.0.used) more
 follows_step c b bs q false (Line, d) f more = refl
 follows_step c b bs q false (Long, d) f more = refl
 follows_step c b bs q false (Over, d) f more = refl
@@ -81,7 +81,7 @@ put whole lines = (whole ++ lines.0, lines.1)
 pub takes_lines : (c d : Cuts) (p q : List ℕ) (whole : List (List ℕ)) → Takes c p whole d → lines_left c (p ++ q) ≡ put whole (lines_left d q)
 takes_lines c d p q whole (takes_none e) = refl
 takes_lines c d p q whole (takes_more e f g b bs ls over is more) = let next = takes_lines f g bs q ls more in rw over (rw is next)
-takes_lines c d p q whole (takes_line e f g b bs ls over is more) = let next = takes_lines f g bs q ls more in rw over (rw is (ap (λ l. told (Line, f) l) next))
+takes_lines c d p q whole (takes_line e f g b bs ls over is more) = let next = takes_lines f g bs q ls more in rw over (rw is (ap (λ l. cut_before (Line, f) l) next))
 
 pub takes_both : (c d e : Cuts) (p q : List ℕ) (ls ms : List (List ℕ)) → Takes c p ls d → Takes d q ms e → Takes c (p ++ q) (ls ++ ms) e
 takes_both c d e p q ls ms (takes_none f) second = second
@@ -95,7 +95,7 @@ pub record IsFedSo (c : Cuts) (p : List ℕ) (f : Cut × Cuts) : Type 0 where
   pub takes : (shown_lines f.0.what f.1).1 ≡ None → Takes c (take f.0.used p) (shown_lines f.0.what f.1).0 f.1
   pub within : f.0.used ≤ length p
   pub some : (shown_lines f.0.what f.1).1 ≡ None → 0 < length p → 0 < f.0.used
-  pub follow : (q : List ℕ) → lines_left c (p ++ q) ≡ told (f.0.what, f.1) (lines_left f.1 (drop f.0.used p ++ q))
+  pub follow : (q : List ℕ) → lines_left c (p ++ q) ≡ cut_before (f.0.what, f.1) (lines_left f.1 (drop f.0.used p ++ q))
 
 fed_bytes_so : (c : Cuts) (p : List ℕ) → IsFedSo c p (fed_bytes c p)
 fed_bytes_so c p = let uses = uses_some c p in record { takes = fed_bytes_takes c p; within = uses.within; some = uses.some; follow = lines_follow c p }
@@ -280,7 +280,7 @@ whole_lines c d p whole (takes_more e f g b bs ls over is more) some =
 whole_lines c d p whole (takes_line e f g b bs ls over is more) some =
     let shown = line_is e f b is in
     let next = behind_line f g bs ls (list_any is_lf bs) more (ap (λ (x : Cuts). x.begun) shown.1) refl (whole_lines f g bs ls more) in
-    rw some (rw over (rw is (ap (λ l. told (Line, f) l) next)))
+    rw some (rw over (rw is (ap (λ l. cut_before (Line, f) l) next)))
 
 -- so it is of a script from its start on
 pub whole_cut : (d : Cuts) (p : List ℕ) (whole : List (List ℕ)) → Takes start p whole d → lines_of start (whole_part p) ≡ (whole, None)
@@ -290,7 +290,7 @@ whole_cut d p whole takes = lines_of_left start (whole_part p) refl ∙ behind_l
 
 few_step : (c : Cuts) (b : ℕ) (o : Bool) (w : Cutting × Cuts) (rest : Lines) → is_over c b ≡ o → after_byte c b ≡ w
     → (w.1.number ≤ most_lines → (0 < length w.1.begun → w.1.number < most_lines) → length rest.0 + w.1.number ≤ most_lines)
-    → c.number ≤ most_lines → length (if o then ([], Some stop.Over) else told w rest).0 + c.number ≤ most_lines
+    → c.number ≤ most_lines → length (if o then ([], Some stop.Over) else cut_before w rest).0 + c.number ≤ most_lines
 few_step c b true w rest over is more few = omega (arith, few)
 few_step c b false (More, d) rest over is more few =
     let stays = more_stays c d b over is in let next = more (stays.few few) stays.last in omega (arith, next, stays.counted)
@@ -303,7 +303,7 @@ end_few : (c : Cuts) → c.number ≤ most_lines → (0 < length c.begun → c.n
 unfolding ended
 end_few c few last = at (length c.begun == 0) (nat_lt longest_line (length c.begun)) refl where
   at : (t u : Bool) → (length c.begun == 0) ≡ t
-      → length (told (if t then (More, c) else (if u then (Long, stopped_by stop.Long c) else (Line, record c { begun = []; line = c.begun; number = c.number + 1 }))) ([], None)).0 + c.number ≤ most_lines
+      → length (cut_before (if t then (More, c) else (if u then (Long, stopped_by stop.Long c) else (Line, record c { begun = []; line = c.begun; number = c.number + 1 }))) ([], None)).0 + c.number ≤ most_lines
   at true u is = omega (arith, few)
   at false true is = omega (arith, few)
   at false false is = let some : 0 < length c.begun = grind (arith, nat_tests) in omega (arith, last some)

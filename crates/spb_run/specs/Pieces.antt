@@ -4,7 +4,7 @@ use Rattle.std.specs.Io.KnownBytes.{Appends, Consumes}
 use Rattle.std.specs.List.{list_any}
 use Rattle.scenario.specs.declared.cutter.Cutting.TheVariants.{More, Line}
 use Rattle.scenario.specs.declared.cutter.Cutting.{Cutting}
-use Rattle.scenario.specs.Cutting.{Cuts, Lines, told, longest_line, most_lines, most_bytes, is_lf, is_over, after_byte, lines_of}
+use Rattle.scenario.specs.Cutting.{Cuts, Lines, cut_before, longest_line, most_lines, most_bytes, is_lf, is_over, after_byte, lines_of}
 use Rattle.spb_network.specs.State.{State}
 use Rattle.spb_run.specs.declared.refusal.Refusal.{Refusal}
 use Rattle.spb_run.specs.declared.status.Status.{Status}
@@ -48,7 +48,7 @@ pub record Does (p : Played) (text : List ℕ) (status : Status) (state : State)
 
 -- the lines that an answer of the cutter shows, and why none comes behind them
 abbrev pub shown_lines : Cutting → Cuts → Lines
-shown_lines what c = told (what, c) ([], None)
+shown_lines what c = cut_before (what, c) ([], None)
 
 -- the lines that are still to come, from a state on, do this
 abbrev pub to_come : State → ℕ → Cuts → List ℕ → Played

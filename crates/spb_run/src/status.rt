@@ -40,6 +40,7 @@ impl Status {
             Status::TooLong => 6,
         }
     }
+
     /// The line for standard error that says why a run was cut short: there is one for each status from 3 on.
     pub fn message(&self) -> Option<&'static str>
         ensures { is_some result ≡ nat_le 3 (status_number self.now) }

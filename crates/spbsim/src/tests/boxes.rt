@@ -194,9 +194,9 @@ fn check_boxes<B: Bridge>(rt: &impl Abort, alloc: Global, rack: Vec<B>) {
     network.set_rule(KindRule::Plain);
     let (a, b, link) = (name(rt, b"A"), name(rt, b"B"), name(rt, b"L1"));
     declare_two(&mut network, a, b, link).expect(rt, "refused");
-    let lit = Adjacency::down(true);
-    are_equal(rt, &asked(&network, 0), &Some((lit, own_id(1))));
-    are_equal(rt, &asked(&network, 1), &Some((lit, own_id(2))));
+    let down = Adjacency::down(true);
+    are_equal(rt, &asked(&network, 0), &Some((down, own_id(1))));
+    are_equal(rt, &asked(&network, 1), &Some((down, own_id(2))));
     are_equal(rt, &asked(&network, 2), &None);
 }
 

@@ -7,8 +7,8 @@ use Rattle.bridge_api.proofs.laws.bridges_are_sound.Goals as goal
 pub returns-clause-configured : goal.returns-clause-configured
 returns-clause-configured c = configured_is_sound
 
-pub returns-clause-dark : goal.returns-clause-dark
-returns-clause-dark c = configured_has_no_carrier
+pub returns-clause-no_carrier : goal.returns-clause-no_carrier
+returns-clause-no_carrier c = configured_has_no_carrier
 
 pub returns-clause-own : goal.returns-clause-own
 returns-clause-own c = configured_holds_own

@@ -6,7 +6,7 @@ use Rattle.bridge_api.specs.Hearing.{after_receive}
 use Rattle.bridge_control.specs.declared.machine.Machine.{Machine}
 use Rattle.bridge_control.specs.Kept.{AreOwn}
 use Rattle.bridge_control.specs.Machine.{view_of, IsReady, IsAfter}
-use Rattle.bridge_control.proofs.Moving.{nothing_moved, dark_unmoved, own_still, sent_moved, gained_moved}
+use Rattle.bridge_control.proofs.Moving.{nothing_moved, unmoved_without_carrier, own_still, sent_moved, gained_moved}
 use Rattle.bridge_control.proofs.Putting.{there_at, carrier_there}
 use Rattle.bridge_control.proofs.Heeding.{deaf_after, not_true, not_false}
 use Rattle.bridge_control.proofs.machine.Machine.receive.Goals as goal
@@ -24,7 +24,7 @@ pub returns-then-not-port_at-clause-sent : goal.returns-then-not-port_at-clause-
 returns-then-not-port_at-clause-sent c =
     let port = c.port_at.result in
     let there = there_at c.args.self.now c.as_slice.result.now c.args.port port c.as_slice.ensures.value c.port_at.ensures in
-    nothing_moved _ c.args.outbox.now (dark_unmoved (view_of c.args.self.now) c.args.port c.args.frame.now port there (not_true port.adjacency.carrier c.if-not-port_at.true))
+    nothing_moved _ c.args.outbox.now (unmoved_without_carrier (view_of c.args.self.now) c.args.port c.args.frame.now port there (not_true port.adjacency.carrier c.if-not-port_at.true))
 
 pub hear_again-requires-clause-carrier : goal.hear_again-requires-clause-carrier
 hear_again-requires-clause-carrier c =

@@ -1,0 +1,12 @@
+use Rattle.std.proofs.Common.{◌≡◌, ◌-◌, ◌≤◌, length}
+use Rattle.spb_network.specs.State.{links_of}
+use Rattle.spb_network.specs.Restarting.{with_carriers_from}
+use Rattle.spb_network.specs.Network.{state_of, IsInOrder}
+use Rattle.spb_network.proofs.network.NetworkOf.set_link_carriers.Given as goal
+
+abbrev pub invariant-loop-place : goal.invariant-loop-place
+invariant-loop-place g l =
+    (IsInOrder g.B.Bridge.shown l.self) ×
+    (l.place ≤ l.place-end) ×
+    (with_carriers_from (l.place-end - l.place) l.place l.fn.i (state_of g.B.Bridge.shown l.self)
+    ≡ with_carriers_from (length (links_of (state_of g.B.Bridge.shown l.fn.self))) 0 l.fn.i (state_of g.B.Bridge.shown l.fn.self))
