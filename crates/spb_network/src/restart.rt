@@ -197,7 +197,8 @@ impl<B: Bridge> NetworkOf<B> {
     fn set_link_carriers(&mut self, i: usize) -> Result<(), NoMemory>
         requires { IsInOrder B.shown self.old }
         ensures state { OnOk result (state_of B.shown self.new
-            ≡ restart.with_carriers_from (length (links_of (state_of B.shown self.old))) 0 i (state_of B.shown self.old)) }
+            ≡ restart.with_carriers_from (length (links_of (state_of B.shown self.old))) 0 i
+            (state_of B.shown self.old)) }
         ensures order { OnOk result (IsInOrder B.shown self.new) }
     {
         for place in 0..self.world.link_count() {

@@ -27,7 +27,7 @@ use Rattle.spb_run.specs.Commands.{LinesPlayCommands, AllLeaveEntered, AllDelive
 use Rattle.spb_run.specs.Play.{Judged, judged, judged_by, judged_as}
 use Rattle.spb_run.specs.Replying.{IsNew}
 use Rattle.spb_run.specs.Text.{Played, joined, concluded, play, lines_played, commands_joined, commands_in}
-use Rattle.spb_run.proofs.Addressed.{HasOctets, IsRead, line_read}
+use Rattle.spb_run.proofs.Addressed.{IsRead, line_read}
 use Rattle.spb_run.proofs.Taking.{lines_few}
 
 -- ---- one line
