@@ -259,7 +259,7 @@ impl<B: Bridge> Made<B> {
     }
 
     /// A second passes, and all that is sent comes to the port 1 of another.
-    pub(crate) fn greet(&mut self, rt: &impl Abort, to: &mut Self) {
+    pub(crate) fn tick_to(&mut self, rt: &impl Abort, to: &mut Self) {
         let outbox = self.tick(rt);
         for sent in outbox.wire.as_slice() {
             to.hear(rt, sent.1.as_slice());
@@ -299,8 +299,8 @@ impl<B: Bridge> Made<B> {
 /// Seconds pass at both, and each hears what the other sends.
 pub(crate) fn meet<B: Bridge>(rt: &impl Abort, a: &mut Made<B>, b: &mut Made<B>, rounds: u8) {
     for _ in 0..rounds {
-        a.greet(rt, b);
-        b.greet(rt, a);
+        a.tick_to(rt, b);
+        b.tick_to(rt, a);
     }
 }
 

@@ -110,7 +110,7 @@ fn check_next_hello<B: Bridge>(rt: &impl Abort, alloc: Global, a: B, b: B)
 {
     let mut a = Made::new(rt, alloc, a, 1);
     let mut b = Made::new(rt, alloc, b, 2);
-    b.greet(rt, &mut a);
+    b.tick_to(rt, &mut a);
     is_only_frame(rt, &a.tick(rt), INITIALIZING_HELLO);
 }
 
@@ -151,11 +151,11 @@ fn come_up<B: Bridge>(rt: &impl Abort, alloc: Global, a: B, b: B)
     check_kind(rt, &a.bridge, false);
     check_port(rt, &a, (AdjState::Down, false));
     check_flag(rt, &a, false);
-    a.greet(rt, &mut b);
+    a.tick_to(rt, &mut b);
     check_port(rt, &b, (AdjState::Initializing, false));
-    b.greet(rt, &mut a);
+    b.tick_to(rt, &mut a);
     check_port(rt, &a, (AdjState::Up, true));
-    a.greet(rt, &mut b);
+    a.tick_to(rt, &mut b);
     check_port(rt, &b, (AdjState::Up, true));
 }
 
@@ -192,7 +192,7 @@ fn come_to_hold_the_same<B: Bridge>(rt: &impl Abort, alloc: Global, a: B, b: B)
     meet(rt, &mut a, &mut b, 1);
     check_flag(rt, &a, true);
     meet(rt, &mut a, &mut b, 1);
-    a.greet(rt, &mut b);
+    a.tick_to(rt, &mut b);
     let of_a = Version::Live {
         seq: 2,
         sum: 0xa512,
@@ -265,7 +265,7 @@ fn have_each_other<B: Bridge>(rt: &impl Abort, alloc: Global, a: B, b: B)
     let mut b = Made::in_vid_10(rt, alloc, b, 2);
     check_rows(rt, &a, (0, 0, None));
     meet(rt, &mut a, &mut b, 2);
-    a.greet(rt, &mut b);
+    a.tick_to(rt, &mut b);
     check_rows(rt, &a, (1, 0, Some(row_to(2))));
     check_rows(rt, &b, (1, 0, Some(row_to(1))));
     check_port_to(rt, &a, VID, 2, Some(1));
@@ -321,7 +321,7 @@ fn check_paths<B: Bridge>(rt: &impl Abort, alloc: Global, a: B, b: B)
     let mut b = Made::in_vid_10(rt, alloc, b, 2);
     check_path(rt, &a, 2, VID, None);
     meet(rt, &mut a, &mut b, 2);
-    a.greet(rt, &mut b);
+    a.tick_to(rt, &mut b);
     check_path(rt, &a, 2, VID, Some((10, 2)));
     check_path(rt, &a, 1, VID, Some((0, 1)));
     check_path(rt, &a, 2, OTHER_VID, None);

@@ -172,8 +172,8 @@ module _ (s : State) (n k : ℕ) (dir : Dir) (bytes : Frame) (l : DeclaredLink) 
       }
 
   -- a hello that is heard is on its way no more
-  greeted_within : (i : ℕ) (u : BridgeView) (id : LspId) → slice_get s.views i ≡ Some u → IsOwnNumber u.id.system id → i ≡ place → is_hello bytes ≡ true → IsWithin t i (moved (only place x i) u) id n
-  greeted_within i u id at own here hello =
+  hello_within : (i : ℕ) (u : BridgeView) (id : LspId) → slice_get s.views i ≡ Some u → IsOwnNumber u.id.system id → i ≡ place → is_hello bytes ≡ true → IsWithin t i (moved (only place x i) u) id n
+  hello_within i u id at own here hello =
       let within = counted.bound i u id at own in
       let weak = weak_bound s.views s.lanes u id within.most within.bound in
       let raised = step_raises s place x core far (ap not hello) i u id at own in
@@ -190,7 +190,7 @@ module _ (s : State) (n k : ℕ) (dir : Dir) (bytes : Frame) (l : DeclaredLink) 
       }
 
   heard_within : (i : ℕ) (u : BridgeView) (id : LspId) (b : Bool) → slice_get s.views i ≡ Some u → IsOwnNumber u.id.system id → i ≡ place → is_hello bytes ≡ b → IsWithin t i (moved (only place x i) u) id n
-  heard_within i u id true at own here hello = greeted_within i u id at own here hello
+  heard_within i u id true at own here hello = hello_within i u id at own here hello
   heard_within i u id false at own here hello =
       let some : only place x i ≡ Some x = ap (only place x) here ∙ only_here place x in
       let answered : Answered (version_at u.database id) (claims_of x) id (version_at (step x u).database id) = steps_answer x u id own (All-get IsSoundView s.views i u core.views at) (far i u x at some) (ap not hello) in
