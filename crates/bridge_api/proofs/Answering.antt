@@ -93,8 +93,8 @@ then_answered body c claims id o m n (still first) (next a claimed apart low num
     next a (inr claimed) (λ e. apart (e ∙ sym first.version)) (omega (arith, ap number_of first.version, low)) number says
 then_answered body c claims id o m n (next a claimed apart low number says) (still after) =
     next a (first_claim c claims id a claimed) apart low (ap number_of after.version ∙ number) (after.body ∙ says)
-then_answered body c claims id o m n (next a claimed apart low number says) (next b later differs least further told) =
-    next b (inr later) (λ e. absurd (omega (arith, ap number_of e, low, number, least))) (omega (arith, low, number, least)) further told
+then_answered body c claims id o m n (next a claimed apart low number says) (next b later differs least further body_said) =
+    next b (inr later) (λ e. absurd (omega (arith, ap number_of e, low, number, least))) (omega (arith, low, number, least)) further body_said
 
 entries_answered : (up : PortSet) (port : ℕ) (claims : List Claim) (h : Holding) (own : Own) (id : LspId) → h.own ≡ own → id ≡ own_id own.system → AreLow claims
     → AnsweredAs own.body claims id (get h.db id) (get (hear_entries_of up port claims h).db id)
@@ -121,7 +121,7 @@ stands_still w same = when_true (w.spent || is_said w) w (originating w) (or_tru
 
 still_says : (body : List ℕ) (claims : List Claim) (id : LspId) (o n : Option Entry) → AnsweredAs body claims id o n → body_in o ≡ body → body_in n ≡ body
 still_says body claims id o n (still same) says = same.body ∙ says
-still_says body claims id o n (next a claimed apart low number told) says = told
+still_says body claims id o n (next a claimed apart low number body_said) says = body_said
 
 -- ---- a frame
 
@@ -139,8 +139,8 @@ answers_heard : (v : BridgeView) (claims : List Claim) (h : Holding) (drops : Dr
     → AnsweredAs (body_of v) claims (own_id v.id.system) (own_entry v) (get h.db (own_id v.id.system)) → h.own ≡ own_of v → Answers v claims (originated_if_changed (with_drops drops (with_holding h v)))
 answers_heard v claims h drops says fresh own same =
     let w : BridgeView = with_drops drops (with_holding h v) in
-    let told : body_in (own_entry w) ≡ body_of w = still_says (body_of v) claims (own_id v.id.system) (own_entry v) (own_entry w) own says ∙ sym (counted_body drops (with_holding h v) ∙ held_body h v) in
-    subst (Answers v claims) (sym (stands_still w told)) (record { own = own; fresh = ap (λ (o : Own). o.spent) same ∙ fresh })
+    let body_said : body_in (own_entry w) ≡ body_of w = still_says (body_of v) claims (own_id v.id.system) (own_entry v) (own_entry w) own says ∙ sym (counted_body drops (with_holding h v) ∙ held_body h v) in
+    subst (Answers v claims) (sym (stands_still w body_said)) (record { own = own; fresh = ap (λ (o : Own). o.spent) same ∙ fresh })
 
 module _ (q : ℕ) (bytes : List ℕ) (v : BridgeView) (was : IsSoundView v) (far : IsFar (frame q bytes) v) (other : is_hello bytes ≡ false) where
   says_own : body_in (own_entry v) ≡ body_of v

@@ -81,13 +81,13 @@ carrier_of false v q on port p e there =
       | inr same ↦ ap has_carrier_in same
     ]
 
-untold_at : (here : Bool) (v : BridgeView) (q : ℕ) (on : Bool) (p : ℕ) → (p == q) ≡ here → IsPort v p → port_at v q ≡ None → has_carrier_in (port_at v p) ≡ (if here then on else has_carrier_in (port_at v p))
-untold_at true v q on p e is none = absurd (is_found v p is (ap (port_at v) (eqb-true p q e) ∙ none))
-untold_at false v q on p e is none = refl
+carrier_of_none : (here : Bool) (v : BridgeView) (q : ℕ) (on : Bool) (p : ℕ) → (p == q) ≡ here → IsPort v p → port_at v q ≡ None → has_carrier_in (port_at v p) ≡ (if here then on else has_carrier_in (port_at v p))
+carrier_of_none true v q on p e is none = absurd (is_found v p is (ap (port_at v) (eqb-true p q e) ∙ none))
+carrier_of_none false v q on p e is none = refl
 
-carrier_told : (o : Option BridgePort) (v : BridgeView) (q : ℕ) (on : Bool) (p : ℕ) → IsPort v p → port_at v q ≡ o → has_carrier_in (port_at (with_carrier_at q on o v) p) ≡ (if p == q then on else has_carrier_in (port_at v p))
-carrier_told None v q on p is none = untold_at (p == q) v q on p refl is none
-carrier_told (Some port) v q on p is there = ap (λ (ports : List BridgePort). has_carrier_in (port_in ports p)) (with_carrier_ports q on port v there) ∙ carrier_of (p == q) v q on port p refl there
+carrier_of_found : (o : Option BridgePort) (v : BridgeView) (q : ℕ) (on : Bool) (p : ℕ) → IsPort v p → port_at v q ≡ o → has_carrier_in (port_at (with_carrier_at q on o v) p) ≡ (if p == q then on else has_carrier_in (port_at v p))
+carrier_of_found None v q on p is none = carrier_of_none (p == q) v q on p refl is none
+carrier_of_found (Some port) v q on p is there = ap (λ (ports : List BridgePort). has_carrier_in (port_in ports p)) (with_carrier_ports q on port v there) ∙ carrier_of (p == q) v q on port p refl there
 
 pub steps_keep_carrier : StepsKeepCarrier
 unfolding has_carrier_at with_carrier with_port_forgotten after_entry
@@ -104,7 +104,7 @@ steps_keep_carrier (frame q bytes) v p is =
             | inr same ↦ ap has_carrier_in same
           ]
     ]
-steps_keep_carrier (carrier q on) v p is = carrier_told (port_at v q) v q on p is refl
+steps_keep_carrier (carrier q on) v p is = carrier_of_found (port_at v q) v q on p is refl
 steps_keep_carrier (metric q m) v p is =
     elim (metric_step v q m) [
       | inl e ↦ ap (λ (u : BridgeView). has_carrier_in (port_at u p)) e

@@ -77,14 +77,14 @@ moved_body ports db v same =
     ap (λ (list : List Neighbour). 1 ∷ content_bytes (record { config = record { id = v.id; source = v.source; vids = v.vids }; neighbours = list; attached = map (member_of v.id.system) v.attached })) same
 
 -- whether CSNPs are due isn't said
-pub undue_neighbours : (p : ℕ) (ports : List BridgePort) → neighbours_from p (map (with_csnp_due false) ports) ≡ neighbours_from p ports
-undue_neighbours p [] = refl
-undue_neighbours p (port ∷ ports) = ap (λ (list : List Neighbour). if is_port_up port then neighbour_in p port ∷ list else list) (undue_neighbours (p + 1) ports)
+pub neighbours_without_csnp_due : (p : ℕ) (ports : List BridgePort) → neighbours_from p (map (with_csnp_due false) ports) ≡ neighbours_from p ports
+neighbours_without_csnp_due p [] = refl
+neighbours_without_csnp_due p (port ∷ ports) = ap (λ (list : List Neighbour). if is_port_up port then neighbour_in p port ∷ list else list) (neighbours_without_csnp_due (p + 1) ports)
 
-due_neighbours : (p i : ℕ) (port : BridgePort) (ports : List BridgePort) → neighbours_from p (slice_set ports i (with_csnp_due true port)) ≡ neighbours_from p (slice_set ports i (with_csnp_due false port))
-due_neighbours p i port [] = refl
-due_neighbours p zero port (x ∷ ports) = refl
-due_neighbours p (suc i) port (x ∷ ports) = ap (λ (list : List Neighbour). if is_port_up x then neighbour_in p x ∷ list else list) (due_neighbours (p + 1) i port ports)
+neighbours_with_csnp_due : (p i : ℕ) (port : BridgePort) (ports : List BridgePort) → neighbours_from p (slice_set ports i (with_csnp_due true port)) ≡ neighbours_from p (slice_set ports i (with_csnp_due false port))
+neighbours_with_csnp_due p i port [] = refl
+neighbours_with_csnp_due p zero port (x ∷ ports) = refl
+neighbours_with_csnp_due p (suc i) port (x ∷ ports) = ap (λ (list : List Neighbour). if is_port_up x then neighbour_in p x ∷ list else list) (neighbours_with_csnp_due (p + 1) i port ports)
 
 -- ---- an origination
 
@@ -195,7 +195,7 @@ changed_saying CameUp p port v was =
     let same : neighbours_from 1 (slice_set (originated_if_changed w).ports (p - 1) (with_csnp_due true port)) ≡ neighbours_from 1 (originated_if_changed w).ports =
     ap (λ (list : List BridgePort). neighbours_from 1 (slice_set list (p - 1) (with_csnp_due true port))) ports
     ∙ (ap (neighbours_from 1) (set-set v.ports (p - 1) (with_csnp_due false port) (with_csnp_due true port))
-    ∙ (due_neighbours 1 (p - 1) port v.ports ∙ ap (neighbours_from 1) (sym ports))) in
+    ∙ (neighbours_with_csnp_due 1 (p - 1) port v.ports ∙ ap (neighbours_from 1) (sym ports))) in
     srm_set_saying p port (originated_if_changed w) same (originated_if_changed_saying w (left_lives p port v was.alive))
 
 -- ---- a second
@@ -288,7 +288,7 @@ after_sending_from_says body id p (port ∷ ports) db says = after_sending_from_
 
 after_sending_saying : (v : BridgeView) → IsSaying v → IsSaying (after_sending v)
 after_sending_saying v was =
-    moved_saying (map (with_csnp_due false) v.ports) (after_sending_from 1 v.ports v.database) v (undue_neighbours 1 v.ports)
+    moved_saying (map (with_csnp_due false) v.ports) (after_sending_from 1 v.ports v.database) v (neighbours_without_csnp_due 1 v.ports)
     (after_sending_from_says (body_of v) (own_id v.id.system) 1 v.ports v.database) was
 
 tick_saying : (v : BridgeView) → IsSaying v → IsSaying (after_tick v)

@@ -53,7 +53,7 @@ picked test g f passes seen (e ∷ es) =
     by true rest = λ i. seen e i ∷ rest i
     by false rest = rest
 
--- ---- an entry of which a port was told
+-- ---- an entry that was sent at a port
 
 after_sending_lsp : (q : ℕ) (x : LspId) (e : Entry) (b : Bool) → lsp_in x (if b then with_ssn q false e else e) ≡ lsp_in x e
 after_sending_lsp q x e true = refl
@@ -137,7 +137,7 @@ clears_by : (b : Bool) (q : ℕ) (db : Lsps) (id : LspId) → b ≡ true → 1 �
 clears_by true q db id up low high = ap (λ (o : Option Entry). has (ssn_in o) q) (get-each (λ x e. ssn_cleared_entry q e) db id) ∙ clear_in q (get db id) low high
 clears_by false q db id up low high = absurd cc
 
--- nor at the port that was told, if it is Up
+-- nor at the port at which it was sent, if it is Up
 pub after_sending_clears : (q : ℕ) (x : BridgePort) (db : Lsps) (id : LspId) → is_port_up x ≡ true → 1 ≤ q → q ≤ 32 → has (ssn_in (get (after_sending_at q x db) id)) q ≡ false
 after_sending_clears q x db id up low high = clears_by (is_port_up x) q db id up low high
 

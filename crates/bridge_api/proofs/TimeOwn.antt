@@ -46,7 +46,7 @@ use Rattle.bridge_api.proofs.DataSteps.{configured_holds_own}
 use Rattle.bridge_api.proofs.Places.{port_found}
 use Rattle.bridge_api.proofs.Sound.{configured_is_sound}
 use Rattle.bridge_api.proofs.SoundPorts.{configured_has_no_carrier}
-use Rattle.bridge_api.proofs.OwnLspSteps.{undue_neighbours}
+use Rattle.bridge_api.proofs.OwnLspSteps.{neighbours_without_csnp_due}
 use Rattle.bridge_api.proofs.Time.{no_seconds, next_second, seconds_add, seconds_sound}
 use Rattle.bridge_api.proofs.TimeLsps.{older_lasts, older_ages, up_second, expired_holds, second_holds, lasting_same, dead_same, aged_same, lasting_on}
 
@@ -65,7 +65,7 @@ second_says v = let w : BridgeView = step second v in ap body_of (tick_rest v) �
 
 expired_says : (v : BridgeView) → body_of (expired (counts_lowered v)) ≡ body_of (step second v)
 unfolding body_of
-expired_says v = sym (second_says v ∙ ap (says v) (ap (neighbours_from 1) (tick_ports v) ∙ undue_neighbours 1 (map later v.ports)))
+expired_says v = sym (second_says v ∙ ap (says v) (ap (neighbours_from 1) (tick_ports v) ∙ neighbours_without_csnp_due 1 (map later v.ports)))
 
 -- ---- the own LSP when the lifetimes fell
 
@@ -129,7 +129,7 @@ unfolding refreshed
 refreshed_stands w said young =
     when_true (w.spent || (is_said w && not (is_old (own_entry w)))) w (originating w) (stands_at w.spent (is_said w) (is_old (own_entry w)) said young)
 
--- what was told leaves the own LSP and whether the numbers are spent
+-- what was sent leaves the own LSP and whether the numbers are spent
 second_spent : (v : BridgeView) → (step second v).spent ≡ (readied v).spent
 second_spent v = ap (λ (w : BridgeView). w.spent) (tick_is v)
 
@@ -176,21 +176,21 @@ originating_renews w fresh live below =
     )
 
 -- an LSP without SSN flags is as it was after all was sent
-untold_entry : (p : ℕ) (e : Entry) (b : Bool) → b ≡ false → (if b then with_ssn p false e else e) ≡ e
-untold_entry p e true ssn = absurd cc
-untold_entry p e false ssn = refl
+sending_keeps_entry : (p : ℕ) (e : Entry) (b : Bool) → b ≡ false → (if b then with_ssn p false e else e) ≡ e
+sending_keeps_entry p e true ssn = absurd cc
+sending_keeps_entry p e false ssn = refl
 
-unowed : (p : ℕ) (e : Entry) → e.ssn ≡ no_ports → has_ssn_at p e ≡ false
-unowed p e none = ap (λ (set : PortSet). has set p) none ∙ has-no_ports p
+no_ssn_at : (p : ℕ) (e : Entry) → e.ssn ≡ no_ports → has_ssn_at p e ≡ false
+no_ssn_at p e none = ap (λ (set : PortSet). has set p) none ∙ has-no_ports p
 
-untold_at : (b : Bool) (p : ℕ) (db : Lsps) (id : LspId) (e : Entry) → e.ssn ≡ no_ports → get db id ≡ Some e → get (if b then all_ssn_cleared p db else db) id ≡ Some e
-untold_at true p db id e none is =
-    get-each (λ x d. ssn_cleared_entry p d) db id ∙ (ap (option_map (ssn_cleared_entry p)) is ∙ ap (λ (d : Entry). Some d) (untold_entry p e (has_ssn_at p e) (unowed p e none)))
-untold_at false p db id e none is = is
+sending_keeps_at : (b : Bool) (p : ℕ) (db : Lsps) (id : LspId) (e : Entry) → e.ssn ≡ no_ports → get db id ≡ Some e → get (if b then all_ssn_cleared p db else db) id ≡ Some e
+sending_keeps_at true p db id e none is =
+    get-each (λ x d. ssn_cleared_entry p d) db id ∙ (ap (option_map (ssn_cleared_entry p)) is ∙ ap (λ (d : Entry). Some d) (sending_keeps_entry p e (has_ssn_at p e) (no_ssn_at p e none)))
+sending_keeps_at false p db id e none is = is
 
-untold_from : (p : ℕ) (ports : List BridgePort) (db : Lsps) (id : LspId) (e : Entry) → e.ssn ≡ no_ports → get db id ≡ Some e → get (after_sending_from p ports db) id ≡ Some e
-untold_from p [] db id e none is = is
-untold_from p (port ∷ ports) db id e none is = untold_from (p + 1) ports (after_sending_at p port db) id e none (untold_at (is_port_up port) p db id e none is)
+sending_keeps_from : (p : ℕ) (ports : List BridgePort) (db : Lsps) (id : LspId) (e : Entry) → e.ssn ≡ no_ports → get db id ≡ Some e → get (after_sending_from p ports db) id ≡ Some e
+sending_keeps_from p [] db id e none is = is
+sending_keeps_from p (port ∷ ports) db id e none is = sending_keeps_from (p + 1) ports (after_sending_at p port db) id e none (sending_keeps_at (is_port_up port) p db id e none is)
 
 -- the own LSP at a number is made of the system and the body
 renewed_as : (up other : PortSet) (x y : Own) (n m : ℕ) → up ≡ other → x.system ≡ y.system → x.body ≡ y.body → n ≡ m → renewed up x n ≡ renewed other y m
@@ -220,7 +220,7 @@ renewing v left was fresh below count why =
     let made = originating_renews w fresh f.live (omega (arith, number, below)) in
     let new : Entry = renewed (up_ports w) (own_of w) (own_sequence_number w + 1) in
     let held : get (after_sending_from 1 (readied v).ports (readied v).database) id ≡ Some new =
-    untold_from 1 (readied v).ports (readied v).database id new refl (ap (λ (x : BridgeView). get x.database id) renews ∙ made.0) in
+    sending_keeps_from 1 (readied v).ports (readied v).database id new refl (ap (λ (x : BridgeView). get x.database id) renews ∙ made.0) in
     let system : w.id.system ≡ (step second v).id.system = ap (λ x. x.system) (sym (steps_keep_bridge second v).id) in
     record {
       own =

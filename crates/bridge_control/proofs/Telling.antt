@@ -37,8 +37,8 @@ can_tell m n attached learned other ready config is =
 pub can_tell_after : (m n : Machine) (input : Input) (learned : Addresses) → IsReady m → IsInput (view_of m) input → n ≡ machine_with m (attached_after input m.tenant.attached) learned → CanTell n
 can_tell_after m n input learned ready is same = can_tell m n (attached_after input m.tenant.attached) learned (learned_after input (view_of m)) ready (config_after input (view_of m) is ready.sound.config) same
 
-pub told_after : (m n k : Machine) (attached : List Attachment) (learned : Addresses) → n ≡ machine_with m attached learned → IsAfter (originated_if_changed (view_of n)) k → IsAfter (with_attached attached (with_learned learned (view_of m))) k
-told_after m n k attached learned is after =
+pub after_telling : (m n k : Machine) (attached : List Attachment) (learned : Addresses) → n ≡ machine_with m attached learned → IsAfter (originated_if_changed (view_of n)) k → IsAfter (with_attached attached (with_learned learned (view_of m))) k
+after_telling m n k attached learned is after =
     let v : BridgeView = with_learned learned (view_of m) in
     after_same (originated_if_changed (view_of n)) (with_attached attached v) k (ap originated_if_changed (ap view_of is) ∙ sym (with_attached_is attached v)) after
 
@@ -55,7 +55,7 @@ pub detached_after : (m n k : Machine) (port : ℕ) → m.tenant.me ≡ m.id.sys
     → IsAfter (with_attached (without_customer_port port m.tenant.attached) (with_port_forgotten port (view_of m))) k
 detached_after m n k port me is after =
     let left : List Attachment = without_customer_port port m.tenant.attached in
-    after_same _ _ k (ap (with_attached left) (forgotten_is m port me)) (told_after m n k left (after_detach m.tenant port).learned is after)
+    after_same _ _ k (ap (with_attached left) (forgotten_is m port me)) (after_telling m n k left (after_detach m.tenant port).learned is after)
 
 pub renewed_can : (m n : Machine) → CanTell m → n ≡ record m { own = own_of (view_of m) } → CanOriginate n
 renewed_can m n can is = subst CanOriginate (sym is) (record { few = can.can.few; place = can.can.place })

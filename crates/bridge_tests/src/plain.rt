@@ -369,7 +369,7 @@ fn hears_another<B: Bridge>(rt: &impl Abort, alloc: Global, a: B, b: B)
 }
 
 #[test]
-fn another_neighbour_at_an_up_port_gets_all_and_is_owed_nothing(rt: HostRuntime) {
+fn another_neighbour_at_an_up_port_gets_all_and_no_ssn_stays(rt: HostRuntime) {
     hears_another(&rt, rt.alloc(), boxed!(rt), boxed!(rt));
 }
 

@@ -119,7 +119,7 @@ sent k = Frame (bridge_name k) 1 (frame_bytes k) ∷ Drain 100000 ∷ []
 abbrev pub traffic : ℕ → List Command
 traffic n = flat_map sent (numbers n)
 
--- ---- The whole script: all is declared, the network settles, a link fails, and a bridge starts anew
+-- ---- The whole script: all is declared, the network gets quiet, a link fails, and a bridge starts anew
 
 abbrev pub declarations : ℕ → List Command
 declarations n = network n ++ services n ++ attachments n

@@ -71,7 +71,7 @@ fn push_traffic(alloc: Global, script: &mut Vec<Command>, n: u8) -> Result<(), N
     Ok(())
 }
 
-/// The link of the ring from bridge 1 fails, and the network settles.
+/// The link of the ring from bridge 1 fails, and the network gets quiet.
 fn push_failure(script: &mut Vec<Command>, n: u8) -> Result<(), NoMemory>
     requires { n ≤ 96 }
     ensures { OnOk result (script.new.items ≡ script.old.items ++ made.after_failure n) }
@@ -81,7 +81,7 @@ fn push_failure(script: &mut Vec<Command>, n: u8) -> Result<(), NoMemory>
     Ok(())
 }
 
-/// Bridge 2 starts anew, the network settles, and each service carries a frame.
+/// Bridge 2 starts anew, the network gets quiet, and each service carries a frame.
 fn push_restart(alloc: Global, script: &mut Vec<Command>, n: u8) -> Result<(), NoMemory>
     requires { n ≤ 96 }
     ensures { OnOk result (script.new.items ≡ script.old.items ++ made.after_restart n) }

@@ -71,9 +71,9 @@ module _ (Entered : Isid → List ℕ → Type 0) (Left : Out → Type 0) where
   separate_with_metric s e is separate =
       separate_stepped Entered Left s e.bridge (comes.metric e.port e.metric) (brought_none Entered Left s e.bridge (comes.metric e.port e.metric) (λ v at. is) (λ v isid f brings. brings) (λ v. refl)) separate
 
-  told_separate : (side : Side) (s : State) (k : ℕ) (o : Option DeclaredLink) → Sound s.world → slice_get (links_of s) k ≡ o → IsSeparate Entered Left s → IsSeparate Entered Left (with_metric_on side s o)
-  told_separate side s k None sound at separate = separate
-  told_separate side s k (Some l) sound at separate =
+  separate_metric_on : (side : Side) (s : State) (k : ℕ) (o : Option DeclaredLink) → Sound s.world → slice_get (links_of s) k ≡ o → IsSeparate Entered Left s → IsSeparate Entered Left (with_metric_on side s o)
+  separate_metric_on side s k None sound at separate = separate
+  separate_metric_on side s k (Some l) sound at separate =
       let e : LinkEnd = end_on side l in
       separate_with_metric s e (end_metric s.world.bridges e (end_on-is side s.world.bridges l (link_there s k l sound at))) separate
 
@@ -81,7 +81,7 @@ module _ (Entered : Isid → List ℕ → Type 0) (Left : Out → Type 0) where
   unfolding with_metric_changed
   separate_metric_changed s k side m is sound separate =
       let t : State = record s { world = with_end_metric side m s.world k } in
-      told_separate side t k (slice_get (links_of t) k) (Sound-with_end_metric side m s.world k is sound) refl (separate_with_world Entered Left t.world s separate)
+      separate_metric_on side t k (slice_get (links_of t) k) (Sound-with_end_metric side m s.world k is sound) refl (separate_with_world Entered Left t.world s separate)
 
   -- ---- a customer port is attached, or detached
 

@@ -17,13 +17,13 @@ use Rattle.spb_network.proofs.BridgeLaws.{configured_is_sound}
 use Rattle.spb_network.proofs.ApartBridge.{configured_is_placed}
 use Rattle.spb_network.proofs.RestartConfig.{restart_whole}
 use Rattle.spb_network.proofs.RestartSound.{got_set}
-use Rattle.spb_network.proofs.ApartSteps.{IsSettled, IsSeparate}
+use Rattle.spb_network.proofs.ApartSteps.{IsSoundAndPlaced, IsSeparate}
 use Rattle.spb_network.proofs.ApartEvents.{separate_flushed, separate_with_carrier}
 
 -- ---- a bridge that was just configured
 
-pub configured_settled : (c : BridgeConfig) → IsWhole c → IsSettled (configured c)
-configured_settled c whole = record { sound = configured_is_sound c whole; placed = configured_is_placed c }
+pub configured_sound_and_placed : (c : BridgeConfig) → IsWhole c → IsSoundAndPlaced (configured c)
+configured_sound_and_placed c whole = record { sound = configured_is_sound c whole; placed = configured_is_placed c }
 
 -- ---- its links are cut
 
@@ -66,7 +66,7 @@ module _ (Entered : Isid → List ℕ → Type 0) (Left : Out → Type 0) where
     lanes = separate.lanes;
     bridges = λ j v at.
         elim (got_set s.views i (configured c) j v at) [
-          | inl here ↦ subst IsSettled here.1 (configured_settled c whole)
+          | inl here ↦ subst IsSoundAndPlaced here.1 (configured_sound_and_placed c whole)
           | inr old ↦ separate.bridges j v old.1
         ];
     outs = separate.outs;

@@ -32,7 +32,7 @@ use Rattle.spb_network.proofs.ApartLanes.{HoldsOnTheWay, stepped_each}
 use Rattle.spb_network.proofs.ApartOuts.{none_left, outs_each}
 
 -- a bridge is sound by itself, and what it has learned at customer ports it has learned at ports of the service
-pub record IsSettled (v : BridgeView) : Type 0 where
+pub record IsSoundAndPlaced (v : BridgeView) : Type 0 where
   pub sound : IsSoundView v
   pub placed : ArePlaced (tenant_of v)
 
@@ -40,26 +40,26 @@ pub record IsSettled (v : BridgeView) : Type 0 where
 pub carries_more : (P Q : Isid → List ℕ → Type 0) → ((isid : Isid) (f : List ℕ) → P isid f → Q isid f) → (bytes : List ℕ) → CarriesEntered P bytes → CarriesEntered Q bytes
 carries_more P Q more bytes carries da sa vid isid f is = more isid f (carries da sa vid isid f is)
 
-settled_step : (x : Input) (views : List BridgeView) (i : ℕ) → IsInputAt views i x → ((j : ℕ) (v : BridgeView) → slice_get views j ≡ Some v → IsSettled v) → (j : ℕ) (v : BridgeView) → slice_get (changed_at (step x) views i) j ≡ Some v → IsSettled v
-settled_step x views i input settled j v at =
+sound_and_placed_step : (x : Input) (views : List BridgeView) (i : ℕ) → IsInputAt views i x → ((j : ℕ) (v : BridgeView) → slice_get views j ≡ Some v → IsSoundAndPlaced v) → (j : ℕ) (v : BridgeView) → slice_get (changed_at (step x) views i) j ≡ Some v → IsSoundAndPlaced v
+sound_and_placed_step x views i input each_was j v at =
     let was = got_changed (step x) views i j v at in
-    let before : IsSettled was.was = settled j was.was was.there in
+    let before : IsSoundAndPlaced was.was = each_was j was.was was.there in
     elim was.is [
       | inl here ↦
           let there : slice_get views i ≡ Some was.was = ap (slice_get views) (sym here.0) ∙ was.there in
-          subst IsSettled (sym here.1) (record {
+          subst IsSoundAndPlaced (sym here.1) (record {
             sound = steps_stay_sound x was.was (input was.was there) before.sound;
             placed = steps_keep_places x was.was before.sound before.placed;
           })
-      | inr same ↦ subst IsSettled (sym same.1) before
+      | inr same ↦ subst IsSoundAndPlaced (sym same.1) before
     ]
 
 -- for any word that says of a frame that it has entered, and any that says something of one that leaves
 module _ (Entered : Isid → List ℕ → Type 0) (Left : Out → Type 0) where
-  -- each bridge is settled, each frame on its way carries what has entered, and of each that left this is said
+  -- each bridge is sound and placed, each frame on its way carries what has entered, and of each that left this is said
   pub record IsSeparate (s : State) : Type 0 where
     pub lanes : HoldsOnTheWay (CarriesEntered Entered) s.lanes
-    pub bridges : (i : ℕ) (v : BridgeView) → slice_get s.views i ≡ Some v → IsSettled v
+    pub bridges : (i : ℕ) (v : BridgeView) → slice_get s.views i ≡ Some v → IsSoundAndPlaced v
     pub outs : AllByRecursion Left s.outs
 
   pub separate_of : (s : State) → IsSoundState s → s.outs ≡ [] → IsApart Entered s → IsSeparate s
@@ -108,6 +108,6 @@ module _ (Entered : Isid → List ℕ → Type 0) (Left : Out → Type 0) where
   pub separate_stepped : (s : State) (i : ℕ) (x : Input) → IsBrought s i x → IsSeparate s → IsSeparate (stepped x s i)
   separate_stepped s i x brought separate = record {
     lanes = stepped_each (CarriesEntered Entered) x s i separate.lanes (sends s i x brought separate);
-    bridges = subst (λ (vs : List BridgeView). (j : ℕ) (v : BridgeView) → slice_get vs j ≡ Some v → IsSettled v) (sym (stepped_views x s i)) (settled_step x s.views i brought.input separate.bridges);
+    bridges = subst (λ (vs : List BridgeView). (j : ℕ) (v : BridgeView) → slice_get vs j ≡ Some v → IsSoundAndPlaced v) (sym (stepped_views x s i)) (sound_and_placed_step x s.views i brought.input separate.bridges);
     outs = outs_each Left x s i separate.outs brought.left;
   }

@@ -154,9 +154,9 @@ tracked_end_metric on m n s k is tracked = same_counted n s (record s.world { li
 low_next : (n r : ℕ → ℕ) (c : ℕ) → ((j : ℕ) → n j + c < last_number) → ((j : ℕ) → r j ≤ c) → (j : ℕ) → n j + r j < last_number
 low_next n r c low few j = let below = low j in let small = few j in omega (arith, below, small)
 
-metric_told : (s : State) (n : ℕ) (k : ℕ) (on : Side) (o : Option DeclaredLink) → slice_get (links_of s) k ≡ o → IsTracked (λ i. n) s → n < last_number → IsCountedBy (n + 2) (with_metric_on on s o)
-metric_told s n k on None at tracked low = counted_tracked (λ i. n) (n + 2) s tracked (λ i. omega arith)
-metric_told s n k on (Some l) at tracked low =
+counted_metric_on : (s : State) (n : ℕ) (k : ℕ) (on : Side) (o : Option DeclaredLink) → slice_get (links_of s) k ≡ o → IsTracked (λ i. n) s → n < last_number → IsCountedBy (n + 2) (with_metric_on on s o)
+counted_metric_on s n k on None at tracked low = counted_tracked (λ i. n) (n + 2) s tracked (λ i. omega arith)
+counted_metric_on s n k on (Some l) at tracked low =
     let e : LinkEnd = end_on on l in
     let is : IsMetric e.metric = end_metric s.world.bridges e (end_on-is on s.world.bridges l (link_there s k l tracked.core.world at)) in
     counted_tracked (λ j. n + gain_at e.bridge (metric e.port e.metric) j) (n + 2) (with_metric_at_end s e) (tracked_metric s (λ i. n) e is tracked (λ j. low)) (λ j.
@@ -166,7 +166,7 @@ pub Counted-metric : (s : State) (n k : ℕ) (on : Side) (m : ℕ) → IsMetric 
 unfolding with_metric_changed
 Counted-metric s n k on m is core counted low =
     let t : State = record s { world = with_end_metric on m s.world k } in
-    metric_told t n k on (slice_get (links_of t) k) refl (tracked_end_metric on m (λ i. n) s k is (tracked_from n s core counted)) low
+    counted_metric_on t n k on (slice_get (links_of t) k) refl (tracked_end_metric on m (λ i. n) s k is (tracked_from n s core counted)) low
 
 -- ---- a link is switched
 

@@ -56,13 +56,13 @@ over : (on : Bool) (s : State) (o : Option DeclaredLink) → counts (with_carrie
 over on s None = refl
 over on s (Some l) = carrier_at on (with_carrier_at_end on s l.a) l.b ∙ carrier_at on s l.a
 
-told : (s : State) (side : Side) (o : Option DeclaredLink) → counts (with_metric_on side s o) ≡ counts s
-told s side None = refl
-told s side (Some l) = metric_at s (end_on side l)
+metric_on : (s : State) (side : Side) (o : Option DeclaredLink) → counts (with_metric_on side s o) ≡ counts s
+metric_on s side None = refl
+metric_on s side (Some l) = metric_at s (end_on side l)
 
 pub counts-metric : (s : State) (k : ℕ) (side : Side) (m : ℕ) → counts (with_metric_changed s k side m) ≡ counts s
 unfolding with_metric_changed
-counts-metric s k side m = let t : State = record s { world = with_end_metric side m s.world k } in told t side (slice_get (links_of t) k)
+counts-metric s k side m = let t : State = record s { world = with_end_metric side m s.world k } in metric_on t side (slice_get (links_of t) k)
 
 attached_found : (s : State) (i port isid : ℕ) (o : Option Vid) → counts (attached_in_found s i port isid o) ≡ counts s
 attached_found s i port isid None = refl

@@ -205,8 +205,8 @@ core_without_attachment s i port core = record {
   agree = core.agree;
 }
 
-told_attached : (x : Input) (t : State) (i : ℕ) → AreAttached t.world (changed_at (step x) t.views i) → AreAttached (stepped x t i).world (stepped x t i).views
-told_attached x t i attached =
+attached_after_step : (x : Input) (t : State) (i : ℕ) → AreAttached t.world (changed_at (step x) t.views i) → AreAttached (stepped x t i).world (stepped x t i).views
+attached_after_step x t i attached =
     subst (λ (w : World). AreAttached w (stepped x t i).views) (sym (stepped_world x t i))
     (subst (AreAttached t.world) (sym (stepped_views x t i)) attached)
 
@@ -218,7 +218,7 @@ Sound-with_attached_port s i a new can sound =
     sound_from (stepped x t i)
     (core_stepped x t t.lanes i can (core_with_attachment s i a new (core_of s sound)) (alike_itself t) sound.short (λ k dir f among. among) (λ p f is. absurd cc))
     (stepped_carriers x t i refl sound.carriers) (stepped_with_metric x t i refl sound.metrics)
-    (told_attached x t i (attached_attached s i a sound.attached))
+    (attached_after_step x t i (attached_attached s i a sound.attached))
 
 found_sound : (s : State) (i port isid : ℕ) (o : Option Vid) → vid_of_isid s.world.services isid ≡ o → i < length s.world.bridges → attach_refusal s.world i port isid ≡ None → IsSoundState s → IsSoundState (attached_in_found s i port isid o)
 found_sound s i port isid None found within none sound = sound
@@ -237,4 +237,4 @@ Sound-port_detached s i port none sound =
     sound_from (stepped x t i)
     (core_stepped x t t.lanes i (is_attached_port s i port sound none) (core_without_attachment s i port (core_of s sound)) (alike_itself t) sound.short (λ k dir f among. among) (λ p f is. absurd cc))
     (stepped_carriers x t i refl sound.carriers) (stepped_with_metric x t i refl sound.metrics)
-    (told_attached x t i (attached_detached s i port sound.attached))
+    (attached_after_step x t i (attached_detached s i port sound.attached))

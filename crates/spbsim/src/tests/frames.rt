@@ -4,7 +4,7 @@ use super::{check_all_refused, check_done, check_refused, check_scripts, joined}
 use std::alloc::Global;
 use std::process::Abort;
 
-/// Six bridges in a ring, which have settled, with a service at five of them: two ports of A, and one each of B to E.
+/// Six bridges in a ring, which are quiet, with a service at five of them: two ports of A, and one each of B to E.
 pub(super) const RING: &str = "vid 10 1
 bridge A 32768 020000000001 00001 2
 bridge B 32768 020000000002 00002 2
@@ -92,7 +92,7 @@ fn a_frame_to_all_leaves_at_each_other_port_of_the_service(rt: HostRuntime) {
     check_scripts(&rt, rt.alloc(), RING, TO_ALL);
 }
 
-/// A in the middle between B and C, with a service at a port of each, and settled.
+/// A in the middle between B and C, with a service at a port of each, and quiet.
 pub(super) const MIDDLE: &str = "vid 10 1
 bridge A 32768 020000000001 00001 2
 bridge B 32768 020000000002 00002 2

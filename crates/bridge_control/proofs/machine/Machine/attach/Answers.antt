@@ -2,7 +2,7 @@ use Rattle.std.proofs.Common.{List, [], ◌∷◌, ◌++◌, ap}
 use Rattle.std.proofs.lemmas.Result.{on_ok_weaker}
 use Rattle.spb_types.specs.declared.service.Attachment.{Attachment}
 use Rattle.bridge_api.specs.Step.{attach}
-use Rattle.bridge_control.proofs.Telling.{machine_with, can_tell_after, told_after}
+use Rattle.bridge_control.proofs.Telling.{machine_with, can_tell_after, after_telling}
 use Rattle.bridge_control.proofs.machine.Machine.attach.Goals as goal
 
 pub tell-requires : goal.tell-requires
@@ -16,4 +16,4 @@ returns c =
     let m = c.args.self.now in
     let learned = m.tenant.learned in
     on_ok_weaker c.tell.result
-    (told_after m (machine_with m c.push.new.self learned) c.tell.new.self (m.tenant.attached ++ c.args.attachment ∷ []) learned (ap (λ (attached : List Attachment). machine_with m attached learned) c.in_ok-push.ensures.ok)) c.tell.ensures
+    (after_telling m (machine_with m c.push.new.self learned) c.tell.new.self (m.tenant.attached ++ c.args.attachment ∷ []) learned (ap (λ (attached : List Attachment). machine_with m attached learned) c.in_ok-push.ensures.ok)) c.tell.ensures
