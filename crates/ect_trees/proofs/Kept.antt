@@ -1,5 +1,6 @@
 -- Paths that are kept: under which masks they serve, and what follows on them.
-use Rattle.std.proofs.Common.{◌≡◌, ◌≢◌, ℕ, ◌⊎◌, inl, inr, List, get_or, Option, Result, Ok, Err, IfOk, refl, sym, subst}
+use Rattle.std.proofs.Common.{◌≡◌, ◌≢◌, ℕ, ◌⊎◌, inl, inr, Bool, true, false, eqb-true, List, get_or, Option, Result, Ok, Err, IfOk, refl, sym, subst}
+use Rattle.std.specs.Prelude.{◌==◌, ◌&&◌, ◌||◌}
 use Rattle.std.specs.Global.{Vec}
 use Rattle.spb_types.specs.declared.address.SystemId.{SystemId}
 use Rattle.spb_types.specs.Graph.{IsValid}
@@ -12,7 +13,7 @@ use Rattle.ect_trees.specs.declared.trial.Verdict.{Verdict}
 use Rattle.ect_trees.specs.declared.ways.Step.{Step}
 use Rattle.ect_trees.specs.Arcs.{IsBridgeAt}
 use Rattle.ect_trees.specs.Followers.{IsFollower, IsFollowerAt, FollowsOnWay, FollowsInTree}
-use Rattle.ect_trees.specs.Routes.{AreBestAt, IsUntied, LeadBy}
+use Rattle.ect_trees.specs.Routes.{AreBestAt, is_untied, is_for_all_masks, serve, LeadBy}
 use Rattle.ect_trees.specs.Tree.{Paths, GivesBest}
 use Rattle.ect_trees.specs.Trial.{Covers}
 use Rattle.ect_trees.proofs.Places.{no_bridge, read_bridge}
@@ -29,28 +30,48 @@ covers_too : (own mask : ℕ) (v : Verdict) → Covers own v own → (own ≡ ma
 covers_too own mask v c (inl e) = subst (Covers own v) e c
 covers_too own mask v c (inr e) = subst (λ w. Covers own w mask) (sym e) tt
 
+untied_verdict : (v : Verdict) → is_untied v ≡ true → v ≡ Verdict.Untied
+untied_verdict Verdict.Untied e = refl
+untied_verdict Verdict.Tied e = absurd cc
+untied_verdict Verdict.Wrong e = absurd cc
+
+-- when routes serve
+serve_parts : (t : Routes) (from mask : ℕ) → serve t from mask ≡ true → (t.from ≡ from) × ((t.mask ≡ mask) ⊎ (is_for_all_masks t.form ≡ true))
+serve_parts t from mask e = by (t.from == from) (t.mask == mask) refl refl e
+  where
+    by : (here own : Bool) → (t.from == from) ≡ here → (t.mask == mask) ≡ own → (here && (own || is_for_all_masks t.form)) ≡ true → (t.from ≡ from) × ((t.mask ≡ mask) ⊎ (is_for_all_masks t.form ≡ true))
+    by false own at same e = absurd cc
+    by true true at same e = (eqb-true t.from from at, inl (eqb-true t.mask mask same))
+    by true false at same e = (eqb-true t.from from at, inr e)
+
+verdict_or_mask : (own mask : ℕ) (v : Verdict) → (own ≡ mask) ⊎ (is_untied v ≡ true) → (own ≡ mask) ⊎ (v ≡ Verdict.Untied)
+verdict_or_mask own mask v (inl e) = inl e
+verdict_or_mask own mask v (inr e) = inr (untied_verdict v e)
+
 -- on paths that are told by steps
 pub led_on_ways : (g : Graph) (t : Routes) (steps : Vec (Option Step)) (v : Verdict) (me to place : ℕ) → t.form ≡ Form.Steps steps v → ((r : Mesh) → FollowsOnWay r steps.items me to place) → LeadBy g t me to place
-led_on_ways g t steps v me to place e f = λ from mask routes serve a m whence here.
+led_on_ways g t steps v me to place e f = λ from mask routes is a m whence here.
     let best : AreBestAt g t.from t.mask (Form.Steps steps v) = subst (AreBestAt g t.from t.mask) e routes in
-    let also : (t.mask ≡ mask) ⊎ (v ≡ Verdict.Untied) = subst (λ w. (t.mask ≡ mask) ⊎ IsUntied w) e serve.1 in
+    let serves = serve_parts t from mask is in
+    let also : (t.mask ≡ mask) ⊎ (v ≡ Verdict.Untied) = verdict_or_mask t.mask mask v (subst (λ w. (t.mask ≡ mask) ⊎ (is_for_all_masks w ≡ true)) e serves.1) in
     let own = best.1 mask (covers_too t.mask mask v best.0 also) in
-    let source : IsBridgeAt g t.from a = subst (λ n. IsBridgeAt g n a) (sym serve.0) whence in
+    let source : IsBridgeAt g t.from a = subst (λ n. IsBridgeAt g n a) (sym serves.0) whence in
     let start : IsBridgeAt own.mesh.graph t.from a = subst (λ h. IsBridgeAt h t.from a) (sym own.graph_is) source in
     let it : IsBridgeAt own.mesh.graph me m = subst (λ h. IsBridgeAt h me m) (sym own.graph_is) here in
     subst (λ h. IsFollower h mask a m to place) own.graph_is
     (follower_best own.mesh steps.items me t.from to mask place a m (own.best a start) it (f own.mesh))
 
-same_mask : (own mask : ℕ) → (own ≡ mask) ⊎ ⊥ → own ≡ mask
+same_mask : (own mask : ℕ) → (own ≡ mask) ⊎ (false ≡ true) → own ≡ mask
 same_mask own mask (inl e) = e
-same_mask own mask (inr n) = absurd n
+same_mask own mask (inr n) = absurd cc
 
 -- on whole paths
 pub led_in_tree : (g : Graph) (t : Routes) (tree : Paths) (me to place : ℕ) → t.form ≡ Form.Whole tree → ((m : SystemId) → IsBridgeAt g me m → FollowsInTree g tree m to place) → LeadBy g t me to place
-led_in_tree g t tree me to place e f = λ from mask routes serve a m whence here.
+led_in_tree g t tree me to place e f = λ from mask routes is a m whence here.
     let best : AreBestAt g t.from t.mask (Form.Whole tree) = subst (AreBestAt g t.from t.mask) e routes in
-    let also : (t.mask ≡ mask) ⊎ IsUntied (Form.Whole tree) = subst (λ w. (t.mask ≡ mask) ⊎ IsUntied w) e serve.1 in
-    let source : IsBridgeAt g t.from a = subst (λ n. IsBridgeAt g n a) (sym serve.0) whence in
+    let serves = serve_parts t from mask is in
+    let also : (t.mask ≡ mask) ⊎ (false ≡ true) = subst (λ w. (t.mask ≡ mask) ⊎ (is_for_all_masks w ≡ true)) e serves.1 in
+    let source : IsBridgeAt g t.from a = subst (λ n. IsBridgeAt g n a) (sym serves.0) whence in
     let gives : GivesBest g mask a tree = subst (λ n. GivesBest g n a tree) (same_mask t.mask mask also) (best a source) in
     follower_in_best g mask a m tree to place gives (f m here)
 

@@ -37,3 +37,4 @@ pub mod Compared
 pub mod Tried
 pub mod Followed
 pub mod Kept
+pub mod Keeping

@@ -14,3 +14,4 @@ pub mod Ways
 pub mod Trial
 pub mod Followers
 pub mod Routes
+pub mod Forest

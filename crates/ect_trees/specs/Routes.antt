@@ -1,6 +1,5 @@
 -- The best paths from a bridge, as they are kept.
-use Rattle.std.specs.Prelude.{◌≡◌, ℕ, List, All, Option, ◌⊎◌}
-use Rattle.std.specs.Global.{Vec}
+use Rattle.std.specs.Prelude.{◌≡◌, ℕ, Bool, true, false, List, Option, ◌==◌, ◌&&◌, ◌||◌}
 use Rattle.spb_types.specs.declared.address.SystemId.{SystemId}
 use Rattle.spb_types.specs.declared.graph.Graph.{Graph}
 use Rattle.ect_trees.specs.declared.mesh.Mesh.{Mesh}
@@ -33,20 +32,22 @@ AreBestAt g from mask (Form.Whole tree) = (a : SystemId) → IsBridgeAt g from a
 abbrev pub AreRoutes : Graph → Routes → Type 0
 AreRoutes g t = AreBestAt g t.from t.mask t.form
 
--- they are so under every mask
-abbrev pub IsUntied : Form → Type 0
-IsUntied (Form.Steps steps v) = v ≡ Verdict.Untied
-IsUntied (Form.Whole tree) = ⊥
+-- whether no two paths tie
+abbrev pub is_untied : Verdict → Bool
+is_untied Verdict.Untied = true
+is_untied Verdict.Tied = false
+is_untied Verdict.Wrong = false
 
--- the routes are those from this place, under this mask too
-abbrev pub Serve : Routes → ℕ → ℕ → Type 0
-Serve t from mask = (t.from ≡ from) × ((t.mask ≡ mask) ⊎ IsUntied t.form)
+-- whether they are so under every mask
+abbrev pub is_for_all_masks : Form → Bool
+is_for_all_masks (Form.Steps steps v) = is_untied v
+is_for_all_masks (Form.Whole tree) = false
+
+-- whether the routes are those from this place, under this mask too
+abbrev pub serve : Routes → ℕ → ℕ → Bool
+serve t from mask = (t.from == from) && ((t.mask == mask) || is_for_all_masks t.form)
 
 -- on routes of the graph, this is the place of the bridge that follows the one at a place on the path to another, under
 -- each mask under which they serve
 abbrev pub LeadBy : Graph → Routes → ℕ → ℕ → ℕ → Type 0
-LeadBy g t me to place = (from mask : ℕ) → AreRoutes g t → Serve t from mask → IsFollowerAt g mask from me to place
-
--- each of these routes is one in the graph
-abbrev pub AreGrown : Graph → List (Vec Routes) → Type 0
-AreGrown g rows = All (λ row. All (AreRoutes g) row.items) rows
+LeadBy g t me to place = (from mask : ℕ) → AreRoutes g t → serve t from mask ≡ true → IsFollowerAt g mask from me to place

@@ -1,8 +1,9 @@
 //! The best paths in one graph, from some of its bridges and under some masks.
-ghost use Rattle.std.specs.Prelude.{◌≡◌, ◌<◌, length, Contains, IfOk, IfSome};
+ghost use Rattle.std.specs.Prelude.{◌≡◌, ◌<◌, ℕ, [], true, false, length, All, IfOk, IsOk, OnOk};
+ghost use Rattle.std.specs.Option.{option_copied};
 ghost use Rattle.spb_types.specs.declared.graph.Graph.{Graph};
 ghost use Rattle.ect_trees.specs.Followers.{IsFollowerAt};
-ghost use Rattle.ect_trees.specs.Routes as routes;
+ghost use Rattle.ect_trees.specs.Forest as forest;
 
 use crate::followers::follower_anew;
 use crate::roads::Roads;
@@ -11,7 +12,7 @@ use spb_types::NoMemory;
 use std::alloc::Global;
 use std::marker::Model;
 
-/// A graph, and best paths in it that are kept, each searched once. Contracts see the graph.
+/// A graph, and best paths in it that are kept, each searched once. Contracts see the graph, and which paths are kept.
 #[derive(Drop)]
 pub struct Forest {
     roads: Roads,
@@ -20,26 +21,33 @@ pub struct Forest {
 }
 
 impl Model for Forest {
-    ghost use Rattle.spb_types.specs.declared.graph.Graph.{Graph};
-    ghost use Rattle.ect_trees.specs.Routes.{AreGrown};
+    ghost use Rattle.std.specs.Prelude.{◌≡◌, length};
+    ghost use Rattle.ect_trees.specs.Forest.{ForestView, AreGrown};
 
-    ghost Value = { Graph };
+    ghost Value = { ForestView };
 
-    ghost view = { λ f. f.roads };
+    ghost view = { λ f. record { graph = f.roads; rows = f.rows.items } };
 
-    ghost invariant = { λ f. AreGrown f.roads f.rows.items };
+    ghost invariant = { λ f. (length f.rows.items ≡ length f.roads.bridges) × AreGrown f.roads f.rows.items };
 }
 
 /// The first of these routes that serve from a place under a mask.
 fn serving(row: &[Routes], from: usize, mask: u8) -> Option<&Routes>
-    ensures { IfSome result (λ t. Contains row.now t.now × routes.Serve t.now from mask) }
+    ensures { option_copied result ≡ forest.serving row.now from mask }
 {
     row.iter().find(|routes| routes.serve(from, mask))
 }
 
-/// No routes, from as many places.
+/// The first that do of those that are kept from that place.
+fn kept(rows: &[Vec<Routes>], from: usize, mask: u8) -> Option<&Routes>
+    ensures { option_copied result ≡ forest.kept rows.now from mask }
+{
+    serving(rows.get(from)?.as_slice(), from, mask)
+}
+
+/// No routes, for as many places.
 fn no_routes(alloc: Global, places: usize) -> Result<Vec<Vec<Routes>>, NoMemory>
-    ensures { IfOk result (λ rows. (g : Graph) → routes.AreGrown g rows.items) }
+    ensures { IfOk result (λ rows. (length rows.items ≡ places) × All (λ row. row.items ≡ []) rows.items) }
 {
     let mut rows = Vec::with_capacity(alloc, places)?;
     for _place in 0..places {
@@ -51,7 +59,8 @@ fn no_routes(alloc: Global, places: usize) -> Result<Vec<Vec<Routes>>, NoMemory>
 impl Forest {
     /// No paths yet, over the roads of a graph.
     pub fn new(alloc: Global, roads: Roads) -> Result<Self, NoMemory>
-        ensures { IfOk result (λ forest. forest ≡ roads) }
+        ensures graph { IfOk result (λ forest. forest.graph ≡ roads) }
+        ensures none { IfOk result (λ new. (from mask : ℕ) → forest.keeps new from mask ≡ false) }
     {
         let rows = no_routes(alloc, roads.graph().bridges.len())?;
         Ok(Forest { roads, rows })
@@ -59,30 +68,19 @@ impl Forest {
 
     /// The roads of the graph.
     pub fn roads(&self) -> &Roads
-        ensures { result.now ≡ self.now }
+        ensures { result.now ≡ self.now.graph }
     {
         &self.roads
     }
 
-    /// The routes that serve from a place under a mask, if some are kept.
-    fn kept(&self, from: usize, mask: u8) -> Option<&Routes>
-        ensures { IfSome result (λ t. routes.AreRoutes self.now t.now × routes.Serve t.now from mask) }
-    {
-        if from < self.rows.len() {
-            serving(self.rows[from].as_slice(), from, mask)
-        } else {
-            None
-        }
-    }
-
-    /// Searches the best paths from the bridge at a place under a mask, unless they are kept, and keeps them.
+    /// Searches the best paths from the bridge at a place under a mask, unless they are kept, and keeps them. Where no
+    /// bridge has that place, nothing is searched.
     pub fn grow(&mut self, alloc: Global, from: usize, mask: u8) -> Result<(), NoMemory>
-        ensures { self.new ≡ self.old }
+        ensures graph { self.new.graph ≡ self.old.graph }
+        ensures kept { OnOk result (from < length self.old.graph.bridges → forest.keeps self.new from mask ≡ true) }
+        ensures still { forest.KeepsStill self.old self.new }
     {
-        if from >= self.rows.len() || from >= self.roads.graph().bridges.len() {
-            return Ok(());
-        }
-        if self.kept(from, mask).is_some() {
+        if from >= self.rows.len() || kept(self.rows.as_slice(), from, mask).is_some() {
             return Ok(());
         }
         let routes = routes_from(alloc, self.roads.mesh(), from, mask)?;
@@ -92,7 +90,7 @@ impl Forest {
 
     /// The place of the bridge that directly follows the one at the place `me` on the best path under a mask from the
     /// bridge at one place to that at another, or the number of bridges where none does (IEEE 802.1aq, 28.5 to 28.8).
-    /// Where the paths aren't kept, they are searched for this answer alone.
+    /// Where the paths are kept, they are read, and it can't fail; else they are searched for this answer alone.
     pub fn follower(
         &self,
         alloc: Global,
@@ -101,12 +99,13 @@ impl Forest {
         me: usize,
         to: usize,
     ) -> Result<usize, NoMemory>
-        requires from { from < length self.now.bridges }
-        requires me { me < length self.now.bridges }
-        ensures { IfOk result (IsFollowerAt self.now mask from me to) }
+        requires from { from < length self.now.graph.bridges }
+        requires me { me < length self.now.graph.bridges }
+        ensures follower { IfOk result (IsFollowerAt self.now.graph mask from me to) }
+        ensures kept { forest.keeps self.now from mask ≡ true → IsOk result }
     {
         let mesh = self.roads.mesh();
-        if let Some(routes) = self.kept(from, mask) {
+        if let Some(routes) = kept(self.rows.as_slice(), from, mask) {
             return Ok(routes.follower(mesh, me, to));
         }
         let bridges = mesh.graph.bridges.as_slice();

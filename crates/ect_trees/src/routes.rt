@@ -1,5 +1,5 @@
 //! The best paths from a bridge, as they are kept.
-ghost use Rattle.std.specs.Prelude.{◌≡◌, ◌<◌, length, IfOk, IsTrue};
+ghost use Rattle.std.specs.Prelude.{◌≡◌, ◌<◌, true, length, IfOk};
 ghost use Rattle.spb_types.specs.Graph.{IsValid};
 ghost use Rattle.ect_trees.specs.Arcs.{AreReady, IsBridgeAt};
 ghost use Rattle.ect_trees.specs.Routes as routes;
@@ -63,6 +63,7 @@ pub(crate) fn routes_from(
     requires ready { AreReady mesh.now }
     requires within { from < length mesh.now.graph.bridges }
     ensures routes { IfOk result (routes.AreRoutes mesh.now.graph) }
+    ensures serve { IfOk result (λ t. routes.serve t from mask ≡ true) }
 {
     let source = mesh.graph.bridges.as_slice()[from].id.system;
     Ok(Routes {
@@ -75,9 +76,9 @@ pub(crate) fn routes_from(
 impl Routes {
     /// Whether these are the best paths from the bridge at this place under this mask.
     pub fn serve(&self, from: usize, mask: u8) -> bool
-        ensures { IsTrue result → routes.Serve self.now from mask }
+        ensures { result ≡ routes.serve self.now from mask }
     {
-        self.from == from && (self.mask == mask || self.form.is_untied())
+        self.from == from && (self.mask == mask || self.form.is_for_all_masks())
     }
 
     /// The place of the bridge that directly follows the one at a place on the path to another, or the number of
@@ -99,8 +100,8 @@ impl Routes {
 
 impl Form {
     /// Whether these are surely the best paths under every mask, since no other is as short in cost and hops.
-    fn is_untied(&self) -> bool
-        ensures { IsTrue result → routes.IsUntied self.now }
+    fn is_for_all_masks(&self) -> bool
+        ensures { result ≡ routes.is_for_all_masks self.now }
     {
         matches!(self, Form::Steps(_, Verdict::Untied))
     }

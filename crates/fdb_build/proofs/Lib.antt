@@ -11,6 +11,7 @@ pub mod FollowerLemmas
 pub mod SourceLemmas
 pub mod ServiceLemmas
 pub mod GrowLemmas
+pub mod KeptLemmas
 pub mod StrangerLemmas
 pub mod PlannedLemmas
 pub mod MakingLemmas

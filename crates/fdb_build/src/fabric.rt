@@ -1,7 +1,9 @@
 //! A graph made ready for the tables of all its bridges.
-ghost use Rattle.std.specs.Prelude.{◌≡◌, ◌≤◌, IfOk};
+ghost use Rattle.std.specs.Prelude.{◌≡◌, ◌<◌, length, IfOk, OnOk};
 ghost use Rattle.std.specs.List.{AllByRecursion};
 ghost use Rattle.spb_types.specs.Graph.{IsValid, IsValidFor};
+ghost use Rattle.ect_trees.specs.Forest.{KeepsStill};
+ghost use Rattle.fdb_build.specs.Fabric as fabric;
 ghost use Rattle.fdb_build.specs.Layout.{IsPlanned};
 ghost use Rattle.fdb_build.specs.Tables.{ArePlans};
 ghost use Rattle.fdb_build.specs.Tables as tables;
@@ -11,13 +13,13 @@ use crate::layout::{Layout, Planned};
 use crate::searches::Grown;
 use crate::tables::tables_with;
 use ect_trees::{Forest, Roads};
-use spb_types::limits::GREATEST_ECT;
 use spb_types::{Graph, NoMemory, SystemId, Tables, VidPlan, ect_mask};
 use std::alloc::Global;
 use std::marker::Model;
 
 /// A graph with its base VIDs, made ready once for the tables of all its bridges: its bridges and its services in
-/// order, and the best paths that were needed so far. Contracts see the graph and the base VIDs.
+/// order, the best paths from each bridge that sends to a service, and those that were needed besides. Contracts see
+/// the graph and the base VIDs.
 #[derive(Drop)]
 pub struct Fabric {
     forest: Forest,
@@ -27,22 +29,26 @@ pub struct Fabric {
 
 impl Model for Fabric {
     ghost use Rattle.spb_types.specs.Graph.{IsValid};
-    ghost use Rattle.fdb_build.specs.Fabric.{FabricView};
+    ghost use Rattle.std.specs.List.{AllByRecursion};
+    ghost use Rattle.fdb_build.specs.Fabric.{FabricView, KeepsSenders};
     ghost use Rattle.fdb_build.specs.Layout.{IsLayoutOf};
     ghost use Rattle.fdb_build.specs.Tables.{ArePlans};
 
     ghost Value = { FabricView };
 
-    ghost view = { λ f. record { graph = f.forest; vids = f.vids.items } };
+    ghost view = { λ f. record { graph = f.forest.graph; vids = f.vids.items } };
 
-    ghost invariant = { λ f. IsValid f.forest × ArePlans f.vids.items × IsLayoutOf f.forest f.vids.items f.layout };
+    ghost invariant = { λ f. IsValid f.forest.graph × ArePlans f.vids.items
+        × IsLayoutOf f.forest.graph f.vids.items f.layout
+        × AllByRecursion (KeepsSenders f.forest) f.layout.plans.items };
 }
 
 /// Searches the best paths from each bridge that sends to a service of a plan, under the mask of the plan.
 fn grow_senders(alloc: Global, forest: &mut Forest, planned: &Planned) -> Result<(), NoMemory>
-    requires low { 1 ≤ planned.now.plan.ect }
-    requires high { planned.now.plan.ect ≤ GREATEST_ECT }
-    ensures { forest.new ≡ forest.old }
+    requires { IsPlanned forest.old.graph planned.now }
+    ensures graph { forest.new.graph ≡ forest.old.graph }
+    ensures kept { OnOk result (fabric.KeepsSenders forest.new planned.now) }
+    ensures still { KeepsStill forest.old forest.new }
 {
     let mask = ect_mask(planned.plan.ect);
     for place in 0..planned.services.sends.len() {
@@ -55,8 +61,9 @@ fn grow_senders(alloc: Global, forest: &mut Forest, planned: &Planned) -> Result
 
 /// The same for each of the plans.
 fn grow_all(alloc: Global, forest: &mut Forest, plans: &[Planned]) -> Result<(), NoMemory>
-    requires { AllByRecursion (IsPlanned forest.old) plans.now }
-    ensures { forest.new ≡ forest.old }
+    requires { AllByRecursion (IsPlanned forest.old.graph) plans.now }
+    ensures graph { forest.new.graph ≡ forest.old.graph }
+    ensures kept { OnOk result (AllByRecursion (fabric.KeepsSenders forest.new) plans.now) }
 {
     for planned in plans {
         grow_senders(alloc, forest, planned)?;
@@ -71,8 +78,11 @@ fn grow_under(
     place: usize,
     plans: &[Planned],
 ) -> Result<(), NoMemory>
-    requires { AllByRecursion (IsPlanned forest.old) plans.now }
-    ensures { forest.new ≡ forest.old }
+    requires { AllByRecursion (IsPlanned forest.old.graph) plans.now }
+    ensures graph { forest.new.graph ≡ forest.old.graph }
+    ensures kept { OnOk result (place < length forest.old.graph.bridges
+        → AllByRecursion (fabric.KeepsFrom forest.new place) plans.now) }
+    ensures still { KeepsStill forest.old forest.new }
 {
     for planned in plans {
         forest.grow(alloc, place, ect_mask(planned.plan.ect))?;

@@ -40,7 +40,7 @@ pub(crate) struct Grown<'a> {
 }
 
 impl<'a> Searches for Grown<'a> {
-    ghost can = { λ grown g mask. grown.forest.now ≡ g };
+    ghost can = { λ grown g mask. grown.forest.now.graph ≡ g };
 
     fn follower(
         self,
