@@ -54,7 +54,7 @@ fresh_before rule up c h fresh =
 
 -- ---- a claim of the own id
 
--- a row that leaves alive what a claim isn't beyond
+-- a rule that leaves alive what a claim isn't beyond
 abbrev LeavesAlive : Rule → Type 0
 LeavesAlive rule = (r : Relation) (held : Option Entry) → is_beyond r ≡ false → IsAlive held → IsAlive (rule r held)
 

@@ -46,7 +46,7 @@ module _ (P : LspId → Entry → Type 0) where
       subst (λ (g : Entry). P c.id g) same (answer (ap is_beyond is ∙ beyond refl))
   heard_by_test rule up c h r false is beyond answer rules e found = rules e found
 
-  -- after a claim, from what answers it and what its row says
+  -- after a claim, from what answers it and what its rule says
   pub all_after_claim : (rule : Rule) (up : PortSet) (c : Claim) (h : Holding) → AllEntries P h.db
       → (is_beyond (relation c.version (version_in (get h.db c.id))) ≡ true → P c.id (answered up h.own c.id (number_of c.version)))
       → ((e : Entry) → rule (relation c.version (version_in (get h.db c.id))) (get h.db c.id) ≡ Some e → P c.id e)

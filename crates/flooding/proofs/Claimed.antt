@@ -60,13 +60,13 @@ pub get-put : (db : Lsps) (id : LspId) (new : Option Entry) → lacks_place db i
 get-put db id None there nothing = nothing refl
 get-put db id (Some e) there nothing = get-put_fit db id e (fit_by (fits db id) there)
 
--- ---- what a row leaves out
+-- ---- what a rule leaves out
 
 mapped_none : (f : Entry → Entry) (o : Option Entry) → option_map f o ≡ None → o ≡ None
 mapped_none f None is = refl
 mapped_none f (Some e) is = absurd (cc)
 
--- a row that says nothing finds nothing held
+-- a rule that says nothing finds nothing held
 abbrev pub SaysOfHeld : Rule → Type 0
 SaysOfHeld rule = (r : Relation) (held : Option Entry) → rule r held ≡ None → held ≡ None
 

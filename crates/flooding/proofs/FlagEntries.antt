@@ -63,7 +63,7 @@ module _ (up : PortSet) where
     without_none : (set : PortSet) (p : ℕ) → has set p ≡ false → has (without_port set port) p ≡ false
     without_none set p h = has-without set port p range.0 range.1 ∙ and_false (has set p) (not (p == port)) h
 
-    -- ---- rows
+    -- ---- rules
 
     acked_flagged : (e : Entry) → HasFlagsAt up e → HasFlagsAt up (acked port e)
     acked_flagged e f = record { srm = without_up e.srm f.srm; ssn = with_up e.ssn f.ssn; absent = λ a p. without_none e.srm p (f.absent a p) }

@@ -1,4 +1,4 @@
--- What hearing a claim comes to, row by row.
+-- What hearing a claim comes to, rule by rule.
 use Rattle.std.specs.Prelude.{◌≡◌, ℕ, Bool, true, false, not, Option, Some, None, Result, Ok, Err, ◌==◌, if◌then◌else◌}
 use Rattle.std.proofs.Common.{refl, sym, ap, subst, ◌∙◌}
 use Rattle.std.proofs.lemmas.Bool.{eqb-true, true≢false}
@@ -27,7 +27,7 @@ use Rattle.flooding.proofs.Changed.{put_changed, change_has_place}
 abbrev pub Rule : Type 0
 Rule = Relation → Option Entry → Option Entry
 
--- the end of a claim, from what its row or its answer makes of what is held
+-- the end of a claim, from what its rule or its answer makes of what is held
 hears_by : (rule : Rule) (up : PortSet) (c : Claim) (h : Holding) (r : Relation) (new : Option Entry) (own : Own) (out : Result (Unit {0}) FloodError) (g : Holding)
     → relation c.version (version_in (get h.db c.id)) ≡ r → heard_by rule up h.own c.id c.version r (get h.db c.id) ≡ new → own_after h.own c.id c.version r ≡ own
     → Hears out (lacks_place h.db c.id new) h (after_entry h c.id new own) g
@@ -48,7 +48,7 @@ hears_answer rule up c h r out g is answers end =
     (ap (λ b. if b then Some (answered up h.own c.id (number_of c.version)) else rule r (get h.db c.id)) answers)
     (ap (λ b. if b then answering h.own c.id (number_of c.version) else h.own) answers) end
 
--- a claim that its row decides
+-- a claim that its rule decides
 hears_rule : (rule : Rule) (up : PortSet) (c : Claim) (h : Holding) (r : Relation) (new : Option Entry) (out : Result (Unit {0}) FloodError) (g : Holding)
     → relation c.version (version_in (get h.db c.id)) ≡ r → is_answered h.own c.id r ≡ false → rule r (get h.db c.id) ≡ new
     → Hears out (lacks_place h.db c.id new) h (after_entry h c.id new h.own) g
@@ -68,14 +68,14 @@ puts_hears (Ok u) id e db new own puts =
 puts_hears (Err Full) id e db new own puts = (ap not puts.0, ap (λ d. holding d own) puts.1)
 puts_hears (Err NoMemory) id e db new own puts = ap (λ d. holding d own) puts
 
--- a row that puts an entry in
+-- a rule that puts an entry in
 pub hears_put : (rule : Rule) (up : PortSet) (c : Claim) (db : Lsps) (own : Own) (r : Relation) (e : Entry) (out : Result (Unit {0}) FloodError) (new : Lsps)
     → relation c.version (version_in (get db c.id)) ≡ r → is_answered own c.id r ≡ false → rule r (get db c.id) ≡ Some e → Puts out c.id e db new
     → Hears out (is_full rule up c (holding db own)) (holding db own) (after_claim rule up c (holding db own)) (holding new own)
 hears_put rule up c db own r e out new is answers entry puts =
     hears_rule rule up c (holding db own) r (Some e) out (holding new own) is answers entry (puts_hears out c.id e db new own puts)
 
--- a row that changes what is held
+-- a rule that changes what is held
 pub hears_change : (rule : Rule) (up : PortSet) (c : Claim) (db : Lsps) (own : Own) (r : Relation) (f : Entry → Entry) (new : Lsps)
     → relation c.version (version_in (get db c.id)) ≡ r → is_answered own c.id r ≡ false → rule r (get db c.id) ≡ option_map f (get db c.id) → new ≡ changed f db c.id
     → (is_full rule up c (holding db own) ≡ false) × (holding new own ≡ after_claim rule up c (holding db own))

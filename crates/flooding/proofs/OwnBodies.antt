@@ -38,7 +38,7 @@ put_body own db id (Some e) new = put_at own db id e (fits db id) new
 
 -- ---- a claim
 
--- a row that keeps the body of what a claim isn't beyond
+-- a rule that keeps the body of what a claim isn't beyond
 abbrev KeepsBody : Rule → Type 0
 KeepsBody rule = (r : Relation) (held : Option Entry) → is_beyond r ≡ false → body_in (rule r held) ≡ body_in held
 

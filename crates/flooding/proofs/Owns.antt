@@ -88,7 +88,7 @@ spared_is_kept : (f : Entry → Entry) (old : Entry) (b : Bool) → IsKept old (
 spared_is_kept f old true kept = record { version = refl; lifetime = refl; body = refl }
 spared_is_kept f old false kept = kept
 
--- a row that keeps what is held of a claim that isn't beyond it
+-- a rule that keeps what is held of a claim that isn't beyond it
 abbrev pub KeepsHeld : Rule → Type 0
 KeepsHeld rule = (r : Relation) (old new : Entry) → is_beyond r ≡ false → rule r (Some old) ≡ Some new → IsKept old new
 

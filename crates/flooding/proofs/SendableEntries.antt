@@ -104,7 +104,7 @@ answered_sendable : (up : PortSet) (own : Own) (id : LspId) (a h : Version) → 
 answered_sendable up own id a h has_body numbered beyond =
     answered_by up own id (number_of a) (is_originated own.system id) (nat_lt (number_of a) last_number) refl has_body (beyond_numbered a h numbered (beyond_is a h (relation a h) refl beyond))
 
--- ---- rows
+-- ---- rules
 
 spared : (f : Entry → Entry) (id : LspId) (e : Entry) (b : Bool) → IsSendable id e → IsSendable id (f e) → IsSendable id (if b then e else f e)
 spared f id e true same changed = same
@@ -114,7 +114,7 @@ spared f id e false same changed = changed
 pub flags_sendable : FlagsKeepSendable
 flags_sendable srm ssn id e s = record { numbered = s.numbered; clean = s.clean; written = s.written; sound = s.sound }
 
--- what a row makes of what is held, by changes that leave all but the flags
+-- what a rule makes of what is held, by changes that leave all but the flags
 mapped_sendable : (f : Entry → Entry) (id : LspId) (held : Option Entry) → ((e : Entry) → held ≡ Some e → IsSendable id e) → ((e : Entry) → IsSendable id e → IsSendable id (f e))
     → (g : Entry) → option_map f held ≡ Some g → IsSendable id g
 mapped_sendable f id None all keeps g is = absurd (cc)

@@ -68,7 +68,7 @@ confused_below a h is =
     let lives = (confused_are_live a h).0 is in
     at_most_dead h (number_of a) (subst (λ n. number_of h ≤ n) (ap number_of lives.second ∙ sym (ap number_of lives.first)) (omega arith))
 
--- the rows, for a claim of a version heard at a port of its Up ports
+-- the rules, for a claim of a version heard at a port of its Up ports
 module _ (up : PortSet) (port : ℕ) (claims : List Claim) (id : LspId) (a : Version) (is_up : has up port ≡ true) (claimed_it : IsClaimed claims id a) where
   -- a change of what is held, unless it is absent
   sparing : (f : Entry → Entry) (e : Entry) (b : Bool) → EntryCertificate port claims up up id (Some e) (Some e) → EntryCertificate port claims up up id (Some e) (Some (f e))
@@ -119,7 +119,7 @@ same_at up port claims db id =
     let step = standing port claims (record { up = up; db = db }) in
     record { rises = step.rises id; kept = λ p u. step.kept id p u }
 
--- a claim that is answered, or that a certified row decides
+-- a claim that is answered, or that a certified rule decides
 claim_by : (rule : Rule) (up : PortSet) (port : ℕ) (c : Claim) (h : Holding) (r : Relation) (b : Bool) → relation c.version (version_in (get h.db c.id)) ≡ r
     → (b ≡ true → is_beyond r ≡ true) → EntryCertificate port (c ∷ []) up up c.id (get h.db c.id) (rule r (get h.db c.id))
     → EntryCertificate port (c ∷ []) up up c.id (get h.db c.id) (if b then Some (answered up h.own c.id (number_of c.version)) else rule r (get h.db c.id))

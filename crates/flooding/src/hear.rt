@@ -121,7 +121,7 @@ fn store(
     )
 }
 
-/// The neighbour at a port has the LSP at a place, and is told so. Nothing happens where it is absent.
+/// The neighbour at a port has the LSP at a place, and gets an acknowledgement. Nothing happens where it is absent.
 fn acknowledge_held(db: &mut Database, port: u8, place: Option<usize>)
     requires low { 1 ≤ port }
     requires high { port ≤ MOST_PORTS }

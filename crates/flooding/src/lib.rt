@@ -1,7 +1,7 @@
 //! Flooding (ISO/IEC 10589, 7.3.15): what an LSP changes where it is heard, which LSPs are to be sent at a port, and
 //! what a system originates.
 //!
-//! An LSP that is heard takes one binary search, or one comparison where its place was told, and a second search where
+//! An LSP that is heard takes one binary search, or one comparison where its place was given, and a second search where
 //! it is put into the database or purged; its body is copied once, and only where it is stored. Originating takes two,
 //! and copies the own body once. No call copies the database.
 #![tactic(auto)]

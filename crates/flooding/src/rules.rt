@@ -6,8 +6,8 @@ ghost use Rattle.lsdb.specs.Database.{changed_if_held};
 use lsdb::Database;
 use spb_types::limits::MOST_PORTS;
 
-/// The neighbour at a port, 1 to 32, needn't be sent the LSP at a place, and is told so: its SRM flag is cleared there
-/// and its SSN flag set. Nothing happens where there is none.
+/// The neighbour at a port, 1 to 32, needn't be sent the LSP at a place, and gets an acknowledgement: the SRM flag is
+/// cleared there and the SSN flag set. Nothing happens where there is none.
 pub fn acknowledge(db: &mut Database, port: u8, place: Option<usize>)
     requires low { 1 ≤ port }
     requires high { port ≤ MOST_PORTS }

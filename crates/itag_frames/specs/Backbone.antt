@@ -33,7 +33,7 @@ i_tag isid = 0x88 ∷ 0xe7 ∷ to_be_bytes w32 (isid.value % 16777216)
 abbrev pub backbone_bytes : Mac → Mac → Vid → Isid → List ℕ → List ℕ
 backbone_bytes da sa vid isid customer = da.bytes ++ sa.bytes ++ b_tag vid ++ i_tag isid ++ customer
 
--- ---- how it is read; priorities, the DEI bits, the UCA bit and what is reserved are passed over
+-- ---- how it is read; priorities, the DEI bits, the UCA bit and what is reserved are ignored
 
 -- a VID that a frame can have: 0 and 4095 are reserved (IEEE 802.1Q, 9.6)
 abbrev pub is_vid : ℕ → Bool

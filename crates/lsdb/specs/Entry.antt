@@ -114,7 +114,7 @@ flooded up version lifetime body = made version lifetime body up no_ports
 abbrev pub absent_with_ssn : ℕ → Entry
 absent_with_ssn port = made Absent 0 [] no_ports (with_port no_ports port)
 
--- the neighbour at a port has the LSP, and is told so
+-- the neighbour at a port has the LSP, and gets an acknowledgement
 abbrev pub acked : ℕ → Entry → Entry
 acked port e = record e { srm = without_port e.srm port; ssn = with_port e.ssn port }
 

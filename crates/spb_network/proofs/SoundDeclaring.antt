@@ -194,7 +194,7 @@ past_dead : (links : List DeclaredLink) → is_live links (length links) ≡ fal
 past_dead [] = refl
 past_dead (h ∷ links) = past_dead links
 
--- a link that isn't up lights no port
+-- a link that isn't up gives no port carrier
 no_carrier_way : (s : State) (l : DeclaredLink) (i p : ℕ) (o : Option LaneId) → Sound s.world → l.live ≡ false → lane_out (links_of s) i p ≡ None → lane_out (links_of s ++ l ∷ []) i p ≡ o → false ≡ carriers_by (links_of s ++ l ∷ []) o
 no_carrier_way s l i p None sound dead none out = refl
 no_carrier_way s l i p (Some lane) sound dead none out = by (got_push (links_of s) l lane.link leads.link leads.there)
