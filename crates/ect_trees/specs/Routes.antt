@@ -50,4 +50,5 @@ serve t from mask = (t.from == from) && ((t.mask == mask) || is_for_all_masks t.
 -- on routes of the graph, this is the place of the bridge that follows the one at a place on the path to another, under
 -- each mask under which they serve
 abbrev pub LeadBy : Graph → Routes → ℕ → ℕ → ℕ → Type 0
-LeadBy g t me to place = (from mask : ℕ) → AreRoutes g t → serve t from mask ≡ true → IsFollowerAt g mask from me to place
+LeadBy g t me to place = (from mask : ℕ)
+    → AreRoutes g t → serve t from mask ≡ true → IsFollowerAt g mask from me to place
