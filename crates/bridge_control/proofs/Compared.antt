@@ -1,12 +1,26 @@
 -- LSPs that are held beside those that were read: the same, one by one.
-use Rattle.std.proofs.Common.{◌≡◌, ℕ, zero, suc, ◌+◌, ◌<◌, Bool, true, ◌&&◌, eqb-true, eq-eqb, subst, List, [], ◌∷◌, ◌++◌, map, length, take, slice_get, get_or, refl, sym, ap, ◌∙◌, Option, Some, None, arith, add-one}
-use Rattle.std.specs.Prelude.{◌==◌}
-use Rattle.std.specs.Option.{option_to_list}
+use Rattle.std.proofs.Common.{◌≡◌, ℕ, zero, suc, ◌+◌, ◌<◌, Bool, true, ◌&&◌, eqb-true, eq-eqb, subst, List, [], ◌∷◌, ◌++◌, map, length, length-append, take, drop, false, slice_get, get_or, refl, sym, ap, ◌∙◌, Option, Some, None, arith, add-one}
+use Rattle.std.specs.Prelude.{◌==◌, ◌≤◌, if◌then◌else◌}
+use Rattle.std.specs.Option.{option_map, option_to_list}
 use Rattle.std.specs.List.{filter_map}
-use Rattle.std.proofs.lemmas.List.{append-nil}
+use Rattle.std.specs.FinMap.{entries}
+use Rattle.std.proofs.lemmas.List.{append-nil, map-append, length-map, length-take-le}
+use Rattle.std.proofs.lemmas.List.Elements.{filter_map-append}
+use Rattle.std.proofs.lemmas.Option.{same_Some}
 use Rattle.std.proofs.lemmas.Bool.{and_parts}
+use Rattle.spb_types.specs.declared.address.LspId.{LspId}
+use Rattle.spb_types.specs.declared.address.SystemId.{SystemId}
 use Rattle.spb_types.specs.declared.service.VidPlan.{VidPlan}
-use Rattle.bridge_control.proofs.OwnTables.{read_more}
+use Rattle.lsdb.specs.declared.version.Version.{Version}
+use Rattle.lsdb.specs.declared.version.Version.TheVariants.{Absent, Live, Dead}
+use Rattle.lsdb.specs.Entry.{Entry}
+use Rattle.lsdb.specs.Database.{Lsps}
+use Rattle.flooding.specs.Own.{is_originated}
+use Rattle.spb_content.specs.declared.content.Content.{Content}
+use Rattle.bridge_api.specs.Tables.{live_content, read_entry}
+use Rattle.bridge_control.specs.declared.shared_reading.LiveLsp.{LiveLsp}
+use Rattle.bridge_control.specs.Reading.{live_body, live_lsp, live_lsps, copied, said_in, content_of}
+use Rattle.bridge_control.proofs.OwnTables.{read_more, read_one}
 
 -- one LSP more is what its entry is read as
 map_next : {X Y : Type 0} (g : X → Y) (xs : List X) (n : ℕ) (d : X) → n < length xs → map g (take (suc n) xs) ≡ map g (take n xs) ++ g (get_or xs n d) ∷ []
@@ -25,6 +39,81 @@ pub none_more : {X Y : Type 0} (f : X → Option Y) (es : List X) (k : ℕ) (e :
     → old ≡ filter_map f (take k es) → f e ≡ None → old ≡ filter_map f (take (k + 1) es)
 none_more f es k e old is was none =
     read_more f es k e old old is was (sym (append-nil old) ∙ ap (λ (o : Option _). old ++ option_to_list o) (sym none))
+
+-- ---- where lists go on differently
+
+-- there is an entry at a place within
+pub there : {X : Type 0} (es : List X) (k : ℕ) → k < length es → slice_get es k ≡ None → ⊥
+there [] k low none = absurd (omega (arith, low))
+there (x ∷ es) zero low none = absurd cc
+there (x ∷ es) (suc k) low none = there es k (omega (arith, low)) none
+
+cut_at : {X : Type 0} (es : List X) (k : ℕ) (e : X) → slice_get es k ≡ Some e → es ≡ take k es ++ e ∷ drop (suc k) es
+cut_at [] k e is = absurd cc
+cut_at (x ∷ es) zero e is = ap (λ z. z ∷ es) (same_Some x e is)
+cut_at (x ∷ es) (suc k) e is = ap (λ l. x ∷ l) (cut_at es k e is)
+
+first_read : {X Y : Type 0} (f : X → Option Y) (x : X) (xs : List X) → filter_map f (x ∷ xs) ≡ option_to_list (f x) ++ filter_map f xs
+first_read f x xs = filter_map-append f (x ∷ []) xs ∙ ap (λ (ys : List _). ys ++ filter_map f xs) (read_one f x)
+
+-- what is read of the entry at a place stands behind what is read of those before it
+read_there : {X Y : Type 0} (f : X → Option Y) (es : List X) (k : ℕ) (e : X) (y : Y) → slice_get es k ≡ Some e → f e ≡ Some y
+    → filter_map f es ≡ filter_map f (take k es) ++ y ∷ filter_map f (drop (suc k) es)
+read_there f es k e y is reads =
+    let rest : List _ = drop (suc k) es in
+    ap (filter_map f) (cut_at es k e is) ∙ (filter_map-append f (take k es) (e ∷ rest)
+    ∙ ap (λ (ys : List _). filter_map f (take k es) ++ ys) (first_read f e rest ∙ ap (λ (o : Option _). option_to_list o ++ filter_map f rest) reads))
+
+goes_on : {Y Z : Type 0} (g : Z → Y) (xs : List Z) (n : ℕ) (y : Y) (rest : List Y) → map g xs ≡ map g (take n xs) ++ y ∷ rest → (n < length xs) × ((d : Z) → g (get_or xs n d) ≡ y)
+goes_on g [] n y rest same = absurd (omega (arith, ap length same, length-append (map g (take n [])) (y ∷ rest)))
+goes_on g (x ∷ xs) zero y rest same = (omega arith, λ d. ap (λ l. get_or l 0 (g x)) same)
+goes_on g (x ∷ xs) (suc n) y rest same = let on = goes_on g xs n y rest (ap (drop 1) same) in (omega (arith, on.0), on.1)
+
+-- where n were read before place k and were the same, what is read there is the next, if all are the same
+pub next_same : {X Y Z : Type 0} (f : X → Option Y) (g : Z → Y) (es : List X) (xs : List Z) (k n : ℕ) (e : X) (y : Y) → slice_get es k ≡ Some e → f e ≡ Some y
+    → map g (take n xs) ≡ filter_map f (take k es) → filter_map f es ≡ map g xs → (n < length xs) × ((d : Z) → g (get_or xs n d) ≡ y)
+next_same f g es xs k n e y is reads was same =
+    let rest : List _ = filter_map f (drop (suc k) es) in
+    goes_on g xs n y rest (sym same ∙ (read_there f es k e y is reads ∙ ap (λ (ys : List _). ys ++ y ∷ rest) (sym was)))
+
+-- where n were read and were the same, and these are all, they are as many
+pub as_many : {X Y Z : Type 0} (f : X → Option Y) (g : Z → Y) (es : List X) (xs : List Z) (n : ℕ) → n ≤ length xs → map g (take n xs) ≡ filter_map f es → filter_map f es ≡ map g xs → n ≡ length xs
+as_many f g es xs n few was same =
+    omega (arith, few, ap length (was ∙ same), length-map (take n xs) g, length-map xs g, length-take-le n xs few)
+
+-- ---- what live LSPs say
+
+abbrev said_of : SystemId × List ℕ → SystemId × Content
+said_of lsp = said_in lsp.0 lsp.1
+
+say : (held : LspId × Entry) → read_entry held ≡ option_map said_of (live_lsp held)
+say held = by (is_originated held.0.system held.0) held.1.version
+  where
+    by : (b : Bool) (version : Version) → (if b then option_map (λ c. (held.0.system, c)) (live_content version held.1.body) else None) ≡ option_map said_of (if b then live_body version held.0.system held.1.body else None)
+    by false version = refl
+    by true Absent = refl
+    by true (Live seq sum) = refl
+    by true (Dead seq) = refl
+
+listed : (o : Option (SystemId × List ℕ)) → option_to_list (option_map said_of o) ≡ map said_of (option_to_list o)
+listed None = refl
+listed (Some lsp) = refl
+
+all_say : (es : List (LspId × Entry)) → filter_map read_entry es ≡ map said_of (filter_map live_lsp es)
+all_say [] = refl
+all_say (e ∷ es) =
+    first_read read_entry e es
+    ∙ ((λ i. option_to_list (say e i) ++ all_say es i)
+    ∙ (ap (λ ys. ys ++ map said_of (filter_map live_lsp es)) (listed (live_lsp e))
+    ∙ (sym (map-append said_of (option_to_list (live_lsp e)) (filter_map live_lsp es)) ∙ ap (map said_of) (sym (first_read live_lsp e es)))))
+
+copies_say : (lsps : List LiveLsp) → map content_of lsps ≡ map said_of (map copied lsps)
+copies_say [] = refl
+copies_say (lsp ∷ lsps) = ap (λ l. content_of lsp ∷ l) (copies_say lsps)
+
+-- copies of the live LSPs say what is read of what is held
+pub copies_are_read : (db : Lsps) (lsps : List LiveLsp) → map copied lsps ≡ live_lsps db → map content_of lsps ≡ filter_map read_entry (entries db)
+copies_are_read db lsps same = copies_say lsps ∙ (ap (map said_of) same ∙ sym (all_say (entries db)))
 
 -- ---- base VIDs that compare as equal are the same
 

@@ -50,7 +50,7 @@ one_listed : {Y : Type 0} (o : Option Y) → cons_option o [] ≡ option_to_list
 one_listed None = refl
 one_listed (Some y) = refl
 
-read_one : {X Y : Type 0} (f : X → Option Y) (x : X) → filter_map f (x ∷ []) ≡ option_to_list (f x)
+pub read_one : {X Y : Type 0} (f : X → Option Y) (x : X) → filter_map f (x ∷ []) ≡ option_to_list (f x)
 read_one f x = one_listed (f x)
 
 pub read_more : {X Y : Type 0} (f : X → Option Y) (es : List X) (k : ℕ) (e : X) (old new : List Y) → slice_get es k ≡ Some e

@@ -1,5 +1,5 @@
 //! What bridges that hold the same LSPs can share: the graph that they read, made ready for their tables.
-ghost use Rattle.std.specs.Prelude.{◌≡◌, ◌++◌, map, true, false, None, Some, IfOk, OnOk, IsTrue};
+ghost use Rattle.std.specs.Prelude.{◌≡◌, ◌++◌, map, true, false, None, Some, Decides, IfOk, OnOk, IsTrue};
 ghost use Rattle.std.specs.List.{filter_map};
 ghost use Rattle.std.specs.Option.{option_to_list};
 ghost use Rattle.std.specs.FinMap.{entries};
@@ -70,23 +70,23 @@ impl Reading {
 
 /// Whether an LSP that is held is live, and is one that its system originates. Nothing else is read.
 fn is_read(held: &Held) -> bool
-    ensures read { result ≡ true → read.read_entry (keyed held.now)
-        ≡ Some (reading.said_in held.now.id.system held.now.body) }
-    ensures other { result ≡ false → read.read_entry (keyed held.now) ≡ None }
+    ensures read { result ≡ true → reading.live_lsp (keyed held.now) ≡ Some (held.now.id.system, held.now.body) }
+    ensures other { result ≡ false → reading.live_lsp (keyed held.now) ≡ None }
 {
     is_originated(&held.id) && matches!(held.version, Version::Live { .. })
 }
 
-/// Whether an LSP that is held is this one.
+/// Whether an LSP that is held is read, and is this one.
 fn is_same(held: &Held, lsp: &LiveLsp) -> bool
-    ensures { IsTrue result → read.read_entry (keyed held.now) ≡ Some (reading.content_of lsp.now) }
+    ensures { Decides result (reading.live_lsp (keyed held.now) ≡ Some (reading.copied lsp.now)) }
 {
     is_read(held) && held.id.system == lsp.system && held.body.as_slice() == lsp.body.as_slice()
 }
 
 /// Whether just these LSPs are read of what is held. They are compared, and not read.
 fn are_held(db: &Database, lsps: &[LiveLsp]) -> bool
-    ensures { IsTrue result → filter_map read.read_entry (entries db.now) ≡ map reading.content_of lsps.now }
+    ensures held { Decides result (reading.live_lsps db.now ≡ map reading.copied lsps.now) }
+    ensures read { IsTrue result → filter_map read.read_entry (entries db.now) ≡ map reading.content_of lsps.now }
 {
     let mut next = 0;
     for place in 0..db.len() {
@@ -105,15 +105,15 @@ fn are_held(db: &Database, lsps: &[LiveLsp]) -> bool
 
 /// Whether two lists of base VIDs are the same.
 fn are_same(vids: &[VidPlan], others: &[VidPlan]) -> bool
-    ensures { IsTrue result → vids.now ≡ others.now }
+    ensures { Decides result (vids.now ≡ others.now) }
 {
     vids == others
 }
 
 /// Puts a copy of an LSP that is held behind the others, if it is one that is read.
 fn push_lsp(alloc: Global, lsps: &mut Vec<LiveLsp>, held: &Held) -> Result<(), NoMemory>
-    ensures { OnOk result (map reading.content_of lsps.new.items
-        ≡ map reading.content_of lsps.old.items ++ option_to_list (read.read_entry (keyed held.now))) }
+    ensures { OnOk result (map reading.copied lsps.new.items
+        ≡ map reading.copied lsps.old.items ++ option_to_list (reading.live_lsp (keyed held.now))) }
 {
     if is_read(held) {
         lsps.push(LiveLsp {
@@ -126,7 +126,8 @@ fn push_lsp(alloc: Global, lsps: &mut Vec<LiveLsp>, held: &Held) -> Result<(), N
 
 /// Copies of the LSPs that are read, in order of their ids.
 fn read_lsps(alloc: Global, db: &Database) -> Result<Vec<LiveLsp>, NoMemory>
-    ensures { IfOk result (λ lsps.
+    ensures held { IfOk result (λ lsps. map reading.copied lsps.items ≡ reading.live_lsps db.now) }
+    ensures read { IfOk result (λ lsps.
         map reading.content_of lsps.items ≡ filter_map read.read_entry (entries db.now)) }
 {
     let mut lsps = Vec::new(alloc);

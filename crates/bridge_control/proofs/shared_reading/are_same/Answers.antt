@@ -3,4 +3,4 @@ use Rattle.bridge_control.proofs.Compared.{same_plan}
 use Rattle.bridge_control.proofs.shared_reading.are_same.Goals as goal
 
 pub returns : goal.returns
-returns c = λ is. (slice_eq-Decides same_plan c.args.vids.now c.args.others.now c.eq.result c.eq.ensures).0 is
+returns c = slice_eq-Decides same_plan c.args.vids.now c.args.others.now c.eq.result c.eq.ensures

@@ -4,9 +4,9 @@ use Rattle.std.specs.Global.{Vec}
 use Rattle.std.specs.List.{filter_map}
 use Rattle.std.specs.FinMap.{entries, len-entries}
 use Rattle.lsdb.specs.Database.{keyed}
-use Rattle.bridge_api.specs.Graph.{read_entry}
-use Rattle.bridge_control.specs.Reading.{content_of}
+use Rattle.bridge_control.specs.Reading.{copied, live_lsp}
 use Rattle.bridge_control.specs.declared.shared_reading.LiveLsp.{LiveLsp}
+use Rattle.bridge_control.proofs.Compared.{copies_are_read}
 use Rattle.bridge_control.proofs.OwnTables.{read_more, read_past}
 use Rattle.bridge_control.proofs.shared_reading.read_lsps.Goals as goal
 use Rattle.bridge_control.proofs.shared_reading.read_lsps.Goals.{in-Some+in_ok-push_lsp, in_default}
@@ -16,16 +16,19 @@ loop-place-preserved c =
     let es = entries c.args.db.now in
     elim c.match-at.branch [
       | in-Some+in_ok-push_lsp w ↦
-          let put = ap (λ (v : Vec LiveLsp). map content_of v.items) w.lsps-is ∙ w.in_ok-push_lsp.ensures in
-          read_more read_entry es c.loop-place.place (keyed w.in-Some.held.now) _ _ (sym w.in-Some.ensures.entry) c.loop-place.invariant put
+          let put = ap (λ (v : Vec LiveLsp). map copied v.items) w.lsps-is ∙ w.in_ok-push_lsp.ensures in
+          read_more live_lsp es c.loop-place.place (keyed w.in-Some.held.now) _ _ (sym w.in-Some.ensures.entry) c.loop-place.invariant put
       | in_default w ↦
-          let put = ap (λ (v : Vec LiveLsp). map content_of v.items) w.lsps-is in
-          read_past read_entry es c.loop-place.place _ _ (sym w.in_default.ensures.entry) c.loop-place.invariant put
+          let put = ap (λ (v : Vec LiveLsp). map copied v.items) w.lsps-is in
+          read_past live_lsp es c.loop-place.place _ _ (sym w.in_default.ensures.entry) c.loop-place.invariant put
     ]
 
-pub returns : goal.returns
-returns c =
+pub returns-clause-held : goal.returns-clause-held
+returns-clause-held c =
     let es = entries c.args.db.now in
     let len_is = c.len-place-end.ensures.len ∙ len-entries c.args.db.now in
     let all : length es ≤ c.loop-place.place = omega arith in
-    c.loop-place.invariant ∙ ap (filter_map read_entry) (take_all c.loop-place.place es all)
+    c.loop-place.invariant ∙ ap (filter_map live_lsp) (take_all c.loop-place.place es all)
+
+pub returns-clause-read : goal.returns-clause-read
+returns-clause-read c = copies_are_read c.args.db.now c.loop-place.lsps.items (returns-clause-held c)

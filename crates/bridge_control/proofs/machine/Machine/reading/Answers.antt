@@ -9,5 +9,5 @@ use Rattle.bridge_control.proofs.machine.Machine.reading.Goals as goal
 pub returns-clause-valid : goal.returns-clause-valid
 returns-clause-valid c =
     let v = view_of c.args.self.now in
-    let said = ap (map content_of) (sym c.as_slice-2.ensures.value) ∙ sym (c.are_held.ensures c.if-are_held.true) in
+    let said = ap (map content_of) (sym c.as_slice-2.ensures.value) ∙ sym (c.are_held.ensures.read c.if-are_held.true) in
     subst (λ (f : FabricView). IsValidFor f.graph v.id.system) c.reading.view_is (c.reading.invariant.valid_for v.id.system (read_own_ports v _ c.requires said))
