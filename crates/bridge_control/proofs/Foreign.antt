@@ -29,9 +29,9 @@ other_id id system other is =
     let same : same_system id.system system ≡ true = subst (λ (x : LspId). same_system x.system system ≡ true) is ((bytes_eq-Decides system.mac.bytes system.mac.bytes).1 refl) in
     absurd cc
 
-placed_by : (h : Holding) (db : Lsps) (lacks : Bool) → (if lacks then h else record { db = db; own = h.own }).own ≡ h.own
-placed_by h db true = refl
-placed_by h db false = refl
+put_by : (h : Holding) (db : Lsps) (lacks : Bool) → (if lacks then h else record { db = db; own = h.own }).own ≡ h.own
+put_by h db true = refl
+put_by h db false = refl
 
 -- a claim of another system isn't answered
 own_stays : (rule : Rule) (up : PortSet) (c : Claim) (h : Holding) → same_system c.id.system h.own.system ≡ false → (after_claim rule up c h).own ≡ h.own
@@ -39,7 +39,7 @@ unfolding after_claim
 own_stays rule up c h other =
     let r = relation c.version (version_in (get h.db c.id)) in
     let new = heard_of rule up c h in
-    ap (λ (b : Bool). (after_entry h c.id new (if b && is_beyond r then answering h.own c.id (number_of c.version) else h.own)).own) other ∙ placed_by h (put_if_it_fits h.db c.id new) (lacks_place h.db c.id new)
+    ap (λ (b : Bool). (after_entry h c.id new (if b && is_beyond r then answering h.own c.id (number_of c.version) else h.own)).own) other ∙ put_by h (put_if_it_fits h.db c.id new) (lacks_place h.db c.id new)
 
 -- the machine that heard it originates nothing
 pub heard_still : (m : Machine) (up : PortSet) (p : ℕ) (l : LspValue) (db : Lsps) (own : Own) (drops : Drops) → IsReady m → same_system l.id.system m.id.system ≡ false → holding db own ≡ hear_lsp_of up p l (holding m.db m.own)

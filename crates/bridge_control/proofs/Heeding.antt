@@ -48,13 +48,13 @@ inserted_held db id e x held = ⊎_elim
     (λ apart. ap is_some (get-insert_other db id e x apart) ∙ held)
     (same_or_not x id)
 
-placed_by : (fit : Bool) (db : Lsps) (id : LspId) (e : Entry) (x : LspId) → IsHeld db x → IsHeld (if fit then insert db id e else db) x
-placed_by true db id e x held = inserted_held db id e x held
-placed_by false db id e x held = held
+put_by : (fit : Bool) (db : Lsps) (id : LspId) (e : Entry) (x : LspId) → IsHeld db x → IsHeld (if fit then insert db id e else db) x
+put_by true db id e x held = inserted_held db id e x held
+put_by false db id e x held = held
 
 put_held : (db : Lsps) (id : LspId) (o : Option Entry) (x : LspId) → IsHeld db x → IsHeld (put_if_it_fits db id o) x
 put_held db id None x held = held
-put_held db id (Some e) x held = placed_by (fits db id) db id e x held
+put_held db id (Some e) x held = put_by (fits db id) db id e x held
 
 entry_by : (lacks : Bool) (h : Holding) (id : LspId) (new : Option Entry) (own : Own) (x : LspId) → IsHeld h.db x → IsHeld (if lacks then h else record { db = put_if_it_fits h.db id new; own = own }).db x
 entry_by true h id new own x held = held

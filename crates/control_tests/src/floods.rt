@@ -157,8 +157,8 @@ fn an_older_lsp_gets_what_is_held_and_a_confused_one_ends_it(rt: HostRuntime) {
     check_heard(&rt, rt.alloc(), Some(live(7, 9)), (6, 30, 9), lived);
     let died = row(dead(7), 0, 1, 0b011, 0b100);
     check_heard(&rt, rt.alloc(), Some(dead(7)), (7, 30, 9), died);
-    let ended = row(dead(7), 0, 1, 0b111, 0);
-    check_heard(&rt, rt.alloc(), Some(live(7, 9)), (7, 30, 5), ended);
+    let purged = row(dead(7), 0, 1, 0b111, 0);
+    check_heard(&rt, rt.alloc(), Some(live(7, 9)), (7, 30, 5), purged);
 }
 
 /// The own LSP renewed, and a dead one, each sent to all. The body is 01 09 01 07.
@@ -190,10 +190,10 @@ fn claims_of_the_own_lsp_are_answered(rt: HostRuntime) {
 fn claims_of_own_ids_are_answered(rt: HostRuntime) {
     let (own, other) = (lsp_id(1, 0), lsp_id(1, 5));
     let (lived, last) = (Some(live(7, 9)), u32::MAX);
-    let ended = (dead_at(9), false);
-    check_answered(&rt, rt.alloc(), lived, other, (9, 30, 5), ended);
-    let ended = (dead_at(last), false);
-    check_answered(&rt, rt.alloc(), None, other, (last, 30, 5), ended);
+    let purged = (dead_at(9), false);
+    check_answered(&rt, rt.alloc(), lived, other, (9, 30, 5), purged);
+    let purged = (dead_at(last), false);
+    check_answered(&rt, rt.alloc(), None, other, (last, 30, 5), purged);
     let equal = (row(live(7, 9), 500, 3, 0b001, 0b110), false);
     check_answered(&rt, rt.alloc(), lived, own, (7, 30, 9), equal);
     let older = (row(live(7, 9), 500, 3, 0b011, 0b100), false);

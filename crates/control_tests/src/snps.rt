@@ -197,8 +197,8 @@ fn an_entry_of_an_own_id_is_answered(rt: HostRuntime) {
     check_heard(&rt, alloc, before, mine, (4, 600, 7), next);
     let spent = row(dead(last), 0, 0b111, 0);
     check_heard(&rt, alloc, before, mine, (last, 600, 7), spent);
-    let ended = row(dead(9), 0, 0b111, 0);
-    check_heard(&rt, alloc, before, other, (9, 600, 7), ended);
+    let purged = row(dead(9), 0, 0b111, 0);
+    check_heard(&rt, alloc, before, other, (9, 600, 7), purged);
     let older = row(live(4, 9), 1198, 0b011, 0b100);
     check_heard(&rt, alloc, before, mine, (3, 600, 7), older);
 }

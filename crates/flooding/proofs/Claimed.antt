@@ -33,12 +33,12 @@ db_at : (h : Holding) (id : LspId) (new : Option Entry) (own : Own) → (after_e
 db_at h id None own = refl
 db_at h id (Some e) own = db_by h id e own (fits h.db id) refl
 
--- the database after a claim has what was heard placed under its id
+-- the database after a claim has what was heard under its id
 pub db_after : (rule : Rule) (up : PortSet) (c : Claim) (h : Holding) → (after_claim rule up c h).db ≡ put_if_it_fits h.db c.id (heard_of rule up c h)
 unfolding after_claim
 db_after rule up c h = db_at h c.id (heard_of rule up c h) (own_after h.own c.id c.version (relation c.version (version_in (get h.db c.id))))
 
--- ---- what is placed
+-- ---- what is put in
 
 get-put_by : (db : Lsps) (id : LspId) (e : Entry) (x : LspId) (b : Bool) → x ≢ id → get (if b then insert db id e else db) x ≡ get db x
 get-put_by db id e x true apart = get-insert_other db id e x apart
@@ -48,7 +48,7 @@ pub get-put_other : (db : Lsps) (id : LspId) (new : Option Entry) (x : LspId) �
 get-put_other db id None x apart = refl
 get-put_other db id (Some e) x apart = get-put_by db id e x (fits db id) apart
 
--- an entry is placed where there is a place for it
+-- an entry is put in where there is a place for it
 pub get-put_fit : (db : Lsps) (id : LspId) (e : Entry) → fits db id ≡ true → get (put_if_it_fits db id (Some e)) id ≡ Some e
 get-put_fit db id e there = ap (λ b. get (if b then insert db id e else db) id) there ∙ get-insert_same db id e
 

@@ -26,7 +26,7 @@ use Rattle.flooding.proofs.Heard.{Rule}
 use Rattle.flooding.proofs.Claimed.{heard_of, db_after, others_stand}
 use Rattle.flooding.proofs.Owns.{origination_leaves_others}
 
--- ---- what is placed
+-- ---- what is put in
 
 put_at : (own : Own) (db : Lsps) (id : LspId) (e : Entry) (b : Bool) → IsOwnBody own (get db id) (Some e) → IsOwnBody own (get db id) (get (if b then insert db id e else db) id)
 put_at own db id e true new = subst (IsOwnBody own (get db id)) (sym (get-insert_same db id e)) new

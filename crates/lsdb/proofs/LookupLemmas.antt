@@ -89,7 +89,7 @@ fits-each f db id =
     let is : is_some (get (each f db) id) ≡ is_some (get db id) = ap is_some (get-each f db id) ∙ is_some-option_map (f id) (get db id) in
     λ i. is i || nat_lt (len-each f db i) MOST_LSPS
 
--- an entry changed twice, and an entry that is placed where the id is held
+-- an entry changed twice, and an entry that is put where the id is held
 pub insert-insert : (db : Lsps) (id : LspId) (e f : Entry) → insert (insert db id e) id f ≡ insert db id f
 insert-insert db id e f = same_map ids_total ids_tied (insert (insert db id e) id f) (insert db id f) (λ x. ⊎_elim
     (λ here. subst (λ (y : LspId). get (insert (insert db id e) id f) y ≡ get (insert db id f) y) (sym here) (get-insert_same (insert db id e) id f ∙ sym (get-insert_same db id f)))

@@ -323,8 +323,8 @@ past_keyed (g ∷ hs) zero past = absurd (omega arith)
 past_keyed (g ∷ hs) (suc i) past = past_keyed hs i (omega arith)
 
 -- what stands at a place
-placed_map : (hs : List Held) → AreSorted hs → (i : ℕ) (h : Held) → i < length hs → h ≡ get_or hs i h → (db : Lsps) → from_sorted (map keyed hs) ≡ db → slice_get (entries db) i ≡ Some (keyed h)
-placed_map hs s i h within here db view =
+keyed_there : (hs : List Held) → AreSorted hs → (i : ℕ) (h : Held) → i < length hs → h ≡ get_or hs i h → (db : Lsps) → from_sorted (map keyed hs) ≡ db → slice_get (entries db) i ≡ Some (keyed h)
+keyed_there hs s i h within here db view =
     ap (λ (m : Lsps). slice_get (entries m) i) (sym view) ∙ ap (λ es. slice_get es i) (entries_map hs s) ∙ get_keyed hs i h within here
 
 pub held_at : (hs ls : List Held) → ls ≡ hs → (id : LspId) (i : ℕ) → IsAt ls id i → IsSound hs → (h : Held) → h ≡ get_or hs i h → (db : Lsps) → from_sorted (map keyed hs) ≡ db → IsHeldAt db id i
@@ -334,7 +334,7 @@ held_at hs ls same id i at sound h here db view =
     record {
       entry = entry_of h;
       held = found_map hs ls same id i at sound h here db view;
-      stands = placed_map hs sound.sorted i h there.within here db view ∙ ap (λ (x : LspId). Some (x, entry_of h)) named;
+      stands = keyed_there hs sound.sorted i h there.within here db view ∙ ap (λ (x : LspId). Some (x, entry_of h)) named;
     }
 
 pub version_held : (hs ls : List Held) → ls ≡ hs → (id : LspId) (i : ℕ) → IsAt ls id i → IsSound hs → (h : Held) → h ≡ get_or hs i h → (db : Lsps) → from_sorted (map keyed hs) ≡ db → h.version ≡ version_at db id
@@ -357,7 +357,7 @@ place_sound hs i within sound f h new here is keeps = write_sound hs hs refl h.i
 
 pub place_map : (hs : List Held) (i : ℕ) → i < length hs → IsSound hs → (f : Entry → Entry) (h new : Held) → h ≡ get_or hs i h → new ≡ with_entry f h → (db : Lsps) → from_sorted (map keyed hs) ≡ db → from_sorted {R = id_cmp} (map keyed (set hs i new)) ≡ changed_at_place f db i
 place_map hs i within sound f h new here is db view =
-    write_map hs hs refl h.id i (at_itself hs i h within here) sound f h new here is db view ∙ sym (ap (changed_under f db) (placed_map hs sound.sorted i h within here db view))
+    write_map hs hs refl h.id i (at_itself hs i h within here) sound f h new here is db view ∙ sym (ap (changed_under f db) (keyed_there hs sound.sorted i h within here db view))
 
 pub past_map : (hs : List Held) (i : ℕ) → length hs ≤ i → IsSound hs → (f : Entry → Entry) (db : Lsps) → from_sorted (map keyed hs) ≡ db → db ≡ changed_at_place f db i
 past_map hs i past sound f db view =

@@ -22,7 +22,7 @@ nil_from (x ∷ xs) e = absurd (omega arith)
 pub no_psnps : (me : SystemId) (port : ℕ) (db : Lsps) → snp_entries_where (has_ssn_at port) db ≡ [] → map psnp_bytes (psnps_of me port db) ≡ []
 no_psnps me port db none =
     ap (λ (es : List SnpEntry). map psnp_bytes (map (psnp_for me) (chunks 90 es))) none
-    ∙ ap (λ (parts : List (List SnpEntry)). map psnp_bytes (map (psnp_for me) parts)) (chunks_none 90)
+    ∙ ap (λ (list : List (List SnpEntry)). map psnp_bytes (map (psnp_for me) list)) (chunks_none 90)
 
 same_pairs : (port : ℕ) (es : List (LspId × Entry)) → map (λ e. snp_entry_of e.0 e.1) (filter (λ e. has_ssn_at port e.1) es) ≡ [] → map (λ (e : LspId × Entry). (e.0, ssn_cleared port e.1)) es ≡ es
 same_pairs port [] none = refl

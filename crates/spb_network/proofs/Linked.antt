@@ -54,9 +54,9 @@ met_here s k dir l v calm at live at_v =
     subst (λ (x : BridgeView). IsMet s x (near_end dir l).port (far_end dir l).bridge (far_end dir l).port) (one_view s (near_end dir l).bridge met.v v met.here at_v)
     (record { up = met.up; w = met.w; there = met.there; kept = met.neighbour })
 
-one_way : (s : State) (k : ℕ) (dir : Dir) (l : DeclaredLink) (v w : BridgeView) (id : LspId) → IsSoundState s → IsCalm s → slice_get (links_of s) k ≡ Some l → l.live ≡ true → slice_get s.views (near_end dir l).bridge ≡ Some v → slice_get s.views (far_end dir l).bridge ≡ Some w
+one_direction : (s : State) (k : ℕ) (dir : Dir) (l : DeclaredLink) (v w : BridgeView) (id : LspId) → IsSoundState s → IsCalm s → slice_get (links_of s) k ≡ Some l → l.live ≡ true → slice_get s.views (near_end dir l).bridge ≡ Some v → slice_get s.views (far_end dir l).bridge ≡ Some w
     → IsAtMost (version_at v.database id) (version_at w.database id)
-one_way s k dir l v w id sound calm at live at_v at_w =
+one_direction s k dir l v w id sound calm at live at_v at_w =
     let p : ℕ = (near_end dir l).port in
     behind v p w id (calm.flags (near_end dir l).bridge v at_v) ((sound.agree k dir l v w at at_v at_w).ready id (met_here s k dir l v calm at live at_v).up)
 
@@ -64,9 +64,9 @@ one_way s k dir l v w id sound calm at live at_v at_w =
 pub linked_agree : (s : State) (k : ℕ) (dir : Dir) (l : DeclaredLink) (v w : BridgeView) (id : LspId) → IsSoundState s → IsCalm s → slice_get (links_of s) k ≡ Some l → l.live ≡ true → slice_get s.views (near_end dir l).bridge ≡ Some v → slice_get s.views (far_end dir l).bridge ≡ Some w
     → version_at v.database id ≡ version_at w.database id
 linked_agree s k Ab l v w id sound calm at live at_v at_w =
-    both_ways (version_at v.database id) (version_at w.database id) (one_way s k Ab l v w id sound calm at live at_v at_w) (one_way s k Ba l w v id sound calm at live at_w at_v)
+    both_ways (version_at v.database id) (version_at w.database id) (one_direction s k Ab l v w id sound calm at live at_v at_w) (one_direction s k Ba l w v id sound calm at live at_w at_v)
 linked_agree s k Ba l v w id sound calm at live at_v at_w =
-    both_ways (version_at v.database id) (version_at w.database id) (one_way s k Ba l v w id sound calm at live at_v at_w) (one_way s k Ab l w v id sound calm at live at_w at_v)
+    both_ways (version_at v.database id) (version_at w.database id) (one_direction s k Ba l v w id sound calm at live at_v at_w) (one_direction s k Ab l w v id sound calm at live at_w at_v)
 
 -- ---- there is a bridge at each place where a link ends
 

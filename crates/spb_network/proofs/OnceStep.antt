@@ -266,7 +266,7 @@ module _ (start : State) (j : Journey) (is : IsJourney start j) (served : ℕ �
 
   -- it doesn't go back
   not_back : has row q ≡ false
-  not_back = second_not l.live (has row q) no_way d.live
+  not_back = second_not l.live (has row q) not_sent d.live
     where
       leads_back : leads_over w j (turned dir) l ≡ (l.live && has row q)
       leads_back = ap (λ (e : LinkEnd). l.live && has (group_in (wired_tables w e.bridge).group j.vid j.to) e.port) (near-turned dir l)
@@ -276,8 +276,8 @@ module _ (start : State) (j : Journey) (is : IsJourney start j) (served : ℕ �
           let near : served (near_end (turned dir) l).bridge ≡ true = under.order k (turned dir) l there (leads_back ∙ e) (ap (λ (x : LinkEnd). served x.bridge) (far-turned dir l) ∙ facts.1) in
           false≢true (sym facts.2 ∙ (ap (λ (x : LinkEnd). served x.bridge) (sym (near-turned dir l)) ∙ near))
 
-      no_way : (l.live && has row q) ≡ false
-      no_way = not_true (l.live && has row q) returns
+      not_sent : (l.live && has row q) ≡ false
+      not_sent = not_true (l.live && has row q) returns
 
   -- ---- the lanes
 

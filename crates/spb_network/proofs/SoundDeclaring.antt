@@ -195,9 +195,9 @@ past_dead [] = refl
 past_dead (h ∷ links) = past_dead links
 
 -- a link that isn't up gives no port carrier
-no_carrier_way : (s : State) (l : DeclaredLink) (i p : ℕ) (o : Option LaneId) → Sound s.world → l.live ≡ false → lane_out (links_of s) i p ≡ None → lane_out (links_of s ++ l ∷ []) i p ≡ o → false ≡ carriers_by (links_of s ++ l ∷ []) o
-no_carrier_way s l i p None sound dead none out = refl
-no_carrier_way s l i p (Some lane) sound dead none out = by (got_push (links_of s) l lane.link leads.link leads.there)
+no_carrier_lane : (s : State) (l : DeclaredLink) (i p : ℕ) (o : Option LaneId) → Sound s.world → l.live ≡ false → lane_out (links_of s) i p ≡ None → lane_out (links_of s ++ l ∷ []) i p ≡ o → false ≡ carriers_by (links_of s ++ l ∷ []) o
+no_carrier_lane s l i p None sound dead none out = refl
+no_carrier_lane s l i p (Some lane) sound dead none out = by (got_push (links_of s) l lane.link leads.link leads.there)
   where
     leads : LeadsFrom (links_of s ++ l ∷ []) i p lane.link lane.dir
     leads = lane_leads (links_of s ++ l ∷ []) i p lane out
@@ -211,7 +211,7 @@ no_carrier_way s l i p (Some lane) sound dead none out = by (got_push (links_of 
     by (inr new) = sym (live-push (links_of s) l lane.link dead ∙ (ap (is_live (links_of s)) new.0 ∙ past_dead (links_of s)))
 
 carriers_link_by : (s : State) (l : DeclaredLink) (i p : ℕ) (o : Option LaneId) → Sound s.world → l.live ≡ false → lane_out (links_of s) i p ≡ o → carriers_by (links_of s) o ≡ ends_live_link (links_of s ++ l ∷ []) i p
-carriers_link_by s l i p None sound dead out = no_carrier_way s l i p (lane_out (links_of s ++ l ∷ []) i p) sound dead out refl
+carriers_link_by s l i p None sound dead out = no_carrier_lane s l i p (lane_out (links_of s ++ l ∷ []) i p) sound dead out refl
 carriers_link_by s l i p (Some lane) sound dead out = sym (live-push (links_of s) l lane.link dead) ∙ ap (carriers_by (links_of s ++ l ∷ [])) (sym (out-push (links_of s) l i p lane out))
 
 carriers_link : (s : State) (l : DeclaredLink) → Sound s.world → l.live ≡ false → HaveCarrierOfLinks (links_of s) s.views → HaveCarrierOfLinks (links_of s ++ l ∷ []) s.views

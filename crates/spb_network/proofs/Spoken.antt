@@ -88,15 +88,15 @@ pub record IsOver (s : State) (i : ℕ) (n : Neighbour) : Type 0 where
   pub near : (near_end dir link).bridge ≡ i
   pub is : n ≡ entry_over s.world.bridges dir link
 
-record HasWay (links : List DeclaredLink) (i p : ℕ) : Type 0 where
+record HasLiveLane (links : List DeclaredLink) (i p : ℕ) : Type 0 where
   lane : LaneId
   leads : LeadsFrom links i p lane.link lane.dir
   live : leads.link.live ≡ true
 
-has_way : (links : List DeclaredLink) (i p : ℕ) → ends_live_link links i p ≡ true → HasWay links i p
-has_way links i p h = by (lane_out links i p) refl h
+has_live_lane : (links : List DeclaredLink) (i p : ℕ) → ends_live_link links i p ≡ true → HasLiveLane links i p
+has_live_lane links i p h = by (lane_out links i p) refl h
   where
-    by : (o : Option LaneId) → lane_out links i p ≡ o → option_map_or (λ lane. is_live links lane.link) o false ≡ true → HasWay links i p
+    by : (o : Option LaneId) → lane_out links i p ≡ o → option_map_or (λ lane. is_live links lane.link) o false ≡ true → HasLiveLane links i p
     by None out live = absurd cc
     by (Some lane) out live =
         let leads : LeadsFrom links i p lane.link lane.dir = lane_leads links i p lane out in
@@ -104,20 +104,20 @@ has_way links i p h = by (lane_out links i p) refl h
 
 said_over : (s : State) (i : ℕ) (v : BridgeView) (n : Neighbour) → IsSoundState s → IsCalm s → slice_get s.views i ≡ Some v → IsUpNeighbour v n → IsOver s i n
 said_over s i v n sound calm at said =
-    let way : HasWay (links_of s) i n.port = has_way (links_of s) i n.port (calm.met.others i v n.port at said.up) in
-    let k : ℕ = way.lane.link in
-    let dir : Dir = way.lane.dir in
-    let l : DeclaredLink = way.leads.link in
-    let at_v : slice_get s.views (near_end dir l).bridge ≡ Some v = ap (slice_get s.views) way.leads.bridge ∙ at in
-    let over : IsUpNeighbour v (entry_over s.world.bridges dir l) = link_said s k dir l v sound calm way.leads.there way.live at_v in
+    let found : HasLiveLane (links_of s) i n.port = has_live_lane (links_of s) i n.port (calm.met.others i v n.port at said.up) in
+    let k : ℕ = found.lane.link in
+    let dir : Dir = found.lane.dir in
+    let l : DeclaredLink = found.leads.link in
+    let at_v : slice_get s.views (near_end dir l).bridge ≡ Some v = ap (slice_get s.views) found.leads.bridge ∙ at in
+    let over : IsUpNeighbour v (entry_over s.world.bridges dir l) = link_said s k dir l v sound calm found.leads.there found.live at_v in
     record {
       place = k;
       dir = dir;
       link = l;
-      there = way.leads.there;
-      live = way.live;
-      near = way.leads.bridge;
-      is = same_neighbour v n (entry_over s.world.bridges dir l) said over (sym way.leads.port);
+      there = found.leads.there;
+      live = found.live;
+      near = found.leads.bridge;
+      is = same_neighbour v n (entry_over s.world.bridges dir l) said over (sym found.leads.port);
     }
   where
     same_neighbour : (v : BridgeView) (n m : Neighbour) → IsUpNeighbour v n → IsUpNeighbour v m → n.port ≡ m.port → n ≡ m
