@@ -49,21 +49,17 @@ impl Model for Reading {
 }
 
 impl Reading {
-    /// Searches the best paths from a bridge, from which its unicast rows are read, unless they are kept.
-    pub fn grow_from(&mut self, alloc: Global, me: SystemId) -> Result<(), NoMemory>
-        ensures { self.new ≡ self.old }
-    {
-        self.fabric.grow_from(alloc, me)
-    }
-
-    /// The tables of a bridge in the graph.
-    pub fn tables(&self, alloc: Global, me: SystemId) -> Result<Tables, NoMemory>
-        requires { IsValidFor self.now.graph me }
-        ensures { IfOk result (λ t. t ≡ record {
-          unicast = unicast_rows self.now.graph me self.now.vids;
-          group = group_rows self.now.graph me self.now.vids;
+    /// The tables of a bridge in the graph. The best paths from the bridge, from which its unicast rows are read, are
+    /// searched, unless they are kept.
+    pub fn tables(&mut self, alloc: Global, me: SystemId) -> Result<Tables, NoMemory>
+        requires { IsValidFor self.old.graph me }
+        ensures same { self.new ≡ self.old }
+        ensures tables { IfOk result (λ t. t ≡ record {
+          unicast = unicast_rows self.old.graph me self.old.vids;
+          group = group_rows self.old.graph me self.old.vids;
         }) }
     {
+        self.fabric.grow_from(alloc, me)?;
         self.fabric.tables(alloc, me)
     }
 }

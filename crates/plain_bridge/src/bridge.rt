@@ -68,7 +68,6 @@ impl PlainBridge {
     {
         let me = self.control.id().system;
         let mut reading = self.control.reading(shared.take())?;
-        reading.grow_from(self.alloc, me)?;
         let tables = reading.tables(self.alloc, me);
         shared.keep(reading);
         tables
