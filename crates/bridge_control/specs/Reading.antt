@@ -23,7 +23,7 @@ live_body Absent system body = None
 live_body (Live seq sum) system body = Some (system, body)
 live_body (Dead seq) system body = None
 
--- of what is held, the LSPs that systems originate: pseudonode and number are 0
+-- of what is held, the live LSPs that systems originate: pseudonode and number are 0
 abbrev pub live_lsp : LspId × Entry → Option (SystemId × List ℕ)
 live_lsp held =
     if is_originated held.0.system held.0

@@ -5,10 +5,6 @@ use Rattle.ect_trees.specs.Forest.{ForestView, KeepsStill}
 use Rattle.fdb_build.specs.declared.layout.Planned.{Planned}
 use Rattle.fdb_build.specs.Fabric.{KeepsFrom, KeepsSenders}
 
-pub all_weaker : {X : Type 0} (P Q : X → Type 0) → ((x : X) → P x → Q x) → (xs : List X) → AllByRecursion P xs → AllByRecursion Q xs
-all_weaker P Q less [] all = tt
-all_weaker P Q less (x ∷ xs) all = (less x all.0, all_weaker P Q less xs all.1)
-
 pub one_more : {X : Type 0} (P : X → Type 0) (xs : List X) (i : ℕ) (x : X) → i < length xs → x ≡ get_or xs i x → AllByRecursion P (take i xs) → P x → AllByRecursion P (take (i + 1) xs)
 one_more P [] i x within is all p = absurd (omega (arith, within))
 one_more P (y ∷ ys) zero x within is all p = (subst P is p, tt)
