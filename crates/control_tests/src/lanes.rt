@@ -3,7 +3,6 @@ use crate::fixtures::{are_bytes, are_equal};
 use link_model::{DoubleError, Lane, LaneId, Lanes, NoFrame, Pushed};
 use shared_frames::Frame;
 use spb_types::Dir;
-use spb_types::limits::MOST_FRAMES;
 use std::alloc::Global;
 use std::process::Abort;
 
@@ -93,12 +92,12 @@ fn check_pushed(rt: &impl Abort, alloc: Global, lane: &mut Lane, byte: u8, expec
 #[test]
 fn the_frame_after_1024_and_a_copy_after_them_are_lost(rt: HostRuntime) {
     let mut lane = Lane::new(rt.alloc());
-    for _ in 0..MOST_FRAMES {
+    for _ in 0..1_024 {
         check_pushed(&rt, rt.alloc(), &mut lane, 1, Pushed::Kept);
     }
     check_pushed(&rt, rt.alloc(), &mut lane, 2, Pushed::Dropped);
     check_doubled(&rt, &mut lane, 0, Ok(()));
-    check_len(&rt, &lane, MOST_FRAMES);
+    check_len(&rt, &lane, 1_024);
 }
 
 /// Both directions of the second link.

@@ -1,5 +1,7 @@
 //! The laws of flooding. Each is the contract of a function that does nothing.
+ghost use Rattle.std.specs.Prelude.{◌≡◌};
 ghost use Rattle.flooding.specs.Laws.{HearingLspIsCertified, HearingEntryIsCertified, AnsweringIsCertified, OriginationIsCertified, OthersStand, LspStands, EntryStands, FullStands, FittingIsNotFull, HeardIsAtMostHeld, StoredFlags, FloodedFlags, AskedFlags, AckedFlags, ClearedFlags, OfferedFlags, FlaggedFlags, SetSrmFlags, ClearedPortFlags, AgedFlags, ExpiredFlags, SpentFlags, OwnStands, OwnIsNotSpent, LspLeavesOwn, EntryLeavesOwn, LspLeavesOwnBody, EntryLeavesOwnBody, OriginationLeavesOwnBody, OriginatedStands, OriginationLeavesOthers, OriginationLeavesOwn, OriginationIsNotSpent, IdsNameLsps, SentIsHeld, SentIsRead, ReadIsWhole, ClaimIsNumbered, LspKeepsSendable, EntryKeepsSendable, OriginationKeepsSendable, AgeingKeepsSendable, FlagsKeepSendable, LspKeepsFlags, EntryKeepsFlags, OriginationKeepsFlags};
+ghost use Rattle.flooding.specs.declared.origination.TheConstants.{MAX_AGE};
 
 /// What is heard at an Up port, answered and originated is a certified step.
 pub fn flooding_is_certified()
@@ -83,4 +85,9 @@ pub fn flags_stand_at_up_ports()
     ensures lsp { LspKeepsFlags }
     ensures entry { EntryKeepsFlags }
     ensures origination { OriginationKeepsFlags }
+{}
+
+/// An own LSP lives 1,200 seconds when it is originated (ISO/IEC 10589, 7.3.5).
+pub fn own_lsps_live_1200_seconds()
+    ensures { MAX_AGE ≡ 1200 }
 {}

@@ -1,6 +1,8 @@
-//! The laws of TLVs: what is written is read, and what is read is written to the same bytes. Each is the contract of a
-//! function that does nothing.
+//! The laws of TLVs: what is written is read, what is read is written to the same bytes, and the codes are those of the
+//! standards. Each is the contract of a function that does nothing.
+ghost use Rattle.std.specs.Prelude.{◌≡◌};
 ghost use Rattle.spb_tlvs.specs.RoundTrip as law;
+ghost use Rattle.spb_tlvs.specs.declared.codes.TheConstants.{AREA_ADDRESSES, EXTENDED_IS_REACHABILITY, LSP_ENTRIES, MT_CAPABILITY, PROTOCOLS_SUPPORTED, THREE_WAY_ADJACENCY};
 
 /// A TLV 240 that was written is read as what was written.
 pub fn three_way_again()
@@ -48,4 +50,14 @@ pub fn tlvs_in_order()
     ensures elsewhere { law.TlvElsewhere }
     ensures join { law.TlvsJoin }
     ensures whole { law.TlvIsWhole }
+{}
+
+/// The codes of TLVs (ISO/IEC 10589, 9.7 to 9.12; RFC 1195, 5.3; RFC 5303, 3; RFC 5305, 3; RFC 6329, 14).
+pub fn codes_are_these()
+    ensures area_addresses { AREA_ADDRESSES ≡ 1 }
+    ensures lsp_entries { LSP_ENTRIES ≡ 9 }
+    ensures extended_is_reachability { EXTENDED_IS_REACHABILITY ≡ 22 }
+    ensures protocols_supported { PROTOCOLS_SUPPORTED ≡ 129 }
+    ensures mt_capability { MT_CAPABILITY ≡ 144 }
+    ensures three_way_adjacency { THREE_WAY_ADJACENCY ≡ 240 }
 {}

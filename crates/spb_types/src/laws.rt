@@ -1,6 +1,10 @@
-//! The laws of sets of ports and of group addresses. Each is the contract of a function that does nothing.
+//! The laws of sets of ports, of group addresses, of the limits and of level 1. Each is the contract of a function that
+//! does nothing.
+ghost use Rattle.std.specs.Prelude.{◌≡◌};
 ghost use Rattle.spb_types.specs.PortLaws.{NoneIsInTheEmpty, PutInIsThere, PuttingInLeavesOthers, TakenOutIsGone, TakingOutLeavesOthers, MembersArePorts, SamePortsAreOneSet};
 ghost use Rattle.spb_types.specs.Address.{GroupAddressesDiffer};
+ghost use Rattle.spb_types.specs.declared.level.TheConstants.{LEVEL_1};
+ghost use Rattle.spb_types.specs.declared.limits.TheConstants.{GREATEST_ECT, GREATEST_ISID, GREATEST_METRIC, GREATEST_VID, MOST_ADDRESSES, MOST_BRIDGES, MOST_CUSTOMER_PORTS, MOST_DELIVERIES, MOST_DELIVERIES_TOGETHER, MOST_FRAMES, MOST_GRAPH_BRIDGES, MOST_ISIDS, MOST_LINKS, MOST_LSPS, MOST_PORTS, MOST_ROUNDS, MOST_SERVICES, MOST_VIDS, SOURCE_IDS};
 
 /// A port that is put into a set is there, one that is taken out isn't, and every other is where it was. The empty set
 /// has no port, what is in a set is 1 to 32, and sets with the same ports are one.
@@ -17,4 +21,32 @@ pub fn sets_of_ports_are_sets()
 /// A group address tells its source and its I-SID, where these have 20 and 24 bits.
 pub fn group_addresses_differ()
     ensures { GroupAddressesDiffer }
+{}
+
+/// The limits of what is declared, held and played, and the greatest numbers that the formats have room for.
+pub fn limits_are_these()
+    ensures bridges { MOST_BRIDGES ≡ 96 }
+    ensures links { MOST_LINKS ≡ 400 }
+    ensures ports { MOST_PORTS ≡ 32 }
+    ensures customer_ports { MOST_CUSTOMER_PORTS ≡ 64 }
+    ensures isids { MOST_ISIDS ≡ 60 }
+    ensures services { MOST_SERVICES ≡ 4096 }
+    ensures addresses { MOST_ADDRESSES ≡ 1024 }
+    ensures vids { MOST_VIDS ≡ 16 }
+    ensures greatest_vid { GREATEST_VID ≡ 4094 }
+    ensures greatest_ect { GREATEST_ECT ≡ 16 }
+    ensures greatest_isid { GREATEST_ISID ≡ 16777215 }
+    ensures source_ids { SOURCE_IDS ≡ 1048576 }
+    ensures greatest_metric { GREATEST_METRIC ≡ 16777214 }
+    ensures graph_bridges { MOST_GRAPH_BRIDGES ≡ 65535 }
+    ensures lsps { MOST_LSPS ≡ 2048 }
+    ensures frames { MOST_FRAMES ≡ 1024 }
+    ensures rounds { MOST_ROUNDS ≡ 20000 }
+    ensures deliveries { MOST_DELIVERIES ≡ 1000000 }
+    ensures deliveries_together { MOST_DELIVERIES_TOGETHER ≡ 100000000 }
+{}
+
+/// Level 1 is the number 1 (ISO/IEC 10589, 9.7 and 9.8).
+pub fn level_1_is_1()
+    ensures { LEVEL_1 ≡ 1 }
 {}

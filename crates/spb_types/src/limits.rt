@@ -1,4 +1,5 @@
-//! The limits of what is declared, held and played. Code, contracts and definitions read the same constants.
+//! The limits of what is declared, held and played. Code, contracts and definitions read the same constants, and
+//! [`crate::laws::limits_are_these`] says each number.
 
 /// The most bridges of a script.
 pub const MOST_BRIDGES: usize = 96;
