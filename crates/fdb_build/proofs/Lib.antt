@@ -7,6 +7,7 @@ pub mod PortSets
 pub mod GroupTests
 pub mod GroupLemmas
 pub mod SetLemmas
+pub mod FoundLemmas
 pub mod FollowerLemmas
 pub mod SourceLemmas
 pub mod ServiceLemmas

@@ -1,10 +1,11 @@
 -- The members of the services of a VID, one after another.
-use Rattle.std.specs.Prelude.{ℕ, zero, suc, replicate, ◌≡◌, ◌<◌, ◌+◌, ◌==◌, Bool, true, false, not, ◌&&◌, ◌||◌, if◌then◌else◌, List, [], ◌∷◌, ◌++◌, length, take, Some, None, Result, Ok, Err, OnOk}
+use Rattle.std.specs.Prelude.{ℕ, zero, suc, replicate, ◌≡◌, ◌<◌, ◌+◌, ◌-◌, ◌==◌, Bool, true, false, not, ◌&&◌, ◌||◌, if◌then◌else◌, List, [], ◌∷◌, ◌++◌, length, take, Some, None, Result, Ok, Err, OnOk, slice_get}
 use Rattle.std.specs.Global.{Vec}
 use Rattle.std.specs.List.{list_any}
 use Rattle.std.specs.Ordering.{nat_cmp, is_eq}
 use Rattle.std.specs.declared.cmp.Ordering.{Ordering}
 use Rattle.std.proofs.Common.{arith, refl, sym, ap, ◌∙◌, subst, get_or, true≢false, Less, Equal, Greater, eq-eqb, eqb-true}
+use Rattle.std.proofs.lemmas.Bool.{and_parts}
 use Rattle.std.proofs.lemmas.Cmp.{nat_cmp_total, tied_itself}
 use Rattle.std.proofs.Math.ListN.{set}
 use Rattle.std.proofs.lemmas.List.{length-map, length-set, length-replicate, map-append, map-set, replicate_more, get_or-map, get_or-set_same, get_or-set_other}
@@ -14,7 +15,7 @@ use Rattle.spb_types.specs.declared.graph.Member.{Member}
 use Rattle.spb_types.specs.declared.service.Isid.{Isid}
 use Rattle.spb_types.specs.declared.service.Vid.{Vid}
 use Rattle.ect_trees.proofs.Placing.{nat_tied}
-use Rattle.fdb_build.specs.Making.{isid_cmp, list_at, lists_in, sent_at, same_isid, same_place, place_of, is_at, is_member_at, Added, AreServicesOf}
+use Rattle.fdb_build.specs.Making.{isid_cmp, list_at, lists_in, sent_at, same_isid, same_place, place_of, is_at, is_member_at, Added, AreServicesOf, AreSendersReceivers}
 use Rattle.fdb_build.specs.declared.services.Services.{Services}
 use Rattle.fdb_build.proofs.PortSets.{same_truth}
 
@@ -80,6 +81,39 @@ added_nowhere g vid m s nowhere = record {
       sym (ap (λ o. list_any (same_place place) (list_at isid_cmp s.receivers isid) || (is_at place o && ((m.isid.value == isid.value) && (m.vid.value == vid.value)))) nowhere ∙ or_false (list_any (same_place place) (list_at isid_cmp s.receivers isid)));
 }
 
+-- a place that is read in a list is in it
+any_at : (place : ℕ) (l : List ℕ) (i : ℕ) → is_at place (slice_get l i) ≡ true → list_any (same_place place) l ≡ true
+any_at place [] i h = absurd (true≢false (sym h))
+any_at place (x ∷ l) zero h = ap (λ b. b || list_any (same_place place) l) h
+any_at place (x ∷ l) (suc i) h = or_right (x == place) (list_any (same_place place) l) (any_at place l i h)
+  where
+    or_right : (b c : Bool) → c ≡ true → (b || c) ≡ true
+    or_right true c k = refl
+    or_right false c k = k
+
+or_known : (b c : Bool) → (c ≡ true → b ≡ true) → b ≡ (b || c)
+or_known true c h = refl
+or_known false true h = h refl
+or_known false false h = refl
+
+-- the member was added before
+pub added_again : (g : Graph) (vid : Vid) (m : Member) (s : Services) (at : ℕ) → AreSendersReceivers s → Some at ≡ place_of g m.system
+    → is_at at (slice_get (list_at isid_cmp s.receivers m.isid) (length (list_at isid_cmp s.receivers m.isid) - 1)) ≡ true → Added g vid m s s
+added_again g vid m s at both there last = record {
+  places = refl;
+  sends = λ isid place. or_known (list_any (same_isid isid) (sent_at s place)) (is_member_at g isid vid place m) (λ h. both isid place ∙ receives isid place h);
+  receives = λ isid place. or_known (list_any (same_place place) (list_at isid_cmp s.receivers isid)) (is_member_at g isid vid place m) (receives isid place);
+}
+  where
+    receives : (isid : Isid) (place : ℕ) → is_member_at g isid vid place m ≡ true → list_any (same_place place) (list_at isid_cmp s.receivers isid) ≡ true
+    receives isid place h =
+        let tests = and_parts (is_at place (place_of g m.system)) ((m.isid.value == isid.value) && (m.vid.value == vid.value)) h in
+        let here : at ≡ place = eqb-true at place (ap (is_at place) there ∙ tests.0) in
+        let number : m.isid.value ≡ isid.value = eqb-true m.isid.value isid.value (and_parts (m.isid.value == isid.value) (m.vid.value == vid.value) tests.1).0 in
+        let same : m.isid ≡ isid = λ i. record { value = number i } in
+        let known : list_any (same_place at) (list_at isid_cmp s.receivers m.isid) ≡ true = any_at at (list_at isid_cmp s.receivers m.isid) (length (list_at isid_cmp s.receivers m.isid) - 1) last in
+        subst (λ p. list_any (same_place p) (list_at isid_cmp s.receivers isid) ≡ true) here (subst (λ (n : Isid). list_any (same_place at) (list_at isid_cmp s.receivers n) ≡ true) same known)
+
 abbrev list_items : Vec Isid → List Isid
 list_items v = v.items
 
@@ -127,6 +161,9 @@ services_none g vid s sends none = record {
   sends = λ isid place. ap (list_any (same_isid isid)) (ap (λ lists. get_or lists place []) sends ∙ empty_list (length g.bridges) place);
   receives = λ isid place. ap (list_any (same_place place)) (none isid);
 }
+
+pub services_both : (g : Graph) (ms : List Member) (vid : Vid) (s : Services) → AreServicesOf g ms vid s → AreSendersReceivers s
+services_both g ms vid s h isid place = h.sends isid place ∙ sym (h.receives isid place)
 
 -- one member more
 pub services_more : (g : Graph) (ms : List Member) (vid : Vid) (old new : Services) (i : ℕ) (m : Member) → i < length ms → (d : Member) → m ≡ get_or ms i d

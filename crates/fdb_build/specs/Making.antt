@@ -1,6 +1,6 @@
 -- How group rows are made: the members of each service of a VID, the ports behind `me` on the tree of each source, and
 -- rows to which ports are added.
-use Rattle.std.specs.Prelude.{◌≡◌, ℕ, List, [], length, map, Bool, true, false, ◌&&◌, ◌||◌, ◌==◌, ◌<◌, ◌^◌, Option, Some, None, unwrap_or, position, bit_or}
+use Rattle.std.specs.Prelude.{◌≡◌, ⊤, ℕ, List, [], length, map, Bool, true, false, ◌&&◌, ◌||◌, ◌==◌, ◌<◌, ◌^◌, Option, Some, None, unwrap_or, position, bit_or, if◌then◌else◌}
 use Rattle.std.specs.List.{list_any, slice_index_or}
 use Rattle.std.specs.BTreeMap.{BTreeMap, get}
 use Rattle.std.specs.Str.{bytes_eq}
@@ -23,6 +23,7 @@ use Rattle.spb_types.specs.declared.tables.GroupRow.{GroupRow}
 use Rattle.fdb_build.specs.Tables.{mac_cmp}
 use Rattle.fdb_build.specs.Groups.{port_after}
 use Rattle.fdb_build.specs.declared.services.Services.{Services}
+use Rattle.fdb_build.specs.declared.sets.Found.{Found}
 
 -- ---- sets of ports
 
@@ -93,6 +94,11 @@ abbrev pub sent_by : Services → Option ℕ → List Isid
 sent_by s None = []
 sent_by s (Some place) = sent_at s place
 
+-- whoever sends to a service receives from it, and the other way round
+abbrev pub AreSendersReceivers : Services → Type 0
+AreSendersReceivers s = (isid : Isid) (place : ℕ)
+    → list_any (same_isid isid) (sent_at s place) ≡ list_any (same_place place) (list_at isid_cmp s.receivers isid)
+
 -- a member was added to the services in a VID, if it is in that VID
 pub record Added (g : Graph) (vid : Vid) (m : Member) (old new : Services) : Type 0 where
   pub places : length new.sends.items ≡ length old.sends.items
@@ -115,6 +121,29 @@ pub record AreServicesOf (g : Graph) (ms : List Member) (vid : Vid) (s : Service
 abbrev pub sets_from : Graph → SystemId → VidPlan → SystemId → List PortSet
 sets_from g me plan source =
     map (λ b. port_set (port_after g (mask_of plan.ect) source b.id.system me)) g.bridges
+
+-- the bridge at a place of the graph
+abbrev pub source_at : Graph → ℕ → GraphBridge
+source_at g place = slice_index_or g.bridges place
+    (record {
+      id = record { priority = 0; system = record { mac = record { bytes = [] } } };
+      source = record { value = 0 };
+    })
+
+-- what was found last at a place is the set there of the source and the ECT algorithm for which it was asked
+abbrev pub IsFound : Graph → SystemId → ℕ → Option Found → Type 0
+IsFound g me place None = ⊤
+IsFound g me place (Some f) = (plan : VidPlan) → f.ect ≡ plan.ect
+    → f.ports ≡ set_at (sets_from g me plan (source_at g f.source).id.system) place
+
+-- so it is at each place
+abbrev pub AreFound : Graph → SystemId → List (Option Found) → Type 0
+AreFound g me found = (place : ℕ) → IsFound g me place (slice_index_or found place None)
+
+-- the set that was found for this source under this plan
+abbrev pub found_for : VidPlan → ℕ → Option Found → Option PortSet
+found_for plan source None = None
+found_for plan source (Some f) = if f.source == source && f.ect == plan.ect then Some f.ports else None
 
 -- ---- rows that grow
 
@@ -149,14 +178,6 @@ is_from_bridge g me plan s b mac p =
 -- whether one of these bridges does
 abbrev pub is_from_some : Graph → SystemId → VidPlan → Services → List GraphBridge → Mac → ℕ → Bool
 is_from_some g me plan s sources mac p = list_any (λ b. is_from_bridge g me plan s b mac p) sources
-
--- the bridge at a place of the graph
-abbrev pub source_at : Graph → ℕ → GraphBridge
-source_at g place = slice_index_or g.bridges place
-    (record {
-      id = record { priority = 0; system = record { mac = record { bytes = [] } } };
-      source = record { value = 0 };
-    })
 
 -- a row of a VID
 abbrev pub row_of : Vid → Mac × PortSet → GroupRow

@@ -1,5 +1,5 @@
 //! The group rows of a bridge.
-ghost use Rattle.std.specs.Prelude.{◌≡◌, ◌≤◌, ◌<◌, ◌++◌, ◌&&◌, length, map, OnOk, IfOk};
+ghost use Rattle.std.specs.Prelude.{◌≡◌, ◌<◌, ◌++◌, ◌&&◌, length, map, OnOk, IfOk};
 ghost use Rattle.std.specs.List.{flat_map, AllByRecursion};
 ghost use Rattle.std.specs.BTreeMap.{IsOrdered};
 ghost use Rattle.spb_types.specs.Ect.{mask_of};
@@ -12,11 +12,9 @@ ghost use Rattle.fdb_build.specs.Surroundings.{AreKnown};
 
 use crate::layout::Planned;
 use crate::searches::Searches;
-use crate::services::Services;
-use crate::sets::{ports_behind, union};
+use crate::sets::{Found, nothing_found, ports_behind, union};
 use crate::surroundings::Surroundings;
-use spb_types::limits::GREATEST_ECT;
-use spb_types::{GraphBridge, GroupRow, Mac, NoMemory, PortSet, Vid, VidPlan, group_address};
+use spb_types::{GraphBridge, GroupRow, Mac, NoMemory, PortSet, Vid, group_address};
 use std::alloc::Global;
 use std::collections::BTreeMap;
 
@@ -50,29 +48,32 @@ fn source_at(around: &Surroundings<'_>, place: usize) -> GraphBridge
     around.roads.graph().bridges.as_slice()[place]
 }
 
-/// Adds the ports for the services to which the bridge at a place sends.
+/// Adds the ports for the services to which the bridge at a place sends. For each place it asks at most once, since it
+/// keeps what it found there.
 fn add_source<S: Searches>(
     alloc: Global,
     rows: &mut BTreeMap<Mac, PortSet>,
+    found: &mut Vec<Option<Found>>,
     around: &Surroundings<'_>,
     searches: S,
-    plan: VidPlan,
-    services: &Services,
+    planned: &Planned,
     place: usize,
 ) -> Result<(), NoMemory>
+    requires found { making.AreFound around.now.roads.now around.now.me found.old.items }
     requires known { AreKnown around.now }
-    requires low { 1 ≤ plan.ect }
-    requires high { plan.ect ≤ GREATEST_ECT }
-    requires can { S.can searches around.now.roads.now (mask_of plan.ect) }
+    requires planned { IsPlanned around.now.roads.now planned.now }
+    requires can { S.can searches around.now.roads.now (mask_of planned.now.plan.ect) }
     requires within { place < length around.now.roads.now.bridges }
-    ensures { OnOk result (making.Grew rows.old rows.new
-        (making.is_from_bridge around.now.roads.now around.now.me plan services.now
+    ensures rows { OnOk result (making.Grew rows.old rows.new
+        (making.is_from_bridge around.now.roads.now around.now.me planned.now.plan planned.now.services
         (making.source_at around.now.roads.now place))) }
+    ensures found { OnOk result (making.AreFound around.now.roads.now around.now.me found.new.items) }
 {
     let source = source_at(around, place).source;
-    for isid in services.sent_at(place) {
-        let receivers = services.receivers_of(*isid);
-        let ports = ports_behind(alloc, around, searches, plan, place, receivers)?;
+    for isid in planned.services.sent_at(place) {
+        let receivers = planned.services.receivers_of(*isid);
+        let plan = planned.plan;
+        let ports = ports_behind(alloc, found, around, searches, plan, place, receivers)?;
         add_ports(rows, group_address(source, *isid), ports)?;
     }
     Ok(())
@@ -82,20 +83,21 @@ fn add_source<S: Searches>(
 fn add_sources<S: Searches>(
     alloc: Global,
     rows: &mut BTreeMap<Mac, PortSet>,
+    found: &mut Vec<Option<Found>>,
     around: &Surroundings<'_>,
     searches: S,
-    plan: VidPlan,
-    services: &Services,
+    planned: &Planned,
 ) -> Result<(), NoMemory>
+    requires found { making.AreFound around.now.roads.now around.now.me found.old.items }
     requires known { AreKnown around.now }
-    requires low { 1 ≤ plan.ect }
-    requires high { plan.ect ≤ GREATEST_ECT }
-    requires can { S.can searches around.now.roads.now (mask_of plan.ect) }
-    ensures { OnOk result (making.Grew rows.old rows.new (making.is_from_some around.now.roads.now
-        around.now.me plan services.now around.now.roads.now.bridges)) }
+    requires planned { IsPlanned around.now.roads.now planned.now }
+    requires can { S.can searches around.now.roads.now (mask_of planned.now.plan.ect) }
+    ensures rows { OnOk result (making.Grew rows.old rows.new (making.is_from_some around.now.roads.now
+        around.now.me planned.now.plan planned.now.services around.now.roads.now.bridges)) }
+    ensures found { OnOk result (making.AreFound around.now.roads.now around.now.me found.new.items) }
 {
     for place in 0..around.roads.graph().bridges.len() {
-        add_source(alloc, rows, around, searches, plan, services, place)?;
+        add_source(alloc, rows, found, around, searches, planned, place)?;
     }
     Ok(())
 }
@@ -123,27 +125,22 @@ fn put_rows(
 fn push_groups<S: Searches>(
     alloc: Global,
     rows: &mut Vec<GroupRow>,
+    found: &mut Vec<Option<Found>>,
     around: &Surroundings<'_>,
     searches: S,
     planned: &Planned,
 ) -> Result<(), NoMemory>
+    requires found { making.AreFound around.now.roads.now around.now.me found.old.items }
     requires known { AreKnown around.now }
     requires planned { IsPlanned around.now.roads.now planned.now }
     requires can { S.can searches around.now.roads.now (mask_of planned.now.plan.ect) }
-    ensures { OnOk result (rows.new.items
+    ensures rows { OnOk result (rows.new.items
         ≡ rows.old.items ++ groups.group_rows_of_vid around.now.roads.now around.now.me planned.now.plan) }
+    ensures found { OnOk result (making.AreFound around.now.roads.now around.now.me found.new.items) }
 {
-    let plan = planned.plan;
     let mut of_vid = BTreeMap::new(alloc);
-    add_sources(
-        alloc,
-        &mut of_vid,
-        around,
-        searches,
-        plan,
-        &planned.services,
-    )?;
-    put_rows(rows, plan.vid, &of_vid)
+    add_sources(alloc, &mut of_vid, found, around, searches, planned)?;
+    put_rows(rows, planned.plan.vid, &of_vid)
 }
 
 /// The group rows for each of the plans, in order.
@@ -159,9 +156,10 @@ pub fn groups_of<S: Searches>(
     ensures { IfOk result (λ rows.
         rows.items ≡ flat_map (λ p. groups.group_rows_of_vid around.now.roads.now around.now.me p.plan) plans.now) }
 {
+    let mut found = nothing_found(alloc, around)?;
     let mut rows = Vec::new(alloc);
     for planned in plans {
-        push_groups(alloc, &mut rows, around, searches, planned)?;
+        push_groups(alloc, &mut rows, &mut found, around, searches, planned)?;
     }
     Ok(rows)
 }

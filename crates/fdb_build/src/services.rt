@@ -1,5 +1,5 @@
 //! The members of the services in a base VID, gathered once for all its trees.
-ghost use Rattle.std.specs.Prelude.{◌≡◌, ◌<◌, ◌++◌, ◌∷◌, [], length, replicate, OnOk, IfOk, if◌then◌else◌};
+ghost use Rattle.std.specs.Prelude.{◌≡◌, ◌<◌, ◌-◌, ◌++◌, ◌∷◌, [], length, replicate, slice_get, OnOk, IfOk, if◌then◌else◌};
 ghost use Rattle.std.specs.List.{slice_index_or, slice_set};
 ghost use Rattle.std.specs.Ordering.{is_eq};
 ghost use Rattle.spb_types.specs.Graph.{IsValid};
@@ -66,8 +66,18 @@ fn put<K: Ord + Drop, V: Drop>(
     Ok(())
 }
 
+/// Whether a place is the last of these.
+fn is_last(places: &[usize], place: usize) -> bool
+    ensures { result ≡ making.is_at place (slice_get places.now (length places.now - 1)) }
+{
+    match places.last() {
+        None => false,
+        Some(last) => *last == place,
+    }
+}
+
 impl Services {
-    /// Adds a member, if it is in this VID.
+    /// Adds a member, if it is in this VID, unless it repeats the one before it in its service.
     fn add(
         &mut self,
         alloc: Global,
@@ -77,6 +87,7 @@ impl Services {
     ) -> Result<(), NoMemory>
         requires valid { IsValid roads.now }
         requires places { length self.old.sends.items ≡ length roads.now.bridges }
+        requires same { making.AreSendersReceivers self.old }
         ensures { OnOk result (making.Added roads.now vid member self.old self.new) }
     {
         if member.vid != vid {
@@ -85,6 +96,9 @@ impl Services {
         let Some(place) = roads.place_of(member.system) else {
             return Ok(());
         };
+        if is_last(self.receivers_of(member.isid), place) {
+            return Ok(());
+        }
         put_at(&mut self.sends, place, member.isid)?;
         put(alloc, &mut self.receivers, member.isid, place)
     }
