@@ -1,16 +1,18 @@
 -- What is attached to one bridge, among all that is attached.
-use Rattle.std.proofs.Common.{◌≡◌, ◌≢◌, ◌<◌, ◌≤◌, ◌+◌, ℕ, suc, Bool, true, false, true≢false, not, ◌&&◌, ◌||◌, ◌==◌, List, [], ◌∷◌, ◌++◌, length, map, filter, take, get_or, nat_lt, nat_le, cond, Some, None, if◌then◌else◌, refl, sym, ap, ◌∙◌, arith}
+use Rattle.std.proofs.Common.{◌≡◌, ◌≢◌, ◌<◌, ◌≤◌, ◌+◌, ℕ, zero, suc, ◌-◌, Bool, true, false, true≢false, not, ◌&&◌, ◌||◌, ◌==◌, List, [], ◌∷◌, ◌++◌, length, map, filter, take, drop, get_or, nat_lt, nat_le, cond, Some, None, if◌then◌else◌, refl, sym, ap, ◌∙◌, arith}
 use Rattle.std.specs.Prelude.{nat_eq}
-use Rattle.std.specs.List.{AllByRecursion, list_any, filter_map, cons_option}
+use Rattle.std.specs.List.{AllByRecursion, list_any, filter_map, cons_option, position, position_or_len}
 use Rattle.std.proofs.lemmas.Bool.{eqb-true, eq-eqb, ne_eqb, le-leb}
 use Rattle.std.proofs.lemmas.Bool.Decides.{nat_tests}
-use Rattle.std.proofs.lemmas.List.{take_more}
+use Rattle.std.proofs.lemmas.Grind.{common_steps}
+use Rattle.std.proofs.lemmas.List.{take_more, take_all, drop_all, length-drop}
 use Rattle.std.proofs.lemmas.List.Elements.{filter_map-append}
+use Rattle.std.proofs.lemmas.List.Sums.{fails_before_first}
 use Rattle.spb_types.specs.declared.service.Attachment.{Attachment}
 use Rattle.bridge_api.specs.Config.{ArePairwise, different}
 use Rattle.bridge_api.specs.Services.{without_customer_port}
 use Rattle.spb_network.specs.World.{World, Attachments, attachment_at, IsAttachedIn, AreAtTwoPorts, Sound}
-use Rattle.spb_network.specs.Attaching.{is_member, isids_of, different_isids, isids_with, has_isid_room, IsNewAttachment, with_attachment_at, is_elsewhere, without_attachment_at}
+use Rattle.spb_network.specs.Attaching.{is_attached, is_member, isids_of, different_isids, isids_with, has_isid_room, IsNewAttachment, with_attachment_at, is_elsewhere, without_attachment_at}
 use Rattle.spb_network.proofs.ListLemmas.{All-push}
 use Rattle.spb_network.proofs.ServiceLemmas.{pairwise-push}
 
@@ -31,6 +33,35 @@ any_at p i (x ∷ xs) = by (x.0 == i) (any_at p i xs)
     by : (b : Bool) → list_any (λ y. (y.0 == i) && p y.1) xs ≡ list_any p (filter_map (attachment_at i) xs) → ((b && p x.1) || list_any (λ y. (y.0 == i) && p y.1) xs) ≡ list_any p (cons_option (if b then Some x.1 else None) (filter_map (attachment_at i) xs))
     by true rest = ap (λ (c : Bool). p x.1 || c) rest
     by false rest = rest
+
+-- whether a port is attached is told by what is attached at its bridge
+pub port_of : (i port : ℕ) (xs ys : Attachments) → those i xs ≡ those i ys → is_attached xs i port ≡ is_attached ys i port
+port_of i port xs ys same =
+    any_at (λ (a : Attachment). a.port == port) i xs ∙ (ap (list_any (λ (a : Attachment). a.port == port)) same ∙ sym (any_at (λ (a : Attachment). a.port == port) i ys))
+
+-- ---- from the first on
+
+skipped : (i n : ℕ) (xs : Attachments) → ((k : ℕ) (d : ℕ × Attachment) → k < n → ((get_or xs k d).0 == i) ≡ false) → those i (drop n xs) ≡ those i xs
+skipped i zero xs before = refl
+skipped i (suc n) [] before = refl
+skipped i (suc n) (x ∷ xs) before =
+    skipped i n xs (λ k d low. before (suc k) d (omega (arith, low)))
+    ∙ sym (ap (λ (b : Bool). cons_option (if b then Some x.1 else None) (those i xs)) (before zero x (omega arith)))
+
+abbrev is_here : ℕ → ℕ × Attachment → Bool
+is_here i x = x.0 == i
+
+pub from_some : (i first : ℕ) (xs : Attachments) → position (λ x. x.0 == i) xs ≡ Some first → those i (take (length xs - first) (drop first xs)) ≡ those i xs
+from_some i first xs is =
+    let at : position_or_len (is_here i) xs ≡ first = grind (arith, common_steps) in
+    ap (those i) (take_all (length xs - first) (drop first xs) (omega (arith, length-drop first xs)))
+    ∙ skipped i first xs (λ k d low. fails_before_first (is_here i) xs k d (omega (arith, at, low)))
+
+pub from_none : (i : ℕ) (xs : Attachments) → position (λ x. x.0 == i) xs ≡ None → [] ≡ those i xs
+from_none i xs is =
+    let long : length xs ≤ position_or_len (is_here i) xs = grind (arith, common_steps) in
+    ap (those i) (sym (drop_all (length xs) xs (omega arith)))
+    ∙ skipped i (length xs) xs (λ k d low. fails_before_first (is_here i) xs k d (omega (arith, long, low)))
 
 any_map : {X Y : Type 0} (p : Y → Bool) (f : X → Y) (xs : List X) → list_any (λ x. p (f x)) xs ≡ list_any p (map f xs)
 any_map p f [] = refl

@@ -5,6 +5,7 @@ pub mod ServiceLemmas
 pub mod WorldLemmas
 pub mod AttachedLemmas
 pub mod RefusalLemmas
+pub mod MemberLemmas
 pub mod ValidLemmas
 pub mod BoxLemmas
 pub mod LaneLemmas

@@ -38,7 +38,7 @@ use Rattle.bridge_api.specs.Laws.{IsSoundView}
 use Rattle.spb_network.specs.declared.declaration.DeclaredBridge.{DeclaredBridge}
 use Rattle.spb_network.specs.declared.declaration.DeclaredLink.{DeclaredLink}
 use Rattle.spb_network.specs.declared.declaration.LinkEnd.{LinkEnd}
-use Rattle.spb_network.specs.World.{World, AllApart, AreApart, IsAttachedIn, attached_at, attachment_at, is_between, member_at, system_at, things_of, vid_of_isid, wired_tables, world_graph}
+use Rattle.spb_network.specs.World.{World, AllApart, AreApart, IsAttachedIn, attached_at, attachment_at, is_between, system_at, things_of, vid_of_isid, wired_tables, world_graph}
 use Rattle.spb_network.specs.State.{State, near_end, far_end}
 use Rattle.spb_network.specs.Sound.{IsSoundState}
 use Rattle.spb_network.specs.Truth.{IsAtRest, IsWalk}
@@ -53,6 +53,7 @@ use Rattle.spb_network.proofs.SoundLane.{some-is}
 use Rattle.spb_network.proofs.SoundLaneIds.{turned, near-turned}
 use Rattle.spb_network.proofs.Spoken.{place_low, system_is}
 use Rattle.spb_network.proofs.ToldLinks.{port_is, systems_apart}
+use Rattle.spb_network.proofs.MemberLemmas.{member_attached}
 use Rattle.spb_network.proofs.ValidLemmas.{place_from, valid_for}
 use Rattle.spb_network.proofs.Wires.{IsLinkOf, between, edge_found, edge_sought, far_is, find_in, has_place, is_link, near_is, same_dir}
 use Rattle.spb_network.proofs.OnceStep.{far-turned}
@@ -190,7 +191,7 @@ module _ (s : State) (b p : ℕ) (f : List ℕ) (v : BridgeView) (a : Attachment
 
       low_isid : (m : Member) → Contains g.members m → m.isid.value ≤ GREATEST_ISID
       low_isid m k =
-          let x = map_has (member_at w.bridges) m w.attached (has_from_contains m g.members k) in
+          let x = member_attached w m (has_from_contains m g.members k) in
           let is = all_has (IsAttachedIn w.bridges w.services) x.0 w.attached sound.world.attached x.1 in
           subst (λ (n : Member). n.isid.value ≤ GREATEST_ISID) (sym x.2) (found_high w x.0.1.isid.value x.0.1.vid sound.world is.service)
 

@@ -18,7 +18,7 @@ use Rattle.spb_content.specs.Graph.{Contents, cost_said, port_said, bridge_of, m
 use Rattle.spb_content.specs.Building.{has_inst}
 use Rattle.spb_content.specs.Laws.{HasAllLinks}
 use Rattle.spb_content.specs.Local.{said_by}
-use Rattle.spb_content.proofs.Members.{Has, has_from_contains, contains_from_has, all_has, has_map, map_has, has_flat_map, flat_map_has}
+use Rattle.spb_content.proofs.Members.{Has, has_from_contains, contains_from_has, all_has, has_map, has_flat_map, flat_map_has}
 use Rattle.spb_content.specs.declared.content.Inst.{Inst}
 use Rattle.spb_content.proofs.Links.{some_same}
 use Rattle.spb_content.proofs.Chosen.{AreChosen, one_content, said_has}
@@ -37,6 +37,7 @@ use Rattle.spb_network.specs.State.{State}
 use Rattle.spb_network.specs.Sound.{IsSoundState}
 use Rattle.spb_network.specs.Truth.{IsAtRest, AreJoined, IsThere}
 use Rattle.spb_network.proofs.BoxLemmas.{All-get}
+use Rattle.spb_network.proofs.MemberLemmas.{attached_member, member_attached}
 use Rattle.spb_network.proofs.ValidLemmas.{among_at, place_from}
 use Rattle.spb_network.proofs.Told.{quiet_is_read}
 use Rattle.spb_network.proofs.Wires.{IsLinkOf, place_has, edge_sought}
@@ -182,13 +183,13 @@ by_wiring s j w m sound at k =
     ap (λ (n : ℕ). own.member_of (system_at bs n) x.0.1) p.0
     ∙ (ap (own.member_of (system_at bs j)) p.1
     ∙ (ap (λ (y : SystemId). own.member_of y a) (system_is s j w sound at) ∙ sym k.2)) in
-    subst (λ z. Has z (world_graph s.world).members) same (has_map (member_at bs) x.0 s.world.attached x.1)
+    subst (λ z. Has z (world_graph s.world).members) same (attached_member s.world sound.world x.0 x.1)
 
 -- and one of the wiring is one by what is attached to its bridge
 by_bridge : (s : State) (j : ℕ) (w : BridgeView) (m : Member) → IsSoundState s → slice_get s.views j ≡ Some w → w.id.system ≡ m.system → Has m (world_graph s.world).members → IsMemberBy w m
 by_bridge s j w m sound at is h =
     let bs : Bridges = s.world.bridges in
-    let x = map_has (member_at bs) m s.world.attached h in
+    let x = member_attached s.world m h in
     let low = (all_has (IsAttachedIn bs s.world.services) x.0 s.world.attached sound.world.attached x.1).bridge in
     let place : x.0.0 ≡ j = place_from bs sound.world.systems x.0.0 j low (place_low s j w sound at) (sym (ap (λ (t : Member). t.system) x.2) ∙ (sym is ∙ sym (system_is s j w sound at))) in
     let here : Has x.0.1 (attached_at s.world j) = has_filter_map (attachment_at j) x.0.1 s.world.attached x.0 x.1 (place_attached j x.0 place) in

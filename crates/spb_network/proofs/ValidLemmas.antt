@@ -1,4 +1,4 @@
-use Rattle.std.proofs.Common.{◌≡◌, ◌≢◌, inl, inr, ℕ, zero, suc, ◌<◌, ◌≤◌, ◌==◌, ◌&&◌, ◌||◌, Bool, true, false, true≢false, List, [], ◌∷◌, length, map, max, Option, Some, None, refl, sym, ap, ◌∙◌, subst, arith, if◌then◌else◌}
+use Rattle.std.proofs.Common.{◌≡◌, ◌≢◌, inl, inr, ℕ, zero, suc, ◌<◌, ◌≤◌, ◌==◌, ◌&&◌, ◌||◌, Bool, true, false, true≢false, List, [], ◌∷◌, length, max, Option, Some, None, refl, sym, ap, ◌∙◌, subst, arith, if◌then◌else◌}
 use Rattle.spb_types.specs.declared.limits.TheConstants.{GREATEST_METRIC}
 use Rattle.std.proofs.lemmas.Bool.Decides.{nat_tests}
 use Rattle.std.specs.List.{AllByRecursion, filter_map, cons_option}
@@ -6,10 +6,14 @@ use Rattle.spb_types.specs.Graph.{IsAmong, IsDistinct, IsBridge, systems_of, joi
 use Rattle.spb_types.specs.Address.{same_system}
 use Rattle.spb_types.specs.declared.address.SystemId.{SystemId}
 use Rattle.spb_types.specs.declared.graph.Edge.{Edge}
+use Rattle.spb_types.specs.declared.graph.Member.{Member}
+use Rattle.spb_types.specs.declared.service.Attachment.{Attachment}
 use Rattle.ect_trees.proofs.Among.{same_is, same_self}
+use Rattle.spb_content.proofs.Members.{Has, all_has, has_all}
 use Rattle.spb_network.specs.declared.declaration.DeclaredLink.{DeclaredLink}
-use Rattle.spb_network.specs.World.{World, Bridges, Attachments, things_of, graph_bridges, system_at, edge_of, live_edge, member_at, world_graph, is_between, is_at_port, IsLink, AreApart, AllApart, IsAttachedIn, Sound}
+use Rattle.spb_network.specs.World.{World, Bridges, things_of, graph_bridges, system_at, edge_of, live_edge, member_at, world_members, world_graph, is_between, is_at_port, IsLink, AreApart, AllApart, IsAttachedIn, Sound}
 use Rattle.spb_network.proofs.ListLemmas.{All-map}
+use Rattle.spb_network.proofs.MemberLemmas.{member_attached}
 use Rattle.spb_network.proofs.WorldLemmas.{ports_at-le}
 
 length-graph_bridges : (bs : Bridges) → length (graph_bridges bs) ≡ length bs
@@ -104,9 +108,12 @@ one_edge bs d (l ∷ ls) links apart = put (live_edge bs l) refl (one_edge bs d 
         (All-filter_map (AreTwo bs l) (λ f. joins edge f.a f.b ≡ false) (live_edge bs) (λ m f h g. subst (λ x. joins x f.a f.b ≡ false) (sym (live_is bs l edge e)) (subst (λ x. joins (edge_of bs l) x.a x.b ≡ false) (sym (live_is bs m f g)) (joins_at bs d l m h.first h.second ∙ h.apart.bridges))) ls two, rest)
 
 -- each member is a bridge
-members_are : (w : World) (xs : Attachments) → AllByRecursion (IsAttachedIn w.bridges w.services) xs → AllByRecursion (λ m. IsBridge (world_graph w) m.system) (map (member_at w.bridges) xs)
-members_are w [] all = tt
-members_are w (x ∷ xs) all = (among_at w.bridges x.0 all.0.bridge, members_are w xs all.1)
+members_are : (w : World) → Sound w → AllByRecursion (λ m. IsBridge (world_graph w) m.system) (world_members w)
+members_are w sound =
+    has_all (λ m. IsBridge (world_graph w) m.system) (world_members w) (λ m h. at m (member_attached w m h))
+  where
+    at : (m : Member) → (x : ℕ × Attachment) × Has x w.attached × (m ≡ member_at w.bridges x) → IsBridge (world_graph w) m.system
+    at m (x, h, is) = subst (λ (n : Member). IsBridge (world_graph w) n.system) (sym is) (among_at w.bridges x.0 (all_has (IsAttachedIn w.bridges w.services) x w.attached sound.attached h).bridge)
 
 pub valid : (w : World) → Sound w → IsValid (world_graph w)
 valid w sound = record {
@@ -114,7 +121,7 @@ valid w sound = record {
   apart = sound.systems;
   edges = All-filter_map (IsLink w.bridges) (IsEdgeOf (world_graph w)) (live_edge w.bridges) (λ l e h g. subst (IsEdgeOf (world_graph w)) (sym (live_is w.bridges l e g)) (edge_is w sound l h)) (things_of w.links) sound.links;
   one_edge = one_edge w.bridges sound.systems (things_of w.links) sound.links sound.links_apart;
-  members = members_are w w.attached sound.attached;
+  members = members_are w sound;
 }
 
 record HasPorts (e : Edge) : Type 0 where

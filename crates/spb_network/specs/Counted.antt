@@ -1,5 +1,6 @@
--- How far the sequence numbers of LSPs rise in a network (ISO/IEC 10589, 7.3.16): each hello that comes to a bridge,
--- each round and each command takes them a little further, and nothing else does.
+-- How far the sequence numbers of LSPs rise in a network (ISO/IEC 10589, 7.3.16). They are within an allowance, which
+-- each round and each command raises a little, and nothing else does. It has room too for each hello on its way, by
+-- which a number may rise when it is heard, however many commands later.
 use Rattle.std.specs.Prelude.{◌≡◌, ◌⊎◌, ℕ, ◌+◌, ◌*◌, ◌≤◌, ◌<◌, List, [], ◌∷◌, false, ◌==◌, if◌then◌else◌, Some, slice_get}
 use Rattle.std.specs.List.{AllByRecursion}
 use Rattle.std.specs.FinMap.{get}
@@ -93,7 +94,9 @@ pub record IsCountedBy (allowance : ℕ) (s : State) : Type 0 where
 abbrev pub most_commands : ℕ
 most_commands = 120000
 
--- each round takes the numbers at most 128 further, and each command 2
+-- the allowance of all rounds and commands so far: no number is above 128 for each round and 2 for each command. That
+-- bounds the sum, and not what one command does: in one `drain` a number can rise once for each hello that is heard,
+-- which earlier commands sent
 abbrev pub allowance_of : State → ℕ
 allowance_of s = 128 * s.rounds + 2 * s.accepted
 

@@ -33,7 +33,7 @@ use Rattle.spb_network.specs.Counted.{IsCopy, IsCountedBy, IsCounted, most_comma
 
 -- ---- the events
 
--- an event takes the numbers at most so much further, where they are below the last one
+-- an event raises the allowance, within which the numbers are, by at most so much, where it stays below the last number
 abbrev pub Raises : ℕ → (State → State) → Type 0
 Raises more event = (s : State) (allowance : ℕ) → IsSoundState s → IsCountedBy allowance s
     → allowance + more < last_number → IsCountedBy (allowance + more) (event s)
@@ -43,8 +43,9 @@ abbrev pub RaisesWhere : ℕ → (State → Type 0) → (State → State) → Ty
 RaisesWhere more may event = (s : State) (allowance : ℕ) → may s → IsSoundState s → IsCountedBy allowance s
     → allowance + more < last_number → IsCountedBy (allowance + more) (event s)
 
--- a tick takes the numbers of its bridge one further, or sends one hello more to another; all ticks of a round together
--- take each at most 128 further; deliveries, losses and customers' frames that enter take none further, in any number
+-- a tick takes the numbers of its bridge one further, or sends one hello more to another, for which the allowance has
+-- room from then on; all ticks of a round together raise it by at most 128. Deliveries, losses and customers' frames
+-- that enter raise it by nothing, in any number: where a hello is heard, a number may rise, within the room for it
 pub record EventsKeepCounted : Type 0 where
   pub tick : (i : ℕ) → Raises 2 (λ s. ticked s i)
   pub deliver : (k : ℕ) (dir : Dir) → Raises 0 (λ s. delivered s k dir)

@@ -1,7 +1,8 @@
-use Rattle.std.specs.Prelude.{◌≡◌, ◌≢◌, ℕ, zero, suc, ◌≤◌, ◌<◌, List, [], ◌∷◌, length, map, Bool, false, ◌&&◌, ◌||◌, ◌==◌, replicate, Option, Some, None, position, max, if◌then◌else◌, nat_eq, IsTrue, ⊤}
+use Rattle.std.specs.Prelude.{◌≡◌, ◌≢◌, ℕ, zero, suc, ◌+◌, ◌*◌, ◌≤◌, ◌<◌, List, [], ◌∷◌, length, map, Bool, false, ◌&&◌, ◌||◌, ◌==◌, replicate, Option, Some, None, position, max, if◌then◌else◌, nat_eq, IsTrue, ⊤}
 use Rattle.std.specs.List.{AllByRecursion, filter_map, list_any}
 use Rattle.std.specs.Map.{lookup}
 use Rattle.std.specs.Str.{bytes_eq}
+use Rattle.spb_types.specs.Ascending.{ascending}
 use Rattle.spb_types.specs.Graph.{IsDistinct, systems_of}
 use Rattle.spb_types.specs.declared.address.SystemId.{SystemId}
 use Rattle.spb_types.specs.declared.graph.Edge.{Edge}
@@ -106,13 +107,23 @@ live_edge bridges l = if l.live then Some (edge_of bridges l) else None
 abbrev pub member_at : Bridges → ℕ × Attachment → Member
 member_at bridges x = member_of (system_at bridges x.0) x.1
 
--- the actual wiring: all bridges, an edge for each link that is up, and a member for each customer port that is
--- attached
+-- the place of the bridge that something is attached to, the base VID and the I-SID in one number, by which they order
+-- in turn: a base VID is below 65,536, and an I-SID below 16,777,216
+abbrev pub service_number : ℕ × Attachment → ℕ
+service_number x = (x.0 * 65536 + x.1.vid.value) * 16777216 + x.1.isid.value
+
+-- the members of services: one for each bridge, base VID and I-SID, in ascending order of the bridge's place, the base
+-- VID and the I-SID
+abbrev pub world_members : World → List Member
+world_members w = map (member_at w.bridges) (ascending service_number w.attached)
+
+-- the actual wiring: all bridges, an edge for each link that is up, and a member for each bridge and service that a
+-- customer port of the bridge is attached to
 abbrev pub world_graph : World → Graph
 world_graph w = record {
   bridges = graph_bridges w.bridges;
   edges = filter_map (live_edge w.bridges) (things_of w.links);
-  members = map (member_at w.bridges) w.attached;
+  members = world_members w;
 }
 
 -- whether the link joins the bridges at two places, whichever of its ends is which

@@ -1,5 +1,5 @@
 //! What is attached to the customer ports of a bridge, among all that is attached.
-ghost use Rattle.std.specs.Prelude.{◌≡◌, ◌&&◌, ◌==◌, not, filter, length, nat_eq, IfOk};
+ghost use Rattle.std.specs.Prelude.{◌≡◌, ◌&&◌, ◌==◌, not, filter, length, nat_eq, position, IfOk};
 ghost use Rattle.std.specs.List.{filter_map};
 ghost use Rattle.spb_network.specs.World as state;
 ghost use Rattle.spb_network.specs.Attaching as attaching;
@@ -48,6 +48,24 @@ pub fn is_customer_frame(frame: &[u8]) -> bool
     ensures { result ≡ attaching.is_customer_frame frame.now }
 {
     14 <= frame.len() && frame.len() <= 2000
+}
+
+/// Where the first thing stands that is attached at the bridge at a place.
+fn first_at(entries: &[(usize, Attachment)], place: usize) -> Option<usize>
+    ensures { result ≡ position (λ x. x.0 == place) entries.now }
+{
+    entries.iter().position(|entry| entry.0 == place)
+}
+
+/// What is attached from the first thing on that is at the bridge at a place: nothing of that bridge stands before it.
+pub fn from_first(entries: &[(usize, Attachment)], place: usize) -> &[(usize, Attachment)]
+    ensures { filter_map (state.attachment_at place) result.now
+        ≡ filter_map (state.attachment_at place) entries.now }
+{
+    match first_at(entries, place) {
+        None => &[],
+        Some(first) => &entries[first..],
+    }
 }
 
 /// Whether something is attached at a customer port of the bridge at a place.

@@ -1,5 +1,6 @@
 ghost use Rattle.std.specs.Prelude.{◌≡◌, map, IfOk};
 ghost use Rattle.std.specs.List.{filter_map};
+ghost use Rattle.spb_content.specs.Laws.{IsAscendingOf};
 ghost use Rattle.spb_network.specs.World as state;
 ghost use Rattle.spb_network.specs.Paths as paths;
 
@@ -84,7 +85,30 @@ fn member_at(bridges: &IndexMap<Name, DeclaredBridge>, entry: &(usize, Attachmen
     }
 }
 
-/// The members of services, one for each attachment, in order of attaching.
+/// The place of the bridge that something is attached to, the base VID and the I-SID in one number, by which they order
+/// in turn.
+fn service_number(entry: &(usize, Attachment)) -> u128
+    ensures { result ≡ state.service_number entry.now }
+{
+    let vid = entry.1.vid.value;
+    let isid = entry.1.isid.value;
+    (entry.0 as u128 * 65_536 + u128::from(vid)) * 16_777_216 + u128::from(isid)
+}
+
+/// One of what is attached for each bridge, base VID and I-SID, in ascending order of these.
+pub fn one_of_each_service(
+    alloc: Global,
+    attached: &[(usize, Attachment)],
+) -> Result<Vec<(usize, Attachment)>, NoMemory>
+    ensures { IfOk result (λ list. IsAscendingOf state.service_number attached.now list.items) }
+{
+    let mut list = Vec::from_slice(alloc, attached)?;
+    list.sort_unstable_by_key(|entry| service_number(entry));
+    list.dedup_by_key(|entry| service_number(entry));
+    Ok(list)
+}
+
+/// The members of services, one for each of what is attached, in that order.
 pub fn graph_members(
     alloc: Global,
     bridges: &IndexMap<Name, DeclaredBridge>,

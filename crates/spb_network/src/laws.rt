@@ -28,7 +28,7 @@ pub fn networks_are_sound()
 {}
 
 /// The wiring of a sound network is a valid graph, and valid for each bridge; and what `wiring` answers of a bridge is
-/// its unicast table in that graph. So it is whatever commands were accepted.
+/// its unicast table and its group table in that graph. So it is whatever commands were accepted.
 pub fn wiring_gives_tables()
     ensures sound { SoundIsWired }
     ensures always { NetworksAreWired }

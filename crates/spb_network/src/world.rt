@@ -2,9 +2,12 @@ ghost use Rattle.std.specs.Prelude.{◌≡◌, [], ◌∷◌, ◌++◌, true, No
 ghost use Rattle.spb_network.specs.Declaring.{is_new_name, switched, links_with_metric};
 
 use crate::attaching::{
-    attached_at, has_isid_room, is_attached, is_customer_frame, is_customer_port, remove,
+    attached_at, from_first, has_isid_room, is_attached, is_customer_frame, is_customer_port,
+    remove,
 };
-use crate::graph::{graph_bridges, graph_edges, graph_members, place_of_system, system_at};
+use crate::graph::{
+    graph_bridges, graph_edges, graph_members, one_of_each_service, place_of_system, system_at,
+};
 use crate::hints::Hints;
 use crate::reason::reason_unless;
 use crate::{DeclaredBridge, DeclaredLink, LinkEnd, Reason, check, link_ends};
@@ -18,8 +21,8 @@ use spb_types::limits::{
     GREATEST_ISID, MOST_BRIDGES, MOST_LINKS, MOST_SERVICES, MOST_VIDS, SOURCE_IDS,
 };
 use spb_types::{
-    Attachment, BridgeId, Graph, GraphBridge, Isid, Mac, Name, NoMemory, Seq, SourceId, SystemId,
-    Tables, Vid, VidPlan,
+    Attachment, BridgeId, Graph, GraphBridge, Isid, Mac, Member, Name, NoMemory, Seq, SourceId,
+    SystemId, Tables, Vid, VidPlan,
 };
 use std::alloc::Global;
 use std::marker::Model;
@@ -238,14 +241,23 @@ impl World {
         }
     }
 
-    /// The actual wiring: all bridges, an edge for each link that is up, and a member for each customer port that is
-    /// attached.
+    /// The members of services: one for each bridge, base VID and I-SID, in ascending order of the bridge's place, the
+    /// base VID and the I-SID.
+    fn members(&self, alloc: Global) -> Result<Vec<Member>, NoMemory>
+        ensures { IfOk result (λ list. list.items ≡ state.world_members self.now) }
+    {
+        let attached = one_of_each_service(alloc, self.attached.as_slice())?;
+        graph_members(alloc, &self.bridges, attached.as_slice())
+    }
+
+    /// The actual wiring: all bridges, an edge for each link that is up, and a member for each bridge and service that
+    /// a customer port of the bridge is attached to.
     fn graph(&self, alloc: Global) -> Result<Graph, NoMemory>
         ensures { IfOk result (λ graph. graph ≡ state.world_graph self.now) }
     {
         let bridges = graph_bridges(alloc, &self.bridges)?;
         let edges = graph_edges(alloc, &self.bridges, &self.links)?;
-        let members = graph_members(alloc, &self.bridges, self.attached.as_slice())?;
+        let members = self.members(alloc)?;
         Ok(Graph {
             bridges: Seq::from_vec(bridges),
             edges: Seq::from_vec(edges),
@@ -416,15 +428,16 @@ impl World {
     }
 
     /// Why a customer port of the bridge at a place can't be attached to the service of an I-SID, if it can't. It takes
-    /// two passes over all that is attached; where 60 ports of the bridge or more are, one more for each of them.
+    /// a pass over all that is attached up to the first port of the bridge, and two over what stands from there on; where
+    /// 60 ports of the bridge or more are attached, one more for each of them.
     #[tactic(auto, unfolding(crate::specs::Attaching::attach_refusal))]
     pub fn attach_refusal(&self, place: usize, port: u64, isid: u64) -> Option<Reason>
         ensures { result ≡ attaching.attach_refusal self.now place port isid }
     {
-        let entries = self.attached.as_slice();
+        let own = from_first(self.attached.as_slice(), place);
         let is_declared = self.vid_of_isid(isid).is_some();
-        let has_place = has_isid_room(entries, place, isid);
-        let is_free = !is_attached(entries, place, port);
+        let has_place = has_isid_room(own, place, isid);
+        let is_free = !is_attached(own, place, port);
         reason_unless(is_declared, Reason::NoSuchName)
             .or(reason_unless(is_customer_port(port), Reason::Range))
             .or(reason_unless(has_place, Reason::TooMany))
