@@ -1,2 +1,3 @@
 mod Edges
 mod UpToDate
+mod CutTrees

@@ -129,9 +129,11 @@ impl SwiftBridge {
         self.renewed(&graph)
     }
 
-    /// The trees of the graph that the bridge reads, from each of its bridges, under the masks of its base VIDs (IEEE
-    /// 802.1aq, 28.5 to 28.8). They are brought up to date edge by edge; where the bridges of the graph or the masks
-    /// changed, they are made anew. After `NoMemory` the bridge is failed.
+    /// The trees of the graph of all that the bridge reads, from each of its bridges, reached or not, under the masks
+    /// of its base VIDs (IEEE 802.1aq, 28.5 to 28.8). From what the bridge reaches they are those of its own graph, cut
+    /// down to that ([`cut_keeps_trees`](crate::cut_keeps_trees)). They are brought up to date edge by edge; where the
+    /// bridges of the graph or the masks changed, they are made anew. After `NoMemory` the bridge is failed, and else
+    /// as it was.
     pub fn trees(&mut self) -> Result<&TreeSet, NoMemory>
         requires { self.old.blank ≡ false }
         ensures* rests { sem 𝓛 (Rests self.entry result) }

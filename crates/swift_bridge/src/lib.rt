@@ -11,6 +11,8 @@
 #![tactic(auto)]
 
 pub use bridge::SwiftBridge;
+pub use laws::cut_keeps_trees;
 
 mod bridge;
 mod following;
+mod laws;
