@@ -2,7 +2,7 @@
 use Rattle.std.proofs.Common.{◌≡◌, ℕ, zero, suc, ◌+◌, ◌-◌, true, false, ◌≤◌, Bool, IsTrue, List, [], ◌∷◌, ◌++◌, length, Option, Some, None, IfSome, refl, sym, ap, ◌∙◌, subst, arith, length-append, append_assoc, append-nil}
 use Rattle.std.specs.Io.KnownBytes.{Appends, Consumes, IsAtEnd, Keeps}
 use Rattle.std.specs.Prelude.{if◌then◌else◌}
-use Rattle.std.proofs.KnownBytes.{Appends-trans, Consumes-trans, Consumes-kept, Consumes-whole}
+use Rattle.std.proofs.KnownBytes.{Appends-nil, Appends-trans, Consumes-trans, Consumes-kept, Consumes-whole}
 use Rattle.scenario.specs.declared.cutter.Stop.{Stop}
 use Rattle.scenario.specs.declared.cutter.Stop.TheVariants as stop
 use Rattle.scenario.specs.Cutting.{Cuts, start, most_lines, most_bytes, longest_line, is_lf, lines_of}
@@ -11,7 +11,7 @@ use Rattle.spb_run.specs.declared.refusal.Refusal.{Refusal}
 use Rattle.spb_run.specs.declared.status.Status.{Status}
 use Rattle.spb_run.specs.declared.status.Status.TheVariants.{Done}
 use Rattle.spb_run.specs.Output.{AppendsFront}
-use Rattle.spb_run.specs.Pieces.{whole_part, bytes_before, Does, StandsAt, GoesOn, Ends, Breaks, Finishes, Completes, WritesWhole, ReadsLittle, most_piece, to_come}
+use Rattle.spb_run.specs.Pieces.{whole_part, bytes_before, Does, StandsAt, GoesOn, Ends, Breaks, Finishes, Completes, WritesWhole, AnswersSoon, ReadsLittle, most_piece, to_come}
 use Rattle.spb_run.specs.Play.{Judged, judged}
 use Rattle.spb_run.specs.Run.{is_written}
 use Rattle.spb_run.specs.Text.{Played, joined, concluded, play, play_lines, played, text_of}
@@ -111,17 +111,37 @@ module _ {S K : Type 0}
       subst (λ (p : Played). AppendsFront (holds a) (holds b) p.text) (sym (is_played s (reading.read ++ more)))
       (record { front = reading.goes.written; rest = (to_come t n d more).text; whole = next.writes; grown = reading.goes.grown }))
 
-  pub fault_whole : (l : Option (List ℕ)) → Keeps (left new) l → WritesWhole holds s (left old) l a b
-  fault_whole l kept =
+  -- the whole lines that were read, as a script of their own
+  whole_does : Does (played s (whole_part reading.read)) reading.goes.written Done t
+  whole_does =
       let cut = whole_cut d reading.read reading.goes.whole reading.goes.takes in
-      let all : Does (played s (whole_part reading.read)) reading.goes.written Done t =
-      subst (λ (p : Played). Does p reading.goes.written Done t) (sym (is_played s (whole_part reading.read) ∙ ap (play_lines s 1) cut)) reading.goes.accepted in
-      record {
-        read = reading.read;
-        consumed = Consumes-kept (left old) (left new) l reading.read reading.consumed kept;
-        accepted = all.ends;
-        text = subst (Appends (holds a) (holds b)) (sym all.writes) reading.goes.grown;
-      }
+      subst (λ (p : Played). Does p reading.goes.written Done t) (sym (is_played s (whole_part reading.read) ∙ ap (play_lines s 1) cut)) reading.goes.accepted
+
+  pub fault_whole : (l : Option (List ℕ)) → Keeps (left new) l → WritesWhole holds s (left old) l a b
+  fault_whole l kept = record {
+    read = reading.read;
+    consumed = Consumes-kept (left old) (left new) l reading.read reading.consumed kept;
+    accepted = whole_does.ends;
+    text = subst (Appends (holds a) (holds b)) (sym whole_does.writes) reading.goes.grown;
+  }
+
+  -- at most a piece more was read, and more may be written
+  answers_soon : (l : Option (List ℕ)) (p more : List ℕ) (f : K) → Consumes (left old) l (reading.read ++ p) → length p ≤ most_piece → Appends (holds b) (holds f) more → AnswersSoon holds s (left old) l a f
+  answers_soon l p more f consumed short grown = record {
+    before = reading.read;
+    piece = p;
+    rest = more;
+    consumed = consumed;
+    short = short;
+    accepted = whole_does.ends;
+    text = subst (λ w. Appends (holds a) (holds f) (w ++ more)) (sym whole_does.writes) (Appends-trans (holds a) (holds b) (holds f) reading.goes.written more reading.goes.grown grown);
+  }
+
+  pub fault_soon : (l : Option (List ℕ)) → Keeps (left new) l → AnswersSoon holds s (left old) l a b
+  fault_soon l kept =
+      let all : Consumes (left old) l (reading.read ++ []) =
+      subst (Consumes (left old) l) (sym (append-nil reading.read)) (Consumes-kept (left old) (left new) l reading.read reading.consumed kept) in
+      answers_soon l [] [] b all (omega arith) (Appends-nil (holds b))
 
   pub fault_reads : (l : Option (List ℕ)) (R : ℕ → Type 0) → Keeps (left new) l → ((k : ℕ) → R k → ⊥) → ReadsLittle (left old) l R
   fault_reads l R kept none = record {
@@ -180,6 +200,9 @@ module _ {S K : Type 0}
   module _ (l : Option (List ℕ)) (p : List ℕ) (gave : Consumes (left new) l p) where
     more_consumed : Consumes (left old) l (reading.read ++ p)
     more_consumed = Consumes-trans (left old) (left new) l reading.read p reading.consumed gave
+
+    pub piece_soon : (more : List ℕ) (f : K) → length p ≤ most_piece → Appends (holds b) (holds f) more → AnswersSoon holds s (left old) l a f
+    piece_soon more f short grown = answers_soon l p more f more_consumed short grown
 
     pub piece_front : (f : K) → Breaks holds p t n d b f → IfSome (left old) (λ script. AppendsFront (holds a) (holds f) (text_of s script))
     piece_front f breaks = some_whole (left old) l (reading.read ++ p) (λ script. AppendsFront (holds a) (holds f) (text_of s script)) more_consumed (λ more.

@@ -128,6 +128,17 @@ module _ {K : Type 0} (holds : K → Option (List ℕ)) where
     pub accepted : fate_of s (whole_part read) ≡ Done
     pub text : Appends (holds sink) (holds sink') (text_of s (whole_part read))
 
+  -- these bytes of a script were read, and a piece of at most 8,192 behind them; the whole lines among the first are
+  -- accepted, and what is written begins with the answers to all of them
+  pub record AnswersSoon (s : State) (left left' : Option (List ℕ)) (sink sink' : K) : Type 0 where
+    pub before : List ℕ
+    pub piece : List ℕ
+    pub rest : List ℕ
+    pub consumed : Consumes left left' (before ++ piece)
+    pub short : length piece ≤ most_piece
+    pub accepted : fate_of s (whole_part before) ≡ Done
+    pub text : Appends (holds sink) (holds sink') (text_of s (whole_part before) ++ rest)
+
 -- what was read of a script: at most one byte more than a script may have, and where a line is refused, fewer than
 -- 20,000 bytes past the first byte of that line
 pub record ReadsLittle (left left' : Option (List ℕ)) (IsRefused : ℕ → Type 0) : Type 0 where

@@ -7,7 +7,7 @@ ghost use Rattle.spb_outside.specs.Faults.{Rose};
 ghost use Rattle.spb_run.specs.Output.{AppendsFront};
 ghost use Rattle.spb_run.specs.declared.pieces.Break.TheVariants.{Read as ReadBreak};
 ghost use Rattle.spb_run.specs.Break.{break_of};
-ghost use Rattle.spb_run.specs.Pieces.{Finishes, Completes, WritesWhole, ReadsLittle, most_piece, GoesOn, Ends, Breaks, StandsAt, to_come, Accepts, Stops, shown_lines};
+ghost use Rattle.spb_run.specs.Pieces.{Finishes, Completes, WritesWhole, AnswersSoon, ReadsLittle, most_piece, GoesOn, Ends, Breaks, StandsAt, to_come, Accepts, Stops, shown_lines};
 ghost use Rattle.scenario.specs.Cutting.{longest_line, most_bytes, most_lines, start};
 ghost use Rattle.spb_run.specs.Play.{judged, misspelled_text};
 ghost use Rattle.spb_run.specs.declared.refusal.Refusal.{Refusal};
@@ -230,7 +230,8 @@ fn read_piece<S: Source>(source: &mut S, buffer: &mut [u8], read: usize) -> Resu
 }
 
 /// Plays the script that the source gives. Each line is answered before the next is played, and all whole lines of a
-/// piece are played before the next is read.
+/// piece are played before the next is read: however it ends, all whole lines that were read are accepted and answered,
+/// but for those that end in the last 8,192 bytes.
 pub(crate) fn play_script<B: Bridge, S: Source, K: Sink>(
     alloc: Global,
     network: &mut NetworkOf<B>,
@@ -245,6 +246,8 @@ pub(crate) fn play_script<B: Bridge, S: Source, K: Sink>(
     ensures front { OnErr result (IfSome (S.left source.old) (λ script.
         AppendsFront (K.holds sink.old) (K.holds sink.new) (text_of (state_of B.shown network.old) script))) }
     ensures whole { result ≡ Err Break.Read → WritesWhole K.holds
+        (state_of B.shown network.old) (S.left source.old) (S.left source.new) sink.old sink.new }
+    ensures prompt { AnswersSoon K.holds
         (state_of B.shown network.old) (S.left source.old) (S.left source.new) sink.old sink.new }
     ensures reads { ReadsLittle (S.left source.old) (S.left source.new)
         (λ n. (why : Refusal) × (result ≡ Ok (Status.Refused n why))) }

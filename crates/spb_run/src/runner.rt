@@ -55,7 +55,9 @@ fn run_script<B: Bridge, S: Source, K: Sink>(
 /// answers to the sink. With `--kind plain`, `--kind swift` or `--kind mixed` behind it the bridges take boxes of that
 /// kind, or plain and swift ones in turn; without, all are plain. The script is read in pieces of at most 8,192 bytes.
 /// The answers to each line are written before the next is played, and all whole lines of a piece are played before the
-/// next is read. So a script is never in memory whole, and whoever writes it sees the answers to what was read.
+/// next is read: however the run ends, all whole lines that were read are accepted and answered, but for those that end
+/// in the last 8,192 bytes. So a script is never in memory whole, and whoever writes it sees the answers to what was
+/// read.
 ///
 /// For the words `make N` it writes the script that is made for N bridges, 4 to 96, to the sink, each line before the
 /// next is spelled, and reads and plays nothing. All its commands are in memory then.

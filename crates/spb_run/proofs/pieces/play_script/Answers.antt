@@ -9,7 +9,7 @@ use Rattle.spb_network.specs.Network.{state_of}
 use Rattle.spb_run.specs.Pieces.{GoesOn, StandsAt}
 use Rattle.spb_run.proofs.Going.{goes_nothing}
 use Rattle.spb_run.proofs.Taking.{start_stands}
-use Rattle.spb_run.proofs.Reading.{read_few, fault_front, fault_whole, fault_reads, end_front, end_ends, end_few, end_own, end_reads, piece_front, piece_ends, piece_few, piece_own, piece_reads, piece_reading}
+use Rattle.spb_run.proofs.Reading.{read_few, fault_front, fault_whole, fault_soon, fault_reads, end_front, end_ends, end_few, end_own, end_reads, piece_soon, piece_front, piece_ends, piece_few, piece_own, piece_reads, piece_reading}
 use Rattle.spb_run.proofs.pieces.play_script.Goals as goal
 
 pub loop-cutter-init : goal.loop-cutter-init
@@ -40,6 +40,9 @@ returns-in_err-count-clause-front g c =
 pub returns-in_err-count-clause-whole : goal.returns-in_err-count-clause-whole
 returns-in_err-count-clause-whole g c is = fault_whole g.S.Source.left g.S.Source.faults g.S.Source.is_reliable g.K.Sink.holds g.K.Sink.faults g.K.Sink.is_reliable _ _ _ _ _ _ _ _ _ c.loop-cutter.invariant.0 (g.S.Source.left c.read_piece.new.source) c.in_err-count.ensures.kept
 
+pub returns-in_err-count-clause-prompt : goal.returns-in_err-count-clause-prompt
+returns-in_err-count-clause-prompt g c = fault_soon g.S.Source.left g.S.Source.faults g.S.Source.is_reliable g.K.Sink.holds g.K.Sink.faults g.K.Sink.is_reliable _ _ _ _ _ _ _ _ _ c.loop-cutter.invariant.0 (g.S.Source.left c.read_piece.new.source) c.in_err-count.ensures.kept
+
 pub returns-in_err-count-clause-reads : goal.returns-in_err-count-clause-reads
 returns-in_err-count-clause-reads g c =
     let p = err_from_is_err_and c.from_residual.result c.from_residual.ensures.1 in
@@ -52,6 +55,14 @@ returns-in_err-end_script-clause-front g c =
     let end : IsAtEnd (g.S.Source.left c.read_piece.new.source) = c.in_ok-count.ensures.end (ap Ok none) in
     let p = err_from_is_err_and c.from_residual-in_err-end_script.result c.from_residual-in_err-end_script.ensures.1 in
     rw p.1 (end_front g.S.Source.left g.S.Source.faults g.S.Source.is_reliable g.K.Sink.holds g.K.Sink.faults g.K.Sink.is_reliable _ _ _ _ _ _ _ _ _ c.loop-cutter.invariant.0 (g.S.Source.left c.read_piece.new.source) (take c.in_ok-count.count c.read_piece.new.buffer) c.in_ok-count.ensures.bytes nothing c.end_script.new.sink end c.in_err-end_script.ensures.front)
+
+pub returns-in_err-end_script-clause-prompt : goal.returns-in_err-end_script-clause-prompt
+returns-in_err-end_script-clause-prompt g c =
+    let piece = take c.in_ok-count.count c.read_piece.new.buffer in
+    let gave : Consumes (g.S.Source.left c.loop-cutter.source) (g.S.Source.left c.read_piece.new.source) piece = c.in_ok-count.ensures.bytes in
+    let short : length piece ≤ c.in_ok-count.count = omega (arith, length-take c.in_ok-count.count c.read_piece.new.buffer) in
+    let front = c.in_err-end_script.ensures.front in
+    piece_soon g.S.Source.left g.S.Source.faults g.S.Source.is_reliable g.K.Sink.holds g.K.Sink.faults g.K.Sink.is_reliable _ _ _ _ _ _ _ _ _ c.loop-cutter.invariant.0 (g.S.Source.left c.read_piece.new.source) piece gave front.front c.end_script.new.sink (omega (arith, short, c.in_ok-count.ensures.short)) front.grown
 
 pub returns-in_err-end_script-clause-reads : goal.returns-in_err-end_script-clause-reads
 returns-in_err-end_script-clause-reads g c =
@@ -74,6 +85,14 @@ returns-then-count-eq0-clause-ended g c is =
     let nothing : take c.in_ok-count.count c.read_piece.new.buffer ≡ [] = ap (λ k. take k c.read_piece.new.buffer) none in
     let end : IsAtEnd (g.S.Source.left c.read_piece.new.source) = c.in_ok-count.ensures.end (ap Ok none) in
     end
+
+pub returns-then-count-eq0-clause-prompt : goal.returns-then-count-eq0-clause-prompt
+returns-then-count-eq0-clause-prompt g c =
+    let piece = take c.in_ok-count.count c.read_piece.new.buffer in
+    let gave : Consumes (g.S.Source.left c.loop-cutter.source) (g.S.Source.left c.read_piece.new.source) piece = c.in_ok-count.ensures.bytes in
+    let short : length piece ≤ c.in_ok-count.count = omega (arith, length-take c.in_ok-count.count c.read_piece.new.buffer) in
+    let ends = c.in_ok-end_script.ensures.ends in
+    piece_soon g.S.Source.left g.S.Source.faults g.S.Source.is_reliable g.K.Sink.holds g.K.Sink.faults g.K.Sink.is_reliable _ _ _ _ _ _ _ _ _ c.loop-cutter.invariant.0 (g.S.Source.left c.read_piece.new.source) piece gave ends.written c.end_script.new.sink (omega (arith, short, c.in_ok-count.ensures.short)) ends.grown
 
 pub returns-then-count-eq0-clause-reads : goal.returns-then-count-eq0-clause-reads
 returns-then-count-eq0-clause-reads g c =
@@ -103,6 +122,14 @@ returns-in_err-status-clause-front g c =
     let p = err_from_is_err_and c.from_residual-in_err-status.result c.from_residual-in_err-status.ensures.1 in
     rw p.1 (piece_front g.S.Source.left g.S.Source.faults g.S.Source.is_reliable g.K.Sink.holds g.K.Sink.faults g.K.Sink.is_reliable _ _ _ _ _ _ _ _ _ c.loop-cutter.invariant.0 (g.S.Source.left c.read_piece.new.source) piece gave c.play_piece.new.sink c.in_err-status.ensures.breaks)
 
+pub returns-in_err-status-clause-prompt : goal.returns-in_err-status-clause-prompt
+returns-in_err-status-clause-prompt g c =
+    let piece = take c.in_ok-count.count c.read_piece.new.buffer in
+    let gave : Consumes (g.S.Source.left c.loop-cutter.source) (g.S.Source.left c.read_piece.new.source) piece = c.in_ok-count.ensures.bytes in
+    let short : length piece ≤ c.in_ok-count.count = omega (arith, length-take c.in_ok-count.count c.read_piece.new.buffer) in
+    let front = c.in_err-status.ensures.breaks [] in
+    piece_soon g.S.Source.left g.S.Source.faults g.S.Source.is_reliable g.K.Sink.holds g.K.Sink.faults g.K.Sink.is_reliable _ _ _ _ _ _ _ _ _ c.loop-cutter.invariant.0 (g.S.Source.left c.read_piece.new.source) piece gave front.front c.play_piece.new.sink (omega (arith, short, c.in_ok-count.ensures.short)) front.grown
+
 pub returns-in_err-status-clause-reads : goal.returns-in_err-status-clause-reads
 returns-in_err-status-clause-reads g c =
     let piece = take c.in_ok-count.count c.read_piece.new.buffer in
@@ -119,6 +146,14 @@ returns-in-Some-clause-ends g c =
 
 pub returns-in-Some-clause-ended : goal.returns-in-Some-clause-ended
 returns-in-Some-clause-ended g c is = let ends = c.in_ok-status.ensures.ends c.in-Some.status (ap Ok c.in-Some.is) in absurd (ends.stops cc)
+
+pub returns-in-Some-clause-prompt : goal.returns-in-Some-clause-prompt
+returns-in-Some-clause-prompt g c =
+    let piece = take c.in_ok-count.count c.read_piece.new.buffer in
+    let gave : Consumes (g.S.Source.left c.loop-cutter.source) (g.S.Source.left c.read_piece.new.source) piece = c.in_ok-count.ensures.bytes in
+    let short : length piece ≤ c.in_ok-count.count = omega (arith, length-take c.in_ok-count.count c.read_piece.new.buffer) in
+    let ends = c.in_ok-status.ensures.ends c.in-Some.status (ap Ok c.in-Some.is) in
+    piece_soon g.S.Source.left g.S.Source.faults g.S.Source.is_reliable g.K.Sink.holds g.K.Sink.faults g.K.Sink.is_reliable _ _ _ _ _ _ _ _ _ c.loop-cutter.invariant.0 (g.S.Source.left c.read_piece.new.source) piece gave ends.written c.play_piece.new.sink (omega (arith, short, c.in_ok-count.ensures.short)) ends.grown
 
 pub returns-in-Some-clause-reads : goal.returns-in-Some-clause-reads
 returns-in-Some-clause-reads g c =

@@ -57,6 +57,7 @@ returns-in-Ok-clause-runs g c =
       apart = script_apart g.B.Bridge.shown c.args.network.now c.requires left;
       front = λ cut. whole_one status own cut;
       whole = λ failed. read_one status own failed;
+      prompt = c.play_script.ensures.prompt;
       reads = record { read = reads.read; consumed = reads.consumed; few = reads.few; soon = λ n w. reads.soon n (w.0, c.in-Ok.is ∙ ap Ok w.1) };
       complete = λ source sink. is_complete g.K.Sink.holds left status _ _ _ _ c.in-Ok.ensures.ends;
     }
@@ -78,6 +79,7 @@ returns-in-Err-Read-clause-runs g c =
       apart = script_apart g.B.Bridge.shown c.args.network.now c.requires left;
       front = λ cut. none cut;
       whole = λ failed. c.play_script.ensures.whole (c.in-Err-Read.is ∙ ap Err c.in-Err-Read.field-0-is);
+      prompt = c.play_script.ensures.prompt;
       reads = record { read = reads.read; consumed = reads.consumed; few = reads.few; soon = λ n w. absurd (let is = w.1 in cc) };
       complete = λ source sink. absurd (c.play_script.ensures.reliable_source source (c.in-Err-Read.is ∙ ap Err c.in-Err-Read.field-0-is));
     }
@@ -99,6 +101,7 @@ returns-in-Err-Write-clause-runs g c =
       apart = script_apart g.B.Bridge.shown c.args.network.now c.requires left;
       front = λ cut. c.in-Err-Write.ensures.front;
       whole = λ failed. absurd cc;
+      prompt = c.play_script.ensures.prompt;
       reads = record { read = reads.read; consumed = reads.consumed; few = reads.few; soon = λ n w. absurd (let is = w.1 in cc) };
       complete = λ source sink. absurd (c.play_script.ensures.reliable_sink sink (c.in-Err-Write.is ∙ ap Err c.in-Err-Write.field-0-is));
     }
@@ -120,6 +123,7 @@ returns-in-Err-NoMemory-clause-runs g c =
       apart = script_apart g.B.Bridge.shown c.args.network.now c.requires left;
       front = λ cut. c.in-Err-NoMemory.ensures.front;
       whole = λ failed. absurd cc;
+      prompt = c.play_script.ensures.prompt;
       reads = record { read = reads.read; consumed = reads.consumed; few = reads.few; soon = λ n w. absurd (let is = w.1 in cc) };
       complete = λ source sink. out_of_memory left (state_of g.B.Bridge.shown c.args.network.now);
     }
