@@ -5,7 +5,7 @@ ghost use Rattle.bridge_api.specs.Config.{IsMetric, IsWhole};
 use adjacency::Adjacency;
 use bridge_api::{Bridge, BridgeConfig, Outbox};
 use lsdb::Version;
-use spb_types::{BridgeId, Mac, NoMemory, Seq, SourceId, SystemId, Vid, VidPlan};
+use spb_types::{Attachment, BridgeId, Isid, Mac, NoMemory, Seq, SourceId, SystemId, Vid, VidPlan};
 use std::alloc::Global;
 use std::fmt::Debug;
 use std::process::Abort;
@@ -90,6 +90,28 @@ fn config_of_two_ports(alloc: Global, last: u8) -> Result<BridgeConfig, NoMemory
     Ok(config)
 }
 
+/// The configuration of a bridge with two ports in the VID 10, whose customer port 1 is attached to the I-SID 100.
+fn config_of_member(alloc: Global, last: u8) -> Result<BridgeConfig, NoMemory>
+    ensures whole { IfOk result IsWhole }
+    ensures ports { IfOk result (λ c. c.ports ≡ 2) }
+{
+    let vid = Vid { value: 10 };
+    let mut metrics = Seq::new(alloc);
+    metrics.push(10)?;
+    metrics.push(10)?;
+    let mut vids = Seq::new(alloc);
+    vids.push(VidPlan { vid, ect: 1 })?;
+    let mut attached = Seq::new(alloc);
+    attached.push(Attachment {
+        port: 1,
+        isid: Isid { value: 100 },
+        vid,
+    })?;
+    let mut config = one_port!(last, vids, metrics, attached);
+    config.ports = 2;
+    Ok(config)
+}
+
 /// Makes a blank bridge that of a configuration with one port or more, with carrier at the first.
 fn make_of<B: Bridge>(bridge: &mut B, config: &BridgeConfig) -> Result<(), NoMemory>
     requires blank { (B.shown bridge.old).blank ≡ true }
@@ -148,6 +170,31 @@ fn hear<B: Bridge>(rt: &impl Abort, bridge: &mut B, port: u8, frame: &[u8], outb
     ensures still_ports { length (B.shown bridge.new).view.ports ≡ length (B.shown bridge.old).view.ports }
 {
     match heard(bridge, port, frame, outbox) {
+        Ok(()) => {}
+        Err(_) => panic!(*rt; "out of memory"),
+    }
+}
+
+/// Carrier comes at a port. The bridge stays made, with as many ports.
+fn carrier_set<B: Bridge>(bridge: &mut B, port: u8) -> Result<(), NoMemory>
+    requires made { (B.shown bridge.old).blank ≡ false }
+    requires low { 1 ≤ port }
+    requires high { port ≤ length (B.shown bridge.old).view.ports }
+    ensures still_made { (B.shown bridge.new).blank ≡ false }
+    ensures still_ports { OnOk result (length (B.shown bridge.new).view.ports ≡ length (B.shown bridge.old).view.ports) }
+{
+    bridge.carrier(port, true)
+}
+
+/// The same, with memory.
+fn set_carrier<B: Bridge>(rt: &impl Abort, bridge: &mut B, port: u8)
+    requires made { (B.shown bridge.old).blank ≡ false }
+    requires low { 1 ≤ port }
+    requires high { port ≤ length (B.shown bridge.old).view.ports }
+    ensures still_made { (B.shown bridge.new).blank ≡ false }
+    ensures still_ports { length (B.shown bridge.new).view.ports ≡ length (B.shown bridge.old).view.ports }
+{
+    match carrier_set(bridge, port) {
         Ok(()) => {}
         Err(_) => panic!(*rt; "out of memory"),
     }
@@ -231,6 +278,14 @@ impl<B: Bridge> Made<B> {
         Self::of(rt, alloc, blank, &config)
     }
 
+    /// One with two ports in the VID 10, whose customer port 1 is attached to the I-SID 100.
+    pub(crate) fn of_member(rt: &impl Abort, alloc: Global, blank: B, last: u8) -> Self
+        requires { (B.shown blank).blank ≡ true }
+    {
+        let config = config_of_member(alloc, last).expect(rt, "out of memory");
+        Self::of(rt, alloc, blank, &config)
+    }
+
     /// What is sent as a second passes.
     pub(crate) fn tick(&mut self, rt: &impl Abort) -> Outbox {
         let mut outbox = Outbox::new(self.alloc);
@@ -251,6 +306,12 @@ impl<B: Bridge> Made<B> {
         self.hear_at(rt, 1, frame)
     }
 
+    /// Carrier comes at a port.
+    pub(crate) fn carrier_at(&mut self, rt: &impl Abort, port: u8) {
+        assert!(*rt; 1 <= port && port <= self.ports);
+        set_carrier(rt, &mut self.bridge, port);
+    }
+
     /// Sets the metric of the link at the port 1.
     pub(crate) fn set_metric(&mut self, rt: &impl Abort, metric: u32)
         requires { IsMetric metric }
@@ -258,12 +319,17 @@ impl<B: Bridge> Made<B> {
         set_metric(rt, &mut self.bridge, metric);
     }
 
-    /// A second passes, and all that is sent comes to the port 1 of another.
-    pub(crate) fn tick_to(&mut self, rt: &impl Abort, to: &mut Self) {
+    /// A second passes, and all that is sent comes to a port of another.
+    pub(crate) fn tick_to_port(&mut self, rt: &impl Abort, to: &mut Self, port: u8) {
         let outbox = self.tick(rt);
         for sent in outbox.wire.as_slice() {
-            to.hear(rt, sent.1.as_slice());
+            to.hear_at(rt, port, sent.1.as_slice());
         }
+    }
+
+    /// The same at the port 1.
+    pub(crate) fn tick_to(&mut self, rt: &impl Abort, to: &mut Self) {
+        self.tick_to_port(rt, to, 1);
     }
 
     /// Seconds pass, and what is sent is lost.

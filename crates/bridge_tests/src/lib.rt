@@ -11,4 +11,6 @@ mod fixtures;
 #[cfg(test)]
 mod plain;
 #[cfg(test)]
+mod rows;
+#[cfg(test)]
 mod swift;

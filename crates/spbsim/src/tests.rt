@@ -5,9 +5,11 @@ use std::alloc::Global;
 use std::fmt::Debug;
 use std::process::Abort;
 
+mod asking_box;
 mod boxes;
 mod customers;
 mod databases;
+mod drills;
 mod drops;
 mod examples;
 mod fabrics;
@@ -15,6 +17,7 @@ mod failing_box;
 mod faults;
 mod frames;
 mod hellos;
+mod limits;
 mod quiet;
 mod refusals;
 mod restarts;
@@ -135,6 +138,11 @@ fn check(rt: &impl Abort, alloc: Global, script: &str, status: Status, text: &st
 /// Two texts in one.
 fn joined(rt: &impl Abort, alloc: Global, first: &str, second: &str) -> String {
     format!(in alloc; "{first}{second}").expect(rt, "out of memory")
+}
+
+/// So many times a text.
+fn repeated(rt: &impl Abort, alloc: Global, text: &str, times: usize) -> String {
+    text.repeat(alloc, times).expect(rt, "out of memory")
 }
 
 /// Asserts what lines behind a script answer, where all are accepted, in pieces of one byte and of fifty.

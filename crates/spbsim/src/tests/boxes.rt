@@ -4,6 +4,8 @@ ghost use Rattle.bridge_api.specs.Config.{IsWhole};
 ghost use Rattle.spb_network.specs.Network.{state_of, IsPortAt};
 ghost use Rattle.spb_run.specs.Replying.{IsAlive};
 
+use super::asking_box::AskingBox;
+use super::examples::{TWO_SERVICES, TWO_SERVICES_OUT};
 use super::{TWO, are_equal, sink, source, text_of, words_of};
 use crate::{Status, play_on};
 use adjacency::Adjacency;
@@ -15,6 +17,7 @@ use spb_run::Refusal;
 use spb_types::{BridgeId, LspId, Mac, Name, Seq, SourceId, SystemId};
 use std::alloc::Global;
 use std::process::Abort;
+use swift_bridge::SwiftBridge;
 
 /// Asserts that a script is played on the network of a rack until that has no blank box for the line of this number.
 fn check_spent<B: Bridge>(
@@ -206,4 +209,38 @@ fn the_boxes_of_a_network_can_be_asked(rt: HostRuntime) {
     put(&rt, &mut rack, blank(&rt, rt.alloc()));
     put(&rt, &mut rack, blank(&rt, rt.alloc()));
     check_boxes(&rt, rt.alloc(), rack);
+}
+
+/// A blank box of the other kind.
+fn swift(rt: &impl Abort, alloc: Global) -> Box<SwiftBridge> {
+    Box::new(alloc, SwiftBridge::blank(alloc)).expect(rt, "out of memory")
+}
+
+/// Asserts that TWO_SERVICES is answered for these words by boxes of a rack.
+fn check_services<B: Bridge>(rt: &impl Abort, alloc: Global, words: &str, rack: Vec<B>) {
+    let words = words_of(rt, alloc, words);
+    let mut source = source(rt, alloc, TWO_SERVICES, 100, 0);
+    let mut sink = sink(rt, alloc, 100, 0);
+    let status = play_on(alloc, &words, rack, &mut source, &mut sink);
+    are_equal(rt, &status, &Status::Done);
+    are_equal(rt, &text_of(rt, &sink), &TWO_SERVICES_OUT);
+}
+
+/// Asserts that of boxes which are asked for each row of their tables, four of each kind.
+fn check_rows(rt: &impl Abort, alloc: Global, words: &str) {
+    let mut rack: Vec<AskingBox<Box<dyn Bridge>>> = Vec::new(alloc);
+    for _ in 0..4 {
+        let plain: Box<dyn Bridge> = blank(rt, alloc);
+        put(rt, &mut rack, AskingBox::new(plain));
+        let other: Box<dyn Bridge> = swift(rt, alloc);
+        put(rt, &mut rack, AskingBox::new(other));
+    }
+    check_services(rt, alloc, words, rack);
+}
+
+#[test]
+fn boxes_of_each_kind_answer_each_row_of_their_tables(rt: HostRuntime) {
+    check_rows(&rt, rt.alloc(), "run");
+    check_rows(&rt, rt.alloc(), "run --kind swift");
+    check_rows(&rt, rt.alloc(), "run --kind mixed");
 }

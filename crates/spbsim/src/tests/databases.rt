@@ -1,5 +1,7 @@
 //! LSPs, and the databases that hold them.
-use super::{TWO, check_scripts};
+use super::{TWO, check_done, check_scripts, repeated};
+use std::alloc::Global;
+use std::process::Abort;
 
 /// Behind TWO. (A comes up over the link to B by a hello of each.)
 const DATABASES: &str = "\
@@ -92,4 +94,42 @@ db B
 #[test]
 fn databases_hold_what_each_bridge_said_last(rt: HostRuntime) {
     check_scripts(&rt, rt.alloc(), TWO, DATABASES);
+}
+
+/// TWO, and A hears B a hundred times. Each time it names B in its next two hellos, and forgets it before the third.
+/// None of these hellos has come to B yet.
+fn forgotten(rt: &impl Abort, alloc: Global) -> String {
+    let ticks = repeated(rt, alloc, "tick B\n", 100);
+    let heard = repeated(rt, alloc, "deliver L1 ba\ntick A\ntick A\ntick A\n", 100);
+    format!(in alloc; "{TWO}{ticks}{heard}").expect(rt, "out of memory")
+}
+
+/// Behind those lines.
+const TWO_HUNDRED: &str = "adj A
+db B
+drain 1000
+db B
+adj B
+";
+
+const TWO_HUNDRED_ANSWER: &str = "adj A 1
+p 1 down
+db B 1
+l 0200000000020000 live 1100 1 69bb srm - ssn -
+db B 1
+l 0200000000020000 live 1200 201 d784 srm - ssn -
+adj B 1
+p 1 init 020000000001 1 3 -
+";
+
+#[test]
+fn one_command_can_bring_two_hundred_originations(rt: HostRuntime) {
+    let before = forgotten(&rt, rt.alloc());
+    check_done(
+        &rt,
+        rt.alloc(),
+        before.as_str(),
+        TWO_HUNDRED,
+        TWO_HUNDRED_ANSWER,
+    );
 }

@@ -1,6 +1,10 @@
-//! The scripts of `examples/`, word for word, each with the output that stands beside it. That of `link-failure-drill`
-//! is the stored run of the program.
-use super::check;
+//! The scripts of `examples/`, word for word, each with the output that stands beside it. Those of the drills stand in
+//! `drills.rt`.
+use super::drills::{
+    LINK_FAILURE_DRILL, LINK_FAILURE_DRILL_OUT, QUIET_DRILL, QUIET_DRILL_OUT, RESTART_DRILL,
+    RESTART_DRILL_OUT,
+};
+use super::{check_call, sink, source};
 use crate::Status;
 use spb_network::Reason;
 use spb_run::Refusal;
@@ -136,166 +140,6 @@ adj A 1
 p 1 up 020000000002 1 3 -
 adj B 1
 p 1 up 020000000001 1 3 -
-";
-
-/// `quiet-drill.spb`.
-const QUIET_DRILL: &str =
-    "# Four bridges in a ring come up and are quiet. A link fails: north's tables lag behind until all is quiet again.
-vid 10 1
-bridge north 32768 020000000001 00001 2
-bridge east 32768 020000000002 00002 2
-bridge south 32768 020000000003 00003 2
-bridge west 32768 020000000004 00004 2
-link ne north 1 east 2 10
-link es east 1 south 2 10
-link sw south 1 west 2 10
-link wn west 1 north 2 10
-state
-round 32
-state
-show north
-# The link between east and south fails. North hears of it later.
-down es
-state
-show north
-wiring north
-# The network is given time. Then every bridge has the tables of the links as they are.
-round 32
-state
-show north
-wiring north
-";
-
-/// `quiet-drill.out`.
-const QUIET_DRILL_OUT: &str = "state busy q1
-state quiet
-show north quiet 3 0
-u 10 020000000002 1
-u 10 020000000003 1
-u 10 020000000004 2
-state busy q3
-show north busy 3 0
-u 10 020000000002 1
-u 10 020000000003 1
-u 10 020000000004 2
-wiring north 3 0
-u 10 020000000002 1
-u 10 020000000003 2
-u 10 020000000004 2
-state quiet
-show north quiet 3 0
-u 10 020000000002 1
-u 10 020000000003 2
-u 10 020000000004 2
-wiring north 3 0
-u 10 020000000002 1
-u 10 020000000003 2
-u 10 020000000004 2
-";
-
-/// `restart-drill.spb`.
-const RESTART_DRILL: &str =
-    "# Three leaves with a link to each of two spines. Spine1 is drained, restarts, and takes its traffic again.
-vid 10 1
-bridge spine1 4096 020000000001 00001 3
-bridge spine2 8192 020000000002 00002 3
-bridge leaf1 32768 020000000011 00011 2
-bridge leaf2 32768 020000000012 00012 2
-bridge leaf3 32768 020000000013 00013 2
-link s1l1 spine1 1 leaf1 1 10
-link s1l2 spine1 2 leaf2 1 10
-link s1l3 spine1 3 leaf3 1 10
-link s2l1 spine2 1 leaf1 2 10
-link s2l2 spine2 2 leaf2 2 10
-link s2l3 spine2 3 leaf3 2 10
-round 12
-state
-show leaf1
-# Its links become dear, so that the leaves go over spine2. Each change is a new LSP: the last one has number 7.
-metric s1l1 a 100
-metric s1l2 a 100
-metric s1l3 a 100
-round 8
-state
-show leaf1
-db leaf1
-# It restarts: what it held is gone, and its own LSP begins at number 1. Its neighbours have it Down.
-restart spine1
-state
-db spine1
-adj leaf1
-# They come up, and spine1 hears number 7 of its life before. It answers with number 8.
-round 3
-db spine1
-# When all is quiet again, everybody holds that. The links are as dear as they were.
-round 8
-state
-db leaf1
-show leaf1
-# They become cheap, and the tables are those of the beginning.
-metric s1l1 a 10
-metric s1l2 a 10
-metric s1l3 a 10
-round 8
-state
-show leaf1
-wiring leaf1
-";
-
-/// `restart-drill.out`.
-const RESTART_DRILL_OUT: &str = "state quiet
-show leaf1 quiet 4 0
-u 10 020000000001 1
-u 10 020000000002 2
-u 10 020000000012 1
-u 10 020000000013 1
-state quiet
-show leaf1 quiet 4 0
-u 10 020000000001 1
-u 10 020000000002 2
-u 10 020000000012 2
-u 10 020000000013 2
-db leaf1 5
-l 0200000000010000 live 1192 7 0bdf srm - ssn -
-l 0200000000020000 live 1182 4 be3b srm - ssn -
-l 0200000000110000 live 1182 3 bd4a srm - ssn -
-l 0200000000120000 live 1182 3 ff06 srm - ssn -
-l 0200000000130000 live 1182 3 42c1 srm - ssn -
-state busy q1 q3
-db spine1 1
-l 0200000000010000 live 1200 1 e080 srm - ssn -
-adj leaf1 2
-p 1 down
-p 2 up 020000000002 1 3 -
-db spine1 5
-l 0200000000010000 live 1200 8 09e0 srm 1,2,3 ssn -
-l 0200000000020000 live 1179 4 be3b srm - ssn 1,2,3
-l 0200000000110000 live 1199 5 b94c srm 2,3 ssn 1
-l 0200000000120000 live 1199 5 fb08 srm 1,3 ssn 2
-l 0200000000130000 live 1199 5 3ec3 srm 1,2 ssn 3
-state quiet
-db leaf1 5
-l 0200000000010000 live 1192 8 09e0 srm - ssn -
-l 0200000000020000 live 1171 4 be3b srm - ssn -
-l 0200000000110000 live 1191 5 b94c srm - ssn -
-l 0200000000120000 live 1191 5 fb08 srm - ssn -
-l 0200000000130000 live 1191 5 3ec3 srm - ssn -
-show leaf1 quiet 4 0
-u 10 020000000001 1
-u 10 020000000002 2
-u 10 020000000012 2
-u 10 020000000013 2
-state quiet
-show leaf1 quiet 4 0
-u 10 020000000001 1
-u 10 020000000002 2
-u 10 020000000012 1
-u 10 020000000013 1
-wiring leaf1 4 0
-u 10 020000000001 1
-u 10 020000000002 2
-u 10 020000000012 1
-u 10 020000000013 1
 ";
 
 /// `two-tenants.spb`.
@@ -442,7 +286,7 @@ path leaf1 leaf2 20 20 2 leaf1 spine2 leaf2
 ";
 
 /// `two-services.spb`.
-const TWO_SERVICES: &str =
+pub(super) const TWO_SERVICES: &str =
     "# Four bridges in a ring, and two services, each in a base VID of its own: which ports lead to their members?
 vid 10 1
 vid 20 2
@@ -478,7 +322,7 @@ path south north 10
 ";
 
 /// `two-services.out`.
-const TWO_SERVICES_OUT: &str = "show north quiet 6 2
+pub(super) const TWO_SERVICES_OUT: &str = "show north quiet 6 2
 u 10 020000000002 1
 u 10 020000000003 1
 u 10 020000000004 2
@@ -633,18 +477,40 @@ const UNDECLARED_BRIDGE_OUT: &str = "wiring A 0 0
 error 5 2 NoSuchName
 ";
 
-/// Asserts that an example is answered so, and all its lines are accepted.
+/// Asserts how a run for these words over an example ends and what it writes.
+fn check_words(
+    rt: &impl Abort,
+    alloc: Global,
+    words: &str,
+    script: &str,
+    status: Status,
+    text: &str,
+) {
+    let source = source(rt, alloc, script, 50, 0);
+    let sink = sink(rt, alloc, 50, 0);
+    check_call(rt, alloc, words, source, sink, status, text);
+}
+
+/// The same for bridges of each kind.
+fn check_kinds(rt: &impl Abort, alloc: Global, script: &str, status: Status, text: &str) {
+    check_words(rt, alloc, "run", script, status, text);
+    check_words(rt, alloc, "run --kind swift", script, status, text);
+    check_words(rt, alloc, "run --kind mixed", script, status, text);
+}
+
+/// Asserts that bridges of each kind answer an example so, and that all its lines are accepted.
 fn check_example(rt: &impl Abort, alloc: Global, script: &str, text: &str) {
-    check(rt, alloc, script, Status::Done, text);
+    check_kinds(rt, alloc, script, Status::Done, text);
 }
 
 #[test]
-fn each_example_is_answered_as_beside_it(rt: HostRuntime) {
+fn each_example_is_answered_by_each_kind_as_beside_it(rt: HostRuntime) {
     let alloc = rt.alloc();
     check_example(&rt, alloc, POINT_TO_POINT, POINT_TO_POINT_OUT);
     check_example(&rt, alloc, EQUAL_COST_PATHS, EQUAL_COST_PATHS_OUT);
     check_example(&rt, alloc, METRO_RING, METRO_RING_OUT);
     check_example(&rt, alloc, LOST_HELLOS, LOST_HELLOS_OUT);
+    check_example(&rt, alloc, LINK_FAILURE_DRILL, LINK_FAILURE_DRILL_OUT);
     check_example(&rt, alloc, QUIET_DRILL, QUIET_DRILL_OUT);
     check_example(&rt, alloc, RESTART_DRILL, RESTART_DRILL_OUT);
     check_example(&rt, alloc, TWO_TENANTS, TWO_TENANTS_OUT);
@@ -653,7 +519,7 @@ fn each_example_is_answered_as_beside_it(rt: HostRuntime) {
     check_example(&rt, alloc, CUSTOMERS_FRAMES, CUSTOMERS_FRAMES_OUT);
     check_example(&rt, alloc, DROPS_IN_BETWEEN, DROPS_IN_BETWEEN_OUT);
     let undeclared = Status::Refused(5, Refusal::Command(Reason::NoSuchName));
-    check(
+    check_kinds(
         &rt,
         alloc,
         UNDECLARED_BRIDGE,

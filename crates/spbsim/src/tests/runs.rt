@@ -1,6 +1,6 @@
 //! Runs of scripts: the pieces in which the program reads and writes, and how it ends.
 use super::examples::{EQUAL_COST_PATHS, EQUAL_COST_PATHS_OUT, POINT_TO_POINT, POINT_TO_POINT_OUT};
-use super::{are_equal, check, check_call, check_in_pieces, joined, sink, source};
+use super::{are_equal, check, check_call, check_in_pieces, joined, repeated, sink, source};
 use crate::Status;
 use spb_run::Refusal;
 use std::alloc::Global;
@@ -27,11 +27,6 @@ fn scripts_are_answered_in_pieces_of_any_size(rt: HostRuntime) {
     check_pieces(&rt, rt.alloc(), 7);
     check_pieces(&rt, rt.alloc(), 4096);
     check_pieces(&rt, rt.alloc(), 100_000);
-}
-
-/// So many times a text.
-fn repeated(rt: &impl Abort, alloc: Global, text: &str, times: usize) -> String {
-    text.repeat(alloc, times).expect(rt, "out of memory")
 }
 
 #[test]
