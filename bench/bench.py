@@ -105,6 +105,15 @@ def by_kind():
     yield "48 bridges, 60 links, 60 changes", changes(48, 60, 60, 60)
 
 
+def need(programs):
+    """Ends with status 2 where one of the programs isn't there, and says which."""
+    for program in programs:
+        if not shutil.which(program):
+            made = ": ./build makes it" if program == BUILT else ""
+            print(f"bench.py: {os.path.relpath(program)} isn't there{made}", file=sys.stderr)
+            sys.exit(2)
+
+
 def high_water(pid):
     """The most memory that a process has had so far, in MB; None once it has ended."""
     try:
@@ -167,9 +176,10 @@ def main():
     counts = "--count" in words
     if counts and not shutil.which("valgrind"):
         sys.exit("bench: --count needs valgrind on the path")
+    programs = [BUILT] + [word for word in words if word not in ("--count", "--kinds")]
+    need(programs)
     if "--kinds" in words:
         return compare_kinds(counts)
-    programs = [BUILT] + [word for word in words if word != "--count"]
     head = f"{'workload':44} {'program':16} {'cpu s':>8} {'peak MB':>8} {'hellos/s':>13}"
     print(head + (f" {'10^6 instr.':>12}" if counts else ""))
     for name, lines, hellos in workloads():

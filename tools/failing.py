@@ -1,4 +1,4 @@
-"""The built program, run with calls that fail: what refuse_memory.py and fail_io.py share."""
+"""The built program, run with calls that fail: what refuse_memory.py, fail_io.py and fuzz.py share."""
 import concurrent.futures
 import glob
 import os
@@ -17,6 +17,15 @@ def add_arguments(parser):
     parser.add_argument("program", nargs="?", default=BUILT, help="the built program (default: this repository's)")
     parser.add_argument("--most", type=int, help="try at most so many calls of each script, evenly spread")
     parser.add_argument("--jobs", type=int, default=os.cpu_count(), help="how many runs at once")
+
+
+def needed(program):
+    """The whole path of a program. Where it isn't there, this says so and ends with status 2."""
+    if os.path.isfile(program) and os.access(program, os.X_OK):
+        return os.path.abspath(program)
+    made = ": ./build makes it" if program == BUILT else ""
+    print(f"{os.path.basename(sys.argv[0])}: {os.path.relpath(program)} isn't there{made}", file=sys.stderr)
+    sys.exit(2)
 
 
 def scripts():
@@ -42,9 +51,7 @@ class Failing:
     """The program and the library that lets its calls fail, compiled into a folder of its own."""
 
     def __init__(self, program):
-        self.program = os.path.abspath(program)
-        if not os.access(self.program, os.X_OK):
-            sys.exit(f"{program} isn't there: build it first, by ./build")
+        self.program = needed(program)
         self.folder = tempfile.TemporaryDirectory()
         self.library = os.path.join(self.folder.name, "fail_calls.so")
         source = os.path.join(HERE, "fail_calls.c")

@@ -114,7 +114,7 @@ def in_pieces(program, script, pick):
 
 def try_scripts(told):
     """Plays scripts until so many were played or the time has passed; 1 where one is answered differently in pieces."""
-    program = os.path.abspath(told.program)
+    program = failing.needed(told.program)
     statuses, reasons, lines, begun = collections.Counter(), collections.Counter(), 0, time.monotonic()
     for number in range(told.scripts):
         if time.monotonic() - begun > told.seconds:
