@@ -20,7 +20,7 @@ use Rattle.itag_frames.specs.Frame as frames
 use Rattle.itag_frames.specs.Backbone.{CanBeCarried, backbone_in, backbone_bytes}
 use Rattle.itag_frames.specs.Classify.{content_in}
 use Rattle.itag_frames.proofs.BackboneLaws.{encapsulated_again, encapsulated_is_no_control, opened_can_be_carried}
-use Rattle.forwarding.specs.declared.drop_reason.DropReason.TheVariants as drop
+use Rattle.spb_types.specs.declared.drop_reason.DropReason.TheVariants as drop
 use Rattle.bridge_api.specs.Parsing.{Parsed, is_octets, parsed, by_content, by_pdu, by_three_way, by_reading}
 use Rattle.bridge_api.specs.Parsing as parsing
 use Rattle.bridge_api.proofs.Octets.{AreSmall, small_octets}

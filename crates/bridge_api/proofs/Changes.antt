@@ -15,8 +15,8 @@ use Rattle.spb_tlvs.specs.declared.entries.SnpEntry.{SnpEntry}
 use Rattle.spb_tlvs.specs.declared.three_way.ThreeWay.{ThreeWay}
 use Rattle.customer_learning.specs.Known.{Addresses}
 use Rattle.forwarding.specs.Tenant.{after_backbone}
-use Rattle.forwarding.specs.declared.drop_reason.DropReason.{DropReason}
-use Rattle.forwarding.specs.declared.drop_reason.DropReason.TheVariants as drop
+use Rattle.spb_types.specs.declared.drop_reason.DropReason.{DropReason}
+use Rattle.spb_types.specs.declared.drop_reason.DropReason.TheVariants as drop
 use Rattle.lsdb.specs.Database.{Lsps}
 use Rattle.snp_sync.specs.Reading.{entries_in}
 use Rattle.adjacency.specs.declared.state.AdjacencyChange.{AdjacencyChange}

@@ -39,7 +39,7 @@ use Rattle.bridge_api.specs.declared.port.BridgePort.{BridgePort}
 use Rattle.bridge_api.specs.View.{BridgeView, port_at, neighbour_at, is_port_up, has_carrier_in, has_carrier_at}
 use Rattle.bridge_api.specs.Parsing.{parsed, is_octets, by_content, by_pdu, by_three_way, by_reading}
 use Rattle.bridge_api.specs.Parsing as parsing
-use Rattle.forwarding.specs.declared.drop_reason.DropReason.TheVariants as drop
+use Rattle.spb_types.specs.declared.drop_reason.DropReason.TheVariants as drop
 use Rattle.bridge_api.specs.Ticking.{later, readied, hello_tlvs, hello_at, hello_frame, lsp_frame, csnp_frame, psnp_frame, hellos_at, summaries_at, lsps_at, requests_at, synced_at, sent_at, after_sending_at, sent_from, sent_in_tick, after_tick}
 use Rattle.bridge_api.specs.Laws.{IsSoundPort, IsSent, IsHelloOf, AreOctets, HellosAreHeard, SentWithCarrier}
 use Rattle.bridge_api.proofs.Changes.{found, readied_ports, readied_rest, ticked, tick_port, when_true}

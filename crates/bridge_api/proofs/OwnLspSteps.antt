@@ -35,7 +35,7 @@ use Rattle.spb_types.specs.declared.service.Attachment.{Attachment}
 use Rattle.bridge_api.specs.declared.port.BridgePort.{BridgePort}
 use Rattle.bridge_api.specs.declared.config.BridgeConfig.{BridgeConfig}
 use Rattle.bridge_api.specs.declared.drops.Drops.{Drops}
-use Rattle.forwarding.specs.declared.drop_reason.DropReason.TheVariants as drop
+use Rattle.spb_types.specs.declared.drop_reason.DropReason.TheVariants as drop
 use Rattle.bridge_api.specs.Drops.{raised_at}
 use Rattle.bridge_api.specs.View.{BridgeView, with_port_at, is_port_up, up_ports, with_drops}
 use Rattle.bridge_api.specs.Own.{neighbour_in, neighbours_from, member_of, body_of, own_of, holding_of, with_holding, own_entry, body_in, is_said, Lasts, IsAlive, originating, originated_if_changed}

@@ -38,7 +38,7 @@ use Rattle.bridge_api.specs.View.{BridgeView, port_in, port_at, with_port_at, is
 use Rattle.bridge_api.specs.Own.{own_entry, is_said, holding_of, originating, originated_if_changed}
 use Rattle.bridge_api.specs.Parsing.{Parsed, parsed}
 use Rattle.bridge_api.specs.Parsing as parsing
-use Rattle.forwarding.specs.declared.drop_reason.DropReason.TheVariants as drop
+use Rattle.spb_types.specs.declared.drop_reason.DropReason.TheVariants as drop
 use Rattle.bridge_api.specs.Hearing.{after_drop, with_csnp_due, with_adjacency, left_up, all_srm_set_at, entered_up, changed_at, heard_hello, heard_lsp, heard_csnp, heard_psnp, with_csnp, with_psnp, heard_as, heard_at, after_receive, with_carrier_at, with_carrier, with_port_metric, with_metric_at, with_metric}
 use Rattle.bridge_api.specs.Ticking.{later, leaves, leaving_from, flags_cleared_at_all, counts_lowered, expired, is_old, refreshed, readied, after_sending_at, after_sending_from, after_sending, after_tick}
 use Rattle.bridge_api.specs.Customers.{after_entry}

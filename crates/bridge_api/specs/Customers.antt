@@ -10,7 +10,7 @@ use Rattle.customer_learning.specs.declared.place.Place.TheVariants.{Local, Remo
 use Rattle.forwarding.specs.declared.moved.Moved.{Moved}
 use Rattle.forwarding.specs.declared.tenant.Tenant.{Tenant}
 use Rattle.forwarding.specs.Tenant.{Carried, nothing, after_customer, of_customer, after_backbone, of_backbone, step_of, dropped_by}
-use Rattle.forwarding.specs.declared.drop_reason.DropReason.{DropReason}
+use Rattle.spb_types.specs.declared.drop_reason.DropReason.{DropReason}
 use Rattle.bridge_api.specs.declared.port.BridgePort.{BridgePort}
 use Rattle.bridge_api.specs.View.{BridgeView, port_at}
 use Rattle.bridge_api.specs.Drops.{raised_for}

@@ -1,7 +1,7 @@
 -- How many frames were dropped, and why.
 use Rattle.std.specs.Prelude.{ℕ, zero, suc, ◌+◌, ◌-◌, ◌^◌, min, List, [], ◌∷◌, Option, Some, None}
-use Rattle.forwarding.specs.declared.drop_reason.DropReason.{DropReason}
-use Rattle.forwarding.specs.declared.drop_reason.DropReason.TheVariants.{Frame, Pdu, Tlv, NotAdjacent, Hello, Ingress, NoWay, Mismatch, Full}
+use Rattle.spb_types.specs.declared.drop_reason.DropReason.{DropReason}
+use Rattle.spb_types.specs.declared.drop_reason.DropReason.TheVariants.{Frame, Pdu, Tlv, NotAdjacent, Hello, Ingress, NoWay, Mismatch, Full}
 use Rattle.bridge_api.specs.declared.drops.Drops.{Drops}
 
 -- a count goes up by one, and stops at the greatest number of 64 bits

@@ -20,8 +20,8 @@ use Rattle.bridge_api.specs.Parsing.{Parsed, parsed}
 use Rattle.bridge_api.specs.Parsing as parsing
 use Rattle.bridge_api.specs.Customers.{forwarded}
 use Rattle.bridge_api.specs.Drops.{raised_at}
-use Rattle.forwarding.specs.declared.drop_reason.DropReason.{DropReason}
-use Rattle.forwarding.specs.declared.drop_reason.DropReason.TheVariants as drop
+use Rattle.spb_types.specs.declared.drop_reason.DropReason.{DropReason}
+use Rattle.spb_types.specs.declared.drop_reason.DropReason.TheVariants as drop
 
 -- a frame that is dropped is counted, and changes nothing else
 abbrev pub after_drop : DropReason → BridgeView → BridgeView

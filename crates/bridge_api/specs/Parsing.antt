@@ -17,8 +17,8 @@ use Rattle.itag_frames.specs.Frame.{Content}
 use Rattle.itag_frames.specs.Classify.{content_in}
 use Rattle.itag_frames.specs.Frame as frames
 use Rattle.spb_tlvs.specs.declared.codes.TheConstants.{THREE_WAY_ADJACENCY}
-use Rattle.forwarding.specs.declared.drop_reason.DropReason.{DropReason}
-use Rattle.forwarding.specs.declared.drop_reason.DropReason.TheVariants as drop
+use Rattle.spb_types.specs.declared.drop_reason.DropReason.{DropReason}
+use Rattle.spb_types.specs.declared.drop_reason.DropReason.TheVariants as drop
 
 -- a frame that every bridge drops, or one that it hears by its kind
 pub data Parsed : Type 0 where

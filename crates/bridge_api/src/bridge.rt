@@ -2,9 +2,8 @@ use crate::config::BridgeConfig;
 use crate::kind::Kind;
 use crate::outbox::Outbox;
 use adjacency::Adjacency;
-use forwarding::DropReason;
 use lsdb::Held;
-use spb_types::{Isid, Mac, NoMemory, Path, PortSet, SystemId, Tables, Vid};
+use spb_types::{DropReason, Isid, Mac, NoMemory, Path, PortSet, SystemId, Tables, Vid};
 
 /// A bridge of the backbone, with its IS-IS control.
 ///

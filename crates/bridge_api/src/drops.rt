@@ -2,7 +2,7 @@
 ghost use Rattle.std.specs.Prelude.{◌≡◌};
 ghost use Rattle.bridge_api.specs.Drops as spec;
 
-use forwarding::DropReason;
+use spb_types::DropReason;
 
 /// How many frames a bridge has dropped for each reason, in the order of [`DropReason`]. Each count stops at the
 /// greatest `u64`.

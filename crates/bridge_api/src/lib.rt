@@ -42,7 +42,6 @@
 pub use bridge::Bridge;
 pub use config::BridgeConfig;
 pub use drops::Drops;
-pub use forwarding::DropReason;
 pub use kind::Kind;
 pub use laws::{
     bridges_are_sound, cut_says_nothing, dropped_frames_are_counted, entering_up_is_whole,
@@ -53,6 +52,7 @@ pub use laws::{
 };
 pub use outbox::Outbox;
 pub use port::BridgePort;
+pub use spb_types::DropReason;
 
 mod bridge;
 mod config;

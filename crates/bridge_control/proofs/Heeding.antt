@@ -18,7 +18,7 @@ use Rattle.flooding.specs.Own.{own_id}
 use Rattle.flooding.specs.Hearing.{Holding, lsp_rule, snp_rule, claim_of, heard_by, own_after, lacks_place, after_claim, hear_lsp_of, is_full_for_lsp, hear_entry_of}
 use Rattle.flooding.specs.Placing.{holding}
 use Rattle.flooding.proofs.Owns.{own_stands}
-use Rattle.forwarding.specs.declared.drop_reason.DropReason.TheVariants as drop
+use Rattle.spb_types.specs.declared.drop_reason.DropReason.TheVariants as drop
 use Rattle.snp_sync.specs.Hearing.{claims_in, full_count, hear_entries_of, ids_of, is_missed, flag_if, hear_csnp_of}
 use Rattle.snp_sync.proofs.Stays.{entries_leave_own}
 use Rattle.bridge_api.specs.declared.port.BridgePort.{BridgePort}

@@ -19,7 +19,7 @@ use Rattle.std.specs.Prelude.{slice_get}
 use Rattle.bridge_control.specs.Carrying.{is_customer, carries_customer}
 use Rattle.bridge_api.specs.Parsing.{by_content, by_pdu, by_three_way, by_reading, parsed}
 use Rattle.bridge_api.specs.Parsing as parsing
-use Rattle.forwarding.specs.declared.drop_reason.DropReason.TheVariants as drop
+use Rattle.spb_types.specs.declared.drop_reason.DropReason.TheVariants as drop
 use Rattle.bridge_api.proofs.Octets.{bytes_small, octets_small}
 
 pub parsed_as : (frame : List ℕ) (content : Result Content FrameError) → IsBytes frame → content ≡ content_in frame → by_content content ≡ parsed frame

@@ -9,7 +9,7 @@ use Rattle.spb_types.specs.declared.tables.Tables.{Tables}
 use Rattle.itag_frames.specs.Backbone.{backbone_bytes}
 use Rattle.customer_learning.specs.Known.{place_in}
 use Rattle.customer_learning.specs.declared.place.Place.TheVariants.{Local}
-use Rattle.forwarding.specs.declared.drop_reason.DropReason.TheVariants as reason
+use Rattle.spb_types.specs.declared.drop_reason.DropReason.TheVariants as reason
 use Rattle.forwarding.specs.declared.tenant.Tenant.{Tenant}
 use Rattle.forwarding.specs.Ports.{attachment_of}
 use Rattle.forwarding.specs.Tenant.{Carried, after_backbone, after_customer, dropped_for, of_backbone, of_customer}

@@ -14,8 +14,8 @@ use Rattle.itag_frames.specs.Backbone.{backbone_bytes}
 use Rattle.customer_learning.specs.Known.{Addresses, same_mac, place_in, with_learned}
 use Rattle.customer_learning.specs.declared.place.Place.{Place}
 use Rattle.customer_learning.specs.declared.place.Place.TheVariants as place
-use Rattle.forwarding.specs.declared.drop_reason.DropReason.{DropReason}
-use Rattle.forwarding.specs.declared.drop_reason.DropReason.TheVariants as reason
+use Rattle.spb_types.specs.declared.drop_reason.DropReason.{DropReason}
+use Rattle.spb_types.specs.declared.drop_reason.DropReason.TheVariants as reason
 use Rattle.forwarding.specs.declared.moved.Moved.{Moved}
 use Rattle.forwarding.specs.declared.going.Going.{Going}
 use Rattle.forwarding.specs.declared.going.Going.TheVariants as going

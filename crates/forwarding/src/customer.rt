@@ -6,12 +6,12 @@ ghost use Rattle.forwarding.specs.Tenant as spec;
 use crate::copies::{leaving, local_but_for, on_wire};
 use crate::going::{Going, going_of, learn_source};
 use crate::ports::{attachment_of, ports_in, receiving_ports};
-use crate::{DropReason, Moved, Tenant};
+use crate::{Moved, Tenant};
 use customer_learning::Place;
 use itag_frames::encapsulate;
 use shared_frames::Frame;
 use spb_types::{
-    Attachment, Mac, NoMemory, Seq, Tables, group_address, group_of, mac_in, unicast_of,
+    Attachment, DropReason, Mac, NoMemory, Seq, Tables, group_address, group_of, mac_in, unicast_of,
 };
 use std::alloc::Global;
 

@@ -9,7 +9,6 @@
 pub use backbone::from_backbone;
 pub use customer::from_customer;
 pub use detaching::{detach, without_customer_port};
-pub use drop_reason::DropReason;
 pub use laws::{
     ingress_failure_changes_nothing, places_stay_in_their_service, services_stay_apart,
 };
@@ -20,7 +19,6 @@ mod backbone;
 mod copies;
 mod customer;
 mod detaching;
-mod drop_reason;
 mod going;
 mod laws;
 mod moved;

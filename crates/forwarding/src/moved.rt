@@ -1,9 +1,8 @@
 ghost use Rattle.std.specs.Prelude.{◌≡◌};
 ghost use Rattle.forwarding.specs.Tenant as spec;
 
-use crate::DropReason;
 use shared_frames::Frame;
-use spb_types::Seq;
+use spb_types::{DropReason, Seq};
 use std::alloc::Global;
 
 /// What a frame makes a bridge send, in order, each frame with the number of its port, or why it is dropped.

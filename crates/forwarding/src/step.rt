@@ -3,12 +3,12 @@ ghost use Rattle.spb_types.specs.Tables.{unicast_in};
 ghost use Rattle.forwarding.specs.Ports.{is_way};
 ghost use Rattle.forwarding.specs.Tenant as spec;
 
+use crate::Tenant;
 use crate::copies::wire_but_for;
 use crate::ports::ports_in;
-use crate::{DropReason, Tenant};
 use itag_frames::Backbone;
 use spb_types::{
-    Isid, Mac, NoMemory, PortSet, Tables, Vid, group_of, ingress_ok, u24_in, unicast_of,
+    DropReason, Isid, Mac, NoMemory, PortSet, Tables, Vid, group_of, ingress_ok, u24_in, unicast_of,
 };
 use std::alloc::Global;
 

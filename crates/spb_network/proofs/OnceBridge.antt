@@ -22,7 +22,7 @@ use Rattle.itag_frames.specs.Classify.{content_in}
 use Rattle.itag_frames.proofs.ClassifyLaws.{carried_again}
 use Rattle.customer_learning.specs.Known.{place_in, same_mac}
 use Rattle.forwarding.specs.declared.going.Going.TheVariants.{Everywhere}
-use Rattle.forwarding.specs.declared.drop_reason.DropReason.TheVariants as drop
+use Rattle.spb_types.specs.declared.drop_reason.DropReason.TheVariants as drop
 use Rattle.forwarding.specs.declared.moved.Moved.{Moved}
 use Rattle.forwarding.specs.declared.step.Step.{Step}
 use Rattle.forwarding.specs.declared.step.Step.TheVariants as step

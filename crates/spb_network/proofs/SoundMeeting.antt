@@ -38,7 +38,7 @@ use Rattle.bridge_api.specs.View.{BridgeView, metrics_of, port_in, neighbour_at,
 use Rattle.bridge_api.specs.Own.{neighbours_from, member_of, local_of, body_of, body_in, Lasts, IsAlive}
 use Rattle.bridge_api.specs.Parsing.{parsed, is_octets, by_content}
 use Rattle.bridge_api.specs.Parsing as parsing
-use Rattle.forwarding.specs.declared.drop_reason.DropReason.TheVariants as drop
+use Rattle.spb_types.specs.declared.drop_reason.DropReason.TheVariants as drop
 use Rattle.bridge_api.specs.Hearing.{with_csnp_due}
 use Rattle.bridge_api.specs.Ticking.{later, readied, hello_frame, lsp_frame, sent_from, sent_in_tick}
 use Rattle.bridge_api.specs.Step.{second, frame, step, sent}

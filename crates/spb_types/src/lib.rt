@@ -7,6 +7,7 @@
 #![tactic(auto)]
 
 pub use address::{BridgeId, LspId, Mac, SystemId, group_address};
+pub use drop_reason::DropReason;
 pub use ect::ect_mask;
 pub use fields::{lsp_id_in, mac_in, system_in, u16_in, u24_in, u32_in};
 pub use graph::{Edge, Graph, GraphBridge, Member};
@@ -21,6 +22,7 @@ pub use tables::{GroupRow, Path, Tables, UnicastRow, group_of, ingress_ok, unica
 pub use take::{Short, take_u8, take_u16, take_u24, take_u32};
 
 mod address;
+mod drop_reason;
 mod ect;
 mod fields;
 mod graph;

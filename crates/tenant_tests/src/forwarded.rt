@@ -1,10 +1,11 @@
 //! Tests of what becomes of frames.
 use crate::fixtures::{ISID, TO_ALL, VID, are_bytes, are_equal, mac};
 use customer_learning::{Learned, Place};
-use forwarding::{DropReason, Moved, Tenant, from_backbone, from_customer};
+use forwarding::{Moved, Tenant, from_backbone, from_customer};
 use itag_frames::{encapsulate, open_frame};
 use spb_types::{
-    Attachment, GroupRow, Isid, Mac, PortSet, Seq, SourceId, Tables, UnicastRow, group_address,
+    Attachment, DropReason, GroupRow, Isid, Mac, PortSet, Seq, SourceId, Tables, UnicastRow,
+    group_address,
 };
 use std::alloc::Global;
 use std::process::Abort;

@@ -1,6 +1,6 @@
 use Rattle.std.proofs.Common.{ap, ◌∙◌}
 use Rattle.std.proofs.lemmas.Result.{on_ok_weaker}
-use Rattle.forwarding.specs.declared.drop_reason.DropReason.TheVariants as drop
+use Rattle.spb_types.specs.declared.drop_reason.DropReason.TheVariants as drop
 use Rattle.bridge_api.specs.Drops.{raised_at}
 use Rattle.isis_pdu.specs.Pdu.{csnp_of}
 use Rattle.flooding.specs.Placing.{holding}

@@ -3,7 +3,7 @@ use Rattle.std.proofs.lemmas.Result.{on_ok_weaker}
 use Rattle.isis_pdu.specs.Pdu.{lsp_of}
 use Rattle.flooding.specs.Hearing.{hear_lsp_of}
 use Rattle.flooding.specs.Placing.{holding}
-use Rattle.forwarding.specs.declared.drop_reason.DropReason.TheVariants as drop
+use Rattle.spb_types.specs.declared.drop_reason.DropReason.TheVariants as drop
 use Rattle.bridge_api.specs.Drops.{raised_at}
 use Rattle.bridge_control.proofs.Owning.{some_body, after_same}
 use Rattle.spb_types.specs.Address.{same_system}
