@@ -13,10 +13,6 @@ pub mod Ticking
 pub mod Step
 pub mod Among
 pub mod Laws
-pub mod Apart
 pub mod Duties
 pub mod Graph
-pub mod Few
 pub mod Time
-pub mod Counting
-pub mod Dropping

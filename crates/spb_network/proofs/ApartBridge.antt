@@ -1,6 +1,6 @@
 -- The laws of a step of a bridge, on which it rests that services stay apart in a network.
-use Rattle.bridge_api.specs.Apart.{SentHasEntered, LeftHasEntered, ConfiguredIsPlaced, StepsKeepPlaces}
-use Rattle.bridge_api.proofs.Isolation as apart
+use Rattle.bridge_laws.specs.Apart.{SentHasEntered, LeftHasEntered, ConfiguredIsPlaced, StepsKeepPlaces}
+use Rattle.bridge_laws.proofs.Isolation as apart
 
 pub sent_has_entered : SentHasEntered
 sent_has_entered = apart.sent_has_entered

@@ -4,7 +4,7 @@ use Rattle.std.specs.List.{AllByRecursion}
 use Rattle.scenario.specs.declared.command.Command.{Command}
 use Rattle.link_model.specs.Lanes.{lane_of}
 use Rattle.spb_types.specs.declared.service.Isid.{Isid}
-use Rattle.bridge_api.specs.Apart.{CarriesEntered}
+use Rattle.bridge_laws.specs.Apart.{CarriesEntered}
 use Rattle.spb_network.specs.declared.kind_rule.KindRule.{KindRule}
 use Rattle.spb_network.specs.State.{State, Spare}
 use Rattle.spb_network.specs.Refusing.{refusal_of}

@@ -14,7 +14,7 @@ use Rattle.forwarding.specs.Ports.{attachment_of}
 use Rattle.forwarding.specs.Laws.{IsAttachedTo}
 use Rattle.bridge_api.specs.View.{BridgeView}
 use Rattle.bridge_api.specs.Config.{ArePairwise}
-use Rattle.bridge_api.specs.Apart.{CarriesEntered, Brings, LeavesEntered}
+use Rattle.bridge_laws.specs.Apart.{CarriesEntered, Brings, LeavesEntered}
 use Rattle.bridge_api.specs.Step as comes
 use Rattle.bridge_api.specs.Step.{Input, left_by}
 use Rattle.spb_network.specs.declared.declaration.DeclaredLink.{DeclaredLink}

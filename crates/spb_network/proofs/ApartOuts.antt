@@ -14,7 +14,7 @@ use Rattle.spb_types.specs.declared.service.Attachment.{Attachment}
 use Rattle.forwarding.specs.Laws.{IsAttachedTo}
 use Rattle.bridge_api.specs.View.{BridgeView}
 use Rattle.bridge_api.specs.Config.{ArePairwise}
-use Rattle.bridge_api.specs.Apart.{LeavesEntered}
+use Rattle.bridge_laws.specs.Apart.{LeavesEntered}
 use Rattle.bridge_api.specs.Step.{Input, step, sent, left_by}
 use Rattle.spb_network.specs.declared.answer.Out.{Out}
 use Rattle.spb_network.specs.World.{World, names_of, place_of, attached_at}

@@ -17,7 +17,7 @@ use Rattle.forwarding.specs.Placed.{ArePlaced}
 use Rattle.bridge_api.specs.View.{BridgeView}
 use Rattle.bridge_api.specs.Config.{configured}
 use Rattle.bridge_api.specs.Customers.{tenant_of}
-use Rattle.bridge_api.specs.Apart.{CarriesEntered}
+use Rattle.bridge_laws.specs.Apart.{CarriesEntered}
 use Rattle.bridge_api.specs.Laws.{IsSoundView}
 use Rattle.spb_network.specs.declared.answer.Answer.{Answer}
 use Rattle.spb_network.specs.declared.answer.Answer.TheVariants.{Outs, Show, Wiring, Db, Adj, Drops}

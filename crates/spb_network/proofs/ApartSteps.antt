@@ -11,7 +11,7 @@ use Rattle.spb_types.specs.declared.service.Isid.{Isid}
 use Rattle.forwarding.specs.Placed.{ArePlaced}
 use Rattle.bridge_api.specs.View.{BridgeView}
 use Rattle.bridge_api.specs.Customers.{tenant_of}
-use Rattle.bridge_api.specs.Apart.{CarriesEntered, Brings}
+use Rattle.bridge_laws.specs.Apart.{CarriesEntered, Brings}
 use Rattle.bridge_api.specs.Step.{Input, step, sent, left_by}
 use Rattle.bridge_api.specs.Laws.{IsSoundView}
 use Rattle.spb_network.specs.declared.answer.Out.{Out}

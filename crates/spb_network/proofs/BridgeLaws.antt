@@ -1,21 +1,21 @@
 -- The laws of a step of a bridge, on which what is sound of a network rests.
 use Rattle.itag_frames.proofs.ControlLaws.{control_again}
 use Rattle.bridge_api.specs.Laws.{ConfiguredIsSound, ConfiguredHasNoCarrier, StepsStaySound, StepsKeepBridge, StepsKeepCarrier, StepsKeepNeighbours, SentIsSound, OneHello, HellosAreHeard, UpPortsAreUp, StepsCarryDatabase, ConfiguredHoldsOwn}
-use Rattle.bridge_api.specs.Counting.{StepsHoldIds, StepsLearnVersions, StepsAnswer, StepsOriginate, StepsDontSpend, ConfiguredIsFar}
+use Rattle.bridge_laws.specs.Counting.{StepsHoldIds, StepsLearnVersions, StepsAnswer, StepsOriginate, StepsDontSpend, ConfiguredIsFar}
 use Rattle.bridge_api.specs.Time.{SecondsAge}
-use Rattle.bridge_api.proofs.Answering as answering
+use Rattle.bridge_laws.proofs.Answering as answering
 use Rattle.bridge_api.proofs.Certified as certified
 use Rattle.bridge_api.proofs.Carriers as carriers
 use Rattle.bridge_api.proofs.DataSteps as stored
-use Rattle.bridge_api.proofs.Frames as frames
-use Rattle.bridge_api.proofs.HeldIds as ids
+use Rattle.bridge_laws.proofs.Frames as frames
+use Rattle.bridge_laws.proofs.HeldIds as ids
 use Rattle.bridge_api.proofs.Hellos as hellos
-use Rattle.bridge_api.proofs.Learning as learning
-use Rattle.bridge_api.proofs.OneHello as hello
-use Rattle.bridge_api.proofs.Originating as originating
+use Rattle.bridge_laws.proofs.Learning as learning
+use Rattle.bridge_laws.proofs.OneHello as hello
+use Rattle.bridge_laws.proofs.Originating as originating
 use Rattle.bridge_api.proofs.Sound as stays
 use Rattle.bridge_api.proofs.SoundPorts as ports
-use Rattle.bridge_api.proofs.StepsCarry as set_carrier
+use Rattle.bridge_laws.proofs.StepsCarry as set_carrier
 use Rattle.bridge_api.proofs.TimeLsps as ages
 use Rattle.bridge_api.proofs.UpPorts as up
 

@@ -19,7 +19,7 @@ use Rattle.lsdb.proofs.LookupLemmas.{same_or_not}
 use Rattle.flooding.specs.Own.{last_number, own_id, IsOwnNumber}
 use Rattle.bridge_api.specs.View.{BridgeView}
 use Rattle.bridge_api.specs.Step.{metric}
-use Rattle.bridge_api.proofs.HeldIds.{own_is}
+use Rattle.bridge_laws.proofs.HeldIds.{own_is}
 use Rattle.spb_network.specs.declared.declaration.DeclaredBridge.{DeclaredBridge}
 use Rattle.spb_network.specs.declared.declaration.DeclaredLink.{DeclaredLink}
 use Rattle.spb_network.specs.World.{Bridges, things_of, graph_bridges, IsLink}

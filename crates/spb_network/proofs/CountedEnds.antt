@@ -23,7 +23,7 @@ use Rattle.flooding.specs.Own.{last_number, own_id}
 use Rattle.flooding.specs.Hearing.{lacks_place, is_full}
 use Rattle.bridge_api.specs.View.{BridgeView}
 use Rattle.bridge_api.specs.Step.{frame}
-use Rattle.bridge_api.proofs.HeldIds.{own_is}
+use Rattle.bridge_laws.proofs.HeldIds.{own_is}
 use Rattle.spb_network.specs.declared.declaration.DeclaredLink.{DeclaredLink}
 use Rattle.spb_network.specs.declared.declaration.LinkEnd.{LinkEnd}
 use Rattle.spb_network.specs.World.{Bridges, graph_bridges}

@@ -12,7 +12,7 @@ use Rattle.bridge_api.specs.Customers.{after_entry}
 use Rattle.bridge_api.specs.View.{BridgeView}
 use Rattle.bridge_api.specs.Step.{Input, second, frame, customer, step}
 use Rattle.bridge_api.specs.Laws.{IsSoundView, claims_of}
-use Rattle.bridge_api.specs.Counting as counting
+use Rattle.bridge_laws.specs.Counting as counting
 use Rattle.spb_network.specs.Attaching.{entry_refusal}
 use Rattle.spb_network.specs.State.{State, links_of}
 use Rattle.spb_network.specs.Events.{stepped, frame_entered}

@@ -17,8 +17,8 @@ use Rattle.bridge_api.specs.View.{BridgeView}
 use Rattle.bridge_api.specs.Parsing.{is_hello}
 use Rattle.bridge_api.specs.Step.{Input, second, frame, step, sent}
 use Rattle.bridge_api.specs.Laws.{IsSoundView, claims_of}
-use Rattle.bridge_api.specs.Counting as counting
-use Rattle.bridge_api.specs.Counting.{Answered, is_claiming}
+use Rattle.bridge_laws.specs.Counting as counting
+use Rattle.bridge_laws.specs.Counting.{Answered, is_claiming}
 use Rattle.spb_network.specs.declared.declaration.DeclaredLink.{DeclaredLink}
 use Rattle.spb_network.specs.World.{things_of}
 use Rattle.spb_network.specs.State.{State, links_of, far_end, lane_at, with_frames}

@@ -18,8 +18,8 @@ use Rattle.flooding.specs.Own.{IsOwnNumber}
 use Rattle.bridge_api.specs.View.{BridgeView}
 use Rattle.bridge_api.specs.Step.{Input, second, step, sent}
 use Rattle.bridge_api.specs.Laws.{IsSoundView}
-use Rattle.bridge_api.specs.Counting as counting
-use Rattle.bridge_api.specs.Counting.{Answered, is_claiming, gain_of}
+use Rattle.bridge_laws.specs.Counting as counting
+use Rattle.bridge_laws.specs.Counting.{Answered, is_claiming, gain_of}
 use Rattle.spb_network.specs.declared.declaration.DeclaredLink.{DeclaredLink}
 use Rattle.spb_network.specs.State.{State, links_of, near_end}
 use Rattle.spb_network.specs.Events.{ticked}

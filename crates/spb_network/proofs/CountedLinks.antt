@@ -14,7 +14,7 @@ use Rattle.flooding.specs.Own.{last_number}
 use Rattle.bridge_api.specs.View.{BridgeView}
 use Rattle.bridge_api.specs.Config.{IsMetric}
 use Rattle.bridge_api.specs.Step.{Input, frame, carrier, metric, sent}
-use Rattle.bridge_api.specs.Counting.{is_claiming, gain_of}
+use Rattle.bridge_laws.specs.Counting.{is_claiming, gain_of}
 use Rattle.spb_network.specs.declared.declaration.DeclaredLink.{DeclaredLink}
 use Rattle.spb_network.specs.declared.declaration.LinkEnd.{LinkEnd}
 use Rattle.spb_network.specs.World.{World, Bridges, Links, things_of}

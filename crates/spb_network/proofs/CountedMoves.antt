@@ -23,8 +23,8 @@ use Rattle.bridge_api.specs.Step.{Input, second, frame, carrier, metric, attach,
 use Rattle.bridge_api.specs.Laws.{IsSoundView, IsSent, IsHeldAt, claims_said, claims_of}
 use Rattle.bridge_api.specs.Time as time
 use Rattle.bridge_api.specs.Time.{AgedFrom}
-use Rattle.bridge_api.specs.Counting as counting
-use Rattle.bridge_api.specs.Counting.{IsKnown, Learned}
+use Rattle.bridge_laws.specs.Counting as counting
+use Rattle.bridge_laws.specs.Counting.{IsKnown, Learned}
 use Rattle.spb_network.specs.declared.declaration.DeclaredBridge.{DeclaredBridge}
 use Rattle.spb_network.specs.declared.declaration.DeclaredLink.{DeclaredLink}
 use Rattle.spb_network.specs.World.{World, Bridges, things_of, graph_bridges}

@@ -9,11 +9,10 @@ use Rattle.spb_types.specs.declared.link.Dir.{Dir}
 use Rattle.spb_types.specs.declared.link.Side.{Side}
 use Rattle.scenario.specs.declared.command.Command.{Command}
 use Rattle.scenario.specs.declared.command.Command.TheVariants as command
-use Rattle.flooding.specs.Own.{last_number}
+use Rattle.flooding.specs.Own.{last_number, own_id}
 use Rattle.bridge_api.specs.declared.config.BridgeConfig.{BridgeConfig}
 use Rattle.bridge_api.specs.Config.{configured}
-use Rattle.bridge_api.proofs.FewHeld.{configured_holds_few}
-use Rattle.flooding.specs.Own.{own_id}
+use Rattle.bridge_laws.proofs.FewHeld.{configured_holds_few}
 use Rattle.spb_types.specs.declared.address.BridgeId.{BridgeId}
 use Rattle.spb_network.specs.declared.answer.Out.{Out}
 use Rattle.spb_network.specs.declared.kind_rule.KindRule.{KindRule}

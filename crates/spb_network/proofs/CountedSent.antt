@@ -23,7 +23,7 @@ use Rattle.bridge_api.specs.Customers.{moved_as, moved_at, moved_by_receive}
 use Rattle.bridge_api.specs.Step.{Input, frame, customer, step, sent}
 use Rattle.bridge_api.specs.Laws.{IsInput, IsSoundView}
 use Rattle.bridge_api.proofs.Carried.{IsTaken, encapsulated_is_taken}
-use Rattle.bridge_api.proofs.Forwarded.{Encapsulates, encapsulates}
+use Rattle.bridge_laws.proofs.Forwarded.{Encapsulates, encapsulates}
 use Rattle.spb_network.specs.World.{World, things_of}
 use Rattle.spb_network.specs.State.{State, links_of, is_live, lane_out, with_frames}
 use Rattle.spb_network.specs.Events.{sent_over, sent_all, stepped}

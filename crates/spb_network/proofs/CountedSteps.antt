@@ -19,7 +19,7 @@ use Rattle.bridge_api.specs.View.{BridgeView}
 use Rattle.bridge_api.specs.Parsing.{parsed}
 use Rattle.bridge_api.specs.Step.{Input, second, frame, carrier, metric, attach, detach, customer}
 use Rattle.bridge_api.specs.Laws.{IsSoundView, claims_said, claims_of}
-use Rattle.bridge_api.specs.Counting.{IsFar}
+use Rattle.bridge_laws.specs.Counting.{IsFar}
 use Rattle.spb_network.specs.World.{World}
 use Rattle.spb_network.specs.State.{State, links_of}
 use Rattle.spb_network.specs.Counted.{IsCopy, is_held, IsWeak, IsBound, hellos_to, IsOwnOf, IsCountedBy}

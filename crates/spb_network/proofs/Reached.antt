@@ -30,7 +30,7 @@ use Rattle.bridge_api.specs.Own as own
 use Rattle.bridge_api.specs.Own.{local_of}
 use Rattle.bridge_api.specs.Graph.{contents_of, read_graph, IsMemberBy}
 use Rattle.bridge_api.proofs.GraphRead.{reads_each_once}
-use Rattle.bridge_api.proofs.SaidMembers.{members_are_said}
+use Rattle.bridge_laws.proofs.SaidMembers.{members_are_said}
 use Rattle.spb_network.specs.declared.declaration.DeclaredBridge.{DeclaredBridge}
 use Rattle.spb_network.specs.World.{World, Bridges, IsAttachedIn, things_of, system_at, attachment_at, attached_at, member_at, world_graph}
 use Rattle.spb_network.specs.State.{State}

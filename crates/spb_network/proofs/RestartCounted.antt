@@ -21,8 +21,8 @@ use Rattle.bridge_api.specs.declared.config.BridgeConfig.{BridgeConfig}
 use Rattle.bridge_api.specs.View.{BridgeView}
 use Rattle.bridge_api.specs.Config.{configured}
 use Rattle.bridge_api.specs.Step.{carrier}
-use Rattle.bridge_api.specs.Counting.{gain_of}
-use Rattle.bridge_api.proofs.FewHeld.{configured_holds_few}
+use Rattle.bridge_laws.specs.Counting.{gain_of}
+use Rattle.bridge_laws.proofs.FewHeld.{configured_holds_few}
 use Rattle.spb_network.specs.declared.declaration.DeclaredBridge.{DeclaredBridge}
 use Rattle.spb_network.specs.declared.declaration.DeclaredLink.{DeclaredLink}
 use Rattle.spb_network.specs.declared.declaration.LinkEnd.{LinkEnd}

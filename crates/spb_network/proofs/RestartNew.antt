@@ -17,10 +17,10 @@ use Rattle.bridge_api.specs.Config.{IsWhole, configured}
 use Rattle.bridge_api.specs.Step as comes
 use Rattle.bridge_api.specs.Step.{carrier, step}
 use Rattle.bridge_api.specs.Laws.{IsSoundView}
-use Rattle.bridge_api.specs.Counting.{IsFar}
+use Rattle.bridge_laws.specs.Counting.{IsFar}
 use Rattle.bridge_api.proofs.Places.{got_at}
-use Rattle.bridge_api.proofs.HeldIds.{own_is}
-use Rattle.bridge_api.proofs.FewHeld.{configured_holds_few}
+use Rattle.bridge_laws.proofs.HeldIds.{own_is}
+use Rattle.bridge_laws.proofs.FewHeld.{configured_holds_few}
 use Rattle.spb_network.specs.declared.declaration.DeclaredBridge.{DeclaredBridge}
 use Rattle.spb_network.specs.declared.declaration.DeclaredLink.{DeclaredLink}
 use Rattle.spb_network.specs.declared.declaration.LinkEnd.{LinkEnd}

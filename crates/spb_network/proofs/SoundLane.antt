@@ -18,7 +18,7 @@ use Rattle.bridge_api.specs.Parsing.{Parsed, parsed}
 use Rattle.bridge_api.specs.Parsing as parsing
 use Rattle.bridge_api.specs.Step.{Input, second, frame, carrier, metric, attach, detach, customer, step, sent}
 use Rattle.bridge_api.specs.Laws.{IsInput, IsSoundView, IsHeard, IsSent, IsHelloOf, IsWritten, IsFrameOf, hello_sender, port_of, claims_of}
-use Rattle.bridge_api.proofs.Frames.{at_most_held}
+use Rattle.bridge_laws.proofs.Frames.{at_most_held}
 use Rattle.spb_network.specs.Sound.{end_at, IsHelloTo, IsFrameFrom, IsFloodedOrHeld, LinkAgrees}
 use Rattle.spb_network.proofs.BridgeLaws.{steps_keep_bridge, steps_keep_neighbours, steps_stay_sound, sent_is_sound, up_ports_are_up, steps_carry_database}
 

@@ -44,17 +44,17 @@ use Rattle.bridge_api.specs.Ticking.{later, readied, hello_frame, lsp_frame, sen
 use Rattle.bridge_api.specs.Step.{second, frame, step, sent}
 use Rattle.bridge_api.specs.Laws.{IsSoundView, IsSent, IsHelloHeard, IsFresh, AreOctets, first_of, hearing_from}
 use Rattle.bridge_api.specs.Duties.{but_for_ssn}
-use Rattle.bridge_api.specs.Few.{HoldsFew}
+use Rattle.bridge_laws.specs.Few.{HoldsFew}
 use Rattle.bridge_api.proofs.Octets.{AreSmall, small_octets, octets_small, small_bytes, small_both}
 use Rattle.bridge_api.proofs.Changes.{readied_ports, readied_rest, tick_ports, when_true}
 use Rattle.bridge_api.proofs.Hellos.{control_small}
 use Rattle.bridge_api.proofs.Spelled.{lsp_taken}
 use Rattle.bridge_api.proofs.DataSteps.{readied_holds}
 use Rattle.bridge_api.proofs.Meeting.{Starts, heard_down, hello_from, hears}
-use Rattle.bridge_api.proofs.Entering.{entering_up_is_whole}
+use Rattle.bridge_laws.proofs.Entering.{entering_up_is_whole}
 use Rattle.bridge_api.proofs.Serving.{seconds_serve, seconds_leave_nothing_due}
-use Rattle.bridge_api.proofs.FewHeld.{steps_hold_few}
-use Rattle.bridge_api.proofs.FewSent.{seconds_send_few}
+use Rattle.bridge_laws.proofs.FewHeld.{steps_hold_few}
+use Rattle.bridge_laws.proofs.FewSent.{seconds_send_few}
 use Rattle.spb_network.proofs.CountedSent.{hello_sends_none}
 use Rattle.spb_network.proofs.BridgeLaws.{steps_stay_sound, steps_keep_bridge, hellos_are_heard, up_ports_are_up, steps_carry_database}
 

@@ -15,8 +15,8 @@ use Rattle.bridge_api.specs.Config.{configured}
 use Rattle.bridge_api.specs.Parsing.{Parsed}
 use Rattle.bridge_api.specs.Step.{second, frame, carrier, metric, step, sent}
 use Rattle.bridge_api.specs.Laws.{IsSoundView, IsSent, claims_said, first_of}
-use Rattle.bridge_api.specs.Few.{HoldsFew}
-use Rattle.bridge_api.proofs.FewHeld.{configured_holds_few, steps_hold_few}
+use Rattle.bridge_laws.specs.Few.{HoldsFew}
+use Rattle.bridge_laws.proofs.FewHeld.{configured_holds_few, steps_hold_few}
 use Rattle.bridge_api.proofs.Meeting.{Starts}
 use Rattle.spb_network.specs.declared.declaration.DeclaredLink.{DeclaredLink}
 use Rattle.spb_network.specs.declared.kind_rule.KindRule.TheVariants as rule

@@ -19,7 +19,7 @@ use Rattle.bridge_api.specs.declared.port.BridgePort.{BridgePort}
 use Rattle.bridge_api.specs.View.{BridgeView, metrics_of, neighbour_at}
 use Rattle.bridge_api.specs.Own.{local_of}
 use Rattle.bridge_api.specs.Graph.{IsUpNeighbour}
-use Rattle.bridge_api.proofs.SaidNeighbours.{says_its_neighbours}
+use Rattle.bridge_laws.proofs.SaidNeighbours.{says_its_neighbours}
 use Rattle.adjacency.specs.Hearing.{End}
 use Rattle.spb_network.specs.declared.declaration.DeclaredBridge.{DeclaredBridge}
 use Rattle.spb_network.specs.declared.declaration.DeclaredLink.{DeclaredLink}

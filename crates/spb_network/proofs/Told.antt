@@ -14,7 +14,7 @@ use Rattle.bridge_api.specs.Own.{local_of}
 use Rattle.bridge_api.specs.Graph.{contents_of, HoldsAs}
 use Rattle.bridge_api.specs.Laws.{IsSoundView}
 use Rattle.bridge_api.proofs.GraphRead.{reads_each_once}
-use Rattle.bridge_api.proofs.OthersRead.{reads_others}
+use Rattle.bridge_laws.proofs.OthersRead.{reads_others}
 use Rattle.spb_network.specs.State.{State}
 use Rattle.spb_network.specs.Truth.{IsAtRest, AreJoined, HoldTheSame, QuietIsRead}
 use Rattle.spb_network.proofs.BoxLemmas.{All-get}

@@ -16,7 +16,7 @@ use Rattle.lsdb.specs.Certificate.{Claim}
 use Rattle.flooding.specs.Own.{last_number}
 use Rattle.flooding.specs.Hearing.{is_full}
 use Rattle.bridge_api.specs.Config.{IsMetric}
-use Rattle.bridge_api.specs.Counting.{IsFar}
+use Rattle.bridge_laws.specs.Counting.{IsFar}
 use Rattle.bridge_api.specs.Own.{holding_of}
 use Rattle.bridge_api.specs.Step.{frame}
 use Rattle.bridge_api.specs.View.{BridgeView}

@@ -12,7 +12,7 @@ use Rattle.forwarding.specs.Laws.{IsAttachedTo}
 use Rattle.forwarding.specs.Placed.{ArePlaced}
 use Rattle.bridge_api.specs.View.{BridgeView}
 use Rattle.bridge_api.specs.Customers.{tenant_of}
-use Rattle.bridge_api.specs.Apart.{Carries, CarriesEntered}
+use Rattle.bridge_laws.specs.Apart.{Carries, CarriesEntered}
 use Rattle.spb_network.specs.declared.answer.Answer.{Answer}
 use Rattle.spb_network.specs.declared.answer.Answer.TheVariants.{Outs}
 use Rattle.spb_network.specs.declared.answer.Out.{Out}

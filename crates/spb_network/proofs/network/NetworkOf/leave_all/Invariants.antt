@@ -1,7 +1,6 @@
-use Rattle.std.proofs.Common.{◌≡◌, Some}
+use Rattle.std.proofs.Common.{◌≡◌, Some, ◌++◌}
 use Rattle.spb_network.specs.Events.{outs_at}
 use Rattle.spb_network.specs.Network.{state_of}
-use Rattle.std.proofs.Common.{◌++◌}
 use Rattle.spb_network.proofs.network.NetworkOf.leave_all.Given as goal
 
 abbrev pub invariant-loop-port : goal.invariant-loop-port

@@ -1,5 +1,0 @@
-use Rattle.bridge_api.proofs.Entering.{entering_up_is_whole}
-use Rattle.bridge_api.proofs.laws.entering_up_is_whole.Goals as goal
-
-pub returns : goal.returns
-returns c = entering_up_is_whole

@@ -1,0 +1,183 @@
+-- How far the own LSP goes by what isn't a claim: it is originated once at most, and carrier that comes originates
+-- nothing.
+use Rattle.std.proofs.Common.{◌≡◌, inl, inr, ◌≤◌, ◌<◌, ◌+◌, ◌-◌, ℕ, zero, suc, Bool, true, false, List, [], ◌∷◌, refl, sym, ap, ◌∙◌, subst, Option, Some, arith}
+use Rattle.std.specs.Prelude.{nat_lt, not, ◌&&◌, ◌==◌, slice_get, slice_set, if◌then◌else◌, ◌++◌}
+use Rattle.std.specs.FinMap.{get}
+use Rattle.std.proofs.lemmas.Bool.{lt-ltb, true≢false, eq-eqb}
+use Rattle.std.proofs.lemmas.Slice.Eq.{bytes_eq-Decides}
+use Rattle.spb_types.specs.declared.address.SystemId.{SystemId}
+use Rattle.spb_types.specs.declared.address.LspId.{LspId}
+use Rattle.spb_types.specs.declared.ports.PortSet.{PortSet}
+use Rattle.spb_tlvs.specs.declared.neighbours.Neighbour.{Neighbour}
+use Rattle.lsdb.specs.Version.{number_of}
+use Rattle.lsdb.specs.Entry.{Entry}
+use Rattle.lsdb.specs.Database.{Lsps, version_in, version_at, fits, each}
+use Rattle.lsdb.proofs.LookupLemmas.{get-each}
+use Rattle.flooding.specs.Own.{own_id, last_number, body_in}
+use Rattle.flooding.specs.Hearing.{Holding}
+use Rattle.flooding.specs.Origination.{next_entry, originated_from, originated}
+use Rattle.adjacency.specs.declared.state.AdjacencyChange.{AdjacencyChange}
+use Rattle.adjacency.specs.declared.state.AdjacencyChange.TheVariants.{Kept, LeftUp, CameUp}
+use Rattle.adjacency.specs.declared.port.Adjacency.{Adjacency}
+use Rattle.adjacency.specs.Hearing.{same_end}
+use Rattle.adjacency.specs.Adjacency.{is_up, after_carrier, change_of}
+use Rattle.bridge_api.specs.declared.port.BridgePort.{BridgePort}
+use Rattle.bridge_api.specs.View.{BridgeView, with_port_at, is_port_up}
+use Rattle.bridge_api.specs.Own.{neighbour_in, neighbours_from, body_of, own_entry}
+use Rattle.bridge_api.specs.Config.{configured}
+use Rattle.bridge_api.specs.Parsing.{is_hello}
+use Rattle.bridge_api.specs.Hearing.{with_adjacency, changed_at, with_carrier_at}
+use Rattle.bridge_api.specs.Customers.{after_entry}
+use Rattle.bridge_api.specs.Services.{without_customer_port, with_port_forgotten}
+use Rattle.bridge_api.specs.Step.{Input, second, frame, carrier, metric, attach, detach, customer, step}
+use Rattle.bridge_api.specs.Laws.{IsSoundView}
+use Rattle.bridge_laws.specs.Counting.{IsFar, is_claiming, gain_of, StepsOriginate, StepsDontSpend, ConfiguredIsFar, SomeIsFar}
+use Rattle.bridge_api.proofs.Certified.{steps_keep_bridge}
+use Rattle.bridge_api.proofs.Changes.{carrier_step, found}
+use Rattle.bridge_laws.proofs.FewHeld.{configured_holds_few}
+use Rattle.bridge_laws.proofs.Growing.{Grows, number_each, number_next, number_put, spent_next, second_grows, hello_grows, carrier_grows, metric_grows, attached_grows}
+use Rattle.bridge_laws.proofs.HeldIds.{own_is, first_own}
+use Rattle.bridge_laws.proofs.Answering.{stands_still, no_hello, frame_answered}
+use Rattle.bridge_api.proofs.Meeting.{small, small_whole}
+use Rattle.bridge_api.proofs.OwnLspSteps.{moved_body}
+use Rattle.bridge_api.proofs.Sound.{configured_is_sound}
+
+-- of a system: its own LSP is at number n at most, and its sequence numbers aren't spent
+record Below (n : ℕ) (system : SystemId) (db : Lsps) (spent : Bool) : Type 0 where
+  number : number_of (version_at db (own_id system)) ≤ n
+  fresh : spent ≡ false
+
+abbrev Counts : ℕ → BridgeView → Type 0
+Counts n v = Below n v.id.system v.database v.spent
+
+one_more : (n : ℕ) (system : SystemId) (db : Lsps) (spent : Bool) → Below n system db spent → Below (n + 1) system db spent
+one_more n system db spent b = record { number = omega (arith, b.number); fresh = b.fresh }
+
+below_each : (n : ℕ) (system : SystemId) (f : LspId → Entry → Entry) (db : Lsps) (spent : Bool) → ((x : LspId) (e : Entry) → number_of (f x e).version ≡ number_of e.version) → Below n system db spent → Below n system (each f db) spent
+below_each n system f db spent same b =
+    let id : LspId = own_id system in
+    let number : number_of (version_at (each f db) id) ≡ number_of (version_at db id) = ap (λ (o : Option Entry). number_of (version_in o)) (get-each f db id) ∙ number_each (f id) (get db id) (same id) in
+    record { number = subst (λ (k : ℕ). k ≤ n) (sym number) b.number; fresh = b.fresh }
+
+-- ---- an origination
+
+below_from : (spent : Bool) (n : ℕ) (up : PortSet) (h : Holding) → h.own.spent ≡ spent → n < last_number → Below n h.own.system h.db h.own.spent
+    → Below (n + 1) h.own.system (if spent then h else originated_from up (get h.db (own_id h.own.system)) h).db (if spent then h else originated_from up (get h.db (own_id h.own.system)) h).own.spent
+below_from true n up h is low b = absurd (true≢false (sym is ∙ b.fresh))
+below_from false n up h is low b =
+    let id : LspId = own_id h.own.system in
+    let held : Option Entry = get h.db id in
+    let seq : ℕ = number_of (version_in held) in
+    record {
+      number = number_put (fits h.db id) (n + 1) h.db id (next_entry up h.own seq held) refl (number_next (nat_lt seq last_number) n seq up h.own held b.number) (omega (arith, b.number));
+      fresh = spent_next (nat_lt seq last_number) h.own (lt-ltb seq last_number (omega (arith, b.number, low))) ∙ b.fresh;
+    }
+
+below_originated : (n : ℕ) (up : PortSet) (h : Holding) → n < last_number → Below n h.own.system h.db h.own.spent → Below (n + 1) h.own.system (originated up h).db (originated up h).own.spent
+unfolding originated
+below_originated n up h low b = below_from h.own.spent n up h refl low b
+
+below_grows : Grows Below
+below_grows = record { more = one_more; stays = below_each; originates = below_originated }
+
+-- ---- carrier that comes
+
+kept_by : (up same : Bool) → same ≡ true → (if up && not (up && same) then CameUp else (if up && not up then LeftUp else Kept)) ≡ Kept
+kept_by true true is = refl
+kept_by true false is = absurd cc
+kept_by false same is = refl
+
+same_itself : (system : SystemId) (circuit : ℕ) → same_end (system, circuit) (system, circuit) ≡ true
+same_itself system circuit =
+    ap (λ b. b && (circuit == circuit)) ((bytes_eq-Decides system.mac.bytes system.mac.bytes).1 refl) ∙ eq-eqb circuit circuit refl
+
+carrier_is_kept : (a : Adjacency) → change_of a (after_carrier true a) ≡ Kept
+carrier_is_kept a = kept_by (is_up a.state) (same_end (a.neighbour, a.circuit) (a.neighbour, a.circuit)) (same_itself a.neighbour a.circuit)
+
+-- the port with carrier
+abbrev given_carrier : BridgePort → BridgePort
+given_carrier port = with_adjacency (after_carrier true port.adjacency) port
+
+neighbours_given_carrier : (p i : ℕ) (port : BridgePort) (ports : List BridgePort) → slice_get ports i ≡ Some port → neighbours_from p (slice_set ports i (given_carrier port)) ≡ neighbours_from p ports
+neighbours_given_carrier p i port [] is = refl
+neighbours_given_carrier p zero port (x ∷ ports) is =
+    let same : x ≡ port = let found : Some x ≡ Some port = is in cc in
+    ap (λ (y : BridgePort). if is_port_up y then neighbour_in p y ∷ neighbours_from (p + 1) ports else neighbours_from (p + 1) ports) (sym same)
+neighbours_given_carrier p (suc i) port (x ∷ ports) is = ap (λ (list : List Neighbour). if is_port_up x then neighbour_in p x ∷ list else list) (neighbours_given_carrier (p + 1) i port ports is)
+
+-- the bridge has the same to say
+given_carrier_stands : (v : BridgeView) (q : ℕ) (port : BridgePort) → body_in (own_entry v) ≡ body_of v → slice_get v.ports (q - 1) ≡ Some port → with_carrier_at q true (Some port) v ≡ with_port_at q (given_carrier port) v
+given_carrier_stands v q port says is =
+    let w : BridgeView = with_port_at q (given_carrier port) v in
+    let same : body_of w ≡ body_of v = moved_body w.ports v.database v (neighbours_given_carrier 1 (q - 1) port v.ports is) in
+    ap (λ (did : AdjacencyChange). changed_at did q (given_carrier port) v) (carrier_is_kept port.adjacency) ∙ stands_still w (says ∙ sym same)
+
+-- ---- the steps
+
+a_hello : (b : Bool) → not b ≡ false → b ≡ true
+a_hello true is = refl
+a_hello false is = absurd (true≢false is)
+
+step_counts : (input : Input) (n : ℕ) (v : BridgeView) → body_in (own_entry v) ≡ body_of v → is_claiming input ≡ false → n < last_number → Counts n v → Counts (n + gain_of input) (step input v)
+unfolding with_port_forgotten after_entry
+step_counts second n v says other low b = second_grows Below below_grows n v low b
+step_counts (frame q bytes) n v says other low b =
+    let is : is_hello bytes ≡ true = a_hello (is_hello bytes) other in
+    subst (λ (hello : Bool). Counts (n + (if hello then 1 else 0)) (step (frame q bytes) v)) (sym is) (hello_grows Below below_grows n q bytes v is low b)
+step_counts (carrier q true) n v says other low b =
+    elim (carrier_step v q true) [
+      | inl e ↦ subst (Counts (n + 0)) (sym e) (record { number = omega (arith, b.number); fresh = b.fresh })
+      | inr g ↦
+          subst (Counts (n + 0)) (sym (g.after ∙ given_carrier_stands v q g.port says (found v.ports q g.port g.there).1))
+          (record { number = omega (arith, b.number); fresh = b.fresh })
+    ]
+step_counts (carrier q false) n v says other low b = carrier_grows Below below_grows n q false v low b
+step_counts (metric q m) n v says other low b = metric_grows Below below_grows n q m v low b
+step_counts (attach a) n v says other low b = attached_grows Below below_grows n (v.attached ++ a ∷ []) v low b
+step_counts (detach p) n v says other low b = attached_grows Below below_grows n (without_customer_port p v.attached) (with_port_forgotten p v) low b
+step_counts (customer p bytes) n v says other low b = record { number = omega (arith, b.number); fresh = b.fresh }
+
+-- ---- the laws
+
+far_counts : (input : Input) (v : BridgeView) → IsSoundView v → IsFar input v → is_claiming input ≡ false → Counts (number_of (version_in (own_entry v)) + gain_of input) (step input v)
+far_counts input v was far other =
+    step_counts input (number_of (version_in (own_entry v))) v (was.own.said far.fresh) other (far.own (own_id v.id.system) (first_own v.id.system (own_id v.id.system) refl))
+    (record { number = omega arith; fresh = far.fresh })
+
+pub steps_originate : StepsOriginate
+steps_originate input v id own was far other =
+    let w : BridgeView = step input v in
+    let counts : Counts (number_of (version_in (own_entry v)) + gain_of input) w = far_counts input v was far other in
+    let here : number_of (version_at w.database (own_id v.id.system)) ≤ number_of (version_in (own_entry v)) + gain_of input =
+    subst (λ (system : SystemId). number_of (version_at w.database (own_id system)) ≤ number_of (version_in (own_entry v)) + gain_of input)
+    (ap (λ id. id.system) (steps_keep_bridge input v).id) counts.number in
+    subst (λ (x : LspId). number_of (version_at w.database x) ≤ number_of (version_at v.database x) + gain_of input) (sym (own_is v.id.system id own)) here
+
+dont_spend_by : (b : Bool) (input : Input) (v : BridgeView) → is_claiming input ≡ b → IsSoundView v → IsFar input v → (step input v).spent ≡ false
+dont_spend_by false input v other was far = (far_counts input v was far other).fresh
+dont_spend_by true second v claiming was far = absurd cc
+dont_spend_by true (frame q bytes) v claiming was far = (frame_answered q bytes v was far (no_hello (is_hello bytes) claiming)).fresh
+dont_spend_by true (carrier q on) v claiming was far = absurd cc
+dont_spend_by true (metric q m) v claiming was far = absurd cc
+dont_spend_by true (attach a) v claiming was far = absurd cc
+dont_spend_by true (detach p) v claiming was far = absurd cc
+dont_spend_by true (customer p bytes) v claiming was far = absurd cc
+
+pub steps_dont_spend : StepsDontSpend
+steps_dont_spend input v was far = dont_spend_by (is_claiming input) input v refl was far
+
+pub configured_is_far : ConfiguredIsFar
+configured_is_far c input low = record {
+  fresh = (configured_holds_few c).unspent;
+  own = λ id own. subst (λ (x : LspId). number_of (version_at (configured c).database x) < last_number) (sym (own_is (configured c).id.system id own))
+      (omega (arith, (configured_holds_few c).number));
+  claims = low;
+}
+
+pub some_is_far : SomeIsFar
+some_is_far = record {
+  config = small 1;
+  whole = small_whole 1 (omega arith);
+  sound = configured_is_sound (small 1) (small_whole 1 (omega arith));
+  far = configured_is_far (small 1) second (λ id a claimed. absurd claimed);
+}

@@ -1,0 +1,4 @@
+pub mod Apart
+pub mod Few
+pub mod Counting
+pub mod Dropping

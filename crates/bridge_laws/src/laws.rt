@@ -1,0 +1,177 @@
+//! What every step of a bridge keeps, whatever comes to it. Each is the contract of a function that does nothing.
+ghost use Rattle.bridge_api.specs.Laws.{ConfiguredIsSound, ConfiguredHasNoCarrier, ConfiguredHoldsOwn, SoundCanSay, StepsStaySound, StepsKeepBridge, StepsKeepCarrier, StepsKeepNeighbours, SentIsSound, OneHello, HellosAreHeard, SentWithCarrier, EnteringUpIsWhole, UpPortsAreUp, StepsCarryDatabase, NeighboursComeUp, SomeBridge};
+ghost use Rattle.bridge_laws.specs.Apart.{SentHasEntered, LeftHasEntered, ConfiguredIsPlaced, StepsKeepPlaces};
+ghost use Rattle.bridge_api.specs.Duties.{SecondsServe, SecondsLeaveNothingDue};
+ghost use Rattle.bridge_laws.specs.Few.{ConfiguredHoldsFew, StepsHoldFew, SecondsSendFew};
+ghost use Rattle.bridge_api.specs.Graph.{ReadsWhatIsHeld, ReadsEachOnce, ReadsItself, ReadsOthers, OwnPortsAreApart, SaysItsNeighbours, MembersAreSaid, CutSaysNothing, SomeGraphIsOwn};
+ghost use Rattle.bridge_api.specs.Time.{NeighboursAreKept, NeighboursAreLost, KeepsSomebody, SecondsAge, LspsLast, LspsExpire, SecondsStandStill, SecondsRenew, SecondsSpend, SpentStandsStill, OwnLspLasts, OwnLspIsRenewed, AloneStaysAlone, EveryNineHundred};
+ghost use Rattle.bridge_laws.specs.Dropping.{DroppedFramesCountOnce, HeardFramesCountEntries, EntriesWithoutWayCountOnce, OtherEntriesCountNothing, OtherStepsCountNothing, SomeDrops};
+ghost use Rattle.bridge_laws.specs.Counting.{StepsHoldIds, StepsLearn, StepsLearnVersions, StepsAnswer, StepsOriginate, StepsDontSpend, ConfiguredIsFar, SomeIsFar};
+
+use itag_frames::control_again;
+
+/// A configured bridge is sound, and stays so: unless its sequence numbers are spent, its own LSP is live for 301 to
+/// 1,200 seconds and says what the bridge has to say. It has the ports of its configuration and no carrier yet, and
+/// holds its own LSP alone. What a sound bridge says of itself can be written, and fits one LSP.
+pub fn bridges_are_sound()
+    ensures configured { ConfiguredIsSound }
+    ensures no_carrier { ConfiguredHasNoCarrier }
+    ensures own { ConfiguredHoldsOwn }
+    ensures says { SoundCanSay }
+    ensures steps { StepsStaySound }
+{}
+
+/// A bridge keeps its ids, its VIDs, and its ports; the metric and the carrier of a port change by setting the metric
+/// there, and by a change of carrier there, alone; and what is attached changes by attaching and detaching alone.
+pub fn steps_keep_the_bridge()
+    ensures bridge { StepsKeepBridge }
+    ensures carrier { StepsKeepCarrier }
+{}
+
+/// A neighbour that is kept was kept before, or is the sender of the hello that was just heard.
+pub fn steps_keep_neighbours()
+    ensures { StepsKeepNeighbours }
+{}
+
+/// Each frame that is sent and heard as a hello names its sender and port, the state there, and nobody but the
+/// neighbour that is kept; an LSP that is sent is the one that its sender holds, and what a frame claims is just what
+/// its sender holds. Any other frame carries a customer's. In each second one hello is sent at each port with carrier,
+/// and nothing at others.
+pub fn frames_are_heard()
+    ensures sound { SentIsSound }
+    ensures one_hello { OneHello }
+    ensures heard { HellosAreHeard }
+    ensures carrier { SentWithCarrier }
+{
+    control_again();
+}
+
+/// Service instances don't mix at a bridge. A frame that is sent carries, and one that leaves at a customer port is,
+/// byte for byte, a customer's frame that has just come in, and in the same I-SID; and it leaves at a port of that
+/// I-SID, where what was learned at customer ports was learned at ports of its I-SID. So it is at a configured bridge,
+/// and stays so.
+pub fn services_stay_apart()
+    ensures sent { SentHasEntered }
+    ensures left { LeftHasEntered }
+    ensures configured { ConfiguredIsPlaced }
+    ensures places { StepsKeepPlaces }
+{}
+
+/// In each second all is sent that is to be sent at an Up port, and afterwards no SSN flag stands anywhere and no CSNP
+/// is due.
+pub fn seconds_serve_neighbours()
+    ensures sent { SecondsServe }
+    ensures nothing_due { SecondsLeaveNothingDue }
+{}
+
+/// A bridge reads its graph from the live LSPs that it holds, of each system what that says. A sound one reads of
+/// itself what it has to say, unless its sequence numbers are spent, and each neighbour at a port of its own. Of
+/// another sound one whose numbers aren't spent it reads what that one has to say, where it holds the same of its
+/// system. It says each neighbour at a port that is Up, with the metric there, and no other; and that it is a member of
+/// each service to which a customer port is attached, in the VID of the port, and of no other.
+pub fn graphs_are_read_from_what_is_held()
+    ensures held { ReadsWhatIsHeld }
+    ensures once { ReadsEachOnce }
+    ensures own { ReadsItself }
+    ensures others { ReadsOthers }
+    ensures neighbours { SaysItsNeighbours }
+    ensures members { MembersAreSaid }
+    ensures ports { OwnPortsAreApart }
+{}
+
+/// What a bridge doesn't reach says nothing of its rows: in the graph that it reaches they are those of the graph of all
+/// that it reads. There are such bridges and graphs.
+pub fn cut_says_nothing()
+    ensures rows { CutSaysNothing }
+    ensures some { SomeGraphIsOwn }
+{}
+
+/// A port that is Up was so before with the same neighbour, or everything is to be sent there and nothing has SSN
+/// there.
+pub fn entering_up_is_whole()
+    ensures { EnteringUpIsWhole }
+{}
+
+/// In a step of a sound bridge no version that is held falls, and the neighbour at each Up port is no further behind.
+/// The set of the Up ports has each port that is Up, and no other number.
+pub fn steps_carry_the_database()
+    ensures steps { StepsCarryDatabase }
+    ensures up_ports { UpPortsAreUp }
+{}
+
+/// A bridge that has heard a neighbour which has heard it is Up at that port, and there are such bridges.
+pub fn neighbours_come_up()
+    ensures up { NeighboursComeUp }
+    ensures some { SomeBridge }
+{
+    control_again();
+}
+
+/// A bridge that hears hellos alone holds at most one LSP more after each step, and its own LSP goes at most one number
+/// further; and in a second it sends few frames.
+pub fn few_are_held_and_sent()
+    ensures configured { ConfiguredHoldsFew }
+    ensures steps { StepsHoldFew }
+    ensures sent { SecondsSendFew }
+{}
+
+/// A neighbour is kept for as many seconds as its holding count says, in the state that it is in, whatever comes to the
+/// bridge but hellos and changes of carrier at its port. Then the port is Down, and keeps nobody. There are bridges
+/// that keep somebody.
+pub fn silent_neighbours_are_lost()
+    ensures kept { NeighboursAreKept }
+    ensures lost { NeighboursAreLost }
+    ensures some { KeepsSomebody }
+{
+    control_again();
+}
+
+/// In a second an LSP of another system keeps its version and body, or is dead at its number. A live one of which
+/// nothing more is heard stays as it is for the seconds of its lifetime, and is then dead, to be sent at every Up port.
+pub fn silent_lsps_expire()
+    ensures age { SecondsAge }
+    ensures last { LspsLast }
+    ensures expire { LspsExpire }
+{}
+
+/// A second after which a bridge has the same to say, and its own lifetime is above 300, originates nothing. Each other
+/// originates: the own LSP stands one number further, or past the last one is dead, and then none originates any more.
+/// So a bridge just configured and left to itself originates every 900 seconds.
+pub fn own_lsps_are_renewed()
+    ensures still { SecondsStandStill }
+    ensures renew { SecondsRenew }
+    ensures spend { SecondsSpend }
+    ensures spent { SpentStandsStill }
+    ensures lasts { OwnLspLasts }
+    ensures renewed { OwnLspIsRenewed }
+    ensures alone { AloneStaysAlone }
+    ensures every { EveryNineHundred }
+{}
+
+/// Sequence numbers rise by what is heard alone, but for what a bridge originates. An id is held by being claimed, or
+/// is an own one. An LSP of another system stays, is the one that came in, or is dead where confused ones met. An own
+/// one stands at most one number past what it answers, or else is originated once at most. Below the last number
+/// nothing spends it; there are such bridges.
+pub fn numbers_rise_by_what_is_heard()
+    ensures ids { StepsHoldIds }
+    ensures learn { StepsLearn }
+    ensures versions { StepsLearnVersions }
+    ensures answer { StepsAnswer }
+    ensures originate { StepsOriginate }
+    ensures fresh { StepsDontSpend }
+    ensures configured { ConfiguredIsFar }
+    ensures some { SomeIsFar }
+{}
+
+/// A frame that is dropped raises the count of the one reason for which it is dropped, by one, and changes and sends
+/// nothing. Any other frame raises no count but that of what finds no place in the database, once for each such entry
+/// of a sequence numbers PDU. A customer's frame is dropped only where no port leads on, which is counted once; what its
+/// source taught the bridge stays. Nothing else raises a count. There are bridges that drop frames.
+pub fn dropped_frames_are_counted()
+    ensures dropped { DroppedFramesCountOnce }
+    ensures heard { HeardFramesCountEntries }
+    ensures without_way { EntriesWithoutWayCountOnce }
+    ensures entries { OtherEntriesCountNothing }
+    ensures others { OtherStepsCountNothing }
+    ensures some { SomeDrops }
+{}
