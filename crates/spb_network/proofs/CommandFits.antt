@@ -1,14 +1,14 @@
 -- The shape of a state after a declaration, and the boxes of a rack.
 use Rattle.std.proofs.Common.{◌≡◌, ℕ, zero, suc, List, [], ◌∷◌, ◌++◌, map, remove, refl, ap, arith}
-use Rattle.spb_network.specs.declared.declaration.DeclaredLink.{DeclaredLink}
+use Rattle.spb_world.specs.declared.declaration.DeclaredLink.{DeclaredLink}
 use Rattle.link_model.specs.declared.lanes.LinkLanes.{LinkLanes}
-use Rattle.spb_network.specs.Declaring.{with_link}
-use Rattle.spb_network.specs.State.{State}
+use Rattle.spb_world.specs.Declaring.{with_link}
+use Rattle.network_model.specs.State.{State, Fits}
 use Rattle.bridge_api.specs.Shown.{Shown}
 use Rattle.spb_network.specs.declared.network.NetworkOf.{NetworkOf}
 use Rattle.spb_network.specs.Applying.{IsSoundNetwork}
-use Rattle.spb_network.specs.Network.{Fits, IsInOrder}
-use Rattle.spb_network.proofs.ListLemmas.{length-push}
+use Rattle.spb_network.specs.Network.{IsInOrder}
+use Rattle.spb_world.proofs.ListLemmas.{length-push}
 
 -- a sound network is in order
 pub in_order : {B : Type 0} (shown : B → Shown) (n : NetworkOf B) → IsSoundNetwork shown n → IsInOrder shown n

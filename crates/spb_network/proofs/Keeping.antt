@@ -3,13 +3,13 @@ use Rattle.std.proofs.Common.{Result, Ok, Err, OnOk, ◌≡◌, ℕ, true, false
 use Rattle.std.proofs.lemmas.Option.{same_Some}
 use Rattle.scenario.specs.declared.command.Command.{Command}
 use Rattle.scenario.specs.declared.command.Command.TheVariants as command
-use Rattle.spb_network.specs.declared.quiet.Conditions.{Conditions}
-use Rattle.spb_network.specs.State.{State}
-use Rattle.spb_network.specs.declared.answer.Answer.TheVariants.{Silent, Outs}
-use Rattle.spb_network.specs.Play.{played, is_event, answer_to_asked, answer_of}
-use Rattle.spb_network.specs.Questions.{is_question}
-use Rattle.spb_network.specs.Quiet.{holds_q1, holds_q2, holds_q3, holds_q4, failing}
-use Rattle.spb_network.specs.Quieting.{conditions_of, numbers_of}
+use Rattle.network_model.specs.declared.conditions.Conditions.{Conditions}
+use Rattle.network_model.specs.State.{State}
+use Rattle.network_model.specs.declared.answer.Answer.TheVariants.{Silent, Outs}
+use Rattle.network_model.specs.Play.{played, is_event, answer_to_asked, answer_of}
+use Rattle.network_model.specs.Questions.{is_question}
+use Rattle.network_model.specs.Quiet.{holds_q1, holds_q2, holds_q3, holds_q4, failing}
+use Rattle.network_model.specs.Quieting.{conditions_of, numbers_of}
 
 -- the count of commands has no part in the conditions
 pub counted_conditions : (s : State) (n : ℕ) → conditions_of (record s { accepted = n }) ≡ conditions_of s

@@ -19,9 +19,10 @@ use Rattle.lsdb.specs.Version.{number_of, sum_of}
 use Rattle.std.specs.Map.{lookup}
 use Rattle.lsdb.proofs.LookupLemmas.{get_place}
 use Rattle.bridge_api.specs.View.{BridgeView}
-use Rattle.spb_network.specs.Bodies.{have_one_body, Key, id_eq, key_eq, first_in, Stays, IsNoted, NotesOnly, Clashes, Notes, IsHeld, IsFrom, AreNoted, AddsHeld, NotesAll, NotesAt}
-use Rattle.spb_network.proofs.QuietLists.{both_true, place_of_held}
-use Rattle.spb_network.proofs.QuietLaws.{bodies_agree, from_bodies}
+use Rattle.network_model.specs.Quiet.{have_one_body}
+use Rattle.spb_network.specs.Bodies.{Key, id_eq, key_eq, first_in, Stays, IsNoted, NotesOnly, Clashes, Notes, IsHeld, IsFrom, AreNoted, AddsHeld, NotesAll, NotesAt}
+use Rattle.network_model.proofs.QuietLists.{both_true, place_of_held}
+use Rattle.network_model.proofs.QuietLaws.{bodies_agree, from_bodies}
 
 -- ---- keys
 

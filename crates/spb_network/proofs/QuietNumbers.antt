@@ -1,10 +1,9 @@
 -- The numbers of the conditions of quiet that fail, noted one after another.
 use Rattle.std.proofs.Common.{◌≡◌, ℕ, Bool, List, ◌++◌, ap, ◌∙◌}
-use Rattle.spb_network.specs.declared.quiet.Conditions.{Conditions}
-use Rattle.spb_network.specs.State.{State}
-use Rattle.spb_network.specs.Quiet.{holds_q4, unless_holds}
-use Rattle.spb_network.specs.Quieting.{numbers_of}
-use Rattle.spb_network.specs.Bodies.{have_one_body}
+use Rattle.network_model.specs.declared.conditions.Conditions.{Conditions}
+use Rattle.network_model.specs.State.{State}
+use Rattle.network_model.specs.Quiet.{holds_q4, unless_holds, have_one_body}
+use Rattle.network_model.specs.Quieting.{numbers_of}
 
 pub noted_in_turn : (c : Conditions) (n1 n2 n3 n4 : List ℕ) → n1 ≡ unless_holds 1 c.links → n2 ≡ n1 ++ unless_holds 2 c.lanes → n3 ≡ n2 ++ unless_holds 3 c.flags → n4 ≡ n3 ++ unless_holds 4 c.bodies → n4 ≡ numbers_of c
 noted_in_turn c n1 n2 n3 n4 e1 e2 e3 e4 =

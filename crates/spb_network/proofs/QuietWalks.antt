@@ -7,7 +7,7 @@ use Rattle.spb_types.specs.declared.link.Dir.TheVariants.{Ab, Ba}
 use Rattle.link_model.specs.declared.lanes.LinkLanes.{LinkLanes}
 use Rattle.link_model.specs.declared.lanes.LaneId.{LaneId}
 use Rattle.link_model.specs.Lanes.{full_in, first_full_from}
-use Rattle.spb_network.specs.Quiet.{is_idle}
+use Rattle.network_model.specs.Quiet.{is_idle}
 
 all-step : {X : Type 0} (p : X → Bool) (xs : List X) (n : ℕ) → n < length xs → list_all p (drop n xs) ≡ (option_map_or p (slice_get xs n) true && list_all p (drop (suc n) xs))
 all-step p [] n h = absurd (omega arith)

@@ -1,11 +1,12 @@
 -- A bridge that restarts, step by step.
 use Rattle.std.proofs.Common.{◌≡◌, ◌≤◌, ◌<◌, ◌+◌, ◌-◌, ℕ, zero, suc, Bool, true, false, List, [], ◌∷◌, ◌++◌, map, length, refl, ap, slice_get, arith}
 use Rattle.std.specs.Prelude.{◌==◌, if◌then◌else◌, slice_set}
-use Rattle.spb_network.specs.declared.declaration.DeclaredLink.{DeclaredLink}
-use Rattle.spb_network.specs.declared.declaration.LinkEnd.{LinkEnd}
-use Rattle.spb_network.specs.World.{Bridges, IsEnd, IsLink}
-use Rattle.spb_network.specs.State.{State, links_of}
-use Rattle.spb_network.specs.Restarting.{port_metric, port_metrics, end_here, end_away, cut_link, cut_from, with_link_carrier, with_carriers_from}
+use Rattle.spb_world.specs.declared.declaration.DeclaredLink.{DeclaredLink}
+use Rattle.spb_world.specs.declared.declaration.LinkEnd.{LinkEnd}
+use Rattle.spb_world.specs.World.{Bridges, IsEnd, IsLink}
+use Rattle.network_model.specs.State.{State, links_of}
+use Rattle.spb_world.specs.Links.{port_metric, port_metrics, end_here, end_away}
+use Rattle.network_model.specs.Restarting.{cut_link, cut_from, with_link_carrier, with_carriers_from}
 
 suc-less : (e i : ℕ) → i < e → e - i ≡ suc (e - (i + 1))
 suc-less e i h = omega arith

@@ -2,9 +2,9 @@
 use Rattle.std.proofs.Common.{◌≡◌, ℕ, zero, suc, ◌+◌, ◌-◌, ◌<◌, length, Some, None, refl, ap, ◌∙◌, arith}
 use Rattle.spb_types.specs.declared.link.Dir.{Dir}
 use Rattle.link_model.specs.declared.lanes.LaneId.{LaneId}
-use Rattle.spb_network.specs.State.{State, lane_at}
+use Rattle.network_model.specs.State.{State, lane_at}
 use Rattle.link_model.specs.Lanes.{first_full_from}
-use Rattle.spb_network.specs.Events.{ticked, ticked_from, all_ticked, delivered, delivered_times, link_served, served_from, all_served, one_round, rounds, delivered_first, delivered_over, drained}
+use Rattle.network_model.specs.Events.{ticked, ticked_from, all_ticked, delivered, delivered_times, link_served, served_from, all_served, one_round, rounds, delivered_first, delivered_over, drained}
 
 suc-less : (e i : ℕ) → i < e → e - i ≡ suc (e - (i + 1))
 suc-less e i h = omega arith

@@ -10,11 +10,12 @@ use Rattle.link_model.specs.declared.lanes.LinkLanes.{LinkLanes}
 use Rattle.link_model.specs.declared.lanes.LaneId.{LaneId}
 use Rattle.link_model.specs.Lanes.{lane_in, changed_lane, rest}
 use Rattle.spb_types.specs.Places.{changed_at}
-use Rattle.spb_network.specs.State.{State, links_of, is_live, live_lane, with_frames}
-use Rattle.spb_network.specs.declared.answer.Out.{Out}
-use Rattle.spb_network.specs.World.{names_of}
-use Rattle.spb_network.specs.Events.{sent_over, sent_all, outs_at, left_all, stepped}
-use Rattle.spb_network.proofs.BoxLemmas.{append-none}
+use Rattle.network_model.specs.State.{State, links_of, with_frames}
+use Rattle.spb_world.specs.Links.{is_live, live_lane}
+use Rattle.network_model.specs.declared.answer.Out.{Out}
+use Rattle.spb_world.specs.World.{names_of}
+use Rattle.network_model.specs.Events.{sent_over, sent_all, outs_at, left_all, stepped}
+use Rattle.spb_world.proofs.BoxLemmas.{append-none}
 
 same-lane : (s : State) (v w : LaneId) (f : Frame) (b : Bool) → (if b then Some v else None) ≡ Some w → (if b then with_frames (λ frames. pushed frames f) s v.link v.dir else s) ≡ with_frames (λ frames. pushed frames f) s w.link w.dir
 same-lane s v w f true e = ap (λ x. with_frames (λ frames. pushed frames f) s x.link x.dir) (some-is v w e)

@@ -2,18 +2,18 @@
 use Rattle.std.specs.Prelude.{◌≡◌, ◌⊎◌, ◌≤◌, [], true, false, Some, None, Result, Ok, Err}
 use Rattle.scenario.specs.declared.command.Command.{Command}
 use Rattle.bridge_api.specs.Shown.{Shown}
-use Rattle.spb_network.specs.declared.answer.Answer.{Answer}
+use Rattle.network_model.specs.declared.answer.Answer.{Answer}
 use Rattle.spb_network.specs.declared.network.NetworkOf.{NetworkOf}
-use Rattle.spb_network.specs.declared.quiet.Conditions.{Conditions}
-use Rattle.spb_network.specs.declared.reason.ApplyError.{ApplyError}
-use Rattle.spb_network.specs.declared.reason.ApplyError.TheVariants as error
-use Rattle.spb_network.specs.State.{State}
+use Rattle.network_model.specs.declared.conditions.Conditions.{Conditions}
+use Rattle.spb_network.specs.declared.apply_error.ApplyError.{ApplyError}
+use Rattle.spb_network.specs.declared.apply_error.ApplyError.TheVariants as error
+use Rattle.network_model.specs.State.{State}
 use Rattle.spb_network.specs.Network.{state_of, AreMade}
-use Rattle.spb_network.specs.Sound.{IsSoundState}
-use Rattle.spb_network.specs.Counted.{IsCounted, most_commands}
-use Rattle.spb_network.specs.Refusing.{refusal_of}
-use Rattle.spb_network.specs.Play.{next_state, answer_of}
-use Rattle.spb_network.specs.Quieting.{conditions_of}
+use Rattle.network_model.specs.Sound.{IsSoundState}
+use Rattle.network_model.specs.Counted.{IsCounted, most_commands}
+use Rattle.network_model.specs.Refusing.{refusal_of}
+use Rattle.network_model.specs.Play.{next_state, answer_of}
+use Rattle.network_model.specs.Quieting.{conditions_of}
 
 -- a command was played: it isn't refused, and this is its answer and the state after it
 pub record Plays (old : State) (c : Command) (answer : Answer) (new : State) : Type 0 where

@@ -14,11 +14,7 @@ use Rattle.lsdb.specs.declared.held.Held.{Held}
 use Rattle.lsdb.specs.declared.version.Version.TheVariants.{Live}
 use Rattle.lsdb.specs.Entry.{Entry}
 use Rattle.bridge_api.specs.View.{BridgeView}
-use Rattle.spb_network.specs.Quiet.{agree_on_bodies}
-
--- no two of these bridges hold different bodies under one id with one live version
-abbrev pub have_one_body : List BridgeView → Bool
-have_one_body views = list_all (λ v. list_all (agree_on_bodies v) views) views
+use Rattle.network_model.specs.Quiet.{agree_on_bodies, have_one_body}
 
 -- an id, a sequence number and a checksum
 abbrev pub Key : Type 0

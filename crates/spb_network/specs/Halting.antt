@@ -2,10 +2,10 @@
 use Rattle.std.specs.Prelude.{◌≡◌, ◌↔◌, ◌⊎◌, false, List, [], ◌∷◌, ◌++◌, Result, Err, ⊤}
 use Rattle.scenario.specs.declared.command.Command.{Command}
 use Rattle.bridge_api.specs.Shown.{Shown}
-use Rattle.spb_network.specs.declared.answer.Answer.{Answer}
+use Rattle.network_model.specs.declared.answer.Answer.{Answer}
 use Rattle.spb_network.specs.declared.network.NetworkOf.{NetworkOf}
-use Rattle.spb_network.specs.declared.reason.ApplyError.{ApplyError}
-use Rattle.spb_network.specs.declared.reason.ApplyError.TheVariants as error
+use Rattle.spb_network.specs.declared.apply_error.ApplyError.{ApplyError}
+use Rattle.spb_network.specs.declared.apply_error.ApplyError.TheVariants as error
 use Rattle.spb_network.specs.Applying.{Applies}
 
 -- a call of `apply`: the command, what was answered, and the network that was left

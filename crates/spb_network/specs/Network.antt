@@ -6,9 +6,9 @@ use Rattle.spb_types.specs.declared.service.Attachment.{Attachment}
 use Rattle.bridge_api.specs.View.{BridgeView, IsPort}
 use Rattle.bridge_api.specs.Services.{CanAttach, IsAttachedPort}
 use Rattle.spb_network.specs.declared.network.NetworkOf.{NetworkOf}
-use Rattle.spb_network.specs.declared.declaration.DeclaredBridge.{DeclaredBridge}
-use Rattle.spb_network.specs.World.{things_of}
-use Rattle.spb_network.specs.State.{Spare, State}
+use Rattle.spb_world.specs.declared.declaration.DeclaredBridge.{DeclaredBridge}
+use Rattle.spb_world.specs.World.{things_of}
+use Rattle.network_model.specs.State.{Spare, State, Fits}
 
 module _ {B : Type 0} (shown : B → Shown) where
   -- the box as one of the rack
@@ -29,32 +29,9 @@ module _ {B : Type 0} (shown : B → Shown) where
     accepted = n.accepted;
   }
 
--- the bridges have the ports that were declared
-pub record HasPorts (v : BridgeView) (b : DeclaredBridge) : Type 0 where
-  pub ports : length v.ports ≡ b.ports
-
--- there is a bridge for each that was declared, with its ports, and there are lanes for each link
-pub record Fits (s : State) : Type 0 where
-  pub bridges : length s.views ≡ length s.world.bridges
-  pub lanes : length s.lanes ≡ length s.world.links
-  pub ports : (i : ℕ) (v : BridgeView) (b : DeclaredBridge) → slice_get s.views i ≡ Some v
-      → slice_get (things_of s.world.bridges) i ≡ Some b → HasPorts v b
-
 -- the network's boxes are no blanks
 abbrev pub AreMade : {B : Type 0} → (B → Shown) → List B → Type 0
 AreMade shown boxes = AllByRecursion (λ b. (shown b).blank ≡ false) boxes
-
--- the bridge at place i has this port, if there is such a bridge
-abbrev pub IsPortAt : List BridgeView → ℕ → ℕ → Type 0
-IsPortAt views i port = (v : BridgeView) → slice_get views i ≡ Some v → IsPort v port
-
--- this can be attached to the bridge at place i, if there is such a bridge
-abbrev pub CanAttachAt : List BridgeView → ℕ → Attachment → Type 0
-CanAttachAt views i a = (v : BridgeView) → slice_get views i ≡ Some v → CanAttach v a
-
--- this customer port of the bridge at place i is attached, if there is such a bridge
-abbrev pub IsAttachedAt : List BridgeView → ℕ → ℕ → Type 0
-IsAttachedAt views i port = (v : BridgeView) → slice_get views i ≡ Some v → IsAttachedPort v port
 
 -- the boxes are made, and the state has its shape
 pub record IsInOrder {B : Type 0} (shown : B → Shown) (n : NetworkOf B) : Type 0 where

@@ -4,7 +4,8 @@ ghost use Rattle.bridge_api.specs.Shown.{views_of};
 ghost use Rattle.lsdb.specs.Database.{keyed};
 ghost use Rattle.lsdb.specs.declared.version.Version.TheVariants.{Live};
 ghost use Rattle.spb_network.specs.Network.{AreMade};
-ghost use Rattle.spb_network.specs.Bodies.{IsFrom, Notes, NotesAll, NotesAt, have_one_body};
+ghost use Rattle.spb_network.specs.Bodies.{IsFrom, Notes, NotesAll, NotesAt};
+ghost use Rattle.network_model.specs.Quiet.{have_one_body};
 
 use bridge_api::Bridge;
 use lsdb::{Held, Version};

@@ -8,8 +8,9 @@ ghost use Rattle.bridge_api.specs.Step as comes;
 ghost use Rattle.bridge_api.specs.Step.{sent, left_by, step, with_wire};
 ghost use Rattle.bridge_api.specs.Shown.{views_of};
 ghost use Rattle.spb_types.specs.Places.{changed_at};
-ghost use Rattle.spb_network.specs.Questions as question;
-ghost use Rattle.spb_network.specs.Network.{AreMade, IsPortAt, CanAttachAt, IsAttachedAt};
+ghost use Rattle.network_model.specs.Questions as question;
+ghost use Rattle.spb_network.specs.Network.{AreMade};
+ghost use Rattle.network_model.specs.State.{IsPortAt, CanAttachAt, IsAttachedAt};
 
 use adjacency::Adjacency;
 use bridge_api::{Bridge, DropReason, Outbox};

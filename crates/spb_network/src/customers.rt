@@ -1,51 +1,17 @@
 //! Customer ports of the bridges of a network: why one can't be attached or detached, why no frame can enter at one, and
 //! what an accepted command makes.
 ghost use Rattle.std.specs.Prelude.{◌≡◌, ◌<◌, None, length, OnOk};
-ghost use Rattle.spb_network.specs.Attaching as attaching;
-ghost use Rattle.spb_network.specs.Refusing as refuse;
-ghost use Rattle.spb_network.specs.Play as play;
-ghost use Rattle.spb_network.specs.Events as event;
-ghost use Rattle.spb_network.specs.Network.{state_of, AreMade, CanAttachAt};
+ghost use Rattle.spb_world.specs.Attaching as attaching;
+ghost use Rattle.spb_world.specs.Naming as refuse;
+ghost use Rattle.network_model.specs.Play as play;
+ghost use Rattle.network_model.specs.Events as event;
+ghost use Rattle.spb_network.specs.Network.{state_of, AreMade};
+ghost use Rattle.network_model.specs.State.{CanAttachAt};
 ghost use Rattle.spb_network.specs.Applying.{IsSoundNetwork};
 
 use crate::{NetworkOf, Reason, World, boxes};
 use bridge_api::{Bridge, Outbox};
 use spb_types::{Attachment, Isid, Name, NoMemory};
-
-impl World {
-    /// Why a customer port of a bridge can't be attached to the service of an I-SID, if it can't.
-    #[tactic(auto, unfolding(crate::specs::Refusing::named_attach_refusal))]
-    pub fn named_attach_refusal(&self, name: Name, port: u64, isid: u64) -> Option<Reason>
-        ensures { result ≡ refuse.named_attach_refusal self.now name port isid }
-    {
-        match self.bridge_place(name) {
-            None => Some(Reason::NoSuchName),
-            Some(place) => self.attach_refusal(place, port, isid),
-        }
-    }
-
-    /// Why a customer port of a bridge can't be detached, if it can't.
-    #[tactic(auto, unfolding(crate::specs::Refusing::named_detach_refusal))]
-    pub fn named_detach_refusal(&self, name: Name, port: u64) -> Option<Reason>
-        ensures { result ≡ refuse.named_detach_refusal self.now name port }
-    {
-        match self.bridge_place(name) {
-            None => Some(Reason::NoSuchName),
-            Some(place) => self.detach_refusal(place, port),
-        }
-    }
-
-    /// Why a customer's frame can't enter at a customer port of a bridge, if it can't.
-    #[tactic(auto, unfolding(crate::specs::Refusing::named_entry_refusal))]
-    pub fn named_entry_refusal(&self, name: Name, port: u64, frame: &[u8]) -> Option<Reason>
-        ensures { result ≡ refuse.named_entry_refusal self.now name port frame.now }
-    {
-        match self.bridge_place(name) {
-            None => Some(Reason::NoSuchName),
-            Some(place) => self.entry_refusal(place, port, frame),
-        }
-    }
-}
 
 impl<B: Bridge> NetworkOf<B> {
     /// Attaches a customer port of the bridge at a place, where nothing is attached.
@@ -62,7 +28,7 @@ impl<B: Bridge> NetworkOf<B> {
     }
 
     /// Attaches a customer port of the bridge at a place to the service of an I-SID.
-    #[tactic(auto, unfolding(crate::specs::Events::port_attached))]
+    #[tactic(auto, unfolding(network_model::specs::Events::port_attached))]
     fn attach(&mut self, place: usize, port: u64, isid: u64) -> Result<(), NoMemory>
         requires sound { IsSoundNetwork B.shown self.old }
         requires place { place < length self.old.world.bridges }
@@ -83,7 +49,7 @@ impl<B: Bridge> NetworkOf<B> {
     }
 
     /// Detaches a customer port of the bridge at a place.
-    #[tactic(auto, unfolding(crate::specs::Events::port_detached))]
+    #[tactic(auto, unfolding(network_model::specs::Events::port_detached))]
     fn detach(&mut self, place: usize, port: u64) -> Result<(), NoMemory>
         requires sound { IsSoundNetwork B.shown self.old }
         requires accepted { attaching.detach_refusal self.old.world place port ≡ None }
@@ -110,7 +76,7 @@ impl<B: Bridge> NetworkOf<B> {
     }
 
     /// A customer port of a bridge is attached to a service.
-    #[tactic(auto, unfolding(crate::specs::Refusing::named_attach_refusal, crate::specs::Play::at_bridge))]
+    #[tactic(auto, unfolding(spb_world::specs::Naming::named_attach_refusal, network_model::specs::Play::at_bridge))]
     pub(crate) fn play_attach(&mut self, name: Name, port: u64, isid: u64) -> Result<(), NoMemory>
         requires sound { IsSoundNetwork B.shown self.old }
         requires accepted { refuse.named_attach_refusal self.old.world name port isid ≡ None }
@@ -125,7 +91,7 @@ impl<B: Bridge> NetworkOf<B> {
     }
 
     /// A customer port of a bridge is detached.
-    #[tactic(auto, unfolding(crate::specs::Refusing::named_detach_refusal, crate::specs::Play::at_bridge))]
+    #[tactic(auto, unfolding(spb_world::specs::Naming::named_detach_refusal, network_model::specs::Play::at_bridge))]
     pub(crate) fn play_detach(&mut self, name: Name, port: u64) -> Result<(), NoMemory>
         requires sound { IsSoundNetwork B.shown self.old }
         requires accepted { refuse.named_detach_refusal self.old.world name port ≡ None }
@@ -140,7 +106,7 @@ impl<B: Bridge> NetworkOf<B> {
     }
 
     /// A customer's frame enters at a customer port of a bridge.
-    #[tactic(auto, unfolding(crate::specs::Refusing::named_entry_refusal, crate::specs::Play::at_bridge))]
+    #[tactic(auto, unfolding(spb_world::specs::Naming::named_entry_refusal, network_model::specs::Play::at_bridge))]
     pub(crate) fn play_frame(&mut self, name: Name, port: u64, frame: &[u8]) -> Result<(), NoMemory>
         requires sound { IsSoundNetwork B.shown self.old }
         requires accepted { refuse.named_entry_refusal self.old.world name port frame.now ≡ None }

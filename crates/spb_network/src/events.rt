@@ -2,17 +2,19 @@
 ghost use Rattle.std.specs.Prelude.{◌≡◌, [], true, slice_get, OnOk, IfOk, IfSome};
 ghost use Rattle.bridge_api.specs.Config.{IsMetric};
 ghost use Rattle.bridge_api.specs.Step as comes;
-ghost use Rattle.spb_network.specs.World.{IsEnd, IsLink};
-ghost use Rattle.spb_network.specs.State.{links_of, lane_out};
-ghost use Rattle.spb_network.specs.Events as event;
+ghost use Rattle.spb_world.specs.World.{IsEnd, IsLink};
+ghost use Rattle.network_model.specs.State.{links_of};
+ghost use Rattle.spb_world.specs.Links.{lane_out};
+ghost use Rattle.network_model.specs.Events as event;
 ghost use Rattle.spb_network.specs.Network.{state_of, IsInOrder};
 
-use crate::{DeclaredLink, LinkEnd, NetworkOf, Out, boxes, link_ends};
+use crate::{DeclaredLink, LinkEnd, NetworkOf, Out, boxes};
 use bridge_api::{Bridge, Outbox};
 use link_model::LaneId;
 use scenario::Side;
 use shared_frames::Frame;
 use spb_types::{NoMemory, Seq};
+use spb_world::link_ends;
 
 impl<B: Bridge> NetworkOf<B> {
     /// A frame goes out at a port of the bridge at a place. It is lost where no link that is up ends there.
@@ -163,7 +165,7 @@ impl<B: Bridge> NetworkOf<B> {
     }
 
     /// An end of the link at a place gets another metric, which its bridge is told.
-    #[tactic(auto, unfolding(crate::specs::Events::with_metric_changed))]
+    #[tactic(auto, unfolding(network_model::specs::Events::with_metric_changed))]
     pub(crate) fn set_metric(
         &mut self,
         place: usize,
@@ -184,7 +186,7 @@ impl<B: Bridge> NetworkOf<B> {
     }
 
     /// The link at a place comes up.
-    #[tactic(auto, unfolding(crate::specs::Events::switched_on))]
+    #[tactic(auto, unfolding(network_model::specs::Events::switched_on))]
     pub(crate) fn switch_on(&mut self, place: usize) -> Result<(), NoMemory>
         requires { IsInOrder B.shown self.old }
         ensures state { OnOk result (state_of B.shown self.new
@@ -197,7 +199,7 @@ impl<B: Bridge> NetworkOf<B> {
     }
 
     /// The link at a place goes down.
-    #[tactic(auto, unfolding(crate::specs::Events::switched_off))]
+    #[tactic(auto, unfolding(network_model::specs::Events::switched_off))]
     pub(crate) fn switch_off(&mut self, place: usize) -> Result<(), NoMemory>
         requires { IsInOrder B.shown self.old }
         ensures state { OnOk result (state_of B.shown self.new
@@ -211,7 +213,7 @@ impl<B: Bridge> NetworkOf<B> {
     }
 
     /// The frame at the front of a lane is delivered. Nothing happens where there is none.
-    #[tactic(auto, unfolding(crate::specs::Events::delivered))]
+    #[tactic(auto, unfolding(network_model::specs::Events::delivered))]
     pub(crate) fn deliver(&mut self, lane: LaneId) -> Result<(), NoMemory>
         requires { IsInOrder B.shown self.old }
         ensures state { OnOk result (state_of B.shown self.new

@@ -25,40 +25,24 @@
 //! takes memory for its place in the answer, and is handed over with it; where nothing leaves, none is taken.
 #![tactic(auto)]
 
-pub use answer::{Answer, Out};
-pub use declaration::{DeclaredBridge, DeclaredLink, LinkEnd};
-pub use kind_rule::KindRule;
-pub use laws::{
-    a_delivery_is_one_step, a_restart_begins_anew, events_keep_sound, group_frames_leave_once,
-    networks_are_sound, networks_halt_without_memory, numbers_stay_bounded, quiet_can_be_relied_on,
-    quiet_is_true, quiet_paths_are_wired, quiet_says_what_it_reads_like, services_stay_apart,
-    some_network_is_busy, the_first_reason_is_given, wiring_gives_tables,
-};
+pub use apply_error::ApplyError;
+pub use laws::networks_halt_without_memory;
 pub use network::{Network, NetworkOf};
-pub use reason::{ApplyError, Reason};
-pub use world::World;
+pub use network_model::{Answer, KindRule, Out};
+pub use spb_world::{DeclaredBridge, DeclaredLink, LinkEnd, Reason, World};
 
-mod answer;
-mod attaching;
+mod apply_error;
 mod bodies;
 mod boxes;
-mod check;
 mod customers;
-mod declaration;
 mod events;
-mod graph;
-mod hints;
-mod kind_rule;
 mod laws;
-mod link_ends;
 mod network;
 mod paths;
 mod play;
 mod questions;
 mod quiet;
 mod rack;
-mod reason;
 mod refusing;
 mod restart;
 mod rounds;
-mod world;

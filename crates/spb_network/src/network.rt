@@ -1,18 +1,20 @@
 ghost use Rattle.std.specs.Prelude.{◌≡◌, ◌≤◌, false, map, OnOk};
 ghost use Rattle.bridge_api.specs.Shown.{views_of};
-ghost use Rattle.spb_network.specs.declared.kind_rule.KindRule.TheVariants as rules;
-ghost use Rattle.spb_network.specs.Sound.{opening};
+ghost use Rattle.network_model.specs.declared.kind_rule.KindRule.TheVariants as rules;
+ghost use Rattle.network_model.specs.Sound.{opening};
 ghost use Rattle.spb_network.specs.Network.{state_of, spare, AreMade};
 ghost use Rattle.spb_network.specs.Applying.{Applies, IsReady};
-ghost use Rattle.spb_network.specs.Counted.{most_commands};
-ghost use Rattle.spb_network.specs.Telling.{QuietTells};
+ghost use Rattle.network_model.specs.Counted.{most_commands};
+ghost use Rattle.network_model.specs.Telling.{QuietTells};
+ghost use Rattle.network_model.specs.SoundLaws.{IsAddressed};
 
-use crate::quiet::Conditions;
-use crate::{Answer, ApplyError, KindRule, Out, World, check};
+use crate::{Answer, ApplyError, KindRule, Out, World};
 use bridge_api::Bridge;
 use link_model::Lanes;
+use network_model::Conditions;
 use scenario::Command;
 use spb_types::NoMemory;
+use spb_world::check;
 use std::alloc::Global;
 
 /// A network of bridges in boxes of one type.
@@ -107,7 +109,7 @@ impl<B: Bridge> NetworkOf<B> {
         if self.halted {
             return Err(ApplyError::Halted);
         }
-        check::addressed(command);
+        addressed(command);
         match self.refusal(command) {
             Some(reason) => Err(ApplyError::Refused(reason)),
             None => match self.play(command) {
@@ -122,5 +124,14 @@ impl<B: Bridge> NetworkOf<B> {
                 }
             },
         }
+    }
+}
+
+/// Says that the address that a command declares, if it does, has six octets.
+fn addressed(command: &Command)
+    ensures { IsAddressed command.now }
+{
+    if let Command::Bridge { system, .. } = command {
+        check::address(*system);
     }
 }

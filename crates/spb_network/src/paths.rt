@@ -1,54 +1,13 @@
 //! The path between two bridges, by the LSPs that the first holds.
-ghost use Rattle.std.specs.Prelude.{◌≡◌, ◌==◌, find, slice_get, IfOk};
-ghost use Rattle.std.specs.Option.{option_copied, option_and_then};
+ghost use Rattle.std.specs.Prelude.{◌≡◌, slice_get, IfOk};
+ghost use Rattle.std.specs.Option.{option_and_then};
 ghost use Rattle.bridge_api.specs.Graph.{own_path};
-ghost use Rattle.spb_network.specs.Paths as paths;
+ghost use Rattle.network_model.specs.Paths as paths;
 ghost use Rattle.spb_network.specs.Network.{state_of, IsInOrder};
 
-use crate::{Answer, NetworkOf, World, check};
+use crate::{Answer, NetworkOf};
 use bridge_api::Bridge;
-use spb_types::{Name, NoMemory, Path, Seq, SystemId, Vid, VidPlan};
-use std::alloc::Global;
-
-/// What is planned for the base VID of a number. None exactly where it isn't declared.
-fn planned_for(vids: &[VidPlan], vid: u64) -> Option<&VidPlan>
-    ensures { option_copied result ≡ find (λ plan. plan.vid.value == vid) vids.now }
-{
-    vids.iter().find(|plan| check::is_vid(plan, vid))
-}
-
-impl World {
-    /// The base VID of a number. None exactly where it isn't declared.
-    fn declared_vid(&self, vid: u64) -> Option<Vid>
-        ensures { result ≡ paths.declared_vid self.now.vids vid }
-    {
-        match planned_for(self.vids(), vid) {
-            None => None,
-            Some(plan) => Some(plan.vid),
-        }
-    }
-
-    /// The name of the bridge of a system id. None exactly where there is none.
-    fn name_of_system(&self, system: SystemId) -> Option<Name>
-        ensures { result ≡ paths.name_of_system self.now.bridges system }
-    {
-        match self.place_of_system(system) {
-            None => None,
-            Some(place) => self.bridge_name(place),
-        }
-    }
-
-    /// The names of the bridges on a path, in order.
-    fn names_on(&self, alloc: Global, path: &[SystemId]) -> Result<Vec<Name>, NoMemory>
-        ensures { IfOk result (λ names. names.items ≡ paths.names_on self.now.bridges path.now) }
-    {
-        let names = path
-            .iter()
-            .filter_map(|system| self.name_of_system(*system))
-            .collect(alloc)?;
-        Ok(names)
-    }
-}
+use spb_types::{Name, NoMemory, Path, Seq, SystemId, Vid};
 
 impl<B: Bridge> NetworkOf<B> {
     /// The answer of the bridge at a place about its path to another in a base VID; `Silent` where one isn't declared.

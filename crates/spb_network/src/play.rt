@@ -1,11 +1,12 @@
 //! What each command makes of a network, where it isn't refused. Nothing happens at a name that isn't there.
 ghost use Rattle.std.specs.Prelude.{◌≡◌, ◌<◌, [], false, true, None, Some, length, OnOk, IfOk};
-ghost use Rattle.spb_network.specs.Declaring as declare;
-ghost use Rattle.spb_network.specs.Services as service;
-ghost use Rattle.spb_network.specs.Refusing as refuse;
-ghost use Rattle.spb_network.specs.Questions as question;
-ghost use Rattle.spb_network.specs.Play as play;
-ghost use Rattle.spb_network.specs.Events as event;
+ghost use Rattle.spb_world.specs.Declaring as declare;
+ghost use Rattle.spb_world.specs.Services as service;
+ghost use Rattle.network_model.specs.Refusing as refuse;
+ghost use Rattle.spb_world.specs.Naming.{metric_refusal, named_link_refusal};
+ghost use Rattle.network_model.specs.Questions as question;
+ghost use Rattle.network_model.specs.Play as play;
+ghost use Rattle.network_model.specs.Events as event;
 ghost use Rattle.spb_network.specs.Network.{state_of, AreMade, IsInOrder, IsBlankAt};
 ghost use Rattle.spb_network.specs.Applying.{IsSoundNetwork, IsKept};
 
@@ -20,7 +21,7 @@ use std::mem;
 
 impl<B: Bridge> NetworkOf<B> {
     /// Declares a base VID.
-    #[tactic(auto, unfolding(crate::specs::Play::with_vid_more))]
+    #[tactic(auto, unfolding(network_model::specs::Play::with_vid_more))]
     fn play_vid(&mut self, vid: u64, ect: u64) -> Result<(), NoMemory>
         requires order { IsInOrder B.shown self.old }
         requires accepted { declare.vid_refusal self.old.world vid ect ≡ None }
@@ -63,7 +64,7 @@ impl<B: Bridge> NetworkOf<B> {
     }
 
     /// Declares a bridge. Nothing happens where no blank box of its kind is left.
-    #[tactic(auto, unfolding(crate::specs::Play::declared))]
+    #[tactic(auto, unfolding(network_model::specs::Play::declared))]
     fn play_bridge(
         &mut self,
         name: Name,
@@ -88,7 +89,7 @@ impl<B: Bridge> NetworkOf<B> {
 
     /// Puts in a link between the bridges at two places that isn't refused, gives its ends their metrics, and switches
     /// it on.
-    #[tactic(auto, unfolding(crate::specs::Play::linked))]
+    #[tactic(auto, unfolding(network_model::specs::Play::linked))]
     fn add_link(
         &mut self,
         name: Name,
@@ -112,7 +113,7 @@ impl<B: Bridge> NetworkOf<B> {
     }
 
     /// Declares a link between two bridges, which comes up at once.
-    #[tactic(auto, unfolding(crate::specs::Refusing::named_link_refusal, crate::specs::Play::named_link))]
+    #[tactic(auto, unfolding(spb_world::specs::Naming::named_link_refusal, network_model::specs::Play::named_link))]
     fn play_link(
         &mut self,
         name: Name,
@@ -123,7 +124,7 @@ impl<B: Bridge> NetworkOf<B> {
         cost: u64,
     ) -> Result<(), NoMemory>
         requires order { IsInOrder B.shown self.old }
-        requires accepted { refuse.named_link_refusal self.old.world name a port_a b port_b cost ≡ None }
+        requires accepted { named_link_refusal self.old.world name a port_a b port_b cost ≡ None }
         ensures state { OnOk result (state_of B.shown self.new
             ≡ play.named_link (state_of B.shown self.old) name a port_a b port_b cost) }
         ensures made { OnOk result (AreMade B.shown self.new.boxes.items) }
@@ -138,7 +139,7 @@ impl<B: Bridge> NetworkOf<B> {
     }
 
     /// Declares a service.
-    #[tactic(auto, unfolding(crate::specs::Play::with_service_more))]
+    #[tactic(auto, unfolding(network_model::specs::Play::with_service_more))]
     fn play_isid(&mut self, isid: u64, vid: u64) -> Result<(), NoMemory>
         requires order { IsInOrder B.shown self.old }
         requires accepted { service.isid_refusal self.old.world isid vid ≡ None }
@@ -150,10 +151,10 @@ impl<B: Bridge> NetworkOf<B> {
     }
 
     /// An end of a link gets another metric.
-    #[tactic(auto, using(crate::proofs::RefusalLemmas::metric_refusal_none), unfolding(crate::specs::Play::at_link))]
+    #[tactic(auto, using(spb_world::proofs::RefusalLemmas::metric_refusal_none), unfolding(network_model::specs::Play::at_link))]
     fn play_metric(&mut self, name: Name, side: Side, metric: u64) -> Result<(), NoMemory>
         requires order { IsInOrder B.shown self.old }
-        requires accepted { refuse.metric_refusal self.old.world name metric ≡ None }
+        requires accepted { metric_refusal self.old.world name metric ≡ None }
         ensures state { OnOk result (state_of B.shown self.new
             ≡ play.at_link (λ s k. event.with_metric_changed s k side metric) (state_of B.shown self.old) name) }
         ensures made { OnOk result (AreMade B.shown self.new.boxes.items) }
@@ -165,7 +166,7 @@ impl<B: Bridge> NetworkOf<B> {
     }
 
     /// A link goes down.
-    #[tactic(auto, unfolding(crate::specs::Play::at_link))]
+    #[tactic(auto, unfolding(network_model::specs::Play::at_link))]
     fn play_down(&mut self, name: Name) -> Result<(), NoMemory>
         requires { IsInOrder B.shown self.old }
         ensures state { OnOk result (state_of B.shown self.new
@@ -179,7 +180,7 @@ impl<B: Bridge> NetworkOf<B> {
     }
 
     /// A link comes up.
-    #[tactic(auto, unfolding(crate::specs::Play::at_link))]
+    #[tactic(auto, unfolding(network_model::specs::Play::at_link))]
     fn play_up(&mut self, name: Name) -> Result<(), NoMemory>
         requires { IsInOrder B.shown self.old }
         ensures state { OnOk result (state_of B.shown self.new
@@ -193,7 +194,7 @@ impl<B: Bridge> NetworkOf<B> {
     }
 
     /// A second of a bridge.
-    #[tactic(auto, unfolding(crate::specs::Play::at_bridge))]
+    #[tactic(auto, unfolding(network_model::specs::Play::at_bridge))]
     fn play_tick(&mut self, name: Name) -> Result<(), NoMemory>
         requires { IsInOrder B.shown self.old }
         ensures state { OnOk result (state_of B.shown self.new
@@ -207,7 +208,7 @@ impl<B: Bridge> NetworkOf<B> {
     }
 
     /// The frame at the front of a lane is delivered.
-    #[tactic(auto, unfolding(crate::specs::Play::at_link))]
+    #[tactic(auto, unfolding(network_model::specs::Play::at_link))]
     fn play_deliver(&mut self, name: Name, dir: Dir) -> Result<(), NoMemory>
         requires { IsInOrder B.shown self.old }
         ensures state { OnOk result (state_of B.shown self.new
@@ -221,7 +222,7 @@ impl<B: Bridge> NetworkOf<B> {
     }
 
     /// A frame is lost. Takes no memory, and answers Ok.
-    #[tactic(auto, unfolding(crate::specs::Play::at_link))]
+    #[tactic(auto, unfolding(network_model::specs::Play::at_link))]
     fn play_lose(&mut self, name: Name, dir: Dir, place: u64) -> Result<(), NoMemory>
         requires { IsInOrder B.shown self.old }
         ensures state { OnOk result (state_of B.shown self.new
@@ -235,7 +236,7 @@ impl<B: Bridge> NetworkOf<B> {
     }
 
     /// A frame is doubled.
-    #[tactic(auto, unfolding(crate::specs::Play::at_link))]
+    #[tactic(auto, unfolding(network_model::specs::Play::at_link))]
     fn play_double(&mut self, name: Name, dir: Dir, place: u64) -> Result<(), NoMemory>
         requires { IsInOrder B.shown self.old }
         ensures state { OnOk result (state_of B.shown self.new
@@ -249,7 +250,7 @@ impl<B: Bridge> NetworkOf<B> {
     }
 
     /// So many rounds.
-    #[tactic(auto, using(crate::proofs::RefusalLemmas::round_refusal_none), unfolding(crate::specs::Play::with_rounds))]
+    #[tactic(auto, using(network_model::proofs::StateRefusals::round_refusal_none), unfolding(network_model::specs::Play::with_rounds))]
     fn play_round_command(&mut self, n: u64) -> Result<(), NoMemory>
         requires order { IsInOrder B.shown self.old }
         requires accepted { refuse.round_refusal (state_of B.shown self.old) n ≡ None }
@@ -263,7 +264,7 @@ impl<B: Bridge> NetworkOf<B> {
     }
 
     /// So many deliveries at most.
-    #[tactic(auto, using(crate::proofs::RefusalLemmas::drain_refusal_none), unfolding(crate::specs::Play::with_drain))]
+    #[tactic(auto, using(network_model::proofs::StateRefusals::drain_refusal_none), unfolding(network_model::specs::Play::with_drain))]
     fn play_drain_command(&mut self, n: u64) -> Result<(), NoMemory>
         requires order { IsInOrder B.shown self.old }
         requires accepted { refuse.drain_refusal (state_of B.shown self.old) n ≡ None }

@@ -1,11 +1,11 @@
 //! What a network answers: the questions about the whole network, and about one bridge.
 ghost use Rattle.std.specs.Prelude.{◌≡◌, false, if◌then◌else◌, IfOk};
 ghost use Rattle.std.specs.Option.{option_map};
-ghost use Rattle.spb_network.specs.declared.answer.Answer.TheVariants as answers;
-ghost use Rattle.spb_network.specs.World.{wired_tables};
-ghost use Rattle.spb_network.specs.Questions as question;
-ghost use Rattle.spb_network.specs.Play as play;
-ghost use Rattle.spb_network.specs.Quiet.{failing};
+ghost use Rattle.network_model.specs.declared.answer.Answer.TheVariants as answers;
+ghost use Rattle.spb_world.specs.World.{wired_tables};
+ghost use Rattle.network_model.specs.Questions as question;
+ghost use Rattle.network_model.specs.Play as play;
+ghost use Rattle.network_model.specs.Quiet.{failing};
 ghost use Rattle.spb_network.specs.Network.{state_of, IsInOrder};
 ghost use Rattle.spb_network.specs.Applying.{IsSoundNetwork};
 

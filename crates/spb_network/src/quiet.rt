@@ -6,30 +6,18 @@ ghost use Rattle.adjacency.specs.Adjacency.{is_up};
 ghost use Rattle.bridge_api.specs.View.{has_flags};
 ghost use Rattle.bridge_api.specs.Shown.{views_of};
 ghost use Rattle.spb_network.specs.Applying.{IsReady, IsSoundNetwork};
-ghost use Rattle.spb_network.specs.Network.{state_of, AreMade, IsPortAt};
-ghost use Rattle.spb_network.specs.State.{links_of};
-ghost use Rattle.spb_network.specs.Quiet.{holds_q1, holds_q2, holds_q3, failing, unless_holds};
-ghost use Rattle.spb_network.specs.Quieting.{is_end_up, is_link_up, conditions_of, numbers_of};
+ghost use Rattle.spb_network.specs.Network.{state_of, AreMade};
+ghost use Rattle.network_model.specs.State.{IsPortAt, links_of};
+ghost use Rattle.network_model.specs.Quiet.{holds_q1, holds_q2, holds_q3, failing, unless_holds};
+ghost use Rattle.network_model.specs.Quieting.{is_end_up, is_link_up, conditions_of, numbers_of};
 
 use crate::bodies::have_one_body;
 use crate::{LinkEnd, NetworkOf};
 use adjacency::AdjState;
 use bridge_api::Bridge;
+use network_model::Conditions;
 use spb_types::NoMemory;
 use std::alloc::Global;
-
-/// Which conditions of quiet hold.
-#[derive(Clone, Copy)]
-pub struct Conditions {
-    /// Both ends of each link that is up are Up with each other, and no other port is Up.
-    pub links: bool,
-    /// No frame is on its way.
-    pub lanes: bool,
-    /// No bridge has a flag.
-    pub flags: bool,
-    /// No two bridges hold different bodies under one LSP id with one live version.
-    pub bodies: bool,
-}
 
 /// Whether a state is Up.
 fn is_up(state: AdjState) -> bool
@@ -136,7 +124,7 @@ impl<B: Bridge> NetworkOf<B> {
     }
 
     /// Whether no bridge has a flag.
-    #[tactic(auto, unfolding(crate::specs::Quiet::holds_q3))]
+    #[tactic(auto, unfolding(network_model::specs::Quiet::holds_q3))]
     fn are_flags_clear(&self) -> bool
         requires { IsSoundNetwork B.shown self.now }
         ensures { result ≡ holds_q3 (state_of B.shown self.now) }

@@ -1,6 +1,6 @@
 //! The rack of boxes that bridges are taken from.
 ghost use Rattle.std.specs.Prelude.{◌≡◌, ◌<◌, true, length, map, IfSome};
-ghost use Rattle.spb_network.specs.State as state;
+ghost use Rattle.network_model.specs.State as state;
 ghost use Rattle.spb_network.specs.Network.{spare, IsBlankAt};
 
 use crate::KindRule;
@@ -40,7 +40,7 @@ fn serves<B: Bridge>(bridge: &B, wanted: Kind) -> bool
 }
 
 /// The next blank box of a kind, by place in the rack. None exactly where none is left.
-#[tactic(auto, unfolding(crate::specs::State::next_box))]
+#[tactic(auto, unfolding(network_model::specs::State::next_box))]
 pub fn next_box<B: Bridge>(rack: &Vec<B>, wanted: Kind) -> Option<usize>
     ensures place { result ≡ state.next_box wanted (map (spare B.shown) rack.now.items) }
     ensures within { IfSome result (λ place. place < length rack.now.items) }

@@ -1,118 +1,33 @@
 //! Why each command is refused.
 ghost use Rattle.std.specs.Prelude.{◌≡◌, IsTrue};
-ghost use Rattle.spb_network.specs.Refusing as refuse;
-ghost use Rattle.spb_network.specs.Play.{is_event};
-ghost use Rattle.spb_network.specs.Questions.{question_of};
+ghost use Rattle.network_model.specs.Refusing as refuse;
+ghost use Rattle.network_model.specs.Play.{is_event};
+ghost use Rattle.network_model.specs.Questions.{question_of};
 ghost use Rattle.spb_network.specs.Network.{state_of};
 
 use crate::questions::asked;
 use crate::rack::{kind_at, next_box};
-use crate::reason::reason_unless;
-use crate::{NetworkOf, Reason, World, check};
+use crate::{NetworkOf, Reason, World};
 use bridge_api::Bridge;
 use link_model::LaneId;
 use scenario::{Command, Dir};
-use spb_types::limits::{GREATEST_METRIC, MOST_DELIVERIES, MOST_DELIVERIES_TOGETHER, MOST_ROUNDS};
+use spb_types::limits::{MOST_DELIVERIES, MOST_DELIVERIES_TOGETHER, MOST_ROUNDS};
 use spb_types::{Mac, Name, SourceId};
+use spb_world::reason_unless;
 
-impl World {
-    /// Why what names a bridge is refused, if it is.
-    #[tactic(auto, unfolding(crate::specs::Refusing::unnamed_refusal))]
-    pub fn unnamed_refusal(&self, name: Name) -> Option<Reason>
-        ensures { result ≡ refuse.unnamed_refusal self.now name }
-    {
-        reason_unless(self.bridge_place(name).is_some(), Reason::NoSuchName)
-    }
-
-    /// Whether both bridges and the base VID of a number are declared.
-    fn are_declared(&self, from: Name, to: Name, vid: u64) -> bool
-        ensures { result ≡ refuse.are_declared self.now from to vid }
-    {
-        self.bridge_place(from).is_some()
-            && self.bridge_place(to).is_some()
-            && check::has_vid(self.vids(), vid)
-    }
-
-    /// Why the path between two bridges in a base VID can't be asked for, if it can't.
-    #[tactic(auto, unfolding(crate::specs::Refusing::path_refusal))]
-    fn path_refusal(&self, from: Name, to: Name, vid: u64) -> Option<Reason>
-        ensures { result ≡ refuse.path_refusal self.now from to vid }
-    {
-        reason_unless(self.are_declared(from, to, vid), Reason::NoSuchName)
-    }
-
-    /// Why what may be a question about a bridge is refused, if it is.
-    fn asked_refusal(&self, command: &Command) -> Option<Reason>
-        ensures { result ≡ refuse.asked_refusal self.now (question_of command.now) }
-    {
-        match asked(command) {
-            None => None,
-            Some(name) => self.unnamed_refusal(name),
-        }
-    }
-
-    /// Why a link between two bridges can't be declared, if it can't.
-    #[tactic(auto, unfolding(crate::specs::Refusing::named_link_refusal))]
-    pub fn named_link_refusal(
-        &self,
-        name: Name,
-        a: Name,
-        port_a: u64,
-        b: Name,
-        port_b: u64,
-        cost: u64,
-    ) -> Option<Reason>
-        ensures { result ≡ refuse.named_link_refusal self.now name a port_a b port_b cost }
-    {
-        let Some(i) = self.bridge_place(a) else {
-            return Some(Reason::NoSuchName);
-        };
-        let Some(j) = self.bridge_place(b) else {
-            return Some(Reason::NoSuchName);
-        };
-        self.link_refusal(name, i, port_a, j, port_b, cost)
-    }
-
-    /// Why the link of a name can't go down, if it can't.
-    #[tactic(auto, unfolding(crate::specs::Refusing::down_refusal))]
-    pub fn down_refusal(&self, name: Name) -> Option<Reason>
-        ensures { result ≡ refuse.down_refusal self.now name }
-    {
-        match self.link_place(name) {
-            None => Some(Reason::NoSuchName),
-            Some(link) => reason_unless(self.is_live(link), Reason::AlreadyDown),
-        }
-    }
-
-    /// Why the link of a name can't come up, if it can't.
-    #[tactic(auto, unfolding(crate::specs::Refusing::up_refusal))]
-    pub fn up_refusal(&self, name: Name) -> Option<Reason>
-        ensures { result ≡ refuse.up_refusal self.now name }
-    {
-        match self.link_place(name) {
-            None => Some(Reason::NoSuchName),
-            Some(link) => reason_unless(!self.is_live(link), Reason::AlreadyUp),
-        }
-    }
-
-    /// Why an end of the link of a name can't get this metric, if it can't.
-    #[tactic(auto, unfolding(crate::specs::Refusing::metric_refusal))]
-    pub fn metric_refusal(&self, name: Name, metric: u64) -> Option<Reason>
-        ensures { result ≡ refuse.metric_refusal self.now name metric }
-    {
-        match self.link_place(name) {
-            None => Some(Reason::NoSuchName),
-            Some(_) => reason_unless(
-                1 <= metric && metric <= u64::from(GREATEST_METRIC),
-                Reason::Range,
-            ),
-        }
+/// Why what may be a question about a bridge is refused, if it is.
+fn asked_refusal(world: &World, command: &Command) -> Option<Reason>
+    ensures { result ≡ refuse.asked_refusal world.now (question_of command.now) }
+{
+    match asked(command) {
+        None => None,
+        Some(name) => world.unnamed_refusal(name),
     }
 }
 
 impl<B: Bridge> NetworkOf<B> {
     /// Why a bridge can't be declared, if it can't.
-    #[tactic(auto, unfolding(crate::specs::Refusing::declared_refusal))]
+    #[tactic(auto, unfolding(network_model::specs::Refusing::declared_refusal))]
     fn declared_refusal(
         &self,
         name: Name,
@@ -131,7 +46,7 @@ impl<B: Bridge> NetworkOf<B> {
     }
 
     /// Why no frame at this place of a lane can be delivered, lost or doubled, if none can.
-    #[tactic(auto, unfolding(crate::specs::Refusing::frame_refusal))]
+    #[tactic(auto, unfolding(network_model::specs::Refusing::frame_refusal))]
     fn frame_refusal(&self, name: Name, dir: Dir, place: u64) -> Option<Reason>
         ensures { result ≡ refuse.frame_refusal (state_of B.shown self.now) name dir place }
     {
@@ -145,7 +60,7 @@ impl<B: Bridge> NetworkOf<B> {
     }
 
     /// Why so many rounds can't be played, if they can't.
-    #[tactic(auto, unfolding(crate::specs::Refusing::round_refusal, crate::specs::Reason::reason_unless))]
+    #[tactic(auto, unfolding(network_model::specs::Refusing::round_refusal, spb_world::specs::Reason::reason_unless))]
     fn round_refusal(&self, n: u64) -> Option<Reason>
         ensures { result ≡ refuse.round_refusal (state_of B.shown self.now) n }
     {
@@ -159,7 +74,7 @@ impl<B: Bridge> NetworkOf<B> {
     }
 
     /// Why so many deliveries can't be asked for, if they can't.
-    #[tactic(auto, unfolding(crate::specs::Refusing::drain_refusal, crate::specs::Reason::reason_unless))]
+    #[tactic(auto, unfolding(network_model::specs::Refusing::drain_refusal, spb_world::specs::Reason::reason_unless))]
     fn drain_refusal(&self, n: u64) -> Option<Reason>
         ensures { result ≡ refuse.drain_refusal (state_of B.shown self.now) n }
     {
@@ -234,7 +149,7 @@ impl<B: Bridge> NetworkOf<B> {
             | Command::Wiring(_)
             | Command::Db(_)
             | Command::Adj(_)
-            | Command::Drops(_) => self.world.asked_refusal(command),
+            | Command::Drops(_) => asked_refusal(&self.world, command),
             _ => self.event_refusal(command),
         }
     }

@@ -1,48 +1,21 @@
 //! A bridge restarts: a blank box takes the place of its box, which is dropped with all that it held.
 ghost use Rattle.std.specs.Prelude.{◌≡◌, ◌<◌, Some, length, slice_get, OnOk, IfOk, IfSome};
 ghost use Rattle.bridge_api.specs.Config.{IsWhole};
-ghost use Rattle.spb_network.specs.World.{things_of, IsEnd};
-ghost use Rattle.spb_network.specs.State.{links_of};
-ghost use Rattle.spb_network.specs.Refusing as refuse;
-ghost use Rattle.spb_network.specs.Restarting as restart;
-ghost use Rattle.spb_network.specs.Play as play;
+ghost use Rattle.spb_world.specs.World.{things_of, IsEnd};
+ghost use Rattle.network_model.specs.State.{links_of};
+ghost use Rattle.network_model.specs.Refusing as refuse;
+ghost use Rattle.network_model.specs.Restarting as restart;
+ghost use Rattle.spb_world.specs.Links.{port_metrics};
+ghost use Rattle.network_model.specs.Play as play;
 ghost use Rattle.spb_network.specs.Network.{state_of, AreMade, IsInOrder, IsBlankAt};
 ghost use Rattle.spb_network.specs.Applying.{IsSoundNetwork};
 
 use crate::rack::{kind_at, next_box};
-use crate::reason::reason_unless;
 use crate::{DeclaredBridge, DeclaredLink, LinkEnd, NetworkOf, Reason, boxes};
 use bridge_api::{Bridge, BridgeConfig};
 use spb_types::{Name, NoMemory, Seq};
-
-/// Whether this is a link of the bridge at a place that is up.
-fn ends_here(link: &DeclaredLink, bridge: usize) -> bool
-    ensures { result ≡ restart.ends_here link.now bridge }
-{
-    link.live && (link.a.bridge == bridge || link.b.bridge == bridge)
-}
-
-/// The end of a link at the bridge at a place.
-fn end_here(link: &DeclaredLink, bridge: usize) -> LinkEnd
-    ensures { result ≡ restart.end_here link.now bridge }
-{
-    if link.a.bridge == bridge {
-        link.a
-    } else {
-        link.b
-    }
-}
-
-/// The other end.
-fn end_away(link: &DeclaredLink, bridge: usize) -> LinkEnd
-    ensures { result ≡ restart.end_away link.now bridge }
-{
-    if link.a.bridge == bridge {
-        link.b
-    } else {
-        link.a
-    }
-}
+use spb_world::link_ends::{end_away, end_here, ends_here};
+use spb_world::reason_unless;
 
 impl<B: Bridge> NetworkOf<B> {
     /// The box that the bridge at a place takes, by place in the rack. None exactly where no blank one of its kind is
@@ -56,7 +29,7 @@ impl<B: Bridge> NetworkOf<B> {
     }
 
     /// Why a bridge can't restart, if it can't.
-    #[tactic(auto, unfolding(crate::specs::Refusing::restart_refusal))]
+    #[tactic(auto, unfolding(network_model::specs::Refusing::restart_refusal))]
     pub(crate) fn restart_refusal(&self, name: Name) -> Option<Reason>
         ensures { result ≡ refuse.restart_refusal (state_of B.shown self.now) name }
     {
@@ -69,7 +42,7 @@ impl<B: Bridge> NetworkOf<B> {
     /// The metric at each of so many ports of the bridge at a place.
     fn port_metrics(&self, i: usize, ports: u8) -> Result<Vec<u32>, NoMemory>
         ensures { IfOk result (λ metrics. metrics.items
-            ≡ restart.port_metrics (links_of (state_of B.shown self.now)) i ports 1) }
+            ≡ port_metrics (links_of (state_of B.shown self.now)) i ports 1) }
     {
         let mut metrics = Vec::new(self.alloc);
         for place in 0..ports {
@@ -225,7 +198,7 @@ impl<B: Bridge> NetworkOf<B> {
     }
 
     /// The bridge at a place restarts. Nothing happens where there is none, or no box for it.
-    #[tactic(auto, unfolding(crate::specs::Restarting::restarted))]
+    #[tactic(auto, unfolding(network_model::specs::Restarting::restarted))]
     fn restart(&mut self, i: usize) -> Result<(), NoMemory>
         requires { IsSoundNetwork B.shown self.old }
         ensures state { OnOk result (state_of B.shown self.new
@@ -242,7 +215,7 @@ impl<B: Bridge> NetworkOf<B> {
     }
 
     /// The bridge of a name restarts.
-    #[tactic(auto, unfolding(crate::specs::Play::at_bridge))]
+    #[tactic(auto, unfolding(network_model::specs::Play::at_bridge))]
     pub(crate) fn play_restart(&mut self, name: Name) -> Result<(), NoMemory>
         requires { IsSoundNetwork B.shown self.old }
         ensures state { OnOk result (state_of B.shown self.new

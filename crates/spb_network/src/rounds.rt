@@ -1,6 +1,6 @@
 //! Many events: rounds, and deliveries until all lanes are empty.
 ghost use Rattle.std.specs.Prelude.{◌≡◌, OnOk};
-ghost use Rattle.spb_network.specs.Events as event;
+ghost use Rattle.network_model.specs.Events as event;
 ghost use Rattle.spb_network.specs.Network.{state_of, IsInOrder};
 
 use crate::NetworkOf;
@@ -24,7 +24,7 @@ impl<B: Bridge> NetworkOf<B> {
     }
 
     /// As many frames of a lane are delivered as it holds.
-    #[tactic(auto, unfolding(crate::specs::Events::lane_served))]
+    #[tactic(auto, unfolding(network_model::specs::Events::lane_served))]
     fn serve_lane(&mut self, lane: LaneId) -> Result<(), NoMemory>
         requires { IsInOrder B.shown self.old }
         ensures state { OnOk result (state_of B.shown self.new
@@ -75,7 +75,7 @@ impl<B: Bridge> NetworkOf<B> {
     }
 
     /// One round.
-    #[tactic(auto, unfolding(crate::specs::Events::one_round))]
+    #[tactic(auto, unfolding(network_model::specs::Events::one_round))]
     fn play_round(&mut self) -> Result<(), NoMemory>
         requires { IsInOrder B.shown self.old }
         ensures state { OnOk result (state_of B.shown self.new

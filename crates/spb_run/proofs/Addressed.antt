@@ -15,7 +15,8 @@ use Rattle.scenario.specs.WordForms.{bytes_in}
 use Rattle.scenario.specs.Spelling.{SpellsValue, SpellsForm, Spells}
 use Rattle.scenario.proofs.Octets.{systems_are_octets}
 use Rattle.scenario.proofs.LineLaws.{Spells-line_of}
-use Rattle.spb_network.specs.SoundLaws.{IsAddress, IsAddressed}
+use Rattle.spb_world.specs.Declaring.{IsAddress}
+use Rattle.network_model.specs.SoundLaws.{IsAddressed}
 
 address_of : (word : List ℕ) (system : Mac) → SpellsValue a_system system word → IsAddress system
 address_of word system spelled = let six = systems_are_octets word system spelled in record { bytes = six.bytes; octets = six.octets }

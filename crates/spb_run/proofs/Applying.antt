@@ -4,12 +4,12 @@ use Rattle.std.specs.List.{count_by, sum_by}
 use Rattle.std.proofs.lemmas.List.Sums.{sum_by-cons}
 use Rattle.spb_types.specs.declared.tables.Tables.{Tables}
 use Rattle.scenario.specs.declared.command.Command.{Command}
-use Rattle.spb_network.specs.declared.answer.Answer.{Answer}
-use Rattle.spb_network.specs.declared.reason.Reason.{Reason}
+use Rattle.network_model.specs.declared.answer.Answer.{Answer}
+use Rattle.spb_world.specs.declared.reason.Reason.{Reason}
 use Rattle.spb_network.specs.Applying.{Plays}
-use Rattle.spb_network.specs.Play.{next_state}
-use Rattle.spb_network.specs.Refusing.{refusal_of}
-use Rattle.spb_network.specs.State.{State}
+use Rattle.network_model.specs.Play.{next_state}
+use Rattle.network_model.specs.Refusing.{refusal_of}
+use Rattle.network_model.specs.State.{State}
 use Rattle.spb_run.specs.declared.counts.Counts.{Counts}
 use Rattle.spb_run.specs.Applied.{Applied, applied, applied_by, is_show, quiet_tables, is_as_shown, same_behind, outs_told, in_64_bits, counts_of}
 

@@ -9,19 +9,19 @@ use Rattle.scenario.specs.declared.cutter.Stop.TheVariants as stop
 use Rattle.scenario.specs.Grammar.{line_of}
 use Rattle.bridge_api.specs.Shown.{Shown}
 use Rattle.spb_network.specs.declared.network.NetworkOf.{NetworkOf}
-use Rattle.spb_network.specs.declared.reason.Reason.{Reason}
-use Rattle.spb_network.specs.Isolation.{LastLeavesEntered}
-use Rattle.spb_network.specs.Counted.{most_commands}
+use Rattle.spb_world.specs.declared.reason.Reason.{Reason}
+use Rattle.network_model.specs.Isolation.{LastLeavesEntered}
+use Rattle.network_model.specs.Counted.{most_commands}
 use Rattle.spb_network.specs.Network.{state_of}
-use Rattle.spb_network.specs.Once.{IsPassage, LeavesOnce}
-use Rattle.spb_network.specs.Play.{next_state, played_all}
-use Rattle.spb_network.specs.Quiet.{IsQuiet}
-use Rattle.spb_network.specs.Refusing.{refusal_of}
-use Rattle.spb_network.specs.Sound.{opening}
-use Rattle.spb_network.specs.SoundLaws.{IsAddressed, AreAccepted}
-use Rattle.spb_network.specs.State.{State}
-use Rattle.spb_network.proofs.ApartLaws.{services_stay_apart}
-use Rattle.spb_network.proofs.OnceLaws.{networks_deliver_once}
+use Rattle.network_model.specs.Once.{IsPassage, LeavesOnce}
+use Rattle.network_model.specs.Play.{next_state, played_all}
+use Rattle.network_model.specs.Quiet.{IsQuiet}
+use Rattle.network_model.specs.Refusing.{refusal_of}
+use Rattle.network_model.specs.Sound.{opening}
+use Rattle.network_model.specs.SoundLaws.{IsAddressed, AreAccepted}
+use Rattle.network_model.specs.State.{State}
+use Rattle.network_model.proofs.ApartLaws.{services_stay_apart}
+use Rattle.network_model.proofs.OnceLaws.{networks_deliver_once}
 use Rattle.spb_run.specs.declared.refusal.Refusal.{Refusal}
 use Rattle.spb_run.specs.Commands.{LinesPlayCommands, AllLeaveEntered, AllDeliverOnce}
 use Rattle.spb_run.specs.Play.{Judged, judged, judged_by, judged_as}

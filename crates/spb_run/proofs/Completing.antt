@@ -1,7 +1,7 @@
 -- What is said of a script that was played to where it ends, by the bytes that the source had left.
 use Rattle.std.proofs.Common.{◌≡◌, ℕ, List, Option, Some, None, IfSome, ◌⊎◌, inl}
 use Rattle.std.specs.Io.KnownBytes.{Appends}
-use Rattle.spb_network.specs.State.{State}
+use Rattle.network_model.specs.State.{State}
 use Rattle.spb_run.specs.declared.status.Status.{Status}
 use Rattle.spb_run.specs.declared.status.Status.TheVariants.{NoMemory}
 use Rattle.spb_run.specs.Pieces.{Completes}

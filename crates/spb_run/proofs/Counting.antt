@@ -4,10 +4,10 @@ use Rattle.scenario.specs.declared.command.Command.{Command}
 use Rattle.scenario.specs.declared.cutter.Stop.{Stop}
 use Rattle.scenario.specs.declared.cutter.Stop.TheVariants as stop
 use Rattle.scenario.specs.Grammar.{line_of}
-use Rattle.spb_network.specs.declared.reason.Reason.{Reason}
-use Rattle.spb_network.specs.State.{State}
-use Rattle.spb_network.specs.Refusing.{refusal_of}
-use Rattle.spb_network.proofs.CountedStays.{one_accepted}
+use Rattle.spb_world.specs.declared.reason.Reason.{Reason}
+use Rattle.network_model.specs.State.{State}
+use Rattle.network_model.specs.Refusing.{refusal_of}
+use Rattle.network_model.proofs.CountedStays.{one_accepted}
 use Rattle.spb_run.specs.declared.refusal.Refusal.{Refusal}
 use Rattle.spb_run.specs.Play.{Judged, judged, judged_by, judged_as}
 use Rattle.spb_run.specs.Text.{Played, joined, concluded, play}

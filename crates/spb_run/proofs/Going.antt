@@ -6,7 +6,7 @@ use Rattle.scenario.specs.declared.cutter.Cutting.{Cutting}
 use Rattle.scenario.specs.declared.cutter.Cutting.TheVariants.{More, Line, Long, Over}
 use Rattle.scenario.specs.declared.cutter.Stop.{Stop}
 use Rattle.scenario.specs.Cutting.{Cuts, Lines, cut_before, fed, ended, lines_of, lines_left}
-use Rattle.spb_network.specs.State.{State}
+use Rattle.network_model.specs.State.{State}
 use Rattle.spb_run.specs.declared.refusal.Refusal.{Refusal}
 use Rattle.spb_run.specs.declared.status.Status.{Status}
 use Rattle.spb_run.specs.declared.status.Status.TheVariants.{Done}

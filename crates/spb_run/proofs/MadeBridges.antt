@@ -8,13 +8,12 @@ use Rattle.spb_types.specs.declared.service.SourceId.{SourceId}
 use Rattle.scenario_maker.specs.Made.{bridge_name}
 use Rattle.scenario_maker.proofs.Places.{names_are_apart}
 use Rattle.spb_types.specs.Bytes.{u8_at}
-use Rattle.spb_network.specs.declared.declaration.DeclaredBridge.{DeclaredBridge}
-use Rattle.spb_network.specs.declared.reason.Reason.TheVariants.{NameTaken, IdTaken, Range, TooMany}
-use Rattle.spb_network.specs.World.{World, Bridges, place_of, ports_at}
-use Rattle.spb_network.specs.Declaring.{is_new_system, is_new_source, is_bridge_range, bridge_refusal, bridge_of}
-use Rattle.spb_network.specs.SoundLaws.{IsAddress}
-use Rattle.spb_network.proofs.ListLemmas.{All-map, All-push, length-push}
-use Rattle.spb_network.proofs.StandingSteps.{reason_none, or_none, and-yes}
+use Rattle.spb_world.specs.declared.declaration.DeclaredBridge.{DeclaredBridge}
+use Rattle.spb_world.specs.declared.reason.Reason.TheVariants.{NameTaken, IdTaken, Range, TooMany}
+use Rattle.spb_world.specs.World.{World, Bridges, place_of, ports_at}
+use Rattle.spb_world.specs.Declaring.{is_new_system, is_new_source, is_bridge_range, bridge_refusal, bridge_of, IsAddress}
+use Rattle.spb_world.proofs.ListLemmas.{All-map, All-push, length-push}
+use Rattle.network_model.proofs.StandingSteps.{reason_none, or_none, and-yes}
 use Rattle.spb_run.proofs.MadeRuns.{below_or_last, bytes_apart, bytes_same, lt-yes, no_thing_passes, at, none_at, kept_at, new_at, place_at, new_name}
 
 abbrev pub mac_of : ℕ → Mac

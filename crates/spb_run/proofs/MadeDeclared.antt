@@ -7,16 +7,16 @@ use Rattle.scenario.specs.declared.command.Command.{Command}
 use Rattle.scenario.specs.declared.command.Command.TheVariants as command
 use Rattle.scenario_maker.specs.Made.{numbers, bridge_name, ring_name, chord_name, next_of, across, chord_start, chord_count, isid_of, vid_of, base_vids, bridge, bridges, ring_link, ring, nth_chord, chords, network, service, services, attach, members, attachments, declarations}
 use Rattle.scenario_maker.proofs.Places.{members_are_apart, chords_lead_across}
-use Rattle.spb_network.specs.declared.declaration.DeclaredLink.{DeclaredLink}
-use Rattle.spb_network.specs.Reason.{reason_unless}
-use Rattle.spb_network.specs.World.{World, Links}
-use Rattle.spb_network.specs.Declaring.{is_vid_range, vid_refusal, plan_of, bridge_of, link_of, with_vid, with_bridge, with_link, with_live}
-use Rattle.spb_network.specs.Services.{service_of, with_service}
-use Rattle.spb_network.specs.Attaching.{with_attachment_at}
-use Rattle.spb_network.specs.State.{State}
-use Rattle.spb_network.specs.Refusing.{refusal_of}
-use Rattle.spb_network.specs.Play.{next_state}
-use Rattle.spb_network.proofs.StandingSteps.{Stands, Goes, vid_goes, isid_goes, bridge_goes, link_goes, attach_goes}
+use Rattle.spb_world.specs.declared.declaration.DeclaredLink.{DeclaredLink}
+use Rattle.spb_world.specs.Reason.{reason_unless}
+use Rattle.spb_world.specs.World.{World, Links}
+use Rattle.spb_world.specs.Declaring.{is_vid_range, vid_refusal, plan_of, bridge_of, link_of, with_vid, with_bridge, with_link, with_live}
+use Rattle.spb_world.specs.Services.{service_of, with_service}
+use Rattle.spb_world.specs.Attaching.{with_attachment_at}
+use Rattle.network_model.specs.State.{State}
+use Rattle.network_model.specs.Refusing.{refusal_of}
+use Rattle.network_model.specs.Play.{next_state}
+use Rattle.network_model.proofs.StandingSteps.{Stands, Goes, vid_goes, isid_goes, bridge_goes, link_goes, attach_goes}
 use Rattle.spb_run.proofs.MadeRuns.{Runs, runs_one, runs_more, runs_each, runs_map}
 use Rattle.spb_run.proofs.MadeBridges.{mac_of, source_of, AreBridged, new_bridge, bridged_more, bridge_place, addressed}
 use Rattle.spb_run.proofs.MadeLinks.{AreWired, new_ring, new_chord, ring_more, chord_more, switched_last}

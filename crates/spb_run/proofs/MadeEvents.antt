@@ -3,16 +3,16 @@ use Rattle.std.proofs.Common.{◌≡◌, ℕ, suc, ◌+◌, ◌-◌, ◌*◌, �
 use Rattle.scenario.specs.declared.command.Command.{Command}
 use Rattle.scenario.specs.declared.command.Command.TheVariants as command
 use Rattle.scenario_maker.specs.Made.{bridge_name, ring_name, chord_count, frame_bytes, questions_of, questions, convergence, sent, traffic, declarations, after_failure, after_restart, events, made}
-use Rattle.spb_network.specs.declared.reason.Reason.{Reason}
-use Rattle.spb_network.specs.World.{World, place_of}
-use Rattle.spb_network.specs.Declaring.{with_live}
-use Rattle.spb_network.specs.Attaching.{is_attached}
-use Rattle.spb_network.specs.State.{State}
-use Rattle.spb_network.specs.Play.{next_state}
-use Rattle.spb_network.specs.Sound.{opening}
-use Rattle.spb_network.specs.SoundLaws.{AreAccepted}
-use Rattle.spb_network.proofs.SoundPlay.{opening_sound}
-use Rattle.spb_network.proofs.StandingSteps.{frame_goes, show_goes, wiring_goes, round_goes, drain_goes, down_goes, restart_goes}
+use Rattle.spb_world.specs.declared.reason.Reason.{Reason}
+use Rattle.spb_world.specs.World.{World, place_of}
+use Rattle.spb_world.specs.Declaring.{with_live}
+use Rattle.spb_world.specs.Attaching.{is_attached}
+use Rattle.network_model.specs.State.{State}
+use Rattle.network_model.specs.Play.{next_state}
+use Rattle.network_model.specs.Sound.{opening}
+use Rattle.network_model.specs.SoundLaws.{AreAccepted}
+use Rattle.network_model.proofs.SoundPlay.{opening_sound}
+use Rattle.network_model.proofs.StandingSteps.{frame_goes, show_goes, wiring_goes, round_goes, drain_goes, down_goes, restart_goes}
 use Rattle.spb_run.specs.Applied.{applied, applied_by}
 use Rattle.spb_run.specs.MadeLaws.{MadeIsAccepted, MadeIsApplied}
 use Rattle.spb_run.proofs.MadeRuns.{Runs, runs_more}

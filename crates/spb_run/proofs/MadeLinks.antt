@@ -6,13 +6,13 @@ use Rattle.std.specs.Str.{bytes_eq}
 use Rattle.scenario_maker.specs.Made.{next_of, across, ring_name, chord_name, chord_start, chord_count}
 use Rattle.scenario_maker.specs.Laws.{IsOnRing}
 use Rattle.scenario_maker.proofs.Places.{names_are_apart, members_are_apart, chords_are_no_ring_links, chords_lead_across, places_are_taken_once}
-use Rattle.spb_network.specs.declared.declaration.DeclaredLink.{DeclaredLink}
-use Rattle.spb_network.specs.declared.reason.Reason.TheVariants.{NameTaken, PortUse, Range, TooMany, AlreadyLinked}
-use Rattle.spb_network.specs.World.{World, Bridges, Links, things_of, place_of, ports_at, is_between, is_at_port}
-use Rattle.spb_network.specs.Declaring.{is_free_port, is_link_range, is_unlinked, link_refusal, link_of, switched}
-use Rattle.spb_network.specs.State.{is_live}
-use Rattle.spb_network.proofs.ListLemmas.{All-map, All-push, length-push}
-use Rattle.spb_network.proofs.StandingSteps.{reason_none, or_none, le-yes, and-yes}
+use Rattle.spb_world.specs.declared.declaration.DeclaredLink.{DeclaredLink}
+use Rattle.spb_world.specs.declared.reason.Reason.TheVariants.{NameTaken, PortUse, Range, TooMany, AlreadyLinked}
+use Rattle.spb_world.specs.World.{World, Bridges, Links, things_of, place_of, ports_at, is_between, is_at_port}
+use Rattle.spb_world.specs.Declaring.{is_free_port, is_link_range, is_unlinked, link_refusal, link_of, switched}
+use Rattle.spb_world.specs.Links.{is_live}
+use Rattle.spb_world.proofs.ListLemmas.{All-map, All-push, length-push}
+use Rattle.network_model.proofs.StandingSteps.{reason_none, or_none, le-yes, and-yes}
 use Rattle.spb_run.proofs.MadeRuns.{below_or_last, not_both, or-no, bytes_apart, bytes_same, lt-yes, no_thing_passes, at, none_at, kept_at, new_at, place_at, new_name}
 use Rattle.spb_run.proofs.MadeBridges.{AreBridged, bridge_ports}
 

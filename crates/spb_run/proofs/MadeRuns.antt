@@ -6,12 +6,12 @@ use Rattle.std.specs.Bool.{Decides}
 use Rattle.std.specs.List.{AllByRecursion, list_any, range_with_len, position_or_len}
 use Rattle.std.specs.Str.{bytes_eq}
 use Rattle.scenario.specs.declared.command.Command.{Command}
-use Rattle.spb_network.specs.State.{State}
-use Rattle.spb_network.specs.World.{names_of, things_of, place_of}
-use Rattle.spb_network.specs.Declaring.{is_new_name}
-use Rattle.spb_network.specs.Refusing.{refusal_of}
-use Rattle.spb_network.specs.Play.{next_state, played_all}
-use Rattle.spb_network.specs.SoundLaws.{AreAccepted}
+use Rattle.network_model.specs.State.{State}
+use Rattle.spb_world.specs.World.{names_of, things_of, place_of}
+use Rattle.spb_world.specs.Declaring.{is_new_name}
+use Rattle.network_model.specs.Refusing.{refusal_of}
+use Rattle.network_model.specs.Play.{next_state, played_all}
+use Rattle.network_model.specs.SoundLaws.{AreAccepted}
 
 -- ---- commands, one after another
 

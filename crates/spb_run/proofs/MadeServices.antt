@@ -11,14 +11,14 @@ use Rattle.bridge_api.specs.Config.{ArePairwise, different}
 use Rattle.bridge_api.specs.Services.{attachment_of}
 use Rattle.scenario_maker.specs.Made.{next_of, across, vid_of, isid_of, frame_bytes}
 use Rattle.scenario_maker.proofs.Places.{members_are_apart, places_are_taken_once}
-use Rattle.spb_network.specs.declared.reason.Reason.TheVariants.{NoSuchName, NameTaken, Range, TooMany, Attached, NotAttached}
-use Rattle.spb_network.specs.World.{World, Services, Attachments, vid_of_isid, attachment_at, attached_at, AreAtTwoPorts}
-use Rattle.spb_network.specs.Declaring.{has_vid, plan_of}
-use Rattle.spb_network.specs.Services.{is_isid_range, isid_refusal, service_of}
-use Rattle.spb_network.specs.Attaching.{is_customer_port, is_customer_frame, is_attached, isids_of, isids_with, has_isid_room, attach_refusal, entry_refusal}
-use Rattle.spb_network.proofs.ListLemmas.{All-map, All-push, length-push}
-use Rattle.spb_network.proofs.ServiceLemmas.{found-push}
-use Rattle.spb_network.proofs.StandingSteps.{reason_none, or_none, le-yes, and-yes}
+use Rattle.spb_world.specs.declared.reason.Reason.TheVariants.{NoSuchName, NameTaken, Range, TooMany, Attached, NotAttached}
+use Rattle.spb_world.specs.World.{World, Services, Attachments, vid_of_isid, attachment_at, attached_at, AreAtTwoPorts}
+use Rattle.spb_world.specs.Declaring.{has_vid, plan_of}
+use Rattle.spb_world.specs.Services.{is_isid_range, isid_refusal, service_of}
+use Rattle.spb_world.specs.Attaching.{is_customer_port, is_customer_frame, is_attached, isids_of, isids_with, has_isid_room, attach_refusal, entry_refusal}
+use Rattle.spb_world.proofs.ListLemmas.{All-map, All-push, length-push}
+use Rattle.spb_world.proofs.ServiceLemmas.{found-push}
+use Rattle.network_model.proofs.StandingSteps.{reason_none, or_none, le-yes, and-yes}
 use Rattle.spb_run.proofs.MadeRuns.{below_or_last, not_both, lt-yes, none_passes}
 
 -- ---- the services

@@ -6,7 +6,7 @@ use Rattle.std.proofs.KnownBytes.{Appends-nil, Appends-trans, Consumes-trans, Co
 use Rattle.scenario.specs.declared.cutter.Stop.{Stop}
 use Rattle.scenario.specs.declared.cutter.Stop.TheVariants as stop
 use Rattle.scenario.specs.Cutting.{Cuts, start, most_lines, most_bytes, longest_line, is_lf, lines_of}
-use Rattle.spb_network.specs.State.{State}
+use Rattle.network_model.specs.State.{State}
 use Rattle.spb_run.specs.declared.refusal.Refusal.{Refusal}
 use Rattle.spb_run.specs.declared.status.Status.{Status}
 use Rattle.spb_run.specs.declared.status.Status.TheVariants.{Done}

@@ -4,8 +4,8 @@ use Rattle.std.specs.Str.{bytes_eq}
 use Rattle.std.proofs.lemmas.Bool.Decides.{nat_tests}
 use Rattle.std.proofs.lemmas.Slice.Eq.{bytes_eq-Decides}
 use Rattle.scenario_maker.proofs.Numbers.{decimal_one, decimal_pair}
-use Rattle.spb_network.specs.declared.kind_rule.KindRule.{KindRule}
-use Rattle.spb_network.specs.declared.kind_rule.KindRule.TheVariants.{Plain, Swift, Mixed}
+use Rattle.network_model.specs.declared.kind_rule.KindRule.{KindRule}
+use Rattle.network_model.specs.declared.kind_rule.KindRule.TheVariants.{Plain, Swift, Mixed}
 use Rattle.spb_run.specs.declared.words.Form.{Form}
 use Rattle.spb_run.specs.declared.words.Form.TheVariants.{Run, Make, Try}
 use Rattle.spb_run.specs.Words.{is_digit_from, if_made, bridges_of, name_of_rule, rule_named, rule_told, make_form, try_by, try_form, form_of, IsForm, Spells, run_alone, run_kind, make_number, try_alone, try_kind, FormsAreSpelled}

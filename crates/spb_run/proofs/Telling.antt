@@ -4,17 +4,17 @@ use Rattle.scenario.specs.declared.command.Command.{Command}
 use Rattle.scenario.specs.Grammar.{line_of}
 use Rattle.bridge_api.specs.Shown.{Shown}
 use Rattle.spb_network.specs.declared.network.NetworkOf.{NetworkOf}
-use Rattle.spb_network.specs.declared.reason.Reason.{Reason}
+use Rattle.spb_world.specs.declared.reason.Reason.{Reason}
 use Rattle.spb_network.specs.Applying.{IsSoundNetwork}
 use Rattle.spb_network.specs.Network.{state_of}
-use Rattle.spb_network.specs.State.{State}
-use Rattle.spb_network.specs.Refusing.{refusal_of}
-use Rattle.spb_network.specs.Sound.{IsSoundState}
-use Rattle.spb_network.specs.SoundLaws.{IsAddressed}
-use Rattle.spb_network.specs.Counted.{IsCounted, most_commands}
-use Rattle.spb_network.proofs.SoundPlay.{commands_keep_sound}
-use Rattle.spb_network.proofs.CountedStays.{stays_counted}
-use Rattle.spb_network.proofs.Telling.{counted_networks_tell}
+use Rattle.network_model.specs.State.{State}
+use Rattle.network_model.specs.Refusing.{refusal_of}
+use Rattle.network_model.specs.Sound.{IsSoundState}
+use Rattle.network_model.specs.SoundLaws.{IsAddressed}
+use Rattle.network_model.specs.Counted.{IsCounted, most_commands}
+use Rattle.network_model.proofs.SoundPlay.{commands_keep_sound}
+use Rattle.network_model.proofs.CountedStays.{stays_counted}
+use Rattle.network_model.proofs.Telling.{counted_networks_tell}
 use Rattle.spb_run.specs.declared.refusal.Refusal.{Refusal}
 use Rattle.spb_run.specs.Play.{judged, judged_by, judged_as}
 use Rattle.spb_run.specs.Replying.{IsNew}

@@ -1,8 +1,8 @@
 -- A script that is made is played to its end, where the rack has boxes enough.
 use Rattle.std.proofs.Common.{◌≡◌, ◌≤◌, ℕ, ap, ◌∙◌}
 use Rattle.scenario_maker.specs.Made.{made}
-use Rattle.spb_network.specs.Sound.{opening}
-use Rattle.spb_network.specs.State.{State}
+use Rattle.network_model.specs.Sound.{opening}
+use Rattle.network_model.specs.State.{State}
 use Rattle.spb_run.specs.declared.status.Status.TheVariants.{Done}
 use Rattle.spb_run.specs.Applied.{applied}
 use Rattle.spb_run.specs.MadeLaws.{HasBoxes}

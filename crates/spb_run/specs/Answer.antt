@@ -5,9 +5,9 @@ use Rattle.report.specs.Adjacencies.{adj_text}
 use Rattle.report.specs.Database.{db_text}
 use Rattle.report.specs.Lines.{drops_text, out_text, path_text, state_text}
 use Rattle.report.specs.Tables.{tables_text}
-use Rattle.spb_network.specs.declared.answer.Answer.{Answer}
-use Rattle.spb_network.specs.declared.answer.Answer.TheVariants.{Silent, Outs, State, Show, Wiring, Db, Adj, Path, Drops}
-use Rattle.spb_network.specs.declared.answer.Out.{Out}
+use Rattle.network_model.specs.declared.answer.Answer.{Answer}
+use Rattle.network_model.specs.declared.answer.Answer.TheVariants.{Silent, Outs, State, Show, Wiring, Db, Adj, Path, Drops}
+use Rattle.network_model.specs.declared.answer.Out.{Out}
 
 -- a customer frame that leaves
 abbrev pub text_of_out : Out → List ℕ

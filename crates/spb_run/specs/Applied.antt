@@ -7,13 +7,13 @@ use Rattle.spb_types.specs.declared.tables.UnicastRow.{UnicastRow}
 use Rattle.spb_types.specs.declared.tables.GroupRow.{GroupRow}
 use Rattle.spb_types.specs.declared.tables.Tables.{Tables}
 use Rattle.scenario.specs.declared.command.Command.{Command}
-use Rattle.spb_network.specs.declared.answer.Answer.{Answer}
-use Rattle.spb_network.specs.declared.answer.Answer.TheVariants.{Show, Wiring}
-use Rattle.spb_network.specs.declared.reason.Reason.{Reason}
-use Rattle.spb_network.specs.Isolation.{outs_in}
-use Rattle.spb_network.specs.Play.{next_state, answer_of}
-use Rattle.spb_network.specs.Refusing.{refusal_of}
-use Rattle.spb_network.specs.State.{State}
+use Rattle.network_model.specs.declared.answer.Answer.{Answer}
+use Rattle.network_model.specs.declared.answer.Answer.TheVariants.{Show, Wiring}
+use Rattle.spb_world.specs.declared.reason.Reason.{Reason}
+use Rattle.network_model.specs.Isolation.{outs_in}
+use Rattle.network_model.specs.Play.{next_state, answer_of}
+use Rattle.network_model.specs.Refusing.{refusal_of}
+use Rattle.network_model.specs.State.{State}
 use Rattle.spb_run.specs.declared.counts.Counts.{Counts}
 
 -- ---- Commands, one after another

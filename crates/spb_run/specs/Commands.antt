@@ -6,13 +6,13 @@ use Rattle.scenario.specs.declared.command.Command.{Command}
 use Rattle.scenario.specs.declared.command.Command.TheVariants as command
 use Rattle.scenario.specs.declared.cutter.Stop.{Stop}
 use Rattle.forwarding.specs.Tenant.{is_group, to_of}
-use Rattle.spb_network.specs.Isolation.{LastLeavesEntered}
-use Rattle.spb_network.specs.Once.{is_onward, outs_of, IsOnce}
-use Rattle.spb_network.specs.Play.{played_all}
-use Rattle.spb_network.specs.Quiet.{IsQuiet, AreEmpty}
-use Rattle.spb_network.specs.SoundLaws.{AreAccepted}
-use Rattle.spb_network.specs.State.{State}
-use Rattle.spb_network.specs.World.{place_of}
+use Rattle.network_model.specs.Isolation.{LastLeavesEntered}
+use Rattle.network_model.specs.Once.{is_onward, outs_of, IsOnce}
+use Rattle.network_model.specs.Play.{played_all}
+use Rattle.network_model.specs.Quiet.{IsQuiet, AreEmpty}
+use Rattle.network_model.specs.SoundLaws.{AreAccepted}
+use Rattle.network_model.specs.State.{State}
+use Rattle.spb_world.specs.World.{place_of}
 use Rattle.spb_run.specs.Text.{play, commands_in}
 
 -- the commands that lines play are accepted, one after another, and the state after the lines is the one after them,

@@ -2,10 +2,10 @@
 use Rattle.std.specs.Prelude.{◌≡◌, ℕ, ◌+◌, ◌≤◌, List, None}
 use Rattle.std.specs.List.{count_by}
 use Rattle.scenario_maker.specs.Made.{made}
-use Rattle.spb_network.specs.declared.kind_rule.KindRule.{KindRule}
-use Rattle.spb_network.specs.State.{Spare, kind_at, serves}
-use Rattle.spb_network.specs.Sound.{opening}
-use Rattle.spb_network.specs.SoundLaws.{AreAccepted}
+use Rattle.network_model.specs.declared.kind_rule.KindRule.{KindRule}
+use Rattle.network_model.specs.State.{Spare, kind_at, serves}
+use Rattle.network_model.specs.Sound.{opening}
+use Rattle.network_model.specs.SoundLaws.{AreAccepted}
 use Rattle.spb_run.specs.Applied.{applied}
 
 -- of each kind that the rule gives a bridge at some place, the rack has a blank box for each of n bridges, and one more

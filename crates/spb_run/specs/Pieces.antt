@@ -5,7 +5,7 @@ use Rattle.std.specs.List.{list_any}
 use Rattle.scenario.specs.declared.cutter.Cutting.TheVariants.{More, Line}
 use Rattle.scenario.specs.declared.cutter.Cutting.{Cutting}
 use Rattle.scenario.specs.Cutting.{Cuts, Lines, cut_before, longest_line, most_lines, most_bytes, is_lf, is_over, after_byte, lines_of}
-use Rattle.spb_network.specs.State.{State}
+use Rattle.network_model.specs.State.{State}
 use Rattle.spb_run.specs.declared.refusal.Refusal.{Refusal}
 use Rattle.spb_run.specs.declared.status.Status.{Status}
 use Rattle.spb_run.specs.declared.status.Status.TheVariants.{Done, Refused}

@@ -3,11 +3,11 @@ use Rattle.std.specs.Prelude.{ℕ, List, [], ◌∷◌, Option, Some, None, Resu
 use Rattle.report.specs.Lines.{error_text}
 use Rattle.scenario.specs.declared.command.Command.{Command}
 use Rattle.scenario.specs.Grammar.{line_of}
-use Rattle.spb_network.specs.declared.reason.Reason.{Reason}
-use Rattle.spb_network.specs.Play.{next_state, answer_of}
-use Rattle.spb_network.specs.Reason.{reason_number, name_of}
-use Rattle.spb_network.specs.Refusing.{refusal_of}
-use Rattle.spb_network.specs.State.{State}
+use Rattle.spb_world.specs.declared.reason.Reason.{Reason}
+use Rattle.network_model.specs.Play.{next_state, answer_of}
+use Rattle.spb_world.specs.Reason.{reason_number, name_of}
+use Rattle.network_model.specs.Refusing.{refusal_of}
+use Rattle.network_model.specs.State.{State}
 use Rattle.spb_run.specs.Answer.{text_of_answer}
 use Rattle.spb_run.specs.declared.refusal.Refusal.{Refusal}
 use Rattle.spb_run.specs.declared.refusal.Refusal.TheVariants as refusal

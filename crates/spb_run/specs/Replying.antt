@@ -4,8 +4,8 @@ use Rattle.bridge_api.specs.Shown.{Shown}
 use Rattle.spb_network.specs.declared.network.NetworkOf.{NetworkOf}
 use Rattle.spb_network.specs.Applying.{IsReady}
 use Rattle.spb_network.specs.Network.{state_of}
-use Rattle.spb_network.specs.Sound.{opening}
-use Rattle.spb_network.specs.State.{State}
+use Rattle.network_model.specs.Sound.{opening}
+use Rattle.network_model.specs.State.{State}
 use Rattle.spb_run.specs.Play.{Judged}
 use Rattle.spb_run.specs.declared.reply.Reply.{Reply}
 

@@ -1,10 +1,10 @@
 -- What the form `run` promises.
 use Rattle.std.specs.Prelude.{◌≡◌, ℕ, List, Option, Bool, IfSome, IsTrue, ◌⊎◌}
 use Rattle.std.specs.Io.KnownBytes.{Appends, IsAtEnd}
-use Rattle.spb_network.specs.Counted.{IsCounted}
-use Rattle.spb_network.specs.Sound.{IsSoundState}
-use Rattle.spb_network.specs.State.{State}
-use Rattle.spb_network.specs.Telling.{QuietTells}
+use Rattle.network_model.specs.Counted.{IsCounted}
+use Rattle.network_model.specs.Sound.{IsSoundState}
+use Rattle.network_model.specs.State.{State}
+use Rattle.network_model.specs.Telling.{QuietTells}
 use Rattle.spb_run.specs.declared.status.Status.{Status}
 use Rattle.spb_run.specs.declared.status.Status.TheVariants.{Done, Refused, NoMemory, ReadFault}
 use Rattle.spb_run.specs.declared.refusal.Refusal.{Refusal}

@@ -1,9 +1,9 @@
 -- The state that a script begins with, and what holds of each one that an accepted line leaves.
-use Rattle.spb_network.specs.declared.kind_rule.KindRule.{KindRule}
-use Rattle.spb_network.specs.Counted.{IsCounted}
-use Rattle.spb_network.specs.Sound.{IsSoundState}
-use Rattle.spb_network.specs.State.{State}
-use Rattle.spb_network.specs.Telling.{QuietTells}
+use Rattle.network_model.specs.declared.kind_rule.KindRule.{KindRule}
+use Rattle.network_model.specs.Counted.{IsCounted}
+use Rattle.network_model.specs.Sound.{IsSoundState}
+use Rattle.network_model.specs.State.{State}
+use Rattle.network_model.specs.Telling.{QuietTells}
 
 -- the state of a network whose bridges take boxes by this rule
 abbrev pub ruled : KindRule → State → State

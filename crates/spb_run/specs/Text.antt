@@ -4,7 +4,7 @@ use Rattle.scenario.specs.declared.command.Command.{Command}
 use Rattle.scenario.specs.declared.cutter.Stop.{Stop}
 use Rattle.scenario.specs.declared.cutter.Stop.TheVariants as stop
 use Rattle.scenario.specs.Cutting.{Lines, longest_line, start, lines_of}
-use Rattle.spb_network.specs.State.{State}
+use Rattle.network_model.specs.State.{State}
 use Rattle.spb_run.specs.declared.refusal.Refusal.{Refusal}
 use Rattle.spb_run.specs.declared.refusal.Refusal.TheVariants.{Words}
 use Rattle.spb_run.specs.declared.status.Status.{Status}

@@ -3,9 +3,9 @@ use Rattle.std.specs.Prelude.{◌≡◌, ℕ, List, Option, Some, None, Bool, Is
 use Rattle.std.specs.Io.KnownBytes.{Appends}
 use Rattle.report.specs.Lines.{error_text, try_text}
 use Rattle.scenario_maker.specs.Made.{made}
-use Rattle.spb_network.specs.declared.reason.Reason.{Reason}
-use Rattle.spb_network.specs.Reason.{reason_number, name_of}
-use Rattle.spb_network.specs.State.{State}
+use Rattle.spb_world.specs.declared.reason.Reason.{Reason}
+use Rattle.spb_world.specs.Reason.{reason_number, name_of}
+use Rattle.network_model.specs.State.{State}
 use Rattle.spb_run.specs.declared.counts.Counts.{Counts}
 use Rattle.spb_run.specs.declared.refusal.Refusal.TheVariants as refusal
 use Rattle.spb_run.specs.declared.status.Status.{Status}

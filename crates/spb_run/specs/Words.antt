@@ -1,8 +1,8 @@
 -- The words of the program, its own name aside: they are one of these forms, spelled exactly so, or none.
 use Rattle.std.specs.Prelude.{◌≡◌, ◌↔◌, ℕ, ◌≤◌, ⊤, ◌+◌, ◌-◌, ◌*◌, nat_le, ◌&&◌, Bool, if◌then◌else◌, List, [], ◌∷◌, Option, Some, None, option_map, codes, decimal}
 use Rattle.std.specs.Str.{bytes_eq}
-use Rattle.spb_network.specs.declared.kind_rule.KindRule.{KindRule}
-use Rattle.spb_network.specs.declared.kind_rule.KindRule.TheVariants.{Plain, Swift, Mixed}
+use Rattle.network_model.specs.declared.kind_rule.KindRule.{KindRule}
+use Rattle.network_model.specs.declared.kind_rule.KindRule.TheVariants.{Plain, Swift, Mixed}
 use Rattle.spb_run.specs.declared.words.Form.{Form}
 use Rattle.spb_run.specs.declared.words.Form.TheVariants.{Run, Make, Try}
 

@@ -2,7 +2,7 @@ ghost use Rattle.std.specs.Prelude.{◌≡◌, ◌≢◌, ◌≤◌, ◌⊎◌, 
 ghost use Rattle.std.specs.Io.KnownBytes.{Appends};
 ghost use Rattle.spb_network.specs.Applying.{IsReady, Plays};
 ghost use Rattle.spb_network.specs.Network.{state_of};
-ghost use Rattle.spb_network.specs.Refusing.{refusal_of};
+ghost use Rattle.network_model.specs.Refusing.{refusal_of};
 ghost use Rattle.spb_outside.specs.Faults.{Rose};
 ghost use Rattle.spb_run.specs.Applied.{applied, counts_of};
 ghost use Rattle.spb_run.specs.Output.{AppendsFront};

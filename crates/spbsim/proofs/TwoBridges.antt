@@ -3,13 +3,12 @@ use Rattle.std.proofs.Common.{◌≡◌, ℕ, List, [], ◌∷◌, ◌++◌, ref
 use Rattle.spb_types.specs.declared.address.Mac.{Mac}
 use Rattle.spb_types.specs.declared.service.SourceId.{SourceId}
 use Rattle.scenario.specs.declared.command.Command.TheVariants as command
-use Rattle.spb_network.specs.declared.answer.Answer.{Answer}
-use Rattle.spb_network.specs.World.{Bridges}
-use Rattle.spb_network.specs.Declaring.{bridge_of}
-use Rattle.spb_network.specs.State.{State}
-use Rattle.spb_network.specs.Network.{Fits, IsPortAt}
+use Rattle.network_model.specs.declared.answer.Answer.{Answer}
+use Rattle.spb_world.specs.World.{Bridges}
+use Rattle.spb_world.specs.Declaring.{bridge_of}
+use Rattle.network_model.specs.State.{State, Fits, IsPortAt}
 use Rattle.spb_network.specs.Applying.{Plays}
-use Rattle.spb_network.proofs.DeclaredLemmas.{bridge_declared, link_declared, two_have_port}
+use Rattle.network_model.proofs.DeclaredLemmas.{bridge_declared, link_declared, two_have_port}
 
 -- they have that port
 pub linked_ports : (s t u w : State) (n m l a b : List ℕ) (p q : ℕ) (x y : Mac) (i j : SourceId) (port_a port_b cost : ℕ) (c d e : Answer) → s.world.bridges ≡ [] → Plays s (command.Bridge n p x i 1) c t → Plays t (command.Bridge m q y j 1) d u → Plays u (command.Link l a port_a b port_b cost) e w → Fits w → (k : ℕ) → IsPortAt w.views k 1

@@ -1,7 +1,8 @@
 //! The boxes of a network: which are taken, and what they answer.
 ghost use Rattle.std.specs.Prelude.{◌≡◌, ℕ, [], OnOk};
 ghost use Rattle.bridge_api.specs.Config.{IsWhole};
-ghost use Rattle.spb_network.specs.Network.{state_of, IsPortAt};
+ghost use Rattle.spb_network.specs.Network.{state_of};
+ghost use Rattle.network_model.specs.State.{IsPortAt};
 ghost use Rattle.spb_run.specs.Replying.{IsAlive};
 
 use super::asking_box::AskingBox;

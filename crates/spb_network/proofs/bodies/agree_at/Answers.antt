@@ -1,5 +1,5 @@
 use Rattle.bridge_api.specs.Shown.{view_in, views_of}
-use Rattle.spb_network.proofs.BoxLemmas.{get-map, seen}
+use Rattle.spb_world.proofs.BoxLemmas.{get-map, seen}
 use Rattle.spb_network.proofs.QuietBodies.{if_ok, notes_at}
 use Rattle.spb_network.proofs.bodies.agree_at.Goals as goal
 

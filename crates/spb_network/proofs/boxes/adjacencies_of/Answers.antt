@@ -1,6 +1,6 @@
 use Rattle.std.proofs.Common.{◌∷◌, [], ◌++◌, sym, ap, ◌∙◌, arith}
 use Rattle.bridge_api.specs.View.{adjacency_at, is_csnp_due_at}
-use Rattle.spb_network.proofs.PortLemmas.{shown-more}
+use Rattle.network_model.proofs.PortLemmas.{shown-more}
 use Rattle.spb_network.proofs.boxes.adjacencies_of.Goals as goal
 
 pub loop-place-preserved : goal.loop-place-preserved

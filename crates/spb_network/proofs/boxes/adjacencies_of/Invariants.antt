@@ -1,5 +1,5 @@
 use Rattle.std.proofs.Common.{◌≡◌, ◌≤◌, take}
-use Rattle.spb_network.specs.Questions.{adjacencies_of}
+use Rattle.network_model.specs.Questions.{adjacencies_of}
 use Rattle.spb_network.proofs.boxes.adjacencies_of.Given as goal
 
 abbrev pub invariant-loop-place : goal.invariant-loop-place

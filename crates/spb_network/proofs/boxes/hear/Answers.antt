@@ -3,7 +3,7 @@ use Rattle.bridge_api.specs.Step as comes
 use Rattle.bridge_api.specs.Step.{step, sent, left_by}
 use Rattle.bridge_api.specs.Shown.{view_in, views_of}
 use Rattle.spb_types.proofs.Places.{lent, lent-none}
-use Rattle.spb_network.proofs.BoxLemmas.{map-set, changed-none, get-map, get-map-none, on_ok, none_more, some_more}
+use Rattle.spb_world.proofs.BoxLemmas.{map-set, changed-none, get-map, get-map-none, on_ok, none_more, some_more}
 use Rattle.spb_network.proofs.boxes.hear.Goals as goal
 
 pub returns-in-None-clause-views : goal.returns-in-None-clause-views

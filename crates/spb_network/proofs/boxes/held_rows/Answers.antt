@@ -3,9 +3,9 @@ use Rattle.std.specs.Option.{option_map, option_copied}
 use Rattle.std.specs.FinMap.{entries}
 use Rattle.lsdb.specs.Database.{Lsps, keyed}
 use Rattle.lsdb.specs.Entry.{row_of}
-use Rattle.spb_network.specs.Questions.{rows_of}
-use Rattle.spb_network.proofs.ListLemmas.{length-push}
-use Rattle.spb_network.proofs.RowLemmas.{take-next, take-past, within}
+use Rattle.network_model.specs.Questions.{rows_of}
+use Rattle.spb_world.proofs.ListLemmas.{length-push}
+use Rattle.network_model.proofs.RowLemmas.{take-next, take-past, within}
 use Rattle.spb_network.proofs.boxes.held_rows.Goals as goal
 
 pub loop-held-smaller : goal.loop-held-smaller

@@ -1,5 +1,5 @@
 use Rattle.std.proofs.Common.{◌≡◌, ◌-◌, length, take}
-use Rattle.spb_network.specs.Questions.{rows_of}
+use Rattle.network_model.specs.Questions.{rows_of}
 use Rattle.spb_network.proofs.boxes.held_rows.Given as goal
 
 abbrev pub invariant-loop-held : goal.invariant-loop-held

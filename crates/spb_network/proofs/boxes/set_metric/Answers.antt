@@ -2,7 +2,7 @@ use Rattle.bridge_api.specs.Step as comes
 use Rattle.bridge_api.specs.Step.{step}
 use Rattle.bridge_api.specs.Shown.{view_in}
 use Rattle.spb_types.proofs.Places.{lent, lent-none}
-use Rattle.spb_network.proofs.BoxLemmas.{map-set, changed-none, get-map, on_ok}
+use Rattle.spb_world.proofs.BoxLemmas.{map-set, changed-none, get-map, on_ok}
 use Rattle.spb_network.proofs.boxes.set_metric.Goals as goal
 
 pub returns-in-None-clause-views : goal.returns-in-None-clause-views

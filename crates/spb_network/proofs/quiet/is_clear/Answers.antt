@@ -2,7 +2,7 @@ use Rattle.std.proofs.Common.{true, not, sym, ap, ◌∙◌}
 use Rattle.std.specs.Option.{option_map_or}
 use Rattle.bridge_api.specs.Shown.{view_in}
 use Rattle.bridge_api.specs.View.{has_flags}
-use Rattle.spb_network.proofs.BoxLemmas.{get-map, get-map-none, seen, seen-none}
+use Rattle.spb_world.proofs.BoxLemmas.{get-map, get-map-none, seen, seen-none}
 use Rattle.spb_network.proofs.quiet.is_clear.Goals as goal
 
 pub returns-in-None : goal.returns-in-None

@@ -2,8 +2,8 @@ use Rattle.std.proofs.Common.{false, sym, ap, ◌∙◌}
 use Rattle.std.specs.Option.{option_map_or}
 use Rattle.bridge_api.specs.Shown.{view_in}
 use Rattle.bridge_api.specs.View.{is_up_at}
-use Rattle.spb_network.proofs.BoxLemmas.{get-map, get-map-none, seen, seen-none}
-use Rattle.spb_network.proofs.QuietStates.{up_by_adjacency}
+use Rattle.spb_world.proofs.BoxLemmas.{get-map, get-map-none, seen, seen-none}
+use Rattle.network_model.proofs.QuietStates.{up_by_adjacency}
 use Rattle.spb_network.proofs.quiet.is_end_up.Goals as goal
 
 pub adjacent-requires-clause-port : goal.adjacent-requires-clause-port

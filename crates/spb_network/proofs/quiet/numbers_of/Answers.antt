@@ -1,5 +1,5 @@
 use Rattle.std.proofs.Common.{◌++◌, ap, ◌∙◌}
-use Rattle.spb_network.specs.Quiet.{unless_holds}
+use Rattle.network_model.specs.Quiet.{unless_holds}
 use Rattle.spb_network.proofs.QuietNumbers.{noted_in_turn}
 use Rattle.spb_network.proofs.quiet.numbers_of.Goals as goal
 

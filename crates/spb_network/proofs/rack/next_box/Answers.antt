@@ -1,9 +1,9 @@
 use Rattle.std.proofs.Common.{◌≡◌, map, sym, ◌∙◌, subst, arith, true}
-use Rattle.spb_network.specs.State.{next_box}
+use Rattle.network_model.specs.State.{next_box}
 use Rattle.spb_network.specs.Network.{spare}
-use Rattle.spb_network.proofs.BoxLemmas.{get-map, got}
-use Rattle.spb_network.proofs.ListLemmas.{and-left}
-use Rattle.spb_network.proofs.PortLemmas.{box-found, box-passed, some-is}
+use Rattle.spb_world.proofs.BoxLemmas.{get-map, got}
+use Rattle.spb_world.proofs.ListLemmas.{and-left}
+use Rattle.network_model.proofs.PortLemmas.{box-found, box-passed, some-is}
 use Rattle.spb_network.proofs.rack.next_box.Goals as goal
 
 pub returns-then-serves-clause-place : goal.returns-then-serves-clause-place

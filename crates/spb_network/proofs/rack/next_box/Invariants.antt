@@ -1,5 +1,5 @@
 use Rattle.std.proofs.Common.{◌≡◌, ◌≤◌, drop, map, length}
-use Rattle.spb_network.specs.State.{box_from}
+use Rattle.network_model.specs.State.{box_from}
 use Rattle.spb_network.specs.Network.{spare}
 use Rattle.spb_network.proofs.rack.next_box.Given as goal
 

@@ -1,7 +1,7 @@
 use Rattle.std.proofs.Common.{◌≡◌, ◌≢◌, ◌⊎◌, inl, inr, ℕ, Some, refl, sym, ap, ◌∙◌, subst, ⊎_elim}
-use Rattle.spb_network.specs.declared.kind_rule.KindRule.{KindRule}
+use Rattle.network_model.specs.declared.kind_rule.KindRule.{KindRule}
 use Rattle.spb_network.specs.Network.{state_of}
-use Rattle.spb_network.specs.State.{State}
+use Rattle.network_model.specs.State.{State}
 use Rattle.spb_run.specs.declared.status.Status.{Status}
 use Rattle.spb_run.specs.declared.status.Status.TheVariants.{NoMemory, WriteFault}
 use Rattle.spb_run.specs.declared.words.Form.TheVariants.{Run, Try}

@@ -1,8 +1,8 @@
 use Rattle.std.proofs.Common.{◌≡◌, Ok, Err, inr, refl, sym, ap, ◌∙◌, true, false, true≢false, ⊎_elim, IsTrue, List, ℕ, Option, Some, None, IfSome, ◌⊎◌, arith}
 use Rattle.spb_network.specs.Applying.{IsSoundNetwork}
 use Rattle.spb_network.specs.Network.{state_of}
-use Rattle.spb_network.specs.State.{State}
-use Rattle.spb_network.proofs.Telling.{counted_networks_tell}
+use Rattle.network_model.specs.State.{State}
+use Rattle.network_model.proofs.Telling.{counted_networks_tell}
 use Rattle.spb_run.specs.declared.status.Status.{Status}
 use Rattle.spb_run.specs.declared.status.Status.TheVariants.{Done, Refused, Usage, NoMemory, ReadFault, WriteFault, TooLong}
 use Rattle.spb_run.specs.Run.{is_written, is_cut}

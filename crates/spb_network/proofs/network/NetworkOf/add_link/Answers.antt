@@ -1,11 +1,11 @@
 use Rattle.std.proofs.Common.{sym, subst}
 use Rattle.link_model.specs.Lanes.{no_frames}
-use Rattle.spb_network.specs.World.{World, IsLink}
-use Rattle.spb_network.specs.State.{State}
-use Rattle.spb_network.specs.Declaring.{link_of, with_link}
-use Rattle.spb_network.specs.Network.{state_of, Fits}
+use Rattle.spb_world.specs.World.{World, IsLink}
+use Rattle.network_model.specs.State.{State, Fits}
+use Rattle.spb_world.specs.Declaring.{link_of, with_link}
+use Rattle.spb_network.specs.Network.{state_of}
 use Rattle.spb_network.proofs.CommandFits.{Fits-with_link}
-use Rattle.spb_network.proofs.RefusalLemmas.{link_refusal_none}
+use Rattle.spb_world.proofs.RefusalLemmas.{link_refusal_none}
 use Rattle.spb_network.proofs.network.NetworkOf.add_link.Goals as goal
 
 pub set_end_metrics-requires-clause-order : goal.set_end_metrics-requires-clause-order

@@ -1,11 +1,11 @@
 use Rattle.std.proofs.Common.{◌≡◌, slice_get, Some, None, sym, ap, ◌∙◌, [], subst}
 use Rattle.std.specs.Option.{option_map_or}
 use Rattle.bridge_api.specs.Shown.{view_in, views_of}
-use Rattle.spb_network.specs.State.{State}
-use Rattle.spb_network.specs.Questions.{adjacencies_of}
+use Rattle.network_model.specs.State.{State}
+use Rattle.network_model.specs.Questions.{adjacencies_of}
 use Rattle.spb_network.specs.Network.{state_of}
-use Rattle.spb_network.proofs.BoxLemmas.{get-map, get-map-none, seen, seen-none}
-use Rattle.spb_network.proofs.PortLemmas.{ports-count, shown-ok}
+use Rattle.spb_world.proofs.BoxLemmas.{get-map, get-map-none, seen, seen-none}
+use Rattle.network_model.proofs.PortLemmas.{ports-count, shown-ok}
 use Rattle.spb_network.proofs.network.NetworkOf.adjacencies.Goals as goal
 
 pub adjacencies_of-requires-clause-count : goal.adjacencies_of-requires-clause-count

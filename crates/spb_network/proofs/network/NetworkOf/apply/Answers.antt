@@ -1,14 +1,14 @@
 use Rattle.std.proofs.Common.{◌≡◌, ◌≤◌, None, sym, ap, ◌∙◌, subst, refl, true≢false, inr, ⊎_elim}
-use Rattle.spb_network.specs.State.{State}
-use Rattle.spb_network.specs.Refusing.{refusal_of}
-use Rattle.spb_network.specs.Play.{next_count, next_state}
-use Rattle.spb_network.specs.Sound.{IsSoundState}
-use Rattle.spb_network.specs.Counted.{IsCounted, most_commands}
+use Rattle.network_model.specs.State.{State}
+use Rattle.network_model.specs.Refusing.{refusal_of}
+use Rattle.network_model.specs.Play.{next_count, next_state}
+use Rattle.network_model.specs.Sound.{IsSoundState}
+use Rattle.network_model.specs.Counted.{IsCounted, most_commands}
 use Rattle.spb_network.specs.Network.{state_of}
-use Rattle.spb_network.specs.Telling.{QuietTells}
-use Rattle.spb_network.proofs.SoundPlay.{commands_keep_sound}
-use Rattle.spb_network.proofs.CountedStays.{stays_counted}
-use Rattle.spb_network.proofs.Telling.{next_tells}
+use Rattle.network_model.specs.Telling.{QuietTells}
+use Rattle.network_model.proofs.SoundPlay.{commands_keep_sound}
+use Rattle.network_model.proofs.CountedStays.{stays_counted}
+use Rattle.network_model.proofs.Telling.{next_tells}
 use Rattle.spb_network.proofs.Keeping.{counted_conditions}
 use Rattle.spb_network.proofs.network.NetworkOf.apply.Goals as goal
 

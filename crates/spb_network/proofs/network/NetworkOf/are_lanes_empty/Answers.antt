@@ -1,5 +1,5 @@
 use Rattle.std.proofs.Common.{◌∙◌}
-use Rattle.spb_network.specs.Quiet.{holds_q2}
+use Rattle.network_model.specs.Quiet.{holds_q2}
 use Rattle.spb_network.proofs.QuietWalks.{none_full, turned}
 use Rattle.spb_network.proofs.network.NetworkOf.are_lanes_empty.Goals as goal
 

@@ -1,9 +1,9 @@
 use Rattle.std.proofs.Common.{◌<◌, ◌≤◌, ℕ, length, sym, ◌∙◌, arith}
 use Rattle.spb_network.specs.Network.{state_of}
-use Rattle.spb_network.specs.State.{State, links_of}
-use Rattle.spb_network.specs.Quieting.{is_link_up}
-use Rattle.spb_network.proofs.ListLemmas.{length-things}
-use Rattle.spb_network.proofs.QuietStates.{met_by_states}
+use Rattle.network_model.specs.State.{State, links_of}
+use Rattle.network_model.specs.Quieting.{is_link_up}
+use Rattle.spb_world.proofs.ListLemmas.{length-things}
+use Rattle.network_model.proofs.QuietStates.{met_by_states}
 use Rattle.spb_network.proofs.QuietWalks.{all-found, all-passed, all-past}
 use Rattle.spb_network.proofs.network.NetworkOf.are_links_up.Goals as goal
 

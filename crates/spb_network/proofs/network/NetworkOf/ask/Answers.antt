@@ -1,8 +1,8 @@
 use Rattle.std.proofs.Common.{◌≡◌, [], IfOk, ap, sym, subst, ◌∙◌}
-use Rattle.spb_network.specs.declared.answer.Answer.{Answer}
+use Rattle.network_model.specs.declared.answer.Answer.{Answer}
 use Rattle.spb_network.specs.Network.{state_of}
-use Rattle.spb_network.specs.Play.{answer_to_asked}
-use Rattle.spb_network.specs.State.{State}
+use Rattle.network_model.specs.Play.{answer_to_asked}
+use Rattle.network_model.specs.State.{State}
 use Rattle.spb_network.proofs.Keeping.{asked_answer, question_plays, on_ok}
 use Rattle.spb_network.proofs.network.NetworkOf.ask.Goals as goal
 

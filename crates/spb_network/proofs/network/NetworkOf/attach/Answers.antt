@@ -1,8 +1,8 @@
 use Rattle.std.proofs.Common.{◌≡◌, Some, sym, ◌∙◌, arith}
-use Rattle.spb_network.specs.World.{vid_of_isid}
-use Rattle.spb_network.specs.State.{State}
+use Rattle.spb_world.specs.World.{vid_of_isid}
+use Rattle.network_model.specs.State.{State}
 use Rattle.spb_network.specs.Network.{state_of}
-use Rattle.spb_network.proofs.SoundAttaching.{attach_refusal_none, found_high, new_attachment, can_attach}
+use Rattle.network_model.proofs.SoundAttaching.{attach_refusal_none, found_high, new_attachment, can_attach}
 use Rattle.spb_network.proofs.network.NetworkOf.attach.Goals as goal
 
 pub overflow_cast-attachment : goal.overflow_cast-attachment

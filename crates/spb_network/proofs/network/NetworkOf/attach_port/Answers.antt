@@ -1,10 +1,10 @@
 use Rattle.std.proofs.Common.{ap, ◌∙◌}
 use Rattle.bridge_api.specs.Step as comes
 use Rattle.bridge_api.specs.Shown.{views_of}
-use Rattle.spb_network.specs.Attaching.{with_attachment_at}
-use Rattle.spb_network.specs.State.{State}
+use Rattle.spb_world.specs.Attaching.{with_attachment_at}
+use Rattle.network_model.specs.State.{State}
 use Rattle.spb_network.specs.Network.{state_of}
-use Rattle.spb_network.proofs.BoxLemmas.{on_ok}
+use Rattle.spb_world.proofs.BoxLemmas.{on_ok}
 use Rattle.spb_network.proofs.SendLemmas.{stepped-is, frames-none, no_sent}
 use Rattle.spb_network.proofs.network.NetworkOf.attach_port.Goals as goal
 

@@ -1,7 +1,7 @@
 use Rattle.std.proofs.Common.{sym, subst}
-use Rattle.spb_network.specs.State.{State}
-use Rattle.spb_network.specs.Network.{state_of, Fits}
-use Rattle.spb_network.proofs.FitsLemmas.{Fits-flushed}
+use Rattle.network_model.specs.State.{State, Fits}
+use Rattle.spb_network.specs.Network.{state_of}
+use Rattle.network_model.proofs.FitsLemmas.{Fits-flushed}
 use Rattle.spb_network.proofs.network.NetworkOf.cut.Goals as goal
 
 pub set_carrier-requires-clause-order : goal.set_carrier-requires-clause-order

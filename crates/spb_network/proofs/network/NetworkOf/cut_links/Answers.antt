@@ -1,5 +1,5 @@
 use Rattle.std.proofs.Common.{◌+◌, ◌-◌, sym, ap, ◌∙◌, arith}
-use Rattle.spb_network.specs.Restarting.{cut_from}
+use Rattle.network_model.specs.Restarting.{cut_from}
 use Rattle.spb_network.specs.Network.{state_of}
 use Rattle.spb_network.proofs.RestartLemmas.{cut-step}
 use Rattle.spb_network.proofs.network.NetworkOf.cut_links.Goals as goal

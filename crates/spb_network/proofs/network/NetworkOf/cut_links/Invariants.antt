@@ -1,6 +1,6 @@
 use Rattle.std.proofs.Common.{◌≡◌, ◌-◌, ◌≤◌, length}
-use Rattle.spb_network.specs.State.{links_of}
-use Rattle.spb_network.specs.Restarting.{cut_from}
+use Rattle.network_model.specs.State.{links_of}
+use Rattle.network_model.specs.Restarting.{cut_from}
 use Rattle.spb_network.specs.Network.{state_of, IsInOrder}
 use Rattle.spb_network.proofs.network.NetworkOf.cut_links.Given as goal
 

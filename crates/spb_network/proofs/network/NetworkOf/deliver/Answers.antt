@@ -1,9 +1,9 @@
 use Rattle.std.proofs.Common.{◌≡◌, ap, sym, subst, ◌∙◌, None, slice_get}
 use Rattle.link_model.specs.Lanes.{rest}
-use Rattle.spb_network.specs.State.{State, lane_at}
-use Rattle.spb_network.specs.Events.{delivered, delivered_front}
-use Rattle.spb_network.specs.Network.{state_of, Fits}
-use Rattle.spb_network.proofs.FitsLemmas.{Fits-with_frames}
+use Rattle.network_model.specs.State.{State, lane_at, Fits}
+use Rattle.network_model.specs.Events.{delivered, delivered_front}
+use Rattle.spb_network.specs.Network.{state_of}
+use Rattle.network_model.proofs.FitsLemmas.{Fits-with_frames}
 use Rattle.spb_network.proofs.SendLemmas.{rest-none}
 use Rattle.spb_network.proofs.network.NetworkOf.deliver.Goals as goal
 

@@ -1,12 +1,12 @@
 use Rattle.std.proofs.Common.{ap, ◌∙◌, arith}
 use Rattle.bridge_api.specs.Step as comes
 use Rattle.bridge_api.specs.Shown.{views_of}
-use Rattle.spb_network.specs.Attaching.{without_attachment_at}
-use Rattle.spb_network.specs.Events.{port_detached}
-use Rattle.spb_network.specs.State.{State}
+use Rattle.spb_world.specs.Attaching.{without_attachment_at}
+use Rattle.network_model.specs.Events.{port_detached}
+use Rattle.network_model.specs.State.{State}
 use Rattle.spb_network.specs.Network.{state_of}
 use Rattle.spb_network.proofs.SendLemmas.{stepped-is, frames-none, no_sent}
-use Rattle.spb_network.proofs.SoundAttaching.{detach_refusal_none, is_attached_port}
+use Rattle.network_model.proofs.SoundAttaching.{detach_refusal_none, is_attached_port}
 use Rattle.spb_network.proofs.network.NetworkOf.detach.Goals as goal
 
 pub overflow_cast-port : goal.overflow_cast-port

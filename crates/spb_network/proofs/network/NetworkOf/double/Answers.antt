@@ -1,9 +1,10 @@
 use Rattle.std.proofs.Common.{sym, ap, subst}
 use Rattle.link_model.specs.Lane.{after_double}
 use Rattle.std.specs.Prelude.{slice_get}
-use Rattle.spb_network.specs.Network.{state_of, Fits}
-use Rattle.spb_network.proofs.BoxLemmas.{on_ok}
-use Rattle.spb_network.proofs.FitsLemmas.{Fits-with_frames}
+use Rattle.spb_network.specs.Network.{state_of}
+use Rattle.network_model.specs.State.{Fits}
+use Rattle.spb_world.proofs.BoxLemmas.{on_ok}
+use Rattle.network_model.proofs.FitsLemmas.{Fits-with_frames}
 use Rattle.spb_network.proofs.network.NetworkOf.double.Goals as goal
 
 pub returns-clause-order : goal.returns-clause-order

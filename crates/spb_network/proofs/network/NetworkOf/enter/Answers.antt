@@ -3,10 +3,10 @@ use Rattle.std.specs.Option.{option_map_or}
 use Rattle.bridge_api.specs.Step as comes
 use Rattle.bridge_api.specs.Step.{sent, left_by}
 use Rattle.spb_network.specs.Network.{state_of, AreMade}
-use Rattle.spb_network.proofs.BoxLemmas.{on_ok}
+use Rattle.spb_world.proofs.BoxLemmas.{on_ok}
 use Rattle.spb_network.proofs.SendLemmas.{stepped-moved}
-use Rattle.spb_network.proofs.SoundAttaching.{taken_port}
-use Rattle.spb_network.proofs.SoundEntering.{entry_refusal_none}
+use Rattle.network_model.proofs.SoundAttaching.{taken_port}
+use Rattle.network_model.proofs.SoundEntering.{entry_refusal_none}
 use Rattle.spb_network.proofs.network.NetworkOf.enter.Goals as goal
 
 pub overflow_cast-port : goal.overflow_cast-port

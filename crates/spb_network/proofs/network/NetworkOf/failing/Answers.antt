@@ -1,7 +1,7 @@
 use Rattle.std.proofs.Common.{ap, ◌∙◌}
 use Rattle.spb_network.specs.Network.{state_of}
-use Rattle.spb_network.specs.Quieting.{numbers_of}
-use Rattle.spb_network.specs.State.{State}
+use Rattle.network_model.specs.Quieting.{numbers_of}
+use Rattle.network_model.specs.State.{State}
 use Rattle.spb_network.proofs.Keeping.{failing_is}
 use Rattle.spb_network.proofs.QuietBodies.{if_ok}
 use Rattle.spb_network.proofs.network.NetworkOf.failing.Goals as goal

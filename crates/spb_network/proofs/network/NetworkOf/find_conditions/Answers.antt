@@ -1,8 +1,8 @@
 use Rattle.std.proofs.Common.{ap, ◌∙◌}
 use Rattle.bridge_api.specs.Shown.{views_of}
-use Rattle.spb_network.specs.Bodies.{have_one_body}
+use Rattle.network_model.specs.Quiet.{have_one_body}
 use Rattle.spb_network.specs.Network.{state_of}
-use Rattle.spb_network.specs.State.{State}
+use Rattle.network_model.specs.State.{State}
 use Rattle.spb_network.proofs.Keeping.{conditions_found}
 use Rattle.spb_network.proofs.QuietNumbers.{q4_by_bodies}
 use Rattle.spb_network.proofs.network.NetworkOf.find_conditions.Goals as goal

@@ -2,10 +2,11 @@ use Rattle.std.proofs.Common.{[], ◌++◌, ◌∙◌, sym, ap, subst, slice_get
 use Rattle.std.specs.Option.{option_map_or}
 use Rattle.bridge_api.specs.Step as comes
 use Rattle.bridge_api.specs.Step.{sent, left_by}
-use Rattle.spb_network.specs.Network.{state_of, AreMade, Fits}
-use Rattle.spb_network.proofs.BoxLemmas.{on_ok}
+use Rattle.spb_network.specs.Network.{state_of, AreMade}
+use Rattle.network_model.specs.State.{Fits}
+use Rattle.spb_world.proofs.BoxLemmas.{on_ok}
 use Rattle.spb_network.proofs.SendLemmas.{stepped-moved, stepped-silent}
-use Rattle.spb_network.proofs.FitsLemmas.{Fits-stepped, end_is_port}
+use Rattle.network_model.proofs.FitsLemmas.{Fits-stepped, end_is_port}
 use Rattle.spb_network.proofs.network.NetworkOf.hear.Goals as goal
 
 pub hear-requires-clause-port : goal.hear-requires-clause-port

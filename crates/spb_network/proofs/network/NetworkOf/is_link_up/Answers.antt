@@ -1,7 +1,7 @@
 use Rattle.std.proofs.Common.{◌≡◌, Some, slice_get, subst}
 use Rattle.bridge_api.specs.Shown.{views_of}
 use Rattle.spb_network.specs.Network.{state_of}
-use Rattle.spb_network.proofs.FitsLemmas.{end_is_port}
+use Rattle.network_model.proofs.FitsLemmas.{end_is_port}
 use Rattle.spb_network.proofs.network.NetworkOf.is_link_up.Goals as goal
 
 pub is_end_up-requires-clause-port : goal.is_end_up-requires-clause-port

@@ -1,5 +1,5 @@
 use Rattle.std.proofs.Common.{◌≡◌, Some, ◌++◌}
-use Rattle.spb_network.specs.Events.{outs_at}
+use Rattle.network_model.specs.Events.{outs_at}
 use Rattle.spb_network.specs.Network.{state_of}
 use Rattle.spb_network.proofs.network.NetworkOf.leave_all.Given as goal
 

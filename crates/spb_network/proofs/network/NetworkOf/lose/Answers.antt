@@ -1,7 +1,8 @@
 use Rattle.std.proofs.Common.{sym, ap, subst}
 use Rattle.link_model.specs.Lane.{after_lose}
-use Rattle.spb_network.specs.Network.{state_of, Fits}
-use Rattle.spb_network.proofs.FitsLemmas.{Fits-with_frames}
+use Rattle.spb_network.specs.Network.{state_of}
+use Rattle.network_model.specs.State.{Fits}
+use Rattle.network_model.proofs.FitsLemmas.{Fits-with_frames}
 use Rattle.spb_network.proofs.network.NetworkOf.lose.Goals as goal
 
 pub returns-clause-order : goal.returns-clause-order

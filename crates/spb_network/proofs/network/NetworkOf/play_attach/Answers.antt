@@ -1,6 +1,6 @@
 use Rattle.spb_network.specs.Network.{state_of}
-use Rattle.spb_network.specs.State.{State}
-use Rattle.spb_network.proofs.PlaceLemmas.{place_within}
+use Rattle.network_model.specs.State.{State}
+use Rattle.spb_world.proofs.PlaceLemmas.{place_within}
 use Rattle.std.proofs.Common.{sym, ◌∙◌}
 use Rattle.spb_network.proofs.network.NetworkOf.play_attach.Goals as goal
 

@@ -1,5 +1,5 @@
 use Rattle.spb_network.specs.Network.{state_of}
-use Rattle.spb_network.proofs.RefusalLemmas.{declared_refusal_none}
+use Rattle.network_model.proofs.StateRefusals.{declared_refusal_none}
 use Rattle.spb_network.proofs.network.NetworkOf.play_bridge.Goals as goal
 
 pub take_box-requires-clause-accepted : goal.take_box-requires-clause-accepted

@@ -1,5 +1,5 @@
 use Rattle.std.proofs.Common.{◌+◌, ◌-◌, sym, ap, ◌∙◌, arith}
-use Rattle.spb_network.specs.Events.{drained}
+use Rattle.network_model.specs.Events.{drained}
 use Rattle.spb_network.specs.Network.{state_of}
 use Rattle.spb_network.proofs.RoundLemmas.{drained-found, drained-idle}
 use Rattle.spb_network.proofs.network.NetworkOf.play_drain.Goals as goal

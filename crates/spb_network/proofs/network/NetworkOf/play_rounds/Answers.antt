@@ -1,5 +1,5 @@
 use Rattle.std.proofs.Common.{◌+◌, ◌-◌, sym, ap, ◌∙◌, arith}
-use Rattle.spb_network.specs.Events.{rounds}
+use Rattle.network_model.specs.Events.{rounds}
 use Rattle.spb_network.specs.Network.{state_of}
 use Rattle.spb_network.proofs.RoundLemmas.{rounds-step}
 use Rattle.spb_network.proofs.network.NetworkOf.play_rounds.Goals as goal

@@ -1,7 +1,7 @@
 use Rattle.std.proofs.Common.{◌≡◌, ◌+◌, ◌-◌, ◌∷◌, [], ◌++◌, List, sym, ap, ◌∙◌, arith}
-use Rattle.spb_network.specs.declared.declaration.DeclaredLink.{DeclaredLink}
-use Rattle.spb_network.specs.State.{links_of}
-use Rattle.spb_network.specs.Restarting.{port_metric, port_metrics}
+use Rattle.spb_world.specs.declared.declaration.DeclaredLink.{DeclaredLink}
+use Rattle.network_model.specs.State.{links_of}
+use Rattle.spb_world.specs.Links.{port_metric, port_metrics}
 use Rattle.spb_network.specs.Network.{state_of}
 use Rattle.spb_network.proofs.RestartLemmas.{metrics-step, pushed-before, before-none}
 use Rattle.spb_network.proofs.network.NetworkOf.port_metrics.Goals as goal

@@ -1,6 +1,6 @@
 use Rattle.std.proofs.Common.{◌≡◌, ◌+◌, ◌-◌, ◌≤◌, ◌++◌}
-use Rattle.spb_network.specs.State.{links_of}
-use Rattle.spb_network.specs.Restarting.{port_metrics}
+use Rattle.network_model.specs.State.{links_of}
+use Rattle.spb_world.specs.Links.{port_metrics}
 use Rattle.spb_network.specs.Network.{state_of}
 use Rattle.spb_network.proofs.network.NetworkOf.port_metrics.Given as goal
 

@@ -1,8 +1,8 @@
 use Rattle.std.proofs.Common.{map, slice_set, subst, sym, ap, ◌∙◌}
-use Rattle.spb_network.specs.State.{State}
-use Rattle.spb_network.specs.Network.{state_of, spare, Fits}
+use Rattle.network_model.specs.State.{State, Fits}
+use Rattle.spb_network.specs.Network.{state_of, spare}
 use Rattle.spb_network.proofs.CommandFits.{map-remove}
-use Rattle.spb_network.proofs.RestartSound.{Fits-replaced}
+use Rattle.network_model.proofs.RestartSound.{Fits-replaced}
 use Rattle.spb_network.proofs.network.NetworkOf.replace_box.Goals as goal
 
 pub returns-clause-state : goal.returns-clause-state

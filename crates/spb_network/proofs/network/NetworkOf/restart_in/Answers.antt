@@ -1,7 +1,7 @@
 use Rattle.std.proofs.Common.{sym, subst}
 use Rattle.bridge_api.specs.Config.{IsWhole}
 use Rattle.spb_network.specs.Network.{state_of}
-use Rattle.spb_network.proofs.RestartConfig.{restart_whole}
+use Rattle.network_model.proofs.RestartConfig.{restart_whole}
 use Rattle.spb_network.proofs.network.NetworkOf.restart_in.Goals as goal
 
 pub replace_box-requires-clause-whole : goal.replace_box-requires-clause-whole

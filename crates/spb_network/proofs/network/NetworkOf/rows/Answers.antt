@@ -1,9 +1,9 @@
 use Rattle.std.proofs.Common.{◌≡◌, slice_get, Some, None, sym, ap, ◌∙◌, [], subst}
 use Rattle.std.specs.Option.{option_map_or}
 use Rattle.bridge_api.specs.Shown.{view_in, views_of}
-use Rattle.spb_network.specs.Questions.{rows_of}
-use Rattle.spb_network.proofs.BoxLemmas.{get-map, get-map-none, seen, seen-none}
-use Rattle.spb_network.proofs.PortLemmas.{shown-ok}
+use Rattle.network_model.specs.Questions.{rows_of}
+use Rattle.spb_world.proofs.BoxLemmas.{get-map, get-map-none, seen, seen-none}
+use Rattle.network_model.proofs.PortLemmas.{shown-ok}
 use Rattle.spb_network.proofs.network.NetworkOf.rows.Goals as goal
 
 pub returns-in-None : goal.returns-in-None

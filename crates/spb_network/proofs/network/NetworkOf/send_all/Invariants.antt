@@ -1,5 +1,5 @@
 use Rattle.std.proofs.Common.{◌≡◌}
-use Rattle.spb_network.specs.Events.{sent_all}
+use Rattle.network_model.specs.Events.{sent_all}
 use Rattle.spb_network.specs.Network.{state_of}
 use Rattle.spb_network.proofs.network.NetworkOf.send_all.Given as goal
 

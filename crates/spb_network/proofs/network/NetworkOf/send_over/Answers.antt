@@ -1,7 +1,8 @@
 use Rattle.std.proofs.Common.{sym, ap, ◌∙◌}
-use Rattle.spb_network.specs.State.{State, links_of, lane_out}
+use Rattle.network_model.specs.State.{State, links_of}
+use Rattle.spb_world.specs.Links.{lane_out}
 use Rattle.spb_network.specs.Network.{state_of}
-use Rattle.spb_network.proofs.BoxLemmas.{on_ok}
+use Rattle.spb_world.proofs.BoxLemmas.{on_ok}
 use Rattle.spb_network.proofs.SendLemmas.{sent-live}
 use Rattle.spb_network.proofs.network.NetworkOf.send_over.Goals as goal
 

@@ -1,5 +1,5 @@
 use Rattle.std.proofs.Common.{◌+◌, ◌-◌, sym, ap, ◌∙◌, arith}
-use Rattle.spb_network.specs.Events.{served_from}
+use Rattle.network_model.specs.Events.{served_from}
 use Rattle.spb_network.specs.Network.{state_of}
 use Rattle.spb_network.proofs.RoundLemmas.{served-step}
 use Rattle.spb_network.proofs.network.NetworkOf.serve_all.Goals as goal

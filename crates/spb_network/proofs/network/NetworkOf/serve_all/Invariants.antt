@@ -1,5 +1,5 @@
 use Rattle.std.proofs.Common.{◌≡◌, ◌-◌, ◌≤◌}
-use Rattle.spb_network.specs.Events.{served_from, all_served}
+use Rattle.network_model.specs.Events.{served_from, all_served}
 use Rattle.spb_network.specs.Network.{state_of, IsInOrder}
 use Rattle.spb_network.proofs.network.NetworkOf.serve_all.Given as goal
 

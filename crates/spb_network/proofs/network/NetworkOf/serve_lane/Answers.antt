@@ -1,5 +1,5 @@
 use Rattle.std.proofs.Common.{◌+◌, ◌-◌, sym, ap, ◌∙◌, arith}
-use Rattle.spb_network.specs.Events.{delivered_times}
+use Rattle.network_model.specs.Events.{delivered_times}
 use Rattle.spb_network.specs.Network.{state_of}
 use Rattle.spb_network.proofs.RoundLemmas.{delivered-step}
 use Rattle.spb_network.proofs.network.NetworkOf.serve_lane.Goals as goal

@@ -1,9 +1,10 @@
 use Rattle.std.proofs.Common.{sym, subst}
 use Rattle.bridge_api.specs.Step as comes
-use Rattle.spb_network.specs.Network.{state_of, Fits}
-use Rattle.spb_network.proofs.BoxLemmas.{on_ok, both}
+use Rattle.spb_network.specs.Network.{state_of}
+use Rattle.network_model.specs.State.{Fits}
+use Rattle.spb_world.proofs.BoxLemmas.{on_ok, both}
 use Rattle.spb_network.proofs.SendLemmas.{stepped-is, frames-none}
-use Rattle.spb_network.proofs.FitsLemmas.{Fits-stepped, end_is_port}
+use Rattle.network_model.proofs.FitsLemmas.{Fits-stepped, end_is_port}
 use Rattle.spb_network.proofs.network.NetworkOf.set_carrier.Goals as goal
 
 pub set_carrier-requires-clause-port : goal.set_carrier-requires-clause-port

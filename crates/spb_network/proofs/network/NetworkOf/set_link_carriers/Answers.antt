@@ -1,5 +1,5 @@
 use Rattle.std.proofs.Common.{◌+◌, ◌-◌, sym, ap, ◌∙◌, arith}
-use Rattle.spb_network.specs.Restarting.{with_carriers_from}
+use Rattle.network_model.specs.Restarting.{with_carriers_from}
 use Rattle.spb_network.specs.Network.{state_of}
 use Rattle.spb_network.proofs.RestartLemmas.{carriers-step}
 use Rattle.spb_network.proofs.network.NetworkOf.set_link_carriers.Goals as goal

@@ -1,9 +1,9 @@
 use Rattle.std.proofs.Common.{ap, sym, subst}
-use Rattle.spb_network.specs.World.{IsEnd}
-use Rattle.spb_network.specs.State.{State}
-use Rattle.spb_network.specs.Network.{state_of, Fits}
-use Rattle.spb_network.proofs.WorldLemmas.{end_on-is}
-use Rattle.spb_network.proofs.FitsLemmas.{Fits-with_end_metric}
+use Rattle.spb_world.specs.World.{IsEnd}
+use Rattle.network_model.specs.State.{State, Fits}
+use Rattle.spb_network.specs.Network.{state_of}
+use Rattle.spb_world.proofs.WorldLemmas.{end_on-is}
+use Rattle.network_model.proofs.FitsLemmas.{Fits-with_end_metric}
 use Rattle.spb_network.proofs.network.NetworkOf.set_metric.Goals as goal
 
 pub set_end_metric-requires-clause-order : goal.set_end_metric-requires-clause-order

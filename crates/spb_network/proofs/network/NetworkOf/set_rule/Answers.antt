@@ -1,8 +1,8 @@
 use Rattle.std.proofs.Common.{refl, sym, ◌∙◌, true≢false, inr, ⊎_elim}
-use Rattle.spb_network.specs.State.{State}
+use Rattle.network_model.specs.State.{State}
 use Rattle.spb_network.specs.Network.{state_of}
-use Rattle.spb_network.proofs.SoundPlay.{sound_again}
-use Rattle.spb_network.proofs.CountedStays.{counted_rule}
+use Rattle.network_model.proofs.SoundPlay.{sound_again}
+use Rattle.network_model.proofs.CountedStays.{counted_rule}
 use Rattle.spb_network.proofs.Keeping.{none_kept}
 use Rattle.spb_network.proofs.network.NetworkOf.set_rule.Goals as goal
 

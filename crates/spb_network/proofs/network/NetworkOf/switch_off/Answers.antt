@@ -1,10 +1,10 @@
 use Rattle.std.proofs.Common.{sym, subst, false, IfSome}
-use Rattle.spb_network.specs.World.{IsLink}
-use Rattle.spb_network.specs.Declaring.{with_live}
-use Rattle.spb_network.specs.State.{State}
-use Rattle.spb_network.specs.Events.{flushed}
-use Rattle.spb_network.specs.Network.{state_of, Fits}
-use Rattle.spb_network.proofs.FitsLemmas.{Fits-with_live, Fits-flushed}
+use Rattle.spb_world.specs.World.{IsLink}
+use Rattle.spb_world.specs.Declaring.{with_live}
+use Rattle.network_model.specs.State.{State, Fits}
+use Rattle.network_model.specs.Events.{flushed}
+use Rattle.spb_network.specs.Network.{state_of}
+use Rattle.network_model.proofs.FitsLemmas.{Fits-with_live, Fits-flushed}
 use Rattle.spb_network.proofs.network.NetworkOf.switch_off.Goals as goal
 
 pub set_carriers-requires-clause-order : goal.set_carriers-requires-clause-order

@@ -1,8 +1,9 @@
 use Rattle.std.proofs.Common.{ap, sym, subst, true, IfSome}
-use Rattle.spb_network.specs.World.{IsLink}
-use Rattle.spb_network.specs.Declaring.{with_live}
-use Rattle.spb_network.specs.Network.{state_of, Fits}
-use Rattle.spb_network.proofs.FitsLemmas.{Fits-with_live}
+use Rattle.spb_world.specs.World.{IsLink}
+use Rattle.spb_world.specs.Declaring.{with_live}
+use Rattle.spb_network.specs.Network.{state_of}
+use Rattle.network_model.specs.State.{Fits}
+use Rattle.network_model.proofs.FitsLemmas.{Fits-with_live}
 use Rattle.spb_network.proofs.network.NetworkOf.switch_on.Goals as goal
 
 pub set_carriers-requires-clause-order : goal.set_carriers-requires-clause-order

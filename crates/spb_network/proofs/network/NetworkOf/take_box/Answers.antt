@@ -1,12 +1,12 @@
 use Rattle.std.proofs.Common.{◌≡◌, ◌∷◌, [], ◌++◌, map, false, subst, sym, ap, ◌∙◌, arith}
 use Rattle.bridge_api.specs.Config.{configured}
 use Rattle.bridge_api.specs.Shown.{view_in, views_of}
-use Rattle.spb_network.specs.State.{State}
+use Rattle.network_model.specs.State.{State}
 use Rattle.spb_network.specs.Network.{state_of, spare, AreMade}
-use Rattle.spb_network.proofs.BoxLemmas.{on_ok, got}
+use Rattle.spb_world.proofs.BoxLemmas.{on_ok, got}
 use Rattle.spb_network.proofs.CommandFits.{map-remove, map-push}
-use Rattle.spb_network.proofs.ListLemmas.{All-push}
-use Rattle.spb_network.proofs.RefusalLemmas.{bridge_refusal_none}
+use Rattle.spb_world.proofs.ListLemmas.{All-push}
+use Rattle.spb_world.proofs.RefusalLemmas.{bridge_refusal_none}
 use Rattle.spb_network.proofs.network.NetworkOf.take_box.Goals as goal
 
 pub overflow_cast-id : goal.overflow_cast-id

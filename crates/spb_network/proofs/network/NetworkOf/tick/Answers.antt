@@ -3,10 +3,11 @@ use Rattle.std.specs.Option.{option_map_or}
 use Rattle.std.specs.Prelude.{slice_get}
 use Rattle.bridge_api.specs.Step as comes
 use Rattle.bridge_api.specs.Shown.{views_of}
-use Rattle.spb_network.specs.Network.{state_of, AreMade, Fits}
-use Rattle.spb_network.proofs.BoxLemmas.{on_ok}
+use Rattle.spb_network.specs.Network.{state_of, AreMade}
+use Rattle.network_model.specs.State.{Fits}
+use Rattle.spb_world.proofs.BoxLemmas.{on_ok}
 use Rattle.spb_network.proofs.SendLemmas.{stepped-is, frames-none}
-use Rattle.spb_network.proofs.FitsLemmas.{Fits-stepped}
+use Rattle.network_model.proofs.FitsLemmas.{Fits-stepped}
 use Rattle.spb_network.proofs.network.NetworkOf.tick.Goals as goal
 
 pub returns-clause-state : goal.returns-clause-state

@@ -1,5 +1,5 @@
 use Rattle.std.proofs.Common.{◌+◌, ◌-◌, sym, ap, ◌∙◌, arith}
-use Rattle.spb_network.specs.Events.{ticked_from}
+use Rattle.network_model.specs.Events.{ticked_from}
 use Rattle.spb_network.specs.Network.{state_of}
 use Rattle.spb_network.proofs.RoundLemmas.{ticked-step}
 use Rattle.spb_network.proofs.network.NetworkOf.tick_all.Goals as goal

@@ -1,5 +1,5 @@
 use Rattle.std.proofs.Common.{◌≡◌, ◌-◌, ◌≤◌}
-use Rattle.spb_network.specs.Events.{ticked_from, all_ticked}
+use Rattle.network_model.specs.Events.{ticked_from, all_ticked}
 use Rattle.spb_network.specs.Network.{state_of, IsInOrder}
 use Rattle.spb_network.proofs.network.NetworkOf.tick_all.Given as goal
 

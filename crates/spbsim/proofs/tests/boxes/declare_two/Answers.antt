@@ -1,5 +1,5 @@
 use Rattle.std.proofs.Common.{true≢false, sym, ◌∙◌, ⊎_elim}
-use Rattle.spb_network.specs.Network.{Fits}
+use Rattle.network_model.specs.State.{Fits}
 use Rattle.spbsim.proofs.TwoBridges.{linked_ports}
 use Rattle.spbsim.proofs.tests.boxes.declare_two.Goals as goal
 

@@ -1,0 +1,173 @@
+-- What follows of a network whose numbers are within what is allowed.
+use Rattle.std.proofs.Common.{◌≡◌, inl, inr, ◌≤◌, ◌<◌, ◌||◌, ℕ, zero, suc, Bool, true, false, not, List, [], ◌∷◌, length, map, refl, sym, ap, ◌∙◌, subst, Option, Some, None, slice_get, arith}
+use Rattle.std.specs.Prelude.{nat_lt}
+use Rattle.std.specs.FinMap.{get, entries, entries_sorted, is_sorted, len, len-entries, contains_key}
+use Rattle.std.specs.FinMap.Entries.{below_all}
+use Rattle.std.proofs.lemmas.Bool.{and_parts, lt-ltb}
+use Rattle.std.proofs.lemmas.List.{length-map}
+use Rattle.spb_types.specs.declared.address.SystemId.{SystemId}
+use Rattle.spb_types.specs.declared.address.LspId.{LspId}
+use Rattle.spb_types.specs.declared.limits.TheConstants.{MOST_LSPS}
+use Rattle.spb_types.specs.declared.link.Dir.{Dir}
+use Rattle.spb_types.specs.Graph.{IsAmong, IsDistinct, systems_of}
+use Rattle.ect_trees.proofs.Among.{length-within}
+use Rattle.link_model.specs.Lane.{Frame, IsIn}
+use Rattle.link_model.specs.Lanes.{lane_of}
+use Rattle.lsdb.specs.declared.version.Version.{Version}
+use Rattle.lsdb.specs.Entry.{Entry}
+use Rattle.lsdb.specs.Version.{number_of}
+use Rattle.lsdb.specs.Database.{Lsps, id_cmp, version_in}
+use Rattle.lsdb.proofs.Ids.{tied_same}
+use Rattle.lsdb.proofs.LookupLemmas.{true_from_T, below_at, get_place}
+use Rattle.flooding.specs.Own.{last_number, own_id}
+use Rattle.flooding.specs.Hearing.{lacks_place, is_full}
+use Rattle.bridge_api.specs.View.{BridgeView}
+use Rattle.bridge_api.specs.Step.{frame}
+use Rattle.bridge_laws.proofs.HeldIds.{own_is}
+use Rattle.spb_world.specs.declared.declaration.DeclaredLink.{DeclaredLink}
+use Rattle.spb_world.specs.declared.declaration.LinkEnd.{LinkEnd}
+use Rattle.spb_world.specs.World.{Bridges, graph_bridges}
+use Rattle.network_model.specs.State.{State, links_of}
+use Rattle.spb_world.specs.Links.{far_end, lane_out}
+use Rattle.network_model.specs.Sound.{IsSoundState, opening}
+use Rattle.network_model.specs.Counted.{IsCopy, is_held, is_said, IsOwnOf, IsCounted, allowance_of, most_commands}
+use Rattle.network_model.specs.Play.{played_all}
+use Rattle.network_model.specs.SoundLaws.{SomeNetworkIsBusy}
+use Rattle.network_model.specs.CountedLaws.{NumbersStayLow, BridgesStayFar, NothingIsFull, SomeCountedIsBusy}
+use Rattle.network_model.proofs.FitsLemmas.{link_there}
+use Rattle.network_model.proofs.SoundMoves.{Comes}
+use Rattle.spb_world.proofs.SoundLaneIds.{turned, near-turned, lane_of_end}
+use Rattle.network_model.proofs.SoundEvents.{core_of, turned-turned}
+use Rattle.network_model.proofs.SoundPlay.{opening_sound, networks_are_sound}
+use Rattle.network_model.proofs.SoundWitness.{busy, few_commands}
+use Rattle.network_model.proofs.CountedMoves.{among_at}
+use Rattle.network_model.proofs.CountedPlay.{opening_counted, all_counted}
+use Rattle.network_model.proofs.CountedSteps.{view_of_own, weak_bound, own_from, weak_from, far_from_last}
+
+-- ---- no number goes far
+
+owned_low : (s : State) (id : LspId) (a : Version) → IsSoundState s → IsCounted s → s.accepted ≤ most_commands → IsOwnOf s.world.bridges id → IsCopy s.views s.lanes id a → number_of a ≤ 2800000
+owned_low s id a sound counted few owner copy =
+    let view = view_of_own s id (core_of s sound) owner in
+    let within = counted.by.bound owner.place view.0 id view.1 view.2 in
+    let high = weak_bound s.views s.lanes view.0 id within.most within.bound a copy in
+    omega (arith, high, within.room, counted.rounds, few)
+
+held_low : (s : State) (i : ℕ) (v : BridgeView) (id : LspId) (a : Version) (o : Option Entry) → IsSoundState s → IsCounted s → s.accepted ≤ most_commands → slice_get s.views i ≡ Some v → get v.database id ≡ o → version_in o ≡ a → IsCopy s.views s.lanes id a → number_of a ≤ 2800000
+held_low s i v id a None sound counted few at held is copy = let none = ap number_of is in omega (arith, none)
+held_low s i v id a (Some e) sound counted few at held is copy = owned_low s id a sound counted few (counted.by.held i v id e at held) copy
+
+pub numbers_stay_low : NumbersStayLow
+numbers_stay_low s id a sound counted few (is_held i v at is) = held_low s i v id a (get v.database id) sound counted few at refl is (is_held i v at is)
+numbers_stay_low s id a sound counted few (is_said k dir f among claimed) = owned_low s id a sound counted few (counted.by.said k dir f id a among claimed) (is_said k dir f among claimed)
+
+-- ---- no bridge comes near the last number
+
+-- a frame on its way comes to the far end of its link
+comes_there : (s : State) (k : ℕ) (dir : Dir) (l : DeclaredLink) (bytes : Frame) → IsSoundState s → slice_get (links_of s) k ≡ Some l → IsIn bytes (lane_of s.lanes k dir) → (p : ℕ) (f : Frame) → frame (far_end dir l).port bytes ≡ frame p f → Comes (links_of s) s.lanes (far_end dir l).bridge p f
+comes_there s k dir l bytes sound at among p f is =
+    let port : (far_end dir l).port ≡ p = cc in
+    let same : bytes ≡ f = cc in
+    let out : lane_out (links_of s) (far_end dir l).bridge (far_end dir l).port ≡ Some (record { link = k; dir = turned dir }) =
+    subst (λ (e : LinkEnd). lane_out (links_of s) e.bridge e.port ≡ Some (record { link = k; dir = turned dir })) (near-turned dir l) (lane_of_end (links_of s) k l (turned dir) sound.world.links_apart (link_there s k l sound.world at).apart at) in
+    record {
+      lane = record { link = k; dir = turned dir };
+      out = subst (λ (q : ℕ). lane_out (links_of s) (far_end dir l).bridge q ≡ Some (record { link = k; dir = turned dir })) port out;
+      among = subst (λ (d : Dir). IsIn f (lane_of s.lanes k d)) (sym (turned-turned dir)) (subst (λ (g : Frame). IsIn g (lane_of s.lanes k dir)) same among);
+    }
+
+pub bridges_stay_far : BridgesStayFar
+bridges_stay_far s k dir l v bytes sound counted few at among at_v =
+    let low : allowance_of s < last_number = omega (arith, counted.rounds, few) in
+    far_from_last s (λ j. allowance_of s) (core_of s sound) (own_from (allowance_of s) s counted.by) (weak_from (allowance_of s) s counted.by) (λ i u at_u. low) (far_end dir l).bridge v (frame (far_end dir l).port bytes) at_v (comes_there s k dir l bytes sound at among)
+
+-- ---- nothing is full
+
+-- the systems of what is held
+abbrev systems_held : List (LspId × Entry) → List SystemId
+systems_held es = map (λ e. e.0.system) es
+
+-- one that is among them, and its place
+record IsFound (x : SystemId) (es : List (LspId × Entry)) : Type 0 where
+  place : ℕ
+  entry : LspId × Entry
+  at : slice_get es place ≡ Some entry
+  is : x ≡ entry.0.system
+
+found : (x : SystemId) (es : List (LspId × Entry)) → IsAmong x (systems_held es) → IsFound x es
+found x [] among = absurd among
+found x (e ∷ es) (inl here) = record { place = 0; entry = e; at = refl; is = here }
+found x (e ∷ es) (inr there) = let more = found x es there in record { place = suc more.place; entry = more.entry; at = more.at; is = more.is }
+
+-- each id is the own one of its system
+abbrev AreNumbered : List (LspId × Entry) → Type 0
+AreNumbered es = (k : ℕ) (e : LspId × Entry) → slice_get es k ≡ Some e → e.0 ≡ own_id e.0.system
+
+systems_once : (es : List (LspId × Entry)) → is_sorted id_cmp es ≡ true → AreNumbered es → IsDistinct (systems_held es)
+systems_once [] sorted numbered = tt
+systems_once (e ∷ es) sorted numbered =
+    let parts = and_parts (below_all id_cmp e.0 es) (is_sorted id_cmp es) sorted in
+    (λ among. twice parts.0 (found e.0.system es among), systems_once es parts.1 (λ k d at. numbered (suc k) d at))
+  where
+    twice : below_all id_cmp e.0 es ≡ true → IsFound e.0.system es → ⊥
+    twice below other =
+        let same : e.0 ≡ other.entry.0 = numbered zero e refl ∙ (ap own_id other.is ∙ sym (numbered (suc other.place) other.entry other.at)) in
+        let tied = tied_same e.0 other.entry.0 same in
+        let less = below_at e.0 es other.place other.entry below other.at in
+        absurd cc
+
+-- a bridge holds few LSPs
+pub few_held : (s : State) (i : ℕ) (v : BridgeView) → IsSoundState s → IsCounted s → slice_get s.views i ≡ Some v → length (entries v.database) ≤ 96
+few_held s i v sound counted at =
+    let es : List (LspId × Entry) = entries v.database in
+    let once = systems_once es (true_from_T _ (entries_sorted v.database)) (λ k e there. numbered k e there) in
+    let within = length-within (systems_held es) (systems_of (graph_bridges s.world.bridges)) once (λ x among. declared x (found x es among)) in
+    omega (arith, within, sound.world.few, length-map es (λ (e : LspId × Entry). e.0.system), lengths s.world.bridges)
+  where
+    owner : (k : ℕ) (e : LspId × Entry) → slice_get (entries v.database) k ≡ Some e → IsOwnOf s.world.bridges e.0
+    owner k e there = counted.by.held i v e.0 e.1 at (get_place v.database k e there)
+
+    numbered : (k : ℕ) (e : LspId × Entry) → slice_get (entries v.database) k ≡ Some e → e.0 ≡ own_id e.0.system
+    numbered k e there =
+        let own = owner k e there in
+        let is : e.0 ≡ own_id own.bridge.bridge.id.system = own_is own.bridge.bridge.id.system e.0 own.own in
+        is ∙ ap own_id (sym (ap (λ (x : LspId). x.system) is))
+
+    declared : (x : SystemId) → IsFound x (entries v.database) → IsAmong x (systems_of (graph_bridges s.world.bridges))
+    declared x other =
+        let own = owner other.place other.entry other.at in
+        let is : x ≡ own.bridge.bridge.id.system = other.is ∙ ap (λ (y : LspId). y.system) (own_is own.bridge.bridge.id.system other.entry.0 own.own) in
+        subst (λ (y : SystemId). IsAmong y (systems_of (graph_bridges s.world.bridges))) (sym is) (among_at s.world.bridges own.place own.bridge own.there)
+
+    lengths : (bs : Bridges) → length (systems_of (graph_bridges bs)) ≡ length bs
+    lengths [] = refl
+    lengths (b ∷ bs) = ap suc (lengths bs)
+
+or_right : (b c : Bool) → c ≡ true → (b || c) ≡ true
+or_right true c is = refl
+or_right false c is = is
+
+has_place : (db : Lsps) (id : LspId) (o : Option Entry) → length (entries db) ≤ 96 → lacks_place db id o ≡ false
+has_place db id None few = refl
+has_place db id (Some e) few = ap not (or_right (contains_key db id) (nat_lt (len db) MOST_LSPS) (lt-ltb (len db) MOST_LSPS (omega (arith, few, len-entries db))))
+
+pub nothing_is_full : NothingIsFull
+unfolding is_full
+nothing_is_full s i v rule up c sound counted at = has_place v.database c.id _ (few_held s i v sound counted at)
+
+-- ---- some network is counted
+
+some_from : (w : SomeNetworkIsBusy) → length w.commands ≤ most_commands → SomeCountedIsBusy
+some_from w few =
+    let start : State = opening w.rule w.rack in
+    let all = all_counted start w.commands (opening_sound w.rule w.rack) (opening_counted w.rule w.rack) w.addressed w.accepted (omega (arith, few)) in
+    record {
+      state = played_all start w.commands;
+      sound = networks_are_sound w.rule w.rack w.commands w.addressed w.accepted;
+      counted = all.0;
+      few = all.1;
+      busy = w.busy;
+    }
+
+pub some_counted_is_busy : SomeCountedIsBusy
+some_counted_is_busy = some_from busy few_commands

@@ -1,0 +1,233 @@
+-- After a restart the bridge is what its configuration makes, with carrier on its links that are up.
+use Rattle.std.proofs.Common.{◌≡◌, ◌≢◌, inl, inr, ◌≤◌, ◌<◌, ◌+◌, ℕ, zero, suc, Bool, true, false, true≢false, List, [], ◌∷◌, length, refl, sym, ap, ◌∙◌, subst, Option, Some, None, slice_get, remove, arith}
+use Rattle.std.specs.Prelude.{◌==◌, ◌&&◌, nat_lt, if◌then◌else◌}
+use Rattle.std.proofs.lemmas.Bool.{eqb-true, ltb-true, leb-true}
+use Rattle.spb_types.specs.declared.address.BridgeId.{BridgeId}
+use Rattle.spb_types.specs.declared.address.LspId.{LspId}
+use Rattle.lsdb.specs.declared.version.Version.{Version}
+use Rattle.lsdb.specs.declared.version.Version.TheVariants.{Absent, Live, Dead}
+use Rattle.lsdb.specs.Entry.{Entry}
+use Rattle.lsdb.specs.Version.{number_of, leq, IsAtMost}
+use Rattle.lsdb.specs.Database.{version_at, version_in}
+use Rattle.flooding.specs.Own.{own_id, IsOwnNumber}
+use Rattle.spb_types.specs.Places.{changed_at}
+use Rattle.bridge_api.specs.declared.config.BridgeConfig.{BridgeConfig}
+use Rattle.bridge_api.specs.View.{BridgeView}
+use Rattle.bridge_api.specs.Config.{IsWhole, configured}
+use Rattle.bridge_api.specs.Step as comes
+use Rattle.bridge_api.specs.Step.{carrier, step}
+use Rattle.bridge_api.specs.Laws.{IsSoundView}
+use Rattle.bridge_laws.specs.Counting.{IsFar}
+use Rattle.bridge_api.proofs.Places.{got_at}
+use Rattle.bridge_laws.proofs.HeldIds.{own_is}
+use Rattle.bridge_laws.proofs.FewHeld.{configured_holds_few}
+use Rattle.spb_world.specs.declared.declaration.DeclaredBridge.{DeclaredBridge}
+use Rattle.spb_world.specs.declared.declaration.DeclaredLink.{DeclaredLink}
+use Rattle.spb_world.specs.declared.declaration.LinkEnd.{LinkEnd}
+use Rattle.spb_world.specs.World.{World, things_of}
+use Rattle.network_model.specs.State.{State, Spare, links_of}
+use Rattle.network_model.specs.Events.{with_carrier_at_end, flushed}
+use Rattle.network_model.specs.Restarting.{restart_config, link_cut, cut_link, cut_from, with_link_carrier, with_carriers_from, replaced, restarted_in, restarted_as, restarted, box_at}
+use Rattle.spb_world.specs.Links.{ends_here, end_here, end_away}
+use Rattle.network_model.specs.Sound.{IsSoundState}
+use Rattle.network_model.specs.RestartLaws.{with_carriers, number_in, IsNew, RestartIsNew}
+use Rattle.network_model.proofs.BridgeLaws.{configured_is_sound, configured_holds_own, steps_stay_sound, steps_keep_bridge, steps_carry_database, steps_originate, steps_dont_spend}
+use Rattle.network_model.proofs.FitsLemmas.{link_there}
+use Rattle.network_model.proofs.SentLanes.{stepped_rest}
+use Rattle.network_model.proofs.SoundEvents.{core_of, stepped_views, with_carrier_world}
+use Rattle.network_model.proofs.CountedMoves.{is_within, shown_at}
+use Rattle.network_model.proofs.RestartCut.{and_both, either, leads_away, here_is, world-cut_from, Sound-cut_from}
+use Rattle.network_model.proofs.RestartConfig.{restart_whole}
+use Rattle.network_model.proofs.RestartSound.{world-with_carriers_from}
+
+-- ---- the rack
+
+rack_carrier : (on : Bool) (s : State) (e : LinkEnd) → (with_carrier_at_end on s e).rack ≡ s.rack
+rack_carrier on s e = ap (λ (t : State). t.rack) (stepped_rest (comes.carrier e.port on) s e.bridge)
+
+rack_cut : (s : State) (k : ℕ) (e : LinkEnd) (b : Bool) → (if b then link_cut s k e else s).rack ≡ s.rack
+rack_cut s k e true = rack_carrier true (with_carrier_at_end false (flushed s k) e) e ∙ rack_carrier false (flushed s k) e
+rack_cut s k e false = refl
+
+rack_cut_link : (s : State) (i k : ℕ) (o : Option DeclaredLink) → (cut_link s i k o).rack ≡ s.rack
+rack_cut_link s i k None = refl
+rack_cut_link s i k (Some l) = rack_cut s k (end_away l i) (ends_here l i)
+
+rack_cut_from : (n k i : ℕ) (s : State) → (cut_from n k i s).rack ≡ s.rack
+rack_cut_from zero k i s = refl
+rack_cut_from (suc n) k i s = rack_cut_from n (k + 1) i (cut_link s i k (slice_get (links_of s) k)) ∙ rack_cut_link s i k (slice_get (links_of s) k)
+
+rack_carrier_if : (s : State) (e : LinkEnd) (b : Bool) → (if b then with_carrier_at_end true s e else s).rack ≡ s.rack
+rack_carrier_if s e true = rack_carrier true s e
+rack_carrier_if s e false = refl
+
+rack_link_carrier : (s : State) (i : ℕ) (o : Option DeclaredLink) → (with_link_carrier s i o).rack ≡ s.rack
+rack_link_carrier s i None = refl
+rack_link_carrier s i (Some l) = rack_carrier_if s (end_here l i) (ends_here l i)
+
+rack_carriers_from : (n k i : ℕ) (s : State) → (with_carriers_from n k i s).rack ≡ s.rack
+rack_carriers_from zero k i s = refl
+rack_carriers_from (suc n) k i s = rack_carriers_from n (k + 1) i (with_link_carrier s i (slice_get (links_of s) k)) ∙ rack_link_carrier s i (slice_get (links_of s) k)
+
+-- ---- the view
+
+get_changed : {X : Type 0} (f : X → X) (xs : List X) (i : ℕ) (x : X) → slice_get xs i ≡ Some x → slice_get (changed_at f xs i) i ≡ Some (f x)
+get_changed f [] i x at = absurd cc
+get_changed f (y ∷ xs) zero x at = let same : y ≡ x = cc in ap (λ z. Some (f z)) same
+get_changed f (y ∷ xs) (suc i) x at = get_changed f xs i x at
+
+-- each of these links is one of the network's, from place k on
+abbrev AreFrom : List DeclaredLink → ℕ → List DeclaredLink → Type 0
+AreFrom links k ls = (m : ℕ) (l : DeclaredLink) → slice_get ls m ≡ Some l → slice_get links (k + m) ≡ Some l
+
+-- and has two different ends
+abbrev HaveTwoEnds : List DeclaredLink → Type 0
+HaveTwoEnds links = (m : ℕ) (l : DeclaredLink) → slice_get links m ≡ Some l → l.a.bridge ≢ l.b.bridge
+
+view_with_carrier_if : (s : State) (i : ℕ) (l : DeclaredLink) (v : BridgeView) (b : Bool) → ends_here l i ≡ b → l.a.bridge ≢ l.b.bridge → slice_get s.views i ≡ Some v → slice_get (if b then with_carrier_at_end true s (end_here l i) else s).views i ≡ Some (if b then step (carrier (end_here l i).port true) v else v)
+view_with_carrier_if s i l v true here apart at =
+    let e : LinkEnd = end_here l i in
+    let leads = leads_away l i here in
+    let place : e.bridge ≡ i = ap (λ (f : LinkEnd). f.bridge) (here_is l i leads.dir apart leads.near) ∙ leads.near in
+    ap (λ (vs : List BridgeView). slice_get vs i) (stepped_views (comes.carrier e.port true) s e.bridge)
+    ∙ (ap (λ (j : ℕ). slice_get (changed_at (step (carrier e.port true)) s.views j) i) place
+    ∙ get_changed (step (carrier e.port true)) s.views i v at)
+view_with_carrier_if s i l v false here apart at = at
+
+world_if : (s : State) (e : LinkEnd) (b : Bool) → (if b then with_carrier_at_end true s e else s).world ≡ s.world
+world_if s e true = with_carrier_world true s e
+world_if s e false = refl
+
+view_with_link_carrier : (s : State) (i : ℕ) (l : DeclaredLink) (o : Option DeclaredLink) (v : BridgeView) → o ≡ Some l → l.a.bridge ≢ l.b.bridge → slice_get s.views i ≡ Some v → slice_get (with_link_carrier s i o).views i ≡ Some (if ends_here l i then step (carrier (end_here l i).port true) v else v)
+view_with_link_carrier s i l None v is apart at = absurd cc
+view_with_link_carrier s i l (Some m) v is apart at =
+    let same : l ≡ m = cc in
+    subst (λ (h : DeclaredLink). slice_get (with_link_carrier s i (Some h)).views i ≡ Some (if ends_here l i then step (carrier (end_here l i).port true) v else v)) same (view_with_carrier_if s i l v (ends_here l i) refl apart at)
+
+world_of_link_carrier : (s : State) (i : ℕ) (o : Option DeclaredLink) → (with_link_carrier s i o).world ≡ s.world
+world_of_link_carrier s i None = refl
+world_of_link_carrier s i (Some l) = world_if s (end_here l i) (ends_here l i)
+
+view_with_carriers : (ls : List DeclaredLink) (k i : ℕ) (s : State) (v : BridgeView) → AreFrom (links_of s) k ls → HaveTwoEnds ls → slice_get s.views i ≡ Some v → slice_get (with_carriers_from (length ls) k i s).views i ≡ Some (with_carriers ls i v)
+view_with_carriers [] k i s v from two at = at
+view_with_carriers (l ∷ ls) k i s v from two at =
+    let t : State = with_link_carrier s i (slice_get (links_of s) k) in
+    let here : k ≡ k + 0 = omega arith in
+    let first : slice_get (links_of s) k ≡ Some l = ap (slice_get (links_of s)) here ∙ from zero l refl in
+    let world : t.world ≡ s.world = world_of_link_carrier s i (slice_get (links_of s) k) in
+    view_with_carriers ls (k + 1) i t (if ends_here l i then step (carrier (end_here l i).port true) v else v)
+    (λ m h there.
+    let next : k + 1 + m ≡ k + suc m = omega arith in
+    ap (λ (w : World). slice_get (things_of w.links) (k + 1 + m)) world ∙ (ap (slice_get (links_of s)) next ∙ from (suc m) h there))
+    (λ m h there. two (suc m) h there)
+    (view_with_link_carrier s i l (slice_get (links_of s) k) v first (two zero l refl) at)
+
+-- ---- the number
+
+rises : (a h : Version) → IsAtMost a h → number_of a ≤ number_of h
+unfolding leq
+rises Absent h at = omega arith
+rises (Live n x) Absent at = absurd (true≢false (sym at))
+rises (Live n x) (Live m y) at =
+    elim (either (nat_lt n m) ((n == m) && (x == y)) at) [
+      | inl less ↦ omega (arith, ltb-true n m less)
+      | inr same ↦ let equal = eqb-true n m (and_both (n == m) (x == y) same).0 in omega (arith, equal)
+    ]
+rises (Live n x) (Dead m) at = leb-true n m at
+rises (Dead n) Absent at = absurd (true≢false (sym at))
+rises (Dead n) (Live m y) at = omega (arith, ltb-true n m at)
+rises (Dead n) (Dead m) at = leb-true n m at
+
+-- a bridge whose own LSP has number 1
+record IsBegun (v : BridgeView) : Type 0 where
+  sound : IsSoundView v
+  fresh : v.spent ≡ false
+  number : number_in v ≡ 1
+
+begun_step : (v : BridgeView) (p : ℕ) → IsBegun v → IsBegun (step (carrier p true) v)
+begun_step v p begun =
+    let id : LspId = own_id v.id.system in
+    let own : IsOwnNumber v.id.system id = record { number = 0; below = omega arith; is = refl } in
+    let far : IsFar (carrier p true) v = record {
+      fresh = begun.fresh;
+      own = λ x other. let same = ap (λ (y : LspId). number_of (version_at v.database y)) (own_is v.id.system x other) in omega (arith, same, begun.number);
+      claims = λ x a claimed. absurd claimed;
+    } in
+    let w : BridgeView = step (carrier p true) v in
+    let high : number_of (version_at w.database id) ≤ number_of (version_at v.database id) + 0 = steps_originate (carrier p true) v id own begun.sound far refl in
+    let low : number_of (version_at v.database id) ≤ number_of (version_at w.database id) = rises (version_at v.database id) (version_at w.database id) ((steps_carry_database (carrier p true) v begun.sound).rises id) in
+    let same : number_in w ≡ number_of (version_at w.database id) = ap (λ (x : BridgeId). number_of (version_at w.database (own_id x.system))) (steps_keep_bridge (carrier p true) v).id in
+    record {
+      sound = steps_stay_sound (carrier p true) v tt begun.sound;
+      fresh = steps_dont_spend (carrier p true) v begun.sound far;
+      number = omega (arith, high, low, same, begun.number);
+    }
+
+begun_if : (v : BridgeView) (p : ℕ) (b : Bool) → IsBegun v → IsBegun (if b then step (carrier p true) v else v)
+begun_if v p true begun = begun_step v p begun
+begun_if v p false begun = begun
+
+begun_carriers : (ls : List DeclaredLink) (i : ℕ) (v : BridgeView) → IsBegun v → IsBegun (with_carriers ls i v)
+begun_carriers [] i v begun = begun
+begun_carriers (l ∷ ls) i v begun = begun_carriers ls i (if ends_here l i then step (carrier (end_here l i).port true) v else v) (begun_if v (end_here l i).port (ends_here l i) begun)
+
+begun_new : (c : BridgeConfig) → IsWhole c → IsBegun (configured c)
+begun_new c whole = record {
+  sound = configured_is_sound c whole;
+  fresh = (configured_holds_few c).unspent;
+  number = ap (λ (o : Option Entry). number_of (version_in o)) (configured_holds_own c).own;
+}
+
+-- ---- the restart
+
+new_in : (s : State) (i : ℕ) (b : DeclaredBridge) (place : ℕ) → IsSoundState s → slice_get (things_of s.world.bridges) i ≡ Some b → IsNew s (restarted_in s i (restart_config s i b) place) i b place
+new_in s i b place sound there = record {
+  view = view_with_carriers (links_of s) 0 i u (configured c) from (λ m l at. (link_there s m l sound.world at).apart) (got_at t.views i (configured c) within);
+  number = (begun_carriers (links_of s) i (configured c) (begun_new c (restart_whole s i b sound there))).number;
+  rack = rack_carriers_from n 0 i u ∙ ap (λ (rack : List Spare). remove rack place) (rack_cut_from n 0 i s);
+  world = world-with_carriers_from n 0 i u ∙ world;
+}
+  where
+    n : ℕ
+    n = length (links_of s)
+
+    c : BridgeConfig
+    c = restart_config s i b
+
+    t : State
+    t = cut_from n 0 i s
+
+    u : State
+    u = replaced t i c place
+
+    world : t.world ≡ s.world
+    world = world-cut_from n 0 i s
+
+    after : IsSoundState t
+    after = Sound-cut_from n 0 i s sound
+
+    view : (v : BridgeView) × (slice_get t.views i ≡ Some v) × (v.id ≡ b.bridge.id)
+    view = shown_at t i b (core_of t after) (ap (λ (w : World). slice_get (things_of w.bridges) i) world ∙ there)
+
+    within : i < length t.views
+    within = is_within t.views i view.0 view.1
+
+    from : AreFrom (links_of u) 0 (links_of s)
+    from m l at =
+        let same : 0 + m ≡ m = omega arith in
+        ap (slice_get (links_of u)) same ∙ (ap (λ (w : World). slice_get (things_of w.links) m) world ∙ at)
+
+new_as : (s : State) (i : ℕ) (b : DeclaredBridge) (place : ℕ) (o : Option DeclaredBridge) (box : Option ℕ) → IsSoundState s → slice_get (things_of s.world.bridges) i ≡ Some b → o ≡ Some b → box ≡ Some place → IsNew s (restarted_as s i o box) i b place
+new_as s i b place o box sound there found boxed = subst (λ (t : State). IsNew s t i b place) (sym (λ k. restarted_as s i (found k) (boxed k))) (new_in s i b place sound there)
+
+none_as : (s : State) (i : ℕ) (o : Option DeclaredBridge) (box : Option ℕ) → box ≡ None → restarted_as s i o box ≡ s
+none_as s i None box none = refl
+none_as s i (Some b) None none = refl
+none_as s i (Some b) (Some place) none = absurd cc
+
+pub restart_is_new : RestartIsNew
+unfolding restarted
+restart_is_new = record {
+  new = λ s i b place sound there box. new_as s i b place (slice_get (things_of s.world.bridges) i) (box_at s i) sound there there box;
+  spent = λ s i none. none_as s i (slice_get (things_of s.world.bridges) i) (box_at s i) none;
+}

@@ -1,0 +1,12 @@
+/// Which conditions of quiet hold.
+#[derive(Clone, Copy)]
+pub struct Conditions {
+    /// Both ends of each link that is up are Up with each other, and no other port is Up.
+    pub links: bool,
+    /// No frame is on its way.
+    pub lanes: bool,
+    /// No bridge has a flag.
+    pub flags: bool,
+    /// No two bridges hold different bodies under one LSP id with one live version.
+    pub bodies: bool,
+}

@@ -1,5 +1,0 @@
-use Rattle.spb_network.proofs.RestartNew.{restart_is_new}
-use Rattle.spb_network.proofs.laws.a_restart_begins_anew.Goals as goal
-
-pub returns : goal.returns
-returns c = restart_is_new

@@ -1,8 +1,0 @@
-use Rattle.spb_network.proofs.Wired.{sound_is_wired, networks_are_wired}
-use Rattle.spb_network.proofs.laws.wiring_gives_tables.Goals as goal
-
-pub returns-clause-sound : goal.returns-clause-sound
-returns-clause-sound c = sound_is_wired
-
-pub returns-clause-always : goal.returns-clause-always
-returns-clause-always c = networks_are_wired

@@ -1,0 +1,295 @@
+-- What is attached to one bridge, among all that is attached.
+use Rattle.std.proofs.Common.{◌≡◌, ◌≢◌, ◌<◌, ◌≤◌, ◌+◌, ℕ, zero, suc, ◌-◌, Bool, true, false, true≢false, not, ◌&&◌, ◌||◌, ◌==◌, List, [], ◌∷◌, ◌++◌, length, map, filter, take, drop, get_or, nat_lt, nat_le, cond, Some, None, if◌then◌else◌, refl, sym, ap, ◌∙◌, arith}
+use Rattle.std.specs.Prelude.{nat_eq}
+use Rattle.std.specs.List.{AllByRecursion, list_any, filter_map, cons_option, position, position_or_len}
+use Rattle.std.proofs.lemmas.Bool.{eqb-true, eq-eqb, ne_eqb, le-leb}
+use Rattle.std.proofs.lemmas.Bool.Decides.{nat_tests}
+use Rattle.std.proofs.lemmas.Grind.{common_steps}
+use Rattle.std.proofs.lemmas.List.{take_more, take_all, drop_all, length-drop}
+use Rattle.std.proofs.lemmas.List.Elements.{filter_map-append}
+use Rattle.std.proofs.lemmas.List.Sums.{fails_before_first}
+use Rattle.spb_types.specs.declared.service.Attachment.{Attachment}
+use Rattle.bridge_api.specs.Config.{ArePairwise, different}
+use Rattle.bridge_api.specs.Services.{without_customer_port}
+use Rattle.spb_world.specs.World.{World, Attachments, attachment_at, IsAttachedIn, AreAtTwoPorts, Sound}
+use Rattle.spb_world.specs.Attaching.{is_attached, is_member, isids_of, different_isids, isids_with, has_isid_room, IsNewAttachment, with_attachment_at, is_elsewhere, without_attachment_at}
+use Rattle.spb_world.proofs.ListLemmas.{All-push}
+use Rattle.spb_world.proofs.ServiceLemmas.{pairwise-push}
+
+-- those of the bridge at a place
+abbrev those : ℕ → Attachments → List Attachment
+those i xs = filter_map (attachment_at i) xs
+
+-- ---- tests
+
+-- an I-SID is one of those that are attached
+abbrev pub has_isid : List Attachment → ℕ → Bool
+has_isid attached isid = list_any (nat_eq isid) (isids_of attached)
+
+pub any_at : (p : Attachment → Bool) (i : ℕ) (xs : Attachments) → list_any (λ x. (x.0 == i) && p x.1) xs ≡ list_any p (filter_map (attachment_at i) xs)
+any_at p i [] = refl
+any_at p i (x ∷ xs) = by (x.0 == i) (any_at p i xs)
+  where
+    by : (b : Bool) → list_any (λ y. (y.0 == i) && p y.1) xs ≡ list_any p (filter_map (attachment_at i) xs) → ((b && p x.1) || list_any (λ y. (y.0 == i) && p y.1) xs) ≡ list_any p (cons_option (if b then Some x.1 else None) (filter_map (attachment_at i) xs))
+    by true rest = ap (λ (c : Bool). p x.1 || c) rest
+    by false rest = rest
+
+-- whether a port is attached is told by what is attached at its bridge
+pub port_of : (i port : ℕ) (xs ys : Attachments) → those i xs ≡ those i ys → is_attached xs i port ≡ is_attached ys i port
+port_of i port xs ys same =
+    any_at (λ (a : Attachment). a.port == port) i xs ∙ (ap (list_any (λ (a : Attachment). a.port == port)) same ∙ sym (any_at (λ (a : Attachment). a.port == port) i ys))
+
+-- ---- from the first on
+
+skipped : (i n : ℕ) (xs : Attachments) → ((k : ℕ) (d : ℕ × Attachment) → k < n → ((get_or xs k d).0 == i) ≡ false) → those i (drop n xs) ≡ those i xs
+skipped i zero xs before = refl
+skipped i (suc n) [] before = refl
+skipped i (suc n) (x ∷ xs) before =
+    skipped i n xs (λ k d low. before (suc k) d (omega (arith, low)))
+    ∙ sym (ap (λ (b : Bool). cons_option (if b then Some x.1 else None) (those i xs)) (before zero x (omega arith)))
+
+abbrev is_here : ℕ → ℕ × Attachment → Bool
+is_here i x = x.0 == i
+
+pub from_some : (i first : ℕ) (xs : Attachments) → position (λ x. x.0 == i) xs ≡ Some first → those i (take (length xs - first) (drop first xs)) ≡ those i xs
+from_some i first xs is =
+    let at : position_or_len (is_here i) xs ≡ first = grind (arith, common_steps) in
+    ap (those i) (take_all (length xs - first) (drop first xs) (omega (arith, length-drop first xs)))
+    ∙ skipped i first xs (λ k d low. fails_before_first (is_here i) xs k d (omega (arith, at, low)))
+
+pub from_none : (i : ℕ) (xs : Attachments) → position (λ x. x.0 == i) xs ≡ None → [] ≡ those i xs
+from_none i xs is =
+    let long : length xs ≤ position_or_len (is_here i) xs = grind (arith, common_steps) in
+    ap (those i) (sym (drop_all (length xs) xs (omega arith)))
+    ∙ skipped i (length xs) xs (λ k d low. fails_before_first (is_here i) xs k d (omega (arith, long, low)))
+
+any_map : {X Y : Type 0} (p : Y → Bool) (f : X → Y) (xs : List X) → list_any (λ x. p (f x)) xs ≡ list_any p (map f xs)
+any_map p f [] = refl
+any_map p f (x ∷ xs) = ap (λ (c : Bool). p (f x) || c) (any_map p f xs)
+
+pub isid_at : (isid i : ℕ) (xs : Attachments) → is_member xs i isid ≡ has_isid (filter_map (attachment_at i) xs) isid
+isid_at isid i xs = any_at (λ a. nat_eq isid a.isid.value) i xs ∙ any_map (nat_eq isid) (λ (a : Attachment). a.isid.value) (those i xs)
+
+-- ---- what holds of each
+
+pub all_at : (P : Attachment → Type 0) (i : ℕ) (xs : Attachments) → AllByRecursion (λ x. x.0 ≡ i → P x.1) xs → AllByRecursion P (filter_map (attachment_at i) xs)
+all_at P i [] all = tt
+all_at P i (x ∷ xs) all = by (x.0 == i) refl (all_at P i xs all.1)
+  where
+    by : (b : Bool) → (x.0 == i) ≡ b → AllByRecursion P (filter_map (attachment_at i) xs) → AllByRecursion P (cons_option (if b then Some x.1 else None) (filter_map (attachment_at i) xs))
+    by true here rest = (all.0 (eqb-true x.0 i here), rest)
+    by false away rest = rest
+
+-- ---- one more
+
+pub pushed_here : (i : ℕ) (xs : Attachments) (a : Attachment) → filter_map (attachment_at i) (xs ++ (i, a) ∷ []) ≡ filter_map (attachment_at i) xs ++ a ∷ []
+pushed_here i xs a =
+    filter_map-append (attachment_at i) xs ((i, a) ∷ [])
+    ∙ ap (λ (b : Bool). those i xs ++ cons_option (if b then Some a else None) []) (eq-eqb i i refl)
+
+append-none : {X : Type 0} (xs : List X) → xs ++ [] ≡ xs
+append-none [] = refl
+append-none (x ∷ xs) = ap (λ l. x ∷ l) (append-none xs)
+
+pub pushed_away : (i j : ℕ) (xs : Attachments) (a : Attachment) → j ≢ i → filter_map (attachment_at j) (xs ++ (i, a) ∷ []) ≡ filter_map (attachment_at j) xs
+pushed_away i j xs a apart =
+    filter_map-append (attachment_at j) xs ((i, a) ∷ [])
+    ∙ (ap (λ (b : Bool). those j xs ++ cons_option (if b then Some a else None) []) (ne_eqb i j (λ e. apart (sym e)))
+    ∙ append-none (those j xs))
+
+-- ---- one fewer
+
+pub fewer_here : (i port : ℕ) (xs : Attachments) → filter_map (attachment_at i) (filter (is_elsewhere i port) xs) ≡ without_customer_port port (filter_map (attachment_at i) xs)
+fewer_here i port [] = refl
+fewer_here i port (x ∷ xs) = by (x.0 == i) refl (fewer_here i port xs)
+  where
+    left : Attachments
+    left = filter (is_elsewhere i port) xs
+
+    at : (c : Bool) → (x.0 == i) ≡ true → those i left ≡ without_customer_port port (those i xs) → those i (cond (not (true && c)) (x ∷ left) left) ≡ cond (not c) (x.1 ∷ without_customer_port port (those i xs)) (without_customer_port port (those i xs))
+    at true here rest = rest
+    at false here rest = ap (λ (b : Bool). cons_option (if b then Some x.1 else None) (those i left)) here ∙ ap (λ (l : List Attachment). x.1 ∷ l) rest
+
+    by : (b : Bool) → (x.0 == i) ≡ b → those i left ≡ without_customer_port port (those i xs) → those i (cond (not (b && (x.1.port == port))) (x ∷ left) left) ≡ without_customer_port port (cons_option (if b then Some x.1 else None) (those i xs))
+    by true here rest = at (x.1.port == port) here rest
+    by false away rest = ap (λ (b : Bool). cons_option (if b then Some x.1 else None) (those i left)) away ∙ rest
+
+pub fewer_away : (i j port : ℕ) (xs : Attachments) → j ≢ i → filter_map (attachment_at j) (filter (is_elsewhere i port) xs) ≡ filter_map (attachment_at j) xs
+fewer_away i j port [] apart = refl
+fewer_away i j port (x ∷ xs) apart = by (x.0 == i) refl (fewer_away i j port xs apart)
+  where
+    left : Attachments
+    left = filter (is_elsewhere i port) xs
+
+    other : (x.0 == i) ≡ true → (x.0 == j) ≡ false
+    other here = ne_eqb x.0 j (λ e. apart (sym e ∙ eqb-true x.0 i here))
+
+    at : (c : Bool) → (x.0 == j) ≡ false → those j left ≡ those j xs → those j (cond (not (true && c)) (x ∷ left) left) ≡ cons_option (attachment_at j x) (those j xs)
+    at true away rest = rest ∙ ap (λ (b : Bool). cons_option (if b then Some x.1 else None) (those j xs)) (sym away)
+    at false away rest = ap (λ (l : List Attachment). cons_option (attachment_at j x) l) rest
+
+    by : (b : Bool) → (x.0 == i) ≡ b → those j left ≡ those j xs → those j (cond (not (b && (x.1.port == port))) (x ∷ left) left) ≡ cons_option (attachment_at j x) (those j xs)
+    by true here rest = at (x.1.port == port) (other here) rest
+    by false away rest = ap (λ (l : List Attachment). cons_option (attachment_at j x) l) rest
+
+-- ---- different I-SIDs
+
+any_or : (b c d : Bool) → ((b || c) || d) ≡ (b || (c || d))
+any_or true c d = refl
+any_or false c d = refl
+
+any_push : (k n : ℕ) (ks : List ℕ) → list_any (nat_eq k) (ks ++ n ∷ []) ≡ (list_any (nat_eq k) ks || nat_eq k n)
+any_push k n [] = by (nat_eq k n)
+  where
+    by : (b : Bool) → (b || false) ≡ b
+    by true = refl
+    by false = refl
+any_push k n (l ∷ ks) = ap (λ (b : Bool). nat_eq k l || b) (any_push k n ks) ∙ sym (any_or (nat_eq k l) (list_any (nat_eq k) ks) (nat_eq k n))
+
+turned : (n m : ℕ) (b : Bool) → nat_eq m n ≡ b → nat_eq n m ≡ b
+turned n m true same = eq-eqb n m (sym (eqb-true m n same))
+turned n m false apart = ne_eqb n m (λ e. true≢false (sym (eq-eqb m n (sym e)) ∙ apart))
+
+-- the lengths, by what of the numbers is among the others and whether the two are one
+lengths : (n m : ℕ) (a b e : Bool) (rest more : List ℕ) → (e ≡ true → a ≡ b) → length more ≡ length (if b then rest else n ∷ rest) → length (if a || e then more else m ∷ more) ≡ length (if e || b then (if a then rest else m ∷ rest) else n ∷ (if a then rest else m ∷ rest))
+lengths n m true true true rest more same is = is
+lengths n m false false true rest more same is = is
+lengths n m true false true rest more same is = absurd (true≢false (same refl))
+lengths n m false true true rest more same is = absurd (true≢false (sym (same refl)))
+lengths n m true true false rest more same is = is
+lengths n m true false false rest more same is = is
+lengths n m false true false rest more same is = ap suc is
+lengths n m false false false rest more same is = ap suc is
+
+-- a number more goes last, or first
+more_different : (n : ℕ) (ns : List ℕ) → length (different (ns ++ n ∷ [])) ≡ length (different (n ∷ ns))
+more_different n [] = refl
+more_different n (m ∷ ns) = by (nat_eq m n) refl (more_different n ns)
+  where
+    by : (e : Bool) → nat_eq m n ≡ e → length (different (ns ++ n ∷ [])) ≡ length (different (n ∷ ns)) → length (different ((m ∷ ns) ++ n ∷ [])) ≡ length (different (n ∷ m ∷ ns))
+    by e is rest =
+        let alike : e ≡ true → list_any (nat_eq m) ns ≡ list_any (nat_eq n) ns = λ t. ap (λ (k : ℕ). list_any (nat_eq k) ns) (eqb-true m n (is ∙ t)) in
+        ap (λ (b : Bool). length (if b then different (ns ++ n ∷ []) else m ∷ different (ns ++ n ∷ []))) (any_push m n ns ∙ ap (λ (b : Bool). list_any (nat_eq m) ns || b) is)
+        ∙ (lengths n m (list_any (nat_eq m) ns) (list_any (nat_eq n) ns) e (different ns) (different (ns ++ n ∷ [])) alike rest
+        ∙ ap (λ (b : Bool). length (if b || list_any (nat_eq n) ns then different (m ∷ ns) else n ∷ different (m ∷ ns))) (sym (turned n m e is)))
+
+map-push : {X Y : Type 0} (f : X → Y) (xs : List X) (x : X) → map f (xs ++ x ∷ []) ≡ map f xs ++ f x ∷ []
+map-push f [] x = refl
+map-push f (y ∷ ys) x = ap (λ l. f y ∷ l) (map-push f ys x)
+
+-- so it is of the I-SIDs that are attached, with one more
+pub isids_pushed : (attached : List Attachment) (a : Attachment) → length (different (map (λ (x : Attachment). x.isid.value) (attached ++ a ∷ []))) ≡ length (isids_with attached a.isid.value)
+isids_pushed attached a = ap (λ (ns : List ℕ). length (different ns)) (map-push (λ (x : Attachment). x.isid.value) attached a) ∙ more_different a.isid.value (isids_of attached)
+
+add_one : (n : ℕ) → suc n ≡ n + 1
+add_one n = omega arith
+
+-- where it is new, it is one more
+pub isid_new : (attached : List Attachment) (isid : ℕ) → has_isid attached isid ≡ false → length (isids_with attached isid) ≡ length (different_isids attached) + 1
+isid_new attached isid new = ap (λ (b : Bool). length (if b then different_isids attached else isid ∷ different_isids attached)) new ∙ add_one (length (different_isids attached))
+
+pub isid_old : (attached : List Attachment) (isid : ℕ) → has_isid attached isid ≡ true → length (isids_with attached isid) ≡ length (different_isids attached)
+isid_old attached isid old = ap (λ (b : Bool). length (if b then different_isids attached else isid ∷ different_isids attached)) old
+
+-- one thing more of all that is attached
+pub isids_more : (i : ℕ) (xs : Attachments) (x : ℕ × Attachment) (first : Bool) → first ≡ ((x.0 == i) && not (is_member xs i x.1.isid.value)) → length (different_isids (filter_map (attachment_at i) (xs ++ x ∷ []))) ≡ (if first then length (different_isids (filter_map (attachment_at i) xs)) + 1 else length (different_isids (filter_map (attachment_at i) xs)))
+isids_more i xs x first is = ap (λ (l : List Attachment). length (different_isids l)) (filter_map-append (attachment_at i) xs (x ∷ [])) ∙ by (x.0 == i) (has_isid (those i xs) x.1.isid.value) refl first (is ∙ ap (λ (b : Bool). (x.0 == i) && not b) (isid_at x.1.isid.value i xs))
+  where
+    of : (h : Bool) → has_isid (those i xs) x.1.isid.value ≡ h → length (isids_with (those i xs) x.1.isid.value) ≡ (if not h then length (different_isids (those i xs)) + 1 else length (different_isids (those i xs)))
+    of true old = isid_old (those i xs) x.1.isid.value old
+    of false new = isid_new (those i xs) x.1.isid.value new
+
+    by : (b h : Bool) → has_isid (those i xs) x.1.isid.value ≡ h → (f : Bool) → f ≡ (b && not h) → length (different_isids (those i xs ++ cons_option (if b then Some x.1 else None) [])) ≡ (if f then length (different_isids (those i xs)) + 1 else length (different_isids (those i xs)))
+    by true h was f e = isids_pushed (those i xs) x.1 ∙ (of h was ∙ ap (λ (g : Bool). if g then length (different_isids (those i xs)) + 1 else length (different_isids (those i xs))) (sym e))
+    by false h was f e = ap (λ (l : List Attachment). length (different_isids l)) (append-none (those i xs)) ∙ ap (λ (g : Bool). if g then length (different_isids (those i xs)) + 1 else length (different_isids (those i xs))) (sym e)
+
+pub count_more : (i k : ℕ) (xs : Attachments) (d : ℕ × Attachment) (first : Bool) (old new : ℕ) → k < length xs → first ≡ (((get_or xs k d).0 == i) && not (is_member (take k xs) i (get_or xs k d).1.isid.value)) → old ≡ length (different_isids (filter_map (attachment_at i) (take k xs))) → new ≡ (if first then old + 1 else old) → new ≡ length (different_isids (filter_map (attachment_at i) (take (k + 1) xs)))
+count_more i k xs d first old new low first_is old_is new_is =
+    new_is
+    ∙ (ap (λ (n : ℕ). if first then n + 1 else n) old_is
+    ∙ (sym (isids_more i (take k xs) (get_or xs k d) first first_is)
+    ∙ ap (λ (l : Attachments). length (different_isids (those i l))) (sym (take_more xs k d low))))
+
+-- of fewer ports there are fewer I-SIDs
+different_few : (ns : List ℕ) → length (different ns) ≤ length ns
+different_few [] = omega arith
+different_few (n ∷ ns) = by (list_any (nat_eq n) ns) (different_few ns)
+  where
+    by : (b : Bool) → length (different ns) ≤ length ns → length (if b then different ns else n ∷ different ns) ≤ length (n ∷ ns)
+    by true few = omega (arith, few)
+    by false few = omega (arith, few)
+
+isids_few : (attached : List Attachment) → length (isids_of attached) ≡ length attached
+isids_few [] = refl
+isids_few (a ∷ attached) = ap suc (isids_few attached)
+
+pub room_few : (attached : List Attachment) (isid count : ℕ) → count ≡ length attached → count < 60 → true ≡ has_isid_room attached isid
+unfolding has_isid_room
+room_few attached isid count is few = sym (le-leb _ _ (omega (arith, is, few, different_few (isid ∷ isids_of attached), isids_few attached)))
+
+-- whether there is room, by how many there are
+pub room_old : (i : ℕ) (xs : Attachments) (isid count : ℕ) (member : Bool) → member ≡ is_member xs i isid → member ≡ true → count ≡ length (different_isids (filter_map (attachment_at i) xs)) → nat_le count 60 ≡ has_isid_room (filter_map (attachment_at i) xs) isid
+unfolding has_isid_room
+room_old i xs isid count member is old count_is =
+    ap (λ (n : ℕ). nat_le n 60) (count_is ∙ sym (isid_old (those i xs) isid (sym (isid_at isid i xs) ∙ (sym is ∙ old))))
+
+lt_le : (a b : ℕ) → nat_lt a b ≡ nat_le (a + 1) b
+lt_le a b = grind (arith, nat_tests)
+
+pub room_new : (i : ℕ) (xs : Attachments) (isid count : ℕ) (member : Bool) → member ≡ is_member xs i isid → member ≡ false → count ≡ length (different_isids (filter_map (attachment_at i) xs)) → nat_lt count 60 ≡ has_isid_room (filter_map (attachment_at i) xs) isid
+unfolding has_isid_room
+room_new i xs isid count member is new count_is =
+    lt_le count 60
+    ∙ ap (λ (n : ℕ). nat_le n 60) (ap (λ (n : ℕ). n + 1) count_is ∙ sym (isid_new (those i xs) isid (sym (isid_at isid i xs) ∙ (sym is ∙ new))))
+
+-- ---- what is declared stays sound
+
+pub Sound-with_attachment : (w : World) (i : ℕ) (a : Attachment) → Sound w → IsNewAttachment w (i, a) → Sound (with_attachment_at w i a)
+unfolding with_attachment_at
+Sound-with_attachment w i a sound new = record {
+  few = sound.few;
+  ports = sound.ports;
+  systems = sound.systems;
+  links = sound.links;
+  links_apart = sound.links_apart;
+  plans = sound.plans;
+  few_vids = sound.few_vids;
+  each_vid = sound.each_vid;
+  services = sound.services;
+  services_apart = sound.services_apart;
+  attached = All-push (IsAttachedIn w.bridges w.services) w.attached (i, a) sound.attached new.attached;
+  attached_apart = pairwise-push AreAtTwoPorts w.attached (i, a) sound.attached_apart new.apart;
+}
+
+all_fewer : {X : Type 0} (P : X → Type 0) (p : X → Bool) (xs : List X) → AllByRecursion P xs → AllByRecursion P (filter p xs)
+all_fewer P p [] all = tt
+all_fewer P p (x ∷ xs) all = by (p x) (all_fewer P p xs all.1)
+  where
+    by : (b : Bool) → AllByRecursion P (filter p xs) → AllByRecursion P (cond b (x ∷ filter p xs) (filter p xs))
+    by true rest = (all.0, rest)
+    by false rest = rest
+
+pairwise_fewer : {X : Type 0} (R : X → X → Type 0) (p : X → Bool) (xs : List X) → ArePairwise R xs → ArePairwise R (filter p xs)
+pairwise_fewer R p [] apart = tt
+pairwise_fewer R p (x ∷ xs) apart = by (p x) (pairwise_fewer R p xs apart.1)
+  where
+    by : (b : Bool) → ArePairwise R (filter p xs) → ArePairwise R (cond b (x ∷ filter p xs) (filter p xs))
+    by true rest = (all_fewer (R x) p xs apart.0, rest)
+    by false rest = rest
+
+pub Sound-without_attachment : (w : World) (i port : ℕ) → Sound w → Sound (without_attachment_at w i port)
+unfolding without_attachment_at
+Sound-without_attachment w i port sound = record {
+  few = sound.few;
+  ports = sound.ports;
+  systems = sound.systems;
+  links = sound.links;
+  links_apart = sound.links_apart;
+  plans = sound.plans;
+  few_vids = sound.few_vids;
+  each_vid = sound.each_vid;
+  services = sound.services;
+  services_apart = sound.services_apart;
+  attached = all_fewer (IsAttachedIn w.bridges w.services) (is_elsewhere i port) w.attached sound.attached;
+  attached_apart = pairwise_fewer AreAtTwoPorts (is_elsewhere i port) w.attached sound.attached_apart;
+}

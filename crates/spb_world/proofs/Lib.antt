@@ -1,0 +1,14 @@
+pub mod ListLemmas
+pub mod PlaceLemmas
+pub mod NameLemmas
+pub mod ServiceLemmas
+pub mod WorldLemmas
+pub mod AttachedLemmas
+pub mod RefusalLemmas
+pub mod MemberLemmas
+pub mod ValidLemmas
+pub mod BoxLemmas
+pub mod LaneLemmas
+pub mod SoundLaneIds
+pub mod ConfigLemmas
+pub mod HintLemmas
