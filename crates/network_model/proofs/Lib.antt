@@ -18,8 +18,6 @@ pub mod SoundConfigured
 pub mod SoundNames
 pub mod SoundPlay
 pub mod SoundWitness
-pub mod Standing
-pub mod StandingSteps
 pub mod SoundMeeting
 pub mod Wired
 pub mod Linked

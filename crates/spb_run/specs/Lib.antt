@@ -1,16 +1,1 @@
-pub mod Answer
-pub mod Applied
-pub mod Play
-pub mod Replying
-pub mod Text
-pub mod Commands
-pub mod States
-pub mod Pieces
-pub mod Break
-pub mod Output
-pub mod Run
 pub mod Words
-pub mod Running
-pub mod Making
-pub mod Trying
-pub mod MadeLaws

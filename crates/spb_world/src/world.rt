@@ -252,7 +252,7 @@ impl World {
 
     /// The actual wiring: all bridges, an edge for each link that is up, and a member for each bridge and service that
     /// a customer port of the bridge is attached to.
-    fn graph(&self, alloc: Global) -> Result<Graph, NoMemory>
+    pub fn graph(&self, alloc: Global) -> Result<Graph, NoMemory>
         ensures { IfOk result (λ graph. graph ≡ state.world_graph self.now) }
     {
         let bridges = graph_bridges(alloc, &self.bridges)?;

@@ -3,7 +3,7 @@ ghost use Rattle.std.specs.Prelude.{◌≡◌, ℕ, [], OnOk};
 ghost use Rattle.bridge_api.specs.Config.{IsWhole};
 ghost use Rattle.spb_network.specs.Network.{state_of};
 ghost use Rattle.network_model.specs.State.{IsPortAt};
-ghost use Rattle.spb_run.specs.Replying.{IsAlive};
+ghost use Rattle.script_run.specs.Replying.{IsAlive};
 
 use super::asking_box::AskingBox;
 use super::examples::{TWO_SERVICES, TWO_SERVICES_OUT};

@@ -2,12 +2,12 @@ use Rattle.std.proofs.Common.{◌≡◌, ◌≢◌, ◌⊎◌, inl, inr, ℕ, So
 use Rattle.network_model.specs.declared.kind_rule.KindRule.{KindRule}
 use Rattle.spb_network.specs.Network.{state_of}
 use Rattle.network_model.specs.State.{State}
-use Rattle.spb_run.specs.declared.status.Status.{Status}
-use Rattle.spb_run.specs.declared.status.Status.TheVariants.{NoMemory, WriteFault}
+use Rattle.script_run.specs.declared.status.Status.{Status}
+use Rattle.script_run.specs.declared.status.Status.TheVariants.{NoMemory, WriteFault}
 use Rattle.spb_run.specs.declared.words.Form.TheVariants.{Run, Try}
-use Rattle.spb_run.specs.Running.{Runs}
-use Rattle.spb_run.specs.States.{ruled}
-use Rattle.spb_run.specs.Trying.{Tries}
+use Rattle.script_run.specs.Running.{Runs}
+use Rattle.script_run.specs.States.{ruled}
+use Rattle.made_runs.specs.Trying.{Tries}
 use Rattle.spb_run.proofs.runner.run.Goals as goal
 
 one_rule : (a b : KindRule) → Some (Run a) ≡ Some (Run b) → a ≡ b

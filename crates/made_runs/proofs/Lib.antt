@@ -1,0 +1,10 @@
+pub mod Standing
+pub mod StandingSteps
+pub mod Applying
+pub mod MadeRuns
+pub mod MadeBridges
+pub mod MadeLinks
+pub mod MadeServices
+pub mod MadeDeclared
+pub mod MadeEvents
+pub mod Tried

@@ -1,0 +1,4 @@
+pub mod Applied
+pub mod Making
+pub mod Trying
+pub mod MadeLaws

@@ -1,0 +1,206 @@
+-- The commands of lines, what leaves by them, and what is delivered.
+use Rattle.std.proofs.Common.{◌≡◌, ℕ, ◌+◌, ◌≤◌, List, [], ◌∷◌, ◌++◌, length, refl, sym, ap, ◌∙◌, subst, append_assoc, arith, Option, Some, None, IfSome, Result, Ok, Err}
+use Rattle.std.specs.List.{AllByRecursion}
+use Rattle.std.proofs.lemmas.List.{length-append}
+use Rattle.scenario.specs.declared.command.Command.{Command}
+use Rattle.scenario.specs.declared.command.Command.TheVariants as command
+use Rattle.scenario.specs.declared.cutter.Stop.{Stop}
+use Rattle.scenario.specs.declared.cutter.Stop.TheVariants as stop
+use Rattle.scenario.specs.Grammar.{line_of}
+use Rattle.bridge_api.specs.Shown.{Shown}
+use Rattle.spb_network.specs.declared.network.NetworkOf.{NetworkOf}
+use Rattle.spb_world.specs.declared.reason.Reason.{Reason}
+use Rattle.network_model.specs.Isolation.{LastLeavesEntered}
+use Rattle.network_model.specs.Counted.{most_commands}
+use Rattle.spb_network.specs.Network.{state_of}
+use Rattle.network_model.specs.Once.{IsPassage, LeavesOnce}
+use Rattle.network_model.specs.Play.{next_state, played_all}
+use Rattle.network_model.specs.Quiet.{IsQuiet}
+use Rattle.network_model.specs.Refusing.{refusal_of}
+use Rattle.network_model.specs.Sound.{opening}
+use Rattle.network_model.specs.SoundLaws.{IsAddressed, AreAccepted}
+use Rattle.network_model.specs.State.{State}
+use Rattle.network_model.proofs.ApartLaws.{services_stay_apart}
+use Rattle.network_model.proofs.OnceLaws.{networks_deliver_once}
+use Rattle.script_run.specs.declared.refusal.Refusal.{Refusal}
+use Rattle.script_run.specs.Commands.{LinesPlayCommands, AllLeaveEntered, AllDeliverOnce}
+use Rattle.script_run.specs.Play.{Judged, judged, judged_by, judged_as}
+use Rattle.script_run.specs.Replying.{IsNew}
+use Rattle.script_run.specs.Text.{Played, joined, concluded, play, lines_played, commands_joined, commands_in}
+use Rattle.script_run.proofs.Addressed.{IsRead, line_read}
+use Rattle.script_run.proofs.Taking.{lines_few}
+
+-- ---- one line
+
+-- the commands are read from lines and accepted, and lead from one state to the other
+record Leads (s : State) (cs : List Command) (t : State) : Type 0 where
+  read : AllByRecursion IsRead cs
+  accepted : AreAccepted s cs
+  state : t ≡ played_all s cs
+
+leads_nothing : (s : State) → Leads s [] s
+leads_nothing s = record { read = tt; accepted = tt; state = refl }
+
+leads_by : (s : State) (number : ℕ) (c : Command) (o : Option Reason) → refusal_of s c ≡ o → IsRead c → Leads s (judged_by s number c o).commands (judged_by s number c o).state
+leads_by s number c (Some reason) is addressed = leads_nothing s
+leads_by s number c None is addressed = record { read = (addressed, tt); accepted = (is, tt); state = refl }
+
+leads_as : (s : State) (number : ℕ) (r : Result (Option Command) ℕ) → ((c : Command) → r ≡ Ok (Some c) → IsRead c) → Leads s (judged_as s number r).commands (judged_as s number r).state
+leads_as s number (Err column) addressed = leads_nothing s
+leads_as s number (Ok None) addressed = leads_nothing s
+leads_as s number (Ok (Some c)) addressed = leads_by s number c (refusal_of s c) refl (addressed c refl)
+
+line_leads : (s : State) (number : ℕ) (line : List ℕ) → Leads s (judged s number line).commands (judged s number line).state
+unfolding judged
+line_leads s number line = leads_as s number (line_of line) (line_read line)
+
+-- ---- lines
+
+all_more : (cs ds : List Command) → AllByRecursion IsRead cs → AllByRecursion IsRead ds → AllByRecursion IsRead (cs ++ ds)
+all_more [] ds here later = later
+all_more (c ∷ cs) ds here later = (here.0, all_more cs ds here.1 later)
+
+accepted_more : (s : State) (cs ds : List Command) → AreAccepted s cs → AreAccepted (played_all s cs) ds → AreAccepted s (cs ++ ds)
+accepted_more s [] ds here later = later
+accepted_more s (c ∷ cs) ds here later = (here.0, accepted_more (next_state s c) cs ds here.1 later)
+
+played_more : (s : State) (cs ds : List Command) → played_all s (cs ++ ds) ≡ played_all (played_all s cs) ds
+played_more s [] ds = refl
+played_more s (c ∷ cs) ds = played_more (next_state s c) cs ds
+
+leads_more : (s t u : State) (cs ds : List Command) → Leads s cs t → Leads t ds u → Leads s (cs ++ ds) u
+leads_more s t u cs ds here later =
+    let there : Leads (played_all s cs) ds u = subst (λ (v : State). Leads v ds u) here.state later in
+    record {
+      read = all_more cs ds here.read there.read;
+      accepted = accepted_more s cs ds here.accepted there.accepted;
+      state = there.state ∙ sym (played_more s cs ds);
+    }
+
+leads_joined : (s : State) (number : ℕ) (j : Judged) (o : Option Refusal) (p : Played) (ds : List Command) → Leads s j.commands j.state → Leads j.state ds p.state → Leads s (commands_joined j.commands o ds) (joined number j o p).state
+leads_joined s number j None p ds here later = leads_more s j.state p.state j.commands ds here later
+leads_joined s number j (Some why) p ds here later = here
+
+leads_concluded : (s : State) (number : ℕ) (end : Option Stop) → Leads s [] (concluded s number end).state
+leads_concluded s number None = leads_nothing s
+leads_concluded s number (Some stop.Long) = leads_nothing s
+leads_concluded s number (Some stop.Over) = leads_nothing s
+
+lines_lead : (s : State) (number : ℕ) (ls : List (List ℕ)) (end : Option Stop) → Leads s (commands_in s number ls) (play s number ls end).state
+lines_lead s number [] end = leads_concluded s number end
+lines_lead s number (line ∷ ls) end =
+    leads_joined s number (judged s number line) (judged s number line).refused
+    (play (judged s number line).state (number + 1) ls end) (commands_in (judged s number line).state (number + 1) ls)
+    (line_leads s number line) (lines_lead (judged s number line).state (number + 1) ls end)
+
+pub lines_play_commands : LinesPlayCommands
+lines_play_commands s number ls = record { accepted = (lines_lead s number ls None).accepted; state = λ end. (lines_lead s number ls end).state }
+
+-- ---- fronts and backs
+
+all_addressed : (cs : List Command) → AllByRecursion IsRead cs → AllByRecursion IsAddressed cs
+all_addressed [] all = tt
+all_addressed (c ∷ cs) all = (all.0.0, all_addressed cs all.1)
+
+all_front : (cs ds : List Command) → AllByRecursion IsRead (cs ++ ds) → AllByRecursion IsRead cs
+all_front [] ds all = tt
+all_front (c ∷ cs) ds all = (all.0, all_front cs ds all.1)
+
+all_back : (cs ds : List Command) → AllByRecursion IsRead (cs ++ ds) → AllByRecursion IsRead ds
+all_back [] ds all = all
+all_back (c ∷ cs) ds all = all_back cs ds all.1
+
+accepted_front : (s : State) (cs ds : List Command) → AreAccepted s (cs ++ ds) → AreAccepted s cs
+accepted_front s [] ds all = tt
+accepted_front s (c ∷ cs) ds all = (all.0, accepted_front (next_state s c) cs ds all.1)
+
+accepted_back : (s : State) (cs ds : List Command) → AreAccepted s (cs ++ ds) → AreAccepted (played_all s cs) ds
+accepted_back s [] ds all = all
+accepted_back s (c ∷ cs) ds all = accepted_back (next_state s c) cs ds all.1
+
+-- ---- what leaves
+
+-- each of the commands, with those before it, is a front of all
+all_leave_entered : (s : State) (cs : List Command) → s ≡ opening s.rule s.rack → AllByRecursion IsRead cs → AreAccepted s cs → AllLeaveEntered s cs
+all_leave_entered s cs new read accepted before c later split =
+    let whole : cs ≡ (before ++ c ∷ []) ++ later = split ∙ sym (append_assoc before (c ∷ []) later) in
+    let each : AllByRecursion IsRead (before ++ c ∷ []) = all_front (before ++ c ∷ []) later (subst (AllByRecursion IsRead) whole read) in
+    let taken : AreAccepted s (before ++ c ∷ []) = accepted_front s (before ++ c ∷ []) later (subst (AreAccepted s) whole accepted) in
+    subst (λ (t : State). LastLeavesEntered t before c) (sym new)
+    (services_stay_apart s.rule s.rack before c (all_addressed (before ++ c ∷ []) each) (subst (λ (t : State). AreAccepted t (before ++ c ∷ [])) new taken))
+
+-- ---- what is delivered
+
+-- the commands before the frame lead to the quiet network; it and those behind it are a passage
+all_deliver_once : (s : State) (cs : List Command) → s ≡ opening s.rule s.rack → AllByRecursion IsRead cs → AreAccepted s cs → length cs ≤ most_commands
+    → AllDeliverOnce s cs
+all_deliver_once s cs new read accepted few before onward later name b p f split quiet group onwards empty named =
+    let enters : Command = command.Frame name p f in
+    let rest : List Command = (enters ∷ onward) ++ later in
+    let whole : cs ≡ before ++ rest = split ∙ append_assoc before (enters ∷ onward) later in
+    let all : AllByRecursion IsRead (before ++ rest) = subst (AllByRecursion IsRead) whole read in
+    let taken : AreAccepted s (before ++ rest) = subst (AreAccepted s) whole accepted in
+    let short : length before ≤ most_commands = omega (arith, few, ap length whole, length-append before rest) in
+    let first : AreAccepted s before = accepted_front s before rest taken in
+    let next : AreAccepted (played_all s before) (enters ∷ onward) =
+    accepted_front (played_all s before) (enters ∷ onward) later (accepted_back s before rest taken) in
+    let passes : IsPassage (played_all s before) name p f onward = record {
+      octets = (all_back before rest all).0.1;
+      group = group;
+      onward = onwards;
+      accepted = next;
+      delivered = empty;
+    } in
+    let from : State = opening s.rule s.rack in
+    let once : LeavesOnce (played_all from before) = networks_deliver_once s.rule s.rack before
+    (all_addressed before (all_front before rest all))
+    (subst (λ (t : State). AreAccepted t before) new first) short (subst (λ (t : State). IsQuiet (played_all t before)) new quiet) in
+    subst (λ (t : State). LeavesOnce (played_all t before)) (sym new) once name b p f onward named passes
+
+-- each line plays one command at most
+commands_of_one : (s : State) (number : ℕ) (r : Result (Option Command) ℕ) → length (judged_as s number r).commands ≤ 1
+commands_of_one s number (Err column) = omega arith
+commands_of_one s number (Ok None) = omega arith
+commands_of_one s number (Ok (Some c)) = by_refusal s number c (refusal_of s c)
+  where
+    by_refusal : (s : State) (number : ℕ) (c : Command) (o : Option Reason) → length (judged_by s number c o).commands ≤ 1
+    by_refusal s number c None = omega arith
+    by_refusal s number c (Some reason) = omega arith
+
+line_commands : (s : State) (number : ℕ) (line : List ℕ) → length (judged s number line).commands ≤ 1
+unfolding judged
+line_commands s number line = commands_of_one s number (line_of line)
+
+joined_few : (here later : List Command) (o : Option Refusal) (n : ℕ) → length here ≤ 1 → length later ≤ n → length (commands_joined here o later) ≤ n + 1
+joined_few here later None n one more = omega (arith, one, more, length-append here later)
+joined_few here later (Some why) n one more = omega (arith, one)
+
+commands_few : (s : State) (number : ℕ) (ls : List (List ℕ)) → length (commands_in s number ls) ≤ length ls
+commands_few s number [] = omega arith
+commands_few s number (line ∷ ls) =
+    let next : State = (judged s number line).state in
+    let more = joined_few (judged s number line).commands (commands_in next (number + 1) ls) (judged s number line).refused (length ls)
+    (line_commands s number line) (commands_few next (number + 1) ls) in
+    omega (arith, more)
+
+module _ {B : Type 0} (shown : B → Shown) (n : NetworkOf B) (new : IsNew shown n) where
+  lines_apart : (ls : List (List ℕ)) → AllLeaveEntered (state_of shown n) (commands_in (state_of shown n) 1 ls)
+  lines_apart ls =
+      let s : State = state_of shown n in
+      let all = lines_lead s 1 ls None in
+      all_leave_entered s (commands_in s 1 ls) new.opening all.read all.accepted
+
+  pub script_apart : (left : Option (List ℕ)) → IfSome left (λ script. AllLeaveEntered (state_of shown n) (commands_in (state_of shown n) 1 (lines_played script)))
+  script_apart None = tt
+  script_apart (Some script) = lines_apart (lines_played script)
+
+  script_delivers : (script : List ℕ) → AllDeliverOnce (state_of shown n) (commands_in (state_of shown n) 1 (lines_played script))
+  script_delivers script =
+      let s : State = state_of shown n in
+      let all = lines_lead s 1 (lines_played script) None in
+      all_deliver_once s (commands_in s 1 (lines_played script)) new.opening all.read all.accepted
+      (omega (arith, commands_few s 1 (lines_played script), lines_few script))
+
+  pub script_once : (left : Option (List ℕ)) → IfSome left (λ script. AllDeliverOnce (state_of shown n) (commands_in (state_of shown n) 1 (lines_played script)))
+  script_once None = tt
+  script_once (Some script) = script_delivers script

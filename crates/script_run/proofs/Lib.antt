@@ -1,0 +1,9 @@
+pub mod Writing
+pub mod Taking
+pub mod Going
+pub mod Reading
+pub mod Counting
+pub mod Addressed
+pub mod Completing
+pub mod Telling
+pub mod Commands

@@ -1,0 +1,81 @@
+-- Every state that an accepted line leaves tells, where it is quiet.
+use Rattle.std.proofs.Common.{◌≡◌, false, true, ◌≤◌, ◌+◌, ℕ, List, [], ◌∷◌, length, refl, sym, ap, ◌∙◌, true≢false, ⊎_elim, Option, Some, None, IfSome, Result, Ok, Err, arith}
+use Rattle.scenario.specs.declared.command.Command.{Command}
+use Rattle.scenario.specs.Grammar.{line_of}
+use Rattle.bridge_api.specs.Shown.{Shown}
+use Rattle.spb_network.specs.declared.network.NetworkOf.{NetworkOf}
+use Rattle.spb_world.specs.declared.reason.Reason.{Reason}
+use Rattle.spb_network.specs.Applying.{IsSoundNetwork}
+use Rattle.spb_network.specs.Network.{state_of}
+use Rattle.network_model.specs.State.{State}
+use Rattle.network_model.specs.Refusing.{refusal_of}
+use Rattle.network_model.specs.Sound.{IsSoundState}
+use Rattle.network_model.specs.SoundLaws.{IsAddressed}
+use Rattle.network_model.specs.Counted.{IsCounted, most_commands}
+use Rattle.network_model.proofs.SoundPlay.{commands_keep_sound}
+use Rattle.network_model.proofs.CountedStays.{stays_counted}
+use Rattle.network_model.proofs.Telling.{counted_networks_tell}
+use Rattle.script_run.specs.declared.refusal.Refusal.{Refusal}
+use Rattle.script_run.specs.Play.{judged, judged_by, judged_as}
+use Rattle.script_run.specs.Replying.{IsNew}
+use Rattle.script_run.specs.States.{IsTrusted}
+use Rattle.script_run.specs.Text.{lines_played, IfAccepted, AllStates}
+use Rattle.script_run.proofs.Addressed.{line_addressed}
+use Rattle.script_run.proofs.Counting.{line_one}
+use Rattle.script_run.proofs.Taking.{lines_few}
+
+-- ---- what stays so
+
+record IsKept (s : State) : Type 0 where
+  sound : IsSoundState s
+  counted : s.accepted ≤ most_commands → IsCounted s
+
+kept_by : (s : State) (number : ℕ) (c : Command) (o : Option Reason) → refusal_of s c ≡ o → IsAddressed c → IsKept s → IsKept (judged_by s number c o).state
+kept_by s number c (Some reason) is addressed kept = kept
+kept_by s number c None is addressed kept = record { sound = commands_keep_sound s c kept.sound addressed is; counted = stays_counted s c kept.sound kept.counted is }
+
+kept_as : (s : State) (number : ℕ) (r : Result (Option Command) ℕ) → ((c : Command) → r ≡ Ok (Some c) → IsAddressed c) → IsKept s → IsKept (judged_as s number r).state
+kept_as s number (Err column) addressed kept = kept
+kept_as s number (Ok None) addressed kept = kept
+kept_as s number (Ok (Some c)) addressed kept = kept_by s number c (refusal_of s c) refl (addressed c refl) kept
+
+line_kept : (s : State) (number : ℕ) (line : List ℕ) → IsKept s → IsKept (judged s number line).state
+unfolding judged
+line_kept s number line kept = kept_as s number (line_of line) (line_addressed line) kept
+
+-- ---- the states of a script
+
+if_accepted : {P : Type 0} (o : Option Refusal) → P → IfAccepted o P
+if_accepted None holds = holds
+if_accepted (Some why) holds = tt
+
+trusted : (s : State) → IsKept s → s.accepted ≤ most_commands → IsTrusted s
+trusted s kept few =
+    let counted = kept.counted few in
+    record { sound = kept.sound; counted = counted; told = counted_networks_tell s kept.sound counted }
+
+all_tell : (s : State) (number : ℕ) (ls : List (List ℕ)) → IsKept s → s.accepted + length ls ≤ most_commands → AllStates IsTrusted s number ls
+all_tell s number [] kept few = tt
+all_tell s number (line ∷ ls) kept few =
+    let next : State = (judged s number line).state in
+    let later : IsKept next = line_kept s number line kept in
+    let one : next.accepted ≤ s.accepted + 1 = line_one s number line in
+    if_accepted (judged s number line).refused (
+      trusted next later (omega (arith, few, one)),
+      all_tell next (number + 1) ls later (omega (arith, few, one)),
+    )
+
+module _ {B : Type 0} (shown : B → Shown) (n : NetworkOf B) (new : IsNew shown n) where
+  kept : IsKept (state_of shown n)
+  kept =
+      let sound : IsSoundNetwork shown n = ⊎_elim (λ h. absurd (true≢false (sym h ∙ new.alive.halted))) (λ m. m) new.alive.ready in
+      record { sound = sound.state; counted = sound.counted }
+
+  lines_tell : (script : List ℕ) → AllStates IsTrusted (state_of shown n) 1 (lines_played script)
+  lines_tell script =
+      let none : (state_of shown n).accepted ≡ 0 = ap (λ (s : State). s.accepted) new.opening in
+      all_tell (state_of shown n) 1 (lines_played script) kept (omega (arith, none, lines_few script))
+
+  pub script_tells : (left : Option (List ℕ)) → IfSome left (λ script. AllStates IsTrusted (state_of shown n) 1 (lines_played script))
+  script_tells None = tt
+  script_tells (Some script) = lines_tell script

@@ -1,0 +1,11 @@
+pub mod Answer
+pub mod Play
+pub mod Replying
+pub mod Text
+pub mod Commands
+pub mod States
+pub mod Pieces
+pub mod Break
+pub mod Output
+pub mod Run
+pub mod Running

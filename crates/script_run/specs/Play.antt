@@ -1,0 +1,60 @@
+-- What one line of a script does.
+use Rattle.std.specs.Prelude.{ℕ, List, [], ◌∷◌, Option, Some, None, Result, Ok, Err, codes}
+use Rattle.report.specs.Lines.{error_text}
+use Rattle.scenario.specs.declared.command.Command.{Command}
+use Rattle.scenario.specs.Grammar.{line_of}
+use Rattle.spb_world.specs.declared.reason.Reason.{Reason}
+use Rattle.network_model.specs.Play.{next_state, answer_of}
+use Rattle.spb_world.specs.Reason.{reason_number, name_of}
+use Rattle.network_model.specs.Refusing.{refusal_of}
+use Rattle.network_model.specs.State.{State}
+use Rattle.script_run.specs.Answer.{text_of_answer}
+use Rattle.script_run.specs.declared.refusal.Refusal.{Refusal}
+use Rattle.script_run.specs.declared.refusal.Refusal.TheVariants as refusal
+
+-- a line judged: the bytes that it writes, why it is refused where it is, the commands that it plays, and the network's
+-- state after it
+pub record Judged : Type 0 where
+  pub text : List ℕ
+  pub refused : Option Refusal
+  pub commands : List Command
+  pub state : State
+
+-- what is written of a line that is outside the grammar at a column
+abbrev pub misspelled_text : ℕ → ℕ → List ℕ
+misspelled_text number column = error_text number 1 (codes "Words") (Some column)
+
+-- a line that is outside the grammar at a column
+abbrev pub misspelled : State → ℕ → ℕ → Judged
+misspelled s number column = record {
+  text = misspelled_text number column;
+  refused = Some (refusal.Words column);
+  commands = [];
+  state = s;
+}
+
+-- a command, by the reason for which it is refused
+abbrev pub judged_by : State → ℕ → Command → Option Reason → Judged
+judged_by s number command (Some reason) =
+    record {
+      text = error_text number (reason_number reason) (name_of reason) None;
+      refused = Some (refusal.Command reason);
+      commands = [];
+      state = s;
+    }
+judged_by s number command None = record {
+  text = text_of_answer (answer_of s command);
+  refused = None;
+  commands = command ∷ [];
+  state = next_state s command;
+}
+
+-- a line, by what it was read as
+abbrev pub judged_as : State → ℕ → Result (Option Command) ℕ → Judged
+judged_as s number (Err column) = misspelled s number column
+judged_as s number (Ok None) = record { text = []; refused = None; commands = []; state = s }
+judged_as s number (Ok (Some command)) = judged_by s number command (refusal_of s command)
+
+-- the line of this number, counted from 1, without its end
+unfoldable pub judged : State → ℕ → List ℕ → Judged
+judged s number line = judged_as s number (line_of line)

@@ -1,0 +1,93 @@
+ghost use Rattle.std.specs.Prelude.{◌≡◌, Some, None, codes, IfOk, OnOk};
+ghost use Rattle.report.specs.Lines as texts;
+ghost use Rattle.spb_network.specs.Applying.{IsReady};
+ghost use Rattle.spb_network.specs.Network.{state_of};
+ghost use Rattle.spb_world.specs.Reason as reasons;
+ghost use Rattle.network_model.specs.Refusing as refuse;
+ghost use Rattle.script_run.specs.Play as play;
+ghost use Rattle.script_run.specs.Replying.{Replies, IsAlive};
+ghost use Rattle.script_run.specs.declared.refusal.Refusal.TheVariants as refusal;
+
+use crate::Refusal;
+use crate::answer::answer_text;
+use crate::reply::Reply;
+use bridge_api::Bridge;
+use report::error_text;
+use scenario::{Command, LineError, parse_line};
+use spb_network::{ApplyError, NetworkOf, Reason};
+use spb_types::NoMemory;
+use std::alloc::Global;
+
+/// The reply to a line that is outside the grammar from a column on.
+pub(crate) fn misspelled(alloc: Global, number: u32, column: usize) -> Result<Reply, NoMemory>
+    ensures { IfOk result (λ reply. (reply.text.items ≡ play.misspelled_text number column)
+        × (reply.refused ≡ Some (refusal.Words column))) }
+{
+    Ok(Reply {
+        text: error_text(alloc, number, 1, "Words", Some(column))?,
+        refused: Some(Refusal::Words(column)),
+    })
+}
+
+/// The reply to a command that is refused.
+fn refused(alloc: Global, number: u32, reason: Reason) -> Result<Reply, NoMemory>
+    ensures { IfOk result (λ reply. (reply.text.items ≡ texts.error_text number (reasons.reason_number reason) (reasons.name_of reason) None)
+        × (reply.refused ≡ Some (refusal.Command reason))) }
+{
+    Ok(Reply {
+        text: error_text(alloc, number, reason.number(), reason.name(), None)?,
+        refused: Some(Refusal::Command(reason)),
+    })
+}
+
+/// Plays a command that a line gave.
+fn play_command<B: Bridge>(
+    alloc: Global,
+    network: &mut NetworkOf<B>,
+    number: u32,
+    command: &Command,
+) -> Result<Reply, NoMemory>
+    requires { IsAlive B.shown network.old }
+    ensures ok { IfOk result (λ reply. Replies
+        (play.judged_by (state_of B.shown network.old) number command.now
+        (refuse.refusal_of (state_of B.shown network.old) command.now))
+        reply (state_of B.shown network.new)) }
+    ensures alive { OnOk result (IsAlive B.shown network.new) }
+    ensures ready { IsReady B.shown network.new }
+{
+    match network.apply(command) {
+        Ok(answer) => Ok(Reply {
+            text: answer_text(alloc, &answer)?,
+            refused: None,
+        }),
+        Err(ApplyError::Refused(reason)) => refused(alloc, number, reason),
+        Err(ApplyError::Halted | ApplyError::NoMemory) => Err(NoMemory),
+    }
+}
+
+/// Judges and plays the line of this number, counted from 1, given without its end. After NoMemory nothing is said of
+/// the network.
+#[tactic(auto, unfolding(crate::specs::Play::judged))]
+pub(crate) fn play_line<B: Bridge>(
+    alloc: Global,
+    network: &mut NetworkOf<B>,
+    number: u32,
+    line: &[u8],
+) -> Result<Reply, NoMemory>
+    requires { IsAlive B.shown network.old }
+    ensures ok { IfOk result (λ reply. Replies
+        (play.judged (state_of B.shown network.old) number line.now)
+        reply (state_of B.shown network.new)) }
+    ensures alive { OnOk result (IsAlive B.shown network.new) }
+    ensures ready { IsReady B.shown network.new }
+{
+    match parse_line(alloc, line) {
+        Ok(Some(command)) => play_command(alloc, network, number, &command),
+        Ok(None) => Ok(Reply {
+            text: Vec::new(alloc),
+            refused: None,
+        }),
+        Err(LineError::Words(column)) => misspelled(alloc, number, column),
+        Err(LineError::NoMemory) => Err(NoMemory),
+    }
+}
