@@ -21,10 +21,10 @@ pub mod SoundWitness
 pub mod SoundMeeting
 pub mod Wired
 pub mod Linked
-pub mod Told
+pub mod QuietRead
 pub mod Wires
 pub mod Spoken
-pub mod ToldLinks
+pub mod QuietReadLinks
 pub mod Reached
 pub mod SentLanes
 pub mod Delivered
@@ -60,7 +60,7 @@ pub mod QuietLaws
 pub mod QuietTruth
 pub mod QuietPaths
 pub mod AtRest
-pub mod Telling
+pub mod Convergence
 pub mod QuietStates
 pub mod QuietWitness
 pub mod ApartBridge

@@ -53,7 +53,7 @@ use Rattle.network_model.proofs.SoundAttaching.{found_high}
 use Rattle.network_model.proofs.SoundLane.{some-is}
 use Rattle.spb_world.proofs.SoundLaneIds.{turned, near-turned}
 use Rattle.network_model.proofs.Spoken.{place_low, system_is}
-use Rattle.network_model.proofs.ToldLinks.{port_is, systems_apart}
+use Rattle.network_model.proofs.QuietReadLinks.{port_is, systems_apart}
 use Rattle.spb_world.proofs.MemberLemmas.{member_attached}
 use Rattle.spb_world.proofs.ValidLemmas.{place_from, valid_for}
 use Rattle.network_model.proofs.Wires.{IsLinkOf, between, edge_found, edge_sought, far_is, find_in, has_place, is_link, near_is, same_dir}

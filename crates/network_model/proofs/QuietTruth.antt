@@ -22,7 +22,7 @@ use Rattle.bridge_api.proofs.OwnTables.{is_part}
 use Rattle.spb_world.specs.World.{system_at, world_graph, wired_tables}
 use Rattle.network_model.specs.State.{State, links_of}
 use Rattle.network_model.specs.Sound.{IsSoundState}
-use Rattle.network_model.specs.Truth.{IsAtRest, AreLinked, IsWalk, QuietIsTrue, QuietNetworksAreTold}
+use Rattle.network_model.specs.Truth.{IsAtRest, AreLinked, IsWalk, QuietIsTrue, QuietHasWiredTables}
 use Rattle.spb_world.proofs.ValidLemmas.{valid}
 use Rattle.network_model.proofs.QuietLaws.{quiet_says}
 use Rattle.network_model.proofs.Linked.{one_view, far_view}
@@ -110,7 +110,7 @@ quiet_is_true s i v rest at =
       best = λ g mask a b own good r. sym (same_best world g mask a b (valid s.world rest.sound.world) good (looks_on world g me a (part_looks_alike world g me (part g own)) r));
     }
 
-pub quiet_networks_are_told : QuietNetworksAreTold
-quiet_networks_are_told s i v sound quiet fresh few at =
+pub quiet_has_wired_tables : QuietHasWiredTables
+quiet_has_wired_tables s i v sound quiet fresh few at =
     let rest = (quiet_says s).quiet.0 quiet in
     quiet_is_true s i v (record { sound = sound; calm = rest.0; bodies = rest.1; fresh = fresh; few = few }) at

@@ -42,7 +42,7 @@ use Rattle.spb_world.specs.Naming.{named_link_refusal, down_refusal}
 use Rattle.network_model.specs.Play.{with_vid_more, declared, linked, named_link, at_link, next_state, played_all}
 use Rattle.network_model.specs.SoundLaws.{AreAccepted}
 use Rattle.network_model.specs.Quiet.{IsQuiet, HaveMet, AreEmpty, HaveNoFlags, HaveOneBody, IsCalm}
-use Rattle.network_model.specs.Telling.{SomeNetworkIsQuiet}
+use Rattle.network_model.specs.Convergence.{SomeNetworkIsQuiet}
 use Rattle.network_model.proofs.BridgeLaws.{steps_hold_ids, steps_keep_bridge, configured_holds_own, up_ports_are_up}
 use Rattle.network_model.proofs.SoundConfigured.{with_first_carrier, first_port, first_ports, configured_still, originated_if_changed_ports}
 use Rattle.network_model.proofs.SoundMeeting.{system}

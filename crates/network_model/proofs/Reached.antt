@@ -39,10 +39,10 @@ use Rattle.network_model.specs.Truth.{IsAtRest, AreJoined, IsThere}
 use Rattle.spb_world.proofs.BoxLemmas.{All-get}
 use Rattle.spb_world.proofs.MemberLemmas.{attached_member, member_attached}
 use Rattle.spb_world.proofs.ValidLemmas.{among_at, place_from}
-use Rattle.network_model.proofs.Told.{quiet_is_read}
+use Rattle.network_model.proofs.QuietRead.{quiet_is_read}
 use Rattle.network_model.proofs.Wires.{IsLinkOf, place_has, edge_sought}
 use Rattle.network_model.proofs.Spoken.{place_low, shown_at, system_is}
-use Rattle.network_model.proofs.ToldLinks.{far_there, quiet_tells_links}
+use Rattle.network_model.proofs.QuietReadLinks.{far_there, quiet_reads_links}
 
 -- ---- the graph of all that a bridge reads
 
@@ -56,12 +56,12 @@ joined_itself s v i at = record { from = i; to = i; here = at; there = at; walk 
 costs_there : (s : State) (v : BridgeView) (i : ℕ) (x y : SystemId) → IsAtRest s → slice_get s.views i ≡ Some v → IsThere s v x → cost_between (read_graph v) x y ≡ cost_between (world_graph s.world) x y
 costs_there s v i x y rest at there =
     (all_links s v i rest at).costs x y
-    ∙ subst (λ z. cost_said (contents_of v) z y ≡ cost_between (world_graph s.world) z y) there.is ((quiet_tells_links s v there.w rest there.joined).costs y)
+    ∙ subst (λ z. cost_said (contents_of v) z y ≡ cost_between (world_graph s.world) z y) there.is ((quiet_reads_links s v there.w rest there.joined).costs y)
 
 ports_there : (s : State) (v : BridgeView) (i : ℕ) (x y : SystemId) → IsAtRest s → slice_get s.views i ≡ Some v → IsThere s v x → port_between (read_graph v) x y ≡ port_between (world_graph s.world) x y
 ports_there s v i x y rest at there =
     (all_links s v i rest at).ports x y
-    ∙ subst (λ z. port_said (contents_of v) z y ≡ port_between (world_graph s.world) z y) there.is ((quiet_tells_links s v there.w rest there.joined).ports y)
+    ∙ subst (λ z. port_said (contents_of v) z y ≡ port_between (world_graph s.world) z y) there.is ((quiet_reads_links s v there.w rest there.joined).ports y)
 
 -- ---- what is reached is joined
 

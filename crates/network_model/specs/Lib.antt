@@ -18,7 +18,7 @@ pub mod MeetingLaws
 pub mod Counted
 pub mod CountedLaws
 pub mod RestartLaws
-pub mod Telling
+pub mod Convergence
 pub mod Isolation
 pub mod Once
 pub mod UnderWay

@@ -79,13 +79,13 @@ QuietIsRead = (s : State) (v w : BridgeView) → IsAtRest s → AreJoined s v w
     → said_of (contents_of v) w.id.system ≡ Some (said_by (local_of w))
 
 -- what a bridge reads of the links of a system: the costs and the ports of the wiring
-pub record AreLinksTold (s : State) (v : BridgeView) (x : SystemId) : Type 0 where
+pub record ReadsLinksOf (s : State) (v : BridgeView) (x : SystemId) : Type 0 where
   pub costs : (y : SystemId) → cost_said (contents_of v) x y ≡ cost_between (world_graph s.world) x y
   pub ports : (y : SystemId) → port_said (contents_of v) x y ≡ port_between (world_graph s.world) x y
 
 -- so it is of each bridge that a walk joins to it
-abbrev pub QuietTellsLinks : Type 0
-QuietTellsLinks = (s : State) (v w : BridgeView) → IsAtRest s → AreJoined s v w → AreLinksTold s v w.id.system
+abbrev pub QuietReadsLinks : Type 0
+QuietReadsLinks = (s : State) (v w : BridgeView) → IsAtRest s → AreJoined s v w → ReadsLinksOf s v w.id.system
 
 -- the system is that of a bridge that a walk joins to this one
 pub record IsThere (s : State) (v : BridgeView) (x : SystemId) : Type 0 where
@@ -96,7 +96,7 @@ pub record IsThere (s : State) (v : BridgeView) (x : SystemId) : Type 0 where
 -- what the bridge v at place i has right: in the wiring it reaches the bridges that walks join to it, its graph is the
 -- part of the wiring that it reaches, its tables are those that are wired for it, and in its graph the best paths from
 -- what it reaches are those of the wiring
-pub record IsTold (s : State) (i : ℕ) (v : BridgeView) : Type 0 where
+pub record HasWiredTables (s : State) (i : ℕ) (v : BridgeView) : Type 0 where
   pub reached : (x : SystemId) → IsReached (world_graph s.world) v.id.system x ↔ IsThere s v x
   pub graph : (g : Graph) → IsOwnGraph v g → IsPartOf (world_graph s.world) v.id.system g
   pub tables : own_tables v ≡ wired_tables s.world i
@@ -105,12 +105,12 @@ pub record IsTold (s : State) (i : ℕ) (v : BridgeView) : Type 0 where
 
 -- so it is of every bridge
 abbrev pub QuietIsTrue : Type 0
-QuietIsTrue = (s : State) (i : ℕ) (v : BridgeView) → IsAtRest s → slice_get s.views i ≡ Some v → IsTold s i v
+QuietIsTrue = (s : State) (i : ℕ) (v : BridgeView) → IsAtRest s → slice_get s.views i ≡ Some v → HasWiredTables s i v
 
 -- and of every bridge of a sound network in which no condition of quiet fails, where no bridge has spent its sequence
 -- numbers and each reads few systems
-abbrev pub QuietNetworksAreTold : Type 0
-QuietNetworksAreTold = (s : State) (i : ℕ) (v : BridgeView) → IsSoundState s → IsQuiet s
+abbrev pub QuietHasWiredTables : Type 0
+QuietHasWiredTables = (s : State) (i : ℕ) (v : BridgeView) → IsSoundState s → IsQuiet s
     → AllByRecursion (λ x. x.spent ≡ false) s.views
     → AllByRecursion (λ x. length (contents_of x) ≤ MOST_GRAPH_BRIDGES) s.views
-    → slice_get s.views i ≡ Some v → IsTold s i v
+    → slice_get s.views i ≡ Some v → HasWiredTables s i v

@@ -3,9 +3,9 @@ ghost use Rattle.network_model.specs.Holding.{TheFirstReasonIsGiven};
 ghost use Rattle.network_model.specs.SoundLaws.{EventsKeepSound, CommandsKeepSound, NetworksAreSound, SomeNetworkIsBusy};
 ghost use Rattle.network_model.specs.CountedLaws.{EventsKeepCounted, CommandsKeepCounted, NetworksAreCounted, NumbersStayLow, BridgesStayFar, NothingIsFull, SomeCountedIsBusy};
 ghost use Rattle.network_model.specs.WiringLaws.{SoundIsWired, NetworksAreWired};
-ghost use Rattle.network_model.specs.Truth.{QuietIsShared, QuietIsRead, QuietTellsLinks, QuietIsTrue, QuietNetworksAreTold};
+ghost use Rattle.network_model.specs.Truth.{QuietIsShared, QuietIsRead, QuietReadsLinks, QuietIsTrue, QuietHasWiredTables};
 ghost use Rattle.network_model.specs.PathLaws.{FramesGoOnePath, PathIsTrue};
-ghost use Rattle.network_model.specs.Telling.{CountedNetworksTell, NetworksTell, ShowIsTrue, SomeNetworkIsQuiet};
+ghost use Rattle.network_model.specs.Convergence.{CountedQuietIsConverged, PlayedQuietIsConverged, ShowIsTrue, SomeNetworkIsQuiet};
 ghost use Rattle.network_model.specs.MeetingLaws.{SomeBridgesMeet};
 ghost use Rattle.network_model.specs.Quiet.{QuietSays};
 ghost use Rattle.network_model.specs.RestartLaws.{RestartIsNew};
@@ -83,9 +83,9 @@ pub fn quiet_says_what_it_reads_like()
 pub fn quiet_is_true()
     ensures shared { QuietIsShared }
     ensures read { QuietIsRead }
-    ensures links { QuietTellsLinks }
-    ensures told { QuietIsTrue }
-    ensures quiet { QuietNetworksAreTold }
+    ensures links { QuietReadsLinks }
+    ensures wired { QuietIsTrue }
+    ensures quiet { QuietHasWiredTables }
 {}
 
 /// In a quiet network the path between two bridges in a VID is the best one of the wiring, and the way back is the same.
@@ -102,8 +102,8 @@ pub fn quiet_paths_are_wired()
 /// where it has to. So it is whatever commands were accepted, at most 120,000 of them. Where `show` says quiet, it has
 /// the rows of `wiring`. Some commands lead to a quiet network of two bridges, whose link went down again.
 pub fn quiet_can_be_relied_on()
-    ensures counted { CountedNetworksTell }
-    ensures always { NetworksTell }
+    ensures counted { CountedQuietIsConverged }
+    ensures always { PlayedQuietIsConverged }
     ensures shown { ShowIsTrue }
     ensures some { SomeNetworkIsQuiet }
 {}

@@ -5,5 +5,5 @@ pub mod Reading
 pub mod Counting
 pub mod Addressed
 pub mod Completing
-pub mod Telling
+pub mod Convergence
 pub mod Commands

@@ -4,7 +4,7 @@ use Rattle.std.specs.Io.KnownBytes.{Appends, IsAtEnd}
 use Rattle.network_model.specs.Counted.{IsCounted}
 use Rattle.network_model.specs.Sound.{IsSoundState}
 use Rattle.network_model.specs.State.{State}
-use Rattle.network_model.specs.Telling.{QuietTells}
+use Rattle.network_model.specs.Convergence.{QuietIsConverged}
 use Rattle.script_run.specs.declared.status.Status.{Status}
 use Rattle.script_run.specs.declared.status.Status.TheVariants.{Done, Refused, NoMemory, ReadFault}
 use Rattle.script_run.specs.declared.refusal.Refusal.{Refusal}
@@ -33,7 +33,7 @@ module _
     -- wired for it. And so it is after each line of the script that is accepted.
     pub sound : IsTrue (is_ended status) → IsSoundState t
     pub counted : IsTrue (is_ended status) → IsCounted t
-    pub told : IsTrue (is_ended status) → QuietTells t
+    pub converged : IsTrue (is_ended status) → QuietIsConverged t
     pub quiet : IfSome (left source) (λ script. AllStates IsTrusted s 1 (lines_played script))
     -- Where it is quiet after some line, a group frame that enters by the next one, and is then delivered, leaves once
     -- at each other port where it has to.

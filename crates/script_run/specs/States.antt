@@ -3,7 +3,7 @@ use Rattle.network_model.specs.declared.kind_rule.KindRule.{KindRule}
 use Rattle.network_model.specs.Counted.{IsCounted}
 use Rattle.network_model.specs.Sound.{IsSoundState}
 use Rattle.network_model.specs.State.{State}
-use Rattle.network_model.specs.Telling.{QuietTells}
+use Rattle.network_model.specs.Convergence.{QuietIsConverged}
 
 -- the state of a network whose bridges take boxes by this rule
 abbrev pub ruled : KindRule → State → State
@@ -13,4 +13,4 @@ ruled rule s = record s { rule = rule }
 pub record IsTrusted (s : State) : Type 0 where
   pub sound : IsSoundState s
   pub counted : IsCounted s
-  pub told : QuietTells s
+  pub converged : QuietIsConverged s

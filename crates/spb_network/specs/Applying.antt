@@ -8,7 +8,7 @@ use Rattle.network_model.specs.declared.conditions.Conditions.{Conditions}
 use Rattle.spb_network.specs.declared.apply_error.ApplyError.{ApplyError}
 use Rattle.spb_network.specs.declared.apply_error.ApplyError.TheVariants as error
 use Rattle.network_model.specs.State.{State}
-use Rattle.spb_network.specs.Network.{state_of, AreMade}
+use Rattle.spb_network.specs.Network.{state_of, AreConfigured}
 use Rattle.network_model.specs.Sound.{IsSoundState}
 use Rattle.network_model.specs.Counted.{IsCounted, most_commands}
 use Rattle.network_model.specs.Refusing.{refusal_of}
@@ -23,17 +23,17 @@ pub record Plays (old : State) (c : Command) (answer : Answer) (new : State) : T
 
 module _ {B : Type 0} (shown : B → Shown) where
   -- what is kept of the conditions of quiet is so
-  abbrev pub IsKept : NetworkOf B → Type 0
-  IsKept n = (kept : Conditions) → n.kept ≡ Some kept → kept ≡ conditions_of (state_of shown n)
+  abbrev pub KeepsConditions : NetworkOf B → Type 0
+  KeepsConditions n = (kept : Conditions) → n.conditions ≡ Some kept → kept ≡ conditions_of (state_of shown n)
 
   -- a network at which no command ran out of memory: its boxes are made, its state is sound, its sequence numbers are
   -- counted while at most 120,000 commands were accepted, what left was answered, and what it keeps of quiet is so
   pub record IsSoundNetwork (n : NetworkOf B) : Type 0 where
-    pub made : AreMade shown n.boxes.items
+    pub made : AreConfigured shown n.boxes.items
     pub state : IsSoundState (state_of shown n)
     pub counted : (state_of shown n).accepted ≤ most_commands → IsCounted (state_of shown n)
     pub outs : (state_of shown n).outs ≡ []
-    pub kept : IsKept n
+    pub kept : KeepsConditions n
 
   -- a network that halted, or is sound: so is every network that `new` gave, whatever was applied to it
   abbrev pub IsReady : NetworkOf B → Type 0

@@ -30,12 +30,12 @@ module _ {B : Type 0} (shown : B → Shown) where
   }
 
 -- the network's boxes are no blanks
-abbrev pub AreMade : {B : Type 0} → (B → Shown) → List B → Type 0
-AreMade shown boxes = AllByRecursion (λ b. (shown b).blank ≡ false) boxes
+abbrev pub AreConfigured : {B : Type 0} → (B → Shown) → List B → Type 0
+AreConfigured shown boxes = AllByRecursion (λ b. (shown b).blank ≡ false) boxes
 
 -- the boxes are made, and the state has its shape
 pub record IsInOrder {B : Type 0} (shown : B → Shown) (n : NetworkOf B) : Type 0 where
-  pub made : AreMade shown n.boxes.items
+  pub made : AreConfigured shown n.boxes.items
   pub fits : Fits (state_of shown n)
 
 -- the box at a place is blank

@@ -3,7 +3,7 @@ ghost use Rattle.std.specs.Prelude.{◌≡◌, false, IfOk};
 ghost use Rattle.bridge_api.specs.Shown.{views_of};
 ghost use Rattle.lsdb.specs.Database.{keyed};
 ghost use Rattle.lsdb.specs.declared.version.Version.TheVariants.{Live};
-ghost use Rattle.spb_network.specs.Network.{AreMade};
+ghost use Rattle.spb_network.specs.Network.{AreConfigured};
 ghost use Rattle.spb_network.specs.Bodies.{IsFrom, Notes, NotesAll, NotesAt};
 ghost use Rattle.network_model.specs.Quiet.{have_one_body};
 
@@ -70,7 +70,7 @@ fn agree_at<'a, B: Bridge>(
     boxes: &'a [B],
     place: usize,
 ) -> Result<bool, NoMemory>
-    requires made { AreMade B.shown boxes.now }
+    requires made { AreConfigured B.shown boxes.now }
     requires from { IsFrom (views_of B.shown boxes.now) firsts.old }
     ensures { IfOk result (λ b. NotesAt b (views_of B.shown boxes.now) place firsts.old firsts.new) }
 {
@@ -84,7 +84,7 @@ fn agree_at<'a, B: Bridge>(
 ///
 /// One walk of the databases, with a look-up by hash for each live LSP.
 pub fn have_one_body<B: Bridge>(alloc: Global, boxes: &[B]) -> Result<bool, NoMemory>
-    requires { AreMade B.shown boxes.now }
+    requires { AreConfigured B.shown boxes.now }
     ensures { IfOk result (λ b. b ≡ have_one_body (views_of B.shown boxes.now)) }
 {
     let mut firsts = HashMap::new(alloc);

@@ -9,7 +9,7 @@ ghost use Rattle.bridge_api.specs.Step.{sent, left_by, step, with_wire};
 ghost use Rattle.bridge_api.specs.Shown.{views_of};
 ghost use Rattle.spb_types.specs.Places.{changed_at};
 ghost use Rattle.network_model.specs.Questions as question;
-ghost use Rattle.spb_network.specs.Network.{AreMade};
+ghost use Rattle.spb_network.specs.Network.{AreConfigured};
 ghost use Rattle.network_model.specs.State.{IsPortAt, CanAttachAt, IsAttachedAt};
 
 use adjacency::Adjacency;
@@ -20,11 +20,11 @@ use std::alloc::Global;
 
 /// A second of a bridge.
 pub fn tick<B: Bridge>(boxes: &mut Vec<B>, i: usize, outbox: &mut Outbox) -> Result<(), NoMemory>
-    requires made { AreMade B.shown boxes.old.items }
+    requires made { AreConfigured B.shown boxes.old.items }
     ensures views { OnOk result (views_of B.shown boxes.new.items ≡ changed_at (step comes.second) (views_of B.shown boxes.old.items) i) }
     ensures sent { OnOk result (outbox.new
         ≡ with_wire (option_map_or (sent comes.second) (slice_get (views_of B.shown boxes.old.items) i) []) outbox.old) }
-    ensures made { OnOk result (AreMade B.shown boxes.new.items) }
+    ensures made { OnOk result (AreConfigured B.shown boxes.new.items) }
 {
     match boxes.get_mut(i) {
         None => Ok(()),
@@ -40,7 +40,7 @@ pub fn hear<B: Bridge>(
     frame: &[u8],
     outbox: &mut Outbox,
 ) -> Result<(), NoMemory>
-    requires made { AreMade B.shown boxes.old.items }
+    requires made { AreConfigured B.shown boxes.old.items }
     requires port { IsPortAt (views_of B.shown boxes.old.items) i port }
     ensures views { OnOk result (views_of B.shown boxes.new.items
         ≡ changed_at (step (comes.frame port frame.now)) (views_of B.shown boxes.old.items) i) }
@@ -48,7 +48,7 @@ pub fn hear<B: Bridge>(
         ++ option_map_or (sent (comes.frame port frame.now)) (slice_get (views_of B.shown boxes.old.items) i) []) }
     ensures left { OnOk result (outbox.new.left ≡ outbox.old.left
         ++ option_map_or (left_by (comes.frame port frame.now)) (slice_get (views_of B.shown boxes.old.items) i) []) }
-    ensures made { OnOk result (AreMade B.shown boxes.new.items) }
+    ensures made { OnOk result (AreConfigured B.shown boxes.new.items) }
 {
     match boxes.get_mut(i) {
         None => Ok(()),
@@ -64,7 +64,7 @@ pub fn enter<B: Bridge>(
     frame: &[u8],
     outbox: &mut Outbox,
 ) -> Result<(), NoMemory>
-    requires made { AreMade B.shown boxes.old.items }
+    requires made { AreConfigured B.shown boxes.old.items }
     requires attached { IsAttachedAt (views_of B.shown boxes.old.items) i port }
     requires frame { IsCustomerFrame frame.now }
     ensures views { OnOk result (views_of B.shown boxes.new.items
@@ -73,7 +73,7 @@ pub fn enter<B: Bridge>(
         ++ option_map_or (sent (comes.customer port frame.now)) (slice_get (views_of B.shown boxes.old.items) i) []) }
     ensures left { OnOk result (outbox.new.left ≡ outbox.old.left
         ++ option_map_or (left_by (comes.customer port frame.now)) (slice_get (views_of B.shown boxes.old.items) i) []) }
-    ensures made { OnOk result (AreMade B.shown boxes.new.items) }
+    ensures made { OnOk result (AreConfigured B.shown boxes.new.items) }
 {
     match boxes.get_mut(i) {
         None => Ok(()),
@@ -88,11 +88,11 @@ pub fn set_carrier<B: Bridge>(
     port: u8,
     on: bool,
 ) -> Result<(), NoMemory>
-    requires made { AreMade B.shown boxes.old.items }
+    requires made { AreConfigured B.shown boxes.old.items }
     requires port { IsPortAt (views_of B.shown boxes.old.items) i port }
     ensures views { OnOk result (views_of B.shown boxes.new.items
         ≡ changed_at (step (comes.carrier port on)) (views_of B.shown boxes.old.items) i) }
-    ensures made { OnOk result (AreMade B.shown boxes.new.items) }
+    ensures made { OnOk result (AreConfigured B.shown boxes.new.items) }
 {
     match boxes.get_mut(i) {
         None => Ok(()),
@@ -107,12 +107,12 @@ pub fn set_metric<B: Bridge>(
     port: u8,
     metric: u32,
 ) -> Result<(), NoMemory>
-    requires made { AreMade B.shown boxes.old.items }
+    requires made { AreConfigured B.shown boxes.old.items }
     requires port { IsPortAt (views_of B.shown boxes.old.items) i port }
     requires metric { IsMetric metric }
     ensures views { OnOk result (views_of B.shown boxes.new.items
         ≡ changed_at (step (comes.metric port metric)) (views_of B.shown boxes.old.items) i) }
-    ensures made { OnOk result (AreMade B.shown boxes.new.items) }
+    ensures made { OnOk result (AreConfigured B.shown boxes.new.items) }
 {
     match boxes.get_mut(i) {
         None => Ok(()),
@@ -126,11 +126,11 @@ pub fn attach<B: Bridge>(
     i: usize,
     attachment: Attachment,
 ) -> Result<(), NoMemory>
-    requires made { AreMade B.shown boxes.old.items }
+    requires made { AreConfigured B.shown boxes.old.items }
     requires can { CanAttachAt (views_of B.shown boxes.old.items) i attachment }
     ensures views { OnOk result (views_of B.shown boxes.new.items
         ≡ changed_at (step (comes.attach attachment)) (views_of B.shown boxes.old.items) i) }
-    ensures made { OnOk result (AreMade B.shown boxes.new.items) }
+    ensures made { OnOk result (AreConfigured B.shown boxes.new.items) }
 {
     match boxes.get_mut(i) {
         None => Ok(()),
@@ -140,11 +140,11 @@ pub fn attach<B: Bridge>(
 
 /// Detaches a customer port of a bridge.
 pub fn detach<B: Bridge>(boxes: &mut Vec<B>, i: usize, port: u16) -> Result<(), NoMemory>
-    requires made { AreMade B.shown boxes.old.items }
+    requires made { AreConfigured B.shown boxes.old.items }
     requires attached { IsAttachedAt (views_of B.shown boxes.old.items) i port }
     ensures views { OnOk result (views_of B.shown boxes.new.items
         ≡ changed_at (step (comes.detach port)) (views_of B.shown boxes.old.items) i) }
-    ensures made { OnOk result (AreMade B.shown boxes.new.items) }
+    ensures made { OnOk result (AreConfigured B.shown boxes.new.items) }
 {
     match boxes.get_mut(i) {
         None => Ok(()),
@@ -154,11 +154,11 @@ pub fn detach<B: Bridge>(boxes: &mut Vec<B>, i: usize, port: u16) -> Result<(), 
 
 /// A box takes the place of another, which is dropped.
 pub fn replace<B: Bridge>(boxes: &mut Vec<B>, i: usize, fresh: B)
-    requires made { AreMade B.shown boxes.old.items }
+    requires made { AreConfigured B.shown boxes.old.items }
     requires fresh { (B.shown fresh).blank ≡ false }
     ensures views { views_of B.shown boxes.new.items
         ≡ slice_set (views_of B.shown boxes.old.items) i (B.shown fresh).view }
-    ensures made { AreMade B.shown boxes.new.items }
+    ensures made { AreConfigured B.shown boxes.new.items }
 {
     if i < boxes.len() {
         boxes[i] = fresh;

@@ -5,7 +5,7 @@ ghost use Rattle.spb_world.specs.Attaching as attaching;
 ghost use Rattle.spb_world.specs.Naming as refuse;
 ghost use Rattle.network_model.specs.Play as play;
 ghost use Rattle.network_model.specs.Events as event;
-ghost use Rattle.spb_network.specs.Network.{state_of, AreMade};
+ghost use Rattle.spb_network.specs.Network.{state_of, AreConfigured};
 ghost use Rattle.network_model.specs.State.{CanAttachAt};
 ghost use Rattle.spb_network.specs.Applying.{IsSoundNetwork};
 
@@ -16,12 +16,12 @@ use spb_types::{Attachment, Isid, Name, NoMemory};
 impl<B: Bridge> NetworkOf<B> {
     /// Attaches a customer port of the bridge at a place, where nothing is attached.
     fn attach_port(&mut self, place: usize, attachment: Attachment) -> Result<(), NoMemory>
-        requires made { AreMade B.shown self.old.boxes.items }
+        requires made { AreConfigured B.shown self.old.boxes.items }
         requires new { attaching.IsNewAttachment self.old.world (place, attachment) }
         requires can { CanAttachAt (state_of B.shown self.old).views place attachment }
         ensures state { OnOk result (state_of B.shown self.new
             ≡ event.with_attached_port (state_of B.shown self.old) place attachment) }
-        ensures made { OnOk result (AreMade B.shown self.new.boxes.items) }
+        ensures made { OnOk result (AreConfigured B.shown self.new.boxes.items) }
     {
         boxes::attach(&mut self.boxes, place, attachment)?;
         self.world.attach(place, attachment)
@@ -35,7 +35,7 @@ impl<B: Bridge> NetworkOf<B> {
         requires accepted { attaching.attach_refusal self.old.world place port isid ≡ None }
         ensures state { OnOk result (state_of B.shown self.new
             ≡ event.port_attached (state_of B.shown self.old) place port isid) }
-        ensures made { OnOk result (AreMade B.shown self.new.boxes.items) }
+        ensures made { OnOk result (AreConfigured B.shown self.new.boxes.items) }
     {
         let Some(vid) = self.world.vid_of_isid(isid) else {
             return Ok(());
@@ -55,7 +55,7 @@ impl<B: Bridge> NetworkOf<B> {
         requires accepted { attaching.detach_refusal self.old.world place port ≡ None }
         ensures state { OnOk result (state_of B.shown self.new
             ≡ event.port_detached (state_of B.shown self.old) place port) }
-        ensures made { OnOk result (AreMade B.shown self.new.boxes.items) }
+        ensures made { OnOk result (AreConfigured B.shown self.new.boxes.items) }
     {
         boxes::detach(&mut self.boxes, place, port as u16)?;
         self.world.detach(place, port as u16);
@@ -68,7 +68,7 @@ impl<B: Bridge> NetworkOf<B> {
         requires accepted { attaching.entry_refusal self.old.world place port frame.now ≡ None }
         ensures state { OnOk result (state_of B.shown self.new
             ≡ event.frame_entered (state_of B.shown self.old) place port frame.now) }
-        ensures made { OnOk result (AreMade B.shown self.new.boxes.items) }
+        ensures made { OnOk result (AreConfigured B.shown self.new.boxes.items) }
     {
         let mut outbox = Outbox::new(self.alloc);
         boxes::enter(&mut self.boxes, place, port as u16, frame, &mut outbox)?;
@@ -82,7 +82,7 @@ impl<B: Bridge> NetworkOf<B> {
         requires accepted { refuse.named_attach_refusal self.old.world name port isid ≡ None }
         ensures state { OnOk result (state_of B.shown self.new
             ≡ play.at_bridge (λ s i. event.port_attached s i port isid) (state_of B.shown self.old) name) }
-        ensures made { OnOk result (AreMade B.shown self.new.boxes.items) }
+        ensures made { OnOk result (AreConfigured B.shown self.new.boxes.items) }
     {
         match self.world.bridge_place(name) {
             None => Ok(()),
@@ -97,7 +97,7 @@ impl<B: Bridge> NetworkOf<B> {
         requires accepted { refuse.named_detach_refusal self.old.world name port ≡ None }
         ensures state { OnOk result (state_of B.shown self.new
             ≡ play.at_bridge (λ s i. event.port_detached s i port) (state_of B.shown self.old) name) }
-        ensures made { OnOk result (AreMade B.shown self.new.boxes.items) }
+        ensures made { OnOk result (AreConfigured B.shown self.new.boxes.items) }
     {
         match self.world.bridge_place(name) {
             None => Ok(()),
@@ -112,7 +112,7 @@ impl<B: Bridge> NetworkOf<B> {
         requires accepted { refuse.named_entry_refusal self.old.world name port frame.now ≡ None }
         ensures state { OnOk result (state_of B.shown self.new
             ≡ play.at_bridge (λ s i. event.frame_entered s i port frame.now) (state_of B.shown self.old) name) }
-        ensures made { OnOk result (AreMade B.shown self.new.boxes.items) }
+        ensures made { OnOk result (AreConfigured B.shown self.new.boxes.items) }
     {
         match self.world.bridge_place(name) {
             None => Ok(()),

@@ -2,10 +2,10 @@ ghost use Rattle.std.specs.Prelude.{◌≡◌, ◌≤◌, false, map, OnOk};
 ghost use Rattle.bridge_api.specs.Shown.{views_of};
 ghost use Rattle.network_model.specs.declared.kind_rule.KindRule.TheVariants as rules;
 ghost use Rattle.network_model.specs.Sound.{opening};
-ghost use Rattle.spb_network.specs.Network.{state_of, spare, AreMade};
+ghost use Rattle.spb_network.specs.Network.{state_of, spare, AreConfigured};
 ghost use Rattle.spb_network.specs.Applying.{Applies, IsReady};
 ghost use Rattle.network_model.specs.Counted.{most_commands};
-ghost use Rattle.network_model.specs.Telling.{QuietTells};
+ghost use Rattle.network_model.specs.Convergence.{QuietIsConverged};
 ghost use Rattle.network_model.specs.SoundLaws.{IsAddressed};
 
 use crate::{Answer, ApplyError, KindRule, Out, World};
@@ -36,7 +36,7 @@ pub struct NetworkOf<B> {
     pub(crate) accepted: u64,
     pub(crate) halted: bool,
     /// Which conditions of quiet hold, since a question found them and until something may change.
-    pub(crate) kept: Option<Conditions>,
+    pub(crate) conditions: Option<Conditions>,
 }
 
 /// A network of bridges in boxes.
@@ -62,7 +62,7 @@ impl<B: Bridge> NetworkOf<B> {
             drained: 0,
             accepted: 0,
             halted: false,
-            kept: None,
+            conditions: None,
         }
     }
 
@@ -77,7 +77,7 @@ impl<B: Bridge> NetworkOf<B> {
         ensures ready { IsReady B.shown self.new }
     {
         self.rule = rule;
-        self.kept = None;
+        self.conditions = None;
     }
 
     /// The boxes of the declared bridges, in order of declaration: the network's own, and none is blank unless the
@@ -85,7 +85,7 @@ impl<B: Bridge> NetworkOf<B> {
     pub fn boxes(&self) -> &[B]
         ensures same { result.now ≡ self.now.boxes.items }
         ensures views { views_of B.shown result.now ≡ (state_of B.shown self.now).views }
-        ensures made { self.now.halted ≡ false → IsReady B.shown self.now → AreMade B.shown result.now }
+        ensures made { self.now.halted ≡ false → IsReady B.shown self.now → AreConfigured B.shown result.now }
     {
         self.boxes.as_slice()
     }
@@ -104,7 +104,7 @@ impl<B: Bridge> NetworkOf<B> {
         ensures applies { Applies B.shown self.old command.now result self.new }
         ensures ready { IsReady B.shown self.new }
         ensures quiet { OnOk result ((state_of B.shown self.new).accepted ≤ most_commands →
-            QuietTells (state_of B.shown self.new)) }
+            QuietIsConverged (state_of B.shown self.new)) }
     {
         if self.halted {
             return Err(ApplyError::Halted);

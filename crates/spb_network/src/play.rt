@@ -7,8 +7,8 @@ ghost use Rattle.spb_world.specs.Naming.{metric_refusal, named_link_refusal};
 ghost use Rattle.network_model.specs.Questions as question;
 ghost use Rattle.network_model.specs.Play as play;
 ghost use Rattle.network_model.specs.Events as event;
-ghost use Rattle.spb_network.specs.Network.{state_of, AreMade, IsInOrder, IsBlankAt};
-ghost use Rattle.spb_network.specs.Applying.{IsSoundNetwork, IsKept};
+ghost use Rattle.spb_network.specs.Network.{state_of, AreConfigured, IsInOrder, IsBlankAt};
+ghost use Rattle.spb_network.specs.Applying.{IsSoundNetwork, KeepsConditions};
 
 use crate::questions::{asks_for_quiet, event_answer, is_question};
 use crate::rack::{kind_at, next_box};
@@ -27,7 +27,7 @@ impl<B: Bridge> NetworkOf<B> {
         requires accepted { declare.vid_refusal self.old.world vid ect ≡ None }
         ensures state { OnOk result (state_of B.shown self.new
             ≡ play.with_vid_more (state_of B.shown self.old) vid ect) }
-        ensures made { OnOk result (AreMade B.shown self.new.boxes.items) }
+        ensures made { OnOk result (AreConfigured B.shown self.new.boxes.items) }
     {
         self.world.declare_vid(vid, ect)
     }
@@ -44,12 +44,12 @@ impl<B: Bridge> NetworkOf<B> {
     ) -> Result<(), NoMemory>
         requires place { place < length self.old.rack.items }
         requires blank { IsBlankAt B.shown self.old.rack.items place }
-        requires made { AreMade B.shown self.old.boxes.items }
+        requires made { AreConfigured B.shown self.old.boxes.items }
         requires accepted { declare.bridge_refusal self.old.world name priority system source ports ≡ None }
         ensures state { OnOk result (state_of B.shown self.new
             ≡ play.boxed (state_of B.shown self.old) name
             (declare.bridge_of priority system source ports) (Some place)) }
-        ensures made { OnOk result (AreMade B.shown self.new.boxes.items) }
+        ensures made { OnOk result (AreConfigured B.shown self.new.boxes.items) }
     {
         let id = BridgeId {
             priority: priority as u16,
@@ -78,7 +78,7 @@ impl<B: Bridge> NetworkOf<B> {
             ≡ None }
         ensures state { OnOk result (state_of B.shown self.new
             ≡ play.declared (state_of B.shown self.old) name (declare.bridge_of priority system source ports)) }
-        ensures made { OnOk result (AreMade B.shown self.new.boxes.items) }
+        ensures made { OnOk result (AreConfigured B.shown self.new.boxes.items) }
     {
         let wanted = kind_at(self.rule, self.world.bridge_count());
         match next_box(&self.rack, wanted) {
@@ -103,7 +103,7 @@ impl<B: Bridge> NetworkOf<B> {
         requires accepted { declare.link_refusal self.old.world name i port_a j port_b cost ≡ None }
         ensures state { OnOk result (state_of B.shown self.new
             ≡ play.linked (state_of B.shown self.old) name (declare.link_of i port_a j port_b cost)) }
-        ensures made { OnOk result (AreMade B.shown self.new.boxes.items) }
+        ensures made { OnOk result (AreConfigured B.shown self.new.boxes.items) }
     {
         let place = self.lanes.links();
         let link = self.world.declare_link(name, i, port_a, j, port_b, cost)?;
@@ -127,7 +127,7 @@ impl<B: Bridge> NetworkOf<B> {
         requires accepted { named_link_refusal self.old.world name a port_a b port_b cost ≡ None }
         ensures state { OnOk result (state_of B.shown self.new
             ≡ play.named_link (state_of B.shown self.old) name a port_a b port_b cost) }
-        ensures made { OnOk result (AreMade B.shown self.new.boxes.items) }
+        ensures made { OnOk result (AreConfigured B.shown self.new.boxes.items) }
     {
         let Some(i) = self.world.bridge_place(a) else {
             return Ok(());
@@ -145,7 +145,7 @@ impl<B: Bridge> NetworkOf<B> {
         requires accepted { service.isid_refusal self.old.world isid vid ≡ None }
         ensures state { OnOk result (state_of B.shown self.new
             ≡ play.with_service_more (state_of B.shown self.old) isid vid) }
-        ensures made { OnOk result (AreMade B.shown self.new.boxes.items) }
+        ensures made { OnOk result (AreConfigured B.shown self.new.boxes.items) }
     {
         self.world.declare_isid(isid, vid)
     }
@@ -157,7 +157,7 @@ impl<B: Bridge> NetworkOf<B> {
         requires accepted { metric_refusal self.old.world name metric ≡ None }
         ensures state { OnOk result (state_of B.shown self.new
             ≡ play.at_link (λ s k. event.with_metric_changed s k side metric) (state_of B.shown self.old) name) }
-        ensures made { OnOk result (AreMade B.shown self.new.boxes.items) }
+        ensures made { OnOk result (AreConfigured B.shown self.new.boxes.items) }
     {
         match self.world.link_place(name) {
             None => Ok(()),
@@ -171,7 +171,7 @@ impl<B: Bridge> NetworkOf<B> {
         requires { IsInOrder B.shown self.old }
         ensures state { OnOk result (state_of B.shown self.new
             ≡ play.at_link event.switched_off (state_of B.shown self.old) name) }
-        ensures made { OnOk result (AreMade B.shown self.new.boxes.items) }
+        ensures made { OnOk result (AreConfigured B.shown self.new.boxes.items) }
     {
         match self.world.link_place(name) {
             None => Ok(()),
@@ -185,7 +185,7 @@ impl<B: Bridge> NetworkOf<B> {
         requires { IsInOrder B.shown self.old }
         ensures state { OnOk result (state_of B.shown self.new
             ≡ play.at_link event.switched_on (state_of B.shown self.old) name) }
-        ensures made { OnOk result (AreMade B.shown self.new.boxes.items) }
+        ensures made { OnOk result (AreConfigured B.shown self.new.boxes.items) }
     {
         match self.world.link_place(name) {
             None => Ok(()),
@@ -199,7 +199,7 @@ impl<B: Bridge> NetworkOf<B> {
         requires { IsInOrder B.shown self.old }
         ensures state { OnOk result (state_of B.shown self.new
             ≡ play.at_bridge event.ticked (state_of B.shown self.old) name) }
-        ensures made { OnOk result (AreMade B.shown self.new.boxes.items) }
+        ensures made { OnOk result (AreConfigured B.shown self.new.boxes.items) }
     {
         match self.world.bridge_place(name) {
             None => Ok(()),
@@ -213,7 +213,7 @@ impl<B: Bridge> NetworkOf<B> {
         requires { IsInOrder B.shown self.old }
         ensures state { OnOk result (state_of B.shown self.new
             ≡ play.at_link (λ s k. event.delivered s k dir) (state_of B.shown self.old) name) }
-        ensures made { OnOk result (AreMade B.shown self.new.boxes.items) }
+        ensures made { OnOk result (AreConfigured B.shown self.new.boxes.items) }
     {
         match self.world.link_place(name) {
             None => Ok(()),
@@ -227,7 +227,7 @@ impl<B: Bridge> NetworkOf<B> {
         requires { IsInOrder B.shown self.old }
         ensures state { OnOk result (state_of B.shown self.new
             ≡ play.at_link (λ s k. event.lost s k dir place) (state_of B.shown self.old) name) }
-        ensures made { OnOk result (AreMade B.shown self.new.boxes.items) }
+        ensures made { OnOk result (AreConfigured B.shown self.new.boxes.items) }
     {
         if let Some(link) = self.world.link_place(name) {
             self.lose(LaneId { link, dir }, place as usize);
@@ -241,7 +241,7 @@ impl<B: Bridge> NetworkOf<B> {
         requires { IsInOrder B.shown self.old }
         ensures state { OnOk result (state_of B.shown self.new
             ≡ play.at_link (λ s k. event.doubled s k dir place) (state_of B.shown self.old) name) }
-        ensures made { OnOk result (AreMade B.shown self.new.boxes.items) }
+        ensures made { OnOk result (AreConfigured B.shown self.new.boxes.items) }
     {
         match self.world.link_place(name) {
             None => Ok(()),
@@ -255,7 +255,7 @@ impl<B: Bridge> NetworkOf<B> {
         requires order { IsInOrder B.shown self.old }
         requires accepted { refuse.round_refusal (state_of B.shown self.old) n ≡ None }
         ensures state { OnOk result (state_of B.shown self.new ≡ play.with_rounds n (state_of B.shown self.old)) }
-        ensures made { OnOk result (AreMade B.shown self.new.boxes.items) }
+        ensures made { OnOk result (AreConfigured B.shown self.new.boxes.items) }
     {
         let rounds = self.rounds + n as u32;
         self.play_rounds(n as u32)?;
@@ -269,7 +269,7 @@ impl<B: Bridge> NetworkOf<B> {
         requires order { IsInOrder B.shown self.old }
         requires accepted { refuse.drain_refusal (state_of B.shown self.old) n ≡ None }
         ensures state { OnOk result (state_of B.shown self.new ≡ play.with_drain n (state_of B.shown self.old)) }
-        ensures made { OnOk result (AreMade B.shown self.new.boxes.items) }
+        ensures made { OnOk result (AreConfigured B.shown self.new.boxes.items) }
     {
         let drained = self.drained + n as u32;
         self.play_drain(n as u32)?;
@@ -283,7 +283,7 @@ impl<B: Bridge> NetworkOf<B> {
         requires sound { IsSoundNetwork B.shown self.old }
         requires accepted { refuse.refusal_of (state_of B.shown self.old) command.now ≡ None }
         ensures state { OnOk result (state_of B.shown self.new ≡ play.played (state_of B.shown self.old) command.now) }
-        ensures made { OnOk result (AreMade B.shown self.new.boxes.items) }
+        ensures made { OnOk result (AreConfigured B.shown self.new.boxes.items) }
     {
         match command {
             Command::Vid { vid, ect } => self.play_vid(*vid, *ect),
@@ -359,8 +359,8 @@ impl<B: Bridge> NetworkOf<B> {
         ensures answer { IfOk result (λ answer. answer ≡ play.answer_of (state_of B.shown self.old) command.now) }
         ensures state { OnOk result (state_of B.shown self.new
             ≡ record (play.played (state_of B.shown self.old) command.now) { outs = [] }) }
-        ensures made { OnOk result (AreMade B.shown self.new.boxes.items) }
-        ensures kept { OnOk result (IsKept B.shown self.new) }
+        ensures made { OnOk result (AreConfigured B.shown self.new.boxes.items) }
+        ensures kept { OnOk result (KeepsConditions B.shown self.new) }
     {
         self.prepare(command)?;
         self.keep_if_asked(command)?;
@@ -372,7 +372,7 @@ impl<B: Bridge> NetworkOf<B> {
         ensures outs { result.items ≡ (state_of B.shown self.old).outs }
         ensures state { state_of B.shown self.new ≡ record (state_of B.shown self.old) { outs = [] } }
         ensures boxes { self.new.boxes ≡ self.old.boxes }
-        ensures kept { self.new.kept ≡ self.old.kept }
+        ensures kept { self.new.conditions ≡ self.old.conditions }
     {
         mem::replace(&mut self.outs, Vec::new(self.alloc))
     }
@@ -387,14 +387,14 @@ impl<B: Bridge> NetworkOf<B> {
         ensures answer { IfOk result (λ answer. answer ≡ play.answer_of (state_of B.shown self.old) command.now) }
         ensures state { OnOk result (state_of B.shown self.new
             ≡ record (play.played (state_of B.shown self.old) command.now) { outs = [] }) }
-        ensures made { OnOk result (AreMade B.shown self.new.boxes.items) }
-        ensures kept { OnOk result (IsKept B.shown self.new) }
+        ensures made { OnOk result (AreConfigured B.shown self.new.boxes.items) }
+        ensures kept { OnOk result (KeepsConditions B.shown self.new) }
     {
         if is_question(command) {
             return self.ask(command);
         }
         self.perform(command)?;
-        self.kept = None;
+        self.conditions = None;
         Ok(event_answer(command, self.take_outs()))
     }
 }

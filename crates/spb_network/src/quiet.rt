@@ -6,7 +6,7 @@ ghost use Rattle.adjacency.specs.Adjacency.{is_up};
 ghost use Rattle.bridge_api.specs.View.{has_flags};
 ghost use Rattle.bridge_api.specs.Shown.{views_of};
 ghost use Rattle.spb_network.specs.Applying.{IsReady, IsSoundNetwork};
-ghost use Rattle.spb_network.specs.Network.{state_of, AreMade};
+ghost use Rattle.spb_network.specs.Network.{state_of, AreConfigured};
 ghost use Rattle.network_model.specs.State.{IsPortAt, links_of};
 ghost use Rattle.network_model.specs.Quiet.{holds_q1, holds_q2, holds_q3, failing, unless_holds};
 ghost use Rattle.network_model.specs.Quieting.{is_end_up, is_link_up, conditions_of, numbers_of};
@@ -31,7 +31,7 @@ fn is_up(state: AdjState) -> bool
 
 /// Whether the port at an end of a link is Up.
 fn is_end_up<B: Bridge>(boxes: &[B], end: LinkEnd) -> bool
-    requires made { AreMade B.shown boxes.now }
+    requires made { AreConfigured B.shown boxes.now }
     requires port { IsPortAt (views_of B.shown boxes.now) end.bridge end.port }
     ensures { result ≡ is_end_up (views_of B.shown boxes.now) end }
 {
@@ -43,7 +43,7 @@ fn is_end_up<B: Bridge>(boxes: &[B], end: LinkEnd) -> bool
 
 /// Whether the bridge at a place has an LSP to send, to acknowledge or to ask for, or CSNPs that are due.
 fn is_clear<B: Bridge>(boxes: &[B], place: usize) -> bool
-    requires made { AreMade B.shown boxes.now }
+    requires made { AreConfigured B.shown boxes.now }
     ensures { result ≡ option_map_or (λ v. not (has_flags v)) (slice_get (views_of B.shown boxes.now) place) true }
 {
     match boxes.get(place) {
@@ -54,7 +54,7 @@ fn is_clear<B: Bridge>(boxes: &[B], place: usize) -> bool
 
 /// Whether no bridge has.
 fn are_clear<B: Bridge>(boxes: &[B]) -> bool
-    requires made { AreMade B.shown boxes.now }
+    requires made { AreConfigured B.shown boxes.now }
     ensures { result ≡ list_all (λ v. not (has_flags v)) (views_of B.shown boxes.now) }
 {
     for place in 0..boxes.len() {
@@ -150,7 +150,7 @@ impl<B: Bridge> NetworkOf<B> {
         requires { IsSoundNetwork B.shown self.now }
         ensures { IfOk result (λ found. found ≡ conditions_of (state_of B.shown self.now)) }
     {
-        match self.kept {
+        match self.conditions {
             Some(kept) => Ok(kept),
             None => self.find_conditions(),
         }
@@ -164,7 +164,7 @@ impl<B: Bridge> NetworkOf<B> {
         ensures halted { OnOk result (self.new.halted ≡ self.old.halted) }
     {
         let found = self.conditions()?;
-        self.kept = Some(found);
+        self.conditions = Some(found);
         Ok(())
     }
 

@@ -7,7 +7,7 @@ ghost use Rattle.network_model.specs.Refusing as refuse;
 ghost use Rattle.network_model.specs.Restarting as restart;
 ghost use Rattle.spb_world.specs.Links.{port_metrics};
 ghost use Rattle.network_model.specs.Play as play;
-ghost use Rattle.spb_network.specs.Network.{state_of, AreMade, IsInOrder, IsBlankAt};
+ghost use Rattle.spb_network.specs.Network.{state_of, AreConfigured, IsInOrder, IsBlankAt};
 ghost use Rattle.spb_network.specs.Applying.{IsSoundNetwork};
 
 use crate::rack::{kind_at, next_box};
@@ -189,7 +189,7 @@ impl<B: Bridge> NetworkOf<B> {
         ensures state { OnOk result (state_of B.shown self.new
             ≡ restart.restarted_in (state_of B.shown self.old) i
             (restart.restart_config (state_of B.shown self.old) i bridge) place) }
-        ensures made { OnOk result (AreMade B.shown self.new.boxes.items) }
+        ensures made { OnOk result (AreConfigured B.shown self.new.boxes.items) }
     {
         let config = self.restart_config(i, bridge)?;
         self.cut_links(i)?;
@@ -203,7 +203,7 @@ impl<B: Bridge> NetworkOf<B> {
         requires { IsSoundNetwork B.shown self.old }
         ensures state { OnOk result (state_of B.shown self.new
             ≡ restart.restarted (state_of B.shown self.old) i) }
-        ensures made { OnOk result (AreMade B.shown self.new.boxes.items) }
+        ensures made { OnOk result (AreConfigured B.shown self.new.boxes.items) }
     {
         let Some(bridge) = self.world.bridge(i) else {
             return Ok(());
@@ -220,7 +220,7 @@ impl<B: Bridge> NetworkOf<B> {
         requires { IsSoundNetwork B.shown self.old }
         ensures state { OnOk result (state_of B.shown self.new
             ≡ play.at_bridge restart.restarted (state_of B.shown self.old) name) }
-        ensures made { OnOk result (AreMade B.shown self.new.boxes.items) }
+        ensures made { OnOk result (AreConfigured B.shown self.new.boxes.items) }
     {
         match self.world.bridge_place(name) {
             None => Ok(()),

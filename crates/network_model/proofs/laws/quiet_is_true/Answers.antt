@@ -1,7 +1,7 @@
 use Rattle.network_model.proofs.Linked.{quiet_is_shared}
-use Rattle.network_model.proofs.QuietTruth.{quiet_is_true, quiet_networks_are_told}
-use Rattle.network_model.proofs.Told.{quiet_is_read}
-use Rattle.network_model.proofs.ToldLinks.{quiet_tells_links}
+use Rattle.network_model.proofs.QuietTruth.{quiet_is_true, quiet_has_wired_tables}
+use Rattle.network_model.proofs.QuietRead.{quiet_is_read}
+use Rattle.network_model.proofs.QuietReadLinks.{quiet_reads_links}
 use Rattle.network_model.proofs.laws.quiet_is_true.Goals as goal
 
 pub returns-clause-shared : goal.returns-clause-shared
@@ -11,10 +11,10 @@ pub returns-clause-read : goal.returns-clause-read
 returns-clause-read c = quiet_is_read
 
 pub returns-clause-links : goal.returns-clause-links
-returns-clause-links c = quiet_tells_links
+returns-clause-links c = quiet_reads_links
 
-pub returns-clause-told : goal.returns-clause-told
-returns-clause-told c = quiet_is_true
+pub returns-clause-wired : goal.returns-clause-wired
+returns-clause-wired c = quiet_is_true
 
 pub returns-clause-quiet : goal.returns-clause-quiet
-returns-clause-quiet c = quiet_networks_are_told
+returns-clause-quiet c = quiet_has_wired_tables

@@ -2,14 +2,14 @@ use Rattle.std.proofs.Common.{◌≡◌, Ok, Err, inr, refl, sym, ap, ◌∙◌,
 use Rattle.spb_network.specs.Applying.{IsSoundNetwork}
 use Rattle.spb_network.specs.Network.{state_of}
 use Rattle.network_model.specs.State.{State}
-use Rattle.network_model.proofs.Telling.{counted_networks_tell}
+use Rattle.network_model.proofs.Convergence.{counted_quiet_is_converged}
 use Rattle.script_run.specs.declared.status.Status.{Status}
 use Rattle.script_run.specs.declared.status.Status.TheVariants.{Done, Refused, Usage, NoMemory, ReadFault, WriteFault, TooLong}
 use Rattle.script_run.specs.Run.{is_written, is_cut}
 use Rattle.script_run.specs.Text.{fate_of}
 use Rattle.script_run.proofs.Commands.{script_apart, script_once}
 use Rattle.script_run.proofs.Completing.{is_fate, is_text, is_end, is_complete}
-use Rattle.script_run.proofs.Telling.{script_tells}
+use Rattle.script_run.proofs.Convergence.{script_is_converged}
 use Rattle.script_run.proofs.runner.run_script.Goals as goal
 
 none : {P : Type 0} → IsTrue false → P
@@ -51,8 +51,8 @@ returns-in-Ok-clause-runs g c =
       state = λ e. is_end g.K.Sink.holds left status _ _ _ _ c.in-Ok.ensures.ends;
       sound = λ e. sound.state;
       counted = λ e. counted;
-      told = λ e. counted_networks_tell (state_of g.B.Bridge.shown c.play_script.new.network) sound.state counted;
-      quiet = script_tells g.B.Bridge.shown c.args.network.now c.requires left;
+      converged = λ e. counted_quiet_is_converged (state_of g.B.Bridge.shown c.play_script.new.network) sound.state counted;
+      quiet = script_is_converged g.B.Bridge.shown c.args.network.now c.requires left;
       once = script_once g.B.Bridge.shown c.args.network.now c.requires left;
       apart = script_apart g.B.Bridge.shown c.args.network.now c.requires left;
       front = λ cut. whole_one status own cut;
@@ -73,8 +73,8 @@ returns-in-Err-Read-clause-runs g c =
       state = λ e. none e;
       sound = λ e. none e;
       counted = λ e. none e;
-      told = λ e. none e;
-      quiet = script_tells g.B.Bridge.shown c.args.network.now c.requires left;
+      converged = λ e. none e;
+      quiet = script_is_converged g.B.Bridge.shown c.args.network.now c.requires left;
       once = script_once g.B.Bridge.shown c.args.network.now c.requires left;
       apart = script_apart g.B.Bridge.shown c.args.network.now c.requires left;
       front = λ cut. none cut;
@@ -95,8 +95,8 @@ returns-in-Err-Write-clause-runs g c =
       state = λ e. none e;
       sound = λ e. none e;
       counted = λ e. none e;
-      told = λ e. none e;
-      quiet = script_tells g.B.Bridge.shown c.args.network.now c.requires left;
+      converged = λ e. none e;
+      quiet = script_is_converged g.B.Bridge.shown c.args.network.now c.requires left;
       once = script_once g.B.Bridge.shown c.args.network.now c.requires left;
       apart = script_apart g.B.Bridge.shown c.args.network.now c.requires left;
       front = λ cut. c.in-Err-Write.ensures.front;
@@ -117,8 +117,8 @@ returns-in-Err-NoMemory-clause-runs g c =
       state = λ e. none e;
       sound = λ e. none e;
       counted = λ e. none e;
-      told = λ e. none e;
-      quiet = script_tells g.B.Bridge.shown c.args.network.now c.requires left;
+      converged = λ e. none e;
+      quiet = script_is_converged g.B.Bridge.shown c.args.network.now c.requires left;
       once = script_once g.B.Bridge.shown c.args.network.now c.requires left;
       apart = script_apart g.B.Bridge.shown c.args.network.now c.requires left;
       front = λ cut. c.in-Err-NoMemory.ensures.front;

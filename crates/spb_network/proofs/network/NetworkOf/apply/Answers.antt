@@ -5,10 +5,10 @@ use Rattle.network_model.specs.Play.{next_count, next_state}
 use Rattle.network_model.specs.Sound.{IsSoundState}
 use Rattle.network_model.specs.Counted.{IsCounted, most_commands}
 use Rattle.spb_network.specs.Network.{state_of}
-use Rattle.network_model.specs.Telling.{QuietTells}
+use Rattle.network_model.specs.Convergence.{QuietIsConverged}
 use Rattle.network_model.proofs.SoundPlay.{commands_keep_sound}
 use Rattle.network_model.proofs.CountedStays.{stays_counted}
-use Rattle.network_model.proofs.Telling.{next_tells}
+use Rattle.network_model.proofs.Convergence.{next_is_converged}
 use Rattle.spb_network.proofs.Keeping.{counted_conditions}
 use Rattle.spb_network.proofs.network.NetworkOf.apply.Goals as goal
 
@@ -54,4 +54,4 @@ returns-in-Ok-clause-quiet g c =
     let few : old.accepted ≤ most_commands → IsCounted old = ⊎_elim (λ h. absurd (true≢false (sym h ∙ c.if-self.false))) (λ n. n.counted) c.requires in
     let accepted : refusal_of old c.args.command.now ≡ None = sym c.refusal.ensures ∙ c.in-None.is in
     let same = (λ i. record made { accepted = c.saturating_add-self.ensures i }) ∙ ap (λ (t : State). record t { accepted = next_count t.accepted }) c.in-Ok.ensures.state in
-    subst (λ (t : State). t.accepted ≤ most_commands → QuietTells t) (sym same) (next_tells old c.args.command.now sound c.addressed.ensures few accepted)
+    subst (λ (t : State). t.accepted ≤ most_commands → QuietIsConverged t) (sym same) (next_is_converged old c.args.command.now sound c.addressed.ensures few accepted)

@@ -2,7 +2,7 @@ use Rattle.std.proofs.Common.{[], ◌++◌, ◌∙◌, sym, ap, subst, slice_get
 use Rattle.std.specs.Option.{option_map_or}
 use Rattle.bridge_api.specs.Step as comes
 use Rattle.bridge_api.specs.Step.{sent, left_by}
-use Rattle.spb_network.specs.Network.{state_of, AreMade}
+use Rattle.spb_network.specs.Network.{state_of, AreConfigured}
 use Rattle.spb_world.proofs.BoxLemmas.{on_ok}
 use Rattle.spb_network.proofs.SendLemmas.{stepped-moved}
 use Rattle.network_model.proofs.SoundAttaching.{taken_port}
@@ -31,4 +31,4 @@ returns-clause-state g c =
 
 pub returns-clause-made : goal.returns-clause-made
 returns-clause-made g c =
-    on_ok c.send_on.result (λ e. subst (λ b. AreMade g.B.Bridge.shown b.items) (sym c.send_on.ensures.boxes) c.in_ok-enter.ensures.made) c.send_on.ensures.state
+    on_ok c.send_on.result (λ e. subst (λ b. AreConfigured g.B.Bridge.shown b.items) (sym c.send_on.ensures.boxes) c.in_ok-enter.ensures.made) c.send_on.ensures.state

@@ -2,7 +2,7 @@ use Rattle.std.proofs.Common.{[], ◌++◌, ◌∙◌, sym, ap, subst, slice_get
 use Rattle.std.specs.Option.{option_map_or}
 use Rattle.bridge_api.specs.Step as comes
 use Rattle.bridge_api.specs.Step.{sent, left_by}
-use Rattle.spb_network.specs.Network.{state_of, AreMade}
+use Rattle.spb_network.specs.Network.{state_of, AreConfigured}
 use Rattle.network_model.specs.State.{Fits}
 use Rattle.spb_world.proofs.BoxLemmas.{on_ok}
 use Rattle.spb_network.proofs.SendLemmas.{stepped-moved, stepped-silent}
@@ -38,6 +38,6 @@ returns-clause-state g c =
 pub returns-clause-order : goal.returns-clause-order
 returns-clause-order g c =
     on_ok c.send_on.result (λ e. record {
-      made = subst (λ b. AreMade g.B.Bridge.shown b.items) (sym c.send_on.ensures.boxes) c.in_ok-hear.ensures.made;
+      made = subst (λ b. AreConfigured g.B.Bridge.shown b.items) (sym c.send_on.ensures.boxes) c.in_ok-hear.ensures.made;
       fits = subst Fits (sym e) (Fits-stepped (comes.frame c.args.end.port c.args.frame.now) (state_of g.B.Bridge.shown c.args.self.now) c.args.end.bridge c.requires.order.fits);
     }) (returns-clause-state g c)

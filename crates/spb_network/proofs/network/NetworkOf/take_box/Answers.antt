@@ -2,7 +2,7 @@ use Rattle.std.proofs.Common.{◌≡◌, ◌∷◌, [], ◌++◌, map, false, su
 use Rattle.bridge_api.specs.Config.{configured}
 use Rattle.bridge_api.specs.Shown.{view_in, views_of}
 use Rattle.network_model.specs.State.{State}
-use Rattle.spb_network.specs.Network.{state_of, spare, AreMade}
+use Rattle.spb_network.specs.Network.{state_of, spare, AreConfigured}
 use Rattle.spb_world.proofs.BoxLemmas.{on_ok, got}
 use Rattle.spb_network.proofs.CommandFits.{map-remove, map-push}
 use Rattle.spb_world.proofs.ListLemmas.{All-push}
@@ -42,4 +42,4 @@ returns-clause-state g c =
 
 pub returns-clause-made : goal.returns-clause-made
 returns-clause-made g c =
-    on_ok c.declare_bridge.result (λ e. subst (AreMade g.B.Bridge.shown) (sym c.in_ok-push.ensures.items) (All-push (λ b. (g.B.Bridge.shown b).blank ≡ false) c.args.self.now.boxes.items c.configure.new.self c.requires.made c.in_ok-configure.ensures.made)) c.declare_bridge.ensures.ok
+    on_ok c.declare_bridge.result (λ e. subst (AreConfigured g.B.Bridge.shown) (sym c.in_ok-push.ensures.items) (All-push (λ b. (g.B.Bridge.shown b).blank ≡ false) c.args.self.now.boxes.items c.configure.new.self c.requires.made c.in_ok-configure.ensures.made)) c.declare_bridge.ensures.ok

@@ -3,7 +3,7 @@ use Rattle.std.specs.Option.{option_map_or}
 use Rattle.std.specs.Prelude.{slice_get}
 use Rattle.bridge_api.specs.Step as comes
 use Rattle.bridge_api.specs.Shown.{views_of}
-use Rattle.spb_network.specs.Network.{state_of, AreMade}
+use Rattle.spb_network.specs.Network.{state_of, AreConfigured}
 use Rattle.network_model.specs.State.{Fits}
 use Rattle.spb_world.proofs.BoxLemmas.{on_ok}
 use Rattle.spb_network.proofs.SendLemmas.{stepped-is, frames-none}
@@ -22,6 +22,6 @@ returns-clause-state g c =
 pub returns-clause-order : goal.returns-clause-order
 returns-clause-order g c =
     on_ok c.send_all.result (λ e. record {
-      made = subst (λ b. AreMade g.B.Bridge.shown b.items) (sym c.send_all.ensures.boxes) c.in_ok-tick.ensures.made;
+      made = subst (λ b. AreConfigured g.B.Bridge.shown b.items) (sym c.send_all.ensures.boxes) c.in_ok-tick.ensures.made;
       fits = subst Fits (sym e) (Fits-stepped comes.second (state_of g.B.Bridge.shown c.args.self.now) c.args.i c.requires.fits);
     }) (returns-clause-state g c)

@@ -14,7 +14,7 @@ use Rattle.network_model.specs.SoundLaws.{IsAddressed}
 use Rattle.network_model.specs.Counted.{IsCounted, most_commands}
 use Rattle.network_model.proofs.SoundPlay.{commands_keep_sound}
 use Rattle.network_model.proofs.CountedStays.{stays_counted}
-use Rattle.network_model.proofs.Telling.{counted_networks_tell}
+use Rattle.network_model.proofs.Convergence.{counted_quiet_is_converged}
 use Rattle.script_run.specs.declared.refusal.Refusal.{Refusal}
 use Rattle.script_run.specs.Play.{judged, judged_by, judged_as}
 use Rattle.script_run.specs.Replying.{IsNew}
@@ -52,7 +52,7 @@ if_accepted (Some why) holds = tt
 trusted : (s : State) → IsKept s → s.accepted ≤ most_commands → IsTrusted s
 trusted s kept few =
     let counted = kept.counted few in
-    record { sound = kept.sound; counted = counted; told = counted_networks_tell s kept.sound counted }
+    record { sound = kept.sound; counted = counted; converged = counted_quiet_is_converged s kept.sound counted }
 
 all_tell : (s : State) (number : ℕ) (ls : List (List ℕ)) → IsKept s → s.accepted + length ls ≤ most_commands → AllStates IsTrusted s number ls
 all_tell s number [] kept few = tt
@@ -76,6 +76,6 @@ module _ {B : Type 0} (shown : B → Shown) (n : NetworkOf B) (new : IsNew shown
       let none : (state_of shown n).accepted ≡ 0 = ap (λ (s : State). s.accepted) new.opening in
       all_tell (state_of shown n) 1 (lines_played script) kept (omega (arith, none, lines_few script))
 
-  pub script_tells : (left : Option (List ℕ)) → IfSome left (λ script. AllStates IsTrusted (state_of shown n) 1 (lines_played script))
-  script_tells None = tt
-  script_tells (Some script) = lines_tell script
+  pub script_is_converged : (left : Option (List ℕ)) → IfSome left (λ script. AllStates IsTrusted (state_of shown n) 1 (lines_played script))
+  script_is_converged None = tt
+  script_is_converged (Some script) = lines_tell script

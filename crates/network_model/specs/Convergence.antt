@@ -13,33 +13,34 @@ use Rattle.network_model.specs.Sound.{IsSoundState, opening}
 use Rattle.network_model.specs.SoundLaws.{IsAddressed, AreAccepted}
 use Rattle.network_model.specs.Counted.{IsCounted, most_commands}
 use Rattle.network_model.specs.Quiet.{IsQuiet}
-use Rattle.network_model.specs.Truth.{AreJoined, HoldTheSame, IsTold}
+use Rattle.network_model.specs.Truth.{AreJoined, HoldTheSame, HasWiredTables}
 use Rattle.network_model.specs.PathLaws.{GoOnePath}
 use Rattle.network_model.specs.Once.{LeavesOnce}
 
 -- every bridge has its part of the wiring right, any two that a walk joins hold the same, and between any two the path
 -- is that of the wiring and frames go that way, there and back, in each declared VID; and between commands, a group
 -- frame that enters and is delivered leaves where it has to, once
-pub record AreTold (s : State) : Type 0 where
-  pub told : (i : ℕ) (v : BridgeView) → slice_get s.views i ≡ Some v → IsTold s i v
+pub record IsConverged (s : State) : Type 0 where
+  pub wired : (i : ℕ) (v : BridgeView) → slice_get s.views i ≡ Some v → HasWiredTables s i v
   pub shared : (v w : BridgeView) → AreJoined s v w → HoldTheSame v w
   pub paths : (i j : ℕ) (v w : BridgeView) (plan : VidPlan) → slice_get s.views i ≡ Some v
       → slice_get s.views j ≡ Some w → Contains s.world.vids plan → GoOnePath s v w plan
   pub once : s.outs ≡ [] → LeavesOnce s
 
--- where the network is quiet, every bridge is told
-abbrev pub QuietTells : State → Type 0
-QuietTells s = IsQuiet s → AreTold s
+-- where the network is quiet, it is converged
+abbrev pub QuietIsConverged : State → Type 0
+QuietIsConverged s = IsQuiet s → IsConverged s
 
 -- so it is in each sound network whose sequence numbers are counted: none are spent, and no bridge reads more systems
 -- than are declared
-abbrev pub CountedNetworksTell : Type 0
-CountedNetworksTell = (s : State) → IsSoundState s → IsCounted s → QuietTells s
+abbrev pub CountedQuietIsConverged : Type 0
+CountedQuietIsConverged = (s : State) → IsSoundState s → IsCounted s → QuietIsConverged s
 
 -- and so whatever commands were accepted
-abbrev pub NetworksTell : Type 0
-NetworksTell = (rule : KindRule) (rack : List Spare) (cs : List Command) → AllByRecursion IsAddressed cs
-    → AreAccepted (opening rule rack) cs → length cs ≤ most_commands → QuietTells (played_all (opening rule rack) cs)
+abbrev pub PlayedQuietIsConverged : Type 0
+PlayedQuietIsConverged = (rule : KindRule) (rack : List Spare) (cs : List Command) → AllByRecursion IsAddressed cs
+    → AreAccepted (opening rule rack) cs → length cs ≤ most_commands
+    → QuietIsConverged (played_all (opening rule rack) cs)
 
 -- some commands, no more than are counted, are accepted from the opening on, and lead to a quiet network of two bridges
 -- and one link

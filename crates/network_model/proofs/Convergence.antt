@@ -13,7 +13,7 @@ use Rattle.std.specs.Option.{option_map_or}
 use Rattle.bridge_api.specs.Graph.{own_tables}
 use Rattle.network_model.specs.Quiet.{failing}
 use Rattle.network_model.specs.Questions.{no_tables}
-use Rattle.network_model.specs.Telling.{QuietTells, CountedNetworksTell, NetworksTell, ShowIsTrue}
+use Rattle.network_model.specs.Convergence.{QuietIsConverged, CountedQuietIsConverged, PlayedQuietIsConverged, ShowIsTrue}
 use Rattle.network_model.proofs.QuietLists.{nil_of, of_nil}
 use Rattle.network_model.proofs.Linked.{quiet_is_shared}
 use Rattle.network_model.proofs.QuietTruth.{quiet_is_true}
@@ -24,29 +24,29 @@ use Rattle.network_model.proofs.CountedPlay.{networks_are_counted}
 use Rattle.network_model.proofs.SoundPlay.{commands_keep_sound, networks_are_sound}
 use Rattle.network_model.proofs.CountedStays.{stays_counted}
 
-pub counted_networks_tell : CountedNetworksTell
-counted_networks_tell s sound counted quiet =
+pub counted_quiet_is_converged : CountedQuietIsConverged
+counted_quiet_is_converged s sound counted quiet =
     let rest : IsAtRest s = at_rest s sound counted quiet in
     record {
-      told = λ i v at. quiet_is_true s i v rest at;
+      wired = λ i v at. quiet_is_true s i v rest at;
       shared = λ v w joined. quiet_is_shared s v w sound rest.calm rest.bodies joined;
       paths = λ i j v w plan at_v at_w planned. frames_go_one_path s i j v w plan rest at_v at_w planned;
       once = λ none. leaves_once_at_rest s rest none;
     }
 
-pub networks_tell : NetworksTell
-networks_tell rule rack cs addressed accepted few =
-    counted_networks_tell _ (networks_are_sound rule rack cs addressed accepted) (networks_are_counted rule rack cs addressed accepted few)
+pub played_quiet_is_converged : PlayedQuietIsConverged
+played_quiet_is_converged rule rack cs addressed accepted few =
+    counted_quiet_is_converged _ (networks_are_sound rule rack cs addressed accepted) (networks_are_counted rule rack cs addressed accepted few)
 
 -- a command that isn't refused leaves a network that tells, while few commands were accepted
-pub next_tells : (s : State) (c : Command) → IsSoundState s → IsAddressed c → (s.accepted ≤ most_commands → IsCounted s) → refusal_of s c ≡ None → (next_state s c).accepted ≤ most_commands → QuietTells (next_state s c)
-next_tells s c sound addressed counted none few =
-    counted_networks_tell (next_state s c) (commands_keep_sound s c sound addressed none) (stays_counted s c sound counted none few)
+pub next_is_converged : (s : State) (c : Command) → IsSoundState s → IsAddressed c → (s.accepted ≤ most_commands → IsCounted s) → refusal_of s c ≡ None → (next_state s c).accepted ≤ most_commands → QuietIsConverged (next_state s c)
+next_is_converged s c sound addressed counted none few =
+    counted_quiet_is_converged (next_state s c) (commands_keep_sound s c sound addressed none) (stays_counted s c sound counted none few)
 
 pub show_is_true : ShowIsTrue
 show_is_true = record {
   says = λ s. (nil_of (failing s), of_nil (failing s));
   rows = λ s i v sound counted at quiet.
       ap (λ (o : Option BridgeView). option_map_or own_tables o no_tables) at
-      ∙ ((counted_networks_tell s sound counted (nil_of (failing s) quiet)).told i v at).tables;
+      ∙ ((counted_quiet_is_converged s sound counted (nil_of (failing s) quiet)).wired i v at).tables;
 }

@@ -22,11 +22,11 @@ use Rattle.spb_world.specs.World.{Bridges, IsLink, edge_of, system_at, world_gra
 use Rattle.network_model.specs.State.{State, links_of}
 use Rattle.spb_world.specs.Links.{near_end, far_end}
 use Rattle.network_model.specs.Sound.{IsSoundState}
-use Rattle.network_model.specs.Truth.{IsAtRest, AreLinked, IsWalk, AreJoined, IsThere, QuietTellsLinks}
+use Rattle.network_model.specs.Truth.{IsAtRest, AreLinked, IsWalk, AreJoined, IsThere, QuietReadsLinks}
 use Rattle.spb_world.proofs.ValidLemmas.{place_from}
 use Rattle.spb_world.proofs.SoundLaneIds.{turned, near-turned}
 use Rattle.network_model.proofs.Linked.{far_view}
-use Rattle.network_model.proofs.Told.{quiet_is_read}
+use Rattle.network_model.proofs.QuietRead.{quiet_is_read}
 use Rattle.network_model.proofs.Wires.{IsLinkOf, IsEdgeBetween, near_is, far_is, is_link, edge_found, edge_sought}
 use Rattle.network_model.proofs.Spoken.{place_low, system_is, entry_over, entry_linked, entry_over_link}
 
@@ -150,8 +150,8 @@ is_read s v w y (Some f) rest joined found =
           ∙ ap Some (port_is s w.id.system y p.dir p.link p.near p.far (systems_apart s w.id.system y rest.sound p) ∙ ap (λ (e : Edge). port_at e w.id.system) (sym between.is));
     }
 
-pub quiet_tells_links : QuietTellsLinks
-quiet_tells_links s v w rest joined = record {
+pub quiet_reads_links : QuietReadsLinks
+quiet_reads_links s v w rest joined = record {
   costs = λ y. (is_read s v w y (find (λ e. joins e w.id.system y) (world_graph s.world).edges) rest joined refl).cost ∙ sym (cost_among_find (world_graph s.world).edges w.id.system y);
   ports = λ y. (is_read s v w y (find (λ e. joins e w.id.system y) (world_graph s.world).edges) rest joined refl).port ∙ sym (port_among_find (world_graph s.world).edges w.id.system y);
 }
