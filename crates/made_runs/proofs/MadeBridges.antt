@@ -1,5 +1,5 @@
 -- The bridges of a script that is made: each is accepted.
-use Rattle.std.proofs.Common.{◌≡◌, ◌≢◌, ◌⊎◌, ℕ, zero, suc, ◌+◌, ◌≤◌, ◌<◌, true, false, not, ◌==◌, List, [], ◌∷◌, ◌++◌, length, get_or, Some, None, refl, sym, ap, subst, arith, inl, inr}
+use Rattle.std.proofs.Common.{◌≡◌, ◌≢◌, ◌⊎◌, ℕ, zero, suc, ◌+◌, ◌≤◌, ◌<◌, true, false, not, ◌&&◌, ◌==◌, List, [], ◌∷◌, ◌++◌, length, get_or, Some, None, refl, sym, ap, subst, arith, inl, inr}
 use Rattle.std.proofs.lemmas.Bool.{ne_eqb}
 use Rattle.std.specs.List.{AllByRecursion}
 use Rattle.std.specs.Str.{bytes_eq}
@@ -7,11 +7,10 @@ use Rattle.spb_types.specs.declared.address.Mac.{Mac}
 use Rattle.spb_types.specs.declared.service.SourceId.{SourceId}
 use Rattle.scenario_maker.specs.Made.{bridge_name}
 use Rattle.scenario_maker.proofs.Places.{names_are_apart}
-use Rattle.spb_types.specs.Bytes.{u8_at}
 use Rattle.spb_world.specs.declared.declaration.DeclaredBridge.{DeclaredBridge}
 use Rattle.spb_world.specs.declared.reason.Reason.TheVariants.{NameTaken, IdTaken, Range, TooMany}
 use Rattle.spb_world.specs.World.{World, Bridges, place_of, ports_at}
-use Rattle.spb_world.specs.Declaring.{is_new_system, is_new_source, is_bridge_range, bridge_refusal, bridge_of, IsAddress}
+use Rattle.spb_world.specs.Declaring.{is_new_system, is_new_source, is_bridge_address, is_bridge_range, bridge_refusal, bridge_of}
 use Rattle.spb_world.proofs.ListLemmas.{All-map, All-push, length-push}
 use Rattle.made_runs.proofs.StandingSteps.{reason_none, or_none, and-yes}
 use Rattle.made_runs.proofs.MadeRuns.{below_or_last, bytes_apart, bytes_same, lt-yes, no_thing_passes, at, none_at, kept_at, new_at, place_at, new_name}
@@ -53,9 +52,12 @@ below_system j e is = subst (λ (x : List ℕ × DeclaredBridge). bytes_eq x.1.b
 below_source : (j : ℕ) (e : List ℕ × DeclaredBridge) → IsBridgeBelow j e → (e.1.bridge.source.value == j) ≡ false
 below_source j e is = subst (λ (x : List ℕ × DeclaredBridge). (x.1.bridge.source.value == j) ≡ false) (sym is.is) (let a = is.high in ne_eqb is.number j (λ k. absurd (omega arith)))
 
+own_address : (j : ℕ) → j ≤ 96 → is_bridge_address (mac_of j) ≡ true
+own_address j few = and-yes _ _ (and-yes _ _ (ap (λ t. t && true) (lt-yes j 256 (omega arith))) refl) refl
+
 range_holds : (j : ℕ) → j ≤ 96 → is_bridge_range 32768 (mac_of j) (source_of j) 3 ≡ true
 unfolding is_bridge_range
-range_holds j few = and-yes _ _ (and-yes _ _ (and-yes _ _ refl refl) (lt-yes j 1048576 (omega arith))) refl
+range_holds j few = and-yes _ _ (and-yes _ _ (and-yes _ _ refl (own_address j few)) (lt-yes j 1048576 (omega arith))) refl
 
 pub new_bridge : (w : World) (j : ℕ) → j ≤ 96 → AreBridged j w.bridges → bridge_refusal w (bridge_name j) 32768 (mac_of j) (source_of j) 3 ≡ None
 unfolding bridge_refusal is_new_system is_new_source
@@ -103,15 +105,3 @@ all_ports (b ∷ bs) j (suc p) all h = all_ports bs j p all.1 (omega arith)
 
 pub bridge_ports : (bs : Bridges) (j p : ℕ) → AreBridged j bs → p + 1 < j → ports_at bs p ≡ 3
 bridge_ports bs j p so h = let count = so.count in all_ports bs j p so.all (omega arith)
-
-pub addressed : (k : ℕ) → k ≤ 96 → IsAddress (mac_of k)
-addressed k few = record { bytes = refl; octets = octets }
-  where
-    octets : (i : ℕ) → u8_at (mac_of k).bytes i < 256
-    octets zero = omega arith
-    octets (suc zero) = omega arith
-    octets (suc (suc zero)) = omega arith
-    octets (suc (suc (suc zero))) = omega arith
-    octets (suc (suc (suc (suc zero)))) = omega arith
-    octets (suc (suc (suc (suc (suc zero))))) = omega arith
-    octets (suc (suc (suc (suc (suc (suc i)))))) = omega arith

@@ -18,7 +18,7 @@ use Rattle.network_model.specs.Refusing.{refusal_of}
 use Rattle.network_model.specs.Play.{next_state}
 use Rattle.made_runs.proofs.StandingSteps.{Stands, Goes, vid_goes, isid_goes, bridge_goes, link_goes, attach_goes}
 use Rattle.made_runs.proofs.MadeRuns.{Runs, runs_one, runs_more, runs_each, runs_map}
-use Rattle.made_runs.proofs.MadeBridges.{mac_of, source_of, AreBridged, new_bridge, bridged_more, bridge_place, addressed}
+use Rattle.made_runs.proofs.MadeBridges.{mac_of, source_of, AreBridged, new_bridge, bridged_more, bridge_place}
 use Rattle.made_runs.proofs.MadeLinks.{AreWired, new_ring, new_chord, ring_more, chord_more, switched_last}
 use Rattle.made_runs.proofs.MadeServices.{plans, AreServed, IsMember, AreJoined, new_service, served_more, new_member, own_free, behind_free, opposite_free, own_more, behind_more, opposite_more}
 
@@ -93,7 +93,7 @@ runs_bridge : (n j m : ℕ) → n ≤ 96 → 1 ≤ j → j ≤ n → Runs (Stays
 runs_bridge n j m few some high =
     let low : j ≤ 96 = omega arith in
     runs_step (suc m) 0 0 m 0 0 (IsDeclared n j 1 1 1 1 1 1) (IsDeclared n (j + 1) 1 1 1 1 1 1) (bridge j) (λ w. with_bridge w (bridge_name j) (bridge_of 32768 (mac_of j) (source_of j) 3))
-    (λ s stands so. (bridge_goes s (bridge_name j) 32768 (mac_of j) (source_of j) 3 m 0 0 stands (addressed j low) (new_bridge s.world j low so.bridges), declared_bridge n j s.world some low so))
+    (λ s stands so. (bridge_goes s (bridge_name j) 32768 (mac_of j) (source_of j) 3 m 0 0 stands (new_bridge s.world j low so.bridges), declared_bridge n j s.world some low so))
 
 pub runs_bridges : (n : ℕ) → n ≤ 96 → Runs (Stays (n + 1) 0 0 (IsDeclared n 1 1 1 1 1 1 1)) (bridges n) (Stays 1 0 0 (IsDeclared n (n + 1) 1 1 1 1 1 1))
 runs_bridges n few =

@@ -1,19 +1,17 @@
 -- Services stay apart in one command, and so through all of them.
-use Rattle.std.proofs.Common.{◌≡◌, inl, inr, ℕ, List, [], ◌∷◌, ◌++◌, refl, None}
-use Rattle.std.specs.List.{AllByRecursion}
+use Rattle.std.proofs.Common.{◌≡◌, inl, inr, ℕ, List, [], ◌∷◌, ◌++◌, refl}
 use Rattle.scenario.specs.declared.command.Command.{Command}
 use Rattle.link_model.specs.Lanes.{lane_of}
 use Rattle.spb_types.specs.declared.service.Isid.{Isid}
 use Rattle.bridge_laws.specs.Apart.{CarriesEntered}
 use Rattle.network_model.specs.declared.kind_rule.KindRule.{KindRule}
 use Rattle.network_model.specs.State.{State, Spare}
-use Rattle.network_model.specs.Refusing.{refusal_of}
 use Rattle.network_model.specs.Play.{next_state, played_all}
 use Rattle.network_model.specs.Sound.{IsSoundState, opening}
-use Rattle.network_model.specs.SoundLaws.{IsAddressed, AreAccepted}
+use Rattle.network_model.specs.SoundLaws.{AreAccepted, opening_of}
 use Rattle.network_model.specs.Isolation.{HasEntered, HavePlaces, IsApart, IsThere, CommandsKeepApart, ServicesStayApart}
 use Rattle.network_model.proofs.SoundLane.{All-from}
-use Rattle.network_model.proofs.SoundPlay.{commands_keep_sound, networks_are_sound}
+use Rattle.network_model.proofs.SoundPlay.{commands_keep_sound, opening_sound, networks_are_sound}
 use Rattle.network_model.proofs.ApartPlay.{command_apart}
 
 -- ---- one command
@@ -27,8 +25,8 @@ there_apart s c places = record {
 }
 
 pub commands_keep_apart : CommandsKeepApart
-commands_keep_apart s c sound addressed accepted none places =
-    let both = command_apart (IsThere s c) s sound none (there_apart s c places) c addressed accepted (λ isid f enters. inr enters) in
+commands_keep_apart s c sound accepted none places =
+    let both = command_apart (IsThere s c) s sound none (there_apart s c places) c accepted (λ isid f enters. inr enters) in
     record { apart = both.0; left = both.1 }
 
 -- ---- one after another
@@ -52,32 +50,22 @@ all_outs : (s : State) (cs : List Command) → s.outs ≡ [] → (played_all s c
 all_outs s [] none = none
 all_outs s (c ∷ cs) none = all_outs (next_state s c) cs (next_outs s c)
 
-all_apart : (Entered : Isid → List ℕ → Type 0) (s : State) (cs : List Command) → IsSoundState s → s.outs ≡ [] → AllByRecursion IsAddressed cs → AreAccepted s cs → IsApart Entered s → ((isid : Isid) (f : List ℕ) → HasEntered s cs isid f → Entered isid f) → IsApart Entered (played_all s cs)
-all_apart Entered s [] sound none addressed accepted apart entered = apart
-all_apart Entered s (c ∷ cs) sound none addressed accepted apart entered =
-    all_apart Entered (next_state s c) cs (commands_keep_sound s c sound addressed.0 accepted.0) (next_outs s c) addressed.1 accepted.1
-    (command_apart Entered s sound none apart c addressed.0 accepted.0 (λ isid f enters. entered isid f (inl enters))).0
+all_apart : (Entered : Isid → List ℕ → Type 0) (s : State) (cs : List Command) → IsSoundState s → s.outs ≡ [] → AreAccepted s cs → IsApart Entered s → ((isid : Isid) (f : List ℕ) → HasEntered s cs isid f → Entered isid f) → IsApart Entered (played_all s cs)
+all_apart Entered s [] sound none accepted apart entered = apart
+all_apart Entered s (c ∷ cs) sound none accepted apart entered =
+    all_apart Entered (next_state s c) cs (commands_keep_sound s c sound accepted.0) (next_outs s c) accepted.1
+    (command_apart Entered s sound none apart c accepted.0 (λ isid f enters. entered isid f (inl enters))).0
     (λ isid f later. entered isid f (inr later))
 
--- ---- of commands and one more
-
-all_split : {X : Type 0} (P : X → Type 0) (xs : List X) (y : X) → AllByRecursion P (xs ++ y ∷ []) → AllByRecursion P xs × P y
-all_split P [] y all = (tt, all.0)
-all_split P (x ∷ xs) y all = let rest = all_split P xs y all.1 in ((all.0, rest.0), rest.1)
-
-accepted_split : (s : State) (cs : List Command) (c : Command) → AreAccepted s (cs ++ c ∷ []) → AreAccepted s cs × (refusal_of (played_all s cs) c ≡ None)
-accepted_split s [] c accepted = (tt, accepted.0)
-accepted_split s (d ∷ cs) c accepted = let rest = accepted_split (next_state s d) cs c accepted.1 in ((accepted.0, rest.0), rest.1)
+-- ---- all of them
 
 -- in a network in which nothing is declared nothing is on its way
 opening_apart : (Entered : Isid → List ℕ → Type 0) (rule : KindRule) (rack : List Spare) → IsApart Entered (opening rule rack)
 opening_apart Entered rule rack = record { lanes = λ k dir. tt; places = λ i v at. absurd cc }
 
 pub services_stay_apart : ServicesStayApart
-services_stay_apart rule rack cs c addressed accepted =
-    let s : State = opening rule rack in
-    let each = all_split IsAddressed cs c addressed in
-    let both = accepted_split s cs c accepted in
-    let sound : IsSoundState (played_all s cs) = networks_are_sound rule rack cs each.0 both.0 in
-    let before : IsApart (HasEntered s (cs ++ c ∷ [])) (played_all s cs) = all_apart (HasEntered s (cs ++ c ∷ [])) s cs (networks_are_sound rule rack [] tt tt) refl each.0 both.0 (opening_apart (HasEntered s (cs ++ c ∷ [])) rule rack) (entered_first s cs (c ∷ [])) in
-    (command_apart (HasEntered s (cs ++ c ∷ [])) (played_all s cs) sound (all_outs s cs refl) before c each.1 both.1 (λ isid f enters. entered_last s cs (c ∷ []) isid f (inl enters))).1
+services_stay_apart scene c accepted =
+    let s : State = opening_of scene in
+    let cs : List Command = scene.commands in
+    let before : IsApart (HasEntered s (cs ++ c ∷ [])) (played_all s cs) = all_apart (HasEntered s (cs ++ c ∷ [])) s cs (opening_sound scene.rule scene.rack) refl scene.accepted (opening_apart (HasEntered s (cs ++ c ∷ [])) scene.rule scene.rack) (entered_first s cs (c ∷ [])) in
+    (command_apart (HasEntered s (cs ++ c ∷ [])) (played_all s cs) (networks_are_sound scene) (all_outs s cs refl) before c accepted (λ isid f enters. entered_last s cs (c ∷ []) isid f (inl enters))).1

@@ -37,7 +37,6 @@ use Rattle.network_model.specs.Questions.{Question, is_quiet, show_at, db_at, ad
 use Rattle.network_model.specs.Paths.{path_at, path_answer, path_found, path_from}
 use Rattle.network_model.specs.Play.{boxed, declared, linked, link_between_found, named_link, at_place, at_bridge, at_link, with_vid_more, with_service_more, with_rounds, with_drain, played, accepted_once, next_state, answer_at_found, answer_to_asked, answer_of}
 use Rattle.network_model.specs.Sound.{IsSoundState}
-use Rattle.network_model.specs.SoundLaws.{IsAddressed}
 use Rattle.network_model.specs.Isolation.{IsPortOf, Enters, outs_in, LeftEntered, IsApart}
 use Rattle.spb_world.proofs.BoxLemmas.{All-get}
 use Rattle.network_model.proofs.ApartBridge.{configured_is_placed}
@@ -116,10 +115,10 @@ module _ (Entered : Isid → List ℕ → Type 0) (s : State) (sound : IsSoundSt
     outs = separate.outs;
   }
 
-  bridge_separate : (name : List ℕ) (priority : ℕ) (system : Mac) (source : SourceId) (ports : ℕ) → IsAddressed (command.Bridge name priority system source ports) → refusal_of s (command.Bridge name priority system source ports) ≡ None → IsSeparate Entered Left (declared s name (bridge_of priority system source ports))
+  bridge_separate : (name : List ℕ) (priority : ℕ) (system : Mac) (source : SourceId) (ports : ℕ) → refusal_of s (command.Bridge name priority system source ports) ≡ None → IsSeparate Entered Left (declared s name (bridge_of priority system source ports))
   unfolding declared next_state
-  bridge_separate name priority system source ports addressed accepted =
-      boxed_separate name (bridge_of priority system source ports) (box_for s) (commands_keep_sound s (command.Bridge name priority system source ports) sound addressed accepted).views
+  bridge_separate name priority system source ports accepted =
+      boxed_separate name (bridge_of priority system source ports) (box_for s) (commands_keep_sound s (command.Bridge name priority system source ports) sound accepted).views
 
   link_lanes : (name : List ℕ) (l : DeclaredLink) → IsSeparate Entered Left (record s { world = with_link s.world name l; lanes = s.lanes ++ no_frames ∷ [] })
   link_lanes name l = record {
@@ -214,32 +213,32 @@ module _ (Entered : Isid → List ℕ → Type 0) (s : State) (sound : IsSoundSt
 
   -- ---- the commands
 
-  played_separate : (c : Command) → IsAddressed c → refusal_of s c ≡ None → ((isid : Isid) (f : List ℕ) → Enters s c isid f → Entered isid f) → IsSeparate Entered Left (played s c)
-  played_separate (command.Vid vid ect) addressed accepted enters = vid_separate vid ect
-  played_separate (command.Bridge name priority system source ports) addressed accepted enters = bridge_separate name priority system source ports addressed accepted
-  played_separate (command.Link name a port_a b port_b cost) addressed accepted enters = link_separate name a b port_a port_b cost accepted
-  played_separate (command.Isid isid vid) addressed accepted enters = service_separate isid vid
-  played_separate (command.Attach name port isid) addressed accepted enters = attach_separate name port isid accepted
-  played_separate (command.Detach name port) addressed accepted enters = detach_separate name port accepted
-  played_separate (command.Metric name side m) addressed accepted enters = metric_separate name side m accepted
-  played_separate (command.Down name) addressed accepted enters = at_link_separate switched_off name (λ k. separate_switched_off Entered Left s k separate)
-  played_separate (command.Up name) addressed accepted enters = at_link_separate switched_on name (λ k. separate_switched_on Entered Left s k separate)
-  played_separate (command.Restart name) addressed accepted enters = at_bridge_separate restarted name (λ i. separate_restarted Entered Left s i sound separate)
-  played_separate (command.Tick name) addressed accepted enters = at_bridge_separate ticked name (λ i. (leaving_ticked s.world Entered sound.distinct.bridges s i leaving).separate)
-  played_separate (command.Deliver name dir) addressed accepted enters = at_link_separate (λ t k. delivered t k dir) name (λ k. (leaving_delivered s.world Entered sound.distinct.bridges s k dir leaving).separate)
-  played_separate (command.Lose name dir place) addressed accepted enters = at_link_separate (λ t k. lost t k dir place) name (λ k. separate_lost Entered Left s k dir place separate)
-  played_separate (command.Double name dir place) addressed accepted enters = at_link_separate (λ t k. doubled t k dir place) name (λ k. separate_doubled Entered Left s k dir place separate)
-  played_separate (command.Frame name port bytes) addressed accepted enters = frame_separate name port bytes accepted (λ isid at. enters isid bytes (refl, at))
-  played_separate (command.Round n) addressed accepted enters = rounds_separate n
-  played_separate (command.Drain n) addressed accepted enters = drain_separate n
-  played_separate _ addressed accepted enters = separate
+  played_separate : (c : Command) → refusal_of s c ≡ None → ((isid : Isid) (f : List ℕ) → Enters s c isid f → Entered isid f) → IsSeparate Entered Left (played s c)
+  played_separate (command.Vid vid ect) accepted enters = vid_separate vid ect
+  played_separate (command.Bridge name priority system source ports) accepted enters = bridge_separate name priority system source ports accepted
+  played_separate (command.Link name a port_a b port_b cost) accepted enters = link_separate name a b port_a port_b cost accepted
+  played_separate (command.Isid isid vid) accepted enters = service_separate isid vid
+  played_separate (command.Attach name port isid) accepted enters = attach_separate name port isid accepted
+  played_separate (command.Detach name port) accepted enters = detach_separate name port accepted
+  played_separate (command.Metric name side m) accepted enters = metric_separate name side m accepted
+  played_separate (command.Down name) accepted enters = at_link_separate switched_off name (λ k. separate_switched_off Entered Left s k separate)
+  played_separate (command.Up name) accepted enters = at_link_separate switched_on name (λ k. separate_switched_on Entered Left s k separate)
+  played_separate (command.Restart name) accepted enters = at_bridge_separate restarted name (λ i. separate_restarted Entered Left s i sound separate)
+  played_separate (command.Tick name) accepted enters = at_bridge_separate ticked name (λ i. (leaving_ticked s.world Entered sound.distinct.bridges s i leaving).separate)
+  played_separate (command.Deliver name dir) accepted enters = at_link_separate (λ t k. delivered t k dir) name (λ k. (leaving_delivered s.world Entered sound.distinct.bridges s k dir leaving).separate)
+  played_separate (command.Lose name dir place) accepted enters = at_link_separate (λ t k. lost t k dir place) name (λ k. separate_lost Entered Left s k dir place separate)
+  played_separate (command.Double name dir place) accepted enters = at_link_separate (λ t k. doubled t k dir place) name (λ k. separate_doubled Entered Left s k dir place separate)
+  played_separate (command.Frame name port bytes) accepted enters = frame_separate name port bytes accepted (λ isid at. enters isid bytes (refl, at))
+  played_separate (command.Round n) accepted enters = rounds_separate n
+  played_separate (command.Drain n) accepted enters = drain_separate n
+  played_separate _ accepted enters = separate
 
   counted_apart : (t : State) → IsSeparate Entered Left t → IsApart Entered (accepted_once t)
   counted_apart t after = let is : IsApart Entered t = apart_of Entered Left t after in record { lanes = is.lanes; places = is.places }
 
   -- services stay apart, and what leaves has entered
-  pub command_apart : (c : Command) → IsAddressed c → refusal_of s c ≡ None → ((isid : Isid) (f : List ℕ) → Enters s c isid f → Entered isid f) → IsApart Entered (next_state s c) × AllByRecursion (LeftEntered s.world Entered) (outs_in (answer_of s c))
+  pub command_apart : (c : Command) → refusal_of s c ≡ None → ((isid : Isid) (f : List ℕ) → Enters s c isid f → Entered isid f) → IsApart Entered (next_state s c) × AllByRecursion (LeftEntered s.world Entered) (outs_in (answer_of s c))
   unfolding next_state
-  command_apart c addressed accepted enters =
-      let after : IsSeparate Entered Left (played s c) = played_separate c addressed accepted enters in
+  command_apart c accepted enters =
+      let after : IsSeparate Entered Left (played s c) = played_separate c accepted enters in
       (counted_apart (played s c) after, answered Left _ (played s c).outs (answer_to_asked s c) after.outs (asked_silent s c))

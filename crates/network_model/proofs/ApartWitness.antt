@@ -1,5 +1,5 @@
 -- A bridge with two ports in a service: a frame that enters at one leaves at the other.
-use Rattle.std.proofs.Common.{◌≡◌, ℕ, List, [], ◌∷◌, ◌++◌, refl, ap, ◌∙◌, Option, slice_get, arith}
+use Rattle.std.proofs.Common.{◌≡◌, ℕ, List, [], ◌∷◌, ◌++◌, refl, ap, ◌∙◌, Option, None, slice_get}
 use Rattle.std.specs.Option.{option_map_or}
 use Rattle.scenario.specs.declared.command.Command.{Command}
 use Rattle.scenario.specs.declared.command.Command.TheVariants as command
@@ -21,15 +21,15 @@ use Rattle.spb_world.specs.Services.{is_isid_range, isid_refusal, service_of, wi
 use Rattle.spb_world.specs.Attaching.{is_customer_port, is_customer_frame, has_isid_room, attach_refusal, entry_refusal, with_attachment_at}
 use Rattle.network_model.specs.State.{State, next_box}
 use Rattle.network_model.specs.Events.{outs_at, stepped, port_attached, frame_entered}
-use Rattle.network_model.specs.Refusing.{declared_refusal}
+use Rattle.network_model.specs.Refusing.{declared_refusal, refusal_of}
 use Rattle.spb_world.specs.Naming.{named_attach_refusal, named_entry_refusal}
 use Rattle.network_model.specs.Play.{at_place, at_bridge, declared, with_vid_more, with_service_more, next_state, played_all, answer_of}
 use Rattle.network_model.specs.Sound.{IsSoundState, opening}
-use Rattle.network_model.specs.SoundLaws.{AreAccepted}
+use Rattle.network_model.specs.SoundLaws.{AreAccepted, Scene}
 use Rattle.network_model.specs.Isolation.{outs_in, SomeFrameLeaves}
 use Rattle.network_model.proofs.SoundEvents.{core_of}
 use Rattle.network_model.proofs.SoundPlay.{networks_are_sound}
-use Rattle.network_model.proofs.SoundWitness.{source, box, address}
+use Rattle.network_model.proofs.SoundWitness.{source, box}
 use Rattle.network_model.proofs.CountedMoves.{shown_at}
 use Rattle.network_model.proofs.ApartOuts.{stepped_outs}
 
@@ -81,9 +81,12 @@ all_declared : AreAccepted start declarations
 unfolding next_state reason_unless vid_refusal bridge_refusal is_vid_range is_new_name is_new_system is_new_source is_bridge_range with_vid with_bridge next_box stepped with_vid_more declared_refusal declared at_bridge is_isid_range isid_refusal with_service with_service_more is_customer_port has_isid_room attach_refusal named_attach_refusal with_attachment_at port_attached
 all_declared = (refl, (refl, (refl, (refl, (refl, tt)))))
 
-accepted : AreAccepted start (declarations ++ enters ∷ [])
+abbrev scene : Scene
+scene = record { rule = rule.Plain; rack = box ∷ []; commands = declarations; accepted = all_declared }
+
+accepted : refusal_of (played_all start declarations) enters ≡ None
 unfolding next_state reason_unless vid_refusal bridge_refusal is_vid_range is_new_name is_new_system is_new_source is_bridge_range with_vid with_bridge next_box stepped with_vid_more declared_refusal declared at_bridge is_isid_range isid_refusal with_service with_service_more is_customer_port has_isid_room attach_refusal named_attach_refusal with_attachment_at port_attached is_customer_frame entry_refusal named_entry_refusal
-accepted = (refl, (refl, (refl, (refl, (refl, (refl, tt))))))
+accepted = refl
 
 ends_there : (played_all start declarations).world ≡ world
 unfolding next_state with_vid with_bridge next_box stepped with_vid_more declared at_bridge with_service with_service_more with_attachment_at port_attached
@@ -117,12 +120,9 @@ answers s sound none is =
 
 pub some_frame_leaves : SomeFrameLeaves
 some_frame_leaves = record {
-  rule = rule.Plain;
-  rack = box ∷ [];
-  commands = declarations;
+  scene = scene;
   last = enters;
-  addressed = (tt, (address 1 (omega arith), (tt, (tt, (tt, (tt, tt))))));
   accepted = accepted;
   out = out;
-  leaves = answers (played_all start declarations) (networks_are_sound rule.Plain (box ∷ []) declarations (tt, (address 1 (omega arith), (tt, (tt, (tt, tt))))) all_declared) nothing_out ends_there;
+  leaves = answers (played_all start declarations) (networks_are_sound scene) nothing_out ends_there;
 }

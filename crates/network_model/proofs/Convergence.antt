@@ -6,7 +6,7 @@ use Rattle.network_model.specs.State.{State}
 use Rattle.network_model.specs.Refusing.{refusal_of}
 use Rattle.network_model.specs.Play.{next_state}
 use Rattle.network_model.specs.Sound.{IsSoundState}
-use Rattle.network_model.specs.SoundLaws.{IsAddressed}
+use Rattle.network_model.specs.SoundLaws.{state_after}
 use Rattle.network_model.specs.Counted.{IsCounted, most_commands}
 use Rattle.network_model.specs.Truth.{IsAtRest}
 use Rattle.std.specs.Option.{option_map_or}
@@ -35,13 +35,13 @@ counted_quiet_is_converged s sound counted quiet =
     }
 
 pub played_quiet_is_converged : PlayedQuietIsConverged
-played_quiet_is_converged rule rack cs addressed accepted few =
-    counted_quiet_is_converged _ (networks_are_sound rule rack cs addressed accepted) (networks_are_counted rule rack cs addressed accepted few)
+played_quiet_is_converged scene few =
+    counted_quiet_is_converged (state_after scene) (networks_are_sound scene) (networks_are_counted scene few)
 
 -- a command that isn't refused leaves a network that tells, while few commands were accepted
-pub next_is_converged : (s : State) (c : Command) → IsSoundState s → IsAddressed c → (s.accepted ≤ most_commands → IsCounted s) → refusal_of s c ≡ None → (next_state s c).accepted ≤ most_commands → QuietIsConverged (next_state s c)
-next_is_converged s c sound addressed counted none few =
-    counted_quiet_is_converged (next_state s c) (commands_keep_sound s c sound addressed none) (stays_counted s c sound counted none few)
+pub next_is_converged : (s : State) (c : Command) → IsSoundState s → (s.accepted ≤ most_commands → IsCounted s) → refusal_of s c ≡ None → (next_state s c).accepted ≤ most_commands → QuietIsConverged (next_state s c)
+next_is_converged s c sound counted none few =
+    counted_quiet_is_converged (next_state s c) (commands_keep_sound s c sound none) (stays_counted s c sound counted none few)
 
 pub show_is_true : ShowIsTrue
 show_is_true = record {

@@ -29,10 +29,9 @@ use Rattle.spb_world.specs.declared.declaration.LinkEnd.{LinkEnd}
 use Rattle.spb_world.specs.World.{Bridges, graph_bridges}
 use Rattle.network_model.specs.State.{State, links_of}
 use Rattle.spb_world.specs.Links.{far_end, lane_out}
-use Rattle.network_model.specs.Sound.{IsSoundState, opening}
+use Rattle.network_model.specs.Sound.{IsSoundState}
 use Rattle.network_model.specs.Counted.{IsCopy, is_held, is_said, IsOwnOf, IsCounted, allowance_of, most_commands}
-use Rattle.network_model.specs.Play.{played_all}
-use Rattle.network_model.specs.SoundLaws.{SomeNetworkIsBusy}
+use Rattle.network_model.specs.SoundLaws.{opening_of, state_after, SomeNetworkIsBusy}
 use Rattle.network_model.specs.CountedLaws.{NumbersStayLow, BridgesStayFar, NothingIsFull, SomeCountedIsBusy}
 use Rattle.network_model.proofs.FitsLemmas.{link_there}
 use Rattle.network_model.proofs.SoundMoves.{Comes}
@@ -157,13 +156,12 @@ nothing_is_full s i v rule up c sound counted at = has_place v.database c.id _ (
 
 -- ---- some network is counted
 
-some_from : (w : SomeNetworkIsBusy) → length w.commands ≤ most_commands → SomeCountedIsBusy
+some_from : (w : SomeNetworkIsBusy) → length w.scene.commands ≤ most_commands → SomeCountedIsBusy
 some_from w few =
-    let start : State = opening w.rule w.rack in
-    let all = all_counted start w.commands (opening_sound w.rule w.rack) (opening_counted w.rule w.rack) w.addressed w.accepted (omega (arith, few)) in
+    let all = all_counted (opening_of w.scene) w.scene.commands (opening_sound w.scene.rule w.scene.rack) (opening_counted w.scene.rule w.scene.rack) w.scene.accepted (omega (arith, few)) in
     record {
-      state = played_all start w.commands;
-      sound = networks_are_sound w.rule w.rack w.commands w.addressed w.accepted;
+      state = state_after w.scene;
+      sound = networks_are_sound w.scene;
       counted = all.0;
       few = all.1;
       busy = w.busy;

@@ -1,6 +1,5 @@
 -- Every event and command keeps the numbers within their allowance.
 use Rattle.std.proofs.Common.{◌≡◌, ◌≤◌, ◌<◌, ◌+◌, ◌*◌, ℕ, List, [], ◌∷◌, length, refl, sym, ap, ◌∙◌, Option, Some, None, arith}
-use Rattle.std.specs.List.{AllByRecursion}
 use Rattle.std.proofs.Math.Nat.{min-eq_left}
 use Rattle.spb_types.specs.declared.address.Mac.{Mac}
 use Rattle.spb_types.specs.declared.service.SourceId.{SourceId}
@@ -29,7 +28,7 @@ use Rattle.network_model.specs.Refusing.{box_for, declared_refusal, refusal_of}
 use Rattle.spb_world.specs.Naming.{link_refusal_at_found, named_link_refusal, refusal_at_found, metric_refusal, named_attach_refusal, named_detach_refusal, named_entry_refusal}
 use Rattle.network_model.specs.Play.{boxed, declared, linked, link_between_found, named_link, at_place, at_bridge, at_link, with_vid_more, with_service_more, with_rounds, with_drain, played, next_count, next_state, played_all}
 use Rattle.network_model.specs.Sound.{IsSoundState, opening}
-use Rattle.network_model.specs.SoundLaws.{IsAddressed, AreAccepted}
+use Rattle.network_model.specs.SoundLaws.{AreAccepted, opening_of}
 use Rattle.network_model.specs.Counted.{IsCountedBy, IsCounted, allowance_of, most_commands}
 use Rattle.network_model.specs.CountedLaws.{EventsKeepCounted, CommandsKeepCounted, NetworksAreCounted}
 use Rattle.network_model.proofs.BridgeLaws.{configured_holds_own}
@@ -312,12 +311,13 @@ unfolding next_state
 accepted_next s c sound counted room none = ap next_count (command_played s sound counted room c none).accepted ∙ next_of s.accepted room
 
 -- each of the commands counts
-pub all_counted : (s : State) (cs : List Command) → IsSoundState s → IsCounted s → AllByRecursion IsAddressed cs → AreAccepted s cs → s.accepted + length cs ≤ most_commands → IsCounted (played_all s cs) × ((played_all s cs).accepted ≤ most_commands)
-all_counted s [] sound counted addressed accepted room = (counted, omega (arith, room))
-all_counted s (c ∷ cs) sound counted addressed accepted room =
+pub all_counted : (s : State) (cs : List Command) → IsSoundState s → IsCounted s → AreAccepted s cs → s.accepted + length cs ≤ most_commands → IsCounted (played_all s cs) × ((played_all s cs).accepted ≤ most_commands)
+all_counted s [] sound counted accepted room = (counted, omega (arith, room))
+all_counted s (c ∷ cs) sound counted accepted room =
     let here : s.accepted < most_commands = omega (arith, room) in
     let next = accepted_next s c sound counted here accepted.0 in
-    all_counted (next_state s c) cs (commands_keep_sound s c sound addressed.0 accepted.0) (commands_keep_counted s c sound counted here accepted.0) addressed.1 accepted.1 (omega (arith, room, next))
+    all_counted (next_state s c) cs (commands_keep_sound s c sound accepted.0) (commands_keep_counted s c sound counted here accepted.0) accepted.1 (omega (arith, room, next))
 
 pub networks_are_counted : NetworksAreCounted
-networks_are_counted rule rack cs addressed accepted few = (all_counted (opening rule rack) cs (opening_sound rule rack) (opening_counted rule rack) addressed accepted (omega (arith, few))).0
+networks_are_counted scene few =
+    (all_counted (opening_of scene) scene.commands (opening_sound scene.rule scene.rack) (opening_counted scene.rule scene.rack) scene.accepted (omega (arith, few))).0

@@ -16,7 +16,7 @@ use Rattle.network_model.specs.Events.{delivered_front, delivered, delivered_ove
 use Rattle.network_model.specs.Refusing.{refusal_of}
 use Rattle.network_model.specs.Play.{accepted_once, with_drain, played, next_state, played_all, answer_of}
 use Rattle.network_model.specs.Sound.{IsSoundState}
-use Rattle.network_model.specs.SoundLaws.{IsAddressed, AreAccepted}
+use Rattle.network_model.specs.SoundLaws.{AreAccepted}
 use Rattle.network_model.specs.Isolation.{outs_in}
 use Rattle.network_model.specs.Once.{is_onward, outs_of}
 use Rattle.network_model.specs.UnderWay.{Journey, IsUnderWay}
@@ -125,10 +125,6 @@ module _ (start : State) (j : Journey) (is : IsJourney start j) where
   command_stays s before (command.Frame name port bytes) on sound none accepted way = absurd (false≢true on)
   command_stays s before (command.Round n) on sound none accepted way = absurd (false≢true on)
 
-  onward_addressed : (c : Command) → is_onward c ≡ true → IsAddressed c
-  onward_addressed (command.Bridge name priority system source ports) on = absurd (false≢true on)
-  onward_addressed _ on = tt
-
   nothing_left : (s : State) (c : Command) → (next_state s c).outs ≡ []
   unfolding next_state
   nothing_left s c = refl
@@ -142,7 +138,7 @@ module _ (start : State) (j : Journey) (is : IsJourney start j) where
       let t : State = next_state s c in
       let left : List Out = outs_in (answer_of s c) in
       let next : IsOnTheWay start j t (before ++ left) = command_stays s before c on.0 sound none accepted.0 way in
-      let sound_t : IsSoundState t = commands_keep_sound s c sound (onward_addressed c on.0) accepted.0 in
+      let sound_t : IsSoundState t = commands_keep_sound s c sound accepted.0 in
       let again : IsOnTheWay start j t ((before ++ left) ++ t.outs) = subst (λ (outs : List Out). IsOnTheWay start j t outs) (sym (append-nil (before ++ left)) ∙ ap (λ (outs : List Out). (before ++ left) ++ outs) (sym (nothing_left s c))) next in
       subst (λ (outs : List Out). IsOnTheWay start j (played_all t cs) outs) (append_assoc before left (outs_of t cs))
       (commands_stay cs t (before ++ left) on.1 accepted.1 sound_t (nothing_left s c) again)

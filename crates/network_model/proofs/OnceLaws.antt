@@ -26,7 +26,8 @@ use Rattle.network_model.specs.State.{State}
 use Rattle.network_model.specs.Events.{stepped, frame_entered}
 use Rattle.spb_world.specs.Naming.{refusal_at_found, named_entry_refusal}
 use Rattle.network_model.specs.Play.{at_place, at_bridge, accepted_once, played, next_state, played_all, answer_of}
-use Rattle.network_model.specs.Sound.{IsSoundState, opening}
+use Rattle.network_model.specs.Sound.{IsSoundState}
+use Rattle.network_model.specs.SoundLaws.{opening_of, state_after}
 use Rattle.network_model.specs.Truth.{IsAtRest}
 use Rattle.network_model.specs.Isolation.{outs_in}
 use Rattle.network_model.specs.Once.{IsOnce, IsPassage, LeavesOnce, ExactlyOnce, NetworksDeliverOnce, outs_of}
@@ -145,7 +146,7 @@ module _ (s : State) (b p : ℕ) (f : List ℕ) (v : BridgeView) (a : Attachment
         let again : IsOnTheWay s j (next_state s enters) (before ++ (next_state s enters).outs) =
         subst (λ (outs : List Out). IsOnTheWay s j (next_state s enters) outs) (sym (append-nil before) ∙ ap (λ (outs : List Out). before ++ outs) (sym nothing_left)) entered in
         commands_stay s j is_journey cs (next_state s enters) before passage.onward passage.accepted.1
-        (commands_keep_sound s enters sound tt passage.accepted.0) nothing_left again
+        (commands_keep_sound s enters sound passage.accepted.0) nothing_left again
 
     pub leaves_once : IsOnce s.world b p f (outs_of s (enters ∷ cs))
     leaves_once = left_once s j is_journey single way.served (played_all (next_state s enters) cs) (outs_of s (enters ∷ cs)) way.under passage.delivered
@@ -173,7 +174,6 @@ none_between [] s none = none
 none_between (c ∷ cs) s none = none_between cs (next_state s c) refl
 
 pub networks_deliver_once : NetworksDeliverOnce
-networks_deliver_once rule rack cs addressed accepted few quiet =
-    let s : State = played_all (opening rule rack) cs in
-    exactly_once s (networks_are_sound rule rack cs addressed accepted) (networks_are_counted rule rack cs addressed accepted few) quiet
-    (none_between cs (opening rule rack) refl)
+networks_deliver_once scene few quiet =
+    exactly_once (state_after scene) (networks_are_sound scene) (networks_are_counted scene few) quiet
+    (none_between scene.commands (opening_of scene) refl)

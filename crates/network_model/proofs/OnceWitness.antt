@@ -33,7 +33,7 @@ use Rattle.network_model.specs.Refusing.{declared_refusal}
 use Rattle.spb_world.specs.Naming.{named_attach_refusal, named_entry_refusal}
 use Rattle.network_model.specs.Play.{at_place, at_bridge, declared, with_vid_more, with_service_more, next_state, played_all}
 use Rattle.network_model.specs.Sound.{IsSoundState, ends_live_link}
-use Rattle.network_model.specs.SoundLaws.{AreAccepted}
+use Rattle.network_model.specs.SoundLaws.{AreAccepted, Scene}
 use Rattle.network_model.specs.Quiet.{IsCalm, IsQuiet, AreEmpty, HaveMet, HaveNoFlags, HaveOneBody}
 use Rattle.network_model.specs.Once.{IsPassage, IsReach, SomeFramePasses}
 use Rattle.spb_world.proofs.BoxLemmas.{All-get}
@@ -43,7 +43,7 @@ use Rattle.network_model.proofs.QuietStates.{up_is_linked}
 use Rattle.network_model.proofs.SentLanes.{stepped_rest}
 use Rattle.network_model.proofs.SoundLane.{some-is}
 use Rattle.network_model.proofs.SoundPlay.{commands_keep_sound, networks_are_sound}
-use Rattle.network_model.proofs.SoundWitness.{box, address}
+use Rattle.network_model.proofs.SoundWitness.{box}
 use Rattle.network_model.proofs.ApartWitness.{at_port, bridge, bytes, declarations, enters, name, start}
 
 -- ---- one bridge without links is quiet
@@ -145,8 +145,11 @@ one_view : length ready.views ≡ 1
 unfolding next_state with_vid with_bridge next_box stepped with_vid_more declared at_bridge with_service with_service_more with_attachment_at port_attached
 one_view = refl
 
+abbrev scene : Scene
+scene = record { rule = rule.Plain; rack = box ∷ []; commands = three; accepted = all_declared }
+
 ready_sound : IsSoundState ready
-ready_sound = networks_are_sound rule.Plain (box ∷ []) three (tt, (address 1 (omega arith), (tt, (tt, (tt, (tt, tt)))))) all_declared
+ready_sound = networks_are_sound scene
 
 named : place_of name ready.world.bridges ≡ Some 0
 named = ap (λ (w : World). place_of name w.bridges) ready_world
@@ -165,7 +168,7 @@ same_world s is =
     ∙ (ap (λ (t : State). t.world) (stepped_rest (customer 1 bytes) s 0) ∙ is)
 
 nothing_on_its_way : AreEmpty (next_state ready enters)
-nothing_on_its_way = nothing_comes (next_state ready enters) (commands_keep_sound ready enters ready_sound tt accepted) (ap (λ (w : World). things_of w.links) (same_world ready ready_world))
+nothing_on_its_way = nothing_comes (next_state ready enters) (commands_keep_sound ready enters ready_sound accepted) (ap (λ (w : World). things_of w.links) (same_world ready ready_world))
 
 octets : AllByRecursion (λ b. b < 256) bytes
 octets = (omega arith, (omega arith, (omega arith, (omega arith, (omega arith, (omega arith, (omega arith, (omega arith, (omega arith, (omega arith, (omega arith, (omega arith, (omega arith, (omega arith, tt))))))))))))))
@@ -184,11 +187,7 @@ third_reached = record { isid = isid; here = inl (refl, refl); there = inr (inr 
 
 pub some_frame_passes : SomeFramePasses
 some_frame_passes = record {
-  rule = rule.Plain;
-  rack = box ∷ [];
-  commands = three;
-  addressed = (tt, (address 1 (omega arith), (tt, (tt, (tt, (tt, tt))))));
-  accepted = all_declared;
+  scene = scene;
   few = omega arith;
   quiet = alone_is_quiet ready ready_sound (ap (λ (w : World). things_of w.links) ready_world) one_view;
   name = name;

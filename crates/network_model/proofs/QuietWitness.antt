@@ -40,7 +40,7 @@ use Rattle.network_model.specs.Events.{stepped, switched_on, switched_off}
 use Rattle.network_model.specs.Refusing.{declared_refusal}
 use Rattle.spb_world.specs.Naming.{named_link_refusal, down_refusal}
 use Rattle.network_model.specs.Play.{with_vid_more, declared, linked, named_link, at_link, next_state, played_all}
-use Rattle.network_model.specs.SoundLaws.{AreAccepted}
+use Rattle.network_model.specs.SoundLaws.{AreAccepted, Scene}
 use Rattle.network_model.specs.Quiet.{IsQuiet, HaveMet, AreEmpty, HaveNoFlags, HaveOneBody, IsCalm}
 use Rattle.network_model.specs.Convergence.{SomeNetworkIsQuiet}
 use Rattle.network_model.proofs.BridgeLaws.{steps_hold_ids, steps_keep_bridge, configured_holds_own, up_ports_are_up}
@@ -48,7 +48,7 @@ use Rattle.network_model.proofs.SoundConfigured.{with_first_carrier, first_port,
 use Rattle.network_model.proofs.SoundMeeting.{system}
 use Rattle.network_model.proofs.SoundMet.{config}
 use Rattle.network_model.proofs.SoundPlay.{networks_are_sound}
-use Rattle.network_model.proofs.SoundWitness.{source, box, start, declarations, address}
+use Rattle.network_model.proofs.SoundWitness.{source, box, start, declarations}
 use Rattle.network_model.proofs.QuietLaws.{quiet_says}
 
 -- ---- what a bridge holds that heard nothing
@@ -223,10 +223,13 @@ accepted : AreAccepted start script
 unfolding next_state reason_unless vid_refusal bridge_refusal link_refusal is_vid_range is_new_name is_new_system is_new_source is_bridge_range is_free_port is_link_range is_unlinked with_vid with_bridge with_link with_live next_box lane_out stepped switched_on with_vid_more declared_refusal named_link_refusal down_refusal declared linked named_link at_link
 accepted = (refl, (refl, (refl, (refl, (refl, tt)))))
 
+abbrev scene : Scene
+scene = record { rule = rule.Plain; rack = box ∷ box ∷ []; commands = script; accepted = accepted }
+
 both_sound : IsSoundView (gone 1) × IsSoundView (gone 2)
 unfolding next_state vid_refusal with_vid with_bridge with_link with_live next_box lane_out stepped switched_on switched_off with_vid_more declared linked named_link at_link
 both_sound =
-    let views = (networks_are_sound rule.Plain (box ∷ box ∷ []) script (tt, (address 1 (omega arith), (address 2 (omega arith), (tt, (tt, tt))))) accepted).views in
+    let views = (networks_are_sound scene).views in
     (views.0, views.1.0)
 
 gone_alone : (n : ℕ) → IsSoundView (gone n) → IsAlone (system n) (gone n)
@@ -249,11 +252,7 @@ one_link = refl
 
 pub some_network_is_quiet : SomeNetworkIsQuiet
 some_network_is_quiet = record {
-  rule = rule.Plain;
-  rack = box ∷ box ∷ [];
-  commands = script;
-  addressed = (tt, (address 1 (omega arith), (address 2 (omega arith), (tt, (tt, tt)))));
-  accepted = accepted;
+  scene = scene;
   few = omega arith;
   bridges = two_bridges;
   links = one_link;

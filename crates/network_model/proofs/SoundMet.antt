@@ -37,7 +37,7 @@ use Rattle.spb_world.proofs.ListLemmas.{length-push}
 use Rattle.network_model.proofs.SoundConfigured.{with_first_carrier, first_port, first_ports, first_still, first_attached}
 use Rattle.network_model.proofs.SoundMeeting.{system, HaveFirstCarriers, SaysLsp, met, says_first, says_second, first_quiet, second_quiet, met_up, few_sent, hello_sent, lsp_sent}
 use Rattle.network_model.proofs.SoundPlay.{networks_are_sound}
-use Rattle.network_model.proofs.SoundWitness.{source, box, start, declarations, address, all_declared}
+use Rattle.network_model.proofs.SoundWitness.{source, box, start, declarations, declaring}
 use Rattle.network_model.proofs.SentLanes.{stepped_once, stepped_here}
 use Rattle.network_model.proofs.SoundEvents.{stepped_world}
 
@@ -224,7 +224,7 @@ config n = config_of (record { vids = plan_of 100 1 ∷ []; bridges = []; links 
 both_sound : IsSoundView (with_first_carrier (config 1) 10) × IsSoundView (with_first_carrier (config 2) 10)
 unfolding next_state vid_refusal with_vid with_bridge with_link with_live next_box lane_out stepped switched_on with_vid_more declared linked named_link
 both_sound =
-    let views = (networks_are_sound rule.Plain (box ∷ box ∷ []) declarations (tt, (address 1 (omega arith), (address 2 (omega arith), (tt, tt)))) all_declared).views in
+    let views = (networks_are_sound declaring).views in
     (views.0, views.1.0)
 
 have_first_carriers : HaveFirstCarriers (with_first_carrier (config 1) 10) (with_first_carrier (config 2) 10)
@@ -258,10 +258,6 @@ have_met = all_met.met
 
 pub bridges_meet : SomeBridgesMeet
 bridges_meet = record {
-  rule = rule.Plain;
-  rack = box ∷ box ∷ [];
-  commands = declarations ++ conversation;
-  addressed = (tt, (address 1 (omega arith), (address 2 (omega arith), (tt, (tt, (tt, (tt, (tt, (tt, tt)))))))));
-  accepted = accepted;
+  scene = record { rule = rule.Plain; rack = box ∷ box ∷ []; commands = declarations ++ conversation; accepted = accepted };
   met = have_met;
 }

@@ -1,7 +1,6 @@
 -- Accepted commands keep what is sound of a network.
 use Rattle.std.proofs.Common.{◌≡◌, ℕ, ◌+◌, ◌==◌, List, [], ◌∷◌, ◌++◌, length, refl, sym, subst, Option, Some, None, arith}
 use Rattle.std.specs.Prelude.{remove}
-use Rattle.std.specs.List.{AllByRecursion}
 use Rattle.std.proofs.lemmas.Bool.{eqb-true}
 use Rattle.spb_types.specs.declared.address.Mac.{Mac}
 use Rattle.spb_types.specs.declared.service.SourceId.{SourceId}
@@ -18,7 +17,7 @@ use Rattle.network_model.specs.declared.kind_rule.KindRule.{KindRule}
 use Rattle.link_model.specs.declared.lanes.LinkLanes.{LinkLanes}
 use Rattle.spb_world.specs.World.{World, place_of, Sound}
 use Rattle.link_model.specs.Lanes.{no_frames}
-use Rattle.spb_world.specs.Declaring.{bridge_refusal, vid_refusal, link_refusal, plan_of, bridge_of, link_of, with_link, config_of, IsAddress}
+use Rattle.spb_world.specs.Declaring.{bridge_refusal, vid_refusal, link_refusal, plan_of, bridge_of, link_of, with_link, config_of}
 use Rattle.spb_world.specs.Services.{isid_refusal, service_of, with_service}
 use Rattle.spb_world.specs.Attaching.{attach_refusal, detach_refusal, entry_refusal}
 use Rattle.network_model.specs.State.{State, Spare}
@@ -28,7 +27,7 @@ use Rattle.network_model.specs.Refusing.{box_for, declared_refusal, refusal_of}
 use Rattle.spb_world.specs.Naming.{link_refusal_at_found, named_link_refusal, refusal_at_found, metric_refusal, named_attach_refusal, named_detach_refusal, named_entry_refusal}
 use Rattle.network_model.specs.Play.{boxed, declared, linked, link_between_found, named_link, at_place, at_bridge, at_link, with_vid_more, with_service_more, with_rounds, with_drain, played, accepted_once, next_state, played_all}
 use Rattle.network_model.specs.Sound.{IsSoundState, opening}
-use Rattle.network_model.specs.SoundLaws.{Keeps, EventsKeepSound, IsAddressed, CommandsKeepSound, AreAccepted, NetworksAreSound}
+use Rattle.network_model.specs.SoundLaws.{Keeps, EventsKeepSound, CommandsKeepSound, AreAccepted, opening_of, NetworksAreSound}
 use Rattle.network_model.proofs.BridgeLaws.{configured_is_sound, configured_has_no_carrier}
 use Rattle.spb_world.proofs.ConfigLemmas.{whole-config}
 use Rattle.spb_world.proofs.ServiceLemmas.{Sound-with_service}
@@ -122,8 +121,8 @@ isid_sound s isid vid sound none =
 
 -- ---- a bridge
 
-new_view : (w : World) (name : List ℕ) (priority : ℕ) (system : Mac) (source : SourceId) (ports : ℕ) → Sound w → IsAddress system → IsFreeBridge w name priority system source ports → IsNewView w (bridge_of priority system source ports) (configured (config_of w (bridge_of priority system source ports)))
-new_view w name priority system source ports sound six new = record {
+new_view : (w : World) (name : List ℕ) (priority : ℕ) (system : Mac) (source : SourceId) (ports : ℕ) → Sound w → IsFreeBridge w name priority system source ports → IsNewView w (bridge_of priority system source ports) (configured (config_of w (bridge_of priority system source ports)))
+new_view w name priority system source ports sound new = record {
   shown = record { id = still.id; source = still.source; vids = still.vids };
   attached = configured_attached c;
   ports = record { ports = (configured_has_no_carrier c whole).ports };
@@ -135,21 +134,21 @@ new_view w name priority system source ports sound six new = record {
     c = config_of w (bridge_of priority system source ports)
 
     whole : IsWhole c
-    whole = whole-config w (bridge_of priority system source ports) sound new.ports_high (omega (arith, new.priority_high)) new.source_high six new.address
+    whole = whole-config w (bridge_of priority system source ports) sound new.ports_high (omega (arith, new.priority_high)) new.source_high new.address
 
     still : IsStill (bare c) (configured c)
     still = configured_still c
 
-boxed_sound : (s : State) (name : List ℕ) (priority : ℕ) (system : Mac) (source : SourceId) (ports : ℕ) (o : Option ℕ) → IsSoundState s → IsAddress system → bridge_refusal s.world name priority system source ports ≡ None → IsSoundState (boxed s name (bridge_of priority system source ports) o)
-boxed_sound s name priority system source ports None sound six none = sound
-boxed_sound s name priority system source ports (Some place) sound six none =
+boxed_sound : (s : State) (name : List ℕ) (priority : ℕ) (system : Mac) (source : SourceId) (ports : ℕ) (o : Option ℕ) → IsSoundState s → bridge_refusal s.world name priority system source ports ≡ None → IsSoundState (boxed s name (bridge_of priority system source ports) o)
+boxed_sound s name priority system source ports None sound none = sound
+boxed_sound s name priority system source ports (Some place) sound none =
     let new = bridge_refusal_none s.world name priority system source ports none in
-    Sound-new_bridge s (remove s.rack place) name (bridge_of priority system source ports) (configured (config_of s.world (bridge_of priority system source ports))) sound new.new (distinct_bridge s.world name priority system source ports sound.distinct none) (new_view s.world name priority system source ports sound.world six new)
+    Sound-new_bridge s (remove s.rack place) name (bridge_of priority system source ports) (configured (config_of s.world (bridge_of priority system source ports))) sound new.new (distinct_bridge s.world name priority system source ports sound.distinct none) (new_view s.world name priority system source ports sound.world new)
 
-bridge_sound : (s : State) (name : List ℕ) (priority : ℕ) (system : Mac) (source : SourceId) (ports : ℕ) → IsSoundState s → IsAddress system → declared_refusal s name priority system source ports ≡ None → IsSoundState (declared s name (bridge_of priority system source ports))
+bridge_sound : (s : State) (name : List ℕ) (priority : ℕ) (system : Mac) (source : SourceId) (ports : ℕ) → IsSoundState s → declared_refusal s name priority system source ports ≡ None → IsSoundState (declared s name (bridge_of priority system source ports))
 unfolding declared_refusal declared
-bridge_sound s name priority system source ports sound six none =
-    boxed_sound s name priority system source ports (box_for s) sound six (first_none _ _ none)
+bridge_sound s name priority system source ports sound none =
+    boxed_sound s name priority system source ports (box_for s) sound (first_none _ _ none)
 
 -- ---- a link
 
@@ -229,33 +228,33 @@ drain_sound : (n : ℕ) → Keeps (with_drain n)
 unfolding with_drain
 drain_sound n s sound = sound_again (drained n s) (record (drained n s) { drained = s.drained + n }) refl refl refl (Sound-drained n s sound)
 
-played_sound : (s : State) (c : Command) → IsSoundState s → IsAddressed c → refusal_of s c ≡ None → IsSoundState (played s c)
-played_sound s (command.Vid vid ect) sound addressed none = vid_sound s vid ect sound none
-played_sound s (command.Bridge name priority system source ports) sound addressed none = bridge_sound s name priority system source ports sound addressed none
-played_sound s (command.Link name a port_a b port_b cost) sound addressed none = link_sound s name a b port_a port_b cost sound none
-played_sound s (command.Isid isid vid) sound addressed none = isid_sound s isid vid sound none
-played_sound s (command.Attach name port isid) sound addressed none = attach_sound s name port isid sound none
-played_sound s (command.Detach name port) sound addressed none = detach_sound s name port sound none
-played_sound s (command.Frame name port bytes) sound addressed none = enter_sound s name port bytes sound none
-played_sound s (command.Metric name side m) sound addressed none = metric_sound s name side m sound none
-played_sound s (command.Down name) sound addressed none = at_link_sound switched_off s name (λ k t. Sound-switched_off t k) sound
-played_sound s (command.Up name) sound addressed none = at_link_sound switched_on s name (λ k t. Sound-switched_on t k) sound
-played_sound s (command.Restart name) sound addressed none = at_bridge_sound restarted s name (λ k t. Sound-restarted t k) sound
-played_sound s (command.Tick name) sound addressed none = at_bridge_sound ticked s name (λ k t. Sound-ticked t k) sound
-played_sound s (command.Deliver name dir) sound addressed none = at_link_sound (λ t k. delivered t k dir) s name (λ k t. Sound-delivered t k dir) sound
-played_sound s (command.Lose name dir place) sound addressed none = at_link_sound (λ t k. lost t k dir place) s name (λ k t. Sound-lost t k dir place) sound
-played_sound s (command.Double name dir place) sound addressed none = at_link_sound (λ t k. doubled t k dir place) s name (λ k t. Sound-doubled t k dir place) sound
-played_sound s (command.Round n) sound addressed none = rounds_sound n s sound
-played_sound s (command.Drain n) sound addressed none = drain_sound n s sound
-played_sound s _ sound addressed none = sound
+played_sound : (s : State) (c : Command) → IsSoundState s → refusal_of s c ≡ None → IsSoundState (played s c)
+played_sound s (command.Vid vid ect) sound none = vid_sound s vid ect sound none
+played_sound s (command.Bridge name priority system source ports) sound none = bridge_sound s name priority system source ports sound none
+played_sound s (command.Link name a port_a b port_b cost) sound none = link_sound s name a b port_a port_b cost sound none
+played_sound s (command.Isid isid vid) sound none = isid_sound s isid vid sound none
+played_sound s (command.Attach name port isid) sound none = attach_sound s name port isid sound none
+played_sound s (command.Detach name port) sound none = detach_sound s name port sound none
+played_sound s (command.Frame name port bytes) sound none = enter_sound s name port bytes sound none
+played_sound s (command.Metric name side m) sound none = metric_sound s name side m sound none
+played_sound s (command.Down name) sound none = at_link_sound switched_off s name (λ k t. Sound-switched_off t k) sound
+played_sound s (command.Up name) sound none = at_link_sound switched_on s name (λ k t. Sound-switched_on t k) sound
+played_sound s (command.Restart name) sound none = at_bridge_sound restarted s name (λ k t. Sound-restarted t k) sound
+played_sound s (command.Tick name) sound none = at_bridge_sound ticked s name (λ k t. Sound-ticked t k) sound
+played_sound s (command.Deliver name dir) sound none = at_link_sound (λ t k. delivered t k dir) s name (λ k t. Sound-delivered t k dir) sound
+played_sound s (command.Lose name dir place) sound none = at_link_sound (λ t k. lost t k dir place) s name (λ k t. Sound-lost t k dir place) sound
+played_sound s (command.Double name dir place) sound none = at_link_sound (λ t k. doubled t k dir place) s name (λ k t. Sound-doubled t k dir place) sound
+played_sound s (command.Round n) sound none = rounds_sound n s sound
+played_sound s (command.Drain n) sound none = drain_sound n s sound
+played_sound s _ sound none = sound
 
 pub commands_keep_sound : CommandsKeepSound
 unfolding next_state
-commands_keep_sound s c sound addressed none = sound_again (played s c) (accepted_once (played s c)) refl refl refl (played_sound s c sound addressed none)
+commands_keep_sound s c sound none = sound_again (played s c) (accepted_once (played s c)) refl refl refl (played_sound s c sound none)
 
-all_sound : (s : State) (cs : List Command) → IsSoundState s → AllByRecursion IsAddressed cs → AreAccepted s cs → IsSoundState (played_all s cs)
-all_sound s [] sound addressed accepted = sound
-all_sound s (c ∷ cs) sound addressed accepted = all_sound (next_state s c) cs (commands_keep_sound s c sound addressed.0 accepted.0) addressed.1 accepted.1
+all_sound : (s : State) (cs : List Command) → IsSoundState s → AreAccepted s cs → IsSoundState (played_all s cs)
+all_sound s [] sound accepted = sound
+all_sound s (c ∷ cs) sound accepted = all_sound (next_state s c) cs (commands_keep_sound s c sound accepted.0) accepted.1
 
 opening_world : Sound (record { vids = []; bridges = []; links = []; services = []; attached = [] })
 opening_world = record {
@@ -278,4 +277,4 @@ pub opening_sound : (rule : KindRule) (rack : List Spare) → IsSoundState (open
 opening_sound rule rack = Sound-nothing (opening rule rack) opening_world refl refl refl refl
 
 pub networks_are_sound : NetworksAreSound
-networks_are_sound rule rack cs addressed accepted = all_sound (opening rule rack) cs (opening_sound rule rack) addressed accepted
+networks_are_sound scene = all_sound (opening_of scene) scene.commands (opening_sound scene.rule scene.rack) scene.accepted

@@ -1,8 +1,7 @@
 -- A network with a frame on its way over a link that is up.
-use Rattle.std.proofs.Common.{ℕ, zero, suc, ◌≤◌, ◌<◌, true, List, [], ◌∷◌, ◌++◌, length, refl, sym, subst, arith}
+use Rattle.std.proofs.Common.{ℕ, ◌≤◌, true, List, [], ◌∷◌, ◌++◌, length, refl, sym, subst, arith}
 use Rattle.spb_types.specs.declared.address.Mac.{Mac}
 use Rattle.spb_types.specs.declared.service.SourceId.{SourceId}
-use Rattle.isis_pdu.specs.Grammar.{IsBytes}
 use Rattle.scenario.specs.declared.command.Command.{Command}
 use Rattle.scenario.specs.declared.command.Command.TheVariants as command
 use Rattle.bridge_api.specs.declared.config.BridgeConfig.{BridgeConfig}
@@ -11,7 +10,7 @@ use Rattle.bridge_api.specs.Step.{second, step}
 use Rattle.bridge_api.specs.Laws.{IsSoundView}
 use Rattle.network_model.specs.declared.kind_rule.KindRule.TheVariants as rule
 use Rattle.spb_world.specs.Reason.{reason_unless}
-use Rattle.spb_world.specs.Declaring.{is_vid_range, is_new_name, is_new_system, is_new_source, is_bridge_range, is_free_port, is_link_range, is_unlinked, vid_refusal, bridge_refusal, link_refusal, plan_of, bridge_of, with_vid, with_bridge, with_link, with_live, config_of, IsAddress}
+use Rattle.spb_world.specs.Declaring.{is_vid_range, is_new_name, is_new_system, is_new_source, is_bridge_range, is_free_port, is_link_range, is_unlinked, vid_refusal, bridge_refusal, link_refusal, plan_of, bridge_of, with_vid, with_bridge, with_link, with_live, config_of}
 use Rattle.spb_types.specs.Places.{changed_at}
 use Rattle.network_model.specs.State.{State, Spare, next_box}
 use Rattle.spb_world.specs.Links.{lane_out}
@@ -20,7 +19,7 @@ use Rattle.network_model.specs.Refusing.{declared_refusal}
 use Rattle.spb_world.specs.Naming.{named_link_refusal, unnamed_refusal}
 use Rattle.network_model.specs.Play.{with_vid_more, declared, linked, named_link, at_bridge, accepted_once, next_state, played_all}
 use Rattle.network_model.specs.Sound.{opening}
-use Rattle.network_model.specs.SoundLaws.{AreAccepted, IsBusy, SomeNetworkIsBusy}
+use Rattle.network_model.specs.SoundLaws.{AreAccepted, Scene, IsBusy, SomeNetworkIsBusy}
 use Rattle.network_model.proofs.SoundConfigured.{with_first_carrier, first_hello, IsHello, first_heard}
 use Rattle.network_model.proofs.SoundPlay.{networks_are_sound}
 
@@ -49,18 +48,6 @@ declarations =
 abbrev script : List Command
 script = declarations ++ command.Tick (97 ∷ []) ∷ []
 
-pub address : (n : ℕ) → n < 256 → IsAddress (system n)
-address n low = record { bytes = refl; octets = octets }
-  where
-    octets : IsBytes (2 ∷ 0 ∷ 0 ∷ 0 ∷ 0 ∷ n ∷ [])
-    octets zero = omega arith
-    octets (suc zero) = omega arith
-    octets (suc (suc zero)) = omega arith
-    octets (suc (suc (suc zero))) = omega arith
-    octets (suc (suc (suc (suc zero)))) = omega arith
-    octets (suc (suc (suc (suc (suc zero))))) = low
-    octets (suc (suc (suc (suc (suc (suc i)))))) = omega arith
-
 accepted : AreAccepted start script
 unfolding next_state reason_unless vid_refusal bridge_refusal link_refusal is_vid_range is_new_name is_new_system is_new_source is_bridge_range is_free_port is_link_range is_unlinked with_vid with_bridge with_link with_live next_box lane_out stepped switched_on with_vid_more declared_refusal named_link_refusal unnamed_refusal declared linked named_link at_bridge
 accepted = (refl, (refl, (refl, (refl, (refl, tt)))))
@@ -81,9 +68,12 @@ pub all_declared : AreAccepted start declarations
 unfolding next_state reason_unless vid_refusal bridge_refusal link_refusal is_vid_range is_new_name is_new_system is_new_source is_bridge_range is_free_port is_link_range is_unlinked with_vid with_bridge with_link with_live next_box lane_out stepped switched_on with_vid_more declared_refusal named_link_refusal unnamed_refusal declared linked named_link
 all_declared = (refl, (refl, (refl, (refl, tt))))
 
+abbrev pub declaring : Scene
+declaring = record { rule = rule.Plain; rack = box ∷ box ∷ []; commands = declarations; accepted = all_declared }
+
 sound : IsSoundView (with_first_carrier first 10)
 unfolding next_state vid_refusal with_vid with_bridge with_link with_live next_box lane_out stepped switched_on with_vid_more declared linked named_link
-sound = (networks_are_sound rule.Plain (box ∷ box ∷ []) declarations (tt, (address 1 (omega arith), (address 2 (omega arith), (tt, tt)))) all_declared).views.0
+sound = (networks_are_sound declaring).views.0
 
 shown : IsBusy (played_all start script)
 unfolding next_state vid_refusal with_vid with_bridge with_link with_live next_box lane_out stepped switched_on with_vid_more declared linked named_link at_bridge
@@ -92,8 +82,8 @@ shown =
     subst (λ (fs : List (ℕ × List ℕ)). IsBusy (sending fs)) (sym hello.1) (one_frame hello.0 (first_heard first 1 10 refl sound))
 
 pub busy : SomeNetworkIsBusy
-busy = record { rule = rule.Plain; rack = box ∷ box ∷ []; commands = script; addressed = (tt, (address 1 (omega arith), (address 2 (omega arith), (tt, (tt, tt))))); accepted = accepted; busy = shown }
+busy = record { scene = record { rule = rule.Plain; rack = box ∷ box ∷ []; commands = script; accepted = accepted }; busy = shown }
 
-pub few_commands : length busy.commands ≤ 120000
+pub few_commands : length busy.scene.commands ≤ 120000
 unfolding busy
 few_commands = omega arith

@@ -1,7 +1,7 @@
 -- What each test of a command decides.
 use Rattle.std.proofs.Common.{◌≡◌, ℕ, ◌+◌, ◌<◌, ◌≤◌, ◌%◌, ◌==◌, Bool, true, false, true≢false, not, cond, ◌&&◌, ◌||◌, nat_lt, nat_le, List, [], ◌∷◌, length, replicate, Option, Some, None, is_some, is_none, slice_index_or, ◌⊎◌, inl, inr, ⊎_elim, refl, sym, ap, subst, ◌∙◌, arith}
 use Rattle.std.specs.Prelude.{Decides, Any, Contains, slice_index, if◌then◌else◌}
-use Rattle.std.specs.List.{list_any, position_from}
+use Rattle.std.specs.List.{AllByRecursion, list_all, list_any, position_from}
 use Rattle.std.specs.Str.{bytes_eq}
 use Rattle.std.proofs.lemmas.Bool.Decides.{Decides-at, Decides-like, Decides-not, Decides-and, Decides-or, Decides-eqb, nat_tests}
 use Rattle.std.proofs.lemmas.List.Folds.{Any-from_list_any, list_any-from_Any}
@@ -17,13 +17,13 @@ use Rattle.bridge_api.specs.declared.kind.Kind.TheVariants as kind
 use Rattle.spb_world.specs.declared.declaration.DeclaredLink.{DeclaredLink}
 use Rattle.spb_world.specs.declared.declaration.LinkEnd.{LinkEnd}
 use Rattle.spb_world.specs.World.{World, Bridges, Links, Services, names_of, things_of, place_of, vid_of_isid, attached_at, ports_at, is_between, is_at_port}
-use Rattle.spb_world.specs.Declaring.{has_vid, is_new_vid, is_vid_range, has_vid_room, is_before_bridges, is_new_name, is_new_system, is_new_source, is_bridge_address, is_bridge_range, has_bridge_room, is_free_port, is_port, is_link_range, has_link_room, is_unlinked}
+use Rattle.spb_world.specs.Declaring.{has_vid, is_new_vid, is_vid_range, has_vid_room, is_before_bridges, is_new_name, is_new_system, is_new_source, is_address, is_bridge_address, is_bridge_range, has_bridge_room, is_free_port, is_port, is_link_range, has_link_room, is_unlinked}
 use Rattle.spb_world.specs.Services.{is_new_isid, is_isid_range, has_service_room}
 use Rattle.spb_world.specs.Attaching.{is_declared_isid, is_customer_port, is_customer_frame, is_attached, isids_with, has_isid_room}
 use Rattle.spb_world.proofs.AttachedLemmas.{any_at}
 use Rattle.network_model.specs.State.{Spare, same_kind, serves, box_from, next_box}
 use Rattle.spb_world.specs.Naming.{are_declared}
-use Rattle.network_model.specs.Holding.{IsNamed, HoldsAt, HoldsAtBoth, HasLink, IsEndAt, IsVidOf, IsIsidOf, IsVid, IsIsid, IsCustomerPort, HasAttached, IsOwnAddress, IsBridgeInRange, HasPort, IsLinkInRange, IsFromTo}
+use Rattle.network_model.specs.Holding.{IsNamed, HoldsAt, HoldsAtBoth, HasLink, IsEndAt, IsVidOf, IsIsidOf, IsVid, IsIsid, IsCustomerPort, HasAttached, IsAddress, IsOwnAddress, IsBridgeInRange, HasPort, IsLinkInRange, IsFromTo}
 
 -- ---- tests
 
@@ -217,8 +217,17 @@ taken_id w system source =
     (opposes _ (any-is (λ b. bytes_eq b.bridge.id.system.mac.bytes system.bytes) (λ b. b.bridge.id.system.mac.bytes ≡ system.bytes) (λ b. bytes_eq-Decides b.bridge.id.system.mac.bytes system.bytes) (things_of w.bridges)))
     (opposes _ (any-is (λ b. b.bridge.source.value == source.value) (λ b. b.bridge.source.value ≡ source.value) (λ b. Decides-eqb b.bridge.source.value source.value) (things_of w.bridges)))
 
+octets : (bytes : List ℕ) → Decides (list_all (λ b. nat_lt b 256) bytes) (AllByRecursion (λ b. b < 256) bytes)
+octets [] = (λ _. tt, λ _. refl)
+octets (b ∷ bytes) = Decides-and (nat_lt b 256) (list_all (λ b. nat_lt b 256) bytes) (lt-is b 256) (octets bytes)
+
+six_octets : (mac : Mac) → Decides (is_address mac) (IsAddress mac)
+six_octets mac = Decides-and (length mac.bytes == 6) (list_all (λ b. nat_lt b 256) mac.bytes) (Decides-eqb (length mac.bytes) 6) (octets mac.bytes)
+
 own_address : (mac : Mac) → Decides (is_bridge_address mac) (IsOwnAddress mac)
-own_address mac = Decides-and _ _ (Decides-eqb (slice_index mac.bytes 0 % 2) 0) (fails _ (bytes_eq-Decides mac.bytes (replicate 6 0)))
+own_address mac =
+    and3 (is_address mac) (slice_index mac.bytes 0 % 2 == 0) (not (bytes_eq mac.bytes (replicate 6 0)))
+    (six_octets mac) (Decides-eqb (slice_index mac.bytes 0 % 2) 0) (fails _ (bytes_eq-Decides mac.bytes (replicate 6 0)))
 
 pub wrong_bridge : (priority : ℕ) (system : Mac) (source : SourceId) (ports : ℕ) → Decides (not (is_bridge_range priority system source ports)) (¬ IsBridgeInRange priority system source ports)
 unfolding is_bridge_range

@@ -5,8 +5,7 @@ use Rattle.fdb_build.specs.Groups.{IsGroupTable}
 use Rattle.fdb_build.proofs.TableLemmas.{rows_are_table}
 use Rattle.fdb_build.proofs.GroupLemmas.{group_rows_are_table}
 use Rattle.spb_world.specs.World.{World, Sound, system_at, world_graph, wired_tables}
-use Rattle.network_model.specs.Play.{played_all}
-use Rattle.network_model.specs.Sound.{opening}
+use Rattle.network_model.specs.SoundLaws.{state_after}
 use Rattle.network_model.specs.WiringLaws.{IsWired, SoundIsWired, NetworksAreWired}
 use Rattle.spb_world.proofs.ValidLemmas.{valid, valid_for}
 use Rattle.network_model.proofs.SoundPlay.{networks_are_sound}
@@ -31,5 +30,4 @@ pub sound_is_wired : SoundIsWired
 sound_is_wired s sound = wired s.world sound.world
 
 pub networks_are_wired : NetworksAreWired
-networks_are_wired rule rack cs addressed accepted =
-    sound_is_wired (played_all (opening rule rack) cs) (networks_are_sound rule rack cs addressed accepted)
+networks_are_wired scene = sound_is_wired (state_after scene) (networks_are_sound scene)

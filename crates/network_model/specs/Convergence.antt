@@ -1,16 +1,12 @@
 -- What a user can rely on where a network is quiet, whatever commands made it.
-use Rattle.std.specs.Prelude.{◌≡◌, ◌↔◌, ℕ, ◌≤◌, List, [], length, Contains, true, Some, slice_get}
-use Rattle.std.specs.List.{AllByRecursion}
+use Rattle.std.specs.Prelude.{◌≡◌, ◌↔◌, ℕ, ◌≤◌, [], length, Contains, true, Some, slice_get}
 use Rattle.spb_types.specs.declared.service.VidPlan.{VidPlan}
-use Rattle.scenario.specs.declared.command.Command.{Command}
 use Rattle.bridge_api.specs.View.{BridgeView}
-use Rattle.network_model.specs.declared.kind_rule.KindRule.{KindRule}
 use Rattle.spb_world.specs.World.{wired_tables}
-use Rattle.network_model.specs.State.{State, Spare}
+use Rattle.network_model.specs.State.{State}
 use Rattle.network_model.specs.Questions.{is_quiet, show_at}
-use Rattle.network_model.specs.Play.{played_all}
-use Rattle.network_model.specs.Sound.{IsSoundState, opening}
-use Rattle.network_model.specs.SoundLaws.{IsAddressed, AreAccepted}
+use Rattle.network_model.specs.Sound.{IsSoundState}
+use Rattle.network_model.specs.SoundLaws.{Scene, state_after, ForAllPlayedWithin}
 use Rattle.network_model.specs.Counted.{IsCounted, most_commands}
 use Rattle.network_model.specs.Quiet.{IsQuiet}
 use Rattle.network_model.specs.Truth.{AreJoined, HoldTheSame, HasWiredTables}
@@ -38,22 +34,16 @@ CountedQuietIsConverged = (s : State) → IsSoundState s → IsCounted s → Qui
 
 -- and so whatever commands were accepted
 abbrev pub PlayedQuietIsConverged : Type 0
-PlayedQuietIsConverged = (rule : KindRule) (rack : List Spare) (cs : List Command) → AllByRecursion IsAddressed cs
-    → AreAccepted (opening rule rack) cs → length cs ≤ most_commands
-    → QuietIsConverged (played_all (opening rule rack) cs)
+PlayedQuietIsConverged = ForAllPlayedWithin most_commands QuietIsConverged
 
 -- some commands, no more than are counted, are accepted from the opening on, and lead to a quiet network of two bridges
 -- and one link
 pub record SomeNetworkIsQuiet : Type 0 where
-  pub rule : KindRule
-  pub rack : List Spare
-  pub commands : List Command
-  pub addressed : AllByRecursion IsAddressed commands
-  pub accepted : AreAccepted (opening rule rack) commands
-  pub few : length commands ≤ most_commands
-  pub bridges : length (played_all (opening rule rack) commands).views ≡ 2
-  pub links : length (played_all (opening rule rack) commands).world.links ≡ 1
-  pub quiet : IsQuiet (played_all (opening rule rack) commands)
+  pub scene : Scene
+  pub few : length scene.commands ≤ most_commands
+  pub bridges : length (state_after scene).views ≡ 2
+  pub links : length (state_after scene).world.links ≡ 1
+  pub quiet : IsQuiet (state_after scene)
 
 -- what `show` answers: it says quiet exactly where the network is, and there it has the rows of `wiring`
 pub record ShowIsTrue : Type 0 where

@@ -1,6 +1,5 @@
 -- The laws of sequence numbers in a network: they stay within bounds that no number of frames can move.
-use Rattle.std.specs.Prelude.{◌≡◌, ℕ, ◌+◌, ◌*◌, ◌≤◌, ◌<◌, List, length, false, Option, Some, None, slice_get}
-use Rattle.std.specs.List.{AllByRecursion}
+use Rattle.std.specs.Prelude.{◌≡◌, ℕ, ◌+◌, ◌*◌, ◌≤◌, ◌<◌, List, false, Option, Some, None, slice_get}
 use Rattle.spb_types.specs.declared.address.LspId.{LspId}
 use Rattle.spb_types.specs.declared.link.Dir.{Dir}
 use Rattle.spb_types.specs.declared.link.Side.{Side}
@@ -21,15 +20,14 @@ use Rattle.bridge_api.specs.Own.{holding_of}
 use Rattle.bridge_api.specs.Step.{frame}
 use Rattle.bridge_api.specs.View.{BridgeView}
 use Rattle.spb_world.specs.declared.declaration.DeclaredLink.{DeclaredLink}
-use Rattle.network_model.specs.declared.kind_rule.KindRule.{KindRule}
-use Rattle.network_model.specs.State.{State, Spare, links_of}
+use Rattle.network_model.specs.State.{State, links_of}
 use Rattle.spb_world.specs.Links.{far_end}
 use Rattle.network_model.specs.Events.{ticked, delivered, lost, doubled, with_metric_changed, port_attached, port_detached, frame_entered, switched_off, switched_on, rounds, drained}
 use Rattle.network_model.specs.Restarting.{restarted}
 use Rattle.network_model.specs.Refusing.{refusal_of}
-use Rattle.network_model.specs.Play.{next_state, played_all}
-use Rattle.network_model.specs.Sound.{IsSoundState, opening}
-use Rattle.network_model.specs.SoundLaws.{MayAttach, MayDetach, MayEnter, IsAddressed, AreAccepted, IsBusy}
+use Rattle.network_model.specs.Play.{next_state}
+use Rattle.network_model.specs.Sound.{IsSoundState}
+use Rattle.network_model.specs.SoundLaws.{MayAttach, MayDetach, MayEnter, ForAllPlayedWithin, IsBusy}
 use Rattle.network_model.specs.Counted.{IsCopy, IsCountedBy, IsCounted, most_commands}
 
 -- ---- the events
@@ -71,8 +69,7 @@ CommandsKeepCounted = (s : State) (c : Command) → IsSoundState s → IsCounted
 
 -- so it is whatever commands were accepted
 abbrev pub NetworksAreCounted : Type 0
-NetworksAreCounted = (rule : KindRule) (rack : List Spare) (cs : List Command) → AllByRecursion IsAddressed cs
-    → AreAccepted (opening rule rack) cs → length cs ≤ most_commands → IsCounted (played_all (opening rule rack) cs)
+NetworksAreCounted = ForAllPlayedWithin most_commands IsCounted
 
 -- ---- what follows
 

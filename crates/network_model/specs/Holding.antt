@@ -1,5 +1,6 @@
 -- When each reason for a refusal holds of a command, in the words of what is declared.
 use Rattle.std.specs.Prelude.{◌≡◌, ◌↔◌, ◌⊎◌, ℕ, ◌+◌, ◌<◌, ◌≤◌, ◌%◌, List, length, replicate, slice_index, true, false, Option, Some, None, Any, Contains}
+use Rattle.std.specs.List.{AllByRecursion}
 use Rattle.spb_types.specs.declared.address.Mac.{Mac}
 use Rattle.spb_types.specs.declared.limits.TheConstants.{GREATEST_ECT, GREATEST_ISID, GREATEST_VID, MOST_BRIDGES, MOST_CUSTOMER_PORTS, MOST_DELIVERIES, MOST_DELIVERIES_TOGETHER, MOST_ISIDS, MOST_LINKS, MOST_PORTS, MOST_ROUNDS, MOST_SERVICES, MOST_VIDS, SOURCE_IDS}
 use Rattle.spb_types.specs.declared.service.SourceId.{SourceId}
@@ -109,9 +110,13 @@ IsIsid isid = (1 ≤ isid) × (isid ≤ GREATEST_ISID)
 abbrev pub IsCustomerPort : ℕ → Type 0
 IsCustomerPort port = (1 ≤ port) × (port ≤ MOST_CUSTOMER_PORTS)
 
--- a bridge's own address: the group bit is clear, and it isn't all zero
+-- six octets
+abbrev pub IsAddress : Mac → Type 0
+IsAddress mac = (length mac.bytes ≡ 6) × AllByRecursion (λ b. b < 256) mac.bytes
+
+-- a bridge's own address: six octets, the group bit is clear, and it isn't all zero
 abbrev pub IsOwnAddress : Mac → Type 0
-IsOwnAddress mac = (slice_index mac.bytes 0 % 2 ≡ 0) × (¬ (mac.bytes ≡ replicate 6 0))
+IsOwnAddress mac = IsAddress mac × (slice_index mac.bytes 0 % 2 ≡ 0) × (¬ (mac.bytes ≡ replicate 6 0))
 
 abbrev pub IsBridgeInRange : ℕ → Mac → SourceId → ℕ → Type 0
 IsBridgeInRange priority system source ports =

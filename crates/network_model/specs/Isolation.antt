@@ -16,13 +16,12 @@ use Rattle.bridge_laws.specs.Apart.{Carries, CarriesEntered}
 use Rattle.network_model.specs.declared.answer.Answer.{Answer}
 use Rattle.network_model.specs.declared.answer.Answer.TheVariants.{Outs}
 use Rattle.network_model.specs.declared.answer.Out.{Out}
-use Rattle.network_model.specs.declared.kind_rule.KindRule.{KindRule}
 use Rattle.spb_world.specs.World.{World, place_of, attached_at}
-use Rattle.network_model.specs.State.{State, Spare}
+use Rattle.network_model.specs.State.{State}
 use Rattle.network_model.specs.Refusing.{refusal_of}
-use Rattle.network_model.specs.Sound.{IsSoundState, opening}
+use Rattle.network_model.specs.Sound.{IsSoundState}
 use Rattle.network_model.specs.Play.{next_state, played_all, answer_of}
-use Rattle.network_model.specs.SoundLaws.{IsAddressed, AreAccepted}
+use Rattle.network_model.specs.SoundLaws.{Scene, opening_of, state_after}
 
 -- ---- what has entered
 
@@ -61,22 +60,18 @@ abbrev pub LastLeavesEntered : State → List Command → Command → Type 0
 LastLeavesEntered s cs c = let t : State = played_all s cs in
     AllByRecursion (LeftEntered t.world (HasEntered s (cs ++ c ∷ []))) (outs_in (answer_of t c))
 
--- so it is whatever commands were accepted, quiet or not
+-- so it is whatever commands were accepted, and one more, quiet or not
 abbrev pub ServicesStayApart : Type 0
-ServicesStayApart = (rule : KindRule) (rack : List Spare) (cs : List Command) (c : Command)
-    → AllByRecursion IsAddressed (cs ++ c ∷ []) → AreAccepted (opening rule rack) (cs ++ c ∷ [])
-    → LastLeavesEntered (opening rule rack) cs c
+ServicesStayApart = (scene : Scene) (c : Command) → refusal_of (state_after scene) c ≡ None
+    → LastLeavesEntered (opening_of scene) scene.commands c
 
--- a customer's frame leaves: by some accepted commands, in the last of them
+-- a customer's frame leaves: in a command that is accepted after some others
 pub record SomeFrameLeaves : Type 0 where
-  pub rule : KindRule
-  pub rack : List Spare
-  pub commands : List Command
+  pub scene : Scene
   pub last : Command
-  pub addressed : AllByRecursion IsAddressed (commands ++ last ∷ [])
-  pub accepted : AreAccepted (opening rule rack) (commands ++ last ∷ [])
+  pub accepted : refusal_of (state_after scene) last ≡ None
   pub out : Out
-  pub leaves : outs_in (answer_of (played_all (opening rule rack) commands) last) ≡ out ∷ []
+  pub leaves : outs_in (answer_of (state_after scene) last) ≡ out ∷ []
 
 -- ---- what holds at every moment, for any word that says of a frame that it has entered
 
@@ -108,5 +103,5 @@ pub record IsKeptApart (s : State) (c : Command) : Type 0 where
 
 -- so it is of each accepted command
 abbrev pub CommandsKeepApart : Type 0
-CommandsKeepApart = (s : State) (c : Command) → IsSoundState s → IsAddressed c → refusal_of s c ≡ None → s.outs ≡ []
+CommandsKeepApart = (s : State) (c : Command) → IsSoundState s → refusal_of s c ≡ None → s.outs ≡ []
     → HavePlaces s.views → IsKeptApart s c

@@ -1,23 +1,18 @@
 -- A network in which two bridges have met: so what is said of Up ports, and of LSPs on their way, is said of something.
 use Rattle.std.specs.Prelude.{◌≡◌, ℕ, List, true, Some, slice_get}
-use Rattle.std.specs.List.{AllByRecursion}
 use Rattle.link_model.specs.Lane.{Frame, IsIn}
 use Rattle.isis_pdu.specs.Pdu.{HelloValue, LspValue}
 use Rattle.spb_tlvs.specs.declared.three_way.ThreeWay.{ThreeWay}
 use Rattle.lsdb.specs.declared.version.Version.TheVariants.{Live}
 use Rattle.lsdb.specs.Certificate.{IsClaimed}
-use Rattle.scenario.specs.declared.command.Command.{Command}
 use Rattle.spb_types.specs.declared.link.Dir.TheVariants.{Ab}
 use Rattle.bridge_api.specs.View.{BridgeView, is_up_at}
 use Rattle.bridge_api.specs.Parsing.{parsed}
 use Rattle.bridge_api.specs.Parsing as parsing
 use Rattle.bridge_api.specs.Laws.{claims_said}
-use Rattle.network_model.specs.declared.kind_rule.KindRule.{KindRule}
-use Rattle.network_model.specs.State.{State, Spare, links_of, lane_at}
+use Rattle.network_model.specs.State.{State, links_of, lane_at}
 use Rattle.spb_world.specs.Links.{is_live, lane_out}
-use Rattle.network_model.specs.Play.{played_all}
-use Rattle.network_model.specs.Sound.{opening}
-use Rattle.network_model.specs.SoundLaws.{IsAddressed, AreAccepted}
+use Rattle.network_model.specs.SoundLaws.{Scene, state_after}
 
 -- a frame of a lane that is heard as a hello
 pub record HasHello (lane : List Frame) : Type 0 where
@@ -50,9 +45,5 @@ pub record HaveMet (s : State) : Type 0 where
 
 -- some commands lead to such a network
 pub record SomeBridgesMeet : Type 0 where
-  pub rule : KindRule
-  pub rack : List Spare
-  pub commands : List Command
-  pub addressed : AllByRecursion IsAddressed commands
-  pub accepted : AreAccepted (opening rule rack) commands
-  pub met : HaveMet (played_all (opening rule rack) commands)
+  pub scene : Scene
+  pub met : HaveMet (state_after scene)

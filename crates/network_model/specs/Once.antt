@@ -9,15 +9,14 @@ use Rattle.spb_types.specs.declared.service.Isid.{Isid}
 use Rattle.forwarding.specs.Laws.{IsAttachedTo}
 use Rattle.forwarding.specs.Tenant.{is_group, to_of}
 use Rattle.network_model.specs.declared.answer.Out.{Out}
-use Rattle.network_model.specs.declared.kind_rule.KindRule.{KindRule}
 use Rattle.spb_world.specs.World.{World, names_of, things_of, place_of, attached_at}
-use Rattle.network_model.specs.State.{State, Spare}
+use Rattle.network_model.specs.State.{State}
 use Rattle.network_model.specs.Questions.{is_question}
 use Rattle.network_model.specs.Quiet.{IsQuiet, AreEmpty}
 use Rattle.network_model.specs.Truth.{IsWalk}
 use Rattle.network_model.specs.Play.{next_state, played_all, answer_of}
-use Rattle.network_model.specs.Sound.{IsSoundState, opening}
-use Rattle.network_model.specs.SoundLaws.{IsAddressed, AreAccepted}
+use Rattle.network_model.specs.Sound.{IsSoundState}
+use Rattle.network_model.specs.SoundLaws.{AreAccepted, Scene, state_after, ForAllPlayedWithin}
 use Rattle.network_model.specs.Counted.{IsCounted, most_commands}
 use Rattle.network_model.specs.Isolation.{outs_in}
 
@@ -90,25 +89,19 @@ ExactlyOnce = (s : State) → IsSoundState s → IsCounted s → IsQuiet s → s
 
 -- and so whatever commands were accepted, wherever the network is quiet
 abbrev pub NetworksDeliverOnce : Type 0
-NetworksDeliverOnce = (rule : KindRule) (rack : List Spare) (cs : List Command) → AllByRecursion IsAddressed cs
-    → AreAccepted (opening rule rack) cs → length cs ≤ most_commands
-    → IsQuiet (played_all (opening rule rack) cs) → LeavesOnce (played_all (opening rule rack) cs)
+NetworksDeliverOnce = ForAllPlayedWithin most_commands (λ s. IsQuiet s → LeavesOnce s)
 
 -- some commands lead to a quiet network, into which a group frame comes that has to leave at two ports
 pub record SomeFramePasses : Type 0 where
-  pub rule : KindRule
-  pub rack : List Spare
-  pub commands : List Command
-  pub addressed : AllByRecursion IsAddressed commands
-  pub accepted : AreAccepted (opening rule rack) commands
-  pub few : length commands ≤ most_commands
-  pub quiet : IsQuiet (played_all (opening rule rack) commands)
+  pub scene : Scene
+  pub few : length scene.commands ≤ most_commands
+  pub quiet : IsQuiet (state_after scene)
   pub name : List ℕ
   pub place : ℕ
   pub port : ℕ
   pub frame : List ℕ
   pub more : List Command
-  pub named : place_of name (played_all (opening rule rack) commands).world.bridges ≡ Some place
-  pub passes : IsPassage (played_all (opening rule rack) commands) name port frame more
-  pub first : IsReach (played_all (opening rule rack) commands).world place port place 2
-  pub second : IsReach (played_all (opening rule rack) commands).world place port place 3
+  pub named : place_of name (state_after scene).world.bridges ≡ Some place
+  pub passes : IsPassage (state_after scene) name port frame more
+  pub first : IsReach (state_after scene).world place port place 2
+  pub second : IsReach (state_after scene).world place port place 3

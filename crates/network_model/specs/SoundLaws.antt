@@ -1,13 +1,9 @@
 -- The laws of a network: it is sound at every moment.
-use Rattle.std.specs.Prelude.{◌≡◌, ℕ, ◌<◌, List, [], ◌∷◌, length, true, None, ⊤}
-use Rattle.std.specs.List.{AllByRecursion}
-use Rattle.spb_types.specs.declared.address.Mac.{Mac}
+use Rattle.std.specs.Prelude.{◌≡◌, ℕ, ◌<◌, ◌≤◌, List, [], ◌∷◌, length, true, None, ⊤}
 use Rattle.link_model.specs.Lane.{Frame}
-use Rattle.isis_pdu.specs.Grammar.{IsBytes}
 use Rattle.isis_pdu.specs.Pdu.{HelloValue}
 use Rattle.spb_tlvs.specs.declared.three_way.ThreeWay.{ThreeWay}
 use Rattle.scenario.specs.declared.command.Command.{Command}
-use Rattle.scenario.specs.declared.command.Command.TheVariants as command
 use Rattle.spb_types.specs.declared.link.Dir.{Dir}
 use Rattle.spb_types.specs.declared.link.Dir.TheVariants.{Ab}
 use Rattle.spb_types.specs.declared.link.Side.{Side}
@@ -24,7 +20,6 @@ use Rattle.network_model.specs.Restarting.{restarted}
 use Rattle.network_model.specs.Refusing.{refusal_of}
 use Rattle.network_model.specs.Play.{next_state, played_all}
 use Rattle.network_model.specs.Sound.{IsSoundState, opening}
-use Rattle.spb_world.specs.Declaring.{IsAddress}
 
 -- ---- the events
 
@@ -65,25 +60,41 @@ pub record EventsKeepSound : Type 0 where
 
 -- ---- the commands
 
--- the system id that a command declares, if it does, is an address
-abbrev pub IsAddressed : Command → Type 0
-IsAddressed (command.Bridge name priority system source ports) = IsAddress system
-IsAddressed _ = ⊤
-
 -- a command that isn't refused leaves the network sound
 abbrev pub CommandsKeepSound : Type 0
-CommandsKeepSound = (s : State) (c : Command) → IsSoundState s → IsAddressed c → refusal_of s c ≡ None
-    → IsSoundState (next_state s c)
+CommandsKeepSound = (s : State) (c : Command) → IsSoundState s → refusal_of s c ≡ None → IsSoundState (next_state s c)
 
 -- each of the commands is accepted, one after another
 abbrev pub AreAccepted : State → List Command → Type 0
 AreAccepted s [] = ⊤
 AreAccepted s (c ∷ cs) = (refusal_of s c ≡ None) × AreAccepted (next_state s c) cs
 
+-- commands that are accepted, one after another, where at first nothing is declared, by any rule and with any rack
+pub record Scene : Type 0 where
+  pub rule : KindRule
+  pub rack : List Spare
+  pub commands : List Command
+  pub accepted : AreAccepted (opening rule rack) commands
+
+-- the network before the first of them
+abbrev pub opening_of : Scene → State
+opening_of scene = opening scene.rule scene.rack
+
+-- and the one that they lead to
+abbrev pub state_after : Scene → State
+state_after scene = played_all (opening_of scene) scene.commands
+
+-- P holds of the network whatever commands were accepted
+abbrev pub ForAllPlayed : (State → Type 0) → Type 0
+ForAllPlayed P = (scene : Scene) → P (state_after scene)
+
+-- so it does where they are at most so many
+abbrev pub ForAllPlayedWithin : ℕ → (State → Type 0) → Type 0
+ForAllPlayedWithin most P = (scene : Scene) → length scene.commands ≤ most → P (state_after scene)
+
 -- whatever commands were accepted, the network is sound
 abbrev pub NetworksAreSound : Type 0
-NetworksAreSound = (rule : KindRule) (rack : List Spare) (cs : List Command) → AllByRecursion IsAddressed cs
-    → AreAccepted (opening rule rack) cs → IsSoundState (played_all (opening rule rack) cs)
+NetworksAreSound = ForAllPlayed IsSoundState
 
 -- a link is up, and a frame is on its way over it that is heard as a hello
 pub record IsBusy (s : State) : Type 0 where
@@ -96,9 +107,5 @@ pub record IsBusy (s : State) : Type 0 where
 
 -- some commands lead to such a network
 pub record SomeNetworkIsBusy : Type 0 where
-  pub rule : KindRule
-  pub rack : List Spare
-  pub commands : List Command
-  pub addressed : AllByRecursion IsAddressed commands
-  pub accepted : AreAccepted (opening rule rack) commands
-  pub busy : IsBusy (played_all (opening rule rack) commands)
+  pub scene : Scene
+  pub busy : IsBusy (state_after scene)

@@ -1,17 +1,13 @@
 -- The law of wiring: what is wired is a graph, and the wired tables are the tables of that graph.
-use Rattle.std.specs.Prelude.{ℕ, List}
-use Rattle.std.specs.List.{AllByRecursion}
+use Rattle.std.specs.Prelude.{ℕ}
 use Rattle.spb_types.specs.Graph.{IsValid, IsValidFor}
 use Rattle.spb_types.specs.declared.address.SystemId.{SystemId}
 use Rattle.fdb_build.specs.Tables.{IsUnicastTable}
 use Rattle.fdb_build.specs.Groups.{IsGroupTable}
-use Rattle.scenario.specs.declared.command.Command.{Command}
-use Rattle.network_model.specs.declared.kind_rule.KindRule.{KindRule}
 use Rattle.spb_world.specs.World.{World, system_at, world_graph, wired_tables}
-use Rattle.network_model.specs.State.{State, Spare}
-use Rattle.network_model.specs.Play.{played_all}
-use Rattle.network_model.specs.Sound.{IsSoundState, opening}
-use Rattle.network_model.specs.SoundLaws.{IsAddressed, AreAccepted}
+use Rattle.network_model.specs.State.{State}
+use Rattle.network_model.specs.Sound.{IsSoundState}
+use Rattle.network_model.specs.SoundLaws.{ForAllPlayed}
 
 -- the wiring is a valid graph, and valid for each bridge; the tables that are wired for the bridge at a place are its
 -- unicast table and its group table in that graph
@@ -27,6 +23,4 @@ SoundIsWired = (s : State) → IsSoundState s → IsWired s.world
 
 -- and whatever commands were accepted
 abbrev pub NetworksAreWired : Type 0
-NetworksAreWired = (rule : KindRule) (rack : List Spare) (cs : List Command)
-    → AllByRecursion IsAddressed cs → AreAccepted (opening rule rack) cs
-    → IsWired (played_all (opening rule rack) cs).world
+NetworksAreWired = ForAllPlayed (λ s. IsWired s.world)

@@ -18,7 +18,7 @@ use Rattle.network_model.specs.Play.{next_state, played_all}
 use Rattle.network_model.specs.Quiet.{IsQuiet}
 use Rattle.network_model.specs.Refusing.{refusal_of}
 use Rattle.network_model.specs.Sound.{opening}
-use Rattle.network_model.specs.SoundLaws.{IsAddressed, AreAccepted}
+use Rattle.network_model.specs.SoundLaws.{AreAccepted, Scene, state_after}
 use Rattle.network_model.specs.State.{State}
 use Rattle.network_model.proofs.ApartLaws.{services_stay_apart}
 use Rattle.network_model.proofs.OnceLaws.{networks_deliver_once}
@@ -27,36 +27,36 @@ use Rattle.script_run.specs.Commands.{LinesPlayCommands, AllLeaveEntered, AllDel
 use Rattle.script_run.specs.Play.{Judged, judged, judged_by, judged_as}
 use Rattle.script_run.specs.Replying.{IsNew}
 use Rattle.script_run.specs.Text.{Played, joined, concluded, play, lines_played, commands_joined, commands_in}
-use Rattle.script_run.proofs.Addressed.{IsRead, line_read}
+use Rattle.script_run.proofs.Octets.{HasOctets, line_octets}
 use Rattle.script_run.proofs.Taking.{lines_few}
 
 -- ---- one line
 
--- the commands are read from lines and accepted, and lead from one state to the other
+-- the commands are accepted, their frames are octets, and lead from one state to the other
 record Leads (s : State) (cs : List Command) (t : State) : Type 0 where
-  read : AllByRecursion IsRead cs
+  octets : AllByRecursion HasOctets cs
   accepted : AreAccepted s cs
   state : t ≡ played_all s cs
 
 leads_nothing : (s : State) → Leads s [] s
-leads_nothing s = record { read = tt; accepted = tt; state = refl }
+leads_nothing s = record { octets = tt; accepted = tt; state = refl }
 
-leads_by : (s : State) (number : ℕ) (c : Command) (o : Option Reason) → refusal_of s c ≡ o → IsRead c → Leads s (judged_by s number c o).commands (judged_by s number c o).state
-leads_by s number c (Some reason) is addressed = leads_nothing s
-leads_by s number c None is addressed = record { read = (addressed, tt); accepted = (is, tt); state = refl }
+leads_by : (s : State) (number : ℕ) (c : Command) (o : Option Reason) → refusal_of s c ≡ o → HasOctets c → Leads s (judged_by s number c o).commands (judged_by s number c o).state
+leads_by s number c (Some reason) is octets = leads_nothing s
+leads_by s number c None is octets = record { octets = (octets, tt); accepted = (is, tt); state = refl }
 
-leads_as : (s : State) (number : ℕ) (r : Result (Option Command) ℕ) → ((c : Command) → r ≡ Ok (Some c) → IsRead c) → Leads s (judged_as s number r).commands (judged_as s number r).state
-leads_as s number (Err column) addressed = leads_nothing s
-leads_as s number (Ok None) addressed = leads_nothing s
-leads_as s number (Ok (Some c)) addressed = leads_by s number c (refusal_of s c) refl (addressed c refl)
+leads_as : (s : State) (number : ℕ) (r : Result (Option Command) ℕ) → ((c : Command) → r ≡ Ok (Some c) → HasOctets c) → Leads s (judged_as s number r).commands (judged_as s number r).state
+leads_as s number (Err column) octets = leads_nothing s
+leads_as s number (Ok None) octets = leads_nothing s
+leads_as s number (Ok (Some c)) octets = leads_by s number c (refusal_of s c) refl (octets c refl)
 
 line_leads : (s : State) (number : ℕ) (line : List ℕ) → Leads s (judged s number line).commands (judged s number line).state
 unfolding judged
-line_leads s number line = leads_as s number (line_of line) (line_read line)
+line_leads s number line = leads_as s number (line_of line) (line_octets line)
 
 -- ---- lines
 
-all_more : (cs ds : List Command) → AllByRecursion IsRead cs → AllByRecursion IsRead ds → AllByRecursion IsRead (cs ++ ds)
+all_more : (cs ds : List Command) → AllByRecursion HasOctets cs → AllByRecursion HasOctets ds → AllByRecursion HasOctets (cs ++ ds)
 all_more [] ds here later = later
 all_more (c ∷ cs) ds here later = (here.0, all_more cs ds here.1 later)
 
@@ -72,7 +72,7 @@ leads_more : (s t u : State) (cs ds : List Command) → Leads s cs t → Leads t
 leads_more s t u cs ds here later =
     let there : Leads (played_all s cs) ds u = subst (λ (v : State). Leads v ds u) here.state later in
     record {
-      read = all_more cs ds here.read there.read;
+      octets = all_more cs ds here.octets there.octets;
       accepted = accepted_more s cs ds here.accepted there.accepted;
       state = there.state ∙ sym (played_more s cs ds);
     }
@@ -98,15 +98,7 @@ lines_play_commands s number ls = record { accepted = (lines_lead s number ls No
 
 -- ---- fronts and backs
 
-all_addressed : (cs : List Command) → AllByRecursion IsRead cs → AllByRecursion IsAddressed cs
-all_addressed [] all = tt
-all_addressed (c ∷ cs) all = (all.0.0, all_addressed cs all.1)
-
-all_front : (cs ds : List Command) → AllByRecursion IsRead (cs ++ ds) → AllByRecursion IsRead cs
-all_front [] ds all = tt
-all_front (c ∷ cs) ds all = (all.0, all_front cs ds all.1)
-
-all_back : (cs ds : List Command) → AllByRecursion IsRead (cs ++ ds) → AllByRecursion IsRead ds
+all_back : (cs ds : List Command) → AllByRecursion HasOctets (cs ++ ds) → AllByRecursion HasOctets ds
 all_back [] ds all = all
 all_back (c ∷ cs) ds all = all_back cs ds all.1
 
@@ -120,41 +112,40 @@ accepted_back s (c ∷ cs) ds all = accepted_back (next_state s c) cs ds all.1
 
 -- ---- what leaves
 
--- each of the commands, with those before it, is a front of all
-all_leave_entered : (s : State) (cs : List Command) → s ≡ opening s.rule s.rack → AllByRecursion IsRead cs → AreAccepted s cs → AllLeaveEntered s cs
-all_leave_entered s cs new read accepted before c later split =
-    let whole : cs ≡ (before ++ c ∷ []) ++ later = split ∙ sym (append_assoc before (c ∷ []) later) in
-    let each : AllByRecursion IsRead (before ++ c ∷ []) = all_front (before ++ c ∷ []) later (subst (AllByRecursion IsRead) whole read) in
-    let taken : AreAccepted s (before ++ c ∷ []) = accepted_front s (before ++ c ∷ []) later (subst (AreAccepted s) whole accepted) in
+-- each of the commands is accepted after those before it
+all_leave_entered : (s : State) (cs : List Command) → s ≡ opening s.rule s.rack → AreAccepted s cs → AllLeaveEntered s cs
+all_leave_entered s cs new accepted before c later split =
+    let taken : AreAccepted s (before ++ c ∷ later) = subst (AreAccepted s) split accepted in
+    let first : AreAccepted s before = accepted_front s before (c ∷ later) taken in
+    let last : refusal_of (played_all s before) c ≡ None = (accepted_back s before (c ∷ later) taken).0 in
+    let scene : Scene = record { rule = s.rule; rack = s.rack; commands = before; accepted = subst (λ (t : State). AreAccepted t before) new first } in
     subst (λ (t : State). LastLeavesEntered t before c) (sym new)
-    (services_stay_apart s.rule s.rack before c (all_addressed (before ++ c ∷ []) each) (subst (λ (t : State). AreAccepted t (before ++ c ∷ [])) new taken))
+    (services_stay_apart scene c (subst (λ (t : State). refusal_of (played_all t before) c ≡ None) new last))
 
 -- ---- what is delivered
 
 -- the commands before the frame lead to the quiet network; it and those behind it are a passage
-all_deliver_once : (s : State) (cs : List Command) → s ≡ opening s.rule s.rack → AllByRecursion IsRead cs → AreAccepted s cs → length cs ≤ most_commands
+all_deliver_once : (s : State) (cs : List Command) → s ≡ opening s.rule s.rack → AllByRecursion HasOctets cs → AreAccepted s cs → length cs ≤ most_commands
     → AllDeliverOnce s cs
-all_deliver_once s cs new read accepted few before onward later name b p f split quiet group onwards empty named =
+all_deliver_once s cs new bytes accepted few before onward later name b p f split quiet group onwards empty named =
     let enters : Command = command.Frame name p f in
     let rest : List Command = (enters ∷ onward) ++ later in
     let whole : cs ≡ before ++ rest = split ∙ append_assoc before (enters ∷ onward) later in
-    let all : AllByRecursion IsRead (before ++ rest) = subst (AllByRecursion IsRead) whole read in
+    let all : AllByRecursion HasOctets (before ++ rest) = subst (AllByRecursion HasOctets) whole bytes in
     let taken : AreAccepted s (before ++ rest) = subst (AreAccepted s) whole accepted in
     let short : length before ≤ most_commands = omega (arith, few, ap length whole, length-append before rest) in
     let first : AreAccepted s before = accepted_front s before rest taken in
     let next : AreAccepted (played_all s before) (enters ∷ onward) =
     accepted_front (played_all s before) (enters ∷ onward) later (accepted_back s before rest taken) in
     let passes : IsPassage (played_all s before) name p f onward = record {
-      octets = (all_back before rest all).0.1;
+      octets = (all_back before rest all).0;
       group = group;
       onward = onwards;
       accepted = next;
       delivered = empty;
     } in
-    let from : State = opening s.rule s.rack in
-    let once : LeavesOnce (played_all from before) = networks_deliver_once s.rule s.rack before
-    (all_addressed before (all_front before rest all))
-    (subst (λ (t : State). AreAccepted t before) new first) short (subst (λ (t : State). IsQuiet (played_all t before)) new quiet) in
+    let scene : Scene = record { rule = s.rule; rack = s.rack; commands = before; accepted = subst (λ (t : State). AreAccepted t before) new first } in
+    let once : LeavesOnce (state_after scene) = networks_deliver_once scene short (subst (λ (t : State). IsQuiet (played_all t before)) new quiet) in
     subst (λ (t : State). LeavesOnce (played_all t before)) (sym new) once name b p f onward named passes
 
 -- each line plays one command at most
@@ -188,7 +179,7 @@ module _ {B : Type 0} (shown : B → Shown) (n : NetworkOf B) (new : IsNew shown
   lines_apart ls =
       let s : State = state_of shown n in
       let all = lines_lead s 1 ls None in
-      all_leave_entered s (commands_in s 1 ls) new.opening all.read all.accepted
+      all_leave_entered s (commands_in s 1 ls) new.opening all.accepted
 
   pub script_apart : (left : Option (List ℕ)) → IfSome left (λ script. AllLeaveEntered (state_of shown n) (commands_in (state_of shown n) 1 (lines_played script)))
   script_apart None = tt
@@ -198,7 +189,7 @@ module _ {B : Type 0} (shown : B → Shown) (n : NetworkOf B) (new : IsNew shown
   script_delivers script =
       let s : State = state_of shown n in
       let all = lines_lead s 1 (lines_played script) None in
-      all_deliver_once s (commands_in s 1 (lines_played script)) new.opening all.read all.accepted
+      all_deliver_once s (commands_in s 1 (lines_played script)) new.opening all.octets all.accepted
       (omega (arith, commands_few s 1 (lines_played script), lines_few script))
 
   pub script_once : (left : Option (List ℕ)) → IfSome left (λ script. AllDeliverOnce (state_of shown n) (commands_in (state_of shown n) 1 (lines_played script)))

@@ -10,7 +10,6 @@ use Rattle.spb_network.specs.Network.{state_of}
 use Rattle.network_model.specs.State.{State}
 use Rattle.network_model.specs.Refusing.{refusal_of}
 use Rattle.network_model.specs.Sound.{IsSoundState}
-use Rattle.network_model.specs.SoundLaws.{IsAddressed}
 use Rattle.network_model.specs.Counted.{IsCounted, most_commands}
 use Rattle.network_model.proofs.SoundPlay.{commands_keep_sound}
 use Rattle.network_model.proofs.CountedStays.{stays_counted}
@@ -20,7 +19,6 @@ use Rattle.script_run.specs.Play.{judged, judged_by, judged_as}
 use Rattle.script_run.specs.Replying.{IsNew}
 use Rattle.script_run.specs.States.{IsTrusted}
 use Rattle.script_run.specs.Text.{lines_played, IfAccepted, AllStates}
-use Rattle.script_run.proofs.Addressed.{line_addressed}
 use Rattle.script_run.proofs.Counting.{line_one}
 use Rattle.script_run.proofs.Taking.{lines_few}
 
@@ -30,18 +28,18 @@ record IsKept (s : State) : Type 0 where
   sound : IsSoundState s
   counted : s.accepted ≤ most_commands → IsCounted s
 
-kept_by : (s : State) (number : ℕ) (c : Command) (o : Option Reason) → refusal_of s c ≡ o → IsAddressed c → IsKept s → IsKept (judged_by s number c o).state
-kept_by s number c (Some reason) is addressed kept = kept
-kept_by s number c None is addressed kept = record { sound = commands_keep_sound s c kept.sound addressed is; counted = stays_counted s c kept.sound kept.counted is }
+kept_by : (s : State) (number : ℕ) (c : Command) (o : Option Reason) → refusal_of s c ≡ o → IsKept s → IsKept (judged_by s number c o).state
+kept_by s number c (Some reason) is kept = kept
+kept_by s number c None is kept = record { sound = commands_keep_sound s c kept.sound is; counted = stays_counted s c kept.sound kept.counted is }
 
-kept_as : (s : State) (number : ℕ) (r : Result (Option Command) ℕ) → ((c : Command) → r ≡ Ok (Some c) → IsAddressed c) → IsKept s → IsKept (judged_as s number r).state
-kept_as s number (Err column) addressed kept = kept
-kept_as s number (Ok None) addressed kept = kept
-kept_as s number (Ok (Some c)) addressed kept = kept_by s number c (refusal_of s c) refl (addressed c refl) kept
+kept_as : (s : State) (number : ℕ) (r : Result (Option Command) ℕ) → IsKept s → IsKept (judged_as s number r).state
+kept_as s number (Err column) kept = kept
+kept_as s number (Ok None) kept = kept
+kept_as s number (Ok (Some c)) kept = kept_by s number c (refusal_of s c) refl kept
 
 line_kept : (s : State) (number : ℕ) (line : List ℕ) → IsKept s → IsKept (judged s number line).state
 unfolding judged
-line_kept s number line kept = kept_as s number (line_of line) (line_addressed line) kept
+line_kept s number line kept = kept_as s number (line_of line) kept
 
 -- ---- the states of a script
 

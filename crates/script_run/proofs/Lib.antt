@@ -3,7 +3,7 @@ pub mod Taking
 pub mod Going
 pub mod Reading
 pub mod Counting
-pub mod Addressed
+pub mod Octets
 pub mod Completing
 pub mod Convergence
 pub mod Commands

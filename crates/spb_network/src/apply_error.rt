@@ -1,3 +1,5 @@
+ghost use Rattle.std.specs.Prelude.{◌≡◌};
+
 use spb_types::NoMemory;
 use spb_world::Reason;
 use std::alloc::AllocFailed;

@@ -6,7 +6,6 @@ ghost use Rattle.spb_network.specs.Network.{state_of, spare, AreConfigured};
 ghost use Rattle.spb_network.specs.Applying.{Applies, IsReady};
 ghost use Rattle.network_model.specs.Counted.{most_commands};
 ghost use Rattle.network_model.specs.Convergence.{QuietIsConverged};
-ghost use Rattle.network_model.specs.SoundLaws.{IsAddressed};
 
 use crate::{Answer, ApplyError, KindRule, Out, World};
 use bridge_api::Bridge;
@@ -14,7 +13,6 @@ use link_model::Lanes;
 use network_model::Conditions;
 use scenario::Command;
 use spb_types::NoMemory;
-use spb_world::check;
 use std::alloc::Global;
 
 /// A network of bridges in boxes of one type.
@@ -109,7 +107,6 @@ impl<B: Bridge> NetworkOf<B> {
         if self.halted {
             return Err(ApplyError::Halted);
         }
-        addressed(command);
         match self.refusal(command) {
             Some(reason) => Err(ApplyError::Refused(reason)),
             None => match self.play(command) {
@@ -124,14 +121,5 @@ impl<B: Bridge> NetworkOf<B> {
                 }
             },
         }
-    }
-}
-
-/// Says that the address that a command declares, if it does, has six octets.
-fn addressed(command: &Command)
-    ensures { IsAddressed command.now }
-{
-    if let Command::Bridge { system, .. } = command {
-        check::address(*system);
     }
 }

@@ -1,6 +1,6 @@
 -- Declarations: why one is refused, and what it makes of what is declared.
-use Rattle.std.specs.Prelude.{◌≡◌, ℕ, zero, suc, List, [], ◌∷◌, ◌++◌, length, Bool, false, not, ◌&&◌, ◌==◌, nat_lt, nat_le, Option, is_none, slice_index, replicate, ◌%◌}
-use Rattle.std.specs.List.{list_any}
+use Rattle.std.specs.Prelude.{ℕ, zero, suc, List, [], ◌∷◌, ◌++◌, length, Bool, false, not, ◌&&◌, ◌==◌, nat_lt, nat_le, Option, is_none, slice_index, replicate, ◌%◌}
+use Rattle.std.specs.List.{list_any, list_all}
 use Rattle.std.specs.Str.{bytes_eq}
 use Rattle.spb_types.specs.declared.address.Mac.{Mac}
 use Rattle.spb_types.specs.declared.service.SourceId.{SourceId}
@@ -16,7 +16,6 @@ use Rattle.spb_world.specs.Reason.{reason_unless, ◌or◌}
 use Rattle.spb_world.specs.World.{World, Bridges, Links, things_of, place_of, ports_at, is_between, is_at_port}
 use Rattle.spb_types.specs.declared.limits.TheConstants.{GREATEST_ECT, GREATEST_METRIC, GREATEST_VID, MOST_BRIDGES, MOST_LINKS, MOST_PORTS, MOST_VIDS, SOURCE_IDS}
 use Rattle.bridge_api.specs.declared.config.BridgeConfig.{BridgeConfig}
-use Rattle.isis_pdu.specs.Grammar.{IsBytes}
 
 -- The tests of a declaration. Each reason for a refusal is one of them that fails, and the first that fails counts.
 
@@ -53,13 +52,13 @@ unfoldable pub is_new_source : SourceId → Bridges → Bool
 is_new_source source bridges = not (list_any (λ b. b.bridge.source.value == source.value) (things_of bridges))
 
 -- six octets
-pub record IsAddress (mac : Mac) : Type 0 where
-  pub bytes : length mac.bytes ≡ 6
-  pub octets : IsBytes mac.bytes
+abbrev pub is_address : Mac → Bool
+is_address mac = (length mac.bytes == 6) && list_all (λ b. nat_lt b 256) mac.bytes
 
--- a bridge's own address: the group bit is clear, and it isn't all zero
+-- a bridge's own address: six octets, the group bit is clear, and it isn't all zero
 abbrev pub is_bridge_address : Mac → Bool
-is_bridge_address mac = (slice_index mac.bytes 0 % 2 == 0) && not (bytes_eq mac.bytes (replicate 6 0))
+is_bridge_address mac =
+    is_address mac && (slice_index mac.bytes 0 % 2 == 0) && not (bytes_eq mac.bytes (replicate 6 0))
 
 -- a priority, an address, a source of 20 bits and a number of ports that a bridge can have
 unfoldable pub is_bridge_range : ℕ → Mac → SourceId → ℕ → Bool

@@ -3,7 +3,6 @@ ghost use Rattle.std.specs.List.{list_any};
 ghost use Rattle.spb_world.specs.Declaring as declare;
 ghost use Rattle.spb_world.specs.Services as service;
 ghost use Rattle.spb_world.specs.World as state;
-ghost use Rattle.spb_world.specs.Declaring.{IsAddress};
 
 use crate::{DeclaredBridge, DeclaredLink};
 use indexmap::IndexMap;
@@ -83,18 +82,12 @@ pub fn is_new_id(bridges: &IndexMap<Name, DeclaredBridge>, system: Mac, source: 
     is_new_system(bridges, system) && is_new_source(bridges, source)
 }
 
-/// Says that an address has six octets.
-pub fn address(mac: Mac)
-    ensures { IsAddress mac }
-{
-    let [_a, _b, _c, _d, _e, _f] = mac.bytes;
-}
-
-/// Whether an address can be a bridge's own: its group bit is clear, and it isn't all zero.
+/// Whether an address can be a bridge's own: its group bit is clear, and it isn't all zero. Six octets it always has.
 fn is_bridge_address(mac: Mac) -> bool
     ensures { result ≡ declare.is_bridge_address mac }
 {
-    mac.bytes[0] % 2 == 0 && mac.bytes != [0; 6]
+    let [first, _b, _c, _d, _e, _f] = mac.bytes;
+    first % 2 == 0 && mac.bytes != [0; 6]
 }
 
 /// Whether a bridge can have this priority, address, source and number of ports.

@@ -13,7 +13,7 @@ pub use reason::{Reason, reason_unless};
 pub use world::World;
 
 mod attaching;
-pub mod check;
+mod check;
 mod declaration;
 mod graph;
 mod hints;

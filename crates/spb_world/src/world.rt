@@ -336,7 +336,6 @@ impl World {
             ≡ config_of self.now (record { bridge = record { id = id; source = source }; ports = ports })) }
         ensures whole { IfOk result IsWhole }
     {
-        check::address(id.system.mac);
         let vids = Vec::from_slice(alloc, self.vids.as_slice())?;
         let metrics = vec![in alloc; 1; usize::from(ports)]?;
         Ok(BridgeConfig {

@@ -39,7 +39,7 @@ returns-in-Ok-clause-ready g c =
     let same = (λ i. record made { accepted = c.saturating_add-self.ensures i }) ∙ ap (λ (t : State). record t { accepted = next_count t.accepted }) c.in-Ok.ensures.state in
     inr (record {
       made = c.in-Ok.ensures.made;
-      state = subst IsSoundState (sym same) (commands_keep_sound old c.args.command.now sound c.addressed.ensures accepted);
+      state = subst IsSoundState (sym same) (commands_keep_sound old c.args.command.now sound accepted);
       counted = subst (λ (t : State). t.accepted ≤ most_commands → IsCounted t) (sym same) (stays_counted old c.args.command.now sound few accepted);
       outs = ap (λ (t : State). t.outs) same;
       kept = λ kept is. c.in-Ok.ensures.kept kept is ∙ sym (counted_conditions made c.saturating_add-self.result);
@@ -54,4 +54,4 @@ returns-in-Ok-clause-quiet g c =
     let few : old.accepted ≤ most_commands → IsCounted old = ⊎_elim (λ h. absurd (true≢false (sym h ∙ c.if-self.false))) (λ n. n.counted) c.requires in
     let accepted : refusal_of old c.args.command.now ≡ None = sym c.refusal.ensures ∙ c.in-None.is in
     let same = (λ i. record made { accepted = c.saturating_add-self.ensures i }) ∙ ap (λ (t : State). record t { accepted = next_count t.accepted }) c.in-Ok.ensures.state in
-    subst (λ (t : State). t.accepted ≤ most_commands → QuietIsConverged t) (sym same) (next_is_converged old c.args.command.now sound c.addressed.ensures few accepted)
+    subst (λ (t : State). t.accepted ≤ most_commands → QuietIsConverged t) (sym same) (next_is_converged old c.args.command.now sound few accepted)
