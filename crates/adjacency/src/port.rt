@@ -1,3 +1,4 @@
+//! The adjacency at one port: what a hello, a second and a change of carrier make of it, and what the own hello says.
 ghost use Rattle.std.specs.Prelude.{◌≡◌, ◌≤◌, true, if◌then◌else◌};
 ghost use Rattle.isis_pdu.specs.Pdu.{hello_of};
 ghost use Rattle.adjacency.specs.Hearing as hearing;

@@ -1,3 +1,4 @@
+//! The three states of an adjacency, and the table of nine cells by which they change.
 ghost use Rattle.std.specs.Prelude.{◌≡◌, ◌≤◌};
 ghost use Rattle.adjacency.specs.States.{state_number, state_numbered, next_state};
 

@@ -1,3 +1,4 @@
+//! The trait that each implementation of a bridge has, and boxes of bridges, which have it too.
 use crate::config::BridgeConfig;
 use crate::kind::Kind;
 use crate::outbox::Outbox;

@@ -1,3 +1,4 @@
+//! The configuration of a bridge, and when it is whole.
 use spb_types::{Attachment, BridgeId, Seq, SourceId, VidPlan};
 
 /// What a bridge is configured with.

@@ -1,3 +1,5 @@
+//! The names of the implementations, by which a network picks boxes.
+
 /// The implementation that a box holds. All do the same.
 #[derive(Clone, Copy, Debug, PartialEq, Eq, Hash)]
 pub enum Kind {

@@ -1,3 +1,4 @@
+//! Where a bridge's calls put the frames that it sends, and the customers' frames that leave it.
 ghost use Rattle.std.specs.Prelude.{◌≡◌, []};
 
 use shared_frames::Frame;

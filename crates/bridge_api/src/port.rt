@@ -1,3 +1,4 @@
+//! What a bridge keeps of each of its backbone ports.
 use adjacency::Adjacency;
 
 /// A backbone port of a bridge.

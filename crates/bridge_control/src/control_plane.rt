@@ -1,3 +1,5 @@
+//! The control plane as a kind of bridge uses it: each call refuses a failed bridge, works on the machine, and keeps or
+//! forgets the tables.
 ghost use Rattle.std.specs.Prelude.{◌≡◌, true, false, ◌↔◌, ◌&&◌, IfOk, IfSome, OnOk, OnErr, IsErr, Some};
 ghost use Rattle.std.specs.Option.{option_map, option_copied};
 ghost use Rattle.spb_types.specs.Graph.{IsValidFor};

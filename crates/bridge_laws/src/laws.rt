@@ -33,10 +33,11 @@ pub fn steps_keep_neighbours()
     ensures { StepsKeepNeighbours }
 {}
 
-/// Each frame that is sent and heard as a hello names its sender and port, the state there, and nobody but the
-/// neighbour that is kept; an LSP that is sent is the one that its sender holds, and what a frame claims is just what
-/// its sender holds. Any other frame carries a customer's. In each second one hello is sent at each port with carrier,
-/// and nothing at others.
+/// Each frame that a sound bridge sends and that is heard as a hello names its sender and port, the state there, and
+/// nobody but the neighbour that is kept; an LSP that is sent is the one that its sender holds, and what a frame claims
+/// is just what its sender holds. Any other frame carries a customer's. In each second one hello is sent at each port
+/// with carrier, and nothing at others. The neighbour that is kept, if one is, has a circuit id of four bytes and a
+/// system id of octets, as in every frame.
 pub fn frames_are_heard()
     ensures sound { SentIsSound }
     ensures one_hello { OneHello }
@@ -79,8 +80,9 @@ pub fn graphs_are_read_from_what_is_held()
     ensures ports { OwnPortsAreApart }
 {}
 
-/// What a bridge doesn't reach says nothing of its rows: in the graph that it reaches they are those of the graph of all
-/// that it reads. There are such bridges and graphs.
+/// What a bridge doesn't reach says nothing of its rows: in the graph that it reaches they are those of the graph of
+/// all that it reads, where it reads at most 65,535 systems and the graph that it reaches is valid. There are such
+/// bridges and graphs.
 pub fn cut_says_nothing()
     ensures rows { CutSaysNothing }
     ensures some { SomeGraphIsOwn }
@@ -99,7 +101,8 @@ pub fn steps_carry_the_database()
     ensures up_ports { UpPortsAreUp }
 {}
 
-/// A bridge that has heard a neighbour which has heard it is Up at that port, and there are such bridges.
+/// Of two bridges just configured, with carrier at port 1 of each, the one that hears the other after that one heard it
+/// is Up; and there are such bridges.
 pub fn neighbours_come_up()
     ensures up { NeighboursComeUp }
     ensures some { SomeBridge }
@@ -107,8 +110,10 @@ pub fn neighbours_come_up()
     control_again();
 }
 
-/// A bridge that hears hellos alone holds at most one LSP more after each step, and its own LSP goes at most one number
-/// further; and in a second it sends few frames.
+/// Where a bridge holds at most k LSPs, its own at number k at most, and hears hellos alone, it holds at most k + 1
+/// after a step, its own at number k + 1 at most; and in a second it sends at most 3 k + 5 frames for each port. That
+/// is said below the last number, of a bridge whose sequence numbers aren't spent. A configured bridge holds one LSP,
+/// at number 1.
 pub fn few_are_held_and_sent()
     ensures configured { ConfiguredHoldsFew }
     ensures steps { StepsHoldFew }
@@ -126,17 +131,18 @@ pub fn silent_neighbours_are_lost()
     control_again();
 }
 
-/// In a second an LSP of another system keeps its version and body, or is dead at its number. A live one of which
-/// nothing more is heard stays as it is for the seconds of its lifetime, and is then dead, to be sent at every Up port.
+/// In a second an LSP that isn't the own one keeps its version and body, or is dead at its number. Where nothing comes
+/// to the bridge, a live one stays as it is for the seconds of its lifetime, and is then dead, to be sent at every Up
+/// port.
 pub fn silent_lsps_expire()
     ensures age { SecondsAge }
     ensures last { LspsLast }
     ensures expire { LspsExpire }
 {}
 
-/// A second after which a bridge has the same to say, and its own lifetime is above 300, originates nothing. Each other
-/// originates: the own LSP stands one number further, or past the last one is dead, and then none originates any more.
-/// So a bridge just configured and left to itself originates every 900 seconds.
+/// A second after which a sound bridge has the same to say, and its own lifetime is above 300, originates nothing. Each
+/// other originates: the own LSP stands one number further, or past the last one is dead, and then none originates any
+/// more. So a bridge just configured and left to itself originates every 900 seconds.
 pub fn own_lsps_are_renewed()
     ensures still { SecondsStandStill }
     ensures renew { SecondsRenew }
@@ -149,9 +155,10 @@ pub fn own_lsps_are_renewed()
 {}
 
 /// Sequence numbers rise by what is heard alone, but for what a bridge originates. An id is held by being claimed, or
-/// is an own one. An LSP of another system stays, is the one that came in, or is dead where confused ones met. An own
-/// one stands at most one number past what it answers, or else is originated once at most. Below the last number
-/// nothing spends it; there are such bridges.
+/// is an own one. Whatever comes in but a second, an LSP of another system stays, is the one that came in, or is dead
+/// where confused ones met. An own one stands at most one number past what it answers, or else is originated once at
+/// most. Where its own numbers and those that are claimed are below the last one, nothing spends them; there are such
+/// bridges.
 pub fn numbers_rise_by_what_is_heard()
     ensures ids { StepsHoldIds }
     ensures learn { StepsLearn }
@@ -164,8 +171,8 @@ pub fn numbers_rise_by_what_is_heard()
 {}
 
 /// A frame that is dropped raises the count of the one reason for which it is dropped, by one, and changes and sends
-/// nothing. Any other frame raises no count but that of what finds no place in the database, once for each such entry
-/// of a sequence numbers PDU. A customer's frame is dropped only where no port leads on, which is counted once; what its
+/// nothing. Any other frame raises no count but that of Full, once for each entry of a sequence numbers PDU that finds
+/// no place in the database. A customer's frame is dropped only where no port leads on, which is counted once; what its
 /// source taught the bridge stays. Nothing else raises a count. There are bridges that drop frames.
 pub fn dropped_frames_are_counted()
     ensures dropped { DroppedFramesCountOnce }

@@ -1,3 +1,4 @@
+//! All that a bridge has learned: a table of addresses for each I-SID that it met.
 ghost use Rattle.std.specs.Prelude.{◌≡◌, filter, not, OnOk, OnErr};
 ghost use Rattle.std.specs.FinMap as finite;
 ghost use Rattle.customer_learning.specs.Known.{place_in, with_learned, with_port_forgotten, with_isid_forgotten};

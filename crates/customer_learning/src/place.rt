@@ -1,3 +1,4 @@
+//! The places where a customer's address can be.
 ghost use Rattle.std.specs.Prelude.{◌≡◌};
 ghost use Rattle.customer_learning.specs.Known.{is_local};
 

@@ -33,7 +33,8 @@ pub fn best_of_is_best()
     ensures some { BestOfSome }
 {}
 
-/// In a valid graph, ways that are low at every edge are the best paths, and the best paths are low at every edge.
+/// In a valid graph ways that are low at every edge, at most one to each bridge, are the best paths; and these are low
+/// at every edge. Low means that no way, with one bridge more over an edge, is below the way to that bridge.
 pub fn low_ways_are_best()
     ensures best { LowIsBest }
     ensures low { BestIsLow }
@@ -60,17 +61,18 @@ pub fn order_says_nothing()
     ensures { OrderSaysNothing }
 {}
 
-/// A tree of the best paths of one graph has those of each valid graph that is alike, with their costs.
+/// A tree of the best paths of a valid graph, with their costs, is one of each valid graph with the same bridges and
+/// edges, in whatever order.
 pub fn trees_are_alike()
     ensures { TreesAlike }
 {}
 
-/// A tree whose labels are the best paths has the best paths.
+/// A tree whose labels are the best paths of a valid graph gives the best paths.
 pub fn grown_trees_give_best()
     ensures { GrownIsBest }
 {}
 
-/// Valid graphs that are alike have the same costs and ports, and look alike from every bridge.
+/// Valid graphs that are alike have the same costs and ports, and, with the same members, look alike from every bridge.
 pub fn alike_graphs_look_alike()
     ensures ports { AlikeHaveSamePorts }
     ensures look { LookAlikeFromEach }

@@ -1,3 +1,4 @@
+//! The search for best paths: labels at the places of bridges, relaxed over arcs and settled in order of cost.
 ghost use Rattle.std.specs.Prelude.{◌≡◌, ◌+◌, ◌-◌, ◌<◌, ◌≤◌, ◌∷◌, [], length, replicate, None, Some, IfOk, OnOk, IsTrue, MatchBool};
 ghost use Rattle.std.specs.Ordering.{nat_cmp, ordering_then};
 ghost use Rattle.spb_types.specs.Graph.{IsAmong, IsValid};

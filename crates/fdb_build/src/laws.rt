@@ -10,17 +10,17 @@ pub fn rows_are_table()
     ensures { RowsAreTable }
 {}
 
-/// There is just one such table.
+/// There is just one such table of unicast rows.
 pub fn table_is_one()
     ensures { TableIsOne }
 {}
 
-/// The rows of a bridge are the same in valid graphs that look alike from it.
+/// The unicast rows of a bridge are the same in valid graphs that look alike from it.
 pub fn rows_are_seen_alike()
     ensures { SameRows }
 {}
 
-/// In valid graphs they don't depend on the order of the graph's lists, nor of an edge's ends, nor of the VIDs.
+/// In valid graphs unicast rows don't depend on the order of the graph's lists, nor of an edge's ends, nor of the VIDs.
 pub fn order_says_nothing()
     ensures { OrderSaysNothingOfRows }
 {}
@@ -31,7 +31,7 @@ pub fn group_rows_are_table()
     ensures { GroupRowsAreTable }
 {}
 
-/// There is just one such table.
+/// There is just one such table of group rows.
 pub fn group_table_is_one()
     ensures { GroupTableIsOne }
 {}
@@ -41,7 +41,7 @@ pub fn groups_are_seen_alike()
     ensures { SameGroups }
 {}
 
-/// In valid graphs they don't depend on the order of the graph's lists, nor of an edge's ends, nor of the VIDs.
+/// In valid graphs group rows don't depend on the order of the graph's lists, nor of an edge's ends, nor of the VIDs.
 pub fn order_says_nothing_of_groups()
     ensures { OrderSaysNothingOfGroups }
 {}
@@ -56,9 +56,9 @@ pub fn frames_go_one_path()
 {}
 
 /// What a source sends to a service goes down one tree: by its group row each bridge sends on just to those that follow
-/// it on the way to a receiver, and each of these takes it from that bridge alone. A bridge that isn't on the tree sends
-/// nothing on, and is sent nothing. The tree leads to each other receiver that the source reaches, one edge further
-/// with each bridge.
+/// it on the way to a receiver, and each of these takes it from that bridge alone. A bridge that isn't on the tree
+/// sends nothing on, and is sent nothing. The tree leads to each other receiver that the source reaches, one edge
+/// further with each bridge. Some service has a receiver that follows another bridge than the source.
 pub fn group_rows_make_trees()
     ensures rows { RowsLeadOn }
     ensures towards { RowsLeadToFollowers }

@@ -1,3 +1,4 @@
+//! Why a claim isn't heard: there is no place for it, or no memory.
 ghost use Rattle.std.specs.Prelude.{◌≡◌};
 ghost use Rattle.flooding.specs.declared.error.FloodError.TheVariants as errors;
 

@@ -1,3 +1,4 @@
+//! An LSP that is heard: what it changes in the database, by how it stands to what is held.
 ghost use Rattle.std.specs.Prelude.{◌≡◌, ◌≤◌, length, IfOk};
 ghost use Rattle.isis_pdu.specs.Pdu.{lsp_of};
 ghost use Rattle.lsdb.specs.Version.{claimed};

@@ -41,7 +41,9 @@ pub fn flags_are_read_port_by_port()
     ensures spent { SpentFlags }
 {}
 
-/// What hearing leaves of the own LSP, and what an origination makes of it.
+/// A claim below the last number leaves the own LSP as it was, but for its flags, or is answered one number past it
+/// with the present body. An origination puts the next entry under the own id, and changes no other. In both the system
+/// and its body stay, and below the last number it isn't spent.
 pub fn the_own_lsp_is_kept_or_renewed()
     ensures own { OwnStands }
     ensures not_spent { OwnIsNotSpent }
@@ -53,7 +55,7 @@ pub fn the_own_lsp_is_kept_or_renewed()
     ensures still_not_spent { OriginationIsNotSpent }
 {}
 
-/// Under an id of the own system stands no body but one that the system wrote, or that of a dead LSP.
+/// Under an id of the own system no body comes to stand but the present one of the system, or that of a dead LSP.
 pub fn own_bodies_are_the_systems()
     ensures lsp { LspLeavesOwnBody }
     ensures entry { EntryLeavesOwnBody }
@@ -87,7 +89,7 @@ pub fn flags_stand_at_up_ports()
     ensures origination { OriginationKeepsFlags }
 {}
 
-/// An own LSP lives 1,200 seconds when it is originated (ISO/IEC 10589, 7.3.5).
+/// An own LSP lives 1,200 seconds when it is originated (ISO/IEC 10589, 7.3.5). `renewed` names this constant.
 pub fn own_lsps_live_1200_seconds()
     ensures { MAX_AGE ≡ 1200 }
 {}

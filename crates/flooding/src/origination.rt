@@ -1,3 +1,4 @@
+//! The own LSP, originated: one number further, or dead past the last number.
 ghost use Rattle.std.specs.Prelude.{◌≡◌, ◌≤◌, Some, true, false, length, OnOk, OnErr};
 ghost use Rattle.std.specs.FinMap.{get};
 ghost use Rattle.lsdb.specs.Version.{is_absent};

@@ -1,3 +1,4 @@
+//! A system and what it says of itself, and how it answers a claim of one of its own ids.
 ghost use Rattle.std.specs.Prelude.{◌≡◌, ◌≤◌, Some, length};
 ghost use Rattle.flooding.specs.Hearing as hearing;
 

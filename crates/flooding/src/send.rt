@@ -1,3 +1,4 @@
+//! Which LSPs are to be sent at a port, and the LSP of what is held.
 ghost use Rattle.std.specs.Prelude.{◌≡◌, ◌≤◌, IfOk};
 ghost use Rattle.isis_pdu.specs.declared.kind.Kind.TheVariants as kinds;
 ghost use Rattle.isis_pdu.specs.Pdu as pdu;

@@ -8,14 +8,15 @@ pub fn changed_graphs_are_valid()
     ensures { StaysValid }
 {}
 
-/// Nothing but the edge between the two bridges changes.
+/// Nothing but the edge between the two bridges changes: an edge stands in the changed graph exactly where it is the
+/// one that is set, or stood there and joins other bridges.
 pub fn one_edge_changes()
     ensures edges { EdgesStand }
     ensures costs { CostsChangeThere }
 {}
 
 /// After any changes a set has the same trees, and each has the best paths of the graph with these changes. Some
-/// changes join bridges.
+/// changes join bridges that were not joined.
 pub fn trees_stay_best()
     ensures stay { TreesStayBest }
     ensures some { SomeTreesChange }

@@ -1,3 +1,4 @@
+//! A backbone frame that comes in: dropped, relayed, or delivered to the customer ports of its I-SID.
 ghost use Rattle.std.specs.Prelude.{◌≡◌, ◌≤◌, ◌⊎◌, length, Ok, IfOk, OnOk, OnErr};
 ghost use Rattle.itag_frames.specs.Backbone.{backbone_in, carried};
 ghost use Rattle.forwarding.specs.Tenant as spec;

@@ -1,3 +1,4 @@
+//! A customer's frame that enters: to other customer ports, to another bridge, or to all of its service.
 ghost use Rattle.std.specs.Prelude.{◌≡◌, ◌≤◌, ◌∷◌, ◌⊎◌, [], length, IfOk, OnOk, OnErr};
 ghost use Rattle.forwarding.specs.Ports.{but_for, ports_in, receiving_ports};
 ghost use Rattle.spb_types.specs.Tables.{group_in};

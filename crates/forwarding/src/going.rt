@@ -1,3 +1,4 @@
+//! Where a frame goes by what is learned, and what is learned of its source.
 ghost use Rattle.std.specs.Prelude.{◌≡◌, ◌≤◌, length, OnOk, OnErr};
 ghost use Rattle.forwarding.specs.Tenant.{going_by, going_of, with_source};
 

@@ -2,8 +2,9 @@
 ghost use Rattle.forwarding.specs.Placed.{PlacedIsFound, EntryKeepsPlaces, DeliveryKeepsPlaces, AttachingKeepsPlaces, DetachingKeepsPlaces};
 ghost use Rattle.forwarding.specs.Laws.{LeavesInItsService, SentInItsService, DeliveredInItsService, IngressFailureChangesNothing};
 
-/// What leaves or is sent of a customer's frame stays in the I-SID in which it entered or which carried it, byte for
-/// byte, and it never leaves at the port where it entered.
+/// What leaves of a customer's frame leaves, byte for byte, at ports of the I-SID in which it entered or which carried
+/// it, and never at the port where it entered; what is sent of it carries that I-SID and the frame. Of what leaves this
+/// asks that what was learned at customer ports was learned at ports of its I-SID.
 pub fn services_stay_apart()
     ensures leaves { LeavesInItsService }
     ensures sent { SentInItsService }
@@ -16,7 +17,7 @@ pub fn ingress_failure_changes_nothing()
 {}
 
 /// An address that was learned at a customer port was learned at one of its I-SID, and that stays so whatever frames
-/// come and whichever ports are attached and detached.
+/// come and whichever ports are attached and detached, as long as each port is attached to one I-SID.
 pub fn places_stay_in_their_service()
     ensures found { PlacedIsFound }
     ensures entry { EntryKeepsPlaces }

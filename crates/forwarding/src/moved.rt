@@ -1,3 +1,4 @@
+//! What a frame makes a bridge send and let out, or why it is dropped.
 ghost use Rattle.std.specs.Prelude.{◌≡◌};
 ghost use Rattle.forwarding.specs.Tenant as spec;
 

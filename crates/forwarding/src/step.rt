@@ -1,3 +1,4 @@
+//! What becomes of a backbone frame, decided before anything is sent: the ingress check, its I-SID, its destination.
 ghost use Rattle.std.specs.Prelude.{◌≡◌, IfOk};
 ghost use Rattle.spb_types.specs.Tables.{unicast_in};
 ghost use Rattle.forwarding.specs.Ports.{is_way};

@@ -1,3 +1,4 @@
+//! What a bridge knows of its customers, as far as forwarding asks for it.
 use customer_learning::Learned;
 use spb_types::{Attachment, Mac, Seq, SourceId};
 

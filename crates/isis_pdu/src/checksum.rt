@@ -1,3 +1,4 @@
+//! The checksum of an LSP (ISO 8473-1, annex C): made, and looked at.
 ghost use Rattle.std.specs.Prelude.{◌≡◌, ◌≤◌, ℕ, length, IsTrue};
 ghost use Rattle.isis_pdu.specs.Checksum as field;
 ghost use Rattle.isis_pdu.specs.Checksum.{IsReduced, total, weight, sums_from, sums_of, check_byte, is_checked, covered, lsp_sum_of, HasCheckBytes};

@@ -1,3 +1,4 @@
+//! The types of PDU, with their numbers and the lengths of their fixed parts.
 ghost use Rattle.std.specs.Prelude.{◌≡◌};
 ghost use Rattle.isis_pdu.specs.Header.{type_of, kind_of, fixed_length, length_place};
 

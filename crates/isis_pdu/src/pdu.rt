@@ -1,3 +1,4 @@
+//! The PDUs as values: their fields, with TLVs that lie in the bytes that were read; and why bytes are none.
 use spb_types::{LspId, SystemId};
 use thiserror::Error;
 

@@ -1,3 +1,4 @@
+//! Bytes read as a PDU, or the first rule that they break.
 ghost use Rattle.std.specs.Prelude.{◌≡◌, ◌+◌, ◌≤◌, length, IsTrue, IfOk, Some};
 ghost use Rattle.isis_pdu.specs.Header.{fixed_length, length_place};
 ghost use Rattle.isis_pdu.specs.Grammar.{IsReadFrom, IsCanonical};

@@ -1,3 +1,4 @@
+//! Whether bytes are whole TLVs.
 ghost use Rattle.std.specs.Prelude.{◌≡◌};
 ghost use Rattle.isis_pdu.specs.Tlvs.{is_whole};
 

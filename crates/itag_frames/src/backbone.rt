@@ -1,3 +1,4 @@
+//! Frames with a B-TAG and an I-TAG: opened, and made of what they carry.
 ghost use Rattle.std.specs.Prelude.{◌≡◌, ◌≤◌, length, Ok, IfOk};
 ghost use Rattle.itag_frames.specs.Frame.{Customer};
 ghost use Rattle.itag_frames.specs.Backbone as spec;

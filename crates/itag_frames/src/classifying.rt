@@ -1,3 +1,4 @@
+//! What a frame is: a control frame with its PDU, one with an I-TAG, or neither.
 ghost use Rattle.std.specs.Prelude.{◌≡◌, ◌≤◌, length};
 ghost use Rattle.itag_frames.specs.Frame as spec;
 ghost use Rattle.itag_frames.specs.Classify.{content_in, control_in};

@@ -1,3 +1,4 @@
+//! Control frames, made of a PDU or of the room for one.
 ghost use Rattle.std.specs.Prelude.{◌≡◌, ◌≤◌, ◌++◌, ℕ, List, length, Ok, IfOk};
 ghost use Rattle.itag_frames.specs.Frame.{Pdu, control_bytes};
 ghost use Rattle.itag_frames.specs.Classify.{content_in};

@@ -1,3 +1,4 @@
+//! A frame of the backbone as a value, and why bytes are none.
 use spb_types::{Isid, Mac, Vid};
 use thiserror::Error;
 

@@ -1,3 +1,4 @@
+//! The laws of frames: what was made is read again. Each is the contract of a function that does nothing.
 ghost use Rattle.itag_frames.specs.Classify.{CarriedAgain, ControlAgain};
 ghost use Rattle.itag_frames.specs.Backbone.{EncapsulatedAgain, EncapsulatedIsNoControl, OpenedCanBeCarried, OpenedIsWhole};
 

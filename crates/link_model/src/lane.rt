@@ -1,3 +1,4 @@
+//! One lane: frames, first in first out, with those that are lost and doubled.
 ghost use Rattle.std.specs.Prelude.{◌≡◌, ◌≤◌, ◌<◌, ◌↔◌, false, IsOk, List, [], ◌∷◌, ℕ, length, map, nat_eq, MatchOption, MatchResult, OnOk, OnErr, IfOk, IsErrOf, slice_get, remove, nat_lt, if◌then◌else◌, ⊤};
 ghost use Rattle.std.specs.Option.{option_copied};
 ghost use Rattle.std.specs.Result.{OkIff};

@@ -1,3 +1,4 @@
+//! The database: LSPs in order of id, found by a binary search, with the changes that a bridge makes to them.
 ghost use Rattle.std.specs.Prelude.{◌≡◌, ◌≤◌, ◌↔◌, ℕ, Some, None, true, false, IfOk, IfErr, IfSome, OnOk, OnErr, IsErrOf, IsNone, nat_eq, slice_get, map, take, drop, length};
 ghost use Rattle.std.specs.Option.{option_map, option_copied};
 ghost use Rattle.std.specs.FinMap as finite;

@@ -1,3 +1,4 @@
+//! One LSP as it is held, and the row that tells of it.
 ghost use Rattle.std.specs.Prelude.{◌≡◌};
 ghost use Rattle.lsdb.specs.Entry.{entry_of, row_of};
 

@@ -1,3 +1,4 @@
+//! Which of two LSPs is newer: versions, how two of them stand to each other, and their join.
 ghost use Rattle.std.specs.Prelude.{◌≡◌};
 ghost use Rattle.lsdb.specs.Version.{is_absent, leq, relation, join_of, number_of, sum_of, claimed};
 

@@ -1,3 +1,4 @@
+//! What is counted of the answers to a script, one after another.
 ghost use Rattle.std.specs.Prelude.{◌≡◌, ◌<◌, ◌+◌, None, if◌then◌else◌};
 ghost use Rattle.made_runs.specs.Applied as counting;
 

@@ -1,3 +1,4 @@
+//! The script that is made, played at once on a network, and the one line that tells what came of it.
 ghost use Rattle.std.specs.Prelude.{◌≡◌, ◌≢◌, ◌≤◌, ◌⊎◌, Some, Ok, Err, length, IfOk, IsErrOf, IsTrue, OnOk, OnErr};
 ghost use Rattle.std.specs.Io.KnownBytes.{Appends};
 ghost use Rattle.spb_network.specs.Applying.{IsReady, Plays};

@@ -1,4 +1,4 @@
--- Where a network whose sequence numbers are counted is quiet, every bridge is told.
+-- Where a network whose sequence numbers are counted is quiet, it is converged.
 use Rattle.std.proofs.Common.{◌≡◌, ◌≤◌, Option, None, ap, ◌∙◌}
 use Rattle.bridge_api.specs.View.{BridgeView}
 use Rattle.scenario.specs.declared.command.Command.{Command}

@@ -1,3 +1,4 @@
+//! What accepted commands answer.
 use adjacency::Adjacency;
 use lsdb::DbRow;
 use spb_types::{Name, Seq, Tables, Vid};

@@ -1,3 +1,5 @@
+//! The four conditions of a quiet network, as they were found.
+
 /// Which conditions of quiet hold.
 #[derive(Clone, Copy)]
 pub struct Conditions {

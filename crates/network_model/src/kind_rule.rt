@@ -1,3 +1,5 @@
+//! The rules by which bridges take plain or swift boxes.
+
 /// Which kind of box each declared bridge takes.
 #[derive(Clone, Copy, Debug, PartialEq, Eq, Hash)]
 pub enum KindRule {

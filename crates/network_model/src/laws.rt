@@ -58,10 +58,10 @@ pub fn the_first_reason_is_given()
     ensures { TheFirstReasonIsGiven }
 {}
 
-/// Whatever commands are accepted, at most 120,000 of them, with at most 20,000 rounds, and in whatever order frames are
-/// delivered, lost and doubled: no bridge spends its sequence numbers, and none but ids of declared bridges are held or
-/// claimed. The numbers of each are within an allowance that a round raises by 128 and a command by 2, and so are at most
-/// 2,800,000; and no database is full. Some such network has a frame on its way.
+/// Whatever commands are accepted, at most 120,000 of them, with at most 20,000 rounds, and in whatever order frames
+/// are delivered, lost and doubled: no bridge spends its sequence numbers, and none but ids of declared bridges are
+/// held or claimed. The numbers of each are within an allowance that a round raises by 128 and a command by 2, and so
+/// are at most 2,800,000; and no database is full. Some such network has a frame on its way.
 pub fn numbers_stay_bounded()
     ensures events { EventsKeepCounted }
     ensures step { CommandsKeepCounted }
@@ -88,10 +88,10 @@ pub fn quiet_is_true()
     ensures quiet { QuietHasWiredTables }
 {}
 
-/// In a quiet network the path between two bridges in a VID is the best one of the wiring, and the way back is the same.
-/// Each bridge on it takes the source's frames from the bridge before it alone, and where the source sends to a service
-/// that the last bridge receives, each sends what goes there on to the bridge behind it. What `path` answers is that
-/// path, by the names of its bridges.
+/// In a quiet network the path between two bridges in a VID is the best one of the wiring, and the way back is the
+/// same. Each bridge on it takes the source's frames from the bridge before it alone, and where the source sends to a
+/// service that the last bridge receives, each sends what goes there on to the bridge behind it. What `path` answers is
+/// that path, by the names of its bridges.
 pub fn quiet_paths_are_wired()
     ensures frames { FramesGoOnePath }
     ensures answer { PathIsTrue }
@@ -100,7 +100,7 @@ pub fn quiet_paths_are_wired()
 /// Where a sound network whose sequence numbers are counted is quiet, every bridge has its part of the wiring right,
 /// any two that a walk joins hold the same, between any two frames go one path, and a group frame leaves exactly once
 /// where it has to. So it is whatever commands were accepted, at most 120,000 of them. Where `show` says quiet, it has
-/// the rows of `wiring`. Some commands lead to a quiet network of two bridges, whose link went down again.
+/// the rows of `wiring`. Some commands lead to a quiet network of two bridges and a link.
 pub fn quiet_can_be_relied_on()
     ensures counted { CountedQuietIsConverged }
     ensures always { PlayedQuietIsConverged }
@@ -109,8 +109,8 @@ pub fn quiet_can_be_relied_on()
 {}
 
 /// Whatever commands were accepted, whether the network is quiet or not: a frame that leaves at a customer port leaves
-/// at one of an I-SID in which it entered, byte for byte, by one of these commands. In one command nothing is sent on or
-/// leaves but what was on its way or enters by it. Some commands lead to a network in which a frame leaves.
+/// at one of an I-SID in which it entered, byte for byte, by one of these commands. In one command nothing is sent on
+/// or leaves but what was on its way or enters by it. Some commands lead to a network in which a frame leaves.
 pub fn services_stay_apart()
     ensures network { ServicesStayApart }
     ensures command { CommandsKeepApart }

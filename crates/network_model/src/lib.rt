@@ -1,11 +1,11 @@
 //! What a network of bridges and links is, and what holds of it: its state, what comes to pass in it, why a command is
 //! refused, what an accepted one makes and answers, and when the network is quiet.
 //!
-//! There is no code here but the words of the answers; `spb_network` does what is said here. What an accepted command
-//! makes stands in `specs/Play.antt`, and why one is refused in `specs/Refusing.antt`. What holds of a network at every
-//! moment stands in `specs/Sound.antt`; what a quiet network knows of its wiring in `specs/Truth.antt`; and that
-//! service instances don't mix in it, quiet or not, in `specs/Isolation.antt`. Each law is the contract of a function
-//! that does nothing.
+//! There is no code here but the types that states and answers are made of; `spb_network` does what is said here. What
+//! an accepted command makes stands in `specs/Play.antt`, and why one is refused in `specs/Refusing.antt`. What holds
+//! of a network at every moment stands in `specs/Sound.antt`; what a quiet network knows of its wiring in
+//! `specs/Truth.antt`; and that service instances don't mix in it, quiet or not, in `specs/Isolation.antt`. Each law is
+//! the contract of a function that does nothing.
 #![tactic(auto)]
 
 pub use answer::{Answer, Out};

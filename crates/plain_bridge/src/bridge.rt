@@ -1,3 +1,4 @@
+//! The plain bridge: its calls, forwarded to its control plane, and its tables, made of what bridges share.
 ghost use Rattle.std.specs.Prelude.{◌≡◌, true, false, IfOk, IsErr, OnOk, OnErr};
 ghost use Rattle.bridge_api.specs.Tables.{own_tables};
 

@@ -1,3 +1,4 @@
+//! The text of the adjacencies of a bridge's ports.
 ghost use Rattle.std.specs.Prelude.{◌≡◌, ◌++◌, OnOk, IfOk};
 ghost use Rattle.std.specs.List.{flat_map};
 ghost use Rattle.report.specs.Adjacencies as texts;

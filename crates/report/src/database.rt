@@ -1,3 +1,4 @@
+//! The text of what a bridge holds, an LSP id a line.
 ghost use Rattle.std.specs.Prelude.{◌≡◌, ◌++◌, OnOk, IfOk};
 ghost use Rattle.std.specs.List.{flat_map};
 ghost use Rattle.report.specs.Database as texts;

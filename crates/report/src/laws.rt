@@ -6,7 +6,8 @@ pub fn ports_are_those_of_the_set()
     ensures { PortsAreThoseOfTheSet }
 {}
 
-/// An answer with rows is a line for each row and one before, and any other answer is one line.
+/// An answer with rows is a line for each row and one before, and any other answer, that of `drops` with its counts
+/// among them, is one line.
 pub fn answers_are_lines()
     ensures tables { TablesHaveLines }
     ensures database { DatabaseHasLines }

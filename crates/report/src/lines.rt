@@ -1,3 +1,4 @@
+//! The texts of one line: a path, counts of drops, a frame that leaves, the state, an error, and what `try` counted.
 ghost use Rattle.std.specs.Prelude.{◌≡◌, ◌++◌, codes, decimal, map, OnOk, IfOk};
 ghost use Rattle.std.specs.List.{flat_map};
 ghost use Rattle.report.specs.Lines as texts;

@@ -1,3 +1,4 @@
+//! The text of a bridge's tables, as `show` and `wiring` give it.
 ghost use Rattle.std.specs.Prelude.{◌≡◌, ◌++◌, OnOk, IfOk};
 ghost use Rattle.std.specs.List.{flat_map};
 ghost use Rattle.report.specs.Tables as texts;

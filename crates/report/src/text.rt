@@ -1,3 +1,4 @@
+//! A text that is written word by word: what all texts of answers are made with.
 ghost use Rattle.std.specs.Prelude.{◌≡◌, ◌++◌, ◌∷◌, [], ◌<◌, ◌≤◌, codes, decimal, slice_index, if◌then◌else◌, IfOk, OnOk};
 ghost use Rattle.spb_types.specs.Ports.{has};
 ghost use Rattle.hex.specs.Hex.{encode_lower, lower_digits};

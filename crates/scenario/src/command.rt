@@ -1,3 +1,4 @@
+//! The commands of a script, as values.
 use spb_types::{Dir, Mac, Name, Seq, Side, SourceId};
 
 /// A command of a script: one variant for each form of a line.
@@ -28,7 +29,7 @@ pub enum Command {
         port_b: u64,
         cost: u64,
     },
-    /// `isid I V`: the I-SID I (IEEE 802.1Q, 24 bits) in the VID V.
+    /// `isid I V`: the I-SID I (IEEE 802.1ah, 24 bits) in the VID V.
     Isid {
         isid: u64,
         vid: u64,

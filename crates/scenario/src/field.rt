@@ -1,3 +1,4 @@
+//! What a word of a line means: names, numbers, addresses, sources, directions, ends of links, frames.
 ghost use Rattle.std.specs.Prelude.{◌≡◌, ◌+◌, ◌≤◌, ◌<◌, ℕ, List, Option, length, IsTrue, IfOk, unwrap_or};
 ghost use Rattle.hex.specs.Hex.{hex_digit_value, is_hex_digit};
 ghost use Rattle.std.specs.List.{list_all};

@@ -1,3 +1,4 @@
+//! The forms of lines: the words behind each keyword, in order.
 ghost use Rattle.std.specs.Prelude.{◌≡◌};
 ghost use Rattle.scenario.specs.Grammar.{read, form_of};
 ghost use Rattle.scenario.specs.Answers.{Gives, Names};

@@ -1,3 +1,4 @@
+//! Commands, printed as lines.
 ghost use Rattle.std.specs.Prelude.{◌≡◌, ◌++◌, ◌∷◌, [], ◌<◌, decimal, IfOk, IsTrue, OnOk};
 ghost use Rattle.hex.specs.Hex.{encode_lower};
 ghost use Rattle.scenario.specs.declared.command.Command.TheVariants as command;

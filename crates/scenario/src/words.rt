@@ -1,3 +1,4 @@
+//! The words of a line with their columns, one after another.
 ghost use Rattle.std.specs.Prelude.{◌≡◌, ◌≤◌, ◌+◌, [], ◌∷◌, length, MatchOption, Ok};
 ghost use Rattle.std.specs.List.{prefix_len, position_or_len};
 ghost use Rattle.scenario.specs.Words.{is_blank as is_blank_byte, rest_from, next, at_end};

@@ -28,8 +28,8 @@ module _
     pub ended : status ≡ Done → IsAtEnd (left source')
     -- A run that ended by itself leaves the network as the accepted lines make it.
     pub state : IsTrue (is_ended status) → IfSome (left source) (λ script. t ≡ end_of s script)
-    -- The network is sound then, with its sequence numbers far from the last one. Where it is quiet then, every bridge
-    -- is told what is there: its graph is the part of the wiring that it reaches, and its tables are those that are
+    -- The network is sound then, with its sequence numbers far from the last one. Where it is quiet then, it is
+    -- converged: the graph of every bridge is the part of the wiring that it reaches, and its tables are those that are
     -- wired for it. And so it is after each line of the script that is accepted.
     pub sound : IsTrue (is_ended status) → IsSoundState t
     pub counted : IsTrue (is_ended status) → IsCounted t

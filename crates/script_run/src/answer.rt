@@ -1,3 +1,4 @@
+//! Which text of `report` is written for which answer.
 ghost use Rattle.std.specs.Prelude.{◌≡◌, IfOk};
 ghost use Rattle.std.specs.List.{flat_map};
 ghost use Rattle.script_run.specs.Answer.{text_of_out, text_of_answer};

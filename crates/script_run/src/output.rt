@@ -1,3 +1,4 @@
+//! Bytes written whole to a sink, which may take them in parts.
 ghost use Rattle.std.specs.Prelude.{◌≡◌, ◌≢◌, ◌≤◌, Err, IsErrOf, IsTrue, OnOk, OnErr};
 ghost use Rattle.std.specs.Io.KnownBytes.{Appends};
 ghost use Rattle.spb_outside.specs.Faults.{Rose};

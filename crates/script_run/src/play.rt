@@ -1,3 +1,4 @@
+//! One line of a script: read, judged, played, and answered.
 ghost use Rattle.std.specs.Prelude.{◌≡◌, Some, None, codes, IfOk, OnOk};
 ghost use Rattle.report.specs.Lines as texts;
 ghost use Rattle.spb_network.specs.Applying.{IsReady};

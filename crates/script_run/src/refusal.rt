@@ -1,3 +1,4 @@
+//! Why a line is refused: its spelling, or a reason of the network's.
 use spb_network::Reason;
 
 /// Why a line is refused.

@@ -1,3 +1,4 @@
+//! What one line gave.
 use crate::Refusal;
 
 /// What a line of a script gave: the bytes to write, and why the line is refused where it is.

@@ -1,3 +1,4 @@
+//! How a run can end: its number, which is the exit status, and what standard error is told.
 ghost use Rattle.std.specs.Prelude.{◌≡◌, is_some, nat_le};
 
 use crate::Refusal;

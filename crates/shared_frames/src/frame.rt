@@ -1,3 +1,4 @@
+//! A frame that several owners have, of which no byte is copied.
 ghost use Rattle.std.specs.Prelude.{◌≡◌, IfOk};
 
 use spb_types::NoMemory;

@@ -1,3 +1,4 @@
+//! The entries of sequence numbers PDUs: which LSPs they tell of, and the TLVs that they are written in.
 ghost use Rattle.std.specs.Prelude.{◌≡◌, ◌≤◌, ◌+◌, ◌*◌, IfOk, length};
 ghost use Rattle.lsdb.specs.Entry.{entry_of};
 ghost use Rattle.lsdb.specs.Database.{AreFlagsWithin};

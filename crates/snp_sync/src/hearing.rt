@@ -1,3 +1,4 @@
+//! Sequence numbers PDUs that are heard: entry by entry, and of a CSNP also what it doesn't list.
 ghost use Rattle.std.specs.Prelude.{◌≡◌, ◌≤◌, length, if◌then◌else◌, IfOk, OnOk, OnErr};
 ghost use Rattle.std.specs.FinMap.{get};
 ghost use Rattle.lsdb.specs.Version.{claimed};

@@ -1,3 +1,4 @@
+//! The first, the last and the next LSP id, by which CSNPs part their ranges.
 ghost use Rattle.std.specs.Prelude.{◌≡◌};
 ghost use Rattle.snp_sync.specs.Ids as ids;
 

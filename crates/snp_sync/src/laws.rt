@@ -50,8 +50,9 @@ pub fn hearing_is_certified()
     ensures csnp { CsnpIsCertified }
 {}
 
-/// Under each id stands what the last claim of it made; where there was a place, the sender
-/// of a claim gets what it lacks and is asked for what it has.
+/// Under each id stands what the last claim of it made. After an entry that found a place its sender gets what it
+/// lacks, or is asked for what it has; after a CSNP its sender gets what it lacks in the range. The port at which they
+/// are heard is Up.
 pub fn the_sender_is_served()
     ensures unnamed { UnnamedStands }
     ensures last { LastClaimStands }
@@ -60,7 +61,8 @@ pub fn the_sender_is_served()
     ensures missed { MissedIsSent }
 {}
 
-/// What hearing leaves of the own LSP.
+/// Entries that are heard leave the system and its present body as they are, and below the last number they don't spend
+/// it. Under its ids no body comes to stand by entries or a CSNP but its own, or that of a dead LSP.
 pub fn hearing_leaves_the_own_lsp()
     ensures stands { EntriesLeaveOwn }
     ensures not_spent { EntriesDontSpend }
@@ -68,7 +70,8 @@ pub fn hearing_leaves_the_own_lsp()
     ensures csnp_body { CsnpLeavesOwnBody }
 {}
 
-/// Whatever is heard, every LSP that is held stays one that can be written, and flags stay at Up ports.
+/// After entries or a CSNP were heard at an Up port, each LSP that is held can still be written and is read again, and
+/// flags stand at Up ports alone.
 pub fn entries_stay_sound()
     ensures numbered { ClaimsAreNumbered }
     ensures sendable { EntriesKeepSendable }
@@ -77,7 +80,7 @@ pub fn entries_stay_sound()
     ensures csnp_flags { CsnpKeepsFlags }
 {}
 
-/// Of every LSP that is held a PDU can tell, whatever is heard, originated or aged.
+/// Of every LSP that is held an entry of a PDU can tell, whatever is heard, originated or aged.
 pub fn entries_stay_writable()
     ensures entries { EntriesKeepSized }
     ensures csnp { CsnpKeepsSized }

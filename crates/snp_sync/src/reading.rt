@@ -1,3 +1,4 @@
+//! The entries that the TLVs of a sequence numbers PDU have.
 ghost use Rattle.std.specs.Prelude.{◌≡◌, ◌++◌, OnOk};
 ghost use Rattle.spb_tlvs.specs.Reading.{Reads};
 ghost use Rattle.snp_sync.specs.Reading.{entries_in};

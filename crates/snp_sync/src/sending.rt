@@ -1,3 +1,4 @@
+//! CSNPs of the whole database, and the PSNPs at a port, cut into PDUs.
 ghost use Rattle.std.specs.Prelude.{◌≡◌, ◌≤◌, ◌<◌, IfOk, OnOk, OnErr, map, length};
 ghost use Rattle.isis_pdu.specs.Spelling.{csnp_bytes, psnp_bytes};
 ghost use Rattle.lsdb.specs.Database.{AreFlagsWithin};

@@ -1,3 +1,4 @@
+//! What systems say, looked up by system: which are bridges, and which two have entries for each other.
 ghost use Rattle.std.specs.Prelude.{◌≡◌, ◌<◌, length, find, IfOk, IfSome, Option, option_map, option_and_then};
 ghost use Rattle.std.specs.Option.{option_copied};
 ghost use Rattle.spb_types.specs.Address.{same_system};

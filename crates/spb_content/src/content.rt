@@ -1,3 +1,4 @@
+//! What an LSP says of its bridge, read of its TLVs.
 ghost use Rattle.std.specs.Prelude.{◌≡◌, ◌++◌, ℕ, ◌<◌, [], ◌∷◌, length, map, flat_map, MatchOption, IfOk, OnOk, Result, List, ◌==◌, if◌then◌else◌};
 ghost use Rattle.spb_tlvs.specs.Tlv.{values_with};
 ghost use Rattle.spb_tlvs.specs.Reading.{Reads};

@@ -1,3 +1,4 @@
+//! The graph that the contents of LSPs make, as far as a bridge reaches, or whole.
 ghost use Rattle.std.specs.Prelude.{◌≡◌, ◌≤◌, ◌++◌, length, map, IfOk, OnOk};
 ghost use Rattle.std.specs.Option.{option_to_list};
 ghost use Rattle.spb_types.specs.Graph.{IsDistinct, IsValid, IsValidFor};

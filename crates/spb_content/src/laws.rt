@@ -30,7 +30,8 @@ pub fn content_fits()
     ensures { OwnFits }
 {}
 
-/// The graph of all that is said, reached or not, is valid, and has the costs and ports that are said.
+/// The graph of all that is said, reached or not, is valid, and has the costs and ports that are said, where at most
+/// 65,535 systems say something, each once.
 pub fn said_graph_has_all_links()
     ensures { SaidGraphHasAllLinks }
 {}

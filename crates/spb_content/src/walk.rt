@@ -1,3 +1,4 @@
+//! The bridges that a bridge reaches over links that both ends list.
 ghost use Rattle.std.specs.Prelude.{◌≡◌, ◌<◌, [], length, false, Contains, IfOk, IfSome, OnOk, replicate, Option};
 ghost use Rattle.std.specs.List.{AllByRecursion};
 ghost use Rattle.spb_content.specs.Building as building;

@@ -1,3 +1,4 @@
+//! Why a command isn't applied.
 ghost use Rattle.std.specs.Prelude.{◌≡◌};
 
 use spb_types::NoMemory;

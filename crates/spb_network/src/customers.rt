@@ -1,5 +1,4 @@
-//! Customer ports of the bridges of a network: why one can't be attached or detached, why no frame can enter at one, and
-//! what an accepted command makes.
+//! Customer ports of the bridges of a network: what an accepted `attach`, `detach` or `frame` makes.
 ghost use Rattle.std.specs.Prelude.{◌≡◌, ◌<◌, None, length, OnOk};
 ghost use Rattle.spb_world.specs.Attaching as attaching;
 ghost use Rattle.spb_world.specs.Naming as refuse;

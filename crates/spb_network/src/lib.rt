@@ -2,10 +2,10 @@
 //!
 //! A [`Network`] owns a box for each declared bridge and reaches it through the trait `Bridge` alone; it names no
 //! implementation. What is declared stands in a [`World`]; beside it stand the boxes and, by the same place as the
-//! links, the two lanes of each link. [`NetworkOf::apply`] is one step of play, as `specs/Play.antt` says: a command
-//! that is refused names the first reason in order of number and changes nothing. What holds of a network at every
-//! moment stands in `specs/Sound.antt`, and is a clause of each call; what a quiet network knows of its wiring stands
-//! in `specs/Truth.antt`; and that service instances don't mix in it, quiet or not, in `specs/Isolation.antt`.
+//! links, the two lanes of each link. [`NetworkOf::apply`] is one step of play, as `network_model` says in
+//! `specs/Play.antt`: a command that is refused names the first reason in order of number and changes nothing. What
+//! holds of a network at every moment is a clause of each call. That, what a quiet network knows of its wiring, and
+//! that service instances don't mix in it, are definitions and laws of `network_model`.
 //!
 //! **Costs.** A frame that is sent finds its link in constant time, and a name is found so on average. A round takes a
 //! call of each bridge and one for each frame that stands in a lane. A tick takes memory for an outbox with room for a

@@ -1,3 +1,4 @@
+//! The network itself: what it keeps, how it begins, and one step of play.
 ghost use Rattle.std.specs.Prelude.{◌≡◌, ◌≤◌, false, map, OnOk};
 ghost use Rattle.bridge_api.specs.Shown.{views_of};
 ghost use Rattle.network_model.specs.declared.kind_rule.KindRule.TheVariants as rules;
@@ -93,7 +94,7 @@ impl<B: Bridge> NetworkOf<B> {
     /// `Halted` exactly where an earlier command found no memory, and `Refused` with the first reason that holds
     /// exactly where one does. After both nothing is changed, and no memory was taken. After `NoMemory` the network is
     /// halted, and nothing is said of its boxes and lanes. Where a command was accepted, one of the first 120,000, and
-    /// the network is quiet after it, every bridge is told what is there.
+    /// the network is quiet after it, it is converged: every bridge has its part of the wiring right.
     ///
     /// Every form is played. An event answers the customers' frames that left by it, in order; they are handed over and
     /// not copied, and none of them is answered again.

@@ -1,3 +1,4 @@
+//! A sink in memory: it keeps its bytes, and fails where it is told to.
 ghost use Rattle.std.specs.Prelude.{◌≡◌, ◌≢◌, ◌+◌, ◌-◌, ◌^◌, ◌<◌, ◌≤◌, [], Some, Ok, Err, length, take, min, IfOk, IsErrOf, IsTrue, MatchResult, ◌↔◌};
 ghost use Rattle.std.specs.Io.KnownBytes.{WriteAppends};
 ghost use Rattle.spb_outside.specs.Faults.{Rose};

@@ -1,3 +1,4 @@
+//! A source in memory: it gives its bytes, and fails where it is told to.
 ghost use Rattle.std.specs.Prelude.{◌≡◌, ◌+◌, ◌-◌, ◌^◌, ◌≤◌, Some, length, take, min, IfOk, IsOk, IsErr, IsTrue, MatchResult, ◌↔◌};
 ghost use Rattle.std.specs.Io.KnownBytes.{ReadConsumes};
 ghost use Rattle.spb_outside.specs.Faults.{Rose};

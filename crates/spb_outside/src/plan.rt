@@ -1,3 +1,4 @@
+//! Which calls of a source or a sink in memory fail, by their numbers.
 ghost use Rattle.std.specs.Prelude.{◌≡◌, ◌+◌, ◌-◌, ◌^◌, ◌&&◌, min, nat_eq, nat_lt, if◌then◌else◌};
 ghost use Rattle.std.specs.List.{list_any};
 

@@ -1,3 +1,4 @@
+//! The trait of what takes bytes, and why a write takes none.
 ghost use Rattle.std.specs.Prelude.{◌≡◌, ◌≢◌, ◌<◌, ◌≤◌, ℕ, List, Option, Bool, false, length, IfOk, IsErrOf, IsTrue};
 ghost use Rattle.std.specs.Io.KnownBytes.{WriteAppends};
 ghost use Rattle.spb_outside.specs.Faults.{Rose};

@@ -1,3 +1,4 @@
+//! The trait of what gives bytes.
 ghost use Rattle.std.specs.Prelude.{◌≡◌, ◌≤◌, ℕ, List, Option, Bool, false, length, IfOk, IsOk, IsErr, IsTrue};
 ghost use Rattle.std.specs.Io.KnownBytes.{ReadConsumes};
 ghost use Rattle.spb_outside.specs.Faults.{Rose};

@@ -1,3 +1,4 @@
+//! Standard input and standard output, as a source and a sink that count their faults.
 ghost use Rattle.std.specs.Prelude.{◌≡◌, None};
 
 use crate::{Failed, Sink, Source, WriteError};

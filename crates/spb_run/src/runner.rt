@@ -1,3 +1,4 @@
+//! The one call that the program makes.
 ghost use Rattle.std.specs.Prelude.{◌≡◌, ◌≢◌, ◌≤◌, ◌+◌, ◌↔◌, List, ℕ, length, map, string_bytes, None, Some, IsTrue};
 ghost use Rattle.std.specs.Io.KnownBytes.{Consumes};
 ghost use Rattle.scenario.specs.Cutting.{most_bytes};

@@ -1,3 +1,4 @@
+//! The program's words, and which form they are.
 ghost use Rattle.std.specs.Prelude.{◌≡◌, map, string_bytes, IfSome};
 ghost use Rattle.spb_run.specs.Words as spelled;
 

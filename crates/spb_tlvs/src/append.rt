@@ -1,3 +1,4 @@
+//! Bytes and items put behind others; after a failure of it nothing half written stays.
 ghost use Rattle.std.specs.Prelude.{◌≡◌, ◌++◌, take, OnOk, OnErr, IfErr, option_to_list};
 
 use crate::error::TlvError;

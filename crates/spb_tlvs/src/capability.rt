@@ -1,3 +1,4 @@
+//! TLV 144 (MT-Capability): the SPB Instance and the service identifiers, read and written.
 ghost use Rattle.std.specs.Prelude.{◌≡◌, ◌+◌, ◌*◌, ◌≤◌, ◌++◌, true, length, take, Ok, Err, Some, IfOk, OnOk, OnErr, if◌then◌else◌};
 ghost use Rattle.std.specs.List.{flat_map, list_any, list_all, filter_map};
 ghost use Rattle.spb_types.specs.Bytes.{u8_at};

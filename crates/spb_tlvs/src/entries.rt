@@ -1,3 +1,4 @@
+//! TLV 9 (LSP Entries), read and written.
 ghost use Rattle.std.specs.Prelude.{◌≡◌, ◌*◌, ◌≤◌, ◌++◌, length, map, take, IfOk, OnOk, OnErr};
 ghost use Rattle.spb_tlvs.specs.Tlv.{tlv};
 ghost use Rattle.spb_tlvs.specs.Reading.{Reads};

@@ -1,3 +1,4 @@
+//! Why a TLV can't be read.
 ghost use Rattle.std.specs.Prelude.{◌≡◌};
 ghost use Rattle.spb_tlvs.specs.declared.error.TlvError.TheVariants as errors;
 

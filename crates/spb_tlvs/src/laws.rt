@@ -52,7 +52,9 @@ pub fn tlvs_in_order()
     ensures whole { law.TlvIsWhole }
 {}
 
-/// The codes of TLVs (ISO/IEC 10589, 9.7 to 9.12; RFC 1195, 5.3; RFC 5303, 3; RFC 5305, 3; RFC 6329, 14).
+/// The codes of TLVs are 1 (Area Addresses), 9 (LSP Entries), 22 (Extended IS Reachability), 129 (Protocols Supported),
+/// 144 (MT-Capability) and 240 (Point-to-Point Three-Way Adjacency) (ISO/IEC 10589, 9.7 to 9.12; RFC 1195, 5.3; RFC
+/// 5303, 3; RFC 5305, 3; RFC 6329, 14). Definitions above `spb_tlvs` name these constants.
 pub fn codes_are_these()
     ensures area_addresses { AREA_ADDRESSES ≡ 1 }
     ensures lsp_entries { LSP_ENTRIES ≡ 9 }

@@ -1,3 +1,4 @@
+//! TLV 22 (Extended IS Reachability) with SPB link metrics, read and written.
 ghost use Rattle.std.specs.Prelude.{◌≡◌, ◌≤◌, ◌<◌, ◌++◌, ◌==◌, length, take, All, OnOk, OnErr, if◌then◌else◌};
 ghost use Rattle.std.specs.Option.{ForSome, option_map, option_copied};
 ghost use Rattle.spb_types.specs.Bytes.{u8_at};

@@ -1,3 +1,4 @@
+//! The piece at the front of bytes: a head, and behind it as many bytes as its last byte counts.
 ghost use Rattle.std.specs.Prelude.{◌≡◌, ◌≤◌, true, false, length, MatchOption};
 ghost use Rattle.spb_tlvs.specs.Piece.{starts_whole, first_piece, after_first};
 

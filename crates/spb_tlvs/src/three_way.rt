@@ -1,3 +1,4 @@
+//! TLV 240 (Point-to-Point Three-Way Adjacency), read and written.
 ghost use Rattle.std.specs.Prelude.{◌≡◌, ◌≤◌, ◌++◌, length, take, OnOk, OnErr};
 ghost use Rattle.spb_tlvs.specs.Tlv.{tlv};
 ghost use Rattle.spb_tlvs.specs.ThreeWay.{three_way_of, three_way_value};

@@ -1,3 +1,4 @@
+//! Addresses and ids: of systems, bridges, LSPs and groups.
 ghost use Rattle.std.specs.Prelude.{◌≡◌, ◌==◌, ◌%◌, slice_index};
 ghost use Rattle.spb_types.specs.Address.{same_system, system_number, group_address, HasSixBytes};
 

@@ -1,3 +1,5 @@
+//! The reasons for which a frame is dropped, in the order in which they are counted.
+
 /// Why a frame is dropped.
 #[derive(Clone, Copy, Debug, PartialEq, Eq, Hash)]
 pub enum DropReason {

@@ -1,3 +1,4 @@
+//! The masks of the ECT algorithms.
 ghost use Rattle.std.specs.Prelude.{◌≡◌, ◌≤◌};
 ghost use Rattle.spb_types.specs.Ect.{mask_of};
 

@@ -1,3 +1,4 @@
+//! Numbers, addresses and ids at places of bytes that are known to stand there.
 ghost use Rattle.std.specs.Prelude.{◌≡◌, ◌+◌, ◌≤◌, length};
 ghost use Rattle.spb_types.specs.Bytes.{u16_at, u24_at, u32_at, mac_at, system_at, lsp_id_at};
 

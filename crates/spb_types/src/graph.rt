@@ -1,3 +1,4 @@
+//! The graph of a backbone, of which paths and tables are made.
 use crate::{BridgeId, Isid, Seq, SourceId, SystemId, Vid};
 
 /// A bridge of a graph: its bridge id, and the source id that its group addresses carry.

@@ -1,3 +1,5 @@
+//! The ends and the directions of a link.
+
 /// An end of a link.
 #[derive(Clone, Copy, Debug, PartialEq, Eq)]
 pub enum Side {

@@ -1,3 +1,4 @@
+//! The answer where no memory is found, and the errors of allocating that become it.
 ghost use Rattle.std.specs.Prelude.{◌≡◌};
 
 use std::alloc::{AllocError, AllocFailed};

@@ -1,3 +1,4 @@
+//! Sets of backbone ports, in 32 bits.
 ghost use Rattle.std.specs.Prelude.{◌≡◌, ◌≤◌};
 ghost use Rattle.spb_types.specs.Ports.{has, no_ports, with_port, without_port};
 

@@ -1,3 +1,4 @@
+//! The list in which values are handed on between crates.
 ghost use Rattle.std.specs.Prelude.{◌≡◌, ◌<◌, List, [], ◌∷◌, ◌++◌, length, nat_eq, take, slice_set, OnOk, OnErr};
 
 use crate::memory::NoMemory;

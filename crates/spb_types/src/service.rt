@@ -1,3 +1,5 @@
+//! Services and VIDs: their numbers, and what a customer port is attached to.
+
 /// A backbone service instance: 24 bits, 1 to 16,777,215 (IEEE 802.1ah, 9.7).
 #[derive(Clone, Copy, Debug, PartialEq, Eq, PartialOrd, Ord, Hash)]
 pub struct Isid {

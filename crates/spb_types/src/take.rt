@@ -1,3 +1,4 @@
+//! Numbers read at places of bytes that may be too short.
 ghost use Rattle.std.specs.Prelude.{◌≡◌, ◌+◌, ◌≤◌, ◌<◌, length};
 ghost use Rattle.std.specs.Result.{OkIff};
 ghost use Rattle.spb_types.specs.Bytes.{u8_at, u16_at, u24_at, u32_at};

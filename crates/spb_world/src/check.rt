@@ -1,3 +1,4 @@
+//! The tests by which declarations are refused, each by itself.
 ghost use Rattle.std.specs.Prelude.{◌≡◌, ◌&&◌, ◌||◌, ◌==◌, length};
 ghost use Rattle.std.specs.List.{list_any};
 ghost use Rattle.spb_world.specs.Declaring as declare;

@@ -1,3 +1,4 @@
+//! Bridges and links as they are declared.
 use spb_types::GraphBridge;
 
 /// A bridge as it was declared: its ids, and the number of its backbone ports, 0 to 32.

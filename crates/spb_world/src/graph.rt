@@ -1,3 +1,4 @@
+//! The graph of the wiring, part by part: bridges, edges of links that are up, members of services.
 ghost use Rattle.std.specs.Prelude.{◌≡◌, map, IfOk};
 ghost use Rattle.std.specs.List.{filter_map};
 ghost use Rattle.spb_content.specs.Laws.{IsAscendingOf};

@@ -1,3 +1,4 @@
+//! Where to look first for the link at a port.
 use crate::LinkEnd;
 use spb_types::NoMemory;
 use spb_types::limits::MOST_BRIDGES;

@@ -1,3 +1,4 @@
+//! The reasons for which commands are refused, with their numbers and names.
 ghost use Rattle.std.specs.Prelude.{◌≡◌};
 ghost use Rattle.spb_world.specs.Reason as reasons;
 

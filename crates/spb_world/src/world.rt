@@ -1,3 +1,4 @@
+//! The world of declarations: what is declared and attached, why more can't be, and the tables of the wiring.
 ghost use Rattle.std.specs.Prelude.{◌≡◌, [], ◌∷◌, ◌++◌, true, None, OnOk, OnErr};
 ghost use Rattle.spb_world.specs.Declaring.{is_new_name, switched, links_with_metric};
 

@@ -1,3 +1,4 @@
+//! The swift bridge: its calls, forwarded to its control plane, and its tables, made by the trees that it keeps.
 ghost use Rattle.std.specs.Prelude.{◌≡◌, true, false, None, IfOk, IfSome, IsErr, OnOk, OnErr};
 ghost use Rattle.std.specs.Borrow.{sem};
 ghost use Rattle.spb_types.specs.Graph.{IsValid, IsValidFor};
