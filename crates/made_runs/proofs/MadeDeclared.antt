@@ -12,7 +12,7 @@ use Rattle.spb_world.specs.Reason.{reason_unless}
 use Rattle.spb_world.specs.World.{World, Links}
 use Rattle.spb_world.specs.Declaring.{is_vid_range, vid_refusal, plan_of, bridge_of, link_of, with_vid, with_bridge, with_link, with_live}
 use Rattle.spb_world.specs.Services.{service_of, with_service}
-use Rattle.spb_world.specs.Attaching.{with_attachment_at}
+use Rattle.spb_world.specs.Attaching.{with_one_at, with_attachment_at}
 use Rattle.network_model.specs.State.{State}
 use Rattle.network_model.specs.Refusing.{refusal_of}
 use Rattle.network_model.specs.Play.{next_state}
@@ -171,7 +171,7 @@ runs_services n c m few = runs_numbered (λ j. Stays m 0 0 (IsDeclared n (n + 1)
 
 -- ---- what is attached
 
-declared_member : (n c x y z x2 y2 z2 place : ℕ) (a : Attachment) (w : World) → IsDeclared n (n + 1) (n + 1) c (n + 1) x y z w → AreJoined n x2 y2 z2 (w.attached ++ (place, a) ∷ [])
+declared_member : (n c x y z x2 y2 z2 place : ℕ) (a : Attachment) (w : World) → IsDeclared n (n + 1) (n + 1) c (n + 1) x y z w → AreJoined n x2 y2 z2 (with_one_at place a w.attached)
     → IsDeclared n (n + 1) (n + 1) c (n + 1) x2 y2 z2 (with_attachment_at w place a)
 unfolding with_attachment_at
 declared_member n c x y z x2 y2 z2 place a w so joined = record { vids = so.vids; bridges = so.bridges; links = so.links; services = so.services; attached = joined }
@@ -179,7 +179,7 @@ declared_member n c x y z x2 y2 z2 place a w so joined = record { vids = so.vids
 -- one member of service j, at a port of bridge k
 runs_member : (n c m x y z x2 y2 z2 j k port : ℕ) → 1 ≤ j → j ≤ n → 1 ≤ k → k ≤ n → 1 ≤ port → port ≤ 3
     → ((e : ℕ × Attachment) → IsMember n x y z e → ((e.0 == k - 1) && (e.1.port == port)) ≡ false)
-    → ((w : World) (v : Vid) → AreJoined n x y z w.attached → AreJoined n x2 y2 z2 (w.attached ++ (k - 1, attachment_of port (record { value = isid_of j }) v) ∷ []))
+    → ((w : World) (v : Vid) → AreJoined n x y z w.attached → AreJoined n x2 y2 z2 (with_one_at (k - 1) (attachment_of port (record { value = isid_of j }) v) w.attached))
     → Runs (Stays m 0 0 (IsDeclared n (n + 1) (n + 1) c (n + 1) x y z)) (attach k port j ∷ []) (Stays m 0 0 (IsDeclared n (n + 1) (n + 1) c (n + 1) x2 y2 z2))
 runs_member n c m x y z x2 y2 z2 j k port some high k1 kn p1 p3 free more = runs_one (Stays m 0 0 (IsDeclared n (n + 1) (n + 1) c (n + 1) x y z)) (Stays m 0 0 (IsDeclared n (n + 1) (n + 1) c (n + 1) x2 y2 z2)) (attach k port j) step
   where

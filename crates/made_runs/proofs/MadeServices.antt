@@ -15,9 +15,10 @@ use Rattle.spb_world.specs.declared.reason.Reason.TheVariants.{NoSuchName, NameT
 use Rattle.spb_world.specs.World.{World, Services, Attachments, vid_of_isid, attachment_at, attached_at, AreAtTwoPorts}
 use Rattle.spb_world.specs.Declaring.{has_vid, plan_of}
 use Rattle.spb_world.specs.Services.{is_isid_range, isid_refusal, service_of}
-use Rattle.spb_world.specs.Attaching.{is_customer_port, is_customer_frame, is_attached, isids_of, isids_with, has_isid_room, attach_refusal, entry_refusal}
+use Rattle.spb_world.specs.Attaching.{is_customer_port, is_customer_frame, is_attached, isids_of, isids_with, has_isid_room, attach_refusal, entry_refusal, with_one_at}
 use Rattle.spb_world.proofs.ListLemmas.{All-map, All-push, length-push}
 use Rattle.spb_world.proofs.ServiceLemmas.{found-push}
+use Rattle.spb_world.proofs.AttachedLemmas.{any_at, pushed_here, pushed_away, all_with_one}
 use Rattle.made_runs.proofs.StandingSteps.{reason_none, or_none, le-yes, and-yes}
 use Rattle.made_runs.proofs.MadeRuns.{below_or_last, not_both, lt-yes, none_passes}
 
@@ -227,34 +228,51 @@ any_new p (x ∷ xs) y h = by (p x) (any_new p xs y h)
     by true rest = refl
     by false rest = rest
 
+-- whether port 1 of a bridge is attached
+abbrev is_first : Attachment → Bool
+is_first a = a.port == 1
+
+-- a bridge whose port 1 is attached, when one more is
+own_kept : (i p : ℕ) (a : Attachment) (xs : Attachments) → is_attached xs p 1 ≡ true → is_attached (with_one_at i a xs) p 1 ≡ true
+own_kept i p a xs there = any_at is_first p (with_one_at i a xs) ∙ by (p == i) refl (sym (any_at is_first p xs) ∙ there)
+  where
+    by : (b : Bool) → (p == i) ≡ b → list_any is_first (filter_map (attachment_at p) xs) ≡ true → list_any is_first (filter_map (attachment_at p) (with_one_at i a xs)) ≡ true
+    by true same h =
+        let more = subst (λ q. filter_map (attachment_at q) (with_one_at i a xs) ≡ filter_map (attachment_at q) xs ++ a ∷ []) (sym (eqb-true p i same)) (pushed_here i xs a) in
+        ap (list_any is_first) more ∙ any_kept is_first (filter_map (attachment_at p) xs) a h
+    by false other h = ap (list_any is_first) (pushed_away i p xs a (λ e. true≢false (sym (eq-eqb p i e) ∙ other))) ∙ h
+
+-- and one where this is the one more
+own_new : (i : ℕ) (a : Attachment) (xs : Attachments) → is_first a ≡ true → is_attached (with_one_at i a xs) i 1 ≡ true
+own_new i a xs is = any_at is_first i (with_one_at i a xs) ∙ (ap (list_any is_first) (pushed_here i xs a) ∙ any_new is_first (filter_map (attachment_at i) xs) a is)
+
 wider : (n a b c a2 b2 c2 : ℕ) (x : ℕ × Attachment) → a ≤ a2 → b ≤ b2 → c ≤ c2 → IsMember n a b c x → IsMember n a2 b2 c2 x
 wider n a b c a2 b2 c2 x h k l (own i low high at port) = own i low (omega (arith, high, h)) at port
 wider n a b c a2 b2 c2 x h k l (behind i low high at port) = behind i low (omega (arith, high, k)) at port
 wider n a b c a2 b2 c2 x h k l (opposite i low high at port) = opposite i low (omega (arith, high, l)) at port
 
-pub own_more : (xs : Attachments) (n j place : ℕ) (isid : Isid) (v : Vid) → 1 ≤ j → place + 1 ≡ j → AreJoined n j j j xs → AreJoined n (j + 1) j j (xs ++ (place, attachment_of 1 isid v) ∷ [])
+pub own_more : (xs : Attachments) (n j place : ℕ) (isid : Isid) (v : Vid) → 1 ≤ j → place + 1 ≡ j → AreJoined n j j j xs → AreJoined n (j + 1) j j (with_one_at place (attachment_of 1 isid v) xs)
 own_more xs n j place isid v some at so = record {
-  all = All-push (IsMember n (j + 1) j j) xs new (All-map (IsMember n j j j) (IsMember n (j + 1) j j) xs (λ x is. wider n j j j (j + 1) j j x (omega arith) (omega arith) (omega arith) is) so.all) (own j some (omega arith) at refl);
+  all = all_with_one (IsMember n (j + 1) j j) place (attachment_of 1 isid v) xs (All-map (IsMember n j j j) (IsMember n (j + 1) j j) xs (λ x is. wider n j j j (j + 1) j j x (omega arith) (omega arith) (omega arith) is) so.all) (own j some (omega arith) at refl);
   own = λ p h. by p (below_or_last (p + 1) j h);
 }
   where
-    new : ℕ × Attachment
-    new = (place, attachment_of 1 isid v)
+    by : (p : ℕ) → (p + 1 < j) ⊎ (p + 1 ≡ j) → is_attached (with_one_at place (attachment_of 1 isid v) xs) p 1 ≡ true
+    by p (inl below) = own_kept place p (attachment_of 1 isid v) xs (so.own p below)
+    by p (inr same) =
+        let here : place ≡ p = omega arith in
+        subst (λ q. is_attached (with_one_at place (attachment_of 1 isid v) xs) q 1 ≡ true) here (own_new place (attachment_of 1 isid v) xs refl)
 
-    by : (p : ℕ) → (p + 1 < j) ⊎ (p + 1 ≡ j) → is_attached (xs ++ (place, attachment_of 1 isid v) ∷ []) p 1 ≡ true
-    by p (inl below) = any_kept (λ x. (x.0 == p) && (x.1.port == 1)) xs new (so.own p below)
-    by p (inr same) = any_new (λ x. (x.0 == p) && (x.1.port == 1)) xs new (and-yes _ _ (eq-eqb place p (omega arith)) refl)
-
-pub behind_more : (xs : Attachments) (n j place : ℕ) (isid : Isid) (v : Vid) → 1 ≤ j → place + 1 ≡ next_of n j → AreJoined n (j + 1) j j xs → AreJoined n (j + 1) (j + 1) j (xs ++ (place, attachment_of 2 isid v) ∷ [])
+pub behind_more : (xs : Attachments) (n j place : ℕ) (isid : Isid) (v : Vid) → 1 ≤ j → place + 1 ≡ next_of n j → AreJoined n (j + 1) j j xs → AreJoined n (j + 1) (j + 1) j (with_one_at place (attachment_of 2 isid v) xs)
 behind_more xs n j place isid v some at so = record {
-  all = All-push (IsMember n (j + 1) (j + 1) j) xs (place, attachment_of 2 isid v) (All-map (IsMember n (j + 1) j j) (IsMember n (j + 1) (j + 1) j) xs (λ x is. wider n (j + 1) j j (j + 1) (j + 1) j x (omega arith) (omega arith) (omega arith) is) so.all) (behind j some (omega arith) at refl);
-  own = λ p h. any_kept (λ x. (x.0 == p) && (x.1.port == 1)) xs (place, attachment_of 2 isid v) (so.own p h);
+  all = all_with_one (IsMember n (j + 1) (j + 1) j) place (attachment_of 2 isid v) xs (All-map (IsMember n (j + 1) j j) (IsMember n (j + 1) (j + 1) j) xs (λ x is. wider n (j + 1) j j (j + 1) (j + 1) j x (omega arith) (omega arith) (omega arith) is) so.all) (behind j some (omega arith) at refl);
+  own = λ p h. own_kept place p (attachment_of 2 isid v) xs (so.own p h);
 }
 
-pub opposite_more : (xs : Attachments) (n j place : ℕ) (isid : Isid) (v : Vid) → 1 ≤ j → place + 1 ≡ across n j → AreJoined n (j + 1) (j + 1) j xs → AreJoined n (j + 1) (j + 1) (j + 1) (xs ++ (place, attachment_of 3 isid v) ∷ [])
+pub opposite_more : (xs : Attachments) (n j place : ℕ) (isid : Isid) (v : Vid) → 1 ≤ j → place + 1 ≡ across n j → AreJoined n (j + 1) (j + 1) j xs → AreJoined n (j + 1) (j + 1) (j + 1) (with_one_at place (attachment_of 3 isid v) xs)
 opposite_more xs n j place isid v some at so = record {
-  all = All-push (IsMember n (j + 1) (j + 1) (j + 1)) xs (place, attachment_of 3 isid v) (All-map (IsMember n (j + 1) (j + 1) j) (IsMember n (j + 1) (j + 1) (j + 1)) xs (λ x is. wider n (j + 1) (j + 1) j (j + 1) (j + 1) (j + 1) x (omega arith) (omega arith) (omega arith) is) so.all) (opposite j some (omega arith) at refl);
-  own = λ p h. any_kept (λ x. (x.0 == p) && (x.1.port == 1)) xs (place, attachment_of 3 isid v) (so.own p h);
+  all = all_with_one (IsMember n (j + 1) (j + 1) (j + 1)) place (attachment_of 3 isid v) xs (All-map (IsMember n (j + 1) (j + 1) j) (IsMember n (j + 1) (j + 1) (j + 1)) xs (λ x is. wider n (j + 1) (j + 1) j (j + 1) (j + 1) (j + 1) x (omega arith) (omega arith) (omega arith) is) so.all) (opposite j some (omega arith) at refl);
+  own = λ p h. own_kept place p (attachment_of 3 isid v) xs (so.own p h);
 }
 
 -- ---- a customer's frame

@@ -1,20 +1,19 @@
 -- What is attached to one bridge, among all that is attached.
-use Rattle.std.proofs.Common.{◌≡◌, ◌≢◌, ◌<◌, ◌≤◌, ◌+◌, ℕ, zero, suc, ◌-◌, Bool, true, false, true≢false, not, ◌&&◌, ◌||◌, ◌==◌, List, [], ◌∷◌, ◌++◌, length, map, filter, take, drop, get_or, nat_lt, nat_le, cond, Some, None, if◌then◌else◌, refl, sym, ap, ◌∙◌, arith}
+use Rattle.std.proofs.Common.{◌≡◌, ◌≢◌, ◌<◌, ◌≤◌, ◌+◌, ℕ, suc, Bool, true, false, true≢false, not, ◌&&◌, ◌||◌, ◌==◌, List, [], ◌∷◌, ◌++◌, length, map, filter, take, get_or, nat_lt, nat_le, cond, Some, None, if◌then◌else◌, refl, sym, ap, ◌∙◌, arith}
 use Rattle.std.specs.Prelude.{nat_eq}
-use Rattle.std.specs.List.{AllByRecursion, list_any, filter_map, cons_option, position, position_or_len}
-use Rattle.std.proofs.lemmas.Bool.{eqb-true, eq-eqb, ne_eqb, le-leb}
+use Rattle.std.specs.List.{AllByRecursion, list_any, filter_map, cons_option}
+use Rattle.std.proofs.lemmas.Bool.{eqb-true, eq-eqb, ne_eqb, ltb-true, leb-true, leb-false, lt-ltb, le-ltb, le-leb}
 use Rattle.std.proofs.lemmas.Bool.Decides.{nat_tests}
-use Rattle.std.proofs.lemmas.Grind.{common_steps}
-use Rattle.std.proofs.lemmas.List.{take_more, take_all, drop_all, length-drop}
+use Rattle.std.proofs.lemmas.List.{take_more}
 use Rattle.std.proofs.lemmas.List.Elements.{filter_map-append}
-use Rattle.std.proofs.lemmas.List.Sums.{fails_before_first}
 use Rattle.spb_types.specs.declared.service.Attachment.{Attachment}
 use Rattle.bridge_api.specs.Config.{ArePairwise, different}
 use Rattle.bridge_api.specs.Services.{without_customer_port}
 use Rattle.spb_world.specs.World.{World, Attachments, attachment_at, IsAttachedIn, AreAtTwoPorts, Sound}
-use Rattle.spb_world.specs.Attaching.{is_attached, is_member, isids_of, different_isids, isids_with, has_isid_room, IsNewAttachment, with_attachment_at, is_elsewhere, without_attachment_at}
-use Rattle.spb_world.proofs.ListLemmas.{All-push}
-use Rattle.spb_world.proofs.ServiceLemmas.{pairwise-push}
+use Rattle.spb_world.specs.Attaching.{isids_of, different_isids, isids_with, has_isid_room, IsNewAttachment, with_one_at, with_attachment_at, is_elsewhere, without_attachment_at}
+use Rattle.spb_content.proofs.Members.{all_append}
+use Rattle.spb_world.proofs.ListLemmas.{All-map}
+use Rattle.spb_world.proofs.BoxLemmas.{append-none}
 
 -- those of the bridge at a place
 abbrev those : ℕ → Attachments → List Attachment
@@ -34,41 +33,13 @@ any_at p i (x ∷ xs) = by (x.0 == i) (any_at p i xs)
     by true rest = ap (λ (c : Bool). p x.1 || c) rest
     by false rest = rest
 
--- whether a port is attached is told by what is attached at its bridge
-pub port_of : (i port : ℕ) (xs ys : Attachments) → those i xs ≡ those i ys → is_attached xs i port ≡ is_attached ys i port
-port_of i port xs ys same =
-    any_at (λ (a : Attachment). a.port == port) i xs ∙ (ap (list_any (λ (a : Attachment). a.port == port)) same ∙ sym (any_at (λ (a : Attachment). a.port == port) i ys))
-
--- ---- from the first on
-
-skipped : (i n : ℕ) (xs : Attachments) → ((k : ℕ) (d : ℕ × Attachment) → k < n → ((get_or xs k d).0 == i) ≡ false) → those i (drop n xs) ≡ those i xs
-skipped i zero xs before = refl
-skipped i (suc n) [] before = refl
-skipped i (suc n) (x ∷ xs) before =
-    skipped i n xs (λ k d low. before (suc k) d (omega (arith, low)))
-    ∙ sym (ap (λ (b : Bool). cons_option (if b then Some x.1 else None) (those i xs)) (before zero x (omega arith)))
-
-abbrev is_here : ℕ → ℕ × Attachment → Bool
-is_here i x = x.0 == i
-
-pub from_some : (i first : ℕ) (xs : Attachments) → position (λ x. x.0 == i) xs ≡ Some first → those i (take (length xs - first) (drop first xs)) ≡ those i xs
-from_some i first xs is =
-    let at : position_or_len (is_here i) xs ≡ first = grind (arith, common_steps) in
-    ap (those i) (take_all (length xs - first) (drop first xs) (omega (arith, length-drop first xs)))
-    ∙ skipped i first xs (λ k d low. fails_before_first (is_here i) xs k d (omega (arith, at, low)))
-
-pub from_none : (i : ℕ) (xs : Attachments) → position (λ x. x.0 == i) xs ≡ None → [] ≡ those i xs
-from_none i xs is =
-    let long : length xs ≤ position_or_len (is_here i) xs = grind (arith, common_steps) in
-    ap (those i) (sym (drop_all (length xs) xs (omega arith)))
-    ∙ skipped i (length xs) xs (λ k d low. fails_before_first (is_here i) xs k d (omega (arith, long, low)))
-
 any_map : {X Y : Type 0} (p : Y → Bool) (f : X → Y) (xs : List X) → list_any (λ x. p (f x)) xs ≡ list_any p (map f xs)
 any_map p f [] = refl
 any_map p f (x ∷ xs) = ap (λ (c : Bool). p (f x) || c) (any_map p f xs)
 
-pub isid_at : (isid i : ℕ) (xs : Attachments) → is_member xs i isid ≡ has_isid (filter_map (attachment_at i) xs) isid
-isid_at isid i xs = any_at (λ a. nat_eq isid a.isid.value) i xs ∙ any_map (nat_eq isid) (λ (a : Attachment). a.isid.value) (those i xs)
+-- so whether something is attached to an I-SID is told by the I-SIDs
+isid_any : (isid : ℕ) (xs : List Attachment) → list_any (λ a. nat_eq isid a.isid.value) xs ≡ has_isid xs isid
+isid_any isid xs = any_map (nat_eq isid) (λ (a : Attachment). a.isid.value) xs
 
 -- ---- what holds of each
 
@@ -82,20 +53,57 @@ all_at P i (x ∷ xs) all = by (x.0 == i) refl (all_at P i xs all.1)
 
 -- ---- one more
 
-pub pushed_here : (i : ℕ) (xs : Attachments) (a : Attachment) → filter_map (attachment_at i) (xs ++ (i, a) ∷ []) ≡ filter_map (attachment_at i) xs ++ a ∷ []
+-- a filter by place keeps all of a bridge that passes, and nothing of one that doesn't
+kept_at : (j : ℕ) (p : ℕ → Bool) (xs : Attachments) → p j ≡ true → those j (filter (λ x. p x.0) xs) ≡ those j xs
+kept_at j p [] passes = refl
+kept_at j p (x ∷ xs) passes = by (p x.0) refl (kept_at j p xs passes)
+  where
+    left : Attachments
+    left = filter (λ (y : ℕ × Attachment). p y.0) xs
+
+    by : (c : Bool) → p x.0 ≡ c → those j left ≡ those j xs → those j (cond c (x ∷ left) left) ≡ cons_option (attachment_at j x) (those j xs)
+    by true here rest = ap (λ (l : List Attachment). cons_option (attachment_at j x) l) rest
+    by false fails rest = rest ∙ sym (ap (λ (b : Bool). cons_option (if b then Some x.1 else None) (those j xs)) (ne_eqb x.0 j (λ e. true≢false (sym passes ∙ (sym (ap p e) ∙ fails)))))
+
+none_at : (j : ℕ) (p : ℕ → Bool) (xs : Attachments) → p j ≡ false → those j (filter (λ x. p x.0) xs) ≡ []
+none_at j p [] fails = refl
+none_at j p (x ∷ xs) fails = by (p x.0) refl (none_at j p xs fails)
+  where
+    left : Attachments
+    left = filter (λ (y : ℕ × Attachment). p y.0) xs
+
+    by : (c : Bool) → p x.0 ≡ c → those j left ≡ [] → those j (cond c (x ∷ left) left) ≡ []
+    by true passes rest = ap (λ (b : Bool). cons_option (if b then Some x.1 else None) (those j left)) (ne_eqb x.0 j (λ e. true≢false (sym passes ∙ (ap p e ∙ fails)))) ∙ rest
+    by false away rest = rest
+
+-- what is attached at the bridges up to a place, and behind it
+abbrev up_to : ℕ → Attachments → Attachments
+up_to i xs = filter (λ x. nat_le x.0 i) xs
+
+abbrev behind : ℕ → Attachments → Attachments
+behind i xs = filter (λ x. nat_lt i x.0) xs
+
+pub pushed_here : (i : ℕ) (xs : Attachments) (a : Attachment) → filter_map (attachment_at i) (with_one_at i a xs) ≡ filter_map (attachment_at i) xs ++ a ∷ []
 pushed_here i xs a =
-    filter_map-append (attachment_at i) xs ((i, a) ∷ [])
-    ∙ ap (λ (b : Bool). those i xs ++ cons_option (if b then Some a else None) []) (eq-eqb i i refl)
+    filter_map-append (attachment_at i) (up_to i xs) ((i, a) ∷ behind i xs)
+    ∙ (ap (λ (l : List Attachment). l ++ cons_option (attachment_at i (i, a)) (those i (behind i xs))) (kept_at i (λ n. nat_le n i) xs (le-leb i i (omega arith)))
+    ∙ (ap (λ (b : Bool). those i xs ++ cons_option (if b then Some a else None) (those i (behind i xs))) (eq-eqb i i refl)
+    ∙ ap (λ (l : List Attachment). those i xs ++ a ∷ l) (none_at i (λ n. nat_lt i n) xs (le-ltb i i (omega arith)))))
 
-append-none : {X : Type 0} (xs : List X) → xs ++ [] ≡ xs
-append-none [] = refl
-append-none (x ∷ xs) = ap (λ l. x ∷ l) (append-none xs)
-
-pub pushed_away : (i j : ℕ) (xs : Attachments) (a : Attachment) → j ≢ i → filter_map (attachment_at j) (xs ++ (i, a) ∷ []) ≡ filter_map (attachment_at j) xs
+pub pushed_away : (i j : ℕ) (xs : Attachments) (a : Attachment) → j ≢ i → filter_map (attachment_at j) (with_one_at i a xs) ≡ filter_map (attachment_at j) xs
 pushed_away i j xs a apart =
-    filter_map-append (attachment_at j) xs ((i, a) ∷ [])
-    ∙ (ap (λ (b : Bool). those j xs ++ cons_option (if b then Some a else None) []) (ne_eqb i j (λ e. apart (sym e)))
-    ∙ append-none (those j xs))
+    filter_map-append (attachment_at j) (up_to i xs) ((i, a) ∷ behind i xs)
+    ∙ (ap (λ (b : Bool). those j (up_to i xs) ++ cons_option (if b then Some a else None) (those j (behind i xs))) (ne_eqb i j (λ e. apart (sym e)))
+    ∙ by (nat_le j i) refl)
+  where
+    by : (b : Bool) → nat_le j i ≡ b → those j (up_to i xs) ++ those j (behind i xs) ≡ those j xs
+    by true low =
+        ap (λ (l : List Attachment). l ++ those j (behind i xs)) (kept_at j (λ n. nat_le n i) xs low)
+        ∙ (ap (λ (l : List Attachment). those j xs ++ l) (none_at j (λ n. nat_lt i n) xs (le-ltb i j (leb-true j i low)))
+        ∙ append-none (those j xs))
+    by false high =
+        ap (λ (l : List Attachment). l ++ those j (behind i xs)) (none_at j (λ n. nat_le n i) xs high)
+        ∙ kept_at j (λ n. nat_lt i n) xs (lt-ltb i j (leb-false j i high))
 
 -- ---- one fewer
 
@@ -191,24 +199,23 @@ isid_new attached isid new = ap (λ (b : Bool). length (if b then different_isid
 pub isid_old : (attached : List Attachment) (isid : ℕ) → has_isid attached isid ≡ true → length (isids_with attached isid) ≡ length (different_isids attached)
 isid_old attached isid old = ap (λ (b : Bool). length (if b then different_isids attached else isid ∷ different_isids attached)) old
 
--- one thing more of all that is attached
-pub isids_more : (i : ℕ) (xs : Attachments) (x : ℕ × Attachment) (first : Bool) → first ≡ ((x.0 == i) && not (is_member xs i x.1.isid.value)) → length (different_isids (filter_map (attachment_at i) (xs ++ x ∷ []))) ≡ (if first then length (different_isids (filter_map (attachment_at i) xs)) + 1 else length (different_isids (filter_map (attachment_at i) xs)))
-isids_more i xs x first is = ap (λ (l : List Attachment). length (different_isids l)) (filter_map-append (attachment_at i) xs (x ∷ [])) ∙ by (x.0 == i) (has_isid (those i xs) x.1.isid.value) refl first (is ∙ ap (λ (b : Bool). (x.0 == i) && not b) (isid_at x.1.isid.value i xs))
+-- one thing more that is attached
+isids_more : (attached : List Attachment) (a : Attachment) (first : Bool) → first ≡ not (has_isid attached a.isid.value) → length (different_isids (attached ++ a ∷ [])) ≡ (if first then length (different_isids attached) + 1 else length (different_isids attached))
+isids_more attached a first is =
+    isids_pushed attached a
+    ∙ (by (has_isid attached a.isid.value) refl
+    ∙ ap (λ (f : Bool). if f then length (different_isids attached) + 1 else length (different_isids attached)) (sym is))
   where
-    of : (h : Bool) → has_isid (those i xs) x.1.isid.value ≡ h → length (isids_with (those i xs) x.1.isid.value) ≡ (if not h then length (different_isids (those i xs)) + 1 else length (different_isids (those i xs)))
-    of true old = isid_old (those i xs) x.1.isid.value old
-    of false new = isid_new (those i xs) x.1.isid.value new
+    by : (h : Bool) → has_isid attached a.isid.value ≡ h → length (isids_with attached a.isid.value) ≡ (if not h then length (different_isids attached) + 1 else length (different_isids attached))
+    by true old = isid_old attached a.isid.value old
+    by false new = isid_new attached a.isid.value new
 
-    by : (b h : Bool) → has_isid (those i xs) x.1.isid.value ≡ h → (f : Bool) → f ≡ (b && not h) → length (different_isids (those i xs ++ cons_option (if b then Some x.1 else None) [])) ≡ (if f then length (different_isids (those i xs)) + 1 else length (different_isids (those i xs)))
-    by true h was f e = isids_pushed (those i xs) x.1 ∙ (of h was ∙ ap (λ (g : Bool). if g then length (different_isids (those i xs)) + 1 else length (different_isids (those i xs))) (sym e))
-    by false h was f e = ap (λ (l : List Attachment). length (different_isids l)) (append-none (those i xs)) ∙ ap (λ (g : Bool). if g then length (different_isids (those i xs)) + 1 else length (different_isids (those i xs))) (sym e)
-
-pub count_more : (i k : ℕ) (xs : Attachments) (d : ℕ × Attachment) (first : Bool) (old new : ℕ) → k < length xs → first ≡ (((get_or xs k d).0 == i) && not (is_member (take k xs) i (get_or xs k d).1.isid.value)) → old ≡ length (different_isids (filter_map (attachment_at i) (take k xs))) → new ≡ (if first then old + 1 else old) → new ≡ length (different_isids (filter_map (attachment_at i) (take (k + 1) xs)))
-count_more i k xs d first old new low first_is old_is new_is =
+pub count_more : (k : ℕ) (xs : List Attachment) (d : Attachment) (first : Bool) (old new : ℕ) → k < length xs → first ≡ not (list_any (λ a. nat_eq (get_or xs k d).isid.value a.isid.value) (take k xs)) → old ≡ length (different_isids (take k xs)) → new ≡ (if first then old + 1 else old) → new ≡ length (different_isids (take (k + 1) xs))
+count_more k xs d first old new low first_is old_is new_is =
     new_is
     ∙ (ap (λ (n : ℕ). if first then n + 1 else n) old_is
-    ∙ (sym (isids_more i (take k xs) (get_or xs k d) first first_is)
-    ∙ ap (λ (l : Attachments). length (different_isids (those i l))) (sym (take_more xs k d low))))
+    ∙ (sym (isids_more (take k xs) (get_or xs k d) first (first_is ∙ ap not (isid_any (get_or xs k d).isid.value (take k xs))))
+    ∙ ap (λ (l : List Attachment). length (different_isids l)) (sym (take_more xs k d low))))
 
 -- of fewer ports there are fewer I-SIDs
 different_few : (ns : List ℕ) → length (different ns) ≤ length ns
@@ -228,21 +235,70 @@ unfolding has_isid_room
 room_few attached isid count is few = sym (le-leb _ _ (omega (arith, is, few, different_few (isid ∷ isids_of attached), isids_few attached)))
 
 -- whether there is room, by how many there are
-pub room_old : (i : ℕ) (xs : Attachments) (isid count : ℕ) (member : Bool) → member ≡ is_member xs i isid → member ≡ true → count ≡ length (different_isids (filter_map (attachment_at i) xs)) → nat_le count 60 ≡ has_isid_room (filter_map (attachment_at i) xs) isid
+pub room_old : (attached : List Attachment) (isid count : ℕ) (member : Bool) → member ≡ list_any (λ a. nat_eq isid a.isid.value) attached → member ≡ true → count ≡ length (different_isids attached) → nat_le count 60 ≡ has_isid_room attached isid
 unfolding has_isid_room
-room_old i xs isid count member is old count_is =
-    ap (λ (n : ℕ). nat_le n 60) (count_is ∙ sym (isid_old (those i xs) isid (sym (isid_at isid i xs) ∙ (sym is ∙ old))))
+room_old attached isid count member is old count_is =
+    ap (λ (n : ℕ). nat_le n 60) (count_is ∙ sym (isid_old attached isid (sym (isid_any isid attached) ∙ (sym is ∙ old))))
 
 lt_le : (a b : ℕ) → nat_lt a b ≡ nat_le (a + 1) b
 lt_le a b = grind (arith, nat_tests)
 
-pub room_new : (i : ℕ) (xs : Attachments) (isid count : ℕ) (member : Bool) → member ≡ is_member xs i isid → member ≡ false → count ≡ length (different_isids (filter_map (attachment_at i) xs)) → nat_lt count 60 ≡ has_isid_room (filter_map (attachment_at i) xs) isid
+pub room_new : (attached : List Attachment) (isid count : ℕ) (member : Bool) → member ≡ list_any (λ a. nat_eq isid a.isid.value) attached → member ≡ false → count ≡ length (different_isids attached) → nat_lt count 60 ≡ has_isid_room attached isid
 unfolding has_isid_room
-room_new i xs isid count member is new count_is =
+room_new attached isid count member is new count_is =
     lt_le count 60
-    ∙ ap (λ (n : ℕ). nat_le n 60) (ap (λ (n : ℕ). n + 1) count_is ∙ sym (isid_new (those i xs) isid (sym (isid_at isid i xs) ∙ (sym is ∙ new))))
+    ∙ ap (λ (n : ℕ). nat_le n 60) (ap (λ (n : ℕ). n + 1) count_is ∙ sym (isid_new attached isid (sym (isid_any isid attached) ∙ (sym is ∙ new))))
 
 -- ---- what is declared stays sound
+
+all_fewer : {X : Type 0} (P : X → Type 0) (p : X → Bool) (xs : List X) → AllByRecursion P xs → AllByRecursion P (filter p xs)
+all_fewer P p [] all = tt
+all_fewer P p (x ∷ xs) all = by (p x) (all_fewer P p xs all.1)
+  where
+    by : (b : Bool) → AllByRecursion P (filter p xs) → AllByRecursion P (cond b (x ∷ filter p xs) (filter p xs))
+    by true rest = (all.0, rest)
+    by false rest = rest
+
+all_pass : {X : Type 0} (p : X → Bool) (xs : List X) → AllByRecursion (λ x. p x ≡ true) (filter p xs)
+all_pass p [] = tt
+all_pass p (x ∷ xs) = by (p x) refl (all_pass p xs)
+  where
+    by : (b : Bool) → p x ≡ b → AllByRecursion (λ y. p y ≡ true) (filter p xs) → AllByRecursion (λ y. p y ≡ true) (cond b (x ∷ filter p xs) (filter p xs))
+    by true is rest = (is, rest)
+    by false is rest = rest
+
+pairwise_fewer : {X : Type 0} (R : X → X → Type 0) (p : X → Bool) (xs : List X) → ArePairwise R xs → ArePairwise R (filter p xs)
+pairwise_fewer R p [] apart = tt
+pairwise_fewer R p (x ∷ xs) apart = by (p x) (pairwise_fewer R p xs apart.1)
+  where
+    by : (b : Bool) → ArePairwise R (filter p xs) → ArePairwise R (cond b (x ∷ filter p xs) (filter p xs))
+    by true rest = (all_fewer (R x) p xs apart.0, rest)
+    by false rest = rest
+
+-- one between two lists
+pairwise_between : {X : Type 0} (R : X → X → Type 0) (xs : List X) (y : X) (zs : List X) → ArePairwise R xs → AllByRecursion (λ x. R x y) xs → AllByRecursion (λ x. AllByRecursion (R x) zs) xs → AllByRecursion (R y) zs → ArePairwise R zs → ArePairwise R (xs ++ y ∷ zs)
+pairwise_between R [] y zs first new both next last = (next, last)
+pairwise_between R (x ∷ xs) y zs first new both next last = (all_append (R x) xs (y ∷ zs) first.0 (new.0, both.0), pairwise_between R xs y zs first.1 new.1 both.1 next last)
+
+-- bridges up to a place and behind it are different
+two_ports : (i : ℕ) (xs : Attachments) (x : ℕ × Attachment) → nat_le x.0 i ≡ true → AllByRecursion (AreAtTwoPorts x) (behind i xs)
+two_ports i xs x low =
+    All-map (λ (y : ℕ × Attachment). nat_lt i y.0 ≡ true) (AreAtTwoPorts x) (behind i xs)
+    (λ y high same. absurd (omega (arith, leb-true x.0 i low, ltb-true i y.0 high, same))) (all_pass (λ (y : ℕ × Attachment). nat_lt i y.0) xs)
+
+-- what holds of each, and of one more
+pub all_with_one : (P : ℕ × Attachment → Type 0) (i : ℕ) (a : Attachment) (xs : Attachments) → AllByRecursion P xs → P (i, a) → AllByRecursion P (with_one_at i a xs)
+all_with_one P i a xs all new =
+    all_append P (up_to i xs) ((i, a) ∷ behind i xs) (all_fewer P (λ (x : ℕ × Attachment). nat_le x.0 i) xs all) (new, all_fewer P (λ (x : ℕ × Attachment). nat_lt i x.0) xs all)
+
+apart_with_one : (i : ℕ) (a : Attachment) (xs : Attachments) → ArePairwise AreAtTwoPorts xs → AllByRecursion (λ x. AreAtTwoPorts x (i, a)) xs → ArePairwise AreAtTwoPorts (with_one_at i a xs)
+apart_with_one i a xs apart new =
+    let low : ℕ × Attachment → Bool = λ x. nat_le x.0 i in
+    let high : ℕ × Attachment → Bool = λ x. nat_lt i x.0 in
+    pairwise_between AreAtTwoPorts (up_to i xs) (i, a) (behind i xs) (pairwise_fewer AreAtTwoPorts low xs apart)
+    (all_fewer (λ (x : ℕ × Attachment). AreAtTwoPorts x (i, a)) low xs new)
+    (All-map (λ (x : ℕ × Attachment). nat_le x.0 i ≡ true) (λ (x : ℕ × Attachment). AllByRecursion (AreAtTwoPorts x) (behind i xs)) (up_to i xs) (two_ports i xs) (all_pass low xs))
+    (two_ports i xs (i, a) (le-leb i i (omega arith))) (pairwise_fewer AreAtTwoPorts high xs apart)
 
 pub Sound-with_attachment : (w : World) (i : ℕ) (a : Attachment) → Sound w → IsNewAttachment w (i, a) → Sound (with_attachment_at w i a)
 unfolding with_attachment_at
@@ -257,25 +313,9 @@ Sound-with_attachment w i a sound new = record {
   each_vid = sound.each_vid;
   services = sound.services;
   services_apart = sound.services_apart;
-  attached = All-push (IsAttachedIn w.bridges w.services) w.attached (i, a) sound.attached new.attached;
-  attached_apart = pairwise-push AreAtTwoPorts w.attached (i, a) sound.attached_apart new.apart;
+  attached = all_with_one (IsAttachedIn w.bridges w.services) i a w.attached sound.attached new.attached;
+  attached_apart = apart_with_one i a w.attached sound.attached_apart new.apart;
 }
-
-all_fewer : {X : Type 0} (P : X → Type 0) (p : X → Bool) (xs : List X) → AllByRecursion P xs → AllByRecursion P (filter p xs)
-all_fewer P p [] all = tt
-all_fewer P p (x ∷ xs) all = by (p x) (all_fewer P p xs all.1)
-  where
-    by : (b : Bool) → AllByRecursion P (filter p xs) → AllByRecursion P (cond b (x ∷ filter p xs) (filter p xs))
-    by true rest = (all.0, rest)
-    by false rest = rest
-
-pairwise_fewer : {X : Type 0} (R : X → X → Type 0) (p : X → Bool) (xs : List X) → ArePairwise R xs → ArePairwise R (filter p xs)
-pairwise_fewer R p [] apart = tt
-pairwise_fewer R p (x ∷ xs) apart = by (p x) (pairwise_fewer R p xs apart.1)
-  where
-    by : (b : Bool) → ArePairwise R (filter p xs) → ArePairwise R (cond b (x ∷ filter p xs) (filter p xs))
-    by true rest = (all_fewer (R x) p xs apart.0, rest)
-    by false rest = rest
 
 pub Sound-without_attachment : (w : World) (i port : ℕ) → Sound w → Sound (without_attachment_at w i port)
 unfolding without_attachment_at

@@ -1,5 +1,5 @@
 -- One item of a list is changed.
-use Rattle.std.proofs.Common.{Bor, Result, Ok, Err, OnOk, ◌++◌, ◌≡◌, ℕ, zero, suc, ◌<◌, List, [], ◌∷◌, map, length, Option, Some, None, slice_get, refl, sym, subst, ap, ◌∙◌}
+use Rattle.std.proofs.Common.{Bor, Result, Ok, Err, OnOk, OnErr, ◌++◌, ◌≡◌, ℕ, zero, suc, ◌<◌, List, [], ◌∷◌, map, length, Option, Some, None, slice_get, refl, sym, subst, ap, ◌∙◌}
 use Rattle.std.specs.List.{AllByRecursion, slice_index_or, slice_set, ItemBy}
 use Rattle.std.specs.Option.{option_map_or}
 use Rattle.bridge_api.specs.declared.outbox.Outbox.{Outbox}
@@ -46,6 +46,16 @@ All-set P (b ∷ bs) (suc i) y a p = (a.0, All-set P bs i y a.1 p)
 pub on_ok : {T E : Type 0} {P Q : Type 0} (r : Result T E) → (P → Q) → OnOk r P → OnOk r Q
 on_ok (Ok x) f p = f p
 on_ok (Err e) f p = p
+
+-- and what holds where it answered Err
+pub on_err : {T E : Type 0} {P Q : Type 0} (r : Result T E) → (P → Q) → OnErr r P → OnErr r Q
+on_err (Ok x) f p = p
+on_err (Err e) f p = f p
+
+-- and what holds whatever it answered
+pub err_any : {T E : Type 0} {P : Type 0} (r : Result T E) → P → OnErr r P
+err_any (Ok x) p = tt
+err_any (Err e) p = p
 
 -- and what holds where two things hold of it
 pub both : {T E : Type 0} {P Q R : Type 0} (r : Result T E) → (P → Q → R) → OnOk r P → OnOk r Q → OnOk r R

@@ -4,6 +4,7 @@ pub mod NameLemmas
 pub mod ServiceLemmas
 pub mod WorldLemmas
 pub mod AttachedLemmas
+pub mod ByPlace
 pub mod RefusalLemmas
 pub mod MemberLemmas
 pub mod ValidLemmas

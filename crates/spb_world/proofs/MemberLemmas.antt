@@ -1,23 +1,35 @@
 -- The members of the wiring are those that what is attached makes, one for each bridge and service.
-use Rattle.std.proofs.Common.{◌≡◌, ℕ, ◌+◌, ◌*◌, ◌<◌, ◌≤◌, inl, inr, Bool, true, false, cond, eqb, ltb, List, [], ◌∷◌, map, Some, refl, sym, ap, ◌∙◌, subst, arith}
-use Rattle.std.specs.List.{Contains, dedup, dedup_from}
+use Rattle.std.proofs.Common.{◌≡◌, ℕ, ◌+◌, ◌*◌, ◌<◌, ◌≤◌, inl, inr, Bool, true, false, true≢false, ◌||◌, cond, eqb, ltb, List, [], ◌∷◌, ◌++◌, length, map, drop, Some, refl, sym, ap, ◌∙◌, subst, arith}
+use Rattle.std.specs.Prelude.{nat_eq}
+use Rattle.std.specs.List.{AllByRecursion, Contains, dedup, dedup_from, filter_map, list_any, slice_index_or}
 use Rattle.std.specs.List.Sorted.{IsPermutation, IsSorted, IsStrictlySortedBy}
 use Rattle.std.specs.Ordering.{nat_cmp, is_eq}
 use Rattle.std.specs.declared.cmp.Ordering.TheVariants.{Less, Equal, Greater}
-use Rattle.std.proofs.lemmas.Bool.{ltb-true, eqb-true}
+use Rattle.std.proofs.lemmas.Bool.{ltb-true, ltb-false, eqb-true, eqb-false, lt-ltb, le-ltb, eq-eqb, ne_eqb}
 use Rattle.std.proofs.lemmas.Cmp.{nat_cmp_total, on_total}
+use Rattle.std.proofs.lemmas.List.{append_assoc, drop_all, drop_more, map-append}
 use Rattle.std.proofs.lemmas.List.Kept.{Contains-from_dedup, IsStrictlySortedBy-dedup}
 use Rattle.std.proofs.lemmas.List.Sorted.{Contains-permutation, IsPermutation-sym}
 use Rattle.std.proofs.lemmas.Map.Keys.{sorted_head, sorted_tail}
-use Rattle.spb_types.specs.Ascending.{ascending, Ascends}
+use Rattle.spb_types.specs.Ascending.{placed, ascending, Ascends}
+use Rattle.spb_types.specs.declared.address.SystemId.{SystemId}
 use Rattle.spb_types.specs.declared.graph.Member.{Member}
+use Rattle.spb_types.specs.declared.limits.TheConstants.{GREATEST_ISID}
 use Rattle.spb_types.specs.declared.service.Attachment.{Attachment}
 use Rattle.spb_types.specs.declared.service.Vid.{Vid}
+use Rattle.spb_types.specs.declared.service.VidPlan.{VidPlan}
+use Rattle.spb_tlvs.specs.Capability.{IsTree}
+use Rattle.bridge_api.specs.Config.{vids_of}
+use Rattle.bridge_api.specs.Own.{member_of}
 use Rattle.spb_content.specs.Laws.{IsAscendingOf}
 use Rattle.spb_content.proofs.Ascended.{has_ascending, numbered_ascending, ascending_of}
-use Rattle.spb_content.proofs.Members.{Has, has_from_contains, contains_from_has, all_has, has_map, map_has, weaker}
-use Rattle.spb_world.specs.World.{World, Attachments, vid_of_isid, member_at, service_number, system_at, world_members, IsService, IsAttachedIn, Sound}
+use Rattle.spb_content.proofs.Members.{Has, has_from_contains, contains_from_has, all_has, has_all, has_map, map_has, weaker}
+use Rattle.spb_world.specs.World.{World, Bridges, Attachments, vid_of_isid, attachment_at, by_place_from, by_place, member_at, service_number, system_at, world_members, IsService, IsAttachedIn, Sound}
+use Rattle.spb_world.specs.Members.{HaveIsids, number_at_bridge, bridge_members, members_from}
 use Rattle.spb_world.proofs.ServiceLemmas.{service_found}
+use Rattle.spb_world.proofs.BoxLemmas.{append-none}
+use Rattle.spb_world.proofs.AttachedLemmas.{all_at}
+use Rattle.spb_world.proofs.ByPlace.{all_from, those_are}
 
 -- ---- a sort by number, and then one of each
 
@@ -155,7 +167,146 @@ attached_member w sound x h =
     let s = numbered_ascending service_number (service_number x) w.attached (record { item = x; has = h; is = refl }) in
     subst (λ m. Has m (world_members w)) (one_member w sound s.item x (has_ascending service_number s.item w.attached s.has) h s.is) (has_map (member_at w.bridges) s.item list s.has)
 
--- the members of one of each service are those of the wiring
-pub members_of_each : (w : World) → Sound w → (list : Attachments) → IsAscendingOf service_number w.attached list → map (member_at w.bridges) list ≡ world_members w
-members_of_each w sound list is =
-    one_list service_number (member_at w.bridges) w.attached list (ascending service_number w.attached) is (ascending_of service_number w.attached) (one_member w sound)
+-- ---- the members of one bridge
+
+-- two that are attached to a bridge with one number make it one member
+one_at_bridge : (system : SystemId) (attached : List Attachment) → HaveIsids attached → (x y : Attachment) → Has x attached → Has y attached → number_at_bridge x ≡ number_at_bridge y → member_of system x ≡ member_of system y
+one_at_bridge system attached short x y at_x at_y same =
+    let isid : x.isid.value ≡ y.isid.value =
+    low_part x.vid.value y.vid.value x.isid.value y.isid.value (all_has (λ (a : Attachment). a.isid.value ≤ GREATEST_ISID) x attached short at_x) (all_has (λ (a : Attachment). a.isid.value ≤ GREATEST_ISID) y attached short at_y) same in
+    let vid : x.vid.value ≡ y.vid.value = omega (arith, same, isid) in
+    λ i. record { system = system; isid = record { value = isid i }; vid = record { value = vid i } }
+
+-- one of each service makes a bridge its members
+pub members_of_each : (system : SystemId) (attached list : List Attachment) → HaveIsids attached → IsAscendingOf number_at_bridge attached list → map (member_of system) list ≡ bridge_members system attached
+members_of_each system attached list short is =
+    one_list number_at_bridge (member_of system) attached list (ascending number_at_bridge attached) is (ascending_of number_at_bridge attached) (one_at_bridge system attached short)
+
+-- ---- the members of each bridge in turn
+
+-- an item whose number is below all of a list is placed before it
+placed_before : {A : Type 0} (number : A → ℕ) (x : A) (us vs : List A) → AllByRecursion (λ y. number x < number y) vs → placed number x (us ++ vs) ≡ placed number x us ++ vs
+placed_before number x [] [] low = refl
+placed_before number x [] (v ∷ vs) low = ap (λ (b : Bool). cond b (x ∷ v ∷ vs) (cond (eqb (number x) (number v)) (v ∷ vs) (v ∷ placed number x vs))) (lt-ltb (number x) (number v) low.0)
+placed_before number x (u ∷ us) vs low = at (ltb (number x) (number u)) (eqb (number x) (number u)) (placed_before number x us vs low)
+  where
+    at : (b c : Bool) → placed number x (us ++ vs) ≡ placed number x us ++ vs → cond b (x ∷ u ∷ us ++ vs) (cond c (u ∷ us ++ vs) (u ∷ placed number x (us ++ vs))) ≡ cond b (x ∷ u ∷ us) (cond c (u ∷ us) (u ∷ placed number x us)) ++ vs
+    at true c rest = refl
+    at false true rest = refl
+    at false false rest = ap (λ l. u ∷ l) rest
+
+-- so two lists are ordered one after the other, where the numbers of the first are below those of the second
+ascending_joined : {A : Type 0} (number : A → ℕ) (xs ys : List A) → AllByRecursion (λ x. AllByRecursion (λ y. number x < number y) ys) xs → ascending number (xs ++ ys) ≡ ascending number xs ++ ascending number ys
+ascending_joined number [] ys low = refl
+ascending_joined number (x ∷ xs) ys low =
+    ap (placed number x) (ascending_joined number xs ys low.1)
+    ∙ placed_before number x (ascending number xs) (ascending number ys) (has_all (λ y. number x < number y) (ascending number ys) (λ y h. all_has (λ z. number x < number z) y ys low.0 (has_ascending number y ys h)))
+
+-- at one bridge the base VID and the I-SID alone give the order
+lt_at : (n v i u j : ℕ) → ltb ((n * 65536 + v) * 16777216 + i) ((n * 65536 + u) * 16777216 + j) ≡ ltb (v * 16777216 + i) (u * 16777216 + j)
+lt_at n v i u j = at (ltb (v * 16777216 + i) (u * 16777216 + j)) refl
+  where
+    at : (b : Bool) → ltb (v * 16777216 + i) (u * 16777216 + j) ≡ b → ltb ((n * 65536 + v) * 16777216 + i) ((n * 65536 + u) * 16777216 + j) ≡ b
+    at true low = lt-ltb _ _ (omega (arith, ltb-true (v * 16777216 + i) (u * 16777216 + j) low))
+    at false high = le-ltb _ _ (omega (arith, ltb-false (v * 16777216 + i) (u * 16777216 + j) high))
+
+eq_at : (n v i u j : ℕ) → eqb ((n * 65536 + v) * 16777216 + i) ((n * 65536 + u) * 16777216 + j) ≡ eqb (v * 16777216 + i) (u * 16777216 + j)
+eq_at n v i u j = at (eqb (v * 16777216 + i) (u * 16777216 + j)) refl
+  where
+    at : (b : Bool) → eqb (v * 16777216 + i) (u * 16777216 + j) ≡ b → eqb ((n * 65536 + v) * 16777216 + i) ((n * 65536 + u) * 16777216 + j) ≡ b
+    at true same = eq-eqb _ _ (omega (arith, eqb-true (v * 16777216 + i) (u * 16777216 + j) same))
+    at false other = ne_eqb _ _ (λ e. absurd (omega (arith, e, eqb-false (v * 16777216 + i) (u * 16777216 + j) other)))
+
+placed_at : (n : ℕ) (a : Attachment) (us : List Attachment) → placed service_number (n, a) (map (λ u. (n, u)) us) ≡ map (λ u. (n, u)) (placed number_at_bridge a us)
+placed_at n a [] = refl
+placed_at n a (u ∷ us) =
+    (λ i. cond (lt_at n a.vid.value a.isid.value u.vid.value u.isid.value i) before (cond (eq_at n a.vid.value a.isid.value u.vid.value u.isid.value i) same ((n, u) ∷ placed service_number (n, a) tagged)))
+    ∙ at (ltb (number_at_bridge a) (number_at_bridge u)) (eqb (number_at_bridge a) (number_at_bridge u)) (placed_at n a us)
+  where
+    tagged : Attachments
+    tagged = map (λ v. (n, v)) us
+
+    before : Attachments
+    before = (n, a) ∷ (n, u) ∷ tagged
+
+    same : Attachments
+    same = (n, u) ∷ tagged
+
+    at : (b c : Bool) → placed service_number (n, a) tagged ≡ map (λ v. (n, v)) (placed number_at_bridge a us) → cond b before (cond c same ((n, u) ∷ placed service_number (n, a) tagged)) ≡ map (λ v. (n, v)) (cond b (a ∷ u ∷ us) (cond c (u ∷ us) (u ∷ placed number_at_bridge a us)))
+    at true c rest = refl
+    at false true rest = refl
+    at false false rest = ap (λ (l : Attachments). (n, u) ∷ l) rest
+
+ascending_at : (n : ℕ) (attached : List Attachment) → ascending service_number (map (λ a. (n, a)) attached) ≡ map (λ a. (n, a)) (ascending number_at_bridge attached)
+ascending_at n [] = refl
+ascending_at n (a ∷ attached) = ap (placed service_number (n, a)) (ascending_at n attached) ∙ placed_at n a (ascending number_at_bridge attached)
+
+members_at : (bridges : Bridges) (n : ℕ) (list : List Attachment) → map (member_at bridges) (map (λ a. (n, a)) list) ≡ map (member_of (system_at bridges n)) list
+members_at bridges n [] = refl
+members_at bridges n (a ∷ list) = ap (λ (l : List Member). member_of (system_at bridges n) a ∷ l) (members_at bridges n list)
+
+-- numbers that are below those of the bridges behind
+abbrev Fits : ℕ × Attachment → Type 0
+Fits x = (x.1.vid.value < 65536) × (x.1.isid.value ≤ GREATEST_ISID)
+
+left_of : {X : Type 0} (P : X → Type 0) (xs ys : List X) → AllByRecursion P (xs ++ ys) → AllByRecursion P xs
+left_of P [] ys all = tt
+left_of P (x ∷ xs) ys all = (all.0, left_of P xs ys all.1)
+
+right_of : {X : Type 0} (P : X → Type 0) (xs ys : List X) → AllByRecursion P (xs ++ ys) → AllByRecursion P ys
+right_of P [] ys all = all
+right_of P (x ∷ xs) ys all = right_of P xs ys all.1
+
+below : (n : ℕ) (attached : List Attachment) (ys : Attachments) → AllByRecursion Fits (map (λ a. (n, a)) attached) → AllByRecursion (λ y. n < y.0) ys → AllByRecursion (λ x. AllByRecursion (λ y. service_number x < service_number y) ys) (map (λ a. (n, a)) attached)
+below n [] ys fit high = tt
+below n (a ∷ attached) ys fit high =
+    let vid : a.vid.value < 65536 = fit.0.0 in
+    let isid : a.isid.value ≤ 16777215 = fit.0.1 in
+    (weaker (λ (y : ℕ × Attachment). n < y.0) (λ (y : ℕ × Attachment). service_number (n, a) < service_number y) ys (λ y h. omega (arith, vid, isid, h)) high, below n attached ys fit.1 high)
+
+members_in_turn : (bridges : Bridges) (n : ℕ) (lists : List (List Attachment)) → AllByRecursion Fits (by_place_from n lists) → members_from bridges n lists ≡ map (member_at bridges) (ascending service_number (by_place_from n lists))
+members_in_turn bridges n [] fit = refl
+members_in_turn bridges n (attached ∷ lists) fit =
+    let first : Attachments = map (λ a. (n, a)) attached in
+    let rest : Attachments = by_place_from (n + 1) lists in
+    let low = below n attached rest (left_of Fits first rest fit) (all_from (λ m. n < m) (n + 1) lists (λ m h. omega (arith, h))) in
+    (λ i. sym (members_at bridges n (ascending number_at_bridge attached)) i ++ members_in_turn bridges (n + 1) lists (right_of Fits first rest fit) i)
+    ∙ (ap (λ (l : Attachments). map (member_at bridges) l ++ map (member_at bridges) (ascending service_number rest)) (sym (ascending_at n attached))
+    ∙ (sym (map-append (member_at bridges) (ascending service_number first) (ascending service_number rest))
+    ∙ ap (map (member_at bridges)) (sym (ascending_joined service_number first rest low))))
+
+-- where the first bridges are done, the next one's members stand before those of the others
+pub members_step : (bridges : Bridges) (lists : List (List Attachment)) (k : ℕ) (now new : List Member) → k < length lists → new ≡ now ++ bridge_members (system_at bridges k) (slice_index_or lists k []) → new ++ members_from bridges (k + 1) (drop (k + 1) lists) ≡ now ++ members_from bridges k (drop k lists)
+members_step bridges lists k now new low is =
+    ap (λ (l : List Member). l ++ members_from bridges (k + 1) (drop (k + 1) lists)) is
+    ∙ (append_assoc now (bridge_members (system_at bridges k) (slice_index_or lists k [])) (members_from bridges (k + 1) (drop (k + 1) lists))
+    ∙ ap (λ (rest : List (List Attachment)). now ++ members_from bridges k rest) (sym (drop_more lists k [] low)))
+
+pub members_end : (bridges : Bridges) (lists : List (List Attachment)) (k : ℕ) (now all : List Member) → length lists ≤ k → now ++ members_from bridges k (drop k lists) ≡ all → now ≡ all
+members_end bridges lists k now all past is =
+    sym (append-none now) ∙ (ap (λ (rest : List (List Attachment)). now ++ members_from bridges k rest) (sym (drop_all k lists past)) ∙ is)
+
+-- ---- of a sound world
+
+vid_among : (n : ℕ) (plans : List VidPlan) → AllByRecursion IsTree plans → list_any (nat_eq n) (vids_of plans) ≡ true → n ≤ 4094
+vid_among n [] all there = absurd (true≢false (sym there))
+vid_among n (p ∷ plans) all there = at (eqb n p.vid.value) refl there (vid_among n plans all.1)
+  where
+    at : (b : Bool) → eqb n p.vid.value ≡ b → (b || list_any (nat_eq n) (vids_of plans)) ≡ true → (list_any (nat_eq n) (vids_of plans) ≡ true → n ≤ 4094) → n ≤ 4094
+    at true is there rest = omega (arith, all.0.vid_high, eqb-true n p.vid.value is)
+    at false is there rest = rest there
+
+fits : (w : World) → Sound w → (x : ℕ × Attachment) → IsAttachedIn w.bridges w.services x → Fits x
+fits w sound x is =
+    let service = service_found (IsService w.vids) w.services x.1.isid.value x.1.vid sound.services is.service in
+    (omega (arith, vid_among x.1.vid.value w.vids sound.each_vid service.2.vid), isid_high w sound x is)
+
+pub members_are : (w : World) (lists : List (List Attachment)) → Sound w → w.attached ≡ by_place lists → members_from w.bridges 0 lists ≡ world_members w
+members_are w lists sound is =
+    members_in_turn w.bridges 0 lists (subst (AllByRecursion Fits) is (weaker (IsAttachedIn w.bridges w.services) Fits w.attached (fits w sound) sound.attached))
+    ∙ ap (λ (xs : Attachments). map (member_at w.bridges) (ascending service_number xs)) (sym is)
+
+pub have_isids : (w : World) (lists : List (List Attachment)) (place : ℕ) → Sound w → w.attached ≡ by_place lists → HaveIsids (slice_index_or lists place [])
+have_isids w lists place sound is =
+    subst HaveIsids (ap (filter_map (attachment_at place)) is ∙ those_are place lists)
+    (all_at (λ (a : Attachment). a.isid.value ≤ GREATEST_ISID) place w.attached (weaker (IsAttachedIn w.bridges w.services) (λ (x : ℕ × Attachment). x.0 ≡ place → x.1.isid.value ≤ GREATEST_ISID) w.attached (λ x h e. isid_high w sound x h) sound.attached))

@@ -1,6 +1,6 @@
 -- Customer ports: why one can't be attached to a service, or detached, and what is attached after an accepted command
 -- (IEEE 802.1ah, 25.10).
-use Rattle.std.specs.Prelude.{ℕ, List, [], ◌∷◌, ◌++◌, length, map, filter, Bool, not, ◌&&◌, ◌==◌, nat_le, nat_eq, Option, is_some}
+use Rattle.std.specs.Prelude.{ℕ, List, [], ◌∷◌, ◌++◌, length, map, filter, Bool, not, ◌&&◌, ◌==◌, nat_le, nat_lt, Option, is_some}
 use Rattle.std.specs.List.{AllByRecursion, list_any}
 use Rattle.spb_types.specs.declared.limits.TheConstants.{MOST_CUSTOMER_PORTS, MOST_ISIDS}
 use Rattle.spb_types.specs.declared.service.Attachment.{Attachment}
@@ -27,10 +27,6 @@ is_customer_frame bytes = nat_le 14 (length bytes) && nat_le (length bytes) 2000
 -- this customer port of the bridge at place i is attached
 abbrev pub is_attached : Attachments → ℕ → ℕ → Bool
 is_attached xs i port = list_any (λ x. (x.0 == i) && (x.1.port == port)) xs
-
--- a customer port of the bridge at place i is attached to this I-SID
-abbrev pub is_member : Attachments → ℕ → ℕ → Bool
-is_member xs i isid = list_any (λ x. (x.0 == i) && nat_eq isid x.1.isid.value) xs
 
 -- the different I-SIDs of what is attached to a bridge, and those with one more
 abbrev pub isids_of : List Attachment → List ℕ
@@ -72,9 +68,12 @@ pub record IsNewAttachment (w : World) (x : ℕ × Attachment) : Type 0 where
   pub attached : IsAttachedIn w.bridges w.services x
   pub apart : AllByRecursion (λ y. AreAtTwoPorts y x) w.attached
 
--- one more, at the bridge at place i
+-- one more, at the bridge at place i: behind what is attached at this bridge and at those before it
+abbrev pub with_one_at : ℕ → Attachment → Attachments → Attachments
+with_one_at i a xs = filter (λ x. nat_le x.0 i) xs ++ (i, a) ∷ filter (λ x. nat_lt i x.0) xs
+
 unfoldable pub with_attachment_at : World → ℕ → Attachment → World
-with_attachment_at w i a = record w { attached = w.attached ++ (i, a) ∷ [] }
+with_attachment_at w i a = record w { attached = with_one_at i a w.attached }
 
 -- what is attached isn't at this customer port of the bridge at place i
 abbrev pub is_elsewhere : ℕ → ℕ → ℕ × Attachment → Bool

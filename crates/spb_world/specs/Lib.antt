@@ -1,4 +1,5 @@
 pub mod World
+pub mod Members
 pub mod Reason
 pub mod Systems
 pub mod Links

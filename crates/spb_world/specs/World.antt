@@ -1,4 +1,4 @@
-use Rattle.std.specs.Prelude.{◌≡◌, ◌≢◌, ℕ, zero, suc, ◌+◌, ◌*◌, ◌≤◌, ◌<◌, List, [], ◌∷◌, length, map, Bool, false, ◌&&◌, ◌||◌, ◌==◌, replicate, Option, Some, None, find, position, max, if◌then◌else◌, nat_eq, IsTrue, ⊤}
+use Rattle.std.specs.Prelude.{◌≡◌, ◌≢◌, ℕ, zero, suc, ◌+◌, ◌*◌, ◌≤◌, ◌<◌, List, [], ◌∷◌, ◌++◌, length, map, Bool, false, ◌&&◌, ◌||◌, ◌==◌, replicate, Option, Some, None, find, position, max, if◌then◌else◌, nat_eq, IsTrue, ⊤}
 use Rattle.std.specs.List.{AllByRecursion, filter_map, list_any}
 use Rattle.std.specs.Map.{lookup}
 use Rattle.std.specs.Option.{option_map}
@@ -38,9 +38,18 @@ Links = List (List ℕ × DeclaredLink)
 abbrev pub Services : Type 0
 Services = List (Isid × Vid)
 
--- what is attached, each by the place of its bridge, in order of attaching
+-- what is attached, each by the place of its bridge: in ascending order of these places, and at each bridge in order of
+-- attaching
 abbrev pub Attachments : Type 0
 Attachments = List (ℕ × Attachment)
+
+-- what is attached at the bridges from place n on, of a list for each bridge
+abbrev pub by_place_from : ℕ → List (List Attachment) → Attachments
+by_place_from n [] = []
+by_place_from n (attached ∷ lists) = map (λ a. (n, a)) attached ++ by_place_from (n + 1) lists
+
+abbrev pub by_place : List (List Attachment) → Attachments
+by_place lists = by_place_from 0 lists
 
 -- what is declared: the base VIDs, the bridges, the links and the services; and what is attached
 pub record World : Type 0 where

@@ -1,10 +1,13 @@
 //! The graph of the wiring, part by part: bridges, edges of links that are up, members of services.
-ghost use Rattle.std.specs.Prelude.{◌≡◌, map, IfOk};
-ghost use Rattle.std.specs.List.{filter_map};
+ghost use Rattle.std.specs.Prelude.{◌≡◌, ◌++◌, ℕ, [], map, OnOk, IfOk};
+ghost use Rattle.std.specs.List.{filter_map, slice_index_or};
 ghost use Rattle.spb_content.specs.Laws.{IsAscendingOf};
+ghost use Rattle.bridge_api.specs.Own.{member_of};
 ghost use Rattle.spb_world.specs.World as state;
+ghost use Rattle.spb_world.specs.Members as made;
 ghost use Rattle.spb_world.specs.Systems as paths;
 
+use crate::attached::Attached;
 use crate::{DeclaredBridge, DeclaredLink};
 use indexmap::IndexMap;
 use spb_types::{Attachment, Edge, GraphBridge, Mac, Member, Name, NoMemory, SystemId};
@@ -75,51 +78,72 @@ pub fn graph_edges(
     Ok(list)
 }
 
-/// The member that an attachment makes its bridge.
-fn member_at(bridges: &IndexMap<Name, DeclaredBridge>, entry: &(usize, Attachment)) -> Member
-    ensures { result ≡ state.member_at bridges.now.entries entry.now }
+/// The base VID and the I-SID of what is attached in one number, by which they order in turn.
+fn number_at_bridge(attachment: &Attachment) -> u64
+    ensures { result ≡ made.number_at_bridge attachment.now }
 {
-    Member {
-        system: system_at(bridges, entry.0),
-        isid: entry.1.isid,
-        vid: entry.1.vid,
-    }
+    let vid = attachment.vid.value;
+    let isid = attachment.isid.value;
+    u64::from(vid) * 16_777_216 + u64::from(isid)
 }
 
-/// The place of the bridge that something is attached to, the base VID and the I-SID in one number, by which they order
-/// in turn.
-fn service_number(entry: &(usize, Attachment)) -> u128
-    ensures { result ≡ state.service_number entry.now }
-{
-    let vid = entry.1.vid.value;
-    let isid = entry.1.isid.value;
-    (entry.0 as u128 * 65_536 + u128::from(vid)) * 16_777_216 + u128::from(isid)
-}
-
-/// One of what is attached for each bridge, base VID and I-SID, in ascending order of these.
-pub fn one_of_each_service(
-    alloc: Global,
-    attached: &[(usize, Attachment)],
-) -> Result<Vec<(usize, Attachment)>, NoMemory>
-    ensures { IfOk result (λ list. IsAscendingOf state.service_number attached.now list.items) }
+/// One of what is attached at a bridge for each base VID and I-SID, in ascending order of these.
+fn one_of_each_service(alloc: Global, attached: &[Attachment]) -> Result<Vec<Attachment>, NoMemory>
+    ensures { IfOk result (λ list. IsAscendingOf made.number_at_bridge attached.now list.items) }
 {
     let mut list = Vec::from_slice(alloc, attached)?;
-    list.sort_unstable_by_key(|entry| service_number(entry));
-    list.dedup_by_key(|entry| service_number(entry));
+    list.sort_unstable_by_key(|attachment| number_at_bridge(attachment));
+    list.dedup_by_key(|attachment| number_at_bridge(attachment));
     Ok(list)
 }
 
-/// The members of services, one for each of what is attached, in that order.
+/// Puts a member for each of what is attached at a bridge behind the others.
+fn push_members(
+    members: &mut Vec<Member>,
+    system: SystemId,
+    attached: &[Attachment],
+) -> Result<(), NoMemory>
+    ensures { OnOk result (members.new.items ≡ members.old.items ++ map (member_of system) attached.now) }
+{
+    for attachment in attached {
+        members.push(Member {
+            system,
+            isid: attachment.isid,
+            vid: attachment.vid,
+        })?;
+    }
+    Ok(())
+}
+
+/// Puts the members that what is attached at a bridge makes it behind the others: one for each base VID and I-SID, in
+/// ascending order of these.
+fn put_members(
+    alloc: Global,
+    members: &mut Vec<Member>,
+    system: SystemId,
+    attached: &[Attachment],
+) -> Result<(), NoMemory>
+    requires { made.HaveIsids attached.now }
+    ensures { OnOk result (members.new.items ≡ members.old.items ++ made.bridge_members system attached.now) }
+{
+    let services = one_of_each_service(alloc, attached)?;
+    push_members(members, system, services.as_slice())
+}
+
+/// The members of services: for each bridge in order of declaration one for each base VID and I-SID, in ascending order
+/// of these.
 pub fn graph_members(
     alloc: Global,
     bridges: &IndexMap<Name, DeclaredBridge>,
-    attached: &[(usize, Attachment)],
+    attached: &Attached,
 ) -> Result<Vec<Member>, NoMemory>
-    ensures { IfOk result (λ list. list.items ≡ map (state.member_at bridges.now.entries) attached.now) }
+    requires { (place : ℕ) → made.HaveIsids (slice_index_or attached.now place []) }
+    ensures { IfOk result (λ list. list.items ≡ made.members_from bridges.now.entries 0 attached.now) }
 {
-    let list = attached
-        .iter()
-        .map(|entry| member_at(bridges, entry))
-        .collect(alloc)?;
-    Ok(list)
+    let mut members = Vec::new(alloc);
+    for place in 0..attached.count() {
+        let system = system_at(bridges, place);
+        put_members(alloc, &mut members, system, attached.at(place))?;
+    }
+    Ok(members)
 }

@@ -3,15 +3,16 @@
 //!
 //! **Costs.** A port finds its link in constant time, and a name is found so on average. The tables of the wiring are
 //! made of its fabric (`fdb_build`), which is made at the first such question, and kept with what was searched in it
-//! until a base VID, a bridge, a link, a metric or what is attached changes. An `attach` goes over all that is attached,
-//! once for the customer port and its I-SID and once for each attached port of its bridge, and a `detach` twice;
-//! neither takes memory for that.
+//! until a base VID, a bridge, a link, a metric or what is attached changes. What is attached is kept for each bridge:
+//! an `attach`, a `detach` and an entering frame go over what is attached at their bridge alone, and take no memory for
+//! that.
 #![tactic(auto)]
 
 pub use declaration::{DeclaredBridge, DeclaredLink, LinkEnd};
 pub use reason::{Reason, reason_unless};
 pub use world::World;
 
+mod attached;
 mod attaching;
 mod check;
 mod declaration;

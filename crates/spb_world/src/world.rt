@@ -2,13 +2,9 @@
 ghost use Rattle.std.specs.Prelude.{◌≡◌, [], ◌∷◌, ◌++◌, true, None, OnOk, OnErr};
 ghost use Rattle.spb_world.specs.Declaring.{is_new_name, switched, links_with_metric};
 
-use crate::attaching::{
-    attached_at, from_first, has_isid_room, is_attached, is_customer_frame, is_customer_port,
-    remove,
-};
-use crate::graph::{
-    graph_bridges, graph_edges, graph_members, one_of_each_service, place_of_system, system_at,
-};
+use crate::attached::Attached;
+use crate::attaching::{has_isid_room, is_attached, is_customer_frame, is_customer_port};
+use crate::graph::{graph_bridges, graph_edges, graph_members, place_of_system, system_at};
 use crate::hints::Hints;
 use crate::reason::reason_unless;
 use crate::{DeclaredBridge, DeclaredLink, LinkEnd, Reason, check, link_ends};
@@ -29,29 +25,30 @@ use std::alloc::Global;
 use std::marker::Model;
 
 /// What is declared: the base VIDs, the bridges, the links and the services, each in order of declaration; and what is
-/// attached, each by the place of its bridge, in order of attaching. The fabric of the wiring is kept from the first
-/// question about it until a base VID, a bridge, a link, a metric or what is attached changes.
+/// attached, for each bridge in order of attaching. The fabric of the wiring is kept from the first question about it
+/// until a base VID, a bridge, a link, a metric or what is attached changes.
 #[derive(Drop)]
 pub struct World {
     vids: Vec<VidPlan>,
     bridges: IndexMap<Name, DeclaredBridge>,
     links: IndexMap<Name, DeclaredLink>,
     services: IndexMap<Isid, Vid>,
-    attached: Vec<(usize, Attachment)>,
+    attached: Attached,
     hints: Hints,
     kept: Option<Fabric>,
 }
 
 impl Model for World {
-    ghost use Rattle.std.specs.Prelude.{◌≡◌, IfSome};
+    ghost use Rattle.std.specs.Prelude.{◌≡◌, ◌≤◌, length, IfSome};
     ghost use Rattle.spb_world.specs.World as state;
 
     ghost Value = { state.World };
 
-    ghost view = { λ w. record { vids = w.vids.items; bridges = w.bridges.entries; links = w.links.entries; services = w.services.entries; attached = w.attached.items } };
+    ghost view = { λ w. record { vids = w.vids.items; bridges = w.bridges.entries; links = w.links.entries; services = w.services.entries; attached = state.by_place w.attached } };
 
-    ghost invariant = { λ w. state.Sound (record { vids = w.vids.items; bridges = w.bridges.entries; links = w.links.entries; services = w.services.entries; attached = w.attached.items })
-        × IfSome w.kept (λ fabric. fabric ≡ state.wired_fabric (record { vids = w.vids.items; bridges = w.bridges.entries; links = w.links.entries; services = w.services.entries; attached = w.attached.items })) };
+    ghost invariant = { λ w. state.Sound (record { vids = w.vids.items; bridges = w.bridges.entries; links = w.links.entries; services = w.services.entries; attached = state.by_place w.attached })
+        × IfSome w.kept (λ fabric. fabric ≡ state.wired_fabric (record { vids = w.vids.items; bridges = w.bridges.entries; links = w.links.entries; services = w.services.entries; attached = state.by_place w.attached }))
+        × (length w.bridges.entries ≤ length w.attached) };
 }
 
 impl World {
@@ -76,7 +73,7 @@ impl World {
             bridges: IndexMap::new(alloc),
             links: IndexMap::new(alloc),
             services: IndexMap::new(alloc),
-            attached: Vec::new(alloc),
+            attached: Attached::new(alloc),
             hints: Hints::new(alloc),
             kept: None,
         }
@@ -217,12 +214,26 @@ impl World {
         }
     }
 
-    /// What is attached to the customer ports of the bridge at a place, in order of attaching. One pass over all that is
-    /// attached.
+    /// What is attached to the customer ports of the bridge at a place, in order of attaching.
+    fn attached_at(&self, place: usize) -> &[Attachment]
+        ensures { result.now ≡ state.attached_at self.now place }
+    {
+        self.attached.at(place)
+    }
+
+    /// Whether a customer port of the bridge at a place is attached.
+    fn is_attached(&self, place: usize, port: u64) -> bool
+        ensures { result ≡ attaching.is_attached self.now.attached place port }
+    {
+        is_attached(self.attached_at(place), port)
+    }
+
+    /// What is attached to the customer ports of the bridge at a place, in order of attaching. It costs by what is
+    /// attached at this bridge.
     pub fn attached(&self, alloc: Global, place: usize) -> Result<Seq<Attachment>, NoMemory>
         ensures { IfOk result (λ attached. attached ≡ state.attached_at self.now place) }
     {
-        let attached = attached_at(alloc, self.attached.as_slice(), place)?;
+        let attached = Vec::from_slice(alloc, self.attached_at(place))?;
         Ok(Seq::from_vec(attached))
     }
 
@@ -247,8 +258,7 @@ impl World {
     fn members(&self, alloc: Global) -> Result<Vec<Member>, NoMemory>
         ensures { IfOk result (λ list. list.items ≡ state.world_members self.now) }
     {
-        let attached = one_of_each_service(alloc, self.attached.as_slice())?;
-        graph_members(alloc, &self.bridges, attached.as_slice())
+        graph_members(alloc, &self.bridges, &self.attached)
     }
 
     /// The actual wiring: all bridges, an edge for each link that is up, and a member for each bridge and service that
@@ -428,43 +438,41 @@ impl World {
     }
 
     /// Why a customer port of the bridge at a place can't be attached to the service of an I-SID, if it can't. It takes
-    /// a pass over all that is attached up to the first port of the bridge, and two over what stands from there on; where
-    /// 60 ports of the bridge or more are attached, one more for each of them.
+    /// a pass over what is attached at this bridge; where 60 ports or more are, one more for each of them.
     #[tactic(auto, unfolding(crate::specs::Attaching::attach_refusal))]
     pub fn attach_refusal(&self, place: usize, port: u64, isid: u64) -> Option<Reason>
         ensures { result ≡ attaching.attach_refusal self.now place port isid }
     {
-        let own = from_first(self.attached.as_slice(), place);
         let is_declared = self.vid_of_isid(isid).is_some();
-        let has_place = has_isid_room(own, place, isid);
-        let is_free = !is_attached(own, place, port);
+        let has_place = has_isid_room(self.attached_at(place), isid);
+        let is_free = !self.is_attached(place, port);
         reason_unless(is_declared, Reason::NoSuchName)
             .or(reason_unless(is_customer_port(port), Reason::Range))
             .or(reason_unless(has_place, Reason::TooMany))
             .or(reason_unless(is_free, Reason::Attached))
     }
 
-    /// Why a customer port of the bridge at a place can't be detached, if it can't. It takes a pass over all that is
-    /// attached.
+    /// Why a customer port of the bridge at a place can't be detached, if it can't. It takes a pass over what is
+    /// attached at this bridge.
     #[tactic(auto, unfolding(crate::specs::Attaching::detach_refusal))]
     pub fn detach_refusal(&self, place: usize, port: u64) -> Option<Reason>
         ensures { result ≡ attaching.detach_refusal self.now place port }
     {
-        let is_there = is_attached(self.attached.as_slice(), place, port);
+        let is_there = self.is_attached(place, port);
         reason_unless(is_customer_port(port), Reason::Range).or(reason_unless(
             is_there,
             Reason::NotAttached,
         ))
     }
 
-    /// Why a customer's frame can't enter at a customer port of the bridge at a place, if it can't. It takes a pass over
-    /// all that is attached.
+    /// Why a customer's frame can't enter at a customer port of the bridge at a place, if it can't. It takes a pass
+    /// over what is attached at this bridge.
     #[tactic(auto, unfolding(crate::specs::Attaching::entry_refusal))]
     pub fn entry_refusal(&self, place: usize, port: u64, frame: &[u8]) -> Option<Reason>
         ensures { result ≡ attaching.entry_refusal self.now place port frame.now }
     {
         let is_range = is_customer_port(port) && is_customer_frame(frame);
-        let is_there = is_attached(self.attached.as_slice(), place, port);
+        let is_there = self.is_attached(place, port);
         reason_unless(is_range, Reason::Range).or(reason_unless(is_there, Reason::NotAttached))
     }
 
@@ -506,6 +514,7 @@ impl World {
         };
         self.kept = None;
         self.hints.add_bridge()?;
+        self.attached.add_bridge()?;
         insert_new(&mut self.bridges, name, bridge)?;
         Ok(())
     }
@@ -568,7 +577,7 @@ impl World {
         ensures err { OnErr result (self.new ≡ self.old) }
     {
         self.kept = None;
-        self.attached.push((place, attachment))?;
+        self.attached.attach(place, attachment)?;
         Ok(())
     }
 
@@ -577,7 +586,7 @@ impl World {
         ensures { self.new ≡ attaching.without_attachment_at self.old place port }
     {
         self.kept = None;
-        remove(&mut self.attached, place, port);
+        self.attached.detach(place, port);
     }
 
     /// The link at a place comes up, or goes down. Takes no memory.

@@ -19,5 +19,5 @@ loop-k-preserved c =
         | then-is_first_of_isid w ↦ omega (arith, few, w.count-is)
         | else-is_first_of_isid w ↦ omega (arith, few, w.count-is)
       ],
-      count_more c.args.place c.loop-k.k c.args.entries.now _ first old new c.loop-k-test.true c.is_first_of_isid.ensures c.loop-k.invariant.2 is,
+      count_more c.loop-k.k c.args.attached.now _ first old new c.loop-k-test.true c.is_first_of_isid.ensures c.loop-k.invariant.2 is,
     )

@@ -1,5 +1,5 @@
 use Rattle.std.proofs.Common.{ap, ◌∙◌, arith}
-use Rattle.spb_world.specs.World.{World}
+use Rattle.spb_world.specs.World.{World, by_place}
 use Rattle.spb_world.specs.Declaring.{link_refusal, with_link, link_of}
 use Rattle.spb_world.proofs.WorldLemmas.{Sound-with_link, ports_at-le}
 use Rattle.spb_world.proofs.RefusalLemmas.{link_refusal_none}
@@ -28,12 +28,12 @@ insert_new-requires c =
 pub invariant_of-self-2 : goal.invariant_of-self-2
 unfolding with_link
 invariant_of-self-2 c =
-    let old : World = record { vids = c.self.inside.vids.items; bridges = c.self.inside.bridges.entries; links = c.self.inside.links.entries; services = c.self.inside.services.entries; attached = c.self.inside.attached.items } in
+    let old : World = record { vids = c.self.inside.vids.items; bridges = c.self.inside.bridges.entries; links = c.self.inside.links.entries; services = c.self.inside.services.entries; attached = by_place c.self.inside.attached } in
     let none = ap (λ w. link_refusal w c.args.name c.args.i c.args.port_a c.args.j c.args.port_b c.args.cost) c.self.view_is ∙ c.requires in
     let new = link_refusal_none old c.args.name c.args.i c.args.port_a c.args.j c.args.port_b c.args.cost none in
-    (rw c.in_ok-insert_new.ensures.ok (Sound-with_link old c.args.name (link_of c.args.i c.args.port_a c.args.j c.args.port_b c.args.cost) c.self.invariant.0 new.new), tt)
+    (rw c.in_ok-insert_new.ensures.ok (Sound-with_link old c.args.name (link_of c.args.i c.args.port_a c.args.j c.args.port_b c.args.cost) c.self.invariant.0 new.new), tt, c.self.invariant.2)
 
 pub returns-clause-ok : goal.returns-clause-ok
 unfolding with_link
 returns-clause-ok c =
-    rw (← c.self.view_is) (λ i. record { vids = c.self.inside.vids.items; bridges = c.self.inside.bridges.entries; links = c.in_ok-insert_new.ensures.ok i; services = c.self.inside.services.entries; attached = c.self.inside.attached.items })
+    rw (← c.self.view_is) (λ i. record { vids = c.self.inside.vids.items; bridges = c.self.inside.bridges.entries; links = c.in_ok-insert_new.ensures.ok i; services = c.self.inside.services.entries; attached = by_place c.self.inside.attached })
