@@ -1,4 +1,5 @@
-//! Whole scripts, played over a source and a sink in memory.
+//! What needs a test of its own of the program: boxes that fail or ask, and each form once. Other scripts, and how
+//! their runs end, are data of the crate `cases`.
 use crate::{Status, play};
 use spb_outside::{MemorySink, MemorySource, Sink, Source};
 use std::alloc::Global;
@@ -7,24 +8,9 @@ use std::process::Abort;
 
 mod asking_box;
 mod boxes;
-mod customers;
-mod databases;
-mod drills;
-mod drops;
-mod examples;
-mod fabrics;
 mod failing_box;
 mod faults;
-mod frames;
-mod hellos;
-mod limits;
-mod quiet;
-mod refusals;
-mod restarts;
 mod runs;
-mod tries;
-mod wiring;
-mod words;
 
 /// Two bridges with a link between them.
 const TWO: &str = "bridge A 32768 020000000001 00001 1
@@ -35,16 +21,6 @@ link L1 A 1 B 1 10
 /// Asserts that these are equal. An assertion is proved once here, and not at each type.
 fn are_equal<T: PartialEq + Debug>(rt: &impl Abort, found: &T, want: &T) {
     assert_eq!(*rt; found, want);
-}
-
-/// The same, and names where they come from.
-fn are_equal_in<T: PartialEq + Debug>(rt: &impl Abort, name: &str, found: &T, want: &T) {
-    assert_eq!(*rt; found, want, "{name}");
-}
-
-/// What stands before a mark in a text, and behind it.
-fn parted<'a>(rt: &impl Abort, text: &'a str, mark: &str) -> (&'a str, &'a str) {
-    text.split_once(mark).expect(rt, "no such mark")
 }
 
 /// The words of the program: those of a text, which stand a blank apart.
@@ -114,127 +90,4 @@ fn check_call(
     let found = ending(rt, alloc, &words, &mut source, &mut sink);
     are_equal(rt, &found, &status);
     are_equal(rt, &text_of(rt, &sink), &text);
-}
-
-/// Asserts how a run over a script ends and what it writes, where each read and each write moves at most `step` bytes.
-fn check_in_pieces(
-    rt: &impl Abort,
-    alloc: Global,
-    step: usize,
-    script: &str,
-    status: Status,
-    text: &str,
-) {
-    let source = source(rt, alloc, script, step, 0);
-    let sink = sink(rt, alloc, step, 0);
-    check_call(rt, alloc, "run", source, sink, status, text);
-}
-
-/// Asserts how a run over a script ends and what it writes.
-fn check(rt: &impl Abort, alloc: Global, script: &str, status: Status, text: &str) {
-    check_in_pieces(rt, alloc, 50, script, status, text);
-}
-
-/// Two texts in one.
-fn joined(rt: &impl Abort, alloc: Global, first: &str, second: &str) -> String {
-    format!(in alloc; "{first}{second}").expect(rt, "out of memory")
-}
-
-/// So many times a text.
-fn repeated(rt: &impl Abort, alloc: Global, text: &str, times: usize) -> String {
-    text.repeat(alloc, times).expect(rt, "out of memory")
-}
-
-/// Asserts what lines behind a script answer, where all are accepted, in pieces of one byte and of fifty.
-fn check_done(rt: &impl Abort, alloc: Global, before: &str, lines: &str, text: &str) {
-    let script = joined(rt, alloc, before, lines);
-    check_in_pieces(rt, alloc, 1, script.as_str(), Status::Done, text);
-    check_in_pieces(rt, alloc, 50, script.as_str(), Status::Done, text);
-}
-
-/// How a run ends that answers this: where the last line is an `error`, as that says.
-fn ending_of(rt: &impl Abort, alloc: Global, answer: &str) -> String {
-    let last = answer.lines().last().unwrap_or("");
-    let words: Vec<&str> = last.split(' ').collect(alloc).expect(rt, "out of memory");
-    let ending = match words.as_slice() {
-        ["error", line, "1", "Words", column] => {
-            format!(in alloc; "Refused({line}, Words({column}))")
-        }
-        ["error", line, _, reason] => format!(in alloc; "Refused({line}, Command({reason}))"),
-        _ => String::from_str(alloc, "Done"),
-    };
-    ending.expect(rt, "out of memory")
-}
-
-/// Asserts what a script answers, where each read and each write moves at most `step` bytes, and that its run ends as the
-/// answer says.
-fn check_answer_in_pieces(
-    rt: &impl Abort,
-    alloc: Global,
-    step: usize,
-    name: &str,
-    script: &str,
-    answer: &str,
-) {
-    let words = words_of(rt, alloc, "run");
-    let mut source = source(rt, alloc, script, step, 0);
-    let mut sink = sink(rt, alloc, step, 0);
-    let status = ending(rt, alloc, &words, &mut source, &mut sink);
-    are_equal_in(rt, name, &text_of(rt, &sink), &answer);
-    let status = format!(in alloc; "{status:?}").expect(rt, "out of memory");
-    let ending = ending_of(rt, alloc, answer);
-    are_equal_in(rt, name, &status, &ending);
-}
-
-/// The same in pieces of one byte and of fifty.
-fn check_answer(rt: &impl Abort, alloc: Global, name: &str, script: &str, answer: &str) {
-    check_answer_in_pieces(rt, alloc, 1, name, script, answer);
-    check_answer_in_pieces(rt, alloc, 50, name, script, answer);
-}
-
-fn push_line(rt: &impl Abort, text: &mut String, line: &str) {
-    text.push_str(line).expect(rt, "out of memory");
-    text.push('\n').expect(rt, "out of memory");
-}
-
-/// Asserts what one of the scripts of `check_scripts` answers, whose first line is its name.
-fn check_script(rt: &impl Abort, alloc: Global, before: &str, script: &str) {
-    let mut lines = joined(rt, alloc, before, "");
-    let mut answer = String::new(alloc);
-    for line in script.lines().skip(1) {
-        match line.strip_prefix("> ") {
-            Some(text) => push_line(rt, &mut answer, text),
-            None => push_line(rt, &mut lines, line),
-        }
-    }
-    let name = script.lines().next().unwrap_or("");
-    check_answer(rt, alloc, name, lines.as_str(), answer.as_str());
-}
-
-/// Asserts what each of several scripts answers behind the lines `before`. A line `== ..` begins a script and says what
-/// it shows; behind `> ` stand the lines of its answer.
-fn check_scripts(rt: &impl Abort, alloc: Global, before: &str, scripts: &str) {
-    for script in scripts.split("== ").skip(1) {
-        check_script(rt, alloc, before, script);
-    }
-}
-
-/// Asserts why the last of several lines, which stand `; ` apart, is refused behind the lines `before`.
-fn check_refused(rt: &impl Abort, alloc: Global, before: &str, lines: &str, why: &str) {
-    let mut script = joined(rt, alloc, before, "");
-    for line in lines.split("; ") {
-        push_line(rt, &mut script, line);
-    }
-    let number = script.lines().count();
-    push_line(rt, &mut script, "wiring A");
-    let answer = format!(in alloc; "error {number} {why}\n").expect(rt, "out of memory");
-    check_answer(rt, alloc, lines, script.as_str(), answer.as_str());
-}
-
-/// The same for each row: the lines, and behind `|` why the last is refused, as the answer says it.
-fn check_all_refused(rt: &impl Abort, alloc: Global, before: &str, rows: &str) {
-    for row in rows.lines() {
-        let (lines, why) = parted(rt, row, "|");
-        check_refused(rt, alloc, before, lines, why);
-    }
 }

@@ -6,7 +6,6 @@ ghost use Rattle.network_model.specs.State.{IsPortAt};
 ghost use Rattle.script_run.specs.Replying.{IsAlive};
 
 use super::asking_box::AskingBox;
-use super::examples::{TWO_SERVICES, TWO_SERVICES_OUT};
 use super::{TWO, are_equal, sink, source, text_of, words_of};
 use crate::{Status, play_on};
 use adjacency::Adjacency;
@@ -216,6 +215,86 @@ fn the_boxes_of_a_network_can_be_asked(rt: HostRuntime) {
 fn swift(rt: &impl Abort, alloc: Global) -> Box<SwiftBridge> {
     Box::new(alloc, SwiftBridge::blank(alloc)).expect(rt, "out of memory")
 }
+
+/// The script `examples/two-services.spb`.
+const TWO_SERVICES: &str =
+    "# Four bridges in a ring, and two services, each in a base VID of its own: which ports lead to their members?
+vid 10 1
+vid 20 2
+bridge north 32768 020000000001 00001 2
+bridge east 32768 020000000002 00002 2
+bridge south 32768 020000000003 00003 2
+bridge west 32768 020000000004 00004 2
+link ne north 1 east 2 10
+link es east 1 south 2 10
+link sw south 1 west 2 10
+link wn west 1 north 2 10
+isid 100 10
+isid 200 20
+attach north 1 100
+attach south 1 100
+attach north 2 200
+attach east 1 200
+attach south 2 200
+round 40
+# From north to south service 100 goes over east, and service 200 over west.
+show north
+show east
+path north south 10
+path north south 20
+# East leaves service 200, and the link between north and east fails.
+detach east 1
+down ne
+wiring north
+round 40
+show north
+path north south 10
+path south north 10
+";
+
+/// What stands beside it.
+const TWO_SERVICES_OUT: &str = "show north quiet 6 2
+u 10 020000000002 1
+u 10 020000000003 1
+u 10 020000000004 2
+u 20 020000000002 1
+u 20 020000000003 2
+u 20 020000000004 2
+g 10 030001000064 1
+g 20 0300010000c8 1,2
+show east quiet 6 3
+u 10 020000000001 2
+u 10 020000000003 1
+u 10 020000000004 2
+u 20 020000000001 2
+u 20 020000000003 1
+u 20 020000000004 1
+g 10 030001000064 1
+g 10 030003000064 2
+g 20 0300020000c8 1,2
+path north south 10 20 2 north east south
+path north south 20 20 2 north west south
+wiring north 6 2
+u 10 020000000002 2
+u 10 020000000003 2
+u 10 020000000004 2
+u 20 020000000002 2
+u 20 020000000003 2
+u 20 020000000004 2
+g 10 030001000064 2
+g 20 0300010000c8 2
+show north quiet 6 2
+u 10 020000000002 2
+u 10 020000000003 2
+u 10 020000000004 2
+u 20 020000000002 2
+u 20 020000000003 2
+u 20 020000000004 2
+g 10 030001000064 2
+g 20 0300010000c8 2
+path north south 10 20 2 north west south
+path south north 10 20 2 south west north
+";
 
 /// Asserts that TWO_SERVICES is answered for these words by boxes of a rack.
 fn check_services<B: Bridge>(rt: &impl Abort, alloc: Global, words: &str, rack: Vec<B>) {
