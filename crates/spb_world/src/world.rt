@@ -35,7 +35,7 @@ pub struct World {
     services: IndexMap<Isid, Vid>,
     attached: Attached,
     hints: Hints,
-    kept: Option<Fabric>,
+    fabric: Option<Fabric>,
 }
 
 impl Model for World {
@@ -47,7 +47,7 @@ impl Model for World {
     ghost view = { λ w. record { vids = w.vids.items; bridges = w.bridges.entries; links = w.links.entries; services = w.services.entries; attached = state.by_place w.attached } };
 
     ghost invariant = { λ w. state.Sound (record { vids = w.vids.items; bridges = w.bridges.entries; links = w.links.entries; services = w.services.entries; attached = state.by_place w.attached })
-        × IfSome w.kept (λ fabric. fabric ≡ state.wired_fabric (record { vids = w.vids.items; bridges = w.bridges.entries; links = w.links.entries; services = w.services.entries; attached = state.by_place w.attached }))
+        × IfSome w.fabric (λ fabric. fabric ≡ state.wired_fabric (record { vids = w.vids.items; bridges = w.bridges.entries; links = w.links.entries; services = w.services.entries; attached = state.by_place w.attached }))
         × (length w.bridges.entries ≤ length w.attached) };
 }
 
@@ -75,7 +75,7 @@ impl World {
             services: IndexMap::new(alloc),
             attached: Attached::new(alloc),
             hints: Hints::new(alloc),
-            kept: None,
+            fabric: None,
         }
     }
 
@@ -280,10 +280,10 @@ impl World {
     fn keep_fabric(&mut self, alloc: Global) -> Result<(), NoMemory>
         ensures { self.new ≡ self.old }
     {
-        if self.kept.is_none() {
+        if self.fabric.is_none() {
             let graph = self.graph(alloc)?;
             let roads = Roads::over(alloc, graph)?;
-            self.kept = Some(Fabric::new(alloc, roads, self.vids.as_slice())?);
+            self.fabric = Some(Fabric::new(alloc, roads, self.vids.as_slice())?);
         }
         Ok(())
     }
@@ -295,7 +295,7 @@ impl World {
     {
         self.keep_fabric(alloc)?;
         let me = system_at(&self.bridges, place);
-        match &mut self.kept {
+        match &mut self.fabric {
             None => Ok(()),
             Some(fabric) => fabric.grow_from(alloc, me),
         }
@@ -308,7 +308,7 @@ impl World {
         ensures { IfOk result (λ tables. tables ≡ state.wired_tables self.now place) }
     {
         let me = system_at(&self.bridges, place);
-        match &self.kept {
+        match &self.fabric {
             Some(fabric) => fabric.tables(alloc, me),
             None => {
                 let graph = self.graph(alloc)?;
@@ -486,7 +486,7 @@ impl World {
             vid: Vid { value: vid as u16 },
             ect: ect as u8,
         })?;
-        self.kept = None;
+        self.fabric = None;
         Ok(())
     }
 
@@ -512,7 +512,7 @@ impl World {
             bridge: GraphBridge { id, source },
             ports: ports as u8,
         };
-        self.kept = None;
+        self.fabric = None;
         self.hints.add_bridge()?;
         self.attached.add_bridge()?;
         insert_new(&mut self.bridges, name, bridge)?;
@@ -551,7 +551,7 @@ impl World {
             },
             live: false,
         };
-        self.kept = None;
+        self.fabric = None;
         insert_new(&mut self.links, name, link)?;
         self.hints.note(link.a, place);
         self.hints.note(link.b, place);
@@ -576,7 +576,7 @@ impl World {
         ensures ok { OnOk result (self.new ≡ attaching.with_attachment_at self.old place attachment) }
         ensures err { OnErr result (self.new ≡ self.old) }
     {
-        self.kept = None;
+        self.fabric = None;
         self.attached.attach(place, attachment)?;
         Ok(())
     }
@@ -585,7 +585,7 @@ impl World {
     pub fn detach(&mut self, place: usize, port: u16)
         ensures { self.new ≡ attaching.without_attachment_at self.old place port }
     {
-        self.kept = None;
+        self.fabric = None;
         self.attached.detach(place, port);
     }
 
@@ -593,7 +593,7 @@ impl World {
     pub fn set_live(&mut self, place: usize, on: bool)
         ensures { self.new ≡ declare.with_live on self.old place }
     {
-        self.kept = None;
+        self.fabric = None;
         switch(&mut self.links, place, on);
     }
 
@@ -602,7 +602,7 @@ impl World {
         requires { IsMetric metric }
         ensures { self.new ≡ declare.with_end_metric side metric self.old place }
     {
-        self.kept = None;
+        self.fabric = None;
         set_end_metric(&mut self.links, place, side, metric);
     }
 }
