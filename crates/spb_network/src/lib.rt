@@ -19,10 +19,10 @@
 //! `state` and `show` after it take constant time for it. `show` makes the bridge's tables anew. `wiring` makes them of
 //! the fabric of the wiring (`fdb_build`), which is made at the first such question, and kept with what was searched in
 //! it until a base VID, a bridge, a link, a metric or what is attached changes. `path` makes the graph that the bridge
-//! reads and one tree in it, and looks through the bridges once for each name. An `attach` goes over all that is
-//! attached, once for the customer port and its I-SID and once for each attached port of its bridge, and a `detach`
-//! twice; neither takes memory for that. A `frame` goes over all that is attached once. What leaves at customer ports
-//! takes memory for its place in the answer, and is handed over with it; where nothing leaves, none is taken.
+//! reads and one tree in it, and looks through the bridges once for each name. An `attach` goes over what is attached
+//! at its bridge once, and where 60 ports or more are, once more for each of them, and a `detach` twice; neither takes
+//! memory for that. A `frame` goes over what is attached at its bridge once. What leaves at customer ports takes memory
+//! for its place in the answer, and is handed over with it; where nothing leaves, none is taken.
 #![tactic(auto)]
 
 pub use apply_error::ApplyError;

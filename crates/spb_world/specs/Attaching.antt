@@ -1,6 +1,6 @@
 -- Customer ports: why one can't be attached to a service, or detached, and what is attached after an accepted command
 -- (IEEE 802.1ah, 25.10).
-use Rattle.std.specs.Prelude.{ℕ, List, [], ◌∷◌, ◌++◌, length, map, filter, Bool, not, ◌&&◌, ◌==◌, nat_le, nat_lt, Option, is_some}
+use Rattle.std.specs.Prelude.{ℕ, List, ◌∷◌, ◌++◌, length, map, filter, Bool, not, ◌&&◌, ◌==◌, nat_le, nat_lt, Option, is_some}
 use Rattle.std.specs.List.{AllByRecursion, list_any}
 use Rattle.spb_types.specs.declared.limits.TheConstants.{MOST_CUSTOMER_PORTS, MOST_ISIDS}
 use Rattle.spb_types.specs.declared.service.Attachment.{Attachment}

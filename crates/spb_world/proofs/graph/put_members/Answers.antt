@@ -1,5 +1,4 @@
-use Rattle.std.proofs.Common.{◌++◌, List, map, ap, ◌∙◌, subst}
-use Rattle.spb_types.specs.declared.service.Attachment.{Attachment}
+use Rattle.std.proofs.Common.{◌++◌, List, map, ap, ◌∙◌}
 use Rattle.spb_types.specs.declared.graph.Member.{Member}
 use Rattle.bridge_api.specs.Own.{member_of}
 use Rattle.spb_world.proofs.BoxLemmas.{on_ok}

@@ -1,6 +1,6 @@
-use Rattle.std.proofs.Common.{◌≡◌, List, IfOk, refl, sym, subst}
+use Rattle.std.proofs.Common.{◌≡◌, List, IfOk, refl, subst}
 use Rattle.spb_types.specs.declared.graph.Member.{Member}
-use Rattle.spb_world.specs.World.{World, by_place, world_members}
+use Rattle.spb_world.specs.World.{World, by_place}
 use Rattle.spb_world.proofs.MemberLemmas.{members_are, have_isids}
 use Rattle.spb_world.proofs.world.World.members.Goals as goal
 
