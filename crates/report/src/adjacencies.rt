@@ -4,7 +4,7 @@ ghost use Rattle.std.specs.List.{flat_map};
 ghost use Rattle.report.specs.Adjacencies as texts;
 ghost use Rattle.report.specs.Words.{spaced};
 
-use crate::text::Text;
+use crate::text::{LINE, Text};
 use adjacency::{AdjState, Adjacency};
 use spb_types::{Name, NoMemory};
 use std::alloc::Global;
@@ -16,7 +16,8 @@ use std::alloc::Global;
 pub fn adj_text(alloc: Global, name: Name, ports: &[(Adjacency, bool)]) -> Result<Vec<u8>, NoMemory>
     ensures { IfOk result (λ bytes. bytes.items ≡ texts.adj_text name ports.now) }
 {
-    let mut text = Text::new(alloc);
+    let lines = ports.len().saturating_add(1);
+    let mut text = Text::with_room(alloc, lines.saturating_mul(LINE))?;
     text.push(b"adj")?;
     text.word(name.bytes())?;
     text.number(ports.len() as u64)?;

@@ -4,7 +4,7 @@ ghost use Rattle.std.specs.List.{flat_map};
 ghost use Rattle.report.specs.Database as texts;
 ghost use Rattle.report.specs.Words.{spaced};
 
-use crate::text::Text;
+use crate::text::{LINE, Text};
 use lsdb::{DbRow, Version};
 use spb_types::{LspId, Name, NoMemory};
 use std::alloc::Global;
@@ -16,7 +16,8 @@ use std::alloc::Global;
 pub fn db_text(alloc: Global, name: Name, rows: &[DbRow]) -> Result<Vec<u8>, NoMemory>
     ensures { IfOk result (λ bytes. bytes.items ≡ texts.db_text name rows.now) }
 {
-    let mut text = Text::new(alloc);
+    let lines = rows.len().saturating_add(1);
+    let mut text = Text::with_room(alloc, lines.saturating_mul(LINE))?;
     text.push(b"db")?;
     text.word(name.bytes())?;
     text.number(rows.len() as u64)?;

@@ -4,7 +4,7 @@ ghost use Rattle.std.specs.List.{flat_map};
 ghost use Rattle.report.specs.Lines as texts;
 ghost use Rattle.report.specs.Words.{spaced};
 
-use crate::text::Text;
+use crate::text::{LINE, Text};
 use spb_types::{Name, NoMemory, Vid};
 use std::alloc::Global;
 
@@ -22,7 +22,7 @@ pub fn path_text(
     ensures { IfOk result
         (λ bytes. bytes.items ≡ texts.path_text from to vid.value cost names.now) }
 {
-    let mut text = Text::new(alloc);
+    let mut text = Text::with_room(alloc, LINE)?;
     text.push(b"path")?;
     text.word(from.bytes())?;
     text.word(to.bytes())?;
@@ -57,7 +57,7 @@ fn put_names(text: &mut Text, names: &[Name]) -> Result<(), NoMemory>
 pub fn drops_text(alloc: Global, name: Name, counts: &[u64; 9]) -> Result<Vec<u8>, NoMemory>
     ensures { IfOk result (λ bytes. bytes.items ≡ texts.drops_text name counts.now) }
 {
-    let mut text = Text::new(alloc);
+    let mut text = Text::with_room(alloc, LINE)?;
     text.push(b"drops")?;
     text.word(name.bytes())?;
     put_numbers(&mut text, counts)?;
@@ -79,7 +79,8 @@ fn put_numbers(text: &mut Text, numbers: &[u64]) -> Result<(), NoMemory>
 pub fn out_text(alloc: Global, name: Name, port: u16, frame: &[u8]) -> Result<Vec<u8>, NoMemory>
     ensures { IfOk result (λ bytes. bytes.items ≡ texts.out_text name port frame.now) }
 {
-    let mut text = Text::new(alloc);
+    let digits = frame.len().saturating_mul(2);
+    let mut text = Text::with_room(alloc, digits.saturating_add(LINE))?;
     text.push(b"out")?;
     text.word(name.bytes())?;
     text.number(u64::from(port))?;
@@ -94,7 +95,7 @@ pub fn out_text(alloc: Global, name: Name, port: u16, frame: &[u8]) -> Result<Ve
 pub fn state_text(alloc: Global, failing: &[u8]) -> Result<Vec<u8>, NoMemory>
     ensures { IfOk result (λ bytes. bytes.items ≡ texts.state_text failing.now) }
 {
-    let mut text = Text::new(alloc);
+    let mut text = Text::with_room(alloc, LINE)?;
     text.push(b"state")?;
     put_state(&mut text, failing)?;
     text.end()?;
@@ -134,7 +135,7 @@ pub fn error_text(
 ) -> Result<Vec<u8>, NoMemory>
     ensures { IfOk result (λ bytes. bytes.items ≡ texts.error_text line number name.now column) }
 {
-    let mut text = Text::new(alloc);
+    let mut text = Text::with_room(alloc, LINE)?;
     text.push(b"error")?;
     text.number(u64::from(line))?;
     text.number(u64::from(number))?;
@@ -165,7 +166,7 @@ pub fn try_text(
 ) -> Result<Vec<u8>, NoMemory>
     ensures { IfOk result (λ bytes. bytes.items ≡ texts.try_text bridges lines shows same outs) }
 {
-    let mut text = Text::new(alloc);
+    let mut text = Text::with_room(alloc, LINE)?;
     text.push(b"try")?;
     text.number(u64::from(bridges))?;
     put_count(&mut text, b"lines", lines)?;

@@ -26,6 +26,9 @@ impl Model for Text {
     ghost view = { λ t. t.bytes.items };
 }
 
+/// Room for a line of most answers, in bytes.
+pub(crate) const LINE: usize = 64;
+
 /// The hexadecimal digits, in lower case.
 static HEX_DIGITS: [u8; 16] = *b"0123456789abcdef";
 
@@ -38,15 +41,6 @@ fn hex_digit(value: u8) -> u8
 }
 
 impl Text {
-    /// The empty text, which takes no memory.
-    pub(crate) fn new(alloc: Global) -> Self
-        ensures { result ≡ [] }
-    {
-        Text {
-            bytes: Vec::new(alloc),
-        }
-    }
-
     /// The empty text, with room for this many bytes.
     pub(crate) fn with_room(alloc: Global, bytes: usize) -> Result<Self, NoMemory>
         ensures { IfOk result (λ text. text ≡ []) }
