@@ -112,7 +112,13 @@ const BACK: LaneId = LaneId {
 };
 
 /// Asserts how many frames stand in both directions of the second link, and which lane is the first that isn't empty.
-fn check_lanes(rt: &impl Abort, lanes: &Lanes, there: usize, back: usize, first: Option<LaneId>) {
+fn check_lanes(
+    rt: &impl Abort,
+    lanes: &mut Lanes,
+    there: usize,
+    back: usize,
+    first: Option<LaneId>,
+) {
     are_equal(rt, &lanes.frames(THERE), &there);
     are_equal(rt, &lanes.frames(BACK), &back);
     are_equal(rt, &lanes.first_full(), &first);
@@ -146,15 +152,15 @@ fn lose_in(lanes: &mut Lanes, id: LaneId, k: usize) {
 fn frames_stand_in_the_lane_of_their_link_and_direction(rt: HostRuntime) {
     let mut lanes = two_links(&rt, rt.alloc());
     push_to(&rt, rt.alloc(), &mut lanes, BACK, 7);
-    check_lanes(&rt, &lanes, 0, 1, Some(BACK));
+    check_lanes(&rt, &mut lanes, 0, 1, Some(BACK));
     push_to(&rt, rt.alloc(), &mut lanes, THERE, 8);
     push_to(&rt, rt.alloc(), &mut lanes, THERE, 9);
     double_in(&rt, &mut lanes, THERE, 1);
     lose_in(&mut lanes, THERE, 0);
-    check_lanes(&rt, &lanes, 2, 1, Some(THERE));
+    check_lanes(&rt, &mut lanes, 2, 1, Some(THERE));
     check_taken(&rt, &mut lanes, THERE, &[9]);
     lanes.flush(1);
-    check_lanes(&rt, &lanes, 0, 0, None);
+    check_lanes(&rt, &mut lanes, 0, 0, None);
     check_taken(&rt, &mut lanes, BACK, &[]);
 }
 

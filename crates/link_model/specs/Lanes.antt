@@ -1,5 +1,5 @@
 -- The lanes of a network: two for each link, in order of declaration.
-use Rattle.std.specs.Prelude.{ℕ, ◌+◌, List, [], ◌∷◌, length, nat_lt, Option, Some, None, slice_get, if◌then◌else◌}
+use Rattle.std.specs.Prelude.{◌≡◌, ℕ, ◌+◌, ◌<◌, List, [], ◌∷◌, length, nat_lt, Option, Some, None, slice_get, if◌then◌else◌}
 use Rattle.std.specs.Option.{option_map_or, option_and_then, option_or}
 use Rattle.spb_types.specs.declared.link.Dir.{Dir}
 use Rattle.spb_types.specs.declared.link.Dir.TheVariants.{Ab, Ba}
@@ -52,3 +52,7 @@ full_at lanes k = option_and_then (full_in k) (slice_get lanes k)
 abbrev pub first_full_from : ℕ → List LinkLanes → Option LaneId
 first_full_from k [] = None
 first_full_from k (lanes ∷ more) = option_or (full_in k lanes) (first_full_from (k + 1) more)
+
+-- the lanes of the links before place n are empty
+abbrev pub AreIdle : ℕ → List LinkLanes → Type 0
+AreIdle n lanes = (k : ℕ) → k < n → full_at lanes k ≡ None

@@ -6,7 +6,7 @@ use Rattle.link_model.specs.declared.lanes.LinkLanes.{LinkLanes}
 use Rattle.link_model.specs.declared.lanes.LaneId.{LaneId}
 use Rattle.link_model.specs.contracts.lane.Lane as lane
 use Rattle.link_model.specs.contracts.lanes.LinkLanes as pair
-use Rattle.link_model.specs.contracts.lanes.Lanes as all
+use Rattle.link_model.specs.contracts.all_lanes.AllLanes as all
 use Rattle.link_model.specs.Lane.{Frame}
 use Rattle.link_model.specs.Lanes.{with_lane, changed_frames}
 

@@ -1,13 +1,13 @@
 //! The lanes of all links, two for each, by the place of the link.
-ghost use Rattle.std.specs.Prelude.{◌≡◌, [], ◌∷◌, ◌++◌, length, OnOk, OnErr, slice_get};
-ghost use Rattle.std.specs.Option.{option_map};
+ghost use Rattle.std.specs.Prelude.{◌≡◌, [], ◌∷◌, ◌++◌, length, is_none, OnOk, OnErr, slice_get};
 ghost use Rattle.std.specs.Borrow.{sem};
 ghost use Rattle.spb_types.specs.Places.{changed_at};
 ghost use Rattle.link_model.specs.Lane.{pushed, after_lose, after_double};
-ghost use Rattle.link_model.specs.Lanes.{lane_in, lane_of, rest, no_frames, changed_frames, full_at, first_full_from};
-ghost use Rattle.link_model.specs.Lending.{LendsLane, LendsLaneAt};
+ghost use Rattle.link_model.specs.Lanes.{lane_in, lane_of, rest, no_frames, changed_frames, first_full_from};
+ghost use Rattle.link_model.specs.Lending.{LendsLane};
 
-use crate::{DoubleError, Lane};
+use crate::Lane;
+use crate::all_lanes::AllLanes;
 use shared_frames::Frame;
 use spb_types::{Dir, NoMemory};
 use std::alloc::Global;
@@ -31,7 +31,7 @@ pub struct LinkLanes {
 
 impl LinkLanes {
     /// Two empty lanes, which take no memory.
-    fn new(alloc: Global) -> Self
+    pub(crate) fn new(alloc: Global) -> Self
         ensures { result ≡ no_frames }
     {
         LinkLanes {
@@ -41,7 +41,7 @@ impl LinkLanes {
     }
 
     /// The lane of a direction.
-    fn lane(&self, dir: Dir) -> &Lane
+    pub(crate) fn lane(&self, dir: Dir) -> &Lane
         ensures { result.now ≡ lane_in dir self.now }
     {
         match dir {
@@ -51,7 +51,7 @@ impl LinkLanes {
     }
 
     /// Both lanes lose their frames.
-    fn flush(&mut self)
+    pub(crate) fn flush(&mut self)
         ensures { self.new ≡ no_frames }
     {
         self.ab.flush();
@@ -59,7 +59,7 @@ impl LinkLanes {
     }
 
     /// The lane of a direction, to be changed.
-    fn lane_mut(&mut self, dir: Dir) -> &mut Lane
+    pub(crate) fn lane_mut(&mut self, dir: Dir) -> &mut Lane
         ensures* writes_back { sem 𝓛 (LendsLane self.entry dir result) }
         ensures lane { result.now ≡ lane_in dir self.old }
     {
@@ -74,16 +74,21 @@ impl LinkLanes {
 /// Contracts see the list of each link's two lanes.
 #[derive(Debug, Drop)]
 pub struct Lanes {
-    links: Vec<LinkLanes>,
+    all: AllLanes,
+    /// The lanes of the links before this place are empty, so that none looks for a frame there.
+    idle: usize,
 }
 
 impl Model for Lanes {
     ghost use Rattle.std.specs.Prelude.{List};
     ghost use Rattle.link_model.specs.declared.lanes.LinkLanes.{LinkLanes};
+    ghost use Rattle.link_model.specs.Lanes.{AreIdle};
 
     ghost Value = { List LinkLanes };
 
-    ghost view = { λ lanes. lanes.links.items };
+    ghost view = { λ lanes. lanes.all };
+
+    ghost invariant = { λ lanes. AreIdle lanes.idle lanes.all };
 }
 
 impl Lanes {
@@ -92,7 +97,8 @@ impl Lanes {
         ensures { result ≡ [] }
     {
         Lanes {
-            links: Vec::new(alloc),
+            all: AllLanes::new(alloc),
+            idle: 0,
         }
     }
 
@@ -100,7 +106,7 @@ impl Lanes {
     pub fn links(&self) -> usize
         ensures { result ≡ length self.now }
     {
-        self.links.len()
+        self.all.links()
     }
 
     /// Two empty lanes for one link more. After NoMemory nothing changed.
@@ -108,29 +114,15 @@ impl Lanes {
         ensures ok { OnOk result (self.new ≡ self.old ++ no_frames ∷ []) }
         ensures err { OnErr result (self.new ≡ self.old) }
     {
-        let lanes = LinkLanes::new(*self.links.allocator());
-        self.links.push(lanes)?;
-        Ok(())
+        self.idle = 0;
+        self.all.add_link()
     }
 
     /// How many frames stand in a lane.
     pub fn frames(&self, id: LaneId) -> usize
         ensures { result ≡ length (lane_of self.now id.link id.dir) }
     {
-        match self.links.get(id.link) {
-            None => 0,
-            Some(lanes) => lanes.lane(id.dir).len(),
-        }
-    }
-
-    /// The lane of an id, to be changed. None exactly where its link has none.
-    fn lane_mut(&mut self, id: LaneId) -> Option<&mut Lane>
-        ensures* writes_back { sem 𝓛 (LendsLaneAt self.entry id result) }
-        ensures lane { option_map (λ lane. lane.now) result
-            ≡ option_map (lane_in id.dir) (slice_get self.old id.link) }
-    {
-        let lanes = self.links.get_mut(id.link)?;
-        Some(lanes.lane_mut(id.dir))
+        self.all.frames(id)
     }
 
     /// A frame goes into a lane. It is lost where 1,024 frames stand. After NoMemory nothing changed.
@@ -139,13 +131,8 @@ impl Lanes {
             ≡ changed_frames (λ frames. pushed frames frame) self.old id.link id.dir) }
         ensures err { OnErr result (self.new ≡ self.old) }
     {
-        match self.lane_mut(id) {
-            None => Ok(()),
-            Some(lane) => {
-                let _pushed = lane.push(frame)?;
-                Ok(())
-            }
-        }
+        self.idle = self.idle.min(id.link);
+        self.all.push(id, frame)
     }
 
     /// Takes the frame at the front of a lane. None exactly where there is none.
@@ -153,22 +140,16 @@ impl Lanes {
         ensures frame { result ≡ slice_get (lane_of self.old id.link id.dir) 0 }
         ensures rest { self.new ≡ changed_frames rest self.old id.link id.dir }
     {
-        match self.lane_mut(id) {
-            None => None,
-            Some(lane) => lane.pop(),
-        }
+        self.idle = self.idle.min(id.link);
+        self.all.pop(id)
     }
 
     /// The frame at a place of a lane, counted from 0 at the front, is lost. Nothing happens where there is none.
     pub fn lose(&mut self, id: LaneId, place: usize)
         ensures { self.new ≡ changed_frames (λ frames. after_lose frames place) self.old id.link id.dir }
     {
-        match self.lane_mut(id) {
-            None => {}
-            Some(lane) => {
-                let _lost = lane.lose(place);
-            }
-        }
+        self.idle = self.idle.min(id.link);
+        self.all.lose(id, place);
     }
 
     /// The frame at a place of a lane, counted from 0 at the front, is doubled: it stands right behind itself once more,
@@ -178,49 +159,32 @@ impl Lanes {
             ≡ changed_frames (λ frames. after_double frames place (slice_get frames place)) self.old id.link id.dir) }
         ensures err { OnErr result (self.new ≡ self.old) }
     {
-        match self.lane_mut(id) {
-            None => Ok(()),
-            Some(lane) => match lane.double(place) {
-                Ok(()) => Ok(()),
-                Err(DoubleError::NoFrame) => Ok(()),
-                Err(DoubleError::NoMemory) => Err(NoMemory),
-            },
-        }
+        self.idle = self.idle.min(id.link);
+        self.all.double(id, place)
     }
 
     /// Both lanes of the link at a place lose their frames.
     pub fn flush(&mut self, link: usize)
         ensures { self.new ≡ changed_at (λ _. no_frames) self.old link }
     {
-        if let Some(lanes) = self.links.get_mut(link) {
-            lanes.flush();
-        }
+        self.idle = self.idle.min(link);
+        self.all.flush(link);
     }
 
-    /// The lane of the link at a place that isn't empty, ab before ba. None exactly where both are empty.
-    fn full_at(&self, link: usize) -> Option<LaneId>
-        ensures { result ≡ full_at self.now link }
+    /// The first lane that isn't empty, in order of declaration, ab before ba. None exactly where all are empty. Where it
+    /// was looked for before, none looks again at the empty lanes before it.
+    pub fn first_full(&mut self) -> Option<LaneId>
+        ensures lane { result ≡ first_full_from 0 self.old }
+        ensures same { self.new ≡ self.old }
     {
-        let ab = LaneId { link, dir: Dir::Ab };
-        if self.frames(ab) > 0 {
-            return Some(ab);
-        }
-        let ba = LaneId { link, dir: Dir::Ba };
-        if self.frames(ba) > 0 {
-            return Some(ba);
-        }
-        None
+        self.idle = self.all.first_busy(self.idle);
+        self.all.full_at(self.idle)
     }
 
-    /// The first lane that isn't empty, in order of declaration, ab before ba. None exactly where all are empty.
-    pub fn first_full(&self) -> Option<LaneId>
-        ensures { result ≡ first_full_from 0 self.now }
+    /// Whether every lane is empty.
+    pub fn are_empty(&self) -> bool
+        ensures { result ≡ is_none (first_full_from 0 self.now) }
     {
-        for link in 0..self.links.len() {
-            if let Some(id) = self.full_at(link) {
-                return Some(id);
-            }
-        }
-        None
+        self.all.full_at(self.all.first_busy(self.idle)).is_none()
     }
 }

@@ -1,11 +1,10 @@
+use Rattle.std.proofs.Common.{arith}
 use Rattle.link_model.specs.Lane.{after_lose}
-use Rattle.link_model.proofs.LaneLemmas.{lent-lane, lent-none, frames-set, frames-none}
+use Rattle.link_model.specs.Lanes.{changed_lane}
+use Rattle.link_model.proofs.IdleLemmas.{idle-as}
 use Rattle.link_model.proofs.lanes.Lanes.lose.Goals as goal
 
-pub returns-in-None : goal.returns-in-None
-returns-in-None c =
-    let all = c.args.self.now in let k = c.args.id.link in let dir = c.args.id.dir in frames-none (λ frames. after_lose frames c.args.place) all k dir (lent-none all k dir c.lane_mut.result c.lane_mut.ensures.lane c.in-None.is)
-
-pub returns-in-Some : goal.returns-in-Some
-returns-in-Some c =
-    let all = c.args.self.now in let k = c.args.id.link in let dir = c.args.id.dir in frames-set (λ frames. after_lose frames c.args.place) all k dir c.in-Some.lane.now _ (lent-lane all k dir c.lane_mut.result c.in-Some.lane c.lane_mut.ensures.lane c.in-Some.is) c.lose-lost.ensures.frames
+pub invariant_of-self : goal.invariant_of-self
+invariant_of-self c =
+    idle-as (changed_lane c.args.id.dir (λ frames. after_lose frames c.args.place)) c.self.inside.all c.lose.new.self c.self.inside.idle c.args.id.link c.min-self-inside.result
+    (omega (arith, c.min-self-inside.ensures)) (omega (arith, c.min-self-inside.ensures)) c.lose.ensures c.self.invariant

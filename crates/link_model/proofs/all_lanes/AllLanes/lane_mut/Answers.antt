@@ -2,7 +2,7 @@ use Rattle.std.proofs.Common.{◌≡◌, Some, slice_get, refl, sym, ap, ◌∙�
 use Rattle.std.specs.Option.{option_map}
 use Rattle.spb_types.proofs.Places.{set-is, lent}
 use Rattle.link_model.specs.Lanes.{lane_in, with_lane, changed_lane}
-use Rattle.link_model.proofs.lanes.Lanes.lane_mut.Goals as goal
+use Rattle.link_model.proofs.all_lanes.AllLanes.lane_mut.Goals as goal
 
 -- what is left behind the lane is put back into the lanes of its link, and these into the list of all
 pub returns : goal.returns
