@@ -16,7 +16,7 @@ use Rattle.ect_trees.specs.Path.{cost_of}
 use Rattle.ect_trees.specs.Best.{best_of}
 use Rattle.ect_trees.specs.Tree.{Paths, GivesBest}
 use Rattle.ect_trees.specs.Arcs.{IsBridgeAt}
-use Rattle.ect_trees.specs.Ways.{step_at, place_before, bridge_at, way_back, way_to, AreWays, HasHops}
+use Rattle.ect_trees.specs.Ways.{step_at, place_before, hops_or, bridge_at, way_back, way_to, AreWays, HasHops}
 use Rattle.ect_trees.specs.Followers.{after_in, place_or_end, place_after, IsFollower, FollowsOnWay, FollowsInTree}
 use Rattle.ect_trees.proofs.Among.{same_is, same_self, among_right}
 use Rattle.ect_trees.proofs.Walks.{path_distinct}
@@ -152,11 +152,23 @@ follower_none r steps me to none e all = λ from a m x w here at.
     let place = place_is r.graph to x w.ready.valid at in
     all ∙ (w.places ∙ ap (place_after r.graph m) (sym (ap (λ i. option_map (λ (s : Step). way_back r.graph a steps s.hops i) (step_at steps i)) place ∙ ap (option_map (λ (s : Step). way_back r.graph a steps s.hops to)) e)))
 
--- back at the source
-pub follower_end : (r : Mesh) (steps : List (Option Step)) (me to left place none : ℕ) (s : Step) → step_at steps to ≡ Some s → FollowsBack r steps me s.hops to left place → left ≡ 0 → none ≡ length steps → FollowsOnWay r steps me to none
+-- where no way to m has fewer hops than this one, nothing follows m on it
+nothing_after : (r : Mesh) (from : ℕ) (a : SystemId) (steps : List (Option Step)) → AreWays r from a steps → (n place me : ℕ) (m : SystemId) → IsBridgeAt r.graph me m → HasHops steps n place → ((t : Step) → step_at steps me ≡ Some t → n ≤ t.hops) → after_in m (way_back r.graph a steps n place) ≡ None
+nothing_after r from a steps w zero place me m here h high = refl
+nothing_after r from a steps w (suc n) place me m here h high =
+    let k = prior r from a steps w n place h in
+    let other : place_before steps place ≢ me = λ e. absurd (omega (arith, high k.0 (ap (step_at steps) (sym e) ∙ k.1), k.2)) in
+    let apart = not_m r from a steps w (place_before steps place) me n m here k other in
+    after_one r from a steps w n place m h
+    ∙ (ap (λ t. if t then Some (bridge_at r.graph a place) else after_in m (way_back r.graph a steps n (place_before steps place))) apart
+    ∙ nothing_after r from a steps w n (place_before steps place) me m here k (λ t e. omega (arith, high t e)))
+
+-- as far back as m can stand
+pub follower_end : (r : Mesh) (steps : List (Option Step)) (me to left place none : ℕ) (s : Step) → step_at steps to ≡ Some s → FollowsBack r steps me s.hops to left place → left ≤ hops_or (step_at steps me) s.hops → none ≡ length steps → FollowsOnWay r steps me to none
 follower_end r steps me to left place none s there f end all = λ from a m x w here at.
     let was = f from a m w here (s, there, refl) in
-    let nothing : after_in m (way_back r.graph a steps s.hops to) ≡ None = was.1 ∙ ap (λ t. after_in m (way_back r.graph a steps t place)) end in
+    let high : (t : Step) → step_at steps me ≡ Some t → left ≤ t.hops = λ t e. subst (λ o. left ≤ hops_or o s.hops) e end in
+    let nothing : after_in m (way_back r.graph a steps s.hops to) ≡ None = was.1 ∙ nothing_after r from a steps w left place me m here was.0 high in
     all ∙ (w.places ∙ (ap (place_or_end r.graph) (sym nothing) ∙ ap (place_after r.graph m) (sym (way_is r from a steps w to s x there at))))
 
 -- at a place behind m

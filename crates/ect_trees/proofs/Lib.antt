@@ -36,5 +36,6 @@ pub mod Chained
 pub mod Compared
 pub mod Tried
 pub mod Followed
+pub mod ReadBack
 pub mod Kept
 pub mod Keeping

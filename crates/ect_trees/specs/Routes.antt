@@ -1,7 +1,8 @@
 -- The best paths from a bridge, as they are kept.
-use Rattle.std.specs.Prelude.{◌≡◌, ℕ, Bool, true, false, List, Option, ◌==◌, ◌&&◌, ◌||◌}
+use Rattle.std.specs.Prelude.{◌≡◌, ℕ, Bool, true, false, List, Option, option_map, ◌==◌, ◌&&◌, ◌||◌}
 use Rattle.spb_types.specs.declared.address.SystemId.{SystemId}
 use Rattle.spb_types.specs.declared.graph.Graph.{Graph}
+use Rattle.spb_types.specs.declared.tables.Path.{Path}
 use Rattle.ect_trees.specs.declared.mesh.Mesh.{Mesh}
 use Rattle.ect_trees.specs.declared.routes.Form.{Form}
 use Rattle.ect_trees.specs.declared.routes.Routes.{Routes}
@@ -10,7 +11,8 @@ use Rattle.ect_trees.specs.declared.ways.Step.{Step}
 use Rattle.ect_trees.specs.Arcs.{IsBridgeAt}
 use Rattle.ect_trees.specs.Best.{best_of}
 use Rattle.ect_trees.specs.Followers.{IsFollowerAt}
-use Rattle.ect_trees.specs.Tree.{GivesBest}
+use Rattle.ect_trees.specs.Path.{cost_of}
+use Rattle.ect_trees.specs.Tree.{GivesBest, best_path}
 use Rattle.ect_trees.specs.Trial.{Covers}
 use Rattle.ect_trees.specs.Ways.{way_to, AreWays}
 
@@ -52,3 +54,13 @@ serve t from mask = (t.from == from) && ((t.mask == mask) || is_for_all_masks t.
 abbrev pub LeadBy : Graph → Routes → ℕ → ℕ → ℕ → Type 0
 LeadBy g t me to place = (from mask : ℕ)
     → AreRoutes g t → serve t from mask ≡ true → IsFollowerAt g mask from me to place
+
+-- this is the path from a to x, with its cost, on the way there, if there is one
+abbrev pub IsPathOnWay : Graph → SystemId → List (Option Step) → SystemId → Option Path → Type 0
+IsPathOnWay g a steps x path = (r : Mesh) (from : ℕ) → r.graph ≡ g → AreWays r from a steps
+    → path ≡ option_map (λ p. record { cost = cost_of g p; bridges = p }) (way_to g a steps x)
+
+-- on routes of the graph, this is the best path from a to x, under each mask under which they serve
+abbrev pub PathBy : Graph → Routes → SystemId → SystemId → Option Path → Type 0
+PathBy g t a x path = (from mask : ℕ)
+    → AreRoutes g t → serve t from mask ≡ true → IsBridgeAt g from a → path ≡ best_path g mask a x

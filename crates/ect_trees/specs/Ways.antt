@@ -24,6 +24,11 @@ before_of (Some s) = s.before
 abbrev pub place_before : List (Option Step) → ℕ → ℕ
 place_before steps place = before_of (step_at steps place)
 
+-- the number of hops of a way, or most where there is none
+abbrev pub hops_or : Option Step → ℕ → ℕ
+hops_or None most = most
+hops_or (Some s) most = s.hops
+
 -- the bridge at a place, a past the last
 abbrev pub bridge_at : Graph → SystemId → ℕ → SystemId
 bridge_at g a place = slice_index_or (systems_of g.bridges) place a

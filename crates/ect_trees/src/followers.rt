@@ -7,6 +7,7 @@ ghost use Rattle.ect_trees.specs.declared.mesh.Mesh.{Mesh};
 ghost use Rattle.ect_trees.specs.Arcs.{AreReady};
 ghost use Rattle.ect_trees.specs.Followers as followers;
 ghost use Rattle.ect_trees.specs.Search.{path_of};
+ghost use Rattle.ect_trees.specs.Ways as ways;
 
 use crate::mesh::Mesh;
 use crate::search::Label;
@@ -15,7 +16,18 @@ use crate::ways::{Step, place_before, step_at};
 use spb_types::{NoMemory, SystemId};
 use std::alloc::Global;
 
-/// The place that directly follows that of `me` on the way to another, or the number of places where none does.
+/// The number of hops of the way to a place, or `most` where none leads there.
+fn hops_to(steps: &[Option<Step>], place: usize, most: usize) -> usize
+    ensures { result ≡ ways.hops_or (ways.step_at steps.now place) most }
+{
+    match step_at(steps, place) {
+        None => most,
+        Some(step) => step.hops,
+    }
+}
+
+/// The place that directly follows that of `me` on the way to another, or the number of places where none does. The way
+/// is walked back as far as `me` can stand, by the hops of the way there.
 pub(crate) fn follower(steps: &[Option<Step>], me: usize, to: usize) -> usize
     ensures { (r : Mesh) → followers.FollowsOnWay r steps.now me to result }
 {
@@ -23,9 +35,10 @@ pub(crate) fn follower(steps: &[Option<Step>], me: usize, to: usize) -> usize
     let Some(step) = step_at(steps, to) else {
         return none;
     };
+    let least = hops_to(steps, me, step.hops);
     let mut place = to;
     let mut left = step.hops;
-    while left > 0 {
+    while left > least {
         let before = place_before(steps, place);
         if before == me {
             return place;

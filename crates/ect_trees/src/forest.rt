@@ -1,14 +1,18 @@
 //! The best paths in one graph, from some of its bridges and under some masks.
 ghost use Rattle.std.specs.Prelude.{◌≡◌, ◌<◌, ℕ, [], true, false, length, All, IfOk, IsOk, OnOk};
 ghost use Rattle.std.specs.Option.{option_copied};
+ghost use Rattle.spb_types.specs.declared.address.SystemId.{SystemId};
 ghost use Rattle.spb_types.specs.declared.graph.Graph.{Graph};
+ghost use Rattle.ect_trees.specs.Arcs.{IsBridgeAt};
 ghost use Rattle.ect_trees.specs.Followers.{IsFollowerAt};
 ghost use Rattle.ect_trees.specs.Forest as forest;
+ghost use Rattle.ect_trees.specs.Tree.{best_path};
 
 use crate::followers::follower_anew;
 use crate::roads::Roads;
 use crate::routes::{Routes, routes_from};
-use spb_types::NoMemory;
+use crate::tree::tree_over;
+use spb_types::{NoMemory, Path, SystemId};
 use std::alloc::Global;
 use std::marker::Model;
 
@@ -111,5 +115,27 @@ impl Forest {
         let bridges = mesh.graph.bridges.as_slice();
         let (source, system) = (bridges[from].id.system, bridges[me].id.system);
         follower_anew(alloc, mesh, source, mask, system, to)
+    }
+    /// The best path under a mask from the bridge at a place to another, with its cost (IEEE 802.1aq, 28.5 to 28.8).
+    /// None exactly where there is no path. Where the paths are kept, it is read back from their steps; else they are
+    /// searched for this answer alone.
+    pub fn path(
+        &self,
+        alloc: Global,
+        from: usize,
+        mask: u8,
+        to: SystemId,
+    ) -> Result<Option<Path>, NoMemory>
+        requires { from < length self.now.graph.bridges }
+        ensures { IfOk result (λ path. (a : SystemId)
+            → IsBridgeAt self.now.graph from a → path ≡ best_path self.now.graph mask a to) }
+    {
+        let mesh = self.roads.mesh();
+        let source = mesh.graph.bridges.as_slice()[from].id.system;
+        if let Some(routes) = kept(self.rows.as_slice(), from, mask) {
+            return routes.path_to(alloc, mesh, source, to);
+        }
+        let tree = tree_over(alloc, mesh, source, mask)?;
+        tree.path_to(alloc, to)
     }
 }

@@ -22,9 +22,11 @@
 //! and each arc once, with ids only where cost and hops tie. Where it isn't right, whole paths are searched, and those
 //! are kept. So a source and a mask cost a search once: two looks at each arc, and a look at each bridge that waits for
 //! each that is settled. Where no path ties with another, the routes serve under every mask. [`Forest::follower`] then
-//! takes a look at the routes that are kept from its source, and the hops of one way, without memory; where no routes
-//! serve, it searches whole paths for that answer alone. [`Roads::follower_by`] reads the same off a tree that is kept
-//! ([`Trees`]): it takes the hops of one path, and a look-up for the bridge that follows.
+//! takes a look at the routes that are kept from its source, and the hops of one way, without memory, which it walks back
+//! no further than the bridge that is followed can stand; where no routes serve, it searches whole paths for that answer
+//! alone. [`Forest::path`] reads a whole path back from the same routes, in time and memory of its hops.
+//! [`Roads::follower_by`] reads the bridge that follows off a tree that is kept ([`Trees`]): it takes the hops of one
+//! path, and a look-up for that bridge.
 //!
 //! Whether a path with one arc more is better than another is asked of [`Search::better`], over [`Roads::mesh`].
 #![tactic(auto)]
@@ -45,6 +47,7 @@ mod index;
 mod key;
 pub mod laws;
 mod mesh;
+mod paths;
 mod repair;
 mod roads;
 mod routes;

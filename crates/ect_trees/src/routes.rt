@@ -7,10 +7,11 @@ ghost use Rattle.ect_trees.specs.Routes as routes;
 use crate::followers::{follower, follower_in};
 use crate::guess::guessed;
 use crate::mesh::Mesh;
+use crate::paths::path_by;
 use crate::tree::{Tree, tree_over};
 use crate::trial::{Verdict, verdict_of};
 use crate::ways::{Step, Ways};
-use spb_types::{NoMemory, SystemId};
+use spb_types::{NoMemory, Path, SystemId};
 use std::alloc::Global;
 
 /// How best paths are kept: by the last step of each, with the verdict on these steps; or whole.
@@ -94,6 +95,23 @@ impl Routes {
                 let system = mesh.graph.bridges.as_slice()[me].id.system;
                 follower_in(mesh, tree, system, to)
             }
+        }
+    }
+
+    /// The path to a bridge from the source, with its cost. None exactly where there is none.
+    pub fn path_to(
+        &self,
+        alloc: Global,
+        mesh: &Mesh,
+        source: SystemId,
+        to: SystemId,
+    ) -> Result<Option<Path>, NoMemory>
+        requires { IsValid mesh.now.graph }
+        ensures { IfOk result (routes.PathBy mesh.now.graph self.now source to) }
+    {
+        match &self.form {
+            Form::Steps(steps, _) => path_by(alloc, mesh, source, steps.as_slice(), to),
+            Form::Whole(tree) => tree.path_to(alloc, to),
         }
     }
 }

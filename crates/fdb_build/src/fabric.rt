@@ -1,8 +1,11 @@
 //! A graph made ready for the tables of all its bridges.
-ghost use Rattle.std.specs.Prelude.{◌≡◌, ◌<◌, length, IfOk, OnOk};
+ghost use Rattle.std.specs.Prelude.{◌≡◌, ◌<◌, ◌≤◌, length, IfOk, OnOk};
 ghost use Rattle.std.specs.List.{AllByRecursion};
+ghost use Rattle.spb_types.specs.declared.limits.TheConstants.{GREATEST_ECT};
+ghost use Rattle.spb_types.specs.Ect.{mask_of};
 ghost use Rattle.spb_types.specs.Graph.{IsValid, IsValidFor};
 ghost use Rattle.ect_trees.specs.Forest.{KeepsStill};
+ghost use Rattle.ect_trees.specs.Tree.{best_path};
 ghost use Rattle.fdb_build.specs.Fabric as fabric;
 ghost use Rattle.fdb_build.specs.Layout.{IsPlanned};
 ghost use Rattle.fdb_build.specs.Tables.{ArePlans};
@@ -13,21 +16,24 @@ use crate::layout::{Layout, Planned};
 use crate::searches::Grown;
 use crate::tables::tables_with;
 use ect_trees::{Forest, Roads};
-use spb_types::{Graph, NoMemory, SystemId, Tables, VidPlan, ect_mask};
+use spb_types::limits::GREATEST_ECT;
+use spb_types::{Graph, NoMemory, Path, SystemId, Tables, VidPlan, ect_mask};
 use std::alloc::Global;
 use std::marker::Model;
 
 /// A graph with its base VIDs, made ready once for the tables of all its bridges: its bridges and its services in
-/// order, the best paths from each bridge that sends to a service, and those that were needed besides. Contracts see
-/// the graph and the base VIDs.
+/// order, and the best paths that were needed. Contracts see the graph and the base VIDs.
 #[derive(Drop)]
 pub struct Fabric {
     forest: Forest,
     vids: Vec<VidPlan>,
     layout: Layout,
+    /// Whether the best paths from each bridge that sends to a service are kept.
+    has_senders: bool,
 }
 
 impl Model for Fabric {
+    ghost use Rattle.std.specs.Prelude.{◌≡◌, true};
     ghost use Rattle.spb_types.specs.Graph.{IsValid};
     ghost use Rattle.std.specs.List.{AllByRecursion};
     ghost use Rattle.fdb_build.specs.Fabric.{FabricView, KeepsSenders};
@@ -40,7 +46,7 @@ impl Model for Fabric {
 
     ghost invariant = { λ f. IsValid f.forest.graph × ArePlans f.vids.items
         × IsLayoutOf f.forest.graph f.vids.items f.layout
-        × AllByRecursion (KeepsSenders f.forest) f.layout.plans.items };
+        × (f.has_senders ≡ true → AllByRecursion (KeepsSenders f.forest) f.layout.plans.items) };
 }
 
 /// Searches the best paths from each bridge that sends to a service of a plan, under the mask of the plan.
@@ -98,12 +104,11 @@ impl Fabric {
         ensures { IfOk result (λ fabric. fabric ≡ record { graph = roads; vids = vids.now }) }
     {
         let layout = Layout::new(alloc, &roads, vids)?;
-        let mut forest = Forest::new(alloc, roads)?;
-        grow_all(alloc, &mut forest, layout.plans.as_slice())?;
         Ok(Fabric {
-            forest,
+            forest: Forest::new(alloc, roads)?,
             vids: Vec::from_slice(alloc, vids)?,
             layout,
+            has_senders: false,
         })
     }
 
@@ -122,13 +127,53 @@ impl Fabric {
         self.vids.as_slice()
     }
 
-    /// Searches the best paths from a bridge, from which its unicast rows are read, unless they are kept.
+    /// Searches the best paths from each bridge that sends to a service, unless they are kept.
+    fn grow_to_members(&mut self, alloc: Global) -> Result<(), NoMemory>
+        ensures { self.new ≡ self.old }
+    {
+        if !self.has_senders {
+            grow_all(alloc, &mut self.forest, self.layout.plans.as_slice())?;
+            self.has_senders = true;
+        }
+        Ok(())
+    }
+
+    /// Searches the best paths from which the tables of a bridge are read, unless they are kept: those from each bridge
+    /// that sends to a service, for its group rows, and those from the bridge itself, for its unicast rows.
     pub fn grow_from(&mut self, alloc: Global, me: SystemId) -> Result<(), NoMemory>
         ensures { self.new ≡ self.old }
     {
+        self.grow_to_members(alloc)?;
         match self.forest.roads().place_of(me) {
             None => Ok(()),
             Some(place) => grow_under(alloc, &mut self.forest, place, self.layout.plans.as_slice()),
+        }
+    }
+
+    /// The best path from a bridge to another by an ECT algorithm, with its cost. None exactly where there is no path.
+    /// The best paths from the first are searched, unless they are kept.
+    pub fn path(
+        &mut self,
+        alloc: Global,
+        me: SystemId,
+        to: SystemId,
+        ect: u8,
+    ) -> Result<Option<Path>, NoMemory>
+        requires low { 1 ≤ ect }
+        requires high { ect ≤ GREATEST_ECT }
+        ensures same { self.new ≡ self.old }
+        ensures path { IfOk result (λ path. path ≡ best_path self.old.graph (mask_of ect) me to) }
+    {
+        let mask = ect_mask(ect);
+        match self.forest.roads().place_of(me) {
+            None => {
+                let tree = self.forest.roads().tree(alloc, me, mask)?;
+                tree.path_to(alloc, to)
+            }
+            Some(place) => {
+                self.forest.grow(alloc, place, mask)?;
+                self.forest.path(alloc, place, mask, to)
+            }
         }
     }
 

@@ -2,10 +2,11 @@
 //!
 //! A [`Fabric`] is a graph with its base VIDs, made ready once for the tables of all its bridges. The bridges are
 //! sorted by address, and for each base VID the members are gathered: the services of each source, by its place in the
-//! graph, and the places of each service's receivers, in a map. Then the best paths from each bridge that sends are
-//! searched once under the mask of each VID in which it sends; where no two paths to a bridge tie in cost and hops, one
-//! search serves for all masks. [`Fabric::grow_from`] searches the paths from a bridge whose tables are wanted. All
-//! these are kept.
+//! graph, and the places of each service's receivers, in a map. [`Fabric::grow_from`] searches what the tables of a
+//! bridge are read from: once the best paths from each bridge that sends, under the mask of each VID in which it sends,
+//! and those from the bridge itself; where no two paths to a bridge tie in cost and hops, one search serves for all
+//! masks. All these are kept. [`Fabric::path`] reads a path back from those of the bridge where it begins, which it
+//! searches if they aren't kept, and no others.
 //!
 //! [`Fabric::tables`] makes no search where the paths are kept. The ports of the bridge towards its neighbours are put
 //! at their places. For each VID the unicast rows then take one way back for each bridge of the graph; the group rows

@@ -1,5 +1,5 @@
-use Rattle.std.proofs.Common.{◌≡◌, ◌≢◌, ◌+◌, ◌-◌, length, refl, sym, ◌∙◌, subst, arith}
-use Rattle.ect_trees.specs.Ways.{place_before}
+use Rattle.std.proofs.Common.{◌≡◌, ◌≢◌, ◌≤◌, ◌+◌, ◌-◌, length, Some, refl, sym, ◌∙◌, subst, arith}
+use Rattle.ect_trees.specs.Ways.{step_at, place_before, hops_or}
 use Rattle.ect_trees.proofs.Followed.{FollowsBack, follows_none, follows_more, follower_none, follower_end, follower_found}
 use Rattle.ect_trees.proofs.followers.follower.Goals as goal
 
@@ -29,12 +29,17 @@ pub returns-then-before-me : goal.returns-then-before-me
 returns-then-before-me c =
     let i = c.loop-left.invariant in
     λ r.
-    follower_found r c.args.steps.now c.args.me c.args.to c.loop-left.left c.loop-left.place i.0 i.1 (i.2 r) c.loop-left-test.true
+    follower_found r c.args.steps.now c.args.me c.args.to c.loop-left.left c.loop-left.place i.0 i.1 (i.2 r) (omega (arith, c.loop-left-test.true))
     (sym c.place_before-before.ensures ∙ c.if-before-me.true)
 
 pub returns : goal.returns
 returns c =
     let i = c.loop-left.invariant in
-    let end : c.loop-left.left ≡ 0 = omega (arith, c.loop-left-test.false) in
+    let steps = c.args.steps.now in
+    let told : Some i.0 ≡ Some c.in-Some.step = sym i.1 ∙ (sym c.step_at.ensures ∙ c.in-Some.is) in
+    let same : i.0 ≡ c.in-Some.step = cc in
+    let end : c.loop-left.left ≤ hops_or (step_at steps c.args.me) i.0.hops =
+    subst (λ t. c.loop-left.left ≤ hops_or (step_at steps c.args.me) t.hops) (sym same)
+    (subst (λ n. c.loop-left.left ≤ n) c.hops_to-least.ensures (omega (arith, c.loop-left-test.false))) in
     λ r.
-    follower_end r c.args.steps.now c.args.me c.args.to c.loop-left.left c.loop-left.place (length c.args.steps.now) i.0 i.1 (i.2 r) end refl
+    follower_end r steps c.args.me c.args.to c.loop-left.left c.loop-left.place (length steps) i.0 i.1 (i.2 r) end refl
