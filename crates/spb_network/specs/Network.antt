@@ -1,13 +1,8 @@
 -- What a network of boxes is the state of.
-use Rattle.std.specs.Prelude.{◌≡◌, ℕ, List, length, map, true, false, Some, slice_get}
+use Rattle.std.specs.Prelude.{◌≡◌, ℕ, List, map, true, false, Some, slice_get}
 use Rattle.std.specs.List.{AllByRecursion}
 use Rattle.bridge_api.specs.Shown.{Shown, views_of}
-use Rattle.spb_types.specs.declared.service.Attachment.{Attachment}
-use Rattle.bridge_api.specs.View.{BridgeView, IsPort}
-use Rattle.bridge_api.specs.Services.{CanAttach, IsAttachedPort}
 use Rattle.spb_network.specs.declared.network.NetworkOf.{NetworkOf}
-use Rattle.spb_world.specs.declared.declaration.DeclaredBridge.{DeclaredBridge}
-use Rattle.spb_world.specs.World.{things_of}
 use Rattle.network_model.specs.State.{Spare, State, Fits}
 
 module _ {B : Type 0} (shown : B → Shown) where

@@ -120,7 +120,7 @@ impl<B: Bridge> NetworkOf<B> {
     fn are_lanes_empty(&self) -> bool
         ensures { result ≡ holds_q2 (state_of B.shown self.now) }
     {
-        self.lanes.first_full().is_none()
+        self.lanes.are_empty()
     }
 
     /// Whether no bridge has a flag.

@@ -1,5 +1,6 @@
 //! Many events: rounds, and deliveries until all lanes are empty.
 ghost use Rattle.std.specs.Prelude.{◌≡◌, OnOk};
+ghost use Rattle.link_model.specs.Lanes.{first_full_from};
 ghost use Rattle.network_model.specs.Events as event;
 ghost use Rattle.spb_network.specs.Network.{state_of, IsInOrder};
 
@@ -86,6 +87,16 @@ impl<B: Bridge> NetworkOf<B> {
         self.serve_all()
     }
 
+    /// The first lane that isn't empty.
+    fn first_full(&mut self) -> Option<LaneId>
+        requires { IsInOrder B.shown self.old }
+        ensures lane { result ≡ first_full_from 0 (state_of B.shown self.old).lanes }
+        ensures state { state_of B.shown self.new ≡ state_of B.shown self.old }
+        ensures order { IsInOrder B.shown self.new }
+    {
+        self.lanes.first_full()
+    }
+
     /// At most so many deliveries, each from the first lane that isn't empty.
     pub(crate) fn play_drain(&mut self, n: u32) -> Result<(), NoMemory>
         requires { IsInOrder B.shown self.old }
@@ -94,7 +105,7 @@ impl<B: Bridge> NetworkOf<B> {
         ensures order { OnOk result (IsInOrder B.shown self.new) }
     {
         for _ in 0..n {
-            let Some(lane) = self.lanes.first_full() else {
+            let Some(lane) = self.first_full() else {
                 return Ok(());
             };
             self.deliver(lane)?;
