@@ -13,7 +13,7 @@ use Rattle.spb_types.specs.declared.graph.Graph.{Graph}
 use Rattle.spb_types.specs.declared.tables.Tables.{Tables}
 use Rattle.spb_types.specs.declared.tables.Path.{Path}
 use Rattle.spb_types.specs.Ect.{mask_of}
-use Rattle.ect_trees.specs.Tree.{Paths, path_in, best_path, GivesBest}
+use Rattle.ect_trees.specs.Tree.{best_path}
 use Rattle.spb_types.specs.Graph.{IsDistinct, IsValidFor}
 use Rattle.spb_tlvs.specs.Capability.{IsTree}
 use Rattle.spb_content.specs.Graph.{Contents, systems_in, HasOwnPorts}
@@ -149,11 +149,11 @@ unfolding own_path
 path_found v to vid plan (Ok path) planned is = is ∙ sym (ap (option_and_then (λ p. best_path (read_graph v) (mask_of p.ect) v.id.system to)) planned)
 path_found v to vid plan (Err e) planned is = is
 
--- the path that a tree gives, where the graph is what was read
-pub path_of_tree : {E : Type 0} (v : BridgeView) (g : Graph) (mask : ℕ) (to : SystemId) (tree : Paths) (r : Result (Option Path) E) → g ≡ read_graph v → GivesBest g mask v.id.system tree
-    → IfOk r (λ path. path ≡ path_in tree.paths to) → IfOk r (λ path. path ≡ best_path (read_graph v) mask v.id.system to)
-path_of_tree v g mask to tree (Ok path) graph gives is = is ∙ (gives.best to ∙ ap (λ (h : Graph). best_path h mask v.id.system to) graph)
-path_of_tree v g mask to tree (Err e) graph gives is = is
+-- a path in the graph that was read
+pub path_read : {E : Type 0} (v : BridgeView) (g : Graph) (mask : ℕ) (to : SystemId) (r : Result (Option Path) E) → g ≡ read_graph v
+    → IfOk r (λ path. path ≡ best_path g mask v.id.system to) → IfOk r (λ path. path ≡ best_path (read_graph v) mask v.id.system to)
+path_read v g mask to (Ok path) graph is = is ∙ ap (λ (h : Graph). best_path h mask v.id.system to) graph
+path_read v g mask to (Err e) graph is = is
 
 -- whether the bridge is failed says nothing of its paths
 path_unfailed : (failed : Bool) (v : BridgeView) (to : SystemId) (vid : Vid) → own_path v to vid ≡ own_path (record v { failed = failed }) to vid

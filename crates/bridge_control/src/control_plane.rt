@@ -21,7 +21,7 @@ use crate::kept_tables::copy_of;
 use crate::machine::Machine;
 use crate::parsing::is_customer;
 use crate::ports::port_at;
-use crate::shared_reading::Reading;
+use crate::shared::SharedReading;
 use adjacency::Adjacency;
 use bridge_api::{BridgeConfig, DropReason, Outbox};
 use lsdb::Held;
@@ -45,6 +45,8 @@ pub struct ControlPlane {
     machine: Machine,
     /// The tables, where they were made since what is held last changed.
     tables: Option<Tables>,
+    /// What is read from the LSPs, where bridges share it.
+    shared: Option<SharedReading>,
 }
 
 impl Model for ControlPlane {
@@ -63,8 +65,8 @@ impl Model for ControlPlane {
 }
 
 impl ControlPlane {
-    /// A control plane that isn't configured. It keeps the allocator, and takes no memory.
-    pub fn blank(alloc: Global) -> Self
+    /// A control plane that isn't configured, and shares what it reads from its LSPs, or doesn't.
+    fn idle(alloc: Global, shared: Option<SharedReading>) -> Self
         ensures blank { result.blank ≡ true }
         ensures failed { result.view.failed ≡ false }
     {
@@ -73,7 +75,24 @@ impl ControlPlane {
             failed: false,
             machine: Machine::idle(alloc),
             tables: None,
+            shared,
         }
+    }
+
+    /// A control plane that isn't configured. It keeps the allocator, and takes no memory.
+    pub fn blank(alloc: Global) -> Self
+        ensures blank { result.blank ≡ true }
+        ensures failed { result.view.failed ≡ false }
+    {
+        ControlPlane::idle(alloc, None)
+    }
+
+    /// The same, of a bridge that shares with others what it reads from its LSPs.
+    pub fn sharing(alloc: Global, shared: SharedReading) -> Self
+        ensures blank { result.blank ≡ true }
+        ensures failed { result.view.failed ≡ false }
+    {
+        ControlPlane::idle(alloc, Some(shared))
     }
 
     /// Whether `configure` was never called.
@@ -286,8 +305,8 @@ impl ControlPlane {
         self.machine.drops.of(reason)
     }
 
-    /// The tables of the bridge: a copy of those that are kept, or, where none are, made anew from the LSPs that it
-    /// holds (IEEE 802.1aq, 8.8 and 28.10).
+    /// The tables of the bridge: a copy of those that are kept, or, where none are, made from the LSPs that it holds
+    /// (IEEE 802.1aq, 8.8 and 28.10).
     pub fn tables(&self) -> Result<Tables, NoMemory>
         requires { self.now.blank ≡ false }
         ensures tables { IfOk result (λ t. t ≡ own_tables self.now.view) }
@@ -296,7 +315,7 @@ impl ControlPlane {
         self.refuse_failed()?;
         match &self.tables {
             Some(kept) => copy_of(self.machine.alloc, kept),
-            None => self.machine.tables(),
+            None => self.machine.tables(self.shared.as_ref()),
         }
     }
 
@@ -310,7 +329,7 @@ impl ControlPlane {
         self.refuse_failed()?;
         match &self.tables {
             Some(kept) => Ok(unicast_of(kept, vid, mac)),
-            None => Ok(unicast_of(&self.machine.tables()?, vid, mac)),
+            None => Ok(unicast_of(&self.machine.tables(self.shared.as_ref())?, vid, mac)),
         }
     }
 
@@ -324,7 +343,7 @@ impl ControlPlane {
         self.refuse_failed()?;
         match &self.tables {
             Some(kept) => Ok(group_of(kept, vid, mac)),
-            None => Ok(group_of(&self.machine.tables()?, vid, mac)),
+            None => Ok(group_of(&self.machine.tables(self.shared.as_ref())?, vid, mac)),
         }
     }
 
@@ -336,7 +355,7 @@ impl ControlPlane {
         ensures failed { self.now.view.failed ≡ true → IsErr result }
     {
         self.refuse_failed()?;
-        self.machine.path(to, vid)
+        self.machine.path(self.shared.as_ref(), to, vid)
     }
 
     /// The id of the bridge.
@@ -365,17 +384,15 @@ impl ControlPlane {
         self.machine.graph()
     }
 
-    /// The same graph, made ready for tables: what is kept, if the bridge holds what that was read of and has its base
-    /// VIDs, and else what it reads anew.
-    pub fn reading(&self, kept: Option<Reading>) -> Result<Reading, NoMemory>
+    /// Whether tables and paths are asked of this bridge alone, again and again: it was the last of those that share what
+    /// they read to use that, and reads something else now. So it is, too, where it shares nothing.
+    pub fn is_asked_alone(&self) -> bool
         requires { self.now.blank ≡ false }
-        ensures reading { IfOk result (λ r.
-            r ≡ record { graph = read_graph self.now.view; vids = self.now.view.vids }) }
-        ensures valid { IfOk result (λ r. IsValidFor r.graph self.now.view.id.system) }
-        ensures failed { self.now.view.failed ≡ true → IsErr result }
     {
-        self.refuse_failed()?;
-        self.machine.reading(kept)
+        match &self.shared {
+            None => true,
+            Some(shared) => self.machine.has_changed_since(shared),
+        }
     }
 
     /// The tables that are kept, if some are.

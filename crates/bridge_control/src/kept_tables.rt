@@ -18,7 +18,7 @@ impl Machine {
     {
         match kept {
             Some(tables) => Ok(tables),
-            None => self.tables(),
+            None => self.tables(None),
         }
     }
 }

@@ -6,8 +6,8 @@
 //! tables, while they are kept. What the machine makes of a frame stands in `hearing`, of a change at a port in
 //! `changing`, of a customer port that is attached or detached in `attaching`, of a customer's frame in `customers`, and
 //! of a second in `ticking`; what a frame brings in `parsing`, in `heard` for the hello that came last to a port, and in
-//! `held_lsp` for an LSP that is held; what is sent in `hello`, `made` and `sending`, and the tables in `reading`,
-//! `kept_tables` and, for those that bridges share, `shared_reading`.
+//! `held_lsp` for an LSP that is held; what is sent in `hello`, `made` and `sending`, and tables and paths in `reading`,
+//! `kept_tables`, `shared_reading` for what they are made of, and `shared` for the place where bridges share it.
 //!
 //! # A kind of bridge
 //!
@@ -20,9 +20,9 @@
 //!    proof. One that changes what the tables are read from forgets those that are kept.
 //! 3. A kind that makes its tables in its own way asks before it forwards a frame whether this is sent on by tables
 //!    (`needs_tables`) and none are kept (`kept_tables`). Then it makes them, from the `graph` of all that the bridge
-//!    reads, its `id` and its `vids`, or from a `reading`, and gives them to the control plane (`keep_tables`), which
-//!    sends the frame on by them. Where it finds no memory for them it marks the control plane failed (`fail`). It
-//!    answers questions about tables by those that are kept, or by its own.
+//!    reads, its `id` and its `vids`, or takes those of what bridges share (`tables`), and gives them to the control
+//!    plane (`keep_tables`), which sends the frame on by them. Where it finds no memory for them it marks the control
+//!    plane failed (`fail`). It answers questions about tables by those that are kept, or by its own.
 //!
 //! # Costs
 //!
@@ -58,18 +58,19 @@
 //!   say takes (`spb_content`), and the tables in it (`fdb_build`). They are kept over frames of both kinds, over what is
 //!   dropped, and over a hello that only begins the holding count anew. Any other call and frame forgets them, also where
 //!   the LSPs that are held stay as they are.
-//! - With `reading`, what was read of the same LSPs is taken over: each live LSP that is held is compared with those that
-//!   were read, in time of their bytes and with no memory. Only where one differs, or the base VIDs do, is the graph read
-//!   and made ready for tables anew.
+//! - Where bridges share what they read ([`SharedReading`]), what was read of the same LSPs is taken over: each live LSP
+//!   that is held is compared with those that were read, in time of their bytes and with no memory. Only where one
+//!   differs, or the base VIDs do, is the graph read and made ready for tables anew.
 //! - A frame of either kind takes a few look-ups in the tables, which go over their rows, besides what `forwarding`
 //!   says.
 //! - `tables` copies those that are kept, and `unicast_port` and `group_ports` look in them. Where none are kept, each
-//!   makes them for its one answer. `path` makes the graph and one tree in it (`ect_trees`), and copies one path.
+//!   makes them for its one answer, of what is shared. So does `path`: of what is shared it searches the best paths from
+//!   the bridge under one mask, unless they are kept, and reads one back (`ect_trees`).
 //! - No call copies the database.
 #![tactic(auto)]
 
 pub use control_plane::ControlPlane;
-pub use shared_reading::Reading;
+pub use shared::SharedReading;
 
 mod attaching;
 mod changing;
@@ -86,5 +87,6 @@ mod parsing;
 mod ports;
 mod reading;
 mod sending;
+mod shared;
 mod shared_reading;
 mod ticking;

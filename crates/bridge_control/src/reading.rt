@@ -15,12 +15,11 @@ ghost use Rattle.bridge_api.specs.Laws.{IsSoundView};
 ghost use Rattle.bridge_control.specs.Machine.{view_of};
 
 use crate::machine::Machine;
-use ect_trees::tree_from;
-use fdb_build::tables_of;
+use crate::shared::{SharedReading, keep_in, take_from};
 use lsdb::{Database, Held, Version};
 use spb_content::{Content, read_content, said_graph_of};
 use spb_types::limits::GREATEST_ECT;
-use spb_types::{Graph, LspId, NoMemory, Path, SystemId, Tables, Vid, VidPlan, ect_mask};
+use spb_types::{Graph, LspId, NoMemory, Path, SystemId, Tables, Vid, VidPlan};
 use std::alloc::Global;
 
 /// The TLVs of a body, which follow its flags octet (ISO/IEC 10589, 9.8).
@@ -103,13 +102,15 @@ impl Machine {
         said_graph_of(self.alloc, list.as_slice())
     }
 
-    /// The tables of the bridge in that graph.
-    pub(crate) fn tables(&self) -> Result<Tables, NoMemory>
+    /// The tables of the bridge in that graph. Where bridges share what they read, that is taken over if it is the same.
+    pub(crate) fn tables(&self, shared: Option<&SharedReading>) -> Result<Tables, NoMemory>
         requires { IsSoundView (view_of self.now) }
         ensures { IfOk result (λ t. t ≡ own_tables (view_of self.now)) }
     {
-        let graph = self.graph()?;
-        tables_of(self.alloc, &graph, self.id.system, self.vids.as_slice())
+        let mut reading = self.reading(take_from(shared))?;
+        let tables = reading.tables(self.alloc, self.id.system);
+        keep_in(shared, reading, self.id.system);
+        tables
     }
 
     /// What is planned for a VID. None exactly where the VID isn't configured.
@@ -120,27 +121,38 @@ impl Machine {
     }
 
     /// The best path of the bridge to a system by an ECT algorithm, in that graph. None exactly where there is none.
-    fn path_by(&self, to: SystemId, ect: u8) -> Result<Option<Path>, NoMemory>
+    fn path_by(
+        &self,
+        shared: Option<&SharedReading>,
+        to: SystemId,
+        ect: u8,
+    ) -> Result<Option<Path>, NoMemory>
         requires sound { IsSoundView (view_of self.now) }
         requires low { 1 ≤ ect }
         requires high { ect ≤ GREATEST_ECT }
         ensures { IfOk result (λ path.
             path ≡ best_path (read.read_graph (view_of self.now)) (mask_of ect) self.now.id.system to) }
     {
-        let graph = self.graph()?;
-        let tree = tree_from(self.alloc, &graph, self.id.system, ect_mask(ect))?;
-        tree.path_to(self.alloc, to)
+        let mut reading = self.reading(take_from(shared))?;
+        let path = reading.path(self.alloc, self.id.system, to, ect);
+        keep_in(shared, reading, self.id.system);
+        path
     }
 
     /// The best path of the bridge to a system in a VID, in that graph. None exactly where there is none, or where the
-    /// VID isn't configured.
-    pub(crate) fn path(&self, to: SystemId, vid: Vid) -> Result<Option<Path>, NoMemory>
+    /// VID isn't configured; then nothing is read.
+    pub(crate) fn path(
+        &self,
+        shared: Option<&SharedReading>,
+        to: SystemId,
+        vid: Vid,
+    ) -> Result<Option<Path>, NoMemory>
         requires { IsSoundView (view_of self.now) }
         ensures { IfOk result (λ path. path ≡ own_path (view_of self.now) to vid) }
     {
         match self.plan(vid) {
             None => Ok(None),
-            Some(plan) => self.path_by(to, plan.ect),
+            Some(plan) => self.path_by(shared, to, plan.ect),
         }
     }
 }

@@ -1,9 +1,12 @@
 //! What bridges that hold the same LSPs can share: the graph that they read, made ready for their tables.
-ghost use Rattle.std.specs.Prelude.{◌≡◌, ◌++◌, map, true, false, None, Some, Decides, IfOk, OnOk, IsTrue};
+ghost use Rattle.std.specs.Prelude.{◌≡◌, ◌≤◌, ◌++◌, map, true, false, None, Some, Decides, IfOk, OnOk, IsTrue};
 ghost use Rattle.std.specs.List.{filter_map};
 ghost use Rattle.std.specs.Option.{option_to_list};
 ghost use Rattle.std.specs.FinMap.{entries};
+ghost use Rattle.spb_types.specs.declared.limits.TheConstants.{GREATEST_ECT};
+ghost use Rattle.spb_types.specs.Ect.{mask_of};
 ghost use Rattle.spb_types.specs.Graph.{IsValidFor};
+ghost use Rattle.ect_trees.specs.Tree.{best_path};
 ghost use Rattle.lsdb.specs.Database.{keyed};
 ghost use Rattle.fdb_build.specs.Groups.{group_rows};
 ghost use Rattle.fdb_build.specs.Tables.{unicast_rows};
@@ -14,11 +17,13 @@ ghost use Rattle.bridge_control.specs.Reading as reading;
 
 use crate::machine::Machine;
 use crate::reading::{contents, is_originated};
+use crate::shared::SharedReading;
 use ect_trees::Roads;
 use fdb_build::Fabric;
 use lsdb::{Database, Held, Version};
 use spb_content::said_graph_of;
-use spb_types::{NoMemory, SystemId, Tables, VidPlan};
+use spb_types::limits::GREATEST_ECT;
+use spb_types::{NoMemory, Path, SystemId, Tables, VidPlan};
 use std::alloc::Global;
 use std::marker::Model;
 
@@ -49,8 +54,7 @@ impl Model for Reading {
 }
 
 impl Reading {
-    /// The tables of a bridge in the graph. The best paths from the bridge, from which its unicast rows are read, are
-    /// searched, unless they are kept.
+    /// The tables of a bridge in the graph. The best paths from which they are read are searched, unless they are kept.
     pub fn tables(&mut self, alloc: Global, me: SystemId) -> Result<Tables, NoMemory>
         requires { IsValidFor self.old.graph me }
         ensures same { self.new ≡ self.old }
@@ -61,6 +65,23 @@ impl Reading {
     {
         self.fabric.grow_from(alloc, me)?;
         self.fabric.tables(alloc, me)
+    }
+
+    /// The best path of a bridge to a system by an ECT algorithm, in the graph. None exactly where there is none. The
+    /// best paths from the bridge are searched, unless they are kept.
+    pub fn path(
+        &mut self,
+        alloc: Global,
+        me: SystemId,
+        to: SystemId,
+        ect: u8,
+    ) -> Result<Option<Path>, NoMemory>
+        requires low { 1 ≤ ect }
+        requires high { ect ≤ GREATEST_ECT }
+        ensures same { self.new ≡ self.old }
+        ensures path { IfOk result (λ path. path ≡ best_path self.old.graph (mask_of ect) me to) }
+    {
+        self.fabric.path(alloc, me, to, ect)
     }
 }
 
@@ -168,5 +189,18 @@ impl Machine {
             return Ok(reading);
         }
         self.read_anew()
+    }
+    /// Whether the bridge was the last to use what is shared, and reads something else now.
+    pub(crate) fn has_changed_since(&self, shared: &SharedReading) -> bool {
+        if !shared.was_used_by(self.id.system) {
+            return false;
+        }
+        let Some(reading) = shared.take() else {
+            return false;
+        };
+        let same = are_same(reading.fabric.vids(), self.vids.as_slice())
+            && are_held(&self.db, reading.lsps.as_slice());
+        shared.keep(reading, self.id.system);
+        !same
     }
 }

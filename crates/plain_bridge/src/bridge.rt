@@ -1,11 +1,9 @@
-//! The plain bridge: its calls, forwarded to its control plane, and its tables, made of what bridges share.
-ghost use Rattle.std.specs.Prelude.{◌≡◌, true, false, IfOk, IsErr, OnOk, OnErr};
-ghost use Rattle.bridge_api.specs.Tables.{own_tables};
+//! The plain bridge: its calls, forwarded to its control plane.
+ghost use Rattle.std.specs.Prelude.{◌≡◌, true, false, OnOk, OnErr};
 
-use crate::shared::SharedReading;
 use adjacency::Adjacency;
 use bridge_api::{Bridge, BridgeConfig, DropReason, Kind, Outbox};
-use bridge_control::ControlPlane;
+use bridge_control::{ControlPlane, SharedReading};
 use lsdb::Held;
 use spb_types::{Isid, Mac, NoMemory, Path, PortSet, SystemId, Tables, Vid};
 use std::alloc::Global;
@@ -15,8 +13,6 @@ use std::marker::Model;
 #[derive(Drop)]
 pub struct PlainBridge {
     control: ControlPlane,
-    alloc: Global,
-    shared: Option<SharedReading>,
 }
 
 impl Model for PlainBridge {
@@ -44,48 +40,16 @@ impl PlainBridge {
     {
         PlainBridge {
             control: ControlPlane::blank(alloc),
-            alloc,
-            shared: None,
         }
     }
 
-    /// The same, of a bridge that shares with others what its tables are made of.
+    /// The same, of a bridge that shares with others what its tables and paths are made of.
     pub fn sharing(alloc: Global, shared: SharedReading) -> Self
         ensures blank { result.blank ≡ true }
         ensures failed { result.view.failed ≡ false }
     {
         PlainBridge {
-            control: ControlPlane::blank(alloc),
-            alloc,
-            shared: Some(shared),
-        }
-    }
-
-    /// The tables of the bridge in the graph that it reads, or that another has read of the same LSPs.
-    fn tables_with(&self, shared: &SharedReading) -> Result<Tables, NoMemory>
-        requires made { self.now.blank ≡ false }
-        requires unfailed { self.now.view.failed ≡ false }
-        ensures { IfOk result (λ t. t ≡ own_tables self.now.view) }
-    {
-        let me = self.control.id().system;
-        let mut reading = self.control.reading(shared.take())?;
-        let tables = reading.tables(self.alloc, me);
-        shared.keep(reading);
-        tables
-    }
-
-    /// The tables of the bridge: those that are kept, or, where none are, made of what bridges share.
-    fn made_tables(&self) -> Result<Tables, NoMemory>
-        requires { self.now.blank ≡ false }
-        ensures tables { IfOk result (λ t. t ≡ own_tables self.now.view) }
-        ensures failed { self.now.view.failed ≡ true → IsErr result }
-    {
-        if self.control.is_failed() {
-            return Err(NoMemory);
-        }
-        match &self.shared {
-            Some(shared) if self.control.kept_tables().is_none() => self.tables_with(shared),
-            _ => self.control.tables(),
+            control: ControlPlane::sharing(alloc, shared),
         }
     }
 
@@ -100,7 +64,7 @@ impl PlainBridge {
         if self.control.kept_tables().is_some() {
             return Ok(());
         }
-        match self.made_tables() {
+        match self.control.tables() {
             Ok(tables) => {
                 self.control.keep_tables(tables);
                 Ok(())
@@ -189,7 +153,7 @@ impl Bridge for PlainBridge {
     }
 
     fn tables(&self) -> Result<Tables, NoMemory> {
-        self.made_tables()
+        self.control.tables()
     }
 
     fn unicast_port(&self, vid: Vid, mac: Mac) -> Result<Option<u8>, NoMemory> {

@@ -1,8 +1,8 @@
 //! What bridges have read, and share.
-use bridge_control::Reading;
-use spb_types::NoMemory;
+use crate::shared_reading::Reading;
+use spb_types::{NoMemory, SystemId};
 use std::alloc::Global;
-use std::cell::RefCell;
+use std::cell::{Cell, RefCell};
 use std::rc::Rc;
 
 /// A place for what one of some bridges read last. Where several hold the same LSPs, as in a quiet network, the graph is
@@ -11,6 +11,8 @@ use std::rc::Rc;
 #[derive(Drop)]
 pub struct SharedReading {
     kept: Rc<RefCell<Option<Reading>>>,
+    /// The bridge that kept it there.
+    user: Rc<Cell<Option<SystemId>>>,
 }
 
 impl SharedReading {
@@ -18,6 +20,7 @@ impl SharedReading {
     pub fn new(alloc: Global) -> Result<Self, NoMemory> {
         Ok(SharedReading {
             kept: Rc::new(alloc, RefCell::new(None))?,
+            user: Rc::new(alloc, Cell::new(None))?,
         })
     }
 
@@ -25,7 +28,13 @@ impl SharedReading {
     pub fn share(&self) -> Result<Self, NoMemory> {
         Ok(SharedReading {
             kept: self.kept.clone()?,
+            user: self.user.clone()?,
         })
+    }
+
+    /// Whether this bridge was the last to use what is there.
+    pub(crate) fn was_used_by(&self, system: SystemId) -> bool {
+        self.user.get() == Some(system)
     }
 
     /// Takes out what is there.
@@ -33,8 +42,24 @@ impl SharedReading {
         self.kept.try_replace(None).unwrap_or(None)
     }
 
-    /// Keeps what was read there.
-    pub(crate) fn keep(&self, reading: Reading) {
+    /// Keeps there what a bridge has used.
+    pub(crate) fn keep(&self, reading: Reading, user: SystemId) {
         let _ = self.kept.try_replace(Some(reading));
+        self.user.set(Some(user));
+    }
+}
+
+/// Takes out what is shared, if anything is.
+pub(crate) fn take_from(shared: Option<&SharedReading>) -> Option<Reading> {
+    match shared {
+        None => None,
+        Some(place) => place.take(),
+    }
+}
+
+/// Keeps what a bridge has used for those that share it, if any do.
+pub(crate) fn keep_in(shared: Option<&SharedReading>, reading: Reading, user: SystemId) {
+    if let Some(place) = shared {
+        place.keep(reading, user);
     }
 }
