@@ -39,7 +39,8 @@ pub record IsChanged (old : Kept) (e : Edge) (present : Bool) (new : Kept) : Typ
   pub masks_are : new.masks ≡ old.masks
   pub can : new.failed ≡ false
 
--- at most each label of each tree is computed anew, and none where the cost between the ends of the edge stays as it is
+-- the count of labels rises by at most one for each label of each tree, and not where the cost between the ends of the
+-- edge stays as it is
 pub record IsCounted (old : Kept) (e : Edge) (present : Bool) (new : Kept) : Type 0 where
   pub few : new.relabelled ≤ old.relabelled
       + length old.masks * (length old.graph.bridges * length old.graph.bridges)

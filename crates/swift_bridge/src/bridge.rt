@@ -10,7 +10,7 @@ ghost use Rattle.swift_bridge.specs.Lent.{Rests};
 use crate::following::{masks_of, trees_of};
 use adjacency::Adjacency;
 use bridge_api::{Bridge, BridgeConfig, DropReason, Kind, Outbox};
-use bridge_control::ControlPlane;
+use bridge_control::{ControlPlane, SharedReading};
 use fdb_build::tables_by;
 use fork_trees::TreeSet;
 use lsdb::Held;
@@ -69,6 +69,27 @@ impl SwiftBridge {
         }
     }
 
+    /// The same, of a bridge that shares with others what its tables and paths are made of, while it keeps no trees.
+    pub fn sharing(alloc: Global, shared: SharedReading) -> Self
+        ensures blank { result.blank ≡ true }
+        ensures failed { result.view.failed ≡ false }
+    {
+        SwiftBridge {
+            control: ControlPlane::sharing(alloc, shared),
+            alloc,
+            kept: RefCell::new(None),
+            shown: None,
+        }
+    }
+
+    /// Whether trees are kept.
+    fn keeps_trees(&self) -> bool {
+        match self.kept.try_borrow() {
+            Ok(kept) => kept.is_some(),
+            Err(_) => false,
+        }
+    }
+
     /// The trees that are kept, which are taken out.
     fn take_kept(&self) -> Option<TreeSet> {
         self.kept.try_replace(None).unwrap_or(None)
@@ -99,14 +120,11 @@ impl SwiftBridge {
     }
 
     /// The tables of the bridge, made by its trees, which are kept.
-    fn made_tables(&self) -> Result<Tables, NoMemory>
-        requires { self.now.blank ≡ false }
-        ensures tables { IfOk result (λ t. t ≡ own_tables self.now.view) }
-        ensures failed { self.now.view.failed ≡ true → IsErr result }
+    fn tables_by_trees(&self) -> Result<Tables, NoMemory>
+        requires made { self.now.blank ≡ false }
+        requires unfailed { self.now.view.failed ≡ false }
+        ensures { IfOk result (λ t. t ≡ own_tables self.now.view) }
     {
-        if self.control.is_failed() {
-            return Err(NoMemory);
-        }
         let graph = self.control.graph()?;
         if let Some(trees) = &self.shown {
             return self.tables_in(&graph, trees);
@@ -115,6 +133,23 @@ impl SwiftBridge {
         let tables = self.tables_in(&graph, &trees);
         let _ = self.kept.try_replace(Some(trees));
         tables
+    }
+
+    /// The tables of the bridge: by its trees where some are there, and where it alone is asked again and again; and
+    /// else by what bridges share.
+    fn made_tables(&self) -> Result<Tables, NoMemory>
+        requires { self.now.blank ≡ false }
+        ensures tables { IfOk result (λ t. t ≡ own_tables self.now.view) }
+        ensures failed { self.now.view.failed ≡ true → IsErr result }
+    {
+        if self.control.is_failed() {
+            return Err(NoMemory);
+        }
+        let has_trees = self.shown.is_some() || self.keeps_trees();
+        if has_trees || self.control.is_asked_alone() {
+            return self.tables_by_trees();
+        }
+        self.control.tables()
     }
 
     /// The trees of the bridge as it is now.
