@@ -25,7 +25,7 @@ fn played<S: Source, K: Sink>(
     let shared = SharedReading::new(alloc)?;
     for _ in 0..BOXES {
         rack.push(Box::new(alloc, PlainBridge::sharing(alloc, shared.share()?))?)?;
-        rack.push(Box::new(alloc, SwiftBridge::blank(alloc))?)?;
+        rack.push(Box::new(alloc, SwiftBridge::sharing(alloc, shared.share()?))?)?;
     }
     Ok(played_on(alloc, words, rack, source, sink))
 }
