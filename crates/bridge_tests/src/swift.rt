@@ -6,7 +6,7 @@ use bridge_api::{Bridge, Kind};
 use spb_types::NoMemory;
 use std::alloc::Global;
 use std::process::Abort;
-use swift_bridge::SwiftBridge;
+use swift_bridge::{SharedReading, SwiftBridge};
 
 /// What the trees of a bridge say: of how many bridges they are, the cost of the one edge, and how many labels were
 /// computed anew.
@@ -69,4 +69,42 @@ fn trees_follow_a_metric(rt: HostRuntime) {
     let mut a = made(&rt, rt.alloc(), 1);
     let mut b = made(&rt, rt.alloc(), 2);
     check_trees(&rt, &mut a, &mut b);
+}
+
+/// Two swift bridges in the VID 10 that have met, and share what they read.
+fn two_that_share(rt: &impl Abort, alloc: Global) -> (Made<SwiftBridge>, Made<SwiftBridge>) {
+    let shared = SharedReading::new(alloc).expect(rt, "out of memory");
+    let other = shared.share().expect(rt, "out of memory");
+    let mut a = Made::in_vid_10(rt, alloc, SwiftBridge::sharing(alloc, shared), 1);
+    let mut b = Made::in_vid_10(rt, alloc, SwiftBridge::sharing(alloc, other), 2);
+    meet(rt, &mut a, &mut b, 5);
+    (a, b)
+}
+
+#[test]
+fn trees_are_kept_where_one_bridge_is_asked_alone(rt: HostRuntime) {
+    let (mut a, mut b) = two_that_share(&rt, rt.alloc());
+    check_rows(&rt, &a, 1);
+    b.set_metric(&rt, 20);
+    meet(&rt, &mut a, &mut b, 3);
+    check_rows(&rt, &a, 1);
+    b.set_metric(&rt, 30);
+    meet(&rt, &mut a, &mut b, 3);
+    check_rows(&rt, &a, 1);
+    assert!(rt; said_by(&rt, &mut a).2 > 0);
+}
+
+#[test]
+fn no_trees_are_made_where_others_are_asked_too(rt: HostRuntime) {
+    let (mut a, mut b) = two_that_share(&rt, rt.alloc());
+    check_rows(&rt, &a, 1);
+    check_rows(&rt, &b, 1);
+    b.set_metric(&rt, 20);
+    meet(&rt, &mut a, &mut b, 3);
+    check_rows(&rt, &a, 1);
+    check_rows(&rt, &b, 1);
+    b.set_metric(&rt, 30);
+    meet(&rt, &mut a, &mut b, 3);
+    check_rows(&rt, &a, 1);
+    are_equal(&rt, &said_by(&rt, &mut a), &(2, 30, 0));
 }
