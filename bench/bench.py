@@ -81,7 +81,7 @@ def workloads():
 
 
 def changes(count, links, services, changed):
-    """A script that changes one metric after another, and asks two bridges for their tables after each change."""
+    """A script that changes one metric after another, and asks one bridge for its tables after each change."""
     yield from ("vid 10 1", "vid 20 2", "vid 30 3", "vid 40 4")
     yield from list(wired(count, mesh(count, links)))[1:]
     pick = random.Random(2)
@@ -94,7 +94,6 @@ def changes(count, links, services, changed):
         yield f"metric l{pick.randint(1, links)} a {20 + number % 9}"
         yield "round 8"
         yield "show b1"
-        yield "show b2"
 
 
 def by_kind():
