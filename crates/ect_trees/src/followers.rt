@@ -94,6 +94,8 @@ pub(crate) fn follower_in(mesh: &Mesh, tree: &Tree, me: SystemId, to: usize) -> 
 }
 
 /// The same on the best path from a bridge, for which whole paths are searched.
+#[cold]
+#[inline(never)]
 pub(crate) fn follower_anew(
     alloc: Global,
     mesh: &Mesh,

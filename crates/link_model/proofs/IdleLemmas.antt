@@ -1,13 +1,17 @@
 -- Links whose lanes are empty.
 use Rattle.std.proofs.Common.{◌≡◌, ℕ, zero, suc, ◌+◌, ◌<◌, ◌≤◌, ◌⊎◌, inl, inr, Result, Ok, Err, OnOk, OnErr, List, [], ◌∷◌, length, drop, Bool, true, false, Option, Some, None, slice_get, refl, sym, ap, ◌∙◌, subst, arith}
-use Rattle.std.specs.Prelude.{is_some, is_none, not}
+use Rattle.std.specs.Prelude.{is_some, is_none, not, nat_lt, if◌then◌else◌}
+use Rattle.std.proofs.lemmas.Bool.{ltb-false}
 use Rattle.std.specs.Option.{option_and_then}
 use Rattle.std.proofs.lemmas.Option.{none-some}
 use Rattle.spb_types.specs.Places.{changed_at}
 use Rattle.spb_types.proofs.Places.{get-none}
 use Rattle.link_model.specs.declared.lanes.LaneId.{LaneId}
 use Rattle.link_model.specs.declared.lanes.LinkLanes.{LinkLanes}
-use Rattle.link_model.specs.Lanes.{full_in, full_at, first_full_from, AreIdle}
+use Rattle.link_model.specs.Lane.{Frame}
+use Rattle.link_model.specs.Lanes.{rest, changed_lane, changed_frames, full_in, full_at, first_full_from, AreIdle}
+use Rattle.spb_types.specs.declared.link.Dir.{Dir}
+use Rattle.spb_types.specs.declared.link.Dir.TheVariants.{Ab, Ba}
 use Rattle.link_model.proofs.LaneLemmas.{full-found, full-passed}
 
 -- what stands elsewhere stays
@@ -33,6 +37,34 @@ idle-as f all new n k m low before is idle = subst (AreIdle m) (sym is) (idle-be
 pub idle-either : {T E : Type 0} (r : Result T E) (f : LinkLanes → LinkLanes) (all new : List LinkLanes) (n k m : ℕ) → m ≤ n → m ≤ k → OnOk r (new ≡ changed_at f all k) → OnErr r (new ≡ all) → AreIdle n all → AreIdle m new
 idle-either (Ok x) f all new n k m low before is kept idle = idle-as f all new n k m low before is idle
 idle-either (Err e) f all new n k m low before is kept idle = subst (AreIdle m) (sym kept) (idle-fewer all n m low idle)
+
+-- where both lanes are empty, they stay so when one is popped
+none-then : {A : Type 0} (n : ℕ) (b : Bool) (x : A) (o : Option A) → nat_lt 0 n ≡ b → (if b then Some x else o) ≡ None → n ≡ 0
+none-then n true x o e k = absurd (none-some x (sym k))
+none-then n false x o e k = omega (arith, ltb-false 0 n e)
+
+ab-empty : (l : ℕ) (ab ba : List Frame) → full_in l (record { ab = ab; ba = ba }) ≡ None → length ab ≡ 0
+ab-empty l ab ba h = none-then (length ab) (nat_lt 0 (length ab)) _ _ refl h
+
+ba-empty : (l : ℕ) (ba : List Frame) → full_in l (record { ab = []; ba = ba }) ≡ None → length ba ≡ 0
+ba-empty l ba h = none-then (length ba) (nat_lt 0 (length ba)) _ _ refl h
+
+popped-empty : (l : ℕ) (dir : Dir) (ab ba : List Frame) → full_in l (record { ab = ab; ba = ba }) ≡ None → full_in l (changed_lane dir rest (record { ab = ab; ba = ba })) ≡ None
+popped-empty l dir (x ∷ xs) ba h = absurd (omega (arith, ab-empty l (x ∷ xs) ba h))
+popped-empty l dir [] (x ∷ xs) h = absurd (omega (arith, ba-empty l (x ∷ xs) h))
+popped-empty l Ab [] [] h = refl
+popped-empty l Ba [] [] h = refl
+
+popped-at : (dir : Dir) (all : List LinkLanes) (k i l : ℕ) → option_and_then (full_in l) (slice_get all i) ≡ None → option_and_then (full_in l) (slice_get (changed_frames rest all k dir) i) ≡ None
+popped-at dir [] k i l h = h
+popped-at dir (x ∷ xs) zero zero l h = popped-empty l dir x.ab x.ba h
+popped-at dir (x ∷ xs) zero (suc i) l h = h
+popped-at dir (x ∷ xs) (suc k) zero l h = h
+popped-at dir (x ∷ xs) (suc k) (suc i) l h = popped-at dir xs k i l h
+
+-- so idle links stay idle
+pub idle-popped : (dir : Dir) (all new : List LinkLanes) (n k : ℕ) → new ≡ changed_frames rest all k dir → AreIdle n all → AreIdle n new
+idle-popped dir all new n k is idle = subst (AreIdle n) (sym is) (λ i less. popped-at dir all k i i (idle i less))
 
 -- idle links are passed over
 idle-skip : (all : List LinkLanes) (n : ℕ) → n ≤ length all → AreIdle n all → first_full_from 0 all ≡ first_full_from n (drop n all)

@@ -140,7 +140,6 @@ impl Lanes {
         ensures frame { result ≡ slice_get (lane_of self.old id.link id.dir) 0 }
         ensures rest { self.new ≡ changed_frames rest self.old id.link id.dir }
     {
-        self.idle = self.idle.min(id.link);
         self.all.pop(id)
     }
 

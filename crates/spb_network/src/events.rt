@@ -213,6 +213,7 @@ impl<B: Bridge> NetworkOf<B> {
     }
 
     /// The frame at the front of a lane is delivered. Nothing happens where there is none.
+    #[inline(always)]
     #[tactic(auto, unfolding(network_model::specs::Events::delivered))]
     pub(crate) fn deliver(&mut self, lane: LaneId) -> Result<(), NoMemory>
         requires { IsInOrder B.shown self.old }
