@@ -11,7 +11,7 @@ use std::rc::Rc;
 #[derive(Drop)]
 pub struct SharedReading {
     kept: Rc<RefCell<Option<Reading>>>,
-    /// The bridge that kept it there.
+    /// The bridge that used it last.
     user: Rc<Cell<Option<SystemId>>>,
 }
 

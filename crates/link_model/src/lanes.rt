@@ -75,7 +75,7 @@ impl LinkLanes {
 #[derive(Debug, Drop)]
 pub struct Lanes {
     all: AllLanes,
-    /// The lanes of the links before this place are empty, so that none looks for a frame there.
+    /// The lanes of all links before this place are empty, so a look for a frame begins here.
     idle: usize,
 }
 
@@ -170,8 +170,8 @@ impl Lanes {
         self.all.flush(link);
     }
 
-    /// The first lane that isn't empty, in order of declaration, ab before ba. None exactly where all are empty. Where it
-    /// was looked for before, none looks again at the empty lanes before it.
+    /// The first lane that isn't empty, in order of declaration, ab before ba. None exactly where all are empty. Empty lanes
+    /// that were passed over aren't looked at again while nothing happens there.
     pub fn first_full(&mut self) -> Option<LaneId>
         ensures lane { result ≡ first_full_from 0 self.old }
         ensures same { self.new ≡ self.old }
