@@ -13,52 +13,10 @@ valgrind counts (Debian's package of that name); that takes some fifty times as 
 """
 import os
 import random
-import re
-import shutil
-import subprocess
 import sys
-import tempfile
-import time
 
-HERE = os.path.dirname(os.path.abspath(__file__))
-BUILT = os.path.join(HERE, "..", "crates", "spbsim", "out", "spbsim")
-
-
-def bridges(count, ports):
-    """The declarations of so many bridges, b1 and on."""
-    for k in range(1, count + 1):
-        yield f"bridge b{k} 32768 0200000000{k:02x} {k:05x} {ports}"
-
-
-def mesh(count, links, seed=1):
-    """The pairs of a connected graph: a ring first, then pairs at random; no bridge has more than 32 links."""
-    chosen = [(k, k % count + 1) for k in range(1, count + 1)]
-    degree = {k: 2 for k in range(1, count + 1)}
-    taken = {frozenset(pair) for pair in chosen}
-    pick = random.Random(seed)
-    while len(chosen) < links:
-        a, b = pick.sample(range(1, count + 1), 2)
-        if frozenset((a, b)) in taken or degree[a] == 32 or degree[b] == 32:
-            continue
-        taken.add(frozenset((a, b)))
-        chosen.append((a, b))
-        degree[a] += 1
-        degree[b] += 1
-    return chosen
-
-
-def wired(count, pairs):
-    """A script that declares so many bridges and a link for each pair, at the next free ports."""
-    yield "vid 10 1"
-    yield from bridges(count, 32)
-    used = {}
-    for number, (a, b) in enumerate(pairs, 1):
-        ends = []
-        for bridge in (a, b):
-            used[bridge] = used.get(bridge, 0) + 1
-            ends.append(f"b{bridge} {used[bridge]}")
-        yield f"link l{number} {ends[0]} {ends[1]} {10 + number % 7}"
-
+from fabrics import bridges, mesh, wired
+from measuring import BUILT, Script, instructions, measure, need, need_valgrind
 
 # after so many rounds each bridge of these networks holds the LSP of every other, and nothing is to be sent any more
 FULL = 10
@@ -104,51 +62,6 @@ def by_kind():
     yield "48 bridges, 60 links, 60 changes", changes(48, 60, 60, 60)
 
 
-def need(programs):
-    """Ends with status 2 where one of the programs isn't there, and says which."""
-    for program in programs:
-        if not shutil.which(program):
-            made = ": ./build makes it" if program == BUILT else ""
-            print(f"bench.py: {os.path.relpath(program)} isn't there{made}", file=sys.stderr)
-            sys.exit(2)
-
-
-def high_water(pid):
-    """The most memory that a process has had so far, in MB; None once it has ended."""
-    try:
-        with open(f"/proc/{pid}/status") as status:
-            found = re.search(r"VmHWM:\s*(\d+) kB", status.read())
-    except OSError:
-        return None
-    return int(found.group(1)) / 1024 if found else None
-
-
-def measure(program, path, words=("run",)):
-    """Processor seconds, peak memory in MB and exit status of one run.
-
-    What the system tells of a child after its end counts the memory of the process that it was forked from as well, so
-    the peak is read off the program while it runs.
-    """
-    peak = 0.0
-    with open(path, "rb") as script, open(os.devnull, "wb") as nowhere:
-        process = subprocess.Popen([program, *words], stdin=script, stdout=nowhere, stderr=nowhere)
-        while True:
-            peak = max(peak, high_water(process.pid) or 0.0)
-            pid, status, usage = os.wait4(process.pid, os.WNOHANG)
-            if pid:
-                return usage.ru_utime + usage.ru_stime, peak, os.waitstatus_to_exitcode(status)
-            time.sleep(0.0005)
-
-
-def instructions(program, path, words=("run",)):
-    """How many instructions a run takes, by valgrind."""
-    counted = ["valgrind", "--tool=callgrind", f"--callgrind-out-file={os.devnull}", program, *words]
-    with open(path, "rb") as script:
-        run = subprocess.run(counted, stdin=script, stdout=subprocess.DEVNULL, stderr=subprocess.PIPE, text=True)
-    found = re.search(r"Collected : (\d+)", run.stderr)
-    return int(found.group(1)) if found else None
-
-
 # the processor seconds from which on instructions aren't counted
 LONG = 5.0
 
@@ -157,24 +70,22 @@ def compare_kinds(counts):
     """The workloads that change links and ask for tables, with bridges of each kind."""
     print(f"{'workload':44} {'kind':8} {'cpu s':>8} {'peak MB':>8}" + (f" {'10^6 instr.':>12}" if counts else ""))
     for name, lines in by_kind():
-        with tempfile.NamedTemporaryFile("w", suffix=".spb", delete=False) as script:
-            script.write("\n".join(lines) + "\n")
-        for kind in ("plain", "swift"):
-            words = ("run", "--kind", kind)
-            seconds, memory, status = measure(BUILT, script.name, words)
-            row = f"{name:44} {kind:8} {seconds:8.2f} {memory:8.1f}"
-            if counts:
-                count = instructions(BUILT, script.name, words)
-                row += f" {count / 1e6:12,.1f}" if count else f" {'-':>12}"
-            print(row + ("" if status == 0 else f"  status {status}"), flush=True)
-        os.unlink(script.name)
+        with Script(lines) as script:
+            for kind in ("plain", "swift"):
+                words = ("run", "--kind", kind)
+                seconds, memory, status = measure(BUILT, script, words)
+                row = f"{name:44} {kind:8} {seconds:8.2f} {memory:8.1f}"
+                if counts:
+                    count = instructions(BUILT, script, words)
+                    row += f" {count / 1e6:12,.1f}" if count else f" {'-':>12}"
+                print(row + ("" if status == 0 else f"  status {status}"), flush=True)
 
 
 def main():
     words = sys.argv[1:]
     counts = "--count" in words
-    if counts and not shutil.which("valgrind"):
-        sys.exit("bench: --count needs valgrind on the path")
+    if counts:
+        need_valgrind()
     programs = [BUILT] + [word for word in words if word not in ("--count", "--kinds")]
     need(programs)
     if "--kinds" in words:
@@ -182,17 +93,15 @@ def main():
     head = f"{'workload':44} {'program':16} {'cpu s':>8} {'peak MB':>8} {'hellos/s':>13}"
     print(head + (f" {'10^6 instr.':>12}" if counts else ""))
     for name, lines, hellos in workloads():
-        with tempfile.NamedTemporaryFile("w", suffix=".spb", delete=False) as script:
-            script.write("\n".join(lines) + "\n")
-        for program in programs:
-            seconds, memory, status = measure(program, script.name)
-            rate = f"{hellos / seconds:,.0f}" if hellos and seconds else "-"
-            row = f"{name:44} {os.path.basename(program):16} {seconds:8.2f} {memory:8.1f} {rate:>13}"
-            if counts:
-                count = instructions(program, script.name) if seconds < LONG else None
-                row += f" {count / 1e6:12,.1f}" if count else f" {'-':>12}"
-            print(row + ("" if status == 0 else f"  status {status}"), flush=True)
-        os.unlink(script.name)
+        with Script(lines) as script:
+            for program in programs:
+                seconds, memory, status = measure(program, script)
+                rate = f"{hellos / seconds:,.0f}" if hellos and seconds else "-"
+                row = f"{name:44} {os.path.basename(program):16} {seconds:8.2f} {memory:8.1f} {rate:>13}"
+                if counts:
+                    count = instructions(program, script) if seconds < LONG else None
+                    row += f" {count / 1e6:12,.1f}" if count else f" {'-':>12}"
+                print(row + ("" if status == 0 else f"  status {status}"), flush=True)
 
 
 main()

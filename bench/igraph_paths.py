@@ -1,0 +1,61 @@
+#!/usr/bin/python3
+"""Compares `wiring` of all bridges with igraph's shortest paths from all of them, in processor time.
+
+    bench/igraph_paths.py [PROGRAM]
+
+The graph is one: 96 bridges and 400 links. The program's time is that of a whole run, with its start, the reading of
+the script and the writing of all tables, whose paths are the best under ties too. Of igraph, a library in C, only its
+calls are measured, one for each source with the costs of all links (python3-igraph of Debian). Both run by turns, and
+the least and the middle of so many runs are told, in milliseconds.
+"""
+import statistics
+import sys
+import time
+
+from fabrics import mesh, wired
+from measuring import BUILT, Script, measure, need
+
+try:
+    import igraph
+except ImportError:
+    print("igraph_paths.py: python3-igraph isn't there (Debian's package of that name)", file=sys.stderr)
+    sys.exit(2)
+
+BRIDGES, LINKS, RUNS = 96, 400, 40
+
+
+def script():
+    """The declarations, and a question for the wiring's tables of each bridge."""
+    return [*wired(BRIDGES, mesh(BRIDGES, LINKS)), *(f"wiring b{k}" for k in range(1, BRIDGES + 1))]
+
+
+def costs():
+    """The cost of each link, as the script tells it."""
+    return [int(line.split()[-1]) for line in script() if line.startswith("link ")]
+
+
+def paths_by_igraph(graph):
+    """Processor seconds of all shortest paths from each bridge."""
+    start = time.process_time()
+    for source in range(BRIDGES):
+        graph.get_shortest_paths(source, weights="cost", output="vpath")
+    return time.process_time() - start
+
+
+def main():
+    program = sys.argv[1] if len(sys.argv) > 1 else BUILT
+    need([program])
+    graph = igraph.Graph(n=BRIDGES, edges=[(a - 1, b - 1) for a, b in mesh(BRIDGES, LINKS)])
+    graph.es["cost"] = costs()
+    ours, theirs = [], []
+    with Script(script()) as path:
+        for _ in range(RUNS):
+            ours.append(measure(program, path)[0] * 1000)
+            theirs.append(paths_by_igraph(graph) * 1000)
+    for name, found in (("wiring of all, whole run", ours), ("igraph, paths from all", theirs)):
+        print(f"{name:26} least {min(found):6.2f} ms, middle {statistics.median(found):6.2f} ms")
+    least, middle = min(ours) / min(theirs), statistics.median(ours) / statistics.median(theirs)
+    print(f"{'ratio':26} least {least:6.2f},    middle {middle:6.2f}")
+
+
+main()
