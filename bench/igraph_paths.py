@@ -4,9 +4,10 @@
     bench/igraph_paths.py [PROGRAM]
 
 The graph is one: 96 bridges and 400 links. The program's time is that of a whole run, with its start, the reading of
-the script and the writing of all tables, whose paths are the best under ties too. Of igraph, a library in C, only its
-calls are measured, one for each source with the costs of all links (python3-igraph of Debian). Both run by turns, and
-the least and the middle of so many runs are told, in milliseconds.
+the script and the writing of all tables. Of igraph, a library in C, only its calls are measured, one for each source
+with the costs of all links (python3-igraph of Debian): for all shortest paths, among which a bridge has to choose as
+all others do, and for any one of them. All run by turns, and the least and the middle of so many runs are told, in
+milliseconds.
 """
 import statistics
 import sys
@@ -34,11 +35,11 @@ def costs():
     return [int(line.split()[-1]) for line in script() if line.startswith("link ")]
 
 
-def paths_by_igraph(graph):
-    """Processor seconds of all shortest paths from each bridge."""
+def seconds_by_igraph(paths_from):
+    """Processor seconds of the shortest paths from each bridge, by this call of igraph's."""
     start = time.process_time()
     for source in range(BRIDGES):
-        graph.get_shortest_paths(source, weights="cost", output="vpath")
+        paths_from(source, weights="cost")
     return time.process_time() - start
 
 
@@ -47,15 +48,16 @@ def main():
     need([program])
     graph = igraph.Graph(n=BRIDGES, edges=[(a - 1, b - 1) for a, b in mesh(BRIDGES, LINKS)])
     graph.es["cost"] = costs()
-    ours, theirs = [], []
+    ours, every, one = [], [], []
     with Script(script()) as path:
         for _ in range(RUNS):
             ours.append(measure(program, path)[0] * 1000)
-            theirs.append(paths_by_igraph(graph) * 1000)
-    for name, found in (("wiring of all, whole run", ours), ("igraph, paths from all", theirs)):
-        print(f"{name:26} least {min(found):6.2f} ms, middle {statistics.median(found):6.2f} ms")
-    least, middle = min(ours) / min(theirs), statistics.median(ours) / statistics.median(theirs)
-    print(f"{'ratio':26} least {least:6.2f},    middle {middle:6.2f}")
+            every.append(seconds_by_igraph(graph.get_all_shortest_paths) * 1000)
+            one.append(seconds_by_igraph(graph.get_shortest_paths) * 1000)
+    print(f"{'':28} {'least':>9} {'middle':>9} {'ratio':>6}")
+    for name, found in (("wiring of all, whole run", ours), ("igraph, all shortest paths", every), ("igraph, one of them", one)):
+        middle = statistics.median(found)
+        print(f"{name:28} {min(found):6.2f} ms {middle:6.2f} ms {statistics.median(ours) / middle:6.2f}")
 
 
 main()
