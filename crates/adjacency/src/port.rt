@@ -15,7 +15,7 @@ use spb_types::{LEVEL_1, Mac, SystemId};
 ///
 /// `neighbour`, `circuit` and `hold` are 0 where the state is Down. Otherwise `hold` is at least 1, and there is
 /// carrier. Each call has this as its condition and keeps it.
-#[derive(Clone, Copy, Debug, PartialEq, Eq, Hash)]
+#[derive(Clone, Copy, Debug, PartialEq, Eq)]
 pub struct Adjacency {
     /// Whether the port has carrier.
     pub carrier: bool,

@@ -3,7 +3,7 @@ ghost use Rattle.std.specs.Prelude.{◌≡◌, ◌≤◌};
 ghost use Rattle.adjacency.specs.States.{state_number, state_numbered, next_state};
 
 /// The state of an adjacency (RFC 5303, 3.1).
-#[derive(Clone, Copy, Debug, PartialEq, Eq, Hash)]
+#[derive(Clone, Copy, Debug, PartialEq, Eq)]
 pub enum AdjState {
     /// No neighbour is kept.
     Down,
@@ -14,7 +14,7 @@ pub enum AdjState {
 }
 
 /// What a call did to an adjacency.
-#[derive(Clone, Copy, Debug, PartialEq, Eq, Hash)]
+#[derive(Clone, Copy, Debug, PartialEq, Eq)]
 pub enum AdjacencyChange {
     /// Nothing that the three below name.
     Kept,

@@ -1,7 +1,7 @@
 //! The names of the implementations, by which a network picks boxes.
 
 /// The implementation that a box holds. All do the same.
-#[derive(Clone, Copy, Debug, PartialEq, Eq, Hash)]
+#[derive(Clone, Copy, Debug, PartialEq, Eq)]
 pub enum Kind {
     /// One that computes its tables anew.
     Plain,

@@ -2,7 +2,7 @@
 use adjacency::Adjacency;
 
 /// A backbone port of a bridge.
-#[derive(Clone, Copy, Debug, PartialEq, Eq, Hash)]
+#[derive(Clone, Copy, Debug, PartialEq, Eq)]
 pub struct BridgePort {
     pub adjacency: Adjacency,
     /// Whether CSNPs are to be sent at the next tick, as is so when the adjacency has come up.

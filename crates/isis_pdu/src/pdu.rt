@@ -70,7 +70,7 @@ pub enum Pdu<'a> {
 }
 
 /// Why bytes are no PDU: the first of these rules, in this order, that they break.
-#[derive(Clone, Copy, Debug, PartialEq, Eq, PartialOrd, Ord, Hash, Error)]
+#[derive(Clone, Copy, Debug, PartialEq, Eq, Error)]
 pub enum PduError {
     /// There are fewer than 8 bytes.
     #[error("fewer bytes than the common header")]

@@ -27,7 +27,7 @@ pub struct Backbone<'a> {
 }
 
 /// Why bytes are no frame of the backbone.
-#[derive(Clone, Copy, Debug, PartialEq, Eq, Hash, Error)]
+#[derive(Clone, Copy, Debug, PartialEq, Eq, Error)]
 pub enum FrameError {
     /// Fewer bytes than the shortest frame has: 17, and 36 where it isn't sent to the group address of the bridges.
     #[error("a frame is too short")]

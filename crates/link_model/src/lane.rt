@@ -33,7 +33,7 @@ impl Model for Lane {
 }
 
 /// What became of a frame that was pushed.
-#[derive(Clone, Copy, Debug, PartialEq, Eq, Hash)]
+#[derive(Clone, Copy, Debug, PartialEq, Eq)]
 pub enum Pushed {
     /// It stands at the back of the lane.
     Kept,
@@ -42,12 +42,12 @@ pub enum Pushed {
 }
 
 /// The lane has no frame at that place.
-#[derive(Clone, Copy, Debug, PartialEq, Eq, Hash, Error)]
+#[derive(Clone, Copy, Debug, PartialEq, Eq, Error)]
 #[error("no frame at that place")]
 pub struct NoFrame;
 
 /// Why a frame wasn't doubled.
-#[derive(Clone, Copy, Debug, PartialEq, Eq, Hash, Error)]
+#[derive(Clone, Copy, Debug, PartialEq, Eq, Error)]
 pub enum DoubleError {
     /// The lane has no frame at that place.
     #[error("no frame at that place")]

@@ -47,7 +47,7 @@ impl Model for Database {
 }
 
 /// Why an LSP wasn't put in.
-#[derive(Clone, Copy, Debug, PartialEq, Eq, Hash, Error)]
+#[derive(Clone, Copy, Debug, PartialEq, Eq, Error)]
 pub enum PutError {
     /// The id is new, and 2,048 ids are held.
     #[error("the database is full")]
@@ -68,7 +68,7 @@ impl<T: Drop> From<AllocFailed<T>> for PutError {
 }
 
 /// Whether there was an LSP to raise.
-#[derive(Clone, Copy, Debug, PartialEq, Eq, Hash)]
+#[derive(Clone, Copy, Debug, PartialEq, Eq)]
 pub enum Raised {
     /// It has the new version.
     Raised,

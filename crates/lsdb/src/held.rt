@@ -21,7 +21,7 @@ pub struct Held {
 }
 
 /// A line of the database: what is held under an id, but for the body.
-#[derive(Clone, Copy, Debug, PartialEq, Eq, Hash)]
+#[derive(Clone, Copy, Debug, PartialEq, Eq)]
 pub struct DbRow {
     pub id: LspId,
     pub version: Version,

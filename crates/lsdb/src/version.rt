@@ -3,7 +3,7 @@ ghost use Rattle.std.specs.Prelude.{◌≡◌};
 ghost use Rattle.lsdb.specs.Version.{is_absent, leq, relation, join_of, number_of, sum_of, claimed};
 
 /// The version of an LSP (ISO/IEC 10589, 7.3.16).
-#[derive(Clone, Copy, Debug, PartialEq, Eq, Hash)]
+#[derive(Clone, Copy, Debug, PartialEq, Eq)]
 pub enum Version {
     /// There is none.
     Absent,
@@ -14,7 +14,7 @@ pub enum Version {
 }
 
 /// How one version stands to another.
-#[derive(Clone, Copy, Debug, PartialEq, Eq, Hash)]
+#[derive(Clone, Copy, Debug, PartialEq, Eq)]
 pub enum Relation {
     /// It is below the other.
     Older,

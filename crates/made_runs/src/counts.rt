@@ -6,7 +6,7 @@ use spb_network::Answer;
 use spb_types::Tables;
 
 /// What is counted of the answers to a script.
-#[derive(Clone, Copy, Debug, PartialEq, Eq, Hash)]
+#[derive(Clone, Copy, Debug, PartialEq, Eq)]
 pub struct Counts {
     /// The answers.
     pub lines: u64,

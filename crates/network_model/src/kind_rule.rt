@@ -1,7 +1,7 @@
 //! The rules by which bridges take plain or swift boxes.
 
 /// Which kind of box each declared bridge takes.
-#[derive(Clone, Copy, Debug, PartialEq, Eq, Hash)]
+#[derive(Clone, Copy, Debug, PartialEq, Eq)]
 pub enum KindRule {
     /// All are plain.
     Plain,

@@ -2,7 +2,7 @@
 use spb_network::Reason;
 
 /// Why a line is refused.
-#[derive(Clone, Copy, Debug, PartialEq, Eq, Hash)]
+#[derive(Clone, Copy, Debug, PartialEq, Eq)]
 pub enum Refusal {
     /// The line isn't in the grammar: the column, from 1, of the first word that doesn't fit.
     Words(usize),

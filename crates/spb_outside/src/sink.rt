@@ -7,7 +7,7 @@ ghost use Rattle.spb_outside.specs.declared.sink.WriteError.TheVariants.{NoMemor
 use std::alloc::AllocError;
 
 /// Why a write took nothing.
-#[derive(Clone, Copy, Debug, PartialEq, Eq, Hash)]
+#[derive(Clone, Copy, Debug, PartialEq, Eq)]
 pub enum WriteError {
     /// The sink failed.
     Failed,

@@ -5,7 +5,7 @@ ghost use Rattle.spb_run.specs.Words as spelled;
 use spb_network::KindRule;
 
 /// What the program's words ask for.
-#[derive(Clone, Copy, Debug, PartialEq, Eq, Hash)]
+#[derive(Clone, Copy, Debug, PartialEq, Eq)]
 pub enum Form {
     /// `run`, or `run --kind K`: the script that the source gives is played, where bridges take boxes by this rule.
     Run(KindRule),

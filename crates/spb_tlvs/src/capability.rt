@@ -17,7 +17,7 @@ use std::alloc::{AllocError, Global};
 
 /// A service in an SPBM-SI: the I-SID, and whether the bridge sends frames of it into the backbone and takes frames of
 /// it from there (RFC 6329, 16.1).
-#[derive(Clone, Copy, Debug, PartialEq, Eq, Hash)]
+#[derive(Clone, Copy, Debug, PartialEq, Eq)]
 pub struct Service {
     /// The I-SID, 1 to 16,777,215.
     pub isid: Isid,

@@ -11,7 +11,7 @@ use spb_types::{LspId, NoMemory, lsp_id_in, u16_in, u32_in};
 use std::alloc::{AllocError, Global};
 
 /// What an SNP says of an LSP, in a TLV 9 (ISO/IEC 10589, 9.10 to 9.13).
-#[derive(Clone, Copy, Debug, PartialEq, Eq, Hash)]
+#[derive(Clone, Copy, Debug, PartialEq, Eq)]
 pub struct SnpEntry {
     /// The remaining lifetime in seconds.
     pub lifetime: u16,

@@ -15,7 +15,7 @@ use spb_types::{NoMemory, SystemId, system_in, u16_in, u24_in};
 use std::alloc::Global;
 
 /// A neighbour of a bridge, in a TLV 22 with an SPB link metric (RFC 5305, 3; RFC 6329, 15.1).
-#[derive(Clone, Copy, Debug, PartialEq, Eq, Hash)]
+#[derive(Clone, Copy, Debug, PartialEq, Eq)]
 pub struct Neighbour {
     /// The neighbour's system id.
     pub system: SystemId,

@@ -10,7 +10,7 @@ use crate::error::TlvError;
 use spb_types::{NoMemory, SystemId, system_in, u32_in};
 
 /// The three-way adjacency of a point-to-point hello, TLV 240 (RFC 5303, 3).
-#[derive(Clone, Copy, Debug, PartialEq, Eq, Hash)]
+#[derive(Clone, Copy, Debug, PartialEq, Eq)]
 pub struct ThreeWay {
     /// 0 is Up, 1 Initializing, 2 Down.
     pub state: u8,

@@ -66,7 +66,7 @@ impl SystemId {
 }
 
 /// A bridge id: the priority, 0 to 65,535, and then the system id (IEEE 802.1aq, 28.5).
-#[derive(Clone, Copy, Debug, PartialEq, Eq, PartialOrd, Ord, Hash)]
+#[derive(Clone, Copy, Debug, PartialEq, Eq, PartialOrd, Ord)]
 pub struct BridgeId {
     pub priority: u16,
     pub system: SystemId,

@@ -1,7 +1,7 @@
 //! The reasons for which a frame is dropped, in the order in which they are counted.
 
 /// Why a frame is dropped.
-#[derive(Clone, Copy, Debug, PartialEq, Eq, Hash)]
+#[derive(Clone, Copy, Debug, PartialEq, Eq)]
 pub enum DropReason {
     /// It is neither a control frame nor one with an I-TAG.
     Frame,

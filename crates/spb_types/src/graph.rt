@@ -2,7 +2,7 @@
 use crate::{BridgeId, Isid, Seq, SourceId, SystemId, Vid};
 
 /// A bridge of a graph: its bridge id, and the source id that its group addresses carry.
-#[derive(Clone, Copy, Debug, PartialEq, Eq, PartialOrd, Ord, Hash)]
+#[derive(Clone, Copy, Debug, PartialEq, Eq)]
 pub struct GraphBridge {
     pub id: BridgeId,
     pub source: SourceId,
@@ -11,7 +11,7 @@ pub struct GraphBridge {
 /// An edge between two bridges, with the port that it has at each, and its cost, 1 to 16,777,214.
 ///
 /// Which end is `a` says nothing: paths and tables don't depend on it.
-#[derive(Clone, Copy, Debug, PartialEq, Eq, PartialOrd, Ord, Hash)]
+#[derive(Clone, Copy, Debug, PartialEq, Eq)]
 pub struct Edge {
     pub a: SystemId,
     pub port_a: u16,
@@ -21,7 +21,7 @@ pub struct Edge {
 }
 
 /// A bridge that takes part in a service, and the base VID of that service.
-#[derive(Clone, Copy, Debug, PartialEq, Eq, PartialOrd, Ord, Hash)]
+#[derive(Clone, Copy, Debug, PartialEq, Eq)]
 pub struct Member {
     pub system: SystemId,
     pub isid: Isid,

@@ -5,7 +5,7 @@ ghost use Rattle.spb_types.specs.Ports.{has, no_ports, with_port, without_port};
 use crate::limits::MOST_PORTS;
 
 /// A set of backbone ports, 1 to 32: port `p` is bit `p - 1`.
-#[derive(Clone, Copy, Debug, PartialEq, Eq, PartialOrd, Ord, Hash)]
+#[derive(Clone, Copy, Debug, PartialEq, Eq)]
 pub struct PortSet {
     pub bits: u32,
 }

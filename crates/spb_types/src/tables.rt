@@ -9,7 +9,7 @@ ghost use Rattle.spb_types.specs.Tables.{row_bytes, is_row_for, unicast_in, is_g
 use crate::{Mac, PortSet, Seq, SystemId, Vid};
 
 /// A unicast entry of the filtering database: frames to `mac` in `vid` leave by `port`, 1 to 32 (IEEE 802.1aq, 8.8).
-#[derive(Clone, Copy, Debug, PartialEq, Eq, PartialOrd, Ord, Hash)]
+#[derive(Clone, Copy, Debug, PartialEq, Eq)]
 pub struct UnicastRow {
     pub vid: Vid,
     pub mac: Mac,
@@ -17,7 +17,7 @@ pub struct UnicastRow {
 }
 
 /// A group entry of the filtering database: frames to `mac` in `vid` leave by each of `ports`.
-#[derive(Clone, Copy, Debug, PartialEq, Eq, PartialOrd, Ord, Hash)]
+#[derive(Clone, Copy, Debug, PartialEq, Eq)]
 pub struct GroupRow {
     pub vid: Vid,
     pub mac: Mac,

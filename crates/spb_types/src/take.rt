@@ -7,7 +7,7 @@ use crate::fields::{u16_in, u24_in, u32_in};
 use thiserror::Error;
 
 /// Too few bytes stand at the place where a number was to be read.
-#[derive(Clone, Copy, Debug, PartialEq, Eq, Hash, Error)]
+#[derive(Clone, Copy, Debug, PartialEq, Eq, Error)]
 #[error("too few bytes")]
 pub struct Short;
 

@@ -5,7 +5,7 @@ ghost use Rattle.spb_world.specs.Reason as reasons;
 use thiserror::Error;
 
 /// Why a command is refused. Reasons are tested in order of number, and the first that holds is given.
-#[derive(Clone, Copy, Debug, PartialEq, Eq, Hash, Error)]
+#[derive(Clone, Copy, Debug, PartialEq, Eq, Error)]
 #[error("{}", self.name())]
 pub enum Reason {
     /// A bridge, link, VID or I-SID isn't declared.
