@@ -115,6 +115,20 @@ fn decode_as(kind: Kind, bytes: &[u8]) -> Result<Pdu<'_>, PduError>
     Ok(value(kind, bytes, tlvs))
 }
 
+/// The same, with a branch for each type, which is compiled with places and lengths of its own.
+#[inline(always)]
+fn decode_by_kind(kind: Kind, bytes: &[u8]) -> Result<Pdu<'_>, PduError>
+    requires { 8 ≤ length bytes.now }
+    ensures { answer_of result ≡ read_as (Some kind) bytes.now }
+{
+    match kind {
+        Kind::Hello => decode_as(Kind::Hello, bytes),
+        Kind::Lsp => decode_as(Kind::Lsp, bytes),
+        Kind::Csnp => decode_as(Kind::Csnp, bytes),
+        Kind::Psnp => decode_as(Kind::Psnp, bytes),
+    }
+}
+
 #[tactic(auto, unfolding(crate::specs::Reading::read, crate::specs::Reading::read_as))]
 fn first_pdu(bytes: &[u8]) -> Result<Pdu<'_>, PduError>
     ensures { answer_of result ≡ read bytes.now }
@@ -126,10 +140,7 @@ fn first_pdu(bytes: &[u8]) -> Result<Pdu<'_>, PduError>
         return Err(PduError::NotIsis);
     }
     match Kind::of_number(bytes[4] % 32) {
-        Some(Kind::Hello) => decode_as(Kind::Hello, bytes),
-        Some(Kind::Lsp) => decode_as(Kind::Lsp, bytes),
-        Some(Kind::Csnp) => decode_as(Kind::Csnp, bytes),
-        Some(Kind::Psnp) => decode_as(Kind::Psnp, bytes),
+        Some(kind) => decode_by_kind(kind, bytes),
         None => Err(PduError::Kind),
     }
 }
