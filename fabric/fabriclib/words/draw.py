@@ -1,0 +1,3 @@
+"""Later."""
+def add_arguments(parser): pass
+def run(told): return 0
