@@ -31,11 +31,15 @@ _ENDING = """exit status: 0 done; 1 the script was refused, as is then said in w
 answer. No word computes a path: lines are played through the program in one run, and its rows are followed."""
 
 
-def _parser() -> argparse.ArgumentParser:
+def _parser(called: str) -> argparse.ArgumentParser:
+    """The parser of the entry; of the words only that which is called is loaded."""
     parser = argparse.ArgumentParser(prog="fabric", description="Answers of spbsim in services, links and names.",
                                      epilog=_ENDING)
     words = parser.add_subparsers(dest="word", metavar="WORD", required=True)
     for word, module, purpose in WORDS:
+        if word != called:
+            words.add_parser(word, help=purpose)
+            continue
         loaded = importlib.import_module(f"fabriclib.words.{module}")
         own = words.add_parser(word, help=purpose, description=(loaded.__doc__ or "").strip(), epilog=_ENDING,
                                formatter_class=argparse.RawDescriptionHelpFormatter)
@@ -48,7 +52,7 @@ def _parser() -> argparse.ArgumentParser:
 
 def main(words: List[str]) -> int:
     """Runs a word; the exit status."""
-    told = _parser().parse_args(words)
+    told = _parser(words[0] if words else "").parse_args(words)
     told.program = told.program or default_program()
     try:
         if "script" in told:

@@ -17,6 +17,8 @@ Read = Tuple[str, bytes]
 
 # Why a frame goes no further.
 NO_ROW, INGRESS, BACK, DARK, CIRCLE = ("no row", "ingress check", "back by its port", "link down", "circle")
+# Why a group frame vanishes at a bridge that isn't a member of its service. Nobody counts it.
+VANISHED = "no row for the group"
 
 
 def rows_of(lines: Sequence[bytes]) -> Rows:
@@ -135,7 +137,10 @@ class Fabric:
             came = waiting.pop(0)
             here = source if came is None else came.head
             tree.reads.append((here, key))
-            for hop in self._out(tree, here, came, self.tables[here].get(key, b"")):
+            out = self._out(tree, here, came, self.tables[here].get(key, b""))
+            if not out and (here not in members or (came is None and len(members) > 1)):
+                tree.faults.append(Fault(here, came.link if came else None, VANISHED))
+            for hop in out:
                 tree.hops.append(hop)
                 if hop.head in met:
                     tree.faults.append(Fault(hop.head, hop.link, CIRCLE))

@@ -38,6 +38,7 @@ class Second:
     lagging: List[str]
     lost: Dict[WayKey, Tuple[str, str]] = field(default_factory=dict)
     split: Dict[int, List[Tuple[str, str]]] = field(default_factory=dict)
+    faults: Dict[int, "Counter[Tuple[str, str]]"] = field(default_factory=dict)
 
 
 def run(told: argparse.Namespace) -> int:
@@ -110,6 +111,7 @@ def _second(wired: Survey, number: int, state: str, tables: Dict[str, Rows]) -> 
         missed = set(tree.missed) - set(wired.trees[source, isid, vid].missed)
         if missed:
             second.split.setdefault(isid, []).extend((source, bridge) for bridge in sorted(missed))
+            second.faults.setdefault(isid, Counter()).update((fault.reason, fault.bridge) for fault in tree.faults)
     return second
 
 
@@ -143,8 +145,13 @@ def _where(second: Second) -> str:
 
 
 def _split(second: Second) -> str:
-    told = [f"{isid} ({len(pairs)})" for isid, pairs in second.split.items()]
-    return ", ".join(told[:4]) + (f" and {len(told) - 4} more" if len(told) > 4 else "") or "-"
+    told = [f"{isid} ({len(pairs)}{_fault(second.faults[isid])})" for isid, pairs in second.split.items()]
+    return ", ".join(told[:3]) + (f" and {len(told) - 3} more" if len(told) > 3 else "") or "-"
+
+
+def _fault(faults: "Counter[Tuple[str, str]]") -> str:
+    """Where most of a service's frames vanish, and why."""
+    return "".join(f", at {bridge}: {reason}" for (reason, bridge), _ in faults.most_common(1))
 
 
 def _first(shown: List[Second], holds: Callable[[Second], bool]) -> Optional[int]:
@@ -178,4 +185,6 @@ def _summary(wired: Survey, shown: List[Second]) -> List[str]:
 def _record(second: Second) -> Dict[str, Any]:
     return {"second": second.number, "state": second.state, "lag": second.lagging,
             "lost": [[*key, reason, at] for key, (reason, at) in second.lost.items()],
-            "split": {str(isid): pairs for isid, pairs in second.split.items()}}
+            "split": {str(isid): pairs for isid, pairs in second.split.items()},
+            "faults": {str(isid): [[*fault, count] for fault, count in counts.items()]
+                       for isid, counts in second.faults.items()}}
