@@ -4,6 +4,7 @@ from __future__ import annotations
 import os
 import pty
 import subprocess
+import sys
 import tempfile
 from typing import Iterator
 
@@ -42,18 +43,11 @@ def _without_others(bench: Bench) -> Iterator[str]:
         told = bench.fabric("import", path, env={"PYTHONPATH": folder})
         if told.status != 2 or "PyYAML" not in told.err:
             yield "without PyYAML: the word for it is missing"
-    told = bench.fabric("draw", _SCRIPT, "--layout", "neato", env={"PATH": os.path.dirname(os.__file__) + ":" + _python()})
-    if told.status == 2 and "Graphviz" not in told.err:
-        yield "without Graphviz: the word for it is missing"
-
-
-def _python() -> str:
-    """A folder with python3 and nothing else, for a path without Graphviz."""
-    folder = tempfile.mkdtemp()
-    for name in ("python3", "env"):
-        where = subprocess.run(["which", name], capture_output=True, text=True, check=False).stdout.strip()
-        os.symlink(where, os.path.join(folder, name))
-    return folder
+        # a path with python3 and nothing else
+        os.symlink(sys.executable, os.path.join(folder, "python3"))
+        told = bench.fabric("draw", _SCRIPT, "--layout", "neato", env={"PATH": folder})
+        if told.status != 2 or "Graphviz" not in told.err:
+            yield "without Graphviz: the word for it is missing"
 
 
 def _colours(bench: Bench) -> Iterator[str]:
