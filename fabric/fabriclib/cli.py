@@ -27,25 +27,35 @@ WORDS = (
 
 OK, REFUSED, USAGE, NO_ANSWER = 0, 1, 2, 3
 
-_ENDING = """exit status: 0 done; 1 the script was refused, as is then said in words; 2 usage; 3 the program gave no whole
-answer. No word computes a path: lines are played through the program in one run, and its rows are followed."""
+_ENDING = """exit status: 0 done; 1 the script was refused, as is then said in words; 2 usage; 3 the program gave no
+whole answer. No word computes a path: lines are played through the program in one run, and its rows are followed."""
 
 
 def _parser(called: str) -> argparse.ArgumentParser:
     """The parser of the entry; of the words only that which is called is loaded."""
-    parser = argparse.ArgumentParser(prog="fabric", description="Answers of spbsim in services, links and names.",
-                                     epilog=_ENDING)
+    parser = argparse.ArgumentParser(
+        prog="fabric", description="Answers of spbsim in services, links and names.", epilog=_ENDING
+    )
     words = parser.add_subparsers(dest="word", metavar="WORD", required=True)
     for word, module, purpose in WORDS:
         if word != called:
             words.add_parser(word, help=purpose)
             continue
         loaded = importlib.import_module(f"fabriclib.words.{module}")
-        own = words.add_parser(word, help=purpose, description=(loaded.__doc__ or "").strip(), epilog=_ENDING,
-                               formatter_class=argparse.RawDescriptionHelpFormatter)
+        own = words.add_parser(
+            word,
+            help=purpose,
+            description=(loaded.__doc__ or "").strip(),
+            epilog=_ENDING,
+            formatter_class=argparse.RawDescriptionHelpFormatter,
+        )
         loaded.add_arguments(own)
-        own.add_argument("--program", default=None, metavar="P", help="the program to play lines through (the "
-                         "repository's ./spbsim where none is given)")
+        own.add_argument(
+            "--program",
+            default=None,
+            metavar="P",
+            help="the program to play lines through (the " "repository's ./spbsim where none is given)",
+        )
         own.set_defaults(run=loaded.run)
     return parser
 

@@ -21,15 +21,20 @@ def explain(refused: Refused, script: Script) -> List[str]:
     """The lines that tell of a refusal."""
     line = refused.origin
     if line is None:
-        return [f"{script.name}: `{refused.text}`, which isn't of the script but is played behind it, was refused: "
-                f"{refused.reason}. {_of_added(refused)}".rstrip()]
+        return [
+            f"{script.name}: `{refused.text}`, which isn't of the script but is played behind it, was refused: "
+            f"{refused.reason}. {_of_added(refused)}".rstrip()
+        ]
     before = script.world(line.number - 1) if line.number > 1 else World()
     finding = _FINDERS.get(refused.reason, _nothing)(line, before)
     column = refused.column or _column(line, finding.word)
     if refused.reason == "Words":
         finding = _of_words(line, column)
-    told = [f"{script.name}:{line.number}:{column}: {refused.reason}: {finding.text}",
-            f"    {_shown(line.shown)}", f"    {_blank(line, column)}^"]
+    told = [
+        f"{script.name}:{line.number}:{column}: {refused.reason}: {finding.text}",
+        f"    {_shown(line.shown)}",
+        f"    {_blank(line, column)}^",
+    ]
     if finding.other is not None:
         told.append(f"{script.name}:{finding.other}: here: {_shown(script.lines[finding.other - 1].shown)}")
     if line.keyword in language.FORMS:
@@ -49,7 +54,7 @@ def _shown(text: str) -> str:
 
 def _blank(line: Line, column: int) -> str:
     """The blanks before the caret; the column counts bytes, and what is shown has characters."""
-    before = line.text[:column - 1].encode("latin-1").decode("utf-8", "replace")
+    before = line.text[: column - 1].encode("latin-1").decode("utf-8", "replace")
     return " " * min(len(before), 200)
 
 
@@ -175,8 +180,12 @@ def _port_use(line: Line, before: World) -> Finding:
     for at, port in ((2, 3), (4, 5)):
         link = before.at_port.get((line.words[at], int(line.words[port])))
         if link is not None:
-            return Finding(port, f"port {int(line.words[port])} of {line.words[at]} has the link {link.name}, "
-                           f"{'up' if link.is_up else 'down'}", link.line)
+            return Finding(
+                port,
+                f"port {int(line.words[port])} of {line.words[at]} has the link {link.name}, "
+                f"{'up' if link.is_up else 'down'}",
+                link.line,
+            )
     return _nothing(line, before)
 
 
@@ -184,18 +193,27 @@ def _already_linked(line: Line, before: World) -> Finding:
     ends = {line.words[2], line.words[4]}
     for link in before.links.values():
         if {link.a, link.b} == ends:
-            return Finding(2, f"{link.a} and {link.b} have the link {link.name}; parallel links aren't modelled",
-                           link.line)
+            return Finding(
+                2, f"{link.a} and {link.b} have the link {link.name}; parallel links aren't modelled", link.line
+            )
     return _nothing(line, before)
 
 
 # Numbers
 
 _RANGES: Dict[Tuple[str, str], Tuple[int, int]] = {
-    ("vid", "V"): (1, 4094), ("vid", "E"): (1, 16), ("bridge", "PRIO"): (0, 65535), ("bridge", "PORTS"): (0, 32),
-    ("link", "COST"): (1, language.GREATEST_METRIC), ("isid", "I"): (1, 16777215), ("attach", "P"): (1, 64),
-    ("detach", "P"): (1, 64), ("frame", "P"): (1, 64), ("metric", "M"): (1, language.GREATEST_METRIC),
-    ("round", "COUNT"): (1, 20000), ("drain", "COUNT"): (1, 1000000),
+    ("vid", "V"): (1, 4094),
+    ("vid", "E"): (1, 16),
+    ("bridge", "PRIO"): (0, 65535),
+    ("bridge", "PORTS"): (0, 32),
+    ("link", "COST"): (1, language.GREATEST_METRIC),
+    ("isid", "I"): (1, 16777215),
+    ("attach", "P"): (1, 64),
+    ("detach", "P"): (1, 64),
+    ("frame", "P"): (1, 64),
+    ("metric", "M"): (1, language.GREATEST_METRIC),
+    ("round", "COUNT"): (1, 20000),
+    ("drain", "COUNT"): (1, 1000000),
 }
 
 
@@ -204,8 +222,11 @@ def _range(line: Line, before: World) -> Finding:
     for index, place in places:
         bounds = _RANGES.get((line.keyword, place))
         if bounds and not bounds[0] <= int(line.words[index]) <= bounds[1]:
-            return Finding(index, f"{place} is {int(line.words[index]):,}; it is {bounds[0]:,} to {bounds[1]:,}"
-                           + _of_number(place, int(line.words[index])))
+            return Finding(
+                index,
+                f"{place} is {int(line.words[index]):,}; it is {bounds[0]:,} to {bounds[1]:,}"
+                + _of_number(place, int(line.words[index])),
+            )
     for index, place in places:
         text = _of_range(line, index, place, before)
         if text:
@@ -235,18 +256,26 @@ def _of_range(line: Line, index: int, place: str, before: World) -> Optional[str
 
 
 def _too_many(line: Line, _before: World) -> Finding:
-    return Finding(None, {
-        "vid": "a script has at most 16 base VIDs", "bridge": "a script has at most 96 bridges",
-        "link": "a script has at most 400 links", "isid": "a script has at most 4,096 services",
-        "attach": "a bridge has at most 60 different I-SIDs",
-        "round": f"the rounds of a run are at most 20,000; {_before.seconds:,} were asked for before",
-        "drain": "the deliveries that a run's `drain` lines ask for are at most 100,000,000",
-    }.get(line.keyword, "a limit would be passed"))
+    return Finding(
+        None,
+        {
+            "vid": "a script has at most 16 base VIDs",
+            "bridge": "a script has at most 96 bridges",
+            "link": "a script has at most 400 links",
+            "isid": "a script has at most 4,096 services",
+            "attach": "a bridge has at most 60 different I-SIDs",
+            "round": f"the rounds of a run are at most 20,000; {_before.seconds:,} were asked for before",
+            "drain": "the deliveries that a run's `drain` lines ask for are at most 100,000,000",
+        }.get(line.keyword, "a limit would be passed"),
+    )
 
 
 def _too_late(_line: Line, before: World) -> Finding:
-    return Finding(0, "each `vid` stands before the first `bridge`",
-                   min((bridge.line for bridge in before.bridges.values()), default=None))
+    return Finding(
+        0,
+        "each `vid` stands before the first `bridge`",
+        min((bridge.line for bridge in before.bridges.values()), default=None),
+    )
 
 
 # Events
@@ -264,17 +293,23 @@ def _attached(line: Line, before: World) -> Finding:
 
 def _not_attached(line: Line, before: World) -> Finding:
     own = sorted(port for bridge, port in before.attached if bridge == line.words[1])
-    return Finding(2, f"customer port {int(line.words[2])} of {line.words[1]} isn't attached to a service; attached are "
-                   f"{_listed(own)}")
+    return Finding(
+        2,
+        f"customer port {int(line.words[2])} of {line.words[1]} isn't attached to a service; attached are "
+        f"{_listed(own)}",
+    )
 
 
 def _no_frame(line: Line, before: World) -> Finding:
     link = before.links[line.words[1]]
     tail, head = (link.a, link.b) if line.words[2] == "ab" else (link.b, link.a)
     if line.keyword == "deliver":
-        return Finding(2, f"no frame is on its way from {tail} to {head}" + ("" if link.is_up else "; the link is down"))
-    return Finding(3, f"no frame stands at place {int(line.words[3])} on the way from {tail} to {head}; places count "
-                   "from 0")
+        return Finding(
+            2, f"no frame is on its way from {tail} to {head}" + ("" if link.is_up else "; the link is down")
+        )
+    return Finding(
+        3, f"no frame stands at place {int(line.words[3])} on the way from {tail} to {head}; places count " "from 0"
+    )
 
 
 def _rack_spent(_line: Line, before: World) -> Finding:
@@ -282,8 +317,18 @@ def _rack_spent(_line: Line, before: World) -> Finding:
 
 
 _FINDERS: Dict[str, Callable[[Line, World], Finding]] = {
-    "NoSuchName": _no_such_name, "NameTaken": _name_taken, "IdTaken": _id_taken, "PortUse": _port_use,
-    "Range": _range, "TooMany": _too_many, "AlreadyLinked": _already_linked, "AlreadyUp": _already,
-    "AlreadyDown": _already, "Attached": _attached, "NotAttached": _not_attached, "NoFrame": _no_frame,
-    "RackSpent": _rack_spent, "TooLate": _too_late,
+    "NoSuchName": _no_such_name,
+    "NameTaken": _name_taken,
+    "IdTaken": _id_taken,
+    "PortUse": _port_use,
+    "Range": _range,
+    "TooMany": _too_many,
+    "AlreadyLinked": _already_linked,
+    "AlreadyUp": _already,
+    "AlreadyDown": _already,
+    "Attached": _attached,
+    "NotAttached": _not_attached,
+    "NoFrame": _no_frame,
+    "RackSpent": _rack_spent,
+    "TooLate": _too_late,
 }

@@ -22,8 +22,8 @@ class Failure:
 
 @dataclass
 class Toll:
-    """What a failure takes: the pairs of bridges that lose each other, with the VIDs where these aren't all; the members
-    that services lose; and the link that then has the most ways."""
+    """What a failure takes: the pairs of bridges that lose each other in some VID, and the ways that are cut; the
+    members that services lose; how many ways take other links; and the link that then has the most ways."""
 
     failure: Failure
     pairs: List[Tuple[str, str]] = field(default_factory=list)
@@ -67,11 +67,12 @@ class Rehearsal:
     def played(self, program: str) -> Iterator[Tuple[int, Dict[str, Rows]]]:
         """For each failure by its number the tables that are others than before; -1, the first, has all tables."""
         raw: Dict[str, List[bytes]] = {}
-        current, tables = -1, {}
+        current = -1
+        tables: Dict[str, Rows] = {}
         for answer in play(program, self.tape):
-            if answer.index not in self.asked:
+            if answer.place not in self.asked:
                 continue
-            number, bridge = self.asked[answer.index]
+            number, bridge = self.asked[answer.place]
             if number != current:
                 yield current, tables
                 current, tables = number, {}
@@ -86,14 +87,14 @@ def toll(failure: Failure, before: Survey, change: Change) -> Toll:
     """What a failure takes, by what was followed anew. Of a bridge that fails its own ways and members don't count."""
     told = Toll(failure)
     gone = failure.name if failure.kind == "bridge" else None
-    pairs = {}
+    pairs: Dict[Tuple[str, str], None] = {}
     for key, way in change.ways.items():
         if gone in key[:2]:
             continue
         told.moved += way.hops != before.ways[key].hops
         if way.fault is not None and before.ways[key].fault is None:
             told.ways += 1
-            pairs[tuple(sorted(key[:2], key=list(before.fabric.world.bridges).index))] = None
+            pairs[_in_order(key[0], key[1], before.fabric.world)] = None
     told.pairs = list(pairs)
     for (source, isid, _), tree in sorted(change.trees.items()):
         missed = set(tree.missed) - set(before.trees[source, isid, tree.vid].missed) - {gone}
@@ -101,6 +102,11 @@ def toll(failure: Failure, before: Survey, change: Change) -> Toll:
             told.lost.setdefault(isid, []).extend((source, bridge) for bridge in sorted(missed))
     told.fullest = _fullest(before, change, gone)
     return told
+
+
+def _in_order(a: str, b: str, world: World) -> Tuple[str, str]:
+    """Two bridges in the order of their declaration."""
+    return (a, b) if world.bridges[a].line < world.bridges[b].line else (b, a)
 
 
 def _fullest(before: Survey, change: Change, gone: Optional[str]) -> Optional[Tuple[str, int]]:

@@ -39,13 +39,24 @@ EVENTS = tuple(word for word in FORMS if word not in DECLARATIONS + QUESTIONS)
 NAME = re.compile(r"[A-Za-z][A-Za-z0-9_-]{0,15}\Z")
 NUMBER = re.compile(r"[0-9]{1,10}\Z")
 _NAME_PLACES = ("N", "L", "A", "B")
-_HEX_PLACES = {"SYSID": re.compile(r"[0-9A-Fa-f]{12}\Z"), "SRC": re.compile(r"[0-9A-Fa-f]{5}\Z"),
-               "HEX": re.compile(r"([0-9A-Fa-f]{2})+\Z")}
+_HEX_PLACES = {
+    "SYSID": re.compile(r"[0-9A-Fa-f]{12}\Z"),
+    "SRC": re.compile(r"[0-9A-Fa-f]{5}\Z"),
+    "HEX": re.compile(r"([0-9A-Fa-f]{2})+\Z"),
+}
 
 # The greatest metric of a link.
 GREATEST_METRIC = 16_777_214
-LIMITS = {"bridges": 96, "links": 400, "ports": 32, "vids": 16, "services": 4_096, "lines": 100_000, "rounds": 20_000,
-          "bytes": 8_388_608}
+LIMITS = {
+    "bridges": 96,
+    "links": 400,
+    "ports": 32,
+    "vids": 16,
+    "services": 4_096,
+    "lines": 100_000,
+    "rounds": 20_000,
+    "bytes": 8_388_608,
+}
 
 
 def form(keyword: str) -> str:

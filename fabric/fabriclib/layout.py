@@ -61,8 +61,11 @@ def _stems(world: World) -> Dict[str, List[str]]:
 
 
 def _rows(world: World) -> Places:
-    rows = [names[at:at + _MOST_IN_A_ROW] for names in _stems(world).values()
-            for at in range(0, len(names), _MOST_IN_A_ROW)]
+    rows = [
+        names[at : at + _MOST_IN_A_ROW]
+        for names in _stems(world).values()
+        for at in range(0, len(names), _MOST_IN_A_ROW)
+    ]
     step = max(map(box_width, world.bridges)) + _GAP
     widest = (max(map(len, rows)) - 1) * step
     apart = min(max(_ROW, widest / 4), 420)
@@ -138,11 +141,12 @@ def _closed(names: List[str], linked: "set[frozenset[str]]") -> List[str]:
 def _neato(world: World) -> Places:
     if shutil.which("neato") is None:
         raise Unusable("the layout neato needs Graphviz, which isn't there; --layout ring and rows need nothing")
-    lines = ["graph {", "overlap=false", 'node [shape=box fixedsize=true height=0.42]']
+    lines = ["graph {", "overlap=false", "node [shape=box fixedsize=true height=0.42]"]
     lines += [f'"{name}" [width={box_width(name) / 72 + 0.2:.2f}]' for name in world.bridges]
     lines += [f'"{link.a}" -- "{link.b}" [len=1.9]' for link in world.links.values()]
-    told = subprocess.run(["neato", "-Tplain"], input="\n".join([*lines, "}"]), capture_output=True, text=True,
-                          check=False)
+    told = subprocess.run(
+        ["neato", "-Tplain"], input="\n".join([*lines, "}"]), capture_output=True, text=True, check=False
+    )
     if told.returncode != 0:
         raise Unusable(f"neato failed: {told.stderr.strip()}")
     return dict(_plain_node(line) for line in told.stdout.splitlines() if line.startswith("node "))

@@ -14,14 +14,18 @@ def add_bridge_arguments(parser: argparse.ArgumentParser) -> None:
     """A bridge, the script that declares it, and from which line on the lines are to stand."""
     parser.add_argument("bridge", metavar="B", help="the bridge")
     parser.add_argument("script", metavar="SCRIPT", help="the script that declares it, or - for standard input")
-    parser.add_argument("--at", type=int, metavar="LINE", help="as the network stands behind this line of the script "
-                        "(its last where none is given)")
+    parser.add_argument(
+        "--at",
+        type=int,
+        metavar="LINE",
+        help="as the network stands behind this line of the script " "(its last where none is given)",
+    )
     parser.add_argument("--whole", action="store_true", help="write the script's lines up to there before")
 
 
 def bridge_of(told: argparse.Namespace) -> World:
     """What is declared behind the line that is told; Unusable where the bridge isn't among it."""
-    world = told.script.world(told.at)
+    world: World = told.script.world(told.at)
     named(told.script, world, told.bridge)
     return world
 

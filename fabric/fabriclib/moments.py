@@ -23,10 +23,10 @@ def fabrics_at(program: str, script: Script, lines: Sequence[Optional[int]], que
     for number in sorted(set(numbers)):
         tape.script(script.lines[done:number])
         done, tables[number] = number, {}
-        for bridge in script.world(number or None).bridges if number else ():
+        for bridge in script.world(number).bridges:
             index = tape.add(f"{question} {bridge}")
             asked[index], owner[index] = bridge, number
     for answer in play(program, tape):
-        if answer.index in asked:
-            tables[owner[answer.index]][asked[answer.index]] = rows_of(answer.lines[1:])
+        if answer.place in asked:
+            tables[owner[answer.place]][asked[answer.place]] = rows_of(answer.lines[1:])
     return [Fabric(script.world(number), tables[number]) for number in numbers]

@@ -5,10 +5,23 @@ from typing import List, Optional
 
 from fabriclib.script import World
 
-DROP_REASONS = ("no frame of the backbone", "PDU can't be read", "TLV can't be read", "not adjacent",
-                "hello discarded", "ingress check", "no way", "I-SID mismatch", "database full")
-CONDITIONS = {"q1": "an adjacency isn't as the link", "q2": "a frame is on its way",
-              "q3": "an LSP or CSNP is due", "q4": "two bodies under one LSP id"}
+DROP_REASONS = (
+    "no frame of the backbone",
+    "PDU can't be read",
+    "TLV can't be read",
+    "not adjacent",
+    "hello discarded",
+    "ingress check",
+    "no way",
+    "I-SID mismatch",
+    "database full",
+)
+CONDITIONS = {
+    "q1": "an adjacency isn't as the link",
+    "q2": "a frame is on its way",
+    "q3": "an LSP or CSNP is due",
+    "q4": "two bodies under one LSP id",
+}
 
 
 def neighbour(world: World, bridge: str, port: int) -> str:
@@ -36,8 +49,15 @@ class Names:
     def note(self, line: str) -> Optional[str]:
         """What a line says, in names; none where it has no address or port."""
         words = line.split()
-        read = {"u": self._unicast, "g": self._group, "p": self._port, "l": self._lsp, "out": self._out,
-                "drops": self._drops, "state": self._state}.get(words[0])
+        read = {
+            "u": self._unicast,
+            "g": self._group,
+            "p": self._port,
+            "l": self._lsp,
+            "out": self._out,
+            "drops": self._drops,
+            "state": self._state,
+        }.get(words[0])
         return read(words) if read else None
 
     def _unicast(self, words: List[str]) -> str:

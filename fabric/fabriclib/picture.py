@@ -45,8 +45,11 @@ IDLE = Stroke("#d9b36c", 1.2, "2 4", legend="idle link")
 TREE = Stroke("#2563eb", 3.0, legend="the tree")
 LOST = Stroke("#dc2626", 3.0, legend="a frame is dropped behind it")
 # The shades of load: up to which share of the fullest link, and what the legend says.
-SHADES = ((1 / 3, "#93c5fd", "up to a third of the fullest"), (2 / 3, "#3b82f6", "a third to two thirds"),
-          (1.0, "#1e3a8a", "more than two thirds of the fullest"))
+SHADES = (
+    (1 / 3, "#93c5fd", "up to a third of the fullest"),
+    (2 / 3, "#3b82f6", "a third to two thirds"),
+    (1.0, "#1e3a8a", "more than two thirds of the fullest"),
+)
 STROKES = (TREE.legend, LOST.legend, *(legend for _, _, legend in SHADES), LINK.legend, IDLE.legend, DOWN.legend)
 
 
@@ -135,8 +138,9 @@ def _link(link: Link, stroke: Stroke, places: Places) -> str:
             begin, end = end, begin
         end = _border(begin, end, places[stroke.head], box_width(stroke.head))
         marker = next(f"url(#{name})" for name, colour in _MARKERS.items() if colour == stroke.colour)
-    return svg.line(begin, end, stroke=stroke.colour, stroke_width=stroke.width, stroke_dasharray=stroke.dash,
-                    marker_end=marker)
+    return svg.line(
+        begin, end, stroke=stroke.colour, stroke_width=stroke.width, stroke_dasharray=stroke.dash, marker_end=marker
+    )
 
 
 def _anchor(name: str, other: str, places: Places) -> Place:
@@ -160,15 +164,27 @@ def _border(begin: Place, end: Place, middle: Place, width: float) -> Place:
 def _label(link: Link, stroke: Stroke, places: Places) -> str:
     a, b = places[link.a], places[link.b]
     x, y, width = (a.x + b.x) / 2, (a.y + b.y) / 2, len(stroke.label) * 7 + 8
-    return (svg.element("rect", x=x - width / 2, y=y - 9, width=width, height=18, rx=4, fill="#ffffff", opacity=0.92)
-            + svg.text(x, y + 4, stroke.label, 11, text_anchor="middle", fill="#334155"))
+    return svg.element(
+        "rect", x=x - width / 2, y=y - 9, width=width, height=18, rx=4, fill="#ffffff", opacity=0.92
+    ) + svg.text(x, y + 4, stroke.label, 11, text_anchor="middle", fill="#334155")
 
 
 def _bridge(name: str, look: Look, place: Place) -> List[str]:
     width = box_width(name)
-    return [svg.element("rect", x=place.x - width / 2, y=place.y - BOX_HEIGHT / 2, width=width, height=BOX_HEIGHT,
-                        rx=7, fill=look.fill, stroke=look.stroke, stroke_width=1.6),
-            svg.text(place.x, place.y + 4.5, name, 13, text_anchor="middle", fill=look.text)]
+    return [
+        svg.element(
+            "rect",
+            x=place.x - width / 2,
+            y=place.y - BOX_HEIGHT / 2,
+            width=width,
+            height=BOX_HEIGHT,
+            rx=7,
+            fill=look.fill,
+            stroke=look.stroke,
+            stroke_width=1.6,
+        ),
+        svg.text(place.x, place.y + 4.5, name, 13, text_anchor="middle", fill=look.text),
+    ]
 
 
 # The legend
@@ -212,9 +228,24 @@ def _legend(panels: List[Panel], width: float) -> List[str]:
 
 def _sample(sample: object, x: float, y: float) -> str:
     if isinstance(sample, Look):
-        return svg.element("rect", x=float(x), y=float(y - 7), width=26, height=14, rx=4, fill=sample.fill,
-                           stroke=sample.stroke, stroke_width=1.4)
+        return svg.element(
+            "rect",
+            x=float(x),
+            y=float(y - 7),
+            width=26,
+            height=14,
+            rx=4,
+            fill=sample.fill,
+            stroke=sample.stroke,
+            stroke_width=1.4,
+        )
     assert isinstance(sample, Stroke)
     marker = next((f"url(#{name})" for name, colour in _MARKERS.items() if colour == sample.colour), None)
-    return svg.line((x, y), (x + 26, y), stroke=sample.colour, stroke_width=sample.width,
-                    stroke_dasharray=sample.dash, marker_end=marker if sample.head else None)
+    return svg.line(
+        (x, y),
+        (x + 26, y),
+        stroke=sample.colour,
+        stroke_width=sample.width,
+        stroke_dasharray=sample.dash,
+        marker_end=marker if sample.head else None,
+    )

@@ -7,7 +7,7 @@ import subprocess
 import sys
 import tempfile
 from dataclasses import dataclass, field
-from typing import BinaryIO, Iterable, Iterator, List, NamedTuple, Optional
+from typing import IO, Iterable, Iterator, List, NamedTuple, Optional
 
 from fabriclib import language
 from fabriclib.script import Line, Unusable
@@ -33,9 +33,9 @@ class NoAnswer(Exception):
 
 
 class Answer(NamedTuple):
-    """What was answered to a line: its index among those that were played, and the lines."""
+    """What was answered to a line: its place among those that were played, and the lines."""
 
-    index: int
+    place: int
     lines: List[bytes]
 
     def texts(self) -> List[str]:
@@ -73,8 +73,10 @@ def play(program: str, tape: Tape) -> Iterator[Answer]:
     with tempfile.TemporaryFile() as script:
         script.write("".join(text + "\n" for text in tape.texts).encode("latin-1"))
         if len(tape.texts) > language.LIMITS["lines"] or script.tell() > language.LIMITS["bytes"]:
-            raise Unusable(f"this takes a run of {len(tape.texts):,} lines and {script.tell():,} bytes; a script has at "
-                           f"most {language.LIMITS['lines']:,} lines and {language.LIMITS['bytes']:,} bytes")
+            raise Unusable(
+                f"this takes a run of {len(tape.texts):,} lines and {script.tell():,} bytes; a script has at "
+                f"most {language.LIMITS['lines']:,} lines and {language.LIMITS['bytes']:,} bytes"
+            )
         script.seek(0)
         with _started(program, script) as process, Progress(len(tape.texts)) as progress:
             assert process.stdout is not None
@@ -86,7 +88,7 @@ def play(program: str, tape: Tape) -> Iterator[Answer]:
             _look_at_end(process.wait())
 
 
-def _started(program: str, script: BinaryIO) -> "subprocess.Popen[bytes]":
+def _started(program: str, script: IO[bytes]) -> "subprocess.Popen[bytes]":
     """The running program. What it says on standard error goes there unchanged."""
     path = os.path.abspath(program) if os.path.exists(program) else program
     try:
@@ -105,7 +107,7 @@ def _look_at_end(status: int) -> None:
 class _Output:
     """The lines that the program writes, the next of which can be looked at."""
 
-    def __init__(self, file: BinaryIO) -> None:
+    def __init__(self, file: IO[bytes]) -> None:
         self.file = file
         self.next: bytes = file.readline()
 
@@ -144,8 +146,11 @@ def _question(output: _Output, keyword: str) -> List[bytes]:
     first = output.take()
     words = first.split()
     if not words or words[0].decode("latin-1") != keyword:
-        raise NoAnswer(f"the program wrote {first.decode('latin-1').strip()!r} where an answer of `{keyword}` has to "
-                       "stand" if first else "the program's answers end too early")
+        raise NoAnswer(
+            f"the program wrote {first.decode('latin-1').strip()!r} where an answer of `{keyword}` has to " "stand"
+            if first
+            else "the program's answers end too early"
+        )
     count = sum(int(words[place]) for place in _ROW_COUNTS.get(keyword, ()))
     rows = output.rows(count)
     if len(rows) != count or (rows and not rows[-1].endswith(b"\n")):

@@ -167,7 +167,7 @@ class Script:
 
     def upto(self, number: Optional[int]) -> List[Line]:
         """The lines up to that of a number, all where there is none."""
-        if number is None:
+        if number is None or number == len(self.lines):
             return self.lines
         if not 1 <= number <= len(self.lines):
             raise Unusable(f"{self.name} has lines 1 to {len(self.lines)}, and none of number {number}")

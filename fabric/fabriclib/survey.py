@@ -7,7 +7,7 @@ from __future__ import annotations
 
 from collections import Counter
 from dataclasses import dataclass, field
-from typing import Dict, FrozenSet, List, Mapping, Set, Tuple
+from typing import Dict, FrozenSet, Iterable, List, Mapping, Set, Tuple, TypeVar
 
 from fabriclib.follow import Fabric, Read, Rows, Tree, Way
 from fabriclib.script import World
@@ -15,6 +15,9 @@ from fabriclib.script import World
 # A way's source, target and VID; a tree's source, I-SID and VID.
 WayKey = Tuple[str, str, int]
 TreeKey = Tuple[str, int, int]
+
+_Name = TypeVar("_Name")
+_Key = TypeVar("_Key")
 
 
 def way_keys(world: World) -> List[WayKey]:
@@ -119,8 +122,8 @@ class Change:
         return load
 
 
-def _remember(index: Dict, names: object, key: object) -> None:
-    for name in names:  # type: ignore[attr-defined]
+def _remember(index: Dict[_Name, List[_Key]], names: Iterable[_Name], key: _Key) -> None:
+    for name in names:
         index.setdefault(name, []).append(key)
 
 

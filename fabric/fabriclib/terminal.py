@@ -34,8 +34,10 @@ def table(rows: Sequence[Sequence[str]], indent: str = "", right: Sequence[int] 
     widths = [max(len(row[column]) for row in rows if column < len(row)) for column in range(max(map(len, rows)))]
     lines = []
     for row in rows:
-        cells = (cell.rjust(width) if column in right else cell.ljust(width)
-                 for column, (cell, width) in enumerate(zip(row, widths)))
+        cells = (
+            cell.rjust(width) if column in right else cell.ljust(width)
+            for column, (cell, width) in enumerate(zip(row, widths))
+        )
         lines.append((indent + "  ".join(cells)).rstrip())
     return lines
 

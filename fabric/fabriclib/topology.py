@@ -63,7 +63,9 @@ def _containerlab(path: str, content: str) -> Topology:
     try:
         import yaml  # type: ignore[import-untyped]
     except ImportError as fault:
-        raise Unusable("YAML is read by PyYAML, which isn't there (Debian: python3-yaml; or pip install pyyaml)") from fault
+        raise Unusable(
+            "YAML is read by PyYAML, which isn't there (Debian: python3-yaml; or pip install pyyaml)"
+        ) from fault
     try:
         told = yaml.safe_load(content)
     except yaml.YAMLError as fault:
@@ -96,10 +98,11 @@ def _end(end: Any) -> str:
 # CSV
 
 # The names of the columns that are known, in lower case without anything but letters.
-_COLUMNS = {"a": ("a", "from", "source", "src", "nodea", "bridgea", "devicea", "locala", "localdevice", "local", "node1"),
-            "b": ("b", "to", "target", "dst", "destination", "nodeb", "bridgeb", "deviceb", "remotedevice", "remote",
-                  "node2"),
-            "metric": ("metric", "cost", "weight", "l1metric", "igpmetric")}
+_COLUMNS = {
+    "a": ("a", "from", "source", "src", "nodea", "bridgea", "devicea", "locala", "localdevice", "local", "node1"),
+    "b": ("b", "to", "target", "dst", "destination", "nodeb", "bridgeb", "deviceb", "remotedevice", "remote", "node2"),
+    "metric": ("metric", "cost", "weight", "l1metric", "igpmetric"),
+}
 
 
 def _csv(path: str, content: str) -> Topology:
@@ -111,7 +114,7 @@ def _csv(path: str, content: str) -> Topology:
         raise Unusable(f"{path} has no links")
     columns = _columns(numbered[0][1])
     topology = Topology()
-    for number, row in numbered[1 if columns else 0:]:
+    for number, row in numbered[1 if columns else 0 :]:
         _csv_link(topology, row, columns or _plain_columns(row), f"line {number}")
     return topology
 
@@ -133,6 +136,7 @@ def _plain_columns(row: Sequence[str]) -> Dict[str, int]:
 def _csv_link(topology: Topology, row: Sequence[str], columns: Dict[str, int], where: str) -> None:
     def cell(what: str) -> str:
         return row[columns[what]] if 0 <= columns[what] < len(row) else ""
+
     if not cell("a") or not cell("b"):
         topology.notes.append(f"{where} is left out: it doesn't name two ends")
         return

@@ -6,7 +6,7 @@ import os
 import subprocess
 import sys
 import time
-from typing import List, Optional
+from typing import Callable, Iterator, List, Optional, Tuple
 
 from fabriclib.tests import accepted, golden, no_paths, times, usage
 from fabriclib.tests.bench import TOP, Bench
@@ -19,9 +19,30 @@ def built_program() -> Optional[str]:
         return None
     crates = os.path.join(TOP, "crates")
     newer = subprocess.run(
-        ["find", crates, os.path.join(TOP, "crates.txt"), "(", "-name", "out", "-o", "-path",
-         os.path.join(crates, "cases"), ")", "-prune", "-o", "-type", "f", "-newer", program, "-print", "-quit"],
-        capture_output=True, text=True, check=False)
+        [
+            "find",
+            crates,
+            os.path.join(TOP, "crates.txt"),
+            "(",
+            "-name",
+            "out",
+            "-o",
+            "-path",
+            os.path.join(crates, "cases"),
+            ")",
+            "-prune",
+            "-o",
+            "-type",
+            "f",
+            "-newer",
+            program,
+            "-print",
+            "-quit",
+        ],
+        capture_output=True,
+        text=True,
+        check=False,
+    )
     return None if newer.stdout.strip() else program
 
 
@@ -37,8 +58,12 @@ def main() -> int:
         print("fabric/test: no program is built from the sources as they are; ./build makes it", file=sys.stderr)
         return 2
     bench = Bench(program)
-    parts = [("golden outputs", lambda: golden.run(bench, told.write)), ("no path is computed", lambda: no_paths.run(bench)),
-             ("what is written is accepted", lambda: accepted.run(bench)), ("usage", lambda: usage.run(bench))]
+    parts: List[Tuple[str, Callable[[], Iterator[str]]]] = [
+        ("golden outputs", lambda: golden.run(bench, told.write)),
+        ("no path is computed", lambda: no_paths.run(bench)),
+        ("what is written is accepted", lambda: accepted.run(bench)),
+        ("usage", lambda: usage.run(bench)),
+    ]
     if told.times:
         parts.append(("times", lambda: times.run(bench)))
     begun = time.monotonic()

@@ -4,7 +4,7 @@ from __future__ import annotations
 import glob
 import json
 import os
-from typing import Dict, Iterator
+from typing import Any, Dict, Iterator
 
 from fabriclib.script import Script
 from fabriclib.tests.bench import EXAMPLES, FABRICS, GOLDEN, TOP, Bench
@@ -54,7 +54,7 @@ def _of_drained_spine(bench: Bench) -> Iterator[str]:
 
 
 def _passed(bench: Bench, script: str) -> int:
-    record: Dict = json.loads(bench.fabric("report", "-", "--json", stdin=script).out)
+    record: Dict[str, Any] = json.loads(bench.fabric("report", "-", "--json", stdin=script).out)
     if record["cut"]:
         return -1
-    return next(sum(bridge["passed"].values()) for bridge in record["bridges"] if bridge["name"] == "spine1")
+    return int(next(sum(bridge["passed"].values()) for bridge in record["bridges"] if bridge["name"] == "spine1"))

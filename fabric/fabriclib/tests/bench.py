@@ -27,8 +27,9 @@ class Bench:
         self.program = os.path.abspath(program)
         self.calls = 0
 
-    def fabric(self, *words: str, stdin: str = "", env: Optional[Dict[str, str]] = None,
-               program: Optional[str] = None) -> Result:
+    def fabric(
+        self, *words: str, stdin: str = "", env: Optional[Dict[str, str]] = None, program: Optional[str] = None
+    ) -> Result:
         """A call of fabric/fabric."""
         self.calls += 1
         whole = [os.path.join(FABRIC, "fabric"), *words, "--program", program or self.program]
@@ -41,8 +42,9 @@ class Bench:
 
 
 def _called(words: List[str], stdin: str, env: Optional[Dict[str, str]]) -> Result:
-    told = subprocess.run(words, input=stdin, capture_output=True, text=True, cwd=TOP, check=False,
-                          env={**os.environ, **(env or {})})
+    told = subprocess.run(
+        words, input=stdin, capture_output=True, text=True, cwd=TOP, check=False, env={**os.environ, **(env or {})}
+    )
     return Result(told.returncode, told.stdout, told.stderr)
 
 

@@ -7,7 +7,7 @@ import tempfile
 from typing import Iterator, List, Tuple
 
 from fabriclib.script import Script
-from fabriclib.tests.bench import EXAMPLES, FABRICS, GOLDEN, TOP, Bench
+from fabriclib.tests.bench import EXAMPLES, GOLDEN, TOP, Bench
 
 # The lines of our two fabrics behind which pictures and seconds are asked for.
 _LEAF_SPINE, _METRO_RING = "fabric/fabrics/leaf-spine.spb", "fabric/fabrics/metro-ring.spb"
@@ -84,26 +84,44 @@ def _line(path: str, text: str) -> str:
 
 def _of_leaf_spine() -> List[List[str]]:
     up, failed = _line(_LEAF_SPINE, "state"), _line(_LEAF_SPINE, "down s1l12")
-    return [["explain", _LEAF_SPINE], ["transcript", _LEAF_SPINE], ["report", _LEAF_SPINE, "--at", up, "--n-1"],
-            ["report", _LEAF_SPINE, "--at", up, "--json"], ["report", _LEAF_SPINE],
-            ["timeline", _LEAF_SPINE, "--at", failed], ["timeline", _LEAF_SPINE, "--at", failed, "--seconds", "1", "--json"],
-            ["node-down", "spine1", _LEAF_SPINE, "--at", up], ["drain", "spine1", _LEAF_SPINE, "--at", up],
-            ["undrain", "spine1", _LEAF_SPINE, "--at", up]]
+    return [
+        ["explain", _LEAF_SPINE],
+        ["transcript", _LEAF_SPINE],
+        ["report", _LEAF_SPINE, "--at", up, "--n-1"],
+        ["report", _LEAF_SPINE, "--at", up, "--json"],
+        ["report", _LEAF_SPINE],
+        ["timeline", _LEAF_SPINE, "--at", failed],
+        ["timeline", _LEAF_SPINE, "--at", failed, "--seconds", "1", "--json"],
+        ["node-down", "spine1", _LEAF_SPINE, "--at", up],
+        ["drain", "spine1", _LEAF_SPINE, "--at", up],
+        ["undrain", "spine1", _LEAF_SPINE, "--at", up],
+    ]
 
 
 def _of_metro_ring() -> List[List[str]]:
     up, cut, second = _line(_METRO_RING, "state"), _line(_METRO_RING, "down r3-r4"), _line(_METRO_RING, "down r5-r6")
-    return [["explain", _METRO_RING], ["transcript", _METRO_RING], ["report", _METRO_RING, "--at", up, "--n-1", "--all"],
-            ["report", _METRO_RING, "--at", cut, "--n-1"], ["report", _METRO_RING, "--at", cut, "--n-1", "--json"],
-            ["report", _METRO_RING], ["timeline", _METRO_RING, "--at", cut], ["timeline", _METRO_RING, "--at", second],
-            ["node-down", "r4", _METRO_RING], ["drain", "hub1", _METRO_RING], ["undrain", "hub1", _METRO_RING]]
+    return [
+        ["explain", _METRO_RING],
+        ["transcript", _METRO_RING],
+        ["report", _METRO_RING, "--at", up, "--n-1", "--all"],
+        ["report", _METRO_RING, "--at", cut, "--n-1"],
+        ["report", _METRO_RING, "--at", cut, "--n-1", "--json"],
+        ["report", _METRO_RING],
+        ["timeline", _METRO_RING, "--at", cut],
+        ["timeline", _METRO_RING, "--at", second],
+        ["node-down", "r4", _METRO_RING],
+        ["drain", "hub1", _METRO_RING],
+        ["undrain", "hub1", _METRO_RING],
+    ]
 
 
 def _pictures() -> List[Tuple[str, List[str]]]:
     up, failed = _line(_LEAF_SPINE, "state"), _line(_LEAF_SPINE, "down s1l12")
     ring_up, cut, second = (_line(_METRO_RING, text) for text in ("state", "down r3-r4", "down r5-r6"))
-    examples = [(f"{name}-load", [f"examples/{name}.spb", "--load"]) for name in
-                ("equal-cost-paths", "link-failure-drill", "metro-ring", "restart-drill", "two-ways")]
+    examples = [
+        (f"{name}-load", [f"examples/{name}.spb", "--load"])
+        for name in ("equal-cost-paths", "link-failure-drill", "metro-ring", "restart-drill", "two-ways")
+    ]
     return examples + [
         ("leaf-spine-tree", [_LEAF_SPINE, "--isid", "1005", "--from", "leaf1", "--at", up, "--at", failed]),
         ("leaf-spine-load", [_LEAF_SPINE, "--load", "--at", up]),
@@ -113,23 +131,63 @@ def _pictures() -> List[Tuple[str, List[str]]]:
         ("metro-ring-tree", [_METRO_RING, "--isid", "100", "--from", "r4", "--at", ring_up, "--at", second]),
         ("metro-ring-own", [_METRO_RING, "--isid", "100", "--from", "r9", "--at", cut, "--own"]),
         ("two-tenants-tree", ["examples/two-tenants.spb", "--isid", "1002", "--from", "leaf3"]),
-        ("share-of-spines-load", ["examples/share-of-spines.spb", "--load", "--at",
-                                  _line("examples/share-of-spines.spb", "state")]),
-        ("second-cut-tree", ["examples/second-cut.spb", "--isid", "100", "--at",
-                             _line("examples/second-cut.spb", "down sw")])]
+        (
+            "share-of-spines-load",
+            ["examples/share-of-spines.spb", "--load", "--at", _line("examples/share-of-spines.spb", "state")],
+        ),
+        (
+            "second-cut-tree",
+            ["examples/second-cut.spb", "--isid", "100", "--at", _line("examples/second-cut.spb", "down sw")],
+        ),
+    ]
 
 
 # Refused scripts: behind these declarations stands the line that is refused.
-_BEFORE = ["vid 10 1", "bridge A 32768 020000000001 00001 2", "bridge B 32768 020000000002 00002 2",
-           "bridge C 32768 020000000003 00003 1", "link L1 A 1 B 1 10", "isid 100 10", "attach A 1 100"]
-_REFUSED = ["lnk L2 A 2 C 1 10", "link L2 A 2 C", "link L2 A 2 C 1 10 # to C", "bridge D 1 02:00:00:00:00:04 00004 2",
-            "bridge D 1 020000000004 0.00.04 2", "bridge a-name-that-is-too-long 1 020000000004 00004 2",
-            "link L2 A 1/2 C 1 10", "metric L1 c 5", " # a comment", "link L2 A 2 Bb 1 10", "isid 200 20", "attach A 2 200",
-            "path A B 20", "vid 10 1", "vid 20 1", "bridge A 1 020000000004 00004 2", "bridge D 1 020000000001 00004 2",
-            "bridge D 1 020000000004 00002 2", "link L2 A 1 C 1 10", "link L2 A 3 C 1 10", "link L2 A 2 B 2 10",
-            "metric L1 a 16777215", "round 0", "bridge D 1 010000000004 00004 2", "bridge D 1 020000000004 00004 33",
-            "frame A 1 00", "up L1", "attach A 1 100", "detach A 2", "deliver L1 ab", "lose L1 ab 0", "link L2 A 2 A 2 1",
-            "round 20000\nround 1", "down L1\ndown L1"]
+_BEFORE = [
+    "vid 10 1",
+    "bridge A 32768 020000000001 00001 2",
+    "bridge B 32768 020000000002 00002 2",
+    "bridge C 32768 020000000003 00003 1",
+    "link L1 A 1 B 1 10",
+    "isid 100 10",
+    "attach A 1 100",
+]
+_REFUSED = [
+    "lnk L2 A 2 C 1 10",
+    "link L2 A 2 C",
+    "link L2 A 2 C 1 10 # to C",
+    "bridge D 1 02:00:00:00:00:04 00004 2",
+    "bridge D 1 020000000004 0.00.04 2",
+    "bridge a-name-that-is-too-long 1 020000000004 00004 2",
+    "link L2 A 1/2 C 1 10",
+    "metric L1 c 5",
+    " # a comment",
+    "link L2 A 2 Bb 1 10",
+    "isid 200 20",
+    "attach A 2 200",
+    "path A B 20",
+    "vid 10 1",
+    "vid 20 1",
+    "bridge A 1 020000000004 00004 2",
+    "bridge D 1 020000000001 00004 2",
+    "bridge D 1 020000000004 00002 2",
+    "link L2 A 1 C 1 10",
+    "link L2 A 3 C 1 10",
+    "link L2 A 2 B 2 10",
+    "metric L1 a 16777215",
+    "round 0",
+    "bridge D 1 010000000004 00004 2",
+    "bridge D 1 020000000004 00004 33",
+    "frame A 1 00",
+    "up L1",
+    "attach A 1 100",
+    "detach A 2",
+    "deliver L1 ab",
+    "lose L1 ab 0",
+    "link L2 A 2 A 2 1",
+    "round 20000\nround 1",
+    "down L1\ndown L1",
+]
 
 
 def _refusals(bench: Bench) -> Iterator[str]:

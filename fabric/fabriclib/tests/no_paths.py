@@ -6,13 +6,20 @@ import json
 import os
 import stat
 import tempfile
-from typing import Dict, Iterator, List
+from typing import Any, Dict, Iterator, List
 
-from fabriclib.tests.bench import FABRIC, FABRICS, TOP, Bench, Result
+from fabriclib.tests.bench import FABRIC, FABRICS, Bench, Result
 
 # Who may read a metric: what reads and writes declarations, and what writes it at a drawn link. Nothing that follows
 # rows is among them, and without metrics nobody finds a least path.
-_READ_METRICS = {"script.py", "topology.py", "words/importing.py", "words/drain.py", "words/undrain.py", "words/draw.py"}
+_READ_METRICS = {
+    "script.py",
+    "topology.py",
+    "words/importing.py",
+    "words/drain.py",
+    "words/undrain.py",
+    "words/draw.py",
+}
 _METRICS = {"metric", "usual_metric", "cost", "weight", "priority"}
 # What searches of paths are made with.
 _SEARCH = {"heapq", "queue", "networkx", "igraph", "scipy", "numpy"}
@@ -83,8 +90,10 @@ def _by_rows(bench: Bench, folder: str) -> Iterator[str]:
     back = ["wiring leaf2", "u 10 020000000001 1", "u 10 020000000001 3"]
     tree = ["wiring leaf1", "g 10 0300010003ed 1", "g 10 0300010003ed 3"]
 
-    def report(*rules: List[str]) -> Dict:
-        return _record(bench.fabric("report", script, "--at", at, "--json", program=_altering(bench, folder, list(rules))))
+    def report(*rules: List[str]) -> Dict[str, Any]:
+        return _record(
+            bench.fabric("report", script, "--at", at, "--json", program=_altering(bench, folder, list(rules)))
+        )
 
     true, both, half, other = report(), report(there, back), report(there), report(tree)
     if _passed(true, "spine3") != 0 or true["cut"]:
@@ -96,8 +105,9 @@ def _by_rows(bench: Bench, folder: str) -> Iterator[str]:
     lost = next(service["lost"] for service in other["services"] if service["isid"] == 1005)
     if sorted(lost) != sorted([["leaf1", f"leaf{number}"] for number in range(2, 13)]):
         yield "a group row altered: leaf1's tree isn't lost"
-    drawn = bench.fabric("draw", script, "--at", at, "--isid", "1005", "--from", "leaf1",
-                         program=_altering(bench, folder, [tree])).out
+    drawn = bench.fabric(
+        "draw", script, "--at", at, "--isid", "1005", "--from", "leaf1", program=_altering(bench, folder, [tree])
+    ).out
     if "0 of 11 other members reached" not in drawn or "dropped at spine3: no row for the group" not in drawn:
         yield "a group row altered: the picture doesn't show what the row says"
 
@@ -108,11 +118,12 @@ def _last_declaration(path: str) -> str:
     return str(max(number for number, line in enumerate(lines, 1) if line.startswith("attach ")))
 
 
-def _record(told: Result) -> Dict:
+def _record(told: Result) -> Dict[str, Any]:
     if told.status != 0:
         raise SystemExit(f"fabric/test: the altering program gave no answer: {told.err}")
-    return json.loads(told.out)
+    record: Dict[str, Any] = json.loads(told.out)
+    return record
 
 
-def _passed(record: Dict, name: str) -> int:
-    return next(bridge["passed"]["10"] for bridge in record["bridges"] if bridge["name"] == name)
+def _passed(record: Dict[str, Any], name: str) -> int:
+    return int(next(bridge["passed"]["10"] for bridge in record["bridges"] if bridge["name"] == name))

@@ -5,7 +5,7 @@ import os
 import random
 import tempfile
 import time
-from typing import Iterator, List, Set
+from typing import FrozenSet, Iterator, List, Set
 
 from fabriclib.tests.bench import Bench
 
@@ -13,7 +13,7 @@ from fabriclib.tests.bench import Bench
 def made(bridges: int, links: int) -> str:
     """A fabric by chance, the same each time: a ring, and links across."""
     chance = random.Random(bridges)
-    joined: Set[frozenset] = set()
+    joined: Set[FrozenSet[int]] = set()
     ends: List[List[int]] = []
     ports = [0] * bridges
     for number in range(links):

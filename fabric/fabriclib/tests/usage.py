@@ -6,7 +6,7 @@ import pty
 import subprocess
 import sys
 import tempfile
-from typing import Iterator
+from typing import Iterator, List, Tuple
 
 from fabriclib.cli import WORDS
 from fabriclib.tests.bench import FABRIC, GOLDEN, TOP, Bench
@@ -20,10 +20,19 @@ def run(bench: Bench) -> Iterator[str]:
         told = bench.fabric(word, "--help")
         if told.status != 0 or not told.out.startswith("usage: "):
             yield f"{word} --help: status {told.status}"
-    for words, status in (([], 2), (["nothing"], 2), (["explain"], 2), (["explain", "nowhere.spb"], 2),
-                          (["report", _SCRIPT, "--at", "99"], 2), (["drain", "spine9", _SCRIPT], 2),
-                          (["draw", _SCRIPT, "--isid", "5"], 2), (["explain", "examples/undeclared-bridge.spb"], 1),
-                          (["report", "examples/undeclared-bridge.spb"], 1), (["explain", _SCRIPT], 0)):
+    calls: List[Tuple[List[str], int]] = [
+        ([], 2),
+        (["nothing"], 2),
+        (["explain"], 2),
+        (["explain", "nowhere.spb"], 2),
+        (["report", _SCRIPT, "--at", "99"], 2),
+        (["drain", "spine9", _SCRIPT], 2),
+        (["draw", _SCRIPT, "--isid", "5"], 2),
+        (["explain", "examples/undeclared-bridge.spb"], 1),
+        (["report", "examples/undeclared-bridge.spb"], 1),
+        (["explain", _SCRIPT], 0),
+    ]
+    for words, status in calls:
         told = bench.fabric(*words)
         if told.status != status or (status and not told.err + told.out):
             yield f"{' '.join(words) or 'no word'}: status {told.status}, not {status}"

@@ -18,6 +18,8 @@ def run(told: argparse.Namespace) -> int:
     """Writes the lines."""
     world = bridge_of(told)
     ends = ((link, link.end_at(told.bridge)) for link in world.links_of(told.bridge))
-    write(told, [f"metric {link.name} {end} {GREATEST_METRIC}" for link, end in ends
-                 if link.metric[end] != GREATEST_METRIC])
+    write(
+        told,
+        [f"metric {link.name} {end} {GREATEST_METRIC}" for link, end in ends if link.metric[end] != GREATEST_METRIC],
+    )
     return 0

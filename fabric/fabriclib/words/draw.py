@@ -1,6 +1,6 @@
 """The fabric as a picture (SVG): with a service's tree as the rows lead from one member, or with each link as wide as
-the ways that take it, or as it is. With --at twice, two moments stand side by side. Members that aren't reached are
-red. What is drawn is what the program answered."""
+the ways that take it, or as it is. With --at twice, two moments stand side by side, or one above the other where they
+are wide. Members that aren't reached are red. What is drawn is what the program answered."""
 from __future__ import annotations
 
 import argparse
@@ -13,8 +13,22 @@ from fabriclib.follow import Fabric, Tree
 from fabriclib.layout import layout
 from fabriclib.maintenance import named
 from fabriclib.moments import fabrics_at
-from fabriclib.picture import (DOWN, EDGE, LINK, LOST, MEMBER, MISSED, PLAIN, SOURCE, TRANSIT, TREE, Look, Panel, draw,
-                               load_stroke)
+from fabriclib.picture import (
+    DOWN,
+    EDGE,
+    LINK,
+    LOST,
+    MEMBER,
+    MISSED,
+    PLAIN,
+    SOURCE,
+    TRANSIT,
+    TREE,
+    Look,
+    Panel,
+    draw,
+    load_stroke,
+)
 from fabriclib.script import Script, Unusable, World
 from fabriclib.survey import Survey
 from fabriclib.terminal import counted
@@ -30,18 +44,36 @@ def add_arguments(parser: argparse.ArgumentParser) -> None:
     what = parser.add_mutually_exclusive_group()
     what.add_argument("--isid", type=int, metavar="I", help="the tree of this service")
     what.add_argument("--load", action="store_true", help="links as wide as the ways that take them")
-    parser.add_argument("--from", dest="source", metavar="B", help="where the group frame enters: a member of the service "
-                        "(its first where none is given)")
+    parser.add_argument(
+        "--from",
+        dest="source",
+        metavar="B",
+        help="where the group frame enters: a member of the service " "(its first where none is given)",
+    )
     parser.add_argument("--vid", type=int, metavar="V", help="with --load, the ways in this base VID alone")
-    parser.add_argument("--at", type=int, action="append", metavar="LINE", help="the network behind this line of the "
-                        "script (its last where none is given); more than one stand side by side")
-    parser.add_argument("--own", action="store_true", help="by the tables that the bridges have by then, and not by "
-                        "those that the links call for")
-    parser.add_argument("--layout", choices=("auto", "rows", "ring", "neato"), default="auto", help="a row for each stem "
-                        "of names, a ring, or as Graphviz puts it")
+    parser.add_argument(
+        "--at",
+        type=int,
+        action="append",
+        metavar="LINE",
+        help="the network behind this line of the "
+        "script (its last where none is given); more than one stand together",
+    )
+    parser.add_argument(
+        "--own",
+        action="store_true",
+        help="by the tables that the bridges have by then, and not by " "those that the links call for",
+    )
+    parser.add_argument(
+        "--layout",
+        choices=("auto", "rows", "ring", "neato"),
+        default="auto",
+        help="a row for each stem " "of names, a ring, or as Graphviz puts it",
+    )
     parser.add_argument("--title", help="another title")
-    parser.add_argument("-o", metavar="FILE", dest="file", default="-", help="the file (standard output where none is "
-                        "given)")
+    parser.add_argument(
+        "-o", metavar="FILE", dest="file", default="-", help="the file (standard output where none is " "given)"
+    )
 
 
 def run(told: argparse.Namespace) -> int:
@@ -94,8 +126,15 @@ def _shown(told: argparse.Namespace, fabrics: List[Fabric]) -> List[Panel]:
 def _panel(told: argparse.Namespace, panel: Panel, moment: Optional[int]) -> Panel:
     """A panel, with its title, its moment, and the links that are down."""
     panel.title = told.title or panel.title
-    panel.notes.insert(0, (f"{os.path.basename(told.script.name)}, behind {_behind(told.script, moment)}"
-                           + (", by the bridges' own tables" if told.own else "") + _last_event(told.script, moment), _GREY))
+    panel.notes.insert(
+        0,
+        (
+            f"{os.path.basename(told.script.name)}, behind {_behind(told.script, moment)}"
+            + (", by the bridges' own tables" if told.own else "")
+            + _last_event(told.script, moment),
+            _GREY,
+        ),
+    )
     for link in panel.world.links.values():
         if not link.is_up:
             panel.links[link.name] = DOWN
@@ -144,7 +183,9 @@ def _tree_panel(fabric: Fabric, isid: int, source: Optional[str]) -> Panel:
     reached = f"{len(tree.reached)} of {counted(len(others), 'other member')} reached"
     panel.notes.append((reached, _RED if tree.missed else _GREY))
     if tree.missed:
-        panel.notes.append((f"not reached: {', '.join(tree.missed[:6])}" + (" .." if len(tree.missed) > 6 else ""), _RED))
+        panel.notes.append(
+            (f"not reached: {', '.join(tree.missed[:6])}" + (" .." if len(tree.missed) > 6 else ""), _RED)
+        )
     for fault in tree.faults[:3]:
         panel.notes.append((f"dropped at {fault.bridge}: {fault.reason}", _RED))
     panel.bridges = _tree_looks(tree, members)

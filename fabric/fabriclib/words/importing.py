@@ -10,7 +10,7 @@ import fnmatch
 import re
 import sys
 import unicodedata
-from typing import Dict, List, Optional, Set
+from typing import Dict, FrozenSet, List, Optional, Set
 
 from fabriclib.language import GREATEST_METRIC, LIMITS
 from fabriclib.script import Unusable
@@ -21,16 +21,30 @@ from fabriclib.topology import Edge, Topology, read
 def add_arguments(parser: argparse.ArgumentParser) -> None:
     """The word's own arguments."""
     parser.add_argument("file", metavar="FILE", help="the topology")
-    parser.add_argument("--format", choices=("auto", "containerlab", "csv", "graphml"), default="auto",
-                        help="what the file is (by its ending where none is given)")
-    parser.add_argument("--vids", default="10", metavar="V,V ..", help="base VIDs, with the ECT algorithms 1, 2 and so on "
-                        "(10)")
-    parser.add_argument("--metric", type=int, default=10, metavar="M", help="the metric of a link of which none is told "
-                        "(10)")
-    parser.add_argument("--priority", type=int, default=32768, metavar="PRIO", help="the priority of all bridges (32768)")
-    parser.add_argument("--isid", type=int, metavar="I", help="declare a service in the first base VID, with customer "
-                        "port 1 of bridges as members")
-    parser.add_argument("--members", default="*", metavar="PATTERN", help="which bridges are its members, as 'leaf*' (all)")
+    parser.add_argument(
+        "--format",
+        choices=("auto", "containerlab", "csv", "graphml"),
+        default="auto",
+        help="what the file is (by its ending where none is given)",
+    )
+    parser.add_argument(
+        "--vids", default="10", metavar="V,V ..", help="base VIDs, with the ECT algorithms 1, 2 and so on " "(10)"
+    )
+    parser.add_argument(
+        "--metric", type=int, default=10, metavar="M", help="the metric of a link of which none is told " "(10)"
+    )
+    parser.add_argument(
+        "--priority", type=int, default=32768, metavar="PRIO", help="the priority of all bridges (32768)"
+    )
+    parser.add_argument(
+        "--isid",
+        type=int,
+        metavar="I",
+        help="declare a service in the first base VID, with customer " "port 1 of bridges as members",
+    )
+    parser.add_argument(
+        "--members", default="*", metavar="PATTERN", help="which bridges are its members, as 'leaf*' (all)"
+    )
 
 
 def run(told: argparse.Namespace) -> int:
@@ -47,8 +61,10 @@ def run(told: argparse.Namespace) -> int:
     for note in notes:
         say(note)
     sys.stdout.write("".join(line + "\n" for line in lines))
-    say(f"{counted(len(names), 'bridge')} and {counted(len(edges), 'link')}; give them `round {4 * len(names) + 16}` and "
-        "ask `state`")
+    say(
+        f"{counted(len(names), 'bridge')} and {counted(len(edges), 'link')}; give them `round {4 * len(names) + 16}` "
+        "and ask `state`"
+    )
     return 0
 
 
@@ -76,8 +92,10 @@ def _names(topology: Topology, notes: List[str]) -> Dict[str, str]:
     nodes = list(topology.nodes.items())
     most = LIMITS["bridges"]
     if len(nodes) > most:
-        notes.append(f"{len(nodes)} nodes: a script has at most {most} bridges, so {len(nodes) - most} are left out, "
-                     f"from {nodes[most][1]} on")
+        notes.append(
+            f"{len(nodes)} nodes: a script has at most {most} bridges, so {len(nodes) - most} are left out, "
+            f"from {nodes[most][1]} on"
+        )
     taken: Set[str] = set()
     names = {}
     for node, label in nodes[:most]:
@@ -112,7 +130,7 @@ def _free(name: str, taken: Set[str]) -> str:
 def _edges(topology: Topology, names: Dict[str, str], notes: List[str]) -> List[Edge]:
     """The links that can be declared; what is left out is told."""
     kept: List[Edge] = []
-    joined: Set[frozenset] = set()
+    joined: Set[FrozenSet[str]] = set()
     ports: Dict[str, int] = {}
     left: Dict[str, List[str]] = {}
     for edge in topology.edges:
@@ -125,12 +143,15 @@ def _edges(topology: Topology, names: Dict[str, str], notes: List[str]) -> List[
         for end in (edge.a, edge.b):
             ports[end] = ports.get(end, 0) + 1
     for reason, who in left.items():
-        notes.append(f"{counted(len(who), 'link')} left out, {reason}: {', '.join(who[:4])}" + (" .." if who[4:] else ""))
+        notes.append(
+            f"{counted(len(who), 'link')} left out, {reason}: {', '.join(who[:4])}" + (" .." if who[4:] else "")
+        )
     return kept
 
 
-def _hindrance(edge: Edge, names: Dict[str, str], joined: Set[frozenset], ports: Dict[str, int],
-               count: int) -> Optional[str]:
+def _hindrance(
+    edge: Edge, names: Dict[str, str], joined: Set[FrozenSet[str]], ports: Dict[str, int], count: int
+) -> Optional[str]:
     """Why a link can't be declared."""
     if edge.a not in names or edge.b not in names:
         return "of bridges that are left out"
@@ -145,8 +166,10 @@ def _hindrance(edge: Edge, names: Dict[str, str], joined: Set[frozenset], ports:
 
 def _bridges(names: Dict[str, str], edges: List[Edge], priority: int) -> List[str]:
     ports = {node: sum(node in (edge.a, edge.b) for edge in edges) for node in names}
-    return [f"bridge {name} {priority} 02{number:010x} {number:05x} {ports[node]}"
-            for number, (node, name) in enumerate(names.items(), 1)]
+    return [
+        f"bridge {name} {priority} 02{number:010x} {number:05x} {ports[node]}"
+        for number, (node, name) in enumerate(names.items(), 1)
+    ]
 
 
 def _links(names: Dict[str, str], edges: List[Edge], usual: int, notes: List[str]) -> List[str]:

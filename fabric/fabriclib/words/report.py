@@ -19,8 +19,12 @@ from fabriclib.terminal import counted, paint, table
 def add_arguments(parser: argparse.ArgumentParser) -> None:
     """The word's own arguments."""
     parser.add_argument("script", metavar="SCRIPT", help="a script, or - for standard input")
-    parser.add_argument("--at", type=int, metavar="LINE", help="the network behind this line of the script (its last "
-                        "where none is given)")
+    parser.add_argument(
+        "--at",
+        type=int,
+        metavar="LINE",
+        help="the network behind this line of the script (its last " "where none is given)",
+    )
     parser.add_argument("--n-1", action="store_true", dest="n_1", help="each link and each bridge fails in turn")
     parser.add_argument("--all", action="store_true", help="with --n-1 tell of each failure, also where nothing is cut")
     parser.add_argument("--json", action="store_true", help="the tables as a record")
@@ -35,8 +39,10 @@ def run(told: argparse.Namespace) -> int:
     survey = Survey.of(Fabric(world, next(played)[1]))
     if failures:
         survey.index()
-    tolls = [toll(failures[number], survey, survey.after(changed, frozenset(failures[number].links)))
-             for number, changed in played]
+    tolls = [
+        toll(failures[number], survey, survey.after(changed, frozenset(failures[number].links)))
+        for number, changed in played
+    ]
     if told.json:
         print(json.dumps(_record(survey, tolls, told.n_1), indent=1))
         return 0
@@ -58,10 +64,16 @@ def _report(survey: Survey) -> List[str]:
 def _heading(world: World, survey: Survey) -> List[str]:
     up = sum(link.is_up for link in world.links.values())
     down = len(world.links) - up
-    lines = [f"{counted(len(world.bridges), 'bridge')}, {counted(up, 'link')} up" + (f" and {down} down" if down else "")
-             + f", {counted(len(world.vids), 'base VID')}, {counted(len(world.isids), 'service')}; "
-             + (f"{len(world.edges())} of the bridges have customer ports" if world.attached
-                else "no customer port is attached, so each bridge is an edge")]
+    lines = [
+        f"{counted(len(world.bridges), 'bridge')}, {counted(up, 'link')} up"
+        + (f" and {down} down" if down else "")
+        + f", {counted(len(world.vids), 'base VID')}, {counted(len(world.isids), 'service')}; "
+        + (
+            f"{len(world.edges())} of the bridges have customer ports"
+            if world.attached
+            else "no customer port is attached, so each bridge is an edge"
+        )
+    ]
     cut = [way for way in survey.ways.values() if way.fault]
     if cut:
         pairs = {frozenset((way.source, way.target)) for way in cut}
@@ -72,8 +84,11 @@ def _heading(world: World, survey: Survey) -> List[str]:
 def _by_bridge(survey: Survey) -> List[str]:
     world, passed = survey.fabric.world, survey.passed()
     edges = set(world.edges()) if world.attached else set()
-    shown = [name for name in world.bridges if sum(passed[name].values()) or
-             (name not in edges and sum(link.is_up for link in world.links_of(name)) > 1)]
+    shown = [
+        name
+        for name in world.bridges
+        if sum(passed[name].values()) or (name not in edges and sum(link.is_up for link in world.links_of(name)) > 1)
+    ]
     if not world.vids or not shown:
         return []
     rows = [["ways that pass", *(f"VID {vid}" for vid in world.vids), "all"]]
@@ -82,8 +97,10 @@ def _by_bridge(survey: Survey) -> List[str]:
         rows.append([name, *(str(passed[name][vid]) for vid in world.vids), str(total)])
     edges_count = len(world.edges())
     lines = table(rows, right=range(1, len(world.vids) + 2))
-    lines = [line if not line.endswith(" 0") or number == 0 else paint(line + "   carries nothing", "yellow")
-             for number, line in enumerate(lines)]
+    lines = [
+        line if not line.endswith(" 0") or number == 0 else paint(line + "   carries nothing", "yellow")
+        for number, line in enumerate(lines)
+    ]
     return lines + [f"each VID has {counted(edges_count * (edges_count - 1), 'way')}"]
 
 
@@ -97,12 +114,20 @@ def _by_link(survey: Survey) -> List[str]:
     rows = [["fullest links", "between", *(f"VID {vid}" for vid in world.vids), "all ways", "services"]]
     for name in full:
         link = world.links[name]
-        rows.append([name, f"{link.a} {link.b}", *(str(by_vid[vid][name]) for vid in world.vids),
-                     str(survey.load[name]), str(len(services[name]))])
+        rows.append(
+            [
+                name,
+                f"{link.a} {link.b}",
+                *(str(by_vid[vid][name]) for vid in world.vids),
+                str(survey.load[name]),
+                str(len(services[name])),
+            ]
+        )
     idle = [name for name in up if not survey.load[name] and not services[name]]
     lines = table(rows, right=range(2, len(world.vids) + 4))
-    lines.append(f"of {counted(len(up), 'link')} that are up, {len(idle)} idle"
-                 + (f": {_some(idle, 12)}" if idle else ""))
+    lines.append(
+        f"of {counted(len(up), 'link')} that are up, {len(idle)} idle" + (f": {_some(idle, 12)}" if idle else "")
+    )
     return lines
 
 
@@ -123,8 +148,9 @@ def _services(survey: Survey) -> List[str]:
 
 
 def _losses(survey: Survey, isid: int) -> List[Tuple[str, str]]:
-    return [(source, bridge) for (source, own, _), tree in survey.trees.items() if own == isid
-            for bridge in tree.missed]
+    return [
+        (source, bridge) for (source, own, _), tree in survey.trees.items() if own == isid for bridge in tree.missed
+    ]
 
 
 def _losing(lost: List[Tuple[str, str]]) -> str:
@@ -144,8 +170,10 @@ def _failures(survey: Survey, tolls: List[Toll], all_of_them: bool) -> List[str]
     for kind in ("link", "bridge"):
         own = [each for each in tolls if each.failure.kind == kind]
         bad = [each for each in own if each.pairs or each.lost]
-        lines.append(f"one {kind} fails: {counted(len(own), 'case')}, "
-                     + (paint(f"{len(bad)} cut pairs or services", "red") if bad else paint("none cuts anything", "green")))
+        lines.append(
+            f"one {kind} fails: {counted(len(own), 'case')}, "
+            + (paint(f"{len(bad)} cut pairs or services", "red") if bad else paint("none cuts anything", "green"))
+        )
         shown = own if all_of_them else bad
         if shown:
             lines += _toll_table(shown, kind)
@@ -184,13 +212,23 @@ def _record(survey: Survey, tolls: List[Toll], has_tolls: bool) -> Dict[str, Any
     record: Dict[str, Any] = {
         "edges": world.edges(),
         "cut": [[way.source, way.target, way.vid, way.fault] for way in survey.ways.values() if way.fault],
-        "bridges": [{"name": name, "passed": {str(vid): passed[name][vid] for vid in world.vids}}
-                    for name in world.bridges],
-        "links": [{"name": link.name, "ends": [link.a, link.b], "up": link.is_up,
-                   "ways": {str(vid): by_vid[vid][link.name] for vid in world.vids},
-                   "services": sorted(services[link.name])} for link in world.links.values()],
-        "services": [{"isid": isid, "vid": vid, "members": world.members(isid), "lost": _losses(survey, isid)}
-                     for isid, (vid, _) in world.isids.items()],
+        "bridges": [
+            {"name": name, "passed": {str(vid): passed[name][vid] for vid in world.vids}} for name in world.bridges
+        ],
+        "links": [
+            {
+                "name": link.name,
+                "ends": [link.a, link.b],
+                "up": link.is_up,
+                "ways": {str(vid): by_vid[vid][link.name] for vid in world.vids},
+                "services": sorted(services[link.name]),
+            }
+            for link in world.links.values()
+        ],
+        "services": [
+            {"isid": isid, "vid": vid, "members": world.members(isid), "lost": _losses(survey, isid)}
+            for isid, (vid, _) in world.isids.items()
+        ],
     }
     if has_tolls:
         record["failures"] = [_toll_record(each) for each in tolls]
@@ -198,6 +236,12 @@ def _record(survey: Survey, tolls: List[Toll], has_tolls: bool) -> Dict[str, Any
 
 
 def _toll_record(each: Toll) -> Dict[str, Any]:
-    return {"kind": each.failure.kind, "name": each.failure.name, "pairs_cut": each.pairs, "ways_cut": each.ways,
-            "ways_moved": each.moved, "services": {str(isid): pairs for isid, pairs in each.lost.items()},
-            "fullest": each.fullest}
+    return {
+        "kind": each.failure.kind,
+        "name": each.failure.name,
+        "pairs_cut": each.pairs,
+        "ways_cut": each.ways,
+        "ways_moved": each.moved,
+        "services": {str(isid): pairs for isid, pairs in each.lost.items()},
+        "fullest": each.fullest,
+    }

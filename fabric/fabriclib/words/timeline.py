@@ -10,7 +10,7 @@ import argparse
 import json
 from collections import Counter
 from dataclasses import dataclass, field
-from typing import Any, Callable, Dict, Iterator, List, Optional, Tuple
+from typing import Any, Callable, Dict, Generator, List, Optional, Tuple
 
 from fabriclib.follow import Fabric, Rows, rows_of
 from fabriclib.play import Tape, play
@@ -22,11 +22,25 @@ from fabriclib.terminal import counted, paint, table
 def add_arguments(parser: argparse.ArgumentParser) -> None:
     """The word's own arguments."""
     parser.add_argument("script", metavar="SCRIPT", help="a script, or - for standard input")
-    parser.add_argument("--at", type=int, required=True, metavar="LINE", help="the line of the script after which seconds "
-                        "are counted")
-    parser.add_argument("--seconds", type=int, metavar="N", help="look at so many at most (4 for each bridge and 16 where "
-                        "none is told); it ends where the network is quiet")
+    parser.add_argument(
+        "--at",
+        type=int,
+        required=True,
+        metavar="LINE",
+        help="the line of the script after which seconds " "are counted",
+    )
+    parser.add_argument(
+        "--seconds",
+        type=int,
+        metavar="N",
+        help="look at so many at most (4 for each bridge and 16 where "
+        "none is told); it ends where the network is quiet",
+    )
     parser.add_argument("--json", action="store_true", help="one record for each second")
+
+
+# The number of a second, the state, and tables.
+Frame = Tuple[int, str, Dict[str, Rows]]
 
 
 @dataclass
@@ -79,14 +93,15 @@ def _followed(program: str, script: Script, line: int, seconds: int) -> Tuple[Su
     return wired, shown
 
 
-def _frames(program: str, tape: Tape, asked: Dict[int, Tuple[int, str]]) -> Iterator[Tuple[int, str, Dict[str, Rows]]]:
+def _frames(program: str, tape: Tape, asked: Dict[int, Tuple[int, str]]) -> Generator[Frame, None, None]:
     """For each second its number, the state, and the tables that aren't those of the wiring; -1 is the wiring."""
     raw: Dict[str, List[bytes]] = {}
-    current, state, tables = -1, "", {}
+    current, state = -1, ""
+    tables: Dict[str, Rows] = {}
     for answer in play(program, tape):
-        if answer.index not in asked:
+        if answer.place not in asked:
             continue
-        second, bridge = asked[answer.index]
+        second, bridge = asked[answer.place]
         if second != current:
             yield current, state, tables
             current, tables = second, {}
@@ -120,12 +135,17 @@ def _second(wired: Survey, number: int, state: str, tables: Dict[str, Rows]) -> 
 
 def _lines(script: Script, line: int, world: World, wired: Survey, shown: List[Second]) -> List[str]:
     edges = len(world.edges())
-    lines = [f"{script.name}:{line}: {script.lines[line - 1].shown}",
-             f"{counted(len(wired.ways), 'way')} of {counted(edges, 'edge bridge')} in "
-             f"{counted(len(world.vids), 'base VID')}, {counted(len(world.isids), 'service')}", ""]
+    lines = [
+        f"{script.name}:{line}: {script.lines[line - 1].shown}",
+        f"{counted(len(wired.ways), 'way')} of {counted(edges, 'edge bridge')} in "
+        f"{counted(len(world.vids), 'base VID')}, {counted(len(world.isids), 'service')}",
+        "",
+    ]
     rows = [["second", "lag", "ways lost", "where", "services split", "state"]]
-    rows += [[str(own.number), str(len(own.lagging)), str(len(own.lost)), _where(own), _split(own), own.state]
-             for own in shown]
+    rows += [
+        [str(own.number), str(len(own.lagging)), str(len(own.lost)), _where(own), _split(own), own.state]
+        for own in shown
+    ]
     colours = ["bold"] + [_colour(own) for own in shown]
     lines += [paint(text, colour) for text, colour in zip(table(rows, right=(0, 1, 2)), colours)]
     return lines + [""] + _summary(wired, shown)
@@ -167,12 +187,17 @@ def _first(shown: List[Second], holds: Callable[[Second], bool]) -> Optional[int
 
 def _summary(wired: Survey, shown: List[Second]) -> List[str]:
     told = []
-    for words, holds in (("nothing is lost", lambda own: not own.lost and not own.split),
-                         ("all tables are those of the wiring", lambda own: not own.lagging),
-                         ("the network is quiet", lambda own: own.state == "quiet")):
+    for words, holds in (
+        ("nothing is lost", lambda own: not own.lost and not own.split),
+        ("all tables are those of the wiring", lambda own: not own.lagging),
+        ("the network is quiet", lambda own: own.state == "quiet"),
+    ):
         first = _first(shown, holds)
-        told.append(f"{words} from second {first} on" if first is not None
-                    else f"not within {counted(len(shown) - 1, 'second')}: {words}")
+        told.append(
+            f"{words} from second {first} on"
+            if first is not None
+            else f"not within {counted(len(shown) - 1, 'second')}: {words}"
+        )
     cut = [way for way in wired.ways.values() if way.fault]
     if cut:
         told.append(paint(f"{counted(len(cut), 'way')} cut by the links as they are, and not counted above", "red"))
@@ -183,8 +208,13 @@ def _summary(wired: Survey, shown: List[Second]) -> List[str]:
 
 
 def _record(second: Second) -> Dict[str, Any]:
-    return {"second": second.number, "state": second.state, "lag": second.lagging,
-            "lost": [[*key, reason, at] for key, (reason, at) in second.lost.items()],
-            "split": {str(isid): pairs for isid, pairs in second.split.items()},
-            "faults": {str(isid): [[*fault, count] for fault, count in counts.items()]
-                       for isid, counts in second.faults.items()}}
+    return {
+        "second": second.number,
+        "state": second.state,
+        "lag": second.lagging,
+        "lost": [[*key, reason, at] for key, (reason, at) in second.lost.items()],
+        "split": {str(isid): pairs for isid, pairs in second.split.items()},
+        "faults": {
+            str(isid): [[*fault, count] for fault, count in counts.items()] for isid, counts in second.faults.items()
+        },
+    }

@@ -35,7 +35,7 @@ def run(told: argparse.Namespace) -> int:
     refused: Optional[Refused] = None
     try:
         for answer in play(told.program, tape):
-            answers[answer.index] = answer.texts()
+            answers[answer.place] = answer.texts()
     except Refused as fault:
         refused = fault
     last = refused.origin.number if refused and refused.origin else None
@@ -61,21 +61,27 @@ def _tape(lines: List[Line]) -> Tuple[Tape, Dict[int, int], Dict[int, int]]:
     return tape, places, states
 
 
-def _entries(lines: List[Line], places: Dict[int, int], states: Dict[int, int],
-             answers: Dict[int, List[str]]) -> Iterator[Entry]:
+def _entries(
+    lines: List[Line], places: Dict[int, int], states: Dict[int, int], answers: Dict[int, List[str]]
+) -> Iterator[Entry]:
     world = World()
     for line in lines:
         world.apply(line)
         own = answers.get(places[line.number], [])
-        state = answers.get(states.get(line.number, -1), [None])[0]
+        state = answers.get(states.get(line.number, -1), [""])[0]
         names = Names(world, line.words[1] if len(line.words) > 1 else "") if own else None
         told = [(text, names.note(text) if names else None) for text in own]
         yield Entry(line, told, world.seconds, state[6:] if state else None)
 
 
 def _record(entry: Entry) -> Dict[str, object]:
-    return {"line": entry.line.number, "text": entry.line.shown, "second": entry.second, "state": entry.state,
-            "answers": [{"text": text, "says": says} for text, says in entry.answers]}
+    return {
+        "line": entry.line.number,
+        "text": entry.line.shown,
+        "second": entry.second,
+        "state": entry.state,
+        "answers": [{"text": text, "says": says} for text, says in entry.answers],
+    }
 
 
 def _show(entries: List[Entry]) -> None:
