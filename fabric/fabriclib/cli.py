@@ -54,7 +54,7 @@ def _parser(called: str) -> argparse.ArgumentParser:
             "--program",
             default=None,
             metavar="P",
-            help="the program to play lines through (the " "repository's ./spbsim where none is given)",
+            help="the program to play lines through (the repository's ./spbsim where none is given)",
         )
         own.set_defaults(run=loaded.run)
     return parser

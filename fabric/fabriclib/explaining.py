@@ -48,7 +48,7 @@ def _of_added(refused: Refused) -> str:
 
 def _shown(text: str) -> str:
     """A line as it is shown: at most 200 characters, and a tab as one blank, so that a caret can stand below."""
-    shown = text.replace("\t", " ")
+    shown = text.replace("\t")
     return shown if len(shown) <= 200 else shown[:200] + " .."
 
 
@@ -308,7 +308,7 @@ def _no_frame(line: Line, before: World) -> Finding:
             2, f"no frame is on its way from {tail} to {head}" + ("" if link.is_up else "; the link is down")
         )
     return Finding(
-        3, f"no frame stands at place {int(line.words[3])} on the way from {tail} to {head}; places count " "from 0"
+        3, f"no frame stands at place {int(line.words[3])} on the way from {tail} to {head}; places count from 0"
     )
 
 

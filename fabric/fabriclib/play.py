@@ -147,7 +147,7 @@ def _question(output: _Output, keyword: str) -> List[bytes]:
     words = first.split()
     if not words or words[0].decode("latin-1") != keyword:
         raise NoAnswer(
-            f"the program wrote {first.decode('latin-1').strip()!r} where an answer of `{keyword}` has to " "stand"
+            f"the program wrote {first.decode('latin-1').strip()!r} where an answer of `{keyword}` has to stand"
             if first
             else "the program's answers end too early"
         )

@@ -48,7 +48,7 @@ def add_arguments(parser: argparse.ArgumentParser) -> None:
         "--from",
         dest="source",
         metavar="B",
-        help="where the group frame enters: a member of the service " "(its first where none is given)",
+        help="where the group frame enters: a member of the service (its first where none is given)",
     )
     parser.add_argument("--vid", type=int, metavar="V", help="with --load, the ways in this base VID alone")
     parser.add_argument(
@@ -62,17 +62,17 @@ def add_arguments(parser: argparse.ArgumentParser) -> None:
     parser.add_argument(
         "--own",
         action="store_true",
-        help="by the tables that the bridges have by then, and not by " "those that the links call for",
+        help="by the tables that the bridges have by then, and not by those that the links call for",
     )
     parser.add_argument(
         "--layout",
         choices=("auto", "rows", "ring", "neato"),
         default="auto",
-        help="a row for each stem " "of names, a ring, or as Graphviz puts it",
+        help="a row for each stem of names, a ring, or as Graphviz puts it",
     )
     parser.add_argument("--title", help="another title")
     parser.add_argument(
-        "-o", metavar="FILE", dest="file", default="-", help="the file (standard output where none is " "given)"
+        "-o", metavar="FILE", dest="file", default="-", help="the file (standard output where none is given)"
     )
 
 

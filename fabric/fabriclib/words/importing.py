@@ -28,10 +28,10 @@ def add_arguments(parser: argparse.ArgumentParser) -> None:
         help="what the file is (by its ending where none is given)",
     )
     parser.add_argument(
-        "--vids", default="10", metavar="V,V ..", help="base VIDs, with the ECT algorithms 1, 2 and so on " "(10)"
+        "--vids", default="10", metavar="V,V ..", help="base VIDs, with the ECT algorithms 1, 2 and so on (10)"
     )
     parser.add_argument(
-        "--metric", type=int, default=10, metavar="M", help="the metric of a link of which none is told " "(10)"
+        "--metric", type=int, default=10, metavar="M", help="the metric of a link of which none is told (10)"
     )
     parser.add_argument(
         "--priority", type=int, default=32768, metavar="PRIO", help="the priority of all bridges (32768)"
@@ -40,7 +40,7 @@ def add_arguments(parser: argparse.ArgumentParser) -> None:
         "--isid",
         type=int,
         metavar="I",
-        help="declare a service in the first base VID, with customer " "port 1 of bridges as members",
+        help="declare a service in the first base VID, with customer port 1 of bridges as members",
     )
     parser.add_argument(
         "--members", default="*", metavar="PATTERN", help="which bridges are its members, as 'leaf*' (all)"

@@ -23,11 +23,7 @@ def add_arguments(parser: argparse.ArgumentParser) -> None:
     """The word's own arguments."""
     parser.add_argument("script", metavar="SCRIPT", help="a script, or - for standard input")
     parser.add_argument(
-        "--at",
-        type=int,
-        required=True,
-        metavar="LINE",
-        help="the line of the script after which seconds " "are counted",
+        "--at", type=int, required=True, metavar="LINE", help="the line of the script after which seconds are counted"
     )
     parser.add_argument(
         "--seconds",
