@@ -48,7 +48,7 @@ def _of_added(refused: Refused) -> str:
 
 def _shown(text: str) -> str:
     """A line as it is shown: at most 200 characters, and a tab as one blank, so that a caret can stand below."""
-    shown = text.replace("\t")
+    shown = text.replace("\t", " ")
     return shown if len(shown) <= 200 else shown[:200] + " .."
 
 
