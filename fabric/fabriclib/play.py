@@ -83,7 +83,7 @@ def play(program: str, tape: Tape) -> Iterator[Answer]:
             try:
                 yield from _answers(_Output(process.stdout), tape, progress)
             except BaseException:
-                process.kill()
+                process.terminate()
                 raise
             _look_at_end(process.wait())
 

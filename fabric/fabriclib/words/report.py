@@ -185,7 +185,7 @@ def _failures(survey: Survey, tolls: List[Toll], all_of_them: bool) -> List[str]
 
 
 def _toll_table(tolls: List[Toll], kind: str) -> List[str]:
-    rows = [[kind, "pairs cut", "ways moved", "fullest link", "its ways", "services that lose members"]]
+    rows = [[kind, "pairs cut", "ways moved", "fullest link", "its ways", "services (members lost, each way)"]]
     for each in tolls:
         name, ways = each.fullest or ("-", 0)
         lost = ", ".join(f"{isid} ({len(pairs)})" for isid, pairs in each.lost.items())
