@@ -124,7 +124,7 @@ def _panel(panel: Panel, places: Places, width: float, notes: int) -> List[str]:
     strokes.sort(key=lambda item: (item[1].head is not None, item[1].width))
     for link, stroke in strokes:
         parts.append(_link(link, stroke, moved))
-    parts += [_label(link, stroke, moved) for link, stroke in strokes if stroke.label]
+    parts += _labels(strokes, moved)
     for name in panel.world.bridges:
         parts += _bridge(name, panel.bridges.get(name, PLAIN), moved[name])
     return parts
@@ -161,12 +161,34 @@ def _border(begin: Place, end: Place, middle: Place, width: float) -> Place:
     return Place(end.x + dx * share, end.y + dy * share)
 
 
-def _label(link: Link, stroke: Stroke, places: Places) -> str:
-    a, b = places[link.a], places[link.b]
-    x, y, width = (a.x + b.x) / 2, (a.y + b.y) / 2, len(stroke.label) * 7 + 8
-    return svg.element(
-        "rect", x=x - width / 2, y=y - 9, width=width, height=18, rx=4, fill="#ffffff", opacity=0.92
-    ) + svg.text(x, y + 4, stroke.label, 11, text_anchor="middle", fill="#334155")
+def _labels(strokes: List[Tuple[Link, Stroke]], places: Places) -> List[str]:
+    """The words at links: at the middle, or nearer to an end where others or a bridge stand there; none where no place
+    is free."""
+    taken = [(place.x, place.y, box_width(name), float(BOX_HEIGHT)) for name, place in places.items()]
+    parts = []
+    for link, stroke in strokes:
+        begin, end = _anchor(link.a, link.b, places), _anchor(link.b, link.a, places)
+        width = len(stroke.label) * 7.0 + 8
+        for share in (0.5, 0.38, 0.62, 0.28, 0.72, 0.2, 0.8):
+            x, y = begin.x + (end.x - begin.x) * share, begin.y + (end.y - begin.y) * share
+            if stroke.label and not any(_overlap((x, y, width, 18.0), other) for other in taken):
+                taken.append((x, y, width, 18.0))
+                parts.append(_label(stroke.label, x, y, width))
+                break
+    return parts
+
+
+# The middle of something, its width and its height.
+_Area = Tuple[float, float, float, float]
+
+
+def _overlap(one: _Area, other: _Area) -> bool:
+    return abs(one[0] - other[0]) * 2 < one[2] + other[2] and abs(one[1] - other[1]) * 2 < one[3] + other[3]
+
+
+def _label(words: str, x: float, y: float, width: float) -> str:
+    back = svg.element("rect", x=x - width / 2, y=y - 9, width=width, height=18, rx=4, fill="#ffffff", opacity=0.92)
+    return back + svg.text(x, y + 4, words, 11, text_anchor="middle", fill="#334155")
 
 
 def _bridge(name: str, look: Look, place: Place) -> List[str]:
@@ -207,7 +229,7 @@ def _legend_rows(items: List[Tuple[str, object]], width: float) -> List[List[Tup
     rows: List[List[Tuple[str, object]]] = [[]]
     used = 0.0
     for item in items:
-        own = len(item[0]) * 7.2 + 40 + _ITEM_GAP
+        own = len(item[0]) * 6.7 + 40 + _ITEM_GAP
         if rows[-1] and used + own > width - 2 * _MARGIN:
             rows.append([])
             used = 0.0
@@ -222,7 +244,7 @@ def _legend(panels: List[Panel], width: float) -> List[str]:
         x, y = 0.0, 22 + 24 * index
         for words, sample in row:
             parts += [_sample(sample, x, y), svg.text(x + 34, y + 4, words, 12, fill="#475569")]
-            x += len(words) * 7.2 + 40 + _ITEM_GAP
+            x += len(words) * 6.7 + 40 + _ITEM_GAP
     return parts
 
 

@@ -8,6 +8,7 @@ import stat
 import tempfile
 from typing import Any, Dict, Iterator, List
 
+from fabriclib.script import Script
 from fabriclib.tests.bench import FABRIC, FABRICS, Bench, Result
 
 # Who may read a metric: what reads and writes declarations, and what writes it at a drawn link. Nothing that follows
@@ -30,6 +31,7 @@ def run(bench: Bench) -> Iterator[str]:
     yield from _by_source()
     with tempfile.TemporaryDirectory() as folder:
         yield from _by_rows(bench, folder)
+        yield from _by_own_rows(bench, folder)
 
 
 def _by_source() -> Iterator[str]:
@@ -110,6 +112,20 @@ def _by_rows(bench: Bench, folder: str) -> Iterator[str]:
     ).out
     if "0 of 11 other members reached" not in drawn or "dropped at spine3: no row for the group" not in drawn:
         yield "a group row altered: the picture doesn't show what the row says"
+
+
+def _by_own_rows(bench: Bench, folder: str) -> Iterator[str]:
+    """A row that leaf1 has, and the wiring hasn't."""
+    script = os.path.join(FABRICS, "leaf-spine.spb")
+    lines = Script.read(script).lines
+    quiet = str(next(line.number for line in lines if line.text == "state"))
+    own = ["show leaf1", "u 10 020000000002 1", "u 10 020000000002 3"]
+    words = ("timeline", script, "--at", quiet, "--json")
+    second = json.loads(bench.fabric(*words, program=_altering(bench, folder, [own])).out)[0]
+    # Leaf1's frames come to leaf2 by a port that doesn't lead back, and leaf2's to leaf1 likewise.
+    wanted = [["leaf1", "leaf2", 10, "ingress check", "leaf2"], ["leaf2", "leaf1", 10, "ingress check", "leaf1"]]
+    if second["lag"] != ["leaf1"] or second["lost"] != wanted:
+        yield f"a row of show altered: the second has {second['lag']} and {second['lost']}"
 
 
 def _last_declaration(path: str) -> str:
