@@ -4,7 +4,7 @@ from __future__ import annotations
 import glob
 import json
 import os
-from typing import Any, Dict, Iterator
+from typing import Any, Dict, Iterator, List
 
 from fabriclib.script import Script
 from fabriclib.tests.bench import EXAMPLES, FABRICS, GOLDEN, TOP, Bench
@@ -14,9 +14,8 @@ def run(bench: Bench) -> Iterator[str]:
     """What is wrong."""
     for path in sorted(glob.glob(os.path.join(GOLDEN, "topologies", "*"))):
         yield from _of_topology(bench, path)
-    for path in sorted(glob.glob(os.path.join(FABRICS, "*.spb")) + glob.glob(os.path.join(EXAMPLES, "*.spb"))):
-        if not path.endswith("undeclared-bridge.spb"):
-            yield from _of_script(bench, path)
+    paths = sorted(glob.glob(os.path.join(FABRICS, "*.spb")) + glob.glob(os.path.join(EXAMPLES, "*.spb")))
+    yield from _of_scripts(bench, [path for path in paths if not path.endswith("undeclared-bridge.spb")])
     yield from _of_drained_spine(bench)
 
 
@@ -27,14 +26,19 @@ def _of_topology(bench: Bench, path: str) -> Iterator[str]:
         yield f"import {os.path.relpath(path, TOP)}: {played.out.strip() or told.err.strip()}"
 
 
-def _of_script(bench: Bench, path: str) -> Iterator[str]:
-    bridges = list(Script.read(path).world().bridges)
-    for word in ("node-down", "drain", "undrain"):
-        for bridge in bridges[:1] + bridges[-1:]:
-            told = bench.fabric(word, bridge, path, "--whole")
-            played = bench.play(told.out)
-            if told.status != 0 or played.status != 0:
-                yield f"{word} {bridge} {os.path.relpath(path, TOP)}: {told.err}{played.out[-60:]}"
+def _of_scripts(bench: Bench, paths: List[str]) -> Iterator[str]:
+    """Each word for a bridge of each script, and the script with what it writes played."""
+    calls = []
+    for path in paths:
+        bridges = list(Script.read(path).world().bridges)
+        calls += [
+            [word, bridge, path, "--whole"]
+            for word, bridge in (("node-down", bridges[-1]), ("drain", bridges[0]), ("undrain", bridges[-1]))
+        ]
+    for words, told in zip(calls, bench.fabrics(calls)):
+        played = bench.play(told.out)
+        if told.status != 0 or played.status != 0:
+            yield f"{' '.join(words[:2])} {os.path.relpath(words[2], TOP)}: {told.err}{played.out[-60:]}"
 
 
 def _of_drained_spine(bench: Bench) -> Iterator[str]:

@@ -3,7 +3,8 @@ from __future__ import annotations
 
 import os
 import subprocess
-from typing import Dict, List, NamedTuple, Optional
+from concurrent.futures import ThreadPoolExecutor
+from typing import Dict, List, NamedTuple, Optional, Sequence
 
 FABRIC = os.path.dirname(os.path.dirname(os.path.dirname(os.path.realpath(__file__))))
 TOP = os.path.dirname(FABRIC)
@@ -34,6 +35,11 @@ class Bench:
         self.calls += 1
         whole = [os.path.join(FABRIC, "fabric"), *words, "--program", program or self.program]
         return _called(whole, stdin, env)
+
+    def fabrics(self, calls: Sequence[Sequence[str]]) -> List[Result]:
+        """Several calls, as many at a time as there are processors, at most four."""
+        with ThreadPoolExecutor(min(4, os.cpu_count() or 1)) as pool:
+            return list(pool.map(lambda words: self.fabric(*words), calls))
 
     def play(self, script: str) -> Result:
         """A run of the program itself."""

@@ -57,13 +57,13 @@ def _outputs(bench: Bench) -> Iterator[Tuple[str, str]]:
     topologies = sorted(glob.glob(os.path.join(GOLDEN, "topologies", "*")))
     calls = [["import", os.path.relpath(path, TOP), "--isid", "100"] for path in topologies]
     yield "out/import.txt", "".join(_calls(bench, calls))
-    for name, words in _pictures():
-        yield f"out/{name}.svg", bench.fabric("draw", *words).out
+    pictures = _pictures()
+    for (name, _), told in zip(pictures, bench.fabrics([["draw", *words] for _, words in pictures])):
+        yield f"out/{name}.svg", told.out
 
 
 def _calls(bench: Bench, calls: List[List[str]]) -> Iterator[str]:
-    for words in calls:
-        told = bench.fabric(*words)
+    for words, told in zip(calls, bench.fabrics(calls)):
         yield f"$ fabric/fabric {' '.join(words)}\n{told.out}{told.err}status {told.status}\n\n"
 
 
@@ -192,10 +192,12 @@ _REFUSED = [
 
 def _refusals(bench: Bench) -> Iterator[str]:
     with tempfile.TemporaryDirectory() as folder:
-        path = os.path.join(folder, "refused.spb")
-        for text in _REFUSED + ["\ufeffvid 20 1"]:
+        calls = []
+        for number, text in enumerate(_REFUSED + ["\ufeffvid 20 1"]):
             begin = [] if text.startswith("\ufeff") else _BEFORE
+            path = os.path.join(folder, f"refused-{number}.spb")
             with open(path, "w", encoding="utf-8") as file:
                 file.write("\n".join([*begin, text]) + "\n")
-            told = bench.fabric("explain", path)
-            yield f"{told.out.replace(path, 'refused.spb')}{told.err}status {told.status}\n\n"
+            calls.append(["explain", path])
+        for told in bench.fabrics(calls):
+            yield f"{told.out.replace(folder + os.sep, '')}{told.err}status {told.status}\n\n"
