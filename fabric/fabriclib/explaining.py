@@ -224,7 +224,7 @@ def _range(line: Line, before: World) -> Finding:
         if bounds and not bounds[0] <= int(line.words[index]) <= bounds[1]:
             return Finding(
                 index,
-                f"{place} is {int(line.words[index]):,}; it is {bounds[0]:,} to {bounds[1]:,}"
+                f"{place.replace('COUNT', 'N')} is {int(line.words[index]):,}; it is {bounds[0]:,} to {bounds[1]:,}"
                 + _of_number(place, int(line.words[index])),
             )
     for index, place in places:
@@ -295,7 +295,7 @@ def _not_attached(line: Line, before: World) -> Finding:
     own = sorted(port for bridge, port in before.attached if bridge == line.words[1])
     return Finding(
         2,
-        f"customer port {int(line.words[2])} of {line.words[1]} isn't attached to a service; attached are "
+        f"customer port {int(line.words[2])} of {line.words[1]} isn't attached to a service; attached are the ports "
         f"{_listed(own)}",
     )
 

@@ -161,13 +161,13 @@ def _where(second: Second) -> str:
 
 
 def _split(second: Second) -> str:
-    told = [f"{isid} ({len(pairs)}{_fault(second.faults[isid])})" for isid, pairs in second.split.items()]
-    return ", ".join(told[:3]) + (f" and {len(told) - 3} more" if len(told) > 3 else "") or "-"
-
-
-def _fault(faults: "Counter[Tuple[str, str]]") -> str:
-    """Where most of a service's frames vanish, and why."""
-    return "".join(f", at {bridge}: {reason}" for (reason, bridge), _ in faults.most_common(1))
+    """The services that are split, how many members don't reach each other, and where most of it is lost."""
+    told = [f"{isid} ({len(pairs)})" for isid, pairs in second.split.items()]
+    faults: "Counter[Tuple[str, str]]" = Counter()
+    for counts in second.faults.values():
+        faults.update(counts)
+    where = "".join(f", most at {bridge} ({reason})" for (reason, bridge), _ in faults.most_common(1))
+    return ", ".join(told[:4]) + (f" and {len(told) - 4} more" if len(told) > 4 else "") + where or "-"
 
 
 def _first(shown: List[Second], holds: Callable[[Second], bool]) -> Optional[int]:
