@@ -80,7 +80,7 @@ def _rows(world: World) -> Places:
 
 def _ring(world: World) -> Places:
     ring = _ring_of(world) or list(world.bridges)
-    step = max(map(box_width, world.bridges)) + _GAP
+    step = max(map(box_width, world.bridges)) + 2 * _GAP
     radius = max(130.0, step * len(ring) / (2 * math.pi))
     angles = {name: 2 * math.pi * index / len(ring) for index, name in enumerate(ring)}
     places = {name: _at(angle, radius) for name, angle in angles.items()}

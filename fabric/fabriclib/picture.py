@@ -43,7 +43,7 @@ LINK = Stroke("#cbd5e1", 1.4, legend="link")
 DOWN = Stroke("#dc2626", 1.4, "5 4", legend="link down")
 IDLE = Stroke("#d9b36c", 1.2, "2 4", legend="idle link")
 TREE = Stroke("#2563eb", 3.0, legend="the tree")
-LOST = Stroke("#dc2626", 3.0, legend="a frame is dropped behind it")
+LOST = Stroke("#dc2626", 3.0, legend="the frame ends behind it")
 # The shades of load: up to which share of the fullest link, and what the legend says.
 SHADES = (
     (1 / 3, "#93c5fd", "up to a third of the fullest"),
@@ -162,20 +162,33 @@ def _border(begin: Place, end: Place, middle: Place, width: float) -> Place:
 
 
 def _labels(strokes: List[Tuple[Link, Stroke]], places: Places) -> List[str]:
-    """The words at links: at the middle, or nearer to an end where others or a bridge stand there; none where no place
-    is free."""
+    """The words at links: where no bridge and no other words stand, and as few other links pass as can be."""
     taken = [(place.x, place.y, box_width(name), float(BOX_HEIGHT)) for name, place in places.items()]
+    lines = {link.name: (_anchor(link.a, link.b, places), _anchor(link.b, link.a, places)) for link, _ in strokes}
     parts = []
     for link, stroke in strokes:
-        begin, end = _anchor(link.a, link.b, places), _anchor(link.b, link.a, places)
+        begin, end = lines[link.name]
+        others = [line for name, line in lines.items() if name != link.name]
         width = len(stroke.label) * 7.0 + 8
-        for share in (0.5, 0.38, 0.62, 0.28, 0.72, 0.2, 0.8):
-            x, y = begin.x + (end.x - begin.x) * share, begin.y + (end.y - begin.y) * share
-            if stroke.label and not any(_overlap((x, y, width, 18.0), other) for other in taken):
-                taken.append((x, y, width, 18.0))
-                parts.append(_label(stroke.label, x, y, width))
-                break
+        points = [Place(begin.x + (end.x - begin.x) * share, begin.y + (end.y - begin.y) * share) for share in _SHARES]
+        free = [at for at in points if not any(_overlap((at.x, at.y, width, 18.0), other) for other in taken)]
+        if stroke.label and free:
+            x, y = min(free, key=lambda at: sum(_distance(at, line) < 13 for line in others))
+            taken.append((x, y, width, 18.0))
+            parts.append(_label(stroke.label, x, y, width))
     return parts
+
+
+# Where on a link its words can stand, the best first.
+_SHARES = (0.5, 0.42, 0.58, 0.34, 0.66, 0.26, 0.74, 0.2, 0.8)
+
+
+def _distance(at: Place, line: Tuple[Place, Place]) -> float:
+    """How far a place is from a straight line between two others."""
+    (ax, ay), (bx, by) = line
+    dx, dy = bx - ax, by - ay
+    share = max(0.0, min(1.0, ((at.x - ax) * dx + (at.y - ay) * dy) / (dx * dx + dy * dy or 1.0)))
+    return math.hypot(at.x - ax - share * dx, at.y - ay - share * dy)
 
 
 # The middle of something, its width and its height.

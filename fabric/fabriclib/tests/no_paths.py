@@ -110,7 +110,7 @@ def _by_rows(bench: Bench, folder: str) -> Iterator[str]:
     drawn = bench.fabric(
         "draw", script, "--at", at, "--isid", "1005", "--from", "leaf1", program=_altering(bench, folder, [tree])
     ).out
-    if "0 of 11 other members reached" not in drawn or "dropped at spine3: no row for the group" not in drawn:
+    if "0 of 11 other members reached" not in drawn or "ends at spine3: no row for the group" not in drawn:
         yield "a group row altered: the picture doesn't show what the row says"
 
 

@@ -187,7 +187,7 @@ def _tree_panel(fabric: Fabric, isid: int, source: Optional[str]) -> Panel:
             (f"not reached: {', '.join(tree.missed[:6])}" + (" .." if len(tree.missed) > 6 else ""), _RED)
         )
     for fault in tree.faults[:3]:
-        panel.notes.append((f"dropped at {fault.bridge}: {fault.reason}", _RED))
+        panel.notes.append((f"ends at {fault.bridge}: {fault.reason}", _RED))
     panel.bridges = _tree_looks(tree, members)
     lost = {fault.link for fault in tree.faults}
     for hop in tree.hops:
