@@ -119,5 +119,7 @@ def _fullest(before: Survey, change: Change, gone: Optional[str]) -> Optional[Tu
                 load.subtract(hop.link for hop in way.hops)
     else:
         load = change.load(before)
-    full = max(load.items(), key=lambda item: item[1], default=None)
+    # of several the one that is declared first
+    links = ((name, load[name]) for name in before.fabric.world.links)
+    full = max(links, key=lambda item: item[1], default=None)
     return full if full and full[1] > 0 else None

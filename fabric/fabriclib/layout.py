@@ -1,10 +1,12 @@
 """Where bridges stand in a picture: in rows by the stems of their names, on a ring, or as Graphviz puts them."""
 from __future__ import annotations
 
+import itertools
 import math
 import re
 import shutil
 import subprocess
+from collections import Counter
 from typing import Dict, List, NamedTuple, Optional, Sequence, Tuple
 
 from fabriclib.script import Unusable, World
@@ -60,10 +62,22 @@ def _stems(world: World) -> Dict[str, List[str]]:
     return stems
 
 
+def _in_order(world: World, stems: Dict[str, List[str]]) -> List[List[str]]:
+    """The stems' bridges, in the order in which as few links as can be pass a row; else in that of declaration."""
+    row = {name: number for number, names in enumerate(stems.values()) for name in names}
+    between = Counter(tuple(sorted((row[link.a], row[link.b]))) for link in world.links.values())
+    orders = itertools.permutations(range(len(stems))) if len(stems) <= 6 else [tuple(range(len(stems)))]
+
+    def passed(order: Tuple[int, ...]) -> int:
+        return sum(max(0, abs(order.index(a) - order.index(b)) - 1) * count for (a, b), count in between.items())
+
+    return [list(stems.values())[number] for number in min(orders, key=passed)]
+
+
 def _rows(world: World) -> Places:
     rows = [
         names[at : at + _MOST_IN_A_ROW]
-        for names in _stems(world).values()
+        for names in _in_order(world, _stems(world))
         for at in range(0, len(names), _MOST_IN_A_ROW)
     ]
     step = max(map(box_width, world.bridges)) + _GAP

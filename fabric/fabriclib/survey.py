@@ -77,7 +77,9 @@ class Survey:
         for link in dark:
             ways.update(self._ways_by_link.get(link, ()))
             trees.update(self._trees_by_link.get(link, ()))
-        return Change({key: fabric.way(*key) for key in ways}, {key: fabric.tree(*key) for key in trees})
+        return Change(
+            {key: fabric.way(*key) for key in sorted(ways)}, {key: fabric.tree(*key) for key in sorted(trees)}
+        )
 
     def passed(self) -> Dict[str, "Counter[int]"]:
         """For each bridge the number of ways that pass it, by VID."""

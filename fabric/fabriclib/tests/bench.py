@@ -1,10 +1,13 @@
 """Calls of fabric/fabric, and where things are."""
 from __future__ import annotations
 
+import contextlib
+import io
 import os
 import subprocess
-from concurrent.futures import ThreadPoolExecutor
 from typing import Dict, List, NamedTuple, Optional, Sequence
+
+from fabriclib.cli import main
 
 FABRIC = os.path.dirname(os.path.dirname(os.path.dirname(os.path.realpath(__file__))))
 TOP = os.path.dirname(FABRIC)
@@ -37,14 +40,27 @@ class Bench:
         return _called(whole, stdin, env)
 
     def fabrics(self, calls: Sequence[Sequence[str]]) -> List[Result]:
-        """Several calls, as many at a time as there are processors, at most four."""
-        with ThreadPoolExecutor(min(4, os.cpu_count() or 1)) as pool:
-            return list(pool.map(lambda words: self.fabric(*words), calls))
+        """Several calls, in this process, which costs none of them the start of Python."""
+        self.calls += len(calls)
+        return [_in_process([*words, "--program", self.program]) for words in calls]
 
     def play(self, script: str) -> Result:
         """A run of the program itself."""
         self.calls += 1
         return _called([self.program, "run"], script, None)
+
+
+def _in_process(words: Sequence[str]) -> Result:
+    """A call of the entry from the repository's top, with what it writes."""
+    out, err = (io.TextIOWrapper(io.BytesIO(), encoding="utf-8", write_through=True) for _ in range(2))
+    before = os.getcwd()
+    os.chdir(TOP)
+    try:
+        with contextlib.redirect_stdout(out), contextlib.redirect_stderr(err):
+            status = main(list(words))
+    finally:
+        os.chdir(before)
+    return Result(status, *(stream.buffer.getvalue().decode() for stream in (out, err)))  # type: ignore[attr-defined]
 
 
 def _called(words: List[str], stdin: str, env: Optional[Dict[str, str]]) -> Result:

@@ -119,7 +119,7 @@ def _pictures() -> List[Tuple[str, List[str]]]:
     up, failed = _line(_LEAF_SPINE, "state"), _line(_LEAF_SPINE, "down s1l12")
     ring_up, cut, second = (_line(_METRO_RING, text) for text in ("state", "down r3-r4", "down r5-r6"))
     examples = [
-        (f"{name}-load", [f"examples/{name}.spb", "--load"])
+        (f"example-{name}-load", [f"examples/{name}.spb", "--load"])
         for name in ("equal-cost-paths", "link-failure-drill", "metro-ring", "restart-drill", "two-ways")
     ]
     return examples + [
