@@ -27,7 +27,7 @@ def run(bench: Bench, writes: bool) -> Iterator[str]:
             yield f"{os.path.relpath(path, TOP)} isn't there"
         else:
             yield from _difference(path, content)
-    for path in glob.glob(os.path.join(GOLDEN, "out", "*")):
+    for path in glob.glob(os.path.join(GOLDEN, "written", "*")):
         if path not in wanted:
             if writes:
                 os.remove(path)
@@ -50,16 +50,16 @@ def _outputs(bench: Bench) -> Iterator[Tuple[str, str]]:
     """Each golden file, by its path in the folder, and its content now."""
     for path in sorted(glob.glob(os.path.join(EXAMPLES, "*.spb"))):
         name = os.path.basename(path)[:-4]
-        yield f"out/{name}.txt", "".join(_calls(bench, _of_example(os.path.relpath(path, TOP))))
+        yield f"written/{name}.txt", "".join(_calls(bench, _of_example(os.path.relpath(path, TOP))))
     for path, calls in ((_LEAF_SPINE, _of_leaf_spine()), (_METRO_RING, _of_metro_ring())):
-        yield f"out/fabric-{os.path.basename(path)[:-4]}.txt", "".join(_calls(bench, calls))
-    yield "out/refusals.txt", "".join(_refusals(bench))
+        yield f"written/fabric-{os.path.basename(path)[:-4]}.txt", "".join(_calls(bench, calls))
+    yield "written/refusals.txt", "".join(_refusals(bench))
     topologies = sorted(glob.glob(os.path.join(GOLDEN, "topologies", "*")))
     calls = [["import", os.path.relpath(path, TOP), "--isid", "100"] for path in topologies]
-    yield "out/import.txt", "".join(_calls(bench, calls))
+    yield "written/import.txt", "".join(_calls(bench, calls))
     pictures = _pictures()
     for (name, _), told in zip(pictures, bench.fabrics([["draw", *words] for _, words in pictures])):
-        yield f"out/{name}.svg", told.out
+        yield f"written/{name}.svg", told.out
 
 
 def _calls(bench: Bench, calls: List[List[str]]) -> Iterator[str]:
