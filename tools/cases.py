@@ -3,11 +3,11 @@
 
     tools/cases.py [--write] [--try]
 
-Its folder data/ has a copy of each file of examples/, the file examples.cases has a case for each script among them,
-and the file stdout says how many cases each file has: a case begins by a line `== ..` or is a line `? ..`. With --write
-the copies, examples.cases and stdout are written anew. With --try all cases are played too, before anything is proved:
-that takes some three minutes, as each checked run, and needs the toolchain's rt. The exit status is 1 where something
-differs.
+Its folder data/ has a copy of each script and each output of examples/, the file examples.cases has a case for each of
+these scripts, and the file stdout says how many cases each file has: a case begins by a line `== ..` or is a line
+`? ..`. With --write the copies, examples.cases and stdout are written anew. With --try all cases are played too, before
+anything is proved: that takes some three minutes, as each checked run, and needs the toolchain's rt. The exit status is
+1 where something differs.
 """
 import argparse
 import glob
@@ -37,7 +37,7 @@ def example_cases(names):
 
 def copies():
     """The files that follow from examples/, by their path in the folder of the data."""
-    paths = sorted(glob.glob(os.path.join(EXAMPLES, "*")))
+    paths = sorted(glob.glob(os.path.join(EXAMPLES, "*.spb")) + glob.glob(os.path.join(EXAMPLES, "*.out")))
     wanted = {os.path.join("examples", os.path.basename(path)): content(path) for path in paths}
     names = [os.path.basename(path)[:-4] for path in paths if path.endswith(".spb")]
     wanted["examples.cases"] = example_cases(names).encode()

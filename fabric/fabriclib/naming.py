@@ -1,0 +1,96 @@
+"""What an answer's line says, in names: addresses as bridges, ports by the neighbours behind them."""
+from __future__ import annotations
+
+from typing import List, Optional
+
+from fabriclib.script import World
+
+DROP_REASONS = (
+    "no frame of the backbone",
+    "PDU can't be read",
+    "TLV can't be read",
+    "not adjacent",
+    "hello discarded",
+    "ingress check",
+    "no way",
+    "I-SID mismatch",
+    "database full",
+)
+CONDITIONS = {
+    "q1": "an adjacency isn't as the link",
+    "q2": "a frame is on its way",
+    "q3": "an LSP or CSNP is due",
+    "q4": "two bodies under one LSP id",
+}
+
+
+def neighbour(world: World, bridge: str, port: int) -> str:
+    """The bridge behind a port, with the link's state where that is down."""
+    link = world.at_port.get((bridge, port))
+    if link is None:
+        return f"port {port}, which has no link"
+    return link.far(bridge)[0] + ("" if link.is_up else " (link down)")
+
+
+def neighbours(world: World, bridge: str, ports: str) -> str:
+    """The bridges behind a list of ports."""
+    return ", ".join(neighbour(world, bridge, int(port)) for port in ports.split(","))
+
+
+class Names:
+    """The names behind the words of the answers to one question."""
+
+    def __init__(self, world: World, bridge: str) -> None:
+        self.world = world
+        self.bridge = bridge
+        self.systems = world.by_system()
+        self.sources = {own.source: own.name for own in world.bridges.values()}
+
+    def note(self, line: str) -> Optional[str]:
+        """What a line says, in names; none where it has no address or port."""
+        words = line.split()
+        read = {
+            "u": self._unicast,
+            "g": self._group,
+            "p": self._port,
+            "l": self._lsp,
+            "out": self._out,
+            "drops": self._drops,
+            "state": self._state,
+        }.get(words[0])
+        return read(words) if read else None
+
+    def _unicast(self, words: List[str]) -> str:
+        return f"to {self.systems.get(words[2], words[2])} over {neighbour(self.world, self.bridge, int(words[3]))}"
+
+    def _group(self, words: List[str]) -> str:
+        mac = words[2]
+        source = self.sources.get(mac[0] + mac[2:6], mac[0] + mac[2:6])
+        return f"service {int(mac[6:], 16)} from {source} to {neighbours(self.world, self.bridge, words[3])}"
+
+    def _port(self, words: List[str]) -> Optional[str]:
+        link = self.world.at_port.get((self.bridge, int(words[1])))
+        if link is None:
+            return "no link"
+        told = f"link {link.name} to {link.far(self.bridge)[0]}" + ("" if link.is_up else ", down")
+        heard = self.systems.get(words[3]) if len(words) > 3 else None
+        return told + (f", hears {heard}" if heard else "")
+
+    def _lsp(self, words: List[str]) -> str:
+        told = f"of {self.systems.get(words[1][:12], words[1][:12])}"
+        for flag, what in (("srm", "to be sent to"), ("ssn", "to be acknowledged to")):
+            ports = words[words.index(flag) + 1]
+            if ports != "-":
+                told += f", {what} {neighbours(self.world, self.bridge, ports)}"
+        return told
+
+    def _out(self, words: List[str]) -> str:
+        isid = self.world.attached.get((words[1], int(words[2])))
+        return f"leaves at {words[1]}" + (f", service {isid[0]}" if isid else "")
+
+    def _drops(self, words: List[str]) -> Optional[str]:
+        told = [f"{count} {reason}" for count, reason in zip(words[2:], DROP_REASONS) if count != "0"]
+        return ", ".join(told) or "none"
+
+    def _state(self, words: List[str]) -> Optional[str]:
+        return "; ".join(CONDITIONS[word] for word in words[2:]) or None
