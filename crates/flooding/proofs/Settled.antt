@@ -42,7 +42,7 @@ keeps_by : (P : Holding → Type 0) (b : Bool) (h g : Holding) → P h → P g �
 keeps_by P true h g before after = before
 keeps_by P false h g before after = after
 
-settling_keeps : (P : Holding → Type 0) (stands : Test) (up : PortSet) (h : Holding) → P h → P (originated up h) → P (settled_by stands up h)
+pub settling_keeps : (P : Holding → Type 0) (stands : Test) (up : PortSet) (h : Holding) → P h → P (originated up h) → P (settled_by stands up h)
 unfolding settled_by
 settling_keeps P stands up h before after = keeps_by P (h.own.spent || stands h) h (originated up h) before after
 
