@@ -40,8 +40,8 @@ pub other_than_first : (system : SystemId) (id : LspId) → is_own_number system
 other_than_first system id other is = true≢false (sym (first_is_own system) ∙ (ap (is_own_number system) (sym is) ∙ other))
 
 -- no id of another system is
-pub other_system : (system : SystemId) (id : LspId) → id.system ≢ system → is_own_number system id ≡ false
-other_system system id apart = by_test (is_own_number system id) refl
+pub not_own : (system : SystemId) (id : LspId) → id.system ≢ system → is_own_number system id ≡ false
+not_own system id apart = by_test (is_own_number system id) refl
   where
     by_test : (b : Bool) → is_own_number system id ≡ b → b ≡ false
     by_test true is = absurd (apart (ap (λ (x : LspId). x.system) (own_is_number system id is).is))

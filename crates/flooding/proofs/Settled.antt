@@ -110,7 +110,7 @@ further_from up h id =
           subst (λ (o : Option Entry). number_of (version_in o) ≤ number_of (version_at h.db id) + 1) (sym same) (omega arith)
     ]
 
-originated_further : (up : PortSet) (h : Holding) (id : LspId) → number_of (version_at (originated up h).db id) ≤ number_of (version_at h.db id) + 1
+pub originated_further : (up : PortSet) (h : Holding) (id : LspId) → number_of (version_at (originated up h).db id) ≤ number_of (version_at h.db id) + 1
 unfolding originated
 originated_further up h id =
     keeps_by (λ g. number_of (version_at g.db id) ≤ number_of (version_at h.db id) + 1) h.own.spent h (originated_from up (own_held h) h) (omega arith) (further_from up h id)
@@ -134,7 +134,7 @@ put_few : (b : Bool) (db : Lsps) (id : LspId) (e : Entry) → len (if b then ins
 put_few true db id e = len_insert (contains_key db id) (len (insert db id e)) (len db) (len-insert ids_total db id e)
 put_few false db id e = omega arith
 
-originated_few : (up : PortSet) (h : Holding) → len (originated up h).db ≤ len h.db + 1
+pub originated_few : (up : PortSet) (h : Holding) → len (originated up h).db ≤ len h.db + 1
 unfolding originated
 originated_few up h =
     let id = own_id h.own.system in

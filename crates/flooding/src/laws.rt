@@ -69,8 +69,8 @@ pub fn settling_changes_own_lsps_alone()
     ensures spends { SettlingSpends }
 {}
 
-/// It is a certified step, after which the LSPs that are held can be sent, flags stand at Up ports, and no more is to
-/// be acknowledged or asked for.
+/// Bringing own LSPs up to date is a certified step, after which the LSPs that are held can be sent, flags stand at Up
+/// ports, and no more is to be acknowledged or asked for.
 pub fn settling_keeps_what_steps_keep()
     ensures certified { SettlingIsCertified }
     ensures body { SettlingLeavesOwnBody }
@@ -79,8 +79,8 @@ pub fn settling_keeps_what_steps_keep()
     ensures silence { SettlingKeepsSilence }
 {}
 
-/// Afterwards the own LSP is live with the present body for more than 300 seconds, unless the system is spent. What is
-/// heard keeps it so: then there is nothing to be settled.
+/// After it was brought up to date the own LSP is live with the present body for 301 to 1,200 seconds more, unless the
+/// system is spent. What is heard keeps it so, and then it stands.
 pub fn own_lsps_are_current()
     ensures settled { SettledIsCurrent }
     ensures fresh { FreshIsCurrent }

@@ -39,17 +39,13 @@ configured_attached c = originating_attached (bare c)
 
 -- ---- the ports
 
-ports_if : (b : Bool) (v w : BridgeView) → w.ports ≡ v.ports → (if b then v else w).ports ≡ v.ports
-ports_if true v w same = refl
-ports_if false v w same = same
-
 pub originated_if_changed_ports : (v : BridgeView) → (originated_if_changed v).ports ≡ v.ports
 unfolding originated_if_changed
-originated_if_changed_ports v = ports_if _ v (originating v) refl
+originated_if_changed_ports v = refl
 
 refreshed_ports : (v : BridgeView) → (refreshed v).ports ≡ v.ports
 unfolding refreshed
-refreshed_ports v = ports_if _ v (originating v) refl
+refreshed_ports v = refl
 
 configured_ports : (c : BridgeConfig) → (configured c).ports ≡ map port_without_carrier c.metrics
 unfolding configured
