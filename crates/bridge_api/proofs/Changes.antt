@@ -1,6 +1,6 @@
 -- What a step makes of the ports, one by one, and what it leaves as it was.
 use Rattle.std.proofs.Common.{◌≡◌, ◌≢◌, ◌⊎◌, inl, inr, ◌≤◌, ◌-◌, ℕ, Bool, true, false, List, map, refl, sym, ap, ◌∙◌, subst, Option, Some, None, Result, Ok, Err, arith}
-use Rattle.std.specs.Prelude.{slice_get, slice_set, nat_le, ◌||◌, ◌&&◌, not, if◌then◌else◌}
+use Rattle.std.specs.Prelude.{slice_get, slice_set, nat_le, if◌then◌else◌}
 use Rattle.std.specs.Option.{option_map}
 use Rattle.std.proofs.lemmas.List.{set-set}
 use Rattle.std.proofs.lemmas.Option.{slice_get-map, slice_get_within}
@@ -26,8 +26,9 @@ use Rattle.adjacency.specs.Adjacency.{after_hello, change_by_hello, after_carrie
 use Rattle.bridge_api.specs.declared.port.BridgePort.{BridgePort}
 use Rattle.bridge_api.specs.declared.config.BridgeConfig.{BridgeConfig}
 use Rattle.bridge_api.specs.declared.drops.Drops.{Drops}
-use Rattle.bridge_api.specs.View.{BridgeView, port_in, port_at, with_port_at, with_drops, is_port_up}
-use Rattle.bridge_api.specs.Own.{own_entry, is_said, originating, originated_if_changed}
+use Rattle.bridge_api.specs.View.{BridgeView, port_in, port_at, with_port_at, with_drops, is_port_up, up_ports}
+use Rattle.flooding.specs.Settling.{Test, settled_by}
+use Rattle.bridge_api.specs.Own.{holding_of, with_holding, originated_if_changed}
 use Rattle.bridge_api.specs.Config.{bare, configured}
 use Rattle.bridge_api.specs.Parsing.{Parsed, parsed}
 use Rattle.bridge_api.specs.Parsing as parsing
@@ -36,7 +37,7 @@ use Rattle.bridge_api.specs.Tables.{own_tables}
 use Rattle.bridge_api.specs.Customers.{tenant_of, with_learned, carried_by, after_entry}
 use Rattle.bridge_api.specs.Services.{with_attached, with_port_forgotten}
 use Rattle.bridge_api.specs.Ports.{noted, heard_hello_port, with_carrier_port}
-use Rattle.bridge_api.specs.Ticking.{later, counts_lowered, expired, is_old, refreshed, readied, after_sending, after_tick}
+use Rattle.bridge_api.specs.Ticking.{later, counts_lowered, expired, refreshed, readied, after_sending, after_tick}
 use Rattle.bridge_api.proofs.Places.{port_found, set_again, got_at, got_beside}
 use Rattle.bridge_api.proofs.Adjacent.{kept_whole, not_discarded}
 
@@ -58,13 +59,13 @@ KeepsRest v w = w ≡ with_and_parts w.ports w.database w.spent w.drops v
 pub rest_of : (v w u : BridgeView) → w ≡ u → KeepsRest v u → KeepsRest v w
 rest_of v w u e rest = subst (KeepsRest v) (sym e) rest
 
-originated_if_changed_at : (b : Bool) (v : BridgeView) → (if b then v else originating v) ≡ with_lsps (if b then v else originating v).database (if b then v else originating v).spent v
-originated_if_changed_at true v = refl
-originated_if_changed_at false v = refl
+-- the bridge after its own LSP was brought up to date, by a test of it
+abbrev pub settling : Test → BridgeView → BridgeView
+settling stands v = with_holding (settled_by stands (up_ports v) (holding_of v)) v
 
 pub originated_if_changed_is : (v : BridgeView) → originated_if_changed v ≡ with_lsps (originated_if_changed v).database (originated_if_changed v).spent v
 unfolding originated_if_changed
-originated_if_changed_is v = originated_if_changed_at (v.spent || is_said v) v
+originated_if_changed_is v = refl
 
 pub originated_if_changed_ports : (v : BridgeView) → (originated_if_changed v).ports ≡ v.ports
 originated_if_changed_ports v = ap (λ (u : BridgeView). u.ports) (originated_if_changed_is v)
@@ -77,7 +78,7 @@ originated_if_changed_rest v u rest =
 
 pub refreshed_is : (v : BridgeView) → refreshed v ≡ with_lsps (refreshed v).database (refreshed v).spent v
 unfolding refreshed
-refreshed_is v = originated_if_changed_at (v.spent || (is_said v && not (is_old (own_entry v)))) v
+refreshed_is v = refl
 
 pub refreshed_ports : (v : BridgeView) → (refreshed v).ports ≡ v.ports
 refreshed_ports v = ap (λ (u : BridgeView). u.ports) (refreshed_is v)

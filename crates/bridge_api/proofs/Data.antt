@@ -1,6 +1,6 @@
 -- The database of a bridge stays sound in each part of a step.
 use Rattle.std.proofs.Common.{◌≡◌, ◌≢◌, ◌⊎◌, inl, inr, ◌≤◌, ◌+◌, ◌-◌, ℕ, zero, suc, Bool, true, false, List, [], ◌∷◌, length, map, refl, sym, ap, ◌∙◌, subst, Option, Some, None, arith, ⊎_elim}
-use Rattle.std.specs.Prelude.{nat_le, ◌||◌, ◌&&◌, not, slice_get, slice_set, if◌then◌else◌}
+use Rattle.std.specs.Prelude.{nat_le, ◌&&◌, not, slice_get, slice_set, if◌then◌else◌}
 use Rattle.std.specs.Option.{option_map}
 use Rattle.std.specs.List.{AllByRecursion}
 use Rattle.std.specs.FinMap.{get}
@@ -24,32 +24,33 @@ use Rattle.lsdb.specs.Certificate.{Certificate}
 use Rattle.lsdb.proofs.LookupLemmas.{get-each, fits_held}
 use Rattle.flooding.specs.Own.{own_id, body_in}
 use Rattle.flooding.specs.Hearing.{Holding, claim_of, hear_lsp_of}
-use Rattle.flooding.specs.Origination.{originated}
+use Rattle.flooding.specs.Settling.{Test, settled_by, is_said, is_fresh}
 use Rattle.flooding.specs.Entries.{AllEntries, IsNumbered, IsSendable, HasFlagsAt, AreSendable, HaveFlagsAt}
 use Rattle.flooding.specs.Laws.{HasBody, IsWhole, control}
-use Rattle.flooding.proofs.SendableEntries.{flags_sendable, lsp_keeps_sendable, origination_keeps_sendable, ageing_keeps_sendable}
-use Rattle.flooding.proofs.OwnBodies.{lsp_leaves_own_body, origination_leaves_own_body}
-use Rattle.flooding.proofs.FlagEntries.{lsp_keeps_flags, origination_keeps_flags}
-use Rattle.flooding.proofs.Steps.{hearing_lsp, origination}
+use Rattle.flooding.proofs.SendableEntries.{flags_sendable, lsp_keeps_sendable, ageing_keeps_sendable}
+use Rattle.flooding.proofs.OwnBodies.{lsp_leaves_own_body}
+use Rattle.flooding.proofs.FlagEntries.{lsp_keeps_flags}
+use Rattle.flooding.proofs.Steps.{hearing_lsp}
+use Rattle.flooding.proofs.Settled.{settling_is_certified, settling_leaves_own_body, settling_keeps_sendable, settling_keeps_flags}
 use Rattle.snp_sync.specs.SnpEntries.{has_ssn_at}
 use Rattle.snp_sync.specs.Sending.{ssn_cleared as ssn_cleared_entry, all_ssn_cleared}
 use Rattle.snp_sync.specs.Sized.{IsLspId, IsSized, IsSizedEntry, AreSized}
 use Rattle.snp_sync.specs.Hearing.{claims_in, hear_entries_of, hear_csnp_of}
-use Rattle.snp_sync.proofs.Fields.{flags_keep_sized, entries_keep_sized, csnp_keeps_sized, lsp_keeps_sized, origination_keeps_sized, ageing_keeps_sized}
+use Rattle.snp_sync.proofs.Fields.{flags_keep_sized, entries_keep_sized, csnp_keeps_sized, lsp_keeps_sized, settling_keeps_sized, ageing_keeps_sized}
 use Rattle.snp_sync.proofs.Stays.{claims_are_numbered, entries_keep_sendable, csnp_keeps_sendable, entries_keep_flags, csnp_keeps_flags, entries_leave_own_body, csnp_leaves_own_body}
 use Rattle.snp_sync.proofs.Served.{entries_are_certified, csnp_is_certified}
 use Rattle.spb_content.proofs.Members.{Has}
 use Rattle.bridge_api.specs.declared.port.BridgePort.{BridgePort}
 use Rattle.bridge_api.specs.View.{BridgeView, port_in, port_at, with_port_at, is_port_up, is_up_in, up_from, up_ports}
-use Rattle.bridge_api.specs.Own.{body_of, own_of, own_entry, holding_of, is_said, originating, originated_if_changed}
+use Rattle.bridge_api.specs.Own.{body_of, own_of, own_entry, holding_of, originated_if_changed}
 use Rattle.bridge_api.specs.Config.{IsOwnMac}
 use Rattle.bridge_api.specs.Hearing.{with_csnp_due, left_up, all_srm_set_at, heard_lsp, heard_csnp, heard_psnp}
-use Rattle.bridge_api.specs.Ticking.{later, leaves, leaving_from, flags_cleared_at_all, counts_lowered, expired, is_old, refreshed, after_sending_at, after_sending_from, after_sending}
+use Rattle.bridge_api.specs.Ticking.{later, leaves, leaving_from, flags_cleared_at_all, counts_lowered, expired, refreshed, after_sending_at, after_sending_from, after_sending}
 use Rattle.bridge_api.specs.Laws.{HasDatabase}
 use Rattle.bridge_api.proofs.OwnPorts.{HasApart, empty_apart, own_apart, mapped_apart}
 use Rattle.bridge_api.proofs.Places.{got_at}
 use Rattle.bridge_api.proofs.UpPorts.{up_ports_from}
-use Rattle.bridge_api.proofs.Changes.{found, one_port}
+use Rattle.bridge_api.proofs.Changes.{settling, found, one_port}
 
 -- ---- a sound database
 
@@ -96,37 +97,33 @@ fits_own v there = fits_at v.database (own_id v.id.system) (own_entry v) refl th
 
 -- ---- the own LSP
 
-pub originated_keeps : (up : PortSet) (h : Holding) → HasBody h.own → IsLspId (own_id h.own.system) → HasApart h.own.body → IsSoundData up h.own.system h.db → IsSoundData up h.own.system (originated up h).db
-originated_keeps up h body named said held =
-    let steps : Certificate 0 [] (control up h) (control up (originated up h)) = origination up 0 [] h in
-    record {
-      sendable = origination_keeps_sendable up h body held.sendable;
-      sized = origination_keeps_sized up h named held.sized;
-      flags = origination_keeps_flags up h held.flags;
-      own = risen _ _ (steps.rises (own_id h.own.system)) held.own;
-      apart = own_apart h.own (get h.db (own_id h.own.system)) (get (originated up h).db (own_id h.own.system)) said (origination_leaves_own_body up h (own_id h.own.system)) held.apart;
-    }
-
 -- a bridge that can write what it says, whose id is six octets, and whose neighbours are at different ports
 pub record CanOriginate (v : BridgeView) : Type 0 where
   pub body : HasBody (own_of v)
   pub named : IsLspId (own_id v.id.system)
   pub apart : HasApart (body_of v)
 
-pub originating_keeps : (v : BridgeView) → CanOriginate v → Holds v → Holds (originating v)
-originating_keeps v can held = originated_keeps (up_ports v) (holding_of v) can.body can.named can.apart held
-
-stands_or : (b : Bool) (v : BridgeView) → CanOriginate v → Holds v → Holds (if b then v else originating v)
-stands_or true v can held = held
-stands_or false v can held = originating_keeps v can held
+pub settling_keeps_data : (stands : Test) (v : BridgeView) → CanOriginate v → Holds v → Holds (settling stands v)
+settling_keeps_data stands v can held =
+    let up : PortSet = up_ports v in
+    let h : Holding = holding_of v in
+    let id : LspId = own_id v.id.system in
+    let steps : Certificate 0 [] (control up h) (control up (settled_by stands up h)) = settling_is_certified stands up 0 [] h in
+    record {
+      sendable = settling_keeps_sendable stands up h can.body held.sendable;
+      sized = settling_keeps_sized stands up h can.named held.sized;
+      flags = settling_keeps_flags stands up h held.flags;
+      own = risen _ _ (steps.rises id) held.own;
+      apart = own_apart h.own (own_entry v) (get (settled_by stands up h).db id) can.apart (settling_leaves_own_body stands up h id refl) held.apart;
+    }
 
 pub originated_if_changed_keeps : (v : BridgeView) → CanOriginate v → Holds v → Holds (originated_if_changed v)
 unfolding originated_if_changed
-originated_if_changed_keeps v can held = stands_or (v.spent || is_said v) v can held
+originated_if_changed_keeps v can held = settling_keeps_data is_said v can held
 
 pub refreshed_keeps : (v : BridgeView) → CanOriginate v → Holds v → Holds (refreshed v)
 unfolding refreshed
-refreshed_keeps v can held = stands_or (v.spent || (is_said v && not (is_old (own_entry v)))) v can held
+refreshed_keeps v can held = settling_keeps_data is_fresh v can held
 
 -- ---- what is heard at an Up port
 

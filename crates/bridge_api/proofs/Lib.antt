@@ -17,7 +17,6 @@ pub mod Saying
 pub mod Data
 pub mod Reading
 pub mod DataSteps
-pub mod OwnLsp
 pub mod OwnLspSteps
 pub mod Sound
 pub mod Spelled

@@ -1,11 +1,10 @@
 -- Every step leaves the own LSP of a bridge alive, saying what the bridge has to say.
-use Rattle.std.proofs.Common.{◌≡◌, inl, inr, ◌≤◌, ◌<◌, ◌+◌, ◌-◌, ℕ, zero, suc, Bool, true, false, List, [], ◌∷◌, map, refl, sym, ap, ◌∙◌, subst, Option, Some, None, arith}
-use Rattle.std.specs.Prelude.{◌&&◌, ◌||◌, not, nat_lt, nat_le, slice_set, if◌then◌else◌, ◌++◌}
+use Rattle.std.proofs.Common.{◌≡◌, inl, inr, ◌≤◌, ◌+◌, ◌-◌, ℕ, zero, suc, Bool, true, false, List, [], ◌∷◌, map, refl, sym, ap, ◌∙◌, subst, Option, Some, None, arith}
+use Rattle.std.specs.Prelude.{nat_le, slice_set, if◌then◌else◌, ◌++◌}
 use Rattle.std.specs.Option.{option_map}
 use Rattle.std.specs.FinMap.{get}
-use Rattle.std.proofs.lemmas.Bool.{true≢false, and_parts, or_parts, leb-false, lt-leb}
+use Rattle.std.proofs.lemmas.Bool.{lt-leb}
 use Rattle.std.proofs.lemmas.List.{set-set}
-use Rattle.std.proofs.lemmas.Slice.Eq.{bytes_eq-Decides}
 use Rattle.spb_types.specs.declared.address.LspId.{LspId}
 use Rattle.spb_types.specs.declared.ports.PortSet.{PortSet}
 use Rattle.spb_types.specs.Ports.{no_ports, without_port}
@@ -15,18 +14,22 @@ use Rattle.spb_tlvs.specs.declared.entries.SnpEntry.{SnpEntry}
 use Rattle.customer_learning.specs.Known.{Addresses}
 use Rattle.lsdb.specs.declared.version.Version.{Version}
 use Rattle.lsdb.specs.declared.version.Version.TheVariants.{Absent, Live, Dead}
-use Rattle.lsdb.specs.Version.{number_of, is_absent}
+use Rattle.lsdb.specs.Version.{is_absent}
 use Rattle.lsdb.specs.Entry.{Entry, srm_set_at, flagged, flags_cleared_at, aged}
-use Rattle.lsdb.specs.Database.{Lsps, version_in, fits, each}
+use Rattle.lsdb.specs.Database.{Lsps, fits, each}
+use Rattle.lsdb.specs.Time.{lifetime_in}
 use Rattle.lsdb.proofs.LookupLemmas.{get-each, fits_held}
-use Rattle.flooding.specs.declared.own.Own.{Own}
-use Rattle.flooding.specs.Own.{last_number, own_id, renewed}
-use Rattle.flooding.specs.Hearing.{Holding}
-use Rattle.flooding.specs.Origination.{spent_entry, next_own, originated_from, originated}
-use Rattle.flooding.proofs.Owns.{originated_stands}
+use Rattle.flooding.specs.Own.{own_id, renewed}
+use Rattle.flooding.specs.Hearing.{Holding, claim_of, lsp_rule, hear_lsp_of}
+use Rattle.flooding.specs.Settling.{is_said, is_fresh, settled, kept_fresh, IsLspCurrent, AreCurrent}
+use Rattle.flooding.specs.Origination.{originated}
+use Rattle.flooding.proofs.Owns.{own_stands}
+use Rattle.flooding.proofs.Current.{lsp_keeps_current}
+use Rattle.flooding.proofs.Settled.{settling_leaves_own, settled_is_current, fresh_is_current, current_is_settled}
 use Rattle.snp_sync.specs.SnpEntries.{has_ssn_at}
 use Rattle.snp_sync.specs.Sending.{ssn_cleared as ssn_cleared_entry, all_ssn_cleared}
-use Rattle.snp_sync.specs.Hearing.{claims_in}
+use Rattle.snp_sync.specs.Hearing.{claims_in, hear_entries_of, hear_csnp_of}
+use Rattle.snp_sync.proofs.Stays.{entries_leave_own, entries_keep_current, csnp_keeps_current}
 use Rattle.spb_content.specs.Local.{content_bytes}
 use Rattle.adjacency.specs.declared.state.AdjacencyChange.{AdjacencyChange}
 use Rattle.adjacency.specs.declared.state.AdjacencyChange.TheVariants.{Kept, CameUp, LeftUp, Discarded}
@@ -38,25 +41,27 @@ use Rattle.bridge_api.specs.declared.drops.Drops.{Drops}
 use Rattle.spb_types.specs.declared.drop_reason.DropReason.TheVariants as drop
 use Rattle.bridge_api.specs.Drops.{raised_at}
 use Rattle.bridge_api.specs.View.{BridgeView, with_port_at, is_port_up, up_ports, with_drops}
-use Rattle.bridge_api.specs.Own.{neighbour_in, neighbours_from, member_of, body_of, own_of, holding_of, with_holding, own_entry, body_in, is_said, Lasts, IsAlive, originating, originated_if_changed}
+use Rattle.bridge_api.specs.Own.{neighbour_in, neighbours_from, member_of, body_of, own_of, holding_of, with_holding, own_entry, body_in, Lasts, IsAlive, originated_if_changed}
 use Rattle.bridge_api.specs.Config.{bare, configured}
 use Rattle.bridge_api.specs.Hearing.{with_csnp_due, with_adjacency, left_up, all_srm_set_at, changed_at, heard_lsp, heard_csnp, heard_psnp, after_receive, with_port_metric}
-use Rattle.bridge_api.specs.Ticking.{leaving_from, flags_cleared_at_all, counts_lowered, expired, is_old, refreshed, readied, after_sending_at, after_sending_from, after_sending, after_tick}
+use Rattle.bridge_api.specs.Ticking.{leaving_from, flags_cleared_at_all, counts_lowered, expired, refreshed, readied, after_sending_at, after_sending_from, after_sending, after_tick}
 use Rattle.bridge_api.specs.Customers.{with_learned, after_entry}
 use Rattle.bridge_api.specs.Services.{with_attached, without_customer_port, with_port_forgotten}
 use Rattle.bridge_api.specs.Step.{Input, second, frame, carrier, metric, attach, detach, customer, step}
+use Rattle.bridge_api.specs.Laws.{IsSoundView, LspSettlesNothing, CsnpSettlesNothing, PsnpSettlesNothing}
 use Rattle.bridge_api.proofs.Changes.{frame_step, idle, by_hello, by_lsp, by_csnp, by_psnp, carrier_step, metric_step, originated_if_changed_ports, tick_is, attached_to, with_attached_is}
 use Rattle.bridge_api.proofs.DataSteps.{configured_holds_own}
-use Rattle.bridge_api.proofs.OwnLsp.{mapped_alive, lsp_lives, entries_live, csnp_lives}
 
 -- unless its sequence numbers are spent, the own LSP of a bridge is alive and says what the bridge has to say
-pub record IsSaying (v : BridgeView) : Type 0 where
-  pub said : v.spent ≡ false → body_in (own_entry v) ≡ body_of v
-  pub alive : v.spent ≡ false → IsAlive (own_entry v)
+abbrev pub IsSaying : BridgeView → Type 0
+IsSaying v = AreCurrent (holding_of v)
 
 -- it is alive
 abbrev Lives : BridgeView → Type 0
 Lives v = v.spent ≡ false → IsAlive (own_entry v)
+
+still_lives : (v : BridgeView) → IsSaying v → Lives v
+still_lives v was fresh = (was fresh).1
 
 -- ---- what the bridge has to say
 
@@ -86,109 +91,116 @@ neighbours_with_csnp_due p i port [] = refl
 neighbours_with_csnp_due p zero port (x ∷ ports) = refl
 neighbours_with_csnp_due p (suc i) port (x ∷ ports) = ap (λ (list : List Neighbour). if is_port_up x then neighbour_in p x ∷ list else list) (neighbours_with_csnp_due (p + 1) i port ports)
 
--- ---- an origination
+-- the bridge that holds what is current
+held_saying : (h : Holding) (v : BridgeView) → h.own.system ≡ v.id.system → h.own.body ≡ body_of v → AreCurrent h → IsSaying (with_holding h v)
+held_saying h v system body is fresh =
+    subst (λ b. IsLspCurrent b (get h.db (own_id v.id.system))) (body ∙ sym (held_body h v)) (subst (λ x. IsLspCurrent h.own.body (get h.db (own_id x))) system (is fresh))
 
--- an LSP that is alive with this body
-abbrev Says : List ℕ → Option Entry → Type 0
-Says body o = (body_in o ≡ body) × IsAlive o
+-- the counts aren't said
+counted_saying : (drops : Drops) (v : BridgeView) → IsSaying v → IsSaying (with_drops drops v)
+unfolding body_of
+counted_saying drops v was = was
 
-next_says : (up : PortSet) (own : Own) (seq : ℕ) (held : Option Entry) (below : Bool) → (if below then own else record own { spent = true }).spent ≡ false → Says own.body (Some (if below then renewed up own (seq + 1) else spent_entry up seq held))
-next_says up own seq held true fresh = (refl, (omega arith, omega arith))
-next_says up own seq held false fresh = absurd (true≢false fresh)
-
-own_next : (up : PortSet) (h : Holding) → h.own.spent ≡ false → (originated up h).own ≡ next_own h.own (number_of (version_in (get h.db (own_id h.own.system))))
-unfolding originated
-own_next up h fresh = ap (λ b. (if b then h else originated_from up (get h.db (own_id h.own.system)) h).own) fresh
-
-originating_says : (v : BridgeView) → v.spent ≡ false → fits v.database (own_id v.id.system) ≡ true → (originating v).spent ≡ false → Says (body_of v) (own_entry (originating v))
-originating_says v fresh there still =
-    let up : PortSet = up_ports v in
-    let h : Holding = holding_of v in
-    let seq : ℕ = number_of (version_in (own_entry v)) in
-    subst (Says (body_of v)) (sym (originated_stands up h fresh there))
-    (next_says up h.own seq (own_entry v) (nat_lt seq last_number) (ap (λ (own : Own). own.spent) (sym (own_next up h fresh)) ∙ still))
-
-originating_saying : (v : BridgeView) → v.spent ≡ false → fits v.database (own_id v.id.system) ≡ true → IsSaying (originating v)
-originating_saying v fresh there = record {
-  said = λ still. (originating_says v fresh there still).0 ∙ sym (held_body (originated (up_ports v) (holding_of v)) v);
-  alive = λ still. (originating_says v fresh there still).1;
-}
+-- ---- the own LSP is brought up to date
 
 alive_fits : (db : Lsps) (id : LspId) (o : Option Entry) → get db id ≡ o → IsAlive o → fits db id ≡ true
 alive_fits db id None is alive = absurd alive
 alive_fits db id (Some e) is alive = fits_held db id e is
 
--- ---- after an origination where something changed
+lasts_by : (a : Version) (lifetime : ℕ) → Lasts a lifetime → (301 ≤ lifetime) × (lifetime ≤ 1200)
+lasts_by Absent lifetime lasts = absurd lasts
+lasts_by (Live seq sum) lifetime lasts = lasts
+lasts_by (Dead seq) lifetime lasts = absurd lasts
 
-said_body : (v : BridgeView) → is_said v ≡ true → body_in (own_entry v) ≡ body_of v
-unfolding is_said
-said_body v is = (bytes_eq-Decides (body_in (own_entry v)) (body_of v)).0 is
-
-originated_if_changed_by : (b : Bool) (v : BridgeView) → (v.spent || is_said v) ≡ b → Lives v → IsSaying (if b then v else originating v)
-originated_if_changed_by true v is alive = record {
-  said = λ fresh. said_body v (ap (λ b. b || is_said v) (sym fresh) ∙ is);
-  alive = alive;
-}
-originated_if_changed_by false v is alive =
-    let fresh = (or_parts v.spent (is_said v) is).0 in
-    originating_saying v fresh (alive_fits v.database (own_id v.id.system) (own_entry v) refl (alive fresh))
+alive_lasts : (o : Option Entry) → IsAlive o → (301 ≤ lifetime_in o) × (lifetime_in o ≤ 1200)
+alive_lasts None alive = absurd alive
+alive_lasts (Some e) alive = lasts_by e.version e.lifetime alive
 
 originated_if_changed_saying : (v : BridgeView) → Lives v → IsSaying (originated_if_changed v)
 unfolding originated_if_changed
-originated_if_changed_saying v alive = originated_if_changed_by (v.spent || is_said v) v refl alive
+originated_if_changed_saying v alive =
+    let up : PortSet = up_ports v in
+    let h : Holding = holding_of v in
+    let own = settling_leaves_own is_said up h in
+    held_saying (settled up h) v own.0 own.1
+    (settled_is_current up h (λ fresh. (alive_fits v.database (own_id v.id.system) (own_entry v) refl (alive fresh), λ live. alive_lasts (own_entry v) (alive fresh))))
+
+-- a bridge whose own LSP says what it has to say, or whose sequence numbers are spent, originates nothing
+pub saying_settles : (v : BridgeView) → IsSaying v → originated_if_changed v ≡ v
+unfolding originated_if_changed
+saying_settles v was = ap (λ (h : Holding). with_holding h v) (current_is_settled (up_ports v) (holding_of v) was)
 
 -- ---- what is heard
 
-heard_lsp_lives : (l : LspValue) (p : ℕ) (v : BridgeView) → Lives v → Lives (heard_lsp l p v)
-heard_lsp_lives l p v alive = lsp_lives (up_ports v) p l (holding_of v) (own_id v.id.system) refl alive
+heard_lsp_saying : (l : LspValue) (p : ℕ) (v : BridgeView) → IsSaying v → IsSaying (heard_lsp l p v)
+heard_lsp_saying l p v was =
+    let up : PortSet = up_ports v in
+    let h : Holding = holding_of v in
+    let own = own_stands (lsp_rule up p l) up (claim_of l) h in
+    counted_saying (heard_lsp l p v).drops (with_holding (hear_lsp_of up p l h) v) (held_saying (hear_lsp_of up p l h) v own.0 own.1 (lsp_keeps_current up p l h was))
 
-heard_csnp_lives : (c : CsnpValue) (entries : List SnpEntry) (p : ℕ) (v : BridgeView) → Lives v → Lives (heard_csnp c entries p v)
-heard_csnp_lives c entries p v alive = csnp_lives (up_ports v) p c.start c.end (claims_in entries) (holding_of v) (own_id v.id.system) refl alive
+heard_csnp_saying : (c : CsnpValue) (entries : List SnpEntry) (p : ℕ) (v : BridgeView) → IsSaying v → IsSaying (heard_csnp c entries p v)
+heard_csnp_saying c entries p v was =
+    let up : PortSet = up_ports v in
+    let h : Holding = holding_of v in
+    let g : Holding = hear_csnp_of up p c.start c.end (claims_in entries) h in
+    let own = entries_leave_own up p (claims_in entries) h in
+    counted_saying (heard_csnp c entries p v).drops (with_holding g v) (held_saying g v own.0 own.1 (csnp_keeps_current up p c.start c.end (claims_in entries) h was))
 
-heard_psnp_lives : (entries : List SnpEntry) (p : ℕ) (v : BridgeView) → Lives v → Lives (heard_psnp entries p v)
-heard_psnp_lives entries p v alive = entries_live (up_ports v) p (claims_in entries) (holding_of v) (own_id v.id.system) refl alive
+heard_psnp_saying : (entries : List SnpEntry) (p : ℕ) (v : BridgeView) → IsSaying v → IsSaying (heard_psnp entries p v)
+heard_psnp_saying entries p v was =
+    let up : PortSet = up_ports v in
+    let h : Holding = holding_of v in
+    let g : Holding = hear_entries_of up p (claims_in entries) h in
+    let own = entries_leave_own up p (claims_in entries) h in
+    counted_saying (heard_psnp entries p v).drops (with_holding g v) (held_saying g v own.0 own.1 (entries_keep_current up p (claims_in entries) h was))
+
+pub was_saying : (v : BridgeView) → IsSoundView v → IsSaying v
+was_saying v was fresh = (was.own.said fresh, was.own.alive fresh)
+
+pub lsp_settles_nothing : LspSettlesNothing
+lsp_settles_nothing v l p was = saying_settles (heard_lsp l p v) (heard_lsp_saying l p v (was_saying v was))
+
+pub csnp_settles_nothing : CsnpSettlesNothing
+csnp_settles_nothing v c entries p was = saying_settles (heard_csnp c entries p v) (heard_csnp_saying c entries p v (was_saying v was))
+
+pub psnp_settles_nothing : PsnpSettlesNothing
+psnp_settles_nothing v entries p was = saying_settles (heard_psnp entries p v) (heard_psnp_saying entries p v (was_saying v was))
 
 -- ---- something came to pass at a port
+
+-- an entry changed that stays alive
+mapped_alive : (f : Entry → Entry) (o : Option Entry) → ((e : Entry) → IsAlive (Some e) → IsAlive (Some (f e))) → IsAlive o → IsAlive (option_map f o)
+mapped_alive f None keeps alive = absurd alive
+mapped_alive f (Some e) keeps alive = keeps e alive
 
 left_lives : (p : ℕ) (port : BridgePort) (v : BridgeView) → Lives v → Lives (left_up p port v)
 left_lives p port v alive fresh =
     subst IsAlive (sym (get-each (λ id e. flags_cleared_at p e) v.database (own_id v.id.system))) (mapped_alive (flags_cleared_at p) (own_entry v) (λ e is. is) (alive fresh))
 
 -- an entry changed in its flags alone
-mapped_says : (body : List ℕ) (f : Entry → Entry) (o : Option Entry) → ((e : Entry) → Says body (Some e) → Says body (Some (f e))) → Says body o → Says body (option_map f o)
+mapped_says : (body : List ℕ) (f : Entry → Entry) (o : Option Entry) → ((e : Entry) → IsLspCurrent body (Some e) → IsLspCurrent body (Some (f e))) → IsLspCurrent body o → IsLspCurrent body (option_map f o)
 mapped_says body f None keeps says = absurd (says.1)
 mapped_says body f (Some e) keeps says = keeps e says
 
-srm_set_says : (body : List ℕ) (p : ℕ) (e : Entry) (b : Bool) → Says body (Some e) → Says body (Some (if b then e else flagged p e))
+srm_set_says : (body : List ℕ) (p : ℕ) (e : Entry) (b : Bool) → IsLspCurrent body (Some e) → IsLspCurrent body (Some (if b then e else flagged p e))
 srm_set_says body p e true says = says
 srm_set_says body p e false says = says
 
--- what a bridge holds whose own LSP is current
-own_lsp_current_says : (v : BridgeView) → IsSaying v → v.spent ≡ false → Says (body_of v) (own_entry v)
-own_lsp_current_says v was fresh = (was.said fresh, was.alive fresh)
-
 -- the bridge with ports that have the same neighbours, and with every entry changed in its flags alone
-moved_saying : (ports : List BridgePort) (db : Lsps) (v : BridgeView) → neighbours_from 1 ports ≡ neighbours_from 1 v.ports → (Says (body_of v) (own_entry v) → Says (body_of v) (get db (own_id v.id.system))) → IsSaying v → IsSaying (record v { ports = ports; database = db })
-moved_saying ports db v same keeps was = record {
-  said = λ fresh. (keeps (own_lsp_current_says v was fresh)).0 ∙ sym (moved_body ports db v same);
-  alive = λ fresh. (keeps (own_lsp_current_says v was fresh)).1;
-}
+pub moved_saying : (ports : List BridgePort) (db : Lsps) (v : BridgeView) → neighbours_from 1 ports ≡ neighbours_from 1 v.ports → (IsLspCurrent (body_of v) (own_entry v) → IsLspCurrent (body_of v) (get db (own_id v.id.system))) → IsSaying v → IsSaying (record v { ports = ports; database = db })
+moved_saying ports db v same keeps was fresh = subst (λ b. IsLspCurrent b (get db (own_id v.id.system))) (sym (moved_body ports db v same)) (keeps (was fresh))
 
 srm_set_saying : (p : ℕ) (port : BridgePort) (v : BridgeView) → neighbours_from 1 (slice_set v.ports (p - 1) (with_csnp_due true port)) ≡ neighbours_from 1 v.ports → IsSaying v → IsSaying (all_srm_set_at p port v)
 srm_set_saying p port v same was =
     let id : LspId = own_id v.id.system in
     moved_saying (slice_set v.ports (p - 1) (with_csnp_due true port)) (each (λ x e. srm_set_at p e) v.database) v same
-    (λ says. subst (Says (body_of v)) (sym (get-each (λ x e. srm_set_at p e) v.database id)) (mapped_says (body_of v) (srm_set_at p) (own_entry v) (λ e. srm_set_says (body_of v) p e (is_absent e.version)) says)) was
-
--- the counts aren't said
-counted_saying : (drops : Drops) (v : BridgeView) → IsSaying v → IsSaying (with_drops drops v)
-unfolding body_of
-counted_saying drops v was = record { said = was.said; alive = was.alive }
+    (λ says. subst (IsLspCurrent (body_of v)) (sym (get-each (λ x e. srm_set_at p e) v.database id)) (mapped_says (body_of v) (srm_set_at p) (own_entry v) (λ e. srm_set_says (body_of v) p e (is_absent e.version)) says)) was
 
 changed_saying : (heard : AdjacencyChange) (p : ℕ) (port : BridgePort) (v : BridgeView) → IsSaying v → IsSaying (changed_at heard p port v)
 changed_saying Discarded p port v was = counted_saying (raised_at drop.Hello 1 v.drops) v was
-changed_saying Kept p port v was = originated_if_changed_saying (with_port_at p port v) was.alive
-changed_saying LeftUp p port v was = originated_if_changed_saying (left_up p port v) (left_lives p port v was.alive)
+changed_saying Kept p port v was = originated_if_changed_saying (with_port_at p port v) (still_lives v was)
+changed_saying LeftUp p port v was = originated_if_changed_saying (left_up p port v) (left_lives p port v (still_lives v was))
 changed_saying CameUp p port v was =
     let w : BridgeView = left_up p port v in
     let ports : (originated_if_changed w).ports ≡ slice_set v.ports (p - 1) (with_csnp_due false port) = originated_if_changed_ports w in
@@ -196,7 +208,7 @@ changed_saying CameUp p port v was =
     ap (λ (list : List BridgePort). neighbours_from 1 (slice_set list (p - 1) (with_csnp_due true port))) ports
     ∙ (ap (neighbours_from 1) (set-set v.ports (p - 1) (with_csnp_due false port) (with_csnp_due true port))
     ∙ (neighbours_with_csnp_due 1 (p - 1) port v.ports ∙ ap (neighbours_from 1) (sym ports))) in
-    srm_set_saying p port (originated_if_changed w) same (originated_if_changed_saying w (left_lives p port v was.alive))
+    srm_set_saying p port (originated_if_changed w) same (originated_if_changed_saying w (left_lives p port v (still_lives v was)))
 
 -- ---- a second
 
@@ -235,54 +247,42 @@ expired_fades v alive fresh =
     let up : PortSet = up_ports v in
     subst IsFading (sym (get-each (λ id e. aged up e) v.database (own_id v.id.system))) (aged_in up (own_entry v) (alive fresh))
 
--- one that isn't old is alive
-young : (a : Version) (lifetime : ℕ) → Fades a lifetime → not (nat_le lifetime 300) ≡ true → Lasts a lifetime
-young Absent lifetime fades is = absurd fades
-young (Live seq sum) lifetime fades is = let more : 300 < lifetime = leb-false lifetime 300 (unold (nat_le lifetime 300) is) in (omega (arith, more), fades.1)
-  where
-    unold : (b : Bool) → not b ≡ true → b ≡ false
-    unold true is = sym is
-    unold false is = refl
-young (Dead seq) lifetime fades is = absurd fades
-
-young_alive : (o : Option Entry) → IsFading o → not (is_old o) ≡ true → IsAlive o
-young_alive None fades is = absurd fades
-young_alive (Some e) fades is = young e.version e.lifetime fades is
-
 fading_fits : (db : Lsps) (id : LspId) (o : Option Entry) → get db id ≡ o → IsFading o → fits db id ≡ true
 fading_fits db id None is fades = absurd fades
 fading_fits db id (Some e) is fades = fits_held db id e is
 
-refreshed_by : (b : Bool) (v : BridgeView) → (v.spent || (is_said v && not (is_old (own_entry v)))) ≡ b → (v.spent ≡ false → IsFading (own_entry v)) → IsSaying (if b then v else originating v)
-refreshed_by true v is fades =
-    let both : v.spent ≡ false → (is_said v ≡ true) × (not (is_old (own_entry v)) ≡ true) =
-    λ fresh. and_parts (is_said v) (not (is_old (own_entry v))) (ap (λ b. b || (is_said v && not (is_old (own_entry v)))) (sym fresh) ∙ is) in
-    record {
-      said = λ fresh. said_body v (both fresh).0;
-      alive = λ fresh. young_alive (own_entry v) (fades fresh) (both fresh).1;
-    }
-refreshed_by false v is fades =
-    let fresh = (or_parts v.spent (is_said v && not (is_old (own_entry v))) is).0 in
-    originating_saying v fresh (fading_fits v.database (own_id v.id.system) (own_entry v) refl (fades fresh))
+fades_by : (a : Version) (lifetime : ℕ) → Fades a lifetime → (300 ≤ lifetime) × (lifetime ≤ 1200)
+fades_by Absent lifetime fades = absurd fades
+fades_by (Live seq sum) lifetime fades = fades
+fades_by (Dead seq) lifetime fades = absurd fades
+
+fading_lasts : (o : Option Entry) → IsFading o → (300 ≤ lifetime_in o) × (lifetime_in o ≤ 1200)
+fading_lasts None fades = absurd fades
+fading_lasts (Some e) fades = fades_by e.version e.lifetime fades
 
 refreshed_saying : (v : BridgeView) → (v.spent ≡ false → IsFading (own_entry v)) → IsSaying (refreshed v)
 unfolding refreshed
-refreshed_saying v fades = refreshed_by (v.spent || (is_said v && not (is_old (own_entry v)))) v refl fades
+refreshed_saying v fades =
+    let up : PortSet = up_ports v in
+    let h : Holding = holding_of v in
+    let own = settling_leaves_own is_fresh up h in
+    held_saying (kept_fresh up h) v own.0 own.1
+    (fresh_is_current up h (λ fresh. (fading_fits v.database (own_id v.id.system) (own_entry v) refl (fades fresh), λ live. fading_lasts (own_entry v) (fades fresh))))
 
 -- what had SSN was sent
-ssn_says : (body : List ℕ) (p : ℕ) (e : Entry) (b : Bool) → Says body (Some e) → Says body (Some (if b then record e { ssn = without_port e.ssn p } else e))
+ssn_says : (body : List ℕ) (p : ℕ) (e : Entry) (b : Bool) → IsLspCurrent body (Some e) → IsLspCurrent body (Some (if b then record e { ssn = without_port e.ssn p } else e))
 ssn_says body p e true says = says
 ssn_says body p e false says = says
 
-originated_if_changed_says : (body : List ℕ) (id : LspId) (p : ℕ) (db : Lsps) → Says body (get db id) → Says body (get (all_ssn_cleared p db) id)
+originated_if_changed_says : (body : List ℕ) (id : LspId) (p : ℕ) (db : Lsps) → IsLspCurrent body (get db id) → IsLspCurrent body (get (all_ssn_cleared p db) id)
 originated_if_changed_says body id p db says =
-    subst (Says body) (sym (get-each (λ x e. ssn_cleared_entry p e) db id)) (mapped_says body (ssn_cleared_entry p) (get db id) (λ e. ssn_says body p e (has_ssn_at p e)) says)
+    subst (IsLspCurrent body) (sym (get-each (λ x e. ssn_cleared_entry p e) db id)) (mapped_says body (ssn_cleared_entry p) (get db id) (λ e. ssn_says body p e (has_ssn_at p e)) says)
 
-after_sending_at_says : (body : List ℕ) (id : LspId) (p : ℕ) (b : Bool) (db : Lsps) → Says body (get db id) → Says body (get (if b then all_ssn_cleared p db else db) id)
+after_sending_at_says : (body : List ℕ) (id : LspId) (p : ℕ) (b : Bool) (db : Lsps) → IsLspCurrent body (get db id) → IsLspCurrent body (get (if b then all_ssn_cleared p db else db) id)
 after_sending_at_says body id p true db says = originated_if_changed_says body id p db says
 after_sending_at_says body id p false db says = says
 
-after_sending_from_says : (body : List ℕ) (id : LspId) (p : ℕ) (ports : List BridgePort) (db : Lsps) → Says body (get db id) → Says body (get (after_sending_from p ports db) id)
+after_sending_from_says : (body : List ℕ) (id : LspId) (p : ℕ) (ports : List BridgePort) (db : Lsps) → IsLspCurrent body (get db id) → IsLspCurrent body (get (after_sending_from p ports db) id)
 after_sending_from_says body id p [] db says = says
 after_sending_from_says body id p (port ∷ ports) db says = after_sending_from_says body id (p + 1) ports (after_sending_at p port db) (after_sending_at_says body id p (is_port_up port) db says)
 
@@ -294,14 +294,14 @@ after_sending_saying v was =
 tick_saying : (v : BridgeView) → IsSaying v → IsSaying (after_tick v)
 tick_saying v was =
     let w : BridgeView = counts_lowered v in
-    subst IsSaying (sym (tick_is v)) (after_sending_saying (readied v) (refreshed_saying (expired w) (expired_fades w (counts_lowered_lives v was.alive))))
+    subst IsSaying (sym (tick_is v)) (after_sending_saying (readied v) (refreshed_saying (expired w) (expired_fades w (counts_lowered_lives v (still_lives v was)))))
 
 -- ---- every step
 
 -- what was learned and counted isn't said
 learned_saying : (learned : Addresses) (drops : Drops) (v : BridgeView) → IsSaying v → IsSaying (with_drops drops (with_learned learned v))
 unfolding body_of
-learned_saying learned drops v was = record { said = was.said; alive = was.alive }
+learned_saying learned drops v was = was
 
 frame_saying : (q : ℕ) (bytes : List ℕ) (v : BridgeView) → IsSaying v → IsSaying (after_receive q bytes v)
 frame_saying q bytes v was =
@@ -310,13 +310,13 @@ frame_saying q bytes v was =
       | by_hello g ↦
           subst IsSaying (sym g.after)
           (changed_saying (change_by_hello v.id.system q g.hello g.way g.port.adjacency) q (with_adjacency (after_hello v.id.system q g.hello g.way g.port.adjacency) g.port) v was)
-      | by_lsp g ↦ subst IsSaying (sym g.after) (originated_if_changed_saying (heard_lsp g.lsp q v) (heard_lsp_lives g.lsp q v was.alive))
-      | by_csnp g ↦ subst IsSaying (sym g.after) (originated_if_changed_saying (heard_csnp g.csnp g.entries q v) (heard_csnp_lives g.csnp g.entries q v was.alive))
-      | by_psnp g ↦ subst IsSaying (sym g.after) (originated_if_changed_saying (heard_psnp g.entries q v) (heard_psnp_lives g.entries q v was.alive))
+      | by_lsp g ↦ subst IsSaying (sym g.after) (originated_if_changed_saying (heard_lsp g.lsp q v) (still_lives (heard_lsp g.lsp q v) (heard_lsp_saying g.lsp q v was)))
+      | by_csnp g ↦ subst IsSaying (sym g.after) (originated_if_changed_saying (heard_csnp g.csnp g.entries q v) (still_lives (heard_csnp g.csnp g.entries q v) (heard_csnp_saying g.csnp g.entries q v was)))
+      | by_psnp g ↦ subst IsSaying (sym g.after) (originated_if_changed_saying (heard_psnp g.entries q v) (still_lives (heard_psnp g.entries q v) (heard_psnp_saying g.entries q v was)))
     ]
 
 attached_saying : (attached : List Attachment) (v : BridgeView) → IsSaying v → IsSaying (with_attached attached v)
-attached_saying attached v was = subst IsSaying (sym (with_attached_is attached v)) (originated_if_changed_saying (attached_to attached v) was.alive)
+attached_saying attached v was = subst IsSaying (sym (with_attached_is attached v)) (originated_if_changed_saying (attached_to attached v) (still_lives v was))
 
 pub steps_stay_saying : (input : Input) (v : BridgeView) → IsSaying v → IsSaying (step input v)
 unfolding with_port_forgotten after_entry
@@ -330,7 +330,7 @@ steps_stay_saying (carrier q on) v was =
 steps_stay_saying (metric q m) v was =
     elim (metric_step v q m) [
       | inl e ↦ subst IsSaying (sym e) was
-      | inr g ↦ subst IsSaying (sym g.after) (originated_if_changed_saying (with_port_at q (with_port_metric m g.port) v) was.alive)
+      | inr g ↦ subst IsSaying (sym g.after) (originated_if_changed_saying (with_port_at q (with_port_metric m g.port) v) (still_lives v was))
     ]
 steps_stay_saying (attach a) v was = attached_saying (v.attached ++ a ∷ []) v was
 steps_stay_saying (detach p) v was = attached_saying (without_customer_port p v.attached) (with_port_forgotten p v) (learned_saying (with_port_forgotten p v).learned v.drops v was)
@@ -343,9 +343,6 @@ unfolding configured
 configured_body c = held_body (originated (up_ports (bare c)) (holding_of (bare c))) (bare c)
 
 pub configured_is_saying : (c : BridgeConfig) → IsSaying (configured c)
-configured_is_saying c =
+configured_is_saying c fresh =
     let own : own_entry (configured c) ≡ Some (renewed no_ports (own_of (bare c)) 1) = (configured_holds_own c).own in
-    record {
-      said = λ fresh. ap body_in own ∙ sym (configured_body c);
-      alive = λ fresh. subst IsAlive (sym own) (omega arith, omega arith);
-    }
+    (ap body_in own ∙ sym (configured_body c), subst IsAlive (sym own) (omega arith, omega arith))

@@ -11,10 +11,10 @@ use Rattle.bridge_api.proofs.Data.{Holds, has_lsps}
 use Rattle.bridge_api.proofs.SoundPorts.{ports_stay_sound, config_kept, configured_config, configured_sound, configured_has_no_carrier}
 use Rattle.bridge_api.proofs.DataSteps.{step_holds, configured_holds}
 use Rattle.bridge_api.proofs.Learned.{configured_learned, steps_stay_learned}
-use Rattle.bridge_api.proofs.OwnLspSteps.{IsSaying, steps_stay_saying, configured_is_saying}
+use Rattle.bridge_api.proofs.OwnLspSteps.{IsSaying, was_saying, steps_stay_saying, configured_is_saying}
 
 own_lsp_current_by : (v : BridgeView) → IsSaying v → Holds v → IsOwnLspCurrent v
-own_lsp_current_by v saying held = record { said = saying.said; alive = saying.alive; text = held.apart }
+own_lsp_current_by v saying held = record { said = λ fresh. (saying fresh).0; alive = λ fresh. (saying fresh).1; text = held.apart }
 
 pub configured_is_sound : ConfiguredIsSound
 configured_is_sound c whole = record {
@@ -34,6 +34,6 @@ steps_stay_sound input v is was =
       few = omega (arith, (steps_keep_bridge input v).ports, was.few);
       ports = ports_stay_sound input v is was.ports;
       database = has_lsps (step input v) held;
-      own = own_lsp_current_by (step input v) (steps_stay_saying input v (record { said = was.own.said; alive = was.own.alive })) held;
+      own = own_lsp_current_by (step input v) (steps_stay_saying input v (was_saying v was)) held;
       learned = steps_stay_learned input v was.learned;
     }

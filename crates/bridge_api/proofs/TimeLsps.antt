@@ -1,6 +1,5 @@
 -- What seconds leave of an LSP of which nothing more is heard.
-use Rattle.std.proofs.Common.{◌≡◌, ◌≢◌, inl, inr, ℕ, zero, suc, ◌+◌, ◌-◌, ◌≤◌, Bool, true, false, List, [], ◌∷◌, map, refl, sym, ap, ◌∙◌, subst, Option, Some, None, arith}
-use Rattle.std.specs.Prelude.{◌&&◌, ◌||◌, not, if◌then◌else◌}
+use Rattle.std.proofs.Common.{◌≡◌, inl, inr, ℕ, zero, suc, ◌+◌, ◌-◌, ◌≤◌, true, false, List, [], ◌∷◌, map, refl, sym, ap, ◌∙◌, subst, Option, Some, None, arith}
 use Rattle.std.specs.Option.{option_map}
 use Rattle.std.specs.FinMap.{get}
 use Rattle.std.proofs.lemmas.Bool.{cases_lt}
@@ -14,12 +13,13 @@ use Rattle.lsdb.specs.Database.{version_in, version_at, srm_in}
 use Rattle.lsdb.specs.Time.{lifetime_in, is_live}
 use Rattle.lsdb.proofs.LookupLemmas.{get-each}
 use Rattle.lsdb.proofs.Time.{lives_on, dies, stands}
-use Rattle.flooding.specs.Own.{own_id}
-use Rattle.flooding.proofs.Owns.{origination_leaves_others}
+use Rattle.flooding.specs.Own.{is_own_number}
+use Rattle.flooding.specs.Settling.{is_fresh}
+use Rattle.flooding.proofs.Settled.{settling_leaves_others}
 use Rattle.bridge_api.specs.View.{BridgeView, up_ports, up_from}
-use Rattle.bridge_api.specs.Own.{holding_of, own_entry, body_in, is_said, originating}
+use Rattle.bridge_api.specs.Own.{holding_of, body_in}
 use Rattle.bridge_api.specs.Duties.{but_for_ssn}
-use Rattle.bridge_api.specs.Ticking.{later, leaving_from, flags_cleared_at_all, counts_lowered, expired, is_old, refreshed, readied}
+use Rattle.bridge_api.specs.Ticking.{later, leaving_from, flags_cleared_at_all, counts_lowered, expired, refreshed, readied}
 use Rattle.bridge_api.specs.Step.{second, step}
 use Rattle.bridge_api.specs.Time.{seconds, AgedFrom, stays, dies as died, SecondsAge, IsLasting, LspsLast, IsDead, LspsExpire}
 use Rattle.bridge_api.proofs.Changes.{tick_is, tick_ports}
@@ -165,52 +165,48 @@ expired_holds v id =
     get-each (λ x e. aged up e) (counts_lowered v).database id
     ∙ (ap (option_map (aged up)) (get-each (λ x e. flags_cleared_at_all ps e) v.database id) ∙ twice (aged up) (flags_cleared_at_all ps) (get v.database id))
 
-others_by : (b : Bool) (w : BridgeView) (id : LspId) → id ≢ own_id w.id.system → get (if b then w else originating w).database id ≡ get w.database id
-others_by true w id apart = refl
-others_by false w id apart = origination_leaves_others (up_ports w) (holding_of w) id apart
-
-refreshed_others : (w : BridgeView) (id : LspId) → id ≢ own_id w.id.system → get (refreshed w).database id ≡ get w.database id
+refreshed_others : (w : BridgeView) (id : LspId) → is_own_number w.id.system id ≡ false → get (refreshed w).database id ≡ get w.database id
 unfolding refreshed
-refreshed_others w id apart = others_by (w.spent || (is_said w && not (is_old (own_entry w)))) w id apart
+refreshed_others w id other = settling_leaves_others is_fresh (up_ports w) (holding_of w) id other
 
 pub second_holds : (v : BridgeView) (id : LspId) → but_for_ssn (get (step second v).database id) ≡ but_for_ssn (get (readied v).database id)
 second_holds v id = ap (λ (w : BridgeView). but_for_ssn (get w.database id)) (tick_is v) ∙ held_from 1 (readied v).ports (readied v).database id
 
-pub second_ages : (v : BridgeView) (id : LspId) → id ≢ own_id v.id.system → but_for_ssn (get (step second v).database id) ≡ but_for_ssn (option_map (older (up_ports (counts_lowered v)) (leaving_from 1 v.ports)) (get v.database id))
-second_ages v id apart = second_holds v id ∙ ap but_for_ssn (refreshed_others (expired (counts_lowered v)) id apart ∙ expired_holds v id)
+pub second_ages : (v : BridgeView) (id : LspId) → is_own_number v.id.system id ≡ false → but_for_ssn (get (step second v).database id) ≡ but_for_ssn (option_map (older (up_ports (counts_lowered v)) (leaving_from 1 v.ports)) (get v.database id))
+second_ages v id other = second_holds v id ∙ ap but_for_ssn (refreshed_others (expired (counts_lowered v)) id other ∙ expired_holds v id)
 
 pub seconds_age : SecondsAge
-seconds_age v id apart = aged_same _ _ (second_ages v id apart) (get v.database id) (older_ages (up_ports (counts_lowered v)) (leaving_from 1 v.ports) (get v.database id))
+seconds_age v id other = aged_same _ _ (second_ages v id other) (get v.database id) (older_ages (up_ports (counts_lowered v)) (leaving_from 1 v.ports) (get v.database id))
 
-second_lasts : (v : BridgeView) (id : LspId) (left : ℕ) → id ≢ own_id v.id.system → is_live (version_at v.database id) ≡ true → lifetime_in (get v.database id) ≡ left + 1 → 1 ≤ left → IsLasting left (get v.database id) (get (step second v).database id)
-second_lasts v id left apart live lasts some =
-    lasting_same _ _ (second_ages v id apart) left (get v.database id) (older_lasts (up_ports (counts_lowered v)) (leaving_from 1 v.ports) (get v.database id) left live lasts some)
+second_lasts : (v : BridgeView) (id : LspId) (left : ℕ) → is_own_number v.id.system id ≡ false → is_live (version_at v.database id) ≡ true → lifetime_in (get v.database id) ≡ left + 1 → 1 ≤ left → IsLasting left (get v.database id) (get (step second v).database id)
+second_lasts v id left other live lasts some =
+    lasting_same _ _ (second_ages v id other) left (get v.database id) (older_lasts (up_ports (counts_lowered v)) (leaving_from 1 v.ports) (get v.database id) left live lasts some)
 
-second_dies : (v : BridgeView) (id : LspId) (seq sum : ℕ) → id ≢ own_id v.id.system → version_at v.database id ≡ Live seq sum → lifetime_in (get v.database id) ≤ 1 → IsDead seq (up_ports (step second v)) (get (step second v).database id)
-second_dies v id seq sum apart is last =
+second_dies : (v : BridgeView) (id : LspId) (seq sum : ℕ) → is_own_number v.id.system id ≡ false → version_at v.database id ≡ Live seq sum → lifetime_in (get v.database id) ≤ 1 → IsDead seq (up_ports (step second v)) (get (step second v).database id)
+second_dies v id seq sum other is last =
     subst (λ (up : PortSet). IsDead seq up (get (step second v).database id)) (sym (up_second v))
-    (dead_same _ _ (second_ages v id apart) seq (up_ports (counts_lowered v)) (older_dies (up_ports (counts_lowered v)) (leaving_from 1 v.ports) (get v.database id) seq sum is last))
+    (dead_same _ _ (second_ages v id other) seq (up_ports (counts_lowered v)) (older_dies (up_ports (counts_lowered v)) (leaving_from 1 v.ports) (get v.database id) seq sum is last))
 
 -- ---- and many seconds later
 
 pub lasting_on : (left more : ℕ) (o mid new : Option Entry) → IsLasting more o mid → IsLasting left mid new → IsLasting left o new
 lasting_on left more o mid new first next = record { version = next.version ∙ first.version; body = next.body ∙ first.body; lifetime = next.lifetime }
 
-still_apart : (k : ℕ) (v : BridgeView) (id : LspId) → id ≢ own_id v.id.system → id ≢ own_id (seconds k v).id.system
-still_apart k v id apart e = apart (e ∙ ap (λ x. own_id x.system) (seconds_id k v))
+still_other : (k : ℕ) (v : BridgeView) (id : LspId) → is_own_number v.id.system id ≡ false → is_own_number (seconds k v).id.system id ≡ false
+still_other k v id other = ap (λ x. is_own_number x.system id) (seconds_id k v) ∙ other
 
 pub lsps_last : LspsLast
 unfolding seconds
-lsps_last v id zero left apart live lasts some = record { version = refl; body = refl; lifetime = omega (arith, lasts) }
-lsps_last v id (suc k) left apart live lasts some =
+lsps_last v id zero left other live lasts some = record { version = refl; body = refl; lifetime = omega (arith, lasts) }
+lsps_last v id (suc k) left other live lasts some =
     let u : BridgeView = seconds k v in
-    let before : IsLasting (left + 1) (get v.database id) (get u.database id) = lsps_last v id k (left + 1) apart live (omega (arith, lasts)) (omega arith) in
+    let before : IsLasting (left + 1) (get v.database id) (get u.database id) = lsps_last v id k (left + 1) other live (omega (arith, lasts)) (omega arith) in
     lasting_on left (left + 1) (get v.database id) (get u.database id) (get (step second u).database id) before
-    (second_lasts u id left (still_apart k v id apart) (ap is_live before.version ∙ live) before.lifetime some)
+    (second_lasts u id left (still_other k v id other) (ap is_live before.version ∙ live) before.lifetime some)
 
 pub lsps_expire : LspsExpire
-lsps_expire v id seq sum k apart is lasts =
+lsps_expire v id seq sum k other is lasts =
     let u : BridgeView = seconds k v in
-    let before : IsLasting 1 (get v.database id) (get u.database id) = lsps_last v id k 1 apart (ap is_live is) (omega (arith, lasts)) (omega arith) in
+    let before : IsLasting 1 (get v.database id) (get u.database id) = lsps_last v id k 1 other (ap is_live is) (omega (arith, lasts)) (omega arith) in
     subst (λ (w : BridgeView). IsDead seq (up_ports w) (get w.database id)) (sym (next_second k v))
-    (second_dies u id seq sum (still_apart k v id apart) (before.version ∙ is) (omega (arith, before.lifetime)))
+    (second_dies u id seq sum (still_other k v id other) (before.version ∙ is) (omega (arith, before.lifetime)))

@@ -40,12 +40,12 @@ use Rattle.adjacency.specs.Adjacency.{IsSound, said}
 use Rattle.bridge_api.specs.declared.port.BridgePort.{BridgePort}
 use Rattle.bridge_api.specs.declared.config.BridgeConfig.{BridgeConfig}
 use Rattle.bridge_api.specs.View.{BridgeView, IsPort, port_at, neighbour_at, is_up_at, has_carrier_at, is_csnp_due_at, is_port_up, metrics_of, up_ports, control_of}
-use Rattle.bridge_api.specs.Own.{local_of, own_of, own_entry, IsOwnLspCurrent}
+use Rattle.bridge_api.specs.Own.{local_of, own_of, own_entry, originated_if_changed, IsOwnLspCurrent}
 use Rattle.spb_types.specs.declared.limits.TheConstants.{MOST_ISIDS, MOST_PORTS, MOST_VIDS, SOURCE_IDS}
 use Rattle.bridge_api.specs.Config.{IsWhole, IsOwnMac, IsMetric, IsAttachment, AgreesWith, ArePairwise, different, vids_of, bare, configured}
 use Rattle.bridge_api.specs.Parsing.{Parsed, hello_in, parsed, is_hello}
 use Rattle.bridge_api.specs.Parsing as parsing
-use Rattle.bridge_api.specs.Hearing.{with_carrier}
+use Rattle.bridge_api.specs.Hearing.{with_carrier, heard_lsp, heard_csnp, heard_psnp}
 use Rattle.bridge_api.specs.Services.{IsAttachedPort, CanAttach, without_customer_port}
 use Rattle.bridge_api.specs.Customers.{IsCustomerFrame, AreLearned}
 use Rattle.bridge_api.specs.Step.{Input, second, frame, carrier, metric, attach, detach, customer, step, sent}
@@ -227,6 +227,19 @@ claims_said (parsing.lsp l) = claim_of l ∷ []
 claims_said (parsing.csnp c) = claims_or_none (entries_in c.tlvs)
 claims_said (parsing.psnp s) = claims_or_none (entries_in s.tlvs)
 claims_said (parsing.customer da sa vid isid payload) = []
+
+-- what is heard leaves a sound bridge nothing to originate: a claim of its own LSP is answered with what it has to say
+abbrev pub LspSettlesNothing : Type 0
+LspSettlesNothing = (v : BridgeView) (l : LspValue) (p : ℕ) → IsSoundView v
+    → originated_if_changed (heard_lsp l p v) ≡ heard_lsp l p v
+
+abbrev pub CsnpSettlesNothing : Type 0
+CsnpSettlesNothing = (v : BridgeView) (c : CsnpValue) (entries : List SnpEntry) (p : ℕ) → IsSoundView v
+    → originated_if_changed (heard_csnp c entries p v) ≡ heard_csnp c entries p v
+
+abbrev pub PsnpSettlesNothing : Type 0
+PsnpSettlesNothing = (v : BridgeView) (entries : List SnpEntry) (p : ℕ) → IsSoundView v
+    → originated_if_changed (heard_psnp entries p v) ≡ heard_psnp entries p v
 
 -- a frame as the bridge with an address writes it: a PDU in a control frame, or a frame that carries a customer's,
 -- which another bridge may have written

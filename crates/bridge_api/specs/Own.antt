@@ -1,26 +1,24 @@
 -- What a bridge says of itself, and its own LSP (RFC 6329, 13 to 16; ISO/IEC 10589, 7.3.7).
-use Rattle.std.specs.Prelude.{◌≡◌, ℕ, ◌+◌, ◌≤◌, List, [], ◌∷◌, map, Bool, false, ◌||◌, Option, Some, None, if◌then◌else◌}
-use Rattle.std.specs.Str.{bytes_eq}
+use Rattle.std.specs.Prelude.{◌≡◌, ℕ, ◌+◌, List, [], ◌∷◌, map, false, Option, if◌then◌else◌}
 use Rattle.std.specs.FinMap.{get}
 use Rattle.spb_types.specs.declared.address.SystemId.{SystemId}
 use Rattle.spb_types.specs.declared.graph.Member.{Member}
 use Rattle.spb_types.specs.declared.service.Attachment.{Attachment}
 use Rattle.spb_tlvs.specs.declared.neighbours.Neighbour.{Neighbour}
-use Rattle.lsdb.specs.declared.version.Version.{Version}
-use Rattle.lsdb.specs.declared.version.Version.TheVariants.{Absent, Live, Dead}
 use Rattle.lsdb.specs.Entry.{Entry}
 use Rattle.flooding.specs.declared.own.Own.{Own}
 pub use Rattle.flooding.specs.Own.{body_in}
 use Rattle.flooding.specs.Own.{own_id, tlvs_of_body}
 use Rattle.flooding.specs.Hearing.{Holding}
 use Rattle.flooding.specs.Origination.{originated}
+pub use Rattle.flooding.specs.Settling.{Lasts, IsAlive}
+use Rattle.flooding.specs.Settling.{settled}
 use Rattle.spb_content.specs.declared.local.Local.{Local}
 use Rattle.spb_content.specs.Content.{content_in}
 use Rattle.spb_content.specs.Local.{content_bytes}
 use Rattle.spb_content.specs.Graph.{HasPorts}
 use Rattle.bridge_api.specs.declared.port.BridgePort.{BridgePort}
 use Rattle.bridge_api.specs.View.{BridgeView, is_port_up, up_ports}
-use Rattle.flooding.specs.declared.origination.TheConstants.{MAX_AGE}
 use Rattle.spb_types.specs.declared.level.TheConstants.{LEVEL_1}
 
 -- ---- what it says
@@ -67,20 +65,6 @@ with_holding h v = record v { database = h.db; spent = h.own.spent }
 abbrev pub own_entry : BridgeView → Option Entry
 own_entry v = get v.database (own_id v.id.system)
 
--- whether the own LSP that is held says what the bridge has to say
-unfoldable pub is_said : BridgeView → Bool
-is_said v = bytes_eq (body_in (own_entry v)) (body_of v)
-
--- an LSP that is live for 301 to 1,200 seconds more
-abbrev pub Lasts : Version → ℕ → Type 0
-Lasts Absent lifetime = ⊥
-Lasts (Live seq sum) lifetime = (301 ≤ lifetime) × (lifetime ≤ MAX_AGE)
-Lasts (Dead seq) lifetime = ⊥
-
-abbrev pub IsAlive : Option Entry → Type 0
-IsAlive None = ⊥
-IsAlive (Some e) = Lasts e.version e.lifetime
-
 -- unless its sequence numbers are spent, the own LSP of a bridge is alive and says what the bridge has to say; and
 -- whatever became of it, it lists each neighbour at a port of its own
 pub record IsOwnLspCurrent (v : BridgeView) : Type 0 where
@@ -92,7 +76,7 @@ pub record IsOwnLspCurrent (v : BridgeView) : Type 0 where
 abbrev pub originating : BridgeView → BridgeView
 originating v = with_holding (originated (up_ports v) (holding_of v)) v
 
--- a bridge after its own LSP was brought up to its content: it originates where its LSP says something else. One whose
--- sequence numbers are spent originates no more
+-- a bridge after its own LSP was brought up to its content: it originates where its LSP isn't live or says something
+-- else. One whose sequence numbers are spent originates no more
 unfoldable pub originated_if_changed : BridgeView → BridgeView
-originated_if_changed v = if v.spent || is_said v then v else originating v
+originated_if_changed v = with_holding (settled (up_ports v) (holding_of v)) v

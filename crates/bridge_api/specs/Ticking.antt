@@ -1,5 +1,5 @@
 -- A second of a bridge, and what it sends then.
-use Rattle.std.specs.Prelude.{ℕ, ◌+◌, List, [], ◌∷◌, ◌++◌, map, Bool, false, ◌&&◌, ◌||◌, not, nat_le, Option, Some, None, if◌then◌else◌}
+use Rattle.std.specs.Prelude.{ℕ, ◌+◌, List, [], ◌∷◌, ◌++◌, map, Bool, false, ◌&&◌, not, if◌then◌else◌}
 use Rattle.spb_types.specs.declared.address.SystemId.{SystemId}
 use Rattle.isis_pdu.specs.Pdu.{HelloValue, LspValue, CsnpValue, PsnpValue}
 use Rattle.isis_pdu.specs.Spelling.{hello_bytes, lsp_bytes, csnp_bytes, psnp_bytes}
@@ -10,11 +10,12 @@ use Rattle.itag_frames.specs.Frame.{control_bytes}
 use Rattle.adjacency.specs.Adjacency.{after_second, said}
 use Rattle.lsdb.specs.Database.{Lsps, each}
 use Rattle.lsdb.specs.Entry.{Entry, flags_cleared_at, aged}
+use Rattle.flooding.specs.Settling.{kept_fresh}
 use Rattle.flooding.specs.Sending.{lsps_to_send}
 use Rattle.snp_sync.specs.Sending.{csnps_of, psnps_of, all_ssn_cleared}
 use Rattle.bridge_api.specs.declared.port.BridgePort.{BridgePort}
 use Rattle.bridge_api.specs.View.{BridgeView, is_port_up, up_ports}
-use Rattle.bridge_api.specs.Own.{own_entry, is_said, originating}
+use Rattle.bridge_api.specs.Own.{holding_of, with_holding}
 use Rattle.bridge_api.specs.Hearing.{with_adjacency, with_csnp_due}
 use Rattle.spb_content.specs.Local.{areas, protocols}
 use Rattle.spb_tlvs.specs.declared.codes.TheConstants.{THREE_WAY_ADJACENCY}
@@ -50,15 +51,10 @@ counts_lowered v = record v {
 abbrev pub expired : BridgeView → BridgeView
 expired v = record v { database = each (λ id e. aged (up_ports v) e) v.database }
 
--- whether the own LSP has to be originated anew: its lifetime is 300 or less
-abbrev pub is_old : Option Entry → Bool
-is_old None = false
-is_old (Some e) = nat_le e.lifetime 300
-
 -- 3. the bridge originates where its content changed or where its LSP is old, once for both reasons
 -- (ISO/IEC 10589, 7.3.7 and 7.3.16)
 unfoldable pub refreshed : BridgeView → BridgeView
-refreshed v = if v.spent || (is_said v && not (is_old (own_entry v))) then v else originating v
+refreshed v = with_holding (kept_fresh (up_ports v) (holding_of v)) v
 
 -- the bridge that sends
 abbrev pub readied : BridgeView → BridgeView

@@ -9,7 +9,7 @@ use Rattle.lsdb.specs.Version.{number_of}
 use Rattle.lsdb.specs.Entry.{Entry}
 use Rattle.lsdb.specs.Database.{version_in, version_at, srm_in}
 use Rattle.lsdb.specs.Time.{lifetime_in, is_live}
-use Rattle.flooding.specs.Own.{last_number, own_id, renewed}
+use Rattle.flooding.specs.Own.{last_number, is_own_number, renewed}
 use Rattle.adjacency.specs.declared.port.Adjacency.{Adjacency}
 use Rattle.adjacency.specs.Hearing.{End}
 use Rattle.adjacency.specs.Adjacency.{down, neighbour_of}
@@ -91,9 +91,9 @@ pub data AgedFrom (old new : Option Entry) : Type 0 where
   dies : is_live (version_in old) ≡ true → lifetime_in old ≤ 1
       → version_in new ≡ Dead (number_of (version_in old)) → body_in new ≡ 1 ∷ [] → AgedFrom old new
 
--- so it is under each id but the own one
+-- so it is under each id but the own numbers
 abbrev pub SecondsAge : Type 0
-SecondsAge = (v : BridgeView) (id : LspId) → id ≢ own_id v.id.system
+SecondsAge = (v : BridgeView) (id : LspId) → is_own_number v.id.system id ≡ false
     → AgedFrom (get v.database id) (get (step second v).database id)
 
 -- as it was, with so much of its lifetime left
@@ -102,9 +102,9 @@ pub record IsLasting (left : ℕ) (old new : Option Entry) : Type 0 where
   pub body : body_in new ≡ body_in old
   pub lifetime : lifetime_in new ≡ left
 
--- a live LSP that isn't the own one stays as it is while some of its lifetime is left
+-- a live LSP that is no own one stays as it is while some of its lifetime is left
 abbrev pub LspsLast : Type 0
-LspsLast = (v : BridgeView) (id : LspId) (k left : ℕ) → id ≢ own_id v.id.system
+LspsLast = (v : BridgeView) (id : LspId) (k left : ℕ) → is_own_number v.id.system id ≡ false
     → is_live (version_at v.database id) ≡ true → lifetime_in (get v.database id) ≡ left + k → 1 ≤ left
     → IsLasting left (get v.database id) (get (seconds k v).database id)
 
@@ -117,7 +117,7 @@ pub record IsDead (seq : ℕ) (up : PortSet) (o : Option Entry) : Type 0 where
 
 -- and is dead after its lifetime, to be sent at every port that is Up then
 abbrev pub LspsExpire : Type 0
-LspsExpire = (v : BridgeView) (id : LspId) (seq sum k : ℕ) → id ≢ own_id v.id.system
+LspsExpire = (v : BridgeView) (id : LspId) (seq sum k : ℕ) → is_own_number v.id.system id ≡ false
     → version_at v.database id ≡ Live seq sum → lifetime_in (get v.database id) ≡ k + 1
     → IsDead seq (up_ports (seconds (k + 1) v)) (get (seconds (k + 1) v).database id)
 

@@ -1,25 +1,18 @@
 -- The machine after an LSP or a sequence numbers PDU was heard.
-use Rattle.std.proofs.Common.{◌≡◌, ℕ, Bool, true, false, List, [], ◌∷◌, refl, sym, ap, ◌∙◌, subst, Option, Some, None, ⊎_elim}
-use Rattle.spb_types.specs.declared.limits.TheConstants.{MOST_LSPS}
-use Rattle.std.specs.Prelude.{is_some, nat_lt, not, ◌||◌, if◌then◌else◌}
-use Rattle.std.specs.FinMap.{get, insert, len}
+use Rattle.std.proofs.Common.{◌≡◌, ℕ, Bool, true, false, List, refl, sym, ap, ◌∙◌, Option, Some}
+use Rattle.std.specs.Prelude.{not, if◌then◌else◌}
 use Rattle.spb_types.specs.declared.address.LspId.{LspId}
 use Rattle.spb_types.specs.declared.ports.PortSet.{PortSet}
 use Rattle.isis_pdu.specs.Pdu.{LspValue, CsnpValue}
 use Rattle.spb_tlvs.specs.declared.entries.SnpEntry.{SnpEntry}
-use Rattle.lsdb.specs.declared.version.Relation.{Relation}
-use Rattle.lsdb.specs.Version.{is_absent, relation}
-use Rattle.lsdb.specs.Entry.{Entry}
-use Rattle.lsdb.specs.Database.{Lsps, version_in, fits, put_if_it_fits, each}
+use Rattle.lsdb.specs.Database.{Lsps}
 use Rattle.lsdb.specs.Certificate.{Claim}
-use Rattle.lsdb.proofs.LookupLemmas.{get-insert_same, get-insert_other, same_or_not, get-each, is_some-option_map}
 use Rattle.flooding.specs.declared.own.Own.{Own}
-use Rattle.flooding.specs.Own.{own_id}
-use Rattle.flooding.specs.Hearing.{Holding, lsp_rule, snp_rule, claim_of, heard_by, own_after, lacks_place, after_claim, hear_lsp_of, is_full_for_lsp, hear_entry_of}
+use Rattle.flooding.specs.Hearing.{Holding, lsp_rule, claim_of, hear_lsp_of, is_full_for_lsp}
 use Rattle.flooding.specs.Placing.{holding}
 use Rattle.flooding.proofs.Owns.{own_stands}
 use Rattle.spb_types.specs.declared.drop_reason.DropReason.TheVariants as drop
-use Rattle.snp_sync.specs.Hearing.{claims_in, full_count, hear_entries_of, ids_of, is_missed, flag_if, hear_csnp_of}
+use Rattle.snp_sync.specs.Hearing.{claims_in, full_count, hear_entries_of, hear_csnp_of}
 use Rattle.snp_sync.proofs.Stays.{entries_leave_own}
 use Rattle.bridge_api.specs.declared.port.BridgePort.{BridgePort}
 use Rattle.bridge_api.specs.declared.drops.Drops.{Drops}
@@ -29,75 +22,21 @@ use Rattle.bridge_api.specs.Own.{holding_of, with_holding, originated_if_changed
 use Rattle.bridge_api.specs.Parsing.{Parsed, parsed}
 use Rattle.bridge_api.specs.Parsing as parsing
 use Rattle.bridge_api.specs.Hearing.{after_drop, heard_as, heard_lsp, heard_csnp, heard_psnp, after_receive}
+use Rattle.bridge_api.proofs.OwnLspSteps.{lsp_settles_nothing, csnp_settles_nothing, psnp_settles_nothing}
 use Rattle.bridge_api.proofs.Changes.{when_true, heard_is, deaf_is}
 use Rattle.bridge_control.specs.declared.machine.Machine.{Machine}
-use Rattle.bridge_control.specs.Machine.{view_of, IsCurrent, IsReady, CanOriginate, IsAfter, heard_by as heard_in, hears}
+use Rattle.bridge_control.specs.Machine.{view_of, IsCurrent, IsReady, IsAfter, heard_by as heard_in, hears}
 use Rattle.bridge_control.proofs.Following.{alike_refl}
 use Rattle.bridge_control.proofs.Counting.{counted_current}
 use Rattle.bridge_control.proofs.Owning.{current_with, after_same}
 use Rattle.bridge_control.proofs.Putting.{got}
 
--- ---- what is held stays held
-
-abbrev pub IsHeld : Lsps → LspId → Type 0
-IsHeld db x = is_some (get db x) ≡ true
-
-inserted_held : (db : Lsps) (id : LspId) (e : Entry) (x : LspId) → IsHeld db x → IsHeld (insert db id e) x
-inserted_held db id e x held = ⊎_elim
-    (λ here. subst (λ (y : LspId). IsHeld (insert db id e) y) (sym here) (ap is_some (get-insert_same db id e)))
-    (λ apart. ap is_some (get-insert_other db id e x apart) ∙ held)
-    (same_or_not x id)
-
-put_by : (fit : Bool) (db : Lsps) (id : LspId) (e : Entry) (x : LspId) → IsHeld db x → IsHeld (if fit then insert db id e else db) x
-put_by true db id e x held = inserted_held db id e x held
-put_by false db id e x held = held
-
-put_held : (db : Lsps) (id : LspId) (o : Option Entry) (x : LspId) → IsHeld db x → IsHeld (put_if_it_fits db id o) x
-put_held db id None x held = held
-put_held db id (Some e) x held = put_by (fits db id) db id e x held
-
-entry_by : (lacks : Bool) (h : Holding) (id : LspId) (new : Option Entry) (own : Own) (x : LspId) → IsHeld h.db x → IsHeld (if lacks then h else record { db = put_if_it_fits h.db id new; own = own }).db x
-entry_by true h id new own x held = held
-entry_by false h id new own x held = put_held h.db id new x held
-
-claim_held : (rule : Relation → Option Entry → Option Entry) (up : PortSet) (c : Claim) (h : Holding) (x : LspId) → IsHeld h.db x → IsHeld (after_claim rule up c h).db x
-unfolding after_claim
-claim_held rule up c h x held =
-    let r = relation c.version (version_in (get h.db c.id)) in
-    let new = heard_by rule up h.own c.id c.version r (get h.db c.id) in
-    entry_by (lacks_place h.db c.id new) h c.id new (own_after h.own c.id c.version r) x held
-
-entries_held : (up : PortSet) (p : ℕ) (claims : List Claim) (h : Holding) (x : LspId) → IsHeld h.db x → IsHeld (hear_entries_of up p claims h).db x
-entries_held up p [] h x held = held
-entries_held up p (c ∷ claims) h x held = entries_held up p claims (hear_entry_of up p c h) x (claim_held (snp_rule up p c.version) up c h x held)
-
-each_held : (f : LspId → Entry → Entry) (db : Lsps) (x : LspId) → IsHeld db x → IsHeld (each f db) x
-each_held f db x held = ap is_some (get-each f db x) ∙ (is_some-option_map (f x) (get db x) ∙ held)
-
 -- ---- the machine that heard it
 
-held_at : (o : Option Entry) → is_absent (version_in o) ≡ false → is_some o ≡ true
-held_at None there = absurd cc
-held_at (Some e) there = refl
-
-own_held : (m : Machine) → IsReady m → IsHeld m.db (own_id m.id.system)
-own_held m ready = held_at (get m.db (own_id m.id.system)) ready.sound.database.own
-
-or_left : (a b : Bool) → a ≡ true → (a || b) ≡ true
-or_left true b e = refl
-or_left false b e = absurd cc
-
--- it holds this now, in which its own LSP is still held, and its body is as before
+-- it holds this now, in which the system and its body are as before
 pub record HasHeard (m : Machine) (h : Holding) : Type 0 where
-  pub held : IsHeld h.db (own_id m.id.system)
   pub system : h.own.system ≡ m.own.system
   pub body : h.own.body ≡ m.own.body
-
-pub heard_can : (m : Machine) (h : Holding) (db : Lsps) (own : Own) (drops : Drops) → IsReady m → HasHeard m h → holding db own ≡ h → CanOriginate (record m { db = db; own = own; drops = drops })
-heard_can m h db own drops ready heard is = record {
-  few = ready.sound.few;
-  place = or_left (is_some (get db (own_id m.id.system))) (nat_lt (len db) MOST_LSPS) (ap (λ (x : Holding). is_some (get x.db (own_id m.id.system))) is ∙ heard.held);
-}
 
 pub heard_current : (m : Machine) (h : Holding) (db : Lsps) (own : Own) (drops : Drops) → IsReady m → HasHeard m h → holding db own ≡ h → IsCurrent (record m { db = db; own = own; drops = drops })
 heard_current m h db own drops ready heard is =
@@ -108,22 +47,16 @@ pub lsp_heard : (m : Machine) (up : PortSet) (p : ℕ) (l : LspValue) → IsRead
 lsp_heard m up p l ready =
     let h : Holding = holding m.db m.own in
     let own = own_stands (lsp_rule up p l) up (claim_of l) h in
-    record { held = claim_held (lsp_rule up p l) up (claim_of l) h (own_id m.id.system) (own_held m ready); system = own.0; body = own.1 }
+    record { system = own.0; body = own.1 }
 
 pub entries_heard : (m : Machine) (up : PortSet) (p : ℕ) (claims : List Claim) → IsReady m → HasHeard m (hear_entries_of up p claims (holding m.db m.own))
 entries_heard m up p claims ready =
     let h : Holding = holding m.db m.own in
     let own = entries_leave_own up p claims h in
-    record { held = entries_held up p claims h (own_id m.id.system) (own_held m ready); system = own.0; body = own.1 }
+    record { system = own.0; body = own.1 }
 
 pub csnp_heard : (m : Machine) (up : PortSet) (p : ℕ) (start end : LspId) (claims : List Claim) → IsReady m → HasHeard m (hear_csnp_of up p start end claims (holding m.db m.own))
-csnp_heard m up p start end claims ready =
-    let entries = entries_heard m up p claims ready in
-    record {
-      held = each_held (λ id e. flag_if (is_missed start end (ids_of claims) id e) p e) (hear_entries_of up p claims (holding m.db m.own)).db (own_id m.id.system) entries.held;
-      system = entries.system;
-      body = entries.body;
-    }
+csnp_heard m up p start end claims ready = let entries = entries_heard m up p claims ready in record { system = entries.system; body = entries.body }
 
 -- ---- by what a frame is taken for
 
@@ -135,12 +68,12 @@ hears_lsp l p v port there up = hears_is (parsing.lsp l) p v port there ∙ when
 
 -- the machine that heard an LSP at an Up port
 pub heard_lsp_path : (m : Machine) (up : PortSet) (p : ℕ) (l : LspValue) (db : Lsps) (own : Own) (drops : Drops) (port : BridgePort) → IsReady m → up ≡ up_from 1 m.ports.items → holding db own ≡ hear_lsp_of up p l (holding m.db m.own)
-    → drops ≡ raised_at drop.Full (if is_full_for_lsp up p l (holding m.db m.own) then 1 else 0) m.drops → port_at (view_of m) p ≡ Some port → is_port_up port ≡ true → originated_if_changed (view_of (record m { db = db; own = own; drops = drops })) ≡ hears (parsing.lsp l) p (view_of m)
+    → drops ≡ raised_at drop.Full (if is_full_for_lsp up p l (holding m.db m.own) then 1 else 0) m.drops → port_at (view_of m) p ≡ Some port → is_port_up port ≡ true → view_of (record m { db = db; own = own; drops = drops }) ≡ hears (parsing.lsp l) p (view_of m)
 heard_lsp_path m up p l db own drops port ready is_up is counts there has_carrier =
     let v : BridgeView = view_of m in
     let whole : holding db own ≡ hear_lsp_of (up_ports v) p l (holding_of v) = is ∙ (λ i. hear_lsp_of (is_up i) p l (holding m.db (ready.current.own i))) in
     let full : drops ≡ (heard_lsp l p v).drops = counts ∙ (λ i. raised_at drop.Full (if is_full_for_lsp (is_up i) p l (holding m.db (ready.current.own i)) then 1 else 0) m.drops) in
-    (λ i. originated_if_changed (with_drops (full i) (with_holding (whole i) v))) ∙ sym (hears_lsp l p v port there has_carrier)
+    (λ i. with_drops (full i) (with_holding (whole i) v)) ∙ (sym (lsp_settles_nothing v l p ready.sound) ∙ sym (hears_lsp l p v port there has_carrier))
 
 -- or the entries of a sequence numbers PDU
 full_path : (m : Machine) (up : PortSet) (p : ℕ) (claims : List Claim) (drops : Drops) → IsReady m → up ≡ up_from 1 m.ports.items → drops ≡ raised_at drop.Full (full_count up p claims (holding m.db m.own)) m.drops
@@ -148,20 +81,20 @@ full_path : (m : Machine) (up : PortSet) (p : ℕ) (claims : List Claim) (drops 
 full_path m up p claims drops ready is_up counts = counts ∙ (λ i. raised_at drop.Full (full_count (is_up i) p claims (holding m.db (ready.current.own i))) m.drops)
 
 pub heard_psnp_path : (m : Machine) (up : PortSet) (p : ℕ) (entries : List SnpEntry) (db : Lsps) (own : Own) (drops : Drops) → IsReady m → up ≡ up_from 1 m.ports.items → holding db own ≡ hear_entries_of up p (claims_in entries) (holding m.db m.own)
-    → drops ≡ raised_at drop.Full (full_count up p (claims_in entries) (holding m.db m.own)) m.drops → originated_if_changed (view_of (record m { db = db; own = own; drops = drops })) ≡ originated_if_changed (heard_psnp entries p (view_of m))
+    → drops ≡ raised_at drop.Full (full_count up p (claims_in entries) (holding m.db m.own)) m.drops → view_of (record m { db = db; own = own; drops = drops }) ≡ originated_if_changed (heard_psnp entries p (view_of m))
 heard_psnp_path m up p entries db own drops ready is_up is counts =
     let v : BridgeView = view_of m in
     let whole : holding db own ≡ hear_entries_of (up_ports v) p (claims_in entries) (holding_of v) = is ∙ (λ i. hear_entries_of (is_up i) p (claims_in entries) (holding m.db (ready.current.own i))) in
     let full : drops ≡ (heard_psnp entries p v).drops = full_path m up p (claims_in entries) drops ready is_up counts in
-    λ i. originated_if_changed (with_drops (full i) (with_holding (whole i) v))
+    (λ i. with_drops (full i) (with_holding (whole i) v)) ∙ sym (psnp_settles_nothing v entries p ready.sound)
 
 pub heard_csnp_path : (m : Machine) (up : PortSet) (p : ℕ) (c : CsnpValue) (entries : List SnpEntry) (db : Lsps) (own : Own) (drops : Drops) → IsReady m → up ≡ up_from 1 m.ports.items → holding db own ≡ hear_csnp_of up p c.start c.end (claims_in entries) (holding m.db m.own)
-    → drops ≡ raised_at drop.Full (full_count up p (claims_in entries) (holding m.db m.own)) m.drops → originated_if_changed (view_of (record m { db = db; own = own; drops = drops })) ≡ originated_if_changed (heard_csnp c entries p (view_of m))
+    → drops ≡ raised_at drop.Full (full_count up p (claims_in entries) (holding m.db m.own)) m.drops → view_of (record m { db = db; own = own; drops = drops }) ≡ originated_if_changed (heard_csnp c entries p (view_of m))
 heard_csnp_path m up p c entries db own drops ready is_up is counts =
     let v : BridgeView = view_of m in
     let whole : holding db own ≡ hear_csnp_of (up_ports v) p c.start c.end (claims_in entries) (holding_of v) = is ∙ (λ i. hear_csnp_of (is_up i) p c.start c.end (claims_in entries) (holding m.db (ready.current.own i))) in
     let full : drops ≡ (heard_csnp c entries p v).drops = full_path m up p (claims_in entries) drops ready is_up counts in
-    λ i. originated_if_changed (with_drops (full i) (with_holding (whole i) v))
+    (λ i. with_drops (full i) (with_holding (whole i) v)) ∙ sym (csnp_settles_nothing v c entries p ready.sound)
 
 -- a frame is heard at a port with carrier as what it is taken for
 pub received_path : (v : BridgeView) (p : ℕ) (bytes : List ℕ) (j : Parsed) (port : BridgePort) → IsPort v p → port_at v p ≡ Some port → port.adjacency.carrier ≡ true → parsed bytes ≡ j → hears j p v ≡ after_receive p bytes v

@@ -10,7 +10,6 @@ pub mod Sends
 pub mod Unused
 pub mod Seconds
 pub mod Putting
-pub mod Foreign
 pub mod Heeding
 pub mod Refreshed
 pub mod Messages

@@ -1,23 +1,21 @@
 -- What a machine says of itself, and what originating makes of it.
-use Rattle.std.proofs.Common.{◌≡◌, ◌≤◌, Bool, true, false, List, ◌∷◌, map, length, refl, sym, ap, ◌∙◌, subst, arith}
-use Rattle.std.specs.Prelude.{not, ◌||◌, ◌&&◌, if◌then◌else◌}
-use Rattle.std.specs.Str.{bytes_eq}
-use Rattle.std.specs.FinMap.{get}
+use Rattle.std.proofs.Common.{◌≡◌, ◌≤◌, Bool, List, ◌∷◌, map, length, refl, sym, ap, ◌∙◌, subst, arith}
 use Rattle.std.specs.Global.{Vec}
-use Rattle.std.proofs.lemmas.Slice.Eq.{bytes_eq-Decides}
 use Rattle.spb_types.specs.declared.ports.PortSet.{PortSet}
 use Rattle.lsdb.specs.Database.{Lsps}
 use Rattle.flooding.specs.declared.own.Own.{Own}
-use Rattle.flooding.specs.Own.{own_id}
 use Rattle.flooding.specs.Hearing.{Holding}
 use Rattle.flooding.specs.Placing.{holding}
 use Rattle.flooding.specs.Origination.{originated}
+use Rattle.flooding.specs.Settling.{Test, is_said, is_fresh, settled_by, settled, kept_fresh}
 use Rattle.flooding.proofs.Owns.{origination_leaves_own}
+use Rattle.flooding.proofs.Settled.{settling_leaves_own}
 use Rattle.spb_content.specs.Local.{content_bytes}
 use Rattle.bridge_api.specs.declared.port.BridgePort.{BridgePort}
 use Rattle.bridge_api.specs.View.{BridgeView, up_from, up_ports}
-use Rattle.bridge_api.specs.Own.{neighbours_from, member_of, body_of, own_of, holding_of, with_holding, body_in, own_entry, is_said, originating, originated_if_changed}
-use Rattle.bridge_api.specs.Ticking.{is_old, refreshed}
+use Rattle.bridge_api.specs.Own.{neighbours_from, member_of, body_of, own_of, holding_of, with_holding, originating, originated_if_changed}
+use Rattle.bridge_api.specs.Ticking.{refreshed}
+use Rattle.bridge_api.proofs.Changes.{settling}
 use Rattle.bridge_api.proofs.Data.{fits_own}
 use Rattle.bridge_control.specs.declared.machine.Machine.{Machine}
 use Rattle.bridge_control.specs.Machine.{view_of, FollowsPorts, IsCurrent, IsReady, CanOriginate, IsAfter}
@@ -68,78 +66,22 @@ originated_after m up db own current is_up is =
       current = current_with m m.ports db own current (ap (λ (h : Holding). h.own.system) is ∙ leaves.0) (ap (λ (h : Holding). h.own.body) is ∙ leaves.1) refl (alike_refl m.id.system 1 m.ports.items);
     }
 
--- whether the own LSP says what the bridge has to say, and is old, as the code asks
-pub code_said : (m : Machine) → IsCurrent m → bytes_eq (body_in (get m.db (own_id m.own.system))) m.own.body ≡ is_said (view_of m)
-unfolding is_said
-code_said m current = λ i. bytes_eq (body_in (get m.db (own_id (current.own i).system))) (current.own i).body
+-- ---- brought up to date
 
-pub code_old : (m : Machine) → IsCurrent m → is_old (get m.db (own_id m.own.system)) ≡ is_old (own_entry (view_of m))
-code_old m current = λ i. is_old (get m.db (own_id (current.own i).system))
+-- nothing is said but by the system and its body
+brought_current : (m : Machine) (stands : Test) (up : PortSet) (db : Lsps) (own : Own) → IsCurrent m → holding db own ≡ settled_by stands up (holding m.db m.own) → IsCurrent (record m { db = db; own = own })
+brought_current m stands up db own current is =
+    let leaves = settling_leaves_own stands up (holding m.db m.own) in
+    current_with m m.ports db own current (ap (λ (h : Holding). h.own.system) is ∙ leaves.0) (ap (λ (h : Holding). h.own.body) is ∙ leaves.1) refl (alike_refl m.id.system 1 m.ports.items)
 
--- the branch by what was asked
-choice : {X : Type 0} (b c : Bool) (x y : X) → b ≡ c → (if b then x else y) ≡ (if c then x else y)
-choice b c x y e = ap (λ (d : Bool). if d then x else y) e
+brought_view : (m : Machine) (stands : Test) (up : PortSet) (db : Lsps) (own : Own) → IsCurrent m → up ≡ up_from 1 m.ports.items → holding db own ≡ settled_by stands up (holding m.db m.own) → view_of (record m { db = db; own = own }) ≡ settling stands (view_of m)
+brought_view m stands up db own current is_up is =
+    ap (λ (h : Holding). with_holding h (view_of m)) (is ∙ (λ i. settled_by stands (is_up i) (holding m.db (current.own i))))
 
-or_left : (a b : Bool) → a ≡ true → (a || b) ≡ true
-or_left true b e = refl
-or_left false b e = absurd cc
-
-or_right : (a b : Bool) → b ≡ true → (a || b) ≡ true
-or_right true b e = refl
-or_right false b e = e
-
-or_neither : (a b : Bool) → a ≡ false → b ≡ false → (a || b) ≡ false
-or_neither true b e f = absurd cc
-or_neither false b e f = f
-
--- a bridge whose own LSP says what it has to say, or whose numbers are spent
-still_by : (spent said : Bool) (v w : BridgeView) → (spent ≡ false → said ≡ true) → v ≡ (if spent || said then v else w)
-still_by true said v w says = refl
-still_by false said v w says = sym (choice said true v w (says refl))
-
-pub originated_if_changed_still : (v : BridgeView) → (v.spent ≡ false → body_in (own_entry v) ≡ body_of v) → v ≡ originated_if_changed v
-unfolding originated_if_changed is_said
-originated_if_changed_still v says = still_by v.spent (is_said v) v (originating v) (λ alive. (bytes_eq-Decides (body_in (own_entry v)) (body_of v)).1 (says alive))
-
-pub originated_if_changed_spent : (m : Machine) → IsCurrent m → m.own.spent ≡ true → IsAfter (originated_if_changed (view_of m)) m
+pub settled_after : (m : Machine) (up : PortSet) (db : Lsps) (own : Own) → IsCurrent m → up ≡ up_from 1 m.ports.items → holding db own ≡ settled up (holding m.db m.own) → IsAfter (originated_if_changed (view_of m)) (record m { db = db; own = own })
 unfolding originated_if_changed
-originated_if_changed_spent m current spent =
-    let v = view_of m in
-    record { view = sym (choice (v.spent || is_said v) true v (originating v) (or_left v.spent (is_said v) spent)); current = current }
+settled_after m up db own current is_up is = record { view = brought_view m is_said up db own current is_up is; current = brought_current m is_said up db own current is }
 
-pub originated_if_changed_said : (m : Machine) → IsCurrent m → true ≡ bytes_eq (body_in (get m.db (own_id m.own.system))) m.own.body → IsAfter (originated_if_changed (view_of m)) m
-unfolding originated_if_changed
-originated_if_changed_said m current said =
-    let v = view_of m in
-    record { view = sym (choice (v.spent || is_said v) true v (originating v) (or_right v.spent (is_said v) (sym (said ∙ code_said m current)))); current = current }
-
-pub originated_if_changed_anew : (m n : Machine) → IsCurrent m → m.own.spent ≡ false → false ≡ bytes_eq (body_in (get m.db (own_id m.own.system))) m.own.body → IsAfter (originating (view_of m)) n → IsAfter (originated_if_changed (view_of m)) n
-unfolding originated_if_changed
-originated_if_changed_anew m n current spent said is =
-    let v = view_of m in
-    after_same (originating v) (if v.spent || is_said v then v else originating v) n (sym (choice (v.spent || is_said v) false v (originating v) (or_neither v.spent (is_said v) spent (sym (said ∙ code_said m current))))) is
-
--- the same with the age of the own LSP
-pub stands_by_age : (old : Bool) (m : Machine) → IsCurrent m → is_said (view_of m) ≡ true → old ≡ is_old (get m.db (own_id m.own.system)) → not old ≡ (is_said (view_of m) && not (is_old (own_entry (view_of m))))
-stands_by_age old m current says olds = λ i. sym says i && not ((olds ∙ code_old m current) i)
-
-pub says_other : (m : Machine) → IsCurrent m → false ≡ bytes_eq (body_in (get m.db (own_id m.own.system))) m.own.body → false ≡ (is_said (view_of m) && not (is_old (own_entry (view_of m))))
-says_other m current says = λ i. (says ∙ code_said m current) i && not (is_old (own_entry (view_of m)))
-
-pub refreshed_spent : (m : Machine) → IsCurrent m → m.own.spent ≡ true → IsAfter (refreshed (view_of m)) m
+pub kept_fresh_after : (m : Machine) (up : PortSet) (db : Lsps) (own : Own) → IsCurrent m → up ≡ up_from 1 m.ports.items → holding db own ≡ kept_fresh up (holding m.db m.own) → IsAfter (refreshed (view_of m)) (record m { db = db; own = own })
 unfolding refreshed
-refreshed_spent m current spent =
-    let v = view_of m in
-    record { view = sym (choice (v.spent || (is_said v && not (is_old (own_entry v)))) true v (originating v) (or_left v.spent _ spent)); current = current }
-
-pub refreshed_idle : (m : Machine) → IsCurrent m → (is_said (view_of m) && not (is_old (own_entry (view_of m)))) ≡ true → IsAfter (refreshed (view_of m)) m
-unfolding refreshed
-refreshed_idle m current stands =
-    let v = view_of m in
-    record { view = sym (choice (v.spent || (is_said v && not (is_old (own_entry v)))) true v (originating v) (or_right v.spent _ stands)); current = current }
-
-pub refreshed_anew : (m n : Machine) → m.own.spent ≡ false → (is_said (view_of m) && not (is_old (own_entry (view_of m)))) ≡ false → IsAfter (originating (view_of m)) n → IsAfter (refreshed (view_of m)) n
-unfolding refreshed
-refreshed_anew m n spent stands is =
-    let v = view_of m in
-    after_same (originating v) (if v.spent || (is_said v && not (is_old (own_entry v))) then v else originating v) n (sym (choice (v.spent || (is_said v && not (is_old (own_entry v)))) false v (originating v) (or_neither v.spent _ spent stands))) is
+kept_fresh_after m up db own current is_up is = record { view = brought_view m is_fresh up db own current is_up is; current = brought_current m is_fresh up db own current is }

@@ -27,12 +27,13 @@ use Rattle.bridge_api.specs.Hearing.{with_adjacency, with_csnp_due, left_up, all
 use Rattle.bridge_api.specs.Laws.{IsSoundPort}
 use Rattle.bridge_api.proofs.Adjacent.{same_is}
 use Rattle.bridge_api.proofs.Changes.{originated_if_changed_ports, with_carrier_is, with_metric_is}
+use Rattle.bridge_api.proofs.OwnLspSteps.{saying_settles}
 use Rattle.bridge_api.proofs.Places.{set_again}
 use Rattle.bridge_api.proofs.Saying.{is_local}
 use Rattle.bridge_api.proofs.SoundPorts.{AreSoundPorts, sound_at}
 use Rattle.bridge_control.specs.declared.machine.Machine.{Machine}
 use Rattle.bridge_control.specs.Machine.{view_of, FollowsPorts, IsCurrent, IsReady, CanOriginate, IsAfter, CanPut, IsPut, SaysTheSame}
-use Rattle.bridge_control.proofs.Owning.{said_alike, originated_if_changed_still, renewed_current, ready_can}
+use Rattle.bridge_control.proofs.Owning.{said_alike, renewed_current, ready_can}
 
 -- ---- two ports of which the same is said
 
@@ -125,7 +126,7 @@ kept_after m n p new can same is =
     let w : BridgeView = with_port_at p new (view_of m) in
     let says : own_of (view_of m) ≡ own_of w = λ i. record { system = m.id.system; body = sym same i; spent = m.own.spent } in
     record {
-      view = is.view ∙ originated_if_changed_still w (λ alive. can.own_lsp.said alive ∙ sym same);
+      view = is.view ∙ sym (saying_settles w (λ fresh. (can.own_lsp.said fresh ∙ sym same, can.own_lsp.alive fresh)));
       current = record { own = is.own ∙ (can.current.own ∙ (says ∙ ap own_of (sym is.view))); ports = is.ports };
     }
 

@@ -3,7 +3,6 @@ use Rattle.std.proofs.Common.{◌≡◌, ◌≤◌, ◌+◌, ◌-◌, ℕ, Bool,
 use Rattle.std.specs.Prelude.{◌||◌, if◌then◌else◌}
 use Rattle.std.specs.Global.{Vec}
 use Rattle.std.proofs.lemmas.List.{length-map}
-use Rattle.std.proofs.lemmas.Slice.Eq.{bytes_eq-Decides}
 use Rattle.spb_types.specs.declared.ports.PortSet.{PortSet}
 use Rattle.spb_tlvs.specs.declared.neighbours.Neighbour.{Neighbour}
 use Rattle.lsdb.specs.declared.version.Version.{Version}
@@ -13,13 +12,16 @@ use Rattle.lsdb.specs.Database.{Lsps, each, any_flags, fits, version_in}
 use Rattle.lsdb.specs.Time.{lifetime_in, is_live}
 use Rattle.flooding.specs.declared.own.Own.{Own}
 use Rattle.flooding.specs.Own.{own_id}
+use Rattle.flooding.specs.Placing.{holding}
+use Rattle.flooding.specs.Settling.{is_said}
+use Rattle.flooding.proofs.Settled.{says_both}
 use Rattle.spb_content.specs.Local.{IsLocal}
 use Rattle.adjacency.specs.Adjacency.{is_up}
 use Rattle.flooding.specs.Entries.{AreSendable}
 use Rattle.snp_sync.specs.Sized.{AreSized}
 use Rattle.bridge_api.specs.declared.port.BridgePort.{BridgePort}
 use Rattle.bridge_api.specs.View.{BridgeView, is_port_up, up_from, up_ports}
-use Rattle.bridge_api.specs.Own.{neighbour_in, neighbours_from, local_of, body_of, own_of, own_entry, body_in, is_said, Lasts, IsAlive}
+use Rattle.bridge_api.specs.Own.{neighbour_in, neighbours_from, local_of, body_of, own_of, holding_of, own_entry, body_in, Lasts, IsAlive}
 use Rattle.bridge_api.specs.Hearing.{with_csnp_due}
 use Rattle.bridge_api.specs.Ticking.{later, leaving_from, flags_cleared_at_all, counts_lowered, expired, readied, after_sending, after_sending_from, sent_from, after_tick, sent_in_tick}
 use Rattle.bridge_api.specs.Laws.{IsSoundView}
@@ -124,27 +126,27 @@ lives_in : (o : Option Entry) → IsAlive o → (is_live (version_in o) ≡ true
 lives_in None alive = absurd alive
 lives_in (Some e) alive = lives e.version e.lifetime alive
 
-older_says : (v : BridgeView) → IsSoundView v → v.spent ≡ false → body_in (own_entry (expired (counts_lowered v))) ≡ body_of v
+older_says : (v : BridgeView) → IsSoundView v → v.spent ≡ false → (is_live (version_in (own_entry (expired (counts_lowered v)))) ≡ true) × (body_in (own_entry (expired (counts_lowered v))) ≡ body_of v)
 older_says v sound fresh =
     let alive = lives_in (own_entry v) (sound.own.alive fresh) in
     let left : ℕ = lifetime_in (own_entry v) - 1 in
     let count : lifetime_in (own_entry v) ≡ left + 1 = omega (arith, alive.1) in
     let lasts : IsLasting left (own_entry v) (own_entry (expired (counts_lowered v))) =
     subst (IsLasting left (own_entry v)) (sym (expired_holds_at v (own_id v.id.system))) (older_lasts (up_ports (counts_lowered v)) (leaving_from 1 v.ports) (own_entry v) left alive.0 count (omega (arith, alive.1, count))) in
-    lasts.body ∙ sound.own.said fresh
+    (ap is_live lasts.version ∙ alive.0, lasts.body ∙ sound.own.said fresh)
 
-still_said : (v : BridgeView) → IsSoundView v → v.spent ≡ false → has_lost v.ports ≡ false → is_said (expired (counts_lowered v)) ≡ true
-unfolding is_said
+still_said : (v : BridgeView) → IsSoundView v → v.spent ≡ false → has_lost v.ports ≡ false → is_said (holding_of (expired (counts_lowered v))) ≡ true
 still_said v sound fresh none =
     let w : BridgeView = expired (counts_lowered v) in
     let same : body_of w ≡ body_of v = said_alike v (map later v.ports) w.database v.spent (neighbours_later v.ports none) in
-    (bytes_eq-Decides (body_in (own_entry w)) (body_of w)).1 (older_says v sound fresh ∙ sym same)
+    let older = older_says v sound fresh in
+    says_both (body_of w) (own_entry w) older.0 (older.1 ∙ sym same)
 
-pub idle_said : (m n : Machine) → IsReady m → IsAfter (expired (counts_lowered (view_of m))) n → has_lost m.ports.items ≡ false → n.own.spent ≡ false → is_said (view_of n) ≡ true
+pub idle_said : (m n : Machine) → IsReady m → IsAfter (expired (counts_lowered (view_of m))) n → has_lost m.ports.items ≡ false → n.own.spent ≡ false → is_said (holding n.db n.own) ≡ true
 idle_said m n ready is none fresh =
     let v : BridgeView = view_of m in
     let unspent : v.spent ≡ false = sym (ap (λ (w : BridgeView). w.spent) is.view) ∙ fresh in
-    ap is_said is.view ∙ still_said v ready.sound unspent none
+    (λ i. is_said (holding n.db (is.current.own i))) ∙ (ap (λ (w : BridgeView). is_said (holding_of w)) is.view ∙ still_said v ready.sound unspent none)
 
 -- ---- the bridge that sends
 

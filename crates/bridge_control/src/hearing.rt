@@ -205,8 +205,8 @@ impl Machine {
         self.change(port, new, heard)
     }
 
-    /// Hears an LSP at a port with carrier. It is looked for at the place `near` first. One of another system leaves what
-    /// the bridge has to say of itself.
+    /// Hears an LSP at a port with carrier. It is looked for at the place `near` first. What is heard leaves the own LSP
+    /// saying what the bridge has to say, so that nothing is to be originated; and so it is with sequence numbers PDUs.
     fn hear_lsp(&mut self, port: u8, lsp: &Lsp<'_>, near: usize) -> Result<(), NoMemory>
         requires ready { IsReady self.old }
         requires port { IsPort (view_of self.old) port }
@@ -226,10 +226,7 @@ impl Machine {
             near,
         )?;
         self.drops.raise_times(DropReason::Full, full);
-        if !lsp.id.system.is(self.id.system) {
-            return Ok(());
-        }
-        self.originate_if_changed()
+        Ok(())
     }
 
     /// Hears a CSNP at a port with carrier.
@@ -274,7 +271,7 @@ impl Machine {
             &mut self.own,
         )?;
         self.drops.raise_times(DropReason::Full, full);
-        self.originate_if_changed()
+        Ok(())
     }
 
     /// Hears a PSNP at a port with carrier.
@@ -312,7 +309,7 @@ impl Machine {
             &mut self.own,
         )?;
         self.drops.raise_times(DropReason::Full, full);
-        self.originate_if_changed()
+        Ok(())
     }
 }
 

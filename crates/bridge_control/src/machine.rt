@@ -1,9 +1,8 @@
 //! What a configured bridge keeps, and its own LSP.
-ghost use Rattle.std.specs.Prelude.{◌≡◌, ◌≤◌, ◌&&◌, true, false, not, length, IfOk, OnOk};
-ghost use Rattle.std.specs.Str.{bytes_eq};
-ghost use Rattle.std.specs.FinMap.{get};
+ghost use Rattle.std.specs.Prelude.{◌≡◌, ◌≤◌, true, false, length, IfOk, OnOk};
 ghost use Rattle.spb_content.specs.Local.{IsLocal};
-ghost use Rattle.flooding.specs.Own.{own_id};
+ghost use Rattle.flooding.specs.Placing.{holding};
+ghost use Rattle.flooding.specs.Settling.{is_said};
 ghost use Rattle.bridge_api.specs.Config as config_specs;
 ghost use Rattle.bridge_api.specs.Ticking as ticking;
 ghost use Rattle.bridge_api.specs.Own as api;
@@ -15,7 +14,7 @@ use crate::hello::hellos_of;
 use crate::ports::{attached_members, bare_ports, neighbours_at, up_ports};
 use bridge_api::{BridgeConfig, BridgePort, DropReason, Drops};
 use customer_learning::Learned;
-use flooding::{Own, originate};
+use flooding::{Own, keep_fresh, originate, settle};
 use forwarding::Tenant;
 use lsdb::Database;
 use shared_frames::Frame;
@@ -30,9 +29,6 @@ const NO_ID: BridgeId = BridgeId {
         mac: Mac { bytes: [0; 6] },
     },
 };
-
-/// The remaining lifetime in seconds at which the own LSP is originated anew (ISO/IEC 10589, 7.3.7).
-const REFRESH_AT: u16 = 300;
 
 /// What a configured bridge keeps. Between calls `own.body` is what the bridge has to say of itself, `hellos` are the
 /// hellos of its ports, and `up` are those that are Up. What is kept of the hellos that came only saves reading them.
@@ -219,10 +215,7 @@ impl Machine {
         requires current { IsCurrent self.old }
         ensures { OnOk result (IsAfter (api.originated_if_changed (view_of self.old)) self.new) }
     {
-        if self.own.spent || is_said(&self.db, &self.own) {
-            return Ok(());
-        }
-        self.originate()
+        settle(self.alloc, &mut self.db, self.up, &mut self.own)
     }
 
     /// Originates where the own LSP says something else or is old, and tells whether it did. Only where its body was
@@ -230,46 +223,10 @@ impl Machine {
     pub(crate) fn refresh(&mut self, renewed: bool) -> Result<bool, NoMemory>
         requires can { CanOriginate self.old }
         requires current { IsCurrent self.old }
-        requires said { renewed ≡ false → self.old.own.spent ≡ false → api.is_said (view_of self.old) ≡ true }
+        requires said { renewed ≡ false → self.old.own.spent ≡ false → is_said (holding self.old.db self.old.own) ≡ true }
         ensures after { OnOk result (IsAfter (ticking.refreshed (view_of self.old)) self.new) }
         ensures idle { IfOk result (λ originated. originated ≡ false → self.new.db ≡ self.old.db) }
     {
-        if self.own.spent || self.stands(renewed) {
-            return Ok(false);
-        }
-        self.originate()?;
-        Ok(true)
-    }
-
-    /// Whether the own LSP says what the bridge has to say and isn't old.
-    fn stands(&self, renewed: bool) -> bool
-        requires current { IsCurrent self.now }
-        requires said { renewed ≡ false → api.is_said (view_of self.now) ≡ true }
-        ensures { result ≡ (api.is_said (view_of self.now) && not (ticking.is_old (api.own_entry (view_of self.now)))) }
-    {
-        if renewed && !is_said(&self.db, &self.own) {
-            return false;
-        }
-        !is_old(&self.db, &self.own)
-    }
-}
-
-/// Whether the own LSP that is held has this body.
-fn is_said(db: &Database, own: &Own) -> bool
-    ensures { result ≡ bytes_eq (api.body_in (get db.now (own_id own.now.system))) own.now.body }
-{
-    match db.find(&own.id()) {
-        Some(held) => held.body.as_slice() == own.body.as_slice(),
-        None => own.body.is_empty(),
-    }
-}
-
-/// Whether the own LSP has to be originated anew by its lifetime.
-fn is_old(db: &Database, own: &Own) -> bool
-    ensures { result ≡ ticking.is_old (get db.now (own_id own.now.system)) }
-{
-    match db.find(&own.id()) {
-        Some(held) => held.lifetime <= REFRESH_AT,
-        None => false,
+        keep_fresh(self.alloc, &mut self.db, self.up, &mut self.own, renewed)
     }
 }

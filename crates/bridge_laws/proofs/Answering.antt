@@ -1,7 +1,7 @@
 -- What a frame that isn't a hello makes of the own LSP: it stays as it is, or stands one number further than a claim of
--- it. It says what the bridge has to say either way, so that nothing is originated behind it.
+-- it. Nothing is originated behind it.
 use Rattle.std.proofs.Common.{◌≡◌, ◌≢◌, inl, inr, ◌≤◌, ◌<◌, ◌+◌, ℕ, Bool, true, false, List, [], ◌∷◌, refl, sym, ap, ◌∙◌, subst, Option, Some, arith}
-use Rattle.std.specs.Prelude.{◌&&◌, ◌||◌, not, nat_lt, is_some, if◌then◌else◌}
+use Rattle.std.specs.Prelude.{◌&&◌, not, nat_lt, is_some, if◌then◌else◌}
 use Rattle.std.specs.List.{AllByRecursion}
 use Rattle.std.specs.FinMap.{get}
 use Rattle.std.proofs.lemmas.Bool.{lt-ltb, true≢false}
@@ -15,68 +15,66 @@ use Rattle.lsdb.specs.Certificate.{Claim, IsClaimed}
 use Rattle.lsdb.proofs.LookupLemmas.{same_or_not}
 use Rattle.lsdb.proofs.Order.{not_at_most}
 use Rattle.flooding.specs.declared.own.Own.{Own}
-use Rattle.flooding.specs.Own.{last_number, own_id, body_in, renewed, dead_at, answered}
+use Rattle.flooding.specs.Own.{last_number, own_id, renewed, dead_at, answered}
 use Rattle.flooding.specs.Hearing.{Holding, claim_of, lsp_rule, snp_rule, is_beyond, after_claim, is_full, hear_lsp_of, hear_entry_of}
 use Rattle.flooding.proofs.Heard.{Rule}
 use Rattle.flooding.proofs.Claimed.{SaysOfHeld, lsp_rule_says, snp_rule_says, others_stand, heard_stands, full_stands}
-use Rattle.flooding.proofs.Owns.{own_is_not_spent}
+use Rattle.flooding.proofs.Owns.{own_is_not_spent, system_mine, mine_is}
 use Rattle.flooding.proofs.Steps.{beyond_is}
 use Rattle.snp_sync.specs.Hearing.{claims_in, hear_entries_of, hear_csnp_of}
 use Rattle.snp_sync.proofs.Stays.{entries_dont_spend}
 use Rattle.bridge_api.specs.declared.drops.Drops.{Drops}
 use Rattle.bridge_api.specs.View.{BridgeView, up_ports, with_drops}
-use Rattle.bridge_api.specs.Own.{body_of, own_of, own_entry, holding_of, with_holding, is_said, originating, originated_if_changed}
+use Rattle.bridge_api.specs.Own.{own_of, own_entry, holding_of, with_holding, originated_if_changed}
 use Rattle.bridge_api.specs.Parsing.{Parsed, parsed, hello_in, is_hello}
 use Rattle.bridge_api.specs.Parsing as parsing
 use Rattle.bridge_api.specs.Hearing.{heard_lsp, heard_csnp, heard_psnp}
 use Rattle.bridge_api.specs.Step.{second, frame, carrier, metric, attach, detach, customer, step}
 use Rattle.bridge_api.specs.Laws.{IsSoundView, claims_said, claims_or_none}
 use Rattle.bridge_laws.specs.Counting.{IsFar, Answered, keeps, answers, StepsAnswer}
-use Rattle.bridge_api.proofs.Changes.{FrameStep, idle, by_hello, by_lsp, by_csnp, by_psnp, frame_step, when_true}
+use Rattle.bridge_api.proofs.Changes.{FrameStep, idle, by_hello, by_lsp, by_csnp, by_psnp, frame_step}
 use Rattle.bridge_laws.proofs.HeldIds.{own_is}
 use Rattle.bridge_laws.proofs.Learning.{IsSameLsp, same_lsp, same_again, LeavesWithin, lsp_rule_leaves, snp_rule_leaves, missed_same, first_claim}
-use Rattle.bridge_api.proofs.OwnLsp.{system_mine, originated_mine}
-use Rattle.bridge_api.proofs.OwnLspSteps.{held_body, counted_body}
-use Rattle.bridge_laws.proofs.TimeOwn.{said_as}
+use Rattle.bridge_api.proofs.OwnLspSteps.{lsp_settles_nothing, csnp_settles_nothing, psnp_settles_nothing}
 
 -- ---- a claim of the own id
 
--- version and body stand, or the LSP with this body stands just one number further than a claim that isn't below it
-pub data AnsweredAs (body : List ℕ) (claims : List Claim) (id : LspId) (old new : Option Entry) : Type 0 where
-  still : IsSameLsp old new → AnsweredAs body claims id old new
+-- version and body stand, or the LSP stands just one number further than a claim that isn't below it
+pub data AnsweredAs (claims : List Claim) (id : LspId) (old new : Option Entry) : Type 0 where
+  still : IsSameLsp old new → AnsweredAs claims id old new
   next : (a : Version) → IsClaimed claims id a → a ≢ version_in old → number_of (version_in old) ≤ number_of a
-      → number_of (version_in new) ≡ number_of a + 1 → body_in new ≡ body → AnsweredAs body claims id old new
+      → number_of (version_in new) ≡ number_of a + 1 → AnsweredAs claims id old new
 
 answered_below : (up : PortSet) (own : Own) (id : LspId) (seq : ℕ) → id ≡ own_id own.system → seq < last_number → answered up own id seq ≡ renewed up own (seq + 1)
 answered_below up own id seq mine low =
-    ap (λ b. if b && nat_lt seq last_number then renewed up own (seq + 1) else dead_at up seq) (originated_mine own id mine)
+    ap (λ b. if b && nat_lt seq last_number then renewed up own (seq + 1) else dead_at up seq) (mine_is own id mine)
     ∙ ap (λ b. if b then renewed up own (seq + 1) else dead_at up seq) (lt-ltb seq last_number low)
 
 own_heard_by : (rule : Rule) (up : PortSet) (own : Own) (c : Claim) (held : Option Entry) (b : Bool) → LeavesWithin rule
     → is_beyond (relation c.version (version_in held)) ≡ b → c.id ≡ own_id own.system → number_of c.version < last_number
-    → AnsweredAs own.body (c ∷ []) c.id held (if b then Some (answered up own c.id (number_of c.version)) else rule (relation c.version (version_in held)) held)
+    → AnsweredAs (c ∷ []) c.id held (if b then Some (answered up own c.id (number_of c.version)) else rule (relation c.version (version_in held)) held)
 own_heard_by rule up own c held true leaves beyond mine low =
     let above = not_at_most c.version (version_in held) (beyond_is c.version (version_in held) (relation c.version (version_in held)) refl beyond) in
-    subst (λ (e : Entry). AnsweredAs own.body (c ∷ []) c.id held (Some e)) (sym (answered_below up own c.id (number_of c.version) mine low))
-    (next c.version (inl (refl, refl)) above.1 above.0 refl refl)
+    subst (λ (e : Entry). AnsweredAs (c ∷ []) c.id held (Some e)) (sym (answered_below up own c.id (number_of c.version) mine low))
+    (next c.version (inl (refl, refl)) above.1 above.0 refl)
 own_heard_by rule up own c held false leaves within mine low = still (leaves (relation c.version (version_in held)) held within)
 
 own_claimed_by : (rule : Rule) (up : PortSet) (c : Claim) (h : Holding) (full : Bool) → LeavesWithin rule → SaysOfHeld rule → is_full rule up c h ≡ full
-    → c.id ≡ own_id h.own.system → number_of c.version < last_number → AnsweredAs h.own.body (c ∷ []) c.id (get h.db c.id) (get (after_claim rule up c h).db c.id)
+    → c.id ≡ own_id h.own.system → number_of c.version < last_number → AnsweredAs (c ∷ []) c.id (get h.db c.id) (get (after_claim rule up c h).db c.id)
 own_claimed_by rule up c h true leaves says full mine low = still (same_lsp _ _ (ap (λ (g : Holding). get g.db c.id) (full_stands rule up c h full)))
 own_claimed_by rule up c h false leaves says there mine low =
     let held = get h.db c.id in
     let r = relation c.version (version_in held) in
     let stands : get (after_claim rule up c h).db c.id ≡ (if is_beyond r then Some (answered up h.own c.id (number_of c.version)) else rule r held) =
     heard_stands rule says up c h there ∙ ap (λ b. if b && is_beyond r then Some (answered up h.own c.id (number_of c.version)) else rule r held) (system_mine h.own c.id mine) in
-    subst (AnsweredAs h.own.body (c ∷ []) c.id held) (sym stands) (own_heard_by rule up h.own c held (is_beyond r) leaves refl mine low)
+    subst (AnsweredAs (c ∷ []) c.id held) (sym stands) (own_heard_by rule up h.own c held (is_beyond r) leaves refl mine low)
 
 own_claimed : (rule : Rule) (up : PortSet) (c : Claim) (h : Holding) (id : LspId) → LeavesWithin rule → SaysOfHeld rule → id ≡ own_id h.own.system
-    → number_of c.version < last_number → AnsweredAs h.own.body (c ∷ []) id (get h.db id) (get (after_claim rule up c h).db id)
+    → number_of c.version < last_number → AnsweredAs (c ∷ []) id (get h.db id) (get (after_claim rule up c h).db id)
 own_claimed rule up c h id leaves says mine low =
     elim (same_or_not id c.id) [
       | inl here ↦
-          subst (λ (x : LspId). AnsweredAs h.own.body (c ∷ []) x (get h.db x) (get (after_claim rule up c h).db x)) (sym here)
+          subst (λ (x : LspId). AnsweredAs (c ∷ []) x (get h.db x) (get (after_claim rule up c h).db x)) (sym here)
           (own_claimed_by rule up c h (is_full rule up c h) leaves says refl (sym here ∙ mine) low)
       | inr other ↦ still (same_lsp _ _ (others_stand rule up c h id other))
     ]
@@ -87,65 +85,43 @@ abbrev pub AreLow : List Claim → Type 0
 AreLow claims = AllByRecursion (λ (c : Claim). number_of c.version < last_number) claims
 
 -- a claim that is answered after another was has a number beyond what was held first
-then_answered : (body : List ℕ) (c : Claim) (claims : List Claim) (id : LspId) (o m n : Option Entry) → AnsweredAs body (c ∷ []) id o m → AnsweredAs body claims id m n → AnsweredAs body (c ∷ claims) id o n
-then_answered body c claims id o m n (still first) (still after) = still (same_again o m n first after)
-then_answered body c claims id o m n (still first) (next a claimed apart low number says) =
-    next a (inr claimed) (λ e. apart (e ∙ sym first.version)) (omega (arith, ap number_of first.version, low)) number says
-then_answered body c claims id o m n (next a claimed apart low number says) (still after) =
-    next a (first_claim c claims id a claimed) apart low (ap number_of after.version ∙ number) (after.body ∙ says)
-then_answered body c claims id o m n (next a claimed apart low number says) (next b later differs least further body_said) =
-    next b (inr later) (λ e. absurd (omega (arith, ap number_of e, low, number, least))) (omega (arith, low, number, least)) further body_said
+then_answered : (c : Claim) (claims : List Claim) (id : LspId) (o m n : Option Entry) → AnsweredAs (c ∷ []) id o m → AnsweredAs claims id m n → AnsweredAs (c ∷ claims) id o n
+then_answered c claims id o m n (still first) (still after) = still (same_again o m n first after)
+then_answered c claims id o m n (still first) (next a claimed apart low number) =
+    next a (inr claimed) (λ e. apart (e ∙ sym first.version)) (omega (arith, ap number_of first.version, low)) number
+then_answered c claims id o m n (next a claimed apart low number) (still after) =
+    next a (first_claim c claims id a claimed) apart low (ap number_of after.version ∙ number)
+then_answered c claims id o m n (next a claimed apart low number) (next b later differs least further) =
+    next b (inr later) (λ e. absurd (omega (arith, ap number_of e, low, number, least))) (omega (arith, low, number, least)) further
 
 entries_answered : (up : PortSet) (port : ℕ) (claims : List Claim) (h : Holding) (own : Own) (id : LspId) → h.own ≡ own → id ≡ own_id own.system → AreLow claims
-    → AnsweredAs own.body claims id (get h.db id) (get (hear_entries_of up port claims h).db id)
+    → AnsweredAs claims id (get h.db id) (get (hear_entries_of up port claims h).db id)
 entries_answered up port [] h own id same mine low = still (same_lsp _ _ refl)
 entries_answered up port (c ∷ claims) h own id same mine low =
     let rule = snp_rule up port c.version in
     let g : Holding = hear_entry_of up port c h in
-    let first : AnsweredAs h.own.body (c ∷ []) id (get h.db id) (get g.db id) =
-    own_claimed rule up c h id (snp_rule_leaves up port c.version) (snp_rule_says up port c.version) (mine ∙ ap (λ (o : Own). own_id o.system) (sym same)) low.0 in
-    then_answered own.body c claims id (get h.db id) (get g.db id) (get (hear_entries_of up port claims g).db id)
-    (subst (λ (o : Own). AnsweredAs o.body (c ∷ []) id (get h.db id) (get g.db id)) same first)
+    let first : AnsweredAs (c ∷ []) id (get h.db id) (get g.db id) = own_claimed rule up c h id (snp_rule_leaves up port c.version) (snp_rule_says up port c.version) (mine ∙ ap (λ (o : Own). own_id o.system) (sym same)) low.0 in
+    then_answered c claims id (get h.db id) (get g.db id) (get (hear_entries_of up port claims g).db id)
+    first
     (entries_answered up port claims g own id (own_is_not_spent rule up c h low.0 ∙ same) mine low.1)
-
--- ---- nothing is originated behind it
-
-or_true : (b c : Bool) → c ≡ true → (b || c) ≡ true
-or_true true c is = refl
-or_true false c is = is
-
--- a bridge whose own LSP says what it has to say originates nothing
-pub stands_still : (w : BridgeView) → body_in (own_entry w) ≡ body_of w → originated_if_changed w ≡ w
-unfolding originated_if_changed
-stands_still w same = when_true (w.spent || is_said w) w (originating w) (or_true w.spent (is_said w) (said_as w same))
-
-still_says : (body : List ℕ) (claims : List Claim) (id : LspId) (o n : Option Entry) → AnsweredAs body claims id o n → body_in o ≡ body → body_in n ≡ body
-still_says body claims id o n (still same) says = same.body ∙ says
-still_says body claims id o n (next a claimed apart low number body_said) says = body_said
 
 -- ---- a frame
 
 -- what claims make of the own LSP of a bridge that isn't spent, nor is afterwards
 pub record Answers (v : BridgeView) (claims : List Claim) (w : BridgeView) : Type 0 where
-  pub own : AnsweredAs (body_of v) claims (own_id v.id.system) (own_entry v) (get w.database (own_id v.id.system))
+  pub own : AnsweredAs claims (own_id v.id.system) (own_entry v) (get w.database (own_id v.id.system))
   pub fresh : w.spent ≡ false
 
 all_low : (claims : List Claim) → ((id : LspId) (a : Version) → IsClaimed claims id a → number_of a < last_number) → AreLow claims
 all_low [] low = tt
 all_low (c ∷ claims) low = (low c.id c.version (inl (refl, refl)), all_low claims (λ id a claimed. low id a (inr claimed)))
 
--- a bridge that heard, of which the holding is what the claims make of it
-answers_heard : (v : BridgeView) (claims : List Claim) (h : Holding) (drops : Drops) → body_in (own_entry v) ≡ body_of v → v.spent ≡ false
-    → AnsweredAs (body_of v) claims (own_id v.id.system) (own_entry v) (get h.db (own_id v.id.system)) → h.own ≡ own_of v → Answers v claims (originated_if_changed (with_drops drops (with_holding h v)))
-answers_heard v claims h drops says fresh own same =
-    let w : BridgeView = with_drops drops (with_holding h v) in
-    let body_said : body_in (own_entry w) ≡ body_of w = still_says (body_of v) claims (own_id v.id.system) (own_entry v) (own_entry w) own says ∙ sym (counted_body drops (with_holding h v) ∙ held_body h v) in
-    subst (Answers v claims) (sym (stands_still w body_said)) (record { own = own; fresh = ap (λ (o : Own). o.spent) same ∙ fresh })
+-- a bridge that heard, of which the holding is what the claims make of it: nothing is originated behind it
+answers_heard : (v : BridgeView) (claims : List Claim) (h : Holding) (drops : Drops) → originated_if_changed (with_drops drops (with_holding h v)) ≡ with_drops drops (with_holding h v) → v.spent ≡ false
+    → AnsweredAs claims (own_id v.id.system) (own_entry v) (get h.db (own_id v.id.system)) → h.own ≡ own_of v → Answers v claims (originated_if_changed (with_drops drops (with_holding h v)))
+answers_heard v claims h drops settles fresh own same = subst (Answers v claims) (sym settles) (record { own = own; fresh = ap (λ (o : Own). o.spent) same ∙ fresh })
 
 module _ (q : ℕ) (bytes : List ℕ) (v : BridgeView) (was : IsSoundView v) (far : IsFar (frame q bytes) v) (other : is_hello bytes ≡ false) where
-  says_own : body_in (own_entry v) ≡ body_of v
-  says_own = was.own.said far.fresh
-
   answers_as : (j : Parsed) (w : BridgeView) → parsed bytes ≡ j → step (frame q bytes) v ≡ w → Answers v (claims_said j) w → Answers v (claims_said (parsed bytes)) (step (frame q bytes) v)
   answers_as j w is after all = subst (λ (i : Parsed). Answers v (claims_said i) (step (frame q bytes) v)) (sym is) (subst (Answers v (claims_said j)) (sym after) all)
 
@@ -163,7 +139,7 @@ module _ (q : ℕ) (bytes : List ℕ) (v : BridgeView) (was : IsSoundView v) (fa
       let h : Holding = holding_of v in
       let low : AreLow (claim_of g.lsp ∷ []) = low_as (parsing.lsp g.lsp) g.is in
       answers_as (parsing.lsp g.lsp) (originated_if_changed (heard_lsp g.lsp q v)) g.is g.after
-      (answers_heard v (claim_of g.lsp ∷ []) (hear_lsp_of up q g.lsp h) (heard_lsp g.lsp q v).drops says_own far.fresh
+      (answers_heard v (claim_of g.lsp ∷ []) (hear_lsp_of up q g.lsp h) (heard_lsp g.lsp q v).drops (lsp_settles_nothing v g.lsp q was) far.fresh
       (own_claimed (lsp_rule up q g.lsp) up (claim_of g.lsp) h (own_id v.id.system) (lsp_rule_leaves up q g.lsp) (lsp_rule_says up q g.lsp) refl low.0)
       (own_is_not_spent (lsp_rule up q g.lsp) up (claim_of g.lsp) h low.0))
   frame_answers (by_csnp g) =
@@ -172,16 +148,16 @@ module _ (q : ℕ) (bytes : List ℕ) (v : BridgeView) (was : IsSoundView v) (fa
       let id : LspId = own_id v.id.system in
       let claims : List Claim = claims_in g.entries in
       let low : AreLow claims = subst (λ es. AreLow (claims_or_none es)) g.read (low_as (parsing.csnp g.csnp) g.is) in
-      let own : AnsweredAs (body_of v) claims id (own_entry v) (get (hear_csnp_of up q g.csnp.start g.csnp.end claims h).db id) =
-      missed_answered (body_of v) claims id (own_entry v) (get (hear_entries_of up q claims h).db id) (get (hear_csnp_of up q g.csnp.start g.csnp.end claims h).db id)
+      let own : AnsweredAs claims id (own_entry v) (get (hear_csnp_of up q g.csnp.start g.csnp.end claims h).db id) =
+      missed_answered claims id (own_entry v) (get (hear_entries_of up q claims h).db id) (get (hear_csnp_of up q g.csnp.start g.csnp.end claims h).db id)
       (entries_answered up q claims h (own_of v) id refl refl low) (missed_same up q g.csnp.start g.csnp.end claims h id) in
       answers_as (parsing.csnp g.csnp) (originated_if_changed (heard_csnp g.csnp g.entries q v)) g.is g.after
       (subst (λ es. Answers v (claims_or_none es) (originated_if_changed (heard_csnp g.csnp g.entries q v))) (sym g.read)
-      (answers_heard v claims (hear_csnp_of up q g.csnp.start g.csnp.end claims h) (heard_csnp g.csnp g.entries q v).drops says_own far.fresh own (entries_dont_spend up q claims h low)))
+      (answers_heard v claims (hear_csnp_of up q g.csnp.start g.csnp.end claims h) (heard_csnp g.csnp g.entries q v).drops (csnp_settles_nothing v g.csnp g.entries q was) far.fresh own (entries_dont_spend up q claims h low)))
     where
-      missed_answered : (body : List ℕ) (claims : List Claim) (id : LspId) (o m n : Option Entry) → AnsweredAs body claims id o m → IsSameLsp m n → AnsweredAs body claims id o n
-      missed_answered body claims id o m n (still first) same = still (same_again o m n first same)
-      missed_answered body claims id o m n (next a claimed apart low number says) same = next a claimed apart low (ap number_of same.version ∙ number) (same.body ∙ says)
+      missed_answered : (claims : List Claim) (id : LspId) (o m n : Option Entry) → AnsweredAs claims id o m → IsSameLsp m n → AnsweredAs claims id o n
+      missed_answered claims id o m n (still first) same = still (same_again o m n first same)
+      missed_answered claims id o m n (next a claimed apart low number) same = next a claimed apart low (ap number_of same.version ∙ number)
   frame_answers (by_psnp g) =
       let up : PortSet = up_ports v in
       let h : Holding = holding_of v in
@@ -189,16 +165,16 @@ module _ (q : ℕ) (bytes : List ℕ) (v : BridgeView) (was : IsSoundView v) (fa
       let low : AreLow claims = subst (λ es. AreLow (claims_or_none es)) g.read (low_as (parsing.psnp g.psnp) g.is) in
       answers_as (parsing.psnp g.psnp) (originated_if_changed (heard_psnp g.entries q v)) g.is g.after
       (subst (λ es. Answers v (claims_or_none es) (originated_if_changed (heard_psnp g.entries q v))) (sym g.read)
-      (answers_heard v claims (hear_entries_of up q claims h) (heard_psnp g.entries q v).drops says_own far.fresh (entries_answered up q claims h (own_of v) (own_id v.id.system) refl refl low) (entries_dont_spend up q claims h low)))
+      (answers_heard v claims (hear_entries_of up q claims h) (heard_psnp g.entries q v).drops (psnp_settles_nothing v g.entries q was) far.fresh (entries_answered up q claims h (own_of v) (own_id v.id.system) refl refl low) (entries_dont_spend up q claims h low)))
 
   pub frame_answered : Answers v (claims_said (parsed bytes)) (step (frame q bytes) v)
   frame_answered = frame_answers (frame_step v q bytes)
 
 -- ---- the law
 
-answered_version : (body : List ℕ) (claims : List Claim) (id : LspId) (o n : Option Entry) → AnsweredAs body claims id o n → Answered (version_in o) claims id (version_in n)
-answered_version body claims id o n (still same) = keeps same.version
-answered_version body claims id o n (next a claimed apart low number says) = answers a claimed apart low (omega (arith, number))
+answered_version : (claims : List Claim) (id : LspId) (o n : Option Entry) → AnsweredAs claims id o n → Answered (version_in o) claims id (version_in n)
+answered_version claims id o n (still same) = keeps same.version
+answered_version claims id o n (next a claimed apart low number) = answers a claimed apart low (omega (arith, number))
 
 pub no_hello : (b : Bool) → not b ≡ true → b ≡ false
 no_hello true is = sym is
@@ -209,7 +185,7 @@ steps_answer second v id own was far claiming = absurd cc
 steps_answer (frame q bytes) v id own was far claiming =
     let all : Answers v (claims_said (parsed bytes)) (step (frame q bytes) v) = frame_answered q bytes v was far (no_hello (is_hello bytes) claiming) in
     subst (λ (x : LspId). Answered (version_in (get v.database x)) (claims_said (parsed bytes)) x (version_in (get (step (frame q bytes) v).database x))) (sym (own_is v.id.system id own))
-    (answered_version (body_of v) (claims_said (parsed bytes)) (own_id v.id.system) (own_entry v) (get (step (frame q bytes) v).database (own_id v.id.system)) all.own)
+    (answered_version (claims_said (parsed bytes)) (own_id v.id.system) (own_entry v) (get (step (frame q bytes) v).database (own_id v.id.system)) all.own)
 steps_answer (carrier q on) v id own was far claiming = absurd cc
 steps_answer (metric q m) v id own was far claiming = absurd cc
 steps_answer (attach a) v id own was far claiming = absurd cc

@@ -1,6 +1,6 @@
 -- A frame that is dropped raises one count, and nothing else raises another.
 use Rattle.std.proofs.Common.{◌≡◌, inl, inr, ℕ, Bool, true, false, List, [], ◌∷◌, refl, sym, ap, ◌∙◌, subst, Option, Some, None, Result, Ok, Err, arith}
-use Rattle.std.specs.Prelude.{◌||◌, ◌++◌, if◌then◌else◌}
+use Rattle.std.specs.Prelude.{◌++◌, if◌then◌else◌}
 use Rattle.spb_types.specs.declared.address.Mac.{Mac}
 use Rattle.spb_types.specs.declared.service.Attachment.{Attachment}
 use Rattle.spb_types.specs.declared.tables.Tables.{Tables}
@@ -26,10 +26,9 @@ use Rattle.forwarding.specs.declared.step.Step.TheVariants as steps
 use Rattle.forwarding.specs.declared.tenant.Tenant.{Tenant}
 use Rattle.forwarding.specs.Tenant.{Carried, nothing, dropped_by, step_of, relayed_at, each_with, is_delivered, is_taken, after_delivery, left_of, after_customer, entered_by, entered_going, going_of, to_of, sent_towards}
 use Rattle.bridge_api.specs.declared.port.BridgePort.{BridgePort}
-use Rattle.bridge_api.specs.declared.drops.Drops.{Drops}
 use Rattle.bridge_api.specs.Drops.{raised_at, raised_for}
 use Rattle.bridge_api.specs.View.{BridgeView, port_in, port_at, with_port_at, with_drops, is_port_up, up_ports}
-use Rattle.bridge_api.specs.Own.{body_of, own_entry, holding_of, with_holding, body_in, is_said, originating, originated_if_changed}
+use Rattle.bridge_api.specs.Own.{holding_of, with_holding, originated_if_changed}
 use Rattle.bridge_api.specs.Parsing.{Parsed, parsed}
 use Rattle.bridge_api.specs.Parsing as parsing
 use Rattle.bridge_api.specs.Tables.{own_tables}
@@ -41,10 +40,9 @@ use Rattle.bridge_api.specs.Step.{second, frame, carrier, metric, attach, detach
 use Rattle.bridge_api.specs.Laws.{IsSoundView, claims_or_none, with_first_carrier}
 use Rattle.bridge_api.specs.Config.{configured}
 use Rattle.bridge_laws.specs.Dropping.{reason_if_discarded, reason_if_unread, reason_as, reason_at, reason_for, DroppedFramesCountOnce, entries_said, HeardFramesCountEntries, EntriesWithoutWayCountOnce, OtherEntriesCountNothing, OtherStepsCountNothing, SomeDrops}
-use Rattle.bridge_api.proofs.Changes.{originated_if_changed_is, refreshed_is, tick_is, when_true, carrier_step, metric_step, with_attached_is, attached_to}
+use Rattle.bridge_api.proofs.Changes.{originated_if_changed_is, refreshed_is, tick_is, carrier_step, metric_step, with_attached_is, attached_to}
 use Rattle.bridge_api.proofs.Adjacent.{not_discarded}
-use Rattle.bridge_api.proofs.OwnLspSteps.{counted_body}
-use Rattle.bridge_laws.proofs.Answering.{stands_still}
+use Rattle.bridge_api.proofs.OwnLspSteps.{lsp_settles_nothing}
 use Rattle.bridge_api.proofs.Meeting.{Starts, with_carrier_starts, small, small_whole}
 use Rattle.bridge_api.proofs.Sound.{configured_is_sound, steps_stay_sound}
 
@@ -70,18 +68,10 @@ changed_drops did.CameUp p port v reason why = absurd cc
 full_stays : (l : LspValue) (p : ℕ) (v : BridgeView) → is_full_for_lsp (up_ports v) p l (holding_of v) ≡ true → hear_lsp_of (up_ports v) p l (holding_of v) ≡ holding_of v
 full_stays l p v full = full_stands (lsp_rule (up_ports v) p l) (up_ports v) (claim_of l) (holding_of v) full
 
-spent_stands : (v : BridgeView) → v.spent ≡ true → originated_if_changed v ≡ v
-unfolding originated_if_changed
-spent_stands v spent = when_true (v.spent || is_said v) v (originating v) (ap (λ (b : Bool). b || is_said v) spent)
-
-stands_by : (spent : Bool) (drops : Drops) (v : BridgeView) → v.spent ≡ spent → (v.spent ≡ false → body_in (own_entry v) ≡ body_of v) → originated_if_changed (with_drops drops v) ≡ with_drops drops v
-stands_by true drops v is said = spent_stands (with_drops drops v) is
-stands_by false drops v is said = stands_still (with_drops drops v) (said is ∙ sym (counted_body drops v))
-
 full_drops : (l : LspValue) (p : ℕ) (v : BridgeView) → IsSoundView v → is_full_for_lsp (up_ports v) p l (holding_of v) ≡ true → originated_if_changed (heard_lsp l p v) ≡ after_drop drop.Full v
 full_drops l p v was full =
     let heard : heard_lsp l p v ≡ after_drop drop.Full v = λ i. with_full (if full i then 1 else 0) (with_holding (full_stays l p v full i) v) in
-    ap originated_if_changed heard ∙ stands_by v.spent (raised_at drop.Full 1 v.drops) v refl was.own.said
+    lsp_settles_nothing v l p was ∙ heard
 
 lsp_drops : (up full : Bool) (l : LspValue) (p : ℕ) (v : BridgeView) (reason : DropReason) → IsSoundView v → is_full_for_lsp (up_ports v) p l (holding_of v) ≡ full
     → (if up then (if full then Some drop.Full else None) else Some drop.NotAdjacent) ≡ Some reason

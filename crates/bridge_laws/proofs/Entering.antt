@@ -1,25 +1,22 @@
 -- Entering Up is one operation: a port that is Up was so before with the same neighbour, or everything is to be sent there.
 use Rattle.std.proofs.Common.{◌≡◌, ◌⊎◌, inl, inr, ◌≤◌, ◌-◌, ℕ, Bool, true, false, List, [], ◌∷◌, length, refl, sym, ap, ◌∙◌, subst, Option, Some, None}
-use Rattle.std.specs.Prelude.{◌+◌, ◌||◌, nat_lt, slice_set, if◌then◌else◌, ◌++◌}
+use Rattle.std.specs.Prelude.{slice_set, if◌then◌else◌, ◌++◌}
 use Rattle.std.specs.Option.{option_map, option_and_then}
 use Rattle.std.specs.FinMap.{get}
 use Rattle.spb_types.specs.declared.address.LspId.{LspId}
-use Rattle.spb_types.specs.declared.ports.PortSet.{PortSet}
 use Rattle.spb_types.specs.Ports.{has}
 use Rattle.spb_types.proofs.PortLemmas.{has-no_ports, has-with_same, has-without_same}
 use Rattle.isis_pdu.specs.Pdu.{HelloValue}
 use Rattle.spb_tlvs.specs.declared.three_way.ThreeWay.{ThreeWay}
 use Rattle.lsdb.specs.declared.version.Version.{Version}
 use Rattle.lsdb.specs.declared.version.Version.TheVariants.{Absent, Live, Dead}
-use Rattle.lsdb.specs.Version.{number_of, is_absent}
+use Rattle.lsdb.specs.Version.{is_absent}
 use Rattle.lsdb.specs.Entry.{Entry, srm_set_at, flagged, flags_cleared_at}
 use Rattle.lsdb.specs.Database.{Lsps, version_in, srm_in, ssn_in, each}
 use Rattle.lsdb.proofs.LookupLemmas.{get-each}
-use Rattle.flooding.specs.declared.own.Own.{Own}
-use Rattle.flooding.specs.Own.{last_number, own_id, renewed}
-use Rattle.flooding.specs.Origination.{spent_entry}
 use Rattle.flooding.specs.Entries.{AllEntries}
-use Rattle.flooding.proofs.AllEntries.{all_originated}
+use Rattle.flooding.specs.Settling.{is_said}
+use Rattle.flooding.proofs.Settled.{settling_keeps_silence}
 use Rattle.adjacency.specs.declared.state.AdjacencyChange.{AdjacencyChange}
 use Rattle.adjacency.specs.declared.state.AdjacencyChange.TheVariants as did
 use Rattle.adjacency.specs.declared.port.Adjacency.{Adjacency}
@@ -27,7 +24,7 @@ use Rattle.adjacency.specs.Hearing.{End, is_discarded}
 use Rattle.adjacency.specs.Adjacency.{neighbour_of, is_up, after_hello_heard, after_hello, change_by_hello, after_carrier, change_of}
 use Rattle.bridge_api.specs.declared.port.BridgePort.{BridgePort}
 use Rattle.bridge_api.specs.View.{BridgeView, port_in, port_at, neighbour_at, is_port_up, is_up_in, is_up_at, is_csnp_due_in, is_csnp_due_at, up_ports}
-use Rattle.bridge_api.specs.Own.{own_of, own_entry, holding_of, is_said, originating, originated_if_changed}
+use Rattle.bridge_api.specs.Own.{holding_of, originated_if_changed}
 use Rattle.bridge_api.specs.Hearing.{with_csnp_due, with_adjacency, left_up, all_srm_set_at, entered_up, changed_at, heard_hello, after_receive, with_carrier_at, with_carrier, with_port_metric, with_metric}
 use Rattle.bridge_api.specs.Ports.{noted}
 use Rattle.bridge_api.specs.Ticking.{after_tick}
@@ -69,10 +66,6 @@ srm_set_in q (Some e) low high = srm_set_flagged q e e.version low high refl
 abbrev IsSilent : ℕ → Lsps → Type 0
 IsSilent q db = AllEntries (λ id e. has e.ssn q ≡ false) db
 
-silent_at : (q : ℕ) (o : Option Entry) → ((e : Entry) → o ≡ Some e → has e.ssn q ≡ false) → has (ssn_in o) q ≡ false
-silent_at q None all = has-no_ports q
-silent_at q (Some e) all = all e refl
-
 -- on leaving Up
 flags_cleared_in : (q : ℕ) (o : Option Entry) → 1 ≤ q → q ≤ 32 → has (ssn_in (option_map (flags_cleared_at q) o)) q ≡ false
 flags_cleared_in q None low high = has-no_ports q
@@ -84,20 +77,9 @@ left_silent q db low high x e is =
     ∙ (ap (λ (o : Option Entry). has (ssn_in o) q) (get-each (λ (id : LspId) (e : Entry). flags_cleared_at q e) db x) ∙ flags_cleared_in q (get db x) low high)
 
 -- an origination sets no SSN flag
-next_silent : (q seq : ℕ) (up : PortSet) (own : Own) (o : Option Entry) (b : Bool) → has (ssn_in o) q ≡ false → has (if b then renewed up own (seq + 1) else spent_entry up seq o).ssn q ≡ false
-next_silent q seq up own o true off = has-no_ports q
-next_silent q seq up own o false off = off
-
-originated_if_changed_by : (b : Bool) (q : ℕ) (v : BridgeView) → IsSilent q v.database → IsSilent q (if b then v else originating v).database
-originated_if_changed_by true q v silent = silent
-originated_if_changed_by false q v silent =
-    let seq = number_of (version_in (own_entry v)) in
-    all_originated (λ id e. has e.ssn q ≡ false) (up_ports v) (holding_of v) silent
-    (next_silent q seq (up_ports v) (own_of v) (own_entry v) (nat_lt seq last_number) (silent_at q (own_entry v) (silent (own_id v.id.system))))
-
 originated_if_changed_silent : (q : ℕ) (v : BridgeView) → IsSilent q v.database → IsSilent q (originated_if_changed v).database
 unfolding originated_if_changed
-originated_if_changed_silent q v silent = originated_if_changed_by (v.spent || is_said v) q v silent
+originated_if_changed_silent q v silent = settling_keeps_silence is_said (up_ports v) (holding_of v) q silent
 
 -- nor does entering Up
 srm_set_ssn : (q : ℕ) (e : Entry) (b : Bool) → has e.ssn q ≡ false → has (if b then e else flagged q e).ssn q ≡ false

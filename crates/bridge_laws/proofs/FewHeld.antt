@@ -1,20 +1,21 @@
 -- How much a bridge holds after a few steps: in each it originates once at most, and nothing else goes in but what it hears.
-use Rattle.std.proofs.Common.{◌≡◌, ◌≤◌, ◌<◌, ◌+◌, ℕ, Bool, true, false, true≢false, [], ◌∷◌, length, cond, refl, sym, ap, ◌∙◌, subst, Option, arith}
-use Rattle.std.specs.Prelude.{nat_lt, is_some, if◌then◌else◌, ◌++◌}
-use Rattle.std.specs.FinMap.{get, insert, entries, len, contains_key, get-empty, len-empty, len-insert, len-entries}
-use Rattle.std.proofs.lemmas.Bool.{lt-ltb}
+use Rattle.std.proofs.Common.{◌≡◌, ◌≤◌, ◌<◌, ◌+◌, ℕ, Bool, [], ◌∷◌, length, refl, sym, ap, ◌∙◌, subst, Option, arith}
+use Rattle.std.specs.Prelude.{is_some, ◌++◌}
+use Rattle.std.specs.FinMap.{get, entries, len, get-empty, len-empty, len-entries}
 use Rattle.std.proofs.lemmas.List.{length-map}
 use Rattle.spb_types.specs.declared.address.SystemId.{SystemId}
 use Rattle.spb_types.specs.declared.address.LspId.{LspId}
 use Rattle.spb_types.specs.declared.ports.PortSet.{PortSet}
 use Rattle.lsdb.specs.Version.{number_of}
 use Rattle.lsdb.specs.Entry.{Entry}
-use Rattle.lsdb.specs.Database.{Lsps, id_cmp, version_in, version_at, fits, each}
-use Rattle.lsdb.proofs.Ids.{ids_total}
+use Rattle.lsdb.specs.Database.{Lsps, id_cmp, version_in, version_at, each}
 use Rattle.lsdb.proofs.LookupLemmas.{get-each}
 use Rattle.flooding.specs.Own.{own_id, last_number}
 use Rattle.flooding.specs.Hearing.{Holding}
-use Rattle.flooding.specs.Origination.{next_entry, originated_from, originated}
+use Rattle.flooding.specs.Settling.{Test, settled_by}
+use Rattle.flooding.specs.declared.own.Own.{Own}
+use Rattle.flooding.proofs.Owns.{origination_is_not_spent}
+use Rattle.flooding.proofs.Settled.{originated_few, originated_further, settling_brings_few, settling_goes_one_further, settling_doesnt_spend}
 use Rattle.bridge_api.specs.declared.config.BridgeConfig.{BridgeConfig}
 use Rattle.bridge_api.specs.View.{BridgeView, up_ports}
 use Rattle.bridge_api.specs.Own.{holding_of}
@@ -25,7 +26,8 @@ use Rattle.bridge_api.specs.Customers.{after_entry}
 use Rattle.bridge_api.specs.Services.{without_customer_port, with_port_forgotten}
 use Rattle.bridge_api.specs.Step.{second, frame, carrier, metric, attach, detach, customer}
 use Rattle.bridge_laws.specs.Few.{Within, HoldsFew, ConfiguredHoldsFew, StepsHoldFew}
-use Rattle.bridge_laws.proofs.Growing.{Grows, number_each, number_next, number_put, spent_next, readied_grows, second_grows, hello_grows, carrier_grows, metric_grows, attached_grows, entry_grows}
+use Rattle.bridge_laws.proofs.HeldIds.{own_below}
+use Rattle.bridge_laws.proofs.Growing.{Grows, number_each, readied_grows, second_grows, hello_grows, carrier_grows, metric_grows, attached_grows, entry_grows}
 use Rattle.bridge_api.proofs.ServingPorts.{moved, entries-each}
 
 one_more : (k : ℕ) (me : SystemId) (db : Lsps) (spent : Bool) → Within k me db spent → Within (k + 1) me db spent
@@ -42,35 +44,17 @@ within_each k me f db spent same w =
     let number : number_of (version_at (each f db) id) ≡ number_of (version_at db id) = ap (λ (o : Option Entry). number_of (version_in o)) (get-each f db id) ∙ number_each (f id) (get db id) (same id) in
     record { few = subst (λ (n : ℕ). n ≤ k) (sym (len-each f db)) w.few; number = subst (λ (n : ℕ). n ≤ k) (sym number) w.number; unspent = w.unspent }
 
--- ---- an origination
+-- ---- own LSPs are brought up to date
 
-len_insert : (b : Bool) (n m : ℕ) → n ≡ cond b m (m + 1) → n ≤ m + 1
-len_insert true n m is = omega (arith, is)
-len_insert false n m is = omega (arith, is)
-
-few_put : (b : Bool) (db : Lsps) (id : LspId) (e : Entry) → len (if b then insert db id e else db) ≤ len db + 1
-few_put true db id e = len_insert (contains_key db id) (len (insert db id e)) (len db) (len-insert ids_total db id e)
-few_put false db id e = omega arith
-
-within_from : (b : Bool) (k : ℕ) (up : PortSet) (h : Holding) → h.own.spent ≡ b → k < last_number → Within k h.own.system h.db h.own.spent
-    → Within (k + 1) h.own.system (if b then h else originated_from up (get h.db (own_id h.own.system)) h).db (if b then h else originated_from up (get h.db (own_id h.own.system)) h).own.spent
-within_from true k up h is low w = absurd (true≢false (sym is ∙ w.unspent))
-within_from false k up h is low w =
-    let id : LspId = own_id h.own.system in
-    let held : Option Entry = get h.db id in
-    let seq : ℕ = number_of (version_in held) in
-    record {
-      few = omega (arith, few_put (fits h.db id) h.db id (next_entry up h.own seq held), w.few);
-      number = number_put (fits h.db id) (k + 1) h.db id (next_entry up h.own seq held) refl (number_next (nat_lt seq last_number) k seq up h.own held w.number) (omega (arith, w.number));
-      unspent = spent_next (nat_lt seq last_number) h.own (lt-ltb seq last_number (omega (arith, w.number, low))) ∙ w.unspent;
-    }
-
-within_originated : (k : ℕ) (up : PortSet) (h : Holding) → k < last_number → Within k h.own.system h.db h.own.spent → Within (k + 1) h.own.system (originated up h).db (originated up h).own.spent
-unfolding originated
-within_originated k up h low w = within_from h.own.spent k up h refl low w
+within_settled : (k : ℕ) (stands : Test) (up : PortSet) (h : Holding) → k < last_number → Within k h.own.system h.db h.own.spent → Within (k + 1) h.own.system (settled_by stands up h).db (settled_by stands up h).own.spent
+within_settled k stands up h low w = record {
+  few = omega (arith, settling_brings_few stands up h, w.few);
+  number = omega (arith, settling_goes_one_further stands up h (own_id h.own.system), w.number);
+  unspent = ap (λ (own : Own). own.spent) (settling_doesnt_spend stands up h (own_below k h.own.system h.db low w.number)) ∙ w.unspent;
+}
 
 few_grows : Grows Within
-few_grows = record { more = one_more; stays = within_each; originates = within_originated }
+few_grows = record { more = one_more; stays = within_each; settles = within_settled }
 
 -- ---- the steps
 
@@ -86,7 +70,15 @@ few_bare c = record {
 
 pub configured_holds_few : ConfiguredHoldsFew
 unfolding configured
-configured_holds_few c = within_originated 0 (up_ports (bare c)) (holding_of (bare c)) (omega arith) (few_bare c)
+configured_holds_few c =
+    let h : Holding = holding_of (bare c) in
+    let up : PortSet = up_ports (bare c) in
+    let bare_few : HoldsFew 0 (bare c) = few_bare c in
+    record {
+      few = omega (arith, originated_few up h, bare_few.few);
+      number = omega (arith, originated_further up h (own_id c.id.system), bare_few.number);
+      unspent = ap (λ (own : Own). own.spent) (origination_is_not_spent up h (omega (arith, bare_few.number)));
+    }
 
 pub steps_hold_few : StepsHoldFew
 unfolding with_port_forgotten after_entry

@@ -1,9 +1,8 @@
 -- What grows by one at most in a step in which nothing is claimed: each origination makes one more of it, and in a step
 -- there is one origination at most.
-use Rattle.std.proofs.Common.{◌≡◌, inl, inr, ◌≤◌, ◌<◌, ◌+◌, ◌-◌, ℕ, Bool, true, false, true≢false, List, [], ◌∷◌, refl, sym, ap, ◌∙◌, subst, Option, Some, None, arith}
-use Rattle.std.specs.Prelude.{nat_le, not, is_some, ◌||◌, ◌&&◌, if◌then◌else◌}
+use Rattle.std.proofs.Common.{◌≡◌, inl, inr, ◌<◌, ◌+◌, ◌-◌, ℕ, Bool, true, false, true≢false, List, [], ◌∷◌, refl, sym, ap, ◌∙◌, subst, Option, Some, None}
+use Rattle.std.specs.Prelude.{nat_le, is_some, if◌then◌else◌}
 use Rattle.std.specs.Option.{option_map}
-use Rattle.std.specs.FinMap.{insert}
 use Rattle.spb_types.specs.declared.address.SystemId.{SystemId}
 use Rattle.spb_types.specs.declared.address.LspId.{LspId}
 use Rattle.spb_types.specs.declared.ports.PortSet.{PortSet}
@@ -11,12 +10,10 @@ use Rattle.lsdb.specs.declared.version.Version.{Version}
 use Rattle.lsdb.specs.declared.version.Version.TheVariants.{Absent, Live, Dead}
 use Rattle.lsdb.specs.Version.{number_of, is_absent}
 use Rattle.lsdb.specs.Entry.{Entry, made, with_ssn, flagged, srm_set_at, flags_cleared_at, aged_at, aged}
-use Rattle.lsdb.specs.Database.{Lsps, version_in, version_at, fits, put_if_it_fits, each}
-use Rattle.flooding.proofs.Claimed.{get-put_fit}
-use Rattle.flooding.specs.Own.{last_number, renewed}
-use Rattle.flooding.specs.declared.own.Own.{Own}
+use Rattle.lsdb.specs.Database.{Lsps, version_in, each}
+use Rattle.flooding.specs.Own.{last_number}
 use Rattle.flooding.specs.Hearing.{Holding}
-use Rattle.flooding.specs.Origination.{spent_entry, originated}
+use Rattle.flooding.specs.Settling.{Test, is_said, is_fresh, settled_by}
 use Rattle.snp_sync.specs.SnpEntries.{has_ssn_at}
 use Rattle.snp_sync.specs.Sending.{ssn_cleared as ssn_cleared_entry, all_ssn_cleared}
 use Rattle.adjacency.specs.declared.state.AdjacencyChange.{AdjacencyChange}
@@ -25,14 +22,14 @@ use Rattle.adjacency.specs.Adjacency.{after_hello, change_by_hello, after_carrie
 use Rattle.spb_types.specs.declared.service.Attachment.{Attachment}
 use Rattle.bridge_api.specs.declared.port.BridgePort.{BridgePort}
 use Rattle.bridge_api.specs.View.{BridgeView, with_port_at, is_port_up, up_ports}
-use Rattle.bridge_api.specs.Own.{holding_of, is_said, originating, originated_if_changed, own_entry}
+use Rattle.bridge_api.specs.Own.{holding_of, originated_if_changed}
 use Rattle.bridge_api.specs.Parsing.{Parsed, hello_in, is_hello}
 use Rattle.bridge_api.specs.Hearing.{with_adjacency, left_up, changed_at, with_port_metric}
-use Rattle.bridge_api.specs.Ticking.{leaving_from, flags_cleared_at_all, counts_lowered, expired, is_old, refreshed, readied, after_sending_at, after_sending_from}
+use Rattle.bridge_api.specs.Ticking.{leaving_from, flags_cleared_at_all, counts_lowered, expired, refreshed, readied, after_sending_at, after_sending_from}
 use Rattle.bridge_api.specs.Services.{with_attached}
 use Rattle.bridge_api.specs.Customers.{after_entry}
 use Rattle.bridge_api.specs.Step.{second, frame, carrier, metric, customer, step}
-use Rattle.bridge_api.proofs.Changes.{FrameStep, idle, by_hello, by_lsp, by_csnp, by_psnp, frame_step, carrier_step, metric_step, tick_is, when_false, attached_to}
+use Rattle.bridge_api.proofs.Changes.{FrameStep, idle, by_hello, by_lsp, by_csnp, by_psnp, frame_step, carrier_step, metric_step, tick_is, attached_to}
 
 -- ---- numbers of entries
 
@@ -61,28 +58,16 @@ number_aged up e Absent is = ap number_of is
 number_aged up e (Live seq sum) is = number_dying (nat_le e.lifetime 1) up e seq sum (e.lifetime - 1) is
 number_aged up e (Dead seq) is = ap number_of is
 
-pub number_next : (b : Bool) (k seq : ℕ) (up : PortSet) (own : Own) (held : Option Entry) → seq ≤ k → number_of (if b then renewed up own (seq + 1) else spent_entry up seq held).version ≤ k + 1
-number_next true k seq up own held low = omega (arith, low)
-number_next false k seq up own held low = omega (arith, low)
-
-pub number_put : (b : Bool) (k : ℕ) (db : Lsps) (id : LspId) (e : Entry) → fits db id ≡ b → number_of e.version ≤ k → number_of (version_at db id) ≤ k → number_of (version_at (put_if_it_fits db id (Some e)) id) ≤ k
-number_put true k db id e room new old = subst (λ (o : Option Entry). number_of (version_in o) ≤ k) (sym (get-put_fit db id e room)) new
-number_put false k db id e full new old = subst (λ (d : Lsps). number_of (version_at d id) ≤ k) (sym (when_false (fits db id) (insert db id e) db full)) old
-
-pub spent_next : (b : Bool) (own : Own) → b ≡ true → (if b then own else record own { spent = true }).spent ≡ own.spent
-spent_next true own below = refl
-spent_next false own below = absurd cc
-
 -- ---- what grows
 
 -- of a system with this database, spent or not, by a number: an entry changed that keeps its number changes nothing of
--- it, and an origination below the last number makes one more of it
+-- it, and own LSPs that are brought up to date below the last number make one more of it
 pub record Grows (P : ℕ → SystemId → Lsps → Bool → Type 0) : Type 0 where
   pub more : (n : ℕ) (system : SystemId) (db : Lsps) (spent : Bool) → P n system db spent → P (n + 1) system db spent
   pub stays : (n : ℕ) (system : SystemId) (f : LspId → Entry → Entry) (db : Lsps) (spent : Bool)
       → ((x : LspId) (e : Entry) → number_of (f x e).version ≡ number_of e.version) → P n system db spent → P n system (each f db) spent
-  pub originates : (n : ℕ) (up : PortSet) (h : Holding) → n < last_number → P n h.own.system h.db h.own.spent
-      → P (n + 1) h.own.system (originated up h).db (originated up h).own.spent
+  pub settles : (n : ℕ) (stands : Test) (up : PortSet) (h : Holding) → n < last_number → P n h.own.system h.db h.own.spent
+      → P (n + 1) h.own.system (settled_by stands up h).db (settled_by stands up h).own.spent
 
 module _ (P : ℕ → SystemId → Lsps → Bool → Type 0) (grows : Grows P) where
   abbrev Of : ℕ → BridgeView → Type 0
@@ -96,22 +81,15 @@ module _ (P : ℕ → SystemId → Lsps → Bool → Type 0) (grows : Grows P) w
   unfolding after_entry
   entry_grows n p bytes v was = one_more n v was
 
-  -- ---- an origination
-
-  originating_grows : (n : ℕ) (v : BridgeView) → n < last_number → Of n v → Of (n + 1) (originating v)
-  originating_grows n v low was = grows.originates n (up_ports v) (holding_of v) low was
-
-  grows_if : (b : Bool) (n : ℕ) (v : BridgeView) → n < last_number → Of n v → Of (n + 1) (if b then v else originating v)
-  grows_if true n v low was = one_more n v was
-  grows_if false n v low was = originating_grows n v low was
+  -- ---- own LSPs are brought up to date
 
   originated_grows : (n : ℕ) (v : BridgeView) → n < last_number → Of n v → Of (n + 1) (originated_if_changed v)
   unfolding originated_if_changed
-  originated_grows n v low was = grows_if (v.spent || is_said v) n v low was
+  originated_grows n v low was = grows.settles n is_said (up_ports v) (holding_of v) low was
 
   refreshed_grows : (n : ℕ) (v : BridgeView) → n < last_number → Of n v → Of (n + 1) (refreshed v)
   unfolding refreshed
-  refreshed_grows n v low was = grows_if (v.spent || (is_said v && not (is_old (own_entry v)))) n v low was
+  refreshed_grows n v low was = grows.settles n is_fresh (up_ports v) (holding_of v) low was
 
   -- ---- a change at a port
 

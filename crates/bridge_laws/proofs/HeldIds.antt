@@ -1,6 +1,6 @@
 -- An id that is held after a step was held before, was claimed in what came in, or is an own one.
-use Rattle.std.proofs.Common.{◌≡◌, ◌≢◌, ◌⊎◌, inl, inr, ℕ, Bool, true, false, List, [], ◌∷◌, refl, sym, ap, ◌∙◌, subst, Option, Some, None, arith}
-use Rattle.std.specs.Prelude.{IsSome, ◌||◌, if◌then◌else◌, ◌++◌}
+use Rattle.std.proofs.Common.{◌≤◌, ◌<◌, ◌≡◌, ◌≢◌, ◌⊎◌, inl, inr, ℕ, Bool, true, false, List, [], ◌∷◌, refl, sym, ap, ◌∙◌, subst, Option, Some, None, arith}
+use Rattle.std.specs.Prelude.{IsSome, ◌++◌}
 use Rattle.std.specs.Option.{option_map}
 use Rattle.std.specs.List.{AllByRecursion}
 use Rattle.std.specs.FinMap.{get}
@@ -9,14 +9,17 @@ use Rattle.spb_types.specs.declared.address.LspId.{LspId}
 use Rattle.spb_types.specs.declared.ports.PortSet.{PortSet}
 use Rattle.isis_pdu.specs.Pdu.{CsnpValue}
 use Rattle.lsdb.specs.declared.version.Version.{Version}
+use Rattle.lsdb.specs.Version.{number_of}
 use Rattle.lsdb.specs.Entry.{Entry, srm_set_at, flags_cleared_at}
-use Rattle.lsdb.specs.Database.{Lsps, each}
+use Rattle.lsdb.specs.Database.{Lsps, version_at, each}
 use Rattle.lsdb.specs.Certificate.{Claim, IsClaimed}
 use Rattle.lsdb.proofs.LookupLemmas.{get-each, same_or_not}
-use Rattle.flooding.specs.Own.{own_id, own_number, IsOwnNumber}
+use Rattle.flooding.specs.Own.{last_number, own_id, own_number, IsOwnNumber, is_own_number}
+use Rattle.flooding.specs.Settling.{is_said}
 use Rattle.flooding.specs.Hearing.{Holding, claim_of, lsp_rule, snp_rule, hear_entry_of}
 use Rattle.flooding.proofs.Claimed.{others_stand}
-use Rattle.flooding.proofs.Owns.{origination_leaves_others}
+use Rattle.flooding.proofs.OwnNumbers.{own_is_number}
+use Rattle.flooding.proofs.Settled.{settling_leaves_others}
 use Rattle.snp_sync.specs.Hearing.{claims_in, hear_entries_of, ids_of, is_missed, flag_if, hear_csnp_of}
 use Rattle.adjacency.specs.declared.state.AdjacencyChange.{AdjacencyChange}
 use Rattle.adjacency.specs.declared.state.AdjacencyChange.TheVariants.{Discarded, Kept, LeftUp, CameUp}
@@ -24,7 +27,7 @@ use Rattle.adjacency.specs.Adjacency.{after_hello, change_by_hello, after_carrie
 use Rattle.spb_types.specs.declared.service.Attachment.{Attachment}
 use Rattle.bridge_api.specs.declared.port.BridgePort.{BridgePort}
 use Rattle.bridge_api.specs.View.{BridgeView, with_port_at, up_ports}
-use Rattle.bridge_api.specs.Own.{holding_of, is_said, originating, originated_if_changed}
+use Rattle.bridge_api.specs.Own.{holding_of, originated_if_changed}
 use Rattle.bridge_api.specs.Parsing.{parsed}
 use Rattle.bridge_api.specs.Parsing as parsing
 use Rattle.bridge_api.specs.Hearing.{with_adjacency, left_up, changed_at, heard_lsp, heard_csnp, heard_psnp, with_port_metric}
@@ -45,6 +48,10 @@ own_is system id own = let first : own.number ≡ 0 = omega (arith, own.below) i
 
 pub first_own : (system : SystemId) (id : LspId) → id ≡ own_id system → IsOwnNumber system id
 first_own system id is = record { number = 0; below = omega arith; is = is }
+
+-- while the first one is below the last number, all are
+pub own_below : (n : ℕ) (system : SystemId) (db : Lsps) → n < last_number → number_of (version_at db (own_id system)) ≤ n → (id : LspId) → IsOwnNumber system id → number_of (version_at db id) < last_number
+own_below n system db low first id own = subst (λ (x : LspId). number_of (version_at db x) < last_number) (sym (own_is system id own)) (omega (arith, first, low))
 
 -- ---- an id that no claim names
 
@@ -81,19 +88,15 @@ each_stays_out f db id out = get-each f db id ∙ ap (option_map (f id)) out
 same_stays_out : (id : LspId) (old new : Lsps) → get new id ≡ get old id → StaysOut id old new
 same_stays_out id old new same out = same ∙ out
 
--- an origination changes nothing but the own LSP
-stands_or_by : (b : Bool) (v : BridgeView) (id : LspId) → id ≢ own_id v.id.system → get (if b then v else originating v).database id ≡ get v.database id
-stands_or_by true v id apart = refl
-stands_or_by false v id apart = origination_leaves_others (up_ports v) (holding_of v) id apart
-
-pub originated_others : (v : BridgeView) (id : LspId) → id ≢ own_id v.id.system → get (originated_if_changed v).database id ≡ get v.database id
+-- an origination changes nothing but the own LSPs
+pub originated_others : (v : BridgeView) (id : LspId) → is_own_number v.id.system id ≡ false → get (originated_if_changed v).database id ≡ get v.database id
 unfolding originated_if_changed
-originated_others v id apart = stands_or_by (v.spent || is_said v) v id apart
+originated_others v id other = settling_leaves_others is_said (up_ports v) (holding_of v) id other
 
-originated_out : (v : BridgeView) (old : Lsps) (id : LspId) → id ≢ own_id v.id.system → StaysOut id old v.database → StaysOut id old (originated_if_changed v).database
+originated_out : (v : BridgeView) (old : Lsps) (id : LspId) → is_own_number v.id.system id ≡ false → StaysOut id old v.database → StaysOut id old (originated_if_changed v).database
 originated_out v old id apart before out = originated_others v id apart ∙ before out
 
-changed_out : (heard : AdjacencyChange) (p : ℕ) (port : BridgePort) (v : BridgeView) (id : LspId) → id ≢ own_id v.id.system → StaysOut id v.database (changed_at heard p port v).database
+changed_out : (heard : AdjacencyChange) (p : ℕ) (port : BridgePort) (v : BridgeView) (id : LspId) → is_own_number v.id.system id ≡ false → StaysOut id v.database (changed_at heard p port v).database
 changed_out Discarded p port v id apart out = out
 changed_out Kept p port v id apart out = originated_out (with_port_at p port v) v.database id apart (λ none. none) out
 changed_out LeftUp p port v id apart out = originated_out (left_up p port v) v.database id apart (each_stays_out (λ x e. flags_cleared_at p e) v.database id) out
@@ -107,7 +110,7 @@ nothing_but : (o n : Option Entry) → but_for_ssn n ≡ but_for_ssn o → o ≡
 nothing_but o None same out = refl
 nothing_but o (Some e) same out = let wrong = same ∙ ap but_for_ssn out in absurd cc
 
-second_out : (v : BridgeView) (id : LspId) → id ≢ own_id v.id.system → StaysOut id v.database (step second v).database
+second_out : (v : BridgeView) (id : LspId) → is_own_number v.id.system id ≡ false → StaysOut id v.database (step second v).database
 second_out v id apart out = nothing_but (option_map _ (get v.database id)) (get (step second v).database id) (second_ages v id apart) (ap (option_map _) out)
 
 csnp_out : (c : CsnpValue) (claims : List Claim) (p : ℕ) (v : BridgeView) (id : LspId) → AreOthers id claims → StaysOut id v.database (hear_csnp_of (up_ports v) p c.start c.end claims (holding_of v)).db
@@ -115,7 +118,7 @@ csnp_out c claims p v id others out =
     each_stays_out (λ x e. flag_if (is_missed c.start c.end (ids_of claims) x e) p e) (hear_entries_of (up_ports v) p claims (holding_of v)).db id
     (unnamed_stands (up_ports v) p claims (holding_of v) id others ∙ out)
 
-module _ (q : ℕ) (bytes : List ℕ) (v : BridgeView) (id : LspId) (apart : id ≢ own_id v.id.system) (others : AreOthers id (claims_said (parsed bytes))) where
+module _ (q : ℕ) (bytes : List ℕ) (v : BridgeView) (id : LspId) (apart : is_own_number v.id.system id ≡ false) (others : AreOthers id (claims_said (parsed bytes))) where
   frame_out_by : FrameStep v q bytes (step (frame q bytes) v) → StaysOut id v.database (step (frame q bytes) v).database
   frame_out_by (idle learned how e) out = ap (λ (w : BridgeView). get w.database id) e ∙ out
   frame_out_by (by_hello g) out =
@@ -133,11 +136,11 @@ module _ (q : ℕ) (bytes : List ℕ) (v : BridgeView) (id : LspId) (apart : id 
       ap (λ (w : BridgeView). get w.database id) g.after
       ∙ originated_out (heard_psnp g.entries q v) v.database id apart (same_stays_out id v.database (heard_psnp g.entries q v).database (unnamed_stands (up_ports v) q (claims_in g.entries) (holding_of v) id other)) out
 
-attached_out : (attached : List Attachment) (v : BridgeView) (id : LspId) → id ≢ own_id v.id.system → StaysOut id v.database (with_attached attached v).database
+attached_out : (attached : List Attachment) (v : BridgeView) (id : LspId) → is_own_number v.id.system id ≡ false → StaysOut id v.database (with_attached attached v).database
 unfolding with_attached
 attached_out attached v id apart out = originated_out (attached_to attached v) v.database id apart (λ none. none) out
 
-step_out : (input : Input) (v : BridgeView) (id : LspId) → id ≢ own_id v.id.system → AreOthers id (claims_of input) → StaysOut id v.database (step input v).database
+step_out : (input : Input) (v : BridgeView) (id : LspId) → is_own_number v.id.system id ≡ false → AreOthers id (claims_of input) → StaysOut id v.database (step input v).database
 unfolding with_port_forgotten after_entry
 step_out second v id apart others out = second_out v id apart out
 step_out (frame q bytes) v id apart others out = frame_out_by q bytes v id apart others (frame_step v q bytes) out
@@ -160,14 +163,15 @@ step_out (customer p bytes) v id apart others out = out
 held_by : (o : Option Entry) (input : Input) (v : BridgeView) (id : LspId) (e : Entry) → get v.database id ≡ o → get (step input v).database id ≡ Some e
     → IsSome (get v.database id) ⊎ (IsNamed (claims_of input) id ⊎ IsOwnNumber v.id.system id)
 held_by (Some d) input v id e before after = inl (subst (λ (o : Option Entry). IsSome o) (sym before) refl)
-held_by None input v id e before after =
-    elim (same_or_not id (own_id v.id.system)) [
-      | inl own ↦ inr (inr (first_own v.id.system id own))
-      | inr apart ↦ elim (named_or_not (claims_of input) id) [
-        | inl named ↦ inr (inl named)
-        | inr others ↦ let wrong : None ≡ Some e = sym (step_out input v id apart others before) ∙ after in absurd cc
-      ]
-    ]
+held_by None input v id e before after = by_number (is_own_number v.id.system id) refl
+  where
+    by_number : (b : Bool) → is_own_number v.id.system id ≡ b → IsSome (get v.database id) ⊎ (IsNamed (claims_of input) id ⊎ IsOwnNumber v.id.system id)
+    by_number true own = inr (inr (own_is_number v.id.system id own))
+    by_number false apart =
+        elim (named_or_not (claims_of input) id) [
+          | inl named ↦ inr (inl named)
+          | inr others ↦ let wrong : None ≡ Some e = sym (step_out input v id apart others before) ∙ after in absurd cc
+        ]
 
 pub steps_hold_ids : StepsHoldIds
 steps_hold_ids input v id e after = held_by (get v.database id) input v id e refl after

@@ -21,7 +21,7 @@ use Rattle.lsdb.specs.Database.{Lsps, version_in, each}
 use Rattle.lsdb.specs.Certificate.{Claim, IsClaimed}
 use Rattle.lsdb.proofs.LookupLemmas.{get-each, same_or_not}
 use Rattle.lsdb.proofs.Order.{confused_is, not_at_most, confused_are_live}
-use Rattle.flooding.specs.Own.{own_id, body_in, answered}
+use Rattle.flooding.specs.Own.{body_in, answered}
 use Rattle.flooding.specs.Hearing.{Holding, claim_of, lsp_rule, snp_rule, is_beyond, after_claim, is_full, hear_entry_of}
 use Rattle.flooding.proofs.Heard.{Rule, number-claimed}
 use Rattle.flooding.proofs.Claimed.{SaysOfHeld, lsp_rule_says, snp_rule_says, others_stand, heard_stands, full_stands}
@@ -43,6 +43,7 @@ use Rattle.bridge_api.specs.Step.{Input, second, frame, carrier, metric, attach,
 use Rattle.bridge_api.specs.Laws.{claims_of, claims_said, claims_or_none}
 use Rattle.bridge_laws.specs.Counting.{lsp_said, lsp_of, LearnedAt, stays, stores, joins, StepsLearn, is_held, is_claimed, Learned, takes, ends, StepsLearnVersions}
 use Rattle.bridge_api.proofs.Changes.{FrameStep, idle, by_hello, by_lsp, by_csnp, by_psnp, frame_step, carrier_step, metric_step, attached_to}
+use Rattle.flooding.proofs.OwnNumbers.{not_own}
 use Rattle.bridge_laws.proofs.HeldIds.{originated_others}
 
 -- ---- the same version and body
@@ -196,11 +197,8 @@ then_same claims lsp id o m n (joins a claimed apart number is) same = joins a c
 
 -- ---- the steps
 
-not_own : (v : BridgeView) (id : LspId) → id.system ≢ v.id.system → id ≢ own_id v.id.system
-not_own v id apart e = apart (ap (λ (x : LspId). x.system) e)
-
 originated_same : (w : BridgeView) (id : LspId) → id.system ≢ w.id.system → IsSameLsp (get w.database id) (get (originated_if_changed w).database id)
-originated_same w id apart = same_lsp _ _ (originated_others w id (not_own w id apart))
+originated_same w id apart = same_lsp _ _ (originated_others w id (not_own w.id.system id apart))
 
 srm_set_same : (p : ℕ) (e : Entry) (b : Bool) → IsSameLsp (Some e) (Some (if b then e else flagged p e))
 srm_set_same p e b = spared_same (flagged p) e b (record { version = refl; body = refl })

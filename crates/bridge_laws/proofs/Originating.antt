@@ -1,9 +1,9 @@
 -- How far the own LSP goes by what isn't a claim: it is originated once at most, and carrier that comes originates
 -- nothing.
 use Rattle.std.proofs.Common.{◌≡◌, inl, inr, ◌≤◌, ◌<◌, ◌+◌, ◌-◌, ℕ, zero, suc, Bool, true, false, List, [], ◌∷◌, refl, sym, ap, ◌∙◌, subst, Option, Some, arith}
-use Rattle.std.specs.Prelude.{nat_lt, not, ◌&&◌, ◌==◌, slice_get, slice_set, if◌then◌else◌, ◌++◌}
+use Rattle.std.specs.Prelude.{not, ◌&&◌, ◌==◌, slice_get, slice_set, if◌then◌else◌, ◌++◌}
 use Rattle.std.specs.FinMap.{get}
-use Rattle.std.proofs.lemmas.Bool.{lt-ltb, true≢false, eq-eqb}
+use Rattle.std.proofs.lemmas.Bool.{true≢false, eq-eqb}
 use Rattle.std.proofs.lemmas.Slice.Eq.{bytes_eq-Decides}
 use Rattle.spb_types.specs.declared.address.SystemId.{SystemId}
 use Rattle.spb_types.specs.declared.address.LspId.{LspId}
@@ -11,11 +11,13 @@ use Rattle.spb_types.specs.declared.ports.PortSet.{PortSet}
 use Rattle.spb_tlvs.specs.declared.neighbours.Neighbour.{Neighbour}
 use Rattle.lsdb.specs.Version.{number_of}
 use Rattle.lsdb.specs.Entry.{Entry}
-use Rattle.lsdb.specs.Database.{Lsps, version_in, version_at, fits, each}
+use Rattle.lsdb.specs.Database.{Lsps, version_in, version_at, each}
 use Rattle.lsdb.proofs.LookupLemmas.{get-each}
-use Rattle.flooding.specs.Own.{own_id, last_number, body_in}
+use Rattle.flooding.specs.Own.{own_id, last_number}
+use Rattle.flooding.specs.declared.own.Own.{Own}
 use Rattle.flooding.specs.Hearing.{Holding}
-use Rattle.flooding.specs.Origination.{next_entry, originated_from, originated}
+use Rattle.flooding.specs.Settling.{Test, settled_by}
+use Rattle.flooding.proofs.Settled.{settling_goes_one_further, settling_doesnt_spend}
 use Rattle.adjacency.specs.declared.state.AdjacencyChange.{AdjacencyChange}
 use Rattle.adjacency.specs.declared.state.AdjacencyChange.TheVariants.{Kept, LeftUp, CameUp}
 use Rattle.adjacency.specs.declared.port.Adjacency.{Adjacency}
@@ -23,7 +25,7 @@ use Rattle.adjacency.specs.Hearing.{same_end}
 use Rattle.adjacency.specs.Adjacency.{is_up, after_carrier, change_of}
 use Rattle.bridge_api.specs.declared.port.BridgePort.{BridgePort}
 use Rattle.bridge_api.specs.View.{BridgeView, with_port_at, is_port_up}
-use Rattle.bridge_api.specs.Own.{neighbour_in, neighbours_from, body_of, own_entry}
+use Rattle.bridge_api.specs.Own.{neighbour_in, neighbours_from, own_entry}
 use Rattle.bridge_api.specs.Config.{configured}
 use Rattle.bridge_api.specs.Parsing.{is_hello}
 use Rattle.bridge_api.specs.Hearing.{with_adjacency, changed_at, with_carrier_at}
@@ -35,11 +37,11 @@ use Rattle.bridge_laws.specs.Counting.{IsFar, is_claiming, gain_of, StepsOrigina
 use Rattle.bridge_api.proofs.Certified.{steps_keep_bridge}
 use Rattle.bridge_api.proofs.Changes.{carrier_step, found}
 use Rattle.bridge_laws.proofs.FewHeld.{configured_holds_few}
-use Rattle.bridge_laws.proofs.Growing.{Grows, number_each, number_next, number_put, spent_next, second_grows, hello_grows, carrier_grows, metric_grows, attached_grows}
-use Rattle.bridge_laws.proofs.HeldIds.{own_is, first_own}
-use Rattle.bridge_laws.proofs.Answering.{stands_still, no_hello, frame_answered}
+use Rattle.bridge_laws.proofs.Growing.{Grows, number_each, second_grows, hello_grows, carrier_grows, metric_grows, attached_grows}
+use Rattle.bridge_laws.proofs.HeldIds.{own_is, first_own, own_below}
+use Rattle.bridge_laws.proofs.Answering.{no_hello, frame_answered}
 use Rattle.bridge_api.proofs.Meeting.{small, small_whole}
-use Rattle.bridge_api.proofs.OwnLspSteps.{moved_body}
+use Rattle.bridge_api.proofs.OwnLspSteps.{IsSaying, was_saying, moved_saying, saying_settles}
 use Rattle.bridge_api.proofs.Sound.{configured_is_sound}
 
 -- of a system: its own LSP is at number n at most, and its sequence numbers aren't spent
@@ -59,26 +61,16 @@ below_each n system f db spent same b =
     let number : number_of (version_at (each f db) id) ≡ number_of (version_at db id) = ap (λ (o : Option Entry). number_of (version_in o)) (get-each f db id) ∙ number_each (f id) (get db id) (same id) in
     record { number = subst (λ (k : ℕ). k ≤ n) (sym number) b.number; fresh = b.fresh }
 
--- ---- an origination
+-- ---- own LSPs are brought up to date
 
-below_from : (spent : Bool) (n : ℕ) (up : PortSet) (h : Holding) → h.own.spent ≡ spent → n < last_number → Below n h.own.system h.db h.own.spent
-    → Below (n + 1) h.own.system (if spent then h else originated_from up (get h.db (own_id h.own.system)) h).db (if spent then h else originated_from up (get h.db (own_id h.own.system)) h).own.spent
-below_from true n up h is low b = absurd (true≢false (sym is ∙ b.fresh))
-below_from false n up h is low b =
-    let id : LspId = own_id h.own.system in
-    let held : Option Entry = get h.db id in
-    let seq : ℕ = number_of (version_in held) in
-    record {
-      number = number_put (fits h.db id) (n + 1) h.db id (next_entry up h.own seq held) refl (number_next (nat_lt seq last_number) n seq up h.own held b.number) (omega (arith, b.number));
-      fresh = spent_next (nat_lt seq last_number) h.own (lt-ltb seq last_number (omega (arith, b.number, low))) ∙ b.fresh;
-    }
-
-below_originated : (n : ℕ) (up : PortSet) (h : Holding) → n < last_number → Below n h.own.system h.db h.own.spent → Below (n + 1) h.own.system (originated up h).db (originated up h).own.spent
-unfolding originated
-below_originated n up h low b = below_from h.own.spent n up h refl low b
+below_settled : (n : ℕ) (stands : Test) (up : PortSet) (h : Holding) → n < last_number → Below n h.own.system h.db h.own.spent → Below (n + 1) h.own.system (settled_by stands up h).db (settled_by stands up h).own.spent
+below_settled n stands up h low b = record {
+  number = omega (arith, settling_goes_one_further stands up h (own_id h.own.system), b.number);
+  fresh = ap (λ (own : Own). own.spent) (settling_doesnt_spend stands up h (own_below n h.own.system h.db low b.number)) ∙ b.fresh;
+}
 
 below_grows : Grows Below
-below_grows = record { more = one_more; stays = below_each; originates = below_originated }
+below_grows = record { more = one_more; stays = below_each; settles = below_settled }
 
 -- ---- carrier that comes
 
@@ -106,11 +98,11 @@ neighbours_given_carrier p zero port (x ∷ ports) is =
 neighbours_given_carrier p (suc i) port (x ∷ ports) is = ap (λ (list : List Neighbour). if is_port_up x then neighbour_in p x ∷ list else list) (neighbours_given_carrier (p + 1) i port ports is)
 
 -- the bridge has the same to say
-given_carrier_stands : (v : BridgeView) (q : ℕ) (port : BridgePort) → body_in (own_entry v) ≡ body_of v → slice_get v.ports (q - 1) ≡ Some port → with_carrier_at q true (Some port) v ≡ with_port_at q (given_carrier port) v
+given_carrier_stands : (v : BridgeView) (q : ℕ) (port : BridgePort) → IsSaying v → slice_get v.ports (q - 1) ≡ Some port → with_carrier_at q true (Some port) v ≡ with_port_at q (given_carrier port) v
 given_carrier_stands v q port says is =
     let w : BridgeView = with_port_at q (given_carrier port) v in
-    let same : body_of w ≡ body_of v = moved_body w.ports v.database v (neighbours_given_carrier 1 (q - 1) port v.ports is) in
-    ap (λ (did : AdjacencyChange). changed_at did q (given_carrier port) v) (carrier_is_kept port.adjacency) ∙ stands_still w (says ∙ sym same)
+    ap (λ (did : AdjacencyChange). changed_at did q (given_carrier port) v) (carrier_is_kept port.adjacency)
+    ∙ saying_settles w (moved_saying w.ports v.database v (neighbours_given_carrier 1 (q - 1) port v.ports is) (λ own. own) says)
 
 -- ---- the steps
 
@@ -118,7 +110,7 @@ a_hello : (b : Bool) → not b ≡ false → b ≡ true
 a_hello true is = refl
 a_hello false is = absurd (true≢false is)
 
-step_counts : (input : Input) (n : ℕ) (v : BridgeView) → body_in (own_entry v) ≡ body_of v → is_claiming input ≡ false → n < last_number → Counts n v → Counts (n + gain_of input) (step input v)
+step_counts : (input : Input) (n : ℕ) (v : BridgeView) → IsSaying v → is_claiming input ≡ false → n < last_number → Counts n v → Counts (n + gain_of input) (step input v)
 unfolding with_port_forgotten after_entry
 step_counts second n v says other low b = second_grows Below below_grows n v low b
 step_counts (frame q bytes) n v says other low b =
@@ -141,7 +133,7 @@ step_counts (customer p bytes) n v says other low b = record { number = omega (a
 
 far_counts : (input : Input) (v : BridgeView) → IsSoundView v → IsFar input v → is_claiming input ≡ false → Counts (number_of (version_in (own_entry v)) + gain_of input) (step input v)
 far_counts input v was far other =
-    step_counts input (number_of (version_in (own_entry v))) v (was.own.said far.fresh) other (far.own (own_id v.id.system) (first_own v.id.system (own_id v.id.system) refl))
+    step_counts input (number_of (version_in (own_entry v))) v (was_saying v was) other (far.own (own_id v.id.system) (first_own v.id.system (own_id v.id.system) refl))
     (record { number = omega arith; fresh = far.fresh })
 
 pub steps_originate : StepsOriginate

@@ -1,6 +1,6 @@
 -- No version that is held falls in a step, and the neighbour at each Up port is no further behind.
 use Rattle.std.proofs.Common.{◌≡◌, ◌≢◌, ◌⊎◌, inl, inr, ◌≤◌, ◌+◌, ◌-◌, ℕ, suc, Bool, true, false, List, [], ◌∷◌, length, map, refl, sym, ap, ◌∙◌, subst, Option, Some, None, Result, Ok, Err, arith, ⊎_elim}
-use Rattle.std.specs.Prelude.{⊤, ◌&&◌, ◌||◌, not, nat_le, slice_get, slice_set, if◌then◌else◌, ◌++◌}
+use Rattle.std.specs.Prelude.{⊤, ◌&&◌, not, nat_le, slice_get, slice_set, if◌then◌else◌, ◌++◌}
 use Rattle.std.specs.Option.{option_map}
 use Rattle.std.specs.FinMap.{get}
 use Rattle.std.proofs.lemmas.List.{append-nil, length-map, length-set}
@@ -22,7 +22,9 @@ use Rattle.lsdb.specs.Certificate.{Claim, Kept, is_flagged, is_absent, is_as_bef
 use Rattle.lsdb.proofs.Order.{itself}
 use Rattle.lsdb.proofs.Certified.{standing, steps_compose, silence_serves_all, clearing_port, setting_srm, ageing, changing_each}
 use Rattle.flooding.specs.Hearing.{claim_of}
-use Rattle.flooding.proofs.Steps.{hearing_lsp, origination}
+use Rattle.flooding.specs.Settling.{is_said, is_fresh}
+use Rattle.flooding.proofs.Steps.{hearing_lsp}
+use Rattle.flooding.proofs.Settled.{settling_is_certified}
 use Rattle.snp_sync.specs.Reading.{entries_in}
 use Rattle.snp_sync.specs.Hearing.{claims_in}
 use Rattle.snp_sync.proofs.Said.{clearing_ssn_is_certified}
@@ -35,12 +37,12 @@ use Rattle.adjacency.specs.Adjacency.{is_up, after_hello_heard, after_hello, cha
 use Rattle.spb_types.specs.declared.service.Attachment.{Attachment}
 use Rattle.bridge_api.specs.declared.port.BridgePort.{BridgePort}
 use Rattle.bridge_api.specs.View.{BridgeView, port_in, port_at, with_port_at, is_port_up, is_up_in, up_from, up_ports, control_of}
-use Rattle.bridge_api.specs.Own.{own_entry, is_said, holding_of, originating, originated_if_changed}
+use Rattle.bridge_api.specs.Own.{holding_of, originated_if_changed}
 use Rattle.bridge_api.specs.Parsing.{Parsed, parsed}
 use Rattle.bridge_api.specs.Parsing as parsing
 use Rattle.spb_types.specs.declared.drop_reason.DropReason.TheVariants as drop
 use Rattle.bridge_api.specs.Hearing.{after_drop, with_csnp_due, with_adjacency, left_up, all_srm_set_at, entered_up, changed_at, heard_hello, heard_lsp, heard_csnp, heard_psnp, with_csnp, with_psnp, heard_as, heard_at, after_receive, with_carrier_at, with_carrier, with_port_metric, with_metric_at, with_metric}
-use Rattle.bridge_api.specs.Ticking.{later, leaves, leaving_from, flags_cleared_at_all, counts_lowered, expired, is_old, refreshed, readied, after_sending_at, after_sending_from, after_sending, after_tick}
+use Rattle.bridge_api.specs.Ticking.{later, leaves, leaving_from, flags_cleared_at_all, counts_lowered, expired, refreshed, readied, after_sending_at, after_sending_from, after_sending, after_tick}
 use Rattle.bridge_api.specs.Customers.{after_entry}
 use Rattle.bridge_api.specs.Services.{with_attached, without_customer_port, with_port_forgotten}
 use Rattle.bridge_api.specs.Step.{second, frame, carrier, metric, attach, detach, customer, step}
@@ -72,17 +74,13 @@ and_then port claims v u w step quiet = subst (λ (all : List Claim). Certificat
 
 -- ---- the own LSP is brought up to date
 
-renewed_at : (b : Bool) (port : ℕ) (claims : List Claim) (v : BridgeView) → Certificate port claims (control_of v) (control_of (if b then v else originating v))
-renewed_at true port claims v = standing port claims (control_of v)
-renewed_at false port claims v = origination (up_ports v) port claims (holding_of v)
-
 pub originated_if_changed_carries : (port : ℕ) (claims : List Claim) (v : BridgeView) → Certificate port claims (control_of v) (control_of (originated_if_changed v))
 unfolding originated_if_changed
-originated_if_changed_carries port claims v = renewed_at (v.spent || is_said v) port claims v
+originated_if_changed_carries port claims v = settling_is_certified is_said (up_ports v) port claims (holding_of v)
 
 pub refreshed_carries : (port : ℕ) (claims : List Claim) (v : BridgeView) → Certificate port claims (control_of v) (control_of (refreshed v))
 unfolding refreshed
-refreshed_carries port claims v = renewed_at (v.spent || (is_said v && not (is_old (own_entry v)))) port claims v
+refreshed_carries port claims v = settling_is_certified is_fresh (up_ports v) port claims (holding_of v)
 
 -- and after anything else
 then_originated_if_changed : (port : ℕ) (claims : List Claim) (v u : BridgeView) → Certificate port claims (control_of v) (control_of u) → Certificate port claims (control_of v) (control_of (originated_if_changed u))

@@ -1,10 +1,11 @@
 -- What seconds make of the own LSP: it stands still while it says what the bridge has to say and isn't old, and else is
 -- originated anew.
 use Rattle.std.proofs.Common.{◌≡◌, ◌≢◌, ◌⊎◌, inl, inr, ℕ, zero, suc, ◌+◌, ◌-◌, ◌*◌, ◌≤◌, ◌<◌, Bool, true, false, List, [], ◌∷◌, map, refl, sym, ap, ◌∙◌, subst, Option, Some, None, arith}
-use Rattle.std.specs.Prelude.{nat_lt, ◌&&◌, ◌||◌, not, nat_le, slice_get, if◌then◌else◌}
+use Rattle.std.specs.Prelude.{◌&&◌, not, nat_le, slice_get, if◌then◌else◌}
+use Rattle.std.specs.Str.{bytes_eq}
 use Rattle.std.specs.Option.{option_map, option_and_then}
 use Rattle.std.specs.FinMap.{get, empty, get-empty}
-use Rattle.std.proofs.lemmas.Bool.{le-leb, lt-leb, lt-ltb, le-ltb}
+use Rattle.std.proofs.lemmas.Bool.{le-leb, lt-leb, and_parts, true≢false}
 use Rattle.std.proofs.lemmas.Slice.Eq.{bytes_eq-Decides}
 use Rattle.spb_types.specs.declared.address.LspId.{LspId}
 use Rattle.spb_types.specs.declared.ports.PortSet.{PortSet}
@@ -21,8 +22,10 @@ use Rattle.lsdb.proofs.LookupLemmas.{get-each}
 use Rattle.flooding.specs.declared.own.Own.{Own}
 use Rattle.flooding.specs.Own.{last_number, own_id, renewed}
 use Rattle.flooding.specs.Hearing.{Holding}
-use Rattle.flooding.specs.Origination.{spent_entry, originated_from, originated}
-use Rattle.flooding.proofs.Owns.{originated_stands, origination_is_not_spent}
+use Rattle.flooding.specs.Origination.{spent_entry}
+use Rattle.flooding.specs.Settling.{own_held, is_old, is_said, is_fresh}
+use Rattle.flooding.proofs.Owns.{origination_is_not_spent}
+use Rattle.flooding.proofs.Settled.{says_both, settling_stands, settling_doesnt_spend, settling_renews, settling_spends}
 use Rattle.snp_sync.specs.SnpEntries.{has_ssn_at}
 use Rattle.snp_sync.specs.Sending.{ssn_cleared as ssn_cleared_entry, all_ssn_cleared}
 use Rattle.spb_content.specs.Local.{content_bytes}
@@ -31,16 +34,16 @@ use Rattle.bridge_api.specs.declared.port.BridgePort.{BridgePort}
 use Rattle.bridge_api.specs.declared.drops.Drops.{Drops}
 use Rattle.bridge_api.specs.declared.config.BridgeConfig.{BridgeConfig}
 use Rattle.bridge_api.specs.View.{BridgeView, port_at, neighbour_at, is_port_up, is_up_in, is_up_at, up_ports}
-use Rattle.bridge_api.specs.Own.{neighbour_in, neighbours_from, member_of, body_of, own_of, holding_of, own_entry, body_in, is_said, Lasts, IsAlive, originating}
+use Rattle.bridge_api.specs.Own.{neighbour_in, neighbours_from, member_of, body_of, own_of, holding_of, with_holding, own_entry, body_in, Lasts, IsAlive}
 use Rattle.bridge_api.specs.Config.{IsWhole, bare, configured}
 use Rattle.bridge_api.specs.Duties.{but_for_ssn}
-use Rattle.bridge_api.specs.Ticking.{later, leaving_from, counts_lowered, expired, is_old, refreshed, readied, after_sending_at, after_sending_from}
+use Rattle.bridge_api.specs.Ticking.{later, leaving_from, counts_lowered, expired, refreshed, readied, after_sending_at, after_sending_from}
 use Rattle.bridge_api.specs.Step.{second, step}
 use Rattle.bridge_api.specs.Laws.{IsSoundView}
 use Rattle.bridge_api.specs.Time.{seconds, AgedFrom, IsLasting, IsDead, own_sequence_number, StandsStill, IsRenewed, SecondsStandStill, SecondsRenew, IsSpent, SecondsSpend, SpentStandsStill, SaysTheSame, OwnLspLasts, OwnLspIsRenewed, IsAlone, AloneStaysAlone, IsAtNumber, EveryNineHundred}
 use Rattle.bridge_api.proofs.Adjacent.{second_up, up_keeps}
 use Rattle.bridge_api.proofs.Certified.{steps_keep_bridge}
-use Rattle.bridge_api.proofs.Changes.{with_and_parts, ticked, tick_is, tick_ports, tick_port, tick_rest, when_true, when_false}
+use Rattle.bridge_api.proofs.Changes.{with_and_parts, settling, ticked, tick_is, tick_ports, tick_port, tick_rest}
 use Rattle.bridge_api.proofs.Data.{fits_own}
 use Rattle.bridge_api.proofs.DataSteps.{configured_holds_own}
 use Rattle.bridge_api.proofs.Places.{port_found}
@@ -48,6 +51,7 @@ use Rattle.bridge_api.proofs.Sound.{configured_is_sound}
 use Rattle.bridge_api.proofs.SoundPorts.{configured_has_no_carrier}
 use Rattle.bridge_api.proofs.OwnLspSteps.{neighbours_without_csnp_due}
 use Rattle.bridge_api.proofs.Time.{no_seconds, next_second, seconds_add, seconds_sound}
+use Rattle.bridge_laws.proofs.HeldIds.{own_below}
 use Rattle.bridge_api.proofs.TimeLsps.{older_lasts, older_ages, up_second, expired_holds, second_holds, lasting_same, dead_same, aged_same, lasting_on}
 
 -- ---- what the bridge has to say after a second
@@ -110,24 +114,16 @@ fell v left was fresh count =
 
 -- ---- a second that originates nothing
 
-pub said_as : (w : BridgeView) → body_in (own_entry w) ≡ body_of w → is_said w ≡ true
-unfolding is_said
-said_as w same = (bytes_eq-Decides (body_in (own_entry w)) (body_of w)).1 same
-
-as_said : (w : BridgeView) → is_said w ≡ true → body_in (own_entry w) ≡ body_of w
-unfolding is_said
-as_said w is = (bytes_eq-Decides (body_in (own_entry w)) (body_of w)).0 is
-
-stands_at : (spent said old : Bool) → said ≡ true → old ≡ false → (spent || (said && not old)) ≡ true
-stands_at true said old is young = refl
-stands_at false true false is young = refl
-stands_at false true true is young = absurd cc
-stands_at false false old is young = absurd cc
-
-refreshed_stands : (w : BridgeView) → is_said w ≡ true → is_old (own_entry w) ≡ false → refreshed w ≡ w
+-- what is kept fresh
+refreshed_holds : (w : BridgeView) → refreshed w ≡ settling is_fresh w
 unfolding refreshed
-refreshed_stands w said young =
-    when_true (w.spent || (is_said w && not (is_old (own_entry w)))) w (originating w) (stands_at w.spent (is_said w) (is_old (own_entry w)) said young)
+refreshed_holds w = refl
+
+refreshed_stands : (w : BridgeView) → (w.spent ≡ false → is_fresh (holding_of w) ≡ true) → refreshed w ≡ w
+refreshed_stands w stands = refreshed_holds w ∙ ap (λ (h : Holding). with_holding h w) (settling_stands is_fresh (up_ports w) (holding_of w) stands)
+
+fresh_at : (said old : Bool) → said ≡ true → old ≡ false → (said && not old) ≡ true
+fresh_at said old is young = λ i. is i && not (young i)
 
 -- what was sent leaves the own LSP and whether the numbers are spent
 second_spent : (v : BridgeView) → (step second v).spent ≡ (readied v).spent
@@ -141,9 +137,9 @@ seconds_stand_still v left was fresh same count many =
     let w : BridgeView = expired (counts_lowered v) in
     let id : LspId = own_id v.id.system in
     let f : Fell left v w = fell v left was fresh count in
-    let said : is_said w ≡ true = said_as w (f.body ∙ (sym same ∙ sym (expired_says v))) in
+    let said : is_said (holding_of w) ≡ true = says_both (body_of w) (own_entry w) f.live (f.body ∙ (sym same ∙ sym (expired_says v))) in
     let young : is_old (own_entry w) ≡ false = f.old ∙ lt-leb left 300 (omega (arith, many)) in
-    let stands : readied v ≡ w = refreshed_stands w said young in
+    let stands : readied v ≡ w = refreshed_stands w (λ fresh. fresh_at (is_said (holding_of w)) (is_old (own_entry w)) said young) in
     record {
       own =
           subst (IsLasting left (own_entry v)) (sym (second_own v))
@@ -153,26 +149,16 @@ seconds_stand_still v left was fresh same count many =
 
 -- ---- a second that originates
 
-renews_at : (spent said old : Bool) → spent ≡ false → (old ≡ true) ⊎ (said ≡ false) → (spent || (said && not old)) ≡ false
-renews_at true said old fresh why = absurd cc
-renews_at false true true fresh why = refl
-renews_at false false old fresh why = refl
-renews_at false true false fresh (inl old) = absurd cc
-renews_at false true false fresh (inr unsaid) = absurd cc
-
-refreshed_renews : (w : BridgeView) → w.spent ≡ false → (is_old (own_entry w) ≡ true) ⊎ (is_said w ≡ false) → refreshed w ≡ originating w
-unfolding refreshed
-refreshed_renews w fresh why =
-    when_false (w.spent || (is_said w && not (is_old (own_entry w)))) w (originating w) (renews_at w.spent (is_said w) (is_old (own_entry w)) fresh why)
-
-originating_renews : (w : BridgeView) → w.spent ≡ false → is_live (version_in (own_entry w)) ≡ true → own_sequence_number w < last_number
-    → (own_entry (originating w) ≡ Some (renewed (up_ports w) (own_of w) (own_sequence_number w + 1))) × ((originating w).spent ≡ w.spent)
-originating_renews w fresh live below =
+-- what doesn't stand goes one number further
+refreshed_renews : (w : BridgeView) → w.spent ≡ false → is_fresh (holding_of w) ≡ false → is_live (version_in (own_entry w)) ≡ true → own_sequence_number w < last_number
+    → (get (refreshed w).database (own_id w.id.system) ≡ Some (renewed (up_ports w) (own_of w) (own_sequence_number w + 1))) × ((refreshed w).spent ≡ w.spent)
+refreshed_renews w fresh stale live below =
     let up : PortSet = up_ports w in
     let h : Holding = holding_of w in
     let there : fits w.database (own_id w.id.system) ≡ true = fits_own w (present_by (version_in (own_entry w)) live) in (
-      originated_stands up h fresh there ∙ ap (λ b. Some (if b then renewed up h.own (own_sequence_number w + 1) else spent_entry up (own_sequence_number w) (own_entry w))) (lt-ltb (own_sequence_number w) last_number below),
-      ap (λ (own : Own). own.spent) (origination_is_not_spent up h below),
+      ap (λ (u : BridgeView). get u.database (own_id w.id.system)) (refreshed_holds w) ∙ settling_renews is_fresh up h fresh stale there below,
+      ap (λ (u : BridgeView). u.spent) (refreshed_holds w)
+          ∙ ap (λ (own : Own). own.spent) (settling_doesnt_spend is_fresh up h (own_below (own_sequence_number w) w.id.system w.database below (omega arith))),
     )
 
 -- an LSP without SSN flags is as it was after all was sent
@@ -197,12 +183,20 @@ renewed_as : (up other : PortSet) (x y : Own) (n m : ℕ) → up ≡ other → x
 renewed_as up other x y n m ups systems bodies numbers =
     λ i. renewed (ups i) (record { system = systems i; body = bodies i; spent = x.spent }) (numbers i)
 
-why_by : (v w : BridgeView) (left : ℕ) → Fell left v w → body_of w ≡ body_of (step second v) → (left ≤ 300) ⊎ (body_of (step second v) ≢ body_of v) → (is_old (own_entry w) ≡ true) ⊎ (is_said w ≡ false)
+as_said : (h : Holding) → is_said h ≡ true → body_in (own_held h) ≡ h.own.body
+as_said h is = (bytes_eq-Decides (body_in (own_held h)) h.own.body).0 (and_parts (is_live (version_in (own_held h))) (bytes_eq (body_in (own_held h)) h.own.body) is).1
+
+stale_at : (said old : Bool) → (old ≡ true) ⊎ (said ≡ false) → (said && not old) ≡ false
+stale_at true old (inl is) = ap not is
+stale_at false old (inl is) = refl
+stale_at said old (inr unsaid) = ap (λ b. b && not old) unsaid
+
+why_by : (v w : BridgeView) (left : ℕ) → Fell left v w → body_of w ≡ body_of (step second v) → (left ≤ 300) ⊎ (body_of (step second v) ≢ body_of v) → (is_old (own_entry w) ≡ true) ⊎ (is_said (holding_of w) ≡ false)
 why_by v w left f same (inl few) = inl (f.old ∙ le-leb left 300 few)
-why_by v w left f same (inr changed) = inr (by_test (is_said w) refl)
+why_by v w left f same (inr changed) = inr (by_test (is_said (holding_of w)) refl)
   where
-    by_test : (b : Bool) → is_said w ≡ b → is_said w ≡ false
-    by_test true is = absurd (changed (sym same ∙ (sym (as_said w is) ∙ f.body)))
+    by_test : (b : Bool) → is_said (holding_of w) ≡ b → is_said (holding_of w) ≡ false
+    by_test true is = absurd (changed (sym same ∙ (sym (as_said (holding_of w) is) ∙ f.body)))
     by_test false is = is
 
 why_less : (v : BridgeView) (left : ℕ) → lifetime_in (own_entry v) ≡ left + 1 → (lifetime_in (own_entry v) ≤ 301) ⊎ (body_of (step second v) ≢ body_of v) → (left ≤ 300) ⊎ (body_of (step second v) ≢ body_of v)
@@ -212,15 +206,14 @@ why_less v left count (inr changed) = inr changed
 renewing : (v : BridgeView) (left : ℕ) → IsSoundView v → v.spent ≡ false → own_sequence_number v < last_number → lifetime_in (own_entry v) ≡ left + 1 → (left ≤ 300) ⊎ (body_of (step second v) ≢ body_of v) → IsRenewed v (step second v)
 renewing v left was fresh below count why =
     let w : BridgeView = expired (counts_lowered v) in
-    let u : BridgeView = originating w in
     let id : LspId = own_id v.id.system in
     let f : Fell left v w = fell v left was fresh count in
-    let renews : readied v ≡ u = refreshed_renews w fresh (why_by v w left f (expired_says v) why) in
+    let stale : is_fresh (holding_of w) ≡ false = stale_at (is_said (holding_of w)) (is_old (own_entry w)) (why_by v w left f (expired_says v) why) in
     let number : own_sequence_number w ≡ own_sequence_number v = ap number_of f.lasts.version in
-    let made = originating_renews w fresh f.live (omega (arith, number, below)) in
+    let made = refreshed_renews w fresh stale f.live (omega (arith, number, below)) in
     let new : Entry = renewed (up_ports w) (own_of w) (own_sequence_number w + 1) in
     let held : get (after_sending_from 1 (readied v).ports (readied v).database) id ≡ Some new =
-    sending_keeps_from 1 (readied v).ports (readied v).database id new refl (ap (λ (x : BridgeView). get x.database id) renews ∙ made.0) in
+    sending_keeps_from 1 (readied v).ports (readied v).database id new refl made.0 in
     let system : w.id.system ≡ (step second v).id.system = ap (λ x. x.system) (sym (steps_keep_bridge second v).id) in
     record {
       own =
@@ -228,7 +221,7 @@ renewing v left was fresh below count why =
           ∙ (ap (λ (x : BridgeView). get x.database id) (tick_is v)
           ∙ (held
           ∙ ap (λ (e : Entry). Some e) (renewed_as (up_ports w) (up_ports (step second v)) (own_of w) (own_of (step second v)) (own_sequence_number w + 1) (own_sequence_number v + 1) (sym (up_second v)) system (expired_says v) (ap (λ n. n + 1) number))));
-      spent = second_spent v ∙ (ap (λ (x : BridgeView). x.spent) renews ∙ made.1);
+      spent = second_spent v ∙ made.1;
     }
 
 pub seconds_renew : SecondsRenew
@@ -240,34 +233,29 @@ seconds_renew v was fresh below why =
 
 -- ---- the last number
 
-originating_spends : (w : BridgeView) → w.spent ≡ false → is_live (version_in (own_entry w)) ≡ true → last_number ≤ own_sequence_number w
-    → (own_entry (originating w) ≡ Some (spent_entry (up_ports w) (own_sequence_number w) (own_entry w))) × ((originating w).spent ≡ true)
-unfolding originated
-originating_spends w fresh live past =
-    let up : PortSet = up_ports w in
-    let h : Holding = holding_of w in
+refreshed_spends : (w : BridgeView) → w.spent ≡ false → is_fresh (holding_of w) ≡ false → is_live (version_in (own_entry w)) ≡ true → last_number ≤ own_sequence_number w
+    → (get (refreshed w).database (own_id w.id.system) ≡ Some (spent_entry (up_ports w) (own_sequence_number w) (own_entry w))) × ((refreshed w).spent ≡ true)
+refreshed_spends w fresh stale live past =
     let there : fits w.database (own_id w.id.system) ≡ true = fits_own w (present_by (version_in (own_entry w)) live) in
-    let last : nat_lt (own_sequence_number w) last_number ≡ false = le-ltb (own_sequence_number w) last_number past in (
-      originated_stands up h fresh there ∙ ap (λ b. Some (if b then renewed up h.own (own_sequence_number w + 1) else spent_entry up (own_sequence_number w) (own_entry w))) last,
-      ap (λ b. (if b then h else originated_from up (own_entry w) h).own.spent) fresh ∙ ap (λ b. (if b then h.own else record h.own { spent = true }).spent) last,
-    )
+    let spends = settling_spends is_fresh (up_ports w) (holding_of w) fresh stale there past in
+    (ap (λ (u : BridgeView). get u.database (own_id w.id.system)) (refreshed_holds w) ∙ spends.0, ap (λ (u : BridgeView). u.spent) (refreshed_holds w) ∙ spends.1)
 
 spending : (v : BridgeView) (left : ℕ) → IsSoundView v → v.spent ≡ false → last_number ≤ own_sequence_number v → lifetime_in (own_entry v) ≡ left + 1 → (left ≤ 300) ⊎ (body_of (step second v) ≢ body_of v) → IsSpent v (step second v)
 spending v left was fresh past count why =
     let w : BridgeView = expired (counts_lowered v) in
     let id : LspId = own_id v.id.system in
     let f : Fell left v w = fell v left was fresh count in
-    let spends : readied v ≡ originating w = refreshed_renews w fresh (why_by v w left f (expired_says v) why) in
+    let stale : is_fresh (holding_of w) ≡ false = stale_at (is_said (holding_of w)) (is_old (own_entry w)) (why_by v w left f (expired_says v) why) in
     let number : own_sequence_number w ≡ own_sequence_number v = ap number_of f.lasts.version in
-    let made = originating_spends w fresh f.live (omega (arith, number, past)) in
+    let made = refreshed_spends w fresh stale f.live (omega (arith, number, past)) in
     let new : Option Entry = Some (spent_entry (up_ports w) (own_sequence_number w) (own_entry w)) in
     let held : but_for_ssn (get (step second v).database id) ≡ but_for_ssn new =
-    second_holds v id ∙ ap but_for_ssn (ap (λ (x : BridgeView). get x.database id) spends ∙ made.0) in
+    second_holds v id ∙ ap but_for_ssn made.0 in
     let dead : IsDead (own_sequence_number w) (up_ports w) (get (step second v).database id) =
     dead_same (get (step second v).database id) new held (own_sequence_number w) (up_ports w) (record { version = refl; lifetime = refl; body = refl; srm = refl }) in
     record {
       own = subst (IsDead (own_sequence_number v) (up_ports (step second v))) (sym (second_own v)) (subst (λ n. IsDead n (up_ports (step second v)) (get (step second v).database id)) number (subst (λ (up : PortSet). IsDead (own_sequence_number w) up (get (step second v).database id)) (sym (up_second v)) dead));
-      spent = second_spent v ∙ (ap (λ (x : BridgeView). x.spent) spends ∙ made.1);
+      spent = second_spent v ∙ made.1;
     }
 
 pub seconds_spend : SecondsSpend
@@ -277,15 +265,11 @@ seconds_spend v was fresh past why =
     let count : lifetime_in (own_entry v) ≡ left + 1 = omega (arith, alive.1) in
     spending v left was fresh past count (why_less v left count why)
 
-refreshed_spent : (w : BridgeView) → w.spent ≡ true → refreshed w ≡ w
-unfolding refreshed
-refreshed_spent w spent = ap (λ b. if b || (is_said w && not (is_old (own_entry w))) then w else originating w) spent
-
 pub spent_stands_still : SpentStandsStill
 spent_stands_still v spent =
     let w : BridgeView = expired (counts_lowered v) in
     let id : LspId = own_id v.id.system in
-    let stands : readied v ≡ w = refreshed_spent w spent in (
+    let stands : readied v ≡ w = refreshed_stands w (λ fresh. absurd (true≢false (sym spent ∙ fresh))) in (
       subst (AgedFrom (own_entry v)) (sym (second_own v))
           (aged_same _ _ (second_holds v id ∙ ap but_for_ssn (ap (λ (u : BridgeView). get u.database id) stands ∙ expired_holds v id)) (own_entry v) (older_ages (up_ports (counts_lowered v)) (leaving_from 1 v.ports) (own_entry v))),
       second_spent v ∙ (ap (λ (u : BridgeView). u.spent) stands ∙ spent),

@@ -1,5 +1,5 @@
 //! What every step of a bridge keeps, whatever comes to it. Each is the contract of a function that does nothing.
-ghost use Rattle.bridge_api.specs.Laws.{ConfiguredIsSound, ConfiguredHasNoCarrier, ConfiguredHoldsOwn, SoundCanSay, StepsStaySound, StepsKeepBridge, StepsKeepCarrier, StepsKeepNeighbours, SentIsSound, OneHello, HellosAreHeard, SentWithCarrier, EnteringUpIsWhole, UpPortsAreUp, StepsCarryDatabase, NeighboursComeUp, SomeBridge};
+ghost use Rattle.bridge_api.specs.Laws.{ConfiguredIsSound, ConfiguredHasNoCarrier, ConfiguredHoldsOwn, SoundCanSay, StepsStaySound, StepsKeepBridge, StepsKeepCarrier, StepsKeepNeighbours, SentIsSound, OneHello, HellosAreHeard, SentWithCarrier, LspSettlesNothing, CsnpSettlesNothing, PsnpSettlesNothing, EnteringUpIsWhole, UpPortsAreUp, StepsCarryDatabase, NeighboursComeUp, SomeBridge};
 ghost use Rattle.bridge_laws.specs.Apart.{SentHasEntered, LeftHasEntered, ConfiguredIsPlaced, StepsKeepPlaces};
 ghost use Rattle.bridge_api.specs.Duties.{SecondsServe, SecondsLeaveNothingDue};
 ghost use Rattle.bridge_laws.specs.Few.{ConfiguredHoldsFew, StepsHoldFew, SecondsSendFew};
@@ -19,6 +19,13 @@ pub fn bridges_are_sound()
     ensures own { ConfiguredHoldsOwn }
     ensures says { SoundCanSay }
     ensures steps { StepsStaySound }
+{}
+
+/// What a sound bridge hears in LSPs and sequence numbers PDUs leaves it nothing to originate.
+pub fn hearing_settles_nothing()
+    ensures lsp { LspSettlesNothing }
+    ensures csnp { CsnpSettlesNothing }
+    ensures psnp { PsnpSettlesNothing }
 {}
 
 /// A bridge keeps its ids, its VIDs, and its ports; the metric and the carrier of a port change by setting the metric

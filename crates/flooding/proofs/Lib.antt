@@ -12,3 +12,6 @@ pub mod AllEntries
 pub mod SendableEntries
 pub mod FlagEntries
 pub mod Named
+pub mod OwnNumbers
+pub mod Settled
+pub mod Current

@@ -95,13 +95,13 @@ KeepsHeld rule = (r : Relation) (old new : Entry) → is_beyond r ≡ false → 
 same_fields : (old : Entry) (srm ssn : PortSet) → IsKept old (with_flags srm ssn old)
 same_fields old srm ssn = record { version = refl; lifetime = refl; body = refl }
 
-lsp_rule_keeps : (up : PortSet) (port : ℕ) (l : LspValue) → KeepsHeld (lsp_rule up port l)
+pub lsp_rule_keeps : (up : PortSet) (port : ℕ) (l : LspValue) → KeepsHeld (lsp_rule up port l)
 lsp_rule_keeps up port l Older old new within is = kept_at old (offered port old) new (same_fields old _ _) is
 lsp_rule_keeps up port l Equal old new within is = kept_at old _ new (spared_is_kept (acked port) old (is_absent old.version) (same_fields old _ _)) is
 lsp_rule_keeps up port l Newer old new within is = absurd (cc)
 lsp_rule_keeps up port l Confused old new within is = absurd (cc)
 
-snp_rule_keeps : (up : PortSet) (port : ℕ) (a : Version) → KeepsHeld (snp_rule up port a)
+pub snp_rule_keeps : (up : PortSet) (port : ℕ) (a : Version) → KeepsHeld (snp_rule up port a)
 snp_rule_keeps up port a Older old new within is = kept_at old (offered port old) new (same_fields old _ _) is
 snp_rule_keeps up port a Equal old new within is = kept_at old _ new (spared_is_kept (cleared port) old (is_absent old.version) (same_fields old _ _)) is
 snp_rule_keeps up port a Newer old new within is = absurd (cc)
@@ -122,10 +122,10 @@ own_entry_by rule keeps up own id a r old new true beyond mine below is =
 own_entry_by rule keeps up own id a r old new false within mine below is = own_entry_of up own a old new (keeps r old new within is)
 
 -- the own id has the own system
-system_mine : (own : Own) (id : LspId) → id ≡ own_id own.system → same_system id.system own.system ≡ true
+pub system_mine : (own : Own) (id : LspId) → id ≡ own_id own.system → same_system id.system own.system ≡ true
 system_mine own id is = subst (λ (x : LspId). same_system x.system own.system ≡ true) (sym is) ((bytes_eq-Decides own.system.mac.bytes own.system.mac.bytes).1 refl)
 
-mine_is : (own : Own) (id : LspId) → id ≡ own_id own.system → is_originated own.system id ≡ true
+pub mine_is : (own : Own) (id : LspId) → id ≡ own_id own.system → is_originated own.system id ≡ true
 mine_is own id is = subst (λ (x : LspId). is_originated own.system x ≡ true) (sym is) (ap (λ b. b && true) ((bytes_eq-Decides own.system.mac.bytes own.system.mac.bytes).1 refl))
 
 leaves_own : (rule : Rule) → KeepsHeld rule → SaysOfHeld rule → (up : PortSet) (c : Claim) (h : Holding) (old new : Entry) → c.id ≡ own_id h.own.system → number_of c.version < last_number

@@ -3,6 +3,8 @@ pub mod Own
 pub mod Hearing
 pub mod Origination
 pub mod Placing
+pub mod Settling
 pub mod Sending
 pub mod Entries
 pub mod Laws
+pub mod SettlingLaws

@@ -33,6 +33,11 @@ pub record IsOwnNumber (system : SystemId) (id : LspId) : Type 0 where
   pub below : number < own_numbers
   pub is : id ≡ own_number system number
 
+-- whether an id is one of those
+abbrev pub is_own_number : SystemId → LspId → Bool
+is_own_number system id =
+    same_system id.system system && ((id.pseudonode == 0) && nat_lt id.number own_numbers)
+
 -- whether an id is the one that a system originates
 abbrev pub is_originated : SystemId → LspId → Bool
 is_originated system id = same_system id.system system && ((id.pseudonode == 0) && (id.number == 0))

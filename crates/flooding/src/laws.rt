@@ -1,6 +1,7 @@
 //! The laws of flooding. Each is the contract of a function that does nothing.
 ghost use Rattle.std.specs.Prelude.{◌≡◌};
 ghost use Rattle.flooding.specs.Laws.{HearingLspIsCertified, HearingEntryIsCertified, AnsweringIsCertified, OriginationIsCertified, OthersStand, LspStands, EntryStands, FullStands, FittingIsNotFull, HeardIsAtMostHeld, StoredFlags, FloodedFlags, AskedFlags, AckedFlags, ClearedFlags, OfferedFlags, FlaggedFlags, SetSrmFlags, ClearedPortFlags, AgedFlags, ExpiredFlags, SpentFlags, OwnStands, OwnIsNotSpent, LspLeavesOwn, EntryLeavesOwn, LspLeavesOwnBody, EntryLeavesOwnBody, OriginationLeavesOwnBody, OriginatedStands, OriginationLeavesOthers, OriginationLeavesOwn, OriginationIsNotSpent, IdsNameLsps, SentIsHeld, SentIsRead, ReadIsWhole, ClaimIsNumbered, LspKeepsSendable, EntryKeepsSendable, OriginationKeepsSendable, AgeingKeepsSendable, FlagsKeepSendable, LspKeepsFlags, EntryKeepsFlags, OriginationKeepsFlags};
+ghost use Rattle.flooding.specs.SettlingLaws.{SettlingIsCertified, SettlingStands, SettlingLeavesOthers, SettlingLeavesOwn, SettlingLeavesOwnBody, SettlingGoesOneFurther, SettlingDoesntSpend, SettlingBringsFew, SettlingKeepsSendable, SettlingKeepsFlags, SettlingKeepsSilence, SettlingRenews, SettlingSpends, SettledIsCurrent, FreshIsCurrent, CurrentIsSettled, LspKeepsCurrent, EntryKeepsCurrent};
 ghost use Rattle.flooding.specs.declared.origination.TheConstants.{MAX_AGE};
 
 /// What is heard at an Up port, answered and originated is a certified step.
@@ -53,6 +54,39 @@ pub fn the_own_lsp_is_kept_or_renewed()
     ensures others { OriginationLeavesOthers }
     ensures still_own { OriginationLeavesOwn }
     ensures still_not_spent { OriginationIsNotSpent }
+{}
+
+/// Bringing own LSPs up to date changes no other LSP, and nothing where they stand or the system is spent. It takes each
+/// one number further at most, with the present body, or makes it dead at the last number.
+pub fn settling_changes_own_lsps_alone()
+    ensures stands { SettlingStands }
+    ensures others { SettlingLeavesOthers }
+    ensures own { SettlingLeavesOwn }
+    ensures further { SettlingGoesOneFurther }
+    ensures not_spent { SettlingDoesntSpend }
+    ensures few { SettlingBringsFew }
+    ensures renews { SettlingRenews }
+    ensures spends { SettlingSpends }
+{}
+
+/// Bringing own LSPs up to date is a certified step, after which the LSPs that are held can be sent, flags stand at Up
+/// ports, and no more is to be acknowledged or asked for.
+pub fn settling_keeps_what_steps_keep()
+    ensures certified { SettlingIsCertified }
+    ensures body { SettlingLeavesOwnBody }
+    ensures sendable { SettlingKeepsSendable }
+    ensures flags { SettlingKeepsFlags }
+    ensures silence { SettlingKeepsSilence }
+{}
+
+/// After it was brought up to date the own LSP is live with the present body for 301 to 1,200 seconds more, unless the
+/// system is spent. What is heard keeps it so, and then it stands.
+pub fn own_lsps_are_current()
+    ensures settled { SettledIsCurrent }
+    ensures fresh { FreshIsCurrent }
+    ensures still { CurrentIsSettled }
+    ensures lsp { LspKeepsCurrent }
+    ensures entry { EntryKeepsCurrent }
 {}
 
 /// Under an id of the own system no body comes to stand but the present one of the system, or that of a dead LSP.

@@ -12,6 +12,7 @@ pub use origination::originate;
 pub use own::Own;
 pub use rules::{acknowledge, offer};
 pub use send::{lsp_of, to_send, write_held};
+pub use settling::{keep_fresh, settle};
 
 mod error;
 mod hear;
@@ -21,3 +22,4 @@ mod own;
 mod put;
 mod rules;
 mod send;
+mod settling;

@@ -32,6 +32,7 @@ use Rattle.network_model.specs.State.{State, links_of}
 use Rattle.spb_world.specs.Links.{far_end, lane_out}
 use Rattle.network_model.specs.Counted.{IsCopy, is_held, is_said, IsWeak}
 use Rattle.spb_world.proofs.BoxLemmas.{All-get}
+use Rattle.flooding.proofs.OwnNumbers.{not_own}
 use Rattle.network_model.proofs.BridgeLaws.{sent_is_sound, seconds_age, steps_learn_versions}
 use Rattle.network_model.proofs.FitsLemmas.{link_there, far_is_port}
 use Rattle.network_model.proofs.SoundLane.{some-is, moved, sent_by, AreInputs, named}
@@ -161,7 +162,7 @@ module _ (aging : Bool) (views : List BridgeView) (lanes : List LinkLanes) (id :
   -- at a bridge of another system
   other_stems : (links : List DeclaredLink) (j : ℕ) (u : BridgeView) (o : Option Input) (a : Version) → slice_get views j ≡ Some u → id.system ≢ u.id.system → (o ≡ Some second → aging ≡ true) → ((p : ℕ) (f : Frame) → o ≡ Some (frame p f) → Comes links lanes j p f) → version_at (moved o u).database id ≡ a → Stems aging views lanes id own a
   other_stems links j u None a at apart ages comes is = was (is_held j u at is)
-  other_stems links j u (Some second) a at apart ages comes is = aged_stems j u a at (ages refl) (seconds_age u id (λ e. apart (ap (λ (y : LspId). y.system) e))) is
+  other_stems links j u (Some second) a at apart ages comes is = aged_stems j u a at (ages refl) (seconds_age u id (not_own u.id.system id apart)) is
   other_stems links j u (Some (frame p f)) a at apart ages comes is =
       learned_stems j u (frame p f) (version_at (step (frame p f) u).database id) a at (λ b claimed. claims_are_copies links views lanes j (frame p f) id b (λ q g e. comes q g (ap (λ (y : Input). Some y) e)) claimed) (steps_learn_versions (frame p f) u id apart (λ e. absurd cc)) is
   other_stems links j u (Some (carrier p on)) a at apart ages comes is =

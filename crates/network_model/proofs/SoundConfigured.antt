@@ -1,6 +1,6 @@
 -- A bridge that was just configured; and one of a single port, which gets a metric and carrier and sends a hello.
-use Rattle.std.proofs.Common.{◌≡◌, ℕ, Bool, true, false, List, [], ◌∷◌, Option, Some, None, inl, inr, refl, sym, subst, ap, ◌∙◌}
-use Rattle.std.specs.Prelude.{slice_set, map, if◌then◌else◌}
+use Rattle.std.proofs.Common.{◌≡◌, ℕ, true, false, List, [], ◌∷◌, Option, Some, None, inl, inr, refl, sym, subst, ap, ◌∙◌}
+use Rattle.std.specs.Prelude.{slice_set, map}
 use Rattle.std.specs.Option.{option_and_then}
 use Rattle.isis_pdu.specs.Pdu.{HelloValue}
 use Rattle.spb_tlvs.specs.declared.three_way.ThreeWay.{ThreeWay}
@@ -39,17 +39,13 @@ configured_attached c = originating_attached (bare c)
 
 -- ---- the ports
 
-ports_if : (b : Bool) (v w : BridgeView) → w.ports ≡ v.ports → (if b then v else w).ports ≡ v.ports
-ports_if true v w same = refl
-ports_if false v w same = same
-
 pub originated_if_changed_ports : (v : BridgeView) → (originated_if_changed v).ports ≡ v.ports
 unfolding originated_if_changed
-originated_if_changed_ports v = ports_if _ v (originating v) refl
+originated_if_changed_ports v = refl
 
 refreshed_ports : (v : BridgeView) → (refreshed v).ports ≡ v.ports
 unfolding refreshed
-refreshed_ports v = ports_if _ v (originating v) refl
+refreshed_ports v = refl
 
 configured_ports : (c : BridgeConfig) → (configured c).ports ≡ map port_without_carrier c.metrics
 unfolding configured

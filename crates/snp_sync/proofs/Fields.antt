@@ -22,9 +22,10 @@ use Rattle.flooding.specs.Hearing.{Holding, claim_of, body_of, unless_absent, wa
 use Rattle.flooding.specs.Origination.{next_entry, spent_entry}
 use Rattle.flooding.proofs.Heard.{number-claimed}
 use Rattle.flooding.proofs.AllEntries.{all_after_claim, all_originated}
-use Rattle.snp_sync.specs.Sized.{IsLspId, IsSized, IsSizedEntry}
+use Rattle.flooding.proofs.Settled.{settling_keeps}
+use Rattle.snp_sync.specs.Sized.{IsLspId, IsSized, AreSized, IsSizedEntry}
 use Rattle.snp_sync.specs.Hearing.{claim_in, claims_in, hear_entries_of, ids_of, is_missed, flag_if}
-use Rattle.snp_sync.specs.HearingLaws.{EntriesKeepSized, CsnpKeepsSized, LspKeepsSized, OriginationKeepsSized, AgeingKeepsSized, FlagsKeepSized}
+use Rattle.snp_sync.specs.HearingLaws.{EntriesKeepSized, CsnpKeepsSized, LspKeepsSized, OriginationKeepsSized, SettlingKeepsSized, AgeingKeepsSized, FlagsKeepSized}
 use Rattle.snp_sync.proofs.Stays.{all_each}
 
 -- ---- entries made anew
@@ -155,6 +156,9 @@ origination_keeps_sized up h named all =
     let id = own_id h.own.system in
     let held = get h.db id in
     all_originated IsSized up h all (next_sized up h.own (number_of (version_in held)) held named (number_sized id held (λ e at. all id e at)))
+
+pub settling_keeps_sized : SettlingKeepsSized
+settling_keeps_sized stands up h named all = settling_keeps (λ g. AreSized g.db) stands up h all (origination_keeps_sized up h named all)
 
 aged_by : (up : PortSet) (id : LspId) (e : Entry) (v : Version) → e.version ≡ v → IsSized id e → IsSized id (aged_at up e v)
 aged_by up id e Absent is s = s

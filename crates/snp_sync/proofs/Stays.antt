@@ -16,17 +16,19 @@ use Rattle.lsdb.specs.Entry.{Entry}
 use Rattle.lsdb.specs.Database.{Lsps, each}
 use Rattle.lsdb.proofs.LookupLemmas.{get-each}
 use Rattle.flooding.specs.declared.own.Own.{Own}
-use Rattle.flooding.specs.Own.{tlvs_of_body, body_in}
+use Rattle.flooding.specs.Own.{own_id, tlvs_of_body, body_in}
 use Rattle.flooding.specs.Hearing.{Holding, snp_rule, hear_entry_of}
+use Rattle.flooding.specs.Settling.{IsLspCurrent}
 use Rattle.flooding.specs.Entries.{AllEntries, IsSendable, HasFlagsAt}
 use Rattle.flooding.specs.Laws.{IsOwnBody, stays, renews, ends}
 use Rattle.flooding.proofs.Owns.{own_stands, own_is_not_spent}
 use Rattle.flooding.proofs.OwnBodies.{entry_leaves_own_body}
+use Rattle.flooding.proofs.Current.{entry_keeps_current}
 use Rattle.flooding.proofs.SendableEntries.{claim_is_numbered, entry_keeps_sendable, flags_sendable}
 use Rattle.flooding.proofs.FlagEntries.{entry_keeps_flags}
 use Rattle.snp_sync.specs.Ids.{is_between}
 use Rattle.snp_sync.specs.Hearing.{hear_entries_of, ids_of, is_among, is_missed, flag_if, hear_csnp_of}
-use Rattle.snp_sync.specs.HearingLaws.{EntriesLeaveOwn, EntriesDontSpend, EntriesLeaveOwnBody, CsnpLeavesOwnBody, ClaimsAreNumbered, EntriesKeepSendable, CsnpKeepsSendable, EntriesKeepFlags, CsnpKeepsFlags}
+use Rattle.snp_sync.specs.HearingLaws.{EntriesLeaveOwn, EntriesDontSpend, EntriesLeaveOwnBody, CsnpLeavesOwnBody, EntriesKeepCurrent, CsnpKeepsCurrent, ClaimsAreNumbered, EntriesKeepSendable, CsnpKeepsSendable, EntriesKeepFlags, CsnpKeepsFlags}
 
 -- ---- the own LSP
 
@@ -74,6 +76,26 @@ csnp_leaves_own_body up port start end claims h id mine =
     ap body_in (get-each (λ x e. flag_if (missed x e) port e) heard.db id) ∙ flagged_body port (missed id) (get heard.db id) in
     body_after h.own h.own (get h.db id) (get heard.db id) (get (hear_csnp_of up port start end claims h).db id) refl
     (entries_leave_own_body up port claims h id mine) (stays same)
+
+pub entries_keep_current : EntriesKeepCurrent
+entries_keep_current up port [] h is = is
+entries_keep_current up port (c ∷ claims) h is = entries_keep_current up port claims (hear_entry_of up port c h) (entry_keeps_current up port c h is)
+
+flag_current : (body : List ℕ) (port : ℕ) (e : Entry) (b : Bool) → IsLspCurrent body (Some e) → IsLspCurrent body (Some (flag_if b port e))
+flag_current body port e true is = is
+flag_current body port e false is = is
+
+flagged_current : (body : List ℕ) (port : ℕ) (missed : Entry → Bool) (o : Option Entry) → IsLspCurrent body o → IsLspCurrent body (option_map (λ e. flag_if (missed e) port e) o)
+flagged_current body port missed None is = is
+flagged_current body port missed (Some e) is = flag_current body port e (missed e) is
+
+pub csnp_keeps_current : CsnpKeepsCurrent
+csnp_keeps_current up port start end claims h is fresh =
+    let heard : Holding = hear_entries_of up port claims h in
+    let missed : LspId → Entry → Bool = is_missed start end (ids_of claims) in
+    let id : LspId = own_id heard.own.system in
+    subst (IsLspCurrent heard.own.body) (sym (get-each (λ x e. flag_if (missed x e) port e) heard.db id))
+    (flagged_current heard.own.body port (missed id) (get heard.db id) (entries_keep_current up port claims h is fresh))
 
 -- ---- every entry
 

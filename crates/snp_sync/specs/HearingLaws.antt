@@ -18,6 +18,7 @@ use Rattle.lsdb.specs.Certificate.{Claim, Certificate}
 use Rattle.flooding.specs.Own.{last_number, own_id}
 use Rattle.flooding.specs.Hearing.{Holding, hear_lsp_of, hear_entry_of, is_full_for_entry}
 use Rattle.flooding.specs.Origination.{originated}
+use Rattle.flooding.specs.Settling.{Test, settled_by, AreCurrent}
 use Rattle.flooding.specs.Entries.{IsNumbered, AreSendable, HaveFlagsAt}
 use Rattle.flooding.specs.Laws.{control, HasBody, IsOwnBody}
 use Rattle.snp_sync.specs.Sized.{IsLspId, IsSized, AreSized, IsSizedEntry}
@@ -99,6 +100,15 @@ CsnpLeavesOwnBody = (up : PortSet) (port : ℕ) (start end : LspId) (claims : Li
 
 -- ---- what every entry keeps
 
+-- whatever is heard, the own LSP of a system that isn't spent stays current
+abbrev pub EntriesKeepCurrent : Type 0
+EntriesKeepCurrent = (up : PortSet) (port : ℕ) (claims : List Claim) (h : Holding) → AreCurrent h
+    → AreCurrent (hear_entries_of up port claims h)
+
+abbrev pub CsnpKeepsCurrent : Type 0
+CsnpKeepsCurrent = (up : PortSet) (port : ℕ) (start end : LspId) (claims : List Claim) (h : Holding) → AreCurrent h
+    → AreCurrent (hear_csnp_of up port start end claims h)
+
 -- what an entry claims has a number, unless it is absent
 abbrev pub ClaimsAreNumbered : Type 0
 ClaimsAreNumbered = (e : SnpEntry) → IsNumbered (claim_in e).version
@@ -137,11 +147,17 @@ abbrev pub LspKeepsSized : Type 0
 LspKeepsSized = (up : PortSet) (port : ℕ) (l : LspValue) (h : Holding) → IsId l.id.system → HasFields (lsp l)
     → AreSized h.db → AreSized (hear_lsp_of up port l h).db
 
--- after an origination and a second, and with other flags
+-- after an origination
 abbrev pub OriginationKeepsSized : Type 0
 OriginationKeepsSized = (up : PortSet) (h : Holding) → IsLspId (own_id h.own.system) → AreSized h.db
     → AreSized (originated up h).db
 
+-- after own LSPs were brought up to date
+abbrev pub SettlingKeepsSized : Type 0
+SettlingKeepsSized = (stands : Test) (up : PortSet) (h : Holding) → IsLspId (own_id h.own.system) → AreSized h.db
+    → AreSized (settled_by stands up h).db
+
+-- after a second, and with other flags
 abbrev pub AgeingKeepsSized : Type 0
 AgeingKeepsSized = (up : PortSet) (id : LspId) (e : Entry) → IsSized id e → IsSized id (aged up e)
 

@@ -1,5 +1,5 @@
 //! The laws of sequence numbers PDUs. Each is the contract of a function that does nothing.
-ghost use Rattle.snp_sync.specs.HearingLaws.{EntriesAreCertified, CsnpIsCertified, UnnamedStands, LastClaimStands, EntryIsServed, CsnpStands, MissedIsSent, EntriesLeaveOwn, EntriesDontSpend, EntriesLeaveOwnBody, CsnpLeavesOwnBody, ClaimsAreNumbered, EntriesKeepSendable, CsnpKeepsSendable, EntriesKeepFlags, CsnpKeepsFlags, EntriesKeepSized, CsnpKeepsSized, LspKeepsSized, OriginationKeepsSized, AgeingKeepsSized, FlagsKeepSized};
+ghost use Rattle.snp_sync.specs.HearingLaws.{EntriesAreCertified, CsnpIsCertified, UnnamedStands, LastClaimStands, EntryIsServed, CsnpStands, MissedIsSent, EntriesLeaveOwn, EntriesDontSpend, EntriesLeaveOwnBody, CsnpLeavesOwnBody, EntriesKeepCurrent, CsnpKeepsCurrent, ClaimsAreNumbered, EntriesKeepSendable, CsnpKeepsSendable, EntriesKeepFlags, CsnpKeepsFlags, EntriesKeepSized, CsnpKeepsSized, LspKeepsSized, OriginationKeepsSized, SettlingKeepsSized, AgeingKeepsSized, FlagsKeepSized};
 ghost use Rattle.snp_sync.specs.SendingLaws.{SuccessorIsNext, SuccessorIsId, EntryClaimsWhatIsHeld, RangesCoverOnce, CsnpChunksListTheirRanges, CsnpChunksAreShort, CsnpChunksEndAtIds, CsnpChunksClaimWhatIsHeld, CsnpChunksListWhatIsHeld, CsnpIsRead, EntriesAreRead, CsnpEntriesAreRead, CsnpEntriesAreSized, PsnpChunksAreWhole, PsnpChunksAreShort, PsnpChunksClaimWhatIsHeld, PsnpChunksListWhatIsHeld, PsnpIsRead, PsnpEntriesAreRead, PsnpEntriesAreSized, SsnIsCleared, ClearingSsnIsCertified};
 
 /// No LSP id lies between an id and its successor.
@@ -62,12 +62,15 @@ pub fn the_sender_is_served()
 {}
 
 /// Entries that are heard leave the system and its present body as they are, and below the last number they don't spend
-/// it. Under its ids no body comes to stand by entries or a CSNP but its own, or that of a dead LSP.
+/// it. Under its ids no body comes to stand by entries or a CSNP but its own, or that of a dead LSP. While it isn't spent, its own
+/// LSP stays current.
 pub fn hearing_leaves_the_own_lsp()
     ensures stands { EntriesLeaveOwn }
     ensures not_spent { EntriesDontSpend }
     ensures body { EntriesLeaveOwnBody }
     ensures csnp_body { CsnpLeavesOwnBody }
+    ensures current { EntriesKeepCurrent }
+    ensures csnp_current { CsnpKeepsCurrent }
 {}
 
 /// After entries or a CSNP were heard at an Up port, each LSP that is held can still be written and is read again, and
@@ -86,6 +89,7 @@ pub fn entries_stay_writable()
     ensures csnp { CsnpKeepsSized }
     ensures lsp { LspKeepsSized }
     ensures origination { OriginationKeepsSized }
+    ensures settling { SettlingKeepsSized }
     ensures ageing { AgeingKeepsSized }
     ensures flags { FlagsKeepSized }
 {}

@@ -1,36 +1,27 @@
 use Rattle.std.proofs.Common.{ap, ◌∙◌}
-use Rattle.std.proofs.lemmas.Result.{on_ok_weaker}
 use Rattle.spb_types.specs.declared.drop_reason.DropReason.TheVariants as drop
 use Rattle.bridge_api.specs.Drops.{raised_at}
 use Rattle.isis_pdu.specs.Pdu.{csnp_of}
 use Rattle.flooding.specs.Placing.{holding}
 use Rattle.snp_sync.specs.Hearing.{claims_in, hear_csnp_of}
-use Rattle.bridge_control.proofs.Owning.{some_body, after_same}
-use Rattle.bridge_control.proofs.Heeding.{csnp_heard, heard_can, heard_current, heard_csnp_path}
+use Rattle.bridge_control.proofs.Owning.{some_body}
+use Rattle.bridge_control.proofs.Heeding.{csnp_heard, heard_current, heard_csnp_path}
 use Rattle.bridge_control.proofs.machine.Machine.hear_listed.Goals as goal
 
 pub hear_csnp-requires-clause-body : goal.hear_csnp-requires-clause-body
 hear_csnp-requires-clause-body c = some_body c.args.self.now c.requires.ready.current
 
-pub originate_if_changed-requires-clause-can : goal.originate_if_changed-requires-clause-can
-originate_if_changed-requires-clause-can c =
-    let m = c.args.self.now in
-    let up = m.up in
-    let csnp = csnp_of c.args.csnp.now in
-    let claims = claims_in c.args.entries.now in
-    heard_can m (hear_csnp_of up c.args.port csnp.start csnp.end claims (holding m.db m.own)) c.hear_csnp.new.db c.hear_csnp.new.own c.raise_times.new.self c.requires.ready (csnp_heard m up c.args.port csnp.start csnp.end claims c.requires.ready) c.in_ok-full.ensures.heard
-
-pub originate_if_changed-requires-clause-current : goal.originate_if_changed-requires-clause-current
-originate_if_changed-requires-clause-current c =
-    let m = c.args.self.now in
-    let up = m.up in
-    let csnp = csnp_of c.args.csnp.now in
-    let claims = claims_in c.args.entries.now in
-    heard_current m (hear_csnp_of up c.args.port csnp.start csnp.end claims (holding m.db m.own)) c.hear_csnp.new.db c.hear_csnp.new.own c.raise_times.new.self c.requires.ready (csnp_heard m up c.args.port csnp.start csnp.end claims c.requires.ready) c.in_ok-full.ensures.heard
-
 pub returns : goal.returns
 returns c =
     let m = c.args.self.now in
-    on_ok_weaker c.originate_if_changed.result
-    (after_same _ _ c.originate_if_changed.new.self (heard_csnp_path m m.up c.args.port (csnp_of c.args.csnp.now) c.args.entries.now c.hear_csnp.new.db c.hear_csnp.new.own c.raise_times.new.self c.requires.ready c.requires.ready.current.ports.up c.in_ok-full.ensures.heard (c.raise_times.ensures ∙ ap (λ n. raised_at drop.Full n m.drops) c.in_ok-full.ensures.full)))
-    c.originate_if_changed.ensures
+    let up = m.up in
+    let csnp = csnp_of c.args.csnp.now in
+    let claims = claims_in c.args.entries.now in
+    let db = c.hear_csnp.new.db in
+    let own = c.hear_csnp.new.own in
+    let drops = c.raise_times.new.self in
+    record {
+      view = heard_csnp_path m up c.args.port csnp c.args.entries.now db own drops c.requires.ready c.requires.ready.current.ports.up c.in_ok-full.ensures.heard
+          (c.raise_times.ensures ∙ ap (λ n. raised_at drop.Full n m.drops) c.in_ok-full.ensures.full);
+      current = heard_current m (hear_csnp_of up c.args.port csnp.start csnp.end claims (holding m.db m.own)) db own drops c.requires.ready (csnp_heard m up c.args.port csnp.start csnp.end claims c.requires.ready) c.in_ok-full.ensures.heard;
+    }

@@ -1,15 +1,9 @@
-use Rattle.std.proofs.Common.{sym}
-use Rattle.bridge_control.proofs.Owning.{refreshed_spent, refreshed_idle, refreshed_anew}
+use Rattle.std.proofs.lemmas.Result.{on_ok_weaker}
+use Rattle.bridge_control.proofs.Owning.{some_body, kept_fresh_after}
 use Rattle.bridge_control.proofs.machine.Machine.refresh.Goals as goal
-use Rattle.bridge_control.proofs.machine.Machine.refresh.Goals.{then-self-via-then-self, then-self-via-else-self+then-stands}
 
-pub returns-then-self-clause-after : goal.returns-then-self-clause-after
-returns-then-self-clause-after c =
-    elim c.then-self.branch [
-      | then-self-via-then-self w ↦ refreshed_spent c.args.self.now c.requires.current w.if-self.true
-      | then-self-via-else-self+then-stands w ↦ refreshed_idle c.args.self.now c.requires.current (sym w.if-stands.ensures)
-    ]
+pub keep_fresh-requires-clause-body : goal.keep_fresh-requires-clause-body
+keep_fresh-requires-clause-body c = some_body c.args.self.now c.requires.current
 
 pub returns-clause-after : goal.returns-clause-after
-returns-clause-after c =
-    refreshed_anew c.args.self.now c.originate.new.self c.if-self.false (sym c.if-stands.ensures) c.in_ok-originate.ensures
+returns-clause-after c = on_ok_weaker c.keep_fresh.result (kept_fresh_after c.args.self.now c.args.self.now.up c.keep_fresh.new.db c.keep_fresh.new.own c.requires.current c.requires.current.ports.up) c.keep_fresh.ensures.after
