@@ -15,7 +15,8 @@
 pub use content::{Content, Inst, read_content};
 pub use graph::{graph_of, said_graph_of};
 pub use laws::{
-    content_again, content_fits, lists_ascend, order_says_nothing, same_content_is_written_alike,
+    content_again, content_fits, few_are_one, fragments_are_first, fragments_are_read,
+    fragments_fit, lists_ascend, order_says_nothing, same_content_is_written_alike,
 };
 pub use local::{AREAS_AND_PROTOCOLS, BridgeConfigFacts, Local, content_of};
 
