@@ -19,6 +19,7 @@ pub mod Joined
 pub mod Whole
 pub mod Uncut
 pub mod Pairs
+pub mod SortedPairs
 pub mod Listed
 pub mod Parts
 pub mod Told
