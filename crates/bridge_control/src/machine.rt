@@ -1,8 +1,9 @@
 //! What a configured bridge keeps, and its own LSP.
-ghost use Rattle.std.specs.Prelude.{◌≡◌, ◌≤◌, true, false, length, IfOk, OnOk};
-ghost use Rattle.spb_content.specs.Local.{IsLocal};
-ghost use Rattle.flooding.specs.Placing.{holding};
-ghost use Rattle.flooding.specs.Settling.{is_said};
+ghost use Rattle.std.specs.Prelude.{◌≡◌, ◌≤◌, ◌&&◌, true, false, not, length, IfOk, OnOk};
+ghost use Rattle.std.specs.Str.{bytes_eq};
+ghost use Rattle.std.specs.FinMap.{get};
+ghost use Rattle.spb_content.specs.Local.{IsLocal, content_bytes};
+ghost use Rattle.flooding.specs.Own.{own_id};
 ghost use Rattle.bridge_api.specs.Config as config_specs;
 ghost use Rattle.bridge_api.specs.Ticking as ticking;
 ghost use Rattle.bridge_api.specs.Own as api;
@@ -159,7 +160,7 @@ impl Machine {
         ensures { IfOk result (λ body. body.items ≡ api.body_of (view_of self.now)) }
     {
         let local = self.local()?;
-        let content = content_of(self.alloc, &local)?;
+        let content = own_content(self.alloc, &local)?;
         let mut body = Vec::with_capacity(self.alloc, 1 + content.len())?;
         body.push(LEVEL_1)?;
         body.extend_from_slice(content.as_slice())?;
@@ -228,5 +229,16 @@ impl Machine {
         ensures idle { IfOk result (λ originated. originated ≡ false → self.new.db ≡ self.old.db) }
     {
         keep_fresh(self.alloc, &mut self.db, self.up, &mut self.own, renewed)
+    }
+}
+
+/// The TLVs of the own LSP: fragment 0, which always exists, and has all of at most 60 I-SIDs.
+fn own_content(alloc: Global, local: &Local) -> Result<Vec<u8>, NoMemory>
+    requires { IsLocal local.now }
+    ensures { IfOk result (λ content. content.items ≡ content_bytes local.now) }
+{
+    match content_of(alloc, local, 0)? {
+        Some(content) => Ok(content),
+        None => Ok(Vec::new(alloc)),
     }
 }

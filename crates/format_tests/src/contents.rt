@@ -1,5 +1,5 @@
 //! Tests of `spb_content`.
-ghost use Rattle.std.specs.Prelude.{◌≡◌, ◌≤◌, ◌<◌, length, IfOk};
+ghost use Rattle.std.specs.Prelude.{◌≡◌, ◌+◌, ◌%◌, ◌≤◌, ◌<◌, length, IfOk};
 ghost use Rattle.std.specs.List.{AllByRecursion};
 ghost use Rattle.spb_types.specs.Graph.{IsDistinct};
 ghost use Rattle.spb_content.specs.Graph.{systems_in};
@@ -7,7 +7,8 @@ ghost use Rattle.spb_content.specs.Local.{IsLocal};
 
 use crate::fixtures::{are_bytes, are_equal, hex, system};
 use spb_content::{
-    BridgeConfigFacts, Content, Inst, Local, content_of, graph_of, read_content, said_graph_of,
+    BridgeConfigFacts, Content, Inst, Local, content_of, fragments_of, graph_of, read_content,
+    said_graph_of,
 };
 use spb_tlvs::{Neighbour, Service, find_tlv, read_neighbours};
 use spb_types::{
@@ -58,11 +59,18 @@ fn linked(alloc: Global, neighbours: Seq<Neighbour>) -> Local
     }
 }
 
-/// What a bridge says of itself, under no contract: the tests ask for nothing but what it is.
+/// A fragment of what a bridge says of itself, under no contract: the tests ask for nothing but what it is.
+fn fragment(rt: &impl Abort, alloc: Global, local: &Local, number: u8) -> Option<Vec<u8>>
+    requires { IsLocal local.now }
+{
+    content_of(alloc, local, number).expect(rt, "out of memory")
+}
+
+/// What a bridge says of itself in its first LSP.
 fn said(rt: &impl Abort, alloc: Global, local: &Local) -> Vec<u8>
     requires { IsLocal local.now }
 {
-    content_of(alloc, local).expect(rt, "out of memory")
+    fragment(rt, alloc, local, 0).expect(rt, "no first fragment")
 }
 
 /// The TLVs of bridge 1 with so many neighbours.
@@ -197,6 +205,109 @@ fn vids_and_services_are_written_ascending(rt: HostRuntime) {
         content.as_slice(),
         hex(&rt, rt.alloc(), SERVING).as_slice(),
     );
+}
+
+/// Ports of bridge 1 at the I-SIDs 60 down to 1 and at 60 again, and so on; an I-SID is in one of so many VIDs.
+fn ports(alloc: Global, count: u8, vids: u16) -> Result<Seq<Member>, NoMemory>
+    requires vids { (1 ≤ vids) × (vids ≤ 16) }
+    ensures { IfOk result (AllByRecursion (λ m. (1 ≤ m.isid.value) × (m.isid.value ≤ 60) × (m.vid.value ≡ 10 + m.isid.value % vids))) }
+{
+    let mut ports = Seq::new(alloc);
+    for place in 0..count {
+        let isid = 60 - u16::from(place % 60);
+        ports.push(attached(u32::from(isid), 10 + isid % vids))?;
+    }
+    Ok(ports)
+}
+
+/// Bridge 1 without neighbours, with these ports attached.
+fn attached_at(alloc: Global, count: u8, vids: u16) -> Result<Local, NoMemory>
+    requires vids { (1 ≤ vids) × (vids ≤ 16) }
+    ensures { IfOk result IsLocal }
+{
+    let mut local = linked(alloc, Seq::new(alloc));
+    let attached = ports(alloc, count, vids)?;
+    local.attached = attached;
+    Ok(local)
+}
+
+/// Asserts that all that bridge 1 says with so many ports is in fragment 0, and how that is written.
+fn is_in_one(rt: &impl Abort, alloc: Global, count: u8, vids: u16, tlvs: &str)
+    requires vids { (1 ≤ vids) × (vids ≤ 16) }
+{
+    let local = attached_at(alloc, count, vids).expect(rt, "out of memory");
+    are_bytes(
+        rt,
+        said(rt, alloc, &local).as_slice(),
+        hex(rt, alloc, tlvs).as_slice(),
+    );
+    for number in [1, 15, 16, 255] {
+        assert!(*rt; fragment(rt, alloc, &local, number).is_none());
+    }
+}
+
+/// Its TLVs with 60 services in one VID, made by hand.
+const SIXTY: &str = "01 04 03 49 00 01 81 01 c1
+    90 17 00 00 01 13 00 00 00 00 00 00 00 00 00 00 00 00 80 00 00 00 00 01 00
+    90 fc 00 00 03 f8 02 00 00 00 00 01 00 0a
+          c0 00 00 01 c0 00 00 02 c0 00 00 03 c0 00 00 04 c0 00 00 05 c0 00 00 06 c0 00 00 07 c0 00 00 08
+          c0 00 00 09 c0 00 00 0a c0 00 00 0b c0 00 00 0c c0 00 00 0d c0 00 00 0e c0 00 00 0f c0 00 00 10
+          c0 00 00 11 c0 00 00 12 c0 00 00 13 c0 00 00 14 c0 00 00 15 c0 00 00 16 c0 00 00 17 c0 00 00 18
+          c0 00 00 19 c0 00 00 1a c0 00 00 1b c0 00 00 1c c0 00 00 1d c0 00 00 1e c0 00 00 1f c0 00 00 20
+          c0 00 00 21 c0 00 00 22 c0 00 00 23 c0 00 00 24 c0 00 00 25 c0 00 00 26 c0 00 00 27 c0 00 00 28
+          c0 00 00 29 c0 00 00 2a c0 00 00 2b c0 00 00 2c c0 00 00 2d c0 00 00 2e c0 00 00 2f c0 00 00 30
+          c0 00 00 31 c0 00 00 32 c0 00 00 33 c0 00 00 34 c0 00 00 35 c0 00 00 36 c0 00 00 37 c0 00 00 38
+          c0 00 00 39 c0 00 00 3a c0 00 00 3b c0 00 00 3c";
+
+#[test]
+fn sixty_services_are_one_fragment(rt: HostRuntime) {
+    is_in_one(&rt, rt.alloc(), 60, 1, SIXTY);
+}
+
+#[test]
+fn services_are_cut_and_not_ports(rt: HostRuntime) {
+    is_in_one(&rt, rt.alloc(), 61, 1, SIXTY);
+    is_in_one(&rt, rt.alloc(), 120, 1, SIXTY);
+}
+
+/// Its TLVs with 60 services in 16 VIDs, made by hand.
+const SIXTEEN: &str = "01 04 03 49 00 01 81 01 c1
+    90 17 00 00 01 13 00 00 00 00 00 00 00 00 00 00 00 00 80 00 00 00 00 01 00
+    90 18 00 00 03 14 02 00 00 00 00 01 00 0a c0 00 00 10 c0 00 00 20 c0 00 00 30
+    90 1c 00 00 03 18 02 00 00 00 00 01 00 0b c0 00 00 01 c0 00 00 11 c0 00 00 21 c0 00 00 31
+    90 1c 00 00 03 18 02 00 00 00 00 01 00 0c c0 00 00 02 c0 00 00 12 c0 00 00 22 c0 00 00 32
+    90 1c 00 00 03 18 02 00 00 00 00 01 00 0d c0 00 00 03 c0 00 00 13 c0 00 00 23 c0 00 00 33
+    90 1c 00 00 03 18 02 00 00 00 00 01 00 0e c0 00 00 04 c0 00 00 14 c0 00 00 24 c0 00 00 34
+    90 1c 00 00 03 18 02 00 00 00 00 01 00 0f c0 00 00 05 c0 00 00 15 c0 00 00 25 c0 00 00 35
+    90 1c 00 00 03 18 02 00 00 00 00 01 00 10 c0 00 00 06 c0 00 00 16 c0 00 00 26 c0 00 00 36
+    90 1c 00 00 03 18 02 00 00 00 00 01 00 11 c0 00 00 07 c0 00 00 17 c0 00 00 27 c0 00 00 37
+    90 1c 00 00 03 18 02 00 00 00 00 01 00 12 c0 00 00 08 c0 00 00 18 c0 00 00 28 c0 00 00 38
+    90 1c 00 00 03 18 02 00 00 00 00 01 00 13 c0 00 00 09 c0 00 00 19 c0 00 00 29 c0 00 00 39
+    90 1c 00 00 03 18 02 00 00 00 00 01 00 14 c0 00 00 0a c0 00 00 1a c0 00 00 2a c0 00 00 3a
+    90 1c 00 00 03 18 02 00 00 00 00 01 00 15 c0 00 00 0b c0 00 00 1b c0 00 00 2b c0 00 00 3b
+    90 1c 00 00 03 18 02 00 00 00 00 01 00 16 c0 00 00 0c c0 00 00 1c c0 00 00 2c c0 00 00 3c
+    90 18 00 00 03 14 02 00 00 00 00 01 00 17 c0 00 00 0d c0 00 00 1d c0 00 00 2d
+    90 18 00 00 03 14 02 00 00 00 00 01 00 18 c0 00 00 0e c0 00 00 1e c0 00 00 2e
+    90 18 00 00 03 14 02 00 00 00 00 01 00 19 c0 00 00 0f c0 00 00 1f c0 00 00 2f";
+
+#[test]
+fn sixteen_vids_are_in_one_fragment(rt: HostRuntime) {
+    is_in_one(&rt, rt.alloc(), 60, 16, SIXTEEN);
+    is_in_one(&rt, rt.alloc(), 200, 16, SIXTEEN);
+}
+
+#[test]
+fn fragments_are_listed_by_number(rt: HostRuntime) {
+    let local = attached_at(rt.alloc(), 64, 16).expect(&rt, "out of memory");
+    let fragments = fragments_of(rt.alloc(), &local, 16).expect(&rt, "out of memory");
+    are_equal(&rt, &fragments.len(), &16);
+    let first = fragments[0].as_ref().expect(&rt, "no first fragment");
+    are_bytes(
+        &rt,
+        first.as_slice(),
+        hex(&rt, rt.alloc(), SIXTEEN).as_slice(),
+    );
+    assert!(rt; fragments.iter().skip(1).all(|fragment| fragment.is_none()));
 }
 
 /// A cut SPB-Inst, and then three without trees: of another topology, with the priority 0x8000 and the source id 1, and

@@ -17,7 +17,7 @@ use Rattle.spb_tlvs.proofs.TlvSteps.{values_none}
 use Rattle.spb_tlvs.proofs.NeighbourLaws.{neighbours_again}
 use Rattle.spb_tlvs.proofs.CapabilityLaws.{capability_again}
 use Rattle.spb_content.specs.declared.local.Local.{Local}
-use Rattle.spb_content.specs.Local.{areas, protocols, neighbour_tlvs, inst_tlv, service_tlvs, content_bytes, own_mac, trees_of, vids_in, services_in, IsLocal}
+use Rattle.spb_content.specs.Local.{areas, protocols, neighbour_tlvs, inst_tlv, service_tlvs, content_bytes, own_mac, trees_of, vids_in, services_in, IsPart}
 use Rattle.spb_content.specs.Content.{or_nothing, neighbours_in, capabilities_in, services_of, content_in}
 use Rattle.spb_content.specs.Laws.{HasFields, ReadAgain}
 use Rattle.spb_content.proofs.Members.{has_all}
@@ -25,28 +25,28 @@ use Rattle.spb_content.proofs.Written.{is_inst, is_services, all_drop, all_take}
 
 -- ---- TLVs of one code, one after another
 
-several : {X : Type 0} (code : ℕ) (f : X → List ℕ) (xs : List X) (rest : List ℕ) → values_with code (flat_map (λ x. tlv code (f x)) xs ++ rest) ≡ map f xs ++ values_with code rest
+pub several : {X : Type 0} (code : ℕ) (f : X → List ℕ) (xs : List X) (rest : List ℕ) → values_with code (flat_map (λ x. tlv code (f x)) xs ++ rest) ≡ map f xs ++ values_with code rest
 several code f [] rest = refl
 several code f (x ∷ xs) rest =
     ap (values_with code) (append_assoc (tlv code (f x)) (flat_map (λ y. tlv code (f y)) xs) rest)
     ∙ tlv_here code (f x) (flat_map (λ y. tlv code (f y)) xs ++ rest)
     ∙ ap (λ vs. f x ∷ vs) (several code f xs rest)
 
-others : {X : Type 0} (code other : ℕ) (f : X → List ℕ) (xs : List X) (rest : List ℕ) → code ≢ other → values_with other (flat_map (λ x. tlv code (f x)) xs ++ rest) ≡ values_with other rest
+pub others : {X : Type 0} (code other : ℕ) (f : X → List ℕ) (xs : List X) (rest : List ℕ) → code ≢ other → values_with other (flat_map (λ x. tlv code (f x)) xs ++ rest) ≡ values_with other rest
 others code other f [] rest ne = refl
 others code other f (x ∷ xs) rest ne =
     ap (values_with other) (append_assoc (tlv code (f x)) (flat_map (λ y. tlv code (f y)) xs) rest)
     ∙ tlv_elsewhere code other (f x) (flat_map (λ y. tlv code (f y)) xs ++ rest) ne
     ∙ others code other f xs rest ne
 
-several_alone : {X : Type 0} (code : ℕ) (f : X → List ℕ) (xs : List X) → values_with code (flat_map (λ x. tlv code (f x)) xs) ≡ map f xs
+pub several_alone : {X : Type 0} (code : ℕ) (f : X → List ℕ) (xs : List X) → values_with code (flat_map (λ x. tlv code (f x)) xs) ≡ map f xs
 several_alone code f xs =
     ap (values_with code) (sym (append-nil (flat_map (λ x. tlv code (f x)) xs)))
     ∙ several code f xs []
     ∙ ap (λ vs. map f xs ++ vs) (values_none code [] refl)
     ∙ append-nil (map f xs)
 
-others_alone : {X : Type 0} (code other : ℕ) (f : X → List ℕ) (xs : List X) → code ≢ other → values_with other (flat_map (λ x. tlv code (f x)) xs) ≡ []
+pub others_alone : {X : Type 0} (code other : ℕ) (f : X → List ℕ) (xs : List X) → code ≢ other → values_with other (flat_map (λ x. tlv code (f x)) xs) ≡ []
 others_alone code other f xs ne =
     ap (values_with other) (sym (append-nil (flat_map (λ x. tlv code (f x)) xs)))
     ∙ others code other f xs [] ne
@@ -101,13 +101,13 @@ read_few (suc k) ns each few =
     ∙ ap (λ ms. take 13 ns ++ ms) (read_few k (drop 13 ns) (all_drop IsNeighbour 13 ns each) (omega (arith, few, length-drop 13 ns)))
     ∙ take-append-drop 13 ns
 
-read_services : (l : Local) (vs : List Vid) → IsMac (own_mac l) → AllByRecursion (λ v. IsServices v (services_in v l.attached)) vs → flat_map (λ value. or_nothing (capabilities_of value)) (map (λ v. capability_value (services_at l v)) vs) ≡ map (services_at l) vs
+pub read_services : (l : Local) (vs : List Vid) → IsMac (own_mac l) → AllByRecursion (λ v. IsServices v (services_in v l.attached)) vs → flat_map (λ value. or_nothing (capabilities_of value)) (map (λ v. capability_value (services_at l v)) vs) ≡ map (services_at l) vs
 read_services l [] mac each = refl
 read_services l (v ∷ vs) mac each =
     ap (λ r. or_nothing r ++ flat_map (λ value. or_nothing (capabilities_of value)) (map (λ w. capability_value (services_at l w)) vs)) (capability_again (services_at l v) each.0 mac)
     ∙ ap (λ cs. services_at l v ∷ cs) (read_services l vs mac each.1)
 
-no_inst : (l : Local) (vs : List Vid) → flat_map services_of (map (services_at l) vs) ≡ flat_map (λ v. map (λ s. (own_mac l, v, s)) (services_in v l.attached)) vs
+pub no_inst : (l : Local) (vs : List Vid) → flat_map services_of (map (services_at l) vs) ≡ flat_map (λ v. map (λ s. (own_mac l, v, s)) (services_in v l.attached)) vs
 no_inst l [] = refl
 no_inst l (v ∷ vs) = ap (λ ss. map (λ s. (own_mac l, v, s)) (services_in v l.attached) ++ ss) (no_inst l vs)
 
@@ -116,7 +116,7 @@ neighbours_are l fields =
     ap (λ vs. flat_map (λ value. or_nothing (neighbours_of value)) vs) (values_22 l)
     ∙ read_few ((length l.neighbours + 12) / 13) l.neighbours fields.neighbours (omega arith)
 
-capabilities_are : (l : Local) → IsLocal l → HasFields l → capabilities_in (content_bytes l) ≡ inst_at l ∷ map (services_at l) (vids_in l.attached)
+capabilities_are : (l : Local) → IsPart l → HasFields l → capabilities_in (content_bytes l) ≡ inst_at l ∷ map (services_at l) (vids_in l.attached)
 capabilities_are l h fields =
     ap (λ vs. flat_map (λ value. or_nothing (capabilities_of value)) vs) (values_144 l)
     ∙ ap (λ r. or_nothing r ++ flat_map (λ value. or_nothing (capabilities_of value)) (map (λ v. capability_value (services_at l v)) (vids_in l.attached)))

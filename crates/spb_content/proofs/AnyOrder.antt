@@ -5,11 +5,12 @@ use Rattle.spb_types.specs.Ascending.{ascending}
 use Rattle.spb_types.specs.Service.{AreVidsApart}
 use Rattle.spb_types.specs.declared.address.Mac.{Mac}
 use Rattle.spb_types.specs.declared.graph.Member.{Member}
+use Rattle.spb_types.specs.declared.service.Isid.{Isid}
 use Rattle.spb_types.specs.declared.service.Vid.{Vid}
 use Rattle.spb_types.specs.declared.service.VidPlan.{VidPlan}
 use Rattle.spb_tlvs.specs.declared.capability.Service.{Service}
-use Rattle.spb_content.specs.declared.local.Local.{Local}
 use Rattle.spb_content.specs.Local.{own_mac, trees_of, vids_in, isids_in, in_vid, services_in, service_with, plan_number, vid_number, isid_number, said_by}
+use Rattle.spb_content.specs.Members.{pair_of}
 use Rattle.spb_content.specs.Laws.{OrderSaysNothingOfContent}
 use Rattle.spb_content.proofs.Members.{Has, has_map, has_filter, filter_has, has_from_contains, contains_from_has}
 use Rattle.spb_content.proofs.Ascended.{ascending_ascends, has_ascending, numbered_ascending, ascends_once}
@@ -29,32 +30,51 @@ trees_within ps qs apart f p h =
     let n = numbered_ascending plan_number p.vid.value qs (record { item = p; has = i; is = refl }) in
     subst (λ q. Has q (ascending plan_number qs)) (one_plan n.item p qs apart (has_ascending plan_number n.item qs n.has) i n.is) n.has
 
-vids_within : (ms ns : List Member) → Within ms ns → Within (vids_in ms) (vids_in ns)
+-- for each member of one list there is one in the other with its base VID and I-SID
+pub record IsPaired (m : Member) (ns : List Member) : Type 0 where
+  pub item : Member
+  pub has : Has item ns
+  pub is : pair_of m ≡ pair_of item
+
+abbrev pub ArePaired : List Member → List Member → Type 0
+ArePaired ms ns = (m : Member) → Has m ms → IsPaired m ns
+
+paired_within : (ms ns : List Member) → Within ms ns → ArePaired ms ns
+paired_within ms ns f m h = record { item = m; has = f m h; is = refl }
+
+vids_within : (ms ns : List Member) → ArePaired ms ns → Within (vids_in ms) (vids_in ns)
 vids_within ms ns f v h =
     let a = attached_in v ms h in
-    let n = numbered_ascending vid_number a.0.vid.value (map (λ m. m.vid) ns) (record { item = a.0.vid; has = has_map (λ m. m.vid) a.0 ns (f a.0 a.1); is = refl }) in
-    let same : n.item ≡ v = ap (λ k. record { value = k }) (n.is ∙ ap vid_number (sym a.2)) in
+    let b = f a.0 a.1 in
+    let n = numbered_ascending vid_number b.item.vid.value (map (λ m. m.vid) ns) (record { item = b.item.vid; has = has_map (λ m. m.vid) b.item ns b.has; is = refl }) in
+    let same : n.item ≡ v = ap (λ k. record { value = k }) (n.is ∙ sym (ap (λ (p : Vid × Isid). p.0.value) b.is) ∙ ap vid_number (sym a.2)) in
     subst (λ w. Has w (vids_in ns)) same n.has
 
-isids_within : (ms ns : List Member) → Within ms ns → Within (isids_in ms) (isids_in ns)
+isids_within : (ms ns : List Member) → ArePaired ms ns → Within (isids_in ms) (isids_in ns)
 isids_within ms ns f i h =
     let a = isid_attached i ms h in
-    let n = attached_isid a.0 ns (f a.0 a.1) in
-    let same : n.item ≡ i = ap (λ k. record { value = k }) (n.is ∙ ap isid_number (sym a.2)) in
+    let b = f a.0 a.1 in
+    let n = attached_isid b.item ns b.has in
+    let same : n.item ≡ i = ap (λ k. record { value = k }) (n.is ∙ sym (ap (λ (p : Vid × Isid). p.1.value) b.is) ∙ ap isid_number (sym a.2)) in
     subst (λ j. Has j (isids_in ns)) same n.has
 
-in_vid_within : (v : Vid) (ms ns : List Member) → Within ms ns → Within (in_vid v ms) (in_vid v ns)
+in_vid_within : (v : Vid) (ms ns : List Member) → ArePaired ms ns → ArePaired (in_vid v ms) (in_vid v ns)
 in_vid_within v ms ns f m h =
     let k = filter_has (λ n. n.vid.value == v.value) m ms h in
-    has_filter (λ n. n.vid.value == v.value) m ns (f m k.0) k.1
+    let b = f m k.0 in
+    record {
+      item = b.item;
+      has = has_filter (λ n. n.vid.value == v.value) b.item ns b.has (sym (ap (λ (p : Vid × Isid). p.0.value == v.value) b.is) ∙ k.1);
+      is = b.is;
+    }
 
-services_same : (v : Vid) (ms ns : List Member) → Within ms ns → Within ns ms → services_in v ms ≡ services_in v ns
+services_same : (v : Vid) (ms ns : List Member) → ArePaired ms ns → ArePaired ns ms → services_in v ms ≡ services_in v ns
 services_same v ms ns f g =
     ap (λ is. map service_with is) (ascends_once isid_number (isids_in (in_vid v ms)) (isids_in (in_vid v ns))
     (ascending_ascends isid_number (map (λ m. m.isid) (in_vid v ms))) (ascending_ascends isid_number (map (λ m. m.isid) (in_vid v ns)))
     (isids_within (in_vid v ms) (in_vid v ns) (in_vid_within v ms ns f)) (isids_within (in_vid v ns) (in_vid v ms) (in_vid_within v ns ms g)))
 
-vids_same : (ms ns : List Member) → Within ms ns → Within ns ms → vids_in ms ≡ vids_in ns
+vids_same : (ms ns : List Member) → ArePaired ms ns → ArePaired ns ms → vids_in ms ≡ vids_in ns
 vids_same ms ns f g =
     ascends_once vid_number (vids_in ms) (vids_in ns) (ascending_ascends vid_number (map (λ m. m.vid) ms)) (ascending_ascends vid_number (map (λ m. m.vid) ns)) (vids_within ms ns f) (vids_within ns ms g)
 
@@ -62,11 +82,19 @@ flat_map_agree : {X Y : Type 0} (f g : X → List Y) (xs : List X) → ((x : X) 
 flat_map_agree f g [] e = refl
 flat_map_agree f g (x ∷ xs) e = ap (λ ys. ys ++ flat_map f xs) (e x) ∙ ap (λ ys. g x ++ ys) (flat_map_agree f g xs e)
 
-abbrev listed : Mac → Vid → List Service → List (Mac × Vid × Service)
-listed mac v ss = map (λ s. (mac, v, s)) ss
+-- the services of a group of members, as they are said
+abbrev pub group : Mac → List Member → Vid → List (Mac × Vid × Service)
+group mac ms v = map (λ s. (mac, v, s)) (services_in v ms)
 
-abbrev services_of : Local → Vid → List (Mac × Vid × Service)
-services_of l v = listed (own_mac l) v (services_in v l.attached)
+-- what is said of some members
+abbrev pub listing : Mac → List Member → List (Mac × Vid × Service)
+listing mac ms = flat_map (group mac ms) (vids_in ms)
+
+-- it doesn't depend on their order, nor on how often one stands there
+pub listing_same : (mac : Mac) (ms ns : List Member) → ArePaired ms ns → ArePaired ns ms → listing mac ms ≡ listing mac ns
+listing_same mac ms ns f g =
+    flat_map_agree (group mac ms) (group mac ns) (vids_in ms) (λ v. ap (λ (ss : List Service). map (λ s. (mac, v, s)) ss) (services_same v ms ns f g))
+    ∙ ap (flat_map (group mac ns)) (vids_same ms ns f g)
 
 pub order_says_nothing : OrderSaysNothingOfContent
 order_says_nothing l m h k like =
@@ -79,9 +107,8 @@ order_says_nothing l m h k like =
     (trees_within l.config.vids m.config.vids k.vids_apart plans_to) (trees_within m.config.vids l.config.vids h.vids_apart plans_from) in
     let mac : own_mac l ≡ own_mac m = ap (λ i. i.system.mac) like.id in
     let services : (said_by l).services ≡ (said_by m).services =
-    flat_map_agree (services_of l) (services_of m) (vids_in l.attached)
-    (λ v. ap (λ ss. listed (own_mac l) v ss) (services_same v l.attached m.attached to from) ∙ ap (λ c. listed c v (services_in v m.attached)) mac)
-    ∙ ap (λ vs. flat_map (services_of m) vs) (vids_same l.attached m.attached to from) in
+    listing_same (own_mac l) l.attached m.attached (paired_within l.attached m.attached to) (paired_within m.attached l.attached from)
+    ∙ ap (λ (c : Mac). listing c m.attached) mac in
     let priority = ap (λ i. i.priority) like.id in
     λ i. record {
       inst = Some (record { priority = priority i; source = like.source i; trees = trees i });

@@ -30,14 +30,14 @@ use Rattle.spb_content.proofs.Again.{few_of, services_at, inst_at, parts}
 
 -- ---- whole TLVs
 
-whole_none : IsTrue (is_whole [])
+pub whole_none : IsTrue (is_whole [])
 unfolding is_whole_after
 whole_none = refl
 
 whole_more : (code : ℕ) (value rest : List ℕ) → IsTrue (is_whole rest) → IsTrue (is_whole (tlv code value ++ rest))
 whole_more code value rest h = whole_both (tlv code value) rest (whole_one code value) ∙ h
 
-whole_several : {X : Type 0} (code : ℕ) (f : X → List ℕ) (xs : List X) (rest : List ℕ) → IsTrue (is_whole rest) → IsTrue (is_whole (flat_map (λ x. tlv code (f x)) xs ++ rest))
+pub whole_several : {X : Type 0} (code : ℕ) (f : X → List ℕ) (xs : List X) (rest : List ℕ) → IsTrue (is_whole rest) → IsTrue (is_whole (flat_map (λ x. tlv code (f x)) xs ++ rest))
 whole_several code f [] rest h = h
 whole_several code f (x ∷ xs) rest h =
     ap is_whole (append_assoc (tlv code (f x)) (flat_map (λ y. tlv code (f y)) xs) rest)
@@ -92,7 +92,7 @@ apart_append number (x ∷ xs) ys p q cross =
     at y (inr h) = cross x y (inl refl) h
 
 -- an I-SID is attached in one base VID
-in_one_vid : (m n : Member) (ms : List Member) → AreInOneVid ms → Has m ms → Has n ms → m.isid.value ≡ n.isid.value → m.vid.value ≡ n.vid.value
+pub in_one_vid : (m n : Member) (ms : List Member) → AreInOneVid ms → Has m ms → Has n ms → m.isid.value ≡ n.isid.value → m.vid.value ≡ n.vid.value
 in_one_vid m n [] one h i e = absurd h
 in_one_vid m n (k ∷ ms) one (inl h) (inl i) e = ap (λ (q : Member). q.vid.value) (h ∙ sym i)
 in_one_vid m n (k ∷ ms) one (inl h) (inr i) e =
@@ -165,7 +165,7 @@ content_whole l =
 len_parts : (n i s : List ℕ) → length (areas ++ (protocols ++ (n ++ (i ++ s)))) ≡ 9 + (length n + (length i + length s))
 len_parts n i s = omega (arith, length-append n (i ++ s), length-append i s)
 
-content_len : (l : Local) → length (content_bytes l) ≡ 9 + (length (neighbour_tlvs l.neighbours) + (length (inst_tlv l) + length (service_tlvs l)))
+pub content_len : (l : Local) → length (content_bytes l) ≡ 9 + (length (neighbour_tlvs l.neighbours) + (length (inst_tlv l) + length (service_tlvs l)))
 content_len l = ap length (parts l) ∙ len_parts (neighbour_tlvs l.neighbours) (inst_tlv l) (service_tlvs l)
 
 pub own_fits : OwnFits

@@ -18,3 +18,9 @@ pub mod Put
 pub mod Joined
 pub mod Whole
 pub mod Uncut
+pub mod Pairs
+pub mod SortedPairs
+pub mod Listed
+pub mod Parts
+pub mod Told
+pub mod Fitting

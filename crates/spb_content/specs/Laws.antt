@@ -1,5 +1,5 @@
 -- The laws of what is written and read.
-use Rattle.std.specs.Prelude.{◌≡◌, ◌↔◌, ℕ, ◌+◌, ◌≤◌, ◌<◌, ◌^◌, List, length, map, Contains, IsTrue}
+use Rattle.std.specs.Prelude.{◌≡◌, ◌↔◌, ℕ, suc, ◌+◌, ◌*◌, ◌≤◌, ◌<◌, ◌^◌, List, [], length, map, Some, None, Contains, IsTrue}
 use Rattle.std.specs.List.{AllByRecursion}
 use Rattle.spb_types.specs.Ascending.{Ascends}
 use Rattle.spb_types.specs.Graph.{IsDistinct, IsValid, IsValidFor, cost_between, port_between}
@@ -12,11 +12,12 @@ use Rattle.isis_pdu.specs.Header.{fixed_length}
 use Rattle.isis_pdu.specs.Tlvs.{is_whole}
 use Rattle.spb_tlvs.specs.RoundTrip.{IsMac, IsNeighbour}
 use Rattle.spb_content.specs.declared.local.Local.{Local}
-use Rattle.spb_content.specs.Local.{IsLocal, plan_number, vid_number, isid_number, trees_of, vids_in, isids_in, own_mac, said_by, content_bytes}
+use Rattle.spb_content.specs.Local.{IsLocal, IsPart, plan_number, vid_number, isid_number, trees_of, vids_in, isids_in, own_mac, said_by, content_bytes}
 use Rattle.spb_content.specs.Content.{content_in}
+use Rattle.spb_content.specs.Fragments.{services_by, part_of, fragment, fragments_from, tlvs_together}
 use Rattle.spb_content.specs.Graph.{Contents, systems_in, cost_said, port_said, HasOwnPorts}
 use Rattle.spb_content.specs.Building.{said_graph}
-use Rattle.spb_types.specs.declared.limits.TheConstants.{MOST_PORTS, MOST_GRAPH_BRIDGES}
+use Rattle.spb_types.specs.declared.limits.TheConstants.{MOST_ISIDS, MOST_PORTS, MOST_GRAPH_BRIDGES}
 
 -- what the fields of the types hold
 pub record HasFields (l : Local) : Type 0 where
@@ -26,14 +27,14 @@ pub record HasFields (l : Local) : Type 0 where
 
 -- what is written is read as what is said: the neighbours in order, the SPB-Inst, and each service once
 abbrev pub ReadAgain : Type 0
-ReadAgain = (l : Local) → IsLocal l → HasFields l → content_in (content_bytes l) ≡ said_by l
+ReadAgain = (l : Local) → IsPart l → HasFields l → content_in (content_bytes l) ≡ said_by l
 
 -- bridges that say the same write the same, and only those do
 abbrev pub SameIsWritten : Type 0
 SameIsWritten = (l m : Local) → said_by l ≡ said_by m → content_bytes l ≡ content_bytes m
 
 abbrev pub WrittenIsSame : Type 0
-WrittenIsSame = (l m : Local) → IsLocal l → HasFields l → IsLocal m → HasFields m → content_bytes l ≡ content_bytes m
+WrittenIsSame = (l m : Local) → IsPart l → HasFields l → IsPart m → HasFields m → content_bytes l ≡ content_bytes m
     → said_by l ≡ said_by m
 
 -- two bridges have the same configuration and neighbours, and the same ports attached, but for the order of the VIDs
@@ -78,8 +79,43 @@ pub record Fits (bytes : List ℕ) : Type 0 where
 
 -- with at most 32 ports, the LSP of a bridge has at most 1,267 bytes
 abbrev pub OwnFits : Type 0
-OwnFits = (l : Local) → IsLocal l → HasFields l → AreConfigured l → length l.neighbours ≤ MOST_PORTS
+OwnFits = (l : Local) → IsPart l → HasFields l → AreConfigured l → length l.neighbours ≤ MOST_PORTS
     → Fits (content_bytes l)
+
+-- ---- fragments
+
+-- a bridge has at most so many services as I-SIDs
+abbrev pub ServicesAreFew : Type 0
+ServicesAreFew = (l : Local) → IsLocal l → length (services_by l) ≤ MOST_ISIDS
+
+-- fragments whose numbers have room for all services say together what the bridge says
+abbrev pub FragmentsAreRead : Type 0
+FragmentsAreRead = (l : Local) (n : ℕ) → IsLocal l → HasFields l → 1 ≤ n → length (services_by l) ≤ 60 * n
+    → content_in (tlvs_together (fragments_from l n 0)) ≡ said_by l
+
+-- but for number 0, a fragment says its services and nothing else
+abbrev pub OthersSayServices : Type 0
+OthersSayServices = (l : Local) (k : ℕ) (tlvs : List ℕ) → IsLocal l → HasFields l → fragment l (suc k) ≡ Some tlvs
+    → content_in tlvs ≡ record { inst = None; neighbours = []; services = (said_by (part_of (suc k) l)).services }
+
+-- with at most 60 I-SIDs all is in number 0, as `content_bytes` has it
+pub record IsOne (l : Local) : Type 0 where
+  pub first : fragment l 0 ≡ Some (content_bytes l)
+  pub others : (k : ℕ) → fragment l (suc k) ≡ None
+
+abbrev pub FewAreOne : Type 0
+FewAreOne = (l : Local) → IsPart l → IsOne l
+
+-- where a fragment doesn't exist, none behind it does
+abbrev pub FragmentsAreFirst : Type 0
+FragmentsAreFirst = (l : Local) (j k : ℕ) → j ≤ k → fragment l j ≡ None → fragment l k ≡ None
+
+-- with at most 32 ports, each fragment fits into its LSP
+abbrev pub FragmentsFit : Type 0
+FragmentsFit = (l : Local) (k : ℕ) (tlvs : List ℕ) → IsLocal l → HasFields l → AreConfigured l
+    → length l.neighbours ≤ MOST_PORTS → fragment l k ≡ Some tlvs → Fits tlvs
+
+-- ---- the graph of all that is said
 
 -- the graph of all that is said: it is valid, also for each bridge that lists its neighbours at ports of their own, and
 -- its costs and ports are those that are said

@@ -2,4 +2,6 @@ pub mod Local
 pub mod Content
 pub mod Graph
 pub mod Building
+pub mod Members
+pub mod Fragments
 pub mod Laws

@@ -18,7 +18,7 @@ use Rattle.spb_tlvs.specs.Neighbour.{neighbours_value}
 use Rattle.spb_tlvs.specs.Capability.{capability_value, IsTree}
 use Rattle.spb_content.specs.declared.local.Local.{Local}
 use Rattle.spb_content.specs.declared.content.Content.{Content}
-use Rattle.spb_types.specs.declared.limits.TheConstants.{GREATEST_ISID, GREATEST_VID, MOST_VIDS, SOURCE_IDS}
+use Rattle.spb_types.specs.declared.limits.TheConstants.{GREATEST_ISID, GREATEST_VID, MOST_ISIDS, MOST_VIDS, SOURCE_IDS}
 use Rattle.spb_tlvs.specs.declared.codes.TheConstants.{AREA_ADDRESSES, EXTENDED_IS_REACHABILITY, MT_CAPABILITY, PROTOCOLS_SUPPORTED}
 
 abbrev pub plan_number : VidPlan → ℕ
@@ -109,7 +109,8 @@ abbrev pub AreInOneVid : List Member → Type 0
 AreInOneVid [] = ⊤
 AreInOneVid (m ∷ ms) = AllByRecursion (λ n. m.isid.value ≡ n.isid.value → m.vid.value ≡ n.vid.value) ms × AreInOneVid ms
 
-pub record IsLocal (l : Local) : Type 0 where
+-- what a bridge has, with at most so many I-SIDs
+pub record IsLocalWith (most : ℕ) (l : Local) : Type 0 where
   pub source : l.config.source.value < SOURCE_IDS
   pub few_vids : length l.config.vids ≤ MOST_VIDS
   pub vids : AllByRecursion IsTree l.config.vids
@@ -117,4 +118,11 @@ pub record IsLocal (l : Local) : Type 0 where
   pub metrics : AllByRecursion (λ n. n.metric < 16777216) l.neighbours
   pub attached : AllByRecursion IsAttached l.attached
   pub one_vid : AreInOneVid l.attached
-  pub few_isids : length (isids_in l.attached) ≤ 60
+  pub few_isids : length (isids_in l.attached) ≤ most
+
+abbrev pub IsLocal : Local → Type 0
+IsLocal l = IsLocalWith MOST_ISIDS l
+
+-- what one LSP takes: a TLV has room for 60 I-SIDs
+abbrev pub IsPart : Local → Type 0
+IsPart l = IsLocalWith 60 l

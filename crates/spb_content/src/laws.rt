@@ -1,13 +1,13 @@
 //! The laws of what is written and read, and of the graph of all that is said. Each is the contract of a function that
 //! does nothing.
-ghost use Rattle.spb_content.specs.Laws.{ReadAgain, SameIsWritten, WrittenIsSame, OrderSaysNothingOfContent, TreesAscend, VidsAscend, IsidsAscend, OwnFits, SaidGraphHasAllLinks};
+ghost use Rattle.spb_content.specs.Laws.{ReadAgain, SameIsWritten, WrittenIsSame, OrderSaysNothingOfContent, TreesAscend, VidsAscend, IsidsAscend, OwnFits, ServicesAreFew, FragmentsAreRead, OthersSayServices, FewAreOne, FragmentsAreFirst, FragmentsFit, SaidGraphHasAllLinks};
 
-/// What is written is read as what the bridge says.
+/// What a bridge of at most 60 I-SIDs writes in one is read as what it says.
 pub fn content_again()
     ensures { ReadAgain }
 {}
 
-/// Bridges that say the same write the same, and only those do.
+/// Bridges that say the same write the same, and, with at most 60 I-SIDs, only those do.
 pub fn same_content_is_written_alike()
     ensures written { SameIsWritten }
     ensures said { WrittenIsSame }
@@ -25,9 +25,32 @@ pub fn lists_ascend()
     ensures isids { IsidsAscend }
 {}
 
-/// What a bridge of at most 32 ports writes fits into one LSP.
+/// What a bridge of at most 32 ports and 60 I-SIDs writes fits into one LSP.
 pub fn content_fits()
     ensures { OwnFits }
+{}
+
+/// The fragments of a bridge, put together, say what it says, where their numbers have room for its services, of which
+/// there are no more than I-SIDs. But for number 0, each says services and nothing else.
+pub fn fragments_are_read()
+    ensures few { ServicesAreFew }
+    ensures read { FragmentsAreRead }
+    ensures others { OthersSayServices }
+{}
+
+/// With at most 60 I-SIDs all that a bridge says is in fragment 0, and no other exists.
+pub fn few_are_one()
+    ensures { FewAreOne }
+{}
+
+/// Where a fragment doesn't exist, none behind it does.
+pub fn fragments_are_first()
+    ensures { FragmentsAreFirst }
+{}
+
+/// Each fragment of a bridge of at most 32 ports fits into one LSP.
+pub fn fragments_fit()
+    ensures { FragmentsFit }
 {}
 
 /// The graph of all that is said, reached or not, is valid, and has the costs and ports that are said, where at most

@@ -1,11 +1,13 @@
 //! What a bridge says of itself in its LSP, and the graph that the LSPs of a backbone make (RFC 6329, 13 to 16).
 //!
-//! [`content_of`] writes the TLVs of the own LSP, [`read_content`] reads those of any LSP, and [`said_graph_of`] makes
-//! the graph of what the systems of a backbone say; [`graph_of`] makes the part of it that a bridge reaches.
+//! [`content_of`] writes the TLVs of the own LSP of a number, a fragment of what the bridge says, and [`fragments_of`]
+//! those of the first numbers. [`read_content`] reads the TLVs of any LSP, and [`said_graph_of`] makes the graph of what
+//! the systems of a backbone say; [`graph_of`] makes the part of it that a bridge reaches.
 //!
-//! The first two take time in proportion to the bytes. Before it writes them, `content_of` sorts the VIDs and I-SIDs,
-//! and goes over all attached ports once for each base VID in use: for m attached ports in v base VIDs, and t trees,
-//! that takes O(m (v + log m) + t log t).
+//! Writing and reading take time in proportion to the bytes. Where more than 60 ports are attached, `content_of` and
+//! `fragments_of` first sort the m ports once, in O(m log m). Before a fragment is written, its VIDs and I-SIDs are
+//! sorted, and its n ports are gone over once for each of its v base VIDs: with t trees, which number 0 alone has, that
+//! takes O(n (v + log n) + t log t), where n is at most 60.
 //!
 //! The graph of n systems takes O(n log n) for a map of the bridges; then O(k + log n) for each entry of a reached
 //! bridge, where k is how many neighbours it and the one that it lists have, as both ends of a link are searched and an
@@ -13,15 +15,19 @@
 #![tactic(auto)]
 
 pub use content::{Content, Inst, read_content};
+pub use fragments::{content_of, fragments_of};
 pub use graph::{graph_of, said_graph_of};
 pub use laws::{
-    content_again, content_fits, lists_ascend, order_says_nothing, same_content_is_written_alike,
+    content_again, content_fits, few_are_one, fragments_are_first, fragments_are_read,
+    fragments_fit, lists_ascend, order_says_nothing, same_content_is_written_alike,
 };
-pub use local::{AREAS_AND_PROTOCOLS, BridgeConfigFacts, Local, content_of};
+pub use local::{AREAS_AND_PROTOCOLS, BridgeConfigFacts, Local};
 
 mod backbone;
 mod content;
+mod fragments;
 mod graph;
 mod laws;
 mod local;
+mod merging;
 mod walk;

@@ -1,0 +1,114 @@
+//! What a bridge says of itself, cut into fragments: what its LSP of each number says.
+ghost use Rattle.std.specs.Prelude.{◌≡◌, ◌*◌, length, map, take, drop, IfOk, option_map};
+ghost use Rattle.spb_content.specs.Local.{IsLocal};
+ghost use Rattle.spb_content.specs.Fragments as spec;
+ghost use Rattle.spb_content.specs.Fragments.{AreToCut, fragment, fragments_from};
+
+use crate::Local;
+use crate::local::{content_with, put_services};
+use crate::merging::merge;
+use spb_types::{Member, NoMemory};
+use std::alloc::Global;
+
+/// How many services a fragment has at most: as many as one TLV has room for.
+const SERVICES: usize = 60;
+
+/// The TLVs of fragment `number`, which the own LSP of that number says (RFC 6329, 13 to 16). Number 0 has, in this
+/// order, the area addresses; the protocols supported; the neighbours, 13 in a TLV 22, and none without a neighbour; a
+/// TLV 144 with the SPB-Inst and its trees by ascending VID; and services. Each other number has services alone, and
+/// exists where there is one for it.
+///
+/// The services are the different pairs of a base VID and an I-SID of the attached ports, ascending. Number k has those
+/// with the places 60k to 60k + 59: for each base VID among them, ascending, a TLV 144 with one SPBM-SI and those
+/// I-SIDs, ascending, with T and R set.
+///
+/// The source is below 1,048,576. There are at most 16 VIDs, which differ and are 1 to 4094, with ECT numbers 1 to 16.
+/// The metrics are below 16,777,216. There are at most [`spb_types::limits::MOST_ISIDS`] different I-SIDs, each 1 to
+/// 16,777,215 and in one VID of 1 to 4094.
+pub fn content_of(alloc: Global, local: &Local, number: u8) -> Result<Option<Vec<u8>>, NoMemory>
+    requires { IsLocal local.now }
+    ensures { IfOk result (λ tlvs. option_map (λ v. v.items) tlvs ≡ fragment local.now number) }
+{
+    if local.attached.len() <= SERVICES {
+        return fragment_at(alloc, local, local.attached.as_slice(), number);
+    }
+    let services = services_of(alloc, local)?;
+    fragment_at(alloc, local, services.as_slice(), number)
+}
+
+/// The TLVs of the fragments with the numbers below `numbers`, each as [`content_of`] gives it. The services are sorted
+/// once.
+pub fn fragments_of(
+    alloc: Global,
+    local: &Local,
+    numbers: u8,
+) -> Result<Vec<Option<Vec<u8>>>, NoMemory>
+    requires { IsLocal local.now }
+    ensures { IfOk result (λ fragments. map (option_map (λ v. v.items)) fragments.items
+        ≡ fragments_from local.now numbers 0) }
+{
+    if local.attached.len() <= SERVICES {
+        return fragments_below(alloc, local, local.attached.as_slice(), numbers);
+    }
+    let services = services_of(alloc, local)?;
+    fragments_below(alloc, local, services.as_slice(), numbers)
+}
+
+/// The services of a bridge, each once, ascending by base VID and then by I-SID.
+fn services_of(alloc: Global, local: &Local) -> Result<Vec<Member>, NoMemory>
+    requires { IsLocal local.now }
+    ensures { IfOk result (λ services. services.items ≡ spec.services_by local.now) }
+{
+    merge(alloc, local.config.id.system, local.attached.as_slice())
+}
+
+/// The fragments with the numbers below this one.
+fn fragments_below(
+    alloc: Global,
+    local: &Local,
+    services: &[Member],
+    numbers: u8,
+) -> Result<Vec<Option<Vec<u8>>>, NoMemory>
+    requires local { IsLocal local.now }
+    requires services { AreToCut local.now services.now }
+    ensures { IfOk result (λ fragments. map (option_map (λ v. v.items)) fragments.items
+        ≡ fragments_from local.now numbers 0) }
+{
+    let mut fragments = Vec::new(alloc);
+    for number in 0..numbers {
+        fragments.push(fragment_at(alloc, local, services, number)?)?;
+    }
+    Ok(fragments)
+}
+
+/// One fragment.
+fn fragment_at(
+    alloc: Global,
+    local: &Local,
+    services: &[Member],
+    number: u8,
+) -> Result<Option<Vec<u8>>, NoMemory>
+    requires local { IsLocal local.now }
+    requires services { AreToCut local.now services.now }
+    ensures { IfOk result (λ tlvs. option_map (λ v. v.items) tlvs ≡ fragment local.now number) }
+{
+    let part = part_of(services, number);
+    if number == 0 {
+        return Ok(Some(content_with(alloc, local, part)?));
+    }
+    if part.is_empty() {
+        return Ok(None);
+    }
+    let mut out = Vec::new(alloc);
+    put_services(alloc, &mut out, local, part)?;
+    Ok(Some(out))
+}
+
+/// The services with the places of a fragment.
+fn part_of(services: &[Member], number: u8) -> &[Member]
+    ensures { result.now ≡ take 60 (drop (60 * number) services.now) }
+{
+    let start = services.len().min(SERVICES * usize::from(number));
+    let end = services.len().min(start + SERVICES);
+    &services[start..end]
+}
