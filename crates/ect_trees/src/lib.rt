@@ -35,6 +35,7 @@ pub use forest::Forest;
 pub use key::{PathKey, compare_keys};
 pub use mesh::{Arc, Mesh};
 pub use roads::{Roads, tree_from};
+pub use routes::Routes;
 pub use search::{Label, Search};
 pub use tree::Tree;
 pub use trees::Trees;
