@@ -1,7 +1,7 @@
 -- A bridge that the graph doesn't have has no rows, and where the graph has no members no bridge has group rows.
 use Rattle.std.specs.Prelude.{ℕ, ◌≡◌, ◌==◌, length, true, List, [], ◌∷◌, ◌++◌, map, Option, Some, None, IsSome, option_map, option_and_then, slice_get, position}
 use Rattle.std.specs.List.{filter_map, cons_option, flat_map}
-use Rattle.std.proofs.Common.{refl, sym, ap, ◌∙◌, subst, inl, true≢false}
+use Rattle.std.proofs.Common.{refl, sym, ap, ◌∙◌, subst, inl, true≢false, eqb-true, arith}
 use Rattle.spb_types.specs.Address.{same_system, group_address}
 use Rattle.spb_types.specs.Ect.{mask_of}
 use Rattle.spb_types.specs.Graph.{IsBridge, IsValid, systems_of, port_between}
@@ -32,7 +32,7 @@ flat_map_none f (x ∷ xs) none = ap (λ l. l ++ flat_map f xs) (none x) ∙ fla
 -- a list that counts none
 pub nothing : {X : Type 0} (xs : List X) → (length xs == 0) ≡ true → xs ≡ []
 nothing [] e = refl
-nothing (x ∷ xs) e = absurd cc
+nothing (x ∷ xs) e = let long = eqb-true (length (x ∷ xs)) 0 e in absurd (omega (arith, long))
 
 no_addresses : (members : List Member) (bs : List GraphBridge) → members ≡ [] → flat_map (λ (b : GraphBridge). map (λ (m : Member). group_address b.source.value m.isid.value) members) bs ≡ []
 no_addresses members bs none = flat_map_none (λ (b : GraphBridge). map (λ (m : Member). group_address b.source.value m.isid.value) members) bs (λ b. ap (map (λ (m : Member). group_address b.source.value m.isid.value)) none)

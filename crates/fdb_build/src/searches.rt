@@ -81,10 +81,12 @@ impl<'a> Searches for Grown<'a> {
     }
 
     fn leads_on(self, roads: &Roads, from: usize, mask: u8, me: usize) -> bool {
-        match self.last {
-            Some(routes) if routes.serve(from, mask) => routes.leads_on(roads.mesh(), me),
-            _ => true,
+        if let Some(routes) = self.last
+            && routes.serve(from, mask)
+        {
+            return routes.leads_on(roads.mesh(), me);
         }
+        true
     }
 }
 
