@@ -1,23 +1,24 @@
 -- The bridge that directly follows another on a list of bridges, and on ways.
-use Rattle.std.proofs.Common.{◌≡◌, ◌≢◌, ℕ, zero, suc, ◌+◌, ◌<◌, ◌≤◌, Bool, true, false, if◌then◌else◌, inl, List, [], ◌∷◌, ◌++◌, length, get_or, Option, Some, None, option_map, unwrap_or, refl, sym, ap, ◌∙◌, subst, arith, Bor}
+use Rattle.std.proofs.Common.{◌≡◌, ◌≢◌, ℕ, zero, suc, ◌+◌, ◌<◌, ◌≤◌, ◌==◌, Bool, true, false, if◌then◌else◌, inl, inr, List, [], ◌∷◌, ◌++◌, length, get_or, Option, Some, None, option_map, unwrap_or, refl, sym, ap, ◌∙◌, subst, arith, Bor}
 use Rattle.std.specs.Prelude.{IfSome, is_some, option_copied, position, slice_get, nat_lt}
 use Rattle.std.specs.List.{position_or_len}
-use Rattle.std.proofs.lemmas.Bool.{ltb-true, ltb-false}
+use Rattle.std.proofs.lemmas.Bool.{ltb-true, ltb-false, eqb-false}
 use Rattle.std.proofs.lemmas.List.Quantifiers.{position-Some}
 use Rattle.std.proofs.lemmas.List.Sums.{fails_before_first}
 use Rattle.spb_types.specs.Address.{same_system}
-use Rattle.spb_types.specs.Graph.{IsDistinct, systems_of}
+use Rattle.spb_types.specs.Graph.{IsDistinct, systems_of, cost_between}
 use Rattle.spb_types.specs.declared.address.SystemId.{SystemId}
 use Rattle.spb_types.specs.declared.graph.Graph.{Graph}
 use Rattle.spb_types.specs.declared.tables.Path.{Path}
+use Rattle.ect_trees.specs.declared.mesh.Arc.{Arc}
 use Rattle.ect_trees.specs.declared.mesh.Mesh.{Mesh}
 use Rattle.ect_trees.specs.declared.ways.Step.{Step}
 use Rattle.ect_trees.specs.Path.{cost_of}
 use Rattle.ect_trees.specs.Best.{best_of}
 use Rattle.ect_trees.specs.Tree.{Paths, GivesBest}
-use Rattle.ect_trees.specs.Arcs.{IsBridgeAt}
-use Rattle.ect_trees.specs.Ways.{step_at, place_before, hops_or, bridge_at, way_back, way_to, AreWays, HasHops}
-use Rattle.ect_trees.specs.Followers.{after_in, place_or_end, place_after, IsFollower, FollowsOnWay, FollowsInTree}
+use Rattle.ect_trees.specs.Arcs.{IsBridgeAt, IsArcAt, AreReady, Leads, rows_of}
+use Rattle.ect_trees.specs.Ways.{step_at, before_of, place_before, hops_or, bridge_at, way_back, way_to, AreWays, HasHops}
+use Rattle.ect_trees.specs.Followers.{after_in, place_or_end, place_after, IsFollower, FollowsOnWay, is_before, NoneOnWays, FollowsInTree}
 use Rattle.ect_trees.proofs.Among.{same_is, same_self, among_right}
 use Rattle.ect_trees.proofs.Walks.{path_distinct}
 use Rattle.ect_trees.proofs.Places.{at_once, place_is, place_found_at}
@@ -183,6 +184,42 @@ follower_found r steps me to (suc left) place s there f some same = λ from a m 
     was.1 ∙ (after_one r from a steps w left place m was.0 ∙ (ap (λ t. if t then Some (bridge_at r.graph a place) else after_in m (way_back r.graph a steps left (place_before steps place))) it ∙ ap Some own)) in
     let found = place_found_at r.graph place y.0 w.ready.valid y.1 in
     ap (λ o. unwrap_or o (length r.graph.bridges)) (sym found) ∙ (ap (place_or_end r.graph) (sym next) ∙ ap (place_after r.graph m) (sym (way_is r from a steps w to s x there at)))
+
+-- where no step of a way leads on from the place of m, nothing follows m on it
+never_after : (r : Mesh) (from : ℕ) (a : SystemId) (steps : List (Option Step)) → AreWays r from a steps → (n place me : ℕ) (m : SystemId) → IsBridgeAt r.graph me m → HasHops steps n place → ((k p : ℕ) → HasHops steps (suc k) p → place_before steps p ≢ me) → after_in m (way_back r.graph a steps n place) ≡ None
+never_after r from a steps w zero place me m here h never = refl
+never_after r from a steps w (suc n) place me m here h never =
+    let k = prior r from a steps w n place h in
+    let apart = not_m r from a steps w (place_before steps place) me n m here k (never n place h) in
+    after_one r from a steps w n place m h
+    ∙ (ap (λ t. if t then Some (bridge_at r.graph a place) else after_in m (way_back r.graph a steps n (place_before steps place))) apart
+    ∙ never_after r from a steps w n (place_before steps place) me m here k never)
+
+-- a step that leads on from a place ends where an arc from there does, in each mesh of the graph
+leads_along : (own r : Mesh) (from : ℕ) (a : SystemId) (steps : List (Option Step)) (me : ℕ) → AreReady own → AreWays r from a steps → r.graph ≡ own.graph → ((number : ℕ) (arc : Arc) → IsArcAt (rows_of own) me number arc → is_before (step_at steps arc.to) me ≡ false) → (k p : ℕ) → HasHops steps (suc k) p → place_before steps p ≢ me
+leads_along own r from a steps me ready w same none k p h before = elim (w.each p h.0 h.1) [
+  | inl start ↦ (let long = h.2 in absurd (omega (arith, start.no_hop, long)))
+  | inr o ↦
+      let lead = w.ready.lead h.0.before h.0.number o.arc o.listed in
+      let go : Leads r.graph o.arc lead.1.0 lead.1.1 = lead.1.2 in
+      let leaves : h.0.before ≡ me = sym (ap before_of h.1) ∙ before in
+      let at : IsBridgeAt own.graph me lead.1.0 = subst (λ g. IsBridgeAt g me lead.1.0) same (subst (λ n. IsBridgeAt r.graph n lead.1.0) (lead.0 ∙ leaves) go.from) in
+      let joined : cost_between own.graph lead.1.0 lead.1.1 ≡ Some o.arc.cost = subst (λ g. cost_between g lead.1.0 lead.1.1 ≡ Some o.arc.cost) same go.cost in
+      let other = ready.go lead.1.0 lead.1.1 me o.arc.cost joined at in
+      let end : other.1.to ≡ o.arc.to = at_once (systems_of own.graph.bridges) other.1.to o.arc.to lead.1.1 ready.valid.apart other.3.to (subst (λ g. IsBridgeAt g o.arc.to lead.1.1) same go.to) in
+      let read : (h.0.before == me) ≡ false = sym (ap (λ t. is_before t me) (ap (step_at steps) (end ∙ o.to) ∙ h.1)) ∙ none other.0 other.1 other.2 in
+      eqb-false h.0.before me read leaves
+]
+
+-- where none of the arcs from the place me leads to a step that leads on from there, no bridge follows
+pub none_follows : (own : Mesh) (steps : List (Option Step)) (me : ℕ) → AreReady own → ((number : ℕ) (arc : Arc) → IsArcAt (rows_of own) me number arc → is_before (step_at steps arc.to) me ≡ false) → NoneOnWays own.graph steps me
+none_follows own steps me ready none = λ r to same from a m x w here at. by r to same from a m x w here at (step_at steps to) refl
+  where
+    by : (r : Mesh) (to : ℕ) → r.graph ≡ own.graph → (from : ℕ) (a m x : SystemId) → AreWays r from a steps → IsBridgeAt r.graph me m → IsBridgeAt r.graph to x → (o : Option Step) → step_at steps to ≡ o → length r.graph.bridges ≡ place_after r.graph m (way_to r.graph a steps x)
+    by r to same from a m x w here at None e = sym w.places ∙ follower_none r steps me to (length steps) e refl from a m x w here at
+    by r to same from a m x w here at (Some s) e =
+        let nothing : after_in m (way_back r.graph a steps s.hops to) ≡ None = never_after r from a steps w s.hops to me m here (s, e, refl) (leads_along own r from a steps me ready w same none) in
+        ap (place_or_end r.graph) (sym nothing) ∙ ap (place_after r.graph m) (sym (way_is r from a steps w to s x e at))
 
 -- on best ways
 pub follower_best : (r : Mesh) (steps : List (Option Step)) (me from to mask place : ℕ) (a m : SystemId) → AreWays r from a steps × ((x : SystemId) → way_to r.graph a steps x ≡ best_of r.graph mask a x) → IsBridgeAt r.graph me m → FollowsOnWay r steps me to place → IsFollower r.graph mask a m to place

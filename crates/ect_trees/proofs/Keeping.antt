@@ -1,6 +1,6 @@
 -- The paths that a forest keeps.
-use Rattle.std.proofs.Common.{◌≡◌, ◌≢◌, ℕ, zero, suc, Bool, true, false, eqb, eqb-true, List, [], ◌∷◌, ◌++◌, Option, Some, None, slice_get, slice_set, refl, sym, ap, ◌∙◌, subst}
-use Rattle.std.specs.Prelude.{All, is_some, if◌then◌else◌}
+use Rattle.std.proofs.Common.{◌≡◌, ◌≢◌, ℕ, zero, suc, Bool, true, false, eqb, eqb-true, List, [], ◌∷◌, ◌++◌, Option, Some, None, slice_get, slice_set, refl, sym, ap, ◌∙◌, subst, Bor}
+use Rattle.std.specs.Prelude.{All, IfSome, is_some, option_copied, if◌then◌else◌}
 use Rattle.std.specs.Global.{Vec}
 use Rattle.std.specs.List.{find, position_or_len}
 use Rattle.std.specs.Option.{option_and_then, option_or, unwrap_or}
@@ -53,6 +53,11 @@ kept_serve g rows from mask t grown is = by (slice_get rows from) refl is
       found_among (AreRoutes g) (λ r. serve r from mask) row.items t (all_at (λ (r : Vec Routes). All (AreRoutes g) r.items) rows from row grown at) found,
       found_passes (λ r. serve r from mask) row.items t found,
     )
+
+-- the same of what a look-up lends
+pub kept_serves : (g : Graph) (rows : List (Vec Routes)) (from mask : ℕ) (r : Option (Bor Routes)) → AreGrown g rows → option_copied r ≡ kept rows from mask → IfSome r (λ t. AreRoutes g t.now) × IfSome r (λ t. serve t.now from mask ≡ true)
+kept_serves g rows from mask None grown is = (tt, tt)
+kept_serves g rows from mask (Some t) grown is = kept_serve g rows from mask t.now grown (sym is)
 
 -- where nothing is kept
 none_in : (o : Option (Vec Routes)) (from mask : ℕ) → ((row : Vec Routes) → o ≡ Some row → row.items ≡ []) → is_some (option_and_then (λ row. serving row.items from mask) o) ≡ false

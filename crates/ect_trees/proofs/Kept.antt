@@ -1,6 +1,6 @@
 -- Paths that are kept: under which masks they serve, and what follows on them.
 use Rattle.std.proofs.Common.{◌≡◌, ◌≢◌, ℕ, ◌⊎◌, inl, inr, Bool, true, false, eqb-true, List, get_or, Option, option_map, Result, Ok, Err, IfOk, refl, sym, ap, ◌∙◌, subst}
-use Rattle.std.specs.Prelude.{◌==◌, ◌&&◌, ◌||◌}
+use Rattle.std.specs.Prelude.{◌==◌, ◌&&◌, ◌||◌, length}
 use Rattle.std.specs.Global.{Vec}
 use Rattle.spb_types.specs.declared.address.SystemId.{SystemId}
 use Rattle.spb_types.specs.Graph.{IsValid}
@@ -13,10 +13,10 @@ use Rattle.ect_trees.specs.declared.routes.Routes.{Routes}
 use Rattle.ect_trees.specs.declared.trial.Verdict.{Verdict}
 use Rattle.ect_trees.specs.declared.ways.Step.{Step}
 use Rattle.ect_trees.specs.Arcs.{IsBridgeAt}
-use Rattle.ect_trees.specs.Followers.{IsFollower, IsFollowerAt, FollowsOnWay, FollowsInTree}
+use Rattle.ect_trees.specs.Followers.{IsFollower, IsFollowerAt, FollowsOnWay, NoneOnWays, FollowsInTree}
 use Rattle.ect_trees.specs.Best.{best_of}
 use Rattle.ect_trees.specs.Path.{cost_of}
-use Rattle.ect_trees.specs.Routes.{AreRoutes, AreBestAt, is_untied, is_for_all_masks, serve, LeadBy, IsPathOnWay, PathBy}
+use Rattle.ect_trees.specs.Routes.{AreRoutes, AreBestAt, is_untied, is_for_all_masks, serve, LeadBy, NoneLed, IsPathOnWay, PathBy}
 use Rattle.ect_trees.specs.Tree.{Paths, GivesBest, path_in, best_path}
 use Rattle.ect_trees.specs.Trial.{Covers}
 use Rattle.ect_trees.specs.Ways.{way_to}
@@ -64,6 +64,19 @@ led_on_ways g t steps v me to place e f = λ from mask routes is a m whence here
     let it : IsBridgeAt own.mesh.graph me m = subst (λ h. IsBridgeAt h me m) (sym own.graph_is) here in
     subst (λ h. IsFollower h mask a m to place) own.graph_is
     (follower_best own.mesh steps.items me t.from to mask place a m (own.best a start) it (f own.mesh))
+
+-- no bridge follows on paths that are told by steps
+pub none_led : (g : Graph) (t : Routes) (steps : Vec (Option Step)) (v : Verdict) (me : ℕ) → t.form ≡ Form.Steps steps v → NoneOnWays g steps.items me → NoneLed g t me
+none_led g t steps v me e f = λ from mask routes is to a m whence here.
+    let best : AreBestAt g t.from t.mask (Form.Steps steps v) = subst (AreBestAt g t.from t.mask) e routes in
+    let serves = serve_parts t from mask is in
+    let also : (t.mask ≡ mask) ⊎ (v ≡ Verdict.Untied) = verdict_or_mask t.mask mask v (subst (λ w. (t.mask ≡ mask) ⊎ (is_for_all_masks w ≡ true)) e serves.1) in
+    let own = best.1 mask (covers_too t.mask mask v best.0 also) in
+    let source : IsBridgeAt g t.from a = subst (λ n. IsBridgeAt g n a) (sym serves.0) whence in
+    let start : IsBridgeAt own.mesh.graph t.from a = subst (λ h. IsBridgeAt h t.from a) (sym own.graph_is) source in
+    let it : IsBridgeAt own.mesh.graph me m = subst (λ h. IsBridgeAt h me m) (sym own.graph_is) here in
+    subst (λ h. IsFollower h mask a m to (length h.bridges)) own.graph_is
+    (follower_best own.mesh steps.items me t.from to mask (length own.mesh.graph.bridges) a m (own.best a start) it (f own.mesh to own.graph_is))
 
 same_mask : (own mask : ℕ) → (own ≡ mask) ⊎ (false ≡ true) → own ≡ mask
 same_mask own mask (inl e) = e

@@ -10,7 +10,7 @@ use Rattle.ect_trees.specs.declared.trial.Verdict.{Verdict}
 use Rattle.ect_trees.specs.declared.ways.Step.{Step}
 use Rattle.ect_trees.specs.Arcs.{IsBridgeAt}
 use Rattle.ect_trees.specs.Best.{best_of}
-use Rattle.ect_trees.specs.Followers.{IsFollowerAt}
+use Rattle.ect_trees.specs.Followers.{IsFollowerAt, NoneFollows}
 use Rattle.ect_trees.specs.Path.{cost_of}
 use Rattle.ect_trees.specs.Tree.{GivesBest, best_path}
 use Rattle.ect_trees.specs.Trial.{Covers}
@@ -54,6 +54,10 @@ serve t from mask = (t.from == from) && ((t.mask == mask) || is_for_all_masks t.
 abbrev pub LeadBy : Graph → Routes → ℕ → ℕ → ℕ → Type 0
 LeadBy g t me to place = (from mask : ℕ)
     → AreRoutes g t → serve t from mask ≡ true → IsFollowerAt g mask from me to place
+
+-- on routes of the graph, no bridge follows the one at this place on a path, under each mask under which they serve
+abbrev pub NoneLed : Graph → Routes → ℕ → Type 0
+NoneLed g t me = (from mask : ℕ) → AreRoutes g t → serve t from mask ≡ true → NoneFollows g mask from me
 
 -- this is the path from a to x, with its cost, on the way there, if there is one
 abbrev pub IsPathOnWay : Graph → SystemId → List (Option Step) → SystemId → Option Path → Type 0

@@ -1,15 +1,16 @@
 -- What a look at the steps of ways says.
-use Rattle.std.specs.Prelude.{◌≡◌, ℕ, ◌<◌, List, [], ◌∷◌, ◌++◌, Option, Some, ⊤}
+use Rattle.std.specs.Prelude.{◌≡◌, ℕ, ◌<◌, List, [], ◌∷◌, ◌++◌, Option, None, Some, ⊤}
 use Rattle.spb_types.specs.declared.address.SystemId.{SystemId}
 use Rattle.spb_types.specs.declared.graph.Graph.{Graph}
 use Rattle.ect_trees.specs.declared.mesh.Arc.{Arc}
 use Rattle.ect_trees.specs.declared.mesh.Mesh.{Mesh}
 use Rattle.ect_trees.specs.declared.ways.Step.{Step}
+use Rattle.ect_trees.specs.declared.trial.Compared.{Compared}
 use Rattle.ect_trees.specs.declared.trial.Verdict.{Verdict}
 use Rattle.ect_trees.specs.Key.{key_of, IsBelow}
 use Rattle.ect_trees.specs.Best.{best_of}
 use Rattle.ect_trees.specs.Arcs.{IsBridgeAt, IsArcAt, AreReady, rows_of}
-use Rattle.ect_trees.specs.Ways.{step_at, way_back, way_to, IsSound, AreWays}
+use Rattle.ect_trees.specs.Ways.{step_at, way_back, way_to, IsSound, AreWays, Compares}
 
 -- each step to one of the first k places is sound
 abbrev pub AreSound : Mesh → List (Option Step) → ℕ → ℕ → Type 0
@@ -25,6 +26,11 @@ abbrev pub Covers : ℕ → Verdict → ℕ → Type 0
 Covers mask Verdict.Wrong m = ⊥
 Covers mask Verdict.Tied m = m ≡ mask
 Covers mask Verdict.Untied m = ⊤
+
+-- what is known of the order of the ways of n hops to a place and to another
+abbrev pub IsCompared : Mesh → ℕ → List (Option Step) → ℕ → ℕ → Option Compared → Type 0
+IsCompared r mask steps n place None = ⊤
+IsCompared r mask steps n place (Some c) = Compares r mask steps n place c.other c.order
 
 -- there is a step to the end of the arc, and under the mask m the way by the arc from this place isn't below its way
 pub record IsLowOver (g : Graph) (a : SystemId) (steps : List (Option Step)) (m place : ℕ) (s : Step) (arc : Arc)

@@ -1,5 +1,5 @@
 //! The bridge that directly follows another on a best path.
-ghost use Rattle.std.specs.Prelude.{◌≡◌, position, option_map, IfOk};
+ghost use Rattle.std.specs.Prelude.{◌≡◌, ◌<◌, false, length, position, option_map, IfOk};
 ghost use Rattle.std.specs.Option.{option_copied};
 ghost use Rattle.spb_types.specs.Address.{same_system};
 ghost use Rattle.spb_types.specs.Graph.{IsValid};
@@ -47,6 +47,32 @@ pub(crate) fn follower(steps: &[Option<Step>], me: usize, to: usize) -> usize
         left -= 1;
     }
     none
+}
+
+/// Whether the last step of the way to a place leads on from `me`.
+#[inline(always)]
+fn is_before(steps: &[Option<Step>], me: usize, place: usize) -> bool
+    ensures { result ≡ followers.is_before (ways.step_at steps.now place) me }
+{
+    match step_at(steps, place) {
+        None => false,
+        Some(step) => step.before == me,
+    }
+}
+
+/// Whether some bridge directly follows the one at the place `me` on one of the ways. It is looked for among those to which
+/// an arc leads from `me`.
+pub(crate) fn leads_on(mesh: &Mesh, steps: &[Option<Step>], me: usize) -> bool
+    requires ready { AreReady mesh.now }
+    requires me { me < length mesh.now.graph.bridges }
+    ensures { result ≡ false → followers.NoneOnWays mesh.now.graph steps.now me }
+{
+    for arc in &mesh.arcs[me] {
+        if is_before(steps, me, arc.to) {
+            return true;
+        }
+    }
+    false
 }
 
 /// The place of a bridge on a path.

@@ -1,11 +1,12 @@
 //! The best paths in one graph, from some of its bridges and under some masks.
-ghost use Rattle.std.specs.Prelude.{◌≡◌, ◌<◌, ℕ, [], true, false, length, All, IfOk, IsOk, OnOk};
+ghost use Rattle.std.specs.Prelude.{◌≡◌, ◌<◌, ℕ, [], true, false, length, All, IfOk, IfSome, IsOk, OnOk, is_some};
 ghost use Rattle.std.specs.Option.{option_copied};
 ghost use Rattle.spb_types.specs.declared.address.SystemId.{SystemId};
 ghost use Rattle.spb_types.specs.declared.graph.Graph.{Graph};
 ghost use Rattle.ect_trees.specs.Arcs.{IsBridgeAt};
 ghost use Rattle.ect_trees.specs.Followers.{IsFollowerAt};
 ghost use Rattle.ect_trees.specs.Forest as forest;
+ghost use Rattle.ect_trees.specs.Routes.{AreRoutes, serve};
 ghost use Rattle.ect_trees.specs.Tree.{best_path};
 
 use crate::followers::follower_anew;
@@ -92,6 +93,16 @@ impl Forest {
         Ok(())
     }
 
+    /// The best paths from the bridge at a place under a mask, if they are kept.
+    pub fn routes(&self, from: usize, mask: u8) -> Option<&Routes>
+        ensures routes { IfSome result (λ t. AreRoutes self.now.graph t.now) }
+        ensures serve { IfSome result (λ t. serve t.now from mask ≡ true) }
+        ensures kept { is_some result ≡ forest.keeps self.now from mask }
+    {
+        let rows = self.rows.as_slice();
+        kept(rows, from, mask)
+    }
+
     /// The place of the bridge that directly follows the one at the place `me` on the best path under a mask from the
     /// bridge at one place to that at another, or the number of bridges where none does (IEEE 802.1aq, 28.5 to 28.8).
     /// Where the paths are kept, they are read, and it can't fail; else they are searched for this answer alone.
@@ -116,6 +127,7 @@ impl Forest {
         let (source, system) = (bridges[from].id.system, bridges[me].id.system);
         follower_anew(alloc, mesh, source, mask, system, to)
     }
+
     /// The best path under a mask from the bridge at a place to another, with its cost (IEEE 802.1aq, 28.5 to 28.8).
     /// None exactly where there is no path. Where the paths are kept, it is read back from their steps; else they are
     /// searched for this answer alone.

@@ -6,8 +6,8 @@ use spb_types::NoMemory;
 use std::alloc::Global;
 
 /// The steps that were found, by place; the cost of the way to each place, the greatest number where none is found yet;
-/// the places from which the search has still to go on; and the number of the last that was taken among them, with the
-/// cost of the way there.
+/// the places from which the search has still to go on; the number of the last that was taken among them, with the cost
+/// of the way there; and the tie that was looked at last.
 #[derive(Drop)]
 struct Guess<'a> {
     mesh: &'a Mesh,
@@ -16,6 +16,15 @@ struct Guess<'a> {
     costs: Vec<u64>,
     waiting: Vec<usize>,
     taken: Nearest,
+    tie: Tie,
+}
+
+/// Which of the ways of one cost and one number of hops to two places was compared last, and whether the first is lower.
+#[derive(Clone, Copy)]
+struct Tie {
+    first: usize,
+    second: usize,
+    is_lower: bool,
 }
 
 /// No step, at as many places.
@@ -28,6 +37,7 @@ fn no_steps(alloc: Global, places: usize) -> Result<Vec<Option<Step>>, NoMemory>
 }
 
 /// The cost of the way to a place.
+#[inline(always)]
 fn cost_at(costs: &[u64], place: usize) -> u64 {
     if place < costs.len() {
         costs[place]
@@ -91,6 +101,11 @@ impl<'a> Guess<'a> {
             costs: Vec::from_elem(alloc, u64::MAX, places)?,
             waiting: Vec::with_capacity(alloc, places)?,
             taken: Nearest { number: 0, cost: 0 },
+            tie: Tie {
+                first: usize::MAX,
+                second: usize::MAX,
+                is_lower: false,
+            },
         })
     }
 
@@ -108,32 +123,43 @@ impl<'a> Guess<'a> {
         Some(place)
     }
 
-    /// Whether a way of the same cost by the new step has fewer hops than by the old one, or as many and lower ids.
-    fn wins_tie(&self, alloc: Global, new: Step, old: Step) -> Result<bool, NoMemory> {
-        if new.hops != old.hops {
-            return Ok(new.hops < old.hops);
+    /// Whether the way of as many hops to the place before the end of the new step has lower ids than to that of the old
+    /// one. The arcs from a place mostly tie with those from one other, so the last answer is asked for first.
+    fn tie_of(&self, alloc: Global, new: Step, old: Step) -> Result<Tie, NoMemory> {
+        let (first, second) = (new.before, old.before);
+        if self.tie.first == first && self.tie.second == second {
+            return Ok(self.tie);
         }
         let ways = Ways {
             mesh: self.mesh,
             mask: self.mask,
             steps: self.steps.as_slice(),
         };
-        let order = ways.compare(alloc, new.hops.saturating_sub(1), new.before, old.before)?;
-        Ok(order.is_lt())
+        let order = ways.compare(alloc, new.hops.saturating_sub(1), first, second)?;
+        Ok(Tie {
+            first,
+            second,
+            is_lower: order.is_lt(),
+        })
     }
 
     /// Gives a place this step, unless it has one of the same cost that is better.
+    #[inline(always)]
     fn put(&mut self, alloc: Global, place: usize, new: Step) -> Result<(), NoMemory> {
         if place >= self.steps.len() || place >= self.costs.len() {
             return Ok(());
         }
         match self.steps[place] {
             None => self.waiting.push(place)?,
-            Some(old) => {
-                if new.cost == old.cost && !self.wins_tie(alloc, new, old)? {
+            Some(old) if new.cost == old.cost && new.hops > old.hops => return Ok(()),
+            Some(old) if new.cost == old.cost && new.hops == old.hops => {
+                let tie = self.tie_of(alloc, new, old)?;
+                self.tie = tie;
+                if !tie.is_lower {
                     return Ok(());
                 }
             }
+            Some(_) => {}
         }
         self.costs[place] = new.cost;
         self.steps[place] = Some(new);

@@ -23,11 +23,12 @@ pub struct Index {
 }
 
 /// Whether the bridge stands at this place of the graph.
+#[inline(always)]
 pub fn stands_at(graph: &Graph, place: usize, system: SystemId) -> bool
     ensures { IsTrue result → IsBridgeAt graph.now place system }
 {
     let bridges = graph.bridges.as_slice();
-    place < bridges.len() && bridges[place].id.system == system
+    place < bridges.len() && bridges[place].id.system.is(system)
 }
 
 /// The system id read as a number, and spread.

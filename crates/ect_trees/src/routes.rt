@@ -1,10 +1,10 @@
 //! The best paths from a bridge, as they are kept.
-ghost use Rattle.std.specs.Prelude.{◌≡◌, ◌<◌, true, length, IfOk};
+ghost use Rattle.std.specs.Prelude.{◌≡◌, ◌<◌, true, false, length, IfOk};
 ghost use Rattle.spb_types.specs.Graph.{IsValid};
 ghost use Rattle.ect_trees.specs.Arcs.{AreReady, IsBridgeAt};
 ghost use Rattle.ect_trees.specs.Routes as routes;
 
-use crate::followers::{follower, follower_in};
+use crate::followers::{follower, follower_in, leads_on};
 use crate::guess::guessed;
 use crate::mesh::Mesh;
 use crate::paths::path_by;
@@ -76,6 +76,7 @@ pub(crate) fn routes_from(
 
 impl Routes {
     /// Whether these are the best paths from the bridge at this place under this mask.
+    #[inline(always)]
     pub fn serve(&self, from: usize, mask: u8) -> bool
         ensures { result ≡ routes.serve self.now from mask }
     {
@@ -95,6 +96,18 @@ impl Routes {
                 let system = mesh.graph.bridges.as_slice()[me].id.system;
                 follower_in(mesh, tree, system, to)
             }
+        }
+    }
+
+    /// Whether a bridge may directly follow the one at a place on some path. Whole paths aren't looked at.
+    pub fn leads_on(&self, mesh: &Mesh, me: usize) -> bool
+        requires ready { AreReady mesh.now }
+        requires me { me < length mesh.now.graph.bridges }
+        ensures { result ≡ false → routes.NoneLed mesh.now.graph self.now me }
+    {
+        match &self.form {
+            Form::Steps(steps, _) => leads_on(mesh, steps.as_slice(), me),
+            Form::Whole(_) => true,
         }
     }
 
@@ -118,6 +131,7 @@ impl Routes {
 
 impl Form {
     /// Whether these are surely the best paths under every mask, since no other is as short in cost and hops.
+    #[inline(always)]
     fn is_for_all_masks(&self) -> bool
         ensures { result ≡ routes.is_for_all_masks self.now }
     {

@@ -1,5 +1,5 @@
 //! Looks at guessed ways: whether the steps lead back to the source, and whether the ways are low at every edge.
-ghost use Rattle.std.specs.Prelude.{ℕ, length, IfOk, IfSome, IsTrue};
+ghost use Rattle.std.specs.Prelude.{ℕ, length, IfOk, IfSome, IsTrue, OnOk};
 ghost use Rattle.ect_trees.specs.Arcs.{IsArcAt, rows_of};
 ghost use Rattle.ect_trees.specs.Trial as trials;
 ghost use Rattle.ect_trees.specs.Ways as steps;
@@ -8,6 +8,7 @@ use crate::mesh::Arc;
 use crate::ways::{Step, Ways};
 use spb_types::NoMemory;
 use std::alloc::Global;
+use std::cmp::Ordering;
 
 /// What comes of a look at ways: they aren't all best; they are, under the mask; or they are under every mask, since no
 /// other path is as short in cost and hops.
@@ -18,7 +19,15 @@ pub enum Verdict {
     Untied,
 }
 
+/// The order of the ways of as many hops to one place, which is known, and to another.
+#[derive(Clone, Copy)]
+pub struct Compared {
+    pub other: usize,
+    pub order: Ordering,
+}
+
 /// The verdict on two things.
+#[inline(always)]
 fn both(a: Verdict, b: Verdict) -> Verdict
     ensures { (mask m : ℕ) → trials.Covers mask result m → trials.Covers mask a m × trials.Covers mask b m }
 {
@@ -29,7 +38,35 @@ fn both(a: Verdict, b: Verdict) -> Verdict
     }
 }
 
+/// The order of the ways of as many hops to two places: that which is known, or, where it isn't the one to that place, what
+/// is compared now and known then.
+#[inline(always)]
+fn order_of(
+    alloc: Global,
+    ways: &Ways<'_>,
+    known: &mut Option<Compared>,
+    hops: usize,
+    place: usize,
+    other: usize,
+) -> Result<Ordering, NoMemory>
+    requires { trials.IsCompared ways.now.mesh.now ways.now.mask ways.now.steps.now hops place known.old }
+    ensures order { IfOk result
+        (steps.Compares ways.now.mesh.now ways.now.mask ways.now.steps.now hops place other) }
+    ensures known { OnOk result
+        (trials.IsCompared ways.now.mesh.now ways.now.mask ways.now.steps.now hops place known.new) }
+{
+    if let Some(last) = *known
+        && last.other == other
+    {
+        return Ok(last.order);
+    }
+    let order = ways.compare(alloc, hops, place, other)?;
+    *known = Some(Compared { other, order });
+    Ok(order)
+}
+
 /// The arc of this number from a place.
+#[inline(always)]
 fn arc_at(ways: &Ways<'_>, place: usize, number: usize) -> Option<Arc>
     ensures { IfSome result (IsArcAt (rows_of ways.now.mesh.now) place number) }
 {
@@ -94,15 +131,21 @@ fn are_ways(ways: &Ways<'_>, source: usize) -> bool
     first.hops == 0 && ways.steps.len() == ways.mesh.graph.bridges.len() && are_sound(ways, source)
 }
 
-/// Whether the way by an arc is none that is better than the way to the arc's end.
+/// Whether the way by an arc is none that is better than the way to the arc's end. The way to the arc's start was compared
+/// last with one that is known.
+#[inline(always)]
 fn verdict_of_arc(
     alloc: Global,
     ways: &Ways<'_>,
+    known: &mut Option<Compared>,
     place: usize,
     step: Step,
     arc: Arc,
 ) -> Result<Verdict, NoMemory>
-    ensures { IfOk result (trials.ArcIsLow ways.now.mesh.now ways.now.mask ways.now.steps.now place step arc) }
+    requires { trials.IsCompared ways.now.mesh.now ways.now.mask ways.now.steps.now step.hops place known.old }
+    ensures low { IfOk result (trials.ArcIsLow ways.now.mesh.now ways.now.mask ways.now.steps.now place step arc) }
+    ensures known { OnOk result
+        (trials.IsCompared ways.now.mesh.now ways.now.mask ways.now.steps.now step.hops place known.new) }
 {
     let Some(end) = ways.step_at(arc.to) else {
         return Ok(Verdict::Wrong);
@@ -125,7 +168,7 @@ fn verdict_of_arc(
     if end.hops - step.hops > 1 {
         return Ok(Verdict::Wrong);
     }
-    let order = ways.compare(alloc, step.hops, place, end.before)?;
+    let order = order_of(alloc, ways, known, step.hops, place, end.before)?;
     if order.is_lt() {
         Ok(Verdict::Wrong)
     } else {
@@ -146,8 +189,10 @@ fn verdict_of_place(
         return Ok(Verdict::Wrong);
     }
     let mut verdict = Verdict::Untied;
+    let mut known = None;
     for arc in &ways.mesh.arcs[place] {
-        verdict = both(verdict, verdict_of_arc(alloc, ways, place, step, *arc)?);
+        let next = verdict_of_arc(alloc, ways, &mut known, place, step, *arc)?;
+        verdict = both(verdict, next);
     }
     Ok(verdict)
 }

@@ -35,6 +35,7 @@ pub struct Ways<'a> {
 }
 
 /// The step to a place, if there is one.
+#[inline(always)]
 pub fn step_at(steps: &[Option<Step>], place: usize) -> Option<Step>
     ensures { result ≡ ways.step_at steps.now place }
 {
@@ -46,6 +47,7 @@ pub fn step_at(steps: &[Option<Step>], place: usize) -> Option<Step>
 }
 
 /// The place before another on the way there.
+#[inline(always)]
 pub fn place_before(steps: &[Option<Step>], place: usize) -> usize
     ensures { result ≡ ways.place_before steps.now place }
 {
@@ -57,6 +59,7 @@ pub fn place_before(steps: &[Option<Step>], place: usize) -> usize
 
 impl<'a> Ways<'a> {
     /// The step to a place, if there is one.
+    #[inline(always)]
     pub fn step_at(&self, place: usize) -> Option<Step>
         ensures { result ≡ ways.step_at self.now.steps.now place }
     {
@@ -64,6 +67,7 @@ impl<'a> Ways<'a> {
     }
 
     /// The place before another on the way there.
+    #[inline(always)]
     pub fn place_before(&self, place: usize) -> usize
         ensures { result ≡ ways.place_before self.now.steps.now place }
     {
@@ -71,6 +75,7 @@ impl<'a> Ways<'a> {
     }
 
     /// The masked id of the bridge at a place.
+    #[inline(always)]
     fn masked_at(&self, place: usize) -> [u8; 8]
         ensures { (x : SystemId) → IsValid self.now.mesh.now.graph → IsBridgeAt self.now.mesh.now.graph place x
             → result ≡ masked_id self.now.mesh.now.graph self.now.mask x }
@@ -193,6 +198,7 @@ impl<'a> Ways<'a> {
 }
 
 /// The lesser of two masked ids, the first of which may be missing.
+#[inline(always)]
 fn lesser(least: Option<[u8; 8]>, id: [u8; 8]) -> Option<[u8; 8]>
     ensures { (ids : List (List ℕ)) → slice_get ids 0 ≡ least → slice_get (inserted id ids) 0 ≡ result }
 {

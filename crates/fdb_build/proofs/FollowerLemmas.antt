@@ -1,6 +1,7 @@
 -- The ports towards the bridges that follow `me` on best paths, by their places.
-use Rattle.std.specs.Prelude.{ℕ, zero, suc, ◌≡◌, ◌≤◌, ◌<◌, List, [], ◌∷◌, length, map, Bool, true, false, Option, Some, None, option_map, option_and_then, unwrap_or, position, slice_get, if◌then◌else◌}
+use Rattle.std.specs.Prelude.{ℕ, zero, suc, ◌⊎◌, ◌≡◌, ◌≤◌, ◌<◌, List, [], ◌∷◌, length, map, Bool, true, false, Option, Some, None, option_map, option_and_then, unwrap_or, position, slice_get, if◌then◌else◌}
 use Rattle.std.proofs.Common.{refl, sym, ap, ◌∙◌, subst, arith, get_or, inl, inr, true≢false, IsSome}
+use Rattle.std.proofs.lemmas.Bool.{cases_lt}
 use Rattle.std.proofs.lemmas.List.{length-map}
 use Rattle.std.proofs.lemmas.Option.{same_Some, none-some}
 use Rattle.spb_types.specs.Address.{same_system}
@@ -14,15 +15,16 @@ use Rattle.spb_types.specs.declared.service.VidPlan.{VidPlan}
 use Rattle.ect_trees.specs.Path.{IsPath}
 use Rattle.ect_trees.specs.Best.{best_of}
 use Rattle.ect_trees.specs.Arcs.{IsBridgeAt, place_in}
-use Rattle.ect_trees.specs.Followers.{after_in, place_or_end, place_after, IsFollowerAt}
+use Rattle.ect_trees.specs.Followers.{after_in, place_or_end, place_after, IsFollowerAt, NoneFollows}
 use Rattle.ect_trees.proofs.Among.{same_self}
 use Rattle.ect_trees.proofs.Exists.{best_of_some}
 use Rattle.ect_trees.proofs.Places.{place_at, place_found, place_found_at}
 use Rattle.ect_trees.proofs.Walks.{path_bridges, path_end}
 use Rattle.fdb_build.specs.Tables.{port_towards, unicast_row}
 use Rattle.fdb_build.specs.Groups.{port_after}
-use Rattle.fdb_build.specs.Making.{port_set, set_at, sets_from}
+use Rattle.fdb_build.specs.Making.{port_set, set_at, sets_from, source_at}
 use Rattle.fdb_build.proofs.RowLemmas.{port_among-le, port_among-low}
+use Rattle.fdb_build.proofs.SourceLemmas.{source_stands}
 
 -- what is read at the place of a bridge
 pub read_there : {A : Type 0} (f : SystemId → A) (d : A) (bs : List GraphBridge) (place : ℕ) (x : SystemId) → slice_get (systems_of bs) place ≡ Some x → get_or (map (λ (b : GraphBridge). f b.id.system) bs) place d ≡ f x
@@ -77,6 +79,16 @@ set_of_follower g me plan mask place source to next a x ports valid e same here 
     let follower : next ≡ place_after g me (best_of g m a x) = subst (λ t. next ≡ place_after g me (best_of g t a x)) same (follows a me from here x at) in
     ap port_set (ap (λ n. get_or ports n None) follower ∙ port_of_follower g m me a x ports valid e) ∙
     sym (read_there (λ y. port_set (port_after g m a y me)) no_ports g.bridges to x at)
+
+-- where no bridge follows `me` on the ways from a source, its sets are empty
+pub none_behind : (g : Graph) (me : SystemId) (plan : VidPlan) (mask place source : ℕ) (a : SystemId) → IsValid g → mask ≡ mask_of plan.ect → IsBridgeAt g place me → IsBridgeAt g source a → NoneFollows g mask source place → (to : ℕ) → set_at (sets_from g me plan a) to ≡ no_ports
+none_behind g me plan mask place source a valid same here from none to = by (cases_lt to (length g.bridges))
+  where
+    by : (to < length g.bridges) ⊎ (length g.bridges ≤ to) → set_at (sets_from g me plan a) to ≡ no_ports
+    by (inl low) =
+        sym (set_of_follower g me plan mask place source to (length g.bridges) a (source_at g to).id.system (ports_in g me) valid refl same here from (source_stands g to low) (none to))
+        ∙ ap port_set (read_past (λ b. port_between g me b.id.system) None g.bridges (length g.bridges) (omega arith))
+    by (inr high) = read_past (λ b. port_set (port_after g (mask_of plan.ect) a b.id.system me)) no_ports g.bridges to high
 
 -- within the ports of `me` a bridge stands
 pub within_ports : (g : Graph) (me : SystemId) (to : ℕ) (ports : List (Option ℕ)) → ports ≡ ports_in g me → to < length ports → to < length g.bridges

@@ -7,7 +7,7 @@ use Rattle.std.specs.Map.{keys_of, lookup}
 use Rattle.std.specs.Ordering.{is_eq, ordering_then}
 use Rattle.std.proofs.Common.{refl, sym, ap, ◌∙◌, subst, inl, inr, get_or, take_all, true≢false, Ordering, Less, Equal, Greater}
 use Rattle.std.proofs.lemmas.Cmp.{nat_cmp_total, tied_itself}
-use Rattle.std.proofs.lemmas.List.Folds.{list_any_more}
+use Rattle.std.proofs.lemmas.List.Folds.{list_any_more, list_any_none}
 use Rattle.std.proofs.lemmas.Map.Entries.{btree_map_get_place, place_from_lookup}
 use Rattle.std.proofs.lemmas.Map.Keys.{sorted_head, sorted_tail}
 use Rattle.std.proofs.lemmas.Slice.Eq.{bytes_eq-Decides}
@@ -28,7 +28,7 @@ use Rattle.spb_types.specs.Address.{group_address}
 use Rattle.spb_types.specs.declared.graph.GraphBridge.{GraphBridge}
 use Rattle.spb_types.specs.declared.service.Isid.{Isid}
 use Rattle.fdb_build.specs.Groups.{group_cmp, ListPorts, leads_on, group_rows_of_vid}
-use Rattle.fdb_build.specs.Making.{union, is_towards, isid_cmp, list_at, sent_by, place_of, sets_from, ports_at, same_mac, is_from, is_from_some, AreFilled, Grew, row_of}
+use Rattle.fdb_build.specs.Making.{union, set_at, is_towards, isid_cmp, list_at, sent_by, place_of, sets_from, ports_at, same_mac, is_from, is_from_some, AreFilled, Grew, row_of}
 use Rattle.fdb_build.proofs.GroupLemmas.{IsPortIn, macs_total, macs_tied, rows_one, vid_table}
 use Rattle.fdb_build.proofs.GroupTests.{test_leads, leads_test}
 use Rattle.fdb_build.proofs.RowLemmas.{port_among-le, port_among-low}
@@ -53,6 +53,29 @@ grew_none rows mac ports none = record {
   ports = λ q p. sym (ap (λ b. has (ports_at rows q) p || (same_mac q mac && b)) (none p) ∙ (ap (λ b. has (ports_at rows q) p || b) (and_false (same_mac q mac)) ∙ or_false (has (ports_at rows q) p)));
   filled = λ h. h;
 }
+
+-- rows of which nothing is asked
+pub grew_nothing : (rows : BTreeMap Mac PortSet) (test : Mac → ℕ → Bool) → ((q : Mac) (p : ℕ) → test q p ≡ false) → Grew rows rows test
+grew_nothing rows test none = record {
+  ports = λ q p. sym (ap (λ b. has (ports_at rows q) p || b) (none q p) ∙ or_false (has (ports_at rows q) p));
+  filled = λ h. h;
+}
+
+-- no port leads from a source whose sets are empty
+no_port : (s : Services) (source : GraphBridge) (sets : List PortSet) → ((place : ℕ) → set_at sets place ≡ no_ports) → (isids : List Isid) (q : Mac) (p : ℕ) → is_from s source sets isids q p ≡ false
+no_port s source sets empty isids q p = list_any_none (λ isid. same_mac q (group_address source.source.value isid.value) && is_towards sets (list_at isid_cmp s.receivers isid) p) isids (λ k d within. at (get_or isids k d))
+  where
+    at : (isid : Isid) → (same_mac q (group_address source.source.value isid.value) && is_towards sets (list_at isid_cmp s.receivers isid) p) ≡ false
+    at isid =
+        let none : is_towards sets (list_at isid_cmp s.receivers isid) p ≡ false = list_any_none (λ place. has (set_at sets place) p) (list_at isid_cmp s.receivers isid) (λ k d within. ap (λ t. has t p) (empty (get_or (list_at isid_cmp s.receivers isid) k d)) ∙ has-no_ports p) in
+        ap (λ b. same_mac q (group_address source.source.value isid.value) && b) none ∙ and_false (same_mac q (group_address source.source.value isid.value))
+
+pub grew_from_none : (s : Services) (source : GraphBridge) (sets : List PortSet) (isids : List Isid) (rows : BTreeMap Mac PortSet) → ((place : ℕ) → set_at sets place ≡ no_ports) → Grew rows rows (is_from s source sets isids)
+grew_from_none s source sets isids rows empty = grew_nothing rows (is_from s source sets isids) (λ q p. no_port s source sets empty isids q p)
+
+-- nor to no service
+pub grew_to_none : (s : Services) (source : GraphBridge) (sets : List PortSet) (isids : List Isid) (rows : BTreeMap Mac PortSet) → isids ≡ [] → Grew rows rows (is_from s source sets isids)
+grew_to_none s source sets isids rows none = grew_nothing rows (is_from s source sets isids) (λ q p. ap (λ l. is_from s source sets l q p) none)
 
 eq_is : (o : Ordering) → is_eq o ≡ true → o ≡ Equal
 eq_is Less h = absurd (true≢false (sym h))

@@ -1,12 +1,14 @@
--- A bridge that the graph doesn't have has no rows.
-use Rattle.std.specs.Prelude.{ℕ, ◌≡◌, List, [], ◌∷◌, ◌++◌, Option, Some, None, IsSome, option_map, option_and_then, slice_get, position}
+-- A bridge that the graph doesn't have has no rows, and where the graph has no members no bridge has group rows.
+use Rattle.std.specs.Prelude.{ℕ, ◌≡◌, ◌==◌, length, true, List, [], ◌∷◌, ◌++◌, map, Option, Some, None, IsSome, option_map, option_and_then, slice_get, position}
 use Rattle.std.specs.List.{filter_map, cons_option, flat_map}
-use Rattle.std.proofs.Common.{refl, sym, ap, ◌∙◌, subst, inl, true≢false}
-use Rattle.spb_types.specs.Address.{same_system}
+use Rattle.std.proofs.Common.{refl, sym, ap, ◌∙◌, subst, inl, true≢false, eqb-true, arith}
+use Rattle.spb_types.specs.Address.{same_system, group_address}
 use Rattle.spb_types.specs.Ect.{mask_of}
 use Rattle.spb_types.specs.Graph.{IsBridge, IsValid, systems_of, port_between}
 use Rattle.spb_types.specs.declared.address.SystemId.{SystemId}
 use Rattle.spb_types.specs.declared.graph.Graph.{Graph}
+use Rattle.spb_types.specs.declared.graph.GraphBridge.{GraphBridge}
+use Rattle.spb_types.specs.declared.graph.Member.{Member}
 use Rattle.spb_types.specs.declared.service.VidPlan.{VidPlan}
 use Rattle.ect_trees.specs.Best.{best_of}
 use Rattle.ect_trees.proofs.Among.{among_right}
@@ -14,8 +16,9 @@ use Rattle.ect_trees.proofs.Exists.{best_of_some}
 use Rattle.ect_trees.proofs.Members.{has_from_contains}
 use Rattle.ect_trees.proofs.Places.{place_found}
 use Rattle.ect_trees.proofs.Walks.{path_bridges, path_start}
-use Rattle.fdb_build.specs.Tables.{unicast_row, rows_of_vid, unicast_rows, ascending_by, system_cmp, vid_cmp}
-use Rattle.fdb_build.specs.Groups.{ListPorts, group_rows_of_vid, group_rows}
+use Rattle.fdb_build.specs.Tables.{unicast_row, rows_of_vid, unicast_rows, ascending_by, mac_cmp, system_cmp, vid_cmp}
+use Rattle.fdb_build.specs.Groups.{ListPorts, each_once, group_row, group_rows_of_vid, group_rows}
+use Rattle.fdb_build.specs.declared.layout.Planned.{Planned}
 use Rattle.fdb_build.proofs.GroupLemmas.{IsPortIn, rows_one, vid_table}
 
 filter_map_none : {X Y : Type 0} (h : X → Option Y) (xs : List X) → ((x : X) → h x ≡ None) → filter_map h xs ≡ []
@@ -25,6 +28,17 @@ filter_map_none h (x ∷ xs) none = ap (λ o. cons_option o (filter_map h xs)) (
 flat_map_none : {X Y : Type 0} (f : X → List Y) (xs : List X) → ((x : X) → f x ≡ []) → flat_map f xs ≡ []
 flat_map_none f [] none = refl
 flat_map_none f (x ∷ xs) none = ap (λ l. l ++ flat_map f xs) (none x) ∙ flat_map_none f xs none
+
+-- a list that counts none
+pub nothing : {X : Type 0} (xs : List X) → (length xs == 0) ≡ true → xs ≡ []
+nothing [] e = refl
+nothing (x ∷ xs) e = let long = eqb-true (length (x ∷ xs)) 0 e in absurd (omega (arith, long))
+
+no_addresses : (members : List Member) (bs : List GraphBridge) → members ≡ [] → flat_map (λ (b : GraphBridge). map (λ (m : Member). group_address b.source.value m.isid.value) members) bs ≡ []
+no_addresses members bs none = flat_map_none (λ (b : GraphBridge). map (λ (m : Member). group_address b.source.value m.isid.value) members) bs (λ b. ap (map (λ (m : Member). group_address b.source.value m.isid.value)) none)
+
+pub no_member_rows : (g : Graph) (me : SystemId) (plans : List Planned) → g.members ≡ [] → flat_map (λ (p : Planned). group_rows_of_vid g me p.plan) plans ≡ []
+no_member_rows g me plans none = flat_map_none (λ (p : Planned). group_rows_of_vid g me p.plan) plans (λ p. ap (λ l. filter_map (group_row g me p.plan) (each_once mac_cmp l)) (no_addresses g.members g.bridges none))
 
 module _ (g : Graph) (me : SystemId) (valid : IsValid g) (none : position (λ b. same_system b.id.system me) g.bridges ≡ None) where
   no_bridge : IsBridge g me → ⊥

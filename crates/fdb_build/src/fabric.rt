@@ -188,6 +188,7 @@ impl Fabric {
     {
         let searches = Grown {
             forest: &self.forest,
+            last: None,
         };
         tables_with(alloc, self.forest.roads(), &self.layout, searches, me)
     }

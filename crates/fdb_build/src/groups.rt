@@ -14,7 +14,7 @@ use crate::layout::Planned;
 use crate::searches::Searches;
 use crate::sets::{Found, nothing_found, ports_behind, union};
 use crate::surroundings::Surroundings;
-use spb_types::{GraphBridge, GroupRow, Mac, NoMemory, PortSet, Vid, group_address};
+use spb_types::{GraphBridge, GroupRow, Mac, NoMemory, PortSet, Vid, ect_mask, group_address};
 use std::alloc::Global;
 use std::collections::BTreeMap;
 
@@ -48,8 +48,8 @@ fn source_at(around: &Surroundings<'_>, place: usize) -> GraphBridge
     around.roads.graph().bridges.as_slice()[place]
 }
 
-/// Adds the ports for the services to which the bridge at a place sends. For each place it asks at most once, since it
-/// keeps what it found there.
+/// Adds the ports for the services to which the bridge at a place sends. Where no bridge follows `me` on a path from there,
+/// nothing more is asked; else for each place it asks at most once, since it keeps what it found there.
 fn add_source<S: Searches>(
     alloc: Global,
     rows: &mut BTreeMap<Mac, PortSet>,
@@ -69,8 +69,17 @@ fn add_source<S: Searches>(
         (making.source_at around.now.roads.now place))) }
     ensures found { OnOk result (making.AreFound around.now.roads.now around.now.me found.new.items) }
 {
+    let isids = planned.services.sent_at(place);
+    if isids.is_empty() {
+        return Ok(());
+    }
+    let mask = ect_mask(planned.plan.ect);
+    let searches = searches.at(place, mask);
+    if !searches.leads_on(around.roads, place, mask, around.place) {
+        return Ok(());
+    }
     let source = source_at(around, place).source;
-    for isid in planned.services.sent_at(place) {
+    for isid in isids {
         let receivers = planned.services.receivers_of(*isid);
         let plan = planned.plan;
         let ports = ports_behind(alloc, found, around, searches, plan, place, receivers)?;
@@ -143,7 +152,7 @@ fn push_groups<S: Searches>(
     put_rows(rows, planned.plan.vid, &of_vid)
 }
 
-/// The group rows for each of the plans, in order.
+/// The group rows for each of the plans, in order. Where the graph has no members, there are none.
 pub fn groups_of<S: Searches>(
     alloc: Global,
     around: &Surroundings<'_>,
@@ -156,6 +165,9 @@ pub fn groups_of<S: Searches>(
     ensures { IfOk result (λ rows.
         rows.items ≡ flat_map (λ p. groups.group_rows_of_vid around.now.roads.now around.now.me p.plan) plans.now) }
 {
+    if around.roads.graph().members.is_empty() {
+        return Ok(Vec::new(alloc));
+    }
     let mut found = nothing_found(alloc, around)?;
     let mut rows = Vec::new(alloc);
     for planned in plans {

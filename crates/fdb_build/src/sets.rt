@@ -22,6 +22,7 @@ pub struct Found {
 }
 
 /// The ports of either set.
+#[inline(always)]
 pub fn union(a: PortSet, b: PortSet) -> PortSet
     ensures value { result ≡ making.union a b }
     ensures small { result.bits < 2 ^ 32 }
@@ -89,6 +90,7 @@ pub fn nothing_found(
 }
 
 /// What was found last at a place.
+#[inline(always)]
 fn found_at(found: &Vec<Option<Found>>, place: usize) -> Option<Found>
     ensures { result ≡ slice_index_or found.now.items place None }
 {
@@ -100,6 +102,7 @@ fn found_at(found: &Vec<Option<Found>>, place: usize) -> Option<Found>
 }
 
 /// The set, if it was found for this source under this plan.
+#[inline(always)]
 fn found_for(last: Option<Found>, plan: VidPlan, source: usize) -> Option<PortSet>
     ensures { result ≡ making.found_for plan source last }
 {
@@ -116,6 +119,7 @@ fn found_for(last: Option<Found>, plan: VidPlan, source: usize) -> Option<PortSe
 }
 
 /// Keeps what was found at a place, if there is room for it.
+#[inline(always)]
 fn keep(found: &mut Vec<Option<Found>>, place: usize, last: Found)
     ensures { found.new.items ≡ slice_set found.old.items place (Some last) }
 {

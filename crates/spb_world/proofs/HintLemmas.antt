@@ -1,8 +1,17 @@
--- A link that ends at a port is the way out of it.
-use Rattle.std.proofs.Common.{◌≡◌, ◌≢◌, ℕ, Bool, true, false, List, Option, Some, None, IfSome, if◌then◌else◌, slice_get, refl, sym, ap, ◌∙◌, subst}
+-- A link that ends at a port is the way out of it, and a bridge that stands at a place is found there.
+use Rattle.std.proofs.Common.{◌≡◌, ◌≢◌, ℕ, zero, suc, ◌+◌, ◌<◌, Bool, true, false, not, cond, List, [], ◌∷◌, length, map, Option, Some, None, IfSome, if◌then◌else◌, slice_get, refl, sym, ap, ◌∙◌, subst, arith, lt-ltb}
+use Rattle.std.specs.List.{position, position_or_len}
+use Rattle.std.proofs.lemmas.Option.{slice_get-map, slice_get_within}
 use Rattle.std.specs.Option.{option_map}
+use Rattle.spb_types.specs.Address.{same_system}
+use Rattle.spb_types.specs.Graph.{IsAmong, IsDistinct, systems_of}
+use Rattle.spb_types.specs.declared.address.SystemId.{SystemId}
+use Rattle.spb_types.specs.declared.graph.GraphBridge.{GraphBridge}
 use Rattle.spb_types.specs.declared.link.Dir.{Dir}
 use Rattle.spb_types.specs.declared.link.Dir.TheVariants.{Ab, Ba}
+use Rattle.ect_trees.proofs.Among.{same_is}
+use Rattle.ect_trees.proofs.Places.{at_among}
+use Rattle.spb_world.specs.declared.declaration.DeclaredBridge.{DeclaredBridge}
 use Rattle.spb_world.specs.declared.declaration.DeclaredLink.{DeclaredLink}
 use Rattle.link_model.specs.declared.lanes.LaneId.{LaneId}
 use Rattle.spb_world.specs.World.{AllApart}
@@ -31,3 +40,27 @@ hint-holds links k i p l lane apart ends at e =
 pub hint-gives : (links : List DeclaredLink) (k i p : ℕ) (l : DeclaredLink) (o : Option LaneId) → AllApart links → l.a.bridge ≢ l.b.bridge → slice_get links k ≡ Some l → o ≡ lane_of_link k l i p → IfSome o (λ lane. lane_out links i p ≡ Some lane)
 hint-gives links k i p l None apart ends at e = tt
 hint-gives links k i p l (Some lane) apart ends at e = hint-holds links k i p l lane apart ends at (sym e)
+
+-- ---- bridges
+
+-- without repeats a bridge is the first of its system id
+at_first : (bs : List DeclaredBridge) (i : ℕ) (b : DeclaredBridge) (x : SystemId) → IsDistinct (systems_of (map (λ c. c.bridge) bs)) → slice_get bs i ≡ Some b → same_system b.bridge.id.system x ≡ true → position_or_len (λ c. same_system c.bridge.id.system x) bs ≡ i
+at_first [] i b x d at is = absurd cc
+at_first (c ∷ bs) zero b x d at is =
+    let same : c ≡ b = cc in
+    ap (λ t. cond (not t) (1 + position_or_len (λ e. same_system e.bridge.id.system x) bs) 0) (ap (λ e. same_system e.bridge.id.system x) same ∙ is)
+at_first (c ∷ bs) (suc i) b x d at is = by (same_system c.bridge.id.system x) refl (at_first bs i b x d.1 at is)
+  where
+    by : (t : Bool) → same_system c.bridge.id.system x ≡ t → position_or_len (λ e. same_system e.bridge.id.system x) bs ≡ i → cond (not (same_system c.bridge.id.system x)) (1 + position_or_len (λ e. same_system e.bridge.id.system x) bs) 0 ≡ suc i
+    by false e ih = ap (λ t. cond (not t) (1 + position_or_len (λ e. same_system e.bridge.id.system x) bs) 0) e ∙ omega (arith, ih)
+    by true e ih =
+        let one : b.bridge.id.system ≡ c.bridge.id.system = same_is b.bridge.id.system x is ∙ sym (same_is c.bridge.id.system x e) in
+        let there : slice_get (systems_of (map (λ t. t.bridge) bs)) i ≡ Some b.bridge.id.system = slice_get-map (λ (t : GraphBridge). t.id.system) (map (λ t. t.bridge) bs) i ∙ ap (option_map (λ (t : GraphBridge). t.id.system)) (slice_get-map (λ (t : DeclaredBridge). t.bridge) bs i ∙ ap (option_map (λ (t : DeclaredBridge). t.bridge)) at) in
+        absurd (d.0 (subst (λ t. IsAmong t (systems_of (map (λ t. t.bridge) bs))) one (at_among (systems_of (map (λ t. t.bridge) bs)) i b.bridge.id.system there)))
+
+-- so its place is the one that is found
+pub place-holds : (bs : List DeclaredBridge) (i : ℕ) (b : DeclaredBridge) (x : SystemId) → IsDistinct (systems_of (map (λ c. c.bridge) bs)) → slice_get bs i ≡ Some b → same_system b.bridge.id.system x ≡ true → position (λ c. same_system c.bridge.id.system x) bs ≡ Some i
+place-holds bs i b x d at is =
+    let first = at_first bs i b x d at is in
+    let within : i < length bs = slice_get_within bs i b at in
+    ap (λ t. cond t (Some (position_or_len (λ c. same_system c.bridge.id.system x) bs)) None) (lt-ltb (position_or_len (λ c. same_system c.bridge.id.system x) bs) (length bs) (omega (arith, within, first))) ∙ ap Some first

@@ -32,7 +32,7 @@ pub fn place_of_system(bridges: &IndexMap<Name, DeclaredBridge>, system: SystemI
 {
     bridges
         .values()
-        .position(|bridge| bridge.bridge.id.system == system)
+        .position(|bridge| bridge.bridge.id.system.is(system))
 }
 
 /// The edge that a link makes, if it is up.

@@ -1,16 +1,30 @@
-//! Where to look first for the link at a port.
+//! Where to look first for the link at a port, and for the bridge of a system id.
 use crate::LinkEnd;
-use spb_types::NoMemory;
 use spb_types::limits::MOST_BRIDGES;
+use spb_types::{NoMemory, SystemId};
 use std::alloc::Global;
 
 /// Places for the ports of a bridge, which are numbered from 1 to 32.
 const PORTS: usize = 33;
 
-/// Which link may end at each port. A hint says nothing by itself: who takes it looks at the link.
+/// Slots for the places of bridges: a power of two, and enough that few of the most bridges share one.
+const SLOTS: usize = 512;
+
+/// An odd number near 2^64 divided by the golden ratio: a product with it spreads system ids that stand close.
+const SPREAD: u64 = 0x9e37_79b9_7f4a_7c15;
+
+/// Which link may end at each port, and where the bridge of a system id may stand. A hint says nothing by itself: who takes
+/// it looks at the link, or at the bridge.
 #[derive(Drop)]
 pub struct Hints {
     links: Vec<usize>,
+    /// A place for each slot, that of the last bridge whose system id has it.
+    bridges: Vec<usize>,
+}
+
+/// The slot of a system id.
+fn slot_of(system: SystemId) -> usize {
+    (system.number().wrapping_mul(SPREAD) >> 55) as usize
 }
 
 impl Hints {
@@ -18,15 +32,31 @@ impl Hints {
     pub fn new(alloc: Global) -> Self {
         Hints {
             links: Vec::new(alloc),
+            bridges: Vec::new(alloc),
         }
     }
 
-    /// Makes room for the ports of one bridge more.
-    pub fn add_bridge(&mut self) -> Result<(), NoMemory> {
+    /// Makes room for the ports of one bridge more, which has the next place, and notes that.
+    pub fn add_bridge(&mut self, system: SystemId) -> Result<(), NoMemory> {
+        let place = self.links.len() / PORTS;
         for _ in 0..PORTS {
             self.links.push(0)?;
         }
+        for _ in self.bridges.len()..SLOTS {
+            self.bridges.push(0)?;
+        }
+        if let Some(hint) = self.bridges.get_mut(slot_of(system)) {
+            *hint = place;
+        }
         Ok(())
+    }
+
+    /// The place where the bridge of a system id may stand.
+    pub fn bridge_at(&self, system: SystemId) -> usize {
+        match self.bridges.get(slot_of(system)) {
+            None => 0,
+            Some(place) => *place,
+        }
     }
 
     /// The place of the link that may end at a port of the bridge at a place.

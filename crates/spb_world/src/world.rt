@@ -142,11 +142,27 @@ impl World {
         }
     }
 
+    /// The place that the hint of a system id gives, where that bridge stands there.
+    fn hinted_place(&self, system: SystemId) -> Option<usize>
+        ensures { IfSome result (λ place. paths.place_of_system self.now.bridges system ≡ Some place) }
+    {
+        let place = self.hints.bridge_at(system);
+        let bridge = self.bridge(place)?;
+        if bridge.bridge.id.system.is(system) {
+            Some(place)
+        } else {
+            None
+        }
+    }
+
     /// The place of the bridge of a system id. None exactly where there is none.
     pub fn place_of_system(&self, system: SystemId) -> Option<usize>
         ensures { result ≡ paths.place_of_system self.now.bridges system }
     {
-        place_of_system(&self.bridges, system)
+        match self.hinted_place(system) {
+            Some(place) => Some(place),
+            None => place_of_system(&self.bridges, system),
+        }
     }
 
     /// The name of the bridge at a place. None exactly where the place is past the last.
@@ -513,7 +529,7 @@ impl World {
             ports: ports as u8,
         };
         self.fabric = None;
-        self.hints.add_bridge()?;
+        self.hints.add_bridge(id.system)?;
         self.attached.add_bridge()?;
         insert_new(&mut self.bridges, name, bridge)?;
         Ok(())
