@@ -311,10 +311,22 @@ impl Database {
         ensures full { IsErrOf result PutError.Full ↔ (fits self.old held.id ≡ false) }
         ensures err { OnErr result (self.new ≡ self.old) }
     {
+        let last = self.held.len();
+        self.put_near(last, held)
+    }
+
+    /// [`put`](Self::put), which looks for the id at the place `near` before any other: where it stands there, that takes
+    /// one comparison.
+    pub fn put_near(&mut self, near: usize, held: Held) -> Result<(), PutError>
+        requires { CanBeHeld held.version held.lifetime held.body }
+        ensures ok { OnOk result (self.new ≡ finite.insert self.old held.id (cleaned (entry_of held))) }
+        ensures full { IsErrOf result PutError.Full ↔ (fits self.old held.id ≡ false) }
+        ensures err { OnErr result (self.new ≡ self.old) }
+    {
         let mut held = held;
         item::clean(&mut held);
         self.calm = None;
-        match place_of(&self.held, &held.id) {
+        match place_near(&self.held, near, &held.id) {
             Ok(place) => {
                 self.held[place] = held;
                 Ok(())
