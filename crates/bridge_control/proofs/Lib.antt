@@ -18,6 +18,7 @@ pub mod OwnTables
 pub mod Anew
 pub mod Tlvless
 pub mod Telling
+pub mod Unsaid
 pub mod Moving
 pub mod Copies
 pub mod HeldAgain

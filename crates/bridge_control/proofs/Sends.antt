@@ -17,7 +17,7 @@ use Rattle.spb_tlvs.specs.declared.entries.SnpEntry.{SnpEntry}
 use Rattle.spb_tlvs.specs.RoundTrip.{IsEntry}
 use Rattle.itag_frames.specs.Frame.{control_bytes}
 use Rattle.lsdb.specs.Entry.{Entry, with_ssn}
-use Rattle.lsdb.specs.Database.{Lsps, is_srm_at, is_ssn_at, AreFlagsWithin}
+use Rattle.lsdb.specs.Database.{Lsps, is_srm_at, is_ssn_at, AreFlagsAt}
 use Rattle.lsdb.proofs.Flags.{none_to_send_at, none_to_ack_at, none_each}
 use Rattle.flooding.specs.Entries.{IsSendable, AreSendable}
 use Rattle.flooding.specs.Sending.{lsp_in}
@@ -220,19 +220,19 @@ after_sending_ssn p port db q low high none =
 
 -- ---- the ports so far
 
-pub record Sending (system : SystemId) (ports : List BridgePort) (db : Lsps) (o : Outbox) (i : ℕ) (srm ssn : PortSet) (first end : ℕ) (frames : List (Option (List ℕ))) (now : Lsps) (new : Outbox) : Type 0 where
+pub record Sending (system : SystemId) (ports : List BridgePort) (db : Lsps) (o : Outbox) (i : ℕ) (srm ssn : PortSet) (ps : List ℕ) (frames : List (Option (List ℕ))) (now : Lsps) (new : Outbox) : Type 0 where
   pub sent : new ≡ with_wire (sent_from system 1 (take i ports) db) o
   pub after_sending : now ≡ after_sending_from 1 (take i ports) db
   pub sendable : AreSendable now
   pub sized : AreSized now
   pub no_srm : (q : ℕ) → has srm q ≡ false → is_srm_at q now ≡ false
   pub no_ssn : (q : ℕ) → has ssn q ≡ false → is_ssn_at q now ≡ false
-  pub within : AreFlagsWithin first end now
-  pub made : AreMadeOf system (entries now) frames
+  pub within : AreFlagsAt 0 ps (entries now)
+  pub made : AreMadeOf system (entries now) ps frames
 
-pub sending_next : (system : SystemId) (ports : List BridgePort) (db : Lsps) (o : Outbox) (i : ℕ) (d : BridgePort) (srm ssn : PortSet) (first end : ℕ) (frames : List (Option (List ℕ))) (now then_db : Lsps) (mid new : Outbox) → length ports ≤ 32 → i < length ports → Sending system ports db o i srm ssn first end frames now mid
-    → new ≡ with_wire (sent_at system (i + 1) (get_or ports i d) now) mid → then_db ≡ after_sending_at (i + 1) (get_or ports i d) now → Sending system ports db o (i + 1) srm ssn first end frames then_db new
-sending_next system ports db o i d srm ssn first end frames now then_db mid new few within was sent after_sending = record {
+pub sending_next : (system : SystemId) (ports : List BridgePort) (db : Lsps) (o : Outbox) (i : ℕ) (d : BridgePort) (srm ssn : PortSet) (ps : List ℕ) (frames : List (Option (List ℕ))) (now then_db : Lsps) (mid new : Outbox) → length ports ≤ 32 → i < length ports → Sending system ports db o i srm ssn ps frames now mid
+    → new ≡ with_wire (sent_at system (i + 1) (get_or ports i d) now) mid → then_db ≡ after_sending_at (i + 1) (get_or ports i d) now → Sending system ports db o (i + 1) srm ssn ps frames then_db new
+sending_next system ports db o i d srm ssn ps frames now then_db mid new few within was sent after_sending = record {
   sent = ports_next system ports db now i d o mid new within was.sent was.after_sending sent;
   after_sending = after_sending_next ports db now then_db i d within was.after_sending after_sending;
   sendable = subst AreSendable (sym after_sending) (after_sending_sendable (i + 1) (get_or ports i d) now was.sendable);
@@ -240,6 +240,6 @@ sending_next system ports db o i d srm ssn first end frames now then_db mid new 
   no_srm = λ q none. subst (λ (x : Lsps). is_srm_at q x ≡ false) (sym after_sending) (after_sending_srm (i + 1) (get_or ports i d) now q (was.no_srm q none));
   no_ssn = λ q none. subst (λ (x : Lsps). is_ssn_at q x ≡ false) (sym after_sending)
       (after_sending_ssn (i + 1) (get_or ports i d) now q (omega arith) (omega (arith, few, within)) (was.no_ssn q none));
-  within = subst (λ (x : Lsps). AreFlagsWithin first end x) (sym after_sending) (after_sending_within first end (i + 1) (get_or ports i d) now was.within);
-  made = subst (λ (x : Lsps). AreMadeOf system (entries x) frames) (sym after_sending) (after_sending_frames system (i + 1) (get_or ports i d) now frames was.made);
+  within = subst (λ (x : Lsps). AreFlagsAt 0 ps (entries x)) (sym after_sending) (after_sending_within ps (i + 1) (get_or ports i d) now was.within);
+  made = subst (λ (x : Lsps). AreMadeOf system (entries x) ps frames) (sym after_sending) (after_sending_frames system (i + 1) (get_or ports i d) now ps frames was.made);
 }

@@ -145,7 +145,7 @@ among_some system p db i o new is =
 
 -- ---- ports
 
-drop_at : {X : Type 0} (xs : List X) (i : ℕ) (d : X) → i < length xs → drop i xs ≡ get_or xs i d ∷ drop (suc i) xs
+pub drop_at : {X : Type 0} (xs : List X) (i : ℕ) (d : X) → i < length xs → drop i xs ≡ get_or xs i d ∷ drop (suc i) xs
 drop_at [] i d within = absurd (omega arith)
 drop_at (x ∷ xs) zero d within = refl
 drop_at (x ∷ xs) (suc i) d within = drop_at xs i d (omega arith)
@@ -211,3 +211,8 @@ ports_some system ports db now i d o mid new within before after_sending g =
     ∙ ap (λ (ps : List BridgePort). sent_from system 1 (take i ports) db ++ sent_from system (i + 1) ps then) (drop_at ports i d within)))
     before
     (gained_as (sent_at system (i + 1) (get_or ports i d) now) here mid new (ap (sent_at system (i + 1) (get_or ports i d)) after_sending) g)
+
+-- what stands behind nothing
+pub behind_none : {X : Type 0} (first then : List X) → length first ≡ 0 → then ≡ first ++ then
+behind_none [] then empty = refl
+behind_none (x ∷ first) then empty = absurd (omega (arith, empty))

@@ -1,5 +1,8 @@
 -- A machine to which something else is attached than its own LSP says.
-use Rattle.std.specs.Prelude.{◌≡◌}
+use Rattle.std.specs.Prelude.{◌≡◌, ℕ, List, Bool, ◌&&◌, ◌||◌, ◌==◌}
+use Rattle.std.specs.List.{list_any}
+use Rattle.spb_types.specs.declared.service.Attachment.{Attachment}
+use Rattle.forwarding.specs.Ports.{is_at_other_port, is_in}
 use Rattle.spb_content.specs.Local.{IsLocal}
 use Rattle.bridge_api.specs.Own.{local_of}
 use Rattle.bridge_control.specs.declared.machine.Machine.{Machine}
@@ -11,3 +14,14 @@ pub record CanTell (m : Machine) : Type 0 where
   pub system : m.own.system ≡ m.id.system
   pub local : IsLocal (local_of (view_of m))
   pub ports : FollowsPorts m
+
+-- whether something is attached to the service of an attachment, at another port than this
+abbrev pub is_beside : ℕ → Attachment → Attachment → Bool
+is_beside port a b = is_at_other_port port b && (is_in a.isid b && (b.vid.value == a.vid.value))
+
+abbrev pub is_elsewhere : ℕ → List Attachment → Attachment → Bool
+is_elsewhere port attached a = list_any (is_beside port a) attached
+
+-- whether an attachment is at another port than this, or another port is attached to its service
+abbrev pub is_covered : ℕ → List Attachment → Attachment → Bool
+is_covered port attached a = is_at_other_port port a || is_elsewhere port attached a

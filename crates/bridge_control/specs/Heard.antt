@@ -1,5 +1,5 @@
 -- A frame that brought a hello, and what is kept of what it says.
-use Rattle.std.specs.Prelude.{◌≡◌, ℕ, List}
+use Rattle.std.specs.Prelude.{◌≡◌, ℕ, ◌≤◌, List}
 use Rattle.isis_pdu.specs.Pdu.{HelloValue}
 use Rattle.bridge_api.specs.Parsing.{parsed}
 use Rattle.bridge_api.specs.Parsing as parsing
@@ -17,5 +17,6 @@ hello_saying said tlvs = record {
 
 -- a frame brings a hello that says this, with whatever TLVs it has
 pub record IsSaidIn (frame : List ℕ) (said : Said) : Type 0 where
+  pub state : said.way.state ≤ 2
   pub tlvs : List ℕ
   pub brings : parsed frame ≡ parsing.hello (hello_saying said tlvs) said.way

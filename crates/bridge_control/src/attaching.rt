@@ -1,32 +1,46 @@
 //! Attaching a customer port to a service, and detaching it.
-ghost use Rattle.std.specs.Prelude.{OnOk};
+ghost use Rattle.std.specs.Prelude.{◌≡◌, OnOk};
+ghost use Rattle.std.specs.List.{list_all, list_any};
 ghost use Rattle.bridge_api.specs.Own as api;
 ghost use Rattle.bridge_api.specs.Services as services;
 ghost use Rattle.bridge_control.specs.Machine.{view_of, IsReady, IsAfter};
-ghost use Rattle.bridge_control.specs.Attaching.{CanTell};
+ghost use Rattle.bridge_control.specs.Attaching.{CanTell, is_beside, is_elsewhere, is_covered};
 
 use crate::machine::Machine;
-use forwarding::detach;
+use forwarding::{detach, is_served};
 use spb_types::{Attachment, NoMemory};
 
 impl Machine {
-    /// Attaches a customer port to a service.
+    /// Attaches a customer port to a service. Where another port is attached to it, the bridge says the same as before.
     pub(crate) fn attach(&mut self, attachment: Attachment) -> Result<(), NoMemory>
         requires ready { IsReady self.old }
         requires can { services.CanAttach (view_of self.old) attachment }
         ensures { OnOk result (IsAfter (services.with_attachment attachment (view_of self.old)) self.new) }
     {
+        let is_said = is_served(
+            attachment.isid,
+            attachment.vid,
+            self.tenant.attached.as_slice(),
+        );
         self.tenant.attached.push(attachment)?;
+        if is_said {
+            return Ok(());
+        }
         self.tell()
     }
 
-    /// Detaches a customer port, and forgets what was learned there.
+    /// Detaches a customer port, and forgets what was learned there. Where another port is attached to its service, the
+    /// bridge says the same as before.
     pub(crate) fn detach(&mut self, port: u16) -> Result<(), NoMemory>
         requires ready { IsReady self.old }
         requires attached { services.IsAttachedPort (view_of self.old) port }
         ensures { OnOk result (IsAfter (services.without_attachment port (view_of self.old)) self.new) }
     {
+        let is_said = are_covered(port, self.tenant.attached.as_slice());
         detach(self.alloc, &mut self.tenant, port)?;
+        if is_said {
+            return Ok(());
+        }
         self.tell()
     }
 
@@ -38,4 +52,32 @@ impl Machine {
         self.renew_body()?;
         self.originate_if_changed()
     }
+}
+
+/// Whether this is attached to the service of another attachment, at another port than this.
+fn is_beside(b: &Attachment, port: u16, a: &Attachment) -> bool
+    ensures { result ≡ is_beside port a.now b.now }
+{
+    b.port != port && b.isid.value == a.isid.value && b.vid.value == a.vid.value
+}
+
+/// Whether another port than this is attached to the service of an attachment.
+fn is_elsewhere(a: &Attachment, port: u16, attached: &[Attachment]) -> bool
+    ensures { result ≡ is_elsewhere port attached.now a.now }
+{
+    attached.iter().any(|b| is_beside(b, port, a))
+}
+
+/// Whether an attachment is at another port than this, or another port is attached to its service.
+fn is_covered(a: &Attachment, port: u16, attached: &[Attachment]) -> bool
+    ensures { result ≡ is_covered port attached.now a.now }
+{
+    a.port != port || is_elsewhere(a, port, attached)
+}
+
+/// Whether other ports are attached to each service that a customer port is attached to.
+fn are_covered(port: u16, attached: &[Attachment]) -> bool
+    ensures { result ≡ list_all (is_covered port attached.now) attached.now }
+{
+    attached.iter().all(|a| is_covered(a, port, attached))
 }

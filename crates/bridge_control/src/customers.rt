@@ -79,11 +79,16 @@ fn send_moved(alloc: Global, moved: Moved, outbox: &mut Outbox) -> Result<(), No
     put_behind(alloc, moved.left, &mut outbox.left)
 }
 
-/// Puts the items of a list behind those of another. After `NoMemory` nothing changed.
+/// Puts the items of a list behind those of another, which becomes the list where it has none. After `NoMemory` nothing
+/// changed.
 fn put_behind<T: Drop>(alloc: Global, more: Seq<T>, list: &mut Seq<T>) -> Result<(), NoMemory>
     ensures ok { OnOk result (list.new ≡ list.old ++ more) }
     ensures err { OnErr result (list.new ≡ list.old) }
 {
+    if list.is_empty() {
+        *list = more;
+        return Ok(());
+    }
     let mut items = mem::replace(list, Seq::new(alloc)).into_vec();
     let ended = items.append(&mut more.into_vec());
     *list = Seq::from_vec(items);

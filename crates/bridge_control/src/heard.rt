@@ -1,5 +1,5 @@
 //! The hello that came last to a port: where the same frame comes again, it isn't read again.
-ghost use Rattle.std.specs.Prelude.{◌≡◌, [], IfOk, IfSome};
+ghost use Rattle.std.specs.Prelude.{◌≡◌, ◌≤◌, [], IfOk, IfSome};
 ghost use Rattle.isis_pdu.specs.Pdu.{hello_of};
 ghost use Rattle.bridge_api.specs.Parsing as api;
 ghost use Rattle.bridge_control.specs.Heard.{IsSaidIn, hello_saying};
@@ -61,7 +61,8 @@ impl HeardHello {
         hello: &Hello<'_>,
         way: &ThreeWay,
     ) -> Result<Self, NoMemory>
-        requires { api.parsed frame.now ≡ api.hello (hello_of hello.now) way.now }
+        requires state { way.now.state ≤ 2 }
+        requires brings { api.parsed frame.now ≡ api.hello (hello_of hello.now) way.now }
     {
         let said = Said {
             circuit_type: hello.circuit_type,

@@ -9,15 +9,13 @@ ghost use Rattle.bridge_api.specs.Parsing as parsing;
 ghost use Rattle.bridge_api.specs.Hearing as api;
 ghost use Rattle.bridge_api.specs.Customers.{moved_by_receive};
 ghost use Rattle.bridge_api.specs.Step.{with_moved, GainsMoved};
-ghost use Rattle.forwarding.specs.Tenant.{nothing};
-ghost use Rattle.bridge_api.specs.Tables.{own_tables};
 ghost use Rattle.bridge_control.specs.Kept.{AreOwn};
 ghost use Rattle.bridge_control.specs.Machine.{view_of, IsReady, IsAfter, hears};
 
 use crate::heard::{HeardHello, put_heard, said_at};
 use crate::machine::Machine;
 use crate::parsing::{Message, parse};
-use crate::ports::{is_up, port_at, put_hold, put_port};
+use crate::ports::{is_up, port_at, put_hold};
 use bridge_api::{DropReason, Outbox};
 use flooding::{FloodError, Own};
 use isis_pdu::{Csnp, Hello, Lsp, Psnp};
@@ -51,38 +49,13 @@ impl Machine {
             self.count_drop(DropReason::NotAdjacent);
             return Ok(());
         }
-        if self.hear_again(port, frame) {
-            return Ok(());
+        match said_at(self.heard.as_slice(), port, frame) {
+            Some(said) => self.hear_hello(port, &said.hello(), &said.way, kept),
+            None => self.hear_anew(port, frame, kept, outbox),
         }
-        self.hear_anew(port, frame, kept, outbox)
     }
 
-    /// Hears a frame at a port with carrier if it brings the hello that came last there, and this only begins the
-    /// holding count anew. Tells whether it did, and else changes nothing.
-    fn hear_again(&mut self, port: u8, frame: &[u8]) -> bool
-        requires ready { IsReady self.old }
-        requires port { IsPort (view_of self.old) port }
-        requires carrier { has_carrier_at (view_of self.old) port ≡ true }
-        ensures heard { result ≡ true → IsAfter (api.after_receive port frame.now (view_of self.old)) self.new }
-        ensures sent { result ≡ true → moved_by_receive port frame.now (view_of self.old) ≡ nothing }
-        ensures tables { own_tables (view_of self.new) ≡ own_tables (view_of self.old) }
-        ensures kept { result ≡ false → self.new ≡ self.old }
-    {
-        let Some(said) = said_at(self.heard.as_slice(), port, frame) else {
-            return false;
-        };
-        let mut new = port_at(self.ports.as_slice(), port);
-        if !new
-            .adjacency
-            .refresh(self.id.system, port, &said.hello(), &said.way)
-        {
-            return false;
-        }
-        put_hold(&mut self.ports, port, new.adjacency.hold);
-        true
-    }
-
-    /// Hears a frame at a port with carrier.
+    /// Hears a frame at a port with carrier, which isn't the hello that came last there.
     fn hear_anew(
         &mut self,
         port: u8,
@@ -153,7 +126,8 @@ impl Machine {
         hello: &Hello<'_>,
         way: &ThreeWay,
     ) -> Result<(), NoMemory>
-        requires { parsing.parsed frame.now ≡ parsing.hello (hello_of hello.now) way.now }
+        requires state { way.now.state ≤ 2 }
+        requires brings { parsing.parsed frame.now ≡ parsing.hello (hello_of hello.now) way.now }
         ensures { OnOk result (self.new ≡ record self.old { heard = self.new.heard }) }
     {
         let last = HeardHello::new(self.alloc, frame, hello, way)?;
@@ -179,7 +153,7 @@ impl Machine {
     {
         let mut new = port_at(self.ports.as_slice(), port);
         if new.adjacency.refresh(self.id.system, port, hello, way) {
-            put_port(&mut self.ports, port, new);
+            put_hold(&mut self.ports, port, new.adjacency.hold);
             return Ok(());
         }
         *kept = None;

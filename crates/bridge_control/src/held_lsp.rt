@@ -17,19 +17,28 @@ const LONGEST: usize = 1_497;
 /// The type of an LSP (ISO/IEC 10589, 9.8).
 const LSP: u8 = 18;
 
-/// The LSP that a PDU brings, if it is live and held as it is, whatever lifetime it has left; and the place where it is
-/// held. It isn't read: what is held can be, and its checksum holds.
-pub(crate) fn held_lsp<'a>(db: &Database, pdu: &'a [u8]) -> Option<(Lsp<'a>, usize)>
+/// Where the id of an LSP stands in the database; past the last place where it isn't held, or the PDU isn't an LSP.
+pub(crate) fn place_of_lsp(db: &Database, pdu: &[u8]) -> usize {
+    if pdu.len() < 27 || pdu[4] != LSP {
+        return usize::MAX;
+    }
+    match db.look_up(&lsp_id_in(pdu, 12)).place {
+        Some(place) => place,
+        None => usize::MAX,
+    }
+}
+
+/// The LSP that a PDU brings, if it is live and held as it is at a place, whatever lifetime it has left. It isn't read:
+/// what is held can be, and its checksum holds.
+pub(crate) fn held_lsp<'a>(db: &Database, place: usize, pdu: &'a [u8]) -> Option<Lsp<'a>>
     requires { AreSendable db.now }
-    ensures { IfSome result (λ l. read pdu.now ≡ Ok (pdus.lsp (pdus.lsp_of l.0))) }
+    ensures { IfSome result (λ l. read pdu.now ≡ Ok (pdus.lsp (pdus.lsp_of l))) }
 {
-    if pdu.len() < 27 || pdu.len() > LONGEST || pdu[4] != LSP {
+    let held = db.at(place)?;
+    if pdu.len() < 27 || pdu.len() > LONGEST {
         return None;
     }
-    let place = db.look_up(&lsp_id_in(pdu, 12)).place?;
-    let held = db.at(place)?;
-    let lsp = same_lsp(held, pdu)?;
-    Some((lsp, place))
+    same_lsp(held, pdu)
 }
 
 /// The LSP that a PDU brings, if it is this one and live.

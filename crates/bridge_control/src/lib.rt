@@ -30,9 +30,10 @@
 //!
 //! - The body of the own LSP is kept. It is made anew, in time and memory of order p + b and for sorting what is
 //!   attached, where a port comes Up or leaves Up, where any neighbour is lost, where the metric of an Up port is set,
-//!   even to what it was, and where a customer port is attached or detached; no other call makes it. A call that made it
-//!   anew, and one that hears an LSP of the bridge itself or a sequence numbers PDU, compares it with the one that is
-//!   held: a binary search, and b bytes. Originating takes time and memory of order b.
+//!   even to what it was, and where the first customer port is attached to a service or the last one detached; no other
+//!   call makes it. Attaching and detaching look for another port of the service, in time of what is attached. A call
+//!   that made the body anew, and one that hears an LSP of the bridge itself or a sequence numbers PDU, compares it with
+//!   the one that is held: a binary search, and b bytes. Originating takes time and memory of order b.
 //! - The hello of each port is kept as a frame, and so is the set of the Up ports. A hello is made anew where the state,
 //!   the neighbour or its circuit changes at its port, in constant time and with memory for a few short vectors; the set
 //!   then goes over the ports once. Where a neighbour is lost in a second, the hellos of all ports are made anew.
@@ -40,19 +41,19 @@
 //!   on, goes twice over the ports up to that one, and once over all; goes once over the database, looks up the own LSP
 //!   by a binary search, and compares no body, in time p + n. Each hello is the frame that is kept, of which no byte is
 //!   copied, and takes no memory but its place in the outbox. Where flags stand or the bridge originated, it also goes
-//!   over the database three times, to find the ports with SRM, those with SSN, and the places of the first and the
-//!   last LSP with flags; and then over what lies between these: once to make the frames of the LSPs with SRM, which
-//!   all ports share; once for each Up port with SRM, to send the frames of those to be sent there; and twice for each
-//!   Up port with SSN, for the entries and to clear these. It goes over the database once for each port at which CSNPs
-//!   are due and for each at which a neighbour is lost. Memory is taken for each LSP with SRM once, and for each CSNP
-//!   and PSNP.
+//!   over the database three times, to find the ports with SRM, those with SSN, and the places at which flags stand; and
+//!   then over these places: once to make the frames of the LSPs with SRM, which all ports share; once for each Up port
+//!   with SRM, to send the frames of those to be sent there; and twice for each Up port with SSN, for the entries and to
+//!   clear these. It goes over the database once for each port at which CSNPs are due and for each at which a neighbour
+//!   is lost. Memory is taken for these places and for their frames, for each LSP with SRM once, and for each CSNP and
+//!   PSNP.
 //! - A hello takes time in proportion to its length. The one that came last to a port is kept there: where the same
-//!   frame comes again it is compared, and not read. One that only begins the holding count anew changes its port and
-//!   nothing else. Memory is taken where another hello comes than the last time, for its frame, and where one changes
+//!   frame comes again it is compared, and not read or kept again. One that only begins the holding count anew changes
+//!   its port and nothing else. Memory is taken where another hello comes than the last time, for its frame, and where one changes
 //!   the state, the neighbour or the circuit at its port. Leaving Up goes over the database once, and entering Up once more.
 //! - An LSP takes a binary search and is compared with what is held under its id. Where the same is held live it isn't
-//!   read. Any other is gone over once for its TLVs and once for its checksum, and takes a second search, and a third one
-//!   and memory for its body if it is stored. A sequence numbers PDU takes what `snp_sync` says for its entries.
+//!   read. Any other is gone over once for its TLVs and once for its checksum, and takes memory for its body if it is
+//!   stored. Where its id isn't held it takes a second search, and a third one if it is stored. A sequence numbers PDU takes what `snp_sync` says for its entries.
 //! - The tables are made where a customer's frame enters or a backbone frame comes in and none are kept: this goes over
 //!   the database once, in time and memory of the bytes of the live LSPs, and then takes what the graph of all that they
 //!   say takes (`spb_content`), and the tables in it (`fdb_build`). They are kept over frames of both kinds, over what is

@@ -22,20 +22,20 @@ use shared_frames::Frame;
 use spb_types::{NoMemory, PortSet, SystemId};
 use std::alloc::Global;
 
-/// The frames of the LSPs that are to be sent at some port, by their places. None are made from place `end` on.
+/// The frames of the LSPs at these places, of each that is to be sent at some port.
 pub(crate) fn frames_to_send(
     alloc: Global,
     system: SystemId,
     db: &Database,
-    end: usize,
+    places: &[usize],
 ) -> Result<Vec<Option<Frame>>, NoMemory>
     requires sendable { AreSendable db.now }
     requires sized { AreSized db.now }
-    ensures { IfOk result (λ frames. AreMadeOf system (entries db.now) frames.items) }
+    ensures { IfOk result (λ frames. AreMadeOf system (entries db.now) places.now frames.items) }
 {
-    let mut frames = Vec::with_capacity(alloc, end)?;
-    'make: for place in 0..end {
-        frames.push(frame_at(alloc, system, db, place)?)?;
+    let mut frames = Vec::with_capacity(alloc, places.len())?;
+    'make: for k in 0..places.len() {
+        frames.push(frame_at(alloc, system, db, places[k])?)?;
     }
     Ok(frames)
 }

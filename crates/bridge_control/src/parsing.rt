@@ -9,7 +9,7 @@ ghost use Rattle.bridge_api.specs.Parsing as api;
 ghost use Rattle.bridge_control.specs.Carrying.{carries_customer};
 ghost use Rattle.bridge_control.specs.Message.{Says};
 
-use crate::held_lsp::held_lsp;
+use crate::held_lsp::{held_lsp, place_of_lsp};
 use bridge_api::DropReason;
 use isis_pdu::{Csnp, Hello, Lsp, Pdu, Psnp, decode};
 use itag_frames::{Backbone, Frame, FrameError, classify};
@@ -66,18 +66,20 @@ fn parse_pdu<'a>(db: &Database, pdu: &'a [u8]) -> Message<'a>
     requires { AreSendable db.now }
     ensures { Says result (api.by_pdu (read pdu.now)) }
 {
-    match held_lsp(db, pdu) {
-        Some(held) => Message::Lsp(held.0, held.1),
-        None => parse_new(pdu),
+    let near = place_of_lsp(db, pdu);
+    match held_lsp(db, near, pdu) {
+        Some(lsp) => Message::Lsp(lsp, near),
+        None => parse_new(pdu, near),
     }
 }
 
-fn parse_new(pdu: &[u8]) -> Message<'_>
+/// What a PDU brings that is read. An LSP is looked for at the place `near` first.
+fn parse_new(pdu: &[u8], near: usize) -> Message<'_>
     ensures { Says result (api.by_pdu (read pdu.now)) }
 {
     match decode(pdu) {
         Ok(Pdu::Hello(hello)) => parse_hello(&hello),
-        Ok(Pdu::Lsp(lsp)) => Message::Lsp(lsp, usize::MAX),
+        Ok(Pdu::Lsp(lsp)) => Message::Lsp(lsp, near),
         Ok(Pdu::Csnp(csnp)) => Message::Csnp(csnp),
         Ok(Pdu::Psnp(psnp)) => Message::Psnp(psnp),
         Err(_) => Message::Dropped(DropReason::Pdu),

@@ -1,9 +1,10 @@
 //! What a bridge sends in a second: to each port its hello, and to an Up one CSNPs, LSPs and PSNPs, as frames.
 ghost use Rattle.std.specs.Prelude.{◌≡◌, ◌+◌, ◌≤◌, ◌∷◌, ◌&&◌, ◌||◌, not, [], true, false, length, map, slice_get, ℕ, IfOk, OnOk, OnErr, if◌then◌else◌};
 ghost use Rattle.std.specs.List.{AllByRecursion};
+ghost use Rattle.std.specs.Option.{option_copied};
 ghost use Rattle.std.specs.FinMap.{entries};
 ghost use Rattle.spb_types.specs.Ports.{has};
-ghost use Rattle.lsdb.specs.Database.{any_flags, is_srm_at, is_ssn_at, AreFlagsWithin};
+ghost use Rattle.lsdb.specs.Database.{any_flags, is_srm_at, is_ssn_at, AreFlagsAt};
 ghost use Rattle.flooding.specs.Entries.{AreSendable};
 ghost use Rattle.snp_sync.specs.Sized.{AreSized};
 ghost use Rattle.snp_sync.specs.Sending.{bytes_in, all_ssn_cleared};
@@ -12,7 +13,7 @@ ghost use Rattle.bridge_api.specs.View.{is_port_up};
 ghost use Rattle.bridge_api.specs.Step.{with_wire, Gains};
 ghost use Rattle.bridge_api.specs.Ticking as api;
 ghost use Rattle.bridge_control.specs.Frames.{frames_of, frames_held, flagged_at};
-ghost use Rattle.bridge_control.specs.Made.{AreMadeOf};
+ghost use Rattle.bridge_control.specs.Made.{IsMadeAt, AreMadeOf};
 ghost use Rattle.bridge_control.specs.Machine.{hellos_from};
 
 use crate::hello::send_hello;
@@ -20,7 +21,7 @@ use crate::made::{frame_of, frames_to_send};
 use crate::ports::is_up;
 use bridge_api::{BridgePort, Outbox};
 use itag_frames::control_frame;
-use lsdb::{Database, Flagged};
+use lsdb::Database;
 use shared_frames::Frame;
 use snp_sync::{csnps, psnps_within};
 use spb_types::{NoMemory, PortSet, SystemId};
@@ -49,19 +50,13 @@ pub(crate) fn send_all(
 {
     let srm = srm_ports(db, has_flags);
     let ssn = ssn_ports(db, has_flags);
-    let places = flagged_places(db, has_flags);
-    let end = if srm == PortSet::none() {
-        0
-    } else {
-        places.end
-    };
-    let made = frames_to_send(alloc, system, db, end)?;
-    let frames = made.as_slice();
+    let places = flagged_places(alloc, db, has_flags)?;
+    let frames = frames_to_send(alloc, system, db, places.as_slice())?;
     let flags = Flags {
         srm,
         ssn,
-        places,
-        frames,
+        places: places.as_slice(),
+        frames: frames.as_slice(),
     };
     'send: for (place, port) in ports.iter().enumerate() {
         let number = place as u8 + 1;
@@ -96,26 +91,26 @@ fn ssn_ports(db: &Database, has_flags: bool) -> PortSet
     }
 }
 
-/// The places outside of which no flags stand. Where `has_flags` is false there are none, and none are looked for.
-fn flagged_places(db: &Database, has_flags: bool) -> Flagged
+/// The places at which flags stand. Where `has_flags` is false there are none, and none are looked for.
+fn flagged_places(alloc: Global, db: &Database, has_flags: bool) -> Result<Vec<usize>, NoMemory>
     requires { has_flags ≡ false → any_flags db.now ≡ false }
-    ensures { AreFlagsWithin result.first result.end db.now }
+    ensures { IfOk result (λ places. AreFlagsAt 0 places.items (entries db.now)) }
 {
     if has_flags {
-        db.flagged()
+        db.flagged_places(alloc)
     } else {
-        Flagged { first: 0, end: 0 }
+        Ok(Vec::new(alloc))
     }
 }
 
 /// Where flags may stand: at ports that aren't in `srm` no LSP is to be sent, and at those that aren't in `ssn` none is
-/// to be acknowledged or asked for; and outside of `places` there are no flags. `frames` are those that were made of
-/// LSPs, by their places.
+/// to be acknowledged or asked for; and no flags stand but at `places`. `frames` are those that were made of the LSPs at
+/// these places, in order.
 #[derive(Clone, Copy)]
 struct Flags<'a> {
     srm: PortSet,
     ssn: PortSet,
-    places: Flagged,
+    places: &'a [usize],
     frames: &'a [Option<Frame>],
 }
 
@@ -138,8 +133,8 @@ fn send_at(
     requires sized { AreSized db.old }
     requires srm { has flags.srm number ≡ false → is_srm_at number db.old ≡ false }
     requires ssn { has flags.ssn number ≡ false → is_ssn_at number db.old ≡ false }
-    requires places { AreFlagsWithin flags.places.first flags.places.end db.old }
-    requires frames { AreMadeOf system (entries db.old) flags.frames.now }
+    requires places { AreFlagsAt 0 flags.places.now (entries db.old) }
+    requires frames { AreMadeOf system (entries db.old) flags.places.now flags.frames.now }
     ensures sent { OnOk result (outbox.new ≡ with_wire (api.sent_at system number port.now db.old) outbox.old) }
     ensures after_sending { OnOk result (db.new ≡ api.after_sending_at number port.now db.old) }
     ensures gained { OnErr result (Gains (api.sent_at system number port.now db.old) outbox.old outbox.new) }
@@ -187,8 +182,8 @@ fn sync(
     requires sized { AreSized db.old }
     requires srm { has flags.srm number ≡ false → is_srm_at number db.old ≡ false }
     requires ssn { has flags.ssn number ≡ false → is_ssn_at number db.old ≡ false }
-    requires places { AreFlagsWithin flags.places.first flags.places.end db.old }
-    requires frames { AreMadeOf system (entries db.old) flags.frames.now }
+    requires places { AreFlagsAt 0 flags.places.now (entries db.old) }
+    requires frames { AreMadeOf system (entries db.old) flags.places.now flags.frames.now }
     ensures sent { OnOk result (outbox.new ≡ with_wire (api.synced_at system number port.now db.old) outbox.old) }
     ensures after_sending { OnOk result (db.new ≡ api.after_sending_at number port.now db.old) }
     ensures gained { OnErr result (Gains (api.synced_at system number port.now db.old) outbox.old outbox.new) }
@@ -232,8 +227,8 @@ fn send_flagged(
     requires sized { AreSized db.old }
     requires srm { has flags.srm number ≡ false → is_srm_at number db.old ≡ false }
     requires ssn { has flags.ssn number ≡ false → is_ssn_at number db.old ≡ false }
-    requires places { AreFlagsWithin flags.places.first flags.places.end db.old }
-    requires frames { AreMadeOf system (entries db.old) flags.frames.now }
+    requires places { AreFlagsAt 0 flags.places.now (entries db.old) }
+    requires frames { AreMadeOf system (entries db.old) flags.places.now flags.frames.now }
     ensures sent { OnOk result (outbox.new ≡ with_wire (flagged_at system number db.old) outbox.old) }
     ensures after_sending { OnOk result (db.new ≡ all_ssn_cleared number db.old) }
     ensures gained { OnErr result (Gains (flagged_at system number db.old) outbox.old outbox.new) }
@@ -255,7 +250,7 @@ fn send_requests(
     requires high { number ≤ 32 }
     requires sized { AreSized db.old }
     requires ssn { has flags.ssn number ≡ false → is_ssn_at number db.old ≡ false }
-    requires places { AreFlagsWithin flags.places.first flags.places.end db.old }
+    requires places { AreFlagsAt 0 flags.places.now (entries db.old) }
     ensures sent { OnOk result (outbox.new ≡ with_wire (api.requests_at system number db.old) outbox.old) }
     ensures after_sending { OnOk result (db.new ≡ all_ssn_cleared number db.old) }
     ensures gained { OnErr result (Gains (api.requests_at system number db.old) outbox.old outbox.new) }
@@ -281,35 +276,37 @@ fn send_lsps(
     requires sendable { AreSendable db.now }
     requires sized { AreSized db.now }
     requires srm { has flags.srm number ≡ false → is_srm_at number db.now ≡ false }
-    requires places { AreFlagsWithin flags.places.first flags.places.end db.now }
-    requires frames { AreMadeOf system (entries db.now) flags.frames.now }
+    requires places { AreFlagsAt 0 flags.places.now (entries db.now) }
+    requires frames { AreMadeOf system (entries db.now) flags.places.now flags.frames.now }
     ensures sent { OnOk result (outbox.new ≡ with_wire (api.lsps_at system number db.now) outbox.old) }
     ensures gained { OnErr result (Gains (api.lsps_at system number db.now) outbox.old outbox.new) }
 {
     if !flags.srm.has(number) {
         return Ok(());
     }
-    'send: for place in flags.places.first..flags.places.end {
-        send_lsp(alloc, system, number, db, place, flags.frames, outbox)?;
+    let places = flags.places;
+    'send: for k in 0..places.len() {
+        let made = flags.frames.get(k);
+        send_lsp(alloc, system, number, db, places[k], made, outbox)?;
     }
     Ok(())
 }
 
-/// Puts the LSP at a place into the outbox, if it is to be sent at the port.
+/// Puts the LSP at a place into the outbox, if it is to be sent at the port: `made` is its frame, if that was made.
 fn send_lsp(
     alloc: Global,
     system: SystemId,
     number: u8,
     db: &Database,
     place: usize,
-    frames: &[Option<Frame>],
+    made: Option<&Option<Frame>>,
     outbox: &mut Outbox,
 ) -> Result<(), NoMemory>
     requires low { 1 ≤ number }
     requires high { number ≤ 32 }
     requires sendable { AreSendable db.now }
     requires sized { AreSized db.now }
-    requires frames { AreMadeOf system (entries db.now) frames.now }
+    requires made { IsMadeAt system (slice_get (entries db.now) place) (option_copied made) }
     ensures sent { OnOk result (outbox.new ≡ with_wire (frames_held system number (slice_get (entries db.now) place)) outbox.old) }
     ensures kept { OnErr result (outbox.new ≡ outbox.old) }
 {
@@ -319,7 +316,7 @@ fn send_lsp(
     if !held.srm.has(number) {
         return Ok(());
     }
-    let frame = frame_of(alloc, system, held, frames.get(place))?;
+    let frame = frame_of(alloc, system, held, made)?;
     send_frame(number, frame, outbox)
 }
 

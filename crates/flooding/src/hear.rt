@@ -8,7 +8,7 @@ ghost use Rattle.flooding.specs.Hearing as hearing;
 ghost use Rattle.flooding.specs.Hearing.{unless_absent, hear_lsp_of, is_full_for_lsp};
 ghost use Rattle.flooding.specs.Placing.{Puts, Hears, holding};
 
-use crate::put::put;
+use crate::put::put_near;
 use crate::rules::{acknowledge, offer};
 use crate::{FloodError, Own};
 use isis_pdu::Lsp;
@@ -70,7 +70,7 @@ pub fn hear_lsp_near(
         return own.answer(alloc, db, up, &lsp.id, lsp.seq);
     }
     match relation {
-        Relation::Newer => return store(alloc, db, up, port, lsp),
+        Relation::Newer => return store(alloc, db, up, port, lsp, found.place),
         Relation::Equal => acknowledge_held(db, port, found.place),
         Relation::Older => offer(db, port, found.place),
         Relation::Confused => db.purge(&lsp.id, lsp.seq, up),
@@ -94,13 +94,14 @@ fn body_of(alloc: Global, lsp: &Lsp<'_>) -> Result<Vec<u8>, AllocError>
     Ok(body)
 }
 
-/// Stores an LSP that is newer than what is held.
+/// Stores an LSP that is newer than what is held, at this place if its id is held.
 fn store(
     alloc: Global,
     db: &mut Database,
     up: PortSet,
     port: u8,
     lsp: &Lsp<'_>,
+    place: Option<usize>,
 ) -> Result<(), FloodError>
     requires low { 1 ≤ port }
     requires high { port ≤ MOST_PORTS }
@@ -109,8 +110,9 @@ fn store(
         db.old db.new }
 {
     let body = body_of(alloc, lsp)?;
-    put(
+    put_near(
         db,
+        place.unwrap_or(usize::MAX),
         Held {
             id: lsp.id,
             version: version_of(lsp),

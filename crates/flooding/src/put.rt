@@ -14,7 +14,15 @@ pub fn put(db: &mut Database, held: Held) -> Result<(), FloodError>
     requires { CanBeHeld held.version held.lifetime held.body }
     ensures { Puts result held.id (cleaned (entry_of held)) db.old db.new }
 {
-    db.put(held)?;
+    put_near(db, usize::MAX, held)
+}
+
+/// Puts an LSP in. Its id is looked for at the place `near` first.
+pub fn put_near(db: &mut Database, near: usize, held: Held) -> Result<(), FloodError>
+    requires { CanBeHeld held.version held.lifetime held.body }
+    ensures { Puts result held.id (cleaned (entry_of held)) db.old db.new }
+{
+    db.put_near(near, held)?;
     Ok(())
 }
 

@@ -11,23 +11,23 @@ use std::alloc::Global;
 pub fn on_wire(alloc: Global, frame: &Frame, ports: &[u8]) -> Result<Seq<(u8, Frame)>, NoMemory>
     ensures { IfOk result (λ out. out ≡ each_with frame.now ports.now) }
 {
-    let mut out = Seq::new(alloc);
+    let mut out = Vec::with_capacity(alloc, ports.len())?;
     for port in ports {
         out.push((*port, frame.share()?))?;
     }
-    Ok(out)
+    Ok(Seq::from_vec(out))
 }
 
 /// The frame at each of these customer ports.
 pub fn leaving(alloc: Global, frame: &[u8], ports: &[u16]) -> Result<Seq<(u16, Seq<u8>)>, NoMemory>
     ensures { IfOk result (λ out. out ≡ each_with frame.now ports.now) }
 {
-    let mut out = Seq::new(alloc);
+    let mut out = Vec::with_capacity(alloc, ports.len())?;
     for port in ports {
         let copy = Seq::from_vec(Vec::from_slice(alloc, frame)?);
         out.push((*port, copy))?;
     }
-    Ok(out)
+    Ok(Seq::from_vec(out))
 }
 
 /// Backbone ports but for one.

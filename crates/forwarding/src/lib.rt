@@ -13,6 +13,7 @@ pub use laws::{
     ingress_failure_changes_nothing, places_stay_in_their_service, services_stay_apart,
 };
 pub use moved::Moved;
+pub use ports::is_served;
 pub use tenant::Tenant;
 
 mod backbone;

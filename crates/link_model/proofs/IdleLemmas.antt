@@ -131,3 +131,11 @@ none-tells None p true same said = ap is_none same
 none-tells None p false same said = absurd cc
 none-tells (Some x) p true same said = absurd cc
 none-tells (Some x) p false same said = ap is_none same
+
+-- where a lane behind idle links isn't empty, it is the first
+pub full-here : (all : List LinkLanes) (n : ℕ) (o : Option LaneId) → AreIdle n all → o ≡ full_at all n → is_some o ≡ true → o ≡ first_full_from 0 all
+full-here all n o idle is some = is ∙ full-behind all n idle (λ none. absurd (some-none o some (is ∙ none)))
+  where
+    some-none : (p : Option LaneId) → is_some p ≡ true → p ≡ None → ⊥
+    some-none None e k = absurd cc
+    some-none (Some x) e k = absurd (none-some x (sym k))

@@ -176,6 +176,10 @@ impl Lanes {
         ensures lane { result ≡ first_full_from 0 self.old }
         ensures same { self.new ≡ self.old }
     {
+        let here = self.all.full_at(self.idle);
+        if here.is_some() {
+            return here;
+        }
         self.idle = self.all.first_busy(self.idle);
         self.all.full_at(self.idle)
     }

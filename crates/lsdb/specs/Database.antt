@@ -1,4 +1,4 @@
-use Rattle.std.specs.Prelude.{◌≡◌, ◌≤◌, ℕ, length, Bool, false, ◌||◌, map, take, drop, Option, Some, None, if◌then◌else◌, nat_lt, slice_get}
+use Rattle.std.specs.Prelude.{◌≡◌, ◌≤◌, ◌<◌, ℕ, suc, List, [], ◌∷◌, length, Bool, false, ◌||◌, map, take, drop, Option, Some, None, if◌then◌else◌, nat_lt, slice_get}
 use Rattle.std.specs.declared.cmp.Ordering.{Ordering}
 use Rattle.std.specs.Ordering.{nat_cmp, ordering_then}
 use Rattle.std.specs.Cmp.Lexicographic.{slice_cmp}
@@ -108,6 +108,20 @@ pub record AreFlagsWithin (first end : ℕ) (db : Lsps) : Type 0 where
   pub held : end ≤ length (entries db)
   pub before : list_any (λ e. has_flags e.1) (take first (entries db)) ≡ false
   pub behind : list_any (λ e. has_flags e.1) (drop end (entries db)) ≡ false
+
+-- the places of the entries that have flags, where the first entry stands at place n
+abbrev pub flagged_from : ℕ → List (LspId × Entry) → List ℕ
+flagged_from n [] = []
+flagged_from n (e ∷ es) = if has_flags e.1 then n ∷ flagged_from (suc n) es else flagged_from (suc n) es
+
+abbrev pub flagged_places : Lsps → List ℕ
+flagged_places db = flagged_from 0 (entries db)
+
+-- from place n on no flags stand but at these places, which ascend and are places of entries
+abbrev pub AreFlagsAt : ℕ → List ℕ → List (LspId × Entry) → Type 0
+AreFlagsAt n [] es = list_any (λ e. has_flags e.1) (drop n es) ≡ false
+AreFlagsAt n (p ∷ ps) es =
+    (n ≤ p) × (p < length es) × (list_any (λ e. has_flags e.1) (drop n (take p es)) ≡ false) × AreFlagsAt (suc p) ps es
 
 -- whether some LSP is to be sent at a port, and whether some is to be acknowledged or asked for there
 abbrev pub is_srm_at : ℕ → Lsps → Bool

@@ -1,11 +1,11 @@
 //! The database: LSPs in order of id, found by a binary search, with the changes that a bridge makes to them.
-ghost use Rattle.std.specs.Prelude.{◌≡◌, ◌≤◌, ◌↔◌, ℕ, Some, None, true, false, IfOk, IfErr, IfSome, OnOk, OnErr, IsErrOf, IsNone, nat_eq, slice_get, map, take, drop, length};
+ghost use Rattle.std.specs.Prelude.{◌≡◌, ◌≤◌, ◌↔◌, ℕ, Some, None, true, false, IfOk, IfErr, IfSome, OnOk, OnErr, IsErrOf, IsNone, nat_eq, slice_get, map, take, drop, length, [], ◌∷◌, ◌++◌, if◌then◌else◌};
 ghost use Rattle.std.specs.Option.{option_map, option_copied};
 ghost use Rattle.std.specs.FinMap as finite;
 ghost use Rattle.std.specs.List.{AllByRecursion, list_any};
 ghost use Rattle.lsdb.specs.Version.{relation, is_absent};
 ghost use Rattle.lsdb.specs.Entry.{entry_of, CanBeHeld, IsClean, cleaned, with_flags, with_srm, with_ssn, with_flags_at, raised, purged, flags_cleared_at, aged, has_flags};
-ghost use Rattle.lsdb.specs.Database.{keyed, fits, version_at, changed, changed_at_place, version_at_place, version_if_held, StandsAt, each, any_flags, is_srm_at, is_ssn_at, AreFlagsWithin};
+ghost use Rattle.lsdb.specs.Database.{keyed, fits, version_at, changed, changed_at_place, version_at_place, version_if_held, StandsAt, each, any_flags, is_srm_at, is_ssn_at, AreFlagsWithin, flagged_from, flagged_places};
 ghost use Rattle.spb_types.specs.Ports.{has};
 ghost use Rattle.lsdb.specs.Place.{with_entry};
 ghost use Rattle.lsdb.specs.Calm.{LivesFor, AreCalm, lowered};
@@ -14,7 +14,7 @@ ghost use Rattle.spb_types.specs.declared.ports.PortSet.{PortSet};
 use crate::search::{place_near, place_of};
 use crate::{Held, Relation, Version, item};
 use spb_types::limits::{MOST_LSPS, MOST_PORTS};
-use spb_types::{LspId, PortSet};
+use spb_types::{LspId, NoMemory, PortSet};
 use std::alloc::{AllocFailed, Global};
 use std::marker::Model;
 use thiserror::Error;
@@ -174,6 +174,27 @@ fn flagged_end(held: &[Held]) -> usize
     0
 }
 
+// Notes a place, if flags stand there.
+fn note_flagged(places: &mut Vec<usize>, place: usize, flagged: bool) -> Result<(), NoMemory>
+    ensures { OnOk result (places.new.items ≡ places.old.items ++ (if flagged then place ∷ [] else [])) }
+{
+    if flagged {
+        places.push(place)?;
+    }
+    Ok(())
+}
+
+// The places of the LSPs that have flags, in order.
+fn flagged_places(alloc: Global, held: &[Held]) -> Result<Vec<usize>, NoMemory>
+    ensures { IfOk result (λ places. places.items ≡ flagged_from 0 (map keyed held.now)) }
+{
+    let mut places = Vec::new(alloc);
+    for place in 0..held.len() {
+        note_flagged(&mut places, place, item::has_flags(&held[place]))?;
+    }
+    Ok(places)
+}
+
 // The ports at which some LSP is to be sent.
 fn srm_ports(held: &[Held]) -> PortSet
     ensures { (p : ℕ) → has result p ≡ list_any (λ h. has h.srm p) held.now }
@@ -311,10 +332,22 @@ impl Database {
         ensures full { IsErrOf result PutError.Full ↔ (fits self.old held.id ≡ false) }
         ensures err { OnErr result (self.new ≡ self.old) }
     {
+        let last = self.held.len();
+        self.put_near(last, held)
+    }
+
+    /// [`put`](Self::put), which looks for the id at the place `near` before any other: where it stands there, that takes
+    /// one comparison.
+    pub fn put_near(&mut self, near: usize, held: Held) -> Result<(), PutError>
+        requires { CanBeHeld held.version held.lifetime held.body }
+        ensures ok { OnOk result (self.new ≡ finite.insert self.old held.id (cleaned (entry_of held))) }
+        ensures full { IsErrOf result PutError.Full ↔ (fits self.old held.id ≡ false) }
+        ensures err { OnErr result (self.new ≡ self.old) }
+    {
         let mut held = held;
         item::clean(&mut held);
         self.calm = None;
-        match place_of(&self.held, &held.id) {
+        match place_near(&self.held, near, &held.id) {
             Ok(place) => {
                 self.held[place] = held;
                 Ok(())
@@ -500,6 +533,13 @@ impl Database {
             first: first_flagged(&self.held),
             end: flagged_end(&self.held),
         }
+    }
+
+    /// The places at which flags stand, counted from 0 in order of id.
+    pub fn flagged_places(&self, alloc: Global) -> Result<Vec<usize>, NoMemory>
+        ensures { IfOk result (λ places. places.items ≡ flagged_places self.now) }
+    {
+        flagged_places(alloc, &self.held)
     }
 
     /// The ports at which some LSP is to be sent.

@@ -33,6 +33,8 @@ fn has_b_tag(frame: &[u8]) -> bool {
 }
 
 impl PlainBridge {
+    ghost use Rattle.bridge_api.specs.View.{IsPort};
+
     /// A bridge that isn't configured. It keeps the allocator, and takes no memory.
     pub fn blank(alloc: Global) -> Self
         ensures blank { result.blank ≡ true }
@@ -51,6 +53,15 @@ impl PlainBridge {
         PlainBridge {
             control: ControlPlane::sharing(alloc, shared),
         }
+    }
+
+    /// Whether a frame that comes to a port is sent on by tables, and none are kept.
+    fn lacks_tables(&self, port: u8, frame: &[u8]) -> bool
+        requires made { self.now.blank ≡ false }
+        requires unfailed { self.now.view.failed ≡ false }
+        requires port { IsPort self.now.view port }
+    {
+        self.control.kept_tables().is_none() && self.control.needs_tables(port, frame)
     }
 
     /// The tables are kept that the next frame is sent on by, if none are.
@@ -103,7 +114,7 @@ impl Bridge for PlainBridge {
     }
 
     fn receive(&mut self, port: u8, frame: &[u8], outbox: &mut Outbox) -> Result<(), NoMemory> {
-        if has_b_tag(frame) && !self.control.is_failed() && self.control.needs_tables(port, frame) {
+        if has_b_tag(frame) && !self.control.is_failed() && self.lacks_tables(port, frame) {
             self.prepare()?;
         }
         self.control.receive(port, frame, outbox)

@@ -7,16 +7,11 @@ use Rattle.spb_types.specs.declared.address.LspId.{LspId}
 use Rattle.spb_tlvs.specs.declared.entries.SnpEntry.{SnpEntry}
 use Rattle.lsdb.specs.Entry.{Entry}
 use Rattle.lsdb.specs.Database.{Lsps}
-use Rattle.snp_sync.specs.SnpEntries.{snp_entry_of, snp_entries_where}
+use Rattle.snp_sync.specs.SnpEntries.{snp_entry_of, snp_entries_where, entry_where as added}
 
 -- the entries of those LSPs that pass the test
 abbrev pub gathered : (Entry → Bool) → List (LspId × Entry) → List SnpEntry
 gathered test es = map (λ e. snp_entry_of e.0 e.1) (filter (λ e. test e.1) es)
-
--- what the entry at a place adds
-abbrev added : (Entry → Bool) → Option (LspId × Entry) → List SnpEntry
-added test None = []
-added test (Some e) = if test e.1 then snp_entry_of e.0 e.1 ∷ [] else []
 
 -- an entry that fails the test adds nothing
 add_first : (test : Entry → Bool) (e : LspId × Entry) (es fs : List (LspId × Entry)) (more : List SnpEntry) → gathered test fs ≡ gathered test es ++ more → gathered test (e ∷ fs) ≡ gathered test (e ∷ es) ++ more
@@ -33,7 +28,7 @@ add_one test e = by_test (test e.1) refl
     by_test true t = rw t refl
     by_test false t = rw t refl
 
-gathered_more : (test : Entry → Bool) (es : List (LspId × Entry)) (k : ℕ) (o : Option (LspId × Entry)) → slice_get es k ≡ o → gathered test (take (suc k) es) ≡ gathered test (take k es) ++ added test o
+pub gathered_more : (test : Entry → Bool) (es : List (LspId × Entry)) (k : ℕ) (o : Option (LspId × Entry)) → slice_get es k ≡ o → gathered test (take (suc k) es) ≡ gathered test (take k es) ++ added test o
 gathered_more test [] zero o is = rw (← is) refl
 gathered_more test [] (suc k) o is = rw (← is) refl
 gathered_more test (e ∷ es) zero o is = add_one test e ∙ ap (added test) is

@@ -1,12 +1,13 @@
 -- The sequence numbers PDUs that a bridge sends (ISO/IEC 10589, 7.3.15.3 and 7.3.15.4).
-use Rattle.std.specs.Prelude.{ℕ, false, List, [], ◌∷◌, map, if◌then◌else◌}
+use Rattle.std.specs.Prelude.{ℕ, false, List, [], ◌∷◌, map, slice_get, Option, Some, None, if◌then◌else◌}
+use Rattle.std.specs.FinMap.{entries}
 use Rattle.std.specs.Global.{Vec}
 use Rattle.spb_types.specs.declared.address.LspId.{LspId}
 use Rattle.spb_types.specs.declared.address.SystemId.{SystemId}
 use Rattle.spb_tlvs.specs.declared.entries.SnpEntry.{SnpEntry}
 use Rattle.isis_pdu.specs.Pdu.{CsnpValue, PsnpValue}
 use Rattle.lsdb.specs.Entry.{Entry, with_ssn}
-use Rattle.lsdb.specs.Database.{Lsps, each}
+use Rattle.lsdb.specs.Database.{Lsps, each, changed_at_place}
 use Rattle.snp_sync.specs.SnpEntries.{snp_entries_where, is_listed, has_ssn_at}
 use Rattle.snp_sync.specs.Chunks.{entry_tlvs, chunks, chunks_or_one}
 use Rattle.snp_sync.specs.Ids.{successor, first_id, last_id}
@@ -62,3 +63,12 @@ ssn_cleared port e = if has_ssn_at port e then with_ssn port false e else e
 
 abbrev pub all_ssn_cleared : ℕ → Lsps → Lsps
 all_ssn_cleared port db = each (λ id e. ssn_cleared port e) db
+
+-- the LSP at a place doesn't have it any longer
+abbrev pub ssn_cleared_under : ℕ → ℕ → Lsps → Option (LspId × Entry) → Lsps
+ssn_cleared_under port place db None = db
+ssn_cleared_under port place db (Some e) =
+    if has_ssn_at port e.1 then changed_at_place (with_ssn port false) db place else db
+
+abbrev pub ssn_cleared_at : ℕ → ℕ → Lsps → Lsps
+ssn_cleared_at port place db = ssn_cleared_under port place db (slice_get (entries db) place)

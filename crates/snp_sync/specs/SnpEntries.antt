@@ -1,5 +1,5 @@
 -- What a sequence numbers PDU says of an LSP that is held (ISO/IEC 10589, 7.3.15.3 and 7.3.15.4).
-use Rattle.std.specs.Prelude.{ℕ, Bool, not, List, filter, map}
+use Rattle.std.specs.Prelude.{ℕ, Bool, not, List, [], ◌∷◌, filter, map, Option, Some, None, if◌then◌else◌}
 use Rattle.std.specs.FinMap.{entries}
 use Rattle.spb_types.specs.declared.address.LspId.{LspId}
 use Rattle.spb_types.specs.Ports.{has}
@@ -23,3 +23,8 @@ is_listed e = not (is_absent e.version)
 -- whether an LSP stands in the PSNPs at a port: it is to be acknowledged or asked for there
 abbrev pub has_ssn_at : ℕ → Entry → Bool
 has_ssn_at port e = has e.ssn port
+
+-- the entry of an LSP that is held, if it passes the test
+abbrev pub entry_where : (Entry → Bool) → Option (LspId × Entry) → List SnpEntry
+entry_where test None = []
+entry_where test (Some e) = if test e.1 then snp_entry_of e.0 e.1 ∷ [] else []

@@ -1,12 +1,13 @@
 //! The entries of sequence numbers PDUs: which LSPs they tell of, and the TLVs that they are written in.
-ghost use Rattle.std.specs.Prelude.{◌≡◌, ◌≤◌, ◌+◌, ◌*◌, IfOk, length};
+ghost use Rattle.std.specs.Prelude.{◌≡◌, ◌≤◌, ◌+◌, ◌*◌, ◌++◌, IfOk, OnOk, length, slice_get};
 ghost use Rattle.lsdb.specs.Entry.{entry_of};
-ghost use Rattle.lsdb.specs.Database.{AreFlagsWithin};
+ghost use Rattle.std.specs.FinMap as finite;
+ghost use Rattle.lsdb.specs.Database.{AreFlagsAt};
 ghost use Rattle.snp_sync.specs.SnpEntries as snp;
 ghost use Rattle.snp_sync.specs.SnpEntries.{snp_entries_where, has_ssn_at};
 ghost use Rattle.snp_sync.specs.Chunks.{entry_tlvs};
 
-use lsdb::{Database, Flagged, Held, Version};
+use lsdb::{Database, Held, Version};
 use spb_tlvs::{SnpEntry, write_entries};
 use spb_types::NoMemory;
 use spb_types::limits::MOST_PORTS;
@@ -56,26 +57,44 @@ pub fn listed(alloc: Global, db: &Database) -> Result<Vec<SnpEntry>, NoMemory>
     Ok(entries)
 }
 
-/// The entries of the LSPs that are to be acknowledged or asked for at a port, in order of id. No flags stand outside
-/// of the places `flagged`, where none are looked for. Room for those of one TLV is taken first.
+/// Puts the entry of the LSP at a place behind others, if it is to be acknowledged or asked for at a port.
+fn put_entry(
+    db: &Database,
+    place: usize,
+    port: u8,
+    entries: &mut Vec<SnpEntry>,
+) -> Result<(), NoMemory>
+    requires low { 1 ≤ port }
+    requires high { port ≤ MOST_PORTS }
+    ensures { OnOk result (entries.new.items
+        ≡ entries.old.items ++ snp.entry_where (has_ssn_at port) (slice_get (finite.entries db.now) place)) }
+{
+    let Some(held) = db.at(place) else {
+        return Ok(());
+    };
+    if !held.ssn.has(port) {
+        return Ok(());
+    }
+    entries.push(snp_entry(held))?;
+    Ok(())
+}
+
+/// The entries of the LSPs that are to be acknowledged or asked for at a port, in order of id. No flags stand but at these
+/// places, and none are looked for elsewhere. Room for the entries of one TLV is taken first.
 pub fn entries_with_ssn(
     alloc: Global,
     db: &Database,
     port: u8,
-    flagged: Flagged,
+    places: &[usize],
 ) -> Result<Vec<SnpEntry>, NoMemory>
     requires low { 1 ≤ port }
     requires high { port ≤ MOST_PORTS }
-    requires within { AreFlagsWithin flagged.first flagged.end db.now }
+    requires places { AreFlagsAt 0 places.now (finite.entries db.now) }
     ensures { IfOk result (λ v. v.items ≡ snp_entries_where (has_ssn_at port) db.now) }
 {
     let mut entries = Vec::with_capacity(alloc, ENTRIES_PER_TLV)?;
-    for place in flagged.first..flagged.end {
-        if let Some(held) = db.at(place) {
-            if held.ssn.has(port) {
-                entries.push(snp_entry(held))?;
-            }
-        }
+    for k in 0..places.len() {
+        put_entry(db, places[k], port, &mut entries)?;
     }
     Ok(entries)
 }

@@ -2,8 +2,8 @@
 //! its database, and what one that it hears changes there.
 //!
 //! A PDU has at most 90 entries, in TLVs of 15. CSNPs go over the database once, to list it. PSNPs go once over the
-//! places outside of which it is known that no flags stand, to list what has SSN, and once more to clear it where there
-//! is any. [`entries_of_snp`] goes over the TLVs of a PDU once.
+//! places but at which it is known that no flags stand, to list what has SSN, and once more to clear it where there is
+//! any. [`entries_of_snp`] goes over the TLVs of a PDU once.
 //! An entry that is heard takes one comparison where its id stands behind that of the entry before it, and else a binary
 //! search; a second search where it is put into the database or purged. After the entries of a CSNP one pass over the
 //! database finds what its sender lacks, with a binary search among the ids that it named for each LSP in its range.

@@ -1,15 +1,16 @@
 //! CSNPs of the whole database, and the PSNPs at a port, cut into PDUs.
 ghost use Rattle.std.specs.Prelude.{◌≡◌, ◌≤◌, ◌<◌, IfOk, OnOk, OnErr, map, length};
 ghost use Rattle.isis_pdu.specs.Spelling.{csnp_bytes, psnp_bytes};
-ghost use Rattle.lsdb.specs.Database.{AreFlagsWithin};
+ghost use Rattle.std.specs.FinMap as finite;
+ghost use Rattle.lsdb.specs.Database.{AreFlagsAt};
 ghost use Rattle.snp_sync.specs.Chunks.{chunks};
 ghost use Rattle.snp_sync.specs.Sending as sending;
-ghost use Rattle.snp_sync.specs.Sending.{bytes_in, csnp_for, psnp_for, csnps_of, all_ssn_cleared};
+ghost use Rattle.snp_sync.specs.Sending.{bytes_in, csnp_for, psnp_for, csnps_of, ssn_cleared_at, all_ssn_cleared};
 
 use crate::entries::{entries_with_ssn, listed, tlvs_of};
 use crate::ids::{FIRST, LAST, successor};
 use isis_pdu::{Csnp, Psnp, write_csnp, write_psnp};
-use lsdb::{Database, Flagged};
+use lsdb::Database;
 use spb_tlvs::SnpEntry;
 use spb_types::limits::MOST_PORTS;
 use spb_types::{LspId, NoMemory, SystemId};
@@ -82,26 +83,36 @@ pub fn csnps(alloc: Global, db: &Database, me: SystemId) -> Result<Vec<Vec<u8>>,
 fn psnps_of(alloc: Global, entries: &[SnpEntry], me: SystemId) -> Result<Vec<Vec<u8>>, NoMemory>
     ensures { IfOk result (λ pdus. bytes_in pdus.items ≡ map psnp_bytes (map (psnp_for me) (chunks 90 entries.now))) }
 {
-    let mut pdus = Vec::new(alloc);
+    let mut pdus = Vec::with_capacity(alloc, 1)?;
     for chunk in entries.chunks(ENTRIES_PER_PDU) {
         pdus.push(psnp(alloc, me, chunk)?)?;
     }
     Ok(pdus)
 }
 
-/// Nothing is to be acknowledged or asked for at a port any longer. No flags stand outside of the places `flagged`.
-fn clear_ssn(db: &mut Database, port: u8, flagged: Flagged)
+/// The LSP at a place isn't to be acknowledged or asked for at a port any longer.
+fn clear_ssn_at(db: &mut Database, port: u8, place: usize)
     requires low { 1 ≤ port }
     requires high { port ≤ MOST_PORTS }
-    requires within { AreFlagsWithin flagged.first flagged.end db.old }
+    ensures { db.new ≡ ssn_cleared_at port place db.old }
+{
+    let Some(held) = db.at(place) else {
+        return;
+    };
+    if held.ssn.has(port) {
+        db.set_ssn_at(place, port, false);
+    }
+}
+
+/// Nothing is to be acknowledged or asked for at a port any longer. No flags stand but at these places.
+fn clear_ssn(db: &mut Database, port: u8, places: &[usize])
+    requires low { 1 ≤ port }
+    requires high { port ≤ MOST_PORTS }
+    requires places { AreFlagsAt 0 places.now (finite.entries db.old) }
     ensures { db.new ≡ all_ssn_cleared port db.old }
 {
-    for place in flagged.first..flagged.end {
-        if let Some(held) = db.at(place) {
-            if held.ssn.has(port) {
-                db.set_ssn_at(place, port, false);
-            }
-        }
+    for k in 0..places.len() {
+        clear_ssn_at(db, port, places[k]);
     }
 }
 
@@ -120,30 +131,31 @@ pub fn psnps(
     ensures ssn_cleared { OnOk result (db.new ≡ all_ssn_cleared port db.old) }
     ensures err { OnErr result (db.new ≡ db.old) }
 {
-    let flagged = db.flagged();
-    psnps_within(alloc, db, me, port, flagged)
+    let places = db.flagged_places(alloc)?;
+    psnps_within(alloc, db, me, port, &places)
 }
 
-/// The PSNPs at a port, as `psnps`, where it is known outside of which places no flags stand: only these are looked at.
+/// The PSNPs at a port, as `psnps`, where it is known that no flags stand but at these places, which ascend: only these
+/// are looked at.
 pub fn psnps_within(
     alloc: Global,
     db: &mut Database,
     me: SystemId,
     port: u8,
-    flagged: Flagged,
+    places: &[usize],
 ) -> Result<Vec<Vec<u8>>, NoMemory>
     requires low { 1 ≤ port }
     requires high { port ≤ MOST_PORTS }
-    requires within { AreFlagsWithin flagged.first flagged.end db.old }
+    requires places { AreFlagsAt 0 places.now (finite.entries db.old) }
     ensures ok { IfOk result (λ pdus. bytes_in pdus.items ≡ map psnp_bytes (sending.psnps_of me port db.old)) }
     ensures ssn_cleared { OnOk result (db.new ≡ all_ssn_cleared port db.old) }
     ensures err { OnErr result (db.new ≡ db.old) }
 {
-    let entries = entries_with_ssn(alloc, db, port, flagged)?;
+    let entries = entries_with_ssn(alloc, db, port, places)?;
     if entries.is_empty() {
         return Ok(Vec::new(alloc));
     }
     let pdus = psnps_of(alloc, &entries, me)?;
-    clear_ssn(db, port, flagged);
+    clear_ssn(db, port, places);
     Ok(pdus)
 }

@@ -16,6 +16,9 @@ use shared_frames::Frame;
 use spb_types::{NoMemory, Seq};
 use spb_world::link_ends;
 
+/// Room in an outbox for so many frames that aren't hellos.
+const SPARE: usize = 16;
+
 impl<B: Bridge> NetworkOf<B> {
     /// A frame goes out at a port of the bridge at a place. It is lost where no link that is up ends there.
     fn send_over(&mut self, i: usize, port: u8, frame: Frame) -> Result<(), NoMemory>
@@ -83,11 +86,11 @@ impl<B: Bridge> NetworkOf<B> {
         self.send_all(i, outbox.wire.into_vec())
     }
 
-    /// An empty outbox with room for a frame at each port of the bridge at a place.
+    /// An empty outbox with room for a frame at each port of the bridge at a place, and for a few more.
     fn outbox(&self, i: usize) -> Result<Outbox, NoMemory>
         ensures { IfOk result (λ outbox. outbox.wire ≡ []) }
     {
-        let room = usize::from(self.world.ports(i));
+        let room = usize::from(self.world.ports(i)) + SPARE;
         Ok(Outbox {
             wire: Seq::from_vec(Vec::with_capacity(self.alloc, room)?),
             left: Seq::new(self.alloc),

@@ -17,4 +17,4 @@ returns-in_err-send_at-clause-gained c =
 
 pub send-preserved : goal.send-preserved
 send-preserved c =
-    sending_next c.args.system c.args.ports.now c.args.db.now c.args.outbox.now c.send.place _ c.srm_ports-srm.result c.ssn_ports-ssn.result c.flagged_places-places.result.first c.flagged_places-places.result.end _ c.send.db c.send_at.new.db c.send.outbox c.send_at.new.outbox c.requires.few c.send-test.true c.send.invariant c.in_ok-send_at.ensures.sent c.in_ok-send_at.ensures.after_sending
+    sending_next c.args.system c.args.ports.now c.args.db.now c.args.outbox.now c.send.place _ c.srm_ports-srm.result c.ssn_ports-ssn.result _ _ c.send.db c.send_at.new.db c.send.outbox c.send_at.new.outbox c.requires.few c.send-test.true c.send.invariant c.in_ok-send_at.ensures.sent c.in_ok-send_at.ensures.after_sending

@@ -1,5 +1,6 @@
 use Rattle.std.proofs.Common.{◌≡◌, ◌∷◌, [], ℕ, List, Bool, Option, Some, sym, ap, subst, ◌∙◌}
-use Rattle.std.specs.Prelude.{true, if◌then◌else◌, slice_get}
+use Rattle.std.specs.Prelude.{true, if◌then◌else◌}
+use Rattle.std.specs.Option.{option_copied}
 use Rattle.spb_types.specs.declared.address.LspId.{LspId}
 use Rattle.std.proofs.lemmas.Result.{on_ok_weaker}
 use Rattle.spb_types.specs.Ports.{has}
@@ -10,8 +11,7 @@ use Rattle.flooding.specs.Sending.{lsp_in}
 use Rattle.bridge_api.specs.Ticking.{lsp_frame}
 use Rattle.bridge_api.specs.Step.{with_wire}
 use Rattle.bridge_control.specs.Frames.{frames_held}
-use Rattle.bridge_control.specs.Made.{IsMadeOf, IsMadeAt}
-use Rattle.bridge_control.proofs.Copies.{copied_at}
+use Rattle.bridge_control.specs.Made.{IsMadeAt}
 use Rattle.bridge_control.proofs.sending.send_lsp.Goals as goal
 
 pub frame_of-requires-clause-written : goal.frame_of-requires-clause-written
@@ -27,9 +27,7 @@ frame_of-requires-clause-id c =
 pub frame_of-requires-clause-made : goal.frame_of-requires-clause-made
 frame_of-requires-clause-made c =
     let held : LspId × Entry = keyed c.in-Some.held.now in
-    let kept : Option (Option (List ℕ)) = slice_get c.args.frames.now c.args.place in
-    let there : IsMadeAt c.args.system (Some held) kept = subst (λ (o : Option (LspId × Entry)). IsMadeAt c.args.system o kept) (sym c.in-Some.ensures.entry) (c.requires.frames c.args.place) in
-    subst (λ (k : Option (Option (List ℕ))). IsMadeOf c.args.system held k) (sym (copied_at c.args.frames.now c.args.place c.get.result c.get.ensures.lookup.0 c.get.ensures.lookup.1)) there
+    subst (λ (o : Option (LspId × Entry)). IsMadeAt c.args.system o (option_copied c.args.made)) (sym c.in-Some.ensures.entry) c.requires.made
 
 pub returns-clause-sent : goal.returns-clause-sent
 returns-clause-sent c =

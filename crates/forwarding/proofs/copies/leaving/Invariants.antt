@@ -3,4 +3,4 @@ use Rattle.forwarding.specs.Tenant.{each_with}
 use Rattle.forwarding.proofs.copies.leaving.Given as goal
 
 abbrev pub invariant-loop-port : goal.invariant-loop-port
-invariant-loop-port l = l.out ≡ each_with l.frame (take l.port-index l.ports)
+invariant-loop-port l = l.out.items ≡ each_with l.frame (take l.port-index l.ports)

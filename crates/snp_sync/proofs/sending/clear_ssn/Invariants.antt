@@ -1,6 +1,6 @@
-use Rattle.snp_sync.specs.Sending.{ssn_cleared}
-use Rattle.snp_sync.proofs.Places.{ChangedTo}
+use Rattle.std.proofs.Common.{drop}
+use Rattle.snp_sync.proofs.Within.{Clears}
 use Rattle.snp_sync.proofs.sending.clear_ssn.Given as goal
 
-abbrev pub invariant-loop-place : goal.invariant-loop-place
-invariant-loop-place l = ChangedTo (λ id e. ssn_cleared l.port e) l.fn.db l.place l.db
+abbrev pub invariant-loop-k : goal.invariant-loop-k
+invariant-loop-k l = Clears l.port (drop l.k l.places) l.fn.db l.db

@@ -4,7 +4,7 @@ use Rattle.snp_sync.proofs.CsnpChunks.{paged_none, paged_more, paged_all}
 use Rattle.snp_sync.proofs.sending.psnps_of.Goals as goal
 
 pub loop-chunk-init : goal.loop-chunk-init
-loop-chunk-init c = (search rules, tt, search rules, paged_none _ _ _ _ c.new-pdus.ensures.items (search rules))
+loop-chunk-init c = (search rules, tt, search rules, paged_none _ _ _ _ c.in_ok-pdus.ensures.items (search rules))
 
 pub loop-chunk-preserved : goal.loop-chunk-preserved
 loop-chunk-preserved c =

@@ -1,7 +1,9 @@
-use Rattle.std.proofs.Common.{◌≡◌, Bool, ap, ◌∙◌}
-use Rattle.std.specs.Prelude.{if◌then◌else◌}
+use Rattle.std.proofs.Common.{◌≡◌, ◌-◌, Bool, sym, ap, ◌∙◌}
+use Rattle.std.specs.Prelude.{slice_set, if◌then◌else◌}
 use Rattle.isis_pdu.specs.Pdu.{hello_of}
 use Rattle.adjacency.specs.declared.port.Adjacency.{Adjacency}
+use Rattle.bridge_api.specs.Hearing.{with_adjacency}
+use Rattle.bridge_control.specs.Ports.{with_hold}
 use Rattle.bridge_control.proofs.Putting.{there_at, sound_there}
 use Rattle.bridge_control.proofs.Refreshed.{refreshed_after}
 use Rattle.bridge_control.proofs.Moving.{ports_tables, own_still}
@@ -14,7 +16,7 @@ refresh-requires c =
     sound.adjacency
 
 pub returns-then-refresh-clause-kept : goal.returns-then-refresh-clause-kept
-returns-then-refresh-clause-kept c = own_still _ _ c.args.kept.now (ports_tables c.args.self.now c.put_port.new.ports) c.requires.tables
+returns-then-refresh-clause-kept c = own_still _ _ c.args.kept.now (ports_tables c.args.self.now c.put_hold.new.ports) c.requires.tables
 
 pub returns-then-refresh-clause-after : goal.returns-then-refresh-clause-after
 returns-then-refresh-clause-after c =
@@ -25,4 +27,6 @@ returns-then-refresh-clause-after c =
     let there = there_at m c.as_slice.result.now c.args.port port c.as_slice.ensures.value c.port_at-new.ensures in
     let done = c.if-refresh.true in
     let again : new ≡ record port.adjacency { hold = h.holding } = c.refresh.ensures.new ∙ ap (λ (b : Bool). if b then record port.adjacency { hold = h.holding } else port.adjacency) done in
-    refreshed_after m c.args.port h c.args.way.now port new c.put_port.new.ports c.requires.ready c.requires.port there again (c.refresh.ensures.heard done) (c.refresh.ensures.kept done) c.put_port.ensures
+    let put : c.put_hold.new.ports.items ≡ slice_set m.ports.items (c.args.port - 1) (with_adjacency new port) =
+        c.put_hold.ensures port there ∙ ap (slice_set m.ports.items (c.args.port - 1)) (ap (λ (a : Adjacency). with_hold a.hold port) again ∙ sym (ap (λ (a : Adjacency). with_adjacency a port) again)) in
+    refreshed_after m c.args.port h c.args.way.now port new c.put_hold.new.ports c.requires.ready c.requires.port there again (c.refresh.ensures.heard done) (c.refresh.ensures.kept done) put

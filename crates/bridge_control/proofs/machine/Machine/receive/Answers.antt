@@ -1,14 +1,16 @@
-use Rattle.std.proofs.Common.{sym, ap, ◌∙◌, subst}
+use Rattle.std.proofs.Common.{[], refl, sym, ap, ◌∙◌}
 use Rattle.std.proofs.lemmas.Result.{on_ok_weaker}
-use Rattle.bridge_api.specs.View.{IsPort, has_carrier_at}
-use Rattle.bridge_api.specs.Customers.{moved_by_receive}
-use Rattle.bridge_api.specs.Hearing.{after_receive}
-use Rattle.bridge_control.specs.declared.machine.Machine.{Machine}
-use Rattle.bridge_control.specs.Kept.{AreOwn}
-use Rattle.bridge_control.specs.Machine.{view_of, IsReady, IsAfter}
-use Rattle.bridge_control.proofs.Moving.{nothing_moved, unmoved_without_carrier, own_still, sent_moved, gained_moved}
+use Rattle.isis_pdu.specs.Pdu.{HelloValue}
+use Rattle.bridge_api.specs.Parsing as parsing
+use Rattle.bridge_control.specs.Heard.{hello_saying}
+use Rattle.bridge_control.specs.Machine.{view_of, hears}
+use Rattle.bridge_control.proofs.Anew.{heard_path}
+use Rattle.bridge_control.proofs.Moving.{unmoved, nothing_moved, nothing_gained, unmoved_without_carrier, own_still}
+use Rattle.bridge_control.proofs.Owning.{after_same}
 use Rattle.bridge_control.proofs.Putting.{there_at, carrier_there}
 use Rattle.bridge_control.proofs.Heeding.{deaf_after, not_true, not_false}
+use Rattle.bridge_control.proofs.Tlvless.{hears_alike}
+use Rattle.bridge_control.proofs.Wire.{on_ok, on_err}
 use Rattle.bridge_control.proofs.machine.Machine.receive.Goals as goal
 
 pub returns-then-not-port_at-clause-after : goal.returns-then-not-port_at-clause-after
@@ -26,53 +28,43 @@ returns-then-not-port_at-clause-sent c =
     let there = there_at c.args.self.now c.as_slice.result.now c.args.port port c.as_slice.ensures.value c.port_at.ensures in
     nothing_moved _ c.args.outbox.now (unmoved_without_carrier (view_of c.args.self.now) c.args.port c.args.frame.now port there (not_true port.adjacency.carrier c.if-not-port_at.true))
 
-pub hear_again-requires-clause-carrier : goal.hear_again-requires-clause-carrier
-hear_again-requires-clause-carrier c =
+pub hear_hello-requires-clause-carrier : goal.hear_hello-requires-clause-carrier
+hear_hello-requires-clause-carrier c =
     let port = c.port_at.result in
     let there = there_at c.args.self.now c.as_slice.result.now c.args.port port c.as_slice.ensures.value c.port_at.ensures in
     carrier_there (view_of c.args.self.now) c.args.port port there ∙ not_false port.adjacency.carrier c.if-not-port_at.false
 
-pub hear_anew-requires-clause-ready : goal.hear_anew-requires-clause-ready
-hear_anew-requires-clause-ready c = subst IsReady (sym (c.hear_again.ensures.kept c.if-hear_again.false)) c.requires.ready
-
-pub hear_anew-requires-clause-port : goal.hear_anew-requires-clause-port
-hear_anew-requires-clause-port c =
-    subst (λ (m : Machine). IsPort (view_of m) c.args.port) (sym (c.hear_again.ensures.kept c.if-hear_again.false)) c.requires.port
+pub hear_hello-requires-clause-state : goal.hear_hello-requires-clause-state
+hear_hello-requires-clause-state c = c.in-Some.ensures.state
 
 pub hear_anew-requires-clause-carrier : goal.hear_anew-requires-clause-carrier
 hear_anew-requires-clause-carrier c =
     let port = c.port_at.result in
     let there = there_at c.args.self.now c.as_slice.result.now c.args.port port c.as_slice.ensures.value c.port_at.ensures in
-    ap (λ (m : Machine). has_carrier_at (view_of m) c.args.port) (c.hear_again.ensures.kept c.if-hear_again.false)
-    ∙ (carrier_there (view_of c.args.self.now) c.args.port port there ∙ not_false port.adjacency.carrier c.if-not-port_at.false)
-
-pub hear_anew-requires-clause-tables : goal.hear_anew-requires-clause-tables
-hear_anew-requires-clause-tables c =
-    subst (λ (m : Machine). AreOwn (view_of m) c.args.kept.now) (sym (c.hear_again.ensures.kept c.if-hear_again.false)) c.requires.tables
+    carrier_there (view_of c.args.self.now) c.args.port port there ∙ not_false port.adjacency.carrier c.if-not-port_at.false
 
 -- the hello that came last
 
-pub returns-then-hear_again-clause-sent : goal.returns-then-hear_again-clause-sent
-returns-then-hear_again-clause-sent c = nothing_moved _ c.args.outbox.now (c.hear_again.ensures.sent c.if-hear_again.true)
+pub returns-in-Some-clause-after : goal.returns-in-Some-clause-after
+returns-in-Some-clause-after c =
+    let v = view_of c.args.self.now in
+    let p = c.args.port in
+    let said = c.in-Some.said in
+    let is = c.in-Some.ensures in
+    let port = c.port_at.result in
+    let there = there_at c.args.self.now c.as_slice.result.now p port c.as_slice.ensures.value c.port_at.ensures in
+    let carrier = carrier_there v p port there ∙ not_false port.adjacency.carrier c.if-not-port_at.false in
+    on_ok_weaker c.hear_hello.result (after_same _ _ c.hear_hello.new.self
+    (ap (λ (h : HelloValue). hears (parsing.hello h said.way) p v) c.hello.ensures
+    ∙ (hears_alike v p said [] is.tlvs said.way
+    ∙ heard_path v p c.args.frame.now (parsing.hello (hello_saying said is.tlvs) said.way) carrier is.brings)))
+    c.hear_hello.ensures.after
 
-pub returns-then-hear_again-clause-kept : goal.returns-then-hear_again-clause-kept
-returns-then-hear_again-clause-kept c = own_still _ _ c.args.kept.now c.hear_again.ensures.tables c.requires.tables
+pub returns-in-Some-clause-sent : goal.returns-in-Some-clause-sent
+returns-in-Some-clause-sent c =
+    let said = c.in-Some.said in
+    let is = c.in-Some.ensures in
+    on_ok c.hear_hello.result (nothing_moved _ c.args.outbox.now (unmoved (view_of c.args.self.now) c.args.port c.args.frame.now (parsing.hello (hello_saying said is.tlvs) said.way) is.brings refl))
 
--- any other frame
-
-pub returns-clause-after : goal.returns-clause-after
-returns-clause-after c =
-    let same = c.hear_again.ensures.kept c.if-hear_again.false in
-    on_ok_weaker c.hear_anew.result
-    (λ is. subst (λ (m : Machine). IsAfter (after_receive c.args.port c.args.frame.now (view_of m)) c.hear_anew.new.self) same is)
-    c.hear_anew.ensures.after
-
-pub returns-clause-sent : goal.returns-clause-sent
-returns-clause-sent c =
-    let same = c.hear_again.ensures.kept c.if-hear_again.false in
-    sent_moved c.hear_anew.result _ _ c.args.outbox.now c.hear_anew.new.outbox (ap (λ (m : Machine). moved_by_receive c.args.port c.args.frame.now (view_of m)) same) c.hear_anew.ensures.sent
-
-pub returns-clause-gained : goal.returns-clause-gained
-returns-clause-gained c =
-    let same = c.hear_again.ensures.kept c.if-hear_again.false in
-    gained_moved c.hear_anew.result _ _ c.args.outbox.now c.hear_anew.new.outbox (ap (λ (m : Machine). moved_by_receive c.args.port c.args.frame.now (view_of m)) same) c.hear_anew.ensures.gained
+pub returns-in-Some-clause-gained : goal.returns-in-Some-clause-gained
+returns-in-Some-clause-gained c = on_err c.hear_hello.result (nothing_gained _ c.args.outbox.now)

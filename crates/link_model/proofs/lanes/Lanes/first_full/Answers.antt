@@ -1,7 +1,12 @@
-use Rattle.std.proofs.Common.{ap, ◌∙◌}
+use Rattle.std.proofs.Common.{sym, ap, ◌∙◌}
 use Rattle.link_model.specs.Lanes.{first_full_from}
-use Rattle.link_model.proofs.IdleLemmas.{full-behind, idle-further}
+use Rattle.link_model.proofs.IdleLemmas.{full-behind, full-here, idle-further}
 use Rattle.link_model.proofs.lanes.Lanes.first_full.Goals as goal
+
+pub returns-then-is_some-clause-lane : goal.returns-then-is_some-clause-lane
+returns-then-is_some-clause-lane c =
+    full-here c.self.inside.all c.self.inside.idle c.full_at-here.result c.self.invariant c.full_at-here.ensures (sym c.is_some.ensures ∙ c.if-is_some.true)
+    ∙ ap (first_full_from 0) c.self.view_is
 
 pub returns-clause-lane : goal.returns-clause-lane
 returns-clause-lane c =

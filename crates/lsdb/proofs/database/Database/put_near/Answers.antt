@@ -2,7 +2,7 @@ use Rattle.std.proofs.Common.{◌<◌, ◌≤◌, true≢false, length, rules, r
 use Rattle.std.proofs.lemmas.Bool.{le-ltb, lt-ltb}
 use Rattle.std.proofs.lemmas.Result.{err_from_is_err_and}
 use Rattle.lsdb.proofs.Maps.{put_over_sound, put_new_sound, put_over_map, put_new_map, put_over_fits, put_new_fits}
-use Rattle.lsdb.proofs.database.Database.put.Goals as goal
+use Rattle.lsdb.proofs.database.Database.put_near.Goals as goal
 use Rattle.spb_types.specs.declared.limits.TheConstants.{MOST_LSPS}
 
 -- the id was held
