@@ -85,45 +85,57 @@ fn check_rows(rt: &impl Abort, tables: &Tables, want: &[(u16, u8, u8)]) {
     assert!(*rt; tables.group.is_empty());
 }
 
+const SQUARE_BRIDGES: [GraphBridge; 5] = [
+    bridge!(4),
+    bridge!(9),
+    bridge!(1),
+    bridge!(3),
+    bridge!(2),
+];
+
+const SQUARE_EDGES: [Edge; 4] = [
+    edge!(1, 5, 2, 1, 10),
+    edge!(4, 8, 2, 2, 10),
+    edge!(3, 1, 1, 32, 10),
+    edge!(3, 2, 4, 6, 10),
+];
+
 /// Bridges 1, 2, 4, 3 in a square, whose two ways from corner to corner tie, and bridge 9, which has no edge.
 fn square(rt: &impl Abort, alloc: Global) -> Graph
     ensures one { IsValidFor result (record { mac = record { bytes = 2 ∷ 0 ∷ 0 ∷ 0 ∷ 0 ∷ 1 ∷ [] } }) }
     ensures four { IsValidFor result (record { mac = record { bytes = 2 ∷ 0 ∷ 0 ∷ 0 ∷ 0 ∷ 4 ∷ [] } }) }
     ensures nine { IsValidFor result (record { mac = record { bytes = 2 ∷ 0 ∷ 0 ∷ 0 ∷ 0 ∷ 9 ∷ [] } }) }
 {
-    let bridges = [bridge!(4), bridge!(9), bridge!(1), bridge!(3), bridge!(2)];
-    let edges = [
-        edge!(1, 5, 2, 1, 10),
-        edge!(4, 8, 2, 2, 10),
-        edge!(3, 1, 1, 32, 10),
-        edge!(3, 2, 4, 6, 10),
-    ];
-    graph_of(rt, alloc, &bridges, &edges, &[])
+    graph_of(rt, alloc, &SQUARE_BRIDGES, &SQUARE_EDGES, &[])
 }
+
+/// The unicast rows of bridge 1, by VID, last byte of the address and port.
+const ROWS_OF_ONE: [(u16, u8, u8); 6] = [
+    (10, 2, 5),
+    (10, 3, 32),
+    (10, 4, 5),
+    (20, 2, 5),
+    (20, 3, 32),
+    (20, 4, 32),
+];
+
+/// Those of bridge 4.
+const ROWS_OF_FOUR: [(u16, u8, u8); 6] = [
+    (10, 1, 8),
+    (10, 2, 8),
+    (10, 3, 6),
+    (20, 1, 6),
+    (20, 2, 8),
+    (20, 3, 6),
+];
 
 #[test]
 fn ties_fall_by_the_mask_of_the_vid(rt: HostRuntime) {
     let graph = square(&rt, rt.alloc());
     let one = tables_in_two(&rt, rt.alloc(), &graph, system!(1));
-    let rows = [
-        (10, 2, 5),
-        (10, 3, 32),
-        (10, 4, 5),
-        (20, 2, 5),
-        (20, 3, 32),
-        (20, 4, 32),
-    ];
-    check_rows(&rt, &one, &rows);
+    check_rows(&rt, &one, &ROWS_OF_ONE);
     let four = tables_in_two(&rt, rt.alloc(), &graph, system!(4));
-    let back = [
-        (10, 1, 8),
-        (10, 2, 8),
-        (10, 3, 6),
-        (20, 1, 6),
-        (20, 2, 8),
-        (20, 3, 6),
-    ];
-    check_rows(&rt, &four, &back);
+    check_rows(&rt, &four, &ROWS_OF_FOUR);
 }
 
 #[test]
@@ -135,6 +147,12 @@ fn a_bridge_without_edges_has_no_rows(rt: HostRuntime) {
     check_rows(&rt, &without_vids, &[]);
 }
 
+const TRIANGLE_BRIDGES: [GraphBridge; 3] = [bridge!(3), bridge!(2), bridge!(1)];
+
+const ONE_TO_TWO: Edge = edge!(1, 2, 2, 1, 10);
+
+const TWO_TO_THREE: Edge = edge!(2, 3, 3, 2, 10);
+
 /// Bridges 1, 2 and 3, each joined to both others, with a cost of the edge between 1 and 3 and one of 10 for the
 /// others.
 fn triangle(rt: &impl Abort, alloc: Global, cost: u32) -> Graph
@@ -142,13 +160,8 @@ fn triangle(rt: &impl Abort, alloc: Global, cost: u32) -> Graph
     requires high { cost ≤ 1000 }
     ensures { IsValidFor result (record { mac = record { bytes = 2 ∷ 0 ∷ 0 ∷ 0 ∷ 0 ∷ 1 ∷ [] } }) }
 {
-    let bridges = [bridge!(3), bridge!(2), bridge!(1)];
-    let edges = [
-        edge!(1, 2, 2, 1, 10),
-        edge!(2, 3, 3, 2, 10),
-        edge!(3, 1, 1, 3, cost),
-    ];
-    graph_of(rt, alloc, &bridges, &edges, &[])
+    let edges = [ONE_TO_TWO, TWO_TO_THREE, edge!(3, 1, 1, 3, cost)];
+    graph_of(rt, alloc, &TRIANGLE_BRIDGES, &edges, &[])
 }
 
 /// Bridge 1 of the triangle with an edge of this cost to bridge 3 comes there through this port.
@@ -184,29 +197,32 @@ fn check_groups(rt: &impl Abort, tables: &Tables, want: &[(u8, u32)]) {
     }
 }
 
+const RING_BRIDGES: [GraphBridge; 6] = [
+    bridge!(6),
+    bridge!(1),
+    bridge!(5),
+    bridge!(2),
+    bridge!(4),
+    bridge!(3),
+];
+
+const RING_EDGES: [Edge; 6] = [
+    edge!(1, 1, 2, 2, 10),
+    edge!(2, 1, 3, 2, 10),
+    edge!(3, 1, 4, 2, 10),
+    edge!(4, 1, 5, 2, 10),
+    edge!(5, 1, 6, 2, 10),
+    edge!(6, 1, 1, 2, 10),
+];
+
+const RING_MEMBERS: [Member; 5] = [member!(5), member!(1), member!(4), member!(2), member!(3)];
+
 /// Bridges 1 to 6 in a ring: port 1 leads to the next bridge, port 2 to the one before. All but 6 are members.
 fn ring(rt: &impl Abort, alloc: Global) -> Graph
     ensures one { IsValidFor result (record { mac = record { bytes = 2 ∷ 0 ∷ 0 ∷ 0 ∷ 0 ∷ 1 ∷ [] } }) }
     ensures six { IsValidFor result (record { mac = record { bytes = 2 ∷ 0 ∷ 0 ∷ 0 ∷ 0 ∷ 6 ∷ [] } }) }
 {
-    let bridges = [
-        bridge!(6),
-        bridge!(1),
-        bridge!(5),
-        bridge!(2),
-        bridge!(4),
-        bridge!(3),
-    ];
-    let edges = [
-        edge!(1, 1, 2, 2, 10),
-        edge!(2, 1, 3, 2, 10),
-        edge!(3, 1, 4, 2, 10),
-        edge!(4, 1, 5, 2, 10),
-        edge!(5, 1, 6, 2, 10),
-        edge!(6, 1, 1, 2, 10),
-    ];
-    let members = [member!(5), member!(1), member!(4), member!(2), member!(3)];
-    graph_of(rt, alloc, &bridges, &edges, &members)
+    graph_of(rt, alloc, &RING_BRIDGES, &RING_EDGES, &RING_MEMBERS)
 }
 
 #[test]
@@ -218,17 +234,27 @@ fn group_rows_lead_to_the_members_behind(rt: HostRuntime) {
     check_groups(&rt, &six, &[(1, 0b10), (2, 0b10), (5, 0b01)]);
 }
 
+const LINE_BRIDGES: [GraphBridge; 3] = [bridge!(1), bridge!(2), FAR];
+
+/// Bridge 3, with the source of bridge 1 but for a bit above the low 20.
+const FAR: GraphBridge = GraphBridge {
+    id: BridgeId {
+        priority: 32768,
+        system: system!(3),
+    },
+    source: SourceId { value: 0x10_0001 },
+};
+
+const LINE_EDGES: [Edge; 2] = [edge!(1, 1, 2, 1, 10), edge!(2, 2, 3, 1, 10)];
+
+const LINE_MEMBERS: [Member; 4] = [member!(1), member!(2), member!(3), member!(1, 7)];
+
 /// Bridge 2 between bridges 1 and 3, whose sources differ above their low 20 bits. All are members of service 100, and
 /// 1 alone of service 7.
 fn line(rt: &impl Abort, alloc: Global) -> Graph
     ensures { IsValidFor result (record { mac = record { bytes = 2 ∷ 0 ∷ 0 ∷ 0 ∷ 0 ∷ 2 ∷ [] } }) }
 {
-    let mut far = bridge!(3);
-    far.source.value = 0x10_0001;
-    let bridges = [bridge!(1), bridge!(2), far];
-    let edges = [edge!(1, 1, 2, 1, 10), edge!(2, 2, 3, 1, 10)];
-    let members = [member!(1), member!(2), member!(3), member!(1, 7)];
-    graph_of(rt, alloc, &bridges, &edges, &members)
+    graph_of(rt, alloc, &LINE_BRIDGES, &LINE_EDGES, &LINE_MEMBERS)
 }
 
 #[test]

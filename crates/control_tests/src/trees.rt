@@ -8,63 +8,71 @@ use std::alloc::Global;
 use std::cmp::Ordering;
 use std::process::Abort;
 
+const SQUARE_BRIDGES: [GraphBridge; 4] = [bridge!(1), bridge!(2), bridge!(3), bridge!(4)];
+
+const SQUARE_EDGES: [Edge; 4] = [
+    edge!(1, 2, 10),
+    edge!(2, 4, 10),
+    edge!(1, 3, 10),
+    edge!(3, 4, 10),
+];
+
 /// Four bridges in a square, whose two ways from corner to corner tie.
 pub(crate) fn square(rt: &impl Abort, alloc: Global) -> Graph
     ensures { IsValid result }
 {
-    let bridges = [bridge!(1), bridge!(2), bridge!(3), bridge!(4)];
-    let edges = [
-        edge!(1, 2, 10),
-        edge!(2, 4, 10),
-        edge!(1, 3, 10),
-        edge!(3, 4, 10),
-    ];
-    graph_of(rt, alloc, &bridges, &edges, &[])
+    graph_of(rt, alloc, &SQUARE_BRIDGES, &SQUARE_EDGES, &[])
 }
+
+const ONE: GraphBridge = bridge!(1);
+
+const TWO: GraphBridge = bridge!(2);
+
+const FOUR: GraphBridge = bridge!(4);
+
+const FIVE: GraphBridge = bridge!(5);
+
+const EIGHT: GraphBridge = bridge!(8);
+
+const LADDER_EDGES: [Edge; 6] = [
+    edge!(1, 5, 10),
+    edge!(5, 2, 10),
+    edge!(2, 8, 10),
+    edge!(1, 3, 10),
+    edge!(3, 4, 10),
+    edge!(4, 8, 10),
+];
 
 /// Two ways from 1 to 8 of the same cost and hops: 1 5 2 8 and 1 3 4 8, with a priority of bridge 3.
 fn ladder(rt: &impl Abort, alloc: Global, priority: u16) -> Graph
     ensures { IsValid result }
 {
-    let bridges = [
-        bridge!(1),
-        bridge!(2),
-        bridge!(3, priority),
-        bridge!(4),
-        bridge!(5),
-        bridge!(8),
-    ];
-    let edges = [
-        edge!(1, 5, 10),
-        edge!(5, 2, 10),
-        edge!(2, 8, 10),
-        edge!(1, 3, 10),
-        edge!(3, 4, 10),
-        edge!(4, 8, 10),
-    ];
-    graph_of(rt, alloc, &bridges, &edges, &[])
+    let bridges = [ONE, TWO, bridge!(3, priority), FOUR, FIVE, EIGHT];
+    graph_of(rt, alloc, &bridges, &LADDER_EDGES, &[])
 }
+
+const DETOUR_BRIDGES: [GraphBridge; 6] = [
+    bridge!(4),
+    bridge!(7),
+    bridge!(1),
+    bridge!(9),
+    bridge!(3),
+    bridge!(2),
+];
+
+const DETOUR_EDGES: [Edge; 5] = [
+    edge!(1, 2, 10),
+    edge!(3, 2, 10),
+    edge!(3, 4, 10),
+    edge!(9, 1, 10),
+    edge!(9, 4, 20),
+];
 
 /// Two ways of cost 30 from 1 to 4: 1 2 3 4, and 1 9 4. Bridge 7 has no edge.
 fn detour(rt: &impl Abort, alloc: Global) -> Graph
     ensures { IsValid result }
 {
-    let bridges = [
-        bridge!(4),
-        bridge!(7),
-        bridge!(1),
-        bridge!(9),
-        bridge!(3),
-        bridge!(2),
-    ];
-    let edges = [
-        edge!(1, 2, 10),
-        edge!(3, 2, 10),
-        edge!(3, 4, 10),
-        edge!(9, 1, 10),
-        edge!(9, 4, 20),
-    ];
-    graph_of(rt, alloc, &bridges, &edges, &[])
+    graph_of(rt, alloc, &DETOUR_BRIDGES, &DETOUR_EDGES, &[])
 }
 
 fn key(rt: &impl Abort, alloc: Global, cost: u64, hops: u32, last: u8) -> PathKey {
