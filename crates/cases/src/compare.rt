@@ -1,13 +1,4 @@
-ghost use Rattle.std.specs.Prelude.{◌≡◌, ◌↔◌, IsTrue};
-
 use std::alloc::{AllocError, Global};
-
-/// Whether the same was written as is wanted.
-pub(crate) fn is_same(found: &[u8], wanted: &[u8]) -> bool
-    ensures { IsTrue result ↔ (found.now ≡ wanted.now) }
-{
-    found == wanted
-}
 
 /// How many of the first lines of two texts are the same.
 fn same_lines(found: &str, wanted: &str) -> usize {

@@ -1,5 +1,5 @@
 use crate::case::Case;
-use crate::compare::{difference, is_same};
+use crate::compare::difference;
 use crate::escape::words_of;
 use crate::trouble::Trouble;
 use bridge_api::Bridge;
@@ -73,7 +73,7 @@ fn wrong_ending(
 /// What is wrong with what a run wrote, if anything is.
 fn wrong_text(alloc: Global, case: &Case, sink: &MemorySink) -> Result<Option<String>, Trouble> {
     let wanted = case.written()?;
-    if is_same(sink.bytes(), wanted.as_bytes()) {
+    if sink.has_taken(wanted.as_bytes()) {
         return Ok(None);
     }
     let found = std::str::from_utf8(sink.bytes()).unwrap_or("");

@@ -4,7 +4,7 @@ ghost use Rattle.lsdb.specs.Entry.{CanBeHeld};
 
 use flooding::Own;
 use lsdb::{Database, Held, Version};
-use spb_types::{LspId, Mac, PortSet, Seq, SystemId};
+use spb_types::{Edge, Graph, GraphBridge, LspId, Mac, Member, PortSet, Seq, SystemId};
 use std::alloc::Global;
 use std::fmt::Debug;
 use std::process::Abort;
@@ -44,11 +44,28 @@ pub(crate) fn dead(seq: u32) -> Version {
     Version::Dead { seq }
 }
 
-/// The bytes as a list of their own.
-pub(crate) fn seq(rt: &impl Abort, alloc: Global, bytes: &[u8]) -> Seq<u8>
-    ensures { result ≡ bytes.now }
+/// The items as a list of their own.
+pub(crate) fn seq<T: Copy>(rt: &impl Abort, alloc: Global, items: &[T]) -> Seq<T>
+    ensures { result ≡ items.now }
 {
-    Seq::from_vec(Vec::from_slice(alloc, bytes).expect(rt, "out of memory"))
+    Seq::from_vec(Vec::from_slice(alloc, items).expect(rt, "out of memory"))
+}
+
+/// The graph of these bridges, edges and members.
+pub(crate) fn graph_of(
+    rt: &impl Abort,
+    alloc: Global,
+    bridges: &[GraphBridge],
+    edges: &[Edge],
+    members: &[Member],
+) -> Graph
+    ensures { result ≡ record { bridges = bridges.now; edges = edges.now; members = members.now } }
+{
+    Graph {
+        bridges: seq(rt, alloc, bridges),
+        edges: seq(rt, alloc, edges),
+        members: seq(rt, alloc, members),
+    }
 }
 
 /// The system 1, which says this of itself.

@@ -2,14 +2,13 @@
 ghost use Rattle.std.specs.Prelude.{◌≡◌, [], ◌∷◌, IfOk};
 ghost use Rattle.spb_types.specs.Graph.{IsValid};
 
-use crate::fixtures::are_equal;
+use crate::fixtures::{are_bytes, are_equal};
 use crate::trees::{path, square, tree};
 use ect_trees::{Tree, Trees};
 use fork_trees::TreeSet;
 use spb_types::{BridgeId, Edge, Graph, GraphBridge, Mac, NoMemory, Seq, SourceId, SystemId};
 use std::alloc::Global;
 use std::process::Abort;
-use std::test::Fail;
 
 const MASKS: [u8; 2] = [0x00, 0xff];
 
@@ -34,6 +33,18 @@ fn check_same(rt: &impl Abort, alloc: Global, found: &Tree, want: &Tree) {
         let want = path_of(rt, alloc, want, to);
         are_equal(rt, &found.as_slice(), &want.as_slice());
     }
+}
+
+/// The trees of a graph under these masks.
+fn set_of(rt: &impl Abort, alloc: Global, graph: &Graph, masks: &[u8]) -> TreeSet
+    requires { IsValid graph.now }
+{
+    TreeSet::new(alloc, graph, masks).expect(rt, "out of memory")
+}
+
+/// Those of the square.
+fn set_of_square(rt: &impl Abort, alloc: Global, masks: &[u8]) -> TreeSet {
+    set_of(rt, alloc, &square(rt, alloc), masks)
 }
 
 /// The set's tree from a bridge, under no contract.
@@ -87,16 +98,14 @@ fn check_changed(
 }
 
 #[test]
-fn trees_follow_each_change(rt: HostRuntime) -> Result<(), Fail> {
-    let graph = square(rt.alloc())?;
-    let mut set = TreeSet::new(rt.alloc(), &graph, &MASKS)?;
+fn trees_follow_each_change(rt: HostRuntime) {
+    let mut set = set_of_square(&rt, rt.alloc(), &MASKS);
     check_changed(&rt, rt.alloc(), &mut set, (2, 1, 40), true, Some(30));
     check_changed(&rt, rt.alloc(), &mut set, (1, 2, 5), true, Some(5));
     check_changed(&rt, rt.alloc(), &mut set, (4, 2, 10), false, Some(25));
     check_changed(&rt, rt.alloc(), &mut set, (1, 4, 20), true, Some(20));
     check_changed(&rt, rt.alloc(), &mut set, (1, 2, 5), false, None);
     check_changed(&rt, rt.alloc(), &mut set, (2, 3, 7), true, Some(7));
-    Ok(())
 }
 
 /// Asserts how many labels the last change computed.
@@ -105,13 +114,11 @@ fn check_relabelled(rt: &impl Abort, set: &TreeSet, want: u64) {
 }
 
 #[test]
-fn a_change_of_ports_computes_nothing(rt: HostRuntime) -> Result<(), Fail> {
-    let graph = square(rt.alloc())?;
-    let mut set = TreeSet::new(rt.alloc(), &graph, &MASKS)?;
+fn a_change_of_ports_computes_nothing(rt: HostRuntime) {
+    let mut set = set_of_square(&rt, rt.alloc(), &MASKS);
     change(&rt, rt.alloc(), &mut set, edge!(1, 7, 2, 7, 10), true);
     change(&rt, rt.alloc(), &mut set, edge!(1, 4, 10), false);
     check_relabelled(&rt, &set, 0);
-    Ok(())
 }
 
 /// Whether there is a tree from a bridge under a mask.
@@ -128,35 +135,32 @@ fn check_tree(rt: &impl Abort, set: &TreeSet, from: u8, mask: u8, want: bool) {
 }
 
 #[test]
-fn other_bridges_and_masks_have_no_trees(rt: HostRuntime) -> Result<(), Fail> {
-    let graph = square(rt.alloc())?;
-    let masks = [0x00, 0x44, 0x00];
-    let set = TreeSet::new(rt.alloc(), &graph, &masks)?;
+fn other_bridges_and_masks_have_no_trees(rt: HostRuntime) {
+    let set = set_of_square(&rt, rt.alloc(), &[0x00, 0x44, 0x00]);
     check_tree(&rt, &set, 1, 0x00, true);
     check_tree(&rt, &set, 4, 0x44, true);
     check_tree(&rt, &set, 5, 0x00, false);
     check_tree(&rt, &set, 1, 0xff, false);
-    are_equal(&rt, &set.masks(), &masks.as_slice());
+    are_bytes(&rt, set.masks(), &[0x00, 0x44, 0x00]);
     assert!(rt; !set.has_failed());
-    Ok(())
 }
 
-fn check_edge(rt: &impl Abort, set: &TreeSet, edge: Edge, want: bool) {
+/// Asserts whether the graph may have an edge between two bridges at a cost.
+fn check_edge(rt: &impl Abort, set: &TreeSet, a: u8, b: u8, cost: u32, want: bool) {
+    let edge = edge!(a, b, cost);
     are_equal(rt, &(edge, set.can_have(&edge)), &(edge, want));
 }
 
 #[test]
-fn edges_join_two_bridges_at_a_cost(rt: HostRuntime) -> Result<(), Fail> {
-    let graph = square(rt.alloc())?;
-    let set = TreeSet::new(rt.alloc(), &graph, &[])?;
-    check_edge(&rt, &set, edge!(4, 1, 1), true);
-    check_edge(&rt, &set, edge!(1, 2, 16_777_214), true);
-    check_edge(&rt, &set, edge!(1, 5, 10), false);
-    check_edge(&rt, &set, edge!(5, 1, 10), false);
-    check_edge(&rt, &set, edge!(3, 3, 10), false);
-    check_edge(&rt, &set, edge!(1, 2, 0), false);
-    check_edge(&rt, &set, edge!(1, 2, 16_777_215), false);
-    Ok(())
+fn edges_join_two_bridges_at_a_cost(rt: HostRuntime) {
+    let set = set_of_square(&rt, rt.alloc(), &[]);
+    check_edge(&rt, &set, 4, 1, 1, true);
+    check_edge(&rt, &set, 1, 2, 16_777_214, true);
+    check_edge(&rt, &set, 1, 5, 10, false);
+    check_edge(&rt, &set, 5, 1, 10, false);
+    check_edge(&rt, &set, 3, 3, 10, false);
+    check_edge(&rt, &set, 1, 2, 0, false);
+    check_edge(&rt, &set, 1, 2, 16_777_215, false);
 }
 
 /// The bridge of this number.
@@ -196,14 +200,19 @@ fn join_all(rt: &impl Abort, alloc: Global, set: &mut TreeSet) {
     }
 }
 
-/// Of a line of bridges the tree of the last changes at each other bridge, and each other tree at the last. The line is
-/// made in a set without masks, where a change costs little.
+/// The trees of the line of the bridges 1 to 96 under these masks. The line is made in a set without masks, where a
+/// change costs little.
+fn set_of_line(rt: &impl Abort, alloc: Global, masks: &[u8]) -> TreeSet {
+    let apart = apart(alloc).expect(rt, "out of memory");
+    let mut line = set_of(rt, alloc, &apart, &[]);
+    join_all(rt, alloc, &mut line);
+    set_of(rt, alloc, line.graph(), masks)
+}
+
+/// Of a line of bridges the tree of the last changes at each other bridge, and each other tree at the last.
 #[test]
-fn one_edge_of_a_line_changes_few_labels(rt: HostRuntime) -> Result<(), Fail> {
-    let mut line = TreeSet::new(rt.alloc(), &apart(rt.alloc())?, &[])?;
-    join_all(&rt, rt.alloc(), &mut line);
-    let mut set = TreeSet::new(rt.alloc(), line.graph(), &[0])?;
+fn one_edge_of_a_line_changes_few_labels(rt: HostRuntime) {
+    let mut set = set_of_line(&rt, rt.alloc(), &[0]);
     change(&rt, rt.alloc(), &mut set, edge!(95, 96, 15), true);
     check_relabelled(&rt, &set, 190);
-    Ok(())
 }

@@ -1,17 +1,16 @@
 //! Tests of `fdb_build`.
-ghost use Rattle.std.specs.Prelude.{◌≤◌, [], ◌∷◌, IfOk};
+ghost use Rattle.std.specs.Prelude.{◌≤◌, [], ◌∷◌};
 ghost use Rattle.spb_types.specs.Graph.{IsValidFor};
 ghost use Rattle.fdb_build.specs.Tables.{ArePlans};
 
-use crate::fixtures::are_equal;
+use crate::fixtures::{are_equal, graph_of};
 use fdb_build::tables_of;
 use spb_types::{
-    BridgeId, Edge, Graph, GraphBridge, GroupRow, Isid, Mac, Member, NoMemory, PortSet, Seq,
-    SourceId, SystemId, Tables, UnicastRow, Vid, VidPlan,
+    BridgeId, Edge, Graph, GraphBridge, GroupRow, Isid, Mac, Member, PortSet, SourceId, SystemId,
+    Tables, UnicastRow, Vid, VidPlan,
 };
 use std::alloc::Global;
 use std::process::Abort;
-use std::test::Fail;
 
 macro_rules! plan {
     ($vid:expr, $ect:expr) => {
@@ -44,6 +43,34 @@ fn tables(rt: &impl Abort, alloc: Global, graph: &Graph, me: SystemId, vids: &[V
     tables_of(alloc, graph, me, vids).expect(rt, "out of memory")
 }
 
+/// The same with the VID 10 alone.
+fn tables_in_10(rt: &impl Abort, alloc: Global, graph: &Graph, me: SystemId) -> Tables
+    requires { IsValidFor graph.now me }
+{
+    tables(rt, alloc, graph, me, &[plan!(10, 1)])
+}
+
+/// The same with two VIDs.
+fn tables_in_two(rt: &impl Abort, alloc: Global, graph: &Graph, me: SystemId) -> Tables
+    requires { IsValidFor graph.now me }
+{
+    tables(rt, alloc, graph, me, &[plan!(20, 2), plan!(10, 1)])
+}
+
+/// The same with the greatest VID and the least.
+fn tables_in_far(rt: &impl Abort, alloc: Global, graph: &Graph, me: SystemId) -> Tables
+    requires { IsValidFor graph.now me }
+{
+    tables(rt, alloc, graph, me, &[plan!(4094, 16), plan!(1, 2)])
+}
+
+/// The same with no VID.
+fn tables_in_none(rt: &impl Abort, alloc: Global, graph: &Graph, me: SystemId) -> Tables
+    requires { IsValidFor graph.now me }
+{
+    tables(rt, alloc, graph, me, &[])
+}
+
 /// The tables have these unicast rows, by VID, last byte of the address and port, and no group rows.
 fn check_rows(rt: &impl Abort, tables: &Tables, want: &[(u16, u8, u8)]) {
     are_equal(rt, &tables.unicast.len(), &want.len());
@@ -58,188 +85,181 @@ fn check_rows(rt: &impl Abort, tables: &Tables, want: &[(u16, u8, u8)]) {
     assert!(*rt; tables.group.is_empty());
 }
 
+const SQUARE_BRIDGES: [GraphBridge; 5] = [
+    bridge!(4),
+    bridge!(9),
+    bridge!(1),
+    bridge!(3),
+    bridge!(2),
+];
+
+const SQUARE_EDGES: [Edge; 4] = [
+    edge!(1, 5, 2, 1, 10),
+    edge!(4, 8, 2, 2, 10),
+    edge!(3, 1, 1, 32, 10),
+    edge!(3, 2, 4, 6, 10),
+];
+
 /// Bridges 1, 2, 4, 3 in a square, whose two ways from corner to corner tie, and bridge 9, which has no edge.
-fn square(alloc: Global) -> Result<Graph, NoMemory>
-    ensures one { IfOk result (λ g. IsValidFor g (record { mac = record { bytes = 2 ∷ 0 ∷ 0 ∷ 0 ∷ 0 ∷ 1 ∷ [] } })) }
-    ensures four { IfOk result (λ g. IsValidFor g (record { mac = record { bytes = 2 ∷ 0 ∷ 0 ∷ 0 ∷ 0 ∷ 4 ∷ [] } })) }
-    ensures nine { IfOk result (λ g. IsValidFor g (record { mac = record { bytes = 2 ∷ 0 ∷ 0 ∷ 0 ∷ 0 ∷ 9 ∷ [] } })) }
+fn square(rt: &impl Abort, alloc: Global) -> Graph
+    ensures one { IsValidFor result (record { mac = record { bytes = 2 ∷ 0 ∷ 0 ∷ 0 ∷ 0 ∷ 1 ∷ [] } }) }
+    ensures four { IsValidFor result (record { mac = record { bytes = 2 ∷ 0 ∷ 0 ∷ 0 ∷ 0 ∷ 4 ∷ [] } }) }
+    ensures nine { IsValidFor result (record { mac = record { bytes = 2 ∷ 0 ∷ 0 ∷ 0 ∷ 0 ∷ 9 ∷ [] } }) }
 {
-    let bridges = vec![in alloc; bridge!(4), bridge!(9), bridge!(1), bridge!(3), bridge!(2)]?;
-    let edges = vec![in alloc;
-        edge!(1, 5, 2, 1, 10),
-        edge!(4, 8, 2, 2, 10),
-        edge!(3, 1, 1, 32, 10),
-        edge!(3, 2, 4, 6, 10),
-    ]?;
-    Ok(Graph {
-        bridges: Seq::from_vec(bridges),
-        edges: Seq::from_vec(edges),
-        members: Seq::new(alloc),
-    })
+    graph_of(rt, alloc, &SQUARE_BRIDGES, &SQUARE_EDGES, &[])
 }
+
+/// The unicast rows of bridge 1, by VID, last byte of the address and port.
+const ROWS_OF_ONE: [(u16, u8, u8); 6] = [
+    (10, 2, 5),
+    (10, 3, 32),
+    (10, 4, 5),
+    (20, 2, 5),
+    (20, 3, 32),
+    (20, 4, 32),
+];
+
+/// Those of bridge 4.
+const ROWS_OF_FOUR: [(u16, u8, u8); 6] = [
+    (10, 1, 8),
+    (10, 2, 8),
+    (10, 3, 6),
+    (20, 1, 6),
+    (20, 2, 8),
+    (20, 3, 6),
+];
+
+#[test]
+fn ties_fall_by_the_mask_of_the_vid(rt: HostRuntime) {
+    let graph = square(&rt, rt.alloc());
+    let one = tables_in_two(&rt, rt.alloc(), &graph, system!(1));
+    check_rows(&rt, &one, &ROWS_OF_ONE);
+    let four = tables_in_two(&rt, rt.alloc(), &graph, system!(4));
+    check_rows(&rt, &four, &ROWS_OF_FOUR);
+}
+
+#[test]
+fn a_bridge_without_edges_has_no_rows(rt: HostRuntime) {
+    let graph = square(&rt, rt.alloc());
+    let nine = tables_in_10(&rt, rt.alloc(), &graph, system!(9));
+    check_rows(&rt, &nine, &[]);
+    let without_vids = tables_in_none(&rt, rt.alloc(), &graph, system!(1));
+    check_rows(&rt, &without_vids, &[]);
+}
+
+const TRIANGLE_BRIDGES: [GraphBridge; 3] = [bridge!(3), bridge!(2), bridge!(1)];
+
+const ONE_TO_TWO: Edge = edge!(1, 2, 2, 1, 10);
+
+const TWO_TO_THREE: Edge = edge!(2, 3, 3, 2, 10);
 
 /// Bridges 1, 2 and 3, each joined to both others, with a cost of the edge between 1 and 3 and one of 10 for the
 /// others.
-fn triangle(alloc: Global, cost: u32) -> Result<Graph, NoMemory>
+fn triangle(rt: &impl Abort, alloc: Global, cost: u32) -> Graph
     requires low { 1 ≤ cost }
     requires high { cost ≤ 1000 }
-    ensures { IfOk result (λ g. IsValidFor g (record { mac = record { bytes = 2 ∷ 0 ∷ 0 ∷ 0 ∷ 0 ∷ 1 ∷ [] } })) }
+    ensures { IsValidFor result (record { mac = record { bytes = 2 ∷ 0 ∷ 0 ∷ 0 ∷ 0 ∷ 1 ∷ [] } }) }
 {
-    let bridges = vec![in alloc; bridge!(3), bridge!(2), bridge!(1)]?;
-    let edges = vec![in alloc;
-        edge!(1, 2, 2, 1, 10),
-        edge!(2, 3, 3, 2, 10),
-        edge!(3, 1, 1, 3, cost),
-    ]?;
-    Ok(Graph {
-        bridges: Seq::from_vec(bridges),
-        edges: Seq::from_vec(edges),
-        members: Seq::new(alloc),
-    })
-}
-
-#[test]
-fn ties_fall_by_the_mask_of_the_vid(rt: HostRuntime) -> Result<(), Fail> {
-    let graph = square(rt.alloc())?;
-    let vids = [plan!(20, 2), plan!(10, 1)];
-    let one = tables(&rt, rt.alloc(), &graph, system!(1), &vids);
-    let rows = [
-        (10, 2, 5),
-        (10, 3, 32),
-        (10, 4, 5),
-        (20, 2, 5),
-        (20, 3, 32),
-        (20, 4, 32),
-    ];
-    check_rows(&rt, &one, &rows);
-    let four = tables(&rt, rt.alloc(), &graph, system!(4), &vids);
-    let back = [
-        (10, 1, 8),
-        (10, 2, 8),
-        (10, 3, 6),
-        (20, 1, 6),
-        (20, 2, 8),
-        (20, 3, 6),
-    ];
-    check_rows(&rt, &four, &back);
-    Ok(())
-}
-
-#[test]
-fn a_bridge_without_edges_has_no_rows(rt: HostRuntime) -> Result<(), Fail> {
-    let graph = square(rt.alloc())?;
-    let nine = tables(&rt, rt.alloc(), &graph, system!(9), &[plan!(10, 1)]);
-    check_rows(&rt, &nine, &[]);
-    let without_vids = tables(&rt, rt.alloc(), &graph, system!(1), &[]);
-    check_rows(&rt, &without_vids, &[]);
-    Ok(())
+    let edges = [ONE_TO_TWO, TWO_TO_THREE, edge!(3, 1, 1, 3, cost)];
+    graph_of(rt, alloc, &TRIANGLE_BRIDGES, &edges, &[])
 }
 
 /// Bridge 1 of the triangle with an edge of this cost to bridge 3 comes there through this port.
-fn check_port(rt: &impl Abort, alloc: Global, cost: u32, port: u8) -> Result<(), NoMemory>
+fn check_port(rt: &impl Abort, alloc: Global, cost: u32, port: u8)
     requires low { 1 ≤ cost }
     requires high { cost ≤ 1000 }
 {
-    let graph = triangle(alloc, cost)?;
-    let vids = [plan!(4094, 16), plan!(1, 2)];
-    let tables = tables(rt, alloc, &graph, system!(1), &vids);
+    let graph = triangle(rt, alloc, cost);
+    let tables = tables_in_far(rt, alloc, &graph, system!(1));
     let rows = [(1, 2, 2), (1, 3, port), (4094, 2, 2), (4094, 3, port)];
     check_rows(rt, &tables, &rows);
-    Ok(())
 }
 
 #[test]
-fn rows_lead_to_the_second_bridge(rt: HostRuntime) -> Result<(), Fail> {
-    check_port(&rt, rt.alloc(), 19, 3)?;
-    check_port(&rt, rt.alloc(), 20, 3)?;
-    check_port(&rt, rt.alloc(), 21, 2)?;
-    Ok(())
+fn rows_lead_to_the_second_bridge(rt: HostRuntime) {
+    check_port(&rt, rt.alloc(), 19, 3);
+    check_port(&rt, rt.alloc(), 20, 3);
+    check_port(&rt, rt.alloc(), 21, 2);
 }
 
-/// The tables have these group rows in VID 10, by address and the bits of the ports.
-fn check_groups(rt: &impl Abort, tables: &Tables, want: &[([u8; 6], u32)]) {
+/// The tables have these group rows in VID 10, by the source in the address and the bits of the ports.
+fn check_groups(rt: &impl Abort, tables: &Tables, want: &[(u8, u32)]) {
     are_equal(rt, &tables.group.len(), &want.len());
-    for (row, (bytes, bits)) in tables.group.iter().zip(want) {
+    for (row, (source, bits)) in tables.group.iter().zip(want) {
         let want = GroupRow {
             vid: Vid { value: 10 },
-            mac: Mac { bytes: *bytes },
+            mac: Mac {
+                bytes: [3, 0, *source, 0, 0, 100],
+            },
             ports: PortSet { bits: *bits },
         };
         are_equal(rt, row, &want);
     }
 }
 
+const RING_BRIDGES: [GraphBridge; 6] = [
+    bridge!(6),
+    bridge!(1),
+    bridge!(5),
+    bridge!(2),
+    bridge!(4),
+    bridge!(3),
+];
+
+const RING_EDGES: [Edge; 6] = [
+    edge!(1, 1, 2, 2, 10),
+    edge!(2, 1, 3, 2, 10),
+    edge!(3, 1, 4, 2, 10),
+    edge!(4, 1, 5, 2, 10),
+    edge!(5, 1, 6, 2, 10),
+    edge!(6, 1, 1, 2, 10),
+];
+
+const RING_MEMBERS: [Member; 5] = [member!(5), member!(1), member!(4), member!(2), member!(3)];
+
 /// Bridges 1 to 6 in a ring: port 1 leads to the next bridge, port 2 to the one before. All but 6 are members.
-fn ring(alloc: Global) -> Result<Graph, NoMemory>
-    ensures one { IfOk result (λ g. IsValidFor g (record { mac = record { bytes = 2 ∷ 0 ∷ 0 ∷ 0 ∷ 0 ∷ 1 ∷ [] } })) }
-    ensures six { IfOk result (λ g. IsValidFor g (record { mac = record { bytes = 2 ∷ 0 ∷ 0 ∷ 0 ∷ 0 ∷ 6 ∷ [] } })) }
+fn ring(rt: &impl Abort, alloc: Global) -> Graph
+    ensures one { IsValidFor result (record { mac = record { bytes = 2 ∷ 0 ∷ 0 ∷ 0 ∷ 0 ∷ 1 ∷ [] } }) }
+    ensures six { IsValidFor result (record { mac = record { bytes = 2 ∷ 0 ∷ 0 ∷ 0 ∷ 0 ∷ 6 ∷ [] } }) }
 {
-    let bridges = vec![in alloc;
-        bridge!(6),
-        bridge!(1),
-        bridge!(5),
-        bridge!(2),
-        bridge!(4),
-        bridge!(3),
-    ]?;
-    let edges = vec![in alloc;
-        edge!(1, 1, 2, 2, 10),
-        edge!(2, 1, 3, 2, 10),
-        edge!(3, 1, 4, 2, 10),
-        edge!(4, 1, 5, 2, 10),
-        edge!(5, 1, 6, 2, 10),
-        edge!(6, 1, 1, 2, 10),
-    ]?;
-    let members = vec![in alloc; member!(5), member!(1), member!(4), member!(2), member!(3)]?;
-    Ok(Graph {
-        bridges: Seq::from_vec(bridges),
-        edges: Seq::from_vec(edges),
-        members: Seq::from_vec(members),
-    })
+    graph_of(rt, alloc, &RING_BRIDGES, &RING_EDGES, &RING_MEMBERS)
 }
 
 #[test]
-fn group_rows_lead_to_the_members_behind(rt: HostRuntime) -> Result<(), Fail> {
-    let graph = ring(rt.alloc())?;
-    let one = [
-        ([3, 0, 1, 0, 0, 100], 0b11),
-        ([3, 0, 2, 0, 0, 100], 0b10),
-        ([3, 0, 5, 0, 0, 100], 0b01),
-    ];
-    let tables_of_one = tables(&rt, rt.alloc(), &graph, system!(1), &[plan!(10, 1)]);
-    check_groups(&rt, &tables_of_one, &one);
-    let six = [
-        ([3, 0, 1, 0, 0, 100], 0b10),
-        ([3, 0, 2, 0, 0, 100], 0b10),
-        ([3, 0, 5, 0, 0, 100], 0b01),
-    ];
-    let tables_of_six = tables(&rt, rt.alloc(), &graph, system!(6), &[plan!(10, 1)]);
-    check_groups(&rt, &tables_of_six, &six);
-    Ok(())
+fn group_rows_lead_to_the_members_behind(rt: HostRuntime) {
+    let graph = ring(&rt, rt.alloc());
+    let one = tables_in_10(&rt, rt.alloc(), &graph, system!(1));
+    check_groups(&rt, &one, &[(1, 0b11), (2, 0b10), (5, 0b01)]);
+    let six = tables_in_10(&rt, rt.alloc(), &graph, system!(6));
+    check_groups(&rt, &six, &[(1, 0b10), (2, 0b10), (5, 0b01)]);
 }
+
+const LINE_BRIDGES: [GraphBridge; 3] = [bridge!(1), bridge!(2), FAR];
+
+/// Bridge 3, with the source of bridge 1 but for a bit above the low 20.
+const FAR: GraphBridge = GraphBridge {
+    id: BridgeId {
+        priority: 32768,
+        system: system!(3),
+    },
+    source: SourceId { value: 0x10_0001 },
+};
+
+const LINE_EDGES: [Edge; 2] = [edge!(1, 1, 2, 1, 10), edge!(2, 2, 3, 1, 10)];
+
+const LINE_MEMBERS: [Member; 4] = [member!(1), member!(2), member!(3), member!(1, 7)];
 
 /// Bridge 2 between bridges 1 and 3, whose sources differ above their low 20 bits. All are members of service 100, and
 /// 1 alone of service 7.
-fn line(alloc: Global) -> Result<Graph, NoMemory>
-    ensures { IfOk result (λ g. IsValidFor g (record { mac = record { bytes = 2 ∷ 0 ∷ 0 ∷ 0 ∷ 0 ∷ 2 ∷ [] } })) }
+fn line(rt: &impl Abort, alloc: Global) -> Graph
+    ensures { IsValidFor result (record { mac = record { bytes = 2 ∷ 0 ∷ 0 ∷ 0 ∷ 0 ∷ 2 ∷ [] } }) }
 {
-    let mut far = bridge!(3);
-    far.source.value = 0x10_0001;
-    let bridges = vec![in alloc; bridge!(1), bridge!(2), far]?;
-    let edges = vec![in alloc; edge!(1, 1, 2, 1, 10), edge!(2, 2, 3, 1, 10)]?;
-    let members = vec![in alloc; member!(1), member!(2), member!(3), member!(1, 7)]?;
-    Ok(Graph {
-        bridges: Seq::from_vec(bridges),
-        edges: Seq::from_vec(edges),
-        members: Seq::from_vec(members),
-    })
+    graph_of(rt, alloc, &LINE_BRIDGES, &LINE_EDGES, &LINE_MEMBERS)
 }
 
 #[test]
-fn sources_with_one_address_share_a_row(rt: HostRuntime) -> Result<(), Fail> {
-    let graph = line(rt.alloc())?;
-    let rows = [([3, 0, 1, 0, 0, 100], 0b11), ([3, 0, 2, 0, 0, 100], 0b11)];
-    let tables = tables(&rt, rt.alloc(), &graph, system!(2), &[plan!(10, 1)]);
-    check_groups(&rt, &tables, &rows);
-    Ok(())
+fn sources_with_one_address_share_a_row(rt: HostRuntime) {
+    let graph = line(&rt, rt.alloc());
+    let tables = tables_in_10(&rt, rt.alloc(), &graph, system!(2));
+    check_groups(&rt, &tables, &[(1, 0b11), (2, 0b11)]);
 }

@@ -1,93 +1,83 @@
 //! Tests of `ect_trees`.
-ghost use Rattle.std.specs.Prelude.{IfOk};
 ghost use Rattle.spb_types.specs.Graph.{IsValid};
 
-use crate::fixtures::{are_bytes, are_equal};
+use crate::fixtures::{are_bytes, are_equal, graph_of, seq};
 use ect_trees::{PathKey, Tree, compare_keys, tree_from};
-use spb_types::{BridgeId, Edge, Graph, GraphBridge, Mac, NoMemory, Path, Seq, SourceId, SystemId};
+use spb_types::{BridgeId, Edge, Graph, GraphBridge, Mac, Path, SourceId, SystemId};
 use std::alloc::Global;
 use std::cmp::Ordering;
 use std::process::Abort;
-use std::test::Fail;
+
+const SQUARE_BRIDGES: [GraphBridge; 4] = [bridge!(1), bridge!(2), bridge!(3), bridge!(4)];
+
+const SQUARE_EDGES: [Edge; 4] = [
+    edge!(1, 2, 10),
+    edge!(2, 4, 10),
+    edge!(1, 3, 10),
+    edge!(3, 4, 10),
+];
 
 /// Four bridges in a square, whose two ways from corner to corner tie.
-pub(crate) fn square(alloc: Global) -> Result<Graph, NoMemory>
-    ensures { IfOk result IsValid }
+pub(crate) fn square(rt: &impl Abort, alloc: Global) -> Graph
+    ensures { IsValid result }
 {
-    let bridges = vec![in alloc; bridge!(1), bridge!(2), bridge!(3), bridge!(4)]?;
-    let edges = vec![in alloc;
-        edge!(1, 2, 10),
-        edge!(2, 4, 10),
-        edge!(1, 3, 10),
-        edge!(3, 4, 10),
-    ]?;
-    Ok(Graph {
-        bridges: Seq::from_vec(bridges),
-        edges: Seq::from_vec(edges),
-        members: Seq::new(alloc),
-    })
+    graph_of(rt, alloc, &SQUARE_BRIDGES, &SQUARE_EDGES, &[])
 }
+
+const ONE: GraphBridge = bridge!(1);
+
+const TWO: GraphBridge = bridge!(2);
+
+const FOUR: GraphBridge = bridge!(4);
+
+const FIVE: GraphBridge = bridge!(5);
+
+const EIGHT: GraphBridge = bridge!(8);
+
+const LADDER_EDGES: [Edge; 6] = [
+    edge!(1, 5, 10),
+    edge!(5, 2, 10),
+    edge!(2, 8, 10),
+    edge!(1, 3, 10),
+    edge!(3, 4, 10),
+    edge!(4, 8, 10),
+];
 
 /// Two ways from 1 to 8 of the same cost and hops: 1 5 2 8 and 1 3 4 8, with a priority of bridge 3.
-fn ladder(alloc: Global, priority: u16) -> Result<Graph, NoMemory>
-    ensures { IfOk result IsValid }
+fn ladder(rt: &impl Abort, alloc: Global, priority: u16) -> Graph
+    ensures { IsValid result }
 {
-    let bridges = vec![in alloc;
-        bridge!(1),
-        bridge!(2),
-        bridge!(3, priority),
-        bridge!(4),
-        bridge!(5),
-        bridge!(8),
-    ]?;
-    let edges = vec![in alloc;
-        edge!(1, 5, 10),
-        edge!(5, 2, 10),
-        edge!(2, 8, 10),
-        edge!(1, 3, 10),
-        edge!(3, 4, 10),
-        edge!(4, 8, 10),
-    ]?;
-    Ok(Graph {
-        bridges: Seq::from_vec(bridges),
-        edges: Seq::from_vec(edges),
-        members: Seq::new(alloc),
-    })
+    let bridges = [ONE, TWO, bridge!(3, priority), FOUR, FIVE, EIGHT];
+    graph_of(rt, alloc, &bridges, &LADDER_EDGES, &[])
 }
 
+const DETOUR_BRIDGES: [GraphBridge; 6] = [
+    bridge!(4),
+    bridge!(7),
+    bridge!(1),
+    bridge!(9),
+    bridge!(3),
+    bridge!(2),
+];
+
+const DETOUR_EDGES: [Edge; 5] = [
+    edge!(1, 2, 10),
+    edge!(3, 2, 10),
+    edge!(3, 4, 10),
+    edge!(9, 1, 10),
+    edge!(9, 4, 20),
+];
+
 /// Two ways of cost 30 from 1 to 4: 1 2 3 4, and 1 9 4. Bridge 7 has no edge.
-fn detour(alloc: Global) -> Result<Graph, NoMemory>
-    ensures { IfOk result IsValid }
+fn detour(rt: &impl Abort, alloc: Global) -> Graph
+    ensures { IsValid result }
 {
-    let bridges = vec![in alloc;
-        bridge!(4),
-        bridge!(7),
-        bridge!(1),
-        bridge!(9),
-        bridge!(3),
-        bridge!(2),
-    ]?;
-    let edges = vec![in alloc;
-        edge!(1, 2, 10),
-        edge!(3, 2, 10),
-        edge!(3, 4, 10),
-        edge!(9, 1, 10),
-        edge!(9, 4, 20),
-    ]?;
-    Ok(Graph {
-        bridges: Seq::from_vec(bridges),
-        edges: Seq::from_vec(edges),
-        members: Seq::new(alloc),
-    })
+    graph_of(rt, alloc, &DETOUR_BRIDGES, &DETOUR_EDGES, &[])
 }
 
 fn key(rt: &impl Abort, alloc: Global, cost: u64, hops: u32, last: u8) -> PathKey {
-    let ids = vec![in alloc; [0x80, 0, 2, 0, 0, 0, 0, last]].expect(rt, "out of memory");
-    PathKey {
-        cost,
-        hops,
-        ids: Seq::from_vec(ids),
-    }
+    let ids = seq(rt, alloc, &[[0x80, 0, 2, 0, 0, 0, 0, last]]);
+    PathKey { cost, hops, ids }
 }
 
 /// The tree from a bridge, under no contract: the tests ask for nothing but what it is.
@@ -129,36 +119,27 @@ fn check_best(rt: &impl Abort, alloc: Global, graph: &Graph, mask: u8, cost: u64
 }
 
 #[test]
-fn ties_fall_by_masked_ids(rt: HostRuntime) -> Result<(), Fail> {
-    let graph = square(rt.alloc())?;
+fn ties_fall_by_masked_ids(rt: HostRuntime) {
+    let graph = square(&rt, rt.alloc());
     check_best(&rt, rt.alloc(), &graph, 0x00, 20, &[1, 2, 4]);
     check_best(&rt, rt.alloc(), &graph, 0xff, 20, &[1, 3, 4]);
     check_best(&rt, rt.alloc(), &graph, 0x00, 20, &[4, 2, 1]);
     check_best(&rt, rt.alloc(), &graph, 0xff, 20, &[4, 3, 1]);
-    Ok(())
 }
 
 /// Asserts the best path from 1 to 8 with a priority of bridge 3.
-fn check_ladder(
-    rt: &impl Abort,
-    alloc: Global,
-    priority: u16,
-    mask: u8,
-    want: &[u8],
-) -> Result<(), NoMemory> {
-    let graph = ladder(alloc, priority)?;
+fn check_ladder(rt: &impl Abort, alloc: Global, priority: u16, mask: u8, want: &[u8]) {
+    let graph = ladder(rt, alloc, priority);
     check_best(rt, alloc, &graph, mask, 30, want);
-    Ok(())
 }
 
 #[test]
-fn ids_compare_in_sorted_order(rt: HostRuntime) -> Result<(), Fail> {
-    check_ladder(&rt, rt.alloc(), 32768, 0x00, &[1, 5, 2, 8])?;
-    check_ladder(&rt, rt.alloc(), 32768, 0x44, &[1, 3, 4, 8])?;
-    check_ladder(&rt, rt.alloc(), 32768, 0xff, &[1, 5, 2, 8])?;
-    check_ladder(&rt, rt.alloc(), 4096, 0x00, &[1, 3, 4, 8])?;
-    check_ladder(&rt, rt.alloc(), 4096, 0xff, &[1, 5, 2, 8])?;
-    Ok(())
+fn ids_compare_in_sorted_order(rt: HostRuntime) {
+    check_ladder(&rt, rt.alloc(), 32768, 0x00, &[1, 5, 2, 8]);
+    check_ladder(&rt, rt.alloc(), 32768, 0x44, &[1, 3, 4, 8]);
+    check_ladder(&rt, rt.alloc(), 32768, 0xff, &[1, 5, 2, 8]);
+    check_ladder(&rt, rt.alloc(), 4096, 0x00, &[1, 3, 4, 8]);
+    check_ladder(&rt, rt.alloc(), 4096, 0xff, &[1, 5, 2, 8]);
 }
 
 /// Asserts how a key of this cost, so many hops and this id compares with another.
@@ -194,11 +175,15 @@ fn check_detour(rt: &impl Abort, alloc: Global, graph: &Graph, mask: u8)
 }
 
 #[test]
-fn fewer_hops_win_at_equal_cost(rt: HostRuntime) -> Result<(), Fail> {
-    let graph = detour(rt.alloc())?;
+fn fewer_hops_win_at_equal_cost(rt: HostRuntime) {
+    let graph = detour(&rt, rt.alloc());
     check_detour(&rt, rt.alloc(), &graph, 0x00);
     check_detour(&rt, rt.alloc(), &graph, 0xff);
-    Ok(())
+}
+
+/// The tree of that graph from a bridge.
+fn tree_of_detour(rt: &impl Abort, alloc: Global, from: u8) -> Tree {
+    tree(rt, alloc, &detour(rt, alloc), from, 0)
 }
 
 /// Asserts that the tree has no path to a bridge.
@@ -207,17 +192,22 @@ fn has_no_path(rt: &impl Abort, alloc: Global, tree: &Tree, to: u8) {
 }
 
 #[test]
-fn no_path_is_none(rt: HostRuntime) -> Result<(), Fail> {
-    let graph = detour(rt.alloc())?;
-    let alone = tree(&rt, rt.alloc(), &graph, 7, 0);
+fn no_path_is_none(rt: HostRuntime) {
+    let alone = tree_of_detour(&rt, rt.alloc(), 7);
     are_equal(&rt, &alone.source(), &system!(7));
     check_path(&rt, rt.alloc(), &alone, 7, 0, &[7]);
-    for to in [1, 2, 3, 4, 9, 5] {
-        has_no_path(&rt, rt.alloc(), &alone, to);
-    }
-    let strange = tree(&rt, rt.alloc(), &graph, 5, 0);
-    for to in [1, 5, 7] {
-        has_no_path(&rt, rt.alloc(), &strange, to);
-    }
-    Ok(())
+    has_no_path(&rt, rt.alloc(), &alone, 1);
+    has_no_path(&rt, rt.alloc(), &alone, 2);
+    has_no_path(&rt, rt.alloc(), &alone, 3);
+    has_no_path(&rt, rt.alloc(), &alone, 4);
+    has_no_path(&rt, rt.alloc(), &alone, 9);
+    has_no_path(&rt, rt.alloc(), &alone, 5);
+}
+
+#[test]
+fn a_tree_from_no_bridge_has_no_path(rt: HostRuntime) {
+    let strange = tree_of_detour(&rt, rt.alloc(), 5);
+    has_no_path(&rt, rt.alloc(), &strange, 1);
+    has_no_path(&rt, rt.alloc(), &strange, 5);
+    has_no_path(&rt, rt.alloc(), &strange, 7);
 }

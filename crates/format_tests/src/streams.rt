@@ -53,6 +53,7 @@ fn a_sink_in_memory_takes_bytes_in_steps_and_fails_where_listed(rt: HostRuntime)
     check_written(&rt, &mut sink, b"de", Ok(2), 1, b"abcde");
     check_written(&rt, &mut sink, b"", failed, 2, b"abcde");
     check_written(&rt, &mut sink, b"", Ok(0), 2, b"abcde");
+    assert!(rt; sink.has_taken(b"abcde") && !sink.has_taken(b"abcdf"));
 }
 
 #[test]

@@ -54,6 +54,13 @@ impl MemorySink {
     {
         &self.bytes
     }
+
+    /// Whether the bytes that it took are these.
+    pub fn has_taken(&self, bytes: &[u8]) -> bool
+        ensures { IsTrue result ↔ (self.now.bytes ≡ bytes.now) }
+    {
+        self.bytes.as_slice() == bytes
+    }
 }
 
 impl Sink for MemorySink {

@@ -1,0 +1,10 @@
+use Rattle.std.proofs.Common.{refl, sym, subst}
+use Rattle.spb_types.specs.Graph.{IsValidFor}
+use Rattle.control_tests.proofs.Tested.{valid_for_if}
+use Rattle.control_tests.proofs.tables.ring.Goals as goal
+
+pub returns-clause-one : goal.returns-clause-one
+returns-clause-one g c = subst (λ h. IsValidFor h _) (sym c.graph_of.ensures) (valid_for_if _ _ refl)
+
+pub returns-clause-six : goal.returns-clause-six
+returns-clause-six g c = subst (λ h. IsValidFor h _) (sym c.graph_of.ensures) (valid_for_if _ _ refl)
