@@ -22,7 +22,7 @@ def explain(refused: Refused, script: Script) -> List[str]:
     line = refused.origin
     if line is None:
         return [
-            f"{script.name}: `{refused.text}`, which isn't of the script but is played behind it, was refused: "
+            f"{script.name}: `{refused.text}`, which isn't of the script but is played after it, was refused: "
             f"{refused.reason}. {_of_added(refused)}".rstrip()
         ]
     before = script.world(line.number - 1) if line.number > 1 else World()

@@ -18,7 +18,7 @@ def add_bridge_arguments(parser: argparse.ArgumentParser) -> None:
         "--at",
         type=int,
         metavar="LINE",
-        help="as the network stands behind this line of the script (its last where none is given)",
+        help="as the network stands after this line of the script (its last where none is given)",
     )
     parser.add_argument("--whole", action="store_true", help="write the script's lines up to there before")
 

@@ -23,11 +23,12 @@ use Rattle.bridge_api.specs.Step.{Input, attach, detach}
 use Rattle.bridge_api.specs.Laws.{HasConfig, IsInput, attached_after}
 use Rattle.bridge_api.proofs.Attached.{config_after, learned_after}
 use Rattle.bridge_api.proofs.Changes.{attached_to, with_attached_is}
+use Rattle.bridge_api.proofs.OwnLspSteps.{saying_settles}
 use Rattle.bridge_api.proofs.Saying.{is_local}
 use Rattle.bridge_control.specs.declared.machine.Machine.{Machine}
 use Rattle.bridge_control.specs.Attaching.{is_beside, is_elsewhere, is_covered}
 use Rattle.bridge_control.specs.Machine.{view_of, IsReady, IsAfter}
-use Rattle.bridge_control.proofs.Owning.{after_same, originated_if_changed_still}
+use Rattle.bridge_control.proofs.Owning.{after_same}
 use Rattle.bridge_control.proofs.Telling.{machine_with, forgotten_is}
 
 -- ---- tests of lists
@@ -131,12 +132,12 @@ says_still m n attached learned other ready config is within beyond =
     let v : BridgeView = view_of m in
     let w : BridgeView = attached_to attached (with_learned learned v) in
     let same : body_of w ≡ body_of v = same_body v attached learned
-        (is_local v ready.sound.config ready.sound.few ready.sound.ports)
-        (is_local (attached_to attached (with_learned other v)) config ready.sound.few ready.sound.ports) within beyond in
+    (is_local v ready.sound.config ready.sound.few ready.sound.ports)
+    (is_local (attached_to attached (with_learned other v)) config ready.sound.few ready.sound.ports) within beyond in
     let says : own_of v ≡ own_of w = λ i. record { system = m.id.system; body = sym same i; spent = m.own.spent } in
     let follows = ready.current.ports in
     let whole : IsAfter (with_attached attached (with_learned learned v)) (machine_with m attached learned) = record {
-      view = originated_if_changed_still w (λ alive. ready.sound.own.said alive ∙ sym same) ∙ sym (with_attached_is attached (with_learned learned v));
+      view = sym (saying_settles w (λ fresh. (ready.sound.own.said fresh ∙ sym same, ready.sound.own.alive fresh))) ∙ sym (with_attached_is attached (with_learned learned v));
       current = record { own = ready.current.own ∙ says; ports = record { hellos = follows.hellos; up = follows.up; me = follows.me } };
     } in
     subst (λ (k : Machine). IsAfter (with_attached attached (with_learned learned v)) k) (sym is) whole

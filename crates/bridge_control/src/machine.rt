@@ -1,9 +1,8 @@
 //! What a configured bridge keeps, and its own LSP.
-ghost use Rattle.std.specs.Prelude.{◌≡◌, ◌≤◌, ◌&&◌, true, false, not, length, IfOk, OnOk};
-ghost use Rattle.std.specs.Str.{bytes_eq};
-ghost use Rattle.std.specs.FinMap.{get};
+ghost use Rattle.std.specs.Prelude.{◌≡◌, ◌≤◌, true, false, length, IfOk, OnOk};
 ghost use Rattle.spb_content.specs.Local.{IsLocal, content_bytes};
-ghost use Rattle.flooding.specs.Own.{own_id};
+ghost use Rattle.flooding.specs.Placing.{holding};
+ghost use Rattle.flooding.specs.Settling.{is_said};
 ghost use Rattle.bridge_api.specs.Config as config_specs;
 ghost use Rattle.bridge_api.specs.Ticking as ticking;
 ghost use Rattle.bridge_api.specs.Own as api;

@@ -19,13 +19,12 @@
 //! A [`Forest`] says which bridge directly follows another on the best path from a source. [`Forest::grow`] searches
 //! the best paths from a source under a mask, and keeps them as routes. They are guessed by a quick search, which keeps
 //! the last step of each way, with no memory for a label. The guess is looked at before it is believed: each step once,
-//! and each arc once, with ids only where cost and hops tie, and once for arcs in turn that tie between the same two
-//! ways. Where it isn't right, whole paths are searched, and those are kept. So a source and a mask cost a search once: two looks at each arc, and a look at each bridge that waits for
+//! and each arc once, with ids only where cost and hops tie. Where it isn't right, whole paths are searched, and those
+//! are kept. So a source and a mask cost a search once: two looks at each arc, and a look at each bridge that waits for
 //! each that is settled. Where no path ties with another, the routes serve under every mask. [`Forest::follower`] then
 //! takes a look at the routes that are kept from its source, and the hops of one way, without memory, which it walks back
 //! no further than the bridge that is followed can stand; where no routes serve, it searches whole paths for that answer
-//! alone. Who asks often about one source looks its routes up once ([`Forest::routes`]); whether any bridge follows
-//! another on them, a look at the arcs from that one tells ([`Routes::leads_on`]). [`Forest::path`] reads a whole path back from the same routes, in time and memory of its hops.
+//! alone. [`Forest::path`] reads a whole path back from the same routes, in time and memory of its hops.
 //! [`Roads::follower_by`] reads the bridge that follows off a tree that is kept ([`Trees`]): it takes the hops of one
 //! path, and a look-up for that bridge.
 //!

@@ -9,13 +9,12 @@
 //! searches if they aren't kept, and no others.
 //!
 //! [`Fabric::tables`] makes no search where the paths are kept. The ports of the bridge towards its neighbours are put
-//! at their places. For each VID the unicast rows then take one way back for each bridge of the graph. For each source
-//! the group rows take a look at the arcs from the bridge: where none follows it on a path from there, that is all. Else
-//! they take one way back for each bridge that receives from the source, in however many services: what a source's first
-//! way back from a bridge gave is kept at the place of that bridge until the next source; and the receivers of each
-//! service to which it sends are read. The paths from a source are looked up once. A way back goes from the end of a path
-//! towards its source, until it comes to the bridge whose tables these are; it takes no memory. Where a graph has no
-//! members nothing is searched but the paths from that bridge.
+//! at their places. For each VID the unicast rows then take one way back for each bridge of the graph; the group rows
+//! take one way back for each source and each bridge that receives from it, in however many services: what a source's
+//! first way back from a bridge gave is kept at the place of that bridge until the next source. Besides, what is kept
+//! is read once for each source, each service to which it sends, and each of that service's receivers. A way back goes
+//! from the end of a path towards its source, until it comes to the bridge whose tables these are; it takes no memory.
+//! Where a graph has no members nothing is searched but the paths from that bridge.
 //!
 //! [`tables_of`] makes a fabric for one bridge alone. [`tables_by`] reads the same tables off trees that are there
 //! already, and makes no search.

@@ -116,7 +116,9 @@ idle_mapped f fewer (e ∷ es) none = idle_more (f e) (map f es) (fewer e (first
 
 pub flags_mapped_at : (f : LspId × Entry → LspId × Entry) → ((e : LspId × Entry) → has_flags e.1 ≡ false → has_flags (f e).1 ≡ false) → (n : ℕ) (ps : List ℕ) (es : List (LspId × Entry)) → AreFlagsAt n ps es → AreFlagsAt n ps (map f es)
 flags_mapped_at f fewer n [] es none = ap (list_any (λ (e : LspId × Entry). has_flags e.1)) (drop-map f n es) ∙ idle_mapped f fewer (drop n es) none
-flags_mapped_at f fewer n (p ∷ ps) es h =
-    (h.0, omega (arith, h.1, length-map es f),
-     ap (list_any (λ (e : LspId × Entry). has_flags e.1)) (ap (drop n) (take-map f p es) ∙ drop-map f n (take p es)) ∙ idle_mapped f fewer (drop n (take p es)) h.2,
-     flags_mapped_at f fewer (suc p) ps es h.3)
+flags_mapped_at f fewer n (p ∷ ps) es h = (
+  h.0,
+  omega (arith, h.1, length-map es f),
+  ap (list_any (λ (e : LspId × Entry). has_flags e.1)) (ap (drop n) (take-map f p es) ∙ drop-map f n (take p es)) ∙ idle_mapped f fewer (drop n (take p es)) h.2,
+  flags_mapped_at f fewer (suc p) ps es h.3,
+)

@@ -56,7 +56,7 @@ def add_arguments(parser: argparse.ArgumentParser) -> None:
         type=int,
         action="append",
         metavar="LINE",
-        help="the network behind this line of the "
+        help="the network after this line of the "
         "script (its last where none is given); more than one stand together",
     )
     parser.add_argument(
@@ -101,16 +101,16 @@ def _look_at(told: argparse.Namespace, moments: List[Optional[int]]) -> None:
     for moment in moments:
         world = told.script.world(moment)
         if told.isid is not None and told.isid not in world.isids:
-            raise Unusable(f"{told.script.name} declares no service {told.isid} up to {_behind(told.script, moment)}")
+            raise Unusable(f"{told.script.name} declares no service {told.isid} up to {_moment_of(told.script, moment)}")
         if told.isid is not None and not world.members(told.isid):
-            raise Unusable(f"the service {told.isid} has no member behind {_behind(told.script, moment)}")
+            raise Unusable(f"the service {told.isid} has no member after {_moment_of(told.script, moment)}")
         if told.source is not None:
             named(told.script, world, told.source)
         if told.vid is not None and told.vid not in world.vids:
             raise Unusable(f"{told.script.name} declares no base VID {told.vid}")
 
 
-def _behind(script: Script, moment: Optional[int]) -> str:
+def _moment_of(script: Script, moment: Optional[int]) -> str:
     return f"line {moment if moment is not None else len(script.lines)}"
 
 
@@ -129,7 +129,7 @@ def _panel(told: argparse.Namespace, panel: Panel, moment: Optional[int]) -> Pan
     panel.notes.insert(
         0,
         (
-            f"{os.path.basename(told.script.name)}, behind {_behind(told.script, moment)}"
+            f"{os.path.basename(told.script.name)}, after {_moment_of(told.script, moment)}"
             + (", by the bridges' own tables" if told.own else "")
             + _last_event(told.script, moment),
             _GREY,

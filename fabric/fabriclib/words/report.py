@@ -23,7 +23,7 @@ def add_arguments(parser: argparse.ArgumentParser) -> None:
         "--at",
         type=int,
         metavar="LINE",
-        help="the network behind this line of the script (its last where none is given)",
+        help="the network after this line of the script (its last where none is given)",
     )
     parser.add_argument("--n-1", action="store_true", dest="n_1", help="each link and each bridge fails in turn")
     parser.add_argument("--all", action="store_true", help="with --n-1 tell of each failure, also where nothing is cut")

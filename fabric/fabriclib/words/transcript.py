@@ -14,7 +14,7 @@ from fabriclib.terminal import paint
 
 
 class Entry(NamedTuple):
-    """A line of the script, its answers with what each says, the second, and the state behind an event."""
+    """A line of the script, its answers with what each says, the second, and the state after an event."""
 
     line: Line
     answers: List[Tuple[str, Optional[str]]]

@@ -28,5 +28,5 @@ returns-then-refresh-clause-after c =
     let done = c.if-refresh.true in
     let again : new ≡ record port.adjacency { hold = h.holding } = c.refresh.ensures.new ∙ ap (λ (b : Bool). if b then record port.adjacency { hold = h.holding } else port.adjacency) done in
     let put : c.put_hold.new.ports.items ≡ slice_set m.ports.items (c.args.port - 1) (with_adjacency new port) =
-        c.put_hold.ensures port there ∙ ap (slice_set m.ports.items (c.args.port - 1)) (ap (λ (a : Adjacency). with_hold a.hold port) again ∙ sym (ap (λ (a : Adjacency). with_adjacency a port) again)) in
+    c.put_hold.ensures port there ∙ ap (slice_set m.ports.items (c.args.port - 1)) (ap (λ (a : Adjacency). with_hold a.hold port) again ∙ sym (ap (λ (a : Adjacency). with_adjacency a port) again)) in
     refreshed_after m c.args.port h c.args.way.now port new c.put_hold.new.ports c.requires.ready c.requires.port there again (c.refresh.ensures.heard done) (c.refresh.ensures.kept done) put
