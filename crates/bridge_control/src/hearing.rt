@@ -136,6 +136,7 @@ impl Machine {
     }
 
     /// Hears a hello at a port with carrier. Where more than the holding count may change, no tables are kept.
+    #[inline(always)]
     fn hear_hello(
         &mut self,
         port: u8,
