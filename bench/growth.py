@@ -3,16 +3,17 @@
 
     bench/growth.py [PROGRAM]
 
-Instructions of the built program, or of another that takes the same words, by valgrind: first those until all bridges
-hold the LSPs of all, and then those of `show` and `wiring` of each bridge. Beside each stands its ratio to the row
-above, in which half as many of one thing stood.
+Instructions of the built program, or of another that takes the same words, by valgrind: first those of sixty rounds,
+after which all bridges hold the LSPs of all, and then those of `show` and `wiring` of each bridge. Beside each stands
+its ratio to the row above, in which half as many of one thing stood.
 """
 import sys
 
 from fabrics import mesh, services, wired
 from measuring import BUILT, Script, instructions, need, need_valgrind
 
-FULL = 10
+# after so many rounds each bridge of these fabrics holds the LSP of every other
+FULL = 60
 # what is doubled, and each row's bridges, links, services and members of each service
 ROWS = (
     ("bridges", [(24, 100, 20, 6), (48, 100, 20, 6), (96, 100, 20, 6)]),
@@ -48,14 +49,14 @@ def main():
     program = sys.argv[1] if len(sys.argv) > 1 else BUILT
     need([program])
     need_valgrind()
-    print(f"{'doubled':9} {'bridges':>7} {'links':>6} {'services':>8} {'members':>7} {'10^6, full':>11} {'':8} {'tables':>9}")
+    print(f"{'doubled':9} {'bridges':>7} {'links':>6} {'services':>8} {'members':>7} {'10^6, rounds':>12} {'':8} {'tables':>9}")
     for doubled, rows in ROWS:
         full = asked = None
         for numbers in rows:
             was_full, was_asked = full, asked
             full, asked = counted(program, numbers)
             row = f"{doubled:9} {numbers[0]:7} {numbers[1]:6} {numbers[2]:8} {numbers[3]:7}"
-            row += f" {full / 1e6:11.1f} {ratio(full, was_full)} {asked / 1e6:9.1f} {ratio(asked, was_asked)}"
+            row += f" {full / 1e6:12.1f} {ratio(full, was_full)} {asked / 1e6:9.1f} {ratio(asked, was_asked)}"
             print(row, flush=True)
 
 
