@@ -7,7 +7,7 @@ use Rattle.std.proofs.lemmas.List.{take-map, drop-map, length-map, take_all}
 use Rattle.spb_types.specs.declared.address.LspId.{LspId}
 use Rattle.lsdb.specs.declared.held.Held.{Held}
 use Rattle.lsdb.specs.Entry.{Entry, entry_of, has_flags}
-use Rattle.lsdb.specs.Database.{Lsps, id_cmp, keyed, flagged_from, flagged_places, AreFlagsAt}
+use Rattle.lsdb.specs.Database.{Lsps, keyed, flagged_from, flagged_places, AreFlagsAt}
 use Rattle.lsdb.specs.Place.{AreSorted}
 use Rattle.lsdb.proofs.Maps.{entries_map}
 

@@ -1,5 +1,5 @@
 -- Whether flags stand in a set of ports, in a list of LSPs and in a database.
-use Rattle.std.specs.Prelude.{◌≡◌, ℕ, zero, suc, ◌+◌, ◌-◌, ◌*◌, ◌/◌, ◌%◌, ◌^◌, ◌<◌, ◌≤◌, Bool, true, false, not, ◌||◌, ◌&&◌, ◌==◌, nat_le, max, bit_or, cond, List, [], ◌∷◌, ◌++◌, map, filter, length, take, drop, Option, Some, None}
+use Rattle.std.specs.Prelude.{◌≡◌, ℕ, zero, suc, ◌+◌, ◌-◌, ◌*◌, ◌/◌, ◌%◌, ◌^◌, ◌<◌, Bool, true, false, not, ◌||◌, ◌&&◌, ◌==◌, nat_le, max, bit_or, cond, List, [], ◌∷◌, ◌++◌, map, filter, length, take, drop, Option, Some, None}
 use Rattle.std.proofs.Common.{refl, sym, ap, subst, ◌∙◌, arith, get_or, ⊎_elim}
 use Rattle.std.proofs.lemmas.Bool.{and_parts, cases_lt}
 use Rattle.std.proofs.lemmas.Bool.Decides.{nat_tests}
@@ -20,8 +20,7 @@ use Rattle.spb_types.specs.Ports.{has, no_ports}
 use Rattle.spb_types.proofs.PortLemmas.{has_high, has-no_ports, same_ports}
 use Rattle.lsdb.specs.declared.held.Held.{Held}
 use Rattle.lsdb.specs.Entry.{Entry, entry_of, has_ports, has_flags}
-use Rattle.lsdb.specs.Database.{Lsps, id_cmp, keyed, srm_in, ssn_in, any_flags, is_srm_at, is_ssn_at, each, AreFlagsWithin}
-use Rattle.std.proofs.lemmas.List.{take-map, drop-map, length-map}
+use Rattle.lsdb.specs.Database.{Lsps, id_cmp, keyed, srm_in, ssn_in, any_flags, is_srm_at, is_ssn_at, each}
 use Rattle.lsdb.specs.Place.{AreSorted, with_entry}
 use Rattle.lsdb.specs.Laws.{WithoutFlagsNoneIsDue, WhereNoneIsDueNoFlags}
 use Rattle.lsdb.proofs.Ids.{tied_same}
@@ -268,29 +267,3 @@ still_none test f keeps (e ∷ es) none =
 pub none_each : (test : Entry → Bool) (f : Entry → Entry) → ((e : Entry) → test e ≡ false → test (f e) ≡ false)
     → (db : Lsps) → list_any (λ (e : LspId × Entry). test e.1) (entries db) ≡ false → list_any (λ (e : LspId × Entry). test e.1) (entries (each (λ _ e. f e) db)) ≡ false
 none_each test f keeps db none = ap (list_any (λ (e : LspId × Entry). test e.1)) (entries-each (λ _ e. f e) db) ∙ still_none test f keeps (entries db) none
-
--- ---- where flags stand
-
-keyed_before : (n : ℕ) (hs : List Held) → list_any (λ e. has_flags e.1) (take n (map keyed hs)) ≡ list_any (λ h. has_flags (entry_of h)) (take n hs)
-keyed_before n hs = ap (list_any (λ (e : LspId × Entry). has_flags e.1)) (take-map keyed n hs) ∙ flags_keyed (take n hs)
-
-keyed_behind : (n : ℕ) (hs : List Held) → list_any (λ e. has_flags e.1) (drop n (map keyed hs)) ≡ list_any (λ h. has_flags (entry_of h)) (drop n hs)
-keyed_behind n hs = ap (list_any (λ (e : LspId × Entry). has_flags e.1)) (drop-map keyed n hs) ∙ flags_keyed (drop n hs)
-
-pub flags_within : (first end : ℕ) (hs : List Held) → AreSorted hs → list_any (λ h. has_flags (entry_of h)) (take first hs) ≡ false → list_any (λ h. has_flags (entry_of h)) (drop end hs) ≡ false → end ≤ length hs
-    → AreFlagsWithin first end (from_sorted (map keyed hs))
-flags_within first end hs s before behind within = record {
-  held = rw (ap length (entries_map hs s) ∙ length-map hs keyed) within;
-  before = ap (λ es. list_any (λ (e : LspId × Entry). has_flags e.1) (take first es)) (entries_map hs s) ∙ (keyed_before first hs ∙ before);
-  behind = ap (λ es. list_any (λ (e : LspId × Entry). has_flags e.1) (drop end es)) (entries_map hs s) ∙ (keyed_behind end hs ∙ behind);
-}
-
--- the last of those from a place on
-pub none_from : (test : Held → Bool) (hs : List Held) (i : ℕ) (h : Held) → i < length hs → h ≡ get_or hs i h → test h ≡ false → list_any test (drop (suc i) hs) ≡ false → list_any test (drop i hs) ≡ false
-none_from test [] i h within is here rest = absurd (omega arith)
-none_from test (g ∷ hs) zero h within is here rest = or_false (test g) (list_any test hs) (subst (λ (x : Held). test x ≡ false) is here) rest
-none_from test (g ∷ hs) (suc i) h within is here rest = none_from test hs i h (omega arith) is here rest
-
-pub none_behind : (test : Held → Bool) (hs : List Held) → list_any test (drop (length hs) hs) ≡ false
-none_behind test [] = refl
-none_behind test (h ∷ hs) = none_behind test hs

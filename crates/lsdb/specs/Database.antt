@@ -103,12 +103,6 @@ each f db = from_sorted (map (λ e. (e.0, f e.0 e.1)) (entries db))
 abbrev pub any_flags : Lsps → Bool
 any_flags db = list_any (λ e. has_flags e.1) (entries db)
 
--- no flags stand at the places before the first, nor from the end on, which isn't past the last place
-pub record AreFlagsWithin (first end : ℕ) (db : Lsps) : Type 0 where
-  pub held : end ≤ length (entries db)
-  pub before : list_any (λ e. has_flags e.1) (take first (entries db)) ≡ false
-  pub behind : list_any (λ e. has_flags e.1) (drop end (entries db)) ≡ false
-
 -- the places of the entries that have flags, where the first entry stands at place n
 abbrev pub flagged_from : ℕ → List (LspId × Entry) → List ℕ
 flagged_from n [] = []

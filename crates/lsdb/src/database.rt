@@ -5,7 +5,7 @@ ghost use Rattle.std.specs.FinMap as finite;
 ghost use Rattle.std.specs.List.{AllByRecursion, list_any};
 ghost use Rattle.lsdb.specs.Version.{relation, is_absent};
 ghost use Rattle.lsdb.specs.Entry.{entry_of, CanBeHeld, IsClean, cleaned, with_flags, with_srm, with_ssn, with_flags_at, raised, purged, flags_cleared_at, aged, has_flags};
-ghost use Rattle.lsdb.specs.Database.{keyed, fits, version_at, changed, changed_at_place, version_at_place, version_if_held, StandsAt, each, any_flags, is_srm_at, is_ssn_at, AreFlagsWithin, flagged_from, flagged_places};
+ghost use Rattle.lsdb.specs.Database.{keyed, fits, version_at, changed, changed_at_place, version_at_place, version_if_held, StandsAt, each, any_flags, is_srm_at, is_ssn_at, flagged_from, flagged_places};
 ghost use Rattle.spb_types.specs.Ports.{has};
 ghost use Rattle.lsdb.specs.Place.{with_entry};
 ghost use Rattle.lsdb.specs.Calm.{LivesFor, AreCalm, lowered};
@@ -84,14 +84,6 @@ pub struct Found {
     pub version: Version,
 }
 
-/// Places of LSPs, counted from 0 in order of id, outside of which no flags stand: those from `first` on and before
-/// `end`.
-#[derive(Clone, Copy, Debug)]
-pub struct Flagged {
-    pub first: usize,
-    pub end: usize,
-}
-
 // Changes every LSP by `item::age`, and tells whether one then has flags.
 fn age_all(held: &mut Vec<Held>, up: PortSet) -> bool
     requires { AllByRecursion (λ h. IsClean (entry_of h)) held.old.items }
@@ -147,31 +139,6 @@ fn clear_all_flags(held: &mut Vec<Held>, port: u8)
     for h in held.iter_mut() {
         item::clear_flags(h, port);
     }
-}
-
-// The place of the first LSP that has flags, and the one past the last LSP where none has.
-fn first_flagged(held: &[Held]) -> usize
-    ensures { list_any (λ h. has_flags (entry_of h)) (take result held.now) ≡ false }
-{
-    for place in 0..held.len() {
-        if item::has_flags(&held[place]) {
-            return place;
-        }
-    }
-    held.len()
-}
-
-// The place behind the last LSP that has flags, and 0 where none has.
-fn flagged_end(held: &[Held]) -> usize
-    ensures behind { list_any (λ h. has_flags (entry_of h)) (drop result held.now) ≡ false }
-    ensures held { result ≤ length held.now }
-{
-    for place in (0..held.len()).rev() {
-        if item::has_flags(&held[place]) {
-            return place + 1;
-        }
-    }
-    0
 }
 
 // Notes a place, if flags stand there.
@@ -523,16 +490,6 @@ impl Database {
         lower_all(&mut self.held);
         self.calm = Some(seconds - 1);
         true
-    }
-
-    /// From which place on flags stand, and before which place they end. Takes no memory.
-    pub fn flagged(&self) -> Flagged
-        ensures { AreFlagsWithin result.first result.end self.now }
-    {
-        Flagged {
-            first: first_flagged(&self.held),
-            end: flagged_end(&self.held),
-        }
     }
 
     /// The places at which flags stand, counted from 0 in order of id.

@@ -8,7 +8,7 @@
 //! known that no flags stand and that no LSP dies, `age_one` lowers the lifetimes and does nothing else.
 #![tactic(auto)]
 
-pub use database::{Database, Flagged, Found, PutError, Raised};
+pub use database::{Database, Found, PutError, Raised};
 pub use held::{DbRow, Held};
 pub use version::{Relation, Version, compare, join};
 

@@ -1,4 +1,3 @@
-use Rattle.std.proofs.Common.{refl, sym, ap}
 use Rattle.lsdb.proofs.FlaggedPlaces.{noted_next, noted_all}
 use Rattle.lsdb.proofs.database.flagged_places.Goals as goal
 

@@ -1,7 +1,7 @@
-use Rattle.std.proofs.Common.{List, map, sym, ap, ◌∙◌}
+use Rattle.std.proofs.Common.{List, map, ap, ◌∙◌}
 use Rattle.std.proofs.lemmas.Result.{IfOk-weaker}
 use Rattle.lsdb.specs.declared.held.Held.{Held}
-use Rattle.lsdb.specs.Database.{Lsps, keyed, flagged_from, flagged_places}
+use Rattle.lsdb.specs.Database.{keyed, flagged_from, flagged_places}
 use Rattle.lsdb.proofs.FlaggedPlaces.{flagged_map}
 use Rattle.lsdb.proofs.database.Database.flagged_places.Goals as goal
 
