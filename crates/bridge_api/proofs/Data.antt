@@ -22,11 +22,11 @@ use Rattle.lsdb.specs.Entry.{Entry, made, srm_set_at, flags_cleared_at, aged, ag
 use Rattle.lsdb.specs.Database.{Lsps, version_in, version_at, fits, each}
 use Rattle.lsdb.specs.Certificate.{Certificate}
 use Rattle.lsdb.proofs.LookupLemmas.{get-each, fits_held}
-use Rattle.flooding.specs.Own.{own_id, body_in}
+use Rattle.flooding.specs.Own.{own_id, body_of_number, body_in}
 use Rattle.flooding.specs.Hearing.{Holding, claim_of, hear_lsp_of}
-use Rattle.flooding.specs.Settling.{Test, settled_by, is_said, is_fresh}
+use Rattle.flooding.specs.Settling.{Test, settled_by, says, is_new}
 use Rattle.flooding.specs.Entries.{AllEntries, IsNumbered, IsSendable, HasFlagsAt, AreSendable, HaveFlagsAt}
-use Rattle.flooding.specs.Laws.{HasBody, IsWhole, control}
+use Rattle.flooding.specs.Laws.{HasBodies, IsWhole, control}
 use Rattle.flooding.proofs.SendableEntries.{flags_sendable, lsp_keeps_sendable, ageing_keeps_sendable}
 use Rattle.flooding.proofs.OwnBodies.{lsp_leaves_own_body}
 use Rattle.flooding.proofs.FlagEntries.{lsp_keeps_flags}
@@ -48,6 +48,7 @@ use Rattle.bridge_api.specs.Hearing.{with_csnp_due, left_up, all_srm_set_at, hea
 use Rattle.bridge_api.specs.Ticking.{later, leaves, leaving_from, flags_cleared_at_all, counts_lowered, expired, refreshed, after_sending_at, after_sending_from, after_sending}
 use Rattle.bridge_api.specs.Laws.{HasDatabase}
 use Rattle.bridge_api.proofs.OwnPorts.{HasApart, empty_apart, own_apart, mapped_apart}
+use Rattle.bridge_api.proofs.OneNumber.{one_body}
 use Rattle.bridge_api.proofs.Places.{got_at}
 use Rattle.bridge_api.proofs.UpPorts.{up_ports_from}
 use Rattle.bridge_api.proofs.Changes.{settling, found, one_port}
@@ -99,9 +100,12 @@ fits_own v there = fits_at v.database (own_id v.id.system) (own_entry v) refl th
 
 -- a bridge that can write what it says, whose id is six octets, and whose neighbours are at different ports
 pub record CanOriginate (v : BridgeView) : Type 0 where
-  pub body : HasBody (own_of v)
+  pub body : HasBodies (own_of v)
   pub named : IsLspId (own_id v.id.system)
   pub apart : HasApart (body_of v)
+
+said_apart : (v : BridgeView) → CanOriginate v → (body : List ℕ) → body_of_number (own_of v) 0 ≡ Some body → HasApart body
+said_apart v can body is = subst HasApart (one_body (body_of v) 0 body is) can.apart
 
 pub settling_keeps_data : (stands : Test) (v : BridgeView) → CanOriginate v → Holds v → Holds (settling stands v)
 settling_keeps_data stands v can held =
@@ -114,16 +118,16 @@ settling_keeps_data stands v can held =
       sized = settling_keeps_sized stands up h can.named held.sized;
       flags = settling_keeps_flags stands up h held.flags;
       own = risen _ _ (steps.rises id) held.own;
-      apart = own_apart h.own (own_entry v) (get (settled_by stands up h).db id) can.apart (settling_leaves_own_body stands up h id refl) held.apart;
+      apart = own_apart h.own (own_id v.id.system) (own_entry v) (get (settled_by stands up h).db id) (said_apart v can) (settling_leaves_own_body stands up h id refl) held.apart;
     }
 
 pub originated_if_changed_keeps : (v : BridgeView) → CanOriginate v → Holds v → Holds (originated_if_changed v)
 unfolding originated_if_changed
-originated_if_changed_keeps v can held = settling_keeps_data is_said v can held
+originated_if_changed_keeps v can held = settling_keeps_data says v can held
 
 pub refreshed_keeps : (v : BridgeView) → CanOriginate v → Holds v → Holds (refreshed v)
 unfolding refreshed
-refreshed_keeps v can held = settling_keeps_data is_fresh v can held
+refreshed_keeps v can held = settling_keeps_data is_new v can held
 
 -- ---- what is heard at an Up port
 
@@ -136,7 +140,7 @@ lsp_keeps l p v up whole id fields can held =
       sized = lsp_keeps_sized (up_ports v) p l h id fields held.sized;
       flags = lsp_keeps_flags (up_ports v) p l h up held.flags;
       own = risen _ _ (steps.rises (own_id v.id.system)) held.own;
-      apart = own_apart h.own (own_entry v) (get (hear_lsp_of (up_ports v) p l h).db (own_id v.id.system)) can.apart (lsp_leaves_own_body (up_ports v) p l h (own_id v.id.system) refl) held.apart;
+      apart = own_apart h.own (own_id v.id.system) (own_entry v) (get (hear_lsp_of (up_ports v) p l h).db (own_id v.id.system)) (said_apart v can) (lsp_leaves_own_body (up_ports v) p l h (own_id v.id.system) refl) held.apart;
     }
 
 all_numbered : (entries : List SnpEntry) → AllByRecursion (λ c. IsNumbered c.version) (claims_in entries)
@@ -153,7 +157,7 @@ csnp_keeps c entries p v up listed can held =
       sized = csnp_keeps_sized (up_ports v) p c.start c.end entries h listed held.sized;
       flags = csnp_keeps_flags (up_ports v) p c.start c.end (claims_in entries) h up held.flags;
       own = risen _ _ (steps.rises (own_id v.id.system)) held.own;
-      apart = own_apart h.own (own_entry v) (get (hear_csnp_of (up_ports v) p c.start c.end (claims_in entries) h).db (own_id v.id.system)) can.apart (csnp_leaves_own_body (up_ports v) p c.start c.end (claims_in entries) h (own_id v.id.system) refl) held.apart;
+      apart = own_apart h.own (own_id v.id.system) (own_entry v) (get (hear_csnp_of (up_ports v) p c.start c.end (claims_in entries) h).db (own_id v.id.system)) (said_apart v can) (csnp_leaves_own_body (up_ports v) p c.start c.end (claims_in entries) h (own_id v.id.system) refl) held.apart;
     }
 
 pub psnp_keeps : (entries : List SnpEntry) (p : ℕ) (v : BridgeView) → has (up_ports v) p ≡ true → AllByRecursion IsSizedEntry entries → CanOriginate v → Holds v → Holds (heard_psnp entries p v)
@@ -166,7 +170,7 @@ psnp_keeps entries p v up listed can held =
       sized = entries_keep_sized (up_ports v) p entries h listed held.sized;
       flags = entries_keep_flags (up_ports v) p (claims_in entries) h up held.flags;
       own = risen _ _ (steps.rises (own_id v.id.system)) held.own;
-      apart = own_apart h.own (own_entry v) (get (hear_entries_of (up_ports v) p (claims_in entries) h).db (own_id v.id.system)) can.apart (entries_leave_own_body (up_ports v) p (claims_in entries) h (own_id v.id.system) refl) held.apart;
+      apart = own_apart h.own (own_id v.id.system) (own_entry v) (get (hear_entries_of (up_ports v) p (claims_in entries) h).db (own_id v.id.system)) (said_apart v can) (entries_leave_own_body (up_ports v) p (claims_in entries) h (own_id v.id.system) refl) held.apart;
     }
 
 -- ---- every entry changed

@@ -1,8 +1,7 @@
 -- The database of a bridge stays sound in every step.
 use Rattle.std.proofs.Common.{◌≡◌, ◌≢◌, inl, inr, ◌≤◌, ◌+◌, ◌-◌, ℕ, Bool, true, false, List, [], ◌∷◌, length, map, refl, sym, ap, ◌∙◌, subst, Option, Some, None, arith}
-use Rattle.spb_types.specs.declared.limits.TheConstants.{MOST_LSPS}
-use Rattle.std.specs.Prelude.{is_some, nat_lt, ◌==◌, ◌||◌, slice_set, if◌then◌else◌, ◌++◌}
-use Rattle.std.specs.FinMap.{get, empty, get-empty, len, len-empty}
+use Rattle.std.specs.Prelude.{◌==◌, slice_set, if◌then◌else◌, ◌++◌}
+use Rattle.std.specs.FinMap.{get, empty, get-empty}
 use Rattle.std.proofs.lemmas.Bool.{le-leb}
 use Rattle.std.proofs.lemmas.List.{length-map, length-set}
 use Rattle.std.proofs.lemmas.Option.{slice_get_within}
@@ -15,12 +14,12 @@ use Rattle.spb_tlvs.specs.declared.three_way.ThreeWay.{ThreeWay}
 use Rattle.customer_learning.specs.Known.{Addresses}
 use Rattle.lsdb.specs.Version.{number_of, is_absent}
 use Rattle.lsdb.specs.Entry.{Entry}
-use Rattle.lsdb.specs.Database.{id_cmp, version_in, fits}
+use Rattle.lsdb.specs.Database.{id_cmp, version_in}
 use Rattle.flooding.specs.Own.{own_id, body_in, renewed}
 use Rattle.flooding.specs.Hearing.{Holding}
 use Rattle.flooding.specs.Origination.{next_entry}
 use Rattle.flooding.specs.Entries.{AllEntries}
-use Rattle.flooding.proofs.Owns.{originated_stands, origination_leaves_others}
+use Rattle.flooding.proofs.Brought.{originated_stands, originated_leaves_others}
 use Rattle.flooding.proofs.SendableEntries.{origination_keeps_sendable}
 use Rattle.flooding.proofs.FlagEntries.{origination_keeps_flags}
 use Rattle.snp_sync.proofs.Fields.{origination_keeps_sized}
@@ -34,7 +33,7 @@ use Rattle.spb_types.specs.declared.service.Attachment.{Attachment}
 use Rattle.bridge_api.specs.declared.port.BridgePort.{BridgePort}
 use Rattle.bridge_api.specs.declared.config.BridgeConfig.{BridgeConfig}
 use Rattle.bridge_api.specs.View.{BridgeView, port_in, port_at, with_port_at, is_port_up, is_up_in, up_from, up_ports}
-use Rattle.bridge_api.specs.Own.{own_of, own_entry, holding_of, originated_if_changed}
+use Rattle.bridge_api.specs.Own.{body_of, own_entry, holding_of, originated_if_changed}
 use Rattle.bridge_api.specs.Config.{IsWhole, IsMetric, port_without_carrier, bare, configured}
 use Rattle.bridge_api.specs.Hearing.{with_csnp_due, with_adjacency, left_up, all_srm_set_at, changed_at, heard_lsp, heard_csnp, heard_psnp, heard_hello, after_receive, with_carrier_at, with_carrier, with_port_metric, with_metric}
 use Rattle.bridge_api.specs.Ticking.{later, counts_lowered, expired, readied, after_tick}
@@ -223,24 +222,19 @@ none_held id = get-empty id_cmp id
 all_of_none : (P : LspId → Entry → Type 0) → AllEntries P empty
 all_of_none P id e is = absurd (let no : None ≡ Some e = sym (none_held id) ∙ is in cc)
 
-fits_empty : (id : LspId) → fits empty id ≡ true
-fits_empty id =
-    ap (λ (o : Option Entry). is_some o || nat_lt (len (empty {X = Entry} {R = id_cmp})) MOST_LSPS) (none_held id)
-    ∙ ap (λ n. nat_lt n MOST_LSPS) (len-empty id_cmp Entry)
-
-configured_own : (c : BridgeConfig) → own_entry (configured c) ≡ Some (renewed no_ports (own_of (bare c)) 1)
+configured_own : (c : BridgeConfig) → own_entry (configured c) ≡ Some (renewed no_ports (own_id c.id.system) (body_of (bare c)) 1)
 unfolding configured
 configured_own c =
     let v : BridgeView = bare c in
     let h : Holding = holding_of v in
     let id : LspId = own_id c.id.system in
-    originated_stands (up_ports v) h refl (fits_empty id)
-    ∙ (ap (λ (o : Option Entry). Some (next_entry (up_ports v) h.own (number_of (version_in o)) o)) (none_held id)
-    ∙ ap (λ (up : PortSet). Some (renewed up (own_of v) 1)) (none_up 1 c.metrics))
+    originated_stands (up_ports v) 0 h (body_of v) refl refl
+    ∙ (ap (λ (o : Option Entry). Some (next_entry (up_ports v) id (body_of v) (number_of (version_in o)) o)) (none_held id)
+    ∙ ap (λ (up : PortSet). Some (renewed up id (body_of v) 1)) (none_up 1 c.metrics))
 
 configured_alone : (c : BridgeConfig) (id : LspId) → id ≢ own_id c.id.system → get (configured c).database id ≡ None
 unfolding configured
-configured_alone c id apart = origination_leaves_others (up_ports (bare c)) (holding_of (bare c)) id apart ∙ none_held id
+configured_alone c id apart = originated_leaves_others (up_ports (bare c)) 0 (holding_of (bare c)) id apart ∙ none_held id
 
 pub configured_holds_own : ConfiguredHoldsOwn
 configured_holds_own c = record { own = configured_own c; alone = configured_alone c }
@@ -253,9 +247,9 @@ configured_holds c whole =
     let up : PortSet = up_ports v in
     let can : CanOriginate v = can_originate v (bare_config c whole) (omega (arith, length-map c.metrics port_without_carrier, whole.metrics, whole.ports)) (all_without_carrier c.metrics whole.each_metric) in
     record {
-      sendable = origination_keeps_sendable up h can.body (all_of_none _);
-      sized = origination_keeps_sized up h can.named (all_of_none _);
-      flags = origination_keeps_flags up h (all_of_none _);
+      sendable = origination_keeps_sendable up 0 h can.body (all_of_none _);
+      sized = origination_keeps_sized up 0 h can.named (all_of_none _);
+      flags = origination_keeps_flags up 0 h (all_of_none _);
       own = ap (λ (o : Option Entry). is_absent (version_in o)) (configured_own c);
       apart = subst (λ (o : Option Entry). HasApart (body_in o)) (sym (configured_own c)) can.apart;
     }

@@ -28,3 +28,4 @@ pub mod OwnTables
 pub mod Time
 pub mod TimeLsps
 pub mod Attached
+pub mod OneNumber

@@ -1,7 +1,7 @@
 -- Every step leaves the own LSP of a bridge alive, saying what the bridge has to say.
 use Rattle.std.proofs.Common.{◌≡◌, inl, inr, ◌≤◌, ◌+◌, ◌-◌, ℕ, zero, suc, Bool, true, false, List, [], ◌∷◌, map, refl, sym, ap, ◌∙◌, subst, Option, Some, None, arith}
-use Rattle.std.specs.Prelude.{nat_le, slice_set, if◌then◌else◌, ◌++◌}
-use Rattle.std.specs.Option.{option_map}
+use Rattle.std.specs.Prelude.{nat_le, slice_get, slice_set, if◌then◌else◌, ◌++◌}
+use Rattle.std.specs.Option.{option_map, option_and_then}
 use Rattle.std.specs.FinMap.{get}
 use Rattle.std.proofs.lemmas.Bool.{lt-leb}
 use Rattle.std.proofs.lemmas.List.{set-set}
@@ -16,16 +16,18 @@ use Rattle.lsdb.specs.declared.version.Version.{Version}
 use Rattle.lsdb.specs.declared.version.Version.TheVariants.{Absent, Live, Dead}
 use Rattle.lsdb.specs.Version.{is_absent}
 use Rattle.lsdb.specs.Entry.{Entry, srm_set_at, flagged, flags_cleared_at, aged}
-use Rattle.lsdb.specs.Database.{Lsps, fits, each}
-use Rattle.lsdb.specs.Time.{lifetime_in}
-use Rattle.lsdb.proofs.LookupLemmas.{get-each, fits_held}
-use Rattle.flooding.specs.Own.{own_id, renewed}
+use Rattle.lsdb.specs.Database.{Lsps, version_in, each}
+use Rattle.lsdb.specs.Time.{is_live, lifetime_in}
+use Rattle.lsdb.proofs.LookupLemmas.{get-each}
+use Rattle.flooding.specs.Own.{own_id, body_of_number, renewed}
 use Rattle.flooding.specs.Hearing.{Holding, claim_of, lsp_rule, hear_lsp_of}
-use Rattle.flooding.specs.Settling.{is_said, is_fresh, settled, kept_fresh, IsLspCurrent, AreCurrent}
+use Rattle.flooding.specs.Settling.{own_held, says, is_new, settled, kept_fresh, IsLspCurrent, AreCurrent}
 use Rattle.flooding.specs.Origination.{originated}
 use Rattle.flooding.proofs.Owns.{own_stands}
-use Rattle.flooding.proofs.Current.{lsp_keeps_current}
-use Rattle.flooding.proofs.Settled.{settling_leaves_own, settled_is_current, fresh_is_current, current_is_settled}
+use Rattle.flooding.proofs.HeardCurrent.{lsp_keeps_current}
+use Rattle.flooding.proofs.OwnNumbers.{some_number}
+use Rattle.flooding.proofs.Current.{settled_is_current, fresh_is_current, current_is_settled}
+use Rattle.flooding.proofs.Settled.{settling_leaves_own}
 use Rattle.snp_sync.specs.SnpEntries.{has_ssn_at}
 use Rattle.snp_sync.specs.Sending.{ssn_cleared as ssn_cleared_entry, all_ssn_cleared}
 use Rattle.snp_sync.specs.Hearing.{claims_in, hear_entries_of, hear_csnp_of}
@@ -50,11 +52,16 @@ use Rattle.bridge_api.specs.Services.{with_attached, without_customer_port, with
 use Rattle.bridge_api.specs.Step.{Input, second, frame, carrier, metric, attach, detach, customer, step}
 use Rattle.bridge_api.specs.Laws.{IsSoundView, LspSettlesNothing, CsnpSettlesNothing, PsnpSettlesNothing}
 use Rattle.bridge_api.proofs.Changes.{frame_step, idle, by_hello, by_lsp, by_csnp, by_psnp, carrier_step, metric_step, originated_if_changed_ports, tick_is, attached_to, with_attached_is}
+use Rattle.bridge_api.proofs.OneNumber.{first_is}
 use Rattle.bridge_api.proofs.DataSteps.{configured_holds_own}
 
 -- unless its sequence numbers are spent, the own LSP of a bridge is alive and says what the bridge has to say
 abbrev pub IsSaying : BridgeView → Type 0
-IsSaying v = AreCurrent (holding_of v)
+IsSaying v = v.spent ≡ false → IsLspCurrent (Some (body_of v)) (own_entry v)
+
+-- so all its own LSPs are current
+all_current : (v : BridgeView) → IsSaying v → AreCurrent (holding_of v)
+all_current v says fresh = first_is (λ number. IsLspCurrent (body_of_number (own_of v) number) (own_held (holding_of v) number)) (says fresh)
 
 -- it is alive
 abbrev Lives : BridgeView → Type 0
@@ -92,9 +99,11 @@ neighbours_with_csnp_due p zero port (x ∷ ports) = refl
 neighbours_with_csnp_due p (suc i) port (x ∷ ports) = ap (λ (list : List Neighbour). if is_port_up x then neighbour_in p x ∷ list else list) (neighbours_with_csnp_due (p + 1) i port ports)
 
 -- the bridge that holds what is current
-held_saying : (h : Holding) (v : BridgeView) → h.own.system ≡ v.id.system → h.own.body ≡ body_of v → AreCurrent h → IsSaying (with_holding h v)
-held_saying h v system body is fresh =
-    subst (λ b. IsLspCurrent b (get h.db (own_id v.id.system))) (body ∙ sym (held_body h v)) (subst (λ x. IsLspCurrent h.own.body (get h.db (own_id x))) system (is fresh))
+held_saying : (h : Holding) (v : BridgeView) → h.own.system ≡ v.id.system → h.own.bodies ≡ Some (body_of v) ∷ [] → AreCurrent h → IsSaying (with_holding h v)
+held_saying h v system bodies is fresh =
+    subst (λ b. IsLspCurrent (Some b) (get h.db (own_id v.id.system))) (sym (held_body h v))
+    (subst (λ (bs : List (Option (List ℕ))). IsLspCurrent (option_and_then (λ b. b) (slice_get bs 0)) (get h.db (own_id v.id.system))) bodies
+    (subst (λ x. IsLspCurrent (body_of_number h.own 0) (get h.db (own_id x))) system (is fresh 0 (omega (arith, some_number)))))
 
 -- the counts aren't said
 counted_saying : (drops : Drops) (v : BridgeView) → IsSaying v → IsSaying (with_drops drops v)
@@ -102,10 +111,6 @@ unfolding body_of
 counted_saying drops v was = was
 
 -- ---- the own LSP is brought up to date
-
-alive_fits : (db : Lsps) (id : LspId) (o : Option Entry) → get db id ≡ o → IsAlive o → fits db id ≡ true
-alive_fits db id None is alive = absurd alive
-alive_fits db id (Some e) is alive = fits_held db id e is
 
 lasts_by : (a : Version) (lifetime : ℕ) → Lasts a lifetime → (301 ≤ lifetime) × (lifetime ≤ 1200)
 lasts_by Absent lifetime lasts = absurd lasts
@@ -121,14 +126,15 @@ unfolding originated_if_changed
 originated_if_changed_saying v alive =
     let up : PortSet = up_ports v in
     let h : Holding = holding_of v in
-    let own = settling_leaves_own is_said up h in
+    let own = settling_leaves_own says up h in
     held_saying (settled up h) v own.0 own.1
-    (settled_is_current up h (λ fresh. (alive_fits v.database (own_id v.id.system) (own_entry v) refl (alive fresh), λ live. alive_lasts (own_entry v) (alive fresh))))
+    (settled_is_current up h (λ fresh. first_is (λ number. is_live (version_in (own_held h number)) ≡ true → (301 ≤ lifetime_in (own_held h number)) × (lifetime_in (own_held h number) ≤ 1200))
+    (λ live. alive_lasts (own_entry v) (alive fresh))))
 
 -- a bridge whose own LSP says what it has to say, or whose sequence numbers are spent, originates nothing
 pub saying_settles : (v : BridgeView) → IsSaying v → originated_if_changed v ≡ v
 unfolding originated_if_changed
-saying_settles v was = ap (λ (h : Holding). with_holding h v) (current_is_settled (up_ports v) (holding_of v) was)
+saying_settles v was = ap (λ (h : Holding). with_holding h v) (current_is_settled (up_ports v) (holding_of v) (all_current v was))
 
 -- ---- what is heard
 
@@ -137,7 +143,7 @@ heard_lsp_saying l p v was =
     let up : PortSet = up_ports v in
     let h : Holding = holding_of v in
     let own = own_stands (lsp_rule up p l) up (claim_of l) h in
-    counted_saying (heard_lsp l p v).drops (with_holding (hear_lsp_of up p l h) v) (held_saying (hear_lsp_of up p l h) v own.0 own.1 (lsp_keeps_current up p l h was))
+    counted_saying (heard_lsp l p v).drops (with_holding (hear_lsp_of up p l h) v) (held_saying (hear_lsp_of up p l h) v own.0 own.1 (lsp_keeps_current up p l h (all_current v was)))
 
 heard_csnp_saying : (c : CsnpValue) (entries : List SnpEntry) (p : ℕ) (v : BridgeView) → IsSaying v → IsSaying (heard_csnp c entries p v)
 heard_csnp_saying c entries p v was =
@@ -145,7 +151,7 @@ heard_csnp_saying c entries p v was =
     let h : Holding = holding_of v in
     let g : Holding = hear_csnp_of up p c.start c.end (claims_in entries) h in
     let own = entries_leave_own up p (claims_in entries) h in
-    counted_saying (heard_csnp c entries p v).drops (with_holding g v) (held_saying g v own.0 own.1 (csnp_keeps_current up p c.start c.end (claims_in entries) h was))
+    counted_saying (heard_csnp c entries p v).drops (with_holding g v) (held_saying g v own.0 own.1 (csnp_keeps_current up p c.start c.end (claims_in entries) h (all_current v was)))
 
 heard_psnp_saying : (entries : List SnpEntry) (p : ℕ) (v : BridgeView) → IsSaying v → IsSaying (heard_psnp entries p v)
 heard_psnp_saying entries p v was =
@@ -153,7 +159,7 @@ heard_psnp_saying entries p v was =
     let h : Holding = holding_of v in
     let g : Holding = hear_entries_of up p (claims_in entries) h in
     let own = entries_leave_own up p (claims_in entries) h in
-    counted_saying (heard_psnp entries p v).drops (with_holding g v) (held_saying g v own.0 own.1 (entries_keep_current up p (claims_in entries) h was))
+    counted_saying (heard_psnp entries p v).drops (with_holding g v) (held_saying g v own.0 own.1 (entries_keep_current up p (claims_in entries) h (all_current v was)))
 
 pub was_saying : (v : BridgeView) → IsSoundView v → IsSaying v
 was_saying v was fresh = (was.own.said fresh, was.own.alive fresh)
@@ -179,23 +185,23 @@ left_lives p port v alive fresh =
     subst IsAlive (sym (get-each (λ id e. flags_cleared_at p e) v.database (own_id v.id.system))) (mapped_alive (flags_cleared_at p) (own_entry v) (λ e is. is) (alive fresh))
 
 -- an entry changed in its flags alone
-mapped_says : (body : List ℕ) (f : Entry → Entry) (o : Option Entry) → ((e : Entry) → IsLspCurrent body (Some e) → IsLspCurrent body (Some (f e))) → IsLspCurrent body o → IsLspCurrent body (option_map f o)
+mapped_says : (body : List ℕ) (f : Entry → Entry) (o : Option Entry) → ((e : Entry) → IsLspCurrent (Some body) (Some e) → IsLspCurrent (Some body) (Some (f e))) → IsLspCurrent (Some body) o → IsLspCurrent (Some body) (option_map f o)
 mapped_says body f None keeps says = absurd (says.1)
 mapped_says body f (Some e) keeps says = keeps e says
 
-srm_set_says : (body : List ℕ) (p : ℕ) (e : Entry) (b : Bool) → IsLspCurrent body (Some e) → IsLspCurrent body (Some (if b then e else flagged p e))
+srm_set_says : (body : List ℕ) (p : ℕ) (e : Entry) (b : Bool) → IsLspCurrent (Some body) (Some e) → IsLspCurrent (Some body) (Some (if b then e else flagged p e))
 srm_set_says body p e true says = says
 srm_set_says body p e false says = says
 
 -- the bridge with ports that have the same neighbours, and with every entry changed in its flags alone
-pub moved_saying : (ports : List BridgePort) (db : Lsps) (v : BridgeView) → neighbours_from 1 ports ≡ neighbours_from 1 v.ports → (IsLspCurrent (body_of v) (own_entry v) → IsLspCurrent (body_of v) (get db (own_id v.id.system))) → IsSaying v → IsSaying (record v { ports = ports; database = db })
-moved_saying ports db v same keeps was fresh = subst (λ b. IsLspCurrent b (get db (own_id v.id.system))) (sym (moved_body ports db v same)) (keeps (was fresh))
+pub moved_saying : (ports : List BridgePort) (db : Lsps) (v : BridgeView) → neighbours_from 1 ports ≡ neighbours_from 1 v.ports → (IsLspCurrent (Some (body_of v)) (own_entry v) → IsLspCurrent (Some (body_of v)) (get db (own_id v.id.system))) → IsSaying v → IsSaying (record v { ports = ports; database = db })
+moved_saying ports db v same keeps was fresh = subst (λ b. IsLspCurrent (Some b) (get db (own_id v.id.system))) (sym (moved_body ports db v same)) (keeps (was fresh))
 
 srm_set_saying : (p : ℕ) (port : BridgePort) (v : BridgeView) → neighbours_from 1 (slice_set v.ports (p - 1) (with_csnp_due true port)) ≡ neighbours_from 1 v.ports → IsSaying v → IsSaying (all_srm_set_at p port v)
 srm_set_saying p port v same was =
     let id : LspId = own_id v.id.system in
     moved_saying (slice_set v.ports (p - 1) (with_csnp_due true port)) (each (λ x e. srm_set_at p e) v.database) v same
-    (λ says. subst (IsLspCurrent (body_of v)) (sym (get-each (λ x e. srm_set_at p e) v.database id)) (mapped_says (body_of v) (srm_set_at p) (own_entry v) (λ e. srm_set_says (body_of v) p e (is_absent e.version)) says)) was
+    (λ says. subst (IsLspCurrent (Some (body_of v))) (sym (get-each (λ x e. srm_set_at p e) v.database id)) (mapped_says (body_of v) (srm_set_at p) (own_entry v) (λ e. srm_set_says (body_of v) p e (is_absent e.version)) says)) was
 
 changed_saying : (heard : AdjacencyChange) (p : ℕ) (port : BridgePort) (v : BridgeView) → IsSaying v → IsSaying (changed_at heard p port v)
 changed_saying Discarded p port v was = counted_saying (raised_at drop.Hello 1 v.drops) v was
@@ -247,10 +253,6 @@ expired_fades v alive fresh =
     let up : PortSet = up_ports v in
     subst IsFading (sym (get-each (λ id e. aged up e) v.database (own_id v.id.system))) (aged_in up (own_entry v) (alive fresh))
 
-fading_fits : (db : Lsps) (id : LspId) (o : Option Entry) → get db id ≡ o → IsFading o → fits db id ≡ true
-fading_fits db id None is fades = absurd fades
-fading_fits db id (Some e) is fades = fits_held db id e is
-
 fades_by : (a : Version) (lifetime : ℕ) → Fades a lifetime → (300 ≤ lifetime) × (lifetime ≤ 1200)
 fades_by Absent lifetime fades = absurd fades
 fades_by (Live seq sum) lifetime fades = fades
@@ -265,24 +267,25 @@ unfolding refreshed
 refreshed_saying v fades =
     let up : PortSet = up_ports v in
     let h : Holding = holding_of v in
-    let own = settling_leaves_own is_fresh up h in
+    let own = settling_leaves_own is_new up h in
     held_saying (kept_fresh up h) v own.0 own.1
-    (fresh_is_current up h (λ fresh. (fading_fits v.database (own_id v.id.system) (own_entry v) refl (fades fresh), λ live. fading_lasts (own_entry v) (fades fresh))))
+    (fresh_is_current up h (λ fresh. first_is (λ number. is_live (version_in (own_held h number)) ≡ true → (300 ≤ lifetime_in (own_held h number)) × (lifetime_in (own_held h number) ≤ 1200))
+    (λ live. fading_lasts (own_entry v) (fades fresh))))
 
 -- what had SSN was sent
-ssn_says : (body : List ℕ) (p : ℕ) (e : Entry) (b : Bool) → IsLspCurrent body (Some e) → IsLspCurrent body (Some (if b then record e { ssn = without_port e.ssn p } else e))
+ssn_says : (body : List ℕ) (p : ℕ) (e : Entry) (b : Bool) → IsLspCurrent (Some body) (Some e) → IsLspCurrent (Some body) (Some (if b then record e { ssn = without_port e.ssn p } else e))
 ssn_says body p e true says = says
 ssn_says body p e false says = says
 
-originated_if_changed_says : (body : List ℕ) (id : LspId) (p : ℕ) (db : Lsps) → IsLspCurrent body (get db id) → IsLspCurrent body (get (all_ssn_cleared p db) id)
+originated_if_changed_says : (body : List ℕ) (id : LspId) (p : ℕ) (db : Lsps) → IsLspCurrent (Some body) (get db id) → IsLspCurrent (Some body) (get (all_ssn_cleared p db) id)
 originated_if_changed_says body id p db says =
-    subst (IsLspCurrent body) (sym (get-each (λ x e. ssn_cleared_entry p e) db id)) (mapped_says body (ssn_cleared_entry p) (get db id) (λ e. ssn_says body p e (has_ssn_at p e)) says)
+    subst (IsLspCurrent (Some body)) (sym (get-each (λ x e. ssn_cleared_entry p e) db id)) (mapped_says body (ssn_cleared_entry p) (get db id) (λ e. ssn_says body p e (has_ssn_at p e)) says)
 
-after_sending_at_says : (body : List ℕ) (id : LspId) (p : ℕ) (b : Bool) (db : Lsps) → IsLspCurrent body (get db id) → IsLspCurrent body (get (if b then all_ssn_cleared p db else db) id)
+after_sending_at_says : (body : List ℕ) (id : LspId) (p : ℕ) (b : Bool) (db : Lsps) → IsLspCurrent (Some body) (get db id) → IsLspCurrent (Some body) (get (if b then all_ssn_cleared p db else db) id)
 after_sending_at_says body id p true db says = originated_if_changed_says body id p db says
 after_sending_at_says body id p false db says = says
 
-after_sending_from_says : (body : List ℕ) (id : LspId) (p : ℕ) (ports : List BridgePort) (db : Lsps) → IsLspCurrent body (get db id) → IsLspCurrent body (get (after_sending_from p ports db) id)
+after_sending_from_says : (body : List ℕ) (id : LspId) (p : ℕ) (ports : List BridgePort) (db : Lsps) → IsLspCurrent (Some body) (get db id) → IsLspCurrent (Some body) (get (after_sending_from p ports db) id)
 after_sending_from_says body id p [] db says = says
 after_sending_from_says body id p (port ∷ ports) db says = after_sending_from_says body id (p + 1) ports (after_sending_at p port db) (after_sending_at_says body id p (is_port_up port) db says)
 
@@ -340,9 +343,9 @@ steps_stay_saying (customer p bytes) v was = learned_saying (after_entry p bytes
 
 configured_body : (c : BridgeConfig) → body_of (configured c) ≡ body_of (bare c)
 unfolding configured
-configured_body c = held_body (originated (up_ports (bare c)) (holding_of (bare c))) (bare c)
+configured_body c = held_body (originated (up_ports (bare c)) 0 (holding_of (bare c))) (bare c)
 
 pub configured_is_saying : (c : BridgeConfig) → IsSaying (configured c)
 configured_is_saying c fresh =
-    let own : own_entry (configured c) ≡ Some (renewed no_ports (own_of (bare c)) 1) = (configured_holds_own c).own in
+    let own : own_entry (configured c) ≡ Some (renewed no_ports (own_id c.id.system) (body_of (bare c)) 1) = (configured_holds_own c).own in
     (ap body_in own ∙ sym (configured_body c), subst IsAlive (sym own) (omega arith, omega arith))

@@ -6,6 +6,7 @@ use Rattle.std.specs.List.{AllByRecursion}
 use Rattle.std.proofs.lemmas.Bool.{and_parts}
 use Rattle.std.proofs.lemmas.Slice.Eq.{bytes_eq-Decides}
 use Rattle.spb_types.specs.declared.address.SystemId.{SystemId}
+use Rattle.spb_types.specs.declared.address.LspId.{LspId}
 use Rattle.spb_types.specs.Address.{same_system}
 use Rattle.spb_tlvs.specs.declared.neighbours.Neighbour.{Neighbour}
 use Rattle.spb_tlvs.specs.Piece.{pieces, pieces_within}
@@ -13,7 +14,7 @@ use Rattle.lsdb.specs.declared.version.Version.{Version}
 use Rattle.lsdb.specs.declared.version.Version.TheVariants.{Absent, Live, Dead}
 use Rattle.lsdb.specs.Entry.{Entry}
 use Rattle.flooding.specs.declared.own.Own.{Own}
-use Rattle.flooding.specs.Own.{tlvs_of_body, body_in}
+use Rattle.flooding.specs.Own.{body_of_number, tlvs_of_body, body_in}
 use Rattle.flooding.specs.Laws.{IsOwnBody, stays, renews, ends}
 use Rattle.spb_content.specs.declared.content.Content.{Content}
 use Rattle.spb_content.specs.Content.{content_in}
@@ -91,10 +92,10 @@ body_apart v few can =
 
 -- ---- whatever becomes of it
 
-pub own_apart : (own : Own) (old new : Option Entry) → HasApart own.body → IsOwnBody own old new → HasApart (body_in old) → HasApart (body_in new)
-own_apart own old new said (stays e) was = subst HasApart (sym e) was
-own_apart own old new said (renews e) was = subst HasApart (sym e) said
-own_apart own old new said (ends e) was = subst HasApart (sym e) empty_apart
+pub own_apart : (own : Own) (id : LspId) (old new : Option Entry) → ((body : List ℕ) → body_of_number own id.number ≡ Some body → HasApart body) → IsOwnBody own id old new → HasApart (body_in old) → HasApart (body_in new)
+own_apart own id old new said (stays e) was = subst HasApart (sym e) was
+own_apart own id old new said (renews e) was = said (body_in new) e
+own_apart own id old new said (ends e) was = subst HasApart (sym e) empty_apart
 
 pub mapped_apart : (f : Entry → Entry) (o : Option Entry) → ((e : Entry) → HasApart e.body → HasApart (f e).body) → HasApart (body_in o) → HasApart (body_in (option_map f o))
 mapped_apart f None keeps was = was

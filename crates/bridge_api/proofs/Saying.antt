@@ -11,7 +11,10 @@ use Rattle.spb_types.specs.declared.service.VidPlan.{VidPlan}
 use Rattle.spb_types.specs.declared.service.Attachment.{Attachment}
 use Rattle.spb_tlvs.specs.Capability.{IsTree}
 use Rattle.spb_tlvs.specs.RoundTrip.{IsNeighbour}
-use Rattle.flooding.specs.Laws.{HasBody}
+use Rattle.isis_pdu.specs.declared.kind.Kind.TheVariants as kinds
+use Rattle.isis_pdu.specs.Spelling.{CanWrite}
+use Rattle.flooding.specs.Own.{tlvs_of_body}
+use Rattle.flooding.specs.Laws.{HasBodies}
 use Rattle.spb_content.specs.Local.{IsLocal, IsAttached, AreInOneVid, isid_number, isids_in, content_bytes}
 use Rattle.spb_content.specs.Laws.{HasFields, AreConfigured, Fits}
 use Rattle.spb_content.proofs.Members.{Has, all_has, weaker, has_map, map_has, contains_from_has}
@@ -24,6 +27,7 @@ use Rattle.bridge_api.specs.View.{BridgeView, is_port_up}
 use Rattle.bridge_api.specs.Own.{neighbour_in, neighbours_from, member_of, local_of, body_of, own_of}
 use Rattle.bridge_api.specs.Config.{ArePairwise, different, IsAttachment, AgreesWith, vids_of}
 use Rattle.bridge_api.specs.Laws.{IsSoundPort, HasConfig, CanSay, SoundCanSay}
+use Rattle.bridge_api.proofs.OneNumber.{one_body}
 
 -- ---- lists
 
@@ -150,9 +154,11 @@ module _ (v : BridgeView) (config : HasConfig v) (few : length v.ports ≤ 32) (
   fits : Fits (content_bytes (local_of v))
   fits = own_fits (local_of v) is_local has_fields configured (omega (arith, fewer_neighbours 1 v.ports, few))
 
-  pub has_body : HasBody (own_of v)
+  pub has_body : HasBodies (own_of v)
   unfolding body_of
-  has_body = (omega arith, record { whole = fits.whole; short = omega (arith, fits.short) })
+  has_body number body is =
+      subst (λ (b : List ℕ). (1 ≤ length b) × CanWrite kinds.Lsp (tlvs_of_body b)) (one_body (body_of v) number body is)
+      (omega arith, record { whole = fits.whole; short = omega (arith, fits.short) })
 
   pub can_say : CanSay v
   can_say = record { local = is_local; fields = has_fields; body = has_body }

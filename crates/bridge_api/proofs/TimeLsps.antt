@@ -14,7 +14,7 @@ use Rattle.lsdb.specs.Time.{lifetime_in, is_live}
 use Rattle.lsdb.proofs.LookupLemmas.{get-each}
 use Rattle.lsdb.proofs.Time.{lives_on, dies, stands}
 use Rattle.flooding.specs.Own.{is_own_number}
-use Rattle.flooding.specs.Settling.{is_fresh}
+use Rattle.flooding.specs.Settling.{is_new}
 use Rattle.flooding.proofs.Settled.{settling_leaves_others}
 use Rattle.bridge_api.specs.View.{BridgeView, up_ports, up_from}
 use Rattle.bridge_api.specs.Own.{holding_of, body_in}
@@ -167,7 +167,7 @@ expired_holds v id =
 
 refreshed_others : (w : BridgeView) (id : LspId) → is_own_number w.id.system id ≡ false → get (refreshed w).database id ≡ get w.database id
 unfolding refreshed
-refreshed_others w id other = settling_leaves_others is_fresh (up_ports w) (holding_of w) id other
+refreshed_others w id other = settling_leaves_others is_new (up_ports w) (holding_of w) id other
 
 pub second_holds : (v : BridgeView) (id : LspId) → but_for_ssn (get (step second v).database id) ≡ but_for_ssn (get (readied v).database id)
 second_holds v id = ap (λ (w : BridgeView). but_for_ssn (get w.database id)) (tick_is v) ∙ held_from 1 (readied v).ports (readied v).database id

@@ -27,7 +27,7 @@ use Rattle.flooding.specs.Own.{own_id, renewed}
 use Rattle.flooding.specs.Hearing.{claim_of}
 use Rattle.flooding.specs.Sending.{lsp_in}
 use Rattle.flooding.specs.Entries.{AreSendable, HaveFlagsAt}
-use Rattle.flooding.specs.Laws.{HasBody}
+use Rattle.flooding.specs.Laws.{HasBodies}
 use Rattle.snp_sync.specs.Sized.{AreSized}
 use Rattle.snp_sync.specs.Reading.{entries_in}
 use Rattle.snp_sync.specs.Hearing.{claims_in}
@@ -40,7 +40,7 @@ use Rattle.adjacency.specs.Adjacency.{IsSound, said}
 use Rattle.bridge_api.specs.declared.port.BridgePort.{BridgePort}
 use Rattle.bridge_api.specs.declared.config.BridgeConfig.{BridgeConfig}
 use Rattle.bridge_api.specs.View.{BridgeView, IsPort, port_at, neighbour_at, is_up_at, has_carrier_at, is_csnp_due_at, is_port_up, metrics_of, up_ports, control_of}
-use Rattle.bridge_api.specs.Own.{local_of, own_of, own_entry, originated_if_changed, IsOwnLspCurrent}
+use Rattle.bridge_api.specs.Own.{local_of, body_of, own_of, own_entry, originated_if_changed, IsOwnLspCurrent}
 use Rattle.spb_types.specs.declared.limits.TheConstants.{MOST_ISIDS, MOST_PORTS, MOST_VIDS, SOURCE_IDS}
 use Rattle.bridge_api.specs.Config.{IsWhole, IsOwnMac, IsMetric, IsAttachment, AgreesWith, ArePairwise, different, vids_of, bare, configured}
 use Rattle.bridge_api.specs.Parsing.{Parsed, hello_in, parsed, is_hello}
@@ -92,7 +92,7 @@ pub record IsSoundView (v : BridgeView) : Type 0 where
 pub record CanSay (v : BridgeView) : Type 0 where
   pub local : IsLocal (local_of v)
   pub fields : HasFields (local_of v)
-  pub body : HasBody (own_of v)
+  pub body : HasBodies (own_of v)
 
 abbrev pub SoundCanSay : Type 0
 SoundCanSay = (v : BridgeView) → IsSoundView v → CanSay v
@@ -113,7 +113,7 @@ ConfiguredHasNoCarrier = (c : BridgeConfig) → IsWhole c → IsWithoutCarrier c
 
 -- its own LSP, alone, is live at number 1 for 1,200 seconds with what it says, and no flag stands
 pub record HoldsOwnAlone (c : BridgeConfig) (v : BridgeView) : Type 0 where
-  pub own : own_entry v ≡ Some (renewed no_ports (own_of (bare c)) 1)
+  pub own : own_entry v ≡ Some (renewed no_ports (own_id c.id.system) (body_of (bare c)) 1)
   pub alone : (id : LspId) → id ≢ own_id c.id.system → get v.database id ≡ None
 
 abbrev pub ConfiguredHoldsOwn : Type 0

@@ -1,5 +1,5 @@
 -- What a bridge says of itself, and its own LSP (RFC 6329, 13 to 16; ISO/IEC 10589, 7.3.7).
-use Rattle.std.specs.Prelude.{◌≡◌, ℕ, ◌+◌, List, [], ◌∷◌, map, false, Option, if◌then◌else◌}
+use Rattle.std.specs.Prelude.{◌≡◌, ℕ, ◌+◌, List, [], ◌∷◌, map, false, Option, Some, if◌then◌else◌}
 use Rattle.std.specs.FinMap.{get}
 use Rattle.spb_types.specs.declared.address.SystemId.{SystemId}
 use Rattle.spb_types.specs.declared.graph.Member.{Member}
@@ -49,10 +49,10 @@ local_of v = record {
 unfoldable pub body_of : BridgeView → List ℕ
 body_of v = LEVEL_1 ∷ content_bytes (local_of v)
 
--- ---- its own LSP
+-- ---- its own LSP: that of number 0, the only one that it has a body for
 
 abbrev pub own_of : BridgeView → Own
-own_of v = record { system = v.id.system; body = body_of v; spent = v.spent }
+own_of v = record { system = v.id.system; bodies = Some (body_of v) ∷ []; spent = v.spent }
 
 -- the part of a bridge that flooding changes, and the bridge with that part changed
 abbrev pub holding_of : BridgeView → Holding
@@ -74,7 +74,7 @@ pub record IsOwnLspCurrent (v : BridgeView) : Type 0 where
 
 -- after an origination
 abbrev pub originating : BridgeView → BridgeView
-originating v = with_holding (originated (up_ports v) (holding_of v)) v
+originating v = with_holding (originated (up_ports v) 0 (holding_of v)) v
 
 -- a bridge after its own LSP was brought up to its content: it originates where its LSP isn't live or says something
 -- else. One whose sequence numbers are spent originates no more

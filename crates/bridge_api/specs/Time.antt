@@ -9,13 +9,13 @@ use Rattle.lsdb.specs.Version.{number_of}
 use Rattle.lsdb.specs.Entry.{Entry}
 use Rattle.lsdb.specs.Database.{version_in, version_at, srm_in}
 use Rattle.lsdb.specs.Time.{lifetime_in, is_live}
-use Rattle.flooding.specs.Own.{last_number, is_own_number, renewed}
+use Rattle.flooding.specs.Own.{last_number, own_id, is_own_number, renewed}
 use Rattle.adjacency.specs.declared.port.Adjacency.{Adjacency}
 use Rattle.adjacency.specs.Hearing.{End}
 use Rattle.adjacency.specs.Adjacency.{down, neighbour_of}
 use Rattle.bridge_api.specs.declared.config.BridgeConfig.{BridgeConfig}
 use Rattle.bridge_api.specs.View.{BridgeView, adjacency_at, neighbour_at, is_up_at, up_ports}
-use Rattle.bridge_api.specs.Own.{body_of, own_of, own_entry, body_in}
+use Rattle.bridge_api.specs.Own.{body_of, own_entry, body_in}
 use Rattle.bridge_api.specs.Config.{IsWhole, configured}
 use Rattle.bridge_api.specs.Parsing.{parsed, hello_in}
 use Rattle.bridge_api.specs.Step.{Input, second, frame, carrier, metric, attach, detach, customer, step}
@@ -135,7 +135,7 @@ pub record StandsStill (left : ℕ) (v w : BridgeView) : Type 0 where
 -- the own LSP was originated: it stands one number further, says for 1,200 seconds what the bridge then has to say, and
 -- is to be sent at every Up port
 pub record IsRenewed (v w : BridgeView) : Type 0 where
-  pub own : own_entry w ≡ Some (renewed (up_ports w) (own_of w) (own_sequence_number v + 1))
+  pub own : own_entry w ≡ Some (renewed (up_ports w) (own_id w.id.system) (body_of w) (own_sequence_number v + 1))
   pub spent : w.spent ≡ v.spent
 
 -- a second after which the bridge has the same to say, and the own lifetime is above 300, originates nothing

@@ -16,7 +16,7 @@ use Rattle.bridge_api.specs.Config.{IsWhole, port_without_carrier, bare, configu
 use Rattle.bridge_api.proofs.Saying.{is_local}
 use Rattle.bridge_api.proofs.SoundPorts.{all_without_carrier, bare_config}
 use Rattle.bridge_control.specs.declared.machine.Machine.{Machine}
-use Rattle.bridge_control.specs.Machine.{view_of, CanOriginate, IsAfter}
+use Rattle.bridge_control.specs.Machine.{view_of, IsAfter}
 use Rattle.bridge_control.proofs.Owning.{after_same}
 
 few_without_carrier : (c : BridgeConfig) → IsWhole c → length (bare c).ports ≤ 32
@@ -32,11 +32,11 @@ or_right false b e = e
 fits_empty : (id : LspId) → fits empty id ≡ true
 fits_empty id = or_right (contains_key (empty {X = Entry} {R = id_cmp}) id) _ (ap (λ (n : ℕ). nat_lt n MOST_LSPS) (len-empty id_cmp Entry))
 
-pub bare_can : (c : BridgeConfig) → IsWhole c → (m : Machine) → view_of m ≡ bare c → CanOriginate m
-bare_can c whole m is = record {
-  few = subst (λ (v : BridgeView). length v.ports ≤ 32) (sym is) (few_without_carrier c whole);
-  place = subst (λ (db : Lsps). fits db (own_id m.id.system) ≡ true) (sym (ap (λ (v : BridgeView). v.database) is)) (fits_empty (own_id m.id.system));
-}
+pub bare_few : (c : BridgeConfig) → IsWhole c → (m : Machine) → view_of m ≡ bare c → length m.ports.items ≤ 32
+bare_few c whole m is = subst (λ (v : BridgeView). length v.ports ≤ 32) (sym is) (few_without_carrier c whole)
+
+pub bare_place : (c : BridgeConfig) (m : Machine) → view_of m ≡ bare c → fits m.db (own_id m.id.system) ≡ true
+bare_place c m is = subst (λ (db : Lsps). fits db (own_id m.id.system) ≡ true) (sym (ap (λ (v : BridgeView). v.database) is)) (fits_empty (own_id m.id.system))
 
 pub configured_after : (c : BridgeConfig) (m n p : Machine) → view_of m ≡ bare c → n ≡ record m { own = own_of (view_of m) } → IsAfter (originating (view_of n)) p → IsAfter (configured c) p
 unfolding configured

@@ -36,27 +36,27 @@ use Rattle.bridge_control.proofs.Putting.{got}
 -- it holds this now, in which the system and its body are as before
 pub record HasHeard (m : Machine) (h : Holding) : Type 0 where
   pub system : h.own.system ≡ m.own.system
-  pub body : h.own.body ≡ m.own.body
+  pub bodies : h.own.bodies ≡ m.own.bodies
 
 pub heard_current : (m : Machine) (h : Holding) (db : Lsps) (own : Own) (drops : Drops) → IsReady m → HasHeard m h → holding db own ≡ h → IsCurrent (record m { db = db; own = own; drops = drops })
 heard_current m h db own drops ready heard is =
     counted_current (record m { db = db; own = own }) drops
-    (current_with m m.ports db own ready.current (ap (λ (x : Holding). x.own.system) is ∙ heard.system) (ap (λ (x : Holding). x.own.body) is ∙ heard.body) refl (alike_refl m.id.system 1 m.ports.items))
+    (current_with m m.ports db own ready.current (ap (λ (x : Holding). x.own.system) is ∙ heard.system) (ap (λ (x : Holding). x.own.bodies) is ∙ heard.bodies) refl (alike_refl m.id.system 1 m.ports.items))
 
 pub lsp_heard : (m : Machine) (up : PortSet) (p : ℕ) (l : LspValue) → IsReady m → HasHeard m (hear_lsp_of up p l (holding m.db m.own))
 lsp_heard m up p l ready =
     let h : Holding = holding m.db m.own in
     let own = own_stands (lsp_rule up p l) up (claim_of l) h in
-    record { system = own.0; body = own.1 }
+    record { system = own.0; bodies = own.1 }
 
 pub entries_heard : (m : Machine) (up : PortSet) (p : ℕ) (claims : List Claim) → IsReady m → HasHeard m (hear_entries_of up p claims (holding m.db m.own))
 entries_heard m up p claims ready =
     let h : Holding = holding m.db m.own in
     let own = entries_leave_own up p claims h in
-    record { system = own.0; body = own.1 }
+    record { system = own.0; bodies = own.1 }
 
 pub csnp_heard : (m : Machine) (up : PortSet) (p : ℕ) (start end : LspId) (claims : List Claim) → IsReady m → HasHeard m (hear_csnp_of up p start end claims (holding m.db m.own))
-csnp_heard m up p start end claims ready = let entries = entries_heard m up p claims ready in record { system = entries.system; body = entries.body }
+csnp_heard m up p start end claims ready = let entries = entries_heard m up p claims ready in record { system = entries.system; bodies = entries.bodies }
 
 -- ---- by what a frame is taken for
 

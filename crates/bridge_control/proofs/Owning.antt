@@ -1,14 +1,22 @@
 -- What a machine says of itself, and what originating makes of it.
-use Rattle.std.proofs.Common.{◌≡◌, ◌≤◌, Bool, List, ◌∷◌, map, length, refl, sym, ap, ◌∙◌, subst, arith}
+use Rattle.std.proofs.Common.{◌≡◌, ◌≢◌, ◌≤◌, ℕ, zero, suc, Bool, false, List, [], ◌∷◌, map, length, refl, sym, ap, ◌∙◌, subst, Option, Some, None, arith}
+use Rattle.std.specs.Prelude.{slice_get}
+use Rattle.std.specs.Option.{option_and_then}
+use Rattle.std.specs.FinMap.{get}
+use Rattle.std.proofs.lemmas.Bool.{true≢false}
 use Rattle.std.specs.Global.{Vec}
 use Rattle.spb_types.specs.declared.ports.PortSet.{PortSet}
-use Rattle.lsdb.specs.Database.{Lsps}
+use Rattle.spb_types.specs.declared.address.LspId.{LspId}
+use Rattle.lsdb.specs.Version.{is_absent}
+use Rattle.lsdb.specs.Entry.{Entry}
+use Rattle.lsdb.specs.Database.{Lsps, version_in, version_at}
 use Rattle.flooding.specs.declared.own.Own.{Own}
 use Rattle.flooding.specs.Hearing.{Holding}
 use Rattle.flooding.specs.Placing.{holding}
 use Rattle.flooding.specs.Origination.{originated}
-use Rattle.flooding.specs.Settling.{Test, is_said, is_fresh, settled_by, settled, kept_fresh}
-use Rattle.flooding.proofs.Owns.{origination_leaves_own}
+use Rattle.flooding.specs.Settling.{Test, says, is_new, settled_by, settled, kept_fresh, AreHeld}
+use Rattle.flooding.specs.Own.{own_id, HaveBytes, HasFirstNumbers}
+use Rattle.flooding.proofs.Brought.{originated_leaves_own}
 use Rattle.flooding.proofs.Settled.{settling_leaves_own}
 use Rattle.spb_content.specs.Local.{content_bytes}
 use Rattle.bridge_api.specs.declared.port.BridgePort.{BridgePort}
@@ -16,7 +24,7 @@ use Rattle.bridge_api.specs.View.{BridgeView, up_from, up_ports}
 use Rattle.bridge_api.specs.Own.{neighbours_from, member_of, body_of, own_of, holding_of, with_holding, originating, originated_if_changed}
 use Rattle.bridge_api.specs.Ticking.{refreshed}
 use Rattle.bridge_api.proofs.Changes.{settling}
-use Rattle.bridge_api.proofs.Data.{fits_own}
+use Rattle.bridge_api.proofs.OneNumber.{one_body}
 use Rattle.bridge_control.specs.declared.machine.Machine.{Machine}
 use Rattle.bridge_control.specs.Machine.{view_of, FollowsPorts, IsCurrent, IsReady, CanOriginate, IsAfter}
 use Rattle.bridge_control.proofs.Following.{AreAlike, alike_refl, follow_with}
@@ -29,17 +37,44 @@ unfolding body_of
 said_alike v ports db spent same =
     λ i. 1 ∷ content_bytes (record { config = record { id = v.id; source = v.source; vids = v.vids }; neighbours = same i; attached = map (member_of v.id.system) v.attached })
 
-pub some_body : (m : Machine) → IsCurrent m → 1 ≤ length m.own.body
+long_body : (v : BridgeView) → 1 ≤ length (body_of v)
 unfolding body_of
-some_body m current = let long : length m.own.body ≡ length (body_of (view_of m)) = ap (λ (o : Own). length o.body) current.own in omega (arith, long)
+long_body v = omega arith
+
+-- what is so of what the bridge says of itself, is so of what is kept of it
+kept_own : (m : Machine) (P : Own → Type 0) → IsCurrent m → P (own_of (view_of m)) → P m.own
+kept_own m P current is = subst P (sym current.own) is
+
+pub own_bytes : (m : Machine) → IsCurrent m → HaveBytes m.own
+own_bytes m current =
+    kept_own m HaveBytes current (λ number body is. subst (λ (b : List ℕ). 1 ≤ length b) (one_body (body_of (view_of m)) number body is) (long_body (view_of m)))
+
+first_numbers : (body : List ℕ) (number later : ℕ) → number ≤ later → option_and_then (λ x. x) (slice_get (Some body ∷ []) number) ≡ None → option_and_then (λ x. x) (slice_get (Some body ∷ []) later) ≡ None
+first_numbers body zero later low is = absurd cc
+first_numbers body (suc number) zero low is = absurd (omega (arith, low))
+first_numbers body (suc number) (suc later) low is = refl
+
+pub own_first : (m : Machine) → IsCurrent m → HasFirstNumbers m.own
+own_first m current = kept_own m HasFirstNumbers current (first_numbers (body_of (view_of m)))
+
+one_held : (v : BridgeView) (db : Lsps) → get db (own_id v.id.system) ≢ None → AreHeld (holding db (own_of v))
+one_held v db held zero body is = held
+one_held v db held (suc number) body is = absurd cc
+
+pub own_held : (m : Machine) → IsCurrent m → get m.db (own_id m.id.system) ≢ None → AreHeld (holding m.db m.own)
+own_held m current held = kept_own m (λ own. AreHeld (holding m.db own)) current (one_held (view_of m) m.db held)
+
+-- an own LSP that isn't absent is held
+pub is_held : (db : Lsps) (id : LspId) → is_absent (version_at db id) ≡ false → get db id ≢ None
+is_held db id there none = absurd (true≢false (ap (λ (o : Option Entry). is_absent (version_in o)) (sym none) ∙ there))
 
 -- what is kept stays where the neighbours are the same, and hellos say the same
-pub current_with : (m : Machine) (ports : Vec BridgePort) (db : Lsps) (own : Own) → IsCurrent m → own.system ≡ m.own.system → own.body ≡ m.own.body → neighbours_from 1 ports.items ≡ neighbours_from 1 m.ports.items
+pub current_with : (m : Machine) (ports : Vec BridgePort) (db : Lsps) (own : Own) → IsCurrent m → own.system ≡ m.own.system → own.bodies ≡ m.own.bodies → neighbours_from 1 ports.items ≡ neighbours_from 1 m.ports.items
     → AreAlike m.id.system 1 m.ports.items ports.items → IsCurrent (record m { ports = ports; db = db; own = own })
-current_with m ports db own current system body same alike =
+current_with m ports db own current system bodies same alike =
     let s = system ∙ ap (λ (o : Own). o.system) current.own in
-    let b = body ∙ (ap (λ (o : Own). o.body) current.own ∙ sym (said_alike (view_of m) ports.items db own.spent same)) in
-    record { own = λ i. record { system = s i; body = b i; spent = own.spent }; ports = follow_with m ports db own current.ports alike }
+    let b = bodies ∙ (ap (λ (o : Own). o.bodies) current.own ∙ ap (λ (b : List ℕ). Some b ∷ []) (sym (said_alike (view_of m) ports.items db own.spent same))) in
+    record { own = λ i. record { system = s i; bodies = b i; spent = own.spent }; ports = follow_with m ports db own current.ports alike }
 
 -- the body was made anew
 pub renewed_current : (m n : Machine) → FollowsPorts m → n ≡ record m { own = own_of (view_of m) } → IsCurrent n
@@ -49,21 +84,21 @@ pub renewed_after : (m n : Machine) → FollowsPorts m → n ≡ record m { own 
 renewed_after m n follows is = record { view = ap view_of is; current = renewed_current m n follows is }
 
 pub ready_can : (m : Machine) → IsReady m → CanOriginate m
-ready_can m ready = record { few = ready.sound.few; place = fits_own (view_of m) ready.sound.database.own }
+ready_can m ready = record { few = ready.sound.few; held = is_held m.db (own_id m.id.system) ready.sound.database.own }
 
 pub after_same : (v w : BridgeView) (m : Machine) → v ≡ w → IsAfter v m → IsAfter w m
 after_same v w m same is = record { view = is.view ∙ same; current = is.current }
 
 -- ---- originating
 
-pub originated_after : (m : Machine) (up : PortSet) (db : Lsps) (own : Own) → IsCurrent m → up ≡ up_from 1 m.ports.items → holding db own ≡ originated up (holding m.db m.own) → IsAfter (originating (view_of m)) (record m { db = db; own = own })
+pub originated_after : (m : Machine) (up : PortSet) (db : Lsps) (own : Own) → IsCurrent m → up ≡ up_from 1 m.ports.items → holding db own ≡ originated up 0 (holding m.db m.own) → IsAfter (originating (view_of m)) (record m { db = db; own = own })
 originated_after m up db own current is_up is =
     let v : BridgeView = view_of m in
-    let whole : holding db own ≡ originated (up_ports v) (holding_of v) = is ∙ (λ i. originated (is_up i) (holding m.db (current.own i))) in
-    let leaves = origination_leaves_own up (holding m.db m.own) in
+    let whole : holding db own ≡ originated (up_ports v) 0 (holding_of v) = is ∙ (λ i. originated (is_up i) 0 (holding m.db (current.own i))) in
+    let leaves = originated_leaves_own up 0 (holding m.db m.own) in
     record {
       view = ap (λ (h : Holding). with_holding h v) whole;
-      current = current_with m m.ports db own current (ap (λ (h : Holding). h.own.system) is ∙ leaves.0) (ap (λ (h : Holding). h.own.body) is ∙ leaves.1) refl (alike_refl m.id.system 1 m.ports.items);
+      current = current_with m m.ports db own current (ap (λ (h : Holding). h.own.system) is ∙ leaves.0) (ap (λ (h : Holding). h.own.bodies) is ∙ leaves.1) refl (alike_refl m.id.system 1 m.ports.items);
     }
 
 -- ---- brought up to date
@@ -72,7 +107,7 @@ originated_after m up db own current is_up is =
 brought_current : (m : Machine) (stands : Test) (up : PortSet) (db : Lsps) (own : Own) → IsCurrent m → holding db own ≡ settled_by stands up (holding m.db m.own) → IsCurrent (record m { db = db; own = own })
 brought_current m stands up db own current is =
     let leaves = settling_leaves_own stands up (holding m.db m.own) in
-    current_with m m.ports db own current (ap (λ (h : Holding). h.own.system) is ∙ leaves.0) (ap (λ (h : Holding). h.own.body) is ∙ leaves.1) refl (alike_refl m.id.system 1 m.ports.items)
+    current_with m m.ports db own current (ap (λ (h : Holding). h.own.system) is ∙ leaves.0) (ap (λ (h : Holding). h.own.bodies) is ∙ leaves.1) refl (alike_refl m.id.system 1 m.ports.items)
 
 brought_view : (m : Machine) (stands : Test) (up : PortSet) (db : Lsps) (own : Own) → IsCurrent m → up ≡ up_from 1 m.ports.items → holding db own ≡ settled_by stands up (holding m.db m.own) → view_of (record m { db = db; own = own }) ≡ settling stands (view_of m)
 brought_view m stands up db own current is_up is =
@@ -80,8 +115,8 @@ brought_view m stands up db own current is_up is =
 
 pub settled_after : (m : Machine) (up : PortSet) (db : Lsps) (own : Own) → IsCurrent m → up ≡ up_from 1 m.ports.items → holding db own ≡ settled up (holding m.db m.own) → IsAfter (originated_if_changed (view_of m)) (record m { db = db; own = own })
 unfolding originated_if_changed
-settled_after m up db own current is_up is = record { view = brought_view m is_said up db own current is_up is; current = brought_current m is_said up db own current is }
+settled_after m up db own current is_up is = record { view = brought_view m says up db own current is_up is; current = brought_current m says up db own current is }
 
 pub kept_fresh_after : (m : Machine) (up : PortSet) (db : Lsps) (own : Own) → IsCurrent m → up ≡ up_from 1 m.ports.items → holding db own ≡ kept_fresh up (holding m.db m.own) → IsAfter (refreshed (view_of m)) (record m { db = db; own = own })
 unfolding refreshed
-kept_fresh_after m up db own current is_up is = record { view = brought_view m is_fresh up db own current is_up is; current = brought_current m is_fresh up db own current is }
+kept_fresh_after m up db own current is_up is = record { view = brought_view m is_new up db own current is_up is; current = brought_current m is_new up db own current is }

@@ -1,5 +1,7 @@
 -- A port that comes into a new state.
-use Rattle.std.proofs.Common.{◌≡◌, ◌≤◌, ◌<◌, ◌-◌, ◌+◌, ℕ, zero, suc, Bool, true, false, List, [], ◌∷◌, length, refl, sym, ap, ◌∙◌, subst, Some, arith}
+use Rattle.std.proofs.Common.{◌≡◌, ◌≢◌, ◌≤◌, ◌<◌, ◌-◌, ◌+◌, ℕ, zero, suc, Bool, true, false, List, [], ◌∷◌, length, refl, sym, ap, ◌∙◌, subst, Option, Some, None, arith}
+use Rattle.std.specs.Option.{option_map}
+use Rattle.std.specs.FinMap.{get}
 use Rattle.std.specs.Prelude.{slice_get, slice_set, not, ◌&&◌, if◌then◌else◌}
 use Rattle.std.specs.List.{AllByRecursion}
 use Rattle.std.proofs.lemmas.List.{length-set, set-set}
@@ -8,9 +10,10 @@ use Rattle.spb_types.specs.declared.address.SystemId.{SystemId}
 use Rattle.isis_pdu.specs.Pdu.{HelloValue}
 use Rattle.spb_tlvs.specs.declared.neighbours.Neighbour.{Neighbour}
 use Rattle.spb_tlvs.specs.declared.three_way.ThreeWay.{ThreeWay}
-use Rattle.lsdb.specs.Entry.{flags_cleared_at, srm_set_at}
-use Rattle.lsdb.specs.Database.{Lsps, fits, each}
-use Rattle.lsdb.proofs.LookupLemmas.{fits-each}
+use Rattle.spb_types.specs.declared.address.LspId.{LspId}
+use Rattle.lsdb.specs.Entry.{Entry, flags_cleared_at, srm_set_at}
+use Rattle.lsdb.specs.Database.{Lsps, each}
+use Rattle.lsdb.proofs.LookupLemmas.{get-each}
 use Rattle.flooding.specs.declared.own.Own.{Own}
 use Rattle.flooding.specs.Own.{own_id}
 use Rattle.spb_content.specs.Local.{IsLocal}
@@ -124,7 +127,7 @@ can_put m p new ready is metric = record { port = is; can = ready_can m ready; c
 pub kept_after : (m n : Machine) (p : ℕ) (new : BridgePort) → CanPut p new m → SaysTheSame p new m → IsPut p new m n → IsAfter (originated_if_changed (with_port_at p new (view_of m))) n
 kept_after m n p new can same is =
     let w : BridgeView = with_port_at p new (view_of m) in
-    let says : own_of (view_of m) ≡ own_of w = λ i. record { system = m.id.system; body = sym same i; spent = m.own.spent } in
+    let says : own_of (view_of m) ≡ own_of w = λ i. record { system = m.id.system; bodies = Some (sym same i) ∷ []; spent = m.own.spent } in
     record {
       view = is.view ∙ sym (saying_settles w (λ fresh. (can.own_lsp.said fresh ∙ sym same, can.own_lsp.alive fresh)));
       current = record { own = is.own ∙ (can.current.own ∙ (says ∙ ap own_of (sym is.view))); ports = is.ports };
@@ -138,8 +141,15 @@ put_few m n p new few is = omega (arith, few, ap (λ (v : BridgeView). length v.
 pub put_system : (m n : Machine) (p : ℕ) (new : BridgePort) → IsCurrent m → IsPut p new m n → n.own.system ≡ n.id.system
 put_system m n p new current is = ap (λ (o : Own). o.system) (is.own ∙ current.own) ∙ sym (ap (λ (v : BridgeView). v.id.system) is.view)
 
-put_place : (m n : Machine) (p : ℕ) (new : BridgePort) → IsPut p new m n → fits m.db (own_id m.id.system) ≡ true → fits n.db (own_id n.id.system) ≡ true
-put_place m n p new is place = ap (λ (v : BridgeView). fits v.database (own_id v.id.system)) is.view ∙ place
+put_held : (m n : Machine) (p : ℕ) (new : BridgePort) → IsPut p new m n → get m.db (own_id m.id.system) ≢ None → get n.db (own_id n.id.system) ≢ None
+put_held m n p new is held = subst (λ (v : BridgeView). get v.database (own_id v.id.system) ≢ None) (sym is.view) held
+
+mapped_held : (f : Entry → Entry) (o : Option Entry) → o ≢ None → option_map f o ≢ None
+mapped_held f None held = held
+mapped_held f (Some e) held = λ none. absurd cc
+
+each_held : (f : LspId → Entry → Entry) (db : Lsps) (id : LspId) → get db id ≢ None → get (each f db) id ≢ None
+each_held f db id held = subst (λ (o : Option Entry). o ≢ None) (sym (get-each f db id)) (mapped_held (f id) (get db id) held)
 
 -- ---- leaving and entering Up
 
@@ -168,7 +178,8 @@ pub left_can : (m n k : Machine) (p : ℕ) (new : BridgePort) (db : Lsps) (own :
 left_can m n k p new db own can is parts renewed =
     subst CanOriginate (sym renewed) (record {
       few = put_few m n p (with_csnp_due false new) can.can.few is;
-      place = ap (λ (d : Lsps). fits d (own_id n.id.system)) parts ∙ (fits-each (λ id e. flags_cleared_at p e) n.db (own_id n.id.system) ∙ put_place m n p (with_csnp_due false new) is can.can.place);
+      held = subst (λ (d : Lsps). get d (own_id n.id.system) ≢ None) (sym parts)
+          (each_held (λ id e. flags_cleared_at p e) n.db (own_id n.id.system) (put_held m n p (with_csnp_due false new) is can.can.held));
     })
 
 pub left_current : (n k : Machine) (db : Lsps) → FollowsPorts n → k ≡ record n { db = db; own = own_of (view_of (record n { db = db })) } → IsCurrent k
@@ -200,7 +211,7 @@ entering_after m n k p new db after is joins =
     let same : neighbours_from 1 due ≡ neighbours_from 1 n.ports.items = ap (neighbours_from 1) now ∙ (alike_neighbours olds (p - 1) 1 (with_csnp_due true new) (with_csnp_due false new) (λ q rest. refl) ∙ sym (ap (neighbours_from 1) before)) in
     let u : BridgeView = record (view_of n) { ports = due; database = each (λ id e. srm_set_at p e) n.db } in
     let view : view_of (record k { db = db }) ≡ u = (λ i. record (view_of k) { database = joins i }) ∙ ap (λ (v : BridgeView). record v { database = each (λ id e. srm_set_at p e) v.database }) is.view in
-    let says : own_of (view_of n) ≡ own_of u = λ i. record { system = n.id.system; body = sym (said_alike (view_of n) due (each (λ id e. srm_set_at p e) n.db) n.own.spent same) i; spent = n.own.spent } in
+    let says : own_of (view_of n) ≡ own_of u = λ i. record { system = n.id.system; bodies = Some (sym (said_alike (view_of n) due (each (λ id e. srm_set_at p e) n.db) n.own.spent same) i) ∷ []; spent = n.own.spent } in
     record {
       view = view ∙ ap (all_srm_set_at p new) after.view;
       current = record { own = is.own ∙ (after.current.own ∙ (says ∙ ap own_of (sym view))); ports = record { hellos = is.ports.hellos; up = is.ports.up; me = is.ports.me } };
@@ -238,7 +249,7 @@ with_metric_local m n p new ready metric is = subst (λ (v : BridgeView). IsLoca
 pub with_metric_can : (m n k : Machine) (p : ℕ) (new : BridgePort) (own : Own) → IsReady m → IsPut p new m n → k ≡ record n { own = own } → CanOriginate k
 with_metric_can m n k p new own ready is renewed =
     let can : CanOriginate m = ready_can m ready in
-    subst CanOriginate (sym renewed) (record { few = put_few m n p new can.few is; place = put_place m n p new is can.place })
+    subst CanOriginate (sym renewed) (record { few = put_few m n p new can.few is; held = put_held m n p new is can.held })
 
 pub with_metric_path : (m n k : Machine) (p metric : ℕ) (port : BridgePort) → IsPort (view_of m) p → port_at (view_of m) p ≡ Some port → IsPut p (with_port_metric metric port) m n → k ≡ record n { own = own_of (view_of n) } → originated_if_changed (view_of k) ≡ with_metric p metric (view_of m)
 with_metric_path m n k p metric port is there put renewed =

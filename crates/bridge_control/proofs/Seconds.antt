@@ -1,5 +1,6 @@
 -- A second of a machine.
-use Rattle.std.proofs.Common.{◌≡◌, ◌≤◌, ◌+◌, ◌-◌, ℕ, Bool, true, false, List, [], ◌∷◌, map, take, drop, length, refl, sym, ap, ◌∙◌, subst, Option, Some, None, arith}
+use Rattle.std.proofs.Common.{◌≡◌, ◌≢◌, ◌≤◌, ◌+◌, ◌-◌, ℕ, Bool, true, false, List, [], ◌∷◌, map, take, drop, length, refl, sym, ap, ◌∙◌, subst, Option, Some, None, arith}
+use Rattle.std.specs.FinMap.{get}
 use Rattle.std.specs.Prelude.{◌||◌, if◌then◌else◌}
 use Rattle.std.specs.Global.{Vec}
 use Rattle.std.proofs.lemmas.List.{length-map}
@@ -8,13 +9,13 @@ use Rattle.spb_tlvs.specs.declared.neighbours.Neighbour.{Neighbour}
 use Rattle.lsdb.specs.declared.version.Version.{Version}
 use Rattle.lsdb.specs.declared.version.Version.TheVariants.{Absent, Live, Dead}
 use Rattle.lsdb.specs.Entry.{Entry, aged}
-use Rattle.lsdb.specs.Database.{Lsps, each, any_flags, fits, version_in}
+use Rattle.lsdb.specs.Database.{Lsps, each, any_flags, version_in}
 use Rattle.lsdb.specs.Time.{lifetime_in, is_live}
 use Rattle.flooding.specs.declared.own.Own.{Own}
 use Rattle.flooding.specs.Own.{own_id}
 use Rattle.flooding.specs.Placing.{holding}
 use Rattle.flooding.specs.Settling.{is_said}
-use Rattle.flooding.proofs.Settled.{says_both}
+use Rattle.flooding.proofs.Current.{says_both}
 use Rattle.spb_content.specs.Local.{IsLocal}
 use Rattle.adjacency.specs.Adjacency.{is_up}
 use Rattle.flooding.specs.Entries.{AreSendable}
@@ -29,14 +30,14 @@ use Rattle.bridge_api.specs.Time.{IsLasting}
 use Rattle.bridge_api.proofs.Changes.{tick_is, readied_ports}
 use Rattle.bridge_api.proofs.SoundPorts.{all_later, config_kept}
 use Rattle.bridge_api.proofs.Saying.{is_local}
-use Rattle.bridge_api.proofs.Data.{Holds, lsps_of, fits_own, counts_lowered_keeps, expired_keeps, refreshed_keeps}
+use Rattle.bridge_api.proofs.Data.{Holds, lsps_of, counts_lowered_keeps, expired_keeps, refreshed_keeps}
 use Rattle.bridge_api.proofs.DataSteps.{can_originate}
 use Rattle.bridge_api.proofs.TimeLsps.{older_lasts, expired_holds as expired_holds_at}
 use Rattle.bridge_control.specs.declared.machine.Machine.{Machine}
 use Rattle.bridge_control.specs.Machine.{view_of, hellos_from, FollowsPorts, IsReady, CanOriginate, IsAfter}
 use Rattle.bridge_control.specs.Ports.{AreSoundPorts, AreUnused, has_lost}
 use Rattle.bridge_control.proofs.Following.{alike_refl, alike_later, alike_undue, neighbours_later}
-use Rattle.bridge_control.proofs.Owning.{said_alike, current_with, after_same, renewed_after}
+use Rattle.bridge_control.proofs.Owning.{is_held, said_alike, current_with, after_same, renewed_after}
 use Rattle.bridge_control.proofs.Unused.{unused_later, sent_first, done_first}
 
 neither : (a b : Bool) → (a || b) ≡ false → (a ≡ false) × (b ≡ false)
@@ -112,7 +113,7 @@ expired_can m n ready is =
     let w : BridgeView = expired (counts_lowered (view_of m)) in
     record {
       few = after_few w n (few_later m.ports.items ready.sound.few) is.view;
-      place = subst (λ (u : BridgeView). fits u.database (own_id u.id.system) ≡ true) (sym is.view) (fits_own w (expired_holds (view_of m) ready.sound).own);
+      held = subst (λ (u : BridgeView). get u.database (own_id u.id.system) ≢ None) (sym is.view) (is_held w.database (own_id w.id.system) (expired_holds (view_of m) ready.sound).own);
     }
 
 -- ---- the own LSP says what the bridge has to say where no neighbour is lost
@@ -135,18 +136,18 @@ older_says v sound fresh =
     subst (IsLasting left (own_entry v)) (sym (expired_holds_at v (own_id v.id.system))) (older_lasts (up_ports (counts_lowered v)) (leaving_from 1 v.ports) (own_entry v) left alive.0 count (omega (arith, alive.1, count))) in
     (ap is_live lasts.version ∙ alive.0, lasts.body ∙ sound.own.said fresh)
 
-still_said : (v : BridgeView) → IsSoundView v → v.spent ≡ false → has_lost v.ports ≡ false → is_said (holding_of (expired (counts_lowered v))) ≡ true
+still_said : (v : BridgeView) → IsSoundView v → v.spent ≡ false → has_lost v.ports ≡ false → is_said (holding_of (expired (counts_lowered v))) 0 ≡ true
 still_said v sound fresh none =
     let w : BridgeView = expired (counts_lowered v) in
     let same : body_of w ≡ body_of v = said_alike v (map later v.ports) w.database v.spent (neighbours_later v.ports none) in
     let older = older_says v sound fresh in
     says_both (body_of w) (own_entry w) older.0 (older.1 ∙ sym same)
 
-pub idle_said : (m n : Machine) → IsReady m → IsAfter (expired (counts_lowered (view_of m))) n → has_lost m.ports.items ≡ false → n.own.spent ≡ false → is_said (holding n.db n.own) ≡ true
+pub idle_said : (m n : Machine) → IsReady m → IsAfter (expired (counts_lowered (view_of m))) n → has_lost m.ports.items ≡ false → n.own.spent ≡ false → is_said (holding n.db n.own) 0 ≡ true
 idle_said m n ready is none fresh =
     let v : BridgeView = view_of m in
     let unspent : v.spent ≡ false = sym (ap (λ (w : BridgeView). w.spent) is.view) ∙ fresh in
-    (λ i. is_said (holding n.db (is.current.own i))) ∙ (ap (λ (w : BridgeView). is_said (holding_of w)) is.view ∙ still_said v ready.sound unspent none)
+    (λ i. is_said (holding n.db (is.current.own i)) 0) ∙ (ap (λ (w : BridgeView). is_said (holding_of w) 0) is.view ∙ still_said v ready.sound unspent none)
 
 -- ---- the bridge that sends
 

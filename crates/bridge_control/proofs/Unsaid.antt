@@ -1,5 +1,5 @@
 -- A customer port beside another of its service: the bridge says the same of itself with it and without it.
-use Rattle.std.proofs.Common.{◌≡◌, ◌⊎◌, inl, inr, ℕ, Bool, true, false, List, [], ◌∷◌, ◌++◌, map, filter, refl, sym, ap, ◌∙◌, subst}
+use Rattle.std.proofs.Common.{Some, ◌≡◌, ◌⊎◌, inl, inr, ℕ, Bool, true, false, List, [], ◌∷◌, ◌++◌, map, filter, refl, sym, ap, ◌∙◌, subst}
 use Rattle.std.specs.Prelude.{◌||◌, ◌&&◌, ◌==◌, Contains}
 use Rattle.std.specs.List.{list_any, list_all}
 use Rattle.std.proofs.lemmas.Bool.{eqb-true}
@@ -134,7 +134,7 @@ says_still m n attached learned other ready config is within beyond =
     let same : body_of w ≡ body_of v = same_body v attached learned
     (is_local v ready.sound.config ready.sound.few ready.sound.ports)
     (is_local (attached_to attached (with_learned other v)) config ready.sound.few ready.sound.ports) within beyond in
-    let says : own_of v ≡ own_of w = λ i. record { system = m.id.system; body = sym same i; spent = m.own.spent } in
+    let says : own_of v ≡ own_of w = λ i. record { system = m.id.system; bodies = Some (sym same i) ∷ []; spent = m.own.spent } in
     let follows = ready.current.ports in
     let whole : IsAfter (with_attached attached (with_learned learned v)) (machine_with m attached learned) = record {
       view = sym (saying_settles w (λ fresh. (ready.sound.own.said fresh ∙ sym same, ready.sound.own.alive fresh))) ∙ sym (with_attached_is attached (with_learned learned v));

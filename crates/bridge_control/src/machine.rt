@@ -1,6 +1,8 @@
 //! What a configured bridge keeps, and its own LSP.
 ghost use Rattle.std.specs.Prelude.{◌≡◌, ◌≤◌, true, false, length, IfOk, OnOk};
 ghost use Rattle.spb_content.specs.Local.{IsLocal, content_bytes};
+ghost use Rattle.lsdb.specs.Database.{fits};
+ghost use Rattle.flooding.specs.Own.{own_id};
 ghost use Rattle.flooding.specs.Placing.{holding};
 ghost use Rattle.flooding.specs.Settling.{is_said};
 ghost use Rattle.bridge_api.specs.Config as config_specs;
@@ -30,8 +32,8 @@ const NO_ID: BridgeId = BridgeId {
     },
 };
 
-/// What a configured bridge keeps. Between calls `own.body` is what the bridge has to say of itself, `hellos` are the
-/// hellos of its ports, and `up` are those that are Up. What is kept of the hellos that came only saves reading them.
+/// What a configured bridge keeps. Between calls the one body of `own` is what the bridge has to say of itself,
+/// `hellos` are the hellos of its ports, and `up` are those that are Up. What is kept of the hellos that came only saves reading them.
 #[derive(Drop)]
 pub(crate) struct Machine {
     pub(crate) alloc: Global,
@@ -70,7 +72,7 @@ impl Machine {
             db: Database::new(alloc),
             own: Own {
                 system: NO_ID.system,
-                body: Seq::new(alloc),
+                bodies: Seq::new(alloc),
                 spent: false,
             },
             hellos: Vec::new(alloc),
@@ -118,7 +120,7 @@ impl Machine {
             db: Database::new(alloc),
             own: Own {
                 system: config.id.system,
-                body: Seq::new(alloc),
+                bodies: Seq::new(alloc),
                 spent: false,
             },
             hellos,
@@ -174,7 +176,7 @@ impl Machine {
         ensures { OnOk result (self.new ≡ record self.old { own = api.own_of (view_of self.old) }) }
     {
         let body = self.body()?;
-        self.own.body = Seq::from_vec(body);
+        self.own.bodies = Seq::from_vec(vec![in self.alloc; Some(Seq::from_vec(body))]?);
         Ok(())
     }
 
@@ -202,11 +204,11 @@ impl Machine {
 
     /// Originates (ISO/IEC 10589, 7.3.7).
     pub(crate) fn originate(&mut self) -> Result<(), NoMemory>
-        requires can { CanOriginate self.old }
+        requires place { fits self.old.db (own_id self.old.id.system) ≡ true }
         requires current { IsCurrent self.old }
         ensures { OnOk result (IsAfter (api.originating (view_of self.old)) self.new) }
     {
-        originate(self.alloc, &mut self.db, self.up, &mut self.own)
+        originate(self.alloc, &mut self.db, self.up, &mut self.own, 0)
     }
 
     /// Originates where the own LSP that is held says something else than the bridge.
@@ -223,7 +225,7 @@ impl Machine {
     pub(crate) fn refresh(&mut self, renewed: bool) -> Result<bool, NoMemory>
         requires can { CanOriginate self.old }
         requires current { IsCurrent self.old }
-        requires said { renewed ≡ false → self.old.own.spent ≡ false → is_said (holding self.old.db self.old.own) ≡ true }
+        requires said { renewed ≡ false → self.old.own.spent ≡ false → is_said (holding self.old.db self.old.own) 0 ≡ true }
         ensures after { OnOk result (IsAfter (ticking.refreshed (view_of self.old)) self.new) }
         ensures idle { IfOk result (λ originated. originated ≡ false → self.new.db ≡ self.old.db) }
     {

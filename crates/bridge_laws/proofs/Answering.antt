@@ -1,7 +1,7 @@
 -- What a frame that isn't a hello makes of the own LSP: it stays as it is, or stands one number further than a claim of
 -- it. Nothing is originated behind it.
 use Rattle.std.proofs.Common.{◌≡◌, ◌≢◌, inl, inr, ◌≤◌, ◌<◌, ◌+◌, ℕ, Bool, true, false, List, [], ◌∷◌, refl, sym, ap, ◌∙◌, subst, Option, Some, arith}
-use Rattle.std.specs.Prelude.{◌&&◌, not, nat_lt, is_some, if◌then◌else◌}
+use Rattle.std.specs.Prelude.{◌&&◌, not, is_some, if◌then◌else◌}
 use Rattle.std.specs.List.{AllByRecursion}
 use Rattle.std.specs.FinMap.{get}
 use Rattle.std.proofs.lemmas.Bool.{lt-ltb, true≢false}
@@ -15,17 +15,18 @@ use Rattle.lsdb.specs.Certificate.{Claim, IsClaimed}
 use Rattle.lsdb.proofs.LookupLemmas.{same_or_not}
 use Rattle.lsdb.proofs.Order.{not_at_most}
 use Rattle.flooding.specs.declared.own.Own.{Own}
-use Rattle.flooding.specs.Own.{last_number, own_id, renewed, dead_at, answered}
+use Rattle.flooding.specs.Own.{last_number, own_id, body_of_number, renewed, dead_at, answered_by, answered}
 use Rattle.flooding.specs.Hearing.{Holding, claim_of, lsp_rule, snp_rule, is_beyond, after_claim, is_full, hear_lsp_of, hear_entry_of}
 use Rattle.flooding.proofs.Heard.{Rule}
 use Rattle.flooding.proofs.Claimed.{SaysOfHeld, lsp_rule_says, snp_rule_says, others_stand, heard_stands, full_stands}
-use Rattle.flooding.proofs.Owns.{own_is_not_spent, system_mine, mine_is}
+use Rattle.flooding.proofs.Owns.{own_is_not_spent, system_mine}
+use Rattle.flooding.proofs.OwnNumbers.{some_number, its_body}
 use Rattle.flooding.proofs.Steps.{beyond_is}
 use Rattle.snp_sync.specs.Hearing.{claims_in, hear_entries_of, hear_csnp_of}
 use Rattle.snp_sync.proofs.Stays.{entries_dont_spend}
 use Rattle.bridge_api.specs.declared.drops.Drops.{Drops}
 use Rattle.bridge_api.specs.View.{BridgeView, up_ports, with_drops}
-use Rattle.bridge_api.specs.Own.{own_of, own_entry, holding_of, with_holding, originated_if_changed}
+use Rattle.bridge_api.specs.Own.{body_of, own_of, own_entry, holding_of, with_holding, originated_if_changed}
 use Rattle.bridge_api.specs.Parsing.{Parsed, parsed, hello_in, is_hello}
 use Rattle.bridge_api.specs.Parsing as parsing
 use Rattle.bridge_api.specs.Hearing.{heard_lsp, heard_csnp, heard_psnp}
@@ -45,37 +46,46 @@ pub data AnsweredAs (claims : List Claim) (id : LspId) (old new : Option Entry) 
   next : (a : Version) → IsClaimed claims id a → a ≢ version_in old → number_of (version_in old) ≤ number_of a
       → number_of (version_in new) ≡ number_of a + 1 → AnsweredAs claims id old new
 
-answered_below : (up : PortSet) (own : Own) (id : LspId) (seq : ℕ) → id ≡ own_id own.system → seq < last_number → answered up own id seq ≡ renewed up own (seq + 1)
-answered_below up own id seq mine low =
-    ap (λ b. if b && nat_lt seq last_number then renewed up own (seq + 1) else dead_at up seq) (mine_is own id mine)
-    ∙ ap (λ b. if b then renewed up own (seq + 1) else dead_at up seq) (lt-ltb seq last_number low)
+-- what answers such a claim, while the system isn't spent
+answered_below : (up : PortSet) (own : Own) (body : List ℕ) (seq : ℕ) → own.spent ≡ false → body_of_number own 0 ≡ Some body → seq < last_number
+    → answered up own (own_id own.system) seq ≡ renewed up (own_id own.system) body (seq + 1)
+answered_below up own body seq fresh has low =
+    ap (λ (o : Option (List ℕ)). answered_by up (own_id own.system) seq o) (its_body own 0 (omega (arith, some_number)) fresh ∙ has)
+    ∙ ap (λ b. if b then renewed up (own_id own.system) body (seq + 1) else dead_at up seq) (lt-ltb seq last_number low)
 
-own_heard_by : (rule : Rule) (up : PortSet) (own : Own) (c : Claim) (held : Option Entry) (b : Bool) → LeavesWithin rule
+-- a system that isn't spent and has a body for number 0
+record CanAnswer (own : Own) : Type 0 where
+  fresh : own.spent ≡ false
+  body : List ℕ
+  has : body_of_number own 0 ≡ Some body
+
+own_heard_by : (rule : Rule) (up : PortSet) (own : Own) (c : Claim) (held : Option Entry) (b : Bool) → LeavesWithin rule → CanAnswer own
     → is_beyond (relation c.version (version_in held)) ≡ b → c.id ≡ own_id own.system → number_of c.version < last_number
     → AnsweredAs (c ∷ []) c.id held (if b then Some (answered up own c.id (number_of c.version)) else rule (relation c.version (version_in held)) held)
-own_heard_by rule up own c held true leaves beyond mine low =
+own_heard_by rule up own c held true leaves can beyond mine low =
     let above = not_at_most c.version (version_in held) (beyond_is c.version (version_in held) (relation c.version (version_in held)) refl beyond) in
-    subst (λ (e : Entry). AnsweredAs (c ∷ []) c.id held (Some e)) (sym (answered_below up own c.id (number_of c.version) mine low))
+    subst (λ (e : Entry). AnsweredAs (c ∷ []) c.id held (Some e))
+    (sym (ap (λ (x : LspId). answered up own x (number_of c.version)) mine ∙ answered_below up own can.body (number_of c.version) can.fresh can.has low))
     (next c.version (inl (refl, refl)) above.1 above.0 refl)
-own_heard_by rule up own c held false leaves within mine low = still (leaves (relation c.version (version_in held)) held within)
+own_heard_by rule up own c held false leaves can within mine low = still (leaves (relation c.version (version_in held)) held within)
 
-own_claimed_by : (rule : Rule) (up : PortSet) (c : Claim) (h : Holding) (full : Bool) → LeavesWithin rule → SaysOfHeld rule → is_full rule up c h ≡ full
+own_claimed_by : (rule : Rule) (up : PortSet) (c : Claim) (h : Holding) (full : Bool) → LeavesWithin rule → SaysOfHeld rule → CanAnswer h.own → is_full rule up c h ≡ full
     → c.id ≡ own_id h.own.system → number_of c.version < last_number → AnsweredAs (c ∷ []) c.id (get h.db c.id) (get (after_claim rule up c h).db c.id)
-own_claimed_by rule up c h true leaves says full mine low = still (same_lsp _ _ (ap (λ (g : Holding). get g.db c.id) (full_stands rule up c h full)))
-own_claimed_by rule up c h false leaves says there mine low =
+own_claimed_by rule up c h true leaves says can full mine low = still (same_lsp _ _ (ap (λ (g : Holding). get g.db c.id) (full_stands rule up c h full)))
+own_claimed_by rule up c h false leaves says can there mine low =
     let held = get h.db c.id in
     let r = relation c.version (version_in held) in
     let stands : get (after_claim rule up c h).db c.id ≡ (if is_beyond r then Some (answered up h.own c.id (number_of c.version)) else rule r held) =
-    heard_stands rule says up c h there ∙ ap (λ b. if b && is_beyond r then Some (answered up h.own c.id (number_of c.version)) else rule r held) (system_mine h.own c.id mine) in
-    subst (AnsweredAs (c ∷ []) c.id held) (sym stands) (own_heard_by rule up h.own c held (is_beyond r) leaves refl mine low)
+    heard_stands rule says up c h there ∙ ap (λ b. if b && is_beyond r then Some (answered up h.own c.id (number_of c.version)) else rule r held) (system_mine h.own c.id (ap (λ (x : LspId). x.system) mine)) in
+    subst (AnsweredAs (c ∷ []) c.id held) (sym stands) (own_heard_by rule up h.own c held (is_beyond r) leaves can refl mine low)
 
-own_claimed : (rule : Rule) (up : PortSet) (c : Claim) (h : Holding) (id : LspId) → LeavesWithin rule → SaysOfHeld rule → id ≡ own_id h.own.system
+own_claimed : (rule : Rule) (up : PortSet) (c : Claim) (h : Holding) (id : LspId) → LeavesWithin rule → SaysOfHeld rule → CanAnswer h.own → id ≡ own_id h.own.system
     → number_of c.version < last_number → AnsweredAs (c ∷ []) id (get h.db id) (get (after_claim rule up c h).db id)
-own_claimed rule up c h id leaves says mine low =
+own_claimed rule up c h id leaves says can mine low =
     elim (same_or_not id c.id) [
       | inl here ↦
           subst (λ (x : LspId). AnsweredAs (c ∷ []) x (get h.db x) (get (after_claim rule up c h).db x)) (sym here)
-          (own_claimed_by rule up c h (is_full rule up c h) leaves says refl (sym here ∙ mine) low)
+          (own_claimed_by rule up c h (is_full rule up c h) leaves says can refl (sym here ∙ mine) low)
       | inr other ↦ still (same_lsp _ _ (others_stand rule up c h id other))
     ]
 
@@ -94,16 +104,16 @@ then_answered c claims id o m n (next a claimed apart low number) (still after) 
 then_answered c claims id o m n (next a claimed apart low number) (next b later differs least further) =
     next b (inr later) (λ e. absurd (omega (arith, ap number_of e, low, number, least))) (omega (arith, low, number, least)) further
 
-entries_answered : (up : PortSet) (port : ℕ) (claims : List Claim) (h : Holding) (own : Own) (id : LspId) → h.own ≡ own → id ≡ own_id own.system → AreLow claims
+entries_answered : (up : PortSet) (port : ℕ) (claims : List Claim) (h : Holding) (own : Own) (id : LspId) → CanAnswer own → h.own ≡ own → id ≡ own_id own.system → AreLow claims
     → AnsweredAs claims id (get h.db id) (get (hear_entries_of up port claims h).db id)
-entries_answered up port [] h own id same mine low = still (same_lsp _ _ refl)
-entries_answered up port (c ∷ claims) h own id same mine low =
+entries_answered up port [] h own id can same mine low = still (same_lsp _ _ refl)
+entries_answered up port (c ∷ claims) h own id can same mine low =
     let rule = snp_rule up port c.version in
     let g : Holding = hear_entry_of up port c h in
-    let first : AnsweredAs (c ∷ []) id (get h.db id) (get g.db id) = own_claimed rule up c h id (snp_rule_leaves up port c.version) (snp_rule_says up port c.version) (mine ∙ ap (λ (o : Own). own_id o.system) (sym same)) low.0 in
+    let first : AnsweredAs (c ∷ []) id (get h.db id) (get g.db id) = own_claimed rule up c h id (snp_rule_leaves up port c.version) (snp_rule_says up port c.version) (subst CanAnswer (sym same) can) (mine ∙ ap (λ (o : Own). own_id o.system) (sym same)) low.0 in
     then_answered c claims id (get h.db id) (get g.db id) (get (hear_entries_of up port claims g).db id)
     first
-    (entries_answered up port claims g own id (own_is_not_spent rule up c h low.0 ∙ same) mine low.1)
+    (entries_answered up port claims g own id can (own_is_not_spent rule up c h low.0 ∙ same) mine low.1)
 
 -- ---- a frame
 
@@ -125,6 +135,9 @@ module _ (q : ℕ) (bytes : List ℕ) (v : BridgeView) (was : IsSoundView v) (fa
   answers_as : (j : Parsed) (w : BridgeView) → parsed bytes ≡ j → step (frame q bytes) v ≡ w → Answers v (claims_said j) w → Answers v (claims_said (parsed bytes)) (step (frame q bytes) v)
   answers_as j w is after all = subst (λ (i : Parsed). Answers v (claims_said i) (step (frame q bytes) v)) (sym is) (subst (Answers v (claims_said j)) (sym after) all)
 
+  can_answer : CanAnswer (own_of v)
+  can_answer = record { fresh = far.fresh; body = body_of v; has = refl }
+
   low_as : (j : Parsed) → parsed bytes ≡ j → AreLow (claims_said j)
   low_as j is = subst (λ (i : Parsed). AreLow (claims_said i)) is (all_low (claims_said (parsed bytes)) far.claims)
 
@@ -140,7 +153,7 @@ module _ (q : ℕ) (bytes : List ℕ) (v : BridgeView) (was : IsSoundView v) (fa
       let low : AreLow (claim_of g.lsp ∷ []) = low_as (parsing.lsp g.lsp) g.is in
       answers_as (parsing.lsp g.lsp) (originated_if_changed (heard_lsp g.lsp q v)) g.is g.after
       (answers_heard v (claim_of g.lsp ∷ []) (hear_lsp_of up q g.lsp h) (heard_lsp g.lsp q v).drops (lsp_settles_nothing v g.lsp q was) far.fresh
-      (own_claimed (lsp_rule up q g.lsp) up (claim_of g.lsp) h (own_id v.id.system) (lsp_rule_leaves up q g.lsp) (lsp_rule_says up q g.lsp) refl low.0)
+      (own_claimed (lsp_rule up q g.lsp) up (claim_of g.lsp) h (own_id v.id.system) (lsp_rule_leaves up q g.lsp) (lsp_rule_says up q g.lsp) can_answer refl low.0)
       (own_is_not_spent (lsp_rule up q g.lsp) up (claim_of g.lsp) h low.0))
   frame_answers (by_csnp g) =
       let up : PortSet = up_ports v in
@@ -150,7 +163,7 @@ module _ (q : ℕ) (bytes : List ℕ) (v : BridgeView) (was : IsSoundView v) (fa
       let low : AreLow claims = subst (λ es. AreLow (claims_or_none es)) g.read (low_as (parsing.csnp g.csnp) g.is) in
       let own : AnsweredAs claims id (own_entry v) (get (hear_csnp_of up q g.csnp.start g.csnp.end claims h).db id) =
       missed_answered claims id (own_entry v) (get (hear_entries_of up q claims h).db id) (get (hear_csnp_of up q g.csnp.start g.csnp.end claims h).db id)
-      (entries_answered up q claims h (own_of v) id refl refl low) (missed_same up q g.csnp.start g.csnp.end claims h id) in
+      (entries_answered up q claims h (own_of v) id can_answer refl refl low) (missed_same up q g.csnp.start g.csnp.end claims h id) in
       answers_as (parsing.csnp g.csnp) (originated_if_changed (heard_csnp g.csnp g.entries q v)) g.is g.after
       (subst (λ es. Answers v (claims_or_none es) (originated_if_changed (heard_csnp g.csnp g.entries q v))) (sym g.read)
       (answers_heard v claims (hear_csnp_of up q g.csnp.start g.csnp.end claims h) (heard_csnp g.csnp g.entries q v).drops (csnp_settles_nothing v g.csnp g.entries q was) far.fresh own (entries_dont_spend up q claims h low)))
@@ -165,7 +178,7 @@ module _ (q : ℕ) (bytes : List ℕ) (v : BridgeView) (was : IsSoundView v) (fa
       let low : AreLow claims = subst (λ es. AreLow (claims_or_none es)) g.read (low_as (parsing.psnp g.psnp) g.is) in
       answers_as (parsing.psnp g.psnp) (originated_if_changed (heard_psnp g.entries q v)) g.is g.after
       (subst (λ es. Answers v (claims_or_none es) (originated_if_changed (heard_psnp g.entries q v))) (sym g.read)
-      (answers_heard v claims (hear_entries_of up q claims h) (heard_psnp g.entries q v).drops (psnp_settles_nothing v g.entries q was) far.fresh (entries_answered up q claims h (own_of v) (own_id v.id.system) refl refl low) (entries_dont_spend up q claims h low)))
+      (answers_heard v claims (hear_entries_of up q claims h) (heard_psnp g.entries q v).drops (psnp_settles_nothing v g.entries q was) far.fresh (entries_answered up q claims h (own_of v) (own_id v.id.system) can_answer refl refl low) (entries_dont_spend up q claims h low)))
 
   pub frame_answered : Answers v (claims_said (parsed bytes)) (step (frame q bytes) v)
   frame_answered = frame_answers (frame_step v q bytes)

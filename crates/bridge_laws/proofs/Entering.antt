@@ -15,7 +15,7 @@ use Rattle.lsdb.specs.Entry.{Entry, srm_set_at, flagged, flags_cleared_at}
 use Rattle.lsdb.specs.Database.{Lsps, version_in, srm_in, ssn_in, each}
 use Rattle.lsdb.proofs.LookupLemmas.{get-each}
 use Rattle.flooding.specs.Entries.{AllEntries}
-use Rattle.flooding.specs.Settling.{is_said}
+use Rattle.flooding.specs.Settling.{says}
 use Rattle.flooding.proofs.Settled.{settling_keeps_silence}
 use Rattle.adjacency.specs.declared.state.AdjacencyChange.{AdjacencyChange}
 use Rattle.adjacency.specs.declared.state.AdjacencyChange.TheVariants as did
@@ -79,7 +79,7 @@ left_silent q db low high x e is =
 -- an origination sets no SSN flag
 originated_if_changed_silent : (q : ℕ) (v : BridgeView) → IsSilent q v.database → IsSilent q (originated_if_changed v).database
 unfolding originated_if_changed
-originated_if_changed_silent q v silent = settling_keeps_silence is_said (up_ports v) (holding_of v) q silent
+originated_if_changed_silent q v silent = settling_keeps_silence says (up_ports v) (holding_of v) q silent
 
 -- nor does entering Up
 srm_set_ssn : (q : ℕ) (e : Entry) (b : Bool) → has e.ssn q ≡ false → has (if b then e else flagged q e).ssn q ≡ false

@@ -14,8 +14,11 @@ use Rattle.flooding.specs.Own.{own_id, last_number}
 use Rattle.flooding.specs.Hearing.{Holding}
 use Rattle.flooding.specs.Settling.{Test, settled_by}
 use Rattle.flooding.specs.declared.own.Own.{Own}
-use Rattle.flooding.proofs.Owns.{origination_is_not_spent}
-use Rattle.flooding.proofs.Settled.{originated_few, originated_further, settling_brings_few, settling_goes_one_further, settling_doesnt_spend}
+use Rattle.flooding.proofs.Brought.{originated_few, originated_is_not_spent}
+use Rattle.flooding.specs.Origination.{originated}
+use Rattle.bridge_api.proofs.DataSteps.{configured_holds_own}
+use Rattle.bridge_api.proofs.OneNumber.{one_number}
+use Rattle.flooding.proofs.Settled.{settling_brings_few, settling_goes_one_further, settling_doesnt_spend}
 use Rattle.bridge_api.specs.declared.config.BridgeConfig.{BridgeConfig}
 use Rattle.bridge_api.specs.View.{BridgeView, up_ports}
 use Rattle.bridge_api.specs.Own.{holding_of}
@@ -48,7 +51,7 @@ within_each k me f db spent same w =
 
 within_settled : (k : ℕ) (stands : Test) (up : PortSet) (h : Holding) → k < last_number → Within k h.own.system h.db h.own.spent → Within (k + 1) h.own.system (settled_by stands up h).db (settled_by stands up h).own.spent
 within_settled k stands up h low w = record {
-  few = omega (arith, settling_brings_few stands up h, w.few);
+  few = omega (arith, settling_brings_few stands up h, one_number, w.few);
   number = omega (arith, settling_goes_one_further stands up h (own_id h.own.system), w.number);
   unspent = ap (λ (own : Own). own.spent) (settling_doesnt_spend stands up h (own_below k h.own.system h.db low w.number)) ∙ w.unspent;
 }
@@ -75,9 +78,11 @@ configured_holds_few c =
     let up : PortSet = up_ports (bare c) in
     let bare_few : HoldsFew 0 (bare c) = few_bare c in
     record {
-      few = omega (arith, originated_few up h, bare_few.few);
-      number = omega (arith, originated_further up h (own_id c.id.system), bare_few.number);
-      unspent = ap (λ (own : Own). own.spent) (origination_is_not_spent up h (omega (arith, bare_few.number)));
+      few = omega (arith, originated_few up 0 h, bare_few.few);
+      number =
+          let is : number_of (version_at (originated up 0 h).db (own_id c.id.system)) ≡ 1 = ap (λ (o : Option Entry). number_of (version_in o)) (configured_holds_own c).own in
+          omega (arith, is);
+      unspent = ap (λ (own : Own). own.spent) (originated_is_not_spent up 0 h (omega (arith, bare_few.number)));
     }
 
 pub steps_hold_few : StepsHoldFew

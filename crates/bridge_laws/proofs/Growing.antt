@@ -13,7 +13,7 @@ use Rattle.lsdb.specs.Entry.{Entry, made, with_ssn, flagged, srm_set_at, flags_c
 use Rattle.lsdb.specs.Database.{Lsps, version_in, each}
 use Rattle.flooding.specs.Own.{last_number}
 use Rattle.flooding.specs.Hearing.{Holding}
-use Rattle.flooding.specs.Settling.{Test, is_said, is_fresh, settled_by}
+use Rattle.flooding.specs.Settling.{Test, says, is_new, settled_by}
 use Rattle.snp_sync.specs.SnpEntries.{has_ssn_at}
 use Rattle.snp_sync.specs.Sending.{ssn_cleared as ssn_cleared_entry, all_ssn_cleared}
 use Rattle.adjacency.specs.declared.state.AdjacencyChange.{AdjacencyChange}
@@ -85,11 +85,11 @@ module _ (P : ℕ → SystemId → Lsps → Bool → Type 0) (grows : Grows P) w
 
   originated_grows : (n : ℕ) (v : BridgeView) → n < last_number → Of n v → Of (n + 1) (originated_if_changed v)
   unfolding originated_if_changed
-  originated_grows n v low was = grows.settles n is_said (up_ports v) (holding_of v) low was
+  originated_grows n v low was = grows.settles n says (up_ports v) (holding_of v) low was
 
   refreshed_grows : (n : ℕ) (v : BridgeView) → n < last_number → Of n v → Of (n + 1) (refreshed v)
   unfolding refreshed
-  refreshed_grows n v low was = grows.settles n is_fresh (up_ports v) (holding_of v) low was
+  refreshed_grows n v low was = grows.settles n is_new (up_ports v) (holding_of v) low was
 
   -- ---- a change at a port
 

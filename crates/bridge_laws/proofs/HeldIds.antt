@@ -15,10 +15,11 @@ use Rattle.lsdb.specs.Database.{Lsps, version_at, each}
 use Rattle.lsdb.specs.Certificate.{Claim, IsClaimed}
 use Rattle.lsdb.proofs.LookupLemmas.{get-each, same_or_not}
 use Rattle.flooding.specs.Own.{last_number, own_id, own_number, IsOwnNumber, is_own_number}
-use Rattle.flooding.specs.Settling.{is_said}
+use Rattle.flooding.specs.Settling.{says}
 use Rattle.flooding.specs.Hearing.{Holding, claim_of, lsp_rule, snp_rule, hear_entry_of}
 use Rattle.flooding.proofs.Claimed.{others_stand}
-use Rattle.flooding.proofs.OwnNumbers.{own_is_number}
+use Rattle.flooding.proofs.OwnNumbers.{some_number, own_is_number}
+use Rattle.bridge_api.proofs.OneNumber.{first_number}
 use Rattle.flooding.proofs.Settled.{settling_leaves_others}
 use Rattle.snp_sync.specs.Hearing.{claims_in, hear_entries_of, ids_of, is_missed, flag_if, hear_csnp_of}
 use Rattle.adjacency.specs.declared.state.AdjacencyChange.{AdjacencyChange}
@@ -44,10 +45,10 @@ use Rattle.bridge_api.proofs.TimeLsps.{second_ages}
 
 -- with one number there is one own id
 pub own_is : (system : SystemId) (id : LspId) → IsOwnNumber system id → id ≡ own_id system
-own_is system id own = let first : own.number ≡ 0 = omega (arith, own.below) in own.is ∙ ap (own_number system) first
+own_is system id own = own.is ∙ ap (own_number system) (first_number own.number own.below)
 
 pub first_own : (system : SystemId) (id : LspId) → id ≡ own_id system → IsOwnNumber system id
-first_own system id is = record { number = 0; below = omega arith; is = is }
+first_own system id is = record { number = 0; below = omega (arith, some_number); is = is }
 
 -- while the first one is below the last number, all are
 pub own_below : (n : ℕ) (system : SystemId) (db : Lsps) → n < last_number → number_of (version_at db (own_id system)) ≤ n → (id : LspId) → IsOwnNumber system id → number_of (version_at db id) < last_number
@@ -91,7 +92,7 @@ same_stays_out id old new same out = same ∙ out
 -- an origination changes nothing but the own LSPs
 pub originated_others : (v : BridgeView) (id : LspId) → is_own_number v.id.system id ≡ false → get (originated_if_changed v).database id ≡ get v.database id
 unfolding originated_if_changed
-originated_others v id other = settling_leaves_others is_said (up_ports v) (holding_of v) id other
+originated_others v id other = settling_leaves_others says (up_ports v) (holding_of v) id other
 
 originated_out : (v : BridgeView) (old : Lsps) (id : LspId) → is_own_number v.id.system id ≡ false → StaysOut id old v.database → StaysOut id old (originated_if_changed v).database
 originated_out v old id apart before out = originated_others v id apart ∙ before out

@@ -22,7 +22,7 @@ use Rattle.lsdb.specs.Certificate.{Claim, Kept, is_flagged, is_absent, is_as_bef
 use Rattle.lsdb.proofs.Order.{itself}
 use Rattle.lsdb.proofs.Certified.{standing, steps_compose, silence_serves_all, clearing_port, setting_srm, ageing, changing_each}
 use Rattle.flooding.specs.Hearing.{claim_of}
-use Rattle.flooding.specs.Settling.{is_said, is_fresh}
+use Rattle.flooding.specs.Settling.{says, is_new}
 use Rattle.flooding.proofs.Steps.{hearing_lsp}
 use Rattle.flooding.proofs.Settled.{settling_is_certified}
 use Rattle.snp_sync.specs.Reading.{entries_in}
@@ -76,11 +76,11 @@ and_then port claims v u w step quiet = subst (λ (all : List Claim). Certificat
 
 pub originated_if_changed_carries : (port : ℕ) (claims : List Claim) (v : BridgeView) → Certificate port claims (control_of v) (control_of (originated_if_changed v))
 unfolding originated_if_changed
-originated_if_changed_carries port claims v = settling_is_certified is_said (up_ports v) port claims (holding_of v)
+originated_if_changed_carries port claims v = settling_is_certified says (up_ports v) port claims (holding_of v)
 
 pub refreshed_carries : (port : ℕ) (claims : List Claim) (v : BridgeView) → Certificate port claims (control_of v) (control_of (refreshed v))
 unfolding refreshed
-refreshed_carries port claims v = settling_is_certified is_fresh (up_ports v) port claims (holding_of v)
+refreshed_carries port claims v = settling_is_certified is_new (up_ports v) port claims (holding_of v)
 
 -- and after anything else
 then_originated_if_changed : (port : ℕ) (claims : List Claim) (v u : BridgeView) → Certificate port claims (control_of v) (control_of u) → Certificate port claims (control_of v) (control_of (originated_if_changed u))

@@ -7,6 +7,7 @@ use Rattle.std.specs.Option.{option_map, option_and_then}
 use Rattle.std.specs.FinMap.{get, empty, get-empty}
 use Rattle.std.proofs.lemmas.Bool.{le-leb, lt-leb, and_parts, true≢false}
 use Rattle.std.proofs.lemmas.Slice.Eq.{bytes_eq-Decides}
+use Rattle.spb_types.specs.declared.address.SystemId.{SystemId}
 use Rattle.spb_types.specs.declared.address.LspId.{LspId}
 use Rattle.spb_types.specs.declared.ports.PortSet.{PortSet}
 use Rattle.spb_types.specs.Ports.{has, no_ports}
@@ -16,16 +17,19 @@ use Rattle.lsdb.specs.declared.version.Version.{Version}
 use Rattle.lsdb.specs.declared.version.Version.TheVariants.{Absent, Live, Dead}
 use Rattle.lsdb.specs.Version.{number_of, is_absent}
 use Rattle.lsdb.specs.Entry.{Entry, with_ssn}
-use Rattle.lsdb.specs.Database.{Lsps, id_cmp, version_in, version_at, fits}
+use Rattle.lsdb.specs.Database.{Lsps, id_cmp, version_in, version_at}
 use Rattle.lsdb.specs.Time.{lifetime_in, is_live}
 use Rattle.lsdb.proofs.LookupLemmas.{get-each}
 use Rattle.flooding.specs.declared.own.Own.{Own}
 use Rattle.flooding.specs.Own.{last_number, own_id, renewed}
 use Rattle.flooding.specs.Hearing.{Holding}
 use Rattle.flooding.specs.Origination.{spent_entry}
-use Rattle.flooding.specs.Settling.{own_held, is_old, is_said, is_fresh}
-use Rattle.flooding.proofs.Owns.{origination_is_not_spent}
-use Rattle.flooding.proofs.Settled.{says_both, settling_stands, settling_doesnt_spend, settling_renews, settling_spends}
+use Rattle.flooding.specs.Settling.{own_held, is_old, is_new, is_said, is_fresh}
+use Rattle.flooding.proofs.Brought.{originated_is_not_spent}
+use Rattle.flooding.proofs.OwnNumbers.{some_number}
+use Rattle.flooding.proofs.Current.{says_both}
+use Rattle.bridge_api.proofs.OneNumber.{first_is}
+use Rattle.flooding.proofs.Settled.{settling_stands, settling_doesnt_spend, settling_renews, settling_spends}
 use Rattle.snp_sync.specs.SnpEntries.{has_ssn_at}
 use Rattle.snp_sync.specs.Sending.{ssn_cleared as ssn_cleared_entry, all_ssn_cleared}
 use Rattle.spb_content.specs.Local.{content_bytes}
@@ -34,7 +38,7 @@ use Rattle.bridge_api.specs.declared.port.BridgePort.{BridgePort}
 use Rattle.bridge_api.specs.declared.drops.Drops.{Drops}
 use Rattle.bridge_api.specs.declared.config.BridgeConfig.{BridgeConfig}
 use Rattle.bridge_api.specs.View.{BridgeView, port_at, neighbour_at, is_port_up, is_up_in, is_up_at, up_ports}
-use Rattle.bridge_api.specs.Own.{neighbour_in, neighbours_from, member_of, body_of, own_of, holding_of, with_holding, own_entry, body_in, Lasts, IsAlive}
+use Rattle.bridge_api.specs.Own.{neighbour_in, neighbours_from, member_of, body_of, holding_of, with_holding, own_entry, body_in, Lasts, IsAlive}
 use Rattle.bridge_api.specs.Config.{IsWhole, bare, configured}
 use Rattle.bridge_api.specs.Duties.{but_for_ssn}
 use Rattle.bridge_api.specs.Ticking.{later, leaving_from, counts_lowered, expired, refreshed, readied, after_sending_at, after_sending_from}
@@ -44,7 +48,6 @@ use Rattle.bridge_api.specs.Time.{seconds, AgedFrom, IsLasting, IsDead, own_sequ
 use Rattle.bridge_api.proofs.Adjacent.{second_up, up_keeps}
 use Rattle.bridge_api.proofs.Certified.{steps_keep_bridge}
 use Rattle.bridge_api.proofs.Changes.{with_and_parts, settling, ticked, tick_is, tick_ports, tick_port, tick_rest}
-use Rattle.bridge_api.proofs.Data.{fits_own}
 use Rattle.bridge_api.proofs.DataSteps.{configured_holds_own}
 use Rattle.bridge_api.proofs.Places.{port_found}
 use Rattle.bridge_api.proofs.Sound.{configured_is_sound}
@@ -115,12 +118,13 @@ fell v left was fresh count =
 -- ---- a second that originates nothing
 
 -- what is kept fresh
-refreshed_holds : (w : BridgeView) → refreshed w ≡ settling is_fresh w
+refreshed_holds : (w : BridgeView) → refreshed w ≡ settling is_new w
 unfolding refreshed
 refreshed_holds w = refl
 
-refreshed_stands : (w : BridgeView) → (w.spent ≡ false → is_fresh (holding_of w) ≡ true) → refreshed w ≡ w
-refreshed_stands w stands = refreshed_holds w ∙ ap (λ (h : Holding). with_holding h w) (settling_stands is_fresh (up_ports w) (holding_of w) stands)
+refreshed_stands : (w : BridgeView) → (w.spent ≡ false → is_fresh (holding_of w) 0 ≡ true) → refreshed w ≡ w
+refreshed_stands w stands =
+    refreshed_holds w ∙ ap (λ (h : Holding). with_holding h w) (settling_stands is_new (up_ports w) (holding_of w) (λ fresh. first_is (λ number. is_fresh (holding_of w) number ≡ true) (stands fresh)))
 
 fresh_at : (said old : Bool) → said ≡ true → old ≡ false → (said && not old) ≡ true
 fresh_at said old is young = λ i. is i && not (young i)
@@ -137,9 +141,9 @@ seconds_stand_still v left was fresh same count many =
     let w : BridgeView = expired (counts_lowered v) in
     let id : LspId = own_id v.id.system in
     let f : Fell left v w = fell v left was fresh count in
-    let said : is_said (holding_of w) ≡ true = says_both (body_of w) (own_entry w) f.live (f.body ∙ (sym same ∙ sym (expired_says v))) in
+    let said : is_said (holding_of w) 0 ≡ true = says_both (body_of w) (own_entry w) f.live (f.body ∙ (sym same ∙ sym (expired_says v))) in
     let young : is_old (own_entry w) ≡ false = f.old ∙ lt-leb left 300 (omega (arith, many)) in
-    let stands : readied v ≡ w = refreshed_stands w (λ fresh. fresh_at (is_said (holding_of w)) (is_old (own_entry w)) said young) in
+    let stands : readied v ≡ w = refreshed_stands w (λ fresh. fresh_at (is_said (holding_of w) 0) (is_old (own_entry w)) said young) in
     record {
       own =
           subst (IsLasting left (own_entry v)) (sym (second_own v))
@@ -149,16 +153,18 @@ seconds_stand_still v left was fresh same count many =
 
 -- ---- a second that originates
 
+lowest : (n : ℕ) → n ≤ 0 → n ≡ 0
+lowest n low = omega (arith, low)
+
 -- what doesn't stand goes one number further
-refreshed_renews : (w : BridgeView) → w.spent ≡ false → is_fresh (holding_of w) ≡ false → is_live (version_in (own_entry w)) ≡ true → own_sequence_number w < last_number
-    → (get (refreshed w).database (own_id w.id.system) ≡ Some (renewed (up_ports w) (own_of w) (own_sequence_number w + 1))) × ((refreshed w).spent ≡ w.spent)
+refreshed_renews : (w : BridgeView) → w.spent ≡ false → is_fresh (holding_of w) 0 ≡ false → is_live (version_in (own_entry w)) ≡ true → own_sequence_number w < last_number
+    → (get (refreshed w).database (own_id w.id.system) ≡ Some (renewed (up_ports w) (own_id w.id.system) (body_of w) (own_sequence_number w + 1))) × ((refreshed w).spent ≡ w.spent)
 refreshed_renews w fresh stale live below =
     let up : PortSet = up_ports w in
-    let h : Holding = holding_of w in
-    let there : fits w.database (own_id w.id.system) ≡ true = fits_own w (present_by (version_in (own_entry w)) live) in (
-      ap (λ (u : BridgeView). get u.database (own_id w.id.system)) (refreshed_holds w) ∙ settling_renews is_fresh up h fresh stale there below,
+    let h : Holding = holding_of w in (
+      ap (λ (u : BridgeView). get u.database (own_id w.id.system)) (refreshed_holds w) ∙ settling_renews is_new up h 0 (body_of w) (omega (arith, some_number)) fresh refl stale (λ lower low. subst (λ n. number_of (version_in (own_held h n)) < last_number) (sym (lowest lower low)) below),
       ap (λ (u : BridgeView). u.spent) (refreshed_holds w)
-          ∙ ap (λ (own : Own). own.spent) (settling_doesnt_spend is_fresh up h (own_below (own_sequence_number w) w.id.system w.database below (omega arith))),
+          ∙ ap (λ (own : Own). own.spent) (settling_doesnt_spend is_new up h (own_below (own_sequence_number w) w.id.system w.database below (omega arith))),
     )
 
 -- an LSP without SSN flags is as it was after all was sent
@@ -179,24 +185,23 @@ sending_keeps_from p [] db id e none is = is
 sending_keeps_from p (port ∷ ports) db id e none is = sending_keeps_from (p + 1) ports (after_sending_at p port db) id e none (sending_keeps_at (is_port_up port) p db id e none is)
 
 -- the own LSP at a number is made of the system and the body
-renewed_as : (up other : PortSet) (x y : Own) (n m : ℕ) → up ≡ other → x.system ≡ y.system → x.body ≡ y.body → n ≡ m → renewed up x n ≡ renewed other y m
-renewed_as up other x y n m ups systems bodies numbers =
-    λ i. renewed (ups i) (record { system = systems i; body = bodies i; spent = x.spent }) (numbers i)
+renewed_as : (up other : PortSet) (x y : SystemId) (b d : List ℕ) (n m : ℕ) → up ≡ other → x ≡ y → b ≡ d → n ≡ m → renewed up (own_id x) b n ≡ renewed other (own_id y) d m
+renewed_as up other x y b d n m ups systems bodies numbers = λ i. renewed (ups i) (own_id (systems i)) (bodies i) (numbers i)
 
-as_said : (h : Holding) → is_said h ≡ true → body_in (own_held h) ≡ h.own.body
-as_said h is = (bytes_eq-Decides (body_in (own_held h)) h.own.body).0 (and_parts (is_live (version_in (own_held h))) (bytes_eq (body_in (own_held h)) h.own.body) is).1
+as_said : (w : BridgeView) → is_said (holding_of w) 0 ≡ true → body_in (own_entry w) ≡ body_of w
+as_said w is = (bytes_eq-Decides (body_in (own_entry w)) (body_of w)).0 (and_parts (is_live (version_in (own_entry w))) (bytes_eq (body_in (own_entry w)) (body_of w)) is).1
 
 stale_at : (said old : Bool) → (old ≡ true) ⊎ (said ≡ false) → (said && not old) ≡ false
 stale_at true old (inl is) = ap not is
 stale_at false old (inl is) = refl
 stale_at said old (inr unsaid) = ap (λ b. b && not old) unsaid
 
-why_by : (v w : BridgeView) (left : ℕ) → Fell left v w → body_of w ≡ body_of (step second v) → (left ≤ 300) ⊎ (body_of (step second v) ≢ body_of v) → (is_old (own_entry w) ≡ true) ⊎ (is_said (holding_of w) ≡ false)
+why_by : (v w : BridgeView) (left : ℕ) → Fell left v w → body_of w ≡ body_of (step second v) → (left ≤ 300) ⊎ (body_of (step second v) ≢ body_of v) → (is_old (own_entry w) ≡ true) ⊎ (is_said (holding_of w) 0 ≡ false)
 why_by v w left f same (inl few) = inl (f.old ∙ le-leb left 300 few)
-why_by v w left f same (inr changed) = inr (by_test (is_said (holding_of w)) refl)
+why_by v w left f same (inr changed) = inr (by_test (is_said (holding_of w) 0) refl)
   where
-    by_test : (b : Bool) → is_said (holding_of w) ≡ b → is_said (holding_of w) ≡ false
-    by_test true is = absurd (changed (sym same ∙ (sym (as_said (holding_of w) is) ∙ f.body)))
+    by_test : (b : Bool) → is_said (holding_of w) 0 ≡ b → is_said (holding_of w) 0 ≡ false
+    by_test true is = absurd (changed (sym same ∙ (sym (as_said w is) ∙ f.body)))
     by_test false is = is
 
 why_less : (v : BridgeView) (left : ℕ) → lifetime_in (own_entry v) ≡ left + 1 → (lifetime_in (own_entry v) ≤ 301) ⊎ (body_of (step second v) ≢ body_of v) → (left ≤ 300) ⊎ (body_of (step second v) ≢ body_of v)
@@ -208,10 +213,10 @@ renewing v left was fresh below count why =
     let w : BridgeView = expired (counts_lowered v) in
     let id : LspId = own_id v.id.system in
     let f : Fell left v w = fell v left was fresh count in
-    let stale : is_fresh (holding_of w) ≡ false = stale_at (is_said (holding_of w)) (is_old (own_entry w)) (why_by v w left f (expired_says v) why) in
+    let stale : is_fresh (holding_of w) 0 ≡ false = stale_at (is_said (holding_of w) 0) (is_old (own_entry w)) (why_by v w left f (expired_says v) why) in
     let number : own_sequence_number w ≡ own_sequence_number v = ap number_of f.lasts.version in
     let made = refreshed_renews w fresh stale f.live (omega (arith, number, below)) in
-    let new : Entry = renewed (up_ports w) (own_of w) (own_sequence_number w + 1) in
+    let new : Entry = renewed (up_ports w) (own_id w.id.system) (body_of w) (own_sequence_number w + 1) in
     let held : get (after_sending_from 1 (readied v).ports (readied v).database) id ≡ Some new =
     sending_keeps_from 1 (readied v).ports (readied v).database id new refl made.0 in
     let system : w.id.system ≡ (step second v).id.system = ap (λ x. x.system) (sym (steps_keep_bridge second v).id) in
@@ -220,7 +225,7 @@ renewing v left was fresh below count why =
           second_own v
           ∙ (ap (λ (x : BridgeView). get x.database id) (tick_is v)
           ∙ (held
-          ∙ ap (λ (e : Entry). Some e) (renewed_as (up_ports w) (up_ports (step second v)) (own_of w) (own_of (step second v)) (own_sequence_number w + 1) (own_sequence_number v + 1) (sym (up_second v)) system (expired_says v) (ap (λ n. n + 1) number))));
+          ∙ ap (λ (e : Entry). Some e) (renewed_as (up_ports w) (up_ports (step second v)) w.id.system (step second v).id.system (body_of w) (body_of (step second v)) (own_sequence_number w + 1) (own_sequence_number v + 1) (sym (up_second v)) system (expired_says v) (ap (λ n. n + 1) number))));
       spent = second_spent v ∙ made.1;
     }
 
@@ -233,11 +238,10 @@ seconds_renew v was fresh below why =
 
 -- ---- the last number
 
-refreshed_spends : (w : BridgeView) → w.spent ≡ false → is_fresh (holding_of w) ≡ false → is_live (version_in (own_entry w)) ≡ true → last_number ≤ own_sequence_number w
+refreshed_spends : (w : BridgeView) → w.spent ≡ false → is_fresh (holding_of w) 0 ≡ false → is_live (version_in (own_entry w)) ≡ true → last_number ≤ own_sequence_number w
     → (get (refreshed w).database (own_id w.id.system) ≡ Some (spent_entry (up_ports w) (own_sequence_number w) (own_entry w))) × ((refreshed w).spent ≡ true)
 refreshed_spends w fresh stale live past =
-    let there : fits w.database (own_id w.id.system) ≡ true = fits_own w (present_by (version_in (own_entry w)) live) in
-    let spends = settling_spends is_fresh (up_ports w) (holding_of w) fresh stale there past in
+    let spends = settling_spends is_new (up_ports w) (holding_of w) 0 (body_of w) (omega (arith, some_number)) fresh refl stale (λ lower low. absurd (omega (arith, low))) past in
     (ap (λ (u : BridgeView). get u.database (own_id w.id.system)) (refreshed_holds w) ∙ spends.0, ap (λ (u : BridgeView). u.spent) (refreshed_holds w) ∙ spends.1)
 
 spending : (v : BridgeView) (left : ℕ) → IsSoundView v → v.spent ≡ false → last_number ≤ own_sequence_number v → lifetime_in (own_entry v) ≡ left + 1 → (left ≤ 300) ⊎ (body_of (step second v) ≢ body_of v) → IsSpent v (step second v)
@@ -245,7 +249,7 @@ spending v left was fresh past count why =
     let w : BridgeView = expired (counts_lowered v) in
     let id : LspId = own_id v.id.system in
     let f : Fell left v w = fell v left was fresh count in
-    let stale : is_fresh (holding_of w) ≡ false = stale_at (is_said (holding_of w)) (is_old (own_entry w)) (why_by v w left f (expired_says v) why) in
+    let stale : is_fresh (holding_of w) 0 ≡ false = stale_at (is_said (holding_of w) 0) (is_old (own_entry w)) (why_by v w left f (expired_says v) why) in
     let number : own_sequence_number w ≡ own_sequence_number v = ap number_of f.lasts.version in
     let made = refreshed_spends w fresh stale f.live (omega (arith, number, past)) in
     let new : Option Entry = Some (spent_entry (up_ports w) (own_sequence_number w) (own_entry w)) in
@@ -301,7 +305,7 @@ own_lsp_is_renewed v k was fresh same count below =
     let renews : IsRenewed u (step second u) =
     seconds_renew u (seconds_sound k v was) (before.spent ∙ fresh) (omega (arith, number, below)) (inl (omega (arith, before.own.lifetime))) in
     subst (λ (w : BridgeView). IsRenewed v w) (sym (next_second k v)) (record {
-      own = renews.own ∙ ap (λ n. Some (renewed (up_ports (step second u)) (own_of (step second u)) (n + 1))) number;
+      own = renews.own ∙ ap (λ n. Some (renewed (up_ports (step second u)) (own_id (step second u).id.system) (body_of (step second u)) (n + 1))) number;
       spent = renews.spent ∙ before.spent;
     })
 
@@ -372,11 +376,11 @@ unfolding configured
 configured_fresh c =
     let v : BridgeView = bare c in
     let number : number_of (version_at (empty {X = Entry} {R = id_cmp}) (own_id c.id.system)) ≡ 0 = ap (λ (o : Option Entry). number_of (version_in o)) (get-empty id_cmp (own_id c.id.system)) in
-    ap (λ (own : Own). own.spent) (origination_is_not_spent (up_ports v) (holding_of v) (omega (arith, number)))
+    ap (λ (own : Own). own.spent) (originated_is_not_spent (up_ports v) 0 (holding_of v) (omega (arith, number)))
 
 configured_stands : (c : BridgeConfig) → IsWhole c → StandsAt 1 (configured c)
 configured_stands c whole =
-    let own : own_entry (configured c) ≡ Some (renewed no_ports (own_of (bare c)) 1) = (configured_holds_own c).own in
+    let own : own_entry (configured c) ≡ Some (renewed no_ports (own_id c.id.system) (body_of (bare c)) 1) = (configured_holds_own c).own in
     record {
       sound = configured_is_sound c whole;
       alone = configured_alone c whole;

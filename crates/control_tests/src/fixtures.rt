@@ -1,5 +1,6 @@
 //! What the tests of several crates share.
 ghost use Rattle.std.specs.Prelude.{◌≡◌, ◌≤◌};
+ghost use Rattle.flooding.specs.Own.{HaveBytes};
 ghost use Rattle.lsdb.specs.Entry.{CanBeHeld};
 
 use flooding::Own;
@@ -72,8 +73,21 @@ pub(crate) fn graph_of(
 pub(crate) fn own(rt: &impl Abort, alloc: Global, body: &[u8]) -> Own {
     Own {
         system: system(1),
-        body: seq(rt, alloc, body),
+        bodies: Seq::from_vec(vec![in alloc; Some(seq(rt, alloc, body))].expect(
+            rt,
+            "out of memory",
+        )),
         spent: false,
+    }
+}
+
+/// Asserts that a system has one body, with a byte.
+pub(crate) fn check_bytes(rt: &impl Abort, own: &Own)
+    ensures { HaveBytes own.now }
+{
+    match own.bodies.as_slice() {
+        [Some(body)] => assert!(*rt; !body.is_empty()),
+        _ => assert!(*rt; false, "another number of bodies than one"),
     }
 }
 

@@ -5,7 +5,8 @@ ghost use Rattle.isis_pdu.specs.declared.kind.Kind.TheVariants as kinds;
 ghost use Rattle.isis_pdu.specs.Spelling.{CanWrite};
 
 use crate::fixtures::{
-    UP, WITH_NEIGHBOUR, are_bytes, are_equal, dead, live, lsp_id, own, put, seq, system,
+    UP, WITH_NEIGHBOUR, are_bytes, are_equal, check_bytes, dead, live, lsp_id, own, put, seq,
+    system,
 };
 use flooding::{FloodError, Own, hear_lsp, lsp_of, originate, to_send, write_held};
 use isis_pdu::{Lsp, Pdu, decode};
@@ -79,7 +80,7 @@ fn hear(
     requires low { 1 ≤ port }
     requires high { port ≤ MOST_PORTS }
 {
-    assert!(*rt; !own.body.is_empty());
+    check_bytes(rt, own);
     hear_lsp(alloc, db, up, port, lsp, own)
 }
 
@@ -240,8 +241,8 @@ fn an_lsp_is_heard_and_sent_on(rt: HostRuntime) {
 /// Originates where there is a place and a body.
 fn originate_in(rt: &impl Abort, alloc: Global, db: &mut Database, up: PortSet, own: &mut Own) {
     assert!(*rt; db.len() < 2048);
-    assert!(*rt; !own.body.is_empty());
-    assert!(*rt; originate(alloc, db, up, own).is_ok());
+    check_bytes(rt, own);
+    assert!(*rt; originate(alloc, db, up, own, 0).is_ok());
 }
 
 #[test]
@@ -251,7 +252,7 @@ fn each_origination_goes_one_number_further(rt: HostRuntime) {
     let mut db = Database::new(alloc);
     let mut first = own(&rt, alloc, &FIRST_LSP[26..]);
     originate_in(&rt, alloc, &mut db, PortSet::none(), &mut first);
-    assert!(rt; first.id() == id && db.version_at(&id) == live(1, 0x4fd7));
+    assert!(rt; first.id(0) == id && db.version_at(&id) == live(1, 0x4fd7));
     let mut second = own(&rt, alloc, WITH_NEIGHBOUR);
     originate_in(&rt, alloc, &mut db, PortSet { bits: 0b1000 }, &mut second);
     check_row(&rt, &db, &id, row(live(2, 0xa512), 1200, 56, 0b1000, 0));
@@ -289,7 +290,7 @@ fn a_full_database_takes_no_new_id(rt: HostRuntime) {
     let mut own = own(&rt, alloc, &[1]);
     let more = lsp(lsp_id(9, 0), (1, 30, 5));
     assert!(rt; hear(&rt, alloc, &mut db, up, 1, &more, &mut own) == Err(FloodError::Full));
-    let mine = lsp(own.id(), (u32::MAX, 30, 5));
+    let mine = lsp(own.id(0), (u32::MAX, 30, 5));
     assert!(rt; hear(&rt, alloc, &mut db, up, 1, &mine, &mut own) == Err(FloodError::Full));
     assert!(rt; !own.spent && db.len() == 2048);
     let known = lsp(lsp_id(0, 1), (8, 30, 5));

@@ -4,7 +4,7 @@
 ghost use Rattle.std.specs.Prelude.{◌≤◌};
 
 use crate::fixtures::{
-    UP, WITH_NEIGHBOUR, are_bytes, are_equal, dead, live, lsp_id, own, put, system,
+    UP, WITH_NEIGHBOUR, are_bytes, are_equal, check_bytes, dead, live, lsp_id, own, put, system,
 };
 use isis_pdu::{Csnp, Pdu, decode};
 use lsdb::{Database, Version};
@@ -59,7 +59,7 @@ fn hear_in_psnp(
     full: u64,
 ) {
     let mut own = own(rt, alloc, WITH_NEIGHBOUR);
-    assert!(*rt; !own.body.is_empty());
+    check_bytes(rt, &own);
     assert!(*rt; hear_psnp(alloc, db, UP, 2, entries, &mut own) == Ok(full));
 }
 
@@ -73,7 +73,7 @@ fn hear_in_csnp(
     full: u64,
 ) {
     let mut own = own(rt, alloc, WITH_NEIGHBOUR);
-    assert!(*rt; !own.body.is_empty());
+    check_bytes(rt, &own);
     assert!(*rt; hear_csnp(alloc, db, UP, 2, &start, &end, entries, &mut own) == Ok(full));
 }
 

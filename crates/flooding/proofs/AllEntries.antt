@@ -2,6 +2,7 @@
 use Rattle.std.specs.Prelude.{◌≡◌, Bool, true, false, Option, Some, None, if◌then◌else◌}
 use Rattle.std.proofs.Common.{refl, sym, ap, subst, ◌∙◌, ⊎_elim}
 use Rattle.std.proofs.lemmas.Bool.{and_parts}
+use Rattle.std.specs.Option.{option_map}
 use Rattle.std.specs.FinMap.{get, insert}
 use Rattle.spb_types.specs.declared.address.LspId.{LspId}
 use Rattle.spb_types.specs.declared.ports.PortSet.{PortSet}
@@ -9,18 +10,17 @@ use Rattle.spb_types.specs.Address.{same_system}
 use Rattle.lsdb.specs.declared.version.Relation.{Relation}
 use Rattle.lsdb.specs.Version.{number_of, relation}
 use Rattle.lsdb.specs.Entry.{Entry}
-use Rattle.lsdb.specs.Database.{Lsps, version_in, fits, put_if_it_fits}
+use Rattle.lsdb.specs.Database.{Lsps, version_in, fits, put_if_it_fits, changed}
 use Rattle.lsdb.specs.Certificate.{Claim}
-use Rattle.lsdb.proofs.LookupLemmas.{get-insert_same, get-insert_other, same_or_not}
-use Rattle.flooding.specs.Own.{own_id, answered}
+use Rattle.lsdb.proofs.LookupLemmas.{get-insert_same, get-insert_other, get-changed_same, get-changed_other, same_or_not}
+use Rattle.flooding.specs.Own.{answered}
 use Rattle.flooding.specs.Hearing.{Holding, is_beyond, is_answered, after_claim}
-use Rattle.flooding.specs.Origination.{next_entry, originated_from, originated}
 use Rattle.flooding.specs.Entries.{AllEntries}
 use Rattle.flooding.proofs.Heard.{Rule}
 use Rattle.flooding.proofs.Claimed.{heard_of, db_after}
 
 module _ (P : LspId → Entry → Type 0) where
-  inserted : (db : Lsps) (id : LspId) (e : Entry) → AllEntries P db → P id e → AllEntries P (insert db id e)
+  pub inserted : (db : Lsps) (id : LspId) (e : Entry) → AllEntries P db → P id e → AllEntries P (insert db id e)
   inserted db id e all new x f is = ⊎_elim
       (λ here.
       let same : e ≡ f = let found : Some e ≡ Some f = sym (get-insert_same db id e) ∙ ap (λ (y : LspId). get (insert db id e) y) (sym here) ∙ is in cc in
@@ -57,17 +57,13 @@ module _ (P : LspId → Entry → Type 0) where
       (all_put h.db c.id (heard_of rule up c h) all
       (heard_by_test rule up c h r (is_answered h.own c.id r) refl (λ b. (and_parts (same_system c.id.system h.own.system) (is_beyond r) b).1) answer rules))
 
-  originated_by : (up : PortSet) (h : Holding) (b : Bool) → AllEntries P h.db
-      → P (own_id h.own.system) (next_entry up h.own (number_of (version_in (get h.db (own_id h.own.system)))) (get h.db (own_id h.own.system)))
-      → AllEntries P (if b then h else originated_from up (get h.db (own_id h.own.system)) h).db
-  originated_by up h true all next = all
-  originated_by up h false all next =
-      all_put h.db (own_id h.own.system) (Some (next_entry up h.own (number_of (version_in (get h.db (own_id h.own.system)))) (get h.db (own_id h.own.system)))) all
-      (λ e is. let same : next_entry up h.own (number_of (version_in (get h.db (own_id h.own.system)))) (get h.db (own_id h.own.system)) ≡ e = cc in subst (λ (g : Entry). P (own_id h.own.system) g) same next)
-
-  -- after an origination, from the next entry
-  pub all_originated : (up : PortSet) (h : Holding) → AllEntries P h.db
-      → P (own_id h.own.system) (next_entry up h.own (number_of (version_in (get h.db (own_id h.own.system)))) (get h.db (own_id h.own.system)))
-      → AllEntries P (originated up h).db
-  unfolding originated
-  all_originated up h all next = originated_by up h h.own.spent all next
+  -- after a change of what is held under an id
+  pub all_changed : (f : Entry → Entry) (db : Lsps) (id : LspId) → AllEntries P db → ((e : Entry) → get db id ≡ Some e → P id (f e)) → AllEntries P (changed f db id)
+  all_changed f db id all each x g is = ⊎_elim
+      (λ here. subst (λ (y : LspId). P y g) (sym here) (mapped (get db id) refl (sym (get-changed_same f db id) ∙ (ap (λ (y : LspId). get (changed f db id) y) (sym here) ∙ is))))
+      (λ elsewhere. all x g (sym (get-changed_other f db id x elsewhere) ∙ is))
+      (same_or_not x id)
+    where
+      mapped : (o : Option Entry) → get db id ≡ o → option_map f o ≡ Some g → P id g
+      mapped None held found = absurd (cc)
+      mapped (Some e) held found = let same : f e ≡ g = cc in subst (λ (y : Entry). P id y) same (each e held)

@@ -1,9 +1,10 @@
 -- Flags stay at Up ports, whatever was heard or originated.
-use Rattle.std.specs.Prelude.{◌≡◌, ℕ, ◌+◌, ◌≤◌, Bool, true, false, ◌&&◌, ◌||◌, not, Option, Some, None, ◌==◌, nat_lt, if◌then◌else◌}
+use Rattle.std.specs.Prelude.{◌≡◌, ℕ, ◌+◌, ◌≤◌, List, Bool, true, false, ◌&&◌, ◌||◌, not, Option, Some, None, ◌==◌, nat_lt, if◌then◌else◌}
 use Rattle.std.proofs.Common.{refl, sym, ap, subst, ◌∙◌}
 use Rattle.std.proofs.lemmas.Bool.{and_parts, true≢false, false≢true, eqb-true}
 use Rattle.std.specs.Option.{option_map}
 use Rattle.std.specs.FinMap.{get}
+use Rattle.spb_types.specs.declared.address.LspId.{LspId}
 use Rattle.spb_types.specs.declared.ports.PortSet.{PortSet}
 use Rattle.spb_types.specs.Ports.{has, no_ports, with_port, without_port}
 use Rattle.spb_types.proofs.PortLemmas.{has_port, has-no_ports}
@@ -13,16 +14,16 @@ use Rattle.lsdb.specs.declared.version.Version.TheVariants.{Absent, Live, Dead}
 use Rattle.lsdb.specs.declared.version.Relation.{Relation}
 use Rattle.lsdb.specs.declared.version.Relation.TheVariants.{Older, Equal, Newer, Confused}
 use Rattle.lsdb.specs.Version.{number_of, is_absent, leq, relation}
-use Rattle.lsdb.specs.Entry.{Entry, stored, acked, cleared, offered}
+use Rattle.lsdb.specs.Entry.{Entry, stored, acked, cleared, offered, purged}
 use Rattle.lsdb.specs.Database.{version_in}
 use Rattle.lsdb.proofs.Order.{older_is, newer_is}
-use Rattle.flooding.specs.declared.own.Own.{Own}
-use Rattle.flooding.specs.Own.{last_number, own_id, is_originated, renewed, dead_at}
-use Rattle.flooding.specs.Hearing.{claim_of, body_of, unless_absent, wanted, lsp_rule, snp_rule}
-use Rattle.flooding.specs.Origination.{spent_entry}
-use Rattle.flooding.specs.Entries.{HasFlagsAt}
-use Rattle.flooding.specs.Laws.{LspKeepsFlags, EntryKeepsFlags, OriginationKeepsFlags}
-use Rattle.flooding.proofs.AllEntries.{all_after_claim, all_originated}
+use Rattle.flooding.specs.Own.{last_number, own_number, body_for, renewed, dead_at, answered_by}
+use Rattle.flooding.specs.Hearing.{Holding, claim_of, body_of, unless_absent, wanted, lsp_rule, snp_rule}
+use Rattle.flooding.specs.Origination.{spent_entry, next_entry, originated}
+use Rattle.flooding.specs.Entries.{HasFlagsAt, HaveFlagsAt}
+use Rattle.flooding.specs.Laws.{LspKeepsFlags, EntryKeepsFlags, BringingKeepsFlags}
+use Rattle.flooding.proofs.AllEntries.{inserted, all_changed, all_after_claim}
+use Rattle.flooding.proofs.Brought.{next_of, originated_keeps, brought_keeps}
 use Rattle.flooding.proofs.Flags.{has-with, has-without, has-alone}
 
 -- ---- tests
@@ -96,12 +97,16 @@ module _ (up : PortSet) where
   dead_flagged : (seq : ℕ) → HasFlagsAt up (dead_at up seq)
   dead_flagged seq = record { srm = λ p h. h; ssn = none_up; absent = λ a p. absurd (cc) }
 
-  renewed_flagged : (own : Own) (seq : ℕ) → HasFlagsAt up (renewed up own seq)
-  renewed_flagged own seq = record { srm = λ p h. h; ssn = none_up; absent = λ a p. absurd (cc) }
+  renewed_flagged : (id : LspId) (body : List ℕ) (seq : ℕ) → HasFlagsAt up (renewed up id body seq)
+  renewed_flagged id body seq = record { srm = λ p h. h; ssn = none_up; absent = λ a p. absurd (cc) }
 
-  answered_by : (own : Own) (seq : ℕ) (b : Bool) → HasFlagsAt up (if b then renewed up own (seq + 1) else dead_at up seq)
-  answered_by own seq true = renewed_flagged own (seq + 1)
-  answered_by own seq false = dead_flagged seq
+  answer_by : (id : LspId) (body : List ℕ) (seq : ℕ) (b : Bool) → HasFlagsAt up (if b then renewed up id body (seq + 1) else dead_at up seq)
+  answer_by id body seq true = renewed_flagged id body (seq + 1)
+  answer_by id body seq false = dead_flagged seq
+
+  answered_flagged : (id : LspId) (seq : ℕ) (o : Option (List ℕ)) → HasFlagsAt up (answered_by up id seq o)
+  answered_flagged id seq None = dead_flagged seq
+  answered_flagged id seq (Some body) = answer_by id body seq (nat_lt seq last_number)
 
   dead_is : (seq : ℕ) (g : Entry) → Some (dead_at up seq) ≡ Some g → HasFlagsAt up g
   dead_is seq g is = let same : dead_at up seq ≡ g = cc in subst (λ (x : Entry). HasFlagsAt up x) same (dead_flagged seq)
@@ -127,28 +132,39 @@ module _ (up : PortSet) where
       (stored_flagged port is_up (claim_of l).version l.lifetime (body_of l) (absent_below (claim_of l).version (version_in held) (newer_is (claim_of l).version (version_in held) is).0))
   lsp_rule_flagged port is_up l Confused held is all g found = dead_is l.seq g found
 
-  next_by : (own : Own) (seq : ℕ) (held : Option Entry) (b : Bool) → ((e : Entry) → held ≡ Some e → HasFlagsAt up e)
-      → HasFlagsAt up (if b then renewed up own (seq + 1) else spent_entry up seq held)
-  next_by own seq held true all = renewed_flagged own (seq + 1)
-  next_by own seq None false all = record { srm = λ p h. h; ssn = none_up; absent = λ a p. absurd (cc) }
-  next_by own seq (Some e) false all = record { srm = λ p h. h; ssn = (all e refl).ssn; absent = λ a p. absurd (cc) }
+  next_by : (id : LspId) (body : List ℕ) (seq : ℕ) (held : Option Entry) (b : Bool) → ((e : Entry) → held ≡ Some e → HasFlagsAt up e)
+      → HasFlagsAt up (if b then renewed up id body (seq + 1) else spent_entry up seq held)
+  next_by id body seq held true all = renewed_flagged id body (seq + 1)
+  next_by id body seq None false all = record { srm = λ p h. h; ssn = none_up; absent = λ a p. absurd (cc) }
+  next_by id body seq (Some e) false all = record { srm = λ p h. h; ssn = (all e refl).ssn; absent = λ a p. absurd (cc) }
 
 -- ---- the laws
 
 pub lsp_keeps_flags : LspKeepsFlags
 lsp_keeps_flags up port l h is_up all =
     all_after_claim (λ id e. HasFlagsAt up e) (lsp_rule up port l) up (claim_of l) h all
-    (λ beyond. answered_by up h.own (number_of (claim_of l).version) (is_originated h.own.system l.id && nat_lt (number_of (claim_of l).version) last_number))
+    (λ beyond. answered_flagged up l.id (number_of (claim_of l).version) (body_for h.own l.id))
     (lsp_rule_flagged up port is_up l _ (get h.db l.id) refl (all l.id))
 
 pub entry_keeps_flags : EntryKeepsFlags
 entry_keeps_flags up port c h is_up all =
     all_after_claim (λ id e. HasFlagsAt up e) (snp_rule up port c.version) up c h all
-    (λ beyond. answered_by up h.own (number_of c.version) (is_originated h.own.system c.id && nat_lt (number_of c.version) last_number))
+    (λ beyond. answered_flagged up c.id (number_of c.version) (body_for h.own c.id))
     (snp_rule_flagged up port is_up c.version _ (get h.db c.id) refl (all c.id))
 
-pub origination_keeps_flags : OriginationKeepsFlags
-origination_keeps_flags up h all =
-    let id = own_id h.own.system in
-    let seq = number_of (version_in (get h.db id)) in
-    all_originated (λ id e. HasFlagsAt up e) up h all (next_by up h.own seq (get h.db id) (nat_lt seq last_number) (all id))
+next_is_flagged : (up : PortSet) (number : ℕ) (h : Holding) (body : List ℕ) → HaveFlagsAt up h.db → HaveFlagsAt up (next_of up number body h).db
+next_is_flagged up number h body all =
+    let id = own_number h.own.system number in
+    let held = get h.db id in
+    let seq = number_of (version_in held) in
+    inserted (λ id e. HasFlagsAt up e) h.db id (next_entry up id body seq held) all (next_by up id body seq held (nat_lt seq last_number) (all id))
+
+pub bringing_keeps_flags : BringingKeepsFlags
+bringing_keeps_flags up number h all =
+    brought_keeps (λ g. HaveFlagsAt up g.db) up number h all
+    (λ body fresh has. next_is_flagged up number h body all)
+    (λ seq sum live. all_changed (λ id e. HasFlagsAt up e) (purged seq up) h.db (own_number h.own.system number) all (λ e is. dead_flagged up seq))
+
+pub origination_keeps_flags : (up : PortSet) (number : ℕ) (h : Holding) → HaveFlagsAt up h.db → HaveFlagsAt up (originated up number h).db
+origination_keeps_flags up number h all =
+    originated_keeps (λ g. HaveFlagsAt up g.db) up number h all (λ body fresh has. next_is_flagged up number h body all)

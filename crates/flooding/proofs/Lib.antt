@@ -13,5 +13,9 @@ pub mod SendableEntries
 pub mod FlagEntries
 pub mod Named
 pub mod OwnNumbers
+pub mod Brought
+pub mod Folds
 pub mod Settled
 pub mod Current
+pub mod HeardCurrent
+pub mod Rest

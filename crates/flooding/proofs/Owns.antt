@@ -1,9 +1,9 @@
--- What hearing leaves of the own LSP, and what an origination makes of it.
-use Rattle.std.specs.Prelude.{◌≡◌, ◌≢◌, ℕ, ◌+◌, ◌<◌, Bool, true, false, ◌&&◌, not, Option, Some, nat_lt, if◌then◌else◌}
+-- What hearing leaves of own LSPs.
+use Rattle.std.specs.Prelude.{◌≡◌, ℕ, ◌+◌, ◌<◌, List, Bool, true, false, ◌&&◌, not, Option, Some, None, is_some, nat_lt, if◌then◌else◌}
 use Rattle.std.proofs.Common.{refl, sym, ap, subst, ◌∙◌}
 use Rattle.std.proofs.lemmas.Bool.{lt-ltb}
-use Rattle.std.proofs.lemmas.Slice.Eq.{bytes_eq-Decides}
 use Rattle.std.specs.FinMap.{get}
+use Rattle.spb_types.specs.declared.address.SystemId.{SystemId}
 use Rattle.spb_types.specs.declared.address.LspId.{LspId}
 use Rattle.spb_types.specs.declared.ports.PortSet.{PortSet}
 use Rattle.spb_types.specs.Address.{same_system}
@@ -13,29 +13,29 @@ use Rattle.lsdb.specs.declared.version.Relation.{Relation}
 use Rattle.lsdb.specs.declared.version.Relation.TheVariants.{Older, Equal, Newer, Confused}
 use Rattle.lsdb.specs.Version.{number_of, is_absent, relation}
 use Rattle.lsdb.specs.Entry.{Entry, acked, cleared, offered, with_flags}
-use Rattle.lsdb.specs.Database.{Lsps, version_in, version_at, put_if_it_fits}
+use Rattle.lsdb.specs.Database.{Lsps, version_in, put_if_it_fits}
 use Rattle.lsdb.specs.Certificate.{Claim}
 use Rattle.lsdb.proofs.LookupLemmas.{fits_held}
 use Rattle.flooding.specs.declared.own.Own.{Own}
-use Rattle.flooding.specs.Own.{last_number, own_id, is_originated, renewed, dead_at, answered, answering}
+use Rattle.flooding.specs.Own.{last_number, body_for, renewed, dead_at, answered_by, answered, answering}
 use Rattle.flooding.specs.Hearing.{Holding, claim_of, lsp_rule, snp_rule, is_beyond, is_answered, lacks_place, after_entry, own_after, after_claim, is_full}
-use Rattle.flooding.specs.Origination.{next_entry, originated_from, originated}
-use Rattle.flooding.specs.Laws.{OwnStands, OwnIsNotSpent, OwnEntry, is_kept, is_renewed, LspLeavesOwn, EntryLeavesOwn, OriginatedStands, OriginationLeavesOthers, OriginationLeavesOwn, OriginationIsNotSpent}
+use Rattle.flooding.specs.Laws.{OwnStands, OwnIsNotSpent, OwnEntry, is_kept, is_renewed, is_ended, LspLeavesOwn, EntryLeavesOwn}
 use Rattle.flooding.proofs.Heard.{Rule}
-use Rattle.flooding.proofs.Claimed.{heard_of, get-put_other, get-put_fit, SaysOfHeld, lsp_rule_says, snp_rule_says, heard_stands, fitting_is_not_full}
+use Rattle.flooding.proofs.OwnNumbers.{same_self}
+use Rattle.flooding.proofs.Claimed.{heard_of, SaysOfHeld, lsp_rule_says, snp_rule_says, heard_stands, fitting_is_not_full}
 
--- ---- the system and its body
+-- ---- the system and its bodies
 
--- the same system with the same body
+-- the same system with the same bodies
 abbrev pub SameOwn : Own → Own → Type 0
-SameOwn own new = (new.system ≡ own.system) × (new.body ≡ own.body)
+SameOwn own new = (new.system ≡ own.system) × (new.bodies ≡ own.bodies)
 
 answering_by : (own : Own) (b : Bool) → SameOwn own (if b then record own { spent = true } else own)
 answering_by own true = (refl, refl)
 answering_by own false = (refl, refl)
 
 own_by : (own : Own) (id : LspId) (seq : ℕ) (b : Bool) → SameOwn own (if b then answering own id seq else own)
-own_by own id seq true = answering_by own (is_originated own.system id && not (nat_lt seq last_number))
+own_by own id seq true = answering_by own (is_some (body_for own id) && not (nat_lt seq last_number))
 own_by own id seq false = (refl, refl)
 
 after_by : (h : Holding) (db : Lsps) (own : Own) (b : Bool) → SameOwn h.own own → SameOwn h.own (if b then h else record { db = db; own = own }).own
@@ -59,7 +59,7 @@ unspent_test true d is = ap not is
 unspent_test false d is = refl
 
 answering_same : (own : Own) (id : LspId) (seq : ℕ) → seq < last_number → answering own id seq ≡ own
-answering_same own id seq below = ap (λ b. if b then record own { spent = true } else own) (unspent_test (is_originated own.system id) (nat_lt seq last_number) (lt-ltb seq last_number below))
+answering_same own id seq below = ap (λ b. if b then record own { spent = true } else own) (unspent_test (is_some (body_for own id)) (nat_lt seq last_number) (lt-ltb seq last_number below))
 
 after_same : (h : Holding) (db : Lsps) (b : Bool) → (if b then h else record { db = db; own = h.own }).own ≡ h.own
 after_same h db true = refl
@@ -73,7 +73,7 @@ own_is_not_spent rule up c h below =
     let owns : own_after h.own c.id c.version r ≡ h.own = ap (λ (own : Own). if b then own else h.own) (answering_same h.own c.id (number_of c.version) below) ∙ same_by h.own b in
     ap (λ (own : Own). (after_entry h c.id (heard_of rule up c h) own).own) owns ∙ after_same h (put_if_it_fits h.db c.id (heard_of rule up c h)) (lacks_place h.db c.id (heard_of rule up c h))
 
--- ---- the own LSP that is held
+-- ---- an own LSP that is held
 
 -- the same version, lifetime and body
 pub record IsKept (old new : Entry) : Type 0 where
@@ -107,29 +107,26 @@ snp_rule_keeps up port a Equal old new within is = kept_at old _ new (spared_is_
 snp_rule_keeps up port a Newer old new within is = absurd (cc)
 snp_rule_keeps up port a Confused old new within is = absurd (cc)
 
-own_entry_of : (up : PortSet) (own : Own) (a : Version) (old new : Entry) → IsKept old new → OwnEntry up own a old new
-own_entry_of up own a old new kept = is_kept kept.version kept.lifetime kept.body
+own_answer : (up : PortSet) (own : Own) (id : LspId) (a : Version) (old new : Entry) (o : Option (List ℕ)) → body_for own id ≡ o → number_of a < last_number
+    → new ≡ answered_by up id (number_of a) o → OwnEntry up own id a old new
+own_answer up own id a old new None is below same = is_ended is same
+own_answer up own id a old new (Some body) is below same =
+    is_renewed body is (same ∙ ap (λ b. if b then renewed up id body (number_of a + 1) else dead_at up (number_of a)) (lt-ltb (number_of a) last_number below))
 
 own_entry_by : (rule : Rule) → KeepsHeld rule → (up : PortSet) (own : Own) (id : LspId) (a : Version) (r : Relation) (old new : Entry) (b : Bool)
-    → is_beyond r ≡ b → is_originated own.system id ≡ true → number_of a < last_number
-    → (if b then Some (answered up own id (number_of a)) else rule r (Some old)) ≡ Some new → OwnEntry up own a old new
-own_entry_by rule keeps up own id a r old new true beyond mine below is =
-    let next : answered up own id (number_of a) ≡ renewed up own (number_of a + 1) =
-    ap (λ b. if b && nat_lt (number_of a) last_number then renewed up own (number_of a + 1) else dead_at up (number_of a)) mine
-    ∙ ap (λ b. if b then renewed up own (number_of a + 1) else dead_at up (number_of a)) (lt-ltb (number_of a) last_number below) in
+    → is_beyond r ≡ b → number_of a < last_number
+    → (if b then Some (answered up own id (number_of a)) else rule r (Some old)) ≡ Some new → OwnEntry up own id a old new
+own_entry_by rule keeps up own id a r old new true beyond below is =
     let same : new ≡ answered up own id (number_of a) = cc in
-    is_renewed (same ∙ next)
-own_entry_by rule keeps up own id a r old new false within mine below is = own_entry_of up own a old new (keeps r old new within is)
+    own_answer up own id a old new (body_for own id) refl below same
+own_entry_by rule keeps up own id a r old new false within below is = let kept = keeps r old new within is in is_kept kept.version kept.lifetime kept.body
 
--- the own id has the own system
-pub system_mine : (own : Own) (id : LspId) → id ≡ own_id own.system → same_system id.system own.system ≡ true
-system_mine own id is = subst (λ (x : LspId). same_system x.system own.system ≡ true) (sym is) ((bytes_eq-Decides own.system.mac.bytes own.system.mac.bytes).1 refl)
+-- an id of the own system
+pub system_mine : (own : Own) (id : LspId) → id.system ≡ own.system → same_system id.system own.system ≡ true
+system_mine own id is = subst (λ (x : SystemId). same_system x own.system ≡ true) (sym is) (same_self own.system)
 
-pub mine_is : (own : Own) (id : LspId) → id ≡ own_id own.system → is_originated own.system id ≡ true
-mine_is own id is = subst (λ (x : LspId). is_originated own.system x ≡ true) (sym is) (ap (λ b. b && true) ((bytes_eq-Decides own.system.mac.bytes own.system.mac.bytes).1 refl))
-
-leaves_own : (rule : Rule) → KeepsHeld rule → SaysOfHeld rule → (up : PortSet) (c : Claim) (h : Holding) (old new : Entry) → c.id ≡ own_id h.own.system → number_of c.version < last_number
-    → get h.db c.id ≡ Some old → get (after_claim rule up c h).db c.id ≡ Some new → OwnEntry up h.own c.version old new
+leaves_own : (rule : Rule) → KeepsHeld rule → SaysOfHeld rule → (up : PortSet) (c : Claim) (h : Holding) (old new : Entry) → c.id.system ≡ h.own.system → number_of c.version < last_number
+    → get h.db c.id ≡ Some old → get (after_claim rule up c h).db c.id ≡ Some new → OwnEntry up h.own c.id c.version old new
 leaves_own rule keeps says up c h old new mine below before after =
     let r = relation c.version (version_in (get h.db c.id)) in
     let there : is_full rule up c h ≡ false = fitting_is_not_full rule up c h (fits_held h.db c.id old before) in
@@ -137,7 +134,7 @@ leaves_own rule keeps says up c h old new mine below before after =
     sym (ap (λ b. if b && is_beyond r then Some (answered up h.own c.id (number_of c.version)) else rule r (Some old)) (system_mine h.own c.id mine))
     ∙ sym (ap (λ (o : Option Entry). if is_answered h.own c.id r then Some (answered up h.own c.id (number_of c.version)) else rule r o) before)
     ∙ sym (heard_stands rule says up c h there) ∙ after in
-    own_entry_by rule keeps up h.own c.id c.version r old new (is_beyond r) refl (mine_is h.own c.id mine) below heard
+    own_entry_by rule keeps up h.own c.id c.version r old new (is_beyond r) refl below heard
 
 pub lsp_leaves_own : LspLeavesOwn
 lsp_leaves_own up port l h old new mine below before after =
@@ -146,43 +143,3 @@ lsp_leaves_own up port l h old new mine below before after =
 pub entry_leaves_own : EntryLeavesOwn
 entry_leaves_own up port c h old new mine below before after =
     leaves_own (snp_rule up port c.version) (snp_rule_keeps up port c.version) (snp_rule_says up port c.version) up c h old new mine below before after
-
--- ---- an origination
-
-next_own_by : (own : Own) (b : Bool) → SameOwn own (if b then own else record own { spent = true })
-next_own_by own true = (refl, refl)
-next_own_by own false = (refl, refl)
-
-pub originated_stands : OriginatedStands
-unfolding originated
-originated_stands up h fresh there =
-    let id = own_id h.own.system in
-    let held = get h.db id in
-    ap (λ b. get (if b then h else originated_from up held h).db id) fresh
-    ∙ get-put_fit h.db id (next_entry up h.own (number_of (version_in held)) held) there
-
-others_by : (up : PortSet) (h : Holding) (x : LspId) (b : Bool) → x ≢ own_id h.own.system → get (if b then h else originated_from up (get h.db (own_id h.own.system)) h).db x ≡ get h.db x
-others_by up h x true apart = refl
-others_by up h x false apart =
-    let held = get h.db (own_id h.own.system) in
-    get-put_other h.db (own_id h.own.system) (Some (next_entry up h.own (number_of (version_in held)) held)) x apart
-
-pub origination_leaves_others : OriginationLeavesOthers
-unfolding originated
-origination_leaves_others up h x apart = others_by up h x h.own.spent apart
-
-still_by : (up : PortSet) (h : Holding) (b : Bool) → SameOwn h.own (if b then h else originated_from up (get h.db (own_id h.own.system)) h).own
-still_by up h true = (refl, refl)
-still_by up h false = next_own_by h.own (nat_lt (number_of (version_in (get h.db (own_id h.own.system)))) last_number)
-
-pub origination_leaves_own : OriginationLeavesOwn
-unfolding originated
-origination_leaves_own up h = still_by up h h.own.spent
-
-unspent_by : (up : PortSet) (h : Holding) (b : Bool) → number_of (version_at h.db (own_id h.own.system)) < last_number → (if b then h else originated_from up (get h.db (own_id h.own.system)) h).own ≡ h.own
-unspent_by up h true below = refl
-unspent_by up h false below = ap (λ b. if b then h.own else record h.own { spent = true }) (lt-ltb (number_of (version_at h.db (own_id h.own.system))) last_number below)
-
-pub origination_is_not_spent : OriginationIsNotSpent
-unfolding originated
-origination_is_not_spent up h below = unspent_by up h h.own.spent below

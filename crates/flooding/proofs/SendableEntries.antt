@@ -1,15 +1,12 @@
 -- The LSP of every entry can be written and is read again, whatever was heard, originated or aged.
-use Rattle.std.specs.Prelude.{◌≡◌, ℕ, ◌+◌, ◌-◌, ◌≤◌, List, [], Bool, true, false, ◌&&◌, ◌||◌, Option, Some, None, Ok, Err, ◌==◌, nat_lt, nat_le, if◌then◌else◌, IsTrue}
+use Rattle.std.specs.Prelude.{◌≡◌, ℕ, ◌+◌, ◌-◌, ◌≤◌, List, [], length, Bool, true, false, ◌||◌, Option, Some, None, Ok, Err, ◌==◌, nat_lt, nat_le, if◌then◌else◌, IsTrue}
 use Rattle.std.proofs.Common.{refl, sym, ap, subst, arith, ◌∙◌}
-use Rattle.std.proofs.lemmas.Bool.{and_parts, true≢false, eqb-true, eqb-false, leb-false, ltb-false, ne_eqb}
-use Rattle.std.proofs.lemmas.Slice.Eq.{bytes_eq-Decides}
+use Rattle.std.proofs.lemmas.Bool.{true≢false, eqb-false, leb-false, ltb-false, ne_eqb}
 use Rattle.std.proofs.Math.Nat.{pos_of_ne-zero}
 use Rattle.std.specs.Option.{option_map}
 use Rattle.std.specs.FinMap.{get}
-use Rattle.spb_types.specs.declared.address.SystemId.{SystemId}
 use Rattle.spb_types.specs.declared.address.LspId.{LspId}
 use Rattle.spb_types.specs.declared.ports.PortSet.{PortSet}
-use Rattle.spb_types.specs.Address.{same_system}
 use Rattle.isis_pdu.specs.declared.kind.Kind.TheVariants as kinds
 use Rattle.isis_pdu.specs.declared.pdu.PduError.TheVariants.{Sum}
 use Rattle.isis_pdu.specs.Pdu.{LspValue, lsp}
@@ -23,18 +20,20 @@ use Rattle.lsdb.specs.declared.version.Version.TheVariants.{Absent, Live, Dead}
 use Rattle.lsdb.specs.declared.version.Relation.{Relation}
 use Rattle.lsdb.specs.declared.version.Relation.TheVariants.{Older, Equal, Newer, Confused}
 use Rattle.lsdb.specs.Version.{number_of, is_absent, leq, relation, claimed, sum_of}
-use Rattle.lsdb.specs.Entry.{Entry, made, stored, acked, cleared, offered, aged_at, AreKept}
+use Rattle.lsdb.specs.Entry.{Entry, made, stored, acked, cleared, offered, purged, aged_at, AreKept}
 use Rattle.lsdb.specs.Database.{version_in}
 use Rattle.flooding.specs.declared.own.Own.{Own}
-use Rattle.flooding.specs.Own.{last_number, own_id, is_originated, renewed, dead_at, answered}
-use Rattle.flooding.specs.Hearing.{claim_of, body_of, unless_absent, wanted, lsp_rule, snp_rule, is_beyond}
-use Rattle.flooding.specs.Origination.{spent_entry}
+use Rattle.flooding.specs.Own.{last_number, own_number, is_own_number, body_of_number, body_for, tlvs_of_body, renewed, dead_at, answered_by, answered}
+use Rattle.flooding.specs.Hearing.{Holding, claim_of, body_of, unless_absent, wanted, lsp_rule, snp_rule, is_beyond}
+use Rattle.flooding.specs.Origination.{spent_entry, next_entry, originated}
 use Rattle.flooding.specs.Sending.{lsp_in}
-use Rattle.flooding.specs.Entries.{IsNumbered, IsSendable}
-use Rattle.flooding.specs.Laws.{HasBody, IsWhole, SentIsHeld, SentIsRead, ReadIsWhole, ClaimIsNumbered, LspKeepsSendable, EntryKeepsSendable, OriginationKeepsSendable, AgeingKeepsSendable, FlagsKeepSendable}
+use Rattle.flooding.specs.Entries.{IsNumbered, IsSendable, AreSendable}
+use Rattle.flooding.specs.Laws.{HasBodies, IsWhole, SentIsHeld, SentIsRead, ReadIsWhole, ClaimIsNumbered, LspKeepsSendable, EntryKeepsSendable, BringingKeepsSendable, AgeingKeepsSendable, FlagsKeepSendable}
 use Rattle.flooding.proofs.Heard.{number-claimed}
 use Rattle.flooding.proofs.Steps.{beyond_is}
-use Rattle.flooding.proofs.AllEntries.{all_after_claim, all_originated}
+use Rattle.flooding.proofs.AllEntries.{inserted, all_changed, all_after_claim}
+use Rattle.flooding.proofs.Brought.{next_of, originated_keeps, brought_keeps}
+use Rattle.flooding.proofs.OwnBodies.{for_number}
 
 -- ---- bodies without TLVs
 
@@ -73,36 +72,29 @@ claim_is_numbered seq lifetime sum = numbered_by seq lifetime sum (seq == 0) (li
 claimed_numbered : (l : LspValue) → IsNumbered (claim_of l).version
 claimed_numbered l = claim_is_numbered l.seq l.lifetime l.sum
 
--- ---- the own LSP
+-- ---- own LSPs
 
-renewed_sendable : (up : PortSet) (own : Own) (seq : ℕ) → HasBody own → IsSendable (own_id own.system) (renewed up own (seq + 1))
-renewed_sendable up own seq has_body = record {
+pub renewed_sendable : (up : PortSet) (id : LspId) (body : List ℕ) (seq : ℕ) → (1 ≤ length body) × CanWrite kinds.Lsp (tlvs_of_body body) → IsSendable id (renewed up id body (seq + 1))
+renewed_sendable up id body seq has_body = record {
   numbered = omega arith;
   clean = (omega arith, has_body.0);
   written = has_body.1;
-  sound = made_is_sound (lsp_in (own_id own.system) (renewed up own (seq + 1))) refl;
+  sound = made_is_sound (lsp_in id (renewed up id body (seq + 1))) refl;
 }
 
--- the id that passes the test is the own one
-own_is : (system : SystemId) (id : LspId) → is_originated system id ≡ true → own_id system ≡ id
-own_is system id is =
-    let both = and_parts (same_system id.system system) ((id.pseudonode == 0) && (id.number == 0)) is in
-    let last = and_parts (id.pseudonode == 0) (id.number == 0) both.1 in
-    let bytes : system.mac.bytes ≡ id.system.mac.bytes = sym ((bytes_eq-Decides _ _).0 both.0) in
-    let pseudonode : 0 ≡ id.pseudonode = sym (eqb-true id.pseudonode 0 last.0) in
-    let number : 0 ≡ id.number = sym (eqb-true id.number 0 last.1) in
-    λ i. record { system = record { mac = record { bytes = bytes i } }; pseudonode = pseudonode i; number = number i }
+answer_by : (up : PortSet) (id : LspId) (body : List ℕ) (seq : ℕ) (b : Bool) → (1 ≤ length body) × CanWrite kinds.Lsp (tlvs_of_body body) → 1 ≤ seq
+    → IsSendable id (if b then renewed up id body (seq + 1) else dead_at up seq)
+answer_by up id body seq true has_body numbered = renewed_sendable up id body seq has_body
+answer_by up id body seq false has_body numbered = dead_sendable id seq up _ numbered
 
-answered_by : (up : PortSet) (own : Own) (id : LspId) (seq : ℕ) (b d : Bool) → is_originated own.system id ≡ b → HasBody own → 1 ≤ seq
-    → IsSendable id (if b && d then renewed up own (seq + 1) else dead_at up seq)
-answered_by up own id seq true true mine has_body numbered =
-    subst (λ (x : LspId). IsSendable x (renewed up own (seq + 1))) (own_is own.system id mine) (renewed_sendable up own seq has_body)
-answered_by up own id seq true false mine has_body numbered = dead_sendable id seq up _ numbered
-answered_by up own id seq false d mine has_body numbered = dead_sendable id seq up _ numbered
+answered_as : (up : PortSet) (own : Own) (id : LspId) (seq : ℕ) (o : Option (List ℕ)) → body_for own id ≡ o → HasBodies own → 1 ≤ seq → IsSendable id (answered_by up id seq o)
+answered_as up own id seq None is has_bodies numbered = dead_sendable id seq up _ numbered
+answered_as up own id seq (Some body) is has_bodies numbered =
+    answer_by up id body seq (nat_lt seq last_number) (has_bodies id.number body (for_number own id body own.spent (is_own_number own.system id) is)) numbered
 
-answered_sendable : (up : PortSet) (own : Own) (id : LspId) (a h : Version) → HasBody own → IsNumbered a → is_beyond (relation a h) ≡ true → IsSendable id (answered up own id (number_of a))
-answered_sendable up own id a h has_body numbered beyond =
-    answered_by up own id (number_of a) (is_originated own.system id) (nat_lt (number_of a) last_number) refl has_body (beyond_numbered a h numbered (beyond_is a h (relation a h) refl beyond))
+answered_sendable : (up : PortSet) (own : Own) (id : LspId) (a h : Version) → HasBodies own → IsNumbered a → is_beyond (relation a h) ≡ true → IsSendable id (answered up own id (number_of a))
+answered_sendable up own id a h has_bodies numbered beyond =
+    answered_as up own id (number_of a) (body_for own id) refl has_bodies (beyond_numbered a h numbered (beyond_is a h (relation a h) refl beyond))
 
 -- ---- rules
 
@@ -182,16 +174,34 @@ entry_keeps_sendable up port c h numbered has_body all =
     (answered_sendable up h.own c.id c.version (version_in (get h.db c.id)) has_body numbered)
     (snp_rule_sendable up port c.id c.version _ (get h.db c.id) numbered refl (all c.id))
 
-next_by : (up : PortSet) (own : Own) (seq : ℕ) (held : Option Entry) (b : Bool) → nat_lt seq last_number ≡ b → HasBody own
-    → IsSendable (own_id own.system) (if b then renewed up own (seq + 1) else spent_entry up seq held)
-next_by up own seq held true is has_body = renewed_sendable up own seq has_body
-next_by up own seq held false is has_body = let past = ltb-false seq last_number is in dead_sendable (own_id own.system) seq up _ (omega arith)
+next_sendable : (up : PortSet) (id : LspId) (body : List ℕ) (seq : ℕ) (held : Option Entry) (b : Bool) → nat_lt seq last_number ≡ b → (1 ≤ length body) × CanWrite kinds.Lsp (tlvs_of_body body)
+    → IsSendable id (if b then renewed up id body (seq + 1) else spent_entry up seq held)
+next_sendable up id body seq held true is has_body = renewed_sendable up id body seq has_body
+next_sendable up id body seq held false is has_body = let past = ltb-false seq last_number is in dead_sendable id seq up _ (omega arith)
 
-pub origination_keeps_sendable : OriginationKeepsSendable
-origination_keeps_sendable up h has_body all =
-    let held = get h.db (own_id h.own.system) in
+-- the own LSP of a number, originated
+next_is_sendable : (up : PortSet) (number : ℕ) (h : Holding) (body : List ℕ) → body_of_number h.own number ≡ Some body → HasBodies h.own → AreSendable h.db → AreSendable (next_of up number body h).db
+next_is_sendable up number h body is has_bodies all =
+    let id = own_number h.own.system number in
+    let held = get h.db id in
     let seq = number_of (version_in held) in
-    all_originated IsSendable up h all (next_by up h.own seq held (nat_lt seq last_number) refl has_body)
+    inserted IsSendable h.db id (next_entry up id body seq held) all (next_sendable up id body seq held (nat_lt seq last_number) refl (has_bodies number body is))
+
+-- and purged
+live_numbered : (id : LspId) (e : Entry) (seq sum : ℕ) → e.version ≡ Live seq sum → IsSendable id e → 1 ≤ seq
+live_numbered id e seq sum is s = subst IsNumbered is s.numbered
+
+pub bringing_keeps_sendable : BringingKeepsSendable
+bringing_keeps_sendable up number h has_bodies all =
+    let id = own_number h.own.system number in
+    brought_keeps (λ g. AreSendable g.db) up number h all
+    (λ body fresh has. next_is_sendable up number h body has has_bodies all)
+    (λ seq sum live. all_changed IsSendable (purged seq up) h.db id all
+    (λ e is. dead_sendable id seq up _ (live_numbered id e seq sum (sym (ap version_in is) ∙ live) (all id e is))))
+
+pub origination_keeps_sendable : (up : PortSet) (number : ℕ) (h : Holding) → HasBodies h.own → AreSendable h.db → AreSendable (originated up number h).db
+origination_keeps_sendable up number h has_bodies all =
+    originated_keeps (λ g. AreSendable g.db) up number h all (λ body fresh has. next_is_sendable up number h body has has_bodies all)
 
 -- ---- what is sent
 

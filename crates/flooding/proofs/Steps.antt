@@ -1,5 +1,5 @@
--- What is heard, answered and originated is a certified step.
-use Rattle.std.specs.Prelude.{◌≡◌, ℕ, ◌+◌, ◌≤◌, List, [], ◌∷◌, Bool, true, false, ◌&&◌, Option, Some, None, nat_lt, if◌then◌else◌}
+-- What is heard and answered is a certified step.
+use Rattle.std.specs.Prelude.{◌≡◌, ℕ, ◌+◌, ◌≤◌, List, [], ◌∷◌, Bool, true, false, Option, Some, None, nat_lt, if◌then◌else◌}
 use Rattle.std.proofs.Common.{refl, sym, ap, subst, ◌∙◌, inl, arith}
 use Rattle.std.proofs.lemmas.Bool.{and_parts, le-leb}
 use Rattle.std.specs.Option.{option_map}
@@ -17,14 +17,12 @@ use Rattle.lsdb.specs.declared.version.Relation.TheVariants.{Older, Equal, Newer
 use Rattle.lsdb.specs.Version.{number_of, is_absent, leq, relation, IsAtMost}
 use Rattle.lsdb.specs.Entry.{Entry, acked, cleared, offered}
 use Rattle.lsdb.specs.Database.{Lsps, version_in}
-use Rattle.lsdb.specs.Certificate.{Claim, IsClaimed, is_flagged, EntryCertificate, Certificate}
+use Rattle.lsdb.specs.Certificate.{Claim, IsClaimed, EntryCertificate, Certificate}
 use Rattle.lsdb.proofs.Order.{itself, greater, not_at_most, newer_is, equal_is, confused_is, confused_are_live}
 use Rattle.lsdb.proofs.Certified.{standing, storing, acking, clearing, asking, offering, flooding, putting}
-use Rattle.flooding.specs.declared.own.Own.{Own}
-use Rattle.flooding.specs.Own.{last_number, own_id, is_originated, renewed, dead_at, answered}
+use Rattle.flooding.specs.Own.{last_number, body_for, renewed, dead_at, answered_by, answered}
 use Rattle.flooding.specs.Hearing.{Holding, claim_of, body_of, unless_absent, wanted, lsp_rule, snp_rule, is_beyond, is_answered, after_claim}
-use Rattle.flooding.specs.Origination.{next_entry, spent_entry, originated_from, originated}
-use Rattle.flooding.specs.Laws.{control, HearingLspIsCertified, HearingEntryIsCertified, AnsweringIsCertified, OriginationIsCertified}
+use Rattle.flooding.specs.Laws.{control, HearingLspIsCertified, HearingEntryIsCertified, AnsweringIsCertified}
 use Rattle.flooding.proofs.Heard.{Rule, number-claimed}
 use Rattle.flooding.proofs.Claimed.{heard_of, db_after}
 use Rattle.flooding.specs.declared.origination.TheConstants.{MAX_AGE}
@@ -51,16 +49,20 @@ beyond_number a h beyond = (not_at_most a h (beyond_is a h (relation a h) refl b
 -- ---- one entry
 
 -- the answer to a claim whose number isn't below that of what is held
-answering_by : (up : PortSet) (port : ℕ) (claims : List Claim) (own : Own) (id : LspId) (held : Option Entry) (seq : ℕ) (b : Bool) → number_of (version_in held) ≤ seq
-    → EntryCertificate port claims up up id held (Some (if b then renewed up own (seq + 1) else dead_at up seq))
-answering_by up port claims own id held seq true below =
-    let further = renewed up own (seq + 1) in
-    flooding up port claims id further.version MAX_AGE own.body held (greater (version_in held) further.version (omega arith))
-answering_by up port claims own id held seq false below = flooding up port claims id (Dead seq) 0 [] held (at_most_dead (version_in held) seq below)
+renewed_or_dead : (up : PortSet) (port : ℕ) (claims : List Claim) (id : LspId) (held : Option Entry) (seq : ℕ) (body : List ℕ) (b : Bool) → number_of (version_in held) ≤ seq
+    → EntryCertificate port claims up up id held (Some (if b then renewed up id body (seq + 1) else dead_at up seq))
+renewed_or_dead up port claims id held seq body true below =
+    let further = renewed up id body (seq + 1) in
+    flooding up port claims id further.version MAX_AGE body held (greater (version_in held) further.version (omega arith))
+renewed_or_dead up port claims id held seq body false below = flooding up port claims id (Dead seq) 0 [] held (at_most_dead (version_in held) seq below)
+
+answered_as : (up : PortSet) (port : ℕ) (claims : List Claim) (id : LspId) (held : Option Entry) (seq : ℕ) (body : Option (List ℕ)) → number_of (version_in held) ≤ seq
+    → EntryCertificate port claims up up id held (Some (answered_by up id seq body))
+answered_as up port claims id held seq None below = flooding up port claims id (Dead seq) 0 [] held (at_most_dead (version_in held) seq below)
+answered_as up port claims id held seq (Some body) below = renewed_or_dead up port claims id held seq body (nat_lt seq last_number) below
 
 pub answering : AnsweringIsCertified
-answering up port claims own id a held beyond =
-    answering_by up port claims own id held (number_of a) (is_originated own.system id && nat_lt (number_of a) last_number) (beyond_number a (version_in held) beyond)
+answering up port claims own id a held beyond = answered_as up port claims id held (number_of a) (body_for own id) (beyond_number a (version_in held) beyond)
 
 -- what is held is at most the end of a version that it is confused with
 confused_below : (a h : Version) → relation a h ≡ Confused → IsAtMost h (Dead (number_of a))
@@ -143,24 +145,3 @@ pub hearing_entry : HearingEntryIsCertified
 hearing_entry up port c h is_up =
     claim_step (snp_rule up port c.version) up port c h
     (snp_step up port (c ∷ []) c.id c.version is_up (inl (refl, refl)) _ (get h.db c.id) refl (same_at up port (c ∷ []) h.db c.id))
-
--- ---- an origination
-
-next_by : (up : PortSet) (port : ℕ) (claims : List Claim) (own : Own) (id : LspId) (held : Option Entry) (b : Bool)
-    → EntryCertificate port claims up up id held (Some (if b then renewed up own (number_of (version_in held) + 1) else spent_entry up (number_of (version_in held)) held))
-next_by up port claims own id held true =
-    let further = renewed up own (number_of (version_in held) + 1) in
-    flooding up port claims id further.version MAX_AGE own.body held (greater (version_in held) further.version (omega arith))
-next_by up port claims own id held false = record { rises = at_most_dead (version_in held) (number_of (version_in held)) (omega arith); kept = λ p u. is_flagged u }
-
-originated_by : (up : PortSet) (port : ℕ) (claims : List Claim) (h : Holding) (b : Bool)
-    → Certificate port claims (control up h) (control up (if b then h else originated_from up (get h.db (own_id h.own.system)) h))
-originated_by up port claims h true = standing port claims (control up h)
-originated_by up port claims h false =
-    let held = get h.db (own_id h.own.system) in
-    putting port claims up h.db (own_id h.own.system) (Some (next_entry up h.own (number_of (version_in held)) held))
-    (next_by up port claims h.own (own_id h.own.system) held (nat_lt (number_of (version_in held)) last_number))
-
-pub origination : OriginationIsCertified
-unfolding originated
-origination up port claims h = originated_by up port claims h h.own.spent

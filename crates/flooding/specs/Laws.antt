@@ -1,4 +1,4 @@
-use Rattle.std.specs.Prelude.{◌≡◌, ◌≢◌, ℕ, ◌+◌, ◌<◌, ◌≤◌, List, [], ◌∷◌, length, map, true, false, Bool, ◌&&◌, ◌||◌, not, ◌==◌, Option, Some, Ok, IsTrue}
+use Rattle.std.specs.Prelude.{◌≡◌, ◌≢◌, ℕ, ◌+◌, ◌<◌, ◌≤◌, List, [], ◌∷◌, length, map, true, false, Bool, ◌&&◌, ◌||◌, not, ◌==◌, Option, Some, None, Ok, IsTrue}
 use Rattle.std.specs.Option.{option_map}
 use Rattle.std.specs.FinMap.{get}
 use Rattle.spb_types.specs.declared.address.LspId.{LspId}
@@ -16,9 +16,9 @@ use Rattle.lsdb.specs.Entry.{Entry, stored, flooded, absent_with_ssn, acked, cle
 use Rattle.lsdb.specs.Database.{Lsps, version_in, version_at, ssn_in, fits}
 use Rattle.lsdb.specs.Certificate.{Claim, Control, EntryCertificate, Certificate}
 use Rattle.flooding.specs.declared.own.Own.{Own}
-use Rattle.flooding.specs.Own.{last_number, own_id, tlvs_of_body, body_in, renewed, answered}
+use Rattle.flooding.specs.Own.{last_number, own_number, body_of_number, body_for, tlvs_of_body, body_in, renewed, dead_at, answered}
 use Rattle.flooding.specs.Hearing.{Holding, claim_of, lsp_rule, snp_rule, is_beyond, heard_by, after_claim, is_full, hear_lsp_of, is_full_for_lsp, hear_entry_of, is_full_for_entry}
-use Rattle.flooding.specs.Origination.{spent_entry, next_entry, originated}
+use Rattle.flooding.specs.Origination.{spent_entry, next_entry, originated, brought_up}
 use Rattle.flooding.specs.Sending.{lsp_in, ids_to_send, lsps_to_send}
 use Rattle.flooding.specs.Entries.{IsNumbered, IsSendable, AreSendable, HaveFlagsAt}
 
@@ -44,10 +44,10 @@ AnsweringIsCertified = (up : PortSet) (port : ℕ) (claims : List Claim) (own : 
     → is_beyond (relation a (version_in held)) ≡ true
     → EntryCertificate port claims up up id held (Some (answered up own id (number_of a)))
 
--- an origination is a certified step
-abbrev pub OriginationIsCertified : Type 0
-OriginationIsCertified = (up : PortSet) (port : ℕ) (claims : List Claim) (h : Holding)
-    → Certificate port claims (control up h) (control up (originated up h))
+-- an own LSP originated or purged is a certified step
+abbrev pub BringingIsCertified : Type 0
+BringingIsCertified = (up : PortSet) (port number : ℕ) (claims : List Claim) (h : Holding)
+    → Certificate port claims (control up h) (control up (brought_up up number h))
 
 -- ---- what a claim changes
 
@@ -140,78 +140,84 @@ abbrev pub ExpiredFlags : Type 0
 ExpiredFlags = (up : PortSet) (e : Entry) → (aged up e).version ≢ e.version
     → HasFlags (aged up e) (λ p. has up p) (λ p. has e.ssn p)
 
--- the own LSP past the last number: to be sent at every Up port; where it is to be acknowledged stays
+-- an own LSP past the last number: to be sent at every Up port; where it is to be acknowledged stays
 abbrev pub SpentFlags : Type 0
 SpentFlags = (up : PortSet) (seq : ℕ) (held : Option Entry)
     → HasFlags (spent_entry up seq held) (λ p. has up p) (λ p. has (ssn_in held) p)
 
--- ---- the own LSP
+-- ---- own LSPs
 
--- hearing changes of the own LSP at most that the system is spent, and that only at the last number
+-- hearing changes of a system at most that it is spent, and that only at the last number
 abbrev pub OwnStands : Type 0
 OwnStands = (rule : Relation → Option Entry → Option Entry) (up : PortSet) (c : Claim) (h : Holding)
-    → ((after_claim rule up c h).own.system ≡ h.own.system) × ((after_claim rule up c h).own.body ≡ h.own.body)
+    → ((after_claim rule up c h).own.system ≡ h.own.system) × ((after_claim rule up c h).own.bodies ≡ h.own.bodies)
 
 abbrev pub OwnIsNotSpent : Type 0
 OwnIsNotSpent = (rule : Relation → Option Entry → Option Entry) (up : PortSet) (c : Claim) (h : Holding)
     → number_of c.version < last_number
     → (after_claim rule up c h).own ≡ h.own
 
--- what a claim makes of the own LSP that is held, below the last number: it has the version, lifetime and body that it
--- had, or the present body at the number after the claim's
-pub data OwnEntry (up : PortSet) (own : Own) (a : Version) (old new : Entry) : Type 0 where
-  is_kept : new.version ≡ old.version → new.lifetime ≡ old.lifetime → new.body ≡ old.body → OwnEntry up own a old new
-  is_renewed : new ≡ renewed up own (number_of a + 1) → OwnEntry up own a old new
+-- what a claim makes of an LSP of the own system that is held, below the last number: it has the version, lifetime and
+-- body that it had, or the body that the system has for it at the number after the claim's; or, where the system has
+-- none, it is dead at the claim's number
+pub data OwnEntry (up : PortSet) (own : Own) (id : LspId) (a : Version) (old new : Entry) : Type 0 where
+  is_kept : new.version ≡ old.version → new.lifetime ≡ old.lifetime → new.body ≡ old.body → OwnEntry up own id a old new
+  is_renewed : (body : List ℕ) → body_for own id ≡ Some body → new ≡ renewed up id body (number_of a + 1)
+      → OwnEntry up own id a old new
+  is_ended : body_for own id ≡ None → new ≡ dead_at up (number_of a) → OwnEntry up own id a old new
 
 abbrev pub LspLeavesOwn : Type 0
-LspLeavesOwn = (up : PortSet) (port : ℕ) (l : LspValue) (h : Holding) (old new : Entry) → l.id ≡ own_id h.own.system
+LspLeavesOwn = (up : PortSet) (port : ℕ) (l : LspValue) (h : Holding) (old new : Entry) → l.id.system ≡ h.own.system
     → number_of (claim_of l).version < last_number
     → get h.db l.id ≡ Some old → get (hear_lsp_of up port l h).db l.id ≡ Some new
-    → OwnEntry up h.own (claim_of l).version old new
+    → OwnEntry up h.own l.id (claim_of l).version old new
 
 abbrev pub EntryLeavesOwn : Type 0
-EntryLeavesOwn = (up : PortSet) (port : ℕ) (c : Claim) (h : Holding) (old new : Entry) → c.id ≡ own_id h.own.system
+EntryLeavesOwn = (up : PortSet) (port : ℕ) (c : Claim) (h : Holding) (old new : Entry) → c.id.system ≡ h.own.system
     → number_of c.version < last_number
     → get h.db c.id ≡ Some old → get (hear_entry_of up port c h).db c.id ≡ Some new
-    → OwnEntry up h.own c.version old new
+    → OwnEntry up h.own c.id c.version old new
 
--- the body under an id of the own system, after a claim or an origination: the one that was held, the own one, or that
--- of a dead LSP. What others send is never held there
-pub data IsOwnBody (own : Own) (old new : Option Entry) : Type 0 where
-  stays : body_in new ≡ body_in old → IsOwnBody own old new
-  renews : body_in new ≡ own.body → IsOwnBody own old new
-  ends : body_in new ≡ 1 ∷ [] → IsOwnBody own old new
+-- the body under an id of the own system, after a claim or an origination: the one that was held, the one that the
+-- system has for its number, or that of a dead LSP. What others send is never held there
+pub data IsOwnBody (own : Own) (id : LspId) (old new : Option Entry) : Type 0 where
+  stays : body_in new ≡ body_in old → IsOwnBody own id old new
+  renews : body_of_number own id.number ≡ Some (body_in new) → IsOwnBody own id old new
+  ends : body_in new ≡ 1 ∷ [] → IsOwnBody own id old new
 
 abbrev pub LspLeavesOwnBody : Type 0
 LspLeavesOwnBody = (up : PortSet) (port : ℕ) (l : LspValue) (h : Holding) (id : LspId) → id.system ≡ h.own.system
-    → IsOwnBody h.own (get h.db id) (get (hear_lsp_of up port l h).db id)
+    → IsOwnBody h.own id (get h.db id) (get (hear_lsp_of up port l h).db id)
 
 abbrev pub EntryLeavesOwnBody : Type 0
 EntryLeavesOwnBody = (up : PortSet) (port : ℕ) (c : Claim) (h : Holding) (id : LspId) → id.system ≡ h.own.system
-    → IsOwnBody h.own (get h.db id) (get (hear_entry_of up port c h).db id)
+    → IsOwnBody h.own id (get h.db id) (get (hear_entry_of up port c h).db id)
 
-abbrev pub OriginationLeavesOwnBody : Type 0
-OriginationLeavesOwnBody = (up : PortSet) (h : Holding) (id : LspId)
-    → IsOwnBody h.own (get h.db id) (get (originated up h).db id)
+abbrev pub BringingLeavesOwnBody : Type 0
+BringingLeavesOwnBody = (up : PortSet) (number : ℕ) (h : Holding) (id : LspId)
+    → IsOwnBody h.own id (get h.db id) (get (brought_up up number h).db id)
 
--- after an origination the next entry stands under the own id and no other changes. The system and its body stay, and
--- below the last number it isn't spent
+-- after an origination of a number that the system has a body for, the next entry stands under it
 abbrev pub OriginatedStands : Type 0
-OriginatedStands = (up : PortSet) (h : Holding) → h.own.spent ≡ false → fits h.db (own_id h.own.system) ≡ true
-    → get (originated up h).db (own_id h.own.system)
-    ≡ Some (next_entry up h.own (number_of (version_at h.db (own_id h.own.system))) (get h.db (own_id h.own.system)))
+OriginatedStands = (up : PortSet) (number : ℕ) (h : Holding) (body : List ℕ) → h.own.spent ≡ false
+    → body_of_number h.own number ≡ Some body
+    → get (originated up number h).db (own_number h.own.system number)
+    ≡ Some (next_entry up (own_number h.own.system number) body
+    (number_of (version_at h.db (own_number h.own.system number))) (get h.db (own_number h.own.system number)))
 
-abbrev pub OriginationLeavesOthers : Type 0
-OriginationLeavesOthers = (up : PortSet) (h : Holding) (x : LspId) → x ≢ own_id h.own.system
-    → get (originated up h).db x ≡ get h.db x
+-- what is brought up changes no other. The system and its bodies stay, and below the last number it isn't spent
+abbrev pub BringingLeavesOthers : Type 0
+BringingLeavesOthers = (up : PortSet) (number : ℕ) (h : Holding) (x : LspId) → x ≢ own_number h.own.system number
+    → get (brought_up up number h).db x ≡ get h.db x
 
-abbrev pub OriginationLeavesOwn : Type 0
-OriginationLeavesOwn = (up : PortSet) (h : Holding)
-    → ((originated up h).own.system ≡ h.own.system) × ((originated up h).own.body ≡ h.own.body)
+abbrev pub BringingLeavesOwn : Type 0
+BringingLeavesOwn = (up : PortSet) (number : ℕ) (h : Holding)
+    → ((brought_up up number h).own.system ≡ h.own.system) × ((brought_up up number h).own.bodies ≡ h.own.bodies)
 
-abbrev pub OriginationIsNotSpent : Type 0
-OriginationIsNotSpent = (up : PortSet) (h : Holding) → number_of (version_at h.db (own_id h.own.system)) < last_number
-    → (originated up h).own ≡ h.own
+abbrev pub BringingIsNotSpent : Type 0
+BringingIsNotSpent = (up : PortSet) (number : ℕ) (h : Holding)
+    → number_of (version_at h.db (own_number h.own.system number)) < last_number
+    → (brought_up up number h).own ≡ h.own
 
 -- ---- what is sent
 
@@ -230,9 +236,10 @@ abbrev pub SentIsRead : Type 0
 SentIsRead = (id : LspId) (e : Entry) → IsId id.system → IsSendable id e
     → read (lsp_bytes (lsp_in id e)) ≡ Ok (lsp (lsp_in id e))
 
--- an own LSP that can be written, and an LSP that can be written and whose checksum holds if it must
-abbrev pub HasBody : Own → Type 0
-HasBody own = (1 ≤ length own.body) × CanWrite kinds.Lsp (tlvs_of_body own.body)
+-- own LSPs that can be written, and an LSP that can be written and whose checksum holds if it must
+abbrev pub HasBodies : Own → Type 0
+HasBodies own = (number : ℕ) (body : List ℕ) → body_of_number own number ≡ Some body
+    → (1 ≤ length body) × CanWrite kinds.Lsp (tlvs_of_body body)
 
 pub record IsWhole (l : LspValue) : Type 0 where
   pub written : CanWrite kinds.Lsp l.tlvs
@@ -249,16 +256,16 @@ ClaimIsNumbered = (seq lifetime sum : ℕ) → IsNumbered (claimed seq lifetime 
 
 -- what is held stays sendable
 abbrev pub LspKeepsSendable : Type 0
-LspKeepsSendable = (up : PortSet) (port : ℕ) (l : LspValue) (h : Holding) → IsWhole l → HasBody h.own → AreSendable h.db
+LspKeepsSendable = (up : PortSet) (port : ℕ) (l : LspValue) (h : Holding) → IsWhole l → HasBodies h.own → AreSendable h.db
     → AreSendable (hear_lsp_of up port l h).db
 
 abbrev pub EntryKeepsSendable : Type 0
-EntryKeepsSendable = (up : PortSet) (port : ℕ) (c : Claim) (h : Holding) → IsNumbered c.version → HasBody h.own
+EntryKeepsSendable = (up : PortSet) (port : ℕ) (c : Claim) (h : Holding) → IsNumbered c.version → HasBodies h.own
     → AreSendable h.db → AreSendable (hear_entry_of up port c h).db
 
-abbrev pub OriginationKeepsSendable : Type 0
-OriginationKeepsSendable = (up : PortSet) (h : Holding) → HasBody h.own → AreSendable h.db
-    → AreSendable (originated up h).db
+abbrev pub BringingKeepsSendable : Type 0
+BringingKeepsSendable = (up : PortSet) (number : ℕ) (h : Holding) → HasBodies h.own → AreSendable h.db
+    → AreSendable (brought_up up number h).db
 
 abbrev pub AgeingKeepsSendable : Type 0
 AgeingKeepsSendable = (up : PortSet) (id : LspId) (e : Entry) → IsSendable id e → IsSendable id (aged up e)
@@ -276,5 +283,6 @@ abbrev pub EntryKeepsFlags : Type 0
 EntryKeepsFlags = (up : PortSet) (port : ℕ) (c : Claim) (h : Holding) → has up port ≡ true → HaveFlagsAt up h.db
     → HaveFlagsAt up (hear_entry_of up port c h).db
 
-abbrev pub OriginationKeepsFlags : Type 0
-OriginationKeepsFlags = (up : PortSet) (h : Holding) → HaveFlagsAt up h.db → HaveFlagsAt up (originated up h).db
+abbrev pub BringingKeepsFlags : Type 0
+BringingKeepsFlags = (up : PortSet) (number : ℕ) (h : Holding) → HaveFlagsAt up h.db
+    → HaveFlagsAt up (brought_up up number h).db

@@ -4,6 +4,7 @@ ghost use Rattle.isis_pdu.specs.Pdu.{lsp_of};
 ghost use Rattle.lsdb.specs.Version.{claimed};
 ghost use Rattle.lsdb.specs.Entry.{stored, acked};
 ghost use Rattle.lsdb.specs.Database.{changed_if_held};
+ghost use Rattle.flooding.specs.Own.{HaveBytes};
 ghost use Rattle.flooding.specs.Hearing as hearing;
 ghost use Rattle.flooding.specs.Hearing.{unless_absent, hear_lsp_of, is_full_for_lsp};
 ghost use Rattle.flooding.specs.Placing.{Puts, Hears, holding};
@@ -27,7 +28,7 @@ use std::alloc::{AllocError, Global};
 ///   sent at every Up port;
 /// - a newer or confused one of the system's own is answered instead.
 ///
-/// `own.body` has at least one byte. Where the id needs a place and 2,048 ids are held the answer is `Full` or
+/// Each body of the system has at least one byte. Where the id needs a place and 2,048 ids are held the answer is `Full` or
 /// `NoMemory`, and else never `Full`. After an error nothing changed.
 pub fn hear_lsp(
     alloc: Global,
@@ -39,7 +40,7 @@ pub fn hear_lsp(
 ) -> Result<(), FloodError>
     requires low { 1 ≤ port }
     requires high { port ≤ MOST_PORTS }
-    requires body { 1 ≤ length own.old.body }
+    requires bodies { HaveBytes own.old }
     ensures { Hears result (is_full_for_lsp up port (lsp_of lsp.now) (holding db.old own.old)) (holding db.old own.old)
         (hear_lsp_of up port (lsp_of lsp.now) (holding db.old own.old)) (holding db.new own.new) }
 {
@@ -60,7 +61,7 @@ pub fn hear_lsp_near(
 ) -> Result<(), FloodError>
     requires low { 1 ≤ port }
     requires high { port ≤ MOST_PORTS }
-    requires body { 1 ≤ length own.old.body }
+    requires bodies { HaveBytes own.old }
     ensures { Hears result (is_full_for_lsp up port (lsp_of lsp.now) (holding db.old own.old)) (holding db.old own.old)
         (hear_lsp_of up port (lsp_of lsp.now) (holding db.old own.old)) (holding db.new own.new) }
 {

@@ -1,15 +1,15 @@
 //! The laws of flooding. Each is the contract of a function that does nothing.
 ghost use Rattle.std.specs.Prelude.{◌≡◌};
-ghost use Rattle.flooding.specs.Laws.{HearingLspIsCertified, HearingEntryIsCertified, AnsweringIsCertified, OriginationIsCertified, OthersStand, LspStands, EntryStands, FullStands, FittingIsNotFull, HeardIsAtMostHeld, StoredFlags, FloodedFlags, AskedFlags, AckedFlags, ClearedFlags, OfferedFlags, FlaggedFlags, SetSrmFlags, ClearedPortFlags, AgedFlags, ExpiredFlags, SpentFlags, OwnStands, OwnIsNotSpent, LspLeavesOwn, EntryLeavesOwn, LspLeavesOwnBody, EntryLeavesOwnBody, OriginationLeavesOwnBody, OriginatedStands, OriginationLeavesOthers, OriginationLeavesOwn, OriginationIsNotSpent, IdsNameLsps, SentIsHeld, SentIsRead, ReadIsWhole, ClaimIsNumbered, LspKeepsSendable, EntryKeepsSendable, OriginationKeepsSendable, AgeingKeepsSendable, FlagsKeepSendable, LspKeepsFlags, EntryKeepsFlags, OriginationKeepsFlags};
+ghost use Rattle.flooding.specs.Laws.{HearingLspIsCertified, HearingEntryIsCertified, AnsweringIsCertified, BringingIsCertified, OthersStand, LspStands, EntryStands, FullStands, FittingIsNotFull, HeardIsAtMostHeld, StoredFlags, FloodedFlags, AskedFlags, AckedFlags, ClearedFlags, OfferedFlags, FlaggedFlags, SetSrmFlags, ClearedPortFlags, AgedFlags, ExpiredFlags, SpentFlags, OwnStands, OwnIsNotSpent, LspLeavesOwn, EntryLeavesOwn, LspLeavesOwnBody, EntryLeavesOwnBody, BringingLeavesOwnBody, OriginatedStands, BringingLeavesOthers, BringingLeavesOwn, BringingIsNotSpent, IdsNameLsps, SentIsHeld, SentIsRead, ReadIsWhole, ClaimIsNumbered, LspKeepsSendable, EntryKeepsSendable, BringingKeepsSendable, AgeingKeepsSendable, FlagsKeepSendable, LspKeepsFlags, EntryKeepsFlags, BringingKeepsFlags};
 ghost use Rattle.flooding.specs.SettlingLaws.{SettlingIsCertified, SettlingStands, SettlingLeavesOthers, SettlingLeavesOwn, SettlingLeavesOwnBody, SettlingGoesOneFurther, SettlingDoesntSpend, SettlingBringsFew, SettlingKeepsSendable, SettlingKeepsFlags, SettlingKeepsSilence, SettlingRenews, SettlingSpends, SettledIsCurrent, FreshIsCurrent, CurrentIsSettled, LspKeepsCurrent, EntryKeepsCurrent};
 ghost use Rattle.flooding.specs.declared.origination.TheConstants.{MAX_AGE};
 
-/// What is heard at an Up port, answered and originated is a certified step.
+/// What is heard at an Up port, answered, originated and purged is a certified step.
 pub fn flooding_is_certified()
     ensures lsp { HearingLspIsCertified }
     ensures entry { HearingEntryIsCertified }
     ensures answer { AnsweringIsCertified }
-    ensures origination { OriginationIsCertified }
+    ensures bringing { BringingIsCertified }
 {}
 
 /// A claim changes what is held under its id, and nothing else; and nothing where it finds no place.
@@ -42,22 +42,23 @@ pub fn flags_are_read_port_by_port()
     ensures spent { SpentFlags }
 {}
 
-/// A claim below the last number leaves the own LSP as it was, but for its flags, or is answered one number past it
-/// with the present body. An origination puts the next entry under the own id, and changes no other. In both the system
-/// and its body stay, and below the last number it isn't spent.
-pub fn the_own_lsp_is_kept_or_renewed()
+/// A claim below the last number leaves an own LSP as it was, but for its flags, or is answered one number past it with
+/// the body of the LSP's number, or dead where there is none. An origination puts the next entry under the id of its
+/// number, and what is brought up to date changes no other. In all of it the system and its bodies stay, and below the
+/// last number it isn't spent.
+pub fn own_lsps_are_kept_or_renewed()
     ensures own { OwnStands }
     ensures not_spent { OwnIsNotSpent }
     ensures lsp { LspLeavesOwn }
     ensures entry { EntryLeavesOwn }
     ensures originated { OriginatedStands }
-    ensures others { OriginationLeavesOthers }
-    ensures still_own { OriginationLeavesOwn }
-    ensures still_not_spent { OriginationIsNotSpent }
+    ensures others { BringingLeavesOthers }
+    ensures still_own { BringingLeavesOwn }
+    ensures still_not_spent { BringingIsNotSpent }
 {}
 
 /// Bringing own LSPs up to date changes no other LSP, and nothing where they stand or the system is spent. It takes each
-/// one number further at most, with the present body, or makes it dead at the last number.
+/// one number further at most, with the body of its number, or makes it dead at the last number.
 pub fn settling_changes_own_lsps_alone()
     ensures stands { SettlingStands }
     ensures others { SettlingLeavesOthers }
@@ -79,8 +80,8 @@ pub fn settling_keeps_what_steps_keep()
     ensures silence { SettlingKeepsSilence }
 {}
 
-/// After it was brought up to date the own LSP is live with the present body for 301 to 1,200 seconds more, unless the
-/// system is spent. What is heard keeps it so, and then it stands.
+/// After they were brought up to date each own LSP that the system has a body for is live with it for 301 to 1,200 seconds
+/// more, and no other is live, unless the system is spent. What is heard keeps it so, and then each stands.
 pub fn own_lsps_are_current()
     ensures settled { SettledIsCurrent }
     ensures fresh { FreshIsCurrent }
@@ -89,11 +90,12 @@ pub fn own_lsps_are_current()
     ensures entry { EntryKeepsCurrent }
 {}
 
-/// Under an id of the own system no body comes to stand but the present one of the system, or that of a dead LSP.
+/// Under an id of the own system no body comes to stand but the one that the system has for its number, or that of a dead
+/// LSP.
 pub fn own_bodies_are_the_systems()
     ensures lsp { LspLeavesOwnBody }
     ensures entry { EntryLeavesOwnBody }
-    ensures originated { OriginationLeavesOwnBody }
+    ensures brought { BringingLeavesOwnBody }
 {}
 
 /// What is to be sent at a port by its ids is what the database says; an LSP that is sent claims what is held, and its
@@ -104,14 +106,14 @@ pub fn what_is_sent_is_what_is_held()
     ensures read { SentIsRead }
 {}
 
-/// Every entry stays one whose LSP can be written and is read again, where what is heard was read and the own LSP can
-/// be written.
+/// Every entry stays one whose LSP can be written and is read again, where what is heard was read and the own LSPs
+/// can be written.
 pub fn what_is_held_can_be_sent()
     ensures read { ReadIsWhole }
     ensures numbered { ClaimIsNumbered }
     ensures lsp { LspKeepsSendable }
     ensures entry { EntryKeepsSendable }
-    ensures origination { OriginationKeepsSendable }
+    ensures bringing { BringingKeepsSendable }
     ensures ageing { AgeingKeepsSendable }
     ensures flags { FlagsKeepSendable }
 {}
@@ -120,7 +122,7 @@ pub fn what_is_held_can_be_sent()
 pub fn flags_stand_at_up_ports()
     ensures lsp { LspKeepsFlags }
     ensures entry { EntryKeepsFlags }
-    ensures origination { OriginationKeepsFlags }
+    ensures bringing { BringingKeepsFlags }
 {}
 
 /// An own LSP lives 1,200 seconds when it is originated (ISO/IEC 10589, 7.3.5). `renewed` names this constant.

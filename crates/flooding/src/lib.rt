@@ -3,13 +3,13 @@
 //!
 //! An LSP that is heard takes one binary search, or one comparison where its place was given, and a second search where
 //! it is put into the database or purged; its body is copied once, and only where it is stored. Originating takes two,
-//! and copies the own body once. No call copies the database.
+//! and copies the body once. No call copies the database.
 #![tactic(auto)]
 
 pub use error::FloodError;
 pub use hear::{hear_lsp, hear_lsp_near};
-pub use origination::originate;
-pub use own::Own;
+pub use origination::{bring_up, originate, purge};
+pub use own::{OWN_NUMBERS, Own};
 pub use rules::{acknowledge, offer};
 pub use send::{lsp_of, to_send, write_held};
 pub use settling::{keep_fresh, settle};

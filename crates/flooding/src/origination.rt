@@ -1,10 +1,11 @@
-//! The own LSP, originated: one number further, or dead past the last number.
-ghost use Rattle.std.specs.Prelude.{◌≡◌, ◌≤◌, Some, true, false, length, OnOk, OnErr};
-ghost use Rattle.std.specs.FinMap.{get};
+//! An own LSP, originated: one sequence number further, or dead past the last one; and purged.
+ghost use Rattle.std.specs.Prelude.{◌≡◌, ◌≤◌, Some, true, false, is_some, length, OnOk, OnErr};
+ghost use Rattle.std.specs.FinMap.{get, insert};
 ghost use Rattle.lsdb.specs.Version.{is_absent};
-ghost use Rattle.lsdb.specs.Database.{version_at, ssn_in, fits, put_if_it_fits};
-ghost use Rattle.flooding.specs.Own.{own_id, renewed};
-ghost use Rattle.flooding.specs.Origination.{spent_entry, originated};
+ghost use Rattle.lsdb.specs.Database.{version_at, ssn_in, fits};
+ghost use Rattle.flooding.specs.Own as own_specs;
+ghost use Rattle.flooding.specs.Own.{own_number, body_of_number, HaveBytes};
+ghost use Rattle.flooding.specs.Origination.{spent_entry, originated, number_purged, brought_up};
 ghost use Rattle.flooding.specs.Placing.{holding, Puts};
 
 use crate::put::put;
@@ -17,29 +18,34 @@ use std::alloc::Global;
 /// The lifetime of an own LSP when it is originated, in seconds (ISO/IEC 10589, 7.3.5).
 pub const MAX_AGE: u16 = 1_200;
 
-/// Originates (ISO/IEC 10589, 7.3.7): the own LSP goes one sequence number further with the present body and a lifetime
-/// of 1,200 seconds, is to be sent at every Up port and acknowledged at none. Past number 4,294,967,295 it is dead
-/// instead, to be sent at every Up port, and the system is spent. A spent system originates no more.
+/// Originates a number, if the system has a body for it (ISO/IEC 10589, 7.3.7): the own LSP goes one sequence number
+/// further with that body and a lifetime of 1,200 seconds, is to be sent at every Up port and acknowledged at none. Past
+/// number 4,294,967,295 it is dead instead, to be sent at every Up port, and the system is spent. A spent system
+/// originates no more.
 ///
-/// The own id is held, or fewer than 2,048 ids are; the body has at least one byte. After an error nothing changed.
+/// The id is held, or fewer than 2,048 ids are; each body has at least one byte. After an error nothing changed.
 pub fn originate(
     alloc: Global,
     db: &mut Database,
     up: PortSet,
     own: &mut Own,
+    number: u8,
 ) -> Result<(), NoMemory>
-    requires place { fits db.old (own_id own.old.system) ≡ true }
-    requires body { 1 ≤ length own.old.body }
-    ensures ok { OnOk result (holding db.new own.new ≡ originated up (holding db.old own.old)) }
+    requires place { fits db.old (own_number own.old.system number) ≡ true }
+    requires bodies { HaveBytes own.old }
+    ensures ok { OnOk result (holding db.new own.new ≡ originated up number (holding db.old own.old)) }
     ensures err { OnErr result (holding db.new own.new ≡ holding db.old own.old) }
 {
     if own.spent {
         return Ok(());
     }
-    let id = own.id();
+    let Some(body) = own.body(number) else {
+        return Ok(());
+    };
+    let id = own.id(number);
     let seq = db.version_at(&id).number();
     if seq < u32::MAX {
-        return match renew(alloc, db, up, own, seq + 1) {
+        return match renew(alloc, db, up, &id, body, seq + 1) {
             Ok(()) => Ok(()),
             // There is a place, so it was memory that ran out.
             Err(_) => Err(NoMemory),
@@ -50,11 +56,42 @@ pub fn originate(
     Ok(())
 }
 
+/// Makes the own LSP of a number dead at its sequence number, to be sent at every Up port, if it is live. It takes no
+/// memory.
+pub fn purge(db: &mut Database, up: PortSet, own: &Own, number: u8)
+    ensures { db.new ≡ (number_purged up number (holding db.old own.now)).db }
+{
+    let id = own.id(number);
+    if let Version::Live { seq, sum: _ } = db.version_at(&id) {
+        db.purge(&id, seq, up);
+    }
+}
+
+/// Brings a number up to what the system says: originates it where the system has a body for it, and purges it where it
+/// has none.
+pub fn bring_up(
+    alloc: Global,
+    db: &mut Database,
+    up: PortSet,
+    own: &mut Own,
+    number: u8,
+) -> Result<(), NoMemory>
+    requires place { is_some (body_of_number own.old number) ≡ true → fits db.old (own_number own.old.system number) ≡ true }
+    requires bodies { HaveBytes own.old }
+    ensures { OnOk result (holding db.new own.new ≡ brought_up up number (holding db.old own.old)) }
+{
+    if own.body(number).is_some() {
+        return originate(alloc, db, up, own, number);
+    }
+    purge(db, up, own, number);
+    Ok(())
+}
+
 /// Makes the LSP that is held under an id, and not as absent, dead at this sequence number, to be sent at every Up
 /// port; where it is to be acknowledged stays.
 fn spend(db: &mut Database, up: PortSet, id: &LspId, seq: u32)
     requires { is_absent (version_at db.old id.now) ≡ false }
-    ensures { db.new ≡ put_if_it_fits db.old id.now (Some (spent_entry up seq (get db.old id.now))) }
+    ensures { db.new ≡ insert db.old id.now (spent_entry up seq (get db.old id.now)) }
 {
     let ssn = ssn_at(db, id);
     db.purge(id, seq, up);
@@ -71,24 +108,24 @@ fn ssn_at(db: &Database, id: &LspId) -> PortSet
     }
 }
 
-/// Puts the own LSP in at this number, with its present body, to be sent at every Up port.
+/// Puts an own LSP in at this number, with this body, to be sent at every Up port.
 pub fn renew(
     alloc: Global,
     db: &mut Database,
     up: PortSet,
-    own: &Own,
+    id: &LspId,
+    body: &Seq<u8>,
     seq: u32,
 ) -> Result<(), FloodError>
-    requires { 1 ≤ length own.now.body }
-    ensures { Puts result (own_id own.now.system) (renewed up own.now seq) db.old db.new }
+    requires { 1 ≤ length body.now }
+    ensures { Puts result id.now (own_specs.renewed up id.now body.now seq) db.old db.new }
 {
-    let id = own.id();
-    let body = Vec::from_slice(alloc, own.body.as_slice())?;
-    let sum = lsp_sum(&id, seq, body[0], &body[1..]);
+    let body = Vec::from_slice(alloc, body.as_slice())?;
+    let sum = lsp_sum(id, seq, body[0], &body[1..]);
     put(
         db,
         Held {
-            id,
+            id: *id,
             version: Version::Live { seq, sum },
             lifetime: MAX_AGE,
             body: Seq::from_vec(body),

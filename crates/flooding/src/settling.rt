@@ -1,39 +1,38 @@
-//! The own LSP, brought up to date.
-ghost use Rattle.std.specs.Prelude.{◌≡◌, ◌≤◌, ◌&&◌, not, true, false, length, OnOk, IfOk};
-ghost use Rattle.lsdb.specs.Database.{fits};
-ghost use Rattle.flooding.specs.Own.{own_id};
+//! Own LSPs, brought up to date.
+ghost use Rattle.std.specs.Prelude.{ℕ, ◌≡◌, ◌≤◌, ◌<◌, ◌&&◌, not, true, false, length, is_some, if◌then◌else◌, OnOk, IfOk};
+ghost use Rattle.flooding.specs.Own.{own_numbers, body_of_number, HaveBytes, HasFirstNumbers};
 ghost use Rattle.flooding.specs.Placing.{holding};
 ghost use Rattle.flooding.specs.Settling as settling;
 
-use crate::{Own, originate};
+use crate::Own;
+use crate::origination::bring_up;
+use crate::own::OWN_NUMBERS;
 use lsdb::{Database, Version};
-use spb_types::{NoMemory, PortSet};
+use spb_types::{NoMemory, PortSet, Seq};
 use std::alloc::Global;
 
-/// The remaining lifetime in seconds at which the own LSP is originated anew (ISO/IEC 10589, 7.3.7).
+/// The remaining lifetime in seconds at which an own LSP is originated anew (ISO/IEC 10589, 7.3.7).
 const REFRESH_AT: u16 = 300;
 
-/// Originates where the own LSP that is held isn't live with the present body.
+/// Originates each number whose LSP that is held isn't live with the body that the system has for it, and purges each
+/// live one that it has none for.
 ///
-/// The own id is held, or fewer than 2,048 ids are; the body has at least one byte. The one error is `NoMemory`.
-#[tactic(auto, unfolding(crate::specs::Settling::settled_by))]
+/// The ids of the bodies are held; each body has at least one byte. The one error is `NoMemory`.
 pub fn settle(alloc: Global, db: &mut Database, up: PortSet, own: &mut Own) -> Result<(), NoMemory>
-    requires place { fits db.old (own_id own.old.system) ≡ true }
-    requires body { 1 ≤ length own.old.body }
+    requires held { settling.AreHeld (holding db.old own.old) }
+    requires bodies { HaveBytes own.old }
     ensures { OnOk result (holding db.new own.new ≡ settling.settled up (holding db.old own.old)) }
 {
-    if own.spent || is_said(db, own) {
-        return Ok(());
-    }
-    originate(alloc, db, up, own)
+    bring_all_up(alloc, db, up, own, false)?;
+    Ok(())
 }
 
-/// Originates where the own LSP that is held isn't live with the present body, or has 300 seconds or less left, and
-/// tells whether it did. Where the body wasn't renewed since the LSP said it, `renewed` is false: then only the lifetime
-/// is looked at.
+/// Does as [`settle`], originates also each LSP with a body that has 300 seconds or less left, and tells whether
+/// anything was brought up to date. Where no body was renewed since the LSPs said it, `renewed` is false: then only the
+/// lifetimes are looked at.
 ///
-/// The own id is held, or fewer than 2,048 ids are; the body has at least one byte. The one error is `NoMemory`.
-#[tactic(auto, unfolding(crate::specs::Settling::settled_by))]
+/// The ids of the bodies are held; each body has at least one byte, and the numbers without one come last. The one error
+/// is `NoMemory`.
 pub fn keep_fresh(
     alloc: Global,
     db: &mut Database,
@@ -41,48 +40,99 @@ pub fn keep_fresh(
     own: &mut Own,
     renewed: bool,
 ) -> Result<bool, NoMemory>
-    requires place { fits db.old (own_id own.old.system) ≡ true }
-    requires body { 1 ≤ length own.old.body }
-    requires said { renewed ≡ false → own.old.spent ≡ false → settling.is_said (holding db.old own.old) ≡ true }
+    requires held { settling.AreHeld (holding db.old own.old) }
+    requires bodies { HaveBytes own.old }
+    requires first { HasFirstNumbers own.old }
+    requires said { renewed ≡ false → own.old.spent ≡ false → (number : ℕ) → number < own_numbers
+        → settling.is_said (holding db.old own.old) number ≡ true }
     ensures after { OnOk result (holding db.new own.new ≡ settling.kept_fresh up (holding db.old own.old)) }
     ensures idle { IfOk result (λ originated. originated ≡ false → holding db.new own.new ≡ holding db.old own.old) }
 {
-    if own.spent || is_fresh(db, own, renewed) {
+    if !renewed && (own.spent || !has_old(db, own)) {
         return Ok(false);
     }
-    originate(alloc, db, up, own)?;
-    Ok(true)
+    bring_all_up(alloc, db, up, own, true)
 }
 
-/// Whether the own LSP that is held is live with the present body.
-fn is_said(db: &Database, own: &Own) -> bool
-    ensures { result ≡ settling.is_said (holding db.now own.now) }
+/// Brings each number up to what the system says that doesn't stand, by what its LSP says or, where `by_age`, also by
+/// its lifetime; and tells whether there was one.
+#[tactic(auto, unfolding(crate::specs::Settling::settled_by))]
+fn bring_all_up(
+    alloc: Global,
+    db: &mut Database,
+    up: PortSet,
+    own: &mut Own,
+    by_age: bool,
+) -> Result<bool, NoMemory>
+    requires held { settling.AreHeld (holding db.old own.old) }
+    requires bodies { HaveBytes own.old }
+    ensures after { OnOk result (holding db.new own.new
+        ≡ settling.settled_by (if by_age then settling.is_new else settling.says) up (holding db.old own.old)) }
+    ensures idle { IfOk result (λ brought. brought ≡ false → holding db.new own.new ≡ holding db.old own.old) }
 {
-    match db.find(&own.id()) {
-        Some(held) => {
-            matches!(held.version, Version::Live { .. })
-                && held.body.as_slice() == own.body.as_slice()
+    let mut brought = false;
+    if own.spent {
+        return Ok(false);
+    }
+    for number in 0..OWN_NUMBERS {
+        if !stands(db, own, number, by_age) {
+            bring_up(alloc, db, up, own, number)?;
+            brought = true;
         }
-        None => false,
+    }
+    Ok(brought)
+}
+
+/// Whether the own LSP of a number stands, by what it says or, where `by_age`, also by its lifetime.
+fn stands(db: &Database, own: &Own, number: u8, by_age: bool) -> bool
+    ensures { result ≡ settling.stands (if by_age then settling.is_new else settling.says) (holding db.now own.now) number }
+{
+    is_said(db, own, number) && !(by_age && own.body(number).is_some() && is_old(db, own, number))
+}
+
+/// Whether the own LSP of a number that is held is live with its body; where there is none, whether it isn't live.
+fn is_said(db: &Database, own: &Own, number: u8) -> bool
+    ensures { result ≡ settling.is_said (holding db.now own.now) number }
+{
+    let held = db.find(&own.id(number));
+    match own.body(number) {
+        None => match held {
+            None => true,
+            Some(held) => !matches!(held.version, Version::Live { .. }),
+        },
+        Some(body) => match held {
+            None => false,
+            Some(held) => {
+                matches!(held.version, Version::Live { .. })
+                    && held.body.as_slice() == body.as_slice()
+            }
+        },
     }
 }
 
-/// Whether it is, and has more than 300 seconds left. Where nothing was renewed, it is.
-fn is_fresh(db: &Database, own: &Own, renewed: bool) -> bool
-    requires { renewed ≡ false → settling.is_said (holding db.now own.now) ≡ true }
-    ensures { result ≡ settling.is_fresh (holding db.now own.now) }
+/// Whether an own LSP with a body has to be originated anew by its lifetime. No number is looked at behind the first
+/// without a body.
+fn has_old(db: &Database, own: &Own) -> bool
+    requires { HasFirstNumbers own.now }
+    ensures { result ≡ false → (number : ℕ) → number < own_numbers
+        → (is_some (body_of_number own.now number) && settling.is_old (settling.own_held (holding db.now own.now) number)) ≡ false }
 {
-    if renewed && !is_said(db, own) {
-        return false;
+    for number in 0..OWN_NUMBERS {
+        if own.body(number).is_none() {
+            return false;
+        }
+        if is_old(db, own, number) {
+            return true;
+        }
     }
-    !is_old(db, own)
+    false
 }
 
-/// Whether the own LSP has to be originated anew by its lifetime.
-fn is_old(db: &Database, own: &Own) -> bool
-    ensures { result ≡ settling.is_old (settling.own_held (holding db.now own.now)) }
+/// Whether the own LSP of a number has to be originated anew by its lifetime.
+fn is_old(db: &Database, own: &Own, number: u8) -> bool
+    ensures { result ≡ settling.is_old (settling.own_held (holding db.now own.now) number) }
 {
-    match db.find(&own.id()) {
+    match db.find(&own.id(number)) {
         Some(held) => held.lifetime <= REFRESH_AT,
         None => false,
     }

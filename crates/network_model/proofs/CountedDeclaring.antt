@@ -16,6 +16,7 @@ use Rattle.lsdb.specs.Entry.{Entry}
 use Rattle.lsdb.specs.Version.{number_of}
 use Rattle.lsdb.specs.Database.{version_at, version_in}
 use Rattle.lsdb.proofs.LookupLemmas.{same_or_not}
+use Rattle.flooding.proofs.OwnNumbers.{some_number}
 use Rattle.flooding.specs.Own.{last_number, own_id, IsOwnNumber}
 use Rattle.bridge_api.specs.View.{BridgeView}
 use Rattle.bridge_api.specs.Step.{metric}
@@ -109,7 +110,7 @@ module _ (s : State) (n : ℕ) (rack : List Spare) (name : List ℕ) (b : Declar
               place = length s.world.bridges;
               bridge = b;
               there = things_new s.world.bridges name b;
-              own = record { number = 0; below = omega arith; is = same ∙ ap (λ (x : BridgeId). own_id x.system) first.id };
+              own = record { number = 0; below = omega (arith, some_number); is = same ∙ ap (λ (x : BridgeId). own_id x.system) first.id };
             }
         | inr other ↦ let none : get v.database id ≡ None = first.alone id other in absurd cc
       ]

@@ -16,6 +16,7 @@ use Rattle.lsdb.specs.Entry.{Entry}
 use Rattle.lsdb.specs.Version.{number_of}
 use Rattle.lsdb.specs.Database.{version_at, version_in}
 use Rattle.lsdb.proofs.LookupLemmas.{same_or_not}
+use Rattle.flooding.proofs.OwnNumbers.{some_number}
 use Rattle.flooding.specs.Own.{last_number, own_id, IsOwnNumber}
 use Rattle.bridge_api.specs.declared.config.BridgeConfig.{BridgeConfig}
 use Rattle.bridge_api.specs.View.{BridgeView}
@@ -219,7 +220,7 @@ module _ (s : State) (i : ℕ) (b : DeclaredBridge) (c : BridgeConfig) (place a 
               place = i;
               bridge = b;
               there = there;
-              own = record { number = 0; below = omega arith; is = same ∙ ap (λ (x : BridgeId). own_id x.system) id_is };
+              own = record { number = 0; below = omega (arith, some_number); is = same ∙ ap (λ (x : BridgeId). own_id x.system) id_is };
             }
         | inr other ↦ let none : get new.database id ≡ None = alone id other in absurd cc
       ]

@@ -9,6 +9,7 @@ use Rattle.lsdb.specs.declared.version.Version.TheVariants.{Absent, Live, Dead}
 use Rattle.lsdb.specs.Entry.{Entry}
 use Rattle.lsdb.specs.Version.{number_of, leq, IsAtMost}
 use Rattle.lsdb.specs.Database.{version_at, version_in}
+use Rattle.flooding.proofs.OwnNumbers.{some_number}
 use Rattle.flooding.specs.Own.{own_id, IsOwnNumber}
 use Rattle.spb_types.specs.Places.{changed_at}
 use Rattle.bridge_api.specs.declared.config.BridgeConfig.{BridgeConfig}
@@ -147,7 +148,7 @@ record IsBegun (v : BridgeView) : Type 0 where
 begun_step : (v : BridgeView) (p : ℕ) → IsBegun v → IsBegun (step (carrier p true) v)
 begun_step v p begun =
     let id : LspId = own_id v.id.system in
-    let own : IsOwnNumber v.id.system id = record { number = 0; below = omega arith; is = refl } in
+    let own : IsOwnNumber v.id.system id = record { number = 0; below = omega (arith, some_number); is = refl } in
     let far : IsFar (carrier p true) v = record {
       fresh = begun.fresh;
       own = λ x other. let same = ap (λ (y : LspId). number_of (version_at v.database y)) (own_is v.id.system x other) in omega (arith, same, begun.number);

@@ -1,9 +1,10 @@
 -- What a PDU says of every LSP can be written, whatever was heard, originated or aged.
-use Rattle.std.specs.Prelude.{◌≡◌, ℕ, ◌+◌, ◌-◌, ◌<◌, ◌^◌, Bool, true, false, ◌&&◌, ◌==◌, List, [], ◌∷◌, Option, Some, None, nat_lt, nat_le, if◌then◌else◌}
-use Rattle.std.proofs.Common.{refl, sym, subst, arith, lit<}
-use Rattle.std.proofs.lemmas.Bool.{and_parts, ltb-true}
+use Rattle.std.specs.Prelude.{◌≡◌, ℕ, ◌+◌, ◌-◌, ◌<◌, ◌^◌, Bool, true, false, ◌==◌, List, [], ◌∷◌, Option, Some, None, nat_lt, nat_le, if◌then◌else◌}
+use Rattle.std.proofs.Common.{refl, sym, ap, subst, ◌∙◌, arith, lit<}
+use Rattle.std.proofs.lemmas.Bool.{ltb-true}
 use Rattle.std.specs.Option.{option_map}
 use Rattle.std.specs.FinMap.{get}
+use Rattle.spb_types.specs.declared.address.SystemId.{SystemId}
 use Rattle.spb_types.specs.declared.address.LspId.{LspId}
 use Rattle.spb_types.specs.declared.ports.PortSet.{PortSet}
 use Rattle.isis_pdu.specs.Pdu.{LspValue}
@@ -14,15 +15,17 @@ use Rattle.lsdb.specs.declared.version.Version.TheVariants.{Absent, Live, Dead}
 use Rattle.lsdb.specs.declared.version.Relation.{Relation}
 use Rattle.lsdb.specs.declared.version.Relation.TheVariants.{Older, Equal, Newer, Confused}
 use Rattle.lsdb.specs.Version.{number_of, is_absent, claimed, sum_of}
-use Rattle.lsdb.specs.Entry.{Entry, made, stored, absent_with_ssn, acked, cleared, offered, aged_at}
+use Rattle.lsdb.specs.Entry.{Entry, made, stored, absent_with_ssn, acked, cleared, offered, purged, aged_at}
 use Rattle.lsdb.specs.Database.{version_in}
 use Rattle.flooding.specs.declared.own.Own.{Own}
-use Rattle.flooding.specs.Own.{last_number, own_id, flags_in, tlvs_of_body, is_originated, renewed, dead_at, answered}
+use Rattle.flooding.specs.Own.{last_number, own_numbers, own_id, own_number, body_for, flags_in, tlvs_of_body, renewed, dead_at, answered_by, answered}
 use Rattle.flooding.specs.Hearing.{Holding, claim_of, body_of, unless_absent, wanted, lsp_rule, snp_rule, hear_entry_of}
-use Rattle.flooding.specs.Origination.{next_entry, spent_entry}
+use Rattle.flooding.specs.Origination.{next_entry, spent_entry, brought_up}
 use Rattle.flooding.proofs.Heard.{number-claimed}
-use Rattle.flooding.proofs.AllEntries.{all_after_claim, all_originated}
-use Rattle.flooding.proofs.Settled.{settling_keeps}
+use Rattle.flooding.proofs.AllEntries.{inserted, all_changed, all_after_claim}
+use Rattle.flooding.proofs.OwnNumbers.{few_numbers}
+use Rattle.flooding.proofs.Brought.{next_of, originated_keeps, brought_keeps}
+use Rattle.flooding.proofs.Settled.{settling_beside}
 use Rattle.snp_sync.specs.Sized.{IsLspId, IsSized, AreSized, IsSizedEntry}
 use Rattle.snp_sync.specs.Hearing.{claim_in, claims_in, hear_entries_of, ids_of, is_missed, flag_if}
 use Rattle.snp_sync.specs.HearingLaws.{EntriesKeepSized, CsnpKeepsSized, LspKeepsSized, OriginationKeepsSized, SettlingKeepsSized, AgeingKeepsSized, FlagsKeepSized}
@@ -40,17 +43,21 @@ dead_sized id seq srm ssn named h = sized_by id (made (Dead seq) 0 [] srm ssn) n
 absent_sized : (id : LspId) (port : ℕ) → IsLspId id → IsSized id (absent_with_ssn port)
 absent_sized id port named = sized_by id (absent_with_ssn port) named (lit< tt) (lit< tt) (lit< tt)
 
-renewed_sized : (up : PortSet) (own : Own) (id : LspId) (seq : ℕ) → IsLspId id → seq < last_number → IsSized id (renewed up own (seq + 1))
-renewed_sized up own id seq named h =
-    let sum = lsp_sum-bytes (own_id own.system) (seq + 1) (flags_in own.body) (tlvs_of_body own.body) in
-    sized_by id (renewed up own (seq + 1)) named (lit< tt) (omega arith) (omega (arith, sum.first_fits))
+renewed_sized : (up : PortSet) (id : LspId) (body : List ℕ) (seq : ℕ) → IsLspId id → seq < last_number → IsSized id (renewed up id body (seq + 1))
+renewed_sized up id body seq named h =
+    let sum = lsp_sum-bytes id (seq + 1) (flags_in body) (tlvs_of_body body) in
+    sized_by id (renewed up id body (seq + 1)) named (lit< tt) (omega arith) (omega (arith, sum.first_fits))
+
+answered_as : (up : PortSet) (id : LspId) (seq : ℕ) (o : Option (List ℕ)) → IsLspId id → seq < 2 ^ 32 → IsSized id (answered_by up id seq o)
+answered_as up id seq None named h = dead_sized id seq up _ named h
+answered_as up id seq (Some body) named h = by_test (nat_lt seq last_number) refl
+  where
+    by_test : (b : Bool) → nat_lt seq last_number ≡ b → IsSized id (if b then renewed up id body (seq + 1) else dead_at up seq)
+    by_test true t = renewed_sized up id body seq named (ltb-true seq last_number t)
+    by_test false t = dead_sized id seq up _ named h
 
 answered_sized : (up : PortSet) (own : Own) (id : LspId) (seq : ℕ) → IsLspId id → seq < 2 ^ 32 → IsSized id (answered up own id seq)
-answered_sized up own id seq named h = by_test (is_originated own.system id && nat_lt seq last_number) refl
-  where
-    by_test : (b : Bool) → (is_originated own.system id && nat_lt seq last_number) ≡ b → IsSized id (if b then renewed up own (seq + 1) else dead_at up seq)
-    by_test true t = renewed_sized up own id seq named (ltb-true seq last_number (and_parts (is_originated own.system id) (nat_lt seq last_number) t).1)
-    by_test false t = dead_sized id seq up _ named h
+answered_sized up own id seq named h = answered_as up id seq (body_for own id) named h
 
 -- ---- rules
 
@@ -140,25 +147,42 @@ lsp_keeps_sized up port l h system fields all =
 
 -- ---- what is originated, and aged
 
-next_sized : (up : PortSet) (own : Own) (seq : ℕ) (held : Option Entry) → IsLspId (own_id own.system) → seq < 2 ^ 32 → IsSized (own_id own.system) (next_entry up own seq held)
-next_sized up own seq held named h = by_test (nat_lt seq last_number) refl
+next_sized : (up : PortSet) (id : LspId) (body : List ℕ) (seq : ℕ) (held : Option Entry) → IsLspId id → seq < 2 ^ 32 → IsSized id (next_entry up id body seq held)
+next_sized up id body seq held named h = by_test (nat_lt seq last_number) refl
   where
-    by_test : (b : Bool) → nat_lt seq last_number ≡ b → IsSized (own_id own.system) (if b then renewed up own (seq + 1) else spent_entry up seq held)
-    by_test true t = renewed_sized up own (own_id own.system) seq named (ltb-true seq last_number t)
-    by_test false t = dead_sized (own_id own.system) seq up _ named h
+    by_test : (b : Bool) → nat_lt seq last_number ≡ b → IsSized id (if b then renewed up id body (seq + 1) else spent_entry up seq held)
+    by_test true t = renewed_sized up id body seq named (ltb-true seq last_number t)
+    by_test false t = dead_sized id seq up _ named h
 
 number_sized : (id : LspId) (held : Option Entry) → ((e : Entry) → held ≡ Some e → IsSized id e) → number_of (version_in held) < 2 ^ 32
 number_sized id None all = lit< tt
 number_sized id (Some e) all = (all e refl).entry.seq
 
-pub origination_keeps_sized : OriginationKeepsSized
-origination_keeps_sized up h named all =
-    let id = own_id h.own.system in
+next_is_sized : (up : PortSet) (number : ℕ) (h : Holding) (body : List ℕ) → IsLspId (own_number h.own.system number) → AreSized h.db → AreSized (next_of up number body h).db
+next_is_sized up number h body named all =
+    let id = own_number h.own.system number in
     let held = get h.db id in
-    all_originated IsSized up h all (next_sized up h.own (number_of (version_in held)) held named (number_sized id held (λ e at. all id e at)))
+    let seq = number_of (version_in held) in
+    inserted IsSized h.db id (next_entry up id body seq held) all (next_sized up id body seq held named (number_sized id held (λ e at. all id e at)))
+
+pub origination_keeps_sized : OriginationKeepsSized
+origination_keeps_sized up number h named all = originated_keeps (λ g. AreSized g.db) up number h all (λ body fresh has. next_is_sized up number h body named all)
+
+brought_sized : (up : PortSet) (number : ℕ) (h : Holding) → IsLspId (own_number h.own.system number) → AreSized h.db → AreSized (brought_up up number h).db
+brought_sized up number h named all =
+    let id = own_number h.own.system number in
+    brought_keeps (λ g. AreSized g.db) up number h all
+    (λ body fresh has. next_is_sized up number h body named all)
+    (λ seq sum live. all_changed IsSized (purged seq up) h.db id all
+    (λ e is. dead_sized id seq up _ named (subst (λ (v : Version). number_of v < 2 ^ 32) (sym (ap version_in is) ∙ live) (all id e is).entry.seq)))
+
+own_named : (system : SystemId) (number : ℕ) → IsLspId (own_id system) → number < own_numbers → IsLspId (own_number system number)
+own_named system number named below = record { system = named.system; bytes = (named.bytes.0, lit< tt, omega (arith, below, few_numbers)) }
 
 pub settling_keeps_sized : SettlingKeepsSized
-settling_keeps_sized stands up h named all = settling_keeps (λ g. AreSized g.db) stands up h all (origination_keeps_sized up h named all)
+settling_keeps_sized test up h named all =
+    settling_beside (λ g. AreSized g.db) test up h
+    (λ number g below same before. brought_sized up number g (subst (λ (s : SystemId). IsLspId (own_number s number)) (sym same.0) (own_named h.own.system number named below)) before) all
 
 aged_by : (up : PortSet) (id : LspId) (e : Entry) (v : Version) → e.version ≡ v → IsSized id e → IsSized id (aged_at up e v)
 aged_by up id e Absent is s = s

@@ -1,6 +1,7 @@
 -- What hearing entries comes to.
-use Rattle.std.specs.Prelude.{◌≡◌, ℕ, zero, suc, ◌+◌, ◌≤◌, ◌<◌, Bool, true, false, List, [], ◌∷◌, ◌++◌, length, take, Option, Some, None, is_some, Result, Ok, Err, OnErr, if◌then◌else◌}
+use Rattle.std.specs.Prelude.{◌≡◌, ℕ, zero, suc, ◌+◌, ◌≤◌, ◌<◌, Bool, true, false, List, [], ◌∷◌, ◌++◌, length, take, slice_get, Option, Some, None, is_some, Result, Ok, Err, OnErr, if◌then◌else◌}
 use Rattle.std.proofs.Common.{refl, sym, ap, subst, ◌∙◌, arith, get_or, add-one}
+use Rattle.std.specs.Option.{option_and_then}
 use Rattle.std.specs.FinMap.{get, insert}
 use Rattle.std.proofs.lemmas.List.{take_all, length-map}
 use Rattle.spb_types.specs.declared.address.LspId.{LspId}
@@ -10,6 +11,7 @@ use Rattle.lsdb.specs.Entry.{Entry, acked}
 use Rattle.lsdb.specs.Database.{Lsps, fits, changed, changed_if_held, StandsAt}
 use Rattle.lsdb.specs.Certificate.{Claim}
 use Rattle.lsdb.proofs.LookupLemmas.{changed_held, changed_standing, fits_held}
+use Rattle.flooding.specs.Own.{HaveBytes}
 use Rattle.flooding.specs.Hearing.{Holding, wanted, snp_rule, hear_entry_of, is_full_for_entry}
 use Rattle.flooding.proofs.Owns.{own_stands}
 use Rattle.snp_sync.specs.Hearing.{claim_in, claims_in, hear_entries_of, full_count, HeardSome}
@@ -24,10 +26,10 @@ wanted_at db new id port None is held changed_is = absurd (cc)
 wanted_at db new id port (Some place) is held changed_is =
     wanted_held db new id port (Some is.entry) (sym is.held) refl (changed_is ∙ changed_standing (acked port) db id (Some place) is)
 
--- hearing leaves the system's body
-pub entries_body : (up : PortSet) (port : ℕ) (claims : List Claim) (h : Holding) → (hear_entries_of up port claims h).own.body ≡ h.own.body
-entries_body up port [] h = refl
-entries_body up port (c ∷ claims) h = entries_body up port claims (hear_entry_of up port c h) ∙ (own_stands (snp_rule up port c.version) up c h).1
+-- hearing leaves the system's bodies
+pub entries_bodies : (up : PortSet) (port : ℕ) (claims : List Claim) (h : Holding) → (hear_entries_of up port claims h).own.bodies ≡ h.own.bodies
+entries_bodies up port [] h = refl
+entries_bodies up port (c ∷ claims) h = entries_bodies up port claims (hear_entry_of up port c h) ∙ (own_stands (snp_rule up port c.version) up c h).1
 
 -- one claim more
 hear_push : (up : PortSet) (port : ℕ) (claims : List Claim) (c : Claim) (h : Holding) → hear_entries_of up port (claims ++ c ∷ []) h ≡ hear_entry_of up port c (hear_entries_of up port claims h)
@@ -55,10 +57,11 @@ pub record HeardTo (up : PortSet) (port : ℕ) (es : List SnpEntry) (old : Holdi
 pub heard_none : (up : PortSet) (port : ℕ) (es : List SnpEntry) (old : Holding) → HeardTo up port es old 0 old 0
 heard_none up port es old = record { heard = refl; counted = refl; few = omega arith }
 
--- a system that has a body keeps it
-pub heard_body : (up : PortSet) (port : ℕ) (es : List SnpEntry) (old : Holding) (k : ℕ) (new : Holding) (full : ℕ) → HeardTo up port es old k new full → 1 ≤ length old.own.body → 1 ≤ length new.own.body
-heard_body up port es old k new full so_far has_body =
-    subst (λ (b : List ℕ). 1 ≤ length b) (sym (ap (λ (h : Holding). h.own.body) so_far.heard ∙ entries_body up port (take k (claims_in es)) old)) has_body
+-- bodies with a byte stay so
+pub heard_bytes : (up : PortSet) (port : ℕ) (es : List SnpEntry) (old : Holding) (k : ℕ) (new : Holding) (full : ℕ) → HeardTo up port es old k new full → HaveBytes old.own → HaveBytes new.own
+heard_bytes up port es old k new full so_far has_bytes =
+    subst (λ (bodies : List (Option (List ℕ))). (number : ℕ) (body : List ℕ) → option_and_then (λ b. b) (slice_get bodies number) ≡ Some body → 1 ≤ length body)
+    (sym (ap (λ (h : Holding). h.own.bodies) so_far.heard ∙ entries_bodies up port (take k (claims_in es)) old)) has_bytes
 
 test_le : (b : Bool) → (if b then 1 else 0) ≤ 1
 test_le true = omega arith

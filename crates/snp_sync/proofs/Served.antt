@@ -1,5 +1,5 @@
 -- What hearing entries and CSNPs comes to: certified steps, and what stands under each id.
-use Rattle.std.specs.Prelude.{◌≡◌, ◌≢◌, ℕ, ◌+◌, Bool, true, false, ◌&&◌, ◌||◌, List, [], ◌∷◌, ◌++◌, Option, Some, None, nat_lt, if◌then◌else◌}
+use Rattle.std.specs.Prelude.{◌≡◌, ◌≢◌, ℕ, ◌+◌, Bool, true, false, ◌||◌, List, [], ◌∷◌, ◌++◌, Option, Some, None, nat_lt, if◌then◌else◌}
 use Rattle.std.proofs.Common.{refl, sym, ap, subst, ◌∙◌, arith, append-nil}
 use Rattle.std.proofs.lemmas.Bool.{true≢false}
 use Rattle.std.specs.Option.{option_map}
@@ -22,7 +22,7 @@ use Rattle.lsdb.proofs.Order.{least, greater, older_is, newer_is, confused_is}
 use Rattle.lsdb.proofs.Certified.{standing, steps_compose, flagging, changing_each}
 use Rattle.lsdb.proofs.LookupLemmas.{get-each}
 use Rattle.flooding.specs.declared.own.Own.{Own}
-use Rattle.flooding.specs.Own.{last_number, is_originated, renewed, dead_at, answered}
+use Rattle.flooding.specs.Own.{last_number, body_for, renewed, dead_at, answered_by, answered}
 use Rattle.flooding.specs.Hearing.{Holding, unless_absent, snp_rule, is_answered, hear_entry_of}
 use Rattle.flooding.specs.Laws.{control}
 use Rattle.flooding.proofs.Steps.{hearing_entry, at_most_dead}
@@ -115,14 +115,18 @@ served_rule up port a Older (Some e) is_up is =
     served_same port a Older (Some e) (Some (offered port e)) is refl (λ r. absurd (cc)) (λ r. has-with_same e.srm port (has_port up port is_up).0 (has_port up port is_up).1) (λ r. cc)
 served_rule up port a Confused held is_up is = served_above port a (Some (dead_at up (number_of a))) (at_most_dead a (number_of a) (omega arith)) is_up
 
-served_answer : (up : PortSet) (port : ℕ) (own : Own) (a : Version) (b : Bool) → has up port ≡ true → IsServed port a (Some (if b then renewed up own (number_of a + 1) else dead_at up (number_of a)))
-served_answer up port own a true is_up =
-    let n = renewed up own (number_of a + 1) in served_above port a (Some n) (greater a n.version (omega arith)) is_up
-served_answer up port own a false is_up = served_above port a (Some (dead_at up (number_of a))) (at_most_dead a (number_of a) (omega arith)) is_up
+served_next : (up : PortSet) (port : ℕ) (id : LspId) (a : Version) (body : List ℕ) (b : Bool) → has up port ≡ true → IsServed port a (Some (if b then renewed up id body (number_of a + 1) else dead_at up (number_of a)))
+served_next up port id a body true is_up =
+    let n = renewed up id body (number_of a + 1) in served_above port a (Some n) (greater a n.version (omega arith)) is_up
+served_next up port id a body false is_up = served_above port a (Some (dead_at up (number_of a))) (at_most_dead a (number_of a) (omega arith)) is_up
+
+served_answer : (up : PortSet) (port : ℕ) (id : LspId) (a : Version) (o : Option (List ℕ)) → has up port ≡ true → IsServed port a (Some (answered_by up id (number_of a) o))
+served_answer up port id a None is_up = served_above port a (Some (dead_at up (number_of a))) (at_most_dead a (number_of a) (omega arith)) is_up
+served_answer up port id a (Some body) is_up = served_next up port id a body (nat_lt (number_of a) last_number) is_up
 
 served_by : (up : PortSet) (port : ℕ) (own : Own) (id : LspId) (a : Version) (r : Relation) (held : Option Entry) (b : Bool) → has up port ≡ true → relation a (version_in held) ≡ r
     → IsServed port a (if b then Some (answered up own id (number_of a)) else snp_rule up port a r held)
-served_by up port own id a r held true is_up is = served_answer up port own a (is_originated own.system id && nat_lt (number_of a) last_number) is_up
+served_by up port own id a r held true is_up is = served_answer up port id a (body_for own id) is_up
 served_by up port own id a r held false is_up is = served_rule up port a r held is_up is
 
 pub entry_is_served : EntryIsServed

@@ -15,12 +15,12 @@ use Rattle.lsdb.specs.Version.{number_of, relation}
 use Rattle.lsdb.specs.Entry.{Entry, with_flags, aged}
 use Rattle.lsdb.specs.Database.{version_in, srm_in, ssn_in}
 use Rattle.lsdb.specs.Certificate.{Claim, Certificate}
-use Rattle.flooding.specs.Own.{last_number, own_id}
+use Rattle.flooding.specs.Own.{last_number, own_id, own_number}
 use Rattle.flooding.specs.Hearing.{Holding, hear_lsp_of, hear_entry_of, is_full_for_entry}
 use Rattle.flooding.specs.Origination.{originated}
 use Rattle.flooding.specs.Settling.{Test, settled_by, AreCurrent}
 use Rattle.flooding.specs.Entries.{IsNumbered, AreSendable, HaveFlagsAt}
-use Rattle.flooding.specs.Laws.{control, HasBody, IsOwnBody}
+use Rattle.flooding.specs.Laws.{control, HasBodies, IsOwnBody}
 use Rattle.snp_sync.specs.Sized.{IsLspId, IsSized, AreSized, IsSizedEntry}
 use Rattle.snp_sync.specs.Hearing.{claim_in, claims_in, hear_entries_of, ids_of, is_among, is_missed, flag_if, hear_csnp_of}
 
@@ -76,13 +76,13 @@ MissedIsSent = (up : PortSet) (port : ℕ) (start end : LspId) (claims : List Cl
     → get (hear_entries_of up port claims h).db x ≡ Some e → is_missed start end (ids_of claims) x e ≡ true
     → has (srm_in (get (hear_csnp_of up port start end claims h).db x)) port ≡ true
 
--- ---- the own LSP
+-- ---- own LSPs
 
--- the system and its body stay, and below the last number it isn't spent
+-- the system and its bodies stay, and below the last number it isn't spent
 abbrev pub EntriesLeaveOwn : Type 0
 EntriesLeaveOwn = (up : PortSet) (port : ℕ) (claims : List Claim) (h : Holding)
     → ((hear_entries_of up port claims h).own.system ≡ h.own.system)
-    × ((hear_entries_of up port claims h).own.body ≡ h.own.body)
+    × ((hear_entries_of up port claims h).own.bodies ≡ h.own.bodies)
 
 abbrev pub EntriesDontSpend : Type 0
 EntriesDontSpend = (up : PortSet) (port : ℕ) (claims : List Claim) (h : Holding)
@@ -92,15 +92,15 @@ EntriesDontSpend = (up : PortSet) (port : ℕ) (claims : List Claim) (h : Holdin
 -- nor do they bring a body under an id of the own system
 abbrev pub EntriesLeaveOwnBody : Type 0
 EntriesLeaveOwnBody = (up : PortSet) (port : ℕ) (claims : List Claim) (h : Holding) (id : LspId)
-    → id.system ≡ h.own.system → IsOwnBody h.own (get h.db id) (get (hear_entries_of up port claims h).db id)
+    → id.system ≡ h.own.system → IsOwnBody h.own id (get h.db id) (get (hear_entries_of up port claims h).db id)
 
 abbrev pub CsnpLeavesOwnBody : Type 0
 CsnpLeavesOwnBody = (up : PortSet) (port : ℕ) (start end : LspId) (claims : List Claim) (h : Holding) (id : LspId)
-    → id.system ≡ h.own.system → IsOwnBody h.own (get h.db id) (get (hear_csnp_of up port start end claims h).db id)
+    → id.system ≡ h.own.system → IsOwnBody h.own id (get h.db id) (get (hear_csnp_of up port start end claims h).db id)
 
 -- ---- what every entry keeps
 
--- whatever is heard, the own LSP of a system that isn't spent stays current
+-- whatever is heard, the own LSPs of a system that isn't spent stay current
 abbrev pub EntriesKeepCurrent : Type 0
 EntriesKeepCurrent = (up : PortSet) (port : ℕ) (claims : List Claim) (h : Holding) → AreCurrent h
     → AreCurrent (hear_entries_of up port claims h)
@@ -117,12 +117,12 @@ ClaimsAreNumbered = (e : SnpEntry) → IsNumbered (claim_in e).version
 abbrev pub EntriesKeepSendable : Type 0
 EntriesKeepSendable = (up : PortSet) (port : ℕ) (claims : List Claim) (h : Holding)
     → AllByRecursion (λ c. IsNumbered c.version) claims
-    → HasBody h.own → AreSendable h.db → AreSendable (hear_entries_of up port claims h).db
+    → HasBodies h.own → AreSendable h.db → AreSendable (hear_entries_of up port claims h).db
 
 abbrev pub CsnpKeepsSendable : Type 0
 CsnpKeepsSendable = (up : PortSet) (port : ℕ) (start end : LspId) (claims : List Claim) (h : Holding)
     → AllByRecursion (λ c. IsNumbered c.version) claims
-    → HasBody h.own → AreSendable h.db → AreSendable (hear_csnp_of up port start end claims h).db
+    → HasBodies h.own → AreSendable h.db → AreSendable (hear_csnp_of up port start end claims h).db
 
 -- its flags stand at Up ports
 abbrev pub EntriesKeepFlags : Type 0
@@ -149,13 +149,13 @@ LspKeepsSized = (up : PortSet) (port : ℕ) (l : LspValue) (h : Holding) → IsI
 
 -- after an origination
 abbrev pub OriginationKeepsSized : Type 0
-OriginationKeepsSized = (up : PortSet) (h : Holding) → IsLspId (own_id h.own.system) → AreSized h.db
-    → AreSized (originated up h).db
+OriginationKeepsSized = (up : PortSet) (number : ℕ) (h : Holding) → IsLspId (own_number h.own.system number)
+    → AreSized h.db → AreSized (originated up number h).db
 
 -- after own LSPs were brought up to date
 abbrev pub SettlingKeepsSized : Type 0
-SettlingKeepsSized = (stands : Test) (up : PortSet) (h : Holding) → IsLspId (own_id h.own.system) → AreSized h.db
-    → AreSized (settled_by stands up h).db
+SettlingKeepsSized = (test : Test) (up : PortSet) (h : Holding) → IsLspId (own_id h.own.system) → AreSized h.db
+    → AreSized (settled_by test up h).db
 
 -- after a second, and with other flags
 abbrev pub AgeingKeepsSized : Type 0

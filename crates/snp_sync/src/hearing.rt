@@ -4,6 +4,7 @@ ghost use Rattle.std.specs.FinMap.{get};
 ghost use Rattle.lsdb.specs.Version.{claimed};
 ghost use Rattle.lsdb.specs.Entry.{cleared};
 ghost use Rattle.lsdb.specs.Database.{changed_if_held, StandsAt};
+ghost use Rattle.flooding.specs.Own.{HaveBytes};
 ghost use Rattle.flooding.specs.Hearing.{wanted, unless_absent, hear_entry_of, is_full_for_entry};
 ghost use Rattle.flooding.specs.Placing.{Puts, Hears, holding};
 ghost use Rattle.snp_sync.specs.Hearing.{claim_in, claims_in, hear_entries_of, full_count, HeardSome, hear_csnp_of};
@@ -85,7 +86,7 @@ fn hear_entry(
 ) -> Result<(), FloodError>
     requires low { 1 ≤ port }
     requires high { port ≤ MOST_PORTS }
-    requires body { 1 ≤ length own.old.body }
+    requires bodies { HaveBytes own.old }
     ensures { Hears result (is_full_for_entry up port (claim_in entry.now) (holding db.old own.old)) (holding db.old own.old)
         (hear_entry_of up port (claim_in entry.now) (holding db.old own.old)) (holding db.new own.new) }
 {
@@ -116,7 +117,7 @@ fn count_entry(
 ) -> Result<u64, NoMemory>
     requires low { 1 ≤ port }
     requires high { port ≤ MOST_PORTS }
-    requires body { 1 ≤ length own.old.body }
+    requires bodies { HaveBytes own.old }
     ensures full { IfOk result (λ n. n ≡ (if is_full_for_entry up port (claim_in entry.now) (holding db.old own.old) then 1 else 0)) }
     ensures heard { OnOk result (holding db.new own.new ≡ hear_entry_of up port (claim_in entry.now) (holding db.old own.old)) }
     ensures err { OnErr result (holding db.new own.new ≡ holding db.old own.old) }
@@ -140,7 +141,7 @@ fn count_entry(
 ///   sent at every Up port;
 /// - a newer or confused one of the system's own is answered instead.
 ///
-/// `own.body` has at least one byte. The answer is the number of entries that needed a place while 2,048 ids were held;
+/// Each body of the system has at least one byte. The answer is the number of entries that needed a place while 2,048 ids were held;
 /// such an entry changes nothing, and the others are heard. After `NoMemory` some of the entries, from the first on,
 /// have been heard.
 pub fn hear_psnp(
@@ -153,7 +154,7 @@ pub fn hear_psnp(
 ) -> Result<u64, NoMemory>
     requires low { 1 ≤ port }
     requires high { port ≤ MOST_PORTS }
-    requires body { 1 ≤ length own.old.body }
+    requires bodies { HaveBytes own.old }
     ensures full { IfOk result (λ n. n ≡ full_count up port (claims_in entries.now) (holding db.old own.old)) }
     ensures heard { OnOk result (holding db.new own.new ≡ hear_entries_of up port (claims_in entries.now) (holding db.old own.old)) }
     ensures err { OnErr result (HeardSome up port (claims_in entries.now) (holding db.old own.old) (holding db.new own.new)) }
@@ -171,7 +172,7 @@ pub fn hear_psnp(
 /// among the entries is to be sent at the port. A dead LSP is sent there as a live one is, by a rule of this project's
 /// *profile*; the standard sends none that is dead.
 ///
-/// `own.body` has at least one byte. The answer is the number of entries that needed a place while 2,048 ids were held.
+/// Each body of the system has at least one byte. The answer is the number of entries that needed a place while 2,048 ids were held.
 /// After `NoMemory` some of the entries, from the first on, have been heard, and nothing else changed.
 pub fn hear_csnp(
     alloc: Global,
@@ -185,7 +186,7 @@ pub fn hear_csnp(
 ) -> Result<u64, NoMemory>
     requires low { 1 ≤ port }
     requires high { port ≤ MOST_PORTS }
-    requires body { 1 ≤ length own.old.body }
+    requires bodies { HaveBytes own.old }
     ensures full { IfOk result (λ n. n ≡ full_count up port (claims_in entries.now) (holding db.old own.old)) }
     ensures heard { OnOk result (holding db.new own.new ≡ hear_csnp_of up port start.now end.now (claims_in entries.now) (holding db.old own.old)) }
     ensures err { OnErr result (HeardSome up port (claims_in entries.now) (holding db.old own.old) (holding db.new own.new)) }

@@ -61,10 +61,10 @@ pub fn the_sender_is_served()
     ensures missed { MissedIsSent }
 {}
 
-/// Entries that are heard leave the system and its present body as they are, and below the last number they don't spend
-/// it. Under its ids no body comes to stand by entries or a CSNP but its own, or that of a dead LSP. While it isn't spent, its own
-/// LSP stays current.
-pub fn hearing_leaves_the_own_lsp()
+/// Entries that are heard leave the system and its present bodies as they are, and below the last number they don't spend
+/// it. Under its ids no body comes to stand by entries or a CSNP but that of its number, or that of a dead LSP. While it
+/// isn't spent, its own LSPs stay current.
+pub fn hearing_leaves_own_lsps()
     ensures stands { EntriesLeaveOwn }
     ensures not_spent { EntriesDontSpend }
     ensures body { EntriesLeaveOwnBody }

@@ -1,5 +1,5 @@
-use Rattle.flooding.proofs.Settled.{settled_is_current, fresh_is_current, current_is_settled}
-use Rattle.flooding.proofs.Current.{lsp_keeps_current, entry_keeps_current}
+use Rattle.flooding.proofs.Current.{settled_is_current, fresh_is_current, current_is_settled}
+use Rattle.flooding.proofs.HeardCurrent.{lsp_keeps_current, entry_keeps_current}
 use Rattle.flooding.proofs.laws.own_lsps_are_current.Goals as goal
 
 pub returns : goal.returns

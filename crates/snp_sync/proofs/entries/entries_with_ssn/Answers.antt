@@ -1,4 +1,4 @@
-use Rattle.std.proofs.Common.{◌+◌, ◌∷◌, ℕ, List, drop, get_or, refl, subst}
+use Rattle.std.proofs.Common.{◌+◌, ℕ, List, drop, get_or, refl, subst}
 use Rattle.std.specs.FinMap.{entries}
 use Rattle.snp_sync.proofs.Within.{Gathers, gathers_none, gathers_next, gathers_all, next_place, no_place}
 use Rattle.snp_sync.proofs.entries.entries_with_ssn.Goals as goal

@@ -1,12 +1,12 @@
 use Rattle.flooding.specs.Placing.{holding}
-use Rattle.snp_sync.proofs.Heard.{heard_none, heard_body, heard_more, heard_some, heard_all, on_err}
+use Rattle.snp_sync.proofs.Heard.{heard_none, heard_bytes, heard_more, heard_some, heard_all, on_err}
 use Rattle.snp_sync.proofs.hearing.hear_psnp.Goals as goal
 
 pub loop-entry-init : goal.loop-entry-init
 loop-entry-init c = heard_none _ _ _ _
 
-pub count_entry-requires-clause-body : goal.count_entry-requires-clause-body
-count_entry-requires-clause-body c = heard_body _ _ _ _ _ (holding c.loop-entry.db c.loop-entry.own) _ c.loop-entry.invariant c.requires.body
+pub count_entry-requires-clause-bodies : goal.count_entry-requires-clause-bodies
+count_entry-requires-clause-bodies c = heard_bytes _ _ _ _ _ (holding c.loop-entry.db c.loop-entry.own) _ c.loop-entry.invariant c.requires.bodies
 
 pub returns-in_err-full-clause-err : goal.returns-in_err-full-clause-err
 returns-in_err-full-clause-err c = on_err c.from_residual.result (heard_some _ _ _ _ c.loop-entry.entry-index _ _ _ c.loop-entry.invariant c.in_err-full.ensures.err)

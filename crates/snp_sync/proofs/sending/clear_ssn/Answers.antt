@@ -1,4 +1,4 @@
-use Rattle.std.proofs.Common.{◌+◌, ◌∷◌, ℕ, List, drop, get_or, refl, subst}
+use Rattle.std.proofs.Common.{◌+◌, ℕ, List, drop, get_or, refl, subst}
 use Rattle.snp_sync.proofs.Within.{Clears, clears_none, clears_next, clears_all, next_place, no_place}
 use Rattle.snp_sync.proofs.sending.clear_ssn.Goals as goal
 

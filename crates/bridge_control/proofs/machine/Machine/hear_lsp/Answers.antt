@@ -4,13 +4,13 @@ use Rattle.flooding.specs.Hearing.{hear_lsp_of}
 use Rattle.flooding.specs.Placing.{holding}
 use Rattle.spb_types.specs.declared.drop_reason.DropReason.TheVariants as drop
 use Rattle.bridge_api.specs.Drops.{raised_at}
-use Rattle.bridge_control.proofs.Owning.{some_body}
+use Rattle.bridge_control.proofs.Owning.{own_bytes}
 use Rattle.bridge_control.proofs.Putting.{there_at}
 use Rattle.bridge_control.proofs.Heeding.{lsp_heard, heard_current, heard_lsp_path}
 use Rattle.bridge_control.proofs.machine.Machine.hear_lsp.Goals as goal
 
-pub hear_lsp_if_it_fits-requires-clause-body : goal.hear_lsp_if_it_fits-requires-clause-body
-hear_lsp_if_it_fits-requires-clause-body c = some_body c.args.self.now c.requires.ready.current
+pub hear_lsp_if_it_fits-requires-clause-bodies : goal.hear_lsp_if_it_fits-requires-clause-bodies
+hear_lsp_if_it_fits-requires-clause-bodies c = own_bytes c.args.self.now c.requires.ready.current
 
 pub returns : goal.returns
 returns c =

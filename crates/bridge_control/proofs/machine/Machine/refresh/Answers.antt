@@ -1,9 +1,22 @@
 use Rattle.std.proofs.lemmas.Result.{on_ok_weaker}
-use Rattle.bridge_control.proofs.Owning.{some_body, kept_fresh_after}
+use Rattle.std.proofs.Common.{◌≡◌, true}
+use Rattle.flooding.specs.Placing.{holding}
+use Rattle.flooding.specs.Settling.{is_said}
+use Rattle.bridge_api.proofs.OneNumber.{first_is}
+use Rattle.bridge_control.proofs.Owning.{own_bytes, own_held, own_first, kept_fresh_after}
 use Rattle.bridge_control.proofs.machine.Machine.refresh.Goals as goal
 
-pub keep_fresh-requires-clause-body : goal.keep_fresh-requires-clause-body
-keep_fresh-requires-clause-body c = some_body c.args.self.now c.requires.current
+pub keep_fresh-requires-clause-bodies : goal.keep_fresh-requires-clause-bodies
+keep_fresh-requires-clause-bodies c = own_bytes c.args.self.now c.requires.current
+
+pub keep_fresh-requires-clause-held : goal.keep_fresh-requires-clause-held
+keep_fresh-requires-clause-held c = own_held c.args.self.now c.requires.current c.requires.can.held
+
+pub keep_fresh-requires-clause-first : goal.keep_fresh-requires-clause-first
+keep_fresh-requires-clause-first c = own_first c.args.self.now c.requires.current
+
+pub keep_fresh-requires-clause-said : goal.keep_fresh-requires-clause-said
+keep_fresh-requires-clause-said c = λ same fresh. first_is (λ number. is_said (holding c.args.self.now.db c.args.self.now.own) number ≡ true) (c.requires.said same fresh)
 
 pub returns-clause-after : goal.returns-clause-after
 returns-clause-after c = on_ok_weaker c.keep_fresh.result (kept_fresh_after c.args.self.now c.args.self.now.up c.keep_fresh.new.db c.keep_fresh.new.own c.requires.current c.requires.current.ports.up) c.keep_fresh.ensures.after

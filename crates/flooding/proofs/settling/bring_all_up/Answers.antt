@@ -1,0 +1,60 @@
+use Rattle.std.proofs.Common.{◌≡◌, sym, ap, subst, ◌∙◌, arith, true, false, ◌+◌, if◌then◌else◌}
+use Rattle.std.proofs.lemmas.Bool.{true≢false}
+use Rattle.flooding.specs.Own.{own_numbers, HaveBytes}
+use Rattle.flooding.specs.Hearing.{Holding}
+use Rattle.flooding.specs.Origination.{brought_up}
+use Rattle.flooding.specs.Placing.{holding}
+use Rattle.flooding.specs.Settling.{Test, says, is_new, AreHeld}
+use Rattle.flooding.proofs.Rest.{rest_of, next_rest, no_rest, settled_rest, still_held, still_bytes, body_fits}
+use Rattle.flooding.proofs.settling.bring_all_up.Goals.{then-not-stands+in_ok-bring_up, else-not-stands}
+use Rattle.flooding.proofs.settling.bring_all_up.Goals as goal
+
+pub bring_up-requires-clause-place : goal.bring_up-requires-clause-place
+bring_up-requires-clause-place c = body_fits (holding c.loop-number.db c.loop-number.own) c.loop-number.number c.loop-number.invariant.1.1.0.0
+
+pub bring_up-requires-clause-bodies : goal.bring_up-requires-clause-bodies
+bring_up-requires-clause-bodies c = c.loop-number.invariant.1.1.0.1
+
+pub loop-number-preserved : goal.loop-number-preserved
+unfolding own_numbers
+loop-number-preserved c =
+    let test : Test = if c.args.by_age then is_new else says in
+    let g : Holding = holding c.loop-number.db c.loop-number.own in
+    let number = c.loop-number.number in
+    let before = c.loop-number.invariant in
+    elim c.if-not-stands.branch [
+      | then-not-stands+in_ok-bring_up w ↦
+          let whole : holding c.if-not-stands.db c.if-not-stands.own ≡ brought_up c.args.up number g = (λ i. holding (w.db-is i) (w.own-is i)) ∙ w.in_ok-bring_up.ensures in (
+            omega (arith, c.loop-number-test.true),
+            (
+              ap (rest_of test c.args.up (number + 1)) whole
+                  ∙ (sym (next_rest test c.args.up number g false c.loop-number-test.true (sym c.stands.ensures ∙ w.if-not-stands.true)) ∙ before.1.0),
+              (
+                (
+                  subst AreHeld (sym whole) (still_held c.args.up number g before.1.1.0.0),
+                  subst (λ (x : Holding). HaveBytes x.own) (sym whole) (still_bytes c.args.up number g before.1.1.0.1),
+                ),
+                λ is. absurd (true≢false (sym w.brought-is ∙ is)),
+              ),
+            ),
+          )
+      | else-not-stands w ↦
+          let whole : holding c.if-not-stands.db c.if-not-stands.own ≡ g = λ i. holding (w.db-is i) (w.own-is i) in (
+            omega (arith, c.loop-number-test.true),
+            (
+              ap (rest_of test c.args.up (number + 1)) whole
+                  ∙ (sym (next_rest test c.args.up number g true c.loop-number-test.true (sym c.stands.ensures ∙ w.if-not-stands.false)) ∙ before.1.0),
+              (
+                (subst AreHeld (sym whole) before.1.1.0.0, subst (λ (x : Holding). HaveBytes x.own) (sym whole) before.1.1.0.1),
+                λ is. whole ∙ before.1.1.1 (sym w.brought-is ∙ is),
+              ),
+            ),
+          )
+    ]
+
+pub returns-clause-after : goal.returns-clause-after
+unfolding own_numbers
+returns-clause-after c =
+    let test : Test = if c.args.by_age then is_new else says in
+    sym (no_rest test c.args.up c.loop-number.number (holding c.loop-number.db c.loop-number.own) (omega (arith, c.loop-number-test.false)))
+    ∙ (c.loop-number.invariant.1.0 ∙ sym (settled_rest test c.args.up (holding c.args.db.now c.args.own.now) c.if-own.false))
