@@ -2,11 +2,13 @@
 use Rattle.std.specs.Prelude.{◌≡◌, ℕ, ◌+◌, ◌<◌, ◌≤◌, slice_get, Some, Bool, true, false, ◌||◌, List, [], ◌∷◌, ◌++◌, map, length, take, drop, zero, suc, if◌then◌else◌}
 use Rattle.std.proofs.Common.{refl, sym, ap, subst, ◌∙◌, arith, add-one, get_or}
 use Rattle.std.proofs.Math.ListN.{drop_of_length-le}
-use Rattle.std.proofs.lemmas.List.{append-nil}
-use Rattle.std.specs.List.{list_any}
+use Rattle.std.proofs.lemmas.List.{append-nil, take_all}
+use Rattle.std.specs.List.{list_any, AllByRecursion}
 use Rattle.std.specs.FinMap.{entries}
 use Rattle.spb_types.specs.declared.address.LspId.{LspId}
 use Rattle.spb_types.specs.declared.address.SystemId.{SystemId}
+use Rattle.spb_types.specs.declared.ports.PortSet.{PortSet}
+use Rattle.spb_types.specs.Ports.{has}
 use Rattle.lsdb.specs.Entry.{Entry, has_ports, has_flags, with_ssn}
 use Rattle.lsdb.specs.Database.{Lsps, AreFlagsAt}
 use Rattle.lsdb.proofs.FlaggedPlaces.{flags_mapped_at}
@@ -46,6 +48,67 @@ after_sending_within ps p port db flags = by_test (is_port_up port)
         subst (λ (es : List (LspId × Entry)). AreFlagsAt 0 ps es) (sym (entries-each (λ id e. ssn_cleared p e) db))
         (flags_mapped_at (λ (e : LspId × Entry). (e.0, ssn_cleared p e.1)) (λ e none. still_idle p e.1 none) 0 ps (entries db) flags)
     by_test false = flags
+
+-- ---- ports of the LSPs at these places are all
+
+-- a port isn't in this set of the LSP at a place, if there is one
+abbrev pub IsUnmarked : (Entry → PortSet) → List (LspId × Entry) → ℕ → ℕ → Type 0
+IsUnmarked f es p q = (e : LspId × Entry) → slice_get es q ≡ Some e → has (f e.1) p ≡ false
+
+pub all_next : (P : ℕ → Type 0) (ps : List ℕ) (k d : ℕ) → k < length ps → AllByRecursion P (take k ps) → P (get_or ps k d) → AllByRecursion P (take (suc k) ps)
+all_next P [] k d within all next = absurd (omega arith)
+all_next P (p ∷ ps) zero d within all next = (next, tt)
+all_next P (p ∷ ps) (suc k) d within all next = (all.0, all_next P ps k d (omega arith) all.1 next)
+
+or_false : (a b : Bool) → a ≡ false → b ≡ false → (a || b) ≡ false
+or_false a b e f = ap (λ c. c || b) e ∙ f
+
+-- a set that has a port only where flags stand
+abbrev pub IsFlag : (Entry → PortSet) → ℕ → Type 0
+IsFlag f p = (e : Entry) → has_flags e ≡ false → has (f e) p ≡ false
+
+pub srm_is_flag : (p : ℕ) → IsFlag (λ e. e.srm) p
+srm_is_flag p e none = none_in e.srm (or_parts (has_ports e.srm) (has_ports e.ssn) none).0 p
+
+pub ssn_is_flag : (p : ℕ) → IsFlag (λ e. e.ssn) p
+ssn_is_flag p e none = none_in e.ssn (or_parts (has_ports e.srm) (has_ports e.ssn) none).1 p
+
+idle_unmarked : (f : Entry → PortSet) (p : ℕ) → IsFlag f p → (es : List (LspId × Entry)) → AreIdle es → list_any (λ (e : LspId × Entry). has (f e.1) p) es ≡ false
+idle_unmarked f p flag [] none = refl
+idle_unmarked f p flag (e ∷ es) none =
+    let parts = idle_first e es none in
+    or_false (has (f e.1) p) (list_any (λ (d : LspId × Entry). has (f d.1) p) es) (flag e.1 parts.0) (idle_unmarked f p flag es parts.1)
+
+unmarked_past : (f : Entry → PortSet) (p : ℕ) → IsFlag f p → (n q : ℕ) (es : List (LspId × Entry)) → n ≤ q → AreIdle (drop n (take q es)) → IsUnmarked f es p q
+    → list_any (λ (e : LspId × Entry). has (f e.1) p) (drop (suc q) es) ≡ false → list_any (λ (e : LspId × Entry). has (f e.1) p) (drop n es) ≡ false
+unmarked_past f p flag zero zero [] le gap here rest = refl
+unmarked_past f p flag zero (suc q) [] le gap here rest = refl
+unmarked_past f p flag (suc n) zero [] le gap here rest = refl
+unmarked_past f p flag (suc n) (suc q) [] le gap here rest = refl
+unmarked_past f p flag zero zero (e ∷ es) le gap here rest = or_false (has (f e.1) p) _ (here e refl) rest
+unmarked_past f p flag zero (suc q) (e ∷ es) le gap here rest =
+    let parts = idle_first e (take q es) gap in
+    or_false (has (f e.1) p) _ (flag e.1 parts.0) (unmarked_past f p flag zero q es (omega arith) parts.1 here rest)
+unmarked_past f p flag (suc n) zero (e ∷ es) le gap here rest = absurd (omega arith)
+unmarked_past f p flag (suc n) (suc q) (e ∷ es) le gap here rest = unmarked_past f p flag n q es (omega arith) gap here rest
+
+unmarked_from : (f : Entry → PortSet) (p : ℕ) → IsFlag f p → (n : ℕ) (ps : List ℕ) (es : List (LspId × Entry)) → AreFlagsAt n ps es → AllByRecursion (IsUnmarked f es p) ps
+    → list_any (λ (e : LspId × Entry). has (f e.1) p) (drop n es) ≡ false
+unmarked_from f p flag n [] es flags all = idle_unmarked f p flag (drop n es) flags
+unmarked_from f p flag n (q ∷ ps) es flags all = unmarked_past f p flag n q es flags.0 flags.2 all.0 (unmarked_from f p flag (suc q) ps es flags.3 all.1)
+
+-- a port that is in the set of no LSP at these places is in that of no LSP at all
+pub unmarked_all : (f : Entry → PortSet) (p k : ℕ) (ps : List ℕ) (es : List (LspId × Entry)) → IsFlag f p → length ps ≤ k → AreFlagsAt 0 ps es → AllByRecursion (IsUnmarked f es p) (take k ps)
+    → list_any (λ (e : LspId × Entry). has (f e.1) p) es ≡ false
+unmarked_all f p k ps es flag past flags all = unmarked_from f p flag 0 ps es flags (subst (AllByRecursion (IsUnmarked f es p)) (take_all k ps past) all)
+
+-- the LSP at one place more
+pub unmarked_next : (f : Entry → PortSet) (p k d : ℕ) (ps : List ℕ) (es : List (LspId × Entry)) (was at now : PortSet) → k < length ps → (has was p ≡ false → AllByRecursion (IsUnmarked f es p) (take k ps))
+    → ((e : LspId × Entry) → slice_get es (get_or ps k d) ≡ Some e → at ≡ f e.1) → has now p ≡ (has was p || has at p) → has now p ≡ false → AllByRecursion (IsUnmarked f es p) (take (k + 1) ps)
+unmarked_next f p k d ps es was at now within before here both none =
+    let parts = or_parts (has was p) (has at p) (sym both ∙ none) in
+    subst (λ n. AllByRecursion (IsUnmarked f es p) (take n ps)) (sym (add-one k))
+    (all_next (IsUnmarked f es p) ps k d within (before parts.0) (λ e is. sym (ap (λ (s : PortSet). has s p) (here e is)) ∙ parts.1))
 
 -- ---- LSPs are sent where flags stand
 

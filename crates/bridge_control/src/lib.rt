@@ -41,12 +41,12 @@
 //!   on, goes twice over the ports up to that one, and once over all; goes once over the database, looks up the own LSP
 //!   by a binary search, and compares no body, in time p + n. Each hello is the frame that is kept, of which no byte is
 //!   copied, and takes no memory but its place in the outbox. Where flags stand or the bridge originated, it also goes
-//!   over the database three times, to find the ports with SRM, those with SSN, and the places at which flags stand; and
-//!   then over these places: once to make the frames of the LSPs with SRM, which all ports share; once for each Up port
-//!   with SRM, to send the frames of those to be sent there; and twice for each Up port with SSN, for the entries and to
-//!   clear these. It goes over the database once for each port at which CSNPs are due and for each at which a neighbour
-//!   is lost. Memory is taken for these places and for their frames, for each LSP with SRM once, and for each CSNP and
-//!   PSNP.
+//!   over the database once more, to find the places at which flags stand; and then over these places: twice to find
+//!   the ports with SRM and those with SSN; once to make the frames of the LSPs with SRM, which all ports share; once
+//!   for each Up port with SRM, to send the frames of those to be sent there; and twice for each Up port with SSN, for
+//!   the entries and to clear these. It goes over the database once for each port at which CSNPs are due and for each
+//!   at which a neighbour is lost. Memory is taken for these places and for their frames, for each LSP with SRM once,
+//!   and for each CSNP and PSNP.
 //! - A hello takes time in proportion to its length. The one that came last to a port is kept there: where the same
 //!   frame comes again it is compared, and not read or kept again. One that only begins the holding count anew changes
 //!   its port and nothing else. Memory is taken where another hello comes than the last time, for its frame, and where one changes

@@ -1,9 +1,11 @@
 //! What a bridge sends in a second: to each port its hello, and to an Up one CSNPs, LSPs and PSNPs, as frames.
-ghost use Rattle.std.specs.Prelude.{◌≡◌, ◌+◌, ◌≤◌, ◌∷◌, ◌&&◌, ◌||◌, not, [], true, false, length, map, slice_get, ℕ, IfOk, OnOk, OnErr, if◌then◌else◌};
+ghost use Rattle.std.specs.Prelude.{◌≡◌, ◌+◌, ◌≤◌, ◌∷◌, ◌&&◌, ◌||◌, not, [], true, false, length, map, slice_get, Some, ℕ, IfOk, OnOk, OnErr, if◌then◌else◌};
 ghost use Rattle.std.specs.List.{AllByRecursion};
 ghost use Rattle.std.specs.Option.{option_copied};
 ghost use Rattle.std.specs.FinMap.{entries};
 ghost use Rattle.spb_types.specs.Ports.{has};
+ghost use Rattle.spb_types.specs.declared.address.LspId.{LspId};
+ghost use Rattle.lsdb.specs.Entry.{Entry};
 ghost use Rattle.lsdb.specs.Database.{any_flags, is_srm_at, is_ssn_at, AreFlagsAt};
 ghost use Rattle.flooding.specs.Entries.{AreSendable};
 ghost use Rattle.snp_sync.specs.Sized.{AreSized};
@@ -48,9 +50,9 @@ pub(crate) fn send_all(
     ensures after_sending { OnOk result (db.new ≡ api.after_sending_from 1 ports.now db.old) }
     ensures gained { OnErr result (Gains (api.sent_from system 1 ports.now db.old) outbox.old outbox.new) }
 {
-    let srm = srm_ports(db, has_flags);
-    let ssn = ssn_ports(db, has_flags);
     let places = flagged_places(alloc, db, has_flags)?;
+    let srm = srm_ports(db, places.as_slice());
+    let ssn = ssn_ports(db, places.as_slice());
     let frames = frames_to_send(alloc, system, db, places.as_slice())?;
     let flags = Flags {
         srm,
@@ -66,28 +68,57 @@ pub(crate) fn send_all(
     Ok(())
 }
 
-/// The ports at which LSPs are to be sent. Where `has_flags` is false there are none, and none are looked for.
-fn srm_ports(db: &Database, has_flags: bool) -> PortSet
-    requires { has_flags ≡ false → any_flags db.now ≡ false }
+/// The ports at which the LSPs at these places are to be sent.
+fn srm_ports(db: &Database, places: &[usize]) -> PortSet
+    requires { AreFlagsAt 0 places.now (entries db.now) }
     ensures { (p : ℕ) → has result p ≡ false → is_srm_at p db.now ≡ false }
 {
-    if has_flags {
-        db.srm_ports()
-    } else {
-        PortSet::none()
+    let mut ports = PortSet::none();
+    'find: for k in 0..places.len() {
+        ports = with_ports(ports, srm_at(db, places[k]));
+    }
+    ports
+}
+
+/// The ports at which the LSPs at these places are to be acknowledged or asked for.
+fn ssn_ports(db: &Database, places: &[usize]) -> PortSet
+    requires { AreFlagsAt 0 places.now (entries db.now) }
+    ensures { (p : ℕ) → has result p ≡ false → is_ssn_at p db.now ≡ false }
+{
+    let mut ports = PortSet::none();
+    'find: for k in 0..places.len() {
+        ports = with_ports(ports, ssn_at(db, places[k]));
+    }
+    ports
+}
+
+/// The ports at which the LSP at a place is to be sent; none where no LSP stands.
+fn srm_at(db: &Database, place: usize) -> PortSet
+    ensures { (e : LspId × Entry) → slice_get (entries db.now) place ≡ Some e → result ≡ e.1.srm }
+{
+    match db.at(place) {
+        Some(held) => held.srm,
+        None => PortSet::none(),
     }
 }
 
-/// The ports at which LSPs are to be acknowledged or asked for. Where `has_flags` is false there are none, and none are
-/// looked for.
-fn ssn_ports(db: &Database, has_flags: bool) -> PortSet
-    requires { has_flags ≡ false → any_flags db.now ≡ false }
-    ensures { (p : ℕ) → has result p ≡ false → is_ssn_at p db.now ≡ false }
+/// The ports at which the LSP at a place is to be acknowledged or asked for; none where no LSP stands.
+fn ssn_at(db: &Database, place: usize) -> PortSet
+    ensures { (e : LspId × Entry) → slice_get (entries db.now) place ≡ Some e → result ≡ e.1.ssn }
 {
-    if has_flags {
-        db.ssn_ports()
-    } else {
-        PortSet::none()
+    match db.at(place) {
+        Some(held) => held.ssn,
+        None => PortSet::none(),
+    }
+}
+
+/// The ports of two sets.
+#[tactic(auto, using(lsdb::proofs::Flags::has_either))]
+fn with_ports(ports: PortSet, more: PortSet) -> PortSet
+    ensures { (p : ℕ) → has result p ≡ (has ports p || has more p) }
+{
+    PortSet {
+        bits: ports.bits | more.bits,
     }
 }
 

@@ -2,7 +2,7 @@
 use crate::shared_reading::Reading;
 use spb_types::{NoMemory, SystemId};
 use std::alloc::Global;
-use std::cell::{Cell, RefCell};
+use std::cell::Cell;
 use std::rc::Rc;
 
 /// A place for what one of some bridges read last. Where several hold the same LSPs, as in a quiet network, the graph is
@@ -10,7 +10,7 @@ use std::rc::Rc;
 /// what it holds itself where that isn't the same.
 #[derive(Drop)]
 pub struct SharedReading {
-    kept: Rc<RefCell<Option<Reading>>>,
+    kept: Rc<Cell<Option<Reading>>>,
     /// The bridge that used it last.
     user: Rc<Cell<Option<SystemId>>>,
 }
@@ -19,7 +19,7 @@ impl SharedReading {
     /// A place with nothing there yet.
     pub fn new(alloc: Global) -> Result<Self, NoMemory> {
         Ok(SharedReading {
-            kept: Rc::new(alloc, RefCell::new(None))?,
+            kept: Rc::new(alloc, Cell::new(None))?,
             user: Rc::new(alloc, Cell::new(None))?,
         })
     }
@@ -39,12 +39,12 @@ impl SharedReading {
 
     /// Takes out what is there.
     pub(crate) fn take(&self) -> Option<Reading> {
-        self.kept.try_replace(None).unwrap_or(None)
+        self.kept.take()
     }
 
     /// Keeps there what a bridge has used.
     pub(crate) fn keep(&self, reading: Reading, user: SystemId) {
-        let _ = self.kept.try_replace(Some(reading));
+        self.kept.set(Some(reading));
         self.user.set(Some(user));
     }
 }

@@ -35,11 +35,12 @@ pub struct LiveLsp {
 }
 
 /// The graph that a bridge read from the LSPs that it held, made ready for tables; and these LSPs, by which a bridge
-/// sees whether it reads the same. Contracts see the graph and the base VIDs.
+/// sees whether it reads the same. It is taken out of its place at each use, so it is small. Contracts see the graph and
+/// the base VIDs.
 #[derive(Drop)]
 pub struct Reading {
     lsps: Vec<LiveLsp>,
-    fabric: Fabric,
+    fabric: Box<Fabric>,
 }
 
 impl Model for Reading {
@@ -48,9 +49,9 @@ impl Model for Reading {
 
     ghost Value = { FabricView };
 
-    ghost view = { λ r. r.fabric };
+    ghost view = { λ r. r.fabric.value };
 
-    ghost invariant = { λ r. IsReadOf r.lsps.items r.fabric.graph };
+    ghost invariant = { λ r. IsReadOf r.lsps.items r.fabric.value.graph };
 }
 
 impl Reading {
@@ -168,9 +169,10 @@ impl Machine {
         let list = contents(self.alloc, &self.db)?;
         let graph = said_graph_of(self.alloc, list.as_slice())?;
         let roads = Roads::over(self.alloc, graph)?;
+        let fabric = Fabric::new(self.alloc, roads, self.vids.as_slice())?;
         Ok(Reading {
             lsps,
-            fabric: Fabric::new(self.alloc, roads, self.vids.as_slice())?,
+            fabric: Box::new(self.alloc, fabric)?,
         })
     }
 

@@ -4,4 +4,3 @@ pub mod TlvWalk
 pub mod Written
 pub mod Read
 pub mod FormatLaws
-pub mod Appended

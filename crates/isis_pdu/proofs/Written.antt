@@ -56,10 +56,10 @@ abbrev id_of : ℕ → ℕ → ℕ → ℕ → ℕ → ℕ → SystemId
 id_of a b c d e f = record { mac = record { bytes = a ∷ b ∷ c ∷ d ∷ e ∷ f ∷ [] } }
 
 -- six bytes are the list of them
-abbrev six_of : List ℕ → List ℕ
+abbrev pub six_of : List ℕ → List ℕ
 six_of xs = slice_index xs 0 ∷ slice_index xs 1 ∷ slice_index xs 2 ∷ slice_index xs 3 ∷ slice_index xs 4 ∷ slice_index xs 5 ∷ []
 
-six : (xs : List ℕ) → length xs ≡ 6 → xs ≡ six_of xs
+pub six : (xs : List ℕ) → length xs ≡ 6 → xs ≡ six_of xs
 six [] h = absurd (omega arith)
 six (a ∷ []) h = absurd (omega arith)
 six (a ∷ b ∷ []) h = absurd (omega arith)

@@ -1,5 +1,5 @@
 //! PDUs written as bytes.
-ghost use Rattle.std.specs.Prelude.{◌≡◌, ◌+◌, ◌≤◌, ◌++◌, length, IfOk, OnOk};
+ghost use Rattle.std.specs.Prelude.{◌≡◌, ◌+◌, ◌≤◌, ◌++◌, ◌∷◌, [], length, IfOk, OnOk};
 ghost use Rattle.isis_pdu.specs.declared.kind.Kind.TheVariants as kinds;
 ghost use Rattle.spb_types.specs.Bytes.{lsp_id_bytes};
 ghost use Rattle.isis_pdu.specs.Bytes.{u16_bytes, u32_bytes};
@@ -32,14 +32,6 @@ fn with_header(alloc: Global, kind: Kind, tlvs: &[u8]) -> Result<Vec<u8>, AllocE
 #[tactic(auto, using(crate::proofs::Bytes::be_bytes_u16))]
 fn put_u16(out: &mut Vec<u8>, number: u16) -> Result<(), AllocError>
     ensures { OnOk result (out.new.items ≡ out.old.items ++ u16_bytes number) }
-{
-    out.extend_from_slice(&number.to_be_bytes())?;
-    Ok(())
-}
-
-#[tactic(auto, using(crate::proofs::Bytes::be_bytes_u32))]
-fn put_u32(out: &mut Vec<u8>, number: u32) -> Result<(), AllocError>
-    ensures { OnOk result (out.new.items ≡ out.old.items ++ u32_bytes number) }
 {
     out.extend_from_slice(&number.to_be_bytes())?;
     Ok(())
@@ -106,6 +98,48 @@ pub fn lsp_length(lsp: &Lsp<'_>) -> usize
     usize::from(Kind::Lsp.fixed_length()) + lsp.tlvs.len()
 }
 
+/// All of an LSP of `len` bytes that stands before its TLVs.
+fn lsp_head(id: LspId, len: u16, lifetime: u16, seq: u32, sum: u16, flags: u8) -> [u8; 27]
+    ensures { result ≡ spelling.common_header zeros kinds.Lsp
+        ++ u16_bytes len
+        ++ u16_bytes lifetime
+        ++ lsp_id_bytes id
+        ++ u32_bytes seq
+        ++ u16_bytes sum
+        ++ flags ∷ [] }
+{
+    let [a, b, c, d, e, f] = id.system.mac.bytes;
+    [
+        0x83,
+        27,
+        1,
+        0,
+        18,
+        1,
+        0,
+        0,
+        (len / 256) as u8,
+        (len % 256) as u8,
+        (lifetime / 256) as u8,
+        (lifetime % 256) as u8,
+        a,
+        b,
+        c,
+        d,
+        e,
+        f,
+        id.pseudonode,
+        id.number,
+        (seq / 16_777_216) as u8,
+        (seq / 65_536 % 256) as u8,
+        (seq / 256 % 256) as u8,
+        (seq % 256) as u8,
+        (sum / 256) as u8,
+        (sum % 256) as u8,
+        flags,
+    ]
+}
+
 /// Writes an LSP behind other bytes, as [`write_lsp`] does alone. Where the vector has room for it, as
 /// [`lsp_length`] says, no memory is taken.
 #[tactic(auto, unfolding(crate::specs::Spelling::lsp_bytes))]
@@ -113,13 +147,9 @@ pub fn append_lsp(out: &mut Vec<u8>, lsp: &Lsp<'_>) -> Result<(), NoMemory>
     requires { CanWrite kinds.Lsp lsp.now.tlvs.now }
     ensures { OnOk result (out.new.items ≡ out.old.items ++ lsp_bytes (lsp_of lsp.now)) }
 {
-    out.extend_from_slice(&common_header(Kind::Lsp))?;
-    put_length(out, Kind::Lsp, lsp.tlvs)?;
-    put_u16(out, lsp.lifetime)?;
-    put_lsp_id(out, &lsp.id)?;
-    put_u32(out, lsp.seq)?;
-    put_u16(out, lsp.sum)?;
-    out.push(lsp.flags)?;
+    let len = lsp_length(lsp) as u16;
+    let head = lsp_head(lsp.id, len, lsp.lifetime, lsp.seq, lsp.sum, lsp.flags);
+    out.extend_from_slice(&head)?;
     out.extend_from_slice(lsp.tlvs)?;
     Ok(())
 }

@@ -1,6 +1,7 @@
 //! Control frames, made of a PDU or of the room for one.
 ghost use Rattle.std.specs.Prelude.{◌≡◌, ◌≤◌, ◌++◌, ℕ, List, length, Ok, IfOk};
-ghost use Rattle.itag_frames.specs.Frame.{Pdu, control_bytes};
+ghost use Rattle.std.specs.Int.{w16, to_be_bytes};
+ghost use Rattle.itag_frames.specs.Frame.{Pdu, control_address, llc, control_bytes};
 ghost use Rattle.itag_frames.specs.Classify.{content_in};
 
 use crate::frame::{CONTROL_ADDRESS, LLC};
@@ -27,9 +28,19 @@ pub fn control_head(alloc: Global, sa: Mac, len: usize) -> Result<Vec<u8>, NoMem
 {
     let counted = LLC.len() + len;
     let mut head = Vec::with_capacity(alloc, 14 + counted)?;
-    head.extend_from_slice(&CONTROL_ADDRESS)?;
-    head.extend_from_slice(&sa.bytes)?;
-    head.extend_from_slice(&(counted as u16).to_be_bytes())?;
-    head.extend_from_slice(&LLC)?;
+    head.extend_from_slice(&head_of(sa, counted as u16))?;
     Ok(head)
+}
+
+/// The two addresses, the length field and the LLC bytes, where the LLC bytes and the PDU are `counted`.
+fn head_of(sa: Mac, counted: u16) -> [u8; 17]
+    ensures { result ≡ control_address ++ sa.bytes ++ to_be_bytes w16 counted ++ llc }
+{
+    let [a, b, c, d, e, f] = CONTROL_ADDRESS;
+    let [g, h, i, j, k, l] = sa.bytes;
+    let [high, low] = counted.to_be_bytes();
+    let [dsap, ssap, control] = LLC;
+    [
+        a, b, c, d, e, f, g, h, i, j, k, l, high, low, dsap, ssap, control,
+    ]
 }

@@ -1,5 +1,14 @@
-use Rattle.lsdb.proofs.Flags.{no_ssn_at}
+use Rattle.std.specs.FinMap.{entries}
+use Rattle.bridge_control.proofs.Standing.{ssn_is_flag, unmarked_next, unmarked_all}
 use Rattle.bridge_control.proofs.sending.ssn_ports.Goals as goal
 
-pub returns-else-has_flags : goal.returns-else-has_flags
-returns-else-has_flags c = λ p none. no_ssn_at c.args.db.now (c.requires c.if-has_flags.false) p
+pub find-init : goal.find-init
+find-init c = λ p none. tt
+
+pub find-preserved : goal.find-preserved
+find-preserved c =
+    λ p none. unmarked_next (λ e. e.ssn) p c.find.k 0 c.args.places.now (entries c.args.db.now) c.find.ports c.ssn_at.result _ c.find-test.true (c.find.invariant p) c.ssn_at.ensures (c.with_ports-ports.ensures p) none
+
+pub returns : goal.returns
+returns c =
+    λ p none. unmarked_all (λ e. e.ssn) p c.find.k c.args.places.now (entries c.args.db.now) (ssn_is_flag p) c.find-test.false c.requires (c.find.invariant p none)

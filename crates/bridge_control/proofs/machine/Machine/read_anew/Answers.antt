@@ -16,5 +16,5 @@ new-requires-clause-vids c = subst ArePlans (sym c.as_slice-2.ensures) (plans_ar
 pub returns-clause-valid : goal.returns-clause-valid
 returns-clause-valid c =
     let v = view_of c.args.self.now in
-    let same : c.in_ok-new.field-0.graph ≡ c.in_ok-graph.graph = ap (λ (f : FabricView). f.graph) c.in_ok-new.ensures ∙ c.in_ok-roads.ensures in
+    let same : c.in_ok-new.field-0.value.graph ≡ c.in_ok-graph.graph = ap (λ (f : FabricView). f.graph) (c.in_ok-new.ensures.ok ∙ c.in_ok-fabric.ensures) ∙ c.in_ok-roads.ensures in
     subst (λ (g : Graph). IsValidFor g v.id.system) (sym same) (c.in_ok-graph.ensures.valid_for v.id.system (read_own_ports v _ c.requires (c.as_slice.ensures.value ∙ c.in_ok-list.ensures.read)))
