@@ -10,6 +10,7 @@ ghost use Rattle.ect_trees.specs.Routes.{AreRoutes, serve};
 ghost use Rattle.ect_trees.specs.Tree.{best_path};
 
 use crate::followers::follower_anew;
+use crate::guess::id_numbers;
 use crate::roads::Roads;
 use crate::routes::{Routes, routes_from};
 use crate::tree::tree_over;
@@ -21,6 +22,8 @@ use std::marker::Model;
 #[derive(Drop)]
 pub struct Forest {
     roads: Roads,
+    /// The bridge ids as numbers, by place, for guesses.
+    ids: Vec<u64>,
     /// The routes from each bridge, by its place in the graph.
     rows: Vec<Vec<Routes>>,
 }
@@ -68,7 +71,8 @@ impl Forest {
         ensures none { IfOk result (λ new. (from mask : ℕ) → forest.keeps new from mask ≡ false) }
     {
         let rows = no_routes(alloc, roads.graph().bridges.len())?;
-        Ok(Forest { roads, rows })
+        let ids = id_numbers(alloc, roads.graph())?;
+        Ok(Forest { roads, ids, rows })
     }
 
     /// The roads of the graph.
@@ -88,7 +92,7 @@ impl Forest {
         if from >= self.rows.len() || kept(self.rows.as_slice(), from, mask).is_some() {
             return Ok(());
         }
-        let routes = routes_from(alloc, self.roads.mesh(), from, mask)?;
+        let routes = routes_from(alloc, self.roads.mesh(), self.ids.as_slice(), from, mask)?;
         self.rows[from].push(routes)?;
         Ok(())
     }

@@ -34,6 +34,7 @@ pub struct Routes {
 fn form_of(
     alloc: Global,
     mesh: &Mesh,
+    ids: &[u64],
     from: usize,
     source: SystemId,
     mask: u8,
@@ -42,7 +43,7 @@ fn form_of(
     requires here { IsBridgeAt mesh.now.graph from source }
     ensures { IfOk result (routes.AreBestAt mesh.now.graph from mask) }
 {
-    let steps = guessed(alloc, mesh, from, mask)?;
+    let steps = guessed(alloc, mesh, ids, from, mask)?;
     let ways = Ways {
         mesh,
         mask,
@@ -54,10 +55,11 @@ fn form_of(
     }
 }
 
-/// The best paths from the bridge at a place, under a mask.
+/// The best paths from the bridge at a place, under a mask. The bridge ids, as numbers, serve for a guess alone.
 pub(crate) fn routes_from(
     alloc: Global,
     mesh: &Mesh,
+    ids: &[u64],
     from: usize,
     mask: u8,
 ) -> Result<Routes, NoMemory>
@@ -70,7 +72,7 @@ pub(crate) fn routes_from(
     Ok(Routes {
         from,
         mask,
-        form: form_of(alloc, mesh, from, source, mask)?,
+        form: form_of(alloc, mesh, ids, from, source, mask)?,
     })
 }
 

@@ -1,4 +1,6 @@
 pub mod RowLemmas
+pub mod PortLemmas
+pub mod PutLemmas
 pub mod ServeLemmas
 pub mod AscendLemmas
 pub mod SortLemmas

@@ -18,25 +18,16 @@ use spb_types::{GraphBridge, GroupRow, Mac, NoMemory, PortSet, Vid, ect_mask, gr
 use std::alloc::Global;
 use std::collections::BTreeMap;
 
-/// The ports that rows have for an address.
-fn ports_at(rows: &BTreeMap<Mac, PortSet>, mac: Mac) -> PortSet
-    ensures { result ≡ making.ports_at rows.now mac }
-{
-    match rows.get(&mac) {
-        None => PortSet::none(),
-        Some(ports) => *ports,
-    }
-}
-
-/// Adds ports to the row for an address.
+/// Adds ports to the row for an address, which mostly isn't there yet.
 fn add_ports(rows: &mut BTreeMap<Mac, PortSet>, mac: Mac, ports: PortSet) -> Result<(), NoMemory>
     ensures { OnOk result (making.Grew rows.old rows.new (λ q p. making.same_mac q mac && has ports p)) }
 {
     if ports.bits == 0 {
         return Ok(());
     }
-    let more = union(ports_at(rows, mac), ports);
-    rows.insert(mac, more)?;
+    if let Some(before) = rows.insert(mac, ports)? {
+        rows.insert(mac, union(before, ports))?;
+    }
     Ok(())
 }
 

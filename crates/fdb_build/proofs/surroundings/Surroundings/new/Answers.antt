@@ -14,7 +14,7 @@ returns c =
         valid = c.requires.valid;
         here = c.requires.here;
         ports =
-            c.in_ok-ports.ensures ∙ ((λ i. ports_by (c.as_slice.ensures.value i) (c.graph-2.ensures i).bridges) ∙
+            c.in_ok-ports.ensures ∙ (ap (λ t. ports_by t g.bridges) c.as_slice.ensures.value ∙
             ports_known g me c.in_ok-neighbours.neighbours.items c.requires.valid.valid neighbours);
       };
       graph_is = refl;
