@@ -76,11 +76,11 @@ impl HeardHello {
     }
 
     /// What a frame says, if it is the one that is kept.
-    pub(crate) fn said_in(&self, frame: &[u8]) -> Option<Said>
-        ensures { IfSome result (IsSaidIn frame.now) }
+    pub(crate) fn said_in(&self, frame: &[u8]) -> Option<&Said>
+        ensures { IfSome result (λ said. IsSaidIn frame.now said.now) }
     {
         if self.frame.as_slice() == frame {
-            Some(self.said)
+            Some(&self.said)
         } else {
             None
         }
@@ -97,8 +97,12 @@ pub(crate) fn none_heard(alloc: Global, ports: usize) -> Result<Vec<Option<Heard
 }
 
 /// What a frame says, if it brings the hello that came last to a port.
-pub(crate) fn said_at(heard: &[Option<HeardHello>], port: u8, frame: &[u8]) -> Option<Said>
-    ensures { IfSome result (IsSaidIn frame.now) }
+pub(crate) fn said_at<'a>(
+    heard: &'a [Option<HeardHello>],
+    port: u8,
+    frame: &[u8],
+) -> Option<&'a Said>
+    ensures { IfSome result (λ said. IsSaidIn frame.now said.now) }
 {
     let place = usize::from(port);
     if place == 0 || place > heard.len() {

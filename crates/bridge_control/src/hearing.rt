@@ -1,5 +1,5 @@
 //! Hearing a frame.
-ghost use Rattle.std.specs.Prelude.{◌≡◌, ◌≤◌, true, false, IfOk, OnOk, OnErr, if◌then◌else◌};
+ghost use Rattle.std.specs.Prelude.{◌≡◌, ◌≤◌, [], true, false, IfOk, OnOk, OnErr, if◌then◌else◌};
 ghost use Rattle.isis_pdu.specs.Pdu.{hello_of, lsp_of, csnp_of, psnp_of};
 ghost use Rattle.flooding.specs.Own.{HaveBytes};
 ghost use Rattle.flooding.specs.Hearing.{hear_lsp_of, is_full_for_lsp};
@@ -10,10 +10,11 @@ ghost use Rattle.bridge_api.specs.Parsing as parsing;
 ghost use Rattle.bridge_api.specs.Hearing as api;
 ghost use Rattle.bridge_api.specs.Customers.{moved_by_receive};
 ghost use Rattle.bridge_api.specs.Step.{with_moved, GainsMoved};
+ghost use Rattle.bridge_control.specs.Heard.{hello_saying};
 ghost use Rattle.bridge_control.specs.Kept.{AreOwn};
 ghost use Rattle.bridge_control.specs.Machine.{view_of, IsReady, IsAfter, hears};
 
-use crate::heard::{HeardHello, put_heard, said_at};
+use crate::heard::{HeardHello, Said, put_heard, said_at};
 use crate::machine::Machine;
 use crate::parsing::{Message, parse};
 use crate::ports::{is_up, port_at, put_hold};
@@ -50,10 +51,38 @@ impl Machine {
             self.count_drop(DropReason::NotAdjacent);
             return Ok(());
         }
-        match said_at(self.heard.as_slice(), port, frame) {
-            Some(said) => self.hear_hello(port, &said.hello(), &said.way, kept),
-            None => self.hear_anew(port, frame, kept, outbox),
+        let Some(said) = said_at(self.heard.as_slice(), port, frame) else {
+            return self.hear_anew(port, frame, kept, outbox);
+        };
+        let mut new = port_at(self.ports.as_slice(), port);
+        if new
+            .adjacency
+            .refresh(self.id.system, port, &said.hello(), &said.way)
+        {
+            put_hold(&mut self.ports, port, new.adjacency.hold);
+            return Ok(());
         }
+        let said = *said;
+        self.hear_again(port, said, kept)
+    }
+
+    /// Hears the hello that came last to a port with carrier again, by which more may change than the holding count.
+    #[cold]
+    fn hear_again(
+        &mut self,
+        port: u8,
+        said: Said,
+        kept: &mut Option<Tables>,
+    ) -> Result<(), NoMemory>
+        requires ready { IsReady self.old }
+        requires port { IsPort (view_of self.old) port }
+        requires carrier { has_carrier_at (view_of self.old) port ≡ true }
+        requires state { said.way.state ≤ 2 }
+        ensures after { OnOk result (IsAfter (hears (parsing.hello (hello_saying said []) said.way) port (view_of self.old)) self.new) }
+        ensures kept { OnOk result (AreOwn (view_of self.new) kept.new) }
+    {
+        *kept = None;
+        self.hear_hello(port, &said.hello(), &said.way)
     }
 
     /// Hears a frame at a port with carrier, which isn't the hello that came last there.
@@ -76,7 +105,10 @@ impl Machine {
         ensures kept { OnOk result (AreOwn (view_of self.new) kept.new) }
     {
         match parse(&self.db, frame) {
-            Message::Hello(hello, way) => self.hear_new_hello(port, frame, &hello, &way, kept),
+            Message::Hello(hello, way) => {
+                *kept = None;
+                self.hear_new_hello(port, frame, &hello, &way)
+            }
             Message::Lsp(lsp, near) => {
                 *kept = None;
                 self.hear_lsp(port, &lsp, near)
@@ -104,19 +136,16 @@ impl Machine {
         frame: &[u8],
         hello: &Hello<'_>,
         way: &ThreeWay,
-        kept: &mut Option<Tables>,
     ) -> Result<(), NoMemory>
         requires ready { IsReady self.old }
         requires port { IsPort (view_of self.old) port }
         requires carrier { has_carrier_at (view_of self.old) port ≡ true }
         requires state { way.now.state ≤ 2 }
         requires brings { parsing.parsed frame.now ≡ parsing.hello (hello_of hello.now) way.now }
-        requires tables { AreOwn (view_of self.old) kept.old }
-        ensures after { OnOk result (IsAfter (hears (parsing.hello (hello_of hello.now) way.now) port (view_of self.old)) self.new) }
-        ensures kept { OnOk result (AreOwn (view_of self.new) kept.new) }
+        ensures { OnOk result (IsAfter (hears (parsing.hello (hello_of hello.now) way.now) port (view_of self.old)) self.new) }
     {
         self.keep_hello(port, frame, hello, way)?;
-        self.hear_hello(port, hello, way, kept)
+        self.hear_hello(port, hello, way)
     }
 
     /// Keeps a hello as the one that came last to a port.
@@ -136,40 +165,8 @@ impl Machine {
         Ok(())
     }
 
-    /// Hears a hello at a port with carrier. Where more than the holding count may change, no tables are kept.
-    #[inline(always)]
-    fn hear_hello(
-        &mut self,
-        port: u8,
-        hello: &Hello<'_>,
-        way: &ThreeWay,
-        kept: &mut Option<Tables>,
-    ) -> Result<(), NoMemory>
-        requires ready { IsReady self.old }
-        requires port { IsPort (view_of self.old) port }
-        requires carrier { has_carrier_at (view_of self.old) port ≡ true }
-        requires state { way.now.state ≤ 2 }
-        requires tables { AreOwn (view_of self.old) kept.old }
-        ensures after { OnOk result (IsAfter (hears (parsing.hello (hello_of hello.now) way.now) port (view_of self.old)) self.new) }
-        ensures kept { OnOk result (AreOwn (view_of self.new) kept.new) }
-    {
-        let mut new = port_at(self.ports.as_slice(), port);
-        if new.adjacency.refresh(self.id.system, port, hello, way) {
-            put_hold(&mut self.ports, port, new.adjacency.hold);
-            return Ok(());
-        }
-        *kept = None;
-        self.hear_other_hello(port, hello, way)
-    }
-
-    /// Hears a hello at a port with carrier, by which more may change than the holding count.
-    #[cold]
-    fn hear_other_hello(
-        &mut self,
-        port: u8,
-        hello: &Hello<'_>,
-        way: &ThreeWay,
-    ) -> Result<(), NoMemory>
+    /// Hears a hello at a port with carrier.
+    fn hear_hello(&mut self, port: u8, hello: &Hello<'_>, way: &ThreeWay) -> Result<(), NoMemory>
         requires ready { IsReady self.old }
         requires port { IsPort (view_of self.old) port }
         requires carrier { has_carrier_at (view_of self.old) port ≡ true }

@@ -15,7 +15,7 @@ use Rattle.bridge_control.proofs.machine.Machine.hear_anew.Goals as goal
 pub returns-in-Hello-clause-after : goal.returns-in-Hello-clause-after
 returns-in-Hello-clause-after c =
     let v = view_of c.args.self.now in
-    on_ok_weaker c.hear_new_hello.result (after_same _ _ c.hear_new_hello.new.self (heard_path v c.args.port c.args.frame.now (parsing.hello (hello_of c.in-Hello.hello) c.in-Hello.way) c.requires.carrier c.in-Hello.ensures.0)) c.hear_new_hello.ensures.after
+    on_ok_weaker c.hear_new_hello.result (after_same _ _ c.hear_new_hello.new.self (heard_path v c.args.port c.args.frame.now (parsing.hello (hello_of c.in-Hello.hello) c.in-Hello.way) c.requires.carrier c.in-Hello.ensures.0)) c.hear_new_hello.ensures
 
 pub returns-in-Hello-clause-sent : goal.returns-in-Hello-clause-sent
 returns-in-Hello-clause-sent c =

@@ -3,7 +3,6 @@ use Rattle.std.proofs.lemmas.Result.{on_ok_weaker}
 use Rattle.isis_pdu.specs.Pdu.{hello_of}
 use Rattle.bridge_api.specs.View.{BridgeView, IsPort, has_carrier_at}
 use Rattle.bridge_api.specs.Parsing as parsing
-use Rattle.bridge_control.specs.Kept.{AreOwn}
 use Rattle.bridge_control.specs.Machine.{hears, IsAfter}
 use Rattle.bridge_control.proofs.Anew.{heard_ready, heard_view}
 use Rattle.bridge_control.proofs.machine.Machine.hear_new_hello.Goals as goal
@@ -19,13 +18,9 @@ pub hear_hello-requires-clause-carrier : goal.hear_hello-requires-clause-carrier
 hear_hello-requires-clause-carrier c =
     ap (λ (v : BridgeView). has_carrier_at v c.args.port) (heard_view c.args.self.now c.keep_hello.new.self c.in_ok-keep_hello.ensures) ∙ c.requires.carrier
 
-pub hear_hello-requires-clause-tables : goal.hear_hello-requires-clause-tables
-hear_hello-requires-clause-tables c =
-    subst (λ (v : BridgeView). AreOwn v c.args.kept.now) (sym (heard_view c.args.self.now c.keep_hello.new.self c.in_ok-keep_hello.ensures)) c.requires.tables
-
-pub returns-clause-after : goal.returns-clause-after
-returns-clause-after c =
+pub returns : goal.returns
+returns c =
     let same = heard_view c.args.self.now c.keep_hello.new.self c.in_ok-keep_hello.ensures in
     on_ok_weaker c.hear_hello.result
     (λ is. subst (λ (v : BridgeView). IsAfter (hears (parsing.hello (hello_of c.args.hello.now) c.args.way.now) c.args.port v) c.hear_hello.new.self) same is)
-    c.hear_hello.ensures.after
+    c.hear_hello.ensures
