@@ -19,3 +19,5 @@ pub mod Settled
 pub mod Current
 pub mod HeardCurrent
 pub mod Rest
+pub mod Room
+pub mod Fits

@@ -8,3 +8,5 @@ pub mod Sending
 pub mod Entries
 pub mod Laws
 pub mod SettlingLaws
+pub mod Room
+pub mod RoomLaws

@@ -2,6 +2,7 @@
 ghost use Rattle.std.specs.Prelude.{◌≡◌};
 ghost use Rattle.flooding.specs.Laws.{HearingLspIsCertified, HearingEntryIsCertified, AnsweringIsCertified, BringingIsCertified, OthersStand, LspStands, EntryStands, FullStands, FittingIsNotFull, HeardIsAtMostHeld, StoredFlags, FloodedFlags, AskedFlags, AckedFlags, ClearedFlags, OfferedFlags, FlaggedFlags, SetSrmFlags, ClearedPortFlags, AgedFlags, ExpiredFlags, SpentFlags, OwnStands, OwnIsNotSpent, LspLeavesOwn, EntryLeavesOwn, LspLeavesOwnBody, EntryLeavesOwnBody, BringingLeavesOwnBody, OriginatedStands, BringingLeavesOthers, BringingLeavesOwn, BringingIsNotSpent, IdsNameLsps, SentIsHeld, SentIsRead, ReadIsWhole, ClaimIsNumbered, LspKeepsSendable, EntryKeepsSendable, BringingKeepsSendable, AgeingKeepsSendable, FlagsKeepSendable, LspKeepsFlags, EntryKeepsFlags, BringingKeepsFlags};
 ghost use Rattle.flooding.specs.SettlingLaws.{SettlingIsCertified, SettlingStands, SettlingLeavesOthers, SettlingLeavesOwn, SettlingLeavesOwnBody, SettlingGoesOneFurther, SettlingDoesntSpend, SettlingBringsFew, SettlingKeepsSendable, SettlingKeepsFlags, SettlingKeepsSilence, SettlingRenews, SettlingSpends, SettledIsCurrent, FreshIsCurrent, CurrentIsSettled, LspKeepsCurrent, EntryKeepsCurrent};
+ghost use Rattle.flooding.specs.RoomLaws.{FewOwn, RoomFits, PuttingKeepsFew};
 ghost use Rattle.flooding.specs.declared.origination.TheConstants.{MAX_AGE};
 
 /// What is heard at an Up port, answered, originated and purged is a certified step.
@@ -128,4 +129,12 @@ pub fn flags_stand_at_up_ports()
 /// An own LSP lives 1,200 seconds when it is originated (ISO/IEC 10589, 7.3.5). `renewed` names this constant.
 pub fn own_lsps_live_1200_seconds()
     ensures { MAX_AGE ≡ 1200 }
+{}
+
+/// While few ids are held that aren't own numbers, an own number has a place in the database, and another id has one
+/// until they are as many as leave it to the own numbers.
+pub fn own_numbers_have_room()
+    ensures few { FewOwn }
+    ensures fits { RoomFits }
+    ensures keeps { PuttingKeepsFew }
 {}

@@ -1,0 +1,25 @@
+-- Which ids find room in a database: own numbers always do, and of the others as many are held as leave it to them.
+use Rattle.std.specs.Prelude.{ℕ, ◌-◌, List, length, Bool, ◌||◌, not, nat_lt}
+use Rattle.std.specs.List.{filter}
+use Rattle.std.specs.FinMap.{entries, contains_key}
+use Rattle.spb_types.specs.declared.address.SystemId.{SystemId}
+use Rattle.spb_types.specs.declared.address.LspId.{LspId}
+use Rattle.spb_types.specs.declared.limits.TheConstants.{MOST_LSPS}
+use Rattle.lsdb.specs.Entry.{Entry}
+use Rattle.lsdb.specs.Database.{Lsps}
+use Rattle.flooding.specs.Own.{own_numbers, is_own_number}
+
+-- how many ids that aren't own numbers have room
+abbrev pub most_others : ℕ
+most_others = MOST_LSPS - own_numbers
+
+abbrev pub others_among : SystemId → List (LspId × Entry) → List (LspId × Entry)
+others_among system es = filter (λ e. not (is_own_number system e.0)) es
+
+-- how many are held
+abbrev pub others : SystemId → Lsps → ℕ
+others system db = length (others_among system (entries db))
+
+abbrev pub has_room : SystemId → Lsps → LspId → Bool
+has_room system db id =
+    contains_key db id || (is_own_number system id || nat_lt (others system db) most_others)
