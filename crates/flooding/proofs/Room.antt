@@ -87,9 +87,9 @@ few_from s lo (e ∷ es) low sorted from =
         let here = numbered s e.0 own in
         let first = from 0 e refl own in
         let later : AreFrom s (e.0.number + 1) es = λ k x at mine.
-            let there = numbered s x.0 mine in
-            let less = rising s e.0.number x.0.number (ap (λ (y : LspId). id_cmp y (own_number s x.0.number)) (sym here.is) ∙ (ap (λ (y : LspId). id_cmp e.0 y) (sym there.is) ∙ below_at e.0 es k x below at)) in
-            omega (arith, less) in
+        let there = numbered s x.0 mine in
+        let less = rising s e.0.number x.0.number (ap (λ (y : LspId). id_cmp y (own_number s x.0.number)) (sym here.is) ∙ (ap (λ (y : LspId). id_cmp e.0 y) (sym there.is) ∙ below_at e.0 es k x below at)) in
+        omega (arith, less) in
         let more = rest (e.0.number + 1) (omega (arith, here.below)) later in
         let same = left (not (is_own_number s e.0)) e (others_among s es) (ap not own) in
         omega (arith, more, first, same)

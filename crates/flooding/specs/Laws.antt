@@ -256,8 +256,8 @@ ClaimIsNumbered = (seq lifetime sum : ℕ) → IsNumbered (claimed seq lifetime 
 
 -- what is held stays sendable
 abbrev pub LspKeepsSendable : Type 0
-LspKeepsSendable = (up : PortSet) (port : ℕ) (l : LspValue) (h : Holding) → IsWhole l → HasBodies h.own → AreSendable h.db
-    → AreSendable (hear_lsp_of up port l h).db
+LspKeepsSendable = (up : PortSet) (port : ℕ) (l : LspValue) (h : Holding) → IsWhole l → HasBodies h.own
+    → AreSendable h.db → AreSendable (hear_lsp_of up port l h).db
 
 abbrev pub EntryKeepsSendable : Type 0
 EntryKeepsSendable = (up : PortSet) (port : ℕ) (c : Claim) (h : Holding) → IsNumbered c.version → HasBodies h.own

@@ -75,7 +75,8 @@ SettlingKeepsSilence = (test : Test) (up : PortSet) (h : Holding) (p : ℕ)
 
 -- ---- an own LSP that doesn't stand
 
--- it goes one number further, with the body of its number, while it and those of lower numbers are below the last number
+-- it goes one number further, with the body of its number, while it and those of lower numbers are below the last
+-- number
 abbrev pub SettlingRenews : Type 0
 SettlingRenews = (test : Test) (up : PortSet) (h : Holding) (number : ℕ) (body : List ℕ) → number < own_numbers
     → h.own.spent ≡ false → body_of_number h.own number ≡ Some body → stands test h number ≡ false

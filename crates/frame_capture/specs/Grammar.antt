@@ -8,8 +8,8 @@ use Rattle.frame_capture.specs.declared.order.Order.{Order}
 use Rattle.frame_capture.specs.declared.order.Order.TheVariants.{Big}
 use Rattle.frame_capture.specs.Capture.{header_of, capture_bytes, u32_by, packet_in, Listed, listed_by, behind, listed}
 
--- the bytes of the packet of a frame: its seconds, the length of the frame, and the frame; they may have any fraction of
--- a second, and any original length
+-- the bytes of the packet of a frame: its seconds, the length of the frame, and the frame; they may have any fraction
+-- of a second, and any original length
 pub record IsPacketOf (o : Order) (d : Delivered) (bytes : List ℕ) : Type 0 where
   pub long : length bytes ≡ 16 + length d.frame
   pub seconds : u32_by o bytes 0 ≡ d.tick
