@@ -10,6 +10,7 @@ use Rattle.adjacency.specs.Adjacency.{SoundIn, is_down, is_up}
 use Rattle.lsdb.specs.Database.{Lsps, each}
 use Rattle.bridge_api.specs.declared.port.BridgePort.{BridgePort}
 use Rattle.bridge_api.specs.View.{is_port_up}
+use Rattle.bridge_api.specs.Hearing.{with_csnp_due}
 use Rattle.bridge_api.specs.Ticking.{hello_frame, later, leaves, leaving_from, flags_cleared_at_all, sent_at, sent_from, after_sending_at, after_sending_from}
 use Rattle.bridge_api.specs.Laws.{IsSoundPort}
 use Rattle.bridge_control.specs.Machine.{hellos_from}
@@ -25,6 +26,7 @@ record IsIdle (port : BridgePort) : Type 0 where
   pub still : later port ≡ port
   pub stays : leaves port ≡ false
   pub keeps : loses port ≡ false
+  pub undue : with_csnp_due false port ≡ port
 
 state_down : (s : AdjState) (a : Adjacency) → SoundIn s a → a.carrier ≡ false → s ≡ Down
 state_down Down a sound no_carrier = refl
@@ -38,16 +40,21 @@ not_due false up is none = refl
 later_down : (a : Adjacency) (due : Bool) (metric : ℕ) → a.state ≡ Down → due ≡ false → later (record { adjacency = a; csnp_due = due; metric = metric }) ≡ record { adjacency = a; csnp_due = due; metric = metric }
 later_down a due metric down none = cc
 
+undue_port : (a : Adjacency) (due : Bool) (metric : ℕ) → due ≡ false → with_csnp_due false (record { adjacency = a; csnp_due = due; metric = metric }) ≡ record { adjacency = a; csnp_due = due; metric = metric }
+undue_port a due metric none = λ i. record { adjacency = a; csnp_due = sym none i; metric = metric }
+
 is_idle : (port : BridgePort) → IsSoundPort port → port.adjacency.carrier ≡ false → IsIdle port
 is_idle port sound no_carrier =
     let down : port.adjacency.state ≡ Down = state_down port.adjacency.state port.adjacency sound.adjacency no_carrier in
     let up : is_port_up port ≡ false = ap is_up down in
+    let none = not_due port.csnp_due (is_port_up port) sound.csnp_due up in
     record {
       no_carrier = no_carrier;
       down = up;
-      still = later_down port.adjacency port.csnp_due port.metric down (not_due port.csnp_due (is_port_up port) sound.csnp_due up);
+      still = later_down port.adjacency port.csnp_due port.metric down none;
       stays = ap (λ (b : Bool). b && not (is_port_up (later port))) up;
       keeps = ap (λ (s : AdjState). not (is_down s) && is_down (later port).adjacency.state) down;
+      undue = undue_port port.adjacency port.csnp_due port.metric none;
     }
 
 -- ---- lists of ports of which only the first have carrier
@@ -72,6 +79,15 @@ later_rest : (n : ℕ) (ports : List BridgePort) → AreIdle (drop n ports) → 
 later_rest zero ports idle = sym (still_all ports idle)
 later_rest (suc n) [] idle = refl
 later_rest (suc n) (port ∷ ports) idle = ap (λ (l : List BridgePort). later port ∷ l) (later_rest n ports idle)
+
+undue_all : (ports : List BridgePort) → AreIdle ports → map (with_csnp_due false) ports ≡ ports
+undue_all [] idle = refl
+undue_all (port ∷ ports) idle = λ i. idle.0.undue i ∷ undue_all ports idle.1 i
+
+undue_rest : (n : ℕ) (ports : List BridgePort) → AreIdle (drop n ports) → map (with_csnp_due false) (take n ports) ++ drop n ports ≡ map (with_csnp_due false) ports
+undue_rest zero ports idle = sym (undue_all ports idle)
+undue_rest (suc n) [] idle = refl
+undue_rest (suc n) (port ∷ ports) idle = ap (λ (l : List BridgePort). with_csnp_due false port ∷ l) (undue_rest n ports idle)
 
 none_leaving : (q : ℕ) (ports : List BridgePort) → AreIdle ports → leaving_from q ports ≡ []
 none_leaving q [] idle = refl
@@ -101,6 +117,10 @@ further_unused zero k ports further unused = rest_unused k ports unused
 further_unused (suc n) zero ports further unused = absurd (omega (arith, further))
 further_unused (suc n) (suc k) [] further unused = tt
 further_unused (suc n) (suc k) (port ∷ ports) further unused = further_unused n k ports (omega (arith, further)) unused
+
+-- nothing is due any more at the first ports
+pub undue : (n : ℕ) (ports new : List BridgePort) → AreSoundPorts ports → AreUnused (drop n ports) → new ≡ map (with_csnp_due false) (take n ports) ++ drop n ports → new ≡ map (with_csnp_due false) ports
+undue n ports new sound unused is = is ∙ undue_rest n ports (rest_idle n ports sound unused)
 
 -- the holding counts fell at the first ports
 pub counted : (n : ℕ) (ports new : List BridgePort) → AreSoundPorts ports → AreUnused (drop n ports) → new ≡ map later (take n ports) ++ drop n ports → new ≡ map later ports

@@ -86,6 +86,7 @@ impl Machine {
     }
 
     /// Hears a frame at a port with carrier, which isn't the hello that came last there.
+    #[inline(never)]
     fn hear_anew(
         &mut self,
         port: u8,

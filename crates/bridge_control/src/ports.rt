@@ -214,12 +214,15 @@ fn pass_second(port: &mut BridgePort) -> bool
     left
 }
 
-/// Nothing is due any more.
-pub(crate) fn clear_csnp_due(ports: &mut Vec<BridgePort>)
+/// Nothing is due any more. Only the first ports, so many, are gone over: nothing is due at one without carrier.
+pub(crate) fn clear_csnp_due(ports: &mut Vec<BridgePort>, used: usize)
+    requires sound { AreSoundPorts ports.old.items }
+    requires within { used ≤ length ports.old.items }
+    requires unused { AreUnused (drop used ports.old.items) }
     ensures { ports.new.items ≡ map (api.with_csnp_due false) ports.old.items }
 {
-    for port in ports.iter_mut() {
-        port.csnp_due = false;
+    'clear: for place in 0..used {
+        ports[place].csnp_due = false;
     }
 }
 

@@ -32,7 +32,7 @@ impl Machine {
             has_flags,
             outbox,
         )?;
-        clear_csnp_due(&mut self.ports);
+        clear_csnp_due(&mut self.ports, used);
         Ok(())
     }
 

@@ -5,7 +5,7 @@ use Rattle.bridge_control.specs.Ports.{AreUnused}
 use Rattle.bridge_control.proofs.Wire.{sent_as, gained_none, gained_as, on_err}
 use Rattle.bridge_control.proofs.Following.{few_hellos}
 use Rattle.bridge_control.proofs.Unused.{taken, hellos_first}
-use Rattle.bridge_control.proofs.Seconds.{readied_long, readied_sendable, readied_sized, after_sending_after, first_frames, first_done}
+use Rattle.bridge_control.proofs.Seconds.{readied_long, readied_sound, readied_unused, readied_sendable, readied_sized, after_sending_after, first_frames, first_done}
 use Rattle.bridge_control.proofs.machine.Machine.tick.Goals as goal
 
 pub slice_bounds-send_all-end : goal.slice_bounds-send_all-end
@@ -43,6 +43,21 @@ send_all-requires-clause-sendable c = readied_sendable c.args.self.now c.prepare
 
 pub send_all-requires-clause-sized : goal.send_all-requires-clause-sized
 send_all-requires-clause-sized c = readied_sized c.args.self.now c.prepare.new.self c.requires c.in_ok-has_flags.ensures.after
+
+pub clear_csnp_due-requires-clause-sound : goal.clear_csnp_due-requires-clause-sound
+clear_csnp_due-requires-clause-sound c = readied_sound c.args.self.now c.prepare.new.self c.requires c.in_ok-has_flags.ensures.after
+
+pub clear_csnp_due-requires-clause-within : goal.clear_csnp_due-requires-clause-within
+clear_csnp_due-requires-clause-within c =
+    let used : ℕ = c.ports_in_use-used.result in
+    let within : used ≤ length c.args.self.now.ports.items = omega (arith, c.ports_in_use-used.ensures.within, ap length c.as_slice.ensures.value) in
+    readied_long c.args.self.now c.prepare.new.self used c.in_ok-has_flags.ensures.after within
+
+pub clear_csnp_due-requires-clause-unused : goal.clear_csnp_due-requires-clause-unused
+clear_csnp_due-requires-clause-unused c =
+    let used : ℕ = c.ports_in_use-used.result in
+    let unused : AreUnused (drop used c.args.self.now.ports.items) = subst (λ (ports : List BridgePort). AreUnused (drop used ports)) c.as_slice.ensures.value c.ports_in_use-used.ensures.unused in
+    readied_unused c.args.self.now c.prepare.new.self used c.requires c.in_ok-has_flags.ensures.after unused
 
 pub returns-in_err-has_flags-clause-gained : goal.returns-in_err-has_flags-clause-gained
 returns-in_err-has_flags-clause-gained c = on_err _ (gained_none _ c.args.outbox.now c.args.outbox.now refl)
