@@ -1,5 +1,5 @@
 //! The tests of the crates of the control plane: `link_model`, `lsdb`, `flooding`, `snp_sync`, `ect_trees`,
-//! `fork_trees` and `fdb_build`. One module tests one crate.
+//! `fork_trees`, `what_if` and `fdb_build`. One module tests one crate.
 //!
 //! Nothing else stands here, and nothing stands on this crate. A crate with tests is proved twice, with and without
 //! them; so those of the lower crates, which see them from outside, stand above them. (`format_tests` has the others.)
@@ -62,6 +62,8 @@ mod floods;
 mod kept_trees;
 #[cfg(test)]
 mod lanes;
+#[cfg(test)]
+mod path_entries;
 #[cfg(test)]
 mod snps;
 #[cfg(test)]

@@ -93,7 +93,7 @@ pub(crate) fn path(rt: &impl Abort, alloc: Global, tree: &Tree, to: u8) -> Optio
 }
 
 /// The last byte of each bridge on a path.
-fn ends(rt: &impl Abort, alloc: Global, path: &Path) -> Vec<u8> {
+pub(crate) fn ends(rt: &impl Abort, alloc: Global, path: &Path) -> Vec<u8> {
     let mut ends = Vec::new(alloc);
     for system in path.bridges.as_slice() {
         ends.push(system.mac.bytes[5]).expect(rt, "out of memory");
