@@ -1,5 +1,5 @@
 //! The tests by which declarations are refused, each by itself.
-ghost use Rattle.std.specs.Prelude.{◌≡◌, ◌&&◌, ◌||◌, ◌==◌, length};
+ghost use Rattle.std.specs.Prelude.{◌≡◌, ◌&&◌, ◌||◌, ◌==◌, ℕ, false, length};
 ghost use Rattle.std.specs.List.{list_any};
 ghost use Rattle.spb_world.specs.Declaring as declare;
 ghost use Rattle.spb_world.specs.Services as service;
@@ -146,12 +146,25 @@ fn is_unlinked(links: &IndexMap<Name, DeclaredLink>, i: usize, j: usize) -> bool
     !links.values().any(|link| is_between(link, i, j))
 }
 
-/// Whether the link ends at one of two ports or joins their bridges.
+/// Whether the link ends at one of the bridges at two places. One that doesn't ends at no port of theirs, and doesn't
+/// join them.
+#[inline(always)]
+fn is_at_either(link: &DeclaredLink, i: usize, j: usize) -> bool
+    ensures apart { (a b : ℕ) → result ≡ false → (state.is_at_port link.now i a
+        || (state.is_at_port link.now j b || state.is_between link.now i j)) ≡ false }
+{
+    let (a, b) = (link.a.bridge, link.b.bridge);
+    a == i || b == i || a == j || b == j
+}
+
+/// Whether the link ends at one of two ports or joins their bridges. Most links end at neither bridge.
+#[inline(always)]
 fn is_near(link: &DeclaredLink, i: usize, port_a: u64, j: usize, port_b: u64) -> bool
     ensures { result ≡ (state.is_at_port link.now i port_a
         || (state.is_at_port link.now j port_b || state.is_between link.now i j)) }
 {
-    is_at_port(link, i, port_a) || (is_at_port(link, j, port_b) || is_between(link, i, j))
+    is_at_either(link, i, j)
+        && (is_at_port(link, i, port_a) || (is_at_port(link, j, port_b) || is_between(link, i, j)))
 }
 
 /// Whether some link ends at one of two ports or joins their bridges.
