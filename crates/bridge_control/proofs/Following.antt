@@ -1,5 +1,5 @@
 -- What is kept of the ports: their hellos, and which are Up.
-use Rattle.std.proofs.Common.{◌≡◌, ◌≤◌, ◌<◌, ◌-◌, ◌+◌, ℕ, zero, suc, Bool, true, false, List, [], ◌∷◌, ◌++◌, map, length, take, get_or, refl, sym, ap, ◌∙◌, Some, arith, add-one, add-zero}
+use Rattle.std.proofs.Common.{◌≡◌, ◌≤◌, ◌<◌, ◌-◌, ◌+◌, ℕ, zero, suc, Bool, true, false, List, [], ◌∷◌, ◌++◌, map, length, take, get_or, refl, sym, ap, ◌∙◌, Option, Some, None, arith, add-one, add-zero}
 use Rattle.std.specs.Prelude.{slice_get, slice_set, not, ◌&&◌, ◌||◌, ◌==◌, if◌then◌else◌}
 use Rattle.std.specs.List.{AllByRecursion}
 use Rattle.std.specs.Global.{Vec}
@@ -19,7 +19,7 @@ use Rattle.bridge_api.specs.Own.{neighbours_from}
 use Rattle.bridge_api.specs.Hearing.{with_csnp_due}
 use Rattle.bridge_api.specs.Ticking.{hello_tlvs, hello_frame, later}
 use Rattle.bridge_control.specs.declared.machine.Machine.{Machine}
-use Rattle.bridge_control.specs.Machine.{view_of, hellos_from, FollowsPorts, IsPut}
+use Rattle.bridge_control.specs.Machine.{view_of, kept_hello, hellos_from, FollowsPorts, IsPut}
 use Rattle.bridge_control.specs.Ports.{IsSameEnd, loses, has_lost}
 
 -- ---- ports of which hellos say the same
@@ -33,12 +33,12 @@ pub alike_refl : (system : SystemId) (q : ℕ) (ports : List BridgePort) → Are
 alike_refl system q ports = record { hellos = refl; up = refl }
 
 pub same_refl : (a : Adjacency) → IsSameEnd a a
-same_refl a = record { state = refl; neighbour = refl; circuit = refl }
+same_refl a = record { carrier = refl; state = refl; neighbour = refl; circuit = refl }
 
-hello_alike : (system : SystemId) (p : ℕ) (a b : BridgePort) → IsSameEnd a.adjacency b.adjacency → hello_frame system p b ≡ hello_frame system p a
+hello_alike : (system : SystemId) (p : ℕ) (a b : BridgePort) → IsSameEnd a.adjacency b.adjacency → kept_hello system p b ≡ kept_hello system p a
 unfolding hello_frame
 hello_alike system p a b same =
-    λ i. control_bytes system.mac (hello_bytes (record { circuit_type = 1; source = system; holding = 3; circuit = p; tlvs = hello_tlvs (record { state = state_number (same.state i); circuit = p; neighbour = kept_in (same.state i) (same.neighbour i, same.circuit i) }) }))
+    λ i. if same.carrier i then Some (control_bytes system.mac (hello_bytes (record { circuit_type = 1; source = system; holding = 3; circuit = p; tlvs = hello_tlvs (record { state = state_number (same.state i); circuit = p; neighbour = kept_in (same.state i) (same.neighbour i, same.circuit i) }) }))) else None
 
 alike_cons : (system : SystemId) (q : ℕ) (a b : BridgePort) (old new : List BridgePort) → IsSameEnd a.adjacency b.adjacency → AreAlike system (q + 1) old new → AreAlike system q (a ∷ old) (b ∷ new)
 alike_cons system q a b old new same rest = record {
@@ -54,7 +54,7 @@ pub alike_set : (system : SystemId) (q i : ℕ) (ports : List BridgePort) (old n
 alike_set system q i [] old new there same = record { hellos = refl; up = refl }
 alike_set system q zero (x ∷ ports) old new there same =
     let is : x ≡ old = cc in
-    alike_cons system q x new ports ports (record { state = same.state ∙ ap (λ (port : BridgePort). port.adjacency.state) (sym is); neighbour = same.neighbour ∙ ap (λ (port : BridgePort). port.adjacency.neighbour) (sym is); circuit = same.circuit ∙ ap (λ (port : BridgePort). port.adjacency.circuit) (sym is) }) (alike_refl system (q + 1) ports)
+    alike_cons system q x new ports ports (record { carrier = same.carrier ∙ ap (λ (port : BridgePort). port.adjacency.carrier) (sym is); state = same.state ∙ ap (λ (port : BridgePort). port.adjacency.state) (sym is); neighbour = same.neighbour ∙ ap (λ (port : BridgePort). port.adjacency.neighbour) (sym is); circuit = same.circuit ∙ ap (λ (port : BridgePort). port.adjacency.circuit) (sym is) }) (alike_refl system (q + 1) ports)
 alike_set system q (suc i) (x ∷ ports) old new there same =
     alike_cons system q x x ports (slice_set ports i new) (same_refl x.adjacency) (alike_set system (q + 1) i ports old new there same)
 
@@ -72,7 +72,7 @@ second_by : (is_none is_last : Bool) (a : Adjacency)
     → IsSameEnd a (if is_none then a else (if is_last then down a.carrier else record a { hold = a.hold - 1 }))
 second_by true is_last a none = same_refl a
 second_by false true a none = absurd cc
-second_by false false a none = record { state = refl; neighbour = refl; circuit = refl }
+second_by false false a none = record { carrier = refl; state = refl; neighbour = refl; circuit = refl }
 
 pub same_later : (port : BridgePort) → loses port ≡ false → IsSameEnd port.adjacency (later port).adjacency
 same_later port none = second_by (is_down port.adjacency.state) (port.adjacency.hold == 1) port.adjacency none
@@ -104,41 +104,41 @@ length_hellos system q [] = refl
 length_hellos system q (port ∷ ports) = ap suc (length_hellos system (q + 1) ports)
 
 hellos_suc : (system : SystemId) (q : ℕ) (ports : List BridgePort) (i : ℕ) (d : BridgePort) → i < length ports
-    → hellos_from system q (take (suc i) ports) ≡ hellos_from system q (take i ports) ++ hello_frame system (q + i) (get_or ports i d) ∷ []
+    → hellos_from system q (take (suc i) ports) ≡ hellos_from system q (take i ports) ++ kept_hello system (q + i) (get_or ports i d) ∷ []
 hellos_suc system q [] i d within = absurd (omega arith)
 hellos_suc system q (port ∷ ports) zero d within = rw add-zero refl
 hellos_suc system q (port ∷ ports) (suc i) d within =
     let number : (q + 1) + i ≡ q + suc i = omega arith in
-    ap (λ (l : List (List ℕ)). hello_frame system q port ∷ l)
-    (hellos_suc system (q + 1) ports i d (omega arith) ∙ ap (λ (k : ℕ). hellos_from system (q + 1) (take i ports) ++ hello_frame system k (get_or ports i d) ∷ []) number)
+    ap (λ (l : List (Option (List ℕ))). kept_hello system q port ∷ l)
+    (hellos_suc system (q + 1) ports i d (omega arith) ∙ ap (λ (k : ℕ). hellos_from system (q + 1) (take i ports) ++ kept_hello system k (get_or ports i d) ∷ []) number)
 
 -- with the hello of the next port
-pub hellos_next : (system : SystemId) (ports : List BridgePort) (i : ℕ) (d : BridgePort) (old new : List (List ℕ)) (hello : List ℕ) → i < length ports → old ≡ hellos_from system 1 (take i ports) → hello ≡ hello_frame system (i + 1) (get_or ports i d)
+pub hellos_next : (system : SystemId) (ports : List BridgePort) (i : ℕ) (d : BridgePort) (old new : List (Option (List ℕ))) (hello : Option (List ℕ)) → i < length ports → old ≡ hellos_from system 1 (take i ports) → hello ≡ kept_hello system (i + 1) (get_or ports i d)
     → new ≡ old ++ hello ∷ [] → new ≡ hellos_from system 1 (take (i + 1) ports)
 hellos_next system ports i d old new hello within before is after =
     let number : 1 + i ≡ i + 1 = omega arith in
-    after ∙ (λ j. before j ++ is j ∷ []) ∙ sym (rw add-one (hellos_suc system 1 ports i d within) ∙ ap (λ (k : ℕ). hellos_from system 1 (take i ports) ++ hello_frame system k (get_or ports i d) ∷ []) number)
+    after ∙ (λ j. before j ++ is j ∷ []) ∙ sym (rw add-one (hellos_suc system 1 ports i d within) ∙ ap (λ (k : ℕ). hellos_from system 1 (take i ports) ++ kept_hello system k (get_or ports i d) ∷ []) number)
 
-hello_nth : (system : SystemId) (q : ℕ) (ports : List BridgePort) (i : ℕ) (d : BridgePort) (e : List ℕ) → i < length ports → get_or (hellos_from system q ports) i e ≡ hello_frame system (q + i) (get_or ports i d)
+hello_nth : (system : SystemId) (q : ℕ) (ports : List BridgePort) (i : ℕ) (d : BridgePort) (e : Option (List ℕ)) → i < length ports → get_or (hellos_from system q ports) i e ≡ kept_hello system (q + i) (get_or ports i d)
 hello_nth system q [] i d e within = absurd (omega arith)
 hello_nth system q (port ∷ ports) zero d e within = rw add-zero refl
 hello_nth system q (port ∷ ports) (suc i) d e within =
     let number : (q + 1) + i ≡ q + suc i = omega arith in
-    hello_nth system (q + 1) ports i d e (omega arith) ∙ ap (λ (k : ℕ). hello_frame system k (get_or ports i d)) number
+    hello_nth system (q + 1) ports i d e (omega arith) ∙ ap (λ (k : ℕ). kept_hello system k (get_or ports i d)) number
 
 -- the hello of the port that a loop comes to
-pub hello_there : (system : SystemId) (ports : List BridgePort) (hellos : List (List ℕ)) (i : ℕ) (d : BridgePort) (e hello : List ℕ) → i < length ports → hellos ≡ hellos_from system 1 ports → hello ≡ get_or hellos i e
-    → hello ≡ hello_frame system (i + 1) (get_or ports i d)
+pub hello_there : (system : SystemId) (ports : List BridgePort) (hellos : List (Option (List ℕ))) (i : ℕ) (d : BridgePort) (e hello : Option (List ℕ)) → i < length ports → hellos ≡ hellos_from system 1 ports → hello ≡ get_or hellos i e
+    → hello ≡ kept_hello system (i + 1) (get_or ports i d)
 hello_there system ports hellos i d e hello within are is =
     let number : 1 + i ≡ i + 1 = omega arith in
-    is ∙ (ap (λ (l : List (List ℕ)). get_or l i e) are ∙ (hello_nth system 1 ports i d e within ∙ ap (λ (k : ℕ). hello_frame system k (get_or ports i d)) number))
+    is ∙ (ap (λ (l : List (Option (List ℕ))). get_or l i e) are ∙ (hello_nth system 1 ports i d e within ∙ ap (λ (k : ℕ). kept_hello system k (get_or ports i d)) number))
 
-hellos_set : (system : SystemId) (q i : ℕ) (ports : List BridgePort) (new : BridgePort) → hellos_from system q (slice_set ports i new) ≡ slice_set (hellos_from system q ports) i (hello_frame system (q + i) new)
+hellos_set : (system : SystemId) (q i : ℕ) (ports : List BridgePort) (new : BridgePort) → hellos_from system q (slice_set ports i new) ≡ slice_set (hellos_from system q ports) i (kept_hello system (q + i) new)
 hellos_set system q i [] new = refl
 hellos_set system q zero (x ∷ ports) new = rw add-zero refl
 hellos_set system q (suc i) (x ∷ ports) new =
     let number : (q + 1) + i ≡ q + suc i = omega arith in
-    ap (λ (l : List (List ℕ)). hello_frame system q x ∷ l) (hellos_set system (q + 1) i ports new ∙ ap (λ (k : ℕ). slice_set (hellos_from system (q + 1) ports) i (hello_frame system k new)) number)
+    ap (λ (l : List (Option (List ℕ))). kept_hello system q x ∷ l) (hellos_set system (q + 1) i ports new ∙ ap (λ (k : ℕ). slice_set (hellos_from system (q + 1) ports) i (kept_hello system k new)) number)
 
 -- ---- what is kept follows
 
@@ -164,12 +164,12 @@ put_same m p old new ports follows there is same =
     }
 
 -- a port came into any state, and its hello was made anew
-pub put_anew : (m : Machine) (p : ℕ) (new : BridgePort) (ports : Vec BridgePort) (hellos : Vec (List ℕ)) (hello : List ℕ) (up : PortSet) → 1 ≤ p → FollowsPorts m → ports.items ≡ slice_set m.ports.items (p - 1) new
-    → hello ≡ hello_frame m.id.system p new → hellos.items ≡ slice_set m.hellos.items (p - 1) hello → up ≡ up_from 1 ports.items → IsPut p new m (record m { ports = ports; hellos = hellos; up = up })
+pub put_anew : (m : Machine) (p : ℕ) (new : BridgePort) (ports : Vec BridgePort) (hellos : Vec (Option (List ℕ))) (hello : Option (List ℕ)) (up : PortSet) → 1 ≤ p → FollowsPorts m → ports.items ≡ slice_set m.ports.items (p - 1) new
+    → hello ≡ kept_hello m.id.system p new → hellos.items ≡ slice_set m.hellos.items (p - 1) hello → up ≡ up_from 1 ports.items → IsPut p new m (record m { ports = ports; hellos = hellos; up = up })
 put_anew m p new ports hellos hello up low follows is says are ups =
     let number : 1 + (p - 1) ≡ p = omega arith in
-    let made : slice_set (hellos_from m.id.system 1 m.ports.items) (p - 1) (hello_frame m.id.system p new) ≡ hellos_from m.id.system 1 ports.items =
-    ap (λ (k : ℕ). slice_set (hellos_from m.id.system 1 m.ports.items) (p - 1) (hello_frame m.id.system k new)) (sym number)
+    let made : slice_set (hellos_from m.id.system 1 m.ports.items) (p - 1) (kept_hello m.id.system p new) ≡ hellos_from m.id.system 1 ports.items =
+    ap (λ (k : ℕ). slice_set (hellos_from m.id.system 1 m.ports.items) (p - 1) (kept_hello m.id.system k new)) (sym number)
     ∙ (sym (hellos_set m.id.system 1 (p - 1) m.ports.items new) ∙ ap (hellos_from m.id.system 1) (sym is)) in
     record {
       view = λ i. record (view_of m) { ports = is i };

@@ -33,7 +33,7 @@ pub refreshed_after : (m : Machine) (p : ℕ) (h : HelloValue) (way : ThreeWay) 
     → ports.items ≡ slice_set m.ports.items (p - 1) (with_adjacency new port) → IsAfter (hears (parsing.hello h way) p (view_of m)) (record m { ports = ports })
 refreshed_after m p h way port new ports ready is there again heard kept put =
     let n : Machine = record m { ports = ports } in
-    let end : IsSameEnd port.adjacency new = record { state = ap (λ (a : Adjacency). a.state) again; neighbour = ap (λ (a : Adjacency). a.neighbour) again; circuit = ap (λ (a : Adjacency). a.circuit) again } in
+    let end : IsSameEnd port.adjacency new = record { carrier = ap (λ (a : Adjacency). a.carrier) again; state = ap (λ (a : Adjacency). a.state) again; neighbour = ap (λ (a : Adjacency). a.neighbour) again; circuit = ap (λ (a : Adjacency). a.circuit) again } in
     let was_put = put_same m p port (with_adjacency new port) ports ready.current.ports (got (view_of m) p port is there) put end in
     let says = kept_says m p port new (after_hello m.id.system p h way port.adjacency) is there heard (hello_kept m.id.system p h way port kept) in
     after_same _ _ n (refreshed_path (view_of m) p h way port new there heard kept) (kept_after m n p (with_adjacency new port) (can_change m p port new ready is there) says was_put)

@@ -1,5 +1,5 @@
 -- What is sent at a port.
-use Rattle.std.proofs.Common.{◌≡◌, ◌≤◌, ◌<◌, ◌+◌, ℕ, zero, suc, Bool, true, false, List, [], ◌∷◌, ◌++◌, map, length, take, get_or, refl, sym, ap, ◌∙◌, subst, Option, arith, append_assoc}
+use Rattle.std.proofs.Common.{◌≡◌, ◌≤◌, ◌<◌, ◌+◌, ℕ, zero, suc, Bool, true, false, List, [], ◌∷◌, ◌++◌, map, length, take, get_or, refl, sym, ap, ◌∙◌, subst, Option, Some, None, arith, append_assoc}
 use Rattle.std.specs.Prelude.{◌==◌, if◌then◌else◌}
 use Rattle.std.specs.List.{AllByRecursion}
 use Rattle.std.specs.FinMap.{entries}
@@ -39,7 +39,8 @@ use Rattle.bridge_api.specs.Step.{with_wire}
 use Rattle.bridge_api.specs.Ticking.{hello_frame, lsp_frame, csnp_frame, psnp_frame, hellos_at, summaries_at, lsps_at, requests_at, synced_at, sent_at, sent_from, after_sending_at, after_sending_from}
 use Rattle.bridge_control.proofs.Wire.{ports_next, after_sending_next}
 use Rattle.bridge_api.proofs.Spelled.{lsp_short, csnp_short, psnp_short, chunk_short}
-use Rattle.bridge_control.specs.Frames.{hello_if, frames_of, flagged_at}
+use Rattle.bridge_control.specs.Frames.{hello_sent, frames_of, flagged_at}
+use Rattle.bridge_control.specs.Machine.{kept_hello}
 use Rattle.bridge_control.specs.Made.{AreMadeOf}
 use Rattle.bridge_control.proofs.Copies.{after_sending_frames}
 use Rattle.bridge_control.proofs.Standing.{after_sending_within}
@@ -167,8 +168,13 @@ pub none_cleared_at : (p : ℕ) (port : BridgePort) (db : Lsps) → (is_port_up 
 none_cleared_at p port db ssn = cleared_if (is_port_up port) db (all_ssn_cleared p db) (λ up. nothing_cleared p db (ssn up))
 
 -- the hello that is kept is sent
-pub said_hello : (me : SystemId) (p : ℕ) (port : BridgePort) (hello : List ℕ) (o new : Outbox) → hello ≡ hello_frame me p port → new ≡ with_wire (hello_if port.adjacency.carrier p hello) o → new ≡ with_wire (hellos_at me p port) o
-said_hello me p port hello o new is sent = sent ∙ ap (λ (h : List ℕ). with_wire (hello_if port.adjacency.carrier p h) o) is
+kept_sent : (p : ℕ) (hello : List ℕ) (carrier : Bool) → hello_sent p (if carrier then Some hello else None) ≡ (if carrier then (p, hello) ∷ [] else [])
+kept_sent p hello true = refl
+kept_sent p hello false = refl
+
+pub said_hello : (me : SystemId) (p : ℕ) (port : BridgePort) (hello : Option (List ℕ)) (o new : Outbox) → hello ≡ kept_hello me p port → new ≡ with_wire (hello_sent p hello) o → new ≡ with_wire (hellos_at me p port) o
+said_hello me p port hello o new is sent =
+    sent ∙ (ap (λ (h : Option (List ℕ)). with_wire (hello_sent p h) o) is ∙ ap (λ (fs : List (ℕ × List ℕ)). with_wire fs o) (kept_sent p (hello_frame me p port) port.adjacency.carrier))
 
 -- hellos alone come first
 pub sent_hello : (me : SystemId) (p : ℕ) (port : BridgePort) (db : Lsps) → sent_at me p port db ≡ hellos_at me p port ++ synced_at me p port db

@@ -1,5 +1,5 @@
 -- Ports without carrier: a second changes nothing there, and nothing is sent.
-use Rattle.std.proofs.Common.{◌≡◌, ◌≤◌, ◌+◌, ℕ, zero, suc, Bool, true, false, List, [], ◌∷◌, ◌++◌, map, length, take, drop, refl, sym, ap, ◌∙◌, arith}
+use Rattle.std.proofs.Common.{◌≡◌, ◌≤◌, ◌+◌, ℕ, zero, suc, Bool, true, false, List, [], ◌∷◌, ◌++◌, map, length, take, drop, refl, sym, ap, ◌∙◌, Option, arith}
 use Rattle.std.specs.Prelude.{not, ◌&&◌, ◌||◌, if◌then◌else◌}
 use Rattle.std.specs.List.{AllByRecursion}
 use Rattle.spb_types.specs.declared.address.SystemId.{SystemId}
@@ -11,9 +11,9 @@ use Rattle.lsdb.specs.Database.{Lsps, each}
 use Rattle.bridge_api.specs.declared.port.BridgePort.{BridgePort}
 use Rattle.bridge_api.specs.View.{is_port_up}
 use Rattle.bridge_api.specs.Hearing.{with_csnp_due}
-use Rattle.bridge_api.specs.Ticking.{hello_frame, later, leaves, leaving_from, flags_cleared_at_all, sent_at, sent_from, after_sending_at, after_sending_from}
+use Rattle.bridge_api.specs.Ticking.{later, leaves, leaving_from, flags_cleared_at_all, sent_at, sent_from, after_sending_at, after_sending_from}
 use Rattle.bridge_api.specs.Laws.{IsSoundPort}
-use Rattle.bridge_control.specs.Machine.{hellos_from}
+use Rattle.bridge_control.specs.Machine.{kept_hello, hellos_from}
 use Rattle.bridge_control.specs.Ports.{AreSoundPorts, AreUnused, loses, has_lost}
 use Rattle.bridge_control.proofs.Sends.{sent_silent, after_sending_down}
 
@@ -167,7 +167,7 @@ done_first n ports db sound unused = done_rest 1 n ports db (rest_idle n ports s
 pub hellos_first : (me : SystemId) (q n : ℕ) (ports : List BridgePort) → take n (hellos_from me q ports) ≡ hellos_from me q (take n ports)
 hellos_first me q zero ports = refl
 hellos_first me q (suc n) [] = refl
-hellos_first me q (suc n) (port ∷ ports) = ap (λ (l : List (List ℕ)). hello_frame me q port ∷ l) (hellos_first me (q + 1) n ports)
+hellos_first me q (suc n) (port ∷ ports) = ap (λ (l : List (Option (List ℕ))). kept_hello me q port ∷ l) (hellos_first me (q + 1) n ports)
 
 -- ---- a second later
 

@@ -9,9 +9,10 @@ use Rattle.lsdb.specs.Database.{Lsps}
 use Rattle.flooding.specs.Sending.{lsp_in}
 use Rattle.bridge_api.specs.Ticking.{lsp_frame, lsps_at, requests_at}
 
--- the hello that is sent at a port: it is sent where there is carrier
-abbrev pub hello_if : Bool → ℕ → List ℕ → List (ℕ × List ℕ)
-hello_if carrier p hello = if carrier then (p, hello) ∷ [] else []
+-- the hello that is sent at a port: the one that is kept for it, where there is one
+abbrev pub hello_sent : ℕ → Option (List ℕ) → List (ℕ × List ℕ)
+hello_sent p None = []
+hello_sent p (Some hello) = (p, hello) ∷ []
 
 -- the frames of PDUs from a system, each with the number of the port
 abbrev pub frames_of : SystemId → ℕ → List (List ℕ) → List (ℕ × List ℕ)

@@ -1,5 +1,5 @@
 -- The bridge that a machine's fields say.
-use Rattle.std.specs.Prelude.{◌≡◌, ◌≢◌, ℕ, ◌+◌, ◌≤◌, List, [], ◌∷◌, length, true, false, Option, Some, None}
+use Rattle.std.specs.Prelude.{◌≡◌, ◌≢◌, ℕ, ◌+◌, ◌≤◌, List, [], ◌∷◌, length, true, false, Option, Some, None, if◌then◌else◌}
 use Rattle.std.specs.FinMap.{get}
 use Rattle.spb_types.specs.declared.address.SystemId.{SystemId}
 use Rattle.spb_types.specs.declared.limits.TheConstants.{MOST_PORTS}
@@ -28,13 +28,17 @@ view_of m = record {
   drops = m.drops;
 }
 
--- the hellos of ports, of those from number p on
-abbrev pub hellos_from : SystemId → ℕ → List BridgePort → List (List ℕ)
-hellos_from system p [] = []
-hellos_from system p (port ∷ ports) = hello_frame system p port ∷ hellos_from system (p + 1) ports
+-- the hello that is kept for a port of number p: one is made where there is carrier
+abbrev pub kept_hello : SystemId → ℕ → BridgePort → Option (List ℕ)
+kept_hello system p port = if port.adjacency.carrier then Some (hello_frame system p port) else None
 
--- the frame that is kept for each port is its hello, the ports that are kept as Up are those that are, and the address
--- from which customers' frames are sent is the own
+-- those that are kept for ports, of those from number p on
+abbrev pub hellos_from : SystemId → ℕ → List BridgePort → List (Option (List ℕ))
+hellos_from system p [] = []
+hellos_from system p (port ∷ ports) = kept_hello system p port ∷ hellos_from system (p + 1) ports
+
+-- the frame that is kept for each port with carrier is its hello, the ports that are kept as Up are those that are, and
+-- the address from which customers' frames are sent is the own
 pub record FollowsPorts (m : Machine) : Type 0 where
   pub hellos : m.hellos.items ≡ hellos_from m.id.system 1 m.ports.items
   pub up : m.up ≡ up_from 1 m.ports.items

@@ -14,8 +14,10 @@ AreSoundPorts ports = AllByRecursion IsSoundPort ports
 abbrev pub AreUnused : List BridgePort → Type 0
 AreUnused ports = AllByRecursion (λ port. port.adjacency.carrier ≡ false) ports
 
--- two adjacencies in one state, with the same neighbour and circuit: hellos say the same of them
+-- two adjacencies in one state, with the same neighbour and circuit, at ports that both have carrier or both have none:
+-- hellos say the same of them, and are sent of both or of neither
 pub record IsSameEnd (a b : Adjacency) : Type 0 where
+  pub carrier : b.carrier ≡ a.carrier
   pub state : b.state ≡ a.state
   pub neighbour : b.neighbour ≡ a.neighbour
   pub circuit : b.circuit ≡ a.circuit

@@ -6,7 +6,7 @@ ghost use Rattle.bridge_api.specs.Config.{IsMetric};
 ghost use Rattle.bridge_api.specs.Hearing as api;
 ghost use Rattle.bridge_control.specs.Machine.{view_of, IsReady, IsAfter, FollowsPorts, CanPut, IsPut, SaysTheSame};
 
-use crate::hello::{hello_frame, put_hello};
+use crate::hello::{kept_hello, put_hello};
 use crate::machine::Machine;
 use crate::ports::{is_same_end, is_up, port_at, put_port, set_srm_for_all, up_ports};
 use adjacency::AdjacencyChange;
@@ -116,7 +116,7 @@ impl Machine {
         if is_same_end(&old.adjacency, &new.adjacency) {
             return Ok(());
         }
-        let hello = hello_frame(self.alloc, self.id.system, port, new)?;
+        let hello = kept_hello(self.alloc, self.id.system, port, new)?;
         put_hello(&mut self.hellos, port, hello);
         self.up = up_ports(self.ports.as_slice());
         Ok(())

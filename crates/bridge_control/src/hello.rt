@@ -2,8 +2,8 @@
 ghost use Rattle.std.specs.Prelude.{◌≡◌, ◌-◌, ◌≤◌, length, slice_set, IfOk, OnOk, OnErr};
 ghost use Rattle.bridge_api.specs.Step.{with_wire};
 ghost use Rattle.bridge_api.specs.Ticking as api;
-ghost use Rattle.bridge_control.specs.Frames.{hello_if};
-ghost use Rattle.bridge_control.specs.Machine.{hellos_from};
+ghost use Rattle.bridge_control.specs.Frames.{hello_sent};
+ghost use Rattle.bridge_control.specs.Machine.{kept_hello, hellos_from};
 
 use bridge_api::{BridgePort, Outbox};
 use isis_pdu::{Hello, write_hello};
@@ -20,41 +20,40 @@ const HOLDING: u16 = 3;
 /// Bytes that the TLVs of a hello take, at most.
 const MOST_TLVS: usize = 26;
 
-/// Puts the hello of a port into the outbox if the port has carrier.
+/// Puts the hello that is kept for a port into the outbox, if there is one.
 pub(crate) fn send_hello(
     number: u8,
-    port: &BridgePort,
-    hello: &Frame,
+    hello: &Option<Frame>,
     outbox: &mut Outbox,
 ) -> Result<(), NoMemory>
-    ensures ok { OnOk result (outbox.new ≡ with_wire (hello_if port.now.adjacency.carrier number hello.now) outbox.old) }
+    ensures ok { OnOk result (outbox.new ≡ with_wire (hello_sent number hello.now) outbox.old) }
     ensures err { OnErr result (outbox.new ≡ outbox.old) }
 {
-    if !port.adjacency.carrier {
-        return Ok(());
+    match hello {
+        None => Ok(()),
+        Some(hello) => outbox.wire.push((number, hello.share()?)),
     }
-    outbox.wire.push((number, hello.share()?))
 }
 
-/// The hellos of ports, in order, as control frames.
+/// The hellos that are kept for ports, in order, as control frames.
 pub(crate) fn hellos_of(
     alloc: Global,
     system: SystemId,
     ports: &[BridgePort],
-) -> Result<Vec<Frame>, NoMemory>
+) -> Result<Vec<Option<Frame>>, NoMemory>
     requires { length ports.now ≤ 32 }
     ensures { IfOk result (λ hellos. hellos.items ≡ hellos_from system 1 ports.now) }
 {
     let mut hellos = Vec::with_capacity(alloc, ports.len())?;
     'make: for (place, port) in ports.iter().enumerate() {
-        let frame = hello_frame(alloc, system, place as u8 + 1, port)?;
-        hellos.push(frame)?;
+        let hello = kept_hello(alloc, system, place as u8 + 1, port)?;
+        hellos.push(hello)?;
     }
     Ok(hellos)
 }
 
 /// Keeps another hello for the port of a number.
-pub(crate) fn put_hello(hellos: &mut Vec<Frame>, port: u8, hello: Frame)
+pub(crate) fn put_hello(hellos: &mut Vec<Option<Frame>>, port: u8, hello: Option<Frame>)
     requires low { 1 ≤ port }
     requires high { port ≤ length hellos.old.items }
     ensures { hellos.new.items ≡ slice_set hellos.old.items (port - 1) hello }
@@ -62,8 +61,24 @@ pub(crate) fn put_hello(hellos: &mut Vec<Frame>, port: u8, hello: Frame)
     hellos[usize::from(port) - 1] = hello;
 }
 
+/// The hello that is kept for a port. None is made where there is no carrier.
+pub(crate) fn kept_hello(
+    alloc: Global,
+    system: SystemId,
+    number: u8,
+    port: &BridgePort,
+) -> Result<Option<Frame>, NoMemory>
+    ensures { IfOk result (λ hello. hello ≡ kept_hello system number port.now) }
+{
+    if !port.adjacency.carrier {
+        return Ok(None);
+    }
+    let hello = hello_frame(alloc, system, number, port)?;
+    Ok(Some(hello))
+}
+
 /// The hello of a port, as a control frame.
-pub(crate) fn hello_frame(
+fn hello_frame(
     alloc: Global,
     system: SystemId,
     number: u8,

@@ -33,7 +33,7 @@ const NO_ID: BridgeId = BridgeId {
 };
 
 /// What a configured bridge keeps. Between calls the one body of `own` is what the bridge has to say of itself,
-/// `hellos` are the hellos of its ports, and `up` are those that are Up. What is kept of the hellos that came only saves reading them.
+/// `hellos` are the hellos of its ports with carrier, and `up` are those that are Up. What is kept of the hellos that came only saves reading them.
 #[derive(Drop)]
 pub(crate) struct Machine {
     pub(crate) alloc: Global,
@@ -44,8 +44,8 @@ pub(crate) struct Machine {
     pub(crate) tenant: Tenant,
     pub(crate) db: Database,
     pub(crate) own: Own,
-    /// The hello of each port, as a control frame.
-    pub(crate) hellos: Vec<Frame>,
+    /// The hello of each port with carrier, as a control frame.
+    pub(crate) hellos: Vec<Option<Frame>>,
     pub(crate) up: PortSet,
     /// How many frames were dropped.
     pub(crate) drops: Drops,

@@ -75,11 +75,15 @@ pub(crate) fn is_up(port: &BridgePort) -> bool
     port.adjacency.state == AdjState::Up
 }
 
-/// Whether hellos say the same of two adjacencies: one state, and the same neighbour and circuit.
+/// Whether hellos say the same of two adjacencies, and are sent of both or of neither: one state, the same neighbour
+/// and circuit, and carrier at both ports or at neither.
 pub(crate) fn is_same_end(a: &Adjacency, b: &Adjacency) -> bool
     ensures { result ≡ true → IsSameEnd a.now b.now }
 {
-    a.state == b.state && a.neighbour == b.neighbour && a.circuit == b.circuit
+    a.carrier == b.carrier
+        && a.state == b.state
+        && a.neighbour == b.neighbour
+        && a.circuit == b.circuit
 }
 
 /// The ports that are Up.

@@ -16,7 +16,7 @@ ghost use Rattle.bridge_api.specs.Step.{with_wire, Gains};
 ghost use Rattle.bridge_api.specs.Ticking as api;
 ghost use Rattle.bridge_control.specs.Frames.{frames_of, frames_held, flagged_at};
 ghost use Rattle.bridge_control.specs.Made.{IsMadeAt, AreMadeOf};
-ghost use Rattle.bridge_control.specs.Machine.{hellos_from};
+ghost use Rattle.bridge_control.specs.Machine.{kept_hello, hellos_from};
 
 use crate::hello::send_hello;
 use crate::made::{frame_of, frames_to_send};
@@ -29,14 +29,14 @@ use snp_sync::{csnps, psnps_within};
 use spb_types::{NoMemory, PortSet, SystemId};
 use std::alloc::Global;
 
-/// Puts what is sent at each port into the outbox, port by port: `hellos` has the hello of each. Where `has_flags` is
+/// Puts what is sent at each port into the outbox, port by port: `hellos` are those that are kept for them. Where `has_flags` is
 /// false no flags stand, and no LSPs and PSNPs are looked for; nor are they at a port at which none stand. The frame of
 /// an LSP is made once, and shared by the ports.
 pub(crate) fn send_all(
     alloc: Global,
     system: SystemId,
     ports: &[BridgePort],
-    hellos: &[Frame],
+    hellos: &[Option<Frame>],
     db: &mut Database,
     has_flags: bool,
     outbox: &mut Outbox,
@@ -152,14 +152,14 @@ fn send_at(
     system: SystemId,
     number: u8,
     port: &BridgePort,
-    hello: &Frame,
+    hello: &Option<Frame>,
     db: &mut Database,
     flags: Flags<'_>,
     outbox: &mut Outbox,
 ) -> Result<(), NoMemory>
     requires low { 1 ≤ number }
     requires high { number ≤ 32 }
-    requires hello { hello.now ≡ api.hello_frame system number port.now }
+    requires hello { hello.now ≡ kept_hello system number port.now }
     requires sendable { AreSendable db.old }
     requires sized { AreSized db.old }
     requires srm { has flags.srm number ≡ false → is_srm_at number db.old ≡ false }
@@ -170,7 +170,7 @@ fn send_at(
     ensures after_sending { OnOk result (db.new ≡ api.after_sending_at number port.now db.old) }
     ensures gained { OnErr result (Gains (api.sent_at system number port.now db.old) outbox.old outbox.new) }
 {
-    send_hello(number, port, hello, outbox)?;
+    send_hello(number, hello, outbox)?;
     if is_synced(number, port, flags.srm, flags.ssn) {
         return Ok(());
     }

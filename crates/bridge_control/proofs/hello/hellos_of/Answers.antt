@@ -4,4 +4,4 @@ use Rattle.bridge_control.proofs.hello.hellos_of.Goals as goal
 
 pub make-preserved : goal.make-preserved
 make-preserved c =
-    hellos_next c.args.system c.args.ports.now c.make.place _ c.make.hellos.items _ _ c.make-test.true c.make.invariant c.in_ok-frame.ensures (search rules)
+    hellos_next c.args.system c.args.ports.now c.make.place _ c.make.hellos.items _ _ c.make-test.true c.make.invariant c.in_ok-hello.ensures (search rules)
