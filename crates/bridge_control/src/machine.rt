@@ -54,6 +54,7 @@ pub(crate) struct Machine {
 }
 
 impl Machine {
+    ghost use Rattle.bridge_control.specs.Heard.{AreJudged};
     ghost use Rattle.bridge_control.specs.Machine.{view_of, IsCurrent, FollowsPorts, CanOriginate, IsAfter};
 
     /// A machine without ports, which takes no memory.
@@ -184,6 +185,7 @@ impl Machine {
     pub(crate) fn renew_hellos(&mut self) -> Result<(), NoMemory>
         requires few { length self.old.ports.items ≤ 32 }
         requires me { self.old.tenant.me ≡ self.old.id.system.mac }
+        requires heard { AreJudged self.old.id.system self.old.heard.items }
         ensures view { OnOk result (view_of self.new ≡ view_of self.old) }
         ensures own { OnOk result (self.new.own ≡ self.old.own) }
         ensures ports { OnOk result (FollowsPorts self.new) }
