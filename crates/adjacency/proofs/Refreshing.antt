@@ -1,5 +1,5 @@
 -- A hello that only begins the holding count anew.
-use Rattle.std.proofs.Common.{◌≡◌, ℕ, ◌<◌, Bool, true, false, refl, sym, ap, ◌∙◌, subst, arith}
+use Rattle.std.proofs.Common.{◌≡◌, ℕ, ◌<◌, ◌≤◌, Bool, true, false, refl, sym, ap, ◌∙◌, subst, arith}
 use Rattle.std.specs.Prelude.{◌&&◌, not, ◌==◌, nat_lt, if◌then◌else◌}
 use Rattle.std.proofs.lemmas.Bool.{eqb-true, eq-eqb, ne_eqb, ltb-true}
 use Rattle.std.proofs.lemmas.Bool.Decides.{nat_tests}
@@ -13,7 +13,7 @@ use Rattle.adjacency.specs.declared.state.AdjState.TheVariants.{Down, Initializi
 use Rattle.adjacency.specs.declared.state.AdjacencyChange.TheVariants as did
 use Rattle.adjacency.specs.declared.port.Adjacency.{Adjacency}
 use Rattle.adjacency.specs.States.{next_state, state_numbered}
-use Rattle.adjacency.specs.Hearing.{End, same_end, sender, is_discarded}
+use Rattle.adjacency.specs.Hearing.{End, same_end, sender, is_discarded, keeps_up}
 use Rattle.adjacency.specs.Adjacency.{SoundIn, IsSound, down, keeping, led_to, is_up, state_towards, after_hello, after_hello_heard, change_of, change_by_hello, is_refreshed}
 
 and_true : (a b : Bool) → (a && b) ≡ true → (a ≡ true) × (b ≡ true)
@@ -85,3 +85,22 @@ refreshes me port hello way a sound is =
       kept = ap (λ (b : Bool). if b then did.Discarded else change_of a (after_hello_heard hello way a)) heard
           ∙ (sym (ap (change_of a) same) ∙ still_up a hello.holding low.0);
     }
+
+asked_once : (a b c d e : Bool) → (b && c && e) ≡ true → (a && d) ≡ (a && b && c && d && e)
+asked_once false b c d e is = refl
+asked_once true false c d e is = absurd cc
+asked_once true true false d e is = absurd cc
+asked_once true true true d false is = absurd cc
+asked_once true true true false true is = refl
+asked_once true true true true true is = refl
+
+-- where a hello keeps an Up neighbour, only the state and the end are asked
+pub refreshed_is : (me : SystemId) (port : ℕ) (hello : HelloValue) (way : ThreeWay) (a : Adjacency) → keeps_up me port hello way ≡ true → (is_up a.state && same_end (a.neighbour, a.circuit) (sender hello way)) ≡ is_refreshed me port hello way a
+refreshed_is me port hello way a keeps =
+    asked_once (is_up a.state) (nat_lt way.state 2) (nat_lt 0 hello.holding) (same_end (a.neighbour, a.circuit) (sender hello way)) (not (is_discarded me port hello way)) keeps
+
+-- such a hello has a holding time
+pub keeps_some : (me : SystemId) (port : ℕ) (hello : HelloValue) (way : ThreeWay) → keeps_up me port hello way ≡ true → 1 ≤ hello.holding
+keeps_some me port hello way keeps =
+    let said = and_true (nat_lt way.state 2 && nat_lt 0 hello.holding) (not (is_discarded me port hello way)) keeps in
+    ltb-true 0 hello.holding (and_true (nat_lt way.state 2) (nat_lt 0 hello.holding) said.0).1

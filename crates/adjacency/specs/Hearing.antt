@@ -1,5 +1,5 @@
 -- Which hellos are heard, and from whom (RFC 5303, 3.2).
-use Rattle.std.specs.Prelude.{ℕ, Bool, false, ◌&&◌, ◌||◌, not, Option, Some, None, ◌==◌}
+use Rattle.std.specs.Prelude.{ℕ, Bool, false, ◌&&◌, ◌||◌, not, Option, Some, None, ◌==◌, nat_lt}
 use Rattle.spb_types.specs.declared.address.SystemId.{SystemId}
 use Rattle.spb_types.specs.Address.{same_system}
 use Rattle.isis_pdu.specs.Pdu.{HelloValue}
@@ -30,3 +30,8 @@ is_discarded me port hello way = not (has_level_one hello.circuit_type) || same_
 -- the end that a hello comes from
 abbrev pub sender : HelloValue → ThreeWay → End
 sender hello way = (hello.source, way.circuit)
+
+-- whether a hello keeps a neighbour Up that is Up already: it isn't discarded, the state that it says is Up or
+-- Initializing (RFC 5303, 3.2, table), and its holding time isn't 0
+abbrev pub keeps_up : SystemId → ℕ → HelloValue → ThreeWay → Bool
+keeps_up me port hello way = nat_lt way.state 2 && nat_lt 0 hello.holding && not (is_discarded me port hello way)

@@ -8,7 +8,7 @@ pub use laws::{
     a_hello_names_nobody_but_the_kept_neighbour, a_kept_neighbour_was_kept_or_heard,
     a_silent_neighbour_is_kept_for_its_count,
 };
-pub use port::Adjacency;
+pub use port::{Adjacency, keeps_up};
 pub use state::{AdjState, AdjacencyChange};
 
 mod laws;

@@ -1,10 +1,11 @@
 //! The adjacency at one port: what a hello, a second and a change of carrier make of it, and what the own hello says.
-ghost use Rattle.std.specs.Prelude.{◌≡◌, ◌≤◌, true, if◌then◌else◌};
+ghost use Rattle.std.specs.Prelude.{◌≡◌, ℕ, ◌≤◌, ◌&&◌, true, if◌then◌else◌};
 ghost use Rattle.isis_pdu.specs.Pdu.{hello_of};
 ghost use Rattle.adjacency.specs.Hearing as hearing;
 ghost use Rattle.adjacency.specs.Hearing.{same_end};
+ghost use Rattle.spb_types.specs.declared.address.SystemId.{SystemId};
 ghost use Rattle.adjacency.specs.declared.state.AdjacencyChange.TheVariants as did;
-ghost use Rattle.adjacency.specs.Adjacency.{IsSound, down, after_hello, after_hello_heard, after_second, after_carrier, state_towards, is_new_up, change_of, change_by_hello, is_refreshed, neighbour_of, said};
+ghost use Rattle.adjacency.specs.Adjacency.{IsSound, down, after_hello, after_hello_heard, after_second, after_carrier, state_towards, is_new_up, change_of, change_by_hello, is_up, is_refreshed, neighbour_of, said};
 
 use crate::state::{AdjState, AdjacencyChange};
 use isis_pdu::Hello;
@@ -69,33 +70,36 @@ impl Adjacency {
         before.change_to(self)
     }
 
-    /// Hears a hello if it only begins the holding count anew, and tells whether it does: the state is Up, and the
-    /// neighbour that is kept hears this system still. Otherwise nothing changes.
+    /// Begins the holding count anew where the state is Up and the hello comes from the neighbour that is kept, and tells
+    /// whether it does. Otherwise nothing changes.
     ///
-    /// It's [`hear`](Self::hear) for the hello that comes each second.
-    pub fn refresh(&mut self, me: SystemId, port: u8, hello: &Hello, way: &ThreeWay) -> bool
-        requires { IsSound self.old }
-        ensures exact { result ≡ is_refreshed me port (hello_of hello.now) way.now self.old }
+    /// It's [`hear`](Self::hear) for the hello that comes each second, of which [`keeps_up`] was asked once.
+    pub fn refresh(&mut self, hello: &Hello, way: &ThreeWay) -> bool
+        requires holding { 1 ≤ hello.now.holding }
+        requires sound { IsSound self.old }
+        ensures exact { (me : SystemId) (port : ℕ) → hearing.keeps_up me port (hello_of hello.now) way.now ≡ true
+            → result ≡ is_refreshed me port (hello_of hello.now) way.now self.old }
         ensures new { self.new ≡ (if result then record self.old { hold = hello.now.holding } else self.old) }
-        ensures heard { result ≡ true → self.new ≡ after_hello me port (hello_of hello.now) way.now self.old }
-        ensures kept { result ≡ true → change_by_hello me port (hello_of hello.now) way.now self.old ≡ did.Kept }
+        ensures heard { result ≡ true → (me : SystemId) (port : ℕ)
+            → hearing.keeps_up me port (hello_of hello.now) way.now ≡ true
+            → self.new ≡ after_hello me port (hello_of hello.now) way.now self.old }
+        ensures kept { result ≡ true → (me : SystemId) (port : ℕ)
+            → hearing.keeps_up me port (hello_of hello.now) way.now ≡ true
+            → change_by_hello me port (hello_of hello.now) way.now self.old ≡ did.Kept }
         ensures sound { IsSound self.new }
     {
-        if !self.is_refreshed(me, port, hello, way) {
+        if !self.is_up_with(hello.source, way.circuit) {
             return false;
         }
         self.hold = hello.holding;
         true
     }
 
-    fn is_refreshed(&self, me: SystemId, port: u8, hello: &Hello, way: &ThreeWay) -> bool
-        ensures { result ≡ is_refreshed me port (hello_of hello.now) way.now self.now }
+    /// Whether the state is Up with this neighbour and circuit.
+    fn is_up_with(&self, system: SystemId, circuit: u32) -> bool
+        ensures { result ≡ (is_up self.now.state && same_end (self.now.neighbour, self.now.circuit) (system, circuit)) }
     {
-        self.state == AdjState::Up
-            && way.state < 2
-            && hello.holding > 0
-            && self.is_kept(hello.source, way.circuit)
-            && !is_discarded(me, port, hello, way)
+        self.state == AdjState::Up && self.is_kept(system, circuit)
     }
 
     fn is_kept(&self, system: SystemId, circuit: u32) -> bool
@@ -217,6 +221,14 @@ impl Adjacency {
         let same_end = self.is_kept(before.neighbour, before.circuit);
         self.state == AdjState::Up && !(before.state == AdjState::Up && same_end)
     }
+}
+
+/// Whether a hello keeps a neighbour Up that is Up already: it isn't discarded, the state that it says is Up or
+/// Initializing, and its holding time isn't 0. What is asked is what the hello says alone.
+pub fn keeps_up(me: SystemId, port: u8, hello: &Hello, way: &ThreeWay) -> bool
+    ensures { result ≡ hearing.keeps_up me port (hello_of hello.now) way.now }
+{
+    way.state < 2 && hello.holding > 0 && !is_discarded(me, port, hello, way)
 }
 
 /// Whether a hello is discarded: its circuit type lacks level 1, its source is `me`, or it names another end of the

@@ -9,6 +9,7 @@ use Rattle.bridge_api.specs.Parsing.{Parsed, parsed}
 use Rattle.bridge_api.specs.Parsing as parsing
 use Rattle.bridge_api.specs.Hearing.{after_drop, heard_as, heard_at, after_receive}
 use Rattle.bridge_control.specs.declared.machine.Machine.{Machine}
+use Rattle.bridge_control.specs.Heard.{AreJudged}
 use Rattle.bridge_control.specs.Machine.{view_of, IsReady, heard_by, hears}
 
 heard_in : (o : Option BridgePort) (v : BridgeView) (p : ℕ) (bytes : List ℕ) (j : Parsed) → has_carrier_in o ≡ true → parsed bytes ≡ j → heard_by j p o v ≡ heard_at p bytes o v
@@ -31,11 +32,11 @@ pub dropped_path : (v : BridgeView) (p : ℕ) (bytes : List ℕ) (reason : DropR
 unfolding has_carrier_at
 dropped_path v p bytes reason has_carrier said = sym (dropped_in (port_at v p) v p reason has_carrier) ∙ heard_path v p bytes (parsing.dropped reason) has_carrier said
 
--- what is kept of the hellos that came doesn't matter
-pub heard_ready : (m n : Machine) → IsReady m → n ≡ record m { heard = n.heard } → IsReady n
-heard_ready m n ready is = subst IsReady (sym is) (record {
+-- which hellos came last doesn't matter, where they were judged
+pub heard_ready : (m n : Machine) → IsReady m → n ≡ record m { heard = n.heard } → AreJudged m.id.system n.heard.items → IsReady n
+heard_ready m n ready is judged = subst IsReady (sym is) (record {
   sound = ready.sound;
-  current = record { own = ready.current.own; ports = record { hellos = ready.current.ports.hellos; up = ready.current.ports.up; me = ready.current.ports.me } };
+  current = record { own = ready.current.own; ports = record { hellos = ready.current.ports.hellos; up = ready.current.ports.up; me = ready.current.ports.me; heard = judged } };
 })
 
 pub heard_view : (m n : Machine) → n ≡ record m { heard = n.heard } → view_of n ≡ view_of m

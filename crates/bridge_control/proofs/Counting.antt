@@ -18,7 +18,7 @@ counted_own v drops = refl
 pub counted_current : (m : Machine) (drops : Drops) → IsCurrent m → IsCurrent (record m { drops = drops })
 counted_current m drops current = record {
   own = current.own ∙ counted_own (view_of m) drops;
-  ports = record { hellos = current.ports.hellos; up = current.ports.up; me = current.ports.me };
+  ports = record { hellos = current.ports.hellos; up = current.ports.up; me = current.ports.me; heard = current.ports.heard };
 }
 
 pub dropped_after : (m : Machine) (reason : DropReason) (drops : Drops) → IsCurrent m → drops ≡ raised_at reason 1 m.drops → IsAfter (after_drop reason (view_of m)) (record m { drops = drops })

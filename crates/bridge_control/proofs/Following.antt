@@ -143,7 +143,7 @@ hellos_set system q (suc i) (x ∷ ports) new =
 -- ---- what is kept follows
 
 pub follow_with : (m : Machine) (ports : Vec BridgePort) (db : Lsps) (own : Own) → FollowsPorts m → AreAlike m.id.system 1 m.ports.items ports.items → FollowsPorts (record m { ports = ports; db = db; own = own })
-follow_with m ports db own follows alike = record { hellos = follows.hellos ∙ sym alike.hellos; up = follows.up ∙ sym alike.up; me = follows.me }
+follow_with m ports db own follows alike = record { hellos = follows.hellos ∙ sym alike.hellos; up = follows.up ∙ sym alike.up; me = follows.me; heard = follows.heard }
 
 pub few_hellos : (m : Machine) → FollowsPorts m → length m.hellos.items ≡ length m.ports.items
 few_hellos m follows = ap length follows.hellos ∙ length_hellos m.id.system 1 m.ports.items
@@ -160,6 +160,7 @@ put_same m p old new ports follows there is same =
         hellos = follows.hellos ∙ sym (ap (hellos_from m.id.system 1) is ∙ alike.hellos);
         up = follows.up ∙ sym (ap (up_from 1) is ∙ alike.up);
         me = follows.me;
+        heard = follows.heard;
       };
     }
 
@@ -174,5 +175,5 @@ put_anew m p new ports hellos hello up low follows is says are ups =
     record {
       view = λ i. record (view_of m) { ports = is i };
       own = refl;
-      ports = record { hellos = are ∙ ((λ i. slice_set (follows.hellos i) (p - 1) (says i)) ∙ made); up = ups; me = follows.me };
+      ports = record { hellos = are ∙ ((λ i. slice_set (follows.hellos i) (p - 1) (says i)) ∙ made); up = ups; me = follows.me; heard = follows.heard };
     }

@@ -11,6 +11,7 @@ pub mod Unused
 pub mod Seconds
 pub mod Putting
 pub mod Heeding
+pub mod Judged
 pub mod Refreshed
 pub mod Messages
 pub mod Keeping

@@ -38,7 +38,7 @@ learning m learned drops = record m { tenant = record m.tenant { learned = learn
 learned_current : (m : Machine) (learned : Addresses) (drops : Drops) → IsCurrent m → IsCurrent (learning m learned drops)
 learned_current m learned drops current = record {
   own = current.own ∙ learned_own (view_of m) learned drops;
-  ports = record { hellos = current.ports.hellos; up = current.ports.up; me = current.ports.me };
+  ports = record { hellos = current.ports.hellos; up = current.ports.up; me = current.ports.me; heard = current.ports.heard };
 }
 
 -- the tables stay, whatever is known of the customers

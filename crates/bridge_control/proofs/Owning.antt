@@ -78,7 +78,7 @@ current_with m ports db own current system bodies same alike =
 
 -- the body was made anew
 pub renewed_current : (m n : Machine) → FollowsPorts m → n ≡ record m { own = own_of (view_of m) } → IsCurrent n
-renewed_current m n follows is = subst IsCurrent (sym is) (record { own = refl; ports = record { hellos = follows.hellos; up = follows.up; me = follows.me } })
+renewed_current m n follows is = subst IsCurrent (sym is) (record { own = refl; ports = record { hellos = follows.hellos; up = follows.up; me = follows.me; heard = follows.heard } })
 
 pub renewed_after : (m n : Machine) → FollowsPorts m → n ≡ record m { own = own_of (view_of m) } → IsAfter (view_of m) n
 renewed_after m n follows is = record { view = ap view_of is; current = renewed_current m n follows is }

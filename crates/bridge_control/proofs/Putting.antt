@@ -183,7 +183,7 @@ left_can m n k p new db own can is parts renewed =
     })
 
 pub left_current : (n k : Machine) (db : Lsps) → FollowsPorts n → k ≡ record n { db = db; own = own_of (view_of (record n { db = db })) } → IsCurrent k
-left_current n k db follows is = renewed_current (record n { db = db }) k (record { hellos = follows.hellos; up = follows.up; me = follows.me }) is
+left_current n k db follows is = renewed_current (record n { db = db }) k (record { hellos = follows.hellos; up = follows.up; me = follows.me; heard = follows.heard }) is
 
 pub left_path : (m n k : Machine) (p : ℕ) (new : BridgePort) (db : Lsps) → IsPut p (with_csnp_due false new) m n → db ≡ each (λ id e. flags_cleared_at p e) n.db → k ≡ record n { db = db; own = own_of (view_of (record n { db = db })) }
     → originated_if_changed (view_of k) ≡ originated_if_changed (left_up p new (view_of m))
@@ -214,7 +214,7 @@ entering_after m n k p new db after is joins =
     let says : own_of (view_of n) ≡ own_of u = λ i. record { system = n.id.system; bodies = Some (sym (said_alike (view_of n) due (each (λ id e. srm_set_at p e) n.db) n.own.spent same) i) ∷ []; spent = n.own.spent } in
     record {
       view = view ∙ ap (all_srm_set_at p new) after.view;
-      current = record { own = is.own ∙ (after.current.own ∙ (says ∙ ap own_of (sym view))); ports = record { hellos = is.ports.hellos; up = is.ports.up; me = is.ports.me } };
+      current = record { own = is.own ∙ (after.current.own ∙ (says ∙ ap own_of (sym view))); ports = record { hellos = is.ports.hellos; up = is.ports.up; me = is.ports.me; heard = is.ports.heard } };
     }
 
 -- ---- a hello, a change of carrier and a metric

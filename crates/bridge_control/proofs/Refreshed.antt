@@ -1,5 +1,5 @@
 -- The machine that heard a hello by which the holding count at a port only begins anew.
-use Rattle.std.proofs.Common.{◌≡◌, ◌-◌, ℕ, Some, sym, ap, ◌∙◌}
+use Rattle.std.proofs.Common.{◌≡◌, ◌-◌, ℕ, List, Option, Some, sym, ap, ◌∙◌, subst}
 use Rattle.std.specs.Prelude.{slice_set}
 use Rattle.std.specs.Global.{Vec}
 use Rattle.isis_pdu.specs.Pdu.{HelloValue}
@@ -13,7 +13,9 @@ use Rattle.bridge_api.specs.View.{BridgeView, IsPort, port_at, with_port_at}
 use Rattle.bridge_api.specs.Own.{originated_if_changed}
 use Rattle.bridge_api.specs.Parsing as parsing
 use Rattle.bridge_api.specs.Hearing.{with_adjacency, changed_at}
+use Rattle.bridge_control.specs.declared.heard.JudgedHello.{JudgedHello}
 use Rattle.bridge_control.specs.declared.machine.Machine.{Machine}
+use Rattle.bridge_control.specs.Heard.{AreJudged}
 use Rattle.bridge_control.specs.Machine.{view_of, IsReady, IsAfter, hears}
 use Rattle.bridge_control.specs.Ports.{IsSameEnd}
 use Rattle.bridge_control.proofs.Following.{put_same}
@@ -37,3 +39,7 @@ refreshed_after m p h way port new ports ready is there again heard kept put =
     let was_put = put_same m p port (with_adjacency new port) ports ready.current.ports (got (view_of m) p port is there) put end in
     let says = kept_says m p port new (after_hello m.id.system p h way port.adjacency) is there heard (hello_kept m.id.system p h way port kept) in
     after_same _ _ n (refreshed_path (view_of m) p h way port new there heard kept) (kept_after m n p (with_adjacency new port) (can_change m p port new ready is there) says was_put)
+
+-- the hellos that came last were judged
+pub last_judged : (m : Machine) (heard : List (Option JudgedHello)) → IsReady m → heard ≡ m.heard.items → AreJudged m.id.system heard
+last_judged m heard ready is = subst (AreJudged m.id.system) (sym is) ready.current.ports.heard

@@ -31,7 +31,7 @@ can_tell m n attached learned other ready config is =
       can = record { few = can.few; held = can.held };
       system = ap (λ (o : Own). o.system) ready.current.own;
       local = is_local (attached_to attached (with_learned other (view_of m))) config ready.sound.few ready.sound.ports;
-      ports = record { hellos = ready.current.ports.hellos; up = ready.current.ports.up; me = ready.current.ports.me };
+      ports = record { hellos = ready.current.ports.hellos; up = ready.current.ports.up; me = ready.current.ports.me; heard = ready.current.ports.heard };
     })
 
 pub can_tell_after : (m n : Machine) (input : Input) (learned : Addresses) → IsReady m → IsInput (view_of m) input → n ≡ machine_with m (attached_after input m.tenant.attached) learned → CanTell n

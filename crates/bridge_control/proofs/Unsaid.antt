@@ -138,7 +138,7 @@ says_still m n attached learned other ready config is within beyond =
     let follows = ready.current.ports in
     let whole : IsAfter (with_attached attached (with_learned learned v)) (machine_with m attached learned) = record {
       view = sym (saying_settles w (λ fresh. (ready.sound.own.said fresh ∙ sym same, ready.sound.own.alive fresh))) ∙ sym (with_attached_is attached (with_learned learned v));
-      current = record { own = ready.current.own ∙ says; ports = record { hellos = follows.hellos; up = follows.up; me = follows.me } };
+      current = record { own = ready.current.own ∙ says; ports = record { hellos = follows.hellos; up = follows.up; me = follows.me; heard = follows.heard } };
     } in
     subst (λ (k : Machine). IsAfter (with_attached attached (with_learned learned v)) k) (sym is) whole
 

@@ -13,6 +13,7 @@ use Rattle.bridge_api.specs.Hearing.{heard_as}
 use Rattle.bridge_api.specs.Ticking.{hello_frame}
 use Rattle.bridge_api.specs.Laws.{IsSoundView}
 use Rattle.bridge_control.specs.declared.machine.Machine.{Machine}
+use Rattle.bridge_control.specs.Heard.{AreJudged}
 
 abbrev pub view_of : Machine → BridgeView
 view_of m = record {
@@ -37,12 +38,13 @@ abbrev pub hellos_from : SystemId → ℕ → List BridgePort → List (Option (
 hellos_from system p [] = []
 hellos_from system p (port ∷ ports) = kept_hello system p port ∷ hellos_from system (p + 1) ports
 
--- the frame that is kept for each port with carrier is its hello, the ports that are kept as Up are those that are, and
--- the address from which customers' frames are sent is the own
+-- the frame that is kept for each port with carrier is its hello, the ports that are kept as Up are those that are, the
+-- address from which customers' frames are sent is the own, and the hellos that came last were judged each for its port
 pub record FollowsPorts (m : Machine) : Type 0 where
   pub hellos : m.hellos.items ≡ hellos_from m.id.system 1 m.ports.items
   pub up : m.up ≡ up_from 1 m.ports.items
   pub me : m.tenant.me ≡ m.id.system.mac
+  pub heard : AreJudged m.id.system m.heard.items
 
 -- the body that is kept of the own LSP is what the bridge has to say, and so are the hellos
 pub record IsCurrent (m : Machine) : Type 0 where

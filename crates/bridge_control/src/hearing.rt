@@ -10,11 +10,11 @@ ghost use Rattle.bridge_api.specs.Parsing as parsing;
 ghost use Rattle.bridge_api.specs.Hearing as api;
 ghost use Rattle.bridge_api.specs.Customers.{moved_by_receive};
 ghost use Rattle.bridge_api.specs.Step.{with_moved, GainsMoved};
-ghost use Rattle.bridge_control.specs.Heard.{hello_saying};
+ghost use Rattle.bridge_control.specs.Heard.{AreJudged, hello_saying};
 ghost use Rattle.bridge_control.specs.Kept.{AreOwn};
 ghost use Rattle.bridge_control.specs.Machine.{view_of, IsReady, IsAfter, hears};
 
-use crate::heard::{HeardHello, Said, put_heard, said_at};
+use crate::heard::{HeardHello, Said, judged_at, none_heard, put_heard};
 use crate::machine::Machine;
 use crate::parsing::{Message, parse};
 use crate::ports::{is_up, port_at, put_hold};
@@ -51,18 +51,15 @@ impl Machine {
             self.count_drop(DropReason::NotAdjacent);
             return Ok(());
         }
-        let Some(said) = said_at(self.heard.as_slice(), port, frame) else {
+        let Some(heard) = judged_at(self.heard.as_slice(), port, frame) else {
             return self.hear_anew(port, frame, kept, outbox);
         };
         let mut new = port_at(self.ports.as_slice(), port);
-        if new
-            .adjacency
-            .refresh(self.id.system, port, &said.hello(), &said.way)
-        {
+        if heard.refresh(&mut new.adjacency) {
             put_hold(&mut self.ports, port, new.adjacency.hold);
             return Ok(());
         }
-        let said = *said;
+        let said = heard.said;
         self.hear_again(port, said, kept)
     }
 
@@ -86,7 +83,6 @@ impl Machine {
     }
 
     /// Hears a frame at a port with carrier, which isn't the hello that came last there.
-    #[inline(never)]
     fn hear_anew(
         &mut self,
         port: u8,
@@ -159,10 +155,25 @@ impl Machine {
     ) -> Result<(), NoMemory>
         requires state { way.now.state ≤ 2 }
         requires brings { parsing.parsed frame.now ≡ parsing.hello (hello_of hello.now) way.now }
-        ensures { OnOk result (self.new ≡ record self.old { heard = self.new.heard }) }
+        requires judged { AreJudged self.old.id.system self.old.heard.items }
+        ensures same { OnOk result (self.new ≡ record self.old { heard = self.new.heard }) }
+        ensures judged { OnOk result (AreJudged self.old.id.system self.new.heard.items) }
     {
-        let last = HeardHello::new(self.alloc, frame, hello, way)?;
+        let last = HeardHello::new(self.alloc, frame, self.id.system, port, hello, way)?;
+        self.make_room_to_hear()?;
         put_heard(&mut self.heard, port, last);
+        Ok(())
+    }
+
+    /// Makes room for the hello that came last to each port, unless there is room.
+    fn make_room_to_hear(&mut self) -> Result<(), NoMemory>
+        requires judged { AreJudged self.old.id.system self.old.heard.items }
+        ensures same { OnOk result (self.new ≡ record self.old { heard = self.new.heard }) }
+        ensures judged { OnOk result (AreJudged self.old.id.system self.new.heard.items) }
+    {
+        if self.heard.is_empty() {
+            self.heard = none_heard(self.alloc, self.ports.len())?;
+        }
         Ok(())
     }
 

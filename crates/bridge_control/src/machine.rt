@@ -49,11 +49,12 @@ pub(crate) struct Machine {
     pub(crate) up: PortSet,
     /// How many frames were dropped.
     pub(crate) drops: Drops,
-    /// The hello that came last to each port.
+    /// The hello that came last to each port; there is no room for any before the first comes.
     pub(crate) heard: Vec<Option<HeardHello>>,
 }
 
 impl Machine {
+    ghost use Rattle.bridge_control.specs.Heard.{AreJudged};
     ghost use Rattle.bridge_control.specs.Machine.{view_of, IsCurrent, FollowsPorts, CanOriginate, IsAfter};
 
     /// A machine without ports, which takes no memory.
@@ -105,7 +106,7 @@ impl Machine {
         let ports = bare_ports(alloc, config.metrics.as_slice())?;
         let hellos = hellos_of(alloc, config.id.system, ports.as_slice())?;
         let up = up_ports(ports.as_slice());
-        let heard = none_heard(alloc, ports.len())?;
+        let heard = none_heard(alloc, 0)?;
         Ok(Machine {
             alloc,
             id: config.id,
@@ -184,6 +185,7 @@ impl Machine {
     pub(crate) fn renew_hellos(&mut self) -> Result<(), NoMemory>
         requires few { length self.old.ports.items ≤ 32 }
         requires me { self.old.tenant.me ≡ self.old.id.system.mac }
+        requires heard { AreJudged self.old.id.system self.old.heard.items }
         ensures view { OnOk result (view_of self.new ≡ view_of self.old) }
         ensures own { OnOk result (self.new.own ≡ self.old.own) }
         ensures ports { OnOk result (FollowsPorts self.new) }

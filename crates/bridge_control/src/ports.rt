@@ -1,5 +1,5 @@
 //! Work on the ports of a bridge.
-ghost use Rattle.std.specs.Prelude.{◌≡◌, ◌-◌, ◌≤◌, Bool, true, false, length, map, drop, Some, IfOk, slice_get, slice_set, if◌then◌else◌};
+ghost use Rattle.std.specs.Prelude.{◌≡◌, ◌+◌, ◌-◌, ◌≤◌, Bool, true, false, length, map, drop, Some, IfOk, slice_get, slice_set, if◌then◌else◌};
 ghost use Rattle.std.specs.List.{AllByRecursion};
 ghost use Rattle.adjacency.specs.Adjacency as adjacency;
 ghost use Rattle.lsdb.specs.Entry.{srm_set_at, flags_cleared_at};
@@ -149,13 +149,49 @@ fn member_of(system: SystemId, a: &Attachment) -> Member
     }
 }
 
-/// How many ports there are up to the last with carrier.
+/// How many ports there are up to the last with carrier. From the end, four of them are looked at together.
 pub(crate) fn ports_in_use(ports: &[BridgePort]) -> usize
     ensures within { result ≤ length ports.now }
     ensures last { (port : BridgePort) → port_in ports.now result ≡ Some port → port.adjacency.carrier ≡ true }
     ensures unused { AreUnused (drop result ports.now) }
 {
-    'search: for place in (0..ports.len()).rev() {
+    let mut rest = ports.len();
+    'skip: while rest >= 4 {
+        if !are_four_unused(ports, rest - 4) {
+            return last_in_use(ports, rest);
+        }
+        rest -= 4;
+    }
+    last_in_use(ports, rest)
+}
+
+/// Whether the four ports at a place have no carrier.
+fn are_four_unused(ports: &[BridgePort], place: usize) -> bool
+    requires { place + 4 ≤ length ports.now }
+    ensures { result ≡ true → AreUnused (drop (place + 4) ports.now) → AreUnused (drop place ports.now) }
+{
+    is_unused_at(ports, place)
+        & is_unused_at(ports, place + 1)
+        & is_unused_at(ports, place + 2)
+        & is_unused_at(ports, place + 3)
+}
+
+fn is_unused_at(ports: &[BridgePort], place: usize) -> bool
+    requires { place + 1 ≤ length ports.now }
+    ensures { result ≡ true → AreUnused (drop (place + 1) ports.now) → AreUnused (drop place ports.now) }
+{
+    !ports[place].adjacency.carrier
+}
+
+/// How many ports there are up to the last with carrier, where those from the place `rest` on have none.
+fn last_in_use(ports: &[BridgePort], rest: usize) -> usize
+    requires within { rest ≤ length ports.now }
+    requires unused { AreUnused (drop rest ports.now) }
+    ensures within { result ≤ length ports.now }
+    ensures last { (port : BridgePort) → port_in ports.now result ≡ Some port → port.adjacency.carrier ≡ true }
+    ensures unused { AreUnused (drop result ports.now) }
+{
+    'search: for place in (0..rest).rev() {
         if ports[place].adjacency.carrier {
             return place + 1;
         }

@@ -12,6 +12,9 @@ renew_hellos-requires-clause-few c = counts_lowered_few c.args.self.now c.count_
 pub renew_hellos-requires-clause-me : goal.renew_hellos-requires-clause-me
 renew_hellos-requires-clause-me c = c.requires.ready.current.ports.me
 
+pub renew_hellos-requires-clause-heard : goal.renew_hellos-requires-clause-heard
+renew_hellos-requires-clause-heard c = c.requires.ready.current.ports.heard
+
 pub renew_body-requires-clause-few : goal.renew_body-requires-clause-few
 renew_body-requires-clause-few c =
     let m = c.args.self.now in

@@ -2,6 +2,7 @@ use Rattle.std.proofs.Common.{◌≡◌, ◌-◌, [], Bool, refl, sym, ap, ◌�
 use Rattle.std.specs.Prelude.{slice_set, if◌then◌else◌}
 use Rattle.std.proofs.lemmas.Result.{on_ok_weaker}
 use Rattle.isis_pdu.specs.Pdu.{HelloValue}
+use Rattle.adjacency.proofs.Refreshing.{keeps_some}
 use Rattle.adjacency.specs.declared.port.Adjacency.{Adjacency}
 use Rattle.adjacency.specs.Adjacency.{after_hello, change_by_hello}
 use Rattle.adjacency.specs.declared.state.AdjacencyChange.TheVariants as did
@@ -15,7 +16,7 @@ use Rattle.bridge_control.proofs.Moving.{unmoved, nothing_moved, nothing_gained,
 use Rattle.bridge_control.proofs.Owning.{after_same}
 use Rattle.bridge_control.proofs.Putting.{there_at, carrier_there, sound_there}
 use Rattle.bridge_control.proofs.Heeding.{deaf_after, not_true, not_false}
-use Rattle.bridge_control.proofs.Refreshed.{refreshed_after}
+use Rattle.bridge_control.proofs.Refreshed.{refreshed_after, last_judged}
 use Rattle.bridge_control.proofs.Tlvless.{hears_alike, after_alike, change_alike}
 use Rattle.bridge_control.proofs.Wire.{on_ok, on_err}
 use Rattle.bridge_control.proofs.machine.Machine.receive.Goals as goal
@@ -43,8 +44,14 @@ hear_anew-requires-clause-carrier c =
 
 -- the hello that came last, by which the holding count only begins anew
 
-pub refresh-requires : goal.refresh-requires
-refresh-requires c =
+pub refresh-requires-clause-holding : goal.refresh-requires-clause-holding
+refresh-requires-clause-holding c = λ keeps.
+    let m = c.args.self.now in
+    let said = c.in-Some.heard.now.said in
+    keeps_some m.id.system c.args.port (hello_saying said []) said.way (c.in-Some.ensures.judged m.id.system (last_judged m c.as_slice-2.result.now c.requires.ready c.as_slice-2.ensures.value) keeps)
+
+pub refresh-requires-clause-sound : goal.refresh-requires-clause-sound
+refresh-requires-clause-sound c =
     let there = there_at c.args.self.now c.as_slice-3.result.now c.args.port c.port_at-new.result c.as_slice-3.ensures.value c.port_at-new.ensures in
     let sound = sound_there c.args.self.now c.args.port c.port_at-new.result c.requires.ready there in
     sound.adjacency
@@ -53,24 +60,21 @@ pub returns-then-refresh-clause-after : goal.returns-then-refresh-clause-after
 returns-then-refresh-clause-after c =
     let m = c.args.self.now in
     let p = c.args.port in
-    let said = c.in-Some.said.now in
-    let is = c.in-Some.ensures in
+    let said = c.in-Some.heard.now.said in
+    let is = c.in-Some.ensures.said in
     let h : HelloValue = hello_saying said is.tlvs in
     let port = c.port_at-new.result in
-    let new : Adjacency = c.refresh.new.self in
+    let new : Adjacency = c.refresh.new.adjacency in
     let there = there_at m c.as_slice-3.result.now p port c.as_slice-3.ensures.value c.port_at-new.ensures in
     let carrier = carrier_there (view_of m) p c.port_at.result (there_at m c.as_slice.result.now p c.port_at.result c.as_slice.ensures.value c.port_at.ensures) ∙ not_false c.port_at.result.adjacency.carrier c.if-not-port_at.false in
     let done = c.if-refresh.true in
     let again : new ≡ record port.adjacency { hold = h.holding } =
-    c.refresh.ensures.new
-    ∙ (ap (λ (b : Bool). if b then record port.adjacency { hold = c.hello.result.holding } else port.adjacency) done
-    ∙ ap (λ (k : HelloValue). record port.adjacency { hold = k.holding }) c.hello.ensures) in
+    c.refresh.ensures.new ∙ ap (λ (b : Bool). if b then record port.adjacency { hold = h.holding } else port.adjacency) done in
+    let judged = c.in-Some.ensures.judged m.id.system (last_judged m c.as_slice-2.result.now c.requires.ready c.as_slice-2.ensures.value) in
     let heard : new ≡ after_hello m.id.system p h said.way port.adjacency =
-    c.refresh.ensures.heard done ∙ ap (λ (k : HelloValue). after_hello m.id.system p k said.way port.adjacency) c.hello.ensures
-    ∙ after_alike m.id.system p said [] is.tlvs said.way port.adjacency in
+    c.refresh.ensures.heard done m.id.system p judged ∙ after_alike m.id.system p said [] is.tlvs said.way port.adjacency in
     let kept : change_by_hello m.id.system p h said.way port.adjacency ≡ did.Kept =
-    sym (ap (λ (k : HelloValue). change_by_hello m.id.system p k said.way port.adjacency) c.hello.ensures ∙ change_alike m.id.system p said [] is.tlvs said.way port.adjacency)
-    ∙ c.refresh.ensures.kept done in
+    sym (change_alike m.id.system p said [] is.tlvs said.way port.adjacency) ∙ c.refresh.ensures.kept done m.id.system p judged in
     let put : c.put_hold.new.ports.items ≡ slice_set m.ports.items (p - 1) (with_adjacency new port) =
     c.put_hold.ensures port there ∙ ap (slice_set m.ports.items (p - 1)) (ap (λ (a : Adjacency). with_hold a.hold port) again ∙ sym (ap (λ (a : Adjacency). with_adjacency a port) again)) in
     after_same _ _ _ (heard_path (view_of m) p c.args.frame.now (parsing.hello h said.way) carrier is.brings)
@@ -81,8 +85,8 @@ returns-then-refresh-clause-kept c = own_still _ _ c.args.kept.now (ports_tables
 
 pub returns-then-refresh-clause-sent : goal.returns-then-refresh-clause-sent
 returns-then-refresh-clause-sent c =
-    let said = c.in-Some.said.now in
-    let is = c.in-Some.ensures in
+    let said = c.in-Some.heard.now.said in
+    let is = c.in-Some.ensures.said in
     nothing_moved _ c.args.outbox.now (unmoved (view_of c.args.self.now) c.args.port c.args.frame.now (parsing.hello (hello_saying said is.tlvs) said.way) is.brings refl)
 
 -- the hello that came last, by which more changes
@@ -94,14 +98,14 @@ hear_again-requires-clause-carrier c =
     carrier_there (view_of c.args.self.now) c.args.port port there ∙ not_false port.adjacency.carrier c.if-not-port_at.false
 
 pub hear_again-requires-clause-state : goal.hear_again-requires-clause-state
-hear_again-requires-clause-state c = c.in-Some.ensures.state
+hear_again-requires-clause-state c = c.in-Some.ensures.said.state
 
 pub returns-clause-after : goal.returns-clause-after
 returns-clause-after c =
     let v = view_of c.args.self.now in
     let p = c.args.port in
-    let said = c.in-Some.said.now in
-    let is = c.in-Some.ensures in
+    let said = c.in-Some.heard.now.said in
+    let is = c.in-Some.ensures.said in
     let port = c.port_at.result in
     let there = there_at c.args.self.now c.as_slice.result.now p port c.as_slice.ensures.value c.port_at.ensures in
     let carrier = carrier_there v p port there ∙ not_false port.adjacency.carrier c.if-not-port_at.false in
@@ -112,8 +116,8 @@ returns-clause-after c =
 
 pub returns-clause-sent : goal.returns-clause-sent
 returns-clause-sent c =
-    let said = c.in-Some.said.now in
-    let is = c.in-Some.ensures in
+    let said = c.in-Some.heard.now.said in
+    let is = c.in-Some.ensures.said in
     on_ok c.hear_again.result (nothing_moved _ c.args.outbox.now (unmoved (view_of c.args.self.now) c.args.port c.args.frame.now (parsing.hello (hello_saying said is.tlvs) said.way) is.brings refl))
 
 pub returns-clause-gained : goal.returns-clause-gained
