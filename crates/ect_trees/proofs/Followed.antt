@@ -147,6 +147,16 @@ follows_more r steps me n to left next place one other f = λ from a m w here h.
       was.1 ∙ (ap (λ t. after_in m (way_back r.graph a steps t place)) up ∙ (after_one r from a steps w next place m hops ∙ ap (λ t. if t then Some (bridge_at r.graph a place) else after_in m (way_back r.graph a steps next (place_before steps place))) apart)),
     )
 
+-- where m stands nearer to the source than the place before, that isn't its place
+pub follows_on : (r : Mesh) (steps : List (Option Step)) (me n to left next place : ℕ) → left ≡ next + 1 → hops_or (step_at steps me) n < next → FollowsBack r steps me n to left place → FollowsBack r steps me n to next (place_before steps place)
+follows_on r steps me n to left next place one near f = λ from a m w here h.
+    let up : left ≡ suc next = omega (arith, one) in
+    let k = prior r from a steps w next place (subst (λ t. HasHops steps t place) up (f from a m w here h).0) in
+    let other : place_before steps place ≢ me = λ e.
+    let stands_here : step_at steps me ≡ Some k.0 = ap (step_at steps) (sym e) ∙ k.1 in
+    absurd (omega (arith, subst (λ o. hops_or o n < next) stands_here near, k.2)) in
+    follows_more r steps me n to left next place one other f from a m w here h
+
 -- no way
 pub follower_none : (r : Mesh) (steps : List (Option Step)) (me to none : ℕ) → step_at steps to ≡ None → none ≡ length steps → FollowsOnWay r steps me to none
 follower_none r steps me to none e all = λ from a m x w here at.

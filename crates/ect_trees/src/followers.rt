@@ -27,7 +27,7 @@ fn hops_to(steps: &[Option<Step>], place: usize, most: usize) -> usize
 }
 
 /// The place that directly follows that of `me` on the way to another, or the number of places where none does. The way
-/// is walked back as far as `me` can stand, by the hops of the way there.
+/// is walked back to the one place where `me` can stand, by the hops of the way there.
 pub(crate) fn follower(steps: &[Option<Step>], me: usize, to: usize) -> usize
     ensures { (r : Mesh) → followers.FollowsOnWay r steps.now me to result }
 {
@@ -38,13 +38,16 @@ pub(crate) fn follower(steps: &[Option<Step>], me: usize, to: usize) -> usize
     let least = hops_to(steps, me, step.hops);
     let mut place = to;
     let mut left = step.hops;
-    while left > least {
-        let before = place_before(steps, place);
-        if before == me {
-            return place;
-        }
-        place = before;
+    if left <= least {
+        return none;
+    }
+    while left - 1 > least {
+        place = place_before(steps, place);
         left -= 1;
+    }
+    let before = place_before(steps, place);
+    if before == me {
+        return place;
     }
     none
 }

@@ -19,6 +19,7 @@ use Rattle.ect_trees.specs.Followers.{after_in, place_or_end, place_after, IsFol
 use Rattle.ect_trees.proofs.Among.{same_self}
 use Rattle.ect_trees.proofs.Exists.{best_of_some}
 use Rattle.ect_trees.proofs.Places.{place_at, place_found, place_found_at}
+use Rattle.ect_trees.proofs.Steps.{path_to_itself}
 use Rattle.ect_trees.proofs.Walks.{path_bridges, path_end}
 use Rattle.fdb_build.specs.Tables.{port_towards, unicast_row}
 use Rattle.fdb_build.specs.Groups.{port_after}
@@ -89,6 +90,16 @@ none_behind g me plan mask place source a valid same here from none to = by (cas
         sym (set_of_follower g me plan mask place source to (length g.bridges) a (source_at g to).id.system (ports_in g me) valid refl same here from (source_stands g to low) (none to))
         ∙ ap port_set (read_past (λ b. port_between g me b.id.system) None g.bridges (length g.bridges) (omega arith))
     by (inr high) = read_past (λ b. port_set (port_after g (mask_of plan.ect) a b.id.system me)) no_ports g.bridges to high
+
+-- nothing follows on the way from a bridge to itself
+pub none_to_itself : (g : Graph) (me : SystemId) (plan : VidPlan) (place : ℕ) (a : SystemId) → IsValid g → IsBridgeAt g place a → set_at (sets_from g me plan a) place ≡ no_ports
+none_to_itself g me plan place a valid at =
+    read_there (λ y. port_set (port_after g (mask_of plan.ect) a y me)) no_ports g.bridges place a at
+    ∙ ap (λ next. port_set (option_and_then (λ y. port_between g me y) next)) (by (best_of g (mask_of plan.ect) a a) refl)
+  where
+    by : (o : Option (List SystemId)) → best_of g (mask_of plan.ect) a a ≡ o → option_and_then (after_in me) o ≡ None
+    by None e = refl
+    by (Some p) e = ap (after_in me) (path_to_itself g a p ((best_of_some g (mask_of plan.ect) a a p valid).0 e).path)
 
 -- within the ports of `me` a bridge stands
 pub within_ports : (g : Graph) (me : SystemId) (to : ℕ) (ports : List (Option ℕ)) → ports ≡ ports_in g me → to < length ports → to < length g.bridges

@@ -128,7 +128,8 @@ fn keep(found: &mut Vec<Option<Found>>, place: usize, last: Found)
     }
 }
 
-/// The set that [`set_behind`] gives, asked for only if it isn't what was found last at that place.
+/// The set that [`set_behind`] gives, asked for only if it isn't what was found last at that place. The way from the source
+/// to itself goes on from nowhere.
 fn set_once<S: Searches>(
     alloc: Global,
     found: &mut Vec<Option<Found>>,
@@ -148,6 +149,9 @@ fn set_once<S: Searches>(
         (making.source_at around.now.roads.now source).id.system) to) }
     ensures found { OnOk result (making.AreFound around.now.roads.now around.now.me found.new.items) }
 {
+    if to == source {
+        return Ok(PortSet::none());
+    }
     if let Some(set) = found_for(found_at(found, to), plan, source) {
         return Ok(set);
     }

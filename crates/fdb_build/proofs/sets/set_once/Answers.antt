@@ -1,7 +1,17 @@
-use Rattle.std.proofs.Common.{refl, sym, ◌∙◌, subst}
-use Rattle.fdb_build.specs.Making.{IsFound}
+use Rattle.std.proofs.Common.{refl, sym, ap, ◌∙◌, subst}
+use Rattle.fdb_build.specs.Making.{IsFound, source_at, set_at, sets_from}
+use Rattle.fdb_build.proofs.FollowerLemmas.{none_to_itself}
 use Rattle.fdb_build.proofs.FoundLemmas.{found_is, found_put}
+use Rattle.fdb_build.proofs.SourceLemmas.{source_stands}
 use Rattle.fdb_build.proofs.sets.set_once.Goals as goal
+
+pub returns-then-to-source-clause-set : goal.returns-then-to-source-clause-set
+returns-then-to-source-clause-set g c =
+    let around = c.args.around.now in
+    let roads = around.roads.now in
+    let a = (source_at roads c.args.source).id.system in
+    c.none.ensures ∙ sym (ap (set_at (sets_from roads around.me c.args.plan a)) c.if-to-source.true
+    ∙ none_to_itself roads around.me c.args.plan c.args.source a c.requires.known.valid.valid (source_stands roads c.args.source c.requires.within))
 
 pub returns-in-Some-clause-set : goal.returns-in-Some-clause-set
 returns-in-Some-clause-set g c =
