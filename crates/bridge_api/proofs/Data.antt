@@ -19,11 +19,12 @@ use Rattle.lsdb.specs.declared.version.Version.{Version}
 use Rattle.lsdb.specs.declared.version.Version.TheVariants.{Absent, Live, Dead}
 use Rattle.lsdb.specs.Version.{IsAtMost, is_absent, leq}
 use Rattle.lsdb.specs.Entry.{Entry, made, srm_set_at, flags_cleared_at, aged, aged_at}
-use Rattle.lsdb.specs.Database.{Lsps, version_in, version_at, fits, each}
+use Rattle.lsdb.specs.Database.{Lsps, version_in, version_at, each}
 use Rattle.lsdb.specs.Certificate.{Certificate}
-use Rattle.lsdb.proofs.LookupLemmas.{get-each, fits_held}
+use Rattle.lsdb.proofs.LookupLemmas.{get-each}
 use Rattle.flooding.specs.Own.{own_id, body_of_number, body_in}
-use Rattle.flooding.specs.Hearing.{Holding, claim_of, hear_lsp_of}
+use Rattle.flooding.specs.Room.{most_others, others}
+use Rattle.flooding.specs.Hearing.{Holding, HasFewOthers, claim_of, lsp_rule, hear_lsp_of}
 use Rattle.flooding.specs.Settling.{Test, settled_by, says, is_new}
 use Rattle.flooding.specs.Entries.{AllEntries, IsNumbered, IsSendable, HasFlagsAt, AreSendable, HaveFlagsAt}
 use Rattle.flooding.specs.Laws.{HasBodies, IsWhole, control}
@@ -31,13 +32,16 @@ use Rattle.flooding.proofs.SendableEntries.{flags_sendable, lsp_keeps_sendable, 
 use Rattle.flooding.proofs.OwnBodies.{lsp_leaves_own_body}
 use Rattle.flooding.proofs.FlagEntries.{lsp_keeps_flags}
 use Rattle.flooding.proofs.Steps.{hearing_lsp}
-use Rattle.flooding.proofs.Settled.{settling_is_certified, settling_leaves_own_body, settling_keeps_sendable, settling_keeps_flags}
+use Rattle.flooding.proofs.Owns.{own_stands}
+use Rattle.flooding.proofs.Few.{changing_keeps_others, hearing_keeps_few, settling_keeps_few}
+use Rattle.flooding.proofs.Settled.{settling_is_certified, settling_leaves_own, settling_leaves_own_body, settling_keeps_sendable, settling_keeps_flags}
 use Rattle.snp_sync.specs.SnpEntries.{has_ssn_at}
 use Rattle.snp_sync.specs.Sending.{ssn_cleared as ssn_cleared_entry, all_ssn_cleared}
 use Rattle.snp_sync.specs.Sized.{IsLspId, IsSized, IsSizedEntry, AreSized}
 use Rattle.snp_sync.specs.Hearing.{claims_in, hear_entries_of, hear_csnp_of}
 use Rattle.snp_sync.proofs.Fields.{flags_keep_sized, entries_keep_sized, csnp_keeps_sized, lsp_keeps_sized, settling_keeps_sized, ageing_keeps_sized}
-use Rattle.snp_sync.proofs.Stays.{claims_are_numbered, entries_keep_sendable, csnp_keeps_sendable, entries_keep_flags, csnp_keeps_flags, entries_leave_own_body, csnp_leaves_own_body}
+use Rattle.snp_sync.proofs.Stays.{claims_are_numbered, entries_leave_own, entries_keep_sendable, csnp_keeps_sendable, entries_keep_flags, csnp_keeps_flags, entries_leave_own_body, csnp_leaves_own_body}
+use Rattle.snp_sync.proofs.Heard.{entries_keep_few, csnp_keeps_few}
 use Rattle.snp_sync.proofs.Served.{entries_are_certified, csnp_is_certified}
 use Rattle.spb_content.proofs.Members.{Has}
 use Rattle.bridge_api.specs.declared.port.BridgePort.{BridgePort}
@@ -61,6 +65,7 @@ pub record IsSoundData (up : PortSet) (system : SystemId) (db : Lsps) : Type 0 w
   pub sized : AreSized db
   pub flags : HaveFlagsAt up db
   pub own : is_absent (version_at db (own_id system)) ≡ false
+  pub room : others system db ≤ most_others
   pub apart : HasApart (body_in (get db (own_id system)))
 
 -- the database of a bridge
@@ -68,10 +73,10 @@ abbrev pub Holds : BridgeView → Type 0
 Holds v = IsSoundData (up_ports v) v.id.system v.database
 
 pub lsps_of : (v : BridgeView) → HasDatabase v → HasApart (body_in (own_entry v)) → Holds v
-lsps_of v held apart = record { sendable = held.sendable; sized = held.sized; flags = held.flags; own = held.own; apart = apart }
+lsps_of v held apart = record { sendable = held.sendable; sized = held.sized; flags = held.flags; own = held.own; room = held.room; apart = apart }
 
 pub has_lsps : (v : BridgeView) → Holds v → HasDatabase v
-has_lsps v held = record { sendable = held.sendable; sized = held.sized; flags = held.flags; own = held.own }
+has_lsps v held = record { sendable = held.sendable; sized = held.sized; flags = held.flags; own = held.own; room = held.room }
 
 -- the own id, of six octets
 pub own_named : (system : SystemId) → IsOwnMac system.mac → IsLspId (own_id system)
@@ -88,13 +93,9 @@ risen (Dead n) Absent rises there = absurd (false≢true rises)
 risen (Dead n) (Live m t) rises there = refl
 risen (Dead n) (Dead m) rises there = refl
 
--- the own id has a place, since it is held
-fits_at : (db : Lsps) (id : LspId) (o : Option Entry) → get db id ≡ o → is_absent (version_in o) ≡ false → fits db id ≡ true
-fits_at db id None is there = absurd (true≢false there)
-fits_at db id (Some e) is there = fits_held db id e is
-
-pub fits_own : (v : BridgeView) → is_absent (version_at v.database (own_id v.id.system)) ≡ false → fits v.database (own_id v.id.system) ≡ true
-fits_own v there = fits_at v.database (own_id v.id.system) (own_entry v) refl there
+-- few others, of the system that it was
+pub few_of : (system : SystemId) (h : Holding) → h.own.system ≡ system → HasFewOthers h → others system h.db ≤ most_others
+few_of system h same few = subst (λ (s : SystemId). others s h.db ≤ most_others) same few
 
 -- ---- the own LSP
 
@@ -118,6 +119,7 @@ settling_keeps_data stands v can held =
       sized = settling_keeps_sized stands up h can.named held.sized;
       flags = settling_keeps_flags stands up h held.flags;
       own = risen _ _ (steps.rises id) held.own;
+      room = few_of v.id.system (settled_by stands up h) (settling_leaves_own stands up h).0 (settling_keeps_few stands up h held.room);
       apart = own_apart h.own (own_id v.id.system) (own_entry v) (get (settled_by stands up h).db id) (said_apart v can) (settling_leaves_own_body stands up h id refl) held.apart;
     }
 
@@ -140,6 +142,7 @@ lsp_keeps l p v up whole id fields can held =
       sized = lsp_keeps_sized (up_ports v) p l h id fields held.sized;
       flags = lsp_keeps_flags (up_ports v) p l h up held.flags;
       own = risen _ _ (steps.rises (own_id v.id.system)) held.own;
+      room = few_of v.id.system (hear_lsp_of (up_ports v) p l h) (own_stands (lsp_rule (up_ports v) p l) (up_ports v) (claim_of l) h).0 (hearing_keeps_few (lsp_rule (up_ports v) p l) (up_ports v) (claim_of l) h held.room);
       apart = own_apart h.own (own_id v.id.system) (own_entry v) (get (hear_lsp_of (up_ports v) p l h).db (own_id v.id.system)) (said_apart v can) (lsp_leaves_own_body (up_ports v) p l h (own_id v.id.system) refl) held.apart;
     }
 
@@ -157,6 +160,7 @@ csnp_keeps c entries p v up listed can held =
       sized = csnp_keeps_sized (up_ports v) p c.start c.end entries h listed held.sized;
       flags = csnp_keeps_flags (up_ports v) p c.start c.end (claims_in entries) h up held.flags;
       own = risen _ _ (steps.rises (own_id v.id.system)) held.own;
+      room = few_of v.id.system (hear_csnp_of (up_ports v) p c.start c.end (claims_in entries) h) (entries_leave_own (up_ports v) p (claims_in entries) h).0 (csnp_keeps_few (up_ports v) p c.start c.end (claims_in entries) h held.room);
       apart = own_apart h.own (own_id v.id.system) (own_entry v) (get (hear_csnp_of (up_ports v) p c.start c.end (claims_in entries) h).db (own_id v.id.system)) (said_apart v can) (csnp_leaves_own_body (up_ports v) p c.start c.end (claims_in entries) h (own_id v.id.system) refl) held.apart;
     }
 
@@ -170,6 +174,7 @@ psnp_keeps entries p v up listed can held =
       sized = entries_keep_sized (up_ports v) p entries h listed held.sized;
       flags = entries_keep_flags (up_ports v) p (claims_in entries) h up held.flags;
       own = risen _ _ (steps.rises (own_id v.id.system)) held.own;
+      room = few_of v.id.system (hear_entries_of (up_ports v) p (claims_in entries) h) (entries_leave_own (up_ports v) p (claims_in entries) h).0 (entries_keep_few (up_ports v) p (claims_in entries) h held.room);
       apart = own_apart h.own (own_id v.id.system) (own_entry v) (get (hear_entries_of (up_ports v) p (claims_in entries) h).db (own_id v.id.system)) (said_apart v can) (entries_leave_own_body (up_ports v) p (claims_in entries) h (own_id v.id.system) refl) held.apart;
     }
 
@@ -204,6 +209,7 @@ each_keeps up next system f db keeps held = record {
   own =
       ap (λ o. is_absent (version_in o)) (get-each f db (own_id system))
       ∙ there_at (f (own_id system)) (get db (own_id system)) (keeps.there (own_id system)) held.own;
+  room = subst (λ n. n ≤ most_others) (sym (changing_keeps_others system f db)) held.room;
   apart =
       subst (λ (o : Option Entry). HasApart (body_in o)) (sym (get-each f db (own_id system)))
       (mapped_apart (f (own_id system)) (get db (own_id system)) (keeps.apart (own_id system)) held.apart);
@@ -219,7 +225,7 @@ wider : (up next : PortSet) (e : Entry) → StayUp up next → HasFlagsAt up e �
 wider up next e stay flags = record { srm = λ q on. stay q (flags.srm q on); ssn = λ q on. stay q (flags.ssn q on); absent = flags.absent }
 
 pub wider_keeps : (up next : PortSet) (system : SystemId) (db : Lsps) → StayUp up next → IsSoundData up system db → IsSoundData next system db
-wider_keeps up next system db stay held = record { sendable = held.sendable; sized = held.sized; flags = λ x e is. wider up next e stay (held.flags x e is); own = held.own; apart = held.apart }
+wider_keeps up next system db stay held = record { sendable = held.sendable; sized = held.sized; flags = λ x e is. wider up next e stay (held.flags x e is); own = held.own; room = held.room; apart = held.apart }
 
 module _ (up next : PortSet) (p : ℕ) (low : 1 ≤ p) (high : p ≤ 32) where
   module _ (stay : (q : ℕ) → q ≢ p → has up q ≡ true → has next q ≡ true) where

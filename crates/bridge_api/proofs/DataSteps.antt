@@ -1,10 +1,11 @@
 -- The database of a bridge stays sound in every step.
 use Rattle.std.proofs.Common.{◌≡◌, ◌≢◌, inl, inr, ◌≤◌, ◌+◌, ◌-◌, ℕ, Bool, true, false, List, [], ◌∷◌, length, map, refl, sym, ap, ◌∙◌, subst, Option, Some, None, arith}
 use Rattle.std.specs.Prelude.{◌==◌, slice_set, if◌then◌else◌, ◌++◌}
-use Rattle.std.specs.FinMap.{get, empty, get-empty}
+use Rattle.std.specs.FinMap.{get, empty, get-empty, len-empty}
 use Rattle.std.proofs.lemmas.Bool.{le-leb}
 use Rattle.std.proofs.lemmas.List.{length-map, length-set}
 use Rattle.std.proofs.lemmas.Option.{slice_get_within}
+use Rattle.spb_types.specs.declared.address.SystemId.{SystemId}
 use Rattle.spb_types.specs.declared.address.LspId.{LspId}
 use Rattle.spb_types.specs.declared.ports.PortSet.{PortSet}
 use Rattle.spb_types.specs.Ports.{has, no_ports}
@@ -17,9 +18,12 @@ use Rattle.lsdb.specs.Entry.{Entry}
 use Rattle.lsdb.specs.Database.{id_cmp, version_in}
 use Rattle.flooding.specs.Own.{own_id, body_in, renewed}
 use Rattle.flooding.specs.Hearing.{Holding}
-use Rattle.flooding.specs.Origination.{next_entry}
+use Rattle.flooding.specs.Room.{most_others, others}
+use Rattle.flooding.specs.Origination.{next_entry, originated}
 use Rattle.flooding.specs.Entries.{AllEntries}
-use Rattle.flooding.proofs.Brought.{originated_stands, originated_leaves_others}
+use Rattle.flooding.proofs.OwnNumbers.{some_number}
+use Rattle.flooding.proofs.Few.{others_are_held, bringing_keeps_few}
+use Rattle.flooding.proofs.Brought.{originated_stands, originated_leaves_own, originated_leaves_others}
 use Rattle.flooding.proofs.SendableEntries.{origination_keeps_sendable}
 use Rattle.flooding.proofs.FlagEntries.{origination_keeps_flags}
 use Rattle.snp_sync.proofs.Fields.{origination_keeps_sized}
@@ -48,7 +52,7 @@ use Rattle.bridge_api.proofs.Attached.{config_after}
 use Rattle.bridge_api.proofs.SoundPorts.{AreSoundPorts, all_set, heard_six, carrier_six, with_metric_sound, sound_at, source_six, all_later, all_without_carrier, config_kept, bare_config}
 use Rattle.bridge_api.proofs.Saying.{has_body, can_say}
 use Rattle.bridge_api.proofs.OwnPorts.{HasApart, body_apart}
-use Rattle.bridge_api.proofs.Data.{Holds, lsps_of, CanOriginate, own_named, up_at, originated_if_changed_keeps, refreshed_keeps, lsp_keeps, csnp_keeps, psnp_keeps, moved_keeps, left_keeps, srm_set_at_keeps, counts_lowered_keeps, expired_keeps, after_sending_keeps}
+use Rattle.bridge_api.proofs.Data.{Holds, few_of, lsps_of, CanOriginate, own_named, up_at, originated_if_changed_keeps, refreshed_keeps, lsp_keeps, csnp_keeps, psnp_keeps, moved_keeps, left_keeps, srm_set_at_keeps, counts_lowered_keeps, expired_keeps, after_sending_keeps}
 use Rattle.bridge_api.proofs.Reading.{lsp_heard_at, csnp_heard_at, psnp_heard_at}
 
 -- a configured bridge with sound ports can originate
@@ -222,6 +226,9 @@ none_held id = get-empty id_cmp id
 all_of_none : (P : LspId → Entry → Type 0) → AllEntries P empty
 all_of_none P id e is = absurd (let no : None ≡ Some e = sym (none_held id) ∙ is in cc)
 
+pub none_other : (system : SystemId) → others system (empty {X = Entry} {R = id_cmp}) ≤ most_others
+none_other system = omega (arith, others_are_held system (empty {X = Entry} {R = id_cmp}), len-empty id_cmp Entry)
+
 configured_own : (c : BridgeConfig) → own_entry (configured c) ≡ Some (renewed no_ports (own_id c.id.system) (body_of (bare c)) 1)
 unfolding configured
 configured_own c =
@@ -251,5 +258,6 @@ configured_holds c whole =
       sized = origination_keeps_sized up 0 h can.named (all_of_none _);
       flags = origination_keeps_flags up 0 h (all_of_none _);
       own = ap (λ (o : Option Entry). is_absent (version_in o)) (configured_own c);
+      room = few_of v.id.system (originated up 0 h) (originated_leaves_own up 0 h).0 (bringing_keeps_few up 0 h some_number (none_other c.id.system));
       apart = subst (λ (o : Option Entry). HasApart (body_in o)) (sym (configured_own c)) can.apart;
     }

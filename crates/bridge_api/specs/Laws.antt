@@ -24,6 +24,7 @@ use Rattle.lsdb.specs.Entry.{Entry}
 use Rattle.lsdb.specs.Database.{version_in, srm_in, ssn_in, version_at}
 use Rattle.lsdb.specs.Certificate.{Claim, IsClaimed, Certificate}
 use Rattle.flooding.specs.Own.{own_id, renewed}
+use Rattle.flooding.specs.Room.{most_others, others}
 use Rattle.flooding.specs.Hearing.{claim_of}
 use Rattle.flooding.specs.Sending.{lsp_in}
 use Rattle.flooding.specs.Entries.{AreSendable, HaveFlagsAt}
@@ -71,12 +72,14 @@ pub record HasConfig (v : BridgeView) : Type 0 where
   pub few_isids : length (different (map (λ a. a.isid.value) v.attached)) ≤ MOST_ISIDS
 
 -- the database: each LSP that is held can be written, and is read again as what is held; what an SNP says of it can be
--- written; flags stand at Up ports alone; and the own id is held
+-- written; flags stand at Up ports alone; the own id is held; and of the ids that aren't own numbers no more are held
+-- than have room
 pub record HasDatabase (v : BridgeView) : Type 0 where
   pub sendable : AreSendable v.database
   pub sized : AreSized v.database
   pub flags : HaveFlagsAt (up_ports v) v.database
   pub own : is_absent (version_at v.database (own_id v.id.system)) ≡ false
+  pub room : others v.id.system v.database ≤ most_others
 
 -- a configured bridge with at most 32 ports, each sound, and a sound database, in which its own LSP is current; behind
 -- which bridges customers' addresses are, it has learned with their six bytes

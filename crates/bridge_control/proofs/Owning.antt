@@ -1,21 +1,17 @@
 -- What a machine says of itself, and what originating makes of it.
-use Rattle.std.proofs.Common.{◌≡◌, ◌≢◌, ◌≤◌, ℕ, zero, suc, Bool, false, List, [], ◌∷◌, map, length, refl, sym, ap, ◌∙◌, subst, Option, Some, None, arith}
+use Rattle.std.proofs.Common.{◌≡◌, ◌≤◌, ℕ, zero, suc, Bool, List, [], ◌∷◌, map, length, refl, sym, ap, ◌∙◌, subst, Some, None, arith}
 use Rattle.std.specs.Prelude.{slice_get}
 use Rattle.std.specs.Option.{option_and_then}
-use Rattle.std.specs.FinMap.{get}
-use Rattle.std.proofs.lemmas.Bool.{true≢false}
 use Rattle.std.specs.Global.{Vec}
 use Rattle.spb_types.specs.declared.ports.PortSet.{PortSet}
-use Rattle.spb_types.specs.declared.address.LspId.{LspId}
-use Rattle.lsdb.specs.Version.{is_absent}
-use Rattle.lsdb.specs.Entry.{Entry}
-use Rattle.lsdb.specs.Database.{Lsps, version_in, version_at}
+use Rattle.lsdb.specs.Database.{Lsps}
 use Rattle.flooding.specs.declared.own.Own.{Own}
-use Rattle.flooding.specs.Hearing.{Holding}
+use Rattle.flooding.specs.Room.{most_others, others}
+use Rattle.flooding.specs.Hearing.{Holding, HasFewOthers}
 use Rattle.flooding.specs.Placing.{holding}
 use Rattle.flooding.specs.Origination.{originated}
-use Rattle.flooding.specs.Settling.{Test, says, is_new, settled_by, settled, kept_fresh, AreHeld}
-use Rattle.flooding.specs.Own.{own_id, HaveBytes, HasFirstNumbers}
+use Rattle.flooding.specs.Settling.{Test, says, is_new, settled_by, settled, kept_fresh}
+use Rattle.flooding.specs.Own.{HaveBytes, HasFirstNumbers}
 use Rattle.flooding.proofs.Brought.{originated_leaves_own}
 use Rattle.flooding.proofs.Settled.{settling_leaves_own}
 use Rattle.spb_content.specs.Local.{content_bytes}
@@ -57,16 +53,8 @@ first_numbers body (suc number) (suc later) low is = refl
 pub own_first : (m : Machine) → IsCurrent m → HasFirstNumbers m.own
 own_first m current = kept_own m HasFirstNumbers current (first_numbers (body_of (view_of m)))
 
-one_held : (v : BridgeView) (db : Lsps) → get db (own_id v.id.system) ≢ None → AreHeld (holding db (own_of v))
-one_held v db held zero body is = held
-one_held v db held (suc number) body is = absurd cc
-
-pub own_held : (m : Machine) → IsCurrent m → get m.db (own_id m.id.system) ≢ None → AreHeld (holding m.db m.own)
-own_held m current held = kept_own m (λ own. AreHeld (holding m.db own)) current (one_held (view_of m) m.db held)
-
--- an own LSP that isn't absent is held
-pub is_held : (db : Lsps) (id : LspId) → is_absent (version_at db id) ≡ false → get db id ≢ None
-is_held db id there none = absurd (true≢false (ap (λ (o : Option Entry). is_absent (version_in o)) (sym none) ∙ there))
+pub own_few : (m : Machine) → IsCurrent m → others m.id.system m.db ≤ most_others → HasFewOthers (holding m.db m.own)
+own_few m current few = kept_own m (λ own. HasFewOthers (holding m.db own)) current few
 
 -- what is kept stays where the neighbours are the same, and hellos say the same
 pub current_with : (m : Machine) (ports : Vec BridgePort) (db : Lsps) (own : Own) → IsCurrent m → own.system ≡ m.own.system → own.bodies ≡ m.own.bodies → neighbours_from 1 ports.items ≡ neighbours_from 1 m.ports.items
@@ -84,7 +72,7 @@ pub renewed_after : (m n : Machine) → FollowsPorts m → n ≡ record m { own 
 renewed_after m n follows is = record { view = ap view_of is; current = renewed_current m n follows is }
 
 pub ready_can : (m : Machine) → IsReady m → CanOriginate m
-ready_can m ready = record { few = ready.sound.few; held = is_held m.db (own_id m.id.system) ready.sound.database.own }
+ready_can m ready = record { few = ready.sound.few; room = ready.sound.database.room }
 
 pub after_same : (v w : BridgeView) (m : Machine) → v ≡ w → IsAfter v m → IsAfter w m
 after_same v w m same is = record { view = is.view ∙ same; current = is.current }

@@ -1,7 +1,5 @@
 -- A port that comes into a new state.
-use Rattle.std.proofs.Common.{◌≡◌, ◌≢◌, ◌≤◌, ◌<◌, ◌-◌, ◌+◌, ℕ, zero, suc, Bool, true, false, List, [], ◌∷◌, length, refl, sym, ap, ◌∙◌, subst, Option, Some, None, arith}
-use Rattle.std.specs.Option.{option_map}
-use Rattle.std.specs.FinMap.{get}
+use Rattle.std.proofs.Common.{◌≡◌, ◌≤◌, ◌<◌, ◌-◌, ◌+◌, ℕ, zero, suc, Bool, true, false, List, [], ◌∷◌, length, refl, sym, ap, ◌∙◌, subst, Some, arith}
 use Rattle.std.specs.Prelude.{slice_get, slice_set, not, ◌&&◌, if◌then◌else◌}
 use Rattle.std.specs.List.{AllByRecursion}
 use Rattle.std.proofs.lemmas.List.{length-set, set-set}
@@ -10,12 +8,11 @@ use Rattle.spb_types.specs.declared.address.SystemId.{SystemId}
 use Rattle.isis_pdu.specs.Pdu.{HelloValue}
 use Rattle.spb_tlvs.specs.declared.neighbours.Neighbour.{Neighbour}
 use Rattle.spb_tlvs.specs.declared.three_way.ThreeWay.{ThreeWay}
-use Rattle.spb_types.specs.declared.address.LspId.{LspId}
-use Rattle.lsdb.specs.Entry.{Entry, flags_cleared_at, srm_set_at}
+use Rattle.lsdb.specs.Entry.{flags_cleared_at, srm_set_at}
 use Rattle.lsdb.specs.Database.{Lsps, each}
-use Rattle.lsdb.proofs.LookupLemmas.{get-each}
 use Rattle.flooding.specs.declared.own.Own.{Own}
-use Rattle.flooding.specs.Own.{own_id}
+use Rattle.flooding.specs.Room.{most_others, others}
+use Rattle.flooding.proofs.Few.{changing_keeps_others}
 use Rattle.spb_content.specs.Local.{IsLocal}
 use Rattle.adjacency.specs.declared.state.AdjacencyChange.{AdjacencyChange}
 use Rattle.adjacency.specs.declared.state.AdjacencyChange.TheVariants.{Kept, CameUp, LeftUp, Discarded}
@@ -141,15 +138,8 @@ put_few m n p new few is = omega (arith, few, ap (λ (v : BridgeView). length v.
 pub put_system : (m n : Machine) (p : ℕ) (new : BridgePort) → IsCurrent m → IsPut p new m n → n.own.system ≡ n.id.system
 put_system m n p new current is = ap (λ (o : Own). o.system) (is.own ∙ current.own) ∙ sym (ap (λ (v : BridgeView). v.id.system) is.view)
 
-put_held : (m n : Machine) (p : ℕ) (new : BridgePort) → IsPut p new m n → get m.db (own_id m.id.system) ≢ None → get n.db (own_id n.id.system) ≢ None
-put_held m n p new is held = subst (λ (v : BridgeView). get v.database (own_id v.id.system) ≢ None) (sym is.view) held
-
-mapped_held : (f : Entry → Entry) (o : Option Entry) → o ≢ None → option_map f o ≢ None
-mapped_held f None held = held
-mapped_held f (Some e) held = λ none. absurd cc
-
-each_held : (f : LspId → Entry → Entry) (db : Lsps) (id : LspId) → get db id ≢ None → get (each f db) id ≢ None
-each_held f db id held = subst (λ (o : Option Entry). o ≢ None) (sym (get-each f db id)) (mapped_held (f id) (get db id) held)
+put_room : (m n : Machine) (p : ℕ) (new : BridgePort) → IsPut p new m n → others m.id.system m.db ≤ most_others → others n.id.system n.db ≤ most_others
+put_room m n p new is room = subst (λ (v : BridgeView). others v.id.system v.database ≤ most_others) (sym is.view) room
 
 -- ---- leaving and entering Up
 
@@ -178,8 +168,8 @@ pub left_can : (m n k : Machine) (p : ℕ) (new : BridgePort) (db : Lsps) (own :
 left_can m n k p new db own can is parts renewed =
     subst CanOriginate (sym renewed) (record {
       few = put_few m n p (with_csnp_due false new) can.can.few is;
-      held = subst (λ (d : Lsps). get d (own_id n.id.system) ≢ None) (sym parts)
-          (each_held (λ id e. flags_cleared_at p e) n.db (own_id n.id.system) (put_held m n p (with_csnp_due false new) is can.can.held));
+      room = subst (λ (d : Lsps). others n.id.system d ≤ most_others) (sym parts)
+          (subst (λ k. k ≤ most_others) (sym (changing_keeps_others n.id.system (λ id e. flags_cleared_at p e) n.db)) (put_room m n p (with_csnp_due false new) is can.can.room));
     })
 
 pub left_current : (n k : Machine) (db : Lsps) → FollowsPorts n → k ≡ record n { db = db; own = own_of (view_of (record n { db = db })) } → IsCurrent k
@@ -249,7 +239,7 @@ with_metric_local m n p new ready metric is = subst (λ (v : BridgeView). IsLoca
 pub with_metric_can : (m n k : Machine) (p : ℕ) (new : BridgePort) (own : Own) → IsReady m → IsPut p new m n → k ≡ record n { own = own } → CanOriginate k
 with_metric_can m n k p new own ready is renewed =
     let can : CanOriginate m = ready_can m ready in
-    subst CanOriginate (sym renewed) (record { few = put_few m n p new can.few is; held = put_held m n p new is can.held })
+    subst CanOriginate (sym renewed) (record { few = put_few m n p new can.few is; room = put_room m n p new is can.room })
 
 pub with_metric_path : (m n k : Machine) (p metric : ℕ) (port : BridgePort) → IsPort (view_of m) p → port_at (view_of m) p ≡ Some port → IsPut p (with_port_metric metric port) m n → k ≡ record n { own = own_of (view_of n) } → originated_if_changed (view_of k) ≡ with_metric p metric (view_of m)
 with_metric_path m n k p metric port is there put renewed =

@@ -1,6 +1,5 @@
 -- A second of a machine.
-use Rattle.std.proofs.Common.{◌≡◌, ◌≢◌, ◌≤◌, ◌+◌, ◌-◌, ℕ, Bool, true, false, List, [], ◌∷◌, map, take, drop, length, refl, sym, ap, ◌∙◌, subst, Option, Some, None, arith}
-use Rattle.std.specs.FinMap.{get}
+use Rattle.std.proofs.Common.{◌≡◌, ◌≤◌, ◌+◌, ◌-◌, ℕ, Bool, true, false, List, [], ◌∷◌, map, take, drop, length, refl, sym, ap, ◌∙◌, subst, Option, Some, None, arith}
 use Rattle.std.specs.Prelude.{◌||◌, if◌then◌else◌}
 use Rattle.std.specs.Global.{Vec}
 use Rattle.std.proofs.lemmas.List.{length-map}
@@ -13,6 +12,7 @@ use Rattle.lsdb.specs.Database.{Lsps, each, any_flags, version_in}
 use Rattle.lsdb.specs.Time.{lifetime_in, is_live}
 use Rattle.flooding.specs.declared.own.Own.{Own}
 use Rattle.flooding.specs.Own.{own_id}
+use Rattle.flooding.specs.Room.{most_others, others}
 use Rattle.flooding.specs.Placing.{holding}
 use Rattle.flooding.specs.Settling.{is_said}
 use Rattle.flooding.proofs.Current.{says_both}
@@ -37,7 +37,7 @@ use Rattle.bridge_control.specs.declared.machine.Machine.{Machine}
 use Rattle.bridge_control.specs.Machine.{view_of, hellos_from, FollowsPorts, IsReady, CanOriginate, IsAfter}
 use Rattle.bridge_control.specs.Ports.{AreSoundPorts, AreUnused, has_lost}
 use Rattle.bridge_control.proofs.Following.{alike_refl, alike_later, alike_undue, neighbours_later}
-use Rattle.bridge_control.proofs.Owning.{is_held, said_alike, current_with, after_same, renewed_after}
+use Rattle.bridge_control.proofs.Owning.{said_alike, current_with, after_same, renewed_after}
 use Rattle.bridge_control.proofs.Unused.{unused_later, sent_first, done_first}
 
 neither : (a b : Bool) → (a || b) ≡ false → (a ≡ false) × (b ≡ false)
@@ -113,7 +113,7 @@ expired_can m n ready is =
     let w : BridgeView = expired (counts_lowered (view_of m)) in
     record {
       few = after_few w n (few_later m.ports.items ready.sound.few) is.view;
-      held = subst (λ (u : BridgeView). get u.database (own_id u.id.system) ≢ None) (sym is.view) (is_held w.database (own_id w.id.system) (expired_holds (view_of m) ready.sound).own);
+      room = subst (λ (u : BridgeView). others u.id.system u.database ≤ most_others) (sym is.view) (expired_holds (view_of m) ready.sound).room;
     }
 
 -- ---- the own LSP says what the bridge has to say where no neighbour is lost

@@ -28,7 +28,7 @@ pub can_tell : (m n : Machine) (attached : List Attachment) (learned other : Add
 can_tell m n attached learned other ready config is =
     let can : CanOriginate m = ready_can m ready in
     subst CanTell (sym is) (record {
-      can = record { few = can.few; held = can.held };
+      can = record { few = can.few; room = can.room };
       system = ap (λ (o : Own). o.system) ready.current.own;
       local = is_local (attached_to attached (with_learned other (view_of m))) config ready.sound.few ready.sound.ports;
       ports = record { hellos = ready.current.ports.hellos; up = ready.current.ports.up; me = ready.current.ports.me; heard = ready.current.ports.heard };
@@ -58,7 +58,7 @@ detached_after m n k port me is after =
     after_same _ _ k (ap (with_attached left) (forgotten_is m port me)) (after_telling m n k left (after_detach m.tenant port).learned is after)
 
 pub renewed_can : (m n : Machine) → CanTell m → n ≡ record m { own = own_of (view_of m) } → CanOriginate n
-renewed_can m n can is = subst CanOriginate (sym is) (record { few = can.can.few; held = can.can.held })
+renewed_can m n can is = subst CanOriginate (sym is) (record { few = can.can.few; room = can.can.room })
 
 -- ---- what a control plane asks for
 

@@ -1,9 +1,8 @@
 -- The bridge that a machine's fields say.
-use Rattle.std.specs.Prelude.{◌≡◌, ◌≢◌, ℕ, ◌+◌, ◌≤◌, List, [], ◌∷◌, length, true, false, Option, Some, None, if◌then◌else◌}
-use Rattle.std.specs.FinMap.{get}
+use Rattle.std.specs.Prelude.{◌≡◌, ℕ, ◌+◌, ◌≤◌, List, [], ◌∷◌, length, true, false, Option, Some, None, if◌then◌else◌}
 use Rattle.spb_types.specs.declared.address.SystemId.{SystemId}
 use Rattle.spb_types.specs.declared.limits.TheConstants.{MOST_PORTS}
-use Rattle.flooding.specs.Own.{own_id}
+use Rattle.flooding.specs.Room.{most_others, others}
 use Rattle.spb_content.specs.Local.{IsLocal}
 use Rattle.bridge_api.specs.declared.port.BridgePort.{BridgePort}
 use Rattle.bridge_api.specs.View.{BridgeView, IsPort, port_at, with_port_at, up_from}
@@ -56,10 +55,10 @@ pub record IsReady (m : Machine) : Type 0 where
   pub sound : IsSoundView (view_of m)
   pub current : IsCurrent m
 
--- it has at most 32 ports, and holds its own LSP
+-- it has at most 32 ports, and holds no more ids that aren't own numbers than have room
 pub record CanOriginate (m : Machine) : Type 0 where
   pub few : length m.ports.items ≤ MOST_PORTS
-  pub held : get m.db (own_id m.id.system) ≢ None
+  pub room : others m.id.system m.db ≤ most_others
 
 -- a machine after a step: this is its bridge
 pub record IsAfter (v : BridgeView) (m : Machine) : Type 0 where

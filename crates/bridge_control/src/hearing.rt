@@ -2,7 +2,7 @@
 ghost use Rattle.std.specs.Prelude.{◌≡◌, ◌≤◌, [], true, false, IfOk, OnOk, OnErr, if◌then◌else◌};
 ghost use Rattle.isis_pdu.specs.Pdu.{hello_of, lsp_of, csnp_of, psnp_of};
 ghost use Rattle.flooding.specs.Own.{HaveBytes};
-ghost use Rattle.flooding.specs.Hearing.{hear_lsp_of, is_full_for_lsp};
+ghost use Rattle.flooding.specs.Hearing.{HasFewOthers, hear_lsp_of, is_full_for_lsp};
 ghost use Rattle.flooding.specs.Placing.{holding};
 ghost use Rattle.bridge_api.specs.View.{IsPort, has_carrier_at};
 ghost use Rattle.bridge_api.specs.Own.{originated_if_changed};
@@ -312,6 +312,7 @@ fn hear_lsp_if_it_fits(
     requires low { 1 ≤ port }
     requires high { port ≤ 32 }
     requires bodies { HaveBytes own.old }
+    requires few { HasFewOthers (holding db.old own.old) }
     ensures full { IfOk result (λ n.
         n ≡ (if is_full_for_lsp up port (lsp_of lsp.now) (holding db.old own.old) then 1 else 0)) }
     ensures heard { OnOk result

@@ -1,8 +1,7 @@
 //! What a configured bridge keeps, and its own LSP.
 ghost use Rattle.std.specs.Prelude.{◌≡◌, ◌≤◌, true, false, length, IfOk, OnOk};
 ghost use Rattle.spb_content.specs.Local.{IsLocal, content_bytes};
-ghost use Rattle.lsdb.specs.Database.{fits};
-ghost use Rattle.flooding.specs.Own.{own_id};
+ghost use Rattle.flooding.specs.Room.{most_others, others};
 ghost use Rattle.flooding.specs.Placing.{holding};
 ghost use Rattle.flooding.specs.Settling.{is_said};
 ghost use Rattle.bridge_api.specs.Config as config_specs;
@@ -206,7 +205,7 @@ impl Machine {
 
     /// Originates (ISO/IEC 10589, 7.3.7).
     pub(crate) fn originate(&mut self) -> Result<(), NoMemory>
-        requires place { fits self.old.db (own_id self.old.id.system) ≡ true }
+        requires room { others self.old.id.system self.old.db ≤ most_others }
         requires current { IsCurrent self.old }
         ensures { OnOk result (IsAfter (api.originating (view_of self.old)) self.new) }
     {

@@ -1,9 +1,11 @@
 //! What the tests of several crates share.
 ghost use Rattle.std.specs.Prelude.{◌≡◌, ◌≤◌};
 ghost use Rattle.flooding.specs.Own.{HaveBytes};
+ghost use Rattle.flooding.specs.Hearing.{HasFewOthers};
+ghost use Rattle.flooding.specs.Placing.{holding};
 ghost use Rattle.lsdb.specs.Entry.{CanBeHeld};
 
-use flooding::Own;
+use flooding::{Own, most_others};
 use lsdb::{Database, Held, Version};
 use spb_types::{Edge, Graph, GraphBridge, LspId, Mac, Member, PortSet, Seq, SystemId};
 use std::alloc::Global;
@@ -89,6 +91,13 @@ pub(crate) fn check_bytes(rt: &impl Abort, own: &Own)
         [Some(body)] => assert!(*rt; !body.is_empty()),
         _ => assert!(*rt; false, "another number of bodies than one"),
     }
+}
+
+/// Asserts that no more ids that aren't own numbers are held than have room.
+pub(crate) fn check_few(rt: &impl Abort, db: &Database, own: &Own)
+    ensures { HasFewOthers (holding db.now own.now) }
+{
+    assert!(*rt; own.others(db) <= most_others());
 }
 
 /// An LSP with the body 01 09 00, and the ports where it is to be sent and acknowledged.

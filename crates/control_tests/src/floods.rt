@@ -5,8 +5,8 @@ ghost use Rattle.isis_pdu.specs.declared.kind.Kind.TheVariants as kinds;
 ghost use Rattle.isis_pdu.specs.Spelling.{CanWrite};
 
 use crate::fixtures::{
-    UP, WITH_NEIGHBOUR, are_bytes, are_equal, check_bytes, dead, live, lsp_id, own, put, seq,
-    system,
+    UP, WITH_NEIGHBOUR, are_bytes, are_equal, check_bytes, check_few, dead, live, lsp_id, own, put,
+    seq, system,
 };
 use flooding::{FloodError, Own, hear_lsp, lsp_of, originate, to_send, write_held};
 use isis_pdu::{Lsp, Pdu, decode};
@@ -81,6 +81,7 @@ fn hear(
     requires high { port ≤ MOST_PORTS }
 {
     check_bytes(rt, own);
+    check_few(rt, db, own);
     hear_lsp(alloc, db, up, port, lsp, own)
 }
 
@@ -238,10 +239,11 @@ fn an_lsp_is_heard_and_sent_on(rt: HostRuntime) {
     }
 }
 
-/// Originates where there is a place and a body.
+/// Originates number 0, which has a place, where there is a body.
+#[tactic(auto, unfolding(flooding::specs::Own::own_numbers))]
 fn originate_in(rt: &impl Abort, alloc: Global, db: &mut Database, up: PortSet, own: &mut Own) {
-    assert!(*rt; db.len() < 2048);
     check_bytes(rt, own);
+    check_few(rt, db, own);
     assert!(*rt; originate(alloc, db, up, own, 0).is_ok());
 }
 
@@ -273,26 +275,34 @@ fn no_number_comes_after_the_last(rt: HostRuntime) {
     check_row(&rt, &db, &id, row(dead(u32::MAX), 0, 1, 0b111, 0b110));
 }
 
-/// A database without a place: 2,048 live LSPs.
+/// A database without a place but for an own number: 2,047 live LSPs of other ids.
 fn full(rt: &impl Abort, alloc: Global) -> Database {
     let mut db = Database::new(alloc);
-    for number in 0..2048 {
+    for number in 0..2047 {
         put_held(rt, alloc, &mut db, lsp_id(number, 1), live(7, 9));
     }
     db
 }
 
 #[test]
-fn a_full_database_takes_no_new_id(rt: HostRuntime) {
+fn a_full_database_takes_own_numbers_alone(rt: HostRuntime) {
     let alloc = rt.alloc();
     let up = PortSet { bits: 0b11 };
     let mut db = full(&rt, alloc);
     let mut own = own(&rt, alloc, &[1]);
     let more = lsp(lsp_id(9, 0), (1, 30, 5));
     assert!(rt; hear(&rt, alloc, &mut db, up, 1, &more, &mut own) == Err(FloodError::Full));
-    let mine = lsp(own.id(0), (u32::MAX, 30, 5));
-    assert!(rt; hear(&rt, alloc, &mut db, up, 1, &mine, &mut own) == Err(FloodError::Full));
-    assert!(rt; !own.spent && db.len() == 2048);
+    let pseudonode = LspId {
+        system: system(1),
+        pseudonode: 1,
+        number: 0,
+    };
+    let named = lsp(pseudonode, (3, 30, 5));
+    assert!(rt; hear(&rt, alloc, &mut db, up, 1, &named, &mut own) == Err(FloodError::Full));
+    let mine = lsp(own.id(0), (3, 30, 5));
+    assert!(rt; hear(&rt, alloc, &mut db, up, 1, &mine, &mut own).is_ok());
+    assert!(rt; db.version_at(&own.id(0)).number() == 4 && db.len() == 2048);
+    assert!(rt; hear(&rt, alloc, &mut db, up, 1, &more, &mut own) == Err(FloodError::Full));
     let known = lsp(lsp_id(0, 1), (8, 30, 5));
     assert!(rt; hear(&rt, alloc, &mut db, up, 1, &known, &mut own).is_ok());
     assert!(rt; db.version_at(&known.id) == live(8, 5));

@@ -4,7 +4,8 @@
 ghost use Rattle.std.specs.Prelude.{◌≤◌};
 
 use crate::fixtures::{
-    UP, WITH_NEIGHBOUR, are_bytes, are_equal, check_bytes, dead, live, lsp_id, own, put, system,
+    UP, WITH_NEIGHBOUR, are_bytes, are_equal, check_bytes, check_few, dead, live, lsp_id, own, put,
+    system,
 };
 use isis_pdu::{Csnp, Pdu, decode};
 use lsdb::{Database, Version};
@@ -60,6 +61,7 @@ fn hear_in_psnp(
 ) {
     let mut own = own(rt, alloc, WITH_NEIGHBOUR);
     check_bytes(rt, &own);
+    check_few(rt, db, &own);
     assert!(*rt; hear_psnp(alloc, db, UP, 2, entries, &mut own) == Ok(full));
 }
 
@@ -74,6 +76,7 @@ fn hear_in_csnp(
 ) {
     let mut own = own(rt, alloc, WITH_NEIGHBOUR);
     check_bytes(rt, &own);
+    check_few(rt, db, &own);
     assert!(*rt; hear_csnp(alloc, db, UP, 2, &start, &end, entries, &mut own) == Ok(full));
 }
 

@@ -10,14 +10,14 @@ use Rattle.spb_types.specs.Address.{same_system}
 use Rattle.lsdb.specs.declared.version.Relation.{Relation}
 use Rattle.lsdb.specs.Version.{number_of, relation}
 use Rattle.lsdb.specs.Entry.{Entry}
-use Rattle.lsdb.specs.Database.{Lsps, version_in, fits, put_if_it_fits, changed}
+use Rattle.lsdb.specs.Database.{Lsps, version_in, changed}
 use Rattle.lsdb.specs.Certificate.{Claim}
 use Rattle.lsdb.proofs.LookupLemmas.{get-insert_same, get-insert_other, get-changed_same, get-changed_other, same_or_not}
 use Rattle.flooding.specs.Own.{answered}
 use Rattle.flooding.specs.Hearing.{Holding, is_beyond, is_answered, after_claim}
 use Rattle.flooding.specs.Entries.{AllEntries}
 use Rattle.flooding.proofs.Heard.{Rule}
-use Rattle.flooding.proofs.Claimed.{heard_of, db_after}
+use Rattle.flooding.proofs.Claimed.{heard_of, lacks, entered, db_after}
 
 module _ (P : LspId → Entry → Type 0) where
   pub inserted : (db : Lsps) (id : LspId) (e : Entry) → AllEntries P db → P id e → AllEntries P (insert db id e)
@@ -28,13 +28,10 @@ module _ (P : LspId → Entry → Type 0) where
       (λ elsewhere. all x f (sym (get-insert_other db id e x elsewhere) ∙ is))
       (same_or_not x id)
 
-  put_by : (db : Lsps) (id : LspId) (e : Entry) (b : Bool) → AllEntries P db → P id e → AllEntries P (if b then insert db id e else db)
-  put_by db id e true all new = inserted db id e all new
-  put_by db id e false all new = all
-
-  pub all_put : (db : Lsps) (id : LspId) (new : Option Entry) → AllEntries P db → ((e : Entry) → new ≡ Some e → P id e) → AllEntries P (put_if_it_fits db id new)
-  all_put db id None all each = all
-  all_put db id (Some e) all each = put_by db id e (fits db id) all (each e refl)
+  all_put : (out : Bool) (db : Lsps) (id : LspId) (new : Option Entry) → AllEntries P db → ((e : Entry) → new ≡ Some e → P id e) → AllEntries P (entered out db id new)
+  all_put true db id new all each = all
+  all_put false db id None all each = all
+  all_put false db id (Some e) all each = inserted db id e all (each e refl)
 
   heard_by_test : (rule : Rule) (up : PortSet) (c : Claim) (h : Holding) (r : Relation) (b : Bool) → relation c.version (version_in (get h.db c.id)) ≡ r
       → (b ≡ true → is_beyond r ≡ true)
@@ -54,7 +51,7 @@ module _ (P : LspId → Entry → Type 0) where
   all_after_claim rule up c h all answer rules =
       let r = relation c.version (version_in (get h.db c.id)) in
       subst (λ (db : Lsps). AllEntries P db) (sym (db_after rule up c h))
-      (all_put h.db c.id (heard_of rule up c h) all
+      (all_put (lacks rule up c h) h.db c.id (heard_of rule up c h) all
       (heard_by_test rule up c h r (is_answered h.own c.id r) refl (λ b. (and_parts (same_system c.id.system h.own.system) (is_beyond r) b).1) answer rules))
 
   -- after a change of what is held under an id

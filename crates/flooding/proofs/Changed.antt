@@ -1,17 +1,20 @@
 -- Changes of what is held under one id.
-use Rattle.std.specs.Prelude.{◌≡◌, ℕ, true, false, not, Option, Some, None, slice_get, if◌then◌else◌}
+use Rattle.std.specs.Prelude.{◌≡◌, ℕ, true, false, ◌||◌, not, nat_lt, is_some, Option, Some, None, slice_get, if◌then◌else◌}
 use Rattle.std.proofs.Common.{refl, sym, ap, subst, ◌∙◌, ⊎_elim}
 use Rattle.std.specs.Option.{option_map}
 use Rattle.std.specs.FinMap.{get, insert, entries, same_map}
+use Rattle.spb_types.specs.declared.address.SystemId.{SystemId}
 use Rattle.spb_types.specs.declared.address.LspId.{LspId}
 use Rattle.lsdb.specs.declared.version.Version.{Version}
 use Rattle.lsdb.specs.declared.version.Version.TheVariants.{Absent, Live, Dead}
 use Rattle.lsdb.specs.Version.{is_absent}
 use Rattle.lsdb.specs.Entry.{Entry}
-use Rattle.lsdb.specs.Database.{Lsps, version_in, version_if_held, put_if_it_fits, changed, changed_to, changed_under, changed_if_held}
+use Rattle.lsdb.specs.Database.{Lsps, version_in, version_if_held, changed, changed_to, changed_under, changed_if_held}
 use Rattle.lsdb.proofs.Ids.{ids_total, ids_tied}
-use Rattle.lsdb.proofs.LookupLemmas.{get-insert_same, get-insert_other, same_or_not, fits_held, put_held, get_place}
-use Rattle.flooding.specs.Hearing.{unless_absent, lacks_place}
+use Rattle.lsdb.proofs.LookupLemmas.{get-insert_same, get-insert_other, same_or_not, get_place}
+use Rattle.flooding.specs.Own.{is_own_number}
+use Rattle.flooding.specs.Room.{most_others, others, has_room}
+use Rattle.flooding.specs.Hearing.{Holding, unless_absent, lacks_place}
 
 -- what is held, put in again
 pub insert_held : (db : Lsps) (id : LspId) (e : Entry) → get db id ≡ Some e → insert db id e ≡ db
@@ -28,20 +31,16 @@ still_at f db id (Some e) is same = ap (changed_to db id) same ∙ insert_held d
 pub changed_still : (f : Entry → Entry) (db : Lsps) (id : LspId) → option_map f (get db id) ≡ get db id → changed f db id ≡ db
 changed_still f db id same = still_at f db id (get db id) refl same
 
--- a change of what is held is its placing, which needs no place
-put_at : (f : Entry → Entry) (db : Lsps) (id : LspId) (o : Option Entry) → get db id ≡ o → put_if_it_fits db id (option_map f o) ≡ changed_to db id (option_map f o)
-put_at f db id None is = refl
-put_at f db id (Some e) is = put_held db id e (f e) is
+-- what is held has room, and a change of it needs no place
+pub held_has_room : (system : SystemId) (db : Lsps) (id : LspId) (e : Entry) → get db id ≡ Some e → has_room system db id ≡ true
+held_has_room system db id e is = ap (λ o. is_some o || (is_own_number system id || nat_lt (others system db) most_others)) is
 
-pub put_changed : (f : Entry → Entry) (db : Lsps) (id : LspId) → put_if_it_fits db id (option_map f (get db id)) ≡ changed f db id
-put_changed f db id = put_at f db id (get db id) refl
+placeless_at : (f : Entry → Entry) (h : Holding) (id : LspId) (o : Option Entry) → get h.db id ≡ o → lacks_place h id (option_map f o) ≡ false
+placeless_at f h id None is = refl
+placeless_at f h id (Some e) is = ap not (held_has_room h.own.system h.db id e is)
 
-placeless_at : (f : Entry → Entry) (db : Lsps) (id : LspId) (o : Option Entry) → get db id ≡ o → lacks_place db id (option_map f o) ≡ false
-placeless_at f db id None is = refl
-placeless_at f db id (Some e) is = ap not (fits_held db id e is)
-
-pub change_has_place : (f : Entry → Entry) (db : Lsps) (id : LspId) → lacks_place db id (option_map f (get db id)) ≡ false
-change_has_place f db id = placeless_at f db id (get db id) refl
+pub change_has_place : (f : Entry → Entry) (h : Holding) (id : LspId) → lacks_place h id (option_map f (get h.db id)) ≡ false
+change_has_place f h id = placeless_at f h id (get h.db id) refl
 
 -- a change that spares an absent entry
 pub spared : (f : Entry → Entry) (o : Option Entry) → version_in o ≡ Absent → option_map (unless_absent f) o ≡ o

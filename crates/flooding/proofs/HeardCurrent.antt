@@ -3,7 +3,7 @@ use Rattle.std.specs.Prelude.{◌≡◌, ℕ, ◌+◌, ◌<◌, List, Bool, true
 use Rattle.std.proofs.Common.{refl, sym, ap, subst, ◌∙◌, inl, inr, arith}
 use Rattle.std.proofs.lemmas.Bool.{true≢false}
 use Rattle.std.specs.Option.{option_map, option_and_then}
-use Rattle.std.specs.FinMap.{get, insert}
+use Rattle.std.specs.FinMap.{get}
 use Rattle.spb_types.specs.declared.address.SystemId.{SystemId}
 use Rattle.spb_types.specs.declared.address.LspId.{LspId}
 use Rattle.spb_types.specs.declared.ports.PortSet.{PortSet}
@@ -13,16 +13,15 @@ use Rattle.lsdb.specs.declared.version.Relation.{Relation}
 use Rattle.lsdb.specs.declared.version.Relation.TheVariants.{Older, Equal, Newer, Confused}
 use Rattle.lsdb.specs.Version.{number_of, relation, is_absent}
 use Rattle.lsdb.specs.Entry.{Entry, acked, cleared, offered}
-use Rattle.lsdb.specs.Database.{Lsps, version_in, fits, put_if_it_fits}
+use Rattle.lsdb.specs.Database.{Lsps, version_in, changed_to}
 use Rattle.lsdb.specs.Certificate.{Claim}
 use Rattle.lsdb.specs.Time.{is_live}
-use Rattle.lsdb.proofs.LookupLemmas.{get-insert_same, same_or_not}
+use Rattle.lsdb.proofs.LookupLemmas.{get-insert_same, changed_to_other, same_or_not}
 use Rattle.flooding.specs.declared.own.Own.{Own}
 use Rattle.flooding.specs.Own.{last_number, own_numbers, own_number, body_of_number, body_for, renewed, dead_at, answered_by, answered, answering}
 use Rattle.flooding.specs.Hearing.{Holding, claim_of, lsp_rule, snp_rule, is_beyond, unless_absent, is_answered, heard_by, own_after, lacks_place, after_claim}
 use Rattle.flooding.specs.Settling.{own_held, IsAlive, IsLspCurrent, AreCurrent}
 use Rattle.flooding.specs.SettlingLaws.{LspKeepsCurrent, EntryKeepsCurrent}
-use Rattle.flooding.proofs.Claimed.{get-put_other}
 use Rattle.flooding.proofs.OwnNumbers.{same_self, its_body}
 
 -- ---- what a rule leaves of a claim that isn't beyond
@@ -127,29 +126,25 @@ module _ (rule : Relation → Option Entry → Option Entry) (leaves : (r : Rela
 
   -- ---- after the claim
 
-  put_by : (db : Lsps) (id : LspId) (text : Option (List ℕ)) (e : Entry) (b : Bool) → IsLspCurrent text (get db id) → IsLspCurrent text (Some e) → IsLspCurrent text (get (if b then insert db id e else db) id)
-  put_by db id text e true old c = subst (IsLspCurrent text) (sym (get-insert_same db id e)) c
-  put_by db id text e false old c = old
-
-  put_same : (db : Lsps) (id : LspId) (text : Option (List ℕ)) (new : Option Entry) → IsLspCurrent text (get db id) → IsLspCurrent text new → IsLspCurrent text (get (put_if_it_fits db id new) id)
+  put_same : (db : Lsps) (id : LspId) (text : Option (List ℕ)) (new : Option Entry) → IsLspCurrent text (get db id) → IsLspCurrent text new → IsLspCurrent text (get (changed_to db id new) id)
   put_same db id text None old c = old
-  put_same db id text (Some e) old c = put_by db id text e (fits db id) old c
+  put_same db id text (Some e) old c = subst (IsLspCurrent text) (sym (get-insert_same db id e)) c
 
   entered : (h : Holding) (c : Claim) (k : ℕ) → k < own_numbers → h.own.spent ≡ false → IsLspCurrent (body_of_number h.own k) (own_held h k)
       → (own_after h.own c.id c.version (relation c.version (version_in (get h.db c.id)))).spent ≡ false
-      → IsLspCurrent (body_of_number h.own k) (get (put_if_it_fits h.db c.id (heard_by rule up h.own c.id c.version (relation c.version (version_in (get h.db c.id))) (get h.db c.id))) (own_number h.own.system k))
+      → IsLspCurrent (body_of_number h.own k) (get (changed_to h.db c.id (heard_by rule up h.own c.id c.version (relation c.version (version_in (get h.db c.id))) (get h.db c.id))) (own_number h.own.system k))
   entered h c k below was now fresh =
       elim (same_or_not (own_number h.own.system k) c.id) [
         | inl same ↦
             let here : IsLspCurrent (body_of_number h.own k) (own_held h k) = now in
             subst (λ (id : LspId). (own_after h.own id c.version (relation c.version (version_in (get h.db id)))).spent ≡ false
-            → IsLspCurrent (body_of_number h.own k) (get (put_if_it_fits h.db id (heard_by rule up h.own id c.version (relation c.version (version_in (get h.db id))) (get h.db id))) (own_number h.own.system k))) same
+            → IsLspCurrent (body_of_number h.own k) (get (changed_to h.db id (heard_by rule up h.own id c.version (relation c.version (version_in (get h.db id))) (get h.db id))) (own_number h.own.system k))) same
             (λ still.
             put_same h.db (own_number h.own.system k) (body_of_number h.own k)
             (heard_by rule up h.own (own_number h.own.system k) c.version (relation c.version (version_in (own_held h k))) (own_held h k)) here
             (answers_by h.own k c.version (relation c.version (version_in (own_held h k))) (own_held h k) below was here still)) fresh
         | inr apart ↦
-            subst (IsLspCurrent (body_of_number h.own k)) (sym (get-put_other h.db c.id (heard_by rule up h.own c.id c.version (relation c.version (version_in (get h.db c.id))) (get h.db c.id)) (own_number h.own.system k) apart))
+            subst (IsLspCurrent (body_of_number h.own k)) (sym (changed_to_other h.db c.id (own_number h.own.system k) (heard_by rule up h.own c.id c.version (relation c.version (version_in (get h.db c.id))) (get h.db c.id)) apart))
             (now)
       ]
 
@@ -160,7 +155,7 @@ module _ (rule : Relation → Option Entry → Option Entry) (leaves : (r : Rela
 
   after_by : (h : Holding) (c : Claim) (b : Bool) → AreCurrent h
       → AreCurrent (if b then h else record {
-        db = put_if_it_fits h.db c.id (heard_by rule up h.own c.id c.version (relation c.version (version_in (get h.db c.id))) (get h.db c.id));
+        db = changed_to h.db c.id (heard_by rule up h.own c.id c.version (relation c.version (version_in (get h.db c.id))) (get h.db c.id));
         own = own_after h.own c.id c.version (relation c.version (version_in (get h.db c.id)));
       })
   after_by h c true now = now
@@ -168,12 +163,12 @@ module _ (rule : Relation → Option Entry → Option Entry) (leaves : (r : Rela
       let r : Relation = relation c.version (version_in (get h.db c.id)) in
       let keeps = own_kept h.own c.id c.version r in
       let was = keeps.fresh fresh in
-      moved h (put_if_it_fits h.db c.id (heard_by rule up h.own c.id c.version r (get h.db c.id))) (own_after h.own c.id c.version r) k keeps (entered h c k below was (now was k below) fresh)
+      moved h (changed_to h.db c.id (heard_by rule up h.own c.id c.version r (get h.db c.id))) (own_after h.own c.id c.version r) k keeps (entered h c k below was (now was k below) fresh)
 
   claim_keeps : (c : Claim) (h : Holding) → AreCurrent h → AreCurrent (after_claim rule up c h)
   unfolding after_claim
   claim_keeps c h now =
-      after_by h c (lacks_place h.db c.id (heard_by rule up h.own c.id c.version (relation c.version (version_in (get h.db c.id))) (get h.db c.id))) now
+      after_by h c (lacks_place h c.id (heard_by rule up h.own c.id c.version (relation c.version (version_in (get h.db c.id))) (get h.db c.id))) now
 
 pub lsp_keeps_current : LspKeepsCurrent
 lsp_keeps_current up port l h now = claim_keeps (lsp_rule up port l) (lsp_leaves up port l) up (claim_of l) h now

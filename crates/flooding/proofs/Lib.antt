@@ -21,3 +21,4 @@ pub mod HeardCurrent
 pub mod Rest
 pub mod Room
 pub mod Fits
+pub mod Few

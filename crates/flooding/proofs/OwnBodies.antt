@@ -2,7 +2,7 @@
 use Rattle.std.specs.Prelude.{◌≡◌, ℕ, ◌+◌, List, Bool, true, false, ◌&&◌, Option, Some, None, nat_lt, if◌then◌else◌}
 use Rattle.std.proofs.Common.{inl, inr, refl, sym, ap, subst, ◌∙◌}
 use Rattle.std.proofs.lemmas.Bool.{true≢false}
-use Rattle.std.specs.FinMap.{get, insert}
+use Rattle.std.specs.FinMap.{get}
 use Rattle.spb_types.specs.declared.address.LspId.{LspId}
 use Rattle.spb_types.specs.declared.ports.PortSet.{PortSet}
 use Rattle.isis_pdu.specs.Pdu.{LspValue}
@@ -11,7 +11,7 @@ use Rattle.lsdb.specs.declared.version.Relation.{Relation}
 use Rattle.lsdb.specs.declared.version.Relation.TheVariants.{Older, Equal, Newer, Confused}
 use Rattle.lsdb.specs.Version.{number_of, is_absent, relation}
 use Rattle.lsdb.specs.Entry.{Entry, acked, cleared}
-use Rattle.lsdb.specs.Database.{Lsps, version_in, fits, put_if_it_fits}
+use Rattle.lsdb.specs.Database.{Lsps, version_in}
 use Rattle.lsdb.specs.Certificate.{Claim}
 use Rattle.lsdb.proofs.LookupLemmas.{get-insert_same, same_or_not}
 use Rattle.flooding.specs.declared.own.Own.{Own}
@@ -19,18 +19,15 @@ use Rattle.flooding.specs.Own.{last_number, is_own_number, body_of_number, body_
 use Rattle.flooding.specs.Hearing.{Holding, claim_of, lsp_rule, snp_rule, is_beyond, after_claim}
 use Rattle.flooding.specs.Laws.{IsOwnBody, stays, renews, ends, LspLeavesOwnBody, EntryLeavesOwnBody}
 use Rattle.flooding.proofs.Heard.{Rule}
-use Rattle.flooding.proofs.Claimed.{heard_of, db_after, others_stand}
+use Rattle.flooding.proofs.Claimed.{heard_of, lacks, entered, db_after, others_stand}
 use Rattle.flooding.proofs.Owns.{system_mine}
 
 -- ---- what is put in
 
-put_at : (own : Own) (db : Lsps) (id : LspId) (e : Entry) (b : Bool) → IsOwnBody own id (get db id) (Some e) → IsOwnBody own id (get db id) (get (if b then insert db id e else db) id)
-put_at own db id e true new = subst (IsOwnBody own id (get db id)) (sym (get-insert_same db id e)) new
-put_at own db id e false new = stays refl
-
-put_body : (own : Own) (db : Lsps) (id : LspId) (o : Option Entry) → IsOwnBody own id (get db id) o → IsOwnBody own id (get db id) (get (put_if_it_fits db id o) id)
-put_body own db id None new = stays refl
-put_body own db id (Some e) new = put_at own db id e (fits db id) new
+put_body : (own : Own) (out : Bool) (db : Lsps) (id : LspId) (o : Option Entry) → IsOwnBody own id (get db id) o → IsOwnBody own id (get db id) (get (entered out db id o) id)
+put_body own true db id o new = stays refl
+put_body own false db id None new = stays refl
+put_body own false db id (Some e) new = subst (IsOwnBody own id (get db id)) (sym (get-insert_same db id e)) new
 
 -- ---- a claim
 
@@ -85,7 +82,7 @@ claimed_body rule keeps up c h mine =
     let heard : IsOwnBody h.own c.id held (heard_of rule up c h) =
     subst (λ (b : Bool). IsOwnBody h.own c.id held (if b && is_beyond r then Some (answered up h.own c.id (number_of c.version)) else rule r held))
     (sym (system_mine h.own c.id mine)) (heard_body rule keeps up h.own c.id c.version r held (is_beyond r) refl) in
-    subst (λ (db : Lsps). IsOwnBody h.own c.id held (get db c.id)) (sym (db_after rule up c h)) (put_body h.own h.db c.id (heard_of rule up c h) heard)
+    subst (λ (db : Lsps). IsOwnBody h.own c.id held (get db c.id)) (sym (db_after rule up c h)) (put_body h.own (lacks rule up c h) h.db c.id (heard_of rule up c h) heard)
 
 -- under another id nothing changes
 claim_leaves : (rule : Rule) → KeepsBody rule → (up : PortSet) (c : Claim) (h : Holding) (id : LspId) → id.system ≡ h.own.system → IsOwnBody h.own id (get h.db id) (get (after_claim rule up c h).db id)

@@ -13,14 +13,14 @@ use Rattle.lsdb.specs.declared.version.Relation.{Relation}
 use Rattle.lsdb.specs.declared.version.Relation.TheVariants.{Older, Equal, Newer, Confused}
 use Rattle.lsdb.specs.Version.{number_of, is_absent, relation}
 use Rattle.lsdb.specs.Entry.{Entry, acked, cleared, offered, with_flags}
-use Rattle.lsdb.specs.Database.{Lsps, version_in, put_if_it_fits}
+use Rattle.lsdb.specs.Database.{Lsps, version_in, changed_to}
 use Rattle.lsdb.specs.Certificate.{Claim}
-use Rattle.lsdb.proofs.LookupLemmas.{fits_held}
 use Rattle.flooding.specs.declared.own.Own.{Own}
 use Rattle.flooding.specs.Own.{last_number, body_for, renewed, dead_at, answered_by, answered, answering}
 use Rattle.flooding.specs.Hearing.{Holding, claim_of, lsp_rule, snp_rule, is_beyond, is_answered, lacks_place, after_entry, own_after, after_claim, is_full}
 use Rattle.flooding.specs.Laws.{OwnStands, OwnIsNotSpent, OwnEntry, is_kept, is_renewed, is_ended, LspLeavesOwn, EntryLeavesOwn}
 use Rattle.flooding.proofs.Heard.{Rule}
+use Rattle.flooding.proofs.Changed.{held_has_room}
 use Rattle.flooding.proofs.OwnNumbers.{same_self}
 use Rattle.flooding.proofs.Claimed.{heard_of, SaysOfHeld, lsp_rule_says, snp_rule_says, heard_stands, fitting_is_not_full}
 
@@ -46,7 +46,7 @@ pub own_stands : OwnStands
 unfolding after_claim
 own_stands rule up c h =
     let r = relation c.version (version_in (get h.db c.id)) in
-    after_by h _ (own_after h.own c.id c.version r) (lacks_place h.db c.id (heard_of rule up c h)) (own_by h.own c.id (number_of c.version) (is_answered h.own c.id r))
+    after_by h _ (own_after h.own c.id c.version r) (lacks_place h c.id (heard_of rule up c h)) (own_by h.own c.id (number_of c.version) (is_answered h.own c.id r))
 
 -- ---- spent only at the last number
 
@@ -71,7 +71,7 @@ own_is_not_spent rule up c h below =
     let r = relation c.version (version_in (get h.db c.id)) in
     let b = is_answered h.own c.id r in
     let owns : own_after h.own c.id c.version r ≡ h.own = ap (λ (own : Own). if b then own else h.own) (answering_same h.own c.id (number_of c.version) below) ∙ same_by h.own b in
-    ap (λ (own : Own). (after_entry h c.id (heard_of rule up c h) own).own) owns ∙ after_same h (put_if_it_fits h.db c.id (heard_of rule up c h)) (lacks_place h.db c.id (heard_of rule up c h))
+    ap (λ (own : Own). (after_entry h c.id (heard_of rule up c h) own).own) owns ∙ after_same h (changed_to h.db c.id (heard_of rule up c h)) (lacks_place h c.id (heard_of rule up c h))
 
 -- ---- an own LSP that is held
 
@@ -129,7 +129,7 @@ leaves_own : (rule : Rule) → KeepsHeld rule → SaysOfHeld rule → (up : Port
     → get h.db c.id ≡ Some old → get (after_claim rule up c h).db c.id ≡ Some new → OwnEntry up h.own c.id c.version old new
 leaves_own rule keeps says up c h old new mine below before after =
     let r = relation c.version (version_in (get h.db c.id)) in
-    let there : is_full rule up c h ≡ false = fitting_is_not_full rule up c h (fits_held h.db c.id old before) in
+    let there : is_full rule up c h ≡ false = fitting_is_not_full rule up c h (held_has_room h.own.system h.db c.id old before) in
     let heard : (if is_beyond r then Some (answered up h.own c.id (number_of c.version)) else rule r (Some old)) ≡ Some new =
     sym (ap (λ b. if b && is_beyond r then Some (answered up h.own c.id (number_of c.version)) else rule r (Some old)) (system_mine h.own c.id mine))
     ∙ sym (ap (λ (o : Option Entry). if is_answered h.own c.id r then Some (answered up h.own c.id (number_of c.version)) else rule r o) before)

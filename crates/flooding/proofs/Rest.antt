@@ -1,22 +1,16 @@
 -- Own LSPs brought up to date in code, one number at a time.
-use Rattle.std.specs.Prelude.{◌≡◌, ◌≢◌, ℕ, suc, ◌+◌, ◌-◌, ◌<◌, ◌≤◌, List, Bool, true, false, ◌&&◌, not, nat_lt, slice_get, is_some, Option, Some, None, if◌then◌else◌}
-use Rattle.std.specs.Option.{option_map, option_and_then}
+use Rattle.std.specs.Prelude.{◌≡◌, ℕ, suc, ◌+◌, ◌-◌, ◌<◌, ◌≤◌, List, Bool, true, false, ◌&&◌, not, nat_lt, slice_get, is_some, Option, None, if◌then◌else◌}
+use Rattle.std.specs.Option.{option_and_then}
 use Rattle.std.proofs.Common.{refl, sym, ap, subst, ◌∙◌, inl, inr, arith}
-use Rattle.std.proofs.lemmas.Bool.{true≢false, cases_eq, ltb-true, ltb-false}
-use Rattle.std.specs.FinMap.{get, insert}
-use Rattle.spb_types.specs.declared.address.SystemId.{SystemId}
-use Rattle.spb_types.specs.declared.address.LspId.{LspId}
+use Rattle.std.proofs.lemmas.Bool.{cases_eq, ltb-true, ltb-false}
 use Rattle.spb_types.specs.declared.ports.PortSet.{PortSet}
-use Rattle.lsdb.specs.Version.{number_of}
-use Rattle.lsdb.specs.Entry.{Entry, purged}
-use Rattle.lsdb.specs.Database.{Lsps, version_in, changed, fits}
-use Rattle.lsdb.proofs.LookupLemmas.{same_or_not, get-insert_same, get-insert_other, get-changed_same, get-changed_other, fits_held}
+use Rattle.lsdb.specs.Entry.{Entry}
 use Rattle.flooding.specs.declared.own.Own.{Own}
-use Rattle.flooding.specs.Own.{own_numbers, own_number, body_of_number, HaveBytes, HasFirstNumbers}
+use Rattle.flooding.specs.Own.{own_numbers, body_of_number, HaveBytes, HasFirstNumbers}
 use Rattle.flooding.specs.Hearing.{Holding}
-use Rattle.flooding.specs.Origination.{next_entry, brought_up}
-use Rattle.flooding.specs.Settling.{Test, own_held, says, is_new, is_old, stands, is_said, each_from, settled_by, AreHeld}
-use Rattle.flooding.proofs.Brought.{brought_keeps, bringing_leaves_own}
+use Rattle.flooding.specs.Origination.{brought_up}
+use Rattle.flooding.specs.Settling.{Test, own_held, says, is_new, is_old, stands, is_said, each_from, settled_by}
+use Rattle.flooding.proofs.Brought.{bringing_leaves_own}
 use Rattle.flooding.proofs.Settled.{settled_fresh}
 
 -- what is left of the numbers from one on
@@ -43,58 +37,11 @@ settled_rest test up h fresh = settled_fresh test up h fresh ∙ ap (λ n. each_
     all : (m : ℕ) → m ≡ m - 0
     all m = omega arith
 
--- ids that are held stay so
-insert_held : (db : Lsps) (id x : LspId) (e : Entry) → get db x ≢ None → get (insert db id e) x ≢ None
-insert_held db id x e held none =
-    elim (same_or_not x id) [
-      | inl here ↦ (let no : Some e ≡ None = sym (get-insert_same db id e) ∙ (ap (λ (y : LspId). get (insert db id e) y) (sym here) ∙ none) in absurd cc)
-      | inr apart ↦ held (sym (get-insert_other db id e x apart) ∙ none)
-    ]
-
-mapped_held : (f : Entry → Entry) (o : Option Entry) → option_map f o ≡ None → o ≡ None
-mapped_held f None none = refl
-mapped_held f (Some e) none = absurd cc
-
-change_held : (f : Entry → Entry) (db : Lsps) (id x : LspId) → get db x ≢ None → get (changed f db id) x ≢ None
-change_held f db id x held none =
-    elim (same_or_not x id) [
-      | inl here ↦ held (ap (λ (y : LspId). get db y) here ∙ mapped_held f (get db id) (sym (get-changed_same f db id) ∙ (ap (λ (y : LspId). get (changed f db id) y) (sym here) ∙ none)))
-      | inr apart ↦ held (sym (get-changed_other f db id x apart) ∙ none)
-    ]
-
-id_held : (up : PortSet) (number : ℕ) (h : Holding) (x : LspId) → get h.db x ≢ None → get (brought_up up number h).db x ≢ None
-id_held up number h x held =
-    let id = own_number h.own.system number in
-    brought_keeps (λ g. get g.db x ≢ None) up number h held
-    (λ body fresh has. insert_held h.db id x (next_entry up id body (number_of (version_in (get h.db id))) (get h.db id)) held)
-    (λ seq sum live. change_held (purged seq up) h.db id x held)
-
 bodies_at : (own next : Own) → next.bodies ≡ own.bodies → (number : ℕ) → body_of_number next number ≡ body_of_number own number
 bodies_at own next same number = ap (λ (bs : List (Option (List ℕ))). option_and_then (λ body. body) (slice_get bs number)) same
 
-pub still_held : (up : PortSet) (number : ℕ) (h : Holding) → AreHeld h → AreHeld (brought_up up number h)
-still_held up number h held k body is =
-    let own = bringing_leaves_own up number h in
-    subst (λ (s : SystemId). get (brought_up up number h).db (own_number s k) ≢ None) (sym own.0)
-    (id_held up number h (own_number h.own.system k) (held k body (sym (bodies_at h.own (brought_up up number h).own own.1 k) ∙ is)))
-
 pub still_bytes : (up : PortSet) (number : ℕ) (h : Holding) → HaveBytes h.own → HaveBytes (brought_up up number h).own
 still_bytes up number h bytes k body is = bytes k body (sym (bodies_at h.own (brought_up up number h).own (bringing_leaves_own up number h).1 k) ∙ is)
-
--- and have a place
-there_by : (db : Lsps) (id : LspId) (o : Option Entry) → get db id ≡ o → get db id ≢ None → fits db id ≡ true
-there_by db id None is held = absurd (held is)
-there_by db id (Some e) is held = fits_held db id e is
-
-pub held_fits : (db : Lsps) (id : LspId) → get db id ≢ None → fits db id ≡ true
-held_fits db id held = there_by db id (get db id) refl held
-
-some_body : (o : Option (List ℕ)) (P : Type 0) → is_some o ≡ true → ((body : List ℕ) → o ≡ Some body → P) → P
-some_body None P is by = absurd (true≢false (sym is))
-some_body (Some body) P is by = by body refl
-
-pub body_fits : (h : Holding) (number : ℕ) → AreHeld h → is_some (body_of_number h.own number) ≡ true → fits h.db (own_number h.own.system number) ≡ true
-body_fits h number held is = some_body (body_of_number h.own number) _ is (λ body has. held_fits h.db (own_number h.own.system number) (held number body has))
 
 -- ---- nothing old
 

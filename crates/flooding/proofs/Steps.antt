@@ -24,7 +24,7 @@ use Rattle.flooding.specs.Own.{last_number, body_for, renewed, dead_at, answered
 use Rattle.flooding.specs.Hearing.{Holding, claim_of, body_of, unless_absent, wanted, lsp_rule, snp_rule, is_beyond, is_answered, after_claim}
 use Rattle.flooding.specs.Laws.{control, HearingLspIsCertified, HearingEntryIsCertified, AnsweringIsCertified}
 use Rattle.flooding.proofs.Heard.{Rule, number-claimed}
-use Rattle.flooding.proofs.Claimed.{heard_of, db_after}
+use Rattle.flooding.proofs.Claimed.{heard_of, lacks, entered, db_after}
 use Rattle.flooding.specs.declared.origination.TheConstants.{MAX_AGE}
 
 -- ---- versions
@@ -128,13 +128,18 @@ claim_by : (rule : Rule) (up : PortSet) (port : ℕ) (c : Claim) (h : Holding) (
 claim_by rule up port c h r true is beyond step = answering up port (c ∷ []) h.own c.id c.version (get h.db c.id) (ap is_beyond is ∙ beyond refl)
 claim_by rule up port c h r false is beyond step = step
 
+entering : (up : PortSet) (port : ℕ) (c : Claim) (h : Holding) (out : Bool) (new : Option Entry) → EntryCertificate port (c ∷ []) up up c.id (get h.db c.id) new
+    → Certificate port (c ∷ []) (control up h) (record { up = up; db = entered out h.db c.id new })
+entering up port c h true new step = standing port (c ∷ []) (control up h)
+entering up port c h false new step = putting port (c ∷ []) up h.db c.id new step
+
 claim_step : (rule : Rule) (up : PortSet) (port : ℕ) (c : Claim) (h : Holding)
     → EntryCertificate port (c ∷ []) up up c.id (get h.db c.id) (rule (relation c.version (version_in (get h.db c.id))) (get h.db c.id))
     → Certificate port (c ∷ []) (control up h) (control up (after_claim rule up c h))
 claim_step rule up port c h step =
     let r = relation c.version (version_in (get h.db c.id)) in
     subst (λ (db : Lsps). Certificate port (c ∷ []) (control up h) (record { up = up; db = db })) (sym (db_after rule up c h))
-    (putting port (c ∷ []) up h.db c.id (heard_of rule up c h) (claim_by rule up port c h r (is_answered h.own c.id r) refl (λ b. (and_parts (same_system c.id.system h.own.system) (is_beyond r) b).1) step))
+    (entering up port c h (lacks rule up c h) (heard_of rule up c h) (claim_by rule up port c h r (is_answered h.own c.id r) refl (λ b. (and_parts (same_system c.id.system h.own.system) (is_beyond r) b).1) step))
 
 pub hearing_lsp : HearingLspIsCertified
 hearing_lsp up port l h is_up =

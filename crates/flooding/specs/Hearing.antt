@@ -1,5 +1,5 @@
 -- What an LSP, or an entry of an SNP, changes where it is heard (ISO/IEC 10589, 7.3.15.1 and 7.3.15.2).
-use Rattle.std.specs.Prelude.{ℕ, List, ◌∷◌, Bool, true, false, ◌&&◌, not, Option, Some, None, if◌then◌else◌}
+use Rattle.std.specs.Prelude.{ℕ, ◌≤◌, List, ◌∷◌, Bool, true, false, ◌&&◌, not, Option, Some, None, if◌then◌else◌}
 use Rattle.std.specs.Option.{option_map}
 use Rattle.std.specs.FinMap.{get}
 use Rattle.spb_types.specs.declared.address.LspId.{LspId}
@@ -11,10 +11,11 @@ use Rattle.lsdb.specs.declared.version.Relation.{Relation}
 use Rattle.lsdb.specs.declared.version.Relation.TheVariants.{Older, Equal, Newer, Confused}
 use Rattle.lsdb.specs.Version.{number_of, is_absent, relation, claimed}
 use Rattle.lsdb.specs.Entry.{Entry, stored, absent_with_ssn, acked, cleared, offered}
-use Rattle.lsdb.specs.Database.{Lsps, version_in, fits, put_if_it_fits}
+use Rattle.lsdb.specs.Database.{Lsps, version_in, changed_to}
 use Rattle.lsdb.specs.Certificate.{Claim}
 use Rattle.flooding.specs.declared.own.Own.{Own}
 use Rattle.flooding.specs.Own.{dead_at, answered, answering}
+use Rattle.flooding.specs.Room.{most_others, others, has_room}
 
 -- what an LSP says of its sender: it holds this version of this id
 abbrev pub claim_of : LspValue → Claim
@@ -74,14 +75,18 @@ pub record Holding : Type 0 where
   pub db : Lsps
   pub own : Own
 
--- an entry goes in, and there is no place for its id
-abbrev pub lacks_place : Lsps → LspId → Option Entry → Bool
-lacks_place db id None = false
-lacks_place db id (Some e) = not (fits db id)
+-- it holds as many ids that aren't own numbers as have room, or fewer
+abbrev pub HasFewOthers : Holding → Type 0
+HasFewOthers h = others h.own.system h.db ≤ most_others
+
+-- an entry goes in, and its id has no room
+abbrev pub lacks_place : Holding → LspId → Option Entry → Bool
+lacks_place h id None = false
+lacks_place h id (Some e) = not (has_room h.own.system h.db id)
 
 -- after a claim: the entry under its id is what was heard, and no other changes. Where there is no place, nothing does
 abbrev pub after_entry : Holding → LspId → Option Entry → Own → Holding
-after_entry h id new own = if lacks_place h.db id new then h else record { db = put_if_it_fits h.db id new; own = own }
+after_entry h id new own = if lacks_place h id new then h else record { db = changed_to h.db id new; own = own }
 
 abbrev pub own_after : Own → LspId → Version → Relation → Own
 own_after own id a r = if is_answered own id r then answering own id (number_of a) else own
@@ -96,7 +101,7 @@ after_claim rule up c h =
 unfoldable pub is_full : (Relation → Option Entry → Option Entry) → PortSet → Claim → Holding → Bool
 is_full rule up c h =
     let held = get h.db c.id in
-    lacks_place h.db c.id (heard_by rule up h.own c.id c.version (relation c.version (version_in held)) held)
+    lacks_place h c.id (heard_by rule up h.own c.id c.version (relation c.version (version_in held)) held)
 
 -- after an LSP heard at a port, and whether it needed a place that there wasn't
 abbrev pub hear_lsp_of : PortSet → ℕ → LspValue → Holding → Holding

@@ -13,10 +13,11 @@ use Rattle.lsdb.specs.declared.version.Version.{Version}
 use Rattle.lsdb.specs.declared.version.Relation.{Relation}
 use Rattle.lsdb.specs.Version.{number_of, is_absent, IsAtMost, relation, claimed}
 use Rattle.lsdb.specs.Entry.{Entry, stored, flooded, absent_with_ssn, acked, cleared, offered, flagged, srm_set_at, flags_cleared_at, with_flags, aged}
-use Rattle.lsdb.specs.Database.{Lsps, version_in, version_at, ssn_in, fits}
+use Rattle.lsdb.specs.Database.{Lsps, version_in, version_at, ssn_in}
 use Rattle.lsdb.specs.Certificate.{Claim, Control, EntryCertificate, Certificate}
 use Rattle.flooding.specs.declared.own.Own.{Own}
 use Rattle.flooding.specs.Own.{last_number, own_number, body_of_number, body_for, tlvs_of_body, body_in, renewed, dead_at, answered}
+use Rattle.flooding.specs.Room.{has_room}
 use Rattle.flooding.specs.Hearing.{Holding, claim_of, lsp_rule, snp_rule, is_beyond, heard_by, after_claim, is_full, hear_lsp_of, is_full_for_lsp, hear_entry_of, is_full_for_entry}
 use Rattle.flooding.specs.Origination.{spent_entry, next_entry, originated, brought_up}
 use Rattle.flooding.specs.Sending.{lsp_in, ids_to_send, lsps_to_send}
@@ -75,10 +76,10 @@ abbrev pub FullStands : Type 0
 FullStands = (rule : Relation → Option Entry → Option Entry) (up : PortSet) (c : Claim) (h : Holding)
     → is_full rule up c h ≡ true → after_claim rule up c h ≡ h
 
--- there is a place for an id that is held, or while fewer than 2,048 ids are
+-- there is one for an id that has room: one that is held or is an own number, and any while few others are held
 abbrev pub FittingIsNotFull : Type 0
 FittingIsNotFull = (rule : Relation → Option Entry → Option Entry) (up : PortSet) (c : Claim) (h : Holding)
-    → fits h.db c.id ≡ true → is_full rule up c h ≡ false
+    → has_room h.own.system h.db c.id ≡ true → is_full rule up c h ≡ false
 
 -- an LSP that was heard is at most what is held after it
 abbrev pub HeardIsAtMostHeld : Type 0

@@ -1,6 +1,6 @@
 -- Own LSPs brought up to date: when they stand as they are, and what becomes of them where they don't (ISO/IEC 10589,
 -- 7.3.7 and 7.3.16).
-use Rattle.std.specs.Prelude.{◌≡◌, ◌≢◌, ℕ, zero, suc, ◌+◌, ◌≤◌, ◌<◌, List, Bool, true, false, ◌&&◌, not, nat_le, Option, Some, None, is_some, if◌then◌else◌}
+use Rattle.std.specs.Prelude.{◌≡◌, ℕ, zero, suc, ◌+◌, ◌≤◌, ◌<◌, List, Bool, true, false, ◌&&◌, not, nat_le, Option, Some, None, is_some, if◌then◌else◌}
 use Rattle.std.specs.Str.{bytes_eq}
 use Rattle.std.specs.FinMap.{get}
 use Rattle.spb_types.specs.declared.ports.PortSet.{PortSet}
@@ -88,10 +88,6 @@ IsLspCurrent (Some body) held = (body_in held ≡ body) × IsAlive held
 abbrev pub AreCurrent : Holding → Type 0
 AreCurrent h = h.own.spent ≡ false → (number : ℕ) → number < own_numbers
     → IsLspCurrent (body_of_number h.own number) (own_held h number)
-
--- the own LSPs that the system has a body for are held
-abbrev pub AreHeld : Holding → Type 0
-AreHeld h = (number : ℕ) (body : List ℕ) → body_of_number h.own number ≡ Some body → own_held h number ≢ None
 
 -- each own LSP that is live is so for this many seconds more, and 1,200 at most
 abbrev pub LastIfLive : ℕ → Holding → Type 0

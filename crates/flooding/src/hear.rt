@@ -6,7 +6,7 @@ ghost use Rattle.lsdb.specs.Entry.{stored, acked};
 ghost use Rattle.lsdb.specs.Database.{changed_if_held};
 ghost use Rattle.flooding.specs.Own.{HaveBytes};
 ghost use Rattle.flooding.specs.Hearing as hearing;
-ghost use Rattle.flooding.specs.Hearing.{unless_absent, hear_lsp_of, is_full_for_lsp};
+ghost use Rattle.flooding.specs.Hearing.{HasFewOthers, unless_absent, hear_lsp_of, is_full_for_lsp};
 ghost use Rattle.flooding.specs.Placing.{Puts, Hears, holding};
 
 use crate::put::put_near;
@@ -28,8 +28,9 @@ use std::alloc::{AllocError, Global};
 ///   sent at every Up port;
 /// - a newer or confused one of the system's own is answered instead.
 ///
-/// Each body of the system has at least one byte. Where the id needs a place and 2,048 ids are held the answer is `Full` or
-/// `NoMemory`, and else never `Full`. After an error nothing changed.
+/// Each body of the system has at least one byte, and at most 2,047 ids are held that aren't own numbers. Where the id
+/// isn't held, isn't an own number, and has to go in beside 2,047 such ids, the answer is `Full` or `NoMemory`, and else
+/// never `Full`. After an error nothing changed.
 pub fn hear_lsp(
     alloc: Global,
     db: &mut Database,
@@ -41,6 +42,7 @@ pub fn hear_lsp(
     requires low { 1 ≤ port }
     requires high { port ≤ MOST_PORTS }
     requires bodies { HaveBytes own.old }
+    requires few { HasFewOthers (holding db.old own.old) }
     ensures { Hears result (is_full_for_lsp up port (lsp_of lsp.now) (holding db.old own.old)) (holding db.old own.old)
         (hear_lsp_of up port (lsp_of lsp.now) (holding db.old own.old)) (holding db.new own.new) }
 {
@@ -62,6 +64,7 @@ pub fn hear_lsp_near(
     requires low { 1 ≤ port }
     requires high { port ≤ MOST_PORTS }
     requires bodies { HaveBytes own.old }
+    requires few { HasFewOthers (holding db.old own.old) }
     ensures { Hears result (is_full_for_lsp up port (lsp_of lsp.now) (holding db.old own.old)) (holding db.old own.old)
         (hear_lsp_of up port (lsp_of lsp.now) (holding db.old own.old)) (holding db.new own.new) }
 {
@@ -71,7 +74,7 @@ pub fn hear_lsp_near(
         return own.answer(alloc, db, up, &lsp.id, lsp.seq);
     }
     match relation {
-        Relation::Newer => return store(alloc, db, up, port, lsp, found.place),
+        Relation::Newer => return store(alloc, db, up, port, lsp, own, found.place),
         Relation::Equal => acknowledge_held(db, port, found.place),
         Relation::Older => offer(db, port, found.place),
         Relation::Confused => db.purge(&lsp.id, lsp.seq, up),
@@ -102,17 +105,20 @@ fn store(
     up: PortSet,
     port: u8,
     lsp: &Lsp<'_>,
+    own: &Own,
     place: Option<usize>,
 ) -> Result<(), FloodError>
     requires low { 1 ≤ port }
     requires high { port ≤ MOST_PORTS }
-    ensures { Puts result lsp.now.id
+    requires few { HasFewOthers (holding db.old own.now) }
+    ensures { Puts result own.now.system lsp.now.id
         (stored up port (claimed lsp.now.seq lsp.now.lifetime lsp.now.sum) lsp.now.lifetime (hearing.body_of (lsp_of lsp.now)))
         db.old db.new }
 {
     let body = body_of(alloc, lsp)?;
     put_near(
         db,
+        own,
         place.unwrap_or(usize::MAX),
         Held {
             id: lsp.id,

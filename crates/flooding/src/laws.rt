@@ -2,7 +2,7 @@
 ghost use Rattle.std.specs.Prelude.{◌≡◌};
 ghost use Rattle.flooding.specs.Laws.{HearingLspIsCertified, HearingEntryIsCertified, AnsweringIsCertified, BringingIsCertified, OthersStand, LspStands, EntryStands, FullStands, FittingIsNotFull, HeardIsAtMostHeld, StoredFlags, FloodedFlags, AskedFlags, AckedFlags, ClearedFlags, OfferedFlags, FlaggedFlags, SetSrmFlags, ClearedPortFlags, AgedFlags, ExpiredFlags, SpentFlags, OwnStands, OwnIsNotSpent, LspLeavesOwn, EntryLeavesOwn, LspLeavesOwnBody, EntryLeavesOwnBody, BringingLeavesOwnBody, OriginatedStands, BringingLeavesOthers, BringingLeavesOwn, BringingIsNotSpent, IdsNameLsps, SentIsHeld, SentIsRead, ReadIsWhole, ClaimIsNumbered, LspKeepsSendable, EntryKeepsSendable, BringingKeepsSendable, AgeingKeepsSendable, FlagsKeepSendable, LspKeepsFlags, EntryKeepsFlags, BringingKeepsFlags};
 ghost use Rattle.flooding.specs.SettlingLaws.{SettlingIsCertified, SettlingStands, SettlingLeavesOthers, SettlingLeavesOwn, SettlingLeavesOwnBody, SettlingGoesOneFurther, SettlingDoesntSpend, SettlingBringsFew, SettlingKeepsSendable, SettlingKeepsFlags, SettlingKeepsSilence, SettlingRenews, SettlingSpends, SettledIsCurrent, FreshIsCurrent, CurrentIsSettled, LspKeepsCurrent, EntryKeepsCurrent};
-ghost use Rattle.flooding.specs.RoomLaws.{FewOwn, RoomFits, PuttingKeepsFew};
+ghost use Rattle.flooding.specs.RoomLaws.{FewOwn, OthersAreHeld, RoomFits, PuttingKeepsFew, ChangingKeepsOthers, HearingKeepsFew, BringingKeepsFew, SettlingKeepsFew};
 ghost use Rattle.flooding.specs.declared.origination.TheConstants.{MAX_AGE};
 
 /// What is heard at an Up port, answered, originated and purged is a certified step.
@@ -132,9 +132,14 @@ pub fn own_lsps_live_1200_seconds()
 {}
 
 /// While few ids are held that aren't own numbers, an own number has a place in the database, and another id has one
-/// until they are as many as leave it to the own numbers.
+/// until they are as many as leave it to the own numbers. Few they stay, whatever is heard, changed and brought up to date.
 pub fn own_numbers_have_room()
     ensures few { FewOwn }
+    ensures held { OthersAreHeld }
     ensures fits { RoomFits }
     ensures keeps { PuttingKeepsFew }
+    ensures changing { ChangingKeepsOthers }
+    ensures hearing { HearingKeepsFew }
+    ensures bringing { BringingKeepsFew }
+    ensures settling { SettlingKeepsFew }
 {}

@@ -1,10 +1,11 @@
 //! An own LSP, originated: one sequence number further, or dead past the last one; and purged.
-ghost use Rattle.std.specs.Prelude.{◌≡◌, ◌≤◌, Some, true, false, is_some, length, OnOk, OnErr};
+ghost use Rattle.std.specs.Prelude.{◌≡◌, ◌≤◌, ◌<◌, Some, false, length, OnOk, OnErr};
 ghost use Rattle.std.specs.FinMap.{get, insert};
 ghost use Rattle.lsdb.specs.Version.{is_absent};
-ghost use Rattle.lsdb.specs.Database.{version_at, ssn_in, fits};
+ghost use Rattle.lsdb.specs.Database.{version_at, ssn_in};
 ghost use Rattle.flooding.specs.Own as own_specs;
-ghost use Rattle.flooding.specs.Own.{own_number, body_of_number, HaveBytes};
+ghost use Rattle.flooding.specs.Own.{own_numbers, HaveBytes};
+ghost use Rattle.flooding.specs.Hearing.{HasFewOthers};
 ghost use Rattle.flooding.specs.Origination.{spent_entry, originated, number_purged, brought_up};
 ghost use Rattle.flooding.specs.Placing.{holding, Puts};
 
@@ -23,7 +24,8 @@ pub const MAX_AGE: u16 = 1_200;
 /// number 4,294,967,295 it is dead instead, to be sent at every Up port, and the system is spent. A spent system
 /// originates no more.
 ///
-/// The id is held, or fewer than 2,048 ids are; each body has at least one byte. After an error nothing changed.
+/// The number is one of the system's own; at most 2,047 ids are held that aren't own numbers, and each body has at least
+/// one byte. After an error nothing changed.
 pub fn originate(
     alloc: Global,
     db: &mut Database,
@@ -31,7 +33,8 @@ pub fn originate(
     own: &mut Own,
     number: u8,
 ) -> Result<(), NoMemory>
-    requires place { fits db.old (own_number own.old.system number) ≡ true }
+    requires number { number < own_numbers }
+    requires few { HasFewOthers (holding db.old own.old) }
     requires bodies { HaveBytes own.old }
     ensures ok { OnOk result (holding db.new own.new ≡ originated up number (holding db.old own.old)) }
     ensures err { OnErr result (holding db.new own.new ≡ holding db.old own.old) }
@@ -45,9 +48,9 @@ pub fn originate(
     let id = own.id(number);
     let seq = db.version_at(&id).number();
     if seq < u32::MAX {
-        return match renew(alloc, db, up, &id, body, seq + 1) {
+        return match renew(alloc, db, up, own, &id, body, seq + 1) {
             Ok(()) => Ok(()),
-            // There is a place, so it was memory that ran out.
+            // An own number has room, so it was memory that ran out.
             Err(_) => Err(NoMemory),
         };
     }
@@ -76,7 +79,8 @@ pub fn bring_up(
     own: &mut Own,
     number: u8,
 ) -> Result<(), NoMemory>
-    requires place { is_some (body_of_number own.old number) ≡ true → fits db.old (own_number own.old.system number) ≡ true }
+    requires number { number < own_numbers }
+    requires few { HasFewOthers (holding db.old own.old) }
     requires bodies { HaveBytes own.old }
     ensures { OnOk result (holding db.new own.new ≡ brought_up up number (holding db.old own.old)) }
 {
@@ -113,17 +117,20 @@ pub fn renew(
     alloc: Global,
     db: &mut Database,
     up: PortSet,
+    own: &Own,
     id: &LspId,
     body: &Seq<u8>,
     seq: u32,
 ) -> Result<(), FloodError>
-    requires { 1 ≤ length body.now }
-    ensures { Puts result id.now (own_specs.renewed up id.now body.now seq) db.old db.new }
+    requires body { 1 ≤ length body.now }
+    requires few { HasFewOthers (holding db.old own.now) }
+    ensures { Puts result own.now.system id.now (own_specs.renewed up id.now body.now seq) db.old db.new }
 {
     let body = Vec::from_slice(alloc, body.as_slice())?;
     let sum = lsp_sum(id, seq, body[0], &body[1..]);
     put(
         db,
+        own,
         Held {
             id: *id,
             version: Version::Live { seq, sum },

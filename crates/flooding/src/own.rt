@@ -24,7 +24,7 @@ pub struct Own {
 
 impl Own {
     ghost use Rattle.flooding.specs.Own.{own_number, is_own_number, body_of_number, body_for, HaveBytes, answered, answering};
-    ghost use Rattle.flooding.specs.Hearing.{is_answered, lacks_place, after_entry};
+    ghost use Rattle.flooding.specs.Hearing.{HasFewOthers, is_answered, lacks_place, after_entry};
     ghost use Rattle.flooding.specs.Placing.{Hears, holding};
 
     /// The id of the system's own LSP of a number: its pseudonode is 0.
@@ -78,8 +78,9 @@ impl Own {
     /// the system has a body for goes one number further, with that body; at the last number it is dead and the system
     /// spent. Every other LSP, and each of a spent system, is dead at the claim's number. Each goes to every Up port.
     ///
-    /// Each body has at least one byte. Where the id isn't held and 2,048 ids are the answer is `Full` or `NoMemory`,
-    /// and else never `Full`. After an error nothing changed.
+    /// Each body has at least one byte, and at most 2,047 ids are held that aren't own numbers. Where the id isn't held,
+    /// isn't an own number, and 2,047 such ids are held, the answer is `Full` or `NoMemory`, and else never `Full`. After
+    /// an error nothing changed.
     pub fn answer(
         &mut self,
         alloc: Global,
@@ -88,19 +89,20 @@ impl Own {
         id: &LspId,
         seq: u32,
     ) -> Result<(), FloodError>
-        requires { HaveBytes self.old }
-        ensures { Hears result (lacks_place db.old id.now (Some (answered up self.old id.now seq)))
+        requires bodies { HaveBytes self.old }
+        requires few { HasFewOthers (holding db.old self.old) }
+        ensures { Hears result (lacks_place (holding db.old self.old) id.now (Some (answered up self.old id.now seq)))
             (holding db.old self.old)
             (after_entry (holding db.old self.old) id.now (Some (answered up self.old id.now seq)) (answering self.old id.now seq))
             (holding db.new self.new) }
     {
         let Some(body) = self.body_for(id) else {
-            return put_dead(alloc, db, up, id, seq);
+            return put_dead(alloc, db, up, self, id, seq);
         };
         if seq < u32::MAX {
-            return renew(alloc, db, up, id, body, seq + 1);
+            return renew(alloc, db, up, self, id, body, seq + 1);
         }
-        put_dead(alloc, db, up, id, seq)?;
+        put_dead(alloc, db, up, self, id, seq)?;
         self.spent = true;
         Ok(())
     }

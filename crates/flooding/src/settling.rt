@@ -1,6 +1,7 @@
 //! Own LSPs, brought up to date.
 ghost use Rattle.std.specs.Prelude.{ℕ, ◌≡◌, ◌≤◌, ◌<◌, ◌&&◌, not, true, false, length, is_some, if◌then◌else◌, OnOk, IfOk};
 ghost use Rattle.flooding.specs.Own.{own_numbers, body_of_number, HaveBytes, HasFirstNumbers};
+ghost use Rattle.flooding.specs.Hearing.{HasFewOthers};
 ghost use Rattle.flooding.specs.Placing.{holding};
 ghost use Rattle.flooding.specs.Settling as settling;
 
@@ -17,9 +18,9 @@ const REFRESH_AT: u16 = 300;
 /// Originates each number whose LSP that is held isn't live with the body that the system has for it, and purges each
 /// live one that it has none for.
 ///
-/// The ids of the bodies are held; each body has at least one byte. The one error is `NoMemory`.
+/// At most 2,047 ids are held that aren't own numbers; each body has at least one byte. The one error is `NoMemory`.
 pub fn settle(alloc: Global, db: &mut Database, up: PortSet, own: &mut Own) -> Result<(), NoMemory>
-    requires held { settling.AreHeld (holding db.old own.old) }
+    requires few { HasFewOthers (holding db.old own.old) }
     requires bodies { HaveBytes own.old }
     ensures { OnOk result (holding db.new own.new ≡ settling.settled up (holding db.old own.old)) }
 {
@@ -31,8 +32,8 @@ pub fn settle(alloc: Global, db: &mut Database, up: PortSet, own: &mut Own) -> R
 /// anything was brought up to date. Where no body was renewed since the LSPs said it, `renewed` is false: then only the
 /// lifetimes are looked at.
 ///
-/// The ids of the bodies are held; each body has at least one byte, and the numbers without one come last. The one error
-/// is `NoMemory`.
+/// At most 2,047 ids are held that aren't own numbers; each body has at least one byte, and the numbers without one come
+/// last. The one error is `NoMemory`.
 pub fn keep_fresh(
     alloc: Global,
     db: &mut Database,
@@ -40,7 +41,7 @@ pub fn keep_fresh(
     own: &mut Own,
     renewed: bool,
 ) -> Result<bool, NoMemory>
-    requires held { settling.AreHeld (holding db.old own.old) }
+    requires few { HasFewOthers (holding db.old own.old) }
     requires bodies { HaveBytes own.old }
     requires first { HasFirstNumbers own.old }
     requires said { renewed ≡ false → own.old.spent ≡ false → (number : ℕ) → number < own_numbers
@@ -64,7 +65,7 @@ fn bring_all_up(
     own: &mut Own,
     by_age: bool,
 ) -> Result<bool, NoMemory>
-    requires held { settling.AreHeld (holding db.old own.old) }
+    requires few { HasFewOthers (holding db.old own.old) }
     requires bodies { HaveBytes own.old }
     ensures after { OnOk result (holding db.new own.new
         ≡ settling.settled_by (if by_age then settling.is_new else settling.says) up (holding db.old own.old)) }

@@ -12,7 +12,7 @@ use Rattle.lsdb.specs.declared.version.Version.{Version}
 use Rattle.lsdb.specs.declared.version.Version.TheVariants.{Absent, Live, Dead}
 use Rattle.lsdb.specs.Version.{IsAtMost, is_absent}
 use Rattle.lsdb.specs.Entry.{Entry, made, acked, cleared, offered, flagged, flags_cleared_at, aged_at}
-use Rattle.lsdb.specs.Database.{Lsps, version_in, srm_in, version_at, fits, changed_to, each}
+use Rattle.lsdb.specs.Database.{Lsps, version_in, srm_in, version_at, each}
 use Rattle.lsdb.specs.Certificate.{Claim, IsClaimed, Kept, is_flagged, is_absent as is_gone, is_as_before, is_claimed, EntryCertificate, Certificate}
 use Rattle.lsdb.specs.CertificateLaws.{StandingIsCertified, StepsCompose, SilenceServesAll, StoringIsCertified, AckingIsCertified, ClearingIsCertified, AskingIsCertified, OfferingIsCertified, FlaggingIsCertified, FloodingIsCertified, AgeingIsCertified, ClearingPortIsCertified, SettingSrmIsCertified, EntryStepsCompose, PuttingIsCertified, ChangingIsCertified, ChangingEachIsCertified}
 use Rattle.lsdb.proofs.Order.{itself, through, live_dead}
@@ -185,20 +185,12 @@ inserting port claims up db id e one =
     (λ elsewhere. let kept : get (insert db id e) x ≡ get db x = get-insert_other db id e x elsewhere in same_entry port claims up x (get db x) (get (insert db id e) x) (ap version_in kept) (ap srm_in kept))
     (same_or_not x id))
 
-putting_at : (port : ℕ) (claims : List Claim) (up : PortSet) (db : Lsps) (id : LspId) (e : Entry) (b : Bool) → EntryCertificate port claims up up id (get db id) (Some e) → Certificate port claims (record { up = up; db = db }) (record { up = up; db = if b then insert db id e else db })
-putting_at port claims up db id e true one = inserting port claims up db id e one
-putting_at port claims up db id e false one = standing port claims (record { up = up; db = db })
-
 pub putting : PuttingIsCertified
 putting port claims up db id None one = standing port claims (record { up = up; db = db })
-putting port claims up db id (Some e) one = putting_at port claims up db id e (fits db id) one
-
-changing_to : (port : ℕ) (claims : List Claim) (up : PortSet) (db : Lsps) (id : LspId) (n : Option Entry) → EntryCertificate port claims up up id (get db id) n → Certificate port claims (record { up = up; db = db }) (record { up = up; db = changed_to db id n })
-changing_to port claims up db id None one = standing port claims (record { up = up; db = db })
-changing_to port claims up db id (Some e) one = inserting port claims up db id e one
+putting port claims up db id (Some e) one = inserting port claims up db id e one
 
 pub changing : ChangingIsCertified
-changing port claims up db id f one = changing_to port claims up db id (option_map f (get db id)) one
+changing port claims up db id f one = putting port claims up db id (option_map f (get db id)) one
 
 each_at : (port : ℕ) (claims : List Claim) (before after : PortSet) (f : LspId → Entry → Entry) (id : LspId) (o : Option Entry) → ((e : Entry) → EntryCertificate port claims before after id (Some e) (Some (f id e))) → EntryCertificate port claims before after id o (option_map (f id) o)
 each_at port claims before after f id None one = no_entry port claims before after id

@@ -11,7 +11,7 @@ use Rattle.std.specs.FinMap.{find, is_sorted, get, insert, entries, entries_sort
 use Rattle.std.specs.FinMap.Entries.{below_all}
 use Rattle.spb_types.specs.declared.address.LspId.{LspId}
 use Rattle.lsdb.specs.Entry.{Entry}
-use Rattle.lsdb.specs.Database.{Lsps, id_cmp, fits, put_if_it_fits, changed, changed_to, changed_under, changed_at_place, changed_if_held, StandsAt, each}
+use Rattle.lsdb.specs.Database.{Lsps, id_cmp, fits, changed, changed_to, changed_under, changed_at_place, changed_if_held, StandsAt, each}
 use Rattle.lsdb.proofs.Ids.{ids_total, ids_tied, tied_same, turned_less, less_is}
 use Rattle.spb_types.specs.declared.limits.TheConstants.{MOST_LSPS}
 
@@ -112,7 +112,7 @@ changed_to_same f db id (Some e) is = get-insert_same db id (f e)
 pub get-changed_same : (f : Entry → Entry) (db : Lsps) (id : LspId) → get (changed f db id) id ≡ option_map f (get db id)
 get-changed_same f db id = changed_to_same f db id (get db id) refl
 
-changed_to_other : (db : Lsps) (id x : LspId) (o : Option Entry) → (x ≡ id → ⊥) → get (changed_to db id o) x ≡ get db x
+pub changed_to_other : (db : Lsps) (id x : LspId) (o : Option Entry) → (x ≡ id → ⊥) → get (changed_to db id o) x ≡ get db x
 changed_to_other db id x None apart = refl
 changed_to_other db id x (Some e) apart = get-insert_other db id e x apart
 
@@ -127,9 +127,6 @@ changed_missing f db id is = ap (λ o. changed_to db id (option_map f o)) is
 
 pub fits_held : (db : Lsps) (id : LspId) (e : Entry) → get db id ≡ Some e → fits db id ≡ true
 fits_held db id e is = ap (λ o. is_some o || nat_lt (len db) MOST_LSPS) is
-
-pub put_held : (db : Lsps) (id : LspId) (e new : Entry) → get db id ≡ Some e → put_if_it_fits db id (Some new) ≡ insert db id new
-put_held db id e new is = ap (λ b. if b then insert db id new else db) (fits_held db id e is)
 
 -- ---- the entry at a place is that under its id
 

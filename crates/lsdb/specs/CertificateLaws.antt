@@ -7,7 +7,7 @@ use Rattle.spb_types.specs.Ports.{has, with_port, without_port}
 use Rattle.lsdb.specs.declared.version.Version.{Version}
 use Rattle.lsdb.specs.Version.{IsAtMost}
 use Rattle.lsdb.specs.Entry.{Entry, stored, flooded, absent_with_ssn, acked, cleared, offered, flagged, srm_set_at, flags_cleared_at, aged}
-use Rattle.lsdb.specs.Database.{Lsps, version_in, put_if_it_fits, changed, each}
+use Rattle.lsdb.specs.Database.{Lsps, version_in, changed, changed_to, each}
 use Rattle.lsdb.specs.Certificate.{Claim, IsClaimed, Control, EntryCertificate, Certificate}
 use Rattle.spb_types.specs.declared.limits.TheConstants.{MOST_PORTS}
 
@@ -91,7 +91,7 @@ EntryStepsCompose = (port : ℕ) (claims more : List Claim) (before mid after : 
 abbrev pub PuttingIsCertified : Type 0
 PuttingIsCertified = (port : ℕ) (claims : List Claim) (up : PortSet) (db : Lsps) (id : LspId) (new : Option Entry)
     → EntryCertificate port claims up up id (get db id) new
-    → Certificate port claims (record { up = up; db = db }) (record { up = up; db = put_if_it_fits db id new })
+    → Certificate port claims (record { up = up; db = db }) (record { up = up; db = changed_to db id new })
 
 abbrev pub ChangingIsCertified : Type 0
 ChangingIsCertified = (port : ℕ) (claims : List Claim) (up : PortSet) (db : Lsps) (id : LspId) (f : Entry → Entry)

@@ -51,12 +51,7 @@ version_at db id = version_in (get db id)
 abbrev pub fits : Lsps → LspId → Bool
 fits db id = contains_key db id || nat_lt (len db) MOST_LSPS
 
--- the entry put under the id, if there is one and a place for it
-abbrev pub put_if_it_fits : Lsps → LspId → Option Entry → Lsps
-put_if_it_fits db id None = db
-put_if_it_fits db id (Some e) = if fits db id then insert db id e else db
-
--- the entry under the id changed, if the id is held
+-- this entry under the id, if there is one; else the database as it was
 abbrev pub changed_to : Lsps → LspId → Option Entry → Lsps
 changed_to db id None = db
 changed_to db id (Some e) = insert db id e

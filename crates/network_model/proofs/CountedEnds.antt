@@ -1,13 +1,11 @@
 -- What follows of a network whose numbers are within what is allowed.
-use Rattle.std.proofs.Common.{◌≡◌, inl, inr, ◌≤◌, ◌<◌, ◌||◌, ℕ, zero, suc, Bool, true, false, not, List, [], ◌∷◌, length, map, refl, sym, ap, ◌∙◌, subst, Option, Some, None, slice_get, arith}
-use Rattle.std.specs.Prelude.{nat_lt}
-use Rattle.std.specs.FinMap.{get, entries, entries_sorted, is_sorted, len, len-entries, contains_key}
+use Rattle.std.proofs.Common.{◌≡◌, inl, inr, ◌≤◌, ◌<◌, ℕ, zero, suc, true, false, not, List, [], ◌∷◌, length, map, refl, sym, ap, ◌∙◌, subst, Option, Some, None, slice_get, arith}
+use Rattle.std.specs.FinMap.{get, entries, entries_sorted, is_sorted, len-entries}
 use Rattle.std.specs.FinMap.Entries.{below_all}
-use Rattle.std.proofs.lemmas.Bool.{and_parts, lt-ltb}
+use Rattle.std.proofs.lemmas.Bool.{and_parts}
 use Rattle.std.proofs.lemmas.List.{length-map}
 use Rattle.spb_types.specs.declared.address.SystemId.{SystemId}
 use Rattle.spb_types.specs.declared.address.LspId.{LspId}
-use Rattle.spb_types.specs.declared.limits.TheConstants.{MOST_LSPS}
 use Rattle.spb_types.specs.declared.link.Dir.{Dir}
 use Rattle.spb_types.specs.Graph.{IsAmong, IsDistinct, systems_of}
 use Rattle.ect_trees.proofs.Among.{length-within}
@@ -16,12 +14,15 @@ use Rattle.link_model.specs.Lanes.{lane_of}
 use Rattle.lsdb.specs.declared.version.Version.{Version}
 use Rattle.lsdb.specs.Entry.{Entry}
 use Rattle.lsdb.specs.Version.{number_of}
-use Rattle.lsdb.specs.Database.{Lsps, id_cmp, version_in}
+use Rattle.lsdb.specs.Database.{id_cmp, version_in}
 use Rattle.lsdb.proofs.Ids.{tied_same}
 use Rattle.lsdb.proofs.LookupLemmas.{true_from_T, below_at, get_place}
 use Rattle.flooding.specs.Own.{last_number, own_id}
-use Rattle.flooding.specs.Hearing.{lacks_place, is_full}
+use Rattle.flooding.specs.Hearing.{Holding, lacks_place, is_full}
+use Rattle.flooding.proofs.OwnNumbers.{few_numbers}
+use Rattle.flooding.proofs.Few.{room_below}
 use Rattle.bridge_api.specs.View.{BridgeView}
+use Rattle.bridge_api.specs.Own.{holding_of}
 use Rattle.bridge_api.specs.Step.{frame}
 use Rattle.bridge_laws.proofs.HeldIds.{own_is}
 use Rattle.spb_world.specs.declared.declaration.DeclaredLink.{DeclaredLink}
@@ -142,17 +143,13 @@ few_held s i v sound counted at =
     lengths [] = refl
     lengths (b ∷ bs) = ap suc (lengths bs)
 
-or_right : (b c : Bool) → c ≡ true → (b || c) ≡ true
-or_right true c is = refl
-or_right false c is = is
-
-has_place : (db : Lsps) (id : LspId) (o : Option Entry) → length (entries db) ≤ 96 → lacks_place db id o ≡ false
-has_place db id None few = refl
-has_place db id (Some e) few = ap not (or_right (contains_key db id) (nat_lt (len db) MOST_LSPS) (lt-ltb (len db) MOST_LSPS (omega (arith, few, len-entries db))))
+has_place : (h : Holding) (id : LspId) (o : Option Entry) → length (entries h.db) ≤ 96 → lacks_place h id o ≡ false
+has_place h id None few = refl
+has_place h id (Some e) few = ap not (room_below h.own.system h.db id (omega (arith, few, len-entries h.db, few_numbers)))
 
 pub nothing_is_full : NothingIsFull
 unfolding is_full
-nothing_is_full s i v rule up c sound counted at = has_place v.database c.id _ (few_held s i v sound counted at)
+nothing_is_full s i v rule up c sound counted at = has_place (holding_of v) c.id _ (few_held s i v sound counted at)
 
 -- ---- some network is counted
 

@@ -4,27 +4,32 @@ use Rattle.std.proofs.Common.{refl, sym, ap, subst, ◌∙◌, arith, get_or, ad
 use Rattle.std.specs.Option.{option_and_then}
 use Rattle.std.specs.FinMap.{get, insert}
 use Rattle.std.proofs.lemmas.List.{take_all, length-map}
+use Rattle.spb_types.specs.declared.address.SystemId.{SystemId}
 use Rattle.spb_types.specs.declared.address.LspId.{LspId}
 use Rattle.spb_types.specs.declared.ports.PortSet.{PortSet}
 use Rattle.spb_tlvs.specs.declared.entries.SnpEntry.{SnpEntry}
 use Rattle.lsdb.specs.Entry.{Entry, acked}
-use Rattle.lsdb.specs.Database.{Lsps, fits, changed, changed_if_held, StandsAt}
+use Rattle.lsdb.specs.Database.{Lsps, changed, changed_if_held, StandsAt}
 use Rattle.lsdb.specs.Certificate.{Claim}
-use Rattle.lsdb.proofs.LookupLemmas.{changed_held, changed_standing, fits_held}
+use Rattle.lsdb.proofs.LookupLemmas.{changed_held, changed_standing}
 use Rattle.flooding.specs.Own.{HaveBytes}
-use Rattle.flooding.specs.Hearing.{Holding, wanted, snp_rule, hear_entry_of, is_full_for_entry}
+use Rattle.flooding.specs.Room.{most_others, has_room}
+use Rattle.flooding.specs.Hearing.{Holding, HasFewOthers, wanted, snp_rule, hear_entry_of, is_full_for_entry}
+use Rattle.flooding.proofs.Changed.{held_has_room}
 use Rattle.flooding.proofs.Owns.{own_stands}
-use Rattle.snp_sync.specs.Hearing.{claim_in, claims_in, hear_entries_of, full_count, HeardSome}
+use Rattle.flooding.proofs.Few.{hearing_keeps_few, changing_keeps_others}
+use Rattle.snp_sync.specs.Hearing.{claim_in, claims_in, hear_entries_of, full_count, HeardSome, ids_of, is_missed, flag_if}
+use Rattle.snp_sync.specs.HearingLaws.{EntriesKeepFew, CsnpKeepsFew}
 
 -- an id that is held is asked for in place
-wanted_held : (db new : Lsps) (id : LspId) (port : ℕ) (o : Option Entry) → o ≡ get db id → is_some o ≡ true → new ≡ changed (acked port) db id → (fits db id ≡ true) × (new ≡ insert db id (wanted port (get db id)))
-wanted_held db new id port None is held changed_is = absurd (cc)
-wanted_held db new id port (Some e) is held changed_is = (fits_held db id e (sym is), changed_is ∙ changed_held (acked port) db id e (sym is) ∙ ap (λ o. insert db id (wanted port o)) is)
+wanted_held : (system : SystemId) (db new : Lsps) (id : LspId) (port : ℕ) (o : Option Entry) → o ≡ get db id → is_some o ≡ true → new ≡ changed (acked port) db id → (has_room system db id ≡ true) × (new ≡ insert db id (wanted port (get db id)))
+wanted_held system db new id port None is held changed_is = absurd (cc)
+wanted_held system db new id port (Some e) is held changed_is = (held_has_room system db id e (sym is), changed_is ∙ changed_held (acked port) db id e (sym is) ∙ ap (λ o. insert db id (wanted port o)) is)
 
-pub wanted_at : (db new : Lsps) (id : LspId) (port : ℕ) (o : Option ℕ) → StandsAt db id o → is_some o ≡ true → new ≡ changed_if_held (acked port) db o → (fits db id ≡ true) × (new ≡ insert db id (wanted port (get db id)))
-wanted_at db new id port None is held changed_is = absurd (cc)
-wanted_at db new id port (Some place) is held changed_is =
-    wanted_held db new id port (Some is.entry) (sym is.held) refl (changed_is ∙ changed_standing (acked port) db id (Some place) is)
+pub wanted_at : (system : SystemId) (db new : Lsps) (id : LspId) (port : ℕ) (o : Option ℕ) → StandsAt db id o → is_some o ≡ true → new ≡ changed_if_held (acked port) db o → (has_room system db id ≡ true) × (new ≡ insert db id (wanted port (get db id)))
+wanted_at system db new id port None is held changed_is = absurd (cc)
+wanted_at system db new id port (Some place) is held changed_is =
+    wanted_held system db new id port (Some is.entry) (sym is.held) refl (changed_is ∙ changed_standing (acked port) db id (Some place) is)
 
 -- hearing leaves the system's bodies
 pub entries_bodies : (up : PortSet) (port : ℕ) (claims : List Claim) (h : Holding) → (hear_entries_of up port claims h).own.bodies ≡ h.own.bodies
@@ -62,6 +67,20 @@ pub heard_bytes : (up : PortSet) (port : ℕ) (es : List SnpEntry) (old : Holdin
 heard_bytes up port es old k new full so_far has_bytes =
     subst (λ (bodies : List (Option (List ℕ))). (number : ℕ) (body : List ℕ) → option_and_then (λ b. b) (slice_get bodies number) ≡ Some body → 1 ≤ length body)
     (sym (ap (λ (h : Holding). h.own.bodies) so_far.heard ∙ entries_bodies up port (take k (claims_in es)) old)) has_bytes
+
+-- and the others few
+pub entries_keep_few : EntriesKeepFew
+entries_keep_few up port [] h few = few
+entries_keep_few up port (c ∷ claims) h few = entries_keep_few up port claims (hear_entry_of up port c h) (hearing_keeps_few (snp_rule up port c.version) up c h few)
+
+pub csnp_keeps_few : CsnpKeepsFew
+csnp_keeps_few up port start end claims h few =
+    let heard = hear_entries_of up port claims h in
+    let same = changing_keeps_others heard.own.system (λ id e. flag_if (is_missed start end (ids_of claims) id e) port e) heard.db in
+    subst (λ n. n ≤ most_others) (sym same) (entries_keep_few up port claims h few)
+
+pub heard_few : (up : PortSet) (port : ℕ) (es : List SnpEntry) (old : Holding) (k : ℕ) (new : Holding) (full : ℕ) → HeardTo up port es old k new full → HasFewOthers old → HasFewOthers new
+heard_few up port es old k new full so_far few = subst HasFewOthers (sym so_far.heard) (entries_keep_few up port (take k (claims_in es)) old few)
 
 test_le : (b : Bool) → (if b then 1 else 0) ≤ 1
 test_le true = omega arith

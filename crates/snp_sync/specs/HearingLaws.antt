@@ -16,7 +16,7 @@ use Rattle.lsdb.specs.Entry.{Entry, with_flags, aged}
 use Rattle.lsdb.specs.Database.{version_in, srm_in, ssn_in}
 use Rattle.lsdb.specs.Certificate.{Claim, Certificate}
 use Rattle.flooding.specs.Own.{last_number, own_id, own_number}
-use Rattle.flooding.specs.Hearing.{Holding, hear_lsp_of, hear_entry_of, is_full_for_entry}
+use Rattle.flooding.specs.Hearing.{Holding, HasFewOthers, hear_lsp_of, hear_entry_of, is_full_for_entry}
 use Rattle.flooding.specs.Origination.{originated}
 use Rattle.flooding.specs.Settling.{Test, settled_by, AreCurrent}
 use Rattle.flooding.specs.Entries.{IsNumbered, AreSendable, HaveFlagsAt}
@@ -108,6 +108,15 @@ EntriesKeepCurrent = (up : PortSet) (port : ℕ) (claims : List Claim) (h : Hold
 abbrev pub CsnpKeepsCurrent : Type 0
 CsnpKeepsCurrent = (up : PortSet) (port : ℕ) (start end : LspId) (claims : List Claim) (h : Holding) → AreCurrent h
     → AreCurrent (hear_csnp_of up port start end claims h)
+
+-- of the ids that aren't own numbers no more are held than have room
+abbrev pub EntriesKeepFew : Type 0
+EntriesKeepFew = (up : PortSet) (port : ℕ) (claims : List Claim) (h : Holding) → HasFewOthers h
+    → HasFewOthers (hear_entries_of up port claims h)
+
+abbrev pub CsnpKeepsFew : Type 0
+CsnpKeepsFew = (up : PortSet) (port : ℕ) (start end : LspId) (claims : List Claim) (h : Holding) → HasFewOthers h
+    → HasFewOthers (hear_csnp_of up port start end claims h)
 
 -- what an entry claims has a number, unless it is absent
 abbrev pub ClaimsAreNumbered : Type 0

@@ -5,12 +5,12 @@ ghost use Rattle.lsdb.specs.Version.{claimed};
 ghost use Rattle.lsdb.specs.Entry.{cleared};
 ghost use Rattle.lsdb.specs.Database.{changed_if_held, StandsAt};
 ghost use Rattle.flooding.specs.Own.{HaveBytes};
-ghost use Rattle.flooding.specs.Hearing.{wanted, unless_absent, hear_entry_of, is_full_for_entry};
+ghost use Rattle.flooding.specs.Hearing.{HasFewOthers, wanted, unless_absent, hear_entry_of, is_full_for_entry};
 ghost use Rattle.flooding.specs.Placing.{Puts, Hears, holding};
 ghost use Rattle.snp_sync.specs.Hearing.{claim_in, claims_in, hear_entries_of, full_count, HeardSome, hear_csnp_of};
 
 use crate::missed::{flag_missed, sorted_ids};
-use flooding::{FloodError, Own, acknowledge, offer};
+use flooding::{FloodError, Own, acknowledge, offer, put_near};
 use lsdb::{Database, Held, Relation, Version, compare};
 use spb_tlvs::SnpEntry;
 use spb_types::limits::MOST_PORTS;
@@ -36,27 +36,33 @@ fn want(
     alloc: Global,
     db: &mut Database,
     port: u8,
+    own: &Own,
     id: &LspId,
     place: Option<usize>,
 ) -> Result<(), FloodError>
     requires low { 1 ≤ port }
     requires high { port ≤ MOST_PORTS }
     requires place { StandsAt db.old id.now place }
-    ensures { Puts result id.now (wanted port (get db.old id.now)) db.old db.new }
+    requires few { HasFewOthers (holding db.old own.now) }
+    ensures { Puts result own.now.system id.now (wanted port (get db.old id.now)) db.old db.new }
 {
     if place.is_some() {
         acknowledge(db, port, place);
         return Ok(());
     }
-    db.put(Held {
-        id: *id,
-        version: Version::Absent,
-        lifetime: 0,
-        body: Seq::new(alloc),
-        srm: PortSet::none(),
-        ssn: PortSet::none().with(port),
-    })?;
-    Ok(())
+    put_near(
+        db,
+        own,
+        usize::MAX,
+        Held {
+            id: *id,
+            version: Version::Absent,
+            lifetime: 0,
+            body: Seq::new(alloc),
+            srm: PortSet::none(),
+            ssn: PortSet::none().with(port),
+        },
+    )
 }
 
 /// The neighbour at a port has the LSP at a place. Nothing happens where it is absent.
@@ -87,6 +93,7 @@ fn hear_entry(
     requires low { 1 ≤ port }
     requires high { port ≤ MOST_PORTS }
     requires bodies { HaveBytes own.old }
+    requires few { HasFewOthers (holding db.old own.old) }
     ensures { Hears result (is_full_for_entry up port (claim_in entry.now) (holding db.old own.old)) (holding db.old own.old)
         (hear_entry_of up port (claim_in entry.now) (holding db.old own.old)) (holding db.new own.new) }
 {
@@ -97,7 +104,7 @@ fn hear_entry(
         return own.answer(alloc, db, up, &entry.id, entry.seq);
     }
     match relation {
-        Relation::Newer => return want(alloc, db, port, &entry.id, found.place),
+        Relation::Newer => return want(alloc, db, port, own, &entry.id, found.place),
         Relation::Equal => clear(db, port, found.place),
         Relation::Older => offer(db, port, found.place),
         Relation::Confused => db.purge(&entry.id, entry.seq, up),
@@ -118,6 +125,7 @@ fn count_entry(
     requires low { 1 ≤ port }
     requires high { port ≤ MOST_PORTS }
     requires bodies { HaveBytes own.old }
+    requires few { HasFewOthers (holding db.old own.old) }
     ensures full { IfOk result (λ n. n ≡ (if is_full_for_entry up port (claim_in entry.now) (holding db.old own.old) then 1 else 0)) }
     ensures heard { OnOk result (holding db.new own.new ≡ hear_entry_of up port (claim_in entry.now) (holding db.old own.old)) }
     ensures err { OnErr result (holding db.new own.new ≡ holding db.old own.old) }
@@ -141,9 +149,9 @@ fn count_entry(
 ///   sent at every Up port;
 /// - a newer or confused one of the system's own is answered instead.
 ///
-/// Each body of the system has at least one byte. The answer is the number of entries that needed a place while 2,048 ids were held;
-/// such an entry changes nothing, and the others are heard. After `NoMemory` some of the entries, from the first on,
-/// have been heard.
+/// Each body of the system has at least one byte, and at most 2,047 ids are held that aren't own numbers. The answer is
+/// the number of entries whose id isn't held, isn't an own number, and had to go in beside 2,047 such ids; such an entry
+/// changes nothing, and the others are heard. After `NoMemory` some of the entries, from the first on, have been heard.
 pub fn hear_psnp(
     alloc: Global,
     db: &mut Database,
@@ -155,6 +163,7 @@ pub fn hear_psnp(
     requires low { 1 ≤ port }
     requires high { port ≤ MOST_PORTS }
     requires bodies { HaveBytes own.old }
+    requires few { HasFewOthers (holding db.old own.old) }
     ensures full { IfOk result (λ n. n ≡ full_count up port (claims_in entries.now) (holding db.old own.old)) }
     ensures heard { OnOk result (holding db.new own.new ≡ hear_entries_of up port (claims_in entries.now) (holding db.old own.old)) }
     ensures err { OnErr result (HeardSome up port (claims_in entries.now) (holding db.old own.old) (holding db.new own.new)) }
@@ -172,8 +181,9 @@ pub fn hear_psnp(
 /// among the entries is to be sent at the port. A dead LSP is sent there as a live one is, by a rule of this project's
 /// *profile*; the standard sends none that is dead.
 ///
-/// Each body of the system has at least one byte. The answer is the number of entries that needed a place while 2,048 ids were held.
-/// After `NoMemory` some of the entries, from the first on, have been heard, and nothing else changed.
+/// Each body of the system has at least one byte, and at most 2,047 ids are held that aren't own numbers. The answer is
+/// the number of entries that found no place, as of a PSNP. After `NoMemory` some of the entries, from the first on, have
+/// been heard, and nothing else changed.
 pub fn hear_csnp(
     alloc: Global,
     db: &mut Database,
@@ -187,6 +197,7 @@ pub fn hear_csnp(
     requires low { 1 ≤ port }
     requires high { port ≤ MOST_PORTS }
     requires bodies { HaveBytes own.old }
+    requires few { HasFewOthers (holding db.old own.old) }
     ensures full { IfOk result (λ n. n ≡ full_count up port (claims_in entries.now) (holding db.old own.old)) }
     ensures heard { OnOk result (holding db.new own.new ≡ hear_csnp_of up port start.now end.now (claims_in entries.now) (holding db.old own.old)) }
     ensures err { OnErr result (HeardSome up port (claims_in entries.now) (holding db.old own.old) (holding db.new own.new)) }

@@ -1,5 +1,5 @@
 //! The laws of sequence numbers PDUs. Each is the contract of a function that does nothing.
-ghost use Rattle.snp_sync.specs.HearingLaws.{EntriesAreCertified, CsnpIsCertified, UnnamedStands, LastClaimStands, EntryIsServed, CsnpStands, MissedIsSent, EntriesLeaveOwn, EntriesDontSpend, EntriesLeaveOwnBody, CsnpLeavesOwnBody, EntriesKeepCurrent, CsnpKeepsCurrent, ClaimsAreNumbered, EntriesKeepSendable, CsnpKeepsSendable, EntriesKeepFlags, CsnpKeepsFlags, EntriesKeepSized, CsnpKeepsSized, LspKeepsSized, OriginationKeepsSized, SettlingKeepsSized, AgeingKeepsSized, FlagsKeepSized};
+ghost use Rattle.snp_sync.specs.HearingLaws.{EntriesAreCertified, CsnpIsCertified, UnnamedStands, LastClaimStands, EntryIsServed, CsnpStands, MissedIsSent, EntriesLeaveOwn, EntriesDontSpend, EntriesLeaveOwnBody, CsnpLeavesOwnBody, EntriesKeepCurrent, CsnpKeepsCurrent, ClaimsAreNumbered, EntriesKeepFew, CsnpKeepsFew, EntriesKeepSendable, CsnpKeepsSendable, EntriesKeepFlags, CsnpKeepsFlags, EntriesKeepSized, CsnpKeepsSized, LspKeepsSized, OriginationKeepsSized, SettlingKeepsSized, AgeingKeepsSized, FlagsKeepSized};
 ghost use Rattle.snp_sync.specs.SendingLaws.{SuccessorIsNext, SuccessorIsId, EntryClaimsWhatIsHeld, RangesCoverOnce, CsnpChunksListTheirRanges, CsnpChunksAreShort, CsnpChunksEndAtIds, CsnpChunksClaimWhatIsHeld, CsnpChunksListWhatIsHeld, CsnpIsRead, EntriesAreRead, CsnpEntriesAreRead, CsnpEntriesAreSized, PsnpChunksAreWhole, PsnpChunksAreShort, PsnpChunksClaimWhatIsHeld, PsnpChunksListWhatIsHeld, PsnpIsRead, PsnpEntriesAreRead, PsnpEntriesAreSized, SsnIsCleared, ClearingSsnIsCertified};
 
 /// No LSP id lies between an id and its successor.
@@ -74,9 +74,11 @@ pub fn hearing_leaves_own_lsps()
 {}
 
 /// After entries or a CSNP were heard at an Up port, each LSP that is held can still be written and is read again, and
-/// flags stand at Up ports alone.
+/// flags stand at Up ports alone; and of the ids that aren't own numbers no more are held than have room.
 pub fn entries_stay_sound()
     ensures numbered { ClaimsAreNumbered }
+    ensures few { EntriesKeepFew }
+    ensures csnp_few { CsnpKeepsFew }
     ensures sendable { EntriesKeepSendable }
     ensures csnp_sendable { CsnpKeepsSendable }
     ensures flags { EntriesKeepFlags }

@@ -43,7 +43,7 @@ returns-then-answers c =
     let l = lsp_of c.args.lsp.now in
     let is : relation (claim_of l).version (version_in (get c.args.db.now l.id)) ≡ c.compare-relation.result = stands c.compare-relation.ensures c.version_of.ensures c.look_up_near-found.ensures.version in
     let h = holding c.args.db.now c.args.own.now in
-    let at : ℕ → Type 0 = λ n. Hears c.answer.result (lacks_place h.db l.id (Some (answered c.args.up h.own l.id n))) h (after_entry h l.id (Some (answered c.args.up h.own l.id n)) (answering h.own l.id n)) (holding c.answer.new.db c.answer.new.self) in
+    let at : ℕ → Type 0 = λ n. Hears c.answer.result (lacks_place h l.id (Some (answered c.args.up h.own l.id n))) h (after_entry h l.id (Some (answered c.args.up h.own l.id n)) (answering h.own l.id n)) (holding c.answer.new.db c.answer.new.self) in
     hears_answer (lsp_rule c.args.up c.args.port l) c.args.up (claim_of l) h c.compare-relation.result c.answer.result (holding c.answer.new.db c.answer.new.self) is (sym c.answers.ensures ∙ c.if-answers.true)
     (subst at (sym (number-claimed l.seq l.lifetime l.sum)) c.answer.ensures)
 

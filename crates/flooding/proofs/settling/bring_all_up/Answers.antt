@@ -1,16 +1,21 @@
 use Rattle.std.proofs.Common.{◌≡◌, sym, ap, subst, ◌∙◌, arith, true, false, ◌+◌, if◌then◌else◌}
 use Rattle.std.proofs.lemmas.Bool.{true≢false}
 use Rattle.flooding.specs.Own.{own_numbers, HaveBytes}
-use Rattle.flooding.specs.Hearing.{Holding}
+use Rattle.flooding.specs.Hearing.{Holding, HasFewOthers}
 use Rattle.flooding.specs.Origination.{brought_up}
 use Rattle.flooding.specs.Placing.{holding}
-use Rattle.flooding.specs.Settling.{Test, says, is_new, AreHeld}
-use Rattle.flooding.proofs.Rest.{rest_of, next_rest, no_rest, settled_rest, still_held, still_bytes, body_fits}
+use Rattle.flooding.specs.Settling.{Test, says, is_new}
+use Rattle.flooding.proofs.Rest.{rest_of, next_rest, no_rest, settled_rest, still_bytes}
+use Rattle.flooding.proofs.Few.{bringing_keeps_few}
 use Rattle.flooding.proofs.settling.bring_all_up.Goals.{then-not-stands+in_ok-bring_up, else-not-stands}
 use Rattle.flooding.proofs.settling.bring_all_up.Goals as goal
 
-pub bring_up-requires-clause-place : goal.bring_up-requires-clause-place
-bring_up-requires-clause-place c = body_fits (holding c.loop-number.db c.loop-number.own) c.loop-number.number c.loop-number.invariant.1.1.0.0
+pub bring_up-requires-clause-number : goal.bring_up-requires-clause-number
+unfolding own_numbers
+bring_up-requires-clause-number c = c.loop-number-test.true
+
+pub bring_up-requires-clause-few : goal.bring_up-requires-clause-few
+bring_up-requires-clause-few c = c.loop-number.invariant.1.1.0.0
 
 pub bring_up-requires-clause-bodies : goal.bring_up-requires-clause-bodies
 bring_up-requires-clause-bodies c = c.loop-number.invariant.1.1.0.1
@@ -31,7 +36,7 @@ loop-number-preserved c =
                   ∙ (sym (next_rest test c.args.up number g false c.loop-number-test.true (sym c.stands.ensures ∙ w.if-not-stands.true)) ∙ before.1.0),
               (
                 (
-                  subst AreHeld (sym whole) (still_held c.args.up number g before.1.1.0.0),
+                  subst HasFewOthers (sym whole) (bringing_keeps_few c.args.up number g c.loop-number-test.true before.1.1.0.0),
                   subst (λ (x : Holding). HaveBytes x.own) (sym whole) (still_bytes c.args.up number g before.1.1.0.1),
                 ),
                 λ is. absurd (true≢false (sym w.brought-is ∙ is)),
@@ -45,7 +50,7 @@ loop-number-preserved c =
               ap (rest_of test c.args.up (number + 1)) whole
                   ∙ (sym (next_rest test c.args.up number g true c.loop-number-test.true (sym c.stands.ensures ∙ w.if-not-stands.false)) ∙ before.1.0),
               (
-                (subst AreHeld (sym whole) before.1.1.0.0, subst (λ (x : Holding). HaveBytes x.own) (sym whole) before.1.1.0.1),
+                (subst HasFewOthers (sym whole) before.1.1.0.0, subst (λ (x : Holding). HaveBytes x.own) (sym whole) before.1.1.0.1),
                 λ is. whole ∙ before.1.1.1 (sym w.brought-is ∙ is),
               ),
             ),

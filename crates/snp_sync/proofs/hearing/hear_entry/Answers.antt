@@ -38,7 +38,7 @@ returns-then-answers c =
     let e = c.args.entry.now in
     let is : relation (claim_in e).version (version_in (get c.args.db.now e.id)) ≡ c.compare-relation.result = sym (c.compare-relation.ensures ∙ (λ i. relation (c.version_of.ensures i) (c.look_up_near-found.ensures.version i))) in
     let h = holding c.args.db.now c.args.own.now in
-    let at : ℕ → Type 0 = λ n. Hears c.answer.result (lacks_place h.db e.id (Some (answered c.args.up h.own e.id n))) h (after_entry h e.id (Some (answered c.args.up h.own e.id n)) (answering h.own e.id n)) (holding c.answer.new.db c.answer.new.self) in
+    let at : ℕ → Type 0 = λ n. Hears c.answer.result (lacks_place h e.id (Some (answered c.args.up h.own e.id n))) h (after_entry h e.id (Some (answered c.args.up h.own e.id n)) (answering h.own e.id n)) (holding c.answer.new.db c.answer.new.self) in
     hears_answer (snp_rule c.args.up c.args.port (claim_in e).version) c.args.up (claim_in e) h c.compare-relation.result c.answer.result (holding c.answer.new.db c.answer.new.self) is (sym c.answers.ensures ∙ c.if-answers.true)
     (subst at (sym (number-claimed e.seq e.lifetime e.sum)) c.answer.ensures)
 

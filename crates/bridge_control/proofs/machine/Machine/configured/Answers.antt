@@ -1,11 +1,10 @@
-use Rattle.std.proofs.Common.{sym, ap, subst, ◌∙◌}
-use Rattle.lsdb.specs.Database.{fits}
-use Rattle.flooding.specs.Own.{own_id}
+use Rattle.std.proofs.Common.{◌≤◌, sym, subst}
+use Rattle.flooding.specs.Room.{most_others, others}
 use Rattle.spb_content.specs.Local.{IsLocal}
 use Rattle.bridge_api.specs.View.{BridgeView}
 use Rattle.bridge_api.specs.Own.{local_of}
 use Rattle.bridge_control.specs.declared.machine.Machine.{Machine}
-use Rattle.bridge_control.proofs.Configuring.{bare_local, bare_few, bare_place, configured_after}
+use Rattle.bridge_control.proofs.Configuring.{bare_local, bare_few, bare_room, configured_after}
 use Rattle.bridge_control.proofs.machine.Machine.configured.Goals as goal
 
 pub renew_body-requires-clause-few : goal.renew_body-requires-clause-few
@@ -15,10 +14,10 @@ renew_body-requires-clause-few c =
 pub renew_body-requires-clause-local : goal.renew_body-requires-clause-local
 renew_body-requires-clause-local c = subst (λ (v : BridgeView). IsLocal (local_of v)) (sym c.in_ok-machine.ensures.view) (bare_local c.args.config.now c.requires)
 
-pub originate-requires-clause-place : goal.originate-requires-clause-place
-originate-requires-clause-place c =
+pub originate-requires-clause-room : goal.originate-requires-clause-room
+originate-requires-clause-room c =
     let m : Machine = c.in_ok-machine.machine in
-    ap (λ (n : Machine). fits n.db (own_id n.id.system)) c.in_ok-renew_body.ensures ∙ bare_place c.args.config.now m c.in_ok-machine.ensures.view
+    subst (λ (n : Machine). others n.id.system n.db ≤ most_others) (sym c.in_ok-renew_body.ensures) (bare_room c.args.config.now m c.in_ok-machine.ensures.view)
 
 pub returns : goal.returns
 returns c =

@@ -4,12 +4,15 @@ use Rattle.bridge_api.specs.Drops.{raised_at}
 use Rattle.isis_pdu.specs.Pdu.{csnp_of}
 use Rattle.flooding.specs.Placing.{holding}
 use Rattle.snp_sync.specs.Hearing.{claims_in, hear_csnp_of}
-use Rattle.bridge_control.proofs.Owning.{own_bytes}
+use Rattle.bridge_control.proofs.Owning.{own_bytes, own_few}
 use Rattle.bridge_control.proofs.Heeding.{csnp_heard, heard_current, heard_csnp_path}
 use Rattle.bridge_control.proofs.machine.Machine.hear_listed.Goals as goal
 
 pub hear_csnp-requires-clause-bodies : goal.hear_csnp-requires-clause-bodies
 hear_csnp-requires-clause-bodies c = own_bytes c.args.self.now c.requires.ready.current
+
+pub hear_csnp-requires-clause-few : goal.hear_csnp-requires-clause-few
+hear_csnp-requires-clause-few c = own_few c.args.self.now c.requires.ready.current c.requires.ready.sound.database.room
 
 pub returns : goal.returns
 returns c =

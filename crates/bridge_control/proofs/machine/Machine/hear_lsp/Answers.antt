@@ -4,13 +4,16 @@ use Rattle.flooding.specs.Hearing.{hear_lsp_of}
 use Rattle.flooding.specs.Placing.{holding}
 use Rattle.spb_types.specs.declared.drop_reason.DropReason.TheVariants as drop
 use Rattle.bridge_api.specs.Drops.{raised_at}
-use Rattle.bridge_control.proofs.Owning.{own_bytes}
+use Rattle.bridge_control.proofs.Owning.{own_bytes, own_few}
 use Rattle.bridge_control.proofs.Putting.{there_at}
 use Rattle.bridge_control.proofs.Heeding.{lsp_heard, heard_current, heard_lsp_path}
 use Rattle.bridge_control.proofs.machine.Machine.hear_lsp.Goals as goal
 
 pub hear_lsp_if_it_fits-requires-clause-bodies : goal.hear_lsp_if_it_fits-requires-clause-bodies
 hear_lsp_if_it_fits-requires-clause-bodies c = own_bytes c.args.self.now c.requires.ready.current
+
+pub hear_lsp_if_it_fits-requires-clause-few : goal.hear_lsp_if_it_fits-requires-clause-few
+hear_lsp_if_it_fits-requires-clause-few c = own_few c.args.self.now c.requires.ready.current c.requires.ready.sound.database.room
 
 pub returns : goal.returns
 returns c =

@@ -3,12 +3,15 @@ use Rattle.spb_types.specs.declared.drop_reason.DropReason.TheVariants as drop
 use Rattle.bridge_api.specs.Drops.{raised_at}
 use Rattle.flooding.specs.Placing.{holding}
 use Rattle.snp_sync.specs.Hearing.{claims_in, hear_entries_of}
-use Rattle.bridge_control.proofs.Owning.{own_bytes}
+use Rattle.bridge_control.proofs.Owning.{own_bytes, own_few}
 use Rattle.bridge_control.proofs.Heeding.{entries_heard, heard_current, heard_psnp_path}
 use Rattle.bridge_control.proofs.machine.Machine.hear_requests.Goals as goal
 
 pub hear_psnp-requires-clause-bodies : goal.hear_psnp-requires-clause-bodies
 hear_psnp-requires-clause-bodies c = own_bytes c.args.self.now c.requires.ready.current
+
+pub hear_psnp-requires-clause-few : goal.hear_psnp-requires-clause-few
+hear_psnp-requires-clause-few c = own_few c.args.self.now c.requires.ready.current c.requires.ready.sound.database.room
 
 pub returns : goal.returns
 returns c =

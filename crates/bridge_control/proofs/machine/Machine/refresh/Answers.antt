@@ -3,14 +3,14 @@ use Rattle.std.proofs.Common.{◌≡◌, true}
 use Rattle.flooding.specs.Placing.{holding}
 use Rattle.flooding.specs.Settling.{is_said}
 use Rattle.bridge_api.proofs.OneNumber.{first_is}
-use Rattle.bridge_control.proofs.Owning.{own_bytes, own_held, own_first, kept_fresh_after}
+use Rattle.bridge_control.proofs.Owning.{own_bytes, own_few, own_first, kept_fresh_after}
 use Rattle.bridge_control.proofs.machine.Machine.refresh.Goals as goal
 
 pub keep_fresh-requires-clause-bodies : goal.keep_fresh-requires-clause-bodies
 keep_fresh-requires-clause-bodies c = own_bytes c.args.self.now c.requires.current
 
-pub keep_fresh-requires-clause-held : goal.keep_fresh-requires-clause-held
-keep_fresh-requires-clause-held c = own_held c.args.self.now c.requires.current c.requires.can.held
+pub keep_fresh-requires-clause-few : goal.keep_fresh-requires-clause-few
+keep_fresh-requires-clause-few c = own_few c.args.self.now c.requires.current c.requires.can.room
 
 pub keep_fresh-requires-clause-first : goal.keep_fresh-requires-clause-first
 keep_fresh-requires-clause-first c = own_first c.args.self.now c.requires.current
