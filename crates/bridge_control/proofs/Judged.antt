@@ -32,9 +32,10 @@ put_at (last ∷ heard) (suc k) (suc place) new was there = elim (put_at heard k
 
 pub put_judged : (me : SystemId) (heard : List (Option JudgedHello)) (port : ℕ) (hello : JudgedHello) → 1 ≤ port → IsJudgedAt me port hello → AreJudged me heard → AreJudged me (slice_set heard (port - 1) (Some hello))
 put_judged me heard port hello low here are place judged there =
-    elim (put_at heard (port - 1) place (Some hello) (Some judged) there)
-    [ inl e ↦ (let number : port ≡ place + 1 = omega (arith, low, e.0) in let same : hello ≡ judged = cc in subst (λ (p : ℕ). IsJudgedAt me p judged) number (subst (IsJudgedAt me port) same here))
-    | inr e ↦ are place judged e ]
+    elim (put_at heard (port - 1) place (Some hello) (Some judged) there) [
+      | inl e ↦ (let number : port ≡ place + 1 = omega (arith, low, e.0) in let same : hello ≡ judged = cc in subst (λ (p : ℕ). IsJudgedAt me p judged) number (subst (IsJudgedAt me port) same here))
+      | inr e ↦ are place judged e
+    ]
 
 -- the one at a port
 pub judged_there : (me : SystemId) (heard : List (Option JudgedHello)) (port : ℕ) (judged : JudgedHello) → 1 ≤ port → AreJudged me heard → slice_get heard (port - 1) ≡ Some (Some judged) → IsJudgedAt me port judged
