@@ -21,7 +21,7 @@ use Rattle.ect_trees.proofs.Exists.{Decides-among, best_of_some, best_of_cases}
 use Rattle.ect_trees.proofs.Low.{best_is_low}
 use Rattle.what_if.specs.declared.entry.Entry.{Entry}
 use Rattle.what_if.specs.declared.entry.Entry.TheVariants.{Before}
-use Rattle.what_if.specs.Following.{entry_among, entry_of, way_within, way_of}
+use Rattle.what_if.specs.Following.{entry_among, entry_for, way_within, way_of}
 use Rattle.what_if.specs.Failing.{is_start, names_no_neighbour, leads_nowhere, is_better, gives_better, has_better, fails, NobodyFails}
 use Rattle.what_if.specs.Entries.{before_last, named, entry_by, best_entry, best_entries}
 use Rattle.what_if.specs.Laws.{BestPasses}
@@ -41,10 +41,10 @@ module _ (g : Graph) (mask : ℕ) (a : SystemId) (valid : IsValid g) (bridge : I
   abbrev pub es : List Entry
   es = best_entries g mask a
 
-  entry_is : (x : SystemId) → IsBridge g x → entry_of g es x ≡ best_entry g mask a x
+  entry_is : (x : SystemId) → IsBridge g x → entry_for g es x ≡ best_entry g mask a x
   entry_is x i = listed (best_entry g mask a) g.bridges x i
 
-  named_before : (x y : SystemId) (p q : List SystemId) → IsBridge g x → same_system x a ≡ false → best_of g mask a x ≡ Some p → p ≡ q ++ x ∷ [] → IsPath g a y q → entry_of g es x ≡ Before y
+  named_before : (x y : SystemId) (p q : List SystemId) → IsBridge g x → same_system x a ≡ false → best_of g mask a x ≡ Some p → p ≡ q ++ x ∷ [] → IsPath g a y q → entry_for g es x ≡ Before y
   named_before x y p q i s at whole path = entry_is x i ∙ (other s ∙ (ap entry_by at ∙ ap named (ap before_last whole ∙ before_last_is g a y x q path)))
     where
       other : same_system x a ≡ false → best_entry g mask a x ≡ entry_by (best_of g mask a x)
@@ -149,7 +149,7 @@ module _ (g : Graph) (mask : ℕ) (a : SystemId) (valid : IsValid g) (bridge : I
     first_four None at = refl
     first_four (Some q) at = let y = not_unreached x q s at in rw (y.1, y.2) refl
 
-    passes_with : (i : entry_of g es x ≡ e) → fails g mask es a x ≡ false
+    passes_with : (i : entry_for g es x ≡ e) → fails g mask es a x ≡ false
     passes_with i = rw (s, i) (joined_tests (is_start e) (names_no_neighbour g x e) (leads_nowhere e (way_of g es a x)) (has_better g mask es a x) (ap (λ o. is_start e || (names_no_neighbour g x e || leads_nowhere e o)) (ways x) ∙ first_four (best_of g mask a x) refl) better_none)
       where
         joined_tests : (p q r t : Bool) → (p || (q || r)) ≡ false → t ≡ false → (p || (q || (r || t))) ≡ false

@@ -18,7 +18,7 @@ use Rattle.ect_trees.proofs.Exists.{Decides-among}
 use Rattle.ect_trees.proofs.Low.{low_is_best}
 use Rattle.what_if.specs.declared.entry.Entry.{Entry}
 use Rattle.what_if.specs.declared.entry.Entry.TheVariants.{Start, Before, Unreached}
-use Rattle.what_if.specs.Following.{entry_among, entry_of, way_within, way_of}
+use Rattle.what_if.specs.Following.{entry_among, entry_for, way_within, way_of}
 use Rattle.what_if.specs.Failing.{is_start, names_no_neighbour, leads_nowhere, is_better, gives_better, has_better, fails, NobodyFails}
 use Rattle.what_if.specs.Entries.{before_last, named, entry_by, best_entry, best_entries}
 use Rattle.what_if.specs.Laws.{PassingIsBest}
@@ -67,11 +67,11 @@ pub record Passes (g : Graph) (mask : ℕ) (es : List Entry) (a x : SystemId) (e
   pub leads : leads_nowhere e (way_of g es a x) ≡ false
   pub better : has_better g mask es a x ≡ false
 
-pub passes : (g : Graph) (mask : ℕ) (es : List Entry) (a x : SystemId) → same_system x a ≡ false → fails g mask es a x ≡ false → Passes g mask es a x (entry_of g es x)
+pub passes : (g : Graph) (mask : ℕ) (es : List Entry) (a x : SystemId) → same_system x a ≡ false → fails g mask es a x ≡ false → Passes g mask es a x (entry_for g es x)
 passes g mask es a x s h = by (same_system x a) s h
   where
     e : Entry
-    e = entry_of g es x
+    e = entry_for g es x
 
     by : (b : Bool) → b ≡ false → (if b then not (is_start e) else is_start e || (names_no_neighbour g x e || (leads_nowhere e (way_of g es a x) || has_better g mask es a x))) ≡ false → Passes g mask es a x e
     by true t k = absurd (true≢false t)
@@ -98,7 +98,7 @@ module _ (g : Graph) (mask : ℕ) (es : List Entry) (a : SystemId) (valid : IsVa
   low_for : (x y : SystemId) (p : List SystemId) → way x ≡ Some p → IsSome (cost_between g x y) → (IsAmong y p → ⊥) → same_system y a ≡ false → LowAt g mask way y (p ++ y ∷ [])
   low_for x y p at joined off s =
       let ends = joined_bridges g x y valid joined in
-      let e : Entry = entry_of g es y in
+      let e : Entry = entry_for g es y in
       let pass : Passes g mask es a y e = passes g mask es a y s (all_among (λ z. fails g mask es a z ≡ false) (systems_of g.bridges) y nobody ends.1) in
       let back : is_some (cost_between g y x) ≡ true = subst (λ (o : Option ℕ). is_some o ≡ true) (cost_comm g x y) joined in
       let none = and_right _ _ back (none_among (λ u. is_some (cost_between g y u) && gives_better g mask y (way y) (way u)) (systems_of g.bridges) x pass.better ends.0) in
@@ -175,7 +175,7 @@ module _ (g : Graph) (mask : ℕ) (es : List Entry) (a : SystemId) (valid : IsVa
   abbrev n : ℕ
   n = length g.bridges
 
-  followed : (x : SystemId) (p : List SystemId) (m : ℕ) → same_system x a ≡ false → way_within g es a m x ≡ Some p → (y : SystemId) × (entry_of g es x ≡ Before y) × (before_last p ≡ Some y)
+  followed : (x : SystemId) (p : List SystemId) (m : ℕ) → same_system x a ≡ false → way_within g es a m x ≡ Some p → (y : SystemId) × (entry_for g es x ≡ Before y) × (before_last p ≡ Some y)
   followed x p zero s h = absurd (true≢false (sym (ap (λ t. same_system t a) (way_zero g es a x p h).0 ∙ same_self a) ∙ s))
   followed x p (suc m) s h =
       elim (way_cases g es a m x p h) [
@@ -183,14 +183,14 @@ module _ (g : Graph) (mask : ℕ) (es : List Entry) (a : SystemId) (valid : IsVa
         | inr f ↦ (f.1.y, f.1.entry, ap before_last f.1.whole ∙ before_last_is g a f.1.y x f.1.q (way_is_path g es a m f.1.y f.1.q valid bridge f.1.before))
       ]
 
-  none_left : (x : SystemId) (o : Option (List SystemId)) → way_of g es a x ≡ o → same_system x a ≡ false → entry_of g es x ≡ Unreached → o ≡ None
+  none_left : (x : SystemId) (o : Option (List SystemId)) → way_of g es a x ≡ o → same_system x a ≡ false → entry_for g es x ≡ Unreached → o ≡ None
   none_left x None at s e = refl
   none_left x (Some p) at s e = let f = followed x p n s at in absurd (clash f.0 (sym f.1 ∙ e))
     where
       clash : (y : SystemId) → Before y ≡ Unreached → ⊥
       clash y h = absurd cc
 
-  other : (x : SystemId) (e : Entry) → entry_of g es x ≡ e → same_system x a ≡ false → Passes g mask es a x e → e ≡ entry_by (best_of g mask a x)
+  other : (x : SystemId) (e : Entry) → entry_for g es x ≡ e → same_system x a ≡ false → Passes g mask es a x e → e ≡ entry_by (best_of g mask a x)
   other x Start at s pass = absurd (true≢false pass.start)
   other x Unreached at s pass = sym (ap entry_by (sym (best x) ∙ none_left x (way_of g es a x) refl s at))
   other x (Before y) at s pass =
@@ -199,7 +199,7 @@ module _ (g : Graph) (mask : ℕ) (es : List Entry) (a : SystemId) (valid : IsVa
       let same : y ≡ f.0 = before_is y f.0 (sym at ∙ f.1) in
       sym (ap entry_by (sym (best x) ∙ p.1) ∙ (ap named f.2 ∙ ap Before (sym same)))
 
-  entry_is : (x : SystemId) → IsAmong x (systems_of g.bridges) → entry_of g es x ≡ best_entry g mask a x
+  entry_is : (x : SystemId) → IsAmong x (systems_of g.bridges) → entry_for g es x ≡ best_entry g mask a x
   entry_is x i = by (same_system x a) refl (all_among (λ z. fails g mask es a z ≡ false) (systems_of g.bridges) x nobody i)
     where
       started : (e : Entry) → not (is_start e) ≡ false → e ≡ Start
@@ -207,25 +207,25 @@ module _ (g : Graph) (mask : ℕ) (es : List Entry) (a : SystemId) (valid : IsVa
       started (Before y) h = absurd (true≢false h)
       started Unreached h = absurd (true≢false h)
 
-      at_start : (b : Bool) → b ≡ true → (if b then not (is_start (entry_of g es x)) else true) ≡ false → entry_of g es x ≡ Start
-      at_start true t h = started (entry_of g es x) h
+      at_start : (b : Bool) → b ≡ true → (if b then not (is_start (entry_for g es x)) else true) ≡ false → entry_for g es x ≡ Start
+      at_start true t h = started (entry_for g es x) h
       at_start false t h = absurd (true≢false (sym t))
 
-      by : (b : Bool) → same_system x a ≡ b → fails g mask es a x ≡ false → entry_of g es x ≡ best_entry g mask a x
-      by true s h = started (entry_of g es x) (sym (first s) ∙ h) ∙ sym (second s)
+      by : (b : Bool) → same_system x a ≡ b → fails g mask es a x ≡ false → entry_for g es x ≡ best_entry g mask a x
+      by true s h = started (entry_for g es x) (sym (first s) ∙ h) ∙ sym (second s)
         where
-          first : same_system x a ≡ true → fails g mask es a x ≡ not (is_start (entry_of g es x))
+          first : same_system x a ≡ true → fails g mask es a x ≡ not (is_start (entry_for g es x))
           first t = rw t refl
 
           second : same_system x a ≡ true → best_entry g mask a x ≡ Start
           second t = rw t refl
-      by false s h = other x (entry_of g es x) refl s (passes g mask es a x s h) ∙ sym (third s)
+      by false s h = other x (entry_for g es x) refl s (passes g mask es a x s h) ∙ sym (third s)
         where
           third : same_system x a ≡ false → best_entry g mask a x ≡ entry_by (best_of g mask a x)
           third t = rw t refl
 
   pub entries_are_best : length es ≡ length g.bridges → es ≡ best_entries g mask a
-  entries_are_best long = entries_listed g.bridges es valid.apart long ∙ map_among (λ x. entry_of g es x) (best_entry g mask a) (systems_of g.bridges) entry_is
+  entries_are_best long = entries_listed g.bridges es valid.apart long ∙ map_among (λ x. entry_for g es x) (best_entry g mask a) (systems_of g.bridges) entry_is
 
 pub passing_is_best : PassingIsBest
 passing_is_best g mask a es valid bridge long nobody = record {

@@ -16,7 +16,7 @@ use Rattle.ect_trees.proofs.Among.{same_is, same_self}
 use Rattle.ect_trees.proofs.Grouped.{same_or_not}
 use Rattle.ect_trees.proofs.Places.{at_among}
 use Rattle.what_if.specs.declared.entry.Entry.{Entry}
-use Rattle.what_if.specs.Following.{entry_among, entry_of}
+use Rattle.what_if.specs.Following.{entry_among, entry_for}
 use Rattle.what_if.specs.Labels.{IsWayTo, AreFirstWays}
 
 entry_among_at : (bs : List GraphBridge) (es : List Entry) (i : ℕ) (x : SystemId) (d : Entry) → IsDistinct (systems_of bs) → length es ≡ length bs → slice_get (systems_of bs) i ≡ Some x → entry_among bs es x ≡ get_or es i d
@@ -30,7 +30,7 @@ entry_among_at (b ∷ bs) (e ∷ es) (suc i) x d apart long at = by (same_system
     by false s ih = ih
 
 -- the entry that is read at the place of x is that of x
-pub entry_at : (g : Graph) (es : List Entry) (place : ℕ) (x : SystemId) (d : Entry) → IsValid g → length es ≡ length g.bridges → IsBridgeAt g place x → entry_of g es x ≡ get_or es place d
+pub entry_at : (g : Graph) (es : List Entry) (place : ℕ) (x : SystemId) (d : Entry) → IsValid g → length es ≡ length g.bridges → IsBridgeAt g place x → entry_for g es x ≡ get_or es place d
 entry_at g es place x d valid long at = entry_among_at g.bridges es place x d valid.apart long at
 
 -- ---- labels

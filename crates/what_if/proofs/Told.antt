@@ -25,7 +25,7 @@ use Rattle.ect_trees.proofs.Walks.{cost_comm}
 use Rattle.what_if.specs.declared.checking.Claim.{Claim}
 use Rattle.what_if.specs.declared.entry.Entry.{Entry}
 use Rattle.what_if.specs.declared.entry.Entry.TheVariants.{Start, Before, Unreached}
-use Rattle.what_if.specs.Following.{entry_of}
+use Rattle.what_if.specs.Following.{entry_for}
 use Rattle.what_if.specs.Failing.{is_start, is_better, gives_better, has_better, fails}
 use Rattle.what_if.specs.Labels.{IsWay}
 use Rattle.what_if.specs.Claim.{IsClaim, way_in, TellsBetter, TellsHasBetter}
@@ -143,10 +143,10 @@ module _ (c : Claim) (claim : IsClaim c) where
 
   -- ---- whether a bridge fails
 
-  pub source_fails : (x : SystemId) (e : Entry) → same_system x c.source ≡ true → entry_of g c.entries.now x ≡ e → not (is_start e) ≡ fails g c.mask c.entries.now c.source x
+  pub source_fails : (x : SystemId) (e : Entry) → same_system x c.source ≡ true → entry_for g c.entries.now x ≡ e → not (is_start e) ≡ fails g c.mask c.entries.now c.source x
   source_fails x e same at = sym (rw (same, at) refl)
 
-  pub start_fails : (x : SystemId) → same_system x c.source ≡ false → entry_of g c.entries.now x ≡ Start → true ≡ fails g c.mask c.entries.now c.source x
+  pub start_fails : (x : SystemId) → same_system x c.source ≡ false → entry_for g c.entries.now x ≡ Start → true ≡ fails g c.mask c.entries.now c.source x
   start_fails x off at = sym (rw (off, at) refl)
 
   pub no_label : (place : ℕ) (x : SystemId) → IsBridgeAt g place x → is_some (label_at c.ways.items place) ≡ false → way_in c x ≡ None
@@ -164,17 +164,17 @@ module _ (c : Claim) (claim : IsClaim c) where
       by (Some l) e f = (l.bridges.items, sym (way_at place x at).way_is ∙ ap bridges_of e)
 
   -- an entry from which no way comes
-  pub lost_fails : (x y : SystemId) → same_system x c.source ≡ false → entry_of g c.entries.now x ≡ Before y → way_in c x ≡ None → true ≡ fails g c.mask c.entries.now c.source x
+  pub lost_fails : (x y : SystemId) → same_system x c.source ≡ false → entry_for g c.entries.now x ≡ Before y → way_in c x ≡ None → true ≡ fails g c.mask c.entries.now c.source x
   lost_fails x y off at none = by (is_some (cost_between g x y)) refl
     where
       by : (b : Bool) → is_some (cost_between g x y) ≡ b → true ≡ fails g c.mask c.entries.now c.source x
       by true e = sym (rw (off, at, e, none) refl)
       by false e = sym (rw (off, at, e) refl)
 
-  pub unreached_fails : (b : Bool) (x : SystemId) → same_system x c.source ≡ false → entry_of g c.entries.now x ≡ Unreached → b ≡ has_better g c.mask c.entries.now c.source x → b ≡ fails g c.mask c.entries.now c.source x
+  pub unreached_fails : (b : Bool) (x : SystemId) → same_system x c.source ≡ false → entry_for g c.entries.now x ≡ Unreached → b ≡ has_better g c.mask c.entries.now c.source x → b ≡ fails g c.mask c.entries.now c.source x
   unreached_fails b x off at better = better ∙ sym (rw (off, at) refl)
 
-  joined : (x y : SystemId) (p : List SystemId) → same_system x c.source ≡ false → entry_of g c.entries.now x ≡ Before y → way_in c x ≡ Some p → is_some (cost_between g x y) ≡ true
+  joined : (x y : SystemId) (p : List SystemId) → same_system x c.source ≡ false → entry_for g c.entries.now x ≡ Before y → way_in c x ≡ Some p → is_some (cost_between g x y) ≡ true
   joined x y p off at way = elim (way_cases g c.entries.now c.source (length g.bridges) x p (way_more g c.entries.now c.source (length g.bridges) x p way)) [
     | inl here ↦ absurd (true≢false (sym (ap (λ t. same_system t c.source) here.0 ∙ same_self c.source) ∙ off))
     | inr f ↦ ap (λ t. is_some (cost_between g x t)) (before_is y f.1.y (sym at ∙ f.1.entry)) ∙ f.1.joined
@@ -183,5 +183,5 @@ module _ (c : Claim) (claim : IsClaim c) where
       before_is : (y z : SystemId) → Before y ≡ Before z → y ≡ z
       before_is y z h = cc
 
-  pub named_fails : (b : Bool) (x y : SystemId) (p : List SystemId) → same_system x c.source ≡ false → entry_of g c.entries.now x ≡ Before y → way_in c x ≡ Some p → b ≡ has_better g c.mask c.entries.now c.source x → b ≡ fails g c.mask c.entries.now c.source x
+  pub named_fails : (b : Bool) (x y : SystemId) (p : List SystemId) → same_system x c.source ≡ false → entry_for g c.entries.now x ≡ Before y → way_in c x ≡ Some p → b ≡ has_better g c.mask c.entries.now c.source x → b ≡ fails g c.mask c.entries.now c.source x
   named_fails b x y p off at way better = better ∙ sym (rw (off, at, joined x y p off at way, way) refl)

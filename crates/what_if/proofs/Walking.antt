@@ -17,7 +17,7 @@ use Rattle.ect_trees.proofs.Steps.{step_high}
 use Rattle.ect_trees.proofs.Walks.{step, cost_comm}
 use Rattle.what_if.specs.declared.entry.Entry.{Entry}
 use Rattle.what_if.specs.declared.entry.Entry.TheVariants.{Start, Before, Unreached}
-use Rattle.what_if.specs.Following.{entry_of, way_within, way_of}
+use Rattle.what_if.specs.Following.{entry_for, way_within, way_of}
 use Rattle.what_if.specs.Labels.{IsStepBy, IsStepTo, IsWayTo}
 use Rattle.what_if.proofs.Ways.{way_start}
 
@@ -52,14 +52,14 @@ with_one s r None = refl
 with_one s r (Some p) = ap Some (append_assoc p (s ∷ []) r)
 
 -- one step of a way
-next : (g : Graph) (es : List Entry) (a s y : SystemId) (k : ℕ) → same_system s a ≡ false → entry_of g es s ≡ Before y → IsSome (cost_between g s y) → way_within g es a (suc k) s ≡ option_map (λ p. p ++ s ∷ []) (way_within g es a k y)
+next : (g : Graph) (es : List Entry) (a s y : SystemId) (k : ℕ) → same_system s a ≡ false → entry_for g es s ≡ Before y → IsSome (cost_between g s y) → way_within g es a (suc k) s ≡ option_map (λ p. p ++ s ∷ []) (way_within g es a k y)
 next g es a s y k off entry joined = rw (off, entry, joined) refl
 
 turned : (trail : List SystemId) (s : SystemId) → reverse (trail ++ s ∷ []) ≡ s ∷ reverse trail
 turned trail s = reverse-append trail (s ∷ [])
 
 module _ (g : Graph) (es : List Entry) (a : SystemId) (place here : ℕ) (s : SystemId) (trail : List SystemId) (cost : ℕ) (valid : IsValid g) where
-  goes_on : (k : ℕ) (arc : Arc) (y : SystemId) → IsWalk g es a place here s (suc k) trail cost → same_system s a ≡ false → entry_of g es s ≡ Before y → Leads g arc y s → IsWalk g es a place arc.from y k (trail ++ s ∷ []) (cost + arc.cost)
+  goes_on : (k : ℕ) (arc : Arc) (y : SystemId) → IsWalk g es a place here s (suc k) trail cost → same_system s a ≡ false → entry_for g es s ≡ Before y → Leads g arc y s → IsWalk g es a place arc.from y k (trail ++ s ∷ []) (cost + arc.cost)
   goes_on k arc y w off entry lead =
       let own : step g y s ≡ arc.cost = ap (λ o. unwrap_or o 0) lead.cost in
       let high = step_high g y s valid in
@@ -77,12 +77,12 @@ module _ (g : Graph) (es : List Entry) (a : SystemId) (place here : ℕ) (s : Sy
 
   -- a step back to the neighbour that the entry names
   pub walk_goes_on : (left k : ℕ) (arc : Arc) (t : SystemId) → IsWalk g es a place here s left trail cost → left ≡ suc k → same_system s a ≡ false → IsStepTo g es here (Some arc) → IsBridgeAt g arc.from t → IsWalk g es a place arc.from t k (trail ++ s ∷ []) (cost + arc.cost)
-  walk_goes_on left k arc t w more off one there = by (entry_of g es s) refl (one s w.at)
+  walk_goes_on left k arc t w more off one there = by (entry_for g es s) refl (one s w.at)
     where
       none_is : {A : Type 0} (x : A) → Some x ≡ None → ⊥
       none_is x h = absurd cc
 
-      by : (e : Entry) → entry_of g es s ≡ e → IsStepBy g here e (Some arc) → IsWalk g es a place arc.from t k (trail ++ s ∷ []) (cost + arc.cost)
+      by : (e : Entry) → entry_for g es s ≡ e → IsStepBy g here e (Some arc) → IsWalk g es a place arc.from t k (trail ++ s ∷ []) (cost + arc.cost)
       by Start entry h = absurd (none_is arc h)
       by Unreached entry h = absurd (none_is arc h)
       by (Before y) entry h =
@@ -114,9 +114,9 @@ module _ (g : Graph) (es : List Entry) (a : SystemId) (place here : ℕ) (s : Sy
 
   -- where an entry stops, or the steps are spent, there is no way
   pub walk_stops : (left k : ℕ) → IsWalk g es a place here s left trail cost → left ≡ suc k → same_system s a ≡ false → IsStepTo g es here None → IsWayTo g es a place None
-  walk_stops left k w more off one = no_way left w (ap (λ n. way_within g es a n s) more ∙ by (entry_of g es s) refl (one s w.at))
+  walk_stops left k w more off one = no_way left w (ap (λ n. way_within g es a n s) more ∙ by (entry_for g es s) refl (one s w.at))
     where
-      by : (e : Entry) → entry_of g es s ≡ e → IsStepBy g here e None → way_within g es a (suc k) s ≡ None
+      by : (e : Entry) → entry_for g es s ≡ e → IsStepBy g here e None → way_within g es a (suc k) s ≡ None
       by Start entry h = rw (off, entry) refl
       by Unreached entry h = rw (off, entry) refl
       by (Before y) entry h = rw (off, entry, h s w.at) refl
@@ -129,7 +129,7 @@ module _ (g : Graph) (es : List Entry) (a : SystemId) (place here : ℕ) (s : Sy
 
   -- a step back comes to a bridge of the graph
   pub step_within : (left : ℕ) (arc : Arc) → IsWalk g es a place here s left trail cost → IsStepTo g es here (Some arc) → arc.from < length g.bridges
-  step_within left arc w one = by (entry_of g es s) (one s w.at)
+  step_within left arc w one = by (entry_for g es s) (one s w.at)
     where
       none_is : {A : Type 0} (x : A) → Some x ≡ None → ⊥
       none_is x h = absurd cc

@@ -11,7 +11,7 @@ use Rattle.ect_trees.proofs.Walks.{cost_comm, path_snoc, path_single}
 use Rattle.ect_trees.proofs.Steps.{joined_bridges}
 use Rattle.what_if.specs.declared.entry.Entry.{Entry}
 use Rattle.what_if.specs.declared.entry.Entry.TheVariants.{Start, Before, Unreached}
-use Rattle.what_if.specs.Following.{entry_of, behind, way_within}
+use Rattle.what_if.specs.Following.{entry_for, behind, way_within}
 
 -- ---- one step back
 
@@ -19,7 +19,7 @@ use Rattle.what_if.specs.Following.{entry_of, behind, way_within}
 pub record Follows (g : Graph) (es : List Entry) (a : SystemId) (n : ℕ) (x : SystemId) (p : List SystemId) : Type 0 where
   pub y : SystemId
   pub q : List SystemId
-  pub entry : entry_of g es x ≡ Before y
+  pub entry : entry_for g es x ≡ Before y
   pub joined : IsSome (cost_between g x y)
   pub before : way_within g es a n y ≡ Some q
   pub whole : p ≡ q ++ x ∷ []
@@ -27,7 +27,7 @@ pub record Follows (g : Graph) (es : List Entry) (a : SystemId) (n : ℕ) (x : S
 some_is : {A : Type 0} (x y : A) → Some x ≡ Some y → x ≡ y
 some_is x y h = cc
 
-behind_is : (g : Graph) (es : List Entry) (a : SystemId) (n : ℕ) (x : SystemId) (p : List SystemId) (e : Entry) → entry_of g es x ≡ e → behind g (λ y. way_within g es a n y) x e ≡ Some p → Follows g es a n x p
+behind_is : (g : Graph) (es : List Entry) (a : SystemId) (n : ℕ) (x : SystemId) (p : List SystemId) (e : Entry) → entry_for g es x ≡ e → behind g (λ y. way_within g es a n y) x e ≡ Some p → Follows g es a n x p
 behind_is g es a n x p Start at h = absurd cc
 behind_is g es a n x p Unreached at h = absurd cc
 behind_is g es a n x p (Before y) at h = by_joined (is_some (cost_between g x y)) refl (way_within g es a n y) refl h
@@ -41,9 +41,9 @@ behind_is g es a n x p (Before y) at h = by_joined (is_some (cost_between g x y)
 pub way_cases : (g : Graph) (es : List Entry) (a : SystemId) (n : ℕ) (x : SystemId) (p : List SystemId) → way_within g es a (suc n) x ≡ Some p → ((x ≡ a) × (p ≡ x ∷ [])) ⊎ ((same_system x a ≡ false) × Follows g es a n x p)
 way_cases g es a n x p h = by_same (same_system x a) refl h
   where
-    by_same : (b : Bool) → same_system x a ≡ b → (if b then Some (x ∷ []) else behind g (λ y. way_within g es a n y) x (entry_of g es x)) ≡ Some p → ((x ≡ a) × (p ≡ x ∷ [])) ⊎ ((same_system x a ≡ false) × Follows g es a n x p)
+    by_same : (b : Bool) → same_system x a ≡ b → (if b then Some (x ∷ []) else behind g (λ y. way_within g es a n y) x (entry_for g es x)) ≡ Some p → ((x ≡ a) × (p ≡ x ∷ [])) ⊎ ((same_system x a ≡ false) × Follows g es a n x p)
     by_same true s k = inl (same_is x a s, sym (some_is (x ∷ []) p k))
-    by_same false s k = inr (s, behind_is g es a n x p (entry_of g es x) refl k)
+    by_same false s k = inr (s, behind_is g es a n x p (entry_for g es x) refl k)
 
 pub way_zero : (g : Graph) (es : List Entry) (a : SystemId) (x : SystemId) (p : List SystemId) → way_within g es a zero x ≡ Some p → (x ≡ a) × (p ≡ x ∷ [])
 way_zero g es a x p h = by_same (same_system x a) refl h
@@ -56,7 +56,7 @@ pub way_start : (g : Graph) (es : List Entry) (a : SystemId) (n : ℕ) → way_w
 way_start g es a zero = rw (same_self a) refl
 way_start g es a (suc n) = rw (same_self a) refl
 
-pub way_on : (g : Graph) (es : List Entry) (a : SystemId) (n : ℕ) (x y : SystemId) (q : List SystemId) → same_system x a ≡ false → entry_of g es x ≡ Before y → IsSome (cost_between g x y) → way_within g es a n y ≡ Some q → way_within g es a (suc n) x ≡ Some (q ++ x ∷ [])
+pub way_on : (g : Graph) (es : List Entry) (a : SystemId) (n : ℕ) (x y : SystemId) (q : List SystemId) → same_system x a ≡ false → entry_for g es x ≡ Before y → IsSome (cost_between g x y) → way_within g es a n y ≡ Some q → way_within g es a (suc n) x ≡ Some (q ++ x ∷ [])
 way_on g es a n x y q s e j w = rw (s, e, j, w) refl
 
 -- one step more is no harm

@@ -10,7 +10,7 @@ use Rattle.ect_trees.specs.Key.{key_of, key_cmp}
 use Rattle.ect_trees.specs.Best.{is_among}
 use Rattle.what_if.specs.declared.entry.Entry.{Entry}
 use Rattle.what_if.specs.declared.checking.Verdict.{Verdict}
-use Rattle.what_if.specs.Following.{entry_of, way_of}
+use Rattle.what_if.specs.Following.{entry_for, way_of}
 
 abbrev pub is_start : Entry → Bool
 is_start Entry.Start = true
@@ -54,7 +54,7 @@ fails_with g mask es a x e =
     || (names_no_neighbour g x e || (leads_nowhere e (way_of g es a x) || has_better g mask es a x))
 
 abbrev pub fails : Graph → ℕ → List Entry → SystemId → SystemId → Bool
-fails g mask es a x = fails_with g mask es a x (entry_of g es x)
+fails g mask es a x = fails_with g mask es a x (entry_for g es x)
 
 abbrev pub NobodyFails : Graph → ℕ → List Entry → SystemId → Type 0
 NobodyFails g mask es a = AllByRecursion (λ x. fails g mask es a x ≡ false) (systems_of g.bridges)

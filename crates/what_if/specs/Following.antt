@@ -13,8 +13,8 @@ entry_among [] es x = Entry.Unreached
 entry_among (b ∷ bs) [] x = Entry.Unreached
 entry_among (b ∷ bs) (e ∷ es) x = if same_system b.id.system x then e else entry_among bs es x
 
-abbrev pub entry_of : Graph → List Entry → SystemId → Entry
-entry_of g es x = entry_among g.bridges es x
+abbrev pub entry_for : Graph → List Entry → SystemId → Entry
+entry_for g es x = entry_among g.bridges es x
 
 -- the way of x is that of the neighbour which its entry names, and x behind it; every other entry stops
 abbrev pub behind : Graph → (SystemId → Option (List SystemId)) → SystemId → Entry → Option (List SystemId)
@@ -27,7 +27,7 @@ behind g way x (Entry.Before y) = if is_some (cost_between g x y) then option_ma
 abbrev pub way_within : Graph → List Entry → SystemId → ℕ → SystemId → Option (List SystemId)
 way_within g es a zero x = if same_system x a then Some (x ∷ []) else None
 way_within g es a (suc n) x =
-    if same_system x a then Some (x ∷ []) else behind g (λ y. way_within g es a n y) x (entry_of g es x)
+    if same_system x a then Some (x ∷ []) else behind g (λ y. way_within g es a n y) x (entry_for g es x)
 
 -- the way of x: in at most as many steps as there are bridges
 abbrev pub way_of : Graph → List Entry → SystemId → SystemId → Option (List SystemId)

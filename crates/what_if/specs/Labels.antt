@@ -11,7 +11,7 @@ use Rattle.ect_trees.specs.Path.{cost_of}
 use Rattle.ect_trees.specs.Search.{label_at}
 use Rattle.ect_trees.specs.Tree.{best_path}
 use Rattle.what_if.specs.declared.entry.Entry.{Entry}
-use Rattle.what_if.specs.Following.{entry_of, way_of}
+use Rattle.what_if.specs.Following.{entry_for, way_of}
 use Rattle.what_if.specs.Failing.{NobodyFails}
 
 -- the arc leads from y to the bridge at a place; there is none exactly where no edge joins them
@@ -27,7 +27,7 @@ IsStepBy g place (Entry.Before y) arc = IsArcFrom g place y arc
 IsStepBy g place Entry.Unreached arc = arc ≡ None
 
 abbrev pub IsStepTo : Graph → List Entry → ℕ → Option Arc → Type 0
-IsStepTo g es place arc = (x : SystemId) → IsBridgeAt g place x → IsStepBy g place (entry_of g es x) arc
+IsStepTo g es place arc = (x : SystemId) → IsBridgeAt g place x → IsStepBy g place (entry_for g es x) arc
 
 -- the label is this way, with its cost
 pub record IsWay (g : Graph) (way : Option (List SystemId)) (o : Option Label) : Type 0 where
