@@ -1,0 +1,59 @@
+use Rattle.std.proofs.Common.{◌≡◌, ◌⊎◌, Ok, Err, refl, sym, ap, ◌∙◌}
+use Rattle.std.specs.Io.KnownBytes.{Appends}
+use Rattle.script_run.specs.Output.{AppendsFront}
+use Rattle.script_run.specs.declared.status.Status.TheVariants.{NoMemory}
+use Rattle.capture_list.specs.Listing.{Listing, listing}
+use Rattle.capture_list.proofs.Gathering.{as_read, none, written_fate, unless_written, nothing_written, out_of_memory, done_by}
+use Rattle.capture_list.proofs.listing.list_capture.Goals as goal
+
+pub returns-in-Ok-clause-lists : goal.returns-in-Ok-clause-lists
+returns-in-Ok-clause-lists g c =
+    let old = g.S.Source.left c.args.source.now in
+    let new = g.S.Source.left c.read_all.new.source in
+    let a = g.K.Sink.holds c.args.sink.now in
+    let b = g.K.Sink.holds c.list_bytes.new.sink in
+    let bytes = c.in-Ok.bytes.items in
+    let status = c.list_bytes.result in
+    let read = c.in-Ok.ensures in
+    let listed = c.list_bytes.ensures in
+    let whole =
+    λ sink. as_read old new bytes (λ (x : Listing). (status ≡ x.status) ⊎ (status ≡ NoMemory)) read.bytes read.end
+    (unless_written status (listing bytes).status listed.ends (listed.reliable sink)) in
+    record {
+      fate = λ w. as_read old new bytes (λ (x : Listing). status ≡ x.status) read.bytes read.end (written_fate status (listing bytes).status listed.ends w);
+      text = λ w. as_read old new bytes (λ (x : Listing). Appends a b x.text) read.bytes read.end (listed.text w);
+      ended = λ e. read.end (listed.short e);
+      front = λ cut. as_read old new bytes (λ (x : Listing). AppendsFront a b x.text) read.bytes read.end (listed.front cut);
+      silent = listed.silent;
+      few = c.read_all.ensures.few;
+      complete = λ source sink. whole sink;
+      done = λ source sink. done_by old status (whole sink);
+    }
+
+pub returns-in-Err-Failed-clause-lists : goal.returns-in-Err-Failed-clause-lists
+returns-in-Err-Failed-clause-lists g c =
+    let failed = c.in-Err-Failed.is ∙ ap Err c.in-Err-Failed.field-0-is in
+    record {
+      fate = λ w. none w;
+      text = λ w. none w;
+      ended = λ e. none e;
+      front = λ cut. none cut;
+      silent = λ s. refl;
+      few = c.read_all.ensures.few;
+      complete = λ source sink. absurd (c.read_all.ensures.reliable source failed);
+      done = λ source sink. absurd (c.read_all.ensures.reliable source failed);
+    }
+
+pub returns-in-Err-NoMemory-clause-lists : goal.returns-in-Err-NoMemory-clause-lists
+returns-in-Err-NoMemory-clause-lists g c =
+    let old = g.S.Source.left c.args.source.now in
+    record {
+      fate = λ w. none w;
+      text = λ w. none w;
+      ended = λ e. none e;
+      front = λ cut. nothing_written old (g.K.Sink.holds c.args.sink.now);
+      silent = λ s. refl;
+      few = c.read_all.ensures.few;
+      complete = λ source sink. out_of_memory old;
+      done = λ source sink. done_by old NoMemory (out_of_memory old);
+    }
