@@ -22,6 +22,15 @@ pub record Gathering {S : Type 0} (left : S → Option (List ℕ)) (faults : S �
   pub count : faults old ≤ faults new
   pub reliable : IsTrue (is_reliable old) → IsTrue (is_reliable new)
 
+-- a piece more was read
+pub few_more : (a b c : Option (List ℕ)) (before piece : List ℕ) (read count : ℕ) → Consumes a b before → Consumes b c piece → length piece ≤ count → read ≡ length before
+    → read + count ≤ most_listed + 1 → ReadsFew a c
+few_more a b c before piece read count first second short is few = record {
+  read = before ++ piece;
+  consumed = Consumes-trans a b c before piece first second;
+  few = omega (arith, length-append before piece, short, is, few);
+}
+
 -- a file that was read to its end, or to the first byte past the limit, is listed as what was read
 pub as_read : (a b : Option (List ℕ)) (read : List ℕ) (P : Listing → Type 0) → Consumes a b read → (length read ≤ most_listed → IsAtEnd b) → P (listing read) → IfSome a (λ bytes. P (listing bytes))
 as_read a b read P consumed end holds = by_length (cases_lt most_listed (length read))

@@ -8,7 +8,7 @@ use Rattle.capture_list.proofs.Putting.{Puts-more, Front-before, Front-behind}
 use Rattle.capture_list.proofs.Telling.{line_is}
 
 module _ (d : Delivered) (head : List ℕ) (is : head ≡ line_head d.tick (length d.frame)) where
-  behind : List ℕ
+  abbrev behind : List ℕ
   behind = hex_or_dash d.frame ++ 10 ∷ []
 
   whole : frame_line d ≡ head ++ behind

@@ -1,5 +1,5 @@
 -- What is told of the packets of a file, one after another.
-use Rattle.std.proofs.Common.{◌≡◌, ◌⊎◌, inl, inr, ℕ, suc, ◌+◌, ◌≤◌, ◌<◌, List, [], ◌∷◌, ◌++◌, length, drop, take, flat_map, Bool, true, false, nat_lt, Option, Some, None, Result, Ok, Err, IsTrue, refl, sym, ap, ◌∙◌, subst, append_assoc, append-nil, arith}
+use Rattle.std.proofs.Common.{◌≡◌, ◌⊎◌, inl, inr, ℕ, suc, ◌+◌, ◌≤◌, ◌<◌, List, [], ◌∷◌, ◌++◌, length, drop, take, flat_map, Bool, true, false, nat_lt, Option, Some, None, Result, Ok, Err, IsTrue, decimal, refl, sym, ap, ◌∙◌, subst, append_assoc, append-nil, arith}
 use Rattle.std.proofs.lemmas.Bool.{cases_lt}
 use Rattle.std.proofs.lemmas.List.{drop-drop, drop_all}
 use Rattle.hex.specs.Hex.{encode_lower, encode_with, lower_digits}
@@ -31,9 +31,18 @@ pub digits_none : encode_lower [] ≡ []
 unfolding encode_with
 digits_none = refl
 
+-- three words with the same byte before each, and bytes behind them
+parts : (a b h end : List ℕ) (s : ℕ) → (a ++ (s ∷ (b ++ (s ∷ (h ++ []))))) ++ end ≡ ((a ++ (s ∷ b)) ++ (s ∷ [])) ++ (h ++ end)
+parts a b h end s =
+    append_assoc a (s ∷ (b ++ (s ∷ (h ++ [])))) end
+    ∙ ap (λ t. a ++ (s ∷ t)) (append_assoc b (s ∷ (h ++ [])) end)
+    ∙ ap (λ t. a ++ (s ∷ (b ++ (s ∷ (t ++ end))))) (append-nil h)
+    ∙ sym (append_assoc a (s ∷ b) (s ∷ (h ++ end)))
+    ∙ sym (append_assoc (a ++ (s ∷ b)) (s ∷ []) (h ++ end))
+
 pub line_is : (d : Delivered) → frame_line d ≡ line_head d.tick (length d.frame) ++ (hex_or_dash d.frame ++ 10 ∷ [])
 unfolding frame_line
-line_is d = simp (append_assoc, append-nil)
+line_is d = ap (λ t. 102 ∷ 32 ∷ t) (parts (decimal d.tick) (decimal (length d.frame)) (hex_or_dash d.frame) (10 ∷ []) 32)
 
 -- ---- packets
 
@@ -91,7 +100,8 @@ nothing_on o n at bytes e =
 -- what is left isn't a packet
 pub cut_off : (o : Order) (n at : ℕ) (bytes : List ℕ) (why : CaptureError) → packet_in o (drop at bytes) ≡ Err why → told n (listed o (drop at bytes)) ≡ ending n (Some why)
 cut_off o n at bytes why e =
-    ap (told n) (listing_goes_on o (drop at bytes) ∙ ap (listed_by (λ x. listed o (behind x (drop at bytes)))) e)
+    let none : n + 0 ≡ n = omega arith in
+    ap (told n) (listing_goes_on o (drop at bytes) ∙ ap (listed_by (λ x. listed o (behind x (drop at bytes)))) e) ∙ ap (λ k. ending k (Some why)) none
 
 -- ---- files
 

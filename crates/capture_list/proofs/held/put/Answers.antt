@@ -20,4 +20,4 @@ returns-in_err-extend_from_slice-clause-front g c =
 pub returns-clause-all : goal.returns-clause-all
 returns-clause-all g c =
     Puts-held (g.K.Sink.holds c.args.sink.now) (g.K.Sink.holds c.make_room.new.sink) c.args.held.now.items c.make_room.new.held.items
-    c.extend_from_slice.new.self.items c.args.bytes.now c.in_ok-make_room.ensures.all c.in_ok-extend_from_slice.ensures
+    c.extend_from_slice.new.self.items c.args.bytes.now c.in_ok-make_room.ensures.all c.in_ok-extend_from_slice.ensures.items
