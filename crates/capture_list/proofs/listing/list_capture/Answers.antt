@@ -1,4 +1,4 @@
-use Rattle.std.proofs.Common.{◌≡◌, ◌⊎◌, Ok, Err, refl, sym, ap, ◌∙◌}
+use Rattle.std.proofs.Common.{◌≡◌, ◌⊎◌, IsTrue, Ok, Err, refl, sym, ap, ◌∙◌}
 use Rattle.std.specs.Io.KnownBytes.{Appends}
 use Rattle.script_run.specs.Output.{AppendsFront}
 use Rattle.script_run.specs.declared.status.Status.TheVariants.{NoMemory}
@@ -17,7 +17,7 @@ returns-in-Ok-clause-lists g c =
     let read = c.in-Ok.ensures in
     let listed = c.list_bytes.ensures in
     let whole =
-    λ sink. as_read old new bytes (λ (x : Listing). (status ≡ x.status) ⊎ (status ≡ NoMemory)) read.bytes read.end
+    λ (sink : IsTrue (g.K.Sink.is_reliable c.args.sink.now)). as_read old new bytes (λ (x : Listing). (status ≡ x.status) ⊎ (status ≡ NoMemory)) read.bytes read.end
     (unless_written status (listing bytes).status listed.ends (listed.reliable sink)) in
     record {
       fate = λ w. as_read old new bytes (λ (x : Listing). status ≡ x.status) read.bytes read.end (written_fate status (listing bytes).status listed.ends w);
