@@ -107,6 +107,7 @@ fn list_bytes<K: Sink>(alloc: Global, bytes: &[u8], sink: &mut K) -> Status
         AppendsFront (K.holds sink.old) (K.holds sink.new) (listing bytes.now).text }
     ensures silent { (result ≡ Status.ReadFault) ⊎ (result ≡ Status.TooLong) → sink.new ≡ sink.old }
     ensures other { result ≢ Status.Usage }
+    ensures unread { result ≢ Status.ReadFault }
     ensures short { IsTrue (ends.is_ended result) → length bytes.now ≤ most_listed }
     ensures failed { result ≡ Status.WriteFault → Rose (K.faults sink.old) (K.faults sink.new) }
     ensures reliable { IsTrue (K.is_reliable sink.old) → result ≢ Status.WriteFault }
