@@ -1,4 +1,5 @@
-use Rattle.std.proofs.Common.{◌≡◌, List, ℕ, [], ◌++◌, length, take, drop, sym, ap, ◌∙◌, subst, take-append-drop}
+use Rattle.std.proofs.Common.{◌≡◌, List, ℕ, [], ◌∷◌, ◌++◌, length, take, drop, sym, ap, ◌∙◌, subst, take-append-drop, arith}
+use Rattle.std.proofs.lemmas.Bool.Decides.{nat_tests}
 use Rattle.std.proofs.lemmas.List.{take_rest}
 use Rattle.std.proofs.lemmas.Result.{err_from_is_err_and}
 use Rattle.hex.specs.Hex.{encode_lower}
@@ -11,8 +12,9 @@ next_digits : (n : ℕ) (rest piece : List ℕ) → piece ≡ encode_lower (take
 next_digits n rest piece is = digits_split n rest (take-append-drop n rest) ∙ ap (λ t. t ++ encode_lower (drop n rest)) (sym is)
 
 -- no byte has no digit
-nothing_left : (rest : List ℕ) → rest ≡ [] → encode_lower rest ≡ []
-nothing_left rest none = ap encode_lower none ∙ digits_none
+nothing_left : (rest : List ℕ) → length rest ≡ 0 → encode_lower rest ≡ []
+nothing_left [] none = digits_none
+nothing_left (x ∷ xs) none = absurd cc
 
 pub loop-rest-init : goal.loop-rest-init
 loop-rest-init g c = Putting-nil g.K.Sink.holds g.K.Sink.faults g.K.Sink.is_reliable c.args.sink.now c.args.held.now.items (encode_lower c.args.bytes.now)
@@ -45,3 +47,9 @@ loop-rest-preserved g c =
     (encode_lower c.args.bytes.now) piece (encode_lower (drop count rest))
     (subst (Putting g.K.Sink.holds g.K.Sink.faults g.K.Sink.is_reliable c.args.sink.now c.loop-rest.sink c.args.held.now.items c.loop-rest.held.items (encode_lower c.args.bytes.now)) more c.loop-rest.invariant)
     c.in_ok-put.ensures.all c.in_ok-put.ensures.count (λ h. (c.in_ok-put.ensures.reliable h).1))
+
+pub returns-clause-all : goal.returns-clause-all
+returns-clause-all g c =
+    let none : length c.loop-rest.rest.now ≡ 0 = grind (arith, nat_tests, c.loop-rest-test.false, c.is_empty.ensures) in
+    Putting-all g.K.Sink.holds g.K.Sink.faults g.K.Sink.is_reliable c.args.sink.now c.loop-rest.sink c.args.held.now.items c.loop-rest.held.items
+    (encode_lower c.args.bytes.now) (encode_lower c.loop-rest.rest.now) c.loop-rest.invariant (nothing_left c.loop-rest.rest.now none)

@@ -1,8 +1,8 @@
-use Rattle.std.proofs.Common.{◌≡◌, ◌⊎◌, IsTrue, Ok, Err, refl, sym, ap, ◌∙◌}
-use Rattle.std.specs.Io.KnownBytes.{Appends}
+use Rattle.std.proofs.Common.{◌≡◌, ◌⊎◌, ℕ, ◌≤◌, List, length, IsTrue, Err, refl, sym, ap, ◌∙◌, subst}
+use Rattle.std.specs.Io.KnownBytes.{Appends, Consumes, IsAtEnd}
 use Rattle.script_run.specs.Output.{AppendsFront}
 use Rattle.script_run.specs.declared.status.Status.TheVariants.{NoMemory}
-use Rattle.capture_list.specs.Listing.{Listing, listing}
+use Rattle.capture_list.specs.Listing.{most_listed, Listing, listing}
 use Rattle.capture_list.proofs.Gathering.{as_read, none, written_fate, unless_written, nothing_written, out_of_memory, done_by}
 use Rattle.capture_list.proofs.listing.list_capture.Goals as goal
 
@@ -12,18 +12,21 @@ returns-in-Ok-clause-lists g c =
     let new = g.S.Source.left c.read_all.new.source in
     let a = g.K.Sink.holds c.args.sink.now in
     let b = g.K.Sink.holds c.list_bytes.new.sink in
-    let bytes = c.in-Ok.bytes.items in
+    let bytes = c.deref.result.now in
+    let same = c.deref.ensures.value in
+    let consumed = subst (Consumes old new) (sym same) c.in-Ok.ensures.bytes in
+    let end : length bytes ≤ most_listed → IsAtEnd new =
+    λ low. c.in-Ok.ensures.end (subst (λ (b : List ℕ). length b ≤ most_listed) same low) in
     let status = c.list_bytes.result in
-    let read = c.in-Ok.ensures in
     let listed = c.list_bytes.ensures in
     let whole =
-    λ (sink : IsTrue (g.K.Sink.is_reliable c.args.sink.now)). as_read old new bytes (λ (x : Listing). (status ≡ x.status) ⊎ (status ≡ NoMemory)) read.bytes read.end
+    λ (sink : IsTrue (g.K.Sink.is_reliable c.args.sink.now)). as_read old new bytes (λ (x : Listing). (status ≡ x.status) ⊎ (status ≡ NoMemory)) consumed end
     (unless_written status (listing bytes).status listed.ends (listed.reliable sink)) in
     record {
-      fate = λ w. as_read old new bytes (λ (x : Listing). status ≡ x.status) read.bytes read.end (written_fate status (listing bytes).status listed.ends w);
-      text = λ w. as_read old new bytes (λ (x : Listing). Appends a b x.text) read.bytes read.end (listed.text w);
-      ended = λ e. read.end (listed.short e);
-      front = λ cut. as_read old new bytes (λ (x : Listing). AppendsFront a b x.text) read.bytes read.end (listed.front cut);
+      fate = λ w. as_read old new bytes (λ (x : Listing). status ≡ x.status) consumed end (written_fate status (listing bytes).status listed.ends w);
+      text = λ w. as_read old new bytes (λ (x : Listing). Appends a b x.text) consumed end (listed.text w);
+      ended = λ e. end (listed.short e);
+      front = λ cut. as_read old new bytes (λ (x : Listing). AppendsFront a b x.text) consumed end (listed.front cut);
       silent = listed.silent;
       few = c.read_all.ensures.few;
       complete = λ source sink. whole sink;
