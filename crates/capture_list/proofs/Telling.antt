@@ -1,19 +1,16 @@
 -- What is told of the packets of a file, one after another.
-use Rattle.std.proofs.Common.{◌≡◌, ◌⊎◌, inl, inr, ℕ, suc, ◌+◌, ◌≤◌, ◌<◌, List, [], ◌∷◌, ◌++◌, length, drop, take, flat_map, Bool, true, false, nat_lt, Option, Some, None, Result, Ok, Err, IsTrue, decimal, refl, sym, ap, ◌∙◌, subst, append_assoc, append-nil, arith}
+use Rattle.std.proofs.Common.{◌≡◌, ◌⊎◌, inl, inr, ℕ, ◌+◌, ◌≤◌, ◌<◌, List, [], ◌∷◌, ◌++◌, length, drop, take, flat_map, Option, Some, None, Result, Ok, Err, decimal, refl, sym, ap, ◌∙◌, append_assoc, append-nil, arith}
 use Rattle.std.proofs.lemmas.Bool.{cases_lt}
 use Rattle.std.proofs.lemmas.List.{drop-drop, drop_all}
-use Rattle.hex.specs.Hex.{encode_lower, encode_with, lower_digits}
-use Rattle.report.specs.Words.{spaced}
+use Rattle.hex.specs.Hex.{encode_lower, encode_with}
 use Rattle.frame_capture.specs.Capture.{header_of, packet_in, Listed, listed_by, behind, listed}
 use Rattle.frame_capture.specs.declared.delivered.Delivered.{Delivered}
 use Rattle.frame_capture.specs.declared.error.CaptureError.{CaptureError}
 use Rattle.frame_capture.specs.declared.order.Order.{Order}
 use Rattle.frame_capture.proofs.Listings.{listing_goes_on, captures_are_listed}
 use Rattle.frame_capture.proofs.Packets.{lt-yes, lt-no}
-use Rattle.script_run.specs.declared.status.Status.{Status}
-use Rattle.script_run.specs.declared.status.Status.TheVariants.{Done, Refused, Usage, NoMemory, ReadFault, WriteFault, TooLong}
-use Rattle.script_run.specs.Run.{is_written, is_ended, is_cut}
-use Rattle.capture_list.specs.Listing.{most_listed, hex_or_dash, frame_line, line_head, Listing, ending, told, listing_by, listing}
+use Rattle.script_run.specs.declared.status.Status.TheVariants.{Done, TooLong}
+use Rattle.capture_list.specs.Listing.{most_listed, hex_or_dash, frame_line, line_head, ending, told, listing_by, listing}
 use Rattle.capture_list.specs.Laws.{FramesAreListed}
 
 -- ---- lines

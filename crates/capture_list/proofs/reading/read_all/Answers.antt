@@ -1,4 +1,4 @@
-use Rattle.std.proofs.Common.{◌≡◌, ◌≤◌, length, take, arith, length-take}
+use Rattle.std.proofs.Common.{◌≤◌, length, take, arith, length-take}
 use Rattle.capture_list.proofs.Gathering.{few_more}
 use Rattle.capture_list.proofs.reading.read_all.Goals as goal
 
