@@ -69,11 +69,10 @@ loop-packet-preserved g c =
     let next = packet_is c.in-Ok-Some.field-0 packet at c.in-Ok-Some.field-0-is c.in-Ok-Some.ensures.next in
     let low : n ≤ at = c.loop-packet.invariant.2 in
     let putting =
-    subst (Putting g.K.Sink.holds g.K.Sink.faults g.K.Sink.is_reliable c.args.sink.now c.loop-packet.sink c.args.held.now.items c.loop-packet.held.items whole) (goes_on o n at packet.next bytes d found next) c.loop-packet.invariant.0 in
-    (
+    subst (Putting g.K.Sink.holds g.K.Sink.faults g.K.Sink.is_reliable c.args.sink.now c.loop-packet.sink c.args.held.now.items c.loop-packet.held.items whole) (goes_on o n at packet.next bytes d found next) c.loop-packet.invariant.0 in (
       Putting-more g.K.Sink.holds g.K.Sink.faults g.K.Sink.is_reliable c.args.sink.now c.loop-packet.sink c.put_line.new.sink c.args.held.now.items c.loop-packet.held.items c.put_line.new.held.items
-      whole (frame_line d) (told (n + 1) (listed o (drop packet.next bytes))).text putting c.in_ok-put_line-in-Ok-Some.ensures.all c.in_ok-put_line-in-Ok-Some.ensures.count
-      (λ h. (c.in_ok-put_line-in-Ok-Some.ensures.reliable h).1),
+          whole (frame_line d) (told (n + 1) (listed o (drop packet.next bytes))).text putting c.in_ok-put_line-in-Ok-Some.ensures.all c.in_ok-put_line-in-Ok-Some.ensures.count
+          (λ h. (c.in_ok-put_line-in-Ok-Some.ensures.reliable h).1),
       c.loop-packet.invariant.1 ∙ goes_on_to o n at packet.next bytes d found next,
       omega (arith, low, next),
     )
