@@ -29,12 +29,12 @@ import failing
 TOP = os.path.dirname(os.path.dirname(os.path.abspath(__file__)))
 EXAMPLE = os.path.join(TOP, "examples", "quiet-drill")
 FORMS = (["run"], ["run", "--kind", "plain"], ["run", "--kind", "swift"], ["run", "--kind", "mixed"], ["make", "4"],
-         ["make", "10"], ["make", "96"], ["try", "9"], ["try", "24", "--kind", "swift"])
+         ["make", "10"], ["make", "96"], ["try", "9"], ["try", "24", "--kind", "swift"], ["list"])
 NO_FORMS = ([], [""], ["-h"], ["--help"], ["--version"], ["RUN"], ["run", "FILE"], ["run", ""], ["run", "--kind"],
             ["run", "--kind", "fast"], ["run --kind swift"], ["run", "--kind", "swift", "FILE"], ["make"],
             ["make", "3"], ["make", "97"], ["make", "04"], ["make", "100"], ["make", "4", "--kind", "plain"], ["try"],
-            ["try", "4", "5"], ["try", "4", "--kind"])
-USAGE = b"Usage: spbsim <run [--kind K] | make N | try N [--kind K]>\n"
+            ["try", "4", "5"], ["try", "4", "--kind"], ["list", "FILE"])
+USAGE = b"Usage: spbsim <run [--kind K] | make N | try N [--kind K] | list>\n"
 TERMINAL = b"spbsim: the script is read from the terminal; it ends with Ctrl-D on a line of its own\n"
 # the seconds after which a call counts as one that hangs: with stand-ins, and with a checked run
 LONGEST, LONGEST_REAL = 60, 1800
@@ -203,7 +203,7 @@ def forms_are_tried(copy):
         for number, form in enumerate(FORMS):
             copy.forget()
             status = number % 7
-            script = b"a script\r\n\0" if form[0] == "run" else b""
+            script = b"a script\r\n\0" if form[0] in ("run", "list") else b""
             ended = call([word, *form], folder, copy.environment(STATUS=str(status)), b"a script\r\n\0")
             what = f"{' '.join(form)} from {place}"
             yield f"{what}: the end", ended, (status, ANSWER, not_proved(build) + WARNING)

@@ -1,4 +1,4 @@
-//! Why a line is refused: its spelling, or a reason of the network's.
+//! Why a line is refused: its spelling, or a reason of the network's. Of a capture there is one reason.
 use spb_network::Reason;
 
 /// Why a line is refused.
@@ -8,4 +8,6 @@ pub enum Refusal {
     Words(usize),
     /// The line is a command that is refused.
     Command(Reason),
+    /// It isn't a line of a script, but a packet of a capture, or its header, that isn't read.
+    Capture,
 }

@@ -7,20 +7,23 @@ use crate::Refusal;
 #[derive(Clone, Copy, Debug, PartialEq, Eq)]
 pub enum Status {
     /// The script was read to its end, and all answers are written; or the script that was made, or the line of what was
-    /// counted of it, is written.
+    /// counted of it, is written; or a capture is listed to its end.
     Done,
     /// The line of this number, from 1, or of a script that was made the command, is the first that is refused. The answers
-    /// before it and its `error` line are written; of a script that was made, that line alone.
+    /// before it and its `error` line are written; of a script that was made, that line alone. Of a capture it is the
+    /// number of the packet that isn't whole, or 0 for the header, and the packets before it are listed.
     Refused(u32, Refusal),
     /// The words are no form of the program. Nothing was read or written.
     Usage,
     /// No memory was found. A front of what was to be written is.
     NoMemory,
-    /// A read failed. The answers to the whole lines before it are written, all of which are accepted.
+    /// A read failed. The answers to the whole lines before it are written, all of which are accepted; of a capture
+    /// nothing is written.
     ReadFault,
     /// A write failed. A front of what was to be written is.
     WriteFault,
-    /// The script has more than 8,388,608 bytes, or more than 100,000 lines. The answers before that are written.
+    /// The script has more than 8,388,608 bytes, or more than 100,000 lines. The answers before that are written. Or the
+    /// capture has more than 67,108,864 bytes, and nothing is written.
     TooLong,
 }
 
@@ -52,7 +55,7 @@ impl Status {
             Status::ReadFault => Some("spbsim: standard input can't be read"),
             Status::WriteFault => Some("spbsim: standard output can't be written"),
             Status::TooLong => Some(
-                "spbsim: the script has more than 8388608 bytes or 100000 lines",
+                "spbsim: the script has more than 8388608 bytes or 100000 lines, or the capture 67108864 bytes",
             ),
         }
     }

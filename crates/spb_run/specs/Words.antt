@@ -3,8 +3,10 @@ use Rattle.std.specs.Prelude.{◌≡◌, ◌↔◌, ℕ, ◌≤◌, ⊤, ◌+◌
 use Rattle.std.specs.Str.{bytes_eq}
 use Rattle.network_model.specs.declared.kind_rule.KindRule.{KindRule}
 use Rattle.network_model.specs.declared.kind_rule.KindRule.TheVariants.{Plain, Swift, Mixed}
+use Rattle.capture_list.specs.Listing.{most_listed}
+use Rattle.scenario.specs.Cutting.{most_bytes}
 use Rattle.spb_run.specs.declared.words.Form.{Form}
-use Rattle.spb_run.specs.declared.words.Form.TheVariants.{Run, Make, Try}
+use Rattle.spb_run.specs.declared.words.Form.TheVariants.{Run, Make, Try, Listing}
 
 -- whether a byte is a decimal digit from this one on
 abbrev pub is_digit_from : ℕ → ℕ → Bool
@@ -54,12 +56,18 @@ abbrev pub try_form : List (List ℕ) → Option Form
 try_form (number ∷ others) = try_by (bridges_of number) (rule_told others)
 try_form [] = None
 
+-- behind `list`: nothing
+abbrev pub list_form : List (List ℕ) → Option Form
+list_form [] = Some Listing
+list_form _ = None
+
 -- the form that words are, by the first of them
 abbrev pub form_of : List (List ℕ) → Option Form
 form_of (word ∷ others) =
     if bytes_eq word (codes "run") then option_map Run (rule_told others)
     else (if bytes_eq word (codes "make") then make_form others
-    else (if bytes_eq word (codes "try") then try_form others else None))
+    else (if bytes_eq word (codes "try") then try_form others
+    else (if bytes_eq word (codes "list") then list_form others else None)))
 form_of [] = None
 
 -- the number of bridges of a form is in range
@@ -67,6 +75,15 @@ abbrev pub IsForm : Form → Type 0
 IsForm (Run rule) = ⊤
 IsForm (Make n) = (4 ≤ n) × (n ≤ 96)
 IsForm (Try n rule) = (4 ≤ n) × (n ≤ 96)
+IsForm Listing = ⊤
+
+-- how many bytes are read for a form at most: one more than a script may have, or a capture that is listed
+abbrev pub most_read : Option Form → ℕ
+most_read (Some (Run rule)) = most_bytes + 1
+most_read (Some (Make n)) = 0
+most_read (Some (Try n rule)) = 0
+most_read (Some Listing) = most_listed + 1
+most_read None = 0
 
 -- how a form is spelled: the rule is told last, by `--kind` and its name, and no word tells that all bridges are plain
 pub data Spells : Form → List (List ℕ) → Type 0 where
@@ -76,6 +93,7 @@ pub data Spells : Form → List (List ℕ) → Type 0 where
   try_alone : (n : ℕ) → Spells (Try n Plain) (codes "try" ∷ decimal n ∷ [])
   try_kind : (n : ℕ) (rule : KindRule)
       → Spells (Try n rule) (codes "try" ∷ decimal n ∷ codes "--kind" ∷ name_of_rule rule ∷ [])
+  list_alone : Spells Listing (codes "list" ∷ [])
 
 -- words are a form exactly where they spell it
 abbrev pub FormsAreSpelled : Type 0

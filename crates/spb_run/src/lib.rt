@@ -1,7 +1,8 @@
 //! The forms of the program. A script is run: which lines are refused, what is played on the network, and what is
-//! answered. Or one is made for a number of bridges, and written, or played and counted.
+//! answered. Or one is made for a number of bridges, and written, or played and counted. Or a capture is listed.
 #![tactic(auto)]
 
+pub use capture_list::frames_are_listed;
 pub use laws::forms_are_spelled;
 pub use made_runs::{Counts, made_scripts_are_accepted};
 pub use runner::run;

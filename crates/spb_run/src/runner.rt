@@ -1,11 +1,11 @@
 //! The one call that the program makes.
-ghost use Rattle.std.specs.Prelude.{◌≡◌, ◌≢◌, ◌≤◌, ◌+◌, ◌↔◌, List, ℕ, length, map, string_bytes, None, Some, IsTrue};
+ghost use Rattle.std.specs.Prelude.{◌≡◌, ◌≢◌, ◌≤◌, ◌↔◌, List, ℕ, length, map, string_bytes, None, Some, IsTrue};
 ghost use Rattle.std.specs.Io.KnownBytes.{Consumes};
-ghost use Rattle.scenario.specs.Cutting.{most_bytes};
 ghost use Rattle.spb_network.specs.Applying.{IsReady};
 ghost use Rattle.spb_network.specs.Network.{state_of};
 ghost use Rattle.spb_outside.specs.Faults.{Rose};
 ghost use Rattle.script_run.specs.Replying.{IsAlive, IsNew};
+ghost use Rattle.capture_list.specs.Lists.{Lists};
 ghost use Rattle.made_runs.specs.Making.{Makes};
 ghost use Rattle.script_run.specs.Running.{Runs};
 ghost use Rattle.script_run.specs.States.{ruled};
@@ -16,6 +16,7 @@ ghost use Rattle.spb_run.specs.Words as spelled;
 use crate::words::form_of;
 use crate::{Form, Status};
 use bridge_api::Bridge;
+use capture_list::list_capture;
 use made_runs::{make_script, try_script};
 use script_run::run_script;
 use spb_network::NetworkOf;
@@ -38,6 +39,10 @@ use std::alloc::Global;
 /// For the words `try N` it plays the script that is made for N bridges, 4 to 96, on a network that was just made, reads
 /// nothing, and writes one line: what was counted of the answers, or the `error` line of the first command that is
 /// refused. A kind may be told behind it as behind `run`.
+///
+/// For the word `list` it reads a capture from the source, of at most 67,108,864 bytes, plays nothing, and writes a line
+/// for each of its packets, and the `error` line of the first that isn't whole. The file is in memory then, and nothing
+/// is written before it was read.
 ///
 /// All other words are `Usage`.
 pub fn run<B: Bridge, S: Source, K: Sink>(
@@ -68,6 +73,9 @@ pub fn run<B: Bridge, S: Source, K: Sink>(
         Tries K.holds K.is_reliable bridges result
         (ruled rule (state_of B.shown network.old)) (state_of B.shown network.new)
         source.old source.new sink.old sink.new }
+    ensures lists { spelled.form_of (map string_bytes words.now) ≡ Some Form.Listing →
+        Lists S.left S.is_reliable K.holds K.is_reliable result source.old source.new sink.old sink.new
+        × (network.new ≡ network.old) }
 
     // After every run the network is sound, or it has halted, which it hasn't after Done and Refused.
     ensures ready { IsReady B.shown network.new }
@@ -79,8 +87,10 @@ pub fn run<B: Bridge, S: Source, K: Sink>(
     ensures reliable_source { IsTrue (S.is_reliable source.old) → result ≢ Status.ReadFault }
     ensures reliable_sink { IsTrue (K.is_reliable sink.old) → result ≢ Status.WriteFault }
 
-    // Nothing is read for other words than `run`, and for these at most one byte more than a script may have.
-    ensures few { (read : List ℕ) × Consumes (S.left source.old) (S.left source.new) read × (length read ≤ most_bytes + 1) }
+    // Nothing is read for other words than `run` and `list`, and for these at most one byte more than a script may have,
+    // or a capture.
+    ensures few { (read : List ℕ) × Consumes (S.left source.old) (S.left source.new) read
+        × (length read ≤ spelled.most_read (spelled.form_of (map string_bytes words.now))) }
 {
     match form_of(words) {
         Some(Form::Run(rule)) => {
@@ -92,6 +102,7 @@ pub fn run<B: Bridge, S: Source, K: Sink>(
             network.set_rule(rule);
             try_script(alloc, bridges, network, sink)
         }
+        Some(Form::Listing) => list_capture(alloc, source, sink),
         None => Status::Usage,
     }
 }

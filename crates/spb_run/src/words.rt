@@ -14,6 +14,8 @@ pub enum Form {
     /// `try N`, or `try N --kind K`: the script for N bridges is played, 4 to 96, where bridges take boxes by this rule,
     /// and what its answers say is counted.
     Try(u8, KindRule),
+    /// `list`: the capture that the source gives is listed.
+    Listing,
 }
 
 /// The number, if scripts are made for so many bridges.
@@ -89,6 +91,17 @@ fn try_form(words: &[String]) -> Option<Form>
     }
 }
 
+/// The form that the words behind `list` are.
+fn list_form(words: &[String]) -> Option<Form>
+    ensures form { result ≡ spelled.list_form (map string_bytes words.now) }
+    ensures range { IfSome result spelled.IsForm }
+{
+    match words {
+        [] => Some(Form::Listing),
+        _ => None,
+    }
+}
+
 /// The form that the program's words are, its own name aside. None for all other words: no other spelling is accepted.
 pub(crate) fn form_of(words: &[String]) -> Option<Form>
     ensures form { result ≡ spelled.form_of (map string_bytes words.now) }
@@ -98,6 +111,7 @@ pub(crate) fn form_of(words: &[String]) -> Option<Form>
         [first, others @ ..] if first.as_str() == "run" => rule_told(others).map(Form::Run),
         [first, others @ ..] if first.as_str() == "make" => make_form(others),
         [first, others @ ..] if first.as_str() == "try" => try_form(others),
+        [first, others @ ..] if first.as_str() == "list" => list_form(others),
         _ => None,
     }
 }

@@ -8,6 +8,7 @@ use std::process::Abort;
 
 mod asking_box;
 mod boxes;
+mod captures;
 mod failing_box;
 mod faults;
 mod runs;
@@ -36,8 +37,19 @@ fn words_of(rt: &impl Abort, alloc: Global, text: &str) -> Vec<String> {
 /// A source of a text, which gives at most `step` bytes at each read, and fails at the one of this number. (Reads and
 /// writes are counted from 1, so 0 is none.)
 fn source(rt: &impl Abort, alloc: Global, text: &str, step: usize, failing: u32) -> MemorySource {
+    source_of(rt, alloc, text.as_bytes(), step, failing)
+}
+
+/// The same of bytes that may be no text.
+fn source_of(
+    rt: &impl Abort,
+    alloc: Global,
+    bytes: &[u8],
+    step: usize,
+    failing: u32,
+) -> MemorySource {
     assert!(*rt; step >= 1);
-    let bytes = Vec::from_slice(alloc, text.as_bytes()).expect(rt, "out of memory");
+    let bytes = Vec::from_slice(alloc, bytes).expect(rt, "out of memory");
     let failing = vec![in alloc; failing].expect(rt, "out of memory");
     MemorySource::new(bytes, failing, step)
 }

@@ -74,7 +74,8 @@ fn each_status_has_its_number_and_its_message(rt: HostRuntime) {
     let no_memory = "spbsim: out of memory";
     let no_read = "spbsim: standard input can't be read";
     let no_write = "spbsim: standard output can't be written";
-    let too_long = "spbsim: the script has more than 8388608 bytes or 100000 lines";
+    let too_long =
+        "spbsim: the script has more than 8388608 bytes or 100000 lines, or the capture 67108864 bytes";
     check_status(&rt, Status::Done, 0, None);
     check_status(&rt, refused, 1, None);
     check_status(&rt, Status::Usage, 2, None);
@@ -87,6 +88,6 @@ fn each_status_has_its_number_and_its_message(rt: HostRuntime) {
 #[test]
 fn the_usage_names_each_form(rt: HostRuntime) {
     let line = usage_line(rt.alloc()).expect(&rt, "out of memory");
-    let text = "Usage: spbsim <run [--kind K] | make N | try N [--kind K]>";
+    let text = "Usage: spbsim <run [--kind K] | make N | try N [--kind K] | list>";
     are_equal(&rt, &line.as_str(), &text);
 }

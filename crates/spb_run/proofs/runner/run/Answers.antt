@@ -1,10 +1,13 @@
-use Rattle.std.proofs.Common.{◌≡◌, ◌≢◌, ◌⊎◌, inl, inr, ℕ, Some, refl, sym, ap, ◌∙◌, subst, ⊎_elim}
+use Rattle.std.proofs.Common.{◌≡◌, ◌≢◌, ◌≤◌, ◌⊎◌, inl, inr, ℕ, List, length, Option, Some, refl, sym, ap, ◌∙◌, subst, ⊎_elim}
+use Rattle.std.specs.Io.KnownBytes.{Consumes}
 use Rattle.network_model.specs.declared.kind_rule.KindRule.{KindRule}
 use Rattle.spb_network.specs.Network.{state_of}
 use Rattle.network_model.specs.State.{State}
 use Rattle.script_run.specs.declared.status.Status.{Status}
 use Rattle.script_run.specs.declared.status.Status.TheVariants.{NoMemory, WriteFault}
-use Rattle.spb_run.specs.declared.words.Form.TheVariants.{Run, Try}
+use Rattle.spb_run.specs.declared.words.Form.{Form}
+use Rattle.spb_run.specs.declared.words.Form.TheVariants.{Run, Try, Listing}
+use Rattle.spb_run.specs.Words.{most_read}
 use Rattle.script_run.specs.Running.{Runs}
 use Rattle.script_run.specs.States.{ruled}
 use Rattle.made_runs.specs.Trying.{Tries}
@@ -29,8 +32,22 @@ returns-in-Some-Run-clause-runs g c rule e =
     subst (λ (s : State). Runs g.S.Source.left g.S.Source.is_reliable g.K.Sink.holds g.K.Sink.is_reliable c.run_script.result
     s (state c.run_script.new.network) c.args.source.now c.run_script.new.source c.args.sink.now c.run_script.new.sink) begins c.run_script.ensures.runs
 
+-- what is read, where the words are this form
+few_read : (form : Option Form) (f : Form) (old new : Option (List ℕ)) (read : List ℕ) → form ≡ Some f → Consumes old new read → length read ≤ most_read (Some f)
+    → (bytes : List ℕ) × Consumes old new bytes × (length bytes ≤ most_read form)
+few_read form f old new read is consumed few = (read, consumed, subst (λ o. length read ≤ most_read o) (sym is) few)
+
 pub returns-in-Some-Run-clause-few : goal.returns-in-Some-Run-clause-few
-returns-in-Some-Run-clause-few g c = let reads = c.run_script.ensures.runs.reads in (reads.read, reads.consumed, reads.few)
+returns-in-Some-Run-clause-few g c =
+    let reads = c.run_script.ensures.runs.reads in
+    few_read _ (Run c.in-Some-Run.rule) (g.S.Source.left c.args.source.now) (g.S.Source.left c.run_script.new.source) reads.read
+    (sym c.form_of.ensures.form ∙ c.in-Some-Run.is ∙ ap Some c.in-Some-Run.field-0-is) reads.consumed reads.few
+
+pub returns-in-Some-Listing-clause-few : goal.returns-in-Some-Listing-clause-few
+returns-in-Some-Listing-clause-few g c =
+    let reads = c.list_capture.ensures.lists.few in
+    few_read _ Listing (g.S.Source.left c.args.source.now) (g.S.Source.left c.list_capture.new.source) reads.read
+    (sym c.form_of.ensures.form ∙ c.in-Some-Listing.is ∙ ap Some c.in-Some-Listing.field-0-is) reads.consumed reads.few
 
 pub returns-in-Some-Try-clause-tries : goal.returns-in-Some-Try-clause-tries
 returns-in-Some-Try-clause-tries g c bridges rule e =

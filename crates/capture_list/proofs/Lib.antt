@@ -1,0 +1,4 @@
+pub mod Putting
+pub mod Telling
+pub mod Gathering
+pub mod LinePuts

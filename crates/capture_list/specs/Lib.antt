@@ -1,0 +1,4 @@
+pub mod Listing
+pub mod Puts
+pub mod Lists
+pub mod Laws
