@@ -3,7 +3,7 @@ ghost use Rattle.std.specs.Prelude.{◌≡◌, ◌≤◌, true};
 ghost use Rattle.adjacency.specs.Adjacency.{IsSound};
 
 use crate::fixtures::{are_equal, system};
-use adjacency::{AdjState, Adjacency, AdjacencyChange};
+use adjacency::{AdjState, Adjacency, AdjacencyChange, keeps_up};
 use isis_pdu::Hello;
 use spb_tlvs::ThreeWay;
 use spb_types::SystemId;
@@ -263,7 +263,8 @@ fn the_own_hello_names_the_neighbour_unless_down(rt: HostRuntime) {
 /// the count anew.
 fn refreshed(state: AdjState, hello: &Hello<'_>, said: AdjState) -> Option<u16> {
     let mut port = port_in(state);
-    if port.refresh(system(1), 1, hello, &way(said)) {
+    let way = way(said);
+    if keeps_up(system(1), 1, hello, &way) && hello.holding > 0 && port.refresh(hello, &way) {
         Some(port.hold)
     } else {
         None
