@@ -228,6 +228,21 @@ pub trait Bridge: Drop {
         requires { (shown self.now).blank ≡ false }
         ensures path { IfOk result (λ path. path ≡ own_path (shown self.now).view to vid) }
         ensures failed { (shown self.now).view.failed ≡ true → IsErr result };
+
+    /// Paths in a base VID are asked of this bridge: it may keep what they are read from until it rests. It stays as it
+    /// is, whether it answers `NoMemory` or not.
+    fn prepare_paths(&mut self, _vid: Vid) -> Result<(), NoMemory>
+        requires { (shown self.old).blank ≡ false }
+        ensures { shown self.new ≡ shown self.old }
+    {
+        Ok(())
+    }
+
+    /// Other bridges are asked now, which may use what this one kept. It stays as it is.
+    fn rest(&mut self)
+        ensures { shown self.new ≡ shown self.old }
+    {
+    }
 }
 
 impl Bridge for Box<dyn Bridge> {
@@ -311,5 +326,13 @@ impl Bridge for Box<dyn Bridge> {
 
     fn path(&self, to: SystemId, vid: Vid) -> Result<Option<Path>, NoMemory> {
         (**self).path(to, vid)
+    }
+
+    fn prepare_paths(&mut self, vid: Vid) -> Result<(), NoMemory> {
+        (**self).prepare_paths(vid)
+    }
+
+    fn rest(&mut self) {
+        (**self).rest();
     }
 }

@@ -16,7 +16,8 @@ use Rattle.bridge_api.proofs.Sound.{configured_is_sound, steps_stay_sound}
 use Rattle.bridge_control.specs.declared.machine.Machine.{Machine}
 use Rattle.bridge_control.specs.Machine.{view_of, IsReady, IsAfter}
 use Rattle.bridge_control.specs.Plane.{Plane, plane_of, IsKept}
-use Rattle.bridge_control.specs.Kept.{AreOwn}
+use Rattle.bridge_control.specs.Kept.{AreOwn, IsOwnIfKept}
+use Rattle.fdb_build.specs.Fabric.{FabricView}
 use Rattle.spb_types.specs.declared.tables.Tables.{Tables}
 
 ready_after : (v : BridgeView) (m : Machine) → IsSoundView v → IsAfter v m → IsReady m
@@ -30,29 +31,36 @@ on_ok_is : {T P : Type 0} (r : Result T NoMemory) → OnOk r P → is_err r ≡ 
 on_ok_is (Ok x) is e = is
 on_ok_is (Err x) is e = absurd cc
 
--- after a step that keeps tables of its own
-pub kept_with : {T : Type 0} (r : Result T NoMemory) (input : Input) (blank failed : Bool) (old m : Machine) (kept : Option Tables) → blank ≡ false → IsReady old → IsInput (view_of old) input → failed ≡ is_err r → OnOk r (IsAfter (step input (view_of old)) m)
-    → OnOk r (AreOwn (view_of m) kept) → IsKept blank failed m kept
-kept_with r input blank failed old m kept made ready is after_sending after own = record {
+-- where nothing is kept that was read, it is its own
+none_read : (v : BridgeView) (read : Option FabricView) → read ≡ None → IsOwnIfKept v read
+none_read v read none = subst (IsOwnIfKept v) (sym none) tt
+
+-- after a step that keeps tables of its own, and nothing that was read
+pub kept_with : {T : Type 0} (r : Result T NoMemory) (input : Input) (blank failed : Bool) (old m : Machine) (kept : Option Tables) (read : Option FabricView) → blank ≡ false → IsReady old → IsInput (view_of old) input → failed ≡ is_err r → OnOk r (IsAfter (step input (view_of old)) m)
+    → OnOk r (AreOwn (view_of m) kept) → read ≡ None → IsKept blank failed m kept read
+kept_with r input blank failed old m kept read made ready is after_sending after own none = record {
   unfailed = λ e. absurd (let no : true ≡ false = sym e ∙ made in cc);
   ready = λ e f. stepped r input old m ready is after (sym after_sending ∙ f);
   tables = λ e f. on_ok_is r own (sym after_sending ∙ f);
+  reading = λ e f. none_read (view_of m) read none;
 }
 
 -- after a step that keeps none
-pub kept_step : {T : Type 0} (r : Result T NoMemory) (input : Input) (blank failed : Bool) (old m : Machine) → blank ≡ false → IsReady old → IsInput (view_of old) input → failed ≡ is_err r → OnOk r (IsAfter (step input (view_of old)) m)
-    → IsKept blank failed m None
-kept_step r input blank failed old m made ready is after_sending after = record {
+pub kept_step : {T : Type 0} (r : Result T NoMemory) (input : Input) (blank failed : Bool) (old m : Machine) (read : Option FabricView) → blank ≡ false → IsReady old → IsInput (view_of old) input → failed ≡ is_err r → OnOk r (IsAfter (step input (view_of old)) m)
+    → read ≡ None → IsKept blank failed m None read
+kept_step r input blank failed old m read made ready is after_sending after none = record {
   unfailed = λ e. absurd (let no : true ≡ false = sym e ∙ made in cc);
   ready = λ e f. stepped r input old m ready is after (sym after_sending ∙ f);
   tables = λ e f. tt;
+  reading = λ e f. none_read (view_of m) read none;
 }
 
-pub kept_configured : (c : BridgeConfig) (failed : Bool) (m : Machine) → IsWhole c → IsAfter (configured c) m → IsKept false failed m None
+pub kept_configured : (c : BridgeConfig) (failed : Bool) (m : Machine) → IsWhole c → IsAfter (configured c) m → IsKept false failed m None None
 kept_configured c failed m whole is = record {
   unfailed = λ e. absurd cc;
   ready = λ e f. ready_after (configured c) m (configured_is_sound c whole) is;
   tables = λ e f. tt;
+  reading = λ e f. tt;
 }
 
 -- ---- questions

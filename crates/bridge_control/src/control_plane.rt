@@ -21,7 +21,8 @@ use crate::kept_tables::copy_of;
 use crate::machine::Machine;
 use crate::parsing::is_customer;
 use crate::ports::port_at;
-use crate::shared::SharedReading;
+use crate::shared::{SharedReading, give_back};
+use crate::shared_reading::Reading;
 use adjacency::Adjacency;
 use bridge_api::{BridgeConfig, DropReason, Outbox};
 use lsdb::Held;
@@ -47,6 +48,8 @@ pub struct ControlPlane {
     tables: Option<Tables>,
     /// What is read from the LSPs, where bridges share it.
     shared: Option<SharedReading>,
+    /// What the bridge read, where paths were prepared since what is held last changed.
+    reading: Option<Reading>,
 }
 
 impl Model for ControlPlane {
@@ -61,7 +64,7 @@ impl Model for ControlPlane {
 
     ghost view = { λ c. plane_of c.blank c.failed c.machine };
 
-    ghost invariant = { λ c. IsKept c.blank c.failed c.machine c.tables };
+    ghost invariant = { λ c. IsKept c.blank c.failed c.machine c.tables c.reading };
 }
 
 impl ControlPlane {
@@ -76,6 +79,7 @@ impl ControlPlane {
             machine: Machine::idle(alloc),
             tables: None,
             shared,
+            reading: None,
         }
     }
 
@@ -127,6 +131,7 @@ impl ControlPlane {
     {
         self.blank = false;
         self.tables = None;
+        self.reading = None;
         match Machine::configured(self.machine.alloc, config) {
             Ok(machine) => {
                 self.machine = machine;
@@ -152,6 +157,7 @@ impl ControlPlane {
         ensures made { self.new.blank ≡ false }
     {
         self.refuse_failed()?;
+        give_back(&mut self.reading, self.shared.as_ref(), self.machine.id.system);
         self.tables = None;
         let ended = self.machine.tick(outbox);
         self.failed = ended.is_err();
@@ -173,6 +179,7 @@ impl ControlPlane {
         ensures still_made { self.new.blank ≡ false }
     {
         self.refuse_failed()?;
+        give_back(&mut self.reading, self.shared.as_ref(), self.machine.id.system);
         let ended = self.machine.receive(port, frame, &mut self.tables, outbox);
         self.failed = ended.is_err();
         ended
@@ -193,6 +200,7 @@ impl ControlPlane {
         ensures still_made { self.new.blank ≡ false }
     {
         self.refuse_failed()?;
+        give_back(&mut self.reading, self.shared.as_ref(), self.machine.id.system);
         let ended = self.machine.customer(port, frame, &mut self.tables, outbox);
         self.failed = ended.is_err();
         ended
@@ -208,6 +216,7 @@ impl ControlPlane {
         ensures still_made { self.new.blank ≡ false }
     {
         self.refuse_failed()?;
+        give_back(&mut self.reading, self.shared.as_ref(), self.machine.id.system);
         self.tables = None;
         let ended = self.machine.carrier(port, on);
         self.failed = ended.is_err();
@@ -225,6 +234,7 @@ impl ControlPlane {
         ensures still_made { self.new.blank ≡ false }
     {
         self.refuse_failed()?;
+        give_back(&mut self.reading, self.shared.as_ref(), self.machine.id.system);
         self.tables = None;
         let ended = self.machine.set_metric(port, metric);
         self.failed = ended.is_err();
@@ -241,6 +251,7 @@ impl ControlPlane {
         ensures still_made { self.new.blank ≡ false }
     {
         self.refuse_failed()?;
+        give_back(&mut self.reading, self.shared.as_ref(), self.machine.id.system);
         self.tables = None;
         let ended = self.machine.attach(Attachment { port, isid, vid });
         self.failed = ended.is_err();
@@ -257,6 +268,7 @@ impl ControlPlane {
         ensures still_made { self.new.blank ≡ false }
     {
         self.refuse_failed()?;
+        give_back(&mut self.reading, self.shared.as_ref(), self.machine.id.system);
         self.tables = None;
         let ended = self.machine.detach(port);
         self.failed = ended.is_err();
@@ -347,6 +359,24 @@ impl ControlPlane {
         }
     }
 
+    /// Keeps what paths in a base VID are read from, until the bridge rests or something changes.
+    pub fn prepare_paths(&mut self, vid: Vid) -> Result<(), NoMemory>
+        requires { self.old.blank ≡ false }
+        ensures same { self.new ≡ self.old }
+        ensures failed { self.old.view.failed ≡ true → IsErr result }
+    {
+        self.refuse_failed()?;
+        self.machine
+            .prepare_paths(&mut self.reading, self.shared.as_ref(), vid)
+    }
+
+    /// Gives what was kept for paths to the bridges that share it.
+    pub fn rest(&mut self)
+        ensures { self.new ≡ self.old }
+    {
+        give_back(&mut self.reading, self.shared.as_ref(), self.machine.id.system);
+    }
+
     /// The best path to a system in a base VID over the LSPs that the bridge holds, with its cost. None exactly where
     /// there is none, or the VID isn't configured (IEEE 802.1aq, 28.5 to 28.8).
     pub fn path(&self, to: SystemId, vid: Vid) -> Result<Option<Path>, NoMemory>
@@ -355,7 +385,8 @@ impl ControlPlane {
         ensures failed { self.now.view.failed ≡ true → IsErr result }
     {
         self.refuse_failed()?;
-        self.machine.path(self.shared.as_ref(), to, vid)
+        self.machine
+            .path(self.reading.as_ref(), self.shared.as_ref(), to, vid)
     }
 
     /// The id of the bridge.

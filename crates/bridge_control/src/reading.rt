@@ -1,5 +1,5 @@
 //! The graph that a bridge reads from the LSPs that it holds, and its tables and paths in that graph.
-ghost use Rattle.std.specs.Prelude.{◌≡◌, ◌≤◌, ◌++◌, length, IfOk, OnOk};
+ghost use Rattle.std.specs.Prelude.{◌≡◌, ◌≤◌, ◌++◌, length, IfOk, IfSome, OnOk};
 ghost use Rattle.std.specs.List.{filter_map};
 ghost use Rattle.std.specs.Option.{option_to_list, option_copied};
 ghost use Rattle.std.specs.FinMap.{entries};
@@ -12,10 +12,12 @@ ghost use Rattle.lsdb.specs.Database.{keyed};
 ghost use Rattle.bridge_api.specs.Graph as read;
 ghost use Rattle.bridge_api.specs.Graph.{own_tables, own_path};
 ghost use Rattle.bridge_api.specs.Laws.{IsSoundView};
+ghost use Rattle.bridge_control.specs.Kept.{IsOwnReading, IsOwnIfKept};
 ghost use Rattle.bridge_control.specs.Machine.{view_of};
 
 use crate::machine::Machine;
 use crate::shared::{SharedReading, keep_in, take_from};
+use crate::shared_reading::Reading;
 use lsdb::{Database, Held, Version};
 use spb_content::{Content, read_content, said_graph_of};
 use spb_types::limits::GREATEST_ECT;
@@ -120,8 +122,62 @@ impl Machine {
         self.vids.iter().find(|plan| plan.vid == vid)
     }
 
-    /// The best path of the bridge to a system by an ECT algorithm, in that graph. None exactly where there is none.
-    fn path_by(
+    /// What the bridge reads: what it keeps of that, or, where it keeps nothing, what bridges share, if it is the same,
+    /// or what it reads anew.
+    fn reading_or(
+        &self,
+        kept: Option<Reading>,
+        shared: Option<&SharedReading>,
+    ) -> Result<Reading, NoMemory>
+        requires sound { IsSoundView (view_of self.now) }
+        requires own { IsOwnIfKept (view_of self.now) kept }
+        ensures { IfOk result (IsOwnReading (view_of self.now)) }
+    {
+        match kept {
+            Some(reading) => Ok(reading),
+            None => self.reading(take_from(shared)),
+        }
+    }
+
+    /// Keeps what the bridge reads, with the best paths from it by an ECT algorithm.
+    fn prepare_by(
+        &self,
+        kept: &mut Option<Reading>,
+        shared: Option<&SharedReading>,
+        ect: u8,
+    ) -> Result<(), NoMemory>
+        requires sound { IsSoundView (view_of self.now) }
+        requires own { IsOwnIfKept (view_of self.now) kept.old }
+        requires low { 1 ≤ ect }
+        requires high { ect ≤ GREATEST_ECT }
+        ensures { IsOwnIfKept (view_of self.now) kept.new }
+    {
+        let mut reading = self.reading_or(kept.take(), shared)?;
+        let ended = reading.prepare(self.alloc, self.id.system, ect);
+        *kept = Some(reading);
+        ended
+    }
+
+    /// Keeps what paths in a VID are read from. Where the VID isn't configured, nothing is read.
+    pub(crate) fn prepare_paths(
+        &self,
+        kept: &mut Option<Reading>,
+        shared: Option<&SharedReading>,
+        vid: Vid,
+    ) -> Result<(), NoMemory>
+        requires sound { IsSoundView (view_of self.now) }
+        requires own { IsOwnIfKept (view_of self.now) kept.old }
+        ensures { IsOwnIfKept (view_of self.now) kept.new }
+    {
+        match self.plan(vid) {
+            None => Ok(()),
+            Some(plan) => self.prepare_by(kept, shared, plan.ect),
+        }
+    }
+
+    /// The best path of the bridge to a system by an ECT algorithm, in what bridges share, if it reads the same, and else
+    /// in what it reads anew.
+    fn shared_path(
         &self,
         shared: Option<&SharedReading>,
         to: SystemId,
@@ -133,26 +189,49 @@ impl Machine {
         ensures { IfOk result (λ path.
             path ≡ best_path (read.read_graph (view_of self.now)) (mask_of ect) self.now.id.system to) }
     {
-        let mut reading = self.reading(take_from(shared))?;
+        let reading = self.reading(take_from(shared))?;
         let path = reading.path(self.alloc, self.id.system, to, ect);
         keep_in(shared, reading, self.id.system);
         path
+    }
+
+    /// The best path of the bridge to a system by an ECT algorithm, in that graph. None exactly where there is none.
+    fn path_by(
+        &self,
+        kept: Option<&Reading>,
+        shared: Option<&SharedReading>,
+        to: SystemId,
+        ect: u8,
+    ) -> Result<Option<Path>, NoMemory>
+        requires sound { IsSoundView (view_of self.now) }
+        requires own { IfSome kept (λ r. IsOwnReading (view_of self.now) r.now) }
+        requires low { 1 ≤ ect }
+        requires high { ect ≤ GREATEST_ECT }
+        ensures { IfOk result (λ path.
+            path ≡ best_path (read.read_graph (view_of self.now)) (mask_of ect) self.now.id.system to) }
+    {
+        match kept {
+            None => self.shared_path(shared, to, ect),
+            Some(reading) => reading.path(self.alloc, self.id.system, to, ect),
+        }
     }
 
     /// The best path of the bridge to a system in a VID, in that graph. None exactly where there is none, or where the
     /// VID isn't configured; then nothing is read.
     pub(crate) fn path(
         &self,
+        kept: Option<&Reading>,
         shared: Option<&SharedReading>,
         to: SystemId,
         vid: Vid,
     ) -> Result<Option<Path>, NoMemory>
-        requires { IsSoundView (view_of self.now) }
+        requires sound { IsSoundView (view_of self.now) }
+        requires own { IfSome kept (λ r. IsOwnReading (view_of self.now) r.now) }
         ensures { IfOk result (λ path. path ≡ own_path (view_of self.now) to vid) }
     {
         match self.plan(vid) {
             None => Ok(None),
-            Some(plan) => self.path_by(shared, to, plan.ect),
+            Some(plan) => self.path_by(kept, shared, to, plan.ect),
         }
     }
 }

@@ -1,4 +1,6 @@
 //! What bridges have read, and share.
+ghost use Rattle.std.specs.Prelude.{◌≡◌, None};
+
 use crate::shared_reading::Reading;
 use spb_types::{NoMemory, SystemId};
 use std::alloc::Global;
@@ -61,5 +63,14 @@ pub(crate) fn take_from(shared: Option<&SharedReading>) -> Option<Reading> {
 pub(crate) fn keep_in(shared: Option<&SharedReading>, reading: Reading, user: SystemId) {
     if let Some(place) = shared {
         place.keep(reading, user);
+    }
+}
+
+/// Gives back what a bridge kept for itself, if it kept anything: to those that share it, if any do.
+pub(crate) fn give_back(kept: &mut Option<Reading>, shared: Option<&SharedReading>, user: SystemId)
+    ensures { kept.new ≡ None }
+{
+    if let Some(reading) = kept.take() {
+        keep_in(shared, reading, user);
     }
 }

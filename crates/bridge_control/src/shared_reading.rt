@@ -68,10 +68,19 @@ impl Reading {
         self.fabric.tables(alloc, me)
     }
 
-    /// The best path of a bridge to a system by an ECT algorithm, in the graph. None exactly where there is none. The
-    /// best paths from the bridge are searched, unless they are kept.
+    /// Searches the best paths from a bridge by an ECT algorithm, unless they are kept.
+    pub fn prepare(&mut self, alloc: Global, me: SystemId, ect: u8) -> Result<(), NoMemory>
+        requires low { 1 ≤ ect }
+        requires high { ect ≤ GREATEST_ECT }
+        ensures { self.new ≡ self.old }
+    {
+        self.fabric.grow_by(alloc, me, ect)
+    }
+
+    /// The best path of a bridge to a system by an ECT algorithm, in the graph. None exactly where there is none. Where
+    /// the best paths from the bridge are kept, it is read from them.
     pub fn path(
-        &mut self,
+        &self,
         alloc: Global,
         me: SystemId,
         to: SystemId,
@@ -79,8 +88,7 @@ impl Reading {
     ) -> Result<Option<Path>, NoMemory>
         requires low { 1 ≤ ect }
         requires high { ect ≤ GREATEST_ECT }
-        ensures same { self.new ≡ self.old }
-        ensures path { IfOk result (λ path. path ≡ best_path self.old.graph (mask_of ect) me to) }
+        ensures { IfOk result (λ path. path ≡ best_path self.now.graph (mask_of ect) me to) }
     {
         self.fabric.path(alloc, me, to, ect)
     }

@@ -150,10 +150,22 @@ impl Fabric {
         }
     }
 
+    /// Searches the best paths from a bridge by an ECT algorithm, unless they are kept.
+    pub fn grow_by(&mut self, alloc: Global, me: SystemId, ect: u8) -> Result<(), NoMemory>
+        requires low { 1 ≤ ect }
+        requires high { ect ≤ GREATEST_ECT }
+        ensures { self.new ≡ self.old }
+    {
+        match self.forest.roads().place_of(me) {
+            None => Ok(()),
+            Some(place) => self.forest.grow(alloc, place, ect_mask(ect)),
+        }
+    }
+
     /// The best path from a bridge to another by an ECT algorithm, with its cost. None exactly where there is no path.
-    /// The best paths from the first are searched, unless they are kept.
+    /// Where the best paths from the first are kept, it is read from them; else they are searched for this answer alone.
     pub fn path(
-        &mut self,
+        &self,
         alloc: Global,
         me: SystemId,
         to: SystemId,
@@ -161,8 +173,7 @@ impl Fabric {
     ) -> Result<Option<Path>, NoMemory>
         requires low { 1 ≤ ect }
         requires high { ect ≤ GREATEST_ECT }
-        ensures same { self.new ≡ self.old }
-        ensures path { IfOk result (λ path. path ≡ best_path self.old.graph (mask_of ect) me to) }
+        ensures { IfOk result (λ path. path ≡ best_path self.now.graph (mask_of ect) me to) }
     {
         let mask = ect_mask(ect);
         match self.forest.roads().place_of(me) {
@@ -170,10 +181,7 @@ impl Fabric {
                 let tree = self.forest.roads().tree(alloc, me, mask)?;
                 tree.path_to(alloc, to)
             }
-            Some(place) => {
-                self.forest.grow(alloc, place, mask)?;
-                self.forest.path(alloc, place, mask, to)
-            }
+            Some(place) => self.forest.path(alloc, place, mask, to),
         }
     }
 

@@ -178,4 +178,12 @@ impl Bridge for PlainBridge {
     fn path(&self, to: SystemId, vid: Vid) -> Result<Option<Path>, NoMemory> {
         self.control.path(to, vid)
     }
+
+    fn prepare_paths(&mut self, vid: Vid) -> Result<(), NoMemory> {
+        self.control.prepare_paths(vid)
+    }
+
+    fn rest(&mut self) {
+        self.control.rest();
+    }
 }

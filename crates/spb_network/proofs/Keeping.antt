@@ -1,5 +1,5 @@
 -- What a network keeps of the conditions of quiet stays so.
-use Rattle.std.proofs.Common.{Result, Ok, Err, OnOk, ◌≡◌, ℕ, true, false, if◌then◌else◌, None, Some, refl, sym, ◌∙◌, true≢false}
+use Rattle.std.proofs.Common.{Result, Ok, Err, OnOk, ◌≡◌, ◌≤◌, ℕ, true, false, if◌then◌else◌, None, Some, refl, sym, subst, ap, ◌∙◌, true≢false}
 use Rattle.std.proofs.lemmas.Option.{same_Some}
 use Rattle.scenario.specs.declared.command.Command.{Command}
 use Rattle.scenario.specs.declared.command.Command.TheVariants as command
@@ -10,6 +10,12 @@ use Rattle.network_model.specs.Play.{played, is_event, answer_to_asked, answer_o
 use Rattle.network_model.specs.Questions.{is_question}
 use Rattle.network_model.specs.Quiet.{holds_q1, holds_q2, holds_q3, holds_q4, failing}
 use Rattle.network_model.specs.Quieting.{conditions_of, numbers_of}
+use Rattle.network_model.specs.Counted.{IsCounted, most_commands}
+use Rattle.network_model.specs.Sound.{IsSoundState}
+use Rattle.bridge_api.specs.Shown.{Shown}
+use Rattle.spb_network.specs.declared.network.NetworkOf.{NetworkOf}
+use Rattle.spb_network.specs.Network.{state_of, AreConfigured}
+use Rattle.spb_network.specs.Applying.{IsSoundNetwork}
 
 -- the count of commands has no part in the conditions
 pub counted_conditions : (s : State) (n : ℕ) → conditions_of (record s { accepted = n }) ≡ conditions_of s
@@ -116,3 +122,13 @@ none_kept s kept is = cc
 
 pub found_kept : (s : State) (found : Conditions) → found ≡ conditions_of s → (kept : Conditions) → Some found ≡ Some kept → kept ≡ conditions_of s
 found_kept s found so kept is = sym (same_Some found kept is) ∙ so
+
+-- a network of which nothing is seen to change stays sound
+pub sound_still : {B : Type 0} (shown : B → Shown) (old new : NetworkOf B) → state_of shown new ≡ state_of shown old → AreConfigured shown new.boxes.items → new.conditions ≡ old.conditions → IsSoundNetwork shown old → IsSoundNetwork shown new
+sound_still shown old new same made kept sound = record {
+  made = made;
+  state = subst IsSoundState (sym same) sound.state;
+  counted = subst (λ (s : State). s.accepted ≤ most_commands → IsCounted s) (sym same) sound.counted;
+  outs = ap (λ (s : State). s.outs) same ∙ sound.outs;
+  kept = λ c is. sound.kept c (sym kept ∙ is) ∙ ap conditions_of (sym same);
+}

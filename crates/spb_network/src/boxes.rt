@@ -15,7 +15,7 @@ ghost use Rattle.network_model.specs.State.{IsPortAt, CanAttachAt, IsAttachedAt}
 use adjacency::Adjacency;
 use bridge_api::{Bridge, DropReason, Outbox};
 use lsdb::DbRow;
-use spb_types::{Attachment, NoMemory};
+use spb_types::{Attachment, NoMemory, Vid};
 use std::alloc::Global;
 
 /// A second of a bridge.
@@ -162,6 +162,29 @@ pub fn replace<B: Bridge>(boxes: &mut Vec<B>, i: usize, fresh: B)
 {
     if i < boxes.len() {
         boxes[i] = fresh;
+    }
+}
+
+/// A bridge makes ready for paths in a base VID that are asked of it.
+pub fn prepare_paths<B: Bridge>(boxes: &mut Vec<B>, i: usize, vid: Vid) -> Result<(), NoMemory>
+    requires { AreConfigured B.shown boxes.old.items }
+    ensures views { views_of B.shown boxes.new.items ≡ views_of B.shown boxes.old.items }
+    ensures made { AreConfigured B.shown boxes.new.items }
+{
+    match boxes.get_mut(i) {
+        None => Ok(()),
+        Some(bridge) => bridge.prepare_paths(vid),
+    }
+}
+
+/// A bridge rests, since others are asked.
+pub fn rest<B: Bridge>(boxes: &mut Vec<B>, i: usize)
+    requires { AreConfigured B.shown boxes.old.items }
+    ensures views { views_of B.shown boxes.new.items ≡ views_of B.shown boxes.old.items }
+    ensures made { AreConfigured B.shown boxes.new.items }
+{
+    if let Some(bridge) = boxes.get_mut(i) {
+        bridge.rest();
     }
 }
 

@@ -36,6 +36,8 @@ pub struct NetworkOf<B> {
     pub(crate) halted: bool,
     /// Which conditions of quiet hold, since a question found them and until something may change.
     pub(crate) conditions: Option<Conditions>,
+    /// The place of the bridge of which paths were asked last. It made ready for more of them.
+    pub(crate) asked: Option<usize>,
 }
 
 /// A network of bridges in boxes.
@@ -62,6 +64,7 @@ impl<B: Bridge> NetworkOf<B> {
             accepted: 0,
             halted: false,
             conditions: None,
+            asked: None,
         }
     }
 

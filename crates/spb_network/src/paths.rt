@@ -1,15 +1,59 @@
-//! The path between two bridges, by the LSPs that the first holds.
+//! The path between two bridges, by the LSPs that the first holds. Many paths are asked of one bridge in a row, so it
+//! keeps what they are read from until another question is asked.
 ghost use Rattle.std.specs.Prelude.{◌≡◌, slice_get, IfOk};
 ghost use Rattle.std.specs.Option.{option_and_then};
 ghost use Rattle.bridge_api.specs.Graph.{own_path};
 ghost use Rattle.network_model.specs.Paths as paths;
 ghost use Rattle.spb_network.specs.Network.{state_of, IsInOrder};
+ghost use Rattle.spb_network.specs.Applying.{IsSoundNetwork};
 
-use crate::{Answer, NetworkOf};
+use crate::{Answer, NetworkOf, boxes};
 use bridge_api::Bridge;
 use spb_types::{Name, NoMemory, Path, Seq, SystemId, Vid};
 
 impl<B: Bridge> NetworkOf<B> {
+    /// Lets the bridge rest of which paths were asked last.
+    pub(crate) fn rest_asked(&mut self)
+        requires { IsSoundNetwork B.shown self.old }
+        ensures state { state_of B.shown self.new ≡ state_of B.shown self.old }
+        ensures sound { IsSoundNetwork B.shown self.new }
+        ensures halted { self.new.halted ≡ self.old.halted }
+    {
+        if let Some(place) = self.asked.take() {
+            boxes::rest(&mut self.boxes, place);
+        }
+    }
+
+    /// Makes the bridge at a place ready for paths in a base VID. Another that was ready for some rests.
+    fn prepare_paths_at(&mut self, place: usize, vid: Vid) -> Result<(), NoMemory>
+        requires { IsSoundNetwork B.shown self.old }
+        ensures state { state_of B.shown self.new ≡ state_of B.shown self.old }
+        ensures sound { IsSoundNetwork B.shown self.new }
+        ensures halted { self.new.halted ≡ self.old.halted }
+    {
+        if self.asked != Some(place) {
+            self.rest_asked();
+            self.asked = Some(place);
+        }
+        boxes::prepare_paths(&mut self.boxes, place, vid)
+    }
+
+    /// Makes a bridge ready for paths in a base VID, if both are declared.
+    pub(crate) fn prepare_paths(&mut self, from: Name, vid: u64) -> Result<(), NoMemory>
+        requires { IsSoundNetwork B.shown self.old }
+        ensures state { state_of B.shown self.new ≡ state_of B.shown self.old }
+        ensures sound { IsSoundNetwork B.shown self.new }
+        ensures halted { self.new.halted ≡ self.old.halted }
+    {
+        let Some(place) = self.world.bridge_place(from) else {
+            return Ok(());
+        };
+        match self.world.declared_vid(vid) {
+            None => Ok(()),
+            Some(vid) => self.prepare_paths_at(place, vid),
+        }
+    }
+
     /// The answer of the bridge at a place about its path to another in a base VID; `Silent` where one isn't declared.
     pub(crate) fn path(
         &self,

@@ -326,14 +326,28 @@ impl<B: Bridge> NetworkOf<B> {
 
     /// Makes ready what the answer to a command reads. Nothing of the state changes.
     fn prepare(&mut self, command: &Command) -> Result<(), NoMemory>
-        ensures { self.new ≡ self.old }
+        requires { IsSoundNetwork B.shown self.old }
+        ensures state { OnOk result (state_of B.shown self.new ≡ state_of B.shown self.old) }
+        ensures sound { OnOk result (IsSoundNetwork B.shown self.new) }
+        ensures halted { OnOk result (self.new.halted ≡ self.old.halted) }
     {
         match command {
-            Command::Wiring(name) => match self.world.bridge_place(*name) {
-                None => Ok(()),
-                Some(place) => self.world.prepare_tables(self.alloc, place),
-            },
-            _ => Ok(()),
+            Command::Path { from, vid, .. } => self.prepare_paths(*from, *vid),
+            Command::Wiring(name) => self.prepare_wiring(*name),
+            _ => {
+                self.rest_asked();
+                Ok(())
+            }
+        }
+    }
+
+    /// Makes ready the tables that the wiring gives a bridge.
+    fn prepare_wiring(&mut self, bridge: Name) -> Result<(), NoMemory>
+        ensures { self.new ≡ self.old }
+    {
+        match self.world.bridge_place(bridge) {
+            None => Ok(()),
+            Some(place) => self.world.prepare_tables(self.alloc, place),
         }
     }
 

@@ -16,6 +16,12 @@ map-set v f [] i x y h g = cc
 map-set v f (b ∷ bs) zero x y h g = ap (λ w. w ∷ map v bs) (g ∙ ap (λ c. f (v c)) (sym (some-is b x h)))
 map-set v f (b ∷ bs) (suc i) x y h g = ap (λ ws. v b ∷ ws) (map-set v f bs i x y h g)
 
+-- a write that isn't seen
+pub map-still : {B V : Type 0} (v : B → V) (bs : List B) (i : ℕ) (x y : B) → slice_get bs i ≡ Some x → v y ≡ v x → map v (slice_set bs i y) ≡ map v bs
+map-still v [] i x y h g = cc
+map-still v (b ∷ bs) zero x y h g = ap (λ w. w ∷ map v bs) (g ∙ ap v (sym (some-is b x h)))
+map-still v (b ∷ bs) (suc i) x y h g = ap (λ ws. v b ∷ ws) (map-still v bs i x y h g)
+
 -- nothing changes past the last item
 pub changed-none : {B V : Type 0} (v : B → V) (f : V → V) (bs : List B) (i : ℕ) → slice_get bs i ≡ None → map v bs ≡ changed_at f (map v bs) i
 changed-none v f [] i h = refl

@@ -309,4 +309,12 @@ impl Bridge for SwiftBridge {
     fn path(&self, to: SystemId, vid: Vid) -> Result<Option<Path>, NoMemory> {
         self.control.path(to, vid)
     }
+
+    fn prepare_paths(&mut self, vid: Vid) -> Result<(), NoMemory> {
+        self.control.prepare_paths(vid)
+    }
+
+    fn rest(&mut self) {
+        self.control.rest();
+    }
 }

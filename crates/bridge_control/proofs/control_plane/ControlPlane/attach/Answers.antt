@@ -16,6 +16,6 @@ invariant_of-self c =
     let made : c.self.inside.blank ≡ false = search rules in
     let ready : IsReady c.self.inside.machine = search rules in
     let unfailed : c.self.inside.failed ≡ false = search rules in
-    kept_step c.attach-ended.result (attach (attachment_of c.args.port c.args.isid c.args.vid)) c.self.inside.blank c.is_err-self-inside.result c.self.inside.machine c.attach-ended.new.self made ready
+    kept_step c.attach-ended.result (attach (attachment_of c.args.port c.args.isid c.args.vid)) c.self.inside.blank c.is_err-self-inside.result c.self.inside.machine c.attach-ended.new.self c.give_back.new.kept made ready
     (can_inside c.self.inside.blank c.self.inside.failed c.self.inside.machine c.args.self.now (attachment_of c.args.port c.args.isid c.args.vid) c.self.view_is unfailed c.requires.can)
-    c.is_err-self-inside.ensures.value c.attach-ended.ensures
+    c.is_err-self-inside.ensures.value c.attach-ended.ensures c.give_back.ensures

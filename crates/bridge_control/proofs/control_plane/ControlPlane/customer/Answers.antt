@@ -10,6 +10,6 @@ invariant_of-self c =
     let made : c.self.inside.blank ≡ false = search rules in
     let ready : IsReady c.self.inside.machine = search rules in
     let unfailed : c.self.inside.failed ≡ false = search rules in
-    kept_with c.customer-ended.result (customer c.args.port c.args.frame.now) c.self.inside.blank c.is_err-self-inside.result c.self.inside.machine c.customer-ended.new.self c.customer-ended.new.kept made ready
+    kept_with c.customer-ended.result (customer c.args.port c.args.frame.now) c.self.inside.blank c.is_err-self-inside.result c.self.inside.machine c.customer-ended.new.self c.customer-ended.new.kept c.give_back.new.kept made ready
     (attached_inside c.self.inside.blank c.self.inside.failed c.self.inside.machine c.args.self.now c.args.port c.self.view_is unfailed c.requires.attached, c.requires.frame)
-    c.is_err-self-inside.ensures.value c.customer-ended.ensures.after c.customer-ended.ensures.kept
+    c.is_err-self-inside.ensures.value c.customer-ended.ensures.after c.customer-ended.ensures.kept c.give_back.ensures

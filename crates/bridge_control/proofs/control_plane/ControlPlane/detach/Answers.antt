@@ -15,6 +15,6 @@ invariant_of-self c =
     let made : c.self.inside.blank ≡ false = search rules in
     let ready : IsReady c.self.inside.machine = search rules in
     let unfailed : c.self.inside.failed ≡ false = search rules in
-    kept_step c.detach-ended.result (detach c.args.port) c.self.inside.blank c.is_err-self-inside.result c.self.inside.machine c.detach-ended.new.self made ready
+    kept_step c.detach-ended.result (detach c.args.port) c.self.inside.blank c.is_err-self-inside.result c.self.inside.machine c.detach-ended.new.self c.give_back.new.kept made ready
     (attached_inside c.self.inside.blank c.self.inside.failed c.self.inside.machine c.args.self.now c.args.port c.self.view_is unfailed c.requires.attached)
-    c.is_err-self-inside.ensures.value c.detach-ended.ensures
+    c.is_err-self-inside.ensures.value c.detach-ended.ensures c.give_back.ensures

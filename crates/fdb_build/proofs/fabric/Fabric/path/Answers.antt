@@ -4,9 +4,9 @@ use Rattle.fdb_build.specs.Fabric.{FabricView}
 use Rattle.fdb_build.proofs.KeptLemmas.{path_found}
 use Rattle.fdb_build.proofs.fabric.Fabric.path.Goals as goal
 
-pub returns-in_ok-grow-in-Some-clause-path : goal.returns-in_ok-grow-in-Some-clause-path
-returns-in_ok-grow-in-Some-clause-path c =
+pub returns-in-Some : goal.returns-in-Some
+returns-in-Some c =
     let all : Graph = c.args.self.now.graph in
     let own : c.self.inside.forest.graph ≡ all = ap (λ (f : FabricView). f.graph) c.self.view_is in
-    path_found c.roads.result.now c.grow.new.self.graph all c.in-Some.place c.args.me c.args.to c.ect_mask-mask.result _ c.path.result
-    (sym c.place_of.ensures ∙ c.in-Some.is) (c.roads.ensures ∙ own) (c.in_ok-grow-in-Some.ensures.graph ∙ own) c.ect_mask-mask.ensures c.path.ensures
+    path_found c.roads.result.now c.self.inside.forest.graph all c.in-Some.place c.args.me c.args.to c.ect_mask-mask.result _ c.path.result
+    (sym c.place_of.ensures ∙ c.in-Some.is) (c.roads.ensures ∙ own) own c.ect_mask-mask.ensures c.path.ensures

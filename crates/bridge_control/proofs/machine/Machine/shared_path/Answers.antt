@@ -3,7 +3,7 @@ use Rattle.spb_types.specs.Ect.{mask_of}
 use Rattle.fdb_build.specs.Fabric.{FabricView}
 use Rattle.bridge_control.specs.Machine.{view_of}
 use Rattle.bridge_control.proofs.OwnTables.{path_read}
-use Rattle.bridge_control.proofs.machine.Machine.path_by.Goals as goal
+use Rattle.bridge_control.proofs.machine.Machine.shared_path.Goals as goal
 
 pub returns : goal.returns
 returns c =
