@@ -1,4 +1,4 @@
-use Rattle.std.proofs.Common.{sym, ap, ◌∙◌, length, arith}
+use Rattle.std.proofs.Common.{sym, arith}
 use Rattle.fdb_build.proofs.PortLemmas.{port_put, port_left_out, port_within}
 use Rattle.fdb_build.proofs.surroundings.put_port.Goals as goal
 
