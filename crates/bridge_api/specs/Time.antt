@@ -84,7 +84,7 @@ pub record KeepsSomebody : Type 0 where
 -- ---- LSPs
 
 -- what stands under an id a second later: the same version and body, with a lifetime that is at most one lower; or, of
--- a live LSP in its last second, one that is dead at its number, its body cut to the flags octet
+-- a live LSP in its last second, one that is dead at its number, its body the flags octet of level 1
 pub data AgedFrom (old new : Option Entry) : Type 0 where
   stays : version_in new ≡ version_in old → body_in new ≡ body_in old
       → lifetime_in new ≤ lifetime_in old → lifetime_in old ≤ lifetime_in new + 1 → AgedFrom old new
@@ -108,7 +108,7 @@ LspsLast = (v : BridgeView) (id : LspId) (k left : ℕ) → is_own_number v.id.s
     → is_live (version_at v.database id) ≡ true → lifetime_in (get v.database id) ≡ left + k → 1 ≤ left
     → IsLasting left (get v.database id) (get (seconds k v).database id)
 
--- dead at a number: with no lifetime, its body cut to the flags octet, and to be sent at every port of a set
+-- dead at a number: with no lifetime, its body the flags octet of level 1, and to be sent at every port of a set
 pub record IsDead (seq : ℕ) (up : PortSet) (o : Option Entry) : Type 0 where
   pub version : version_in o ≡ Dead seq
   pub lifetime : lifetime_in o ≡ 0

@@ -11,8 +11,8 @@ use spb_types::{DropReason, Isid, Mac, NoMemory, Path, PortSet, SystemId, Tables
 /// A bridge is blank until `configure` is called, and each call but `kind`, `is_blank`, `is_failed` and `configure`
 /// has the condition that it isn't blank. A call that finds no memory leaves the bridge failed: from then on each call
 /// that can answer `NoMemory` answers it and changes nothing. What else a failed bridge's view says isn't told, and
-/// the outbox may have gained the first of that call's frames. A question that finds no memory, which `tables` and
-/// `unicast_port` can, leaves the bridge as it was.
+/// the outbox may have gained the first of that call's frames. A question that finds no memory, which `tables`,
+/// `unicast_port`, `group_ports` and `path` can, leaves the bridge as it was.
 pub trait Bridge: Drop {
     ghost use Rattle.std.specs.Prelude.{◌≡◌, true, false, IfOk, OnOk, OnErr, IsErr, Some};
     ghost use Rattle.std.specs.Option.{option_map, option_copied};

@@ -57,11 +57,12 @@
 //! - The tables are made where a customer's frame enters or a backbone frame comes in and none are kept: this goes over
 //!   the database once, in time and memory of the bytes of the live LSPs, and then takes what the graph of all that they
 //!   say takes (`spb_content`), and the tables in it (`fdb_build`). They are kept over frames of both kinds, over what is
-//!   dropped, and over a hello that only begins the holding count anew. Any other call and frame forgets them, also where
-//!   the LSPs that are held stay as they are.
+//!   dropped, and over the hello that came last, where it only begins the holding count anew. Any other call and frame
+//!   forgets them, also where the LSPs that are held stay as they are.
 //! - Where bridges share what they read ([`SharedReading`]), what was read of the same LSPs is taken over: each live LSP
 //!   that is held is compared with those that were read, in time of their bytes and with no memory. Only where one
-//!   differs, or the base VIDs do, is the graph read and made ready for tables anew.
+//!   differs, or the base VIDs do, is the graph read and made ready for tables anew. While paths are asked of a bridge it
+//!   keeps that for itself, and compares nothing.
 //! - A frame of either kind takes a few look-ups in the tables, which go over their rows, besides what `forwarding`
 //!   says.
 //! - `tables` copies those that are kept, and `unicast_port` and `group_ports` look in them. Where none are kept, each

@@ -28,8 +28,8 @@ use std::alloc::Global;
 /// For the words `run` it plays the script that the source gives, on a network that was just made, and writes the
 /// answers to the sink. With `--kind plain`, `--kind swift` or `--kind mixed` behind it the bridges take boxes of that
 /// kind, or plain and swift ones in turn; without, all are plain. The script is read in pieces of at most 8,192 bytes.
-/// The answers to each line are written before the next is played, and all whole lines of a piece are played before the
-/// next is read: however the run ends, all whole lines that were read are accepted and answered, but for those that end
+/// The answers to each line are written before the next is played, and the whole lines of a piece before the next is
+/// read, unless the run ends at one of them: however the run ends, all whole lines that were read are accepted and answered, but for those that end
 /// in the last 8,192 bytes. So a script is never in memory whole, and whoever writes it sees the answers to what was
 /// read.
 ///

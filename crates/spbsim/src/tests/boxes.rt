@@ -6,7 +6,7 @@ ghost use Rattle.network_model.specs.State.{IsPortAt};
 ghost use Rattle.script_run.specs.Replying.{IsAlive};
 
 use super::asking_box::AskingBox;
-use super::{TWO, are_equal, sink, source, text_of, words_of};
+use super::{TWO, are_equal, check_call, sink, source, text_of, words_of};
 use crate::{Status, play_on};
 use adjacency::Adjacency;
 use bridge_api::{Bridge, BridgeConfig};
@@ -45,6 +45,30 @@ link L1 A 1 B 1 10
 restart B
 restart B
 ";
+
+/// Asserts that the program's own rack has 256 boxes of the kind that these words choose: a bridge takes one, and each
+/// restart of it another.
+fn check_boxes(rt: &impl Abort, alloc: Global, words: &str) {
+    let mut script = String::new(alloc);
+    script
+        .push_str("bridge A 32768 020000000001 00001 1\n")
+        .expect(rt, "out of memory");
+    for _ in 0..256 {
+        script.push_str("restart A\n").expect(rt, "out of memory");
+    }
+    let source = source(rt, alloc, script.as_str(), 8192, 0);
+    let sink = sink(rt, alloc, 100, 0);
+    let why = Refusal::Command(Reason::RackSpent);
+    let status = Status::Refused(257, why);
+    check_call(rt, alloc, words, source, sink, status, "error 257 12 RackSpent\n");
+}
+
+#[test]
+fn the_program_has_256_boxes_of_each_kind(rt: HostRuntime) {
+    let alloc = rt.alloc();
+    check_boxes(&rt, alloc, "run");
+    check_boxes(&rt, alloc, "run --kind swift");
+}
 
 /// A blank box.
 fn blank(rt: &impl Abort, alloc: Global) -> Box<PlainBridge> {
