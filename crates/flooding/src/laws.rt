@@ -100,8 +100,8 @@ pub fn own_bodies_are_the_systems()
     ensures brought { BringingLeavesOwnBody }
 {}
 
-/// Under an id of the own system version and body stay, or the number becomes greater, or the LSP is dead at a number that
-/// isn't lower: whatever is heard, originated, purged and brought up to date, and in each second.
+/// Under an id of the own system version and body stay, or the number becomes greater, or the LSP is dead at a number
+/// that isn't lower: whatever is heard, originated, purged and brought up to date, and in each second.
 pub fn own_lsps_advance()
     ensures compose { AdvancesCompose }
     ensures lsp { LspAdvances }

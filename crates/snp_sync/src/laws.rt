@@ -74,8 +74,8 @@ pub fn hearing_leaves_own_lsps()
     ensures csnp_current { CsnpKeepsCurrent }
 {}
 
-/// Under an id of the own system version and body stay by entries and by a CSNP, or the number becomes greater, or the LSP
-/// is dead at a number that isn't lower.
+/// Under an id of the own system version and body stay by entries and by a CSNP, or the number becomes greater, or the
+/// LSP is dead at a number that isn't lower.
 pub fn own_lsps_advance()
     ensures entries { EntriesAdvance }
     ensures csnp { CsnpAdvances }
