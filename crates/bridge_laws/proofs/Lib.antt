@@ -10,6 +10,7 @@ pub mod FewSent
 pub mod TimeOwn
 pub mod HeldIds
 pub mod Learning
+pub mod Advancing
 pub mod Answering
 pub mod Originating
 pub mod OthersRead

@@ -1,4 +1,5 @@
 pub mod Apart
 pub mod Few
 pub mod Counting
+pub mod Advancing
 pub mod Dropping

@@ -1,5 +1,6 @@
 //! What every step of a bridge keeps, whatever comes to it. Each is the contract of a function that does nothing.
 ghost use Rattle.bridge_api.specs.Laws.{ConfiguredIsSound, ConfiguredHasNoCarrier, ConfiguredHoldsOwn, SoundCanSay, StepsStaySound, StepsKeepBridge, StepsKeepCarrier, StepsKeepNeighbours, SentIsSound, OneHello, HellosAreHeard, SentWithCarrier, LspSettlesNothing, CsnpSettlesNothing, PsnpSettlesNothing, EnteringUpIsWhole, UpPortsAreUp, StepsCarryDatabase, NeighboursComeUp, SomeBridge};
+ghost use Rattle.bridge_laws.specs.Advancing.{StepsAdvance};
 ghost use Rattle.bridge_laws.specs.Apart.{SentHasEntered, LeftHasEntered, ConfiguredIsPlaced, StepsKeepPlaces};
 ghost use Rattle.bridge_api.specs.Duties.{SecondsServe, SecondsLeaveNothingDue};
 ghost use Rattle.bridge_laws.specs.Few.{ConfiguredHoldsFew, StepsHoldFew, SecondsSendFew};
@@ -175,6 +176,12 @@ pub fn numbers_rise_by_what_is_heard()
     ensures fresh { StepsDontSpend }
     ensures configured { ConfiguredIsFar }
     ensures some { SomeIsFar }
+{}
+
+/// Under an id of a bridge's own system, version and body stay in a step, or the number becomes greater, or the LSP is
+/// dead at a number that isn't lower. So no live version comes to stand there with a second body.
+pub fn own_lsps_advance()
+    ensures { StepsAdvance }
 {}
 
 /// A frame that is dropped raises the count of the one reason for which it is dropped, by one, and changes and sends

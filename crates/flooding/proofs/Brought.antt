@@ -76,7 +76,7 @@ brought_keeps P up number h same next end =
 
 -- ---- other ids
 
-next_leaves : (up : PortSet) (number : ℕ) (h : Holding) (x : LspId) → x ≢ own_number h.own.system number → (body : List ℕ) → get (next_of up number body h).db x ≡ get h.db x
+pub next_leaves : (up : PortSet) (number : ℕ) (h : Holding) (x : LspId) → x ≢ own_number h.own.system number → (body : List ℕ) → get (next_of up number body h).db x ≡ get h.db x
 next_leaves up number h x apart body =
     let id = own_number h.own.system number in
     let held = get h.db id in

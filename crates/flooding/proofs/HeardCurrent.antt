@@ -26,10 +26,10 @@ use Rattle.flooding.proofs.OwnNumbers.{same_self, its_body}
 
 -- ---- what a rule leaves of a claim that isn't beyond
 
-abbrev Same : (Entry → Entry) → Type 0
+abbrev pub Same : (Entry → Entry) → Type 0
 Same f = (e : Entry) → ((f e).version ≡ e.version) × (((f e).body ≡ e.body) × ((f e).lifetime ≡ e.lifetime))
 
-record LeavesHeld (rule : Relation → Option Entry → Option Entry) (r : Relation) : Type 0 where
+pub record LeavesHeld (rule : Relation → Option Entry → Option Entry) (r : Relation) : Type 0 where
   pub change : Entry → Entry
   pub same : Same change
   pub is : (held : Option Entry) → rule r held ≡ option_map change held
@@ -41,13 +41,13 @@ unless_same f same e = by (is_absent e.version)
     by true = (refl, (refl, refl))
     by false = same e
 
-lsp_leaves : (up : PortSet) (port : ℕ) (l : LspValue) (r : Relation) → is_beyond r ≡ false → LeavesHeld (lsp_rule up port l) r
+pub lsp_leaves : (up : PortSet) (port : ℕ) (l : LspValue) (r : Relation) → is_beyond r ≡ false → LeavesHeld (lsp_rule up port l) r
 lsp_leaves up port l Older not_beyond = record { change = offered port; same = λ e. (refl, (refl, refl)); is = λ held. refl }
 lsp_leaves up port l Equal not_beyond = record { change = unless_absent (acked port); same = unless_same (acked port) (λ e. (refl, (refl, refl))); is = λ held. refl }
 lsp_leaves up port l Newer not_beyond = absurd (true≢false not_beyond)
 lsp_leaves up port l Confused not_beyond = absurd (true≢false not_beyond)
 
-snp_leaves : (up : PortSet) (port : ℕ) (a : Version) (r : Relation) → is_beyond r ≡ false → LeavesHeld (snp_rule up port a) r
+pub snp_leaves : (up : PortSet) (port : ℕ) (a : Version) (r : Relation) → is_beyond r ≡ false → LeavesHeld (snp_rule up port a) r
 snp_leaves up port a Older not_beyond = record { change = offered port; same = λ e. (refl, (refl, refl)); is = λ held. refl }
 snp_leaves up port a Equal not_beyond = record { change = unless_absent (cleared port); same = unless_same (cleared port) (λ e. (refl, (refl, refl))); is = λ held. refl }
 snp_leaves up port a Newer not_beyond = absurd (true≢false not_beyond)

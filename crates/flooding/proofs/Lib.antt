@@ -18,6 +18,7 @@ pub mod Folds
 pub mod Settled
 pub mod Current
 pub mod HeardCurrent
+pub mod Advancing
 pub mod Rest
 pub mod Room
 pub mod Fits

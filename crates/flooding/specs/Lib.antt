@@ -7,6 +7,7 @@ pub mod Settling
 pub mod Sending
 pub mod Entries
 pub mod Laws
+pub mod Advancing
 pub mod SettlingLaws
 pub mod Room
 pub mod RoomLaws

@@ -1,6 +1,7 @@
 //! The laws of flooding. Each is the contract of a function that does nothing.
 ghost use Rattle.std.specs.Prelude.{◌≡◌};
 ghost use Rattle.flooding.specs.Laws.{HearingLspIsCertified, HearingEntryIsCertified, AnsweringIsCertified, BringingIsCertified, OthersStand, LspStands, EntryStands, FullStands, FittingIsNotFull, HeardIsAtMostHeld, StoredFlags, FloodedFlags, AskedFlags, AckedFlags, ClearedFlags, OfferedFlags, FlaggedFlags, SetSrmFlags, ClearedPortFlags, AgedFlags, ExpiredFlags, SpentFlags, OwnStands, OwnIsNotSpent, LspLeavesOwn, EntryLeavesOwn, LspLeavesOwnBody, EntryLeavesOwnBody, BringingLeavesOwnBody, OriginatedStands, BringingLeavesOthers, BringingLeavesOwn, BringingIsNotSpent, IdsNameLsps, SentIsHeld, SentIsRead, ReadIsWhole, ClaimIsNumbered, LspKeepsSendable, EntryKeepsSendable, BringingKeepsSendable, AgeingKeepsSendable, FlagsKeepSendable, LspKeepsFlags, EntryKeepsFlags, BringingKeepsFlags};
+ghost use Rattle.flooding.specs.Advancing.{AdvancesCompose, LspAdvances, EntryAdvances, OriginationAdvances, PurgeAdvances, SettlingAdvances, AgeingAdvances};
 ghost use Rattle.flooding.specs.SettlingLaws.{SettlingIsCertified, SettlingStands, SettlingLeavesOthers, SettlingLeavesOwn, SettlingLeavesOwnBody, SettlingGoesOneFurther, SettlingDoesntSpend, SettlingBringsFew, SettlingKeepsSendable, SettlingKeepsFlags, SettlingKeepsSilence, SettlingRenews, SettlingSpends, SettledIsCurrent, FreshIsCurrent, CurrentIsSettled, LspKeepsCurrent, EntryKeepsCurrent};
 ghost use Rattle.flooding.specs.RoomLaws.{FewOwn, OthersAreHeld, RoomFits, PuttingKeepsFew, ChangingKeepsOthers, HearingKeepsFew, BringingKeepsFew, SettlingKeepsFew};
 ghost use Rattle.flooding.specs.declared.origination.TheConstants.{MAX_AGE};
@@ -97,6 +98,18 @@ pub fn own_bodies_are_the_systems()
     ensures lsp { LspLeavesOwnBody }
     ensures entry { EntryLeavesOwnBody }
     ensures brought { BringingLeavesOwnBody }
+{}
+
+/// Under an id of the own system version and body stay, or the number becomes greater, or the LSP is dead at a number
+/// that isn't lower: whatever is heard, originated, purged and brought up to date, and in each second.
+pub fn own_lsps_advance()
+    ensures compose { AdvancesCompose }
+    ensures lsp { LspAdvances }
+    ensures entry { EntryAdvances }
+    ensures origination { OriginationAdvances }
+    ensures purge { PurgeAdvances }
+    ensures settling { SettlingAdvances }
+    ensures ageing { AgeingAdvances }
 {}
 
 /// What is to be sent at a port by its ids is what the database says; an LSP that is sent claims what is held, and its

@@ -11,6 +11,7 @@ pub mod Said
 pub mod Lengths
 pub mod Served
 pub mod Stays
+pub mod Advancing
 pub mod Fields
 pub mod Gleaned
 pub mod Silent

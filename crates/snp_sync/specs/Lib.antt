@@ -7,3 +7,4 @@ pub mod Reading
 pub mod Hearing
 pub mod SendingLaws
 pub mod HearingLaws
+pub mod Advancing

@@ -1,5 +1,6 @@
 //! The laws of sequence numbers PDUs. Each is the contract of a function that does nothing.
 ghost use Rattle.snp_sync.specs.HearingLaws.{EntriesAreCertified, CsnpIsCertified, UnnamedStands, LastClaimStands, EntryIsServed, CsnpStands, MissedIsSent, EntriesLeaveOwn, EntriesDontSpend, EntriesLeaveOwnBody, CsnpLeavesOwnBody, EntriesKeepCurrent, CsnpKeepsCurrent, ClaimsAreNumbered, EntriesKeepFew, CsnpKeepsFew, EntriesKeepSendable, CsnpKeepsSendable, EntriesKeepFlags, CsnpKeepsFlags, EntriesKeepSized, CsnpKeepsSized, LspKeepsSized, OriginationKeepsSized, SettlingKeepsSized, AgeingKeepsSized, FlagsKeepSized};
+ghost use Rattle.snp_sync.specs.Advancing.{EntriesAdvance, CsnpAdvances};
 ghost use Rattle.snp_sync.specs.SendingLaws.{SuccessorIsNext, SuccessorIsId, EntryClaimsWhatIsHeld, RangesCoverOnce, CsnpChunksListTheirRanges, CsnpChunksAreShort, CsnpChunksEndAtIds, CsnpChunksClaimWhatIsHeld, CsnpChunksListWhatIsHeld, CsnpIsRead, EntriesAreRead, CsnpEntriesAreRead, CsnpEntriesAreSized, PsnpChunksAreWhole, PsnpChunksAreShort, PsnpChunksClaimWhatIsHeld, PsnpChunksListWhatIsHeld, PsnpIsRead, PsnpEntriesAreRead, PsnpEntriesAreSized, SsnIsCleared, ClearingSsnIsCertified};
 
 /// No LSP id lies between an id and its successor.
@@ -71,6 +72,13 @@ pub fn hearing_leaves_own_lsps()
     ensures csnp_body { CsnpLeavesOwnBody }
     ensures current { EntriesKeepCurrent }
     ensures csnp_current { CsnpKeepsCurrent }
+{}
+
+/// Under an id of the own system version and body stay by entries and by a CSNP, or the number becomes greater, or the
+/// LSP is dead at a number that isn't lower.
+pub fn own_lsps_advance()
+    ensures entries { EntriesAdvance }
+    ensures csnp { CsnpAdvances }
 {}
 
 /// After entries or a CSNP were heard at an Up port, each LSP that is held can still be written and is read again, and
