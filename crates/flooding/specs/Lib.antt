@@ -10,3 +10,4 @@ pub mod Laws
 pub mod SettlingLaws
 pub mod Room
 pub mod RoomLaws
+pub mod Starting
