@@ -10,10 +10,10 @@ use Rattle.lsdb.specs.Entry.{Entry}
 use Rattle.lsdb.specs.Database.{Lsps, changed_to}
 use Rattle.lsdb.proofs.LookupLemmas.{get-insert_same, get-insert_other}
 use Rattle.flooding.specs.declared.own.Own.{Own}
-use Rattle.flooding.specs.Own.{last_number, own_numbers, own_number, is_own_number, body_of_number}
+use Rattle.flooding.specs.Own.{last_number, own_number, body_of_number}
 use Rattle.flooding.specs.Hearing.{Holding}
 use Rattle.flooding.specs.Origination.{next_own}
-use Rattle.flooding.specs.Starting.{started_as, started, started_all, is_last, StartsAlone, StartingIsAlone}
+use Rattle.flooding.specs.Starting.{started_as, started, started_all, is_last, StartingIsAlone}
 use Rattle.flooding.proofs.Owns.{SameOwn}
 use Rattle.flooding.proofs.OwnNumbers.{other_than, other_number}
 use Rattle.flooding.proofs.Settled.{same_then}
@@ -43,7 +43,7 @@ starting_keeps P Q (n ∷ ns) k m own h few all step same p =
     starting_keeps P Q ns (k + 1) m own (started k n h) (omega (arith, few)) all.1 step (same_then own h.own (started k n h).own same (starting_leaves_own k n h))
     (step k n h (omega (arith, few)) all.0 same p)
 
-all_own : (ns : List ℕ) (k : ℕ) (h : Holding) → SameOwn h.own (started_all ns k h).own
+pub all_own : (ns : List ℕ) (k : ℕ) (h : Holding) → SameOwn h.own (started_all ns k h).own
 all_own [] k h = (refl, refl)
 all_own (n ∷ ns) k h = same_then h.own (started k n h).own (started_all ns (k + 1) (started k n h)).own (starting_leaves_own k n h) (all_own ns (k + 1) (started k n h))
 

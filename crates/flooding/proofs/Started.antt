@@ -1,13 +1,13 @@
 -- What is held when a life begins can be sent, at no port yet, and leaves room.
-use Rattle.std.specs.Prelude.{◌≡◌, ◌≢◌, ℕ, zero, suc, ◌+◌, ◌≤◌, ◌<◌, List, [], ◌∷◌, length, Bool, true, false, Option, Some, None, nat_lt, slice_get, if◌then◌else◌, ⊤}
+use Rattle.std.specs.Prelude.{◌≡◌, ℕ, zero, suc, ◌+◌, ◌≤◌, ◌<◌, List, [], ◌∷◌, length, Bool, true, false, Option, Some, None, nat_lt, slice_get, slice_index, drop, if◌then◌else◌, ⊤}
 use Rattle.std.specs.Option.{option_and_then}
 use Rattle.std.specs.List.{AllByRecursion}
 use Rattle.std.proofs.Common.{refl, sym, ap, subst, ◌∙◌, arith, inl, inr}
 use Rattle.std.proofs.lemmas.Bool.{ltb-true, ltb-false}
+use Rattle.std.proofs.Math.Seq.{drop-cons}
 use Rattle.std.specs.FinMap.{get, insert, len}
 use Rattle.spb_types.specs.declared.address.SystemId.{SystemId}
 use Rattle.spb_types.specs.declared.address.LspId.{LspId}
-use Rattle.spb_types.specs.declared.ports.PortSet.{PortSet}
 use Rattle.spb_types.specs.Ports.{no_ports}
 use Rattle.lsdb.specs.Entry.{Entry}
 use Rattle.lsdb.specs.Database.{Lsps, changed_to}
@@ -16,10 +16,8 @@ use Rattle.flooding.specs.declared.own.Own.{Own}
 use Rattle.flooding.specs.Own.{last_number, own_numbers, own_number, body_of_number, body_in, renewed, dead_at, HaveBytes}
 use Rattle.flooding.specs.Room.{most_others, others}
 use Rattle.flooding.specs.Hearing.{Holding, HasFewOthers}
-use Rattle.flooding.specs.Origination.{next_own}
-use Rattle.flooding.specs.Placing.{holding}
 use Rattle.flooding.specs.Entries.{AllEntries, IsSendable, AreSendable, HasFlagsAt, HaveFlagsAt}
-use Rattle.flooding.specs.Laws.{HasBodies, IsOwnBody, stays, renews, ends}
+use Rattle.flooding.specs.Laws.{IsOwnBody, stays, renews, ends}
 use Rattle.flooding.specs.Starting.{started_by, started_as, started, started_all, HasNoFlags, StartingKeepsSendable, StartingKeepsFlags, StartingKeepsFew, StartingBringsFew, StartingKeepsSilence, StartingLeavesOwnBody}
 use Rattle.flooding.proofs.Owns.{SameOwn}
 use Rattle.flooding.proofs.AllEntries.{inserted}
@@ -150,3 +148,11 @@ starting_leaves_own_body last h id mine =
     all_keep (λ g. IsOwnBody h.own id (get h.db id) (get g.db id)) last h
     (λ number n g same before. body_then h.own g.own id (get h.db id) (get g.db id) (get (started number n g).db id) same.1 before (started_body number n g id))
     (stays refl)
+
+-- ---- one after another
+
+-- what is left to begin, after the next
+pub next_start : (ns : List ℕ) (k : ℕ) (h : Holding) → k < length ns → started_all (drop k ns) k h ≡ started_all (drop (k + 1) ns) (k + 1) (started k (slice_index ns k) h)
+next_start ns k h low =
+    let next : suc k ≡ k + 1 = omega arith in
+    ap (λ (ms : List ℕ). started_all ms k h) (drop-cons ns k 0 low) ∙ ap (λ j. started_all (drop j ns) (k + 1) (started k (slice_index ns k) h)) next

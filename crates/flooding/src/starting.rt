@@ -1,12 +1,13 @@
 //! The own LSPs that a life of a system begins with.
-ghost use Rattle.std.specs.Prelude.{◌≡◌, ◌<◌, OnOk, OnErr};
+ghost use Rattle.std.specs.Prelude.{◌≡◌, ◌<◌, length, OnOk, OnErr};
 ghost use Rattle.lsdb.specs.Database.{changed_to};
 ghost use Rattle.flooding.specs.Own.{own_numbers, own_number, body_of_number, HaveBytes};
 ghost use Rattle.flooding.specs.Hearing.{HasFewOthers};
-ghost use Rattle.flooding.specs.Starting.{started, started_as};
+ghost use Rattle.flooding.specs.Starting.{started, started_as, started_all};
 ghost use Rattle.flooding.specs.Placing.{holding};
 
 use crate::origination::renew;
+use crate::own::OWN_NUMBERS;
 use crate::put::put_dead;
 use crate::{FloodError, Own};
 use lsdb::Database;
@@ -41,6 +42,28 @@ pub fn begin(
         return Ok(());
     }
     own.spent = true;
+    Ok(())
+}
+
+/// Begins each own LSP above the number of this list that has its place: those that they had in the life before (0: none).
+///
+/// There is one for each own number; at most 2,047 ids are held that aren't own numbers, and each body has at least one
+/// byte. The one error is `NoMemory`.
+#[tactic(auto, unfolding(crate::specs::Own::own_numbers))]
+pub fn begin_all(
+    alloc: Global,
+    db: &mut Database,
+    own: &mut Own,
+    last: &[u32],
+) -> Result<(), NoMemory>
+    requires long { length last.now ≡ own_numbers }
+    requires few { HasFewOthers (holding db.old own.old) }
+    requires bodies { HaveBytes own.old }
+    ensures { OnOk result (holding db.new own.new ≡ started_all last.now 0 (holding db.old own.old)) }
+{
+    for number in 0..OWN_NUMBERS {
+        begin(alloc, db, own, number, last[usize::from(number)])?;
+    }
     Ok(())
 }
 
