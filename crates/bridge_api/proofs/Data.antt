@@ -105,7 +105,7 @@ pub record CanOriginate (v : BridgeView) : Type 0 where
   pub named : IsLspId (own_id v.id.system)
   pub apart : HasApart (body_of v)
 
-said_apart : (v : BridgeView) → CanOriginate v → (body : List ℕ) → body_of_number (own_of v) 0 ≡ Some body → HasApart body
+pub said_apart : (v : BridgeView) → CanOriginate v → (body : List ℕ) → body_of_number (own_of v) 0 ≡ Some body → HasApart body
 said_apart v can body is = subst HasApart (one_body (body_of v) 0 body is) can.apart
 
 pub settling_keeps_data : (stands : Test) (v : BridgeView) → CanOriginate v → Holds v → Holds (settling stands v)

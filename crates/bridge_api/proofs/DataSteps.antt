@@ -1,7 +1,6 @@
 -- The database of a bridge stays sound in every step.
 use Rattle.std.proofs.Common.{◌≡◌, ◌≢◌, inl, inr, ◌≤◌, ◌+◌, ◌-◌, ℕ, Bool, true, false, List, [], ◌∷◌, length, map, refl, sym, ap, ◌∙◌, subst, Option, Some, None, arith}
 use Rattle.std.specs.Prelude.{◌==◌, slice_set, if◌then◌else◌, ◌++◌}
-use Rattle.std.specs.FinMap.{get, empty, get-empty, len-empty}
 use Rattle.std.proofs.lemmas.Bool.{le-leb}
 use Rattle.std.proofs.lemmas.List.{length-map, length-set}
 use Rattle.std.proofs.lemmas.Option.{slice_get_within}
@@ -16,17 +15,7 @@ use Rattle.customer_learning.specs.Known.{Addresses}
 use Rattle.lsdb.specs.Version.{number_of, is_absent}
 use Rattle.lsdb.specs.Entry.{Entry}
 use Rattle.lsdb.specs.Database.{id_cmp, version_in}
-use Rattle.flooding.specs.Own.{own_id, body_in, renewed}
 use Rattle.flooding.specs.Hearing.{Holding}
-use Rattle.flooding.specs.Room.{most_others, others}
-use Rattle.flooding.specs.Origination.{next_entry, originated}
-use Rattle.flooding.specs.Entries.{AllEntries}
-use Rattle.flooding.proofs.OwnNumbers.{some_number}
-use Rattle.flooding.proofs.Few.{others_are_held, bringing_keeps_few}
-use Rattle.flooding.proofs.Brought.{originated_stands, originated_leaves_own, originated_leaves_others}
-use Rattle.flooding.proofs.SendableEntries.{origination_keeps_sendable}
-use Rattle.flooding.proofs.FlagEntries.{origination_keeps_flags}
-use Rattle.snp_sync.proofs.Fields.{origination_keeps_sized}
 use Rattle.adjacency.specs.declared.state.AdjacencyChange.{AdjacencyChange}
 use Rattle.adjacency.specs.declared.state.AdjacencyChange.TheVariants.{Kept, CameUp, LeftUp, Discarded}
 use Rattle.adjacency.specs.declared.port.Adjacency.{Adjacency}
@@ -44,7 +33,7 @@ use Rattle.bridge_api.specs.Ticking.{later, counts_lowered, expired, readied, af
 use Rattle.bridge_api.specs.Customers.{with_learned, after_entry}
 use Rattle.bridge_api.specs.Services.{with_attached, without_customer_port, with_port_forgotten}
 use Rattle.bridge_api.specs.Step.{Input, second, frame, carrier, metric, attach, detach, customer, step}
-use Rattle.bridge_api.specs.Laws.{IsSoundPort, HasConfig, IsSoundView, IsInput, ConfiguredHoldsOwn}
+use Rattle.bridge_api.specs.Laws.{IsSoundPort, HasConfig, IsSoundView, IsInput}
 use Rattle.bridge_api.proofs.Places.{got_at}
 use Rattle.bridge_api.proofs.Adjacent.{came_up, stayed_up, hello_sound, carrier_sound}
 use Rattle.bridge_api.proofs.Changes.{KeepsRest, found, LspStep, CsnpStep, PsnpStep, frame_step, idle, by_hello, by_lsp, by_csnp, by_psnp, carrier_step, metric_step, originated_if_changed_ports, tick_is, attached_to, with_attached_is}
@@ -212,52 +201,3 @@ step_holds (metric q m) v is was = metric_holds v was q m is
 step_holds (attach a) v is was = attached_holds v was v.learned (v.attached ++ a ∷ []) (config_after (attach a) v is was.config)
 step_holds (detach p) v is was = attached_holds v was (with_port_forgotten p v).learned (without_customer_port p v.attached) (config_after (detach p) v is was.config)
 step_holds (customer p bytes) v is was = lsps_of v was.database was.own.text
-
--- ---- the configured bridge
-
--- no port is Up
-none_up : (p : ℕ) (metrics : List ℕ) → up_from p (map port_without_carrier metrics) ≡ no_ports
-none_up p [] = refl
-none_up p (m ∷ metrics) = none_up (p + 1) metrics
-
-none_held : (id : LspId) → get (empty {X = Entry} {R = id_cmp}) id ≡ None
-none_held id = get-empty id_cmp id
-
-all_of_none : (P : LspId → Entry → Type 0) → AllEntries P empty
-all_of_none P id e is = absurd (let no : None ≡ Some e = sym (none_held id) ∙ is in cc)
-
-pub none_other : (system : SystemId) → others system (empty {X = Entry} {R = id_cmp}) ≤ most_others
-none_other system = omega (arith, others_are_held system (empty {X = Entry} {R = id_cmp}), len-empty id_cmp Entry)
-
-configured_own : (c : BridgeConfig) → own_entry (configured c) ≡ Some (renewed no_ports (own_id c.id.system) (body_of (bare c)) 1)
-unfolding configured
-configured_own c =
-    let v : BridgeView = bare c in
-    let h : Holding = holding_of v in
-    let id : LspId = own_id c.id.system in
-    originated_stands (up_ports v) 0 h (body_of v) refl refl
-    ∙ (ap (λ (o : Option Entry). Some (next_entry (up_ports v) id (body_of v) (number_of (version_in o)) o)) (none_held id)
-    ∙ ap (λ (up : PortSet). Some (renewed up id (body_of v) 1)) (none_up 1 c.metrics))
-
-configured_alone : (c : BridgeConfig) (id : LspId) → id ≢ own_id c.id.system → get (configured c).database id ≡ None
-unfolding configured
-configured_alone c id apart = originated_leaves_others (up_ports (bare c)) 0 (holding_of (bare c)) id apart ∙ none_held id
-
-pub configured_holds_own : ConfiguredHoldsOwn
-configured_holds_own c = record { own = configured_own c; alone = configured_alone c }
-
-pub configured_holds : (c : BridgeConfig) → IsWhole c → Holds (configured c)
-unfolding configured
-configured_holds c whole =
-    let v : BridgeView = bare c in
-    let h : Holding = holding_of v in
-    let up : PortSet = up_ports v in
-    let can : CanOriginate v = can_originate v (bare_config c whole) (omega (arith, length-map c.metrics port_without_carrier, whole.metrics, whole.ports)) (all_without_carrier c.metrics whole.each_metric) in
-    record {
-      sendable = origination_keeps_sendable up 0 h can.body (all_of_none _);
-      sized = origination_keeps_sized up 0 h can.named (all_of_none _);
-      flags = origination_keeps_flags up 0 h (all_of_none _);
-      own = ap (λ (o : Option Entry). is_absent (version_in o)) (configured_own c);
-      room = few_of v.id.system (originated up 0 h) (originated_leaves_own up 0 h).0 (bringing_keeps_few up 0 h some_number (none_other c.id.system));
-      apart = subst (λ (o : Option Entry). HasApart (body_in o)) (sym (configured_own c)) can.apart;
-    }

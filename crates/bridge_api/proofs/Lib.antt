@@ -29,3 +29,4 @@ pub mod Time
 pub mod TimeLsps
 pub mod Attached
 pub mod OneNumber
+pub mod Configured

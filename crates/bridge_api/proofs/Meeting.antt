@@ -18,7 +18,7 @@ use Rattle.adjacency.specs.Adjacency.{down, keeping, led_to, no_system, neighbou
 use Rattle.bridge_api.specs.declared.port.BridgePort.{BridgePort}
 use Rattle.bridge_api.specs.declared.config.BridgeConfig.{BridgeConfig}
 use Rattle.bridge_api.specs.View.{BridgeView, port_in, is_up_in, is_up_at}
-use Rattle.bridge_api.specs.Config.{IsWhole, port_without_carrier, configured}
+use Rattle.bridge_api.specs.Config.{IsWhole, port_without_carrier, first_life, configured}
 use Rattle.bridge_api.specs.Parsing.{Parsed, parsed}
 use Rattle.bridge_api.specs.Parsing as parsing
 use Rattle.bridge_api.specs.Hearing.{with_adjacency, heard_as, heard_hello, with_carrier_at}
@@ -30,6 +30,7 @@ use Rattle.bridge_api.proofs.Octets.{small_bytes}
 use Rattle.bridge_api.proofs.Changes.{when_false, heard_is, with_carrier_is, with_carrier_ports, with_carrier_rest, heard_hello_ports, heard_hello_rest, readied_ports, readied_rest, configured_is, configured_ports}
 use Rattle.bridge_api.proofs.Certified.{noted_keeps}
 use Rattle.bridge_api.proofs.Hellos.{hello_heard}
+use Rattle.bridge_api.proofs.Configured.{first_life_long, first_life_low}
 use Rattle.bridge_api.proofs.Sound.{configured_is_sound, steps_stay_sound}
 
 -- ---- a hello at a port that is Down
@@ -165,6 +166,7 @@ small n = record {
   vids = [];
   metrics = 10 ∷ [];
   attached = [];
+  last = first_life;
 }
 
 pub small_whole : (n : ℕ) → n < 256 → IsWhole (small n)
@@ -186,6 +188,8 @@ small_whole n low = record {
   each_attachment = tt;
   attachments_apart = tt;
   few_isids = omega arith;
+  last = first_life_long;
+  each_last = first_life_low;
 }
 
 pub some_bridge : ControlAgain → SomeBridge

@@ -7,7 +7,7 @@ use Rattle.std.proofs.lemmas.Bool.{lt-leb}
 use Rattle.std.proofs.lemmas.List.{set-set}
 use Rattle.spb_types.specs.declared.address.LspId.{LspId}
 use Rattle.spb_types.specs.declared.ports.PortSet.{PortSet}
-use Rattle.spb_types.specs.Ports.{no_ports, without_port}
+use Rattle.spb_types.specs.Ports.{without_port}
 use Rattle.spb_tlvs.specs.declared.neighbours.Neighbour.{Neighbour}
 use Rattle.isis_pdu.specs.Pdu.{LspValue, CsnpValue}
 use Rattle.spb_tlvs.specs.declared.entries.SnpEntry.{SnpEntry}
@@ -19,10 +19,9 @@ use Rattle.lsdb.specs.Entry.{Entry, srm_set_at, flagged, flags_cleared_at, aged}
 use Rattle.lsdb.specs.Database.{Lsps, version_in, each}
 use Rattle.lsdb.specs.Time.{is_live, lifetime_in}
 use Rattle.lsdb.proofs.LookupLemmas.{get-each}
-use Rattle.flooding.specs.Own.{own_id, body_of_number, renewed}
+use Rattle.flooding.specs.Own.{own_id, body_of_number}
 use Rattle.flooding.specs.Hearing.{Holding, claim_of, lsp_rule, hear_lsp_of}
 use Rattle.flooding.specs.Settling.{own_held, says, is_new, settled, kept_fresh, IsLspCurrent, AreCurrent}
-use Rattle.flooding.specs.Origination.{originated}
 use Rattle.flooding.proofs.Owns.{own_stands}
 use Rattle.flooding.proofs.HeardCurrent.{lsp_keeps_current}
 use Rattle.flooding.proofs.OwnNumbers.{some_number}
@@ -38,13 +37,11 @@ use Rattle.adjacency.specs.declared.state.AdjacencyChange.TheVariants.{Kept, Cam
 use Rattle.adjacency.specs.Adjacency.{after_hello, change_by_hello, after_carrier, change_of}
 use Rattle.spb_types.specs.declared.service.Attachment.{Attachment}
 use Rattle.bridge_api.specs.declared.port.BridgePort.{BridgePort}
-use Rattle.bridge_api.specs.declared.config.BridgeConfig.{BridgeConfig}
 use Rattle.bridge_api.specs.declared.drops.Drops.{Drops}
 use Rattle.spb_types.specs.declared.drop_reason.DropReason.TheVariants as drop
 use Rattle.bridge_api.specs.Drops.{raised_at}
 use Rattle.bridge_api.specs.View.{BridgeView, with_port_at, is_port_up, up_ports, with_drops}
 use Rattle.bridge_api.specs.Own.{neighbour_in, neighbours_from, member_of, body_of, own_of, holding_of, with_holding, own_entry, body_in, Lasts, IsAlive, originated_if_changed}
-use Rattle.bridge_api.specs.Config.{bare, configured}
 use Rattle.bridge_api.specs.Hearing.{with_csnp_due, with_adjacency, left_up, all_srm_set_at, changed_at, heard_lsp, heard_csnp, heard_psnp, after_receive, with_port_metric}
 use Rattle.bridge_api.specs.Ticking.{leaving_from, flags_cleared_at_all, counts_lowered, expired, refreshed, readied, after_sending_at, after_sending_from, after_sending, after_tick}
 use Rattle.bridge_api.specs.Customers.{with_learned, after_entry}
@@ -53,7 +50,6 @@ use Rattle.bridge_api.specs.Step.{Input, second, frame, carrier, metric, attach,
 use Rattle.bridge_api.specs.Laws.{IsSoundView, LspSettlesNothing, CsnpSettlesNothing, PsnpSettlesNothing}
 use Rattle.bridge_api.proofs.Changes.{frame_step, idle, by_hello, by_lsp, by_csnp, by_psnp, carrier_step, metric_step, originated_if_changed_ports, tick_is, attached_to, with_attached_is}
 use Rattle.bridge_api.proofs.OneNumber.{first_is}
-use Rattle.bridge_api.proofs.DataSteps.{configured_holds_own}
 
 -- unless its sequence numbers are spent, the own LSP of a bridge is alive and says what the bridge has to say
 abbrev pub IsSaying : BridgeView → Type 0
@@ -338,14 +334,3 @@ steps_stay_saying (metric q m) v was =
 steps_stay_saying (attach a) v was = attached_saying (v.attached ++ a ∷ []) v was
 steps_stay_saying (detach p) v was = attached_saying (without_customer_port p v.attached) (with_port_forgotten p v) (learned_saying (with_port_forgotten p v).learned v.drops v was)
 steps_stay_saying (customer p bytes) v was = learned_saying (after_entry p bytes v).learned (after_entry p bytes v).drops v was
-
--- ---- the configured bridge
-
-configured_body : (c : BridgeConfig) → body_of (configured c) ≡ body_of (bare c)
-unfolding configured
-configured_body c = held_body (originated (up_ports (bare c)) 0 (holding_of (bare c))) (bare c)
-
-pub configured_is_saying : (c : BridgeConfig) → IsSaying (configured c)
-configured_is_saying c fresh =
-    let own : own_entry (configured c) ≡ Some (renewed no_ports (own_id c.id.system) (body_of (bare c)) 1) = (configured_holds_own c).own in
-    (ap body_in own ∙ sym (configured_body c), subst IsAlive (sym own) (omega arith, omega arith))

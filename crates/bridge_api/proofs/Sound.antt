@@ -9,9 +9,10 @@ use Rattle.bridge_api.proofs.Attached.{with_attached_after, config_after}
 use Rattle.bridge_api.proofs.Certified.{steps_keep_bridge, step_rest}
 use Rattle.bridge_api.proofs.Data.{Holds, has_lsps}
 use Rattle.bridge_api.proofs.SoundPorts.{ports_stay_sound, config_kept, configured_config, configured_sound, configured_has_no_carrier}
-use Rattle.bridge_api.proofs.DataSteps.{step_holds, configured_holds}
+use Rattle.bridge_api.proofs.DataSteps.{step_holds}
+use Rattle.bridge_api.proofs.Configured.{configured_holds, configured_is_saying}
 use Rattle.bridge_api.proofs.Learned.{configured_learned, steps_stay_learned}
-use Rattle.bridge_api.proofs.OwnLspSteps.{IsSaying, was_saying, steps_stay_saying, configured_is_saying}
+use Rattle.bridge_api.proofs.OwnLspSteps.{IsSaying, was_saying, steps_stay_saying}
 
 own_lsp_current_by : (v : BridgeView) → IsSaying v → Holds v → IsOwnLspCurrent v
 own_lsp_current_by v saying held = record { said = λ fresh. (saying fresh).0; alive = λ fresh. (saying fresh).1; text = held.apart }
@@ -22,7 +23,7 @@ configured_is_sound c whole = record {
   few = omega (arith, (configured_has_no_carrier c whole).ports, whole.ports);
   ports = configured_sound c whole;
   database = has_lsps (configured c) (configured_holds c whole);
-  own = own_lsp_current_by (configured c) (configured_is_saying c) (configured_holds c whole);
+  own = own_lsp_current_by (configured c) (configured_is_saying c whole) (configured_holds c whole);
   learned = configured_learned c;
 }
 

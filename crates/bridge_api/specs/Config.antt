@@ -8,12 +8,13 @@ use Rattle.spb_types.specs.declared.service.Attachment.{Attachment}
 use Rattle.spb_types.specs.declared.service.VidPlan.{VidPlan}
 use Rattle.isis_pdu.specs.Grammar.{IsBytes}
 use Rattle.spb_tlvs.specs.Capability.{IsTree}
+use Rattle.flooding.specs.Own.{last_number, own_numbers}
 use Rattle.adjacency.specs.Adjacency.{down}
 use Rattle.bridge_api.specs.declared.port.BridgePort.{BridgePort}
 use Rattle.bridge_api.specs.declared.config.BridgeConfig.{BridgeConfig}
 use Rattle.bridge_api.specs.Drops.{no_drops}
 use Rattle.bridge_api.specs.View.{BridgeView}
-use Rattle.bridge_api.specs.Own.{originating}
+use Rattle.bridge_api.specs.Own.{after_begin}
 use Rattle.spb_types.specs.declared.limits.TheConstants.{GREATEST_ISID, GREATEST_METRIC, MOST_CUSTOMER_PORTS, MOST_ISIDS, MOST_PORTS, MOST_VIDS, SOURCE_IDS}
 
 -- the address of a bridge: six bytes, not all zero, with the group bit clear
@@ -67,6 +68,12 @@ pub record IsWhole (c : BridgeConfig) : Type 0 where
   pub each_attachment : AllByRecursion (IsAttachment (vids_of c.vids)) c.attached
   pub attachments_apart : ArePairwise AgreesWith c.attached
   pub few_isids : length (different (map (λ a. a.isid.value) c.attached)) ≤ MOST_ISIDS
+  pub last : length c.last ≡ own_numbers
+  pub each_last : AllByRecursion (λ n. n ≤ last_number) c.last
+
+-- in a first life no own LSP had a number yet
+abbrev pub first_life : List ℕ
+first_life = replicate own_numbers 0
 
 -- a port without carrier, with this metric
 abbrev pub port_without_carrier : ℕ → BridgePort
@@ -87,6 +94,6 @@ bare c = record {
   drops = no_drops;
 }
 
--- the bridge right after its configuration: it has originated its own LSP, at number 1
+-- the bridge right after its configuration: each of its own LSPs begins above the number that it had in the life before
 unfoldable pub configured : BridgeConfig → BridgeView
-configured c = originating (bare c)
+configured c = after_begin c.last (bare c)

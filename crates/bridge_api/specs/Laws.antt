@@ -8,7 +8,7 @@ use Rattle.spb_types.specs.declared.address.LspId.{LspId}
 use Rattle.spb_types.specs.declared.service.Vid.{Vid}
 use Rattle.spb_types.specs.declared.service.Isid.{Isid}
 use Rattle.spb_types.specs.declared.service.Attachment.{Attachment}
-use Rattle.spb_types.specs.Ports.{has, no_ports}
+use Rattle.spb_types.specs.Ports.{has}
 use Rattle.isis_pdu.specs.Pdu.{HelloValue, LspValue, CsnpValue, PsnpValue}
 use Rattle.isis_pdu.specs.Spelling.{hello_bytes, lsp_bytes, csnp_bytes, psnp_bytes}
 use Rattle.isis_pdu.specs.Grammar.{IsBytes}
@@ -23,12 +23,13 @@ use Rattle.lsdb.specs.Version.{is_absent}
 use Rattle.lsdb.specs.Entry.{Entry}
 use Rattle.lsdb.specs.Database.{version_in, srm_in, ssn_in, version_at}
 use Rattle.lsdb.specs.Certificate.{Claim, IsClaimed, Certificate}
-use Rattle.flooding.specs.Own.{own_id, renewed}
+use Rattle.flooding.specs.Own.{own_id}
 use Rattle.flooding.specs.Room.{most_others, others}
 use Rattle.flooding.specs.Hearing.{claim_of}
 use Rattle.flooding.specs.Sending.{lsp_in}
 use Rattle.flooding.specs.Entries.{AreSendable, HaveFlagsAt}
 use Rattle.flooding.specs.Laws.{HasBodies}
+use Rattle.flooding.specs.Starting.{StartsAlone}
 use Rattle.snp_sync.specs.Sized.{AreSized}
 use Rattle.snp_sync.specs.Reading.{entries_in}
 use Rattle.snp_sync.specs.Hearing.{claims_in}
@@ -41,7 +42,7 @@ use Rattle.adjacency.specs.Adjacency.{IsSound, said}
 use Rattle.bridge_api.specs.declared.port.BridgePort.{BridgePort}
 use Rattle.bridge_api.specs.declared.config.BridgeConfig.{BridgeConfig}
 use Rattle.bridge_api.specs.View.{BridgeView, IsPort, port_at, neighbour_at, is_up_at, has_carrier_at, is_csnp_due_at, is_port_up, metrics_of, up_ports, control_of}
-use Rattle.bridge_api.specs.Own.{local_of, body_of, own_of, own_entry, originated_if_changed, IsOwnLspCurrent}
+use Rattle.bridge_api.specs.Own.{local_of, own_of, holding_of, originated_if_changed, IsOwnLspCurrent}
 use Rattle.spb_types.specs.declared.limits.TheConstants.{MOST_ISIDS, MOST_PORTS, MOST_VIDS, SOURCE_IDS}
 use Rattle.bridge_api.specs.Config.{IsWhole, IsOwnMac, IsMetric, IsAttachment, AgreesWith, ArePairwise, different, vids_of, bare, configured}
 use Rattle.bridge_api.specs.Parsing.{Parsed, hello_in, parsed, is_hello}
@@ -114,13 +115,9 @@ pub record IsWithoutCarrier (c : BridgeConfig) (v : BridgeView) : Type 0 where
 abbrev pub ConfiguredHasNoCarrier : Type 0
 ConfiguredHasNoCarrier = (c : BridgeConfig) → IsWhole c → IsWithoutCarrier c (configured c)
 
--- its own LSP, alone, is live at number 1 for 1,200 seconds with what it says, and no flag stands
-pub record HoldsOwnAlone (c : BridgeConfig) (v : BridgeView) : Type 0 where
-  pub own : own_entry v ≡ Some (renewed no_ports (own_id c.id.system) (body_of (bare c)) 1)
-  pub alone : (id : LspId) → id ≢ own_id c.id.system → get v.database id ≡ None
-
-abbrev pub ConfiguredHoldsOwn : Type 0
-ConfiguredHoldsOwn = (c : BridgeConfig) → HoldsOwnAlone c (configured c)
+-- it holds of its own numbers what they begin with above those of the life before, and nothing else
+abbrev pub ConfiguredStarts : Type 0
+ConfiguredStarts = (c : BridgeConfig) → IsWhole c → StartsAlone c.last (holding_of (bare c)) (holding_of (configured c))
 
 -- what can come to a bridge: a metric is one of a link; a customer port can be attached so, or is attached; and a
 -- customer's frame enters at one that is

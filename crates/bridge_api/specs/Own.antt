@@ -10,7 +10,7 @@ use Rattle.flooding.specs.declared.own.Own.{Own}
 pub use Rattle.flooding.specs.Own.{body_in}
 use Rattle.flooding.specs.Own.{own_id, tlvs_of_body}
 use Rattle.flooding.specs.Hearing.{Holding}
-use Rattle.flooding.specs.Origination.{originated}
+use Rattle.flooding.specs.Starting.{started_all}
 pub use Rattle.flooding.specs.Settling.{Lasts, IsAlive}
 use Rattle.flooding.specs.Settling.{settled}
 use Rattle.spb_content.specs.declared.local.Local.{Local}
@@ -72,9 +72,9 @@ pub record IsOwnLspCurrent (v : BridgeView) : Type 0 where
   pub alive : v.spent ≡ false → IsAlive (own_entry v)
   pub text : HasPorts (content_in (tlvs_of_body (body_in (own_entry v))))
 
--- after an origination
-abbrev pub originating : BridgeView → BridgeView
-originating v = with_holding (originated (up_ports v) 0 (holding_of v)) v
+-- after each of its own LSPs began above the number of this list that has its place
+abbrev pub after_begin : List ℕ → BridgeView → BridgeView
+after_begin last v = with_holding (started_all last 0 (holding_of v)) v
 
 -- a bridge after its own LSP was brought up to its content: it originates where its LSP isn't live or says something
 -- else. One whose sequence numbers are spent originates no more

@@ -16,7 +16,7 @@ use Rattle.adjacency.specs.Adjacency.{down, neighbour_of}
 use Rattle.bridge_api.specs.declared.config.BridgeConfig.{BridgeConfig}
 use Rattle.bridge_api.specs.View.{BridgeView, adjacency_at, neighbour_at, is_up_at, up_ports}
 use Rattle.bridge_api.specs.Own.{body_of, own_entry, body_in}
-use Rattle.bridge_api.specs.Config.{IsWhole, configured}
+use Rattle.bridge_api.specs.Config.{IsWhole, first_life, configured}
 use Rattle.bridge_api.specs.Parsing.{parsed, hello_in}
 use Rattle.bridge_api.specs.Step.{Input, second, frame, carrier, metric, attach, detach, customer, step}
 use Rattle.bridge_api.specs.Laws.{IsSoundView}
@@ -184,13 +184,15 @@ IsAlone v = (p : ℕ) → is_up_at v p ≡ false
 abbrev pub AloneStaysAlone : Type 0
 AloneStaysAlone = (v : BridgeView) (k : ℕ) → IsAlone v → IsAlone (seconds k v) × SaysTheSame k v
 
--- so a bridge just configured and left to itself originates every 900 seconds: after 900 j and fewer than 900 seconds
--- more, its own LSP is at number j + 1, and what is left of its lifetime is 1,200 less those seconds
+-- so a bridge just configured, in its first life, and left to itself originates every 900 seconds: after 900 j and
+-- fewer than 900 seconds more, its own LSP is at number j + 1, and what is left of its lifetime is 1,200 less those
+-- seconds
 pub record IsAtNumber (seq left : ℕ) (v : BridgeView) : Type 0 where
   pub number : own_sequence_number v ≡ seq
   pub lifetime : lifetime_in (own_entry v) ≡ left
   pub spent : v.spent ≡ false
 
 abbrev pub EveryNineHundred : Type 0
-EveryNineHundred = (c : BridgeConfig) (j k left : ℕ) → IsWhole c → j < last_number → left + k ≡ 1200 → 301 ≤ left
+EveryNineHundred = (c : BridgeConfig) (j k left : ℕ) → IsWhole c → c.last ≡ first_life → j < last_number
+    → left + k ≡ 1200 → 301 ≤ left
     → IsAtNumber (j + 1) left (seconds (k + 900 * j) (configured c))

@@ -45,7 +45,8 @@ pub trait Bridge: Drop {
         ensures failed { result ≡ (shown self.now).view.failed }
         ensures made { result ≡ true → (shown self.now).blank ≡ false };
 
-    /// Makes the blank bridge that of a whole configuration. There is no carrier afterwards.
+    /// Makes the blank bridge that of a whole configuration. Each of its own LSPs begins above the number that it had in
+    /// the life before, and there is no carrier afterwards.
     fn configure(&mut self, config: &BridgeConfig) -> Result<(), NoMemory>
         requires blank { (shown self.old).blank ≡ true }
         requires whole { IsWhole config.now }

@@ -40,7 +40,7 @@
 #![tactic(auto)]
 
 pub use bridge::Bridge;
-pub use config::BridgeConfig;
+pub use config::{BridgeConfig, first_life};
 pub use drops::Drops;
 pub use kind::Kind;
 pub use outbox::Outbox;

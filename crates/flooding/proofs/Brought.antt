@@ -264,7 +264,7 @@ len_insert false n m is = omega (arith, is)
 insert_few : (db : Lsps) (id : LspId) (e : Entry) → len (insert db id e) ≤ len db + 1
 insert_few db id e = len_insert (contains_key db id) (len (insert db id e)) (len db) (len-insert ids_total db id e)
 
-change_few : (db : Lsps) (id : LspId) (o : Option Entry) → len (changed_to db id o) ≤ len db + 1
+pub change_few : (db : Lsps) (id : LspId) (o : Option Entry) → len (changed_to db id o) ≤ len db + 1
 change_few db id None = omega arith
 change_few db id (Some e) = insert_few db id e
 

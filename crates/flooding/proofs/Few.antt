@@ -9,7 +9,7 @@ use Rattle.spb_types.specs.declared.address.SystemId.{SystemId}
 use Rattle.spb_types.specs.declared.address.LspId.{LspId}
 use Rattle.lsdb.specs.Version.{number_of}
 use Rattle.lsdb.specs.Entry.{Entry, purged}
-use Rattle.lsdb.specs.Database.{Lsps, version_in, changed_to, each}
+use Rattle.lsdb.specs.Database.{Lsps, version_in, changed_to}
 use Rattle.lsdb.proofs.LookupLemmas.{entries-each}
 use Rattle.flooding.specs.Own.{own_numbers, own_number, is_own_number}
 use Rattle.flooding.specs.Room.{most_others, others, others_among, others_at, has_room}

@@ -23,6 +23,10 @@ numbers_and_others : own_numbers + most_others ≡ MOST_LSPS
 unfolding own_numbers
 numbers_and_others = refl
 
+pub room_for_many : most_others ≡ 2047
+unfolding own_numbers
+room_for_many = refl
+
 -- how many more others there are with this id
 abbrev counted : SystemId → LspId → ℕ
 counted s id = if is_own_number s id then 0 else 1

@@ -45,7 +45,7 @@ absent_below (Dead seq) h beyond is = cc
 module _ (up : PortSet) where
   -- ---- sets of ports
 
-  none_up : (p : ℕ) → has no_ports p ≡ true → has up p ≡ true
+  pub none_up : (p : ℕ) → has no_ports p ≡ true → has up p ≡ true
   none_up p h = absurd (false≢true (sym (has-no_ports p) ∙ h))
 
   module _ (port : ℕ) (is_up : has up port ≡ true) where

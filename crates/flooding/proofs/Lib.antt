@@ -23,3 +23,5 @@ pub mod Rest
 pub mod Room
 pub mod Fits
 pub mod Few
+pub mod Begun
+pub mod Started

@@ -47,7 +47,7 @@ sound_dead : (id : LspId) (seq sum flags : ℕ) → IsTrue (is_sound_lsp (record
 unfolding is_sound_lsp
 sound_dead id seq sum flags = refl
 
-dead_sendable : (id : LspId) (seq : ℕ) (srm ssn : PortSet) → 1 ≤ seq → IsSendable id (made (Dead seq) 0 [] srm ssn)
+pub dead_sendable : (id : LspId) (seq : ℕ) (srm ssn : PortSet) → 1 ≤ seq → IsSendable id (made (Dead seq) 0 [] srm ssn)
 dead_sendable id seq srm ssn numbered = record { numbered = numbered; clean = (refl, refl); written = can_write_none; sound = sound_dead id seq 0 1 }
 
 absent_sendable : (id : LspId) (srm ssn : PortSet) → IsSendable id (made Absent 0 [] srm ssn)

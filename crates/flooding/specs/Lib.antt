@@ -11,3 +11,4 @@ pub mod Advancing
 pub mod SettlingLaws
 pub mod Room
 pub mod RoomLaws
+pub mod Starting

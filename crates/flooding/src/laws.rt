@@ -3,6 +3,8 @@ ghost use Rattle.std.specs.Prelude.{◌≡◌};
 ghost use Rattle.flooding.specs.Laws.{HearingLspIsCertified, HearingEntryIsCertified, AnsweringIsCertified, BringingIsCertified, OthersStand, LspStands, EntryStands, FullStands, FittingIsNotFull, HeardIsAtMostHeld, StoredFlags, FloodedFlags, AskedFlags, AckedFlags, ClearedFlags, OfferedFlags, FlaggedFlags, SetSrmFlags, ClearedPortFlags, AgedFlags, ExpiredFlags, SpentFlags, OwnStands, OwnIsNotSpent, LspLeavesOwn, EntryLeavesOwn, LspLeavesOwnBody, EntryLeavesOwnBody, BringingLeavesOwnBody, OriginatedStands, BringingLeavesOthers, BringingLeavesOwn, BringingIsNotSpent, IdsNameLsps, SentIsHeld, SentIsRead, ReadIsWhole, ClaimIsNumbered, LspKeepsSendable, EntryKeepsSendable, BringingKeepsSendable, AgeingKeepsSendable, FlagsKeepSendable, LspKeepsFlags, EntryKeepsFlags, BringingKeepsFlags};
 ghost use Rattle.flooding.specs.Advancing.{AdvancesCompose, LspAdvances, EntryAdvances, OriginationAdvances, PurgeAdvances, SettlingAdvances, AgeingAdvances};
 ghost use Rattle.flooding.specs.SettlingLaws.{SettlingIsCertified, SettlingStands, SettlingLeavesOthers, SettlingLeavesOwn, SettlingLeavesOwnBody, SettlingGoesOneFurther, SettlingDoesntSpend, SettlingBringsFew, SettlingKeepsSendable, SettlingKeepsFlags, SettlingKeepsSilence, SettlingRenews, SettlingSpends, SettledIsCurrent, FreshIsCurrent, CurrentIsSettled, LspKeepsCurrent, EntryKeepsCurrent};
+ghost use Rattle.flooding.specs.Starting.{StartingIsAlone, StartingKeepsSendable, StartingKeepsFlags, StartingKeepsFew, StartingBringsFew, StartingKeepsSilence, StartingLeavesOwnBody};
+ghost use Rattle.flooding.specs.Room.{most_others};
 ghost use Rattle.flooding.specs.RoomLaws.{FewOwn, OthersAreHeld, RoomFits, PuttingKeepsFew, ChangingKeepsOthers, HearingKeepsFew, BringingKeepsFew, SettlingKeepsFew};
 ghost use Rattle.flooding.specs.declared.origination.TheConstants.{MAX_AGE};
 
@@ -144,9 +146,23 @@ pub fn own_lsps_live_1200_seconds()
     ensures { MAX_AGE ≡ 1200 }
 {}
 
+/// A life that begins holds each own LSP above the number of the life before, and no other. What it holds can be sent, its
+/// bodies are those of the system, nothing is to be sent or acknowledged yet, and no other ids come.
+pub fn a_life_begins_above_the_one_before()
+    ensures alone { StartingIsAlone }
+    ensures sendable { StartingKeepsSendable }
+    ensures flags { StartingKeepsFlags }
+    ensures few { StartingKeepsFew }
+    ensures brings { StartingBringsFew }
+    ensures silence { StartingKeepsSilence }
+    ensures body { StartingLeavesOwnBody }
+{}
+
 /// While few ids are held that aren't own numbers, an own number has a place in the database, and another id has one
-/// until they are as many as leave it to the own numbers. Few they stay, whatever is heard, changed and brought up to date.
+/// until 2,047 are held, as many as leave it to the own numbers. Few they stay, whatever is heard, changed and brought up to
+/// date.
 pub fn own_numbers_have_room()
+    ensures many { most_others ≡ 2047 }
     ensures few { FewOwn }
     ensures held { OthersAreHeld }
     ensures fits { RoomFits }

@@ -15,6 +15,7 @@ pub use put::put_near;
 pub use rules::{acknowledge, offer};
 pub use send::{lsp_of, to_send, write_held};
 pub use settling::{keep_fresh, settle};
+pub use starting::{begin, begin_all};
 
 mod error;
 mod hear;
@@ -26,3 +27,4 @@ mod put;
 mod rules;
 mod send;
 mod settling;
+mod starting;

@@ -1,5 +1,5 @@
 -- What a PDU says of every LSP can be written, whatever was heard, originated or aged.
-use Rattle.std.specs.Prelude.{◌≡◌, ℕ, ◌+◌, ◌-◌, ◌<◌, ◌^◌, Bool, true, false, ◌==◌, List, [], ◌∷◌, Option, Some, None, nat_lt, nat_le, if◌then◌else◌}
+use Rattle.std.specs.Prelude.{◌≡◌, ℕ, ◌+◌, ◌-◌, ◌<◌, ◌≤◌, ◌^◌, Bool, true, false, ◌==◌, List, [], ◌∷◌, Option, Some, None, nat_lt, nat_le, if◌then◌else◌}
 use Rattle.std.proofs.Common.{refl, sym, ap, subst, ◌∙◌, arith, lit<}
 use Rattle.std.proofs.lemmas.Bool.{ltb-true}
 use Rattle.std.specs.Option.{option_map}
@@ -7,6 +7,7 @@ use Rattle.std.specs.FinMap.{get}
 use Rattle.spb_types.specs.declared.address.SystemId.{SystemId}
 use Rattle.spb_types.specs.declared.address.LspId.{LspId}
 use Rattle.spb_types.specs.declared.ports.PortSet.{PortSet}
+use Rattle.spb_types.specs.Ports.{no_ports}
 use Rattle.isis_pdu.specs.Pdu.{LspValue}
 use Rattle.isis_pdu.proofs.Sums.{lsp_sum-bytes}
 use Rattle.spb_tlvs.specs.declared.entries.SnpEntry.{SnpEntry}
@@ -26,9 +27,11 @@ use Rattle.flooding.proofs.AllEntries.{inserted, all_changed, all_after_claim}
 use Rattle.flooding.proofs.OwnNumbers.{few_numbers}
 use Rattle.flooding.proofs.Brought.{next_of, originated_keeps, brought_keeps}
 use Rattle.flooding.proofs.Settled.{settling_beside}
+use Rattle.flooding.proofs.Begun.{starting_keeps}
+use Rattle.flooding.proofs.Started.{entries_started}
 use Rattle.snp_sync.specs.Sized.{IsLspId, IsSized, AreSized, IsSizedEntry}
 use Rattle.snp_sync.specs.Hearing.{claim_in, claims_in, hear_entries_of, ids_of, is_missed, flag_if}
-use Rattle.snp_sync.specs.HearingLaws.{EntriesKeepSized, CsnpKeepsSized, LspKeepsSized, OriginationKeepsSized, SettlingKeepsSized, AgeingKeepsSized, FlagsKeepSized}
+use Rattle.snp_sync.specs.HearingLaws.{EntriesKeepSized, CsnpKeepsSized, LspKeepsSized, OriginationKeepsSized, SettlingKeepsSized, StartingKeepsSized, AgeingKeepsSized, FlagsKeepSized}
 use Rattle.snp_sync.proofs.Stays.{all_each}
 
 -- ---- entries made anew
@@ -183,6 +186,15 @@ pub settling_keeps_sized : SettlingKeepsSized
 settling_keeps_sized test up h named all =
     settling_beside (λ g. AreSized g.db) test up h
     (λ number g below same before. brought_sized up number g (subst (λ (s : SystemId). IsLspId (own_number s number)) (sym same.0) (own_named h.own.system number named below)) before) all
+
+pub starting_keeps_sized : StartingKeepsSized
+starting_keeps_sized last h long low named all =
+    starting_keeps (λ g. AreSized g.db) (λ n. n ≤ last_number) last 0 own_numbers h.own h (omega (arith, long)) low
+    (λ number n g below most same before.
+    let id = own_number g.own.system number in
+    let mine : IsLspId id = subst (λ (s : SystemId). IsLspId (own_number s number)) (sym same.0) (own_named h.own.system number named below) in
+    entries_started IsSized number n g before (λ body is low. renewed_sized no_ports id body n mine low) (λ some. dead_sized id n no_ports no_ports mine (omega (arith, most))))
+    (refl, refl) all
 
 aged_by : (up : PortSet) (id : LspId) (e : Entry) (v : Version) → e.version ≡ v → IsSized id e → IsSized id (aged_at up e v)
 aged_by up id e Absent is s = s

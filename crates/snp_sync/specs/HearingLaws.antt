@@ -1,5 +1,5 @@
 -- What hearing sequence numbers PDUs comes to.
-use Rattle.std.specs.Prelude.{◌≡◌, ◌≢◌, ℕ, ◌<◌, List, ◌∷◌, ◌++◌, true, false, Option, Some}
+use Rattle.std.specs.Prelude.{◌≡◌, ◌≢◌, ℕ, ◌<◌, ◌≤◌, List, ◌∷◌, ◌++◌, length, true, false, Option, Some}
 use Rattle.std.specs.Option.{option_map}
 use Rattle.std.specs.List.{AllByRecursion}
 use Rattle.std.specs.FinMap.{get}
@@ -15,10 +15,11 @@ use Rattle.lsdb.specs.Version.{number_of, relation}
 use Rattle.lsdb.specs.Entry.{Entry, with_flags, aged}
 use Rattle.lsdb.specs.Database.{version_in, srm_in, ssn_in}
 use Rattle.lsdb.specs.Certificate.{Claim, Certificate}
-use Rattle.flooding.specs.Own.{last_number, own_id, own_number}
+use Rattle.flooding.specs.Own.{last_number, own_numbers, own_id, own_number}
 use Rattle.flooding.specs.Hearing.{Holding, HasFewOthers, hear_lsp_of, hear_entry_of, is_full_for_entry}
 use Rattle.flooding.specs.Origination.{originated}
 use Rattle.flooding.specs.Settling.{Test, settled_by, AreCurrent}
+use Rattle.flooding.specs.Starting.{started_all}
 use Rattle.flooding.specs.Entries.{IsNumbered, AreSendable, HaveFlagsAt}
 use Rattle.flooding.specs.Laws.{control, HasBodies, IsOwnBody}
 use Rattle.snp_sync.specs.Sized.{IsLspId, IsSized, AreSized, IsSizedEntry}
@@ -165,6 +166,12 @@ OriginationKeepsSized = (up : PortSet) (number : ℕ) (h : Holding) → IsLspId 
 abbrev pub SettlingKeepsSized : Type 0
 SettlingKeepsSized = (test : Test) (up : PortSet) (h : Holding) → IsLspId (own_id h.own.system) → AreSized h.db
     → AreSized (settled_by test up h).db
+
+-- after a life began above numbers that an LSP can have
+abbrev pub StartingKeepsSized : Type 0
+StartingKeepsSized = (last : List ℕ) (h : Holding) → length last ≤ own_numbers
+    → AllByRecursion (λ n. n ≤ last_number) last → IsLspId (own_id h.own.system) → AreSized h.db
+    → AreSized (started_all last 0 h).db
 
 -- after a second, and with other flags
 abbrev pub AgeingKeepsSized : Type 0

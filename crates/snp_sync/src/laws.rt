@@ -1,5 +1,5 @@
 //! The laws of sequence numbers PDUs. Each is the contract of a function that does nothing.
-ghost use Rattle.snp_sync.specs.HearingLaws.{EntriesAreCertified, CsnpIsCertified, UnnamedStands, LastClaimStands, EntryIsServed, CsnpStands, MissedIsSent, EntriesLeaveOwn, EntriesDontSpend, EntriesLeaveOwnBody, CsnpLeavesOwnBody, EntriesKeepCurrent, CsnpKeepsCurrent, ClaimsAreNumbered, EntriesKeepFew, CsnpKeepsFew, EntriesKeepSendable, CsnpKeepsSendable, EntriesKeepFlags, CsnpKeepsFlags, EntriesKeepSized, CsnpKeepsSized, LspKeepsSized, OriginationKeepsSized, SettlingKeepsSized, AgeingKeepsSized, FlagsKeepSized};
+ghost use Rattle.snp_sync.specs.HearingLaws.{EntriesAreCertified, CsnpIsCertified, UnnamedStands, LastClaimStands, EntryIsServed, CsnpStands, MissedIsSent, EntriesLeaveOwn, EntriesDontSpend, EntriesLeaveOwnBody, CsnpLeavesOwnBody, EntriesKeepCurrent, CsnpKeepsCurrent, ClaimsAreNumbered, EntriesKeepFew, CsnpKeepsFew, EntriesKeepSendable, CsnpKeepsSendable, EntriesKeepFlags, CsnpKeepsFlags, EntriesKeepSized, CsnpKeepsSized, LspKeepsSized, OriginationKeepsSized, SettlingKeepsSized, StartingKeepsSized, AgeingKeepsSized, FlagsKeepSized};
 ghost use Rattle.snp_sync.specs.Advancing.{EntriesAdvance, CsnpAdvances};
 ghost use Rattle.snp_sync.specs.SendingLaws.{SuccessorIsNext, SuccessorIsId, EntryClaimsWhatIsHeld, RangesCoverOnce, CsnpChunksListTheirRanges, CsnpChunksAreShort, CsnpChunksEndAtIds, CsnpChunksClaimWhatIsHeld, CsnpChunksListWhatIsHeld, CsnpIsRead, EntriesAreRead, CsnpEntriesAreRead, CsnpEntriesAreSized, PsnpChunksAreWhole, PsnpChunksAreShort, PsnpChunksClaimWhatIsHeld, PsnpChunksListWhatIsHeld, PsnpIsRead, PsnpEntriesAreRead, PsnpEntriesAreSized, SsnIsCleared, ClearingSsnIsCertified};
 
@@ -93,13 +93,15 @@ pub fn entries_stay_sound()
     ensures csnp_flags { CsnpKeepsFlags }
 {}
 
-/// Of every LSP that is held an entry of a PDU can tell, whatever is heard, originated or aged.
+/// Of every LSP that is held an entry of a PDU can tell, whatever a life begins with and is heard, originated or aged in
+/// it.
 pub fn entries_stay_writable()
     ensures entries { EntriesKeepSized }
     ensures csnp { CsnpKeepsSized }
     ensures lsp { LspKeepsSized }
     ensures origination { OriginationKeepsSized }
     ensures settling { SettlingKeepsSized }
+    ensures starting { StartingKeepsSized }
     ensures ageing { AgeingKeepsSized }
     ensures flags { FlagsKeepSized }
 {}
