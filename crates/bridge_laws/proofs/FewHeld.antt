@@ -1,7 +1,7 @@
 -- How much a bridge holds after a few steps: in each it originates once at most, and nothing else goes in but what it hears.
-use Rattle.std.proofs.Common.{◌≡◌, ◌≤◌, ◌<◌, ◌+◌, ℕ, Bool, [], ◌∷◌, length, refl, sym, ap, ◌∙◌, subst, Option, arith}
+use Rattle.std.proofs.Common.{◌≡◌, ◌≤◌, ◌<◌, ◌+◌, ℕ, Bool, [], ◌∷◌, length, sym, ap, ◌∙◌, subst, Option, arith}
 use Rattle.std.specs.Prelude.{is_some, ◌++◌}
-use Rattle.std.specs.FinMap.{get, entries, len, get-empty, len-empty, len-entries}
+use Rattle.std.specs.FinMap.{get, entries, len, len-empty, len-entries}
 use Rattle.std.proofs.lemmas.List.{length-map}
 use Rattle.spb_types.specs.declared.address.SystemId.{SystemId}
 use Rattle.spb_types.specs.declared.address.LspId.{LspId}
@@ -12,15 +12,14 @@ use Rattle.lsdb.specs.Database.{Lsps, id_cmp, version_in, version_at, each}
 use Rattle.lsdb.proofs.LookupLemmas.{get-each}
 use Rattle.flooding.specs.Own.{own_id, last_number}
 use Rattle.flooding.specs.Hearing.{Holding}
+use Rattle.flooding.specs.Starting.{started_all}
 use Rattle.flooding.specs.Settling.{Test, settled_by}
 use Rattle.flooding.specs.declared.own.Own.{Own}
-use Rattle.flooding.proofs.Brought.{originated_few, originated_is_not_spent}
-use Rattle.flooding.specs.Origination.{originated}
-use Rattle.bridge_api.proofs.DataSteps.{configured_holds_own}
+use Rattle.flooding.proofs.Started.{starting_brings_few}
+use Rattle.bridge_api.proofs.Configured.{first_life_long, configured_unspent, configured_holds_own}
 use Rattle.bridge_api.proofs.OneNumber.{one_number}
 use Rattle.flooding.proofs.Settled.{settling_brings_few, settling_goes_one_further, settling_doesnt_spend}
-use Rattle.bridge_api.specs.declared.config.BridgeConfig.{BridgeConfig}
-use Rattle.bridge_api.specs.View.{BridgeView, up_ports}
+use Rattle.bridge_api.specs.View.{BridgeView}
 use Rattle.bridge_api.specs.Own.{holding_of}
 use Rattle.bridge_api.specs.Config.{bare, configured}
 use Rattle.bridge_api.specs.Parsing.{Parsed, hello_in}
@@ -64,25 +63,17 @@ few_grows = record { more = one_more; stays = within_each; settles = within_sett
 pub few_readied : (k : ℕ) (v : BridgeView) → k < last_number → HoldsFew k v → HoldsFew (k + 1) (readied v)
 few_readied k v low w = readied_grows Within few_grows k v low w
 
-few_bare : (c : BridgeConfig) → HoldsFew 0 (bare c)
-few_bare c = record {
-  few = omega (arith, len-empty id_cmp);
-  number = subst (λ (o : Option Entry). number_of (version_in o) ≤ 0) (sym (get-empty id_cmp (own_id c.id.system))) (omega arith);
-  unspent = refl;
-}
-
 pub configured_holds_few : ConfiguredHoldsFew
 unfolding configured
-configured_holds_few c =
+configured_holds_few c first =
     let h : Holding = holding_of (bare c) in
-    let up : PortSet = up_ports (bare c) in
-    let bare_few : HoldsFew 0 (bare c) = few_bare c in
+    let one : length c.last ≡ 1 = ap length first ∙ first_life_long ∙ one_number in
     record {
-      few = omega (arith, originated_few up 0 h, bare_few.few);
+      few = omega (arith, starting_brings_few c.last h, len-empty id_cmp Entry, one);
       number =
-          let is : number_of (version_at (originated up 0 h).db (own_id c.id.system)) ≡ 1 = ap (λ (o : Option Entry). number_of (version_in o)) (configured_holds_own c).own in
+          let is : number_of (version_at (started_all c.last 0 h).db (own_id c.id.system)) ≡ 1 = ap (λ (o : Option Entry). number_of (version_in o)) (configured_holds_own c first).own in
           omega (arith, is);
-      unspent = ap (λ (own : Own). own.spent) (originated_is_not_spent up 0 h (omega (arith, bare_few.number)));
+      unspent = configured_unspent c first;
     }
 
 pub steps_hold_few : StepsHoldFew

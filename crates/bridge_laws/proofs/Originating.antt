@@ -159,10 +159,10 @@ pub steps_dont_spend : StepsDontSpend
 steps_dont_spend input v was far = dont_spend_by (is_claiming input) input v refl was far
 
 pub configured_is_far : ConfiguredIsFar
-configured_is_far c input low = record {
-  fresh = (configured_holds_few c).unspent;
+configured_is_far c input first low = record {
+  fresh = (configured_holds_few c first).unspent;
   own = λ id own. subst (λ (x : LspId). number_of (version_at (configured c).database x) < last_number) (sym (own_is (configured c).id.system id own))
-      (omega (arith, (configured_holds_few c).number));
+      (omega (arith, (configured_holds_few c first).number));
   claims = low;
 }
 
@@ -171,5 +171,5 @@ some_is_far = record {
   config = small 1;
   whole = small_whole 1 (omega arith);
   sound = configured_is_sound (small 1) (small_whole 1 (omega arith));
-  far = configured_is_far (small 1) second (λ id a claimed. absurd claimed);
+  far = configured_is_far (small 1) second refl (λ id a claimed. absurd claimed);
 }

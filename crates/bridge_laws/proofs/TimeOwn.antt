@@ -4,7 +4,7 @@ use Rattle.std.proofs.Common.{◌≡◌, ◌≢◌, ◌⊎◌, inl, inr, ℕ, ze
 use Rattle.std.specs.Prelude.{◌&&◌, not, nat_le, slice_get, if◌then◌else◌}
 use Rattle.std.specs.Str.{bytes_eq}
 use Rattle.std.specs.Option.{option_map, option_and_then}
-use Rattle.std.specs.FinMap.{get, empty, get-empty}
+use Rattle.std.specs.FinMap.{get}
 use Rattle.std.proofs.lemmas.Bool.{le-leb, lt-leb, and_parts, true≢false}
 use Rattle.std.proofs.lemmas.Slice.Eq.{bytes_eq-Decides}
 use Rattle.spb_types.specs.declared.address.SystemId.{SystemId}
@@ -17,7 +17,7 @@ use Rattle.lsdb.specs.declared.version.Version.{Version}
 use Rattle.lsdb.specs.declared.version.Version.TheVariants.{Absent, Live, Dead}
 use Rattle.lsdb.specs.Version.{number_of, is_absent}
 use Rattle.lsdb.specs.Entry.{Entry, with_ssn}
-use Rattle.lsdb.specs.Database.{Lsps, id_cmp, version_in, version_at}
+use Rattle.lsdb.specs.Database.{Lsps, version_in}
 use Rattle.lsdb.specs.Time.{lifetime_in, is_live}
 use Rattle.lsdb.proofs.LookupLemmas.{get-each}
 use Rattle.flooding.specs.declared.own.Own.{Own}
@@ -25,7 +25,6 @@ use Rattle.flooding.specs.Own.{last_number, own_id, renewed}
 use Rattle.flooding.specs.Hearing.{Holding}
 use Rattle.flooding.specs.Origination.{spent_entry}
 use Rattle.flooding.specs.Settling.{own_held, is_old, is_new, is_said, is_fresh}
-use Rattle.flooding.proofs.Brought.{originated_is_not_spent}
 use Rattle.flooding.proofs.OwnNumbers.{some_number}
 use Rattle.flooding.proofs.Current.{says_both}
 use Rattle.bridge_api.proofs.OneNumber.{first_is}
@@ -39,7 +38,7 @@ use Rattle.bridge_api.specs.declared.drops.Drops.{Drops}
 use Rattle.bridge_api.specs.declared.config.BridgeConfig.{BridgeConfig}
 use Rattle.bridge_api.specs.View.{BridgeView, port_at, neighbour_at, is_port_up, is_up_in, is_up_at, up_ports}
 use Rattle.bridge_api.specs.Own.{neighbour_in, neighbours_from, member_of, body_of, holding_of, with_holding, own_entry, body_in, Lasts, IsAlive}
-use Rattle.bridge_api.specs.Config.{IsWhole, bare, configured}
+use Rattle.bridge_api.specs.Config.{IsWhole, first_life, bare, configured}
 use Rattle.bridge_api.specs.Duties.{but_for_ssn}
 use Rattle.bridge_api.specs.Ticking.{later, leaving_from, counts_lowered, expired, refreshed, readied, after_sending_at, after_sending_from}
 use Rattle.bridge_api.specs.Step.{second, step}
@@ -48,7 +47,7 @@ use Rattle.bridge_api.specs.Time.{seconds, AgedFrom, IsLasting, IsDead, own_sequ
 use Rattle.bridge_api.proofs.Adjacent.{second_up, up_keeps}
 use Rattle.bridge_api.proofs.Certified.{steps_keep_bridge}
 use Rattle.bridge_api.proofs.Changes.{with_and_parts, settling, ticked, tick_is, tick_ports, tick_port, tick_rest}
-use Rattle.bridge_api.proofs.DataSteps.{configured_holds_own}
+use Rattle.bridge_api.proofs.Configured.{configured_unspent, configured_holds_own}
 use Rattle.bridge_api.proofs.Places.{port_found}
 use Rattle.bridge_api.proofs.Sound.{configured_is_sound}
 use Rattle.bridge_api.proofs.SoundPorts.{configured_has_no_carrier}
@@ -371,20 +370,13 @@ configured_alone : (c : BridgeConfig) → IsWhole c → IsAlone (configured c)
 unfolding is_up_at neighbour_at
 configured_alone c whole p = nobody_up (port_at (configured c) p) ((configured_has_no_carrier c whole).neighbour p)
 
-configured_fresh : (c : BridgeConfig) → (configured c).spent ≡ false
-unfolding configured
-configured_fresh c =
-    let v : BridgeView = bare c in
-    let number : number_of (version_at (empty {X = Entry} {R = id_cmp}) (own_id c.id.system)) ≡ 0 = ap (λ (o : Option Entry). number_of (version_in o)) (get-empty id_cmp (own_id c.id.system)) in
-    ap (λ (own : Own). own.spent) (originated_is_not_spent (up_ports v) 0 (holding_of v) (omega (arith, number)))
-
-configured_stands : (c : BridgeConfig) → IsWhole c → StandsAt 1 (configured c)
-configured_stands c whole =
-    let own : own_entry (configured c) ≡ Some (renewed no_ports (own_id c.id.system) (body_of (bare c)) 1) = (configured_holds_own c).own in
+configured_stands : (c : BridgeConfig) → IsWhole c → c.last ≡ first_life → StandsAt 1 (configured c)
+configured_stands c whole first =
+    let own : own_entry (configured c) ≡ Some (renewed no_ports (own_id c.id.system) (body_of (bare c)) 1) = (configured_holds_own c first).own in
     record {
       sound = configured_is_sound c whole;
       alone = configured_alone c whole;
-      at = record { number = ap (λ (o : Option Entry). number_of (version_in o)) own; lifetime = ap lifetime_in own; spent = configured_fresh c };
+      at = record { number = ap (λ (o : Option Entry). number_of (version_in o)) own; lifetime = ap lifetime_in own; spent = configured_unspent c first };
     }
 
 -- 900 seconds more
@@ -402,21 +394,21 @@ stands_on seq v was below =
       };
     }
 
-stands_after : (c : BridgeConfig) (j : ℕ) → IsWhole c → j < last_number → StandsAt (j + 1) (seconds (900 * j) (configured c))
-stands_after c zero whole below =
+stands_after : (c : BridgeConfig) (j : ℕ) → IsWhole c → c.last ≡ first_life → j < last_number → StandsAt (j + 1) (seconds (900 * j) (configured c))
+stands_after c zero whole first below =
     let none : 900 * zero ≡ 0 = omega arith in
-    subst (StandsAt 1) (sym (ap (λ n. seconds n (configured c)) none ∙ no_seconds (configured c))) (configured_stands c whole)
-stands_after c (suc j) whole below =
-    let before : StandsAt (j + 1) (seconds (900 * j) (configured c)) = stands_after c j whole (omega (arith, below)) in
+    subst (StandsAt 1) (sym (ap (λ n. seconds n (configured c)) none ∙ no_seconds (configured c))) (configured_stands c whole first)
+stands_after c (suc j) whole first below =
+    let before : StandsAt (j + 1) (seconds (900 * j) (configured c)) = stands_after c j whole first (omega (arith, below)) in
     let sum : 900 * suc j ≡ 900 + 900 * j = omega arith in
     let number : j + 1 + 1 ≡ suc j + 1 = omega arith in
     subst (λ n. StandsAt n (seconds (900 * suc j) (configured c))) number
     (subst (StandsAt (j + 1 + 1)) (sym (ap (λ n. seconds n (configured c)) sum ∙ seconds_add 900 (900 * j) (configured c))) (stands_on (j + 1) (seconds (900 * j) (configured c)) before (omega (arith, below))))
 
 pub every_nine_hundred : EveryNineHundred
-every_nine_hundred c j k left whole below sum many =
+every_nine_hundred c j k left whole first below sum many =
     let u : BridgeView = seconds (900 * j) (configured c) in
-    let was : StandsAt (j + 1) u = stands_after c j whole below in
+    let was : StandsAt (j + 1) u = stands_after c j whole first below in
     let still : StandsStill left u (seconds k u) = own_lsp_lasts u k left was.sound was.at.spent (alone_stays_alone u k was.alone).1 (was.at.lifetime ∙ sym sum) many in
     subst (IsAtNumber (j + 1) left) (sym (seconds_add k (900 * j) (configured c))) (record {
       number = ap number_of still.own.version ∙ was.at.number;

@@ -14,7 +14,7 @@ use Rattle.flooding.specs.Own.{last_number, body_in, IsOwnNumber}
 use Rattle.flooding.specs.Hearing.{claim_of, body_of}
 use Rattle.bridge_api.specs.declared.config.BridgeConfig.{BridgeConfig}
 use Rattle.bridge_api.specs.View.{BridgeView}
-use Rattle.bridge_api.specs.Config.{IsWhole, configured}
+use Rattle.bridge_api.specs.Config.{IsWhole, first_life, configured}
 use Rattle.bridge_api.specs.Parsing.{Parsed, parsed, is_hello}
 use Rattle.bridge_api.specs.Parsing as parsing
 use Rattle.bridge_api.specs.Step.{Input, second, frame, carrier, metric, attach, detach, customer, step}
@@ -127,9 +127,9 @@ StepsOriginate = (input : Input) (v : BridgeView) (id : LspId) → IsOwnNumber v
 abbrev pub StepsDontSpend : Type 0
 StepsDontSpend = (input : Input) (v : BridgeView) → IsSoundView v → IsFar input v → (step input v).spent ≡ false
 
--- a configured bridge is far from the last number, whatever comes in that claims none
+-- a configured bridge in its first life is far from the last number, whatever comes in that claims none
 abbrev pub ConfiguredIsFar : Type 0
-ConfiguredIsFar = (c : BridgeConfig) (input : Input)
+ConfiguredIsFar = (c : BridgeConfig) (input : Input) → c.last ≡ first_life
     → ((id : LspId) (a : Version) → IsClaimed (claims_of input) id a → number_of a < last_number)
     → IsFar input (configured c)
 

@@ -9,7 +9,7 @@ use Rattle.lsdb.specs.Database.{Lsps, version_at}
 use Rattle.flooding.specs.Own.{own_id, last_number}
 use Rattle.bridge_api.specs.declared.config.BridgeConfig.{BridgeConfig}
 use Rattle.bridge_api.specs.View.{BridgeView}
-use Rattle.bridge_api.specs.Config.{configured}
+use Rattle.bridge_api.specs.Config.{first_life, configured}
 use Rattle.bridge_api.specs.Parsing.{parsed}
 use Rattle.bridge_api.specs.Parsing as parsing
 use Rattle.bridge_api.specs.Step.{Input, second, frame, carrier, metric, attach, detach, customer, step, sent}
@@ -33,9 +33,9 @@ IsHelloAlone (attach a) = ⊤
 IsHelloAlone (detach p) = ⊤
 IsHelloAlone (customer p bytes) = ⊤
 
--- a configured bridge holds its own LSP at number 1
+-- a configured bridge holds its own LSP, in its first life at number 1
 abbrev pub ConfiguredHoldsFew : Type 0
-ConfiguredHoldsFew = (c : BridgeConfig) → HoldsFew 1 (configured c)
+ConfiguredHoldsFew = (c : BridgeConfig) → c.last ≡ first_life → HoldsFew 1 (configured c)
 
 -- each step brings one LSP at most, and the own one goes one number further at most
 abbrev pub StepsHoldFew : Type 0

@@ -1,5 +1,5 @@
 //! What every step of a bridge keeps, whatever comes to it. Each is the contract of a function that does nothing.
-ghost use Rattle.bridge_api.specs.Laws.{ConfiguredIsSound, ConfiguredHasNoCarrier, ConfiguredHoldsOwn, SoundCanSay, StepsStaySound, StepsKeepBridge, StepsKeepCarrier, StepsKeepNeighbours, SentIsSound, OneHello, HellosAreHeard, SentWithCarrier, LspSettlesNothing, CsnpSettlesNothing, PsnpSettlesNothing, EnteringUpIsWhole, UpPortsAreUp, StepsCarryDatabase, NeighboursComeUp, SomeBridge};
+ghost use Rattle.bridge_api.specs.Laws.{ConfiguredIsSound, ConfiguredHasNoCarrier, ConfiguredStarts, SoundCanSay, StepsStaySound, StepsKeepBridge, StepsKeepCarrier, StepsKeepNeighbours, SentIsSound, OneHello, HellosAreHeard, SentWithCarrier, LspSettlesNothing, CsnpSettlesNothing, PsnpSettlesNothing, EnteringUpIsWhole, UpPortsAreUp, StepsCarryDatabase, NeighboursComeUp, SomeBridge};
 ghost use Rattle.bridge_laws.specs.Advancing.{StepsAdvance};
 ghost use Rattle.bridge_laws.specs.Apart.{SentHasEntered, LeftHasEntered, ConfiguredIsPlaced, StepsKeepPlaces};
 ghost use Rattle.bridge_api.specs.Duties.{SecondsServe, SecondsLeaveNothingDue};
@@ -13,11 +13,12 @@ use itag_frames::control_again;
 
 /// A configured bridge is sound, and stays so: unless its sequence numbers are spent, its own LSP is live for 301 to
 /// 1,200 seconds and says what the bridge has to say. It has the ports of its configuration and no carrier yet, and
-/// holds its own LSP alone. What a sound bridge says of itself can be written, and fits one LSP.
+/// holds its own LSPs alone, each as it begins above the number that it had in the life before. What a sound bridge says
+/// of itself can be written, and fits one LSP.
 pub fn bridges_are_sound()
     ensures configured { ConfiguredIsSound }
     ensures no_carrier { ConfiguredHasNoCarrier }
-    ensures own { ConfiguredHoldsOwn }
+    ensures starts { ConfiguredStarts }
     ensures says { SoundCanSay }
     ensures steps { StepsStaySound }
 {}

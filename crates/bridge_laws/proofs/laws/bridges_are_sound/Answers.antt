@@ -1,4 +1,4 @@
-use Rattle.bridge_api.proofs.DataSteps.{configured_holds_own}
+use Rattle.bridge_api.proofs.Configured.{configured_starts}
 use Rattle.bridge_api.proofs.Saying.{sound_can_say}
 use Rattle.bridge_api.proofs.Sound.{configured_is_sound, steps_stay_sound}
 use Rattle.bridge_api.proofs.SoundPorts.{configured_has_no_carrier}
@@ -10,8 +10,8 @@ returns-clause-configured c = configured_is_sound
 pub returns-clause-no_carrier : goal.returns-clause-no_carrier
 returns-clause-no_carrier c = configured_has_no_carrier
 
-pub returns-clause-own : goal.returns-clause-own
-returns-clause-own c = configured_holds_own
+pub returns-clause-starts : goal.returns-clause-starts
+returns-clause-starts c = configured_starts
 
 pub returns-clause-says : goal.returns-clause-says
 returns-clause-says c = sound_can_say
