@@ -28,7 +28,7 @@
 pub use apply_error::ApplyError;
 pub use laws::networks_halt_without_memory;
 pub use network::{Network, NetworkOf};
-pub use network_model::{Answer, KindRule, Out};
+pub use network_model::{Answer, Delivered, KindRule, Out};
 pub use spb_world::{DeclaredBridge, DeclaredLink, LinkEnd, Reason, World};
 
 mod apply_error;
@@ -46,3 +46,4 @@ mod rack;
 mod refusing;
 mod restart;
 mod rounds;
+mod seen;
