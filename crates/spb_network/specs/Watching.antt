@@ -23,7 +23,8 @@ noted before (d ∷ ds) = noted (with_one before d) ds
 module _ {B : Type 0} (shown : B → Shown) where
   -- what `apply_watched` answers and leaves: it is `apply`, and where a command is accepted, its deliveries follow in
   -- order upon those that were seen before; else nothing more is seen
-  pub record Watches (old : NetworkOf B) (c : Command) (result : Result Answer ApplyError) (before after : List Delivered) (new : NetworkOf B) : Type 0 where
+  pub record Watches (old : NetworkOf B) (c : Command) (result : Result Answer ApplyError)
+      (before after : List Delivered) (new : NetworkOf B) : Type 0 where
     pub applies : Applies shown old c result new
     pub seen : (answer : Answer) → result ≡ Ok answer → after ≡ before ++ seen_of (state_of shown old) c
     pub kept : (error : ApplyError) → result ≡ Err error → after ≡ before
