@@ -16,3 +16,4 @@ pub mod OthersRead
 pub mod SaidNeighbours
 pub mod SaidMembers
 pub mod Dropped
+pub mod Brief

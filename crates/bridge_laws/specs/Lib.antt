@@ -2,3 +2,4 @@ pub mod Apart
 pub mod Few
 pub mod Counting
 pub mod Dropping
+pub mod Brief
