@@ -68,7 +68,7 @@ use Rattle.bridge_api.proofs.Hellos.{hello_content, neighbour_found, hello_of, s
 
 -- ---- lists
 
-all_mapped : {X Y : Type 0} (f : X → Y) (P : Y → Type 0) (xs : List X) → AllByRecursion (λ x. P (f x)) xs → AllByRecursion P (map f xs)
+pub all_mapped : {X Y : Type 0} (f : X → Y) (P : Y → Type 0) (xs : List X) → AllByRecursion (λ x. P (f x)) xs → AllByRecursion P (map f xs)
 all_mapped f P [] all = tt
 all_mapped f P (x ∷ xs) all = (all.0, all_mapped f P xs all.1)
 
@@ -76,7 +76,7 @@ all_kept_at : {X : Type 0} (P : X → Type 0) (b : Bool) (x : X) (kept : List X)
 all_kept_at P true x kept p all = (p, all)
 all_kept_at P false x kept p all = all
 
-all_kept : {X : Type 0} (P : X → Type 0) (test : X → Bool) (xs : List X) → AllByRecursion P xs → AllByRecursion P (filter test xs)
+pub all_kept : {X : Type 0} (P : X → Type 0) (test : X → Bool) (xs : List X) → AllByRecursion P xs → AllByRecursion P (filter test xs)
 all_kept P test [] all = tt
 all_kept P test (x ∷ xs) all = all_kept_at P (test x) x (filter test xs) all.0 (all_kept P test xs all.1)
 

@@ -17,3 +17,4 @@ pub mod OthersRead
 pub mod SaidNeighbours
 pub mod SaidMembers
 pub mod Dropped
+pub mod Brief

@@ -3,3 +3,4 @@ pub mod Few
 pub mod Counting
 pub mod Advancing
 pub mod Dropping
+pub mod Brief

@@ -3,6 +3,7 @@ ghost use Rattle.bridge_api.specs.Laws.{ConfiguredIsSound, ConfiguredHasNoCarrie
 ghost use Rattle.bridge_laws.specs.Advancing.{StepsAdvance};
 ghost use Rattle.bridge_laws.specs.Apart.{SentHasEntered, LeftHasEntered, ConfiguredIsPlaced, StepsKeepPlaces};
 ghost use Rattle.bridge_api.specs.Duties.{SecondsServe, SecondsLeaveNothingDue};
+ghost use Rattle.bridge_laws.specs.Brief.{SentIsBrief};
 ghost use Rattle.bridge_laws.specs.Few.{ConfiguredHoldsFew, StepsHoldFew, SecondsSendFew};
 ghost use Rattle.bridge_api.specs.Graph.{ReadsWhatIsHeld, ReadsEachOnce, ReadsItself, ReadsOthers, OwnPortsAreApart, SaysItsNeighbours, MembersAreSaid, CutSaysNothing, SomeGraphIsOwn};
 ghost use Rattle.bridge_api.specs.Time.{NeighboursAreKept, NeighboursAreLost, KeepsSomebody, SecondsAge, LspsLast, LspsExpire, SecondsStandStill, SecondsRenew, SecondsSpend, SpentStandsStill, OwnLspLasts, OwnLspIsRenewed, AloneStaysAlone, EveryNineHundred};
@@ -55,6 +56,12 @@ pub fn frames_are_heard()
 {
     control_again();
 }
+
+/// Each frame that a sound bridge sends has at most 2,022 bytes, those of a customer's frame of 2,000 bytes with its
+/// tags, or is the frame that came in.
+pub fn frames_are_brief()
+    ensures { SentIsBrief }
+{}
 
 /// Service instances don't mix at a bridge. A frame that is sent carries, and one that leaves at a customer port is,
 /// byte for byte, a customer's frame that has just come in, and in the same I-SID; and it leaves at a port of that

@@ -8,6 +8,8 @@ pub mod Quieting
 pub mod Restarting
 pub mod Refusing
 pub mod Play
+pub mod Captured
+pub mod Brief
 pub mod Holding
 pub mod SoundLaws
 pub mod Truth
