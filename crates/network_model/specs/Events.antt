@@ -1,5 +1,5 @@
 -- The events of a network. Each is what one bridge does, or what becomes of one lane or link.
-use Rattle.std.specs.Prelude.{ℕ, zero, suc, ◌+◌, List, [], ◌∷◌, ◌++◌, length, map, Bool, true, false, Option, Some, None, slice_get, if◌then◌else◌}
+use Rattle.std.specs.Prelude.{ℕ, zero, suc, ◌+◌, ◌-◌, ◌^◌, min, List, [], ◌∷◌, ◌++◌, length, map, Bool, true, false, Option, Some, None, slice_get, if◌then◌else◌}
 use Rattle.std.specs.Option.{option_map_or}
 use Rattle.link_model.specs.Lane.{Frame, pushed, after_lose, after_double}
 use Rattle.spb_types.specs.declared.link.Dir.{Dir}
@@ -48,9 +48,17 @@ unfoldable pub stepped : Input → State → ℕ → State
 stepped input s i = left_all (sent_all (record s { views = changed_at (step input) s.views i }) i
     (option_map_or (sent input) (slice_get s.views i) [])) i (option_map_or (left_by input) (slice_get s.views i) [])
 
+-- a count of seconds goes up by one, and stops at the greatest number of 32 bits
+abbrev pub next_tick : ℕ → ℕ
+next_tick n = min (n + 1) (2 ^ 32 - 1)
+
+-- one second more of the bridge at place i is counted
+abbrev pub with_second : State → ℕ → State
+with_second s i = record s { ticks = changed_at next_tick s.ticks i }
+
 -- a second of the bridge at place i
 abbrev pub ticked : State → ℕ → State
-ticked s i = stepped comes.second s i
+ticked s i = with_second (stepped comes.second s i) i
 
 -- a frame comes to the far end of a link
 abbrev pub heard_over : State → Dir → Frame → Option DeclaredLink → State

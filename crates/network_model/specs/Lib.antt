@@ -8,6 +8,7 @@ pub mod Quieting
 pub mod Restarting
 pub mod Refusing
 pub mod Play
+pub mod Captured
 pub mod Holding
 pub mod SoundLaws
 pub mod Truth

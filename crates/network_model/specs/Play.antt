@@ -28,6 +28,7 @@ boxed s name b (Some place) = record s {
   rack = remove s.rack place;
   world = with_bridge s.world name b;
   views = s.views ++ configured (config_of s.world b) ∷ [];
+  ticks = s.ticks ++ 0 ∷ [];
 }
 
 unfoldable pub declared : State → List ℕ → DeclaredBridge → State

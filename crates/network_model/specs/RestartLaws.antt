@@ -25,13 +25,14 @@ abbrev pub number_in : BridgeView → ℕ
 number_in v = number_of (version_at v.database (own_id v.id.system))
 
 -- the bridge at place i restarted in the box at a place of the rack: it is what the configuration makes with the
--- present metrics and attachments, and then carrier; its own LSP begins at number 1; the rack lacks that box, and
--- nothing else is declared
+-- present metrics and attachments, and then carrier; its own LSP begins at number 1; the rack lacks that box, nothing
+-- else is declared, and the seconds of its name are counted on
 pub record IsNew (s t : State) (i : ℕ) (b : DeclaredBridge) (place : ℕ) : Type 0 where
   pub view : slice_get t.views i ≡ Some (with_carriers (links_of s) i (configured (restart_config s i b)))
   pub number : number_in (with_carriers (links_of s) i (configured (restart_config s i b))) ≡ 1
   pub rack : t.rack ≡ remove s.rack place
   pub world : t.world ≡ s.world
+  pub ticks : t.ticks ≡ s.ticks
 
 -- so it is where there is a box; where there is none, nothing changes
 pub record RestartIsNew : Type 0 where

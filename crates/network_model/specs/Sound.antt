@@ -149,4 +149,5 @@ opening rule rack = record {
   rounds = 0;
   drained = 0;
   accepted = 0;
+  ticks = [];
 }

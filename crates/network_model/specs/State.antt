@@ -1,5 +1,6 @@
 -- The state of a network.
 use Rattle.std.specs.Prelude.{◌≡◌, length, ℕ, ◌+◌, List, [], ◌∷◌, Bool, true, false, ◌&&◌, ◌==◌, ◌%◌, Option, Some, None, slice_get, if◌then◌else◌}
+use Rattle.std.specs.List.{slice_index_or}
 use Rattle.std.specs.Option.{option_map, option_map_or, option_or}
 use Rattle.link_model.specs.Lane.{Frame}
 use Rattle.spb_types.specs.declared.link.Dir.{Dir}
@@ -27,7 +28,8 @@ pub record Spare : Type 0 where
 
 -- a network: by which rule bridges take boxes, the rack that is left, what is declared, the bridges in order of
 -- declaration, the lanes of the links in order of declaration, the customers' frames that left in the present command,
--- the rounds and deliveries that were asked for, and how many commands were accepted
+-- the rounds and deliveries that were asked for, how many commands were accepted, and the seconds that each bridge had
+-- since it was declared, under its name: a restart doesn't begin them anew
 pub record State : Type 0 where
   pub rule : KindRule
   pub rack : List Spare
@@ -38,6 +40,7 @@ pub record State : Type 0 where
   pub rounds : ℕ
   pub drained : ℕ
   pub accepted : ℕ
+  pub ticks : List ℕ
 
 -- the links, in order of declaration
 abbrev pub links_of : State → List DeclaredLink
@@ -50,6 +53,10 @@ lane_at s k dir = lane_of s.lanes k dir
 -- the frames in that lane changed
 abbrev pub with_frames : (List Frame → List Frame) → State → ℕ → Dir → State
 with_frames f s k dir = record s { lanes = changed_frames f s.lanes k dir }
+
+-- the seconds that the bridge at place i had
+abbrev pub tick_at : State → ℕ → ℕ
+tick_at s i = slice_index_or s.ticks i 0
 
 -- the kind of box that the bridge at place i takes
 abbrev pub kind_at : KindRule → ℕ → Kind

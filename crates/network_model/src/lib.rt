@@ -2,14 +2,15 @@
 //! refused, what an accepted one makes and answers, and when the network is quiet.
 //!
 //! There is no code here but the types that states and answers are made of; `spb_network` does what is said here. What
-//! an accepted command makes stands in `specs/Play.antt`, and why one is refused in `specs/Refusing.antt`. What holds
-//! of a network at every moment stands in `specs/Sound.antt`; what a quiet network knows of its wiring in
+//! an accepted command makes stands in `specs/Play.antt`, what it delivers in `specs/Captured.antt`, and why one is
+//! refused in `specs/Refusing.antt`. What holds of a network at every moment stands in `specs/Sound.antt`; what a quiet network knows of its wiring in
 //! `specs/Truth.antt`; and that service instances don't mix in it, quiet or not, in `specs/Isolation.antt`. Each law is
 //! the contract of a function that does nothing.
 #![tactic(auto)]
 
 pub use answer::{Answer, Out};
 pub use conditions::Conditions;
+pub use delivered::Delivered;
 pub use kind_rule::KindRule;
 pub use laws::{
     a_delivery_is_one_step, a_restart_begins_anew, events_keep_sound, group_frames_leave_once,
@@ -20,5 +21,6 @@ pub use laws::{
 
 mod answer;
 mod conditions;
+mod delivered;
 mod kind_rule;
 mod laws;

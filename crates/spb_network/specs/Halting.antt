@@ -8,7 +8,7 @@ use Rattle.spb_network.specs.declared.apply_error.ApplyError.{ApplyError}
 use Rattle.spb_network.specs.declared.apply_error.ApplyError.TheVariants as error
 use Rattle.spb_network.specs.Applying.{Applies}
 
--- a call of `apply`: the command, what was answered, and the network that was left
+-- a call of `apply` or `apply_watched`: the command, what was answered, and the network that was left
 pub record Call (B : Type 0) : Type 0 where
   pub command : Command
   pub result : Result Answer ApplyError

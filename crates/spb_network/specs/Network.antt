@@ -22,6 +22,7 @@ module _ {B : Type 0} (shown : B → Shown) where
     rounds = n.rounds;
     drained = n.drained;
     accepted = n.accepted;
+    ticks = n.ticks.items;
   }
 
 -- the network's boxes are no blanks

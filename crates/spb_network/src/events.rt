@@ -5,9 +5,12 @@ ghost use Rattle.bridge_api.specs.Step as comes;
 ghost use Rattle.spb_world.specs.World.{IsEnd, IsLink};
 ghost use Rattle.network_model.specs.State.{links_of};
 ghost use Rattle.spb_world.specs.Links.{lane_out};
+ghost use Rattle.network_model.specs.Captured as capture;
 ghost use Rattle.network_model.specs.Events as event;
 ghost use Rattle.spb_network.specs.Network.{state_of, IsInOrder};
+ghost use Rattle.spb_network.specs.Watching.{noted};
 
+use crate::seen::Seen;
 use crate::{DeclaredLink, LinkEnd, NetworkOf, Out, boxes};
 use bridge_api::{Bridge, Outbox};
 use link_model::LaneId;
@@ -83,7 +86,9 @@ impl<B: Bridge> NetworkOf<B> {
     {
         let mut outbox = self.outbox(i)?;
         boxes::tick(&mut self.boxes, i, &mut outbox)?;
-        self.send_all(i, outbox.wire.into_vec())
+        self.send_all(i, outbox.wire.into_vec())?;
+        self.count_second(i);
+        Ok(())
     }
 
     /// An empty outbox with room for a frame at each port of the bridge at a place, and for a few more.
@@ -217,16 +222,21 @@ impl<B: Bridge> NetworkOf<B> {
 
     /// The frame at the front of a lane is delivered. Nothing happens where there is none.
     #[inline(always)]
-    #[tactic(auto, unfolding(network_model::specs::Events::delivered))]
-    pub(crate) fn deliver(&mut self, lane: LaneId) -> Result<(), NoMemory>
+    #[tactic(auto, unfolding(network_model::specs::Events::delivered, network_model::specs::Captured::seen_at))]
+    pub(crate) fn deliver(&mut self, lane: LaneId, seen: &mut Seen) -> Result<(), NoMemory>
         requires { IsInOrder B.shown self.old }
         ensures state { OnOk result (state_of B.shown self.new
             ≡ event.delivered (state_of B.shown self.old) lane.link lane.dir) }
         ensures order { OnOk result (IsInOrder B.shown self.new) }
+        ensures seen { OnOk result (seen.new
+            ≡ noted seen.old (capture.seen_at (state_of B.shown self.old) lane.link lane.dir)) }
     {
         match self.lanes.pop(lane) {
             None => Ok(()),
-            Some(frame) => self.hear_over(lane, frame.as_slice()),
+            Some(frame) => {
+                self.note(lane, &frame, seen)?;
+                self.hear_over(lane, frame.as_slice())
+            }
         }
     }
 

@@ -22,13 +22,14 @@
 //! reads and one tree in it, and looks through the bridges once for each name. An `attach` goes over what is attached
 //! at its bridge once, and where 60 ports or more are, once more for each of them, and a `detach` twice; neither takes
 //! memory for that. A `frame` goes over what is attached at its bridge once. What leaves at customer ports takes memory
-//! for its place in the answer, and is handed over with it; where nothing leaves, none is taken.
+//! for its place in the answer, and is handed over with it; where nothing leaves, none is taken. Where deliveries are
+//! watched, each takes memory for its seconds and a handle of its frame; where they aren't, it costs a test of a flag.
 #![tactic(auto)]
 
 pub use apply_error::ApplyError;
 pub use laws::networks_halt_without_memory;
 pub use network::{Network, NetworkOf};
-pub use network_model::{Answer, KindRule, Out};
+pub use network_model::{Answer, Delivered, KindRule, Out};
 pub use spb_world::{DeclaredBridge, DeclaredLink, LinkEnd, Reason, World};
 
 mod apply_error;
@@ -46,3 +47,4 @@ mod rack;
 mod refusing;
 mod restart;
 mod rounds;
+mod seen;

@@ -5,10 +5,13 @@ ghost use Rattle.network_model.specs.declared.kind_rule.KindRule.TheVariants as 
 ghost use Rattle.network_model.specs.Sound.{opening};
 ghost use Rattle.spb_network.specs.Network.{state_of, spare, AreConfigured};
 ghost use Rattle.spb_network.specs.Applying.{Applies, IsReady};
+ghost use Rattle.spb_network.specs.Watching.{Watches, noted};
+ghost use Rattle.network_model.specs.Captured.{seen_of};
 ghost use Rattle.network_model.specs.Counted.{most_commands};
 ghost use Rattle.network_model.specs.Convergence.{QuietIsConverged};
 
-use crate::{Answer, ApplyError, KindRule, Out, World};
+use crate::seen::Seen;
+use crate::{Answer, ApplyError, Delivered, KindRule, Out, World};
 use bridge_api::Bridge;
 use link_model::Lanes;
 use network_model::Conditions;
@@ -33,6 +36,8 @@ pub struct NetworkOf<B> {
     pub(crate) rounds: u32,
     pub(crate) drained: u32,
     pub(crate) accepted: u64,
+    /// The seconds that each bridge had, under its name.
+    pub(crate) ticks: Vec<u32>,
     pub(crate) halted: bool,
     /// Which conditions of quiet hold, since a question found them and until something may change.
     pub(crate) conditions: Option<Conditions>,
@@ -60,6 +65,7 @@ impl<B: Bridge> NetworkOf<B> {
             rounds: 0,
             drained: 0,
             accepted: 0,
+            ticks: Vec::new(alloc),
             halted: false,
             conditions: None,
         }
@@ -105,12 +111,51 @@ impl<B: Bridge> NetworkOf<B> {
         ensures quiet { OnOk result ((state_of B.shown self.new).accepted ≤ most_commands →
             QuietIsConverged (state_of B.shown self.new)) }
     {
+        self.apply_noting(command, &mut Seen::unwatched(self.alloc))
+    }
+
+    /// Applies a command as [`apply`](NetworkOf::apply) does, and appends the frames that it delivers, in order, each
+    /// with the seconds of the bridge to which it comes. Where it answers an error, nothing is appended.
+    ///
+    /// No frame is copied. `NoMemory` comes also where the list can't grow; the network is then halted, as it is
+    /// wherever memory is missing.
+    pub fn apply_watched(
+        &mut self,
+        command: &Command,
+        seen: &mut Vec<Delivered>,
+    ) -> Result<Answer, ApplyError>
+        requires { IsReady B.shown self.old }
+        ensures watches { Watches B.shown self.old command.now result seen.old.items seen.new.items self.new }
+        ensures ready { IsReady B.shown self.new }
+        ensures quiet { OnOk result ((state_of B.shown self.new).accepted ≤ most_commands →
+            QuietIsConverged (state_of B.shown self.new)) }
+    {
+        let mut now = Seen::watched(self.alloc);
+        let answer = self.apply_noting(command, &mut now)?;
+        match now.move_behind(seen) {
+            Ok(()) => Ok(answer),
+            Err(NoMemory) => {
+                self.halted = true;
+                Err(ApplyError::NoMemory)
+            }
+        }
+    }
+
+    /// Applies a command, and notes its deliveries if they are watched.
+    fn apply_noting(&mut self, command: &Command, seen: &mut Seen) -> Result<Answer, ApplyError>
+        requires { IsReady B.shown self.old }
+        ensures applies { Applies B.shown self.old command.now result self.new }
+        ensures ready { IsReady B.shown self.new }
+        ensures quiet { OnOk result ((state_of B.shown self.new).accepted ≤ most_commands →
+            QuietIsConverged (state_of B.shown self.new)) }
+        ensures seen { OnOk result (seen.new ≡ noted seen.old (seen_of (state_of B.shown self.old) command.now)) }
+    {
         if self.halted {
             return Err(ApplyError::Halted);
         }
         match self.refusal(command) {
             Some(reason) => Err(ApplyError::Refused(reason)),
-            None => match self.play(command) {
+            None => match self.play(command, seen) {
                 Ok(answer) => {
                     self.accepted = self.accepted.saturating_add(1);
                     self.halted = false;

@@ -6,12 +6,15 @@ ghost use Rattle.network_model.specs.Refusing as refuse;
 ghost use Rattle.spb_world.specs.Naming.{metric_refusal, named_link_refusal};
 ghost use Rattle.network_model.specs.Questions as question;
 ghost use Rattle.network_model.specs.Play as play;
+ghost use Rattle.network_model.specs.Captured as capture;
 ghost use Rattle.network_model.specs.Events as event;
 ghost use Rattle.spb_network.specs.Network.{state_of, AreConfigured, IsInOrder, IsBlankAt};
 ghost use Rattle.spb_network.specs.Applying.{IsSoundNetwork, KeepsConditions};
+ghost use Rattle.spb_network.specs.Watching.{noted};
 
 use crate::questions::{asks_for_quiet, event_answer, is_question};
 use crate::rack::{kind_at, next_box};
+use crate::seen::Seen;
 use crate::{Answer, NetworkOf, Out};
 use bridge_api::Bridge;
 use link_model::LaneId;
@@ -59,6 +62,7 @@ impl<B: Bridge> NetworkOf<B> {
         let mut bridge = self.rack.remove(place);
         bridge.configure(&config)?;
         self.boxes.push(bridge)?;
+        self.ticks.push(0)?;
         self.world
             .declare_bridge(name, priority, system, source, ports)
     }
@@ -208,16 +212,18 @@ impl<B: Bridge> NetworkOf<B> {
     }
 
     /// The frame at the front of a lane is delivered.
-    #[tactic(auto, unfolding(network_model::specs::Play::at_link))]
-    fn play_deliver(&mut self, name: Name, dir: Dir) -> Result<(), NoMemory>
+    #[tactic(auto, unfolding(network_model::specs::Play::at_link, network_model::specs::Captured::seen_at_link))]
+    fn play_deliver(&mut self, name: Name, dir: Dir, seen: &mut Seen) -> Result<(), NoMemory>
         requires { IsInOrder B.shown self.old }
         ensures state { OnOk result (state_of B.shown self.new
             ≡ play.at_link (λ s k. event.delivered s k dir) (state_of B.shown self.old) name) }
         ensures made { OnOk result (AreConfigured B.shown self.new.boxes.items) }
+        ensures seen { OnOk result (seen.new
+            ≡ noted seen.old (capture.seen_at_link (state_of B.shown self.old) name dir)) }
     {
         match self.world.link_place(name) {
             None => Ok(()),
-            Some(link) => self.deliver(LaneId { link, dir }),
+            Some(link) => self.deliver(LaneId { link, dir }, seen),
         }
     }
 
@@ -251,39 +257,45 @@ impl<B: Bridge> NetworkOf<B> {
 
     /// So many rounds.
     #[tactic(auto, using(network_model::proofs::StateRefusals::round_refusal_none), unfolding(network_model::specs::Play::with_rounds))]
-    fn play_round_command(&mut self, n: u64) -> Result<(), NoMemory>
+    fn play_round_command(&mut self, n: u64, seen: &mut Seen) -> Result<(), NoMemory>
         requires order { IsInOrder B.shown self.old }
         requires accepted { refuse.round_refusal (state_of B.shown self.old) n ≡ None }
         ensures state { OnOk result (state_of B.shown self.new ≡ play.with_rounds n (state_of B.shown self.old)) }
         ensures made { OnOk result (AreConfigured B.shown self.new.boxes.items) }
+        ensures seen { OnOk result (seen.new
+            ≡ noted seen.old (capture.seen_rounds n (state_of B.shown self.old))) }
     {
         let rounds = self.rounds + n as u32;
-        self.play_rounds(n as u32)?;
+        self.play_rounds(n as u32, seen)?;
         self.rounds = rounds;
         Ok(())
     }
 
     /// So many deliveries at most.
     #[tactic(auto, using(network_model::proofs::StateRefusals::drain_refusal_none), unfolding(network_model::specs::Play::with_drain))]
-    fn play_drain_command(&mut self, n: u64) -> Result<(), NoMemory>
+    fn play_drain_command(&mut self, n: u64, seen: &mut Seen) -> Result<(), NoMemory>
         requires order { IsInOrder B.shown self.old }
         requires accepted { refuse.drain_refusal (state_of B.shown self.old) n ≡ None }
         ensures state { OnOk result (state_of B.shown self.new ≡ play.with_drain n (state_of B.shown self.old)) }
         ensures made { OnOk result (AreConfigured B.shown self.new.boxes.items) }
+        ensures seen { OnOk result (seen.new
+            ≡ noted seen.old (capture.seen_drained n (state_of B.shown self.old))) }
     {
         let drained = self.drained + n as u32;
-        self.play_drain(n as u32)?;
+        self.play_drain(n as u32, seen)?;
         self.drained = drained;
         Ok(())
     }
 
     /// What a command that isn't refused makes of the network.
-    fn perform(&mut self, command: &Command) -> Result<(), NoMemory>
+    fn perform(&mut self, command: &Command, seen: &mut Seen) -> Result<(), NoMemory>
         requires order { IsInOrder B.shown self.old }
         requires sound { IsSoundNetwork B.shown self.old }
         requires accepted { refuse.refusal_of (state_of B.shown self.old) command.now ≡ None }
         ensures state { OnOk result (state_of B.shown self.new ≡ play.played (state_of B.shown self.old) command.now) }
         ensures made { OnOk result (AreConfigured B.shown self.new.boxes.items) }
+        ensures seen { OnOk result (seen.new
+            ≡ noted seen.old (capture.seen_of (state_of B.shown self.old) command.now)) }
     {
         match command {
             Command::Vid { vid, ect } => self.play_vid(*vid, *ect),
@@ -315,11 +327,11 @@ impl<B: Bridge> NetworkOf<B> {
             Command::Up(name) => self.play_up(*name),
             Command::Restart(name) => self.play_restart(*name),
             Command::Tick(name) => self.play_tick(*name),
-            Command::Deliver { link, dir } => self.play_deliver(*link, *dir),
+            Command::Deliver { link, dir } => self.play_deliver(*link, *dir, seen),
             Command::Lose { link, dir, place } => self.play_lose(*link, *dir, *place),
             Command::Double { link, dir, place } => self.play_double(*link, *dir, *place),
-            Command::Round(n) => self.play_round_command(*n),
-            Command::Drain(n) => self.play_drain_command(*n),
+            Command::Round(n) => self.play_round_command(*n, seen),
+            Command::Drain(n) => self.play_drain_command(*n, seen),
             _ => Ok(()),
         }
     }
@@ -380,7 +392,7 @@ impl<B: Bridge> NetworkOf<B> {
     /// Plays a command that isn't refused, at a network that hasn't halted. What left is handed over in the answer. What
     /// is kept of the conditions of quiet stays at a question alone.
     #[tactic(auto, using(crate::proofs::CommandFits::in_order))]
-    pub(crate) fn play(&mut self, command: &Command) -> Result<Answer, NoMemory>
+    pub(crate) fn play(&mut self, command: &Command, seen: &mut Seen) -> Result<Answer, NoMemory>
         requires halted { self.old.halted ≡ false }
         requires sound { IsSoundNetwork B.shown self.old }
         requires accepted { refuse.refusal_of (state_of B.shown self.old) command.now ≡ None }
@@ -389,11 +401,13 @@ impl<B: Bridge> NetworkOf<B> {
             ≡ record (play.played (state_of B.shown self.old) command.now) { outs = [] }) }
         ensures made { OnOk result (AreConfigured B.shown self.new.boxes.items) }
         ensures kept { OnOk result (KeepsConditions B.shown self.new) }
+        ensures seen { OnOk result (seen.new
+            ≡ noted seen.old (capture.seen_of (state_of B.shown self.old) command.now)) }
     {
         if is_question(command) {
             return self.ask(command);
         }
-        self.perform(command)?;
+        self.perform(command, seen)?;
         self.conditions = None;
         Ok(event_answer(command, self.take_outs()))
     }

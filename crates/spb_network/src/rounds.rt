@@ -1,10 +1,13 @@
 //! Many events: rounds, and deliveries until all lanes are empty.
 ghost use Rattle.std.specs.Prelude.{◌≡◌, OnOk};
 ghost use Rattle.link_model.specs.Lanes.{first_full_from};
+ghost use Rattle.network_model.specs.Captured as capture;
 ghost use Rattle.network_model.specs.Events as event;
 ghost use Rattle.spb_network.specs.Network.{state_of, IsInOrder};
+ghost use Rattle.spb_network.specs.Watching.{noted};
 
 use crate::NetworkOf;
+use crate::seen::Seen;
 use bridge_api::Bridge;
 use link_model::LaneId;
 use scenario::Dir;
@@ -25,66 +28,76 @@ impl<B: Bridge> NetworkOf<B> {
     }
 
     /// As many frames of a lane are delivered as it holds.
-    #[tactic(auto, unfolding(network_model::specs::Events::lane_served))]
-    fn serve_lane(&mut self, lane: LaneId) -> Result<(), NoMemory>
+    #[tactic(auto, unfolding(network_model::specs::Events::lane_served, network_model::specs::Captured::seen_lane))]
+    fn serve_lane(&mut self, lane: LaneId, seen: &mut Seen) -> Result<(), NoMemory>
         requires { IsInOrder B.shown self.old }
         ensures state { OnOk result (state_of B.shown self.new
             ≡ event.lane_served (state_of B.shown self.old) lane.link lane.dir) }
         ensures order { OnOk result (IsInOrder B.shown self.new) }
+        ensures seen { OnOk result (seen.new
+            ≡ noted seen.old (capture.seen_lane (state_of B.shown self.old) lane.link lane.dir)) }
     {
         for _ in 0..self.lanes.frames(lane) {
-            self.deliver(lane)?;
+            self.deliver(lane, seen)?;
         }
         Ok(())
     }
 
     /// Both lanes of the link at a place are served, ab before ba.
-    fn serve_link(&mut self, link: usize) -> Result<(), NoMemory>
+    fn serve_link(&mut self, link: usize, seen: &mut Seen) -> Result<(), NoMemory>
         requires { IsInOrder B.shown self.old }
         ensures state { OnOk result (state_of B.shown self.new
             ≡ event.link_served (state_of B.shown self.old) link) }
         ensures order { OnOk result (IsInOrder B.shown self.new) }
+        ensures seen { OnOk result (seen.new
+            ≡ noted seen.old (capture.seen_link (state_of B.shown self.old) link)) }
     {
-        self.serve_lane(LaneId { link, dir: Dir::Ab })?;
-        self.serve_lane(LaneId { link, dir: Dir::Ba })
+        self.serve_lane(LaneId { link, dir: Dir::Ab }, seen)?;
+        self.serve_lane(LaneId { link, dir: Dir::Ba }, seen)
     }
 
     /// Every link is served, in order of declaration.
-    fn serve_all(&mut self) -> Result<(), NoMemory>
+    fn serve_all(&mut self, seen: &mut Seen) -> Result<(), NoMemory>
         requires { IsInOrder B.shown self.old }
         ensures state { OnOk result (state_of B.shown self.new
             ≡ event.all_served (state_of B.shown self.old)) }
         ensures order { OnOk result (IsInOrder B.shown self.new) }
+        ensures seen { OnOk result (seen.new
+            ≡ noted seen.old (capture.all_seen (state_of B.shown self.old))) }
     {
         for link in 0..self.lanes.links() {
-            self.serve_link(link)?;
+            self.serve_link(link, seen)?;
         }
         Ok(())
     }
 
     /// So many rounds. In each every bridge ticks, and then every link is served.
-    pub(crate) fn play_rounds(&mut self, n: u32) -> Result<(), NoMemory>
+    pub(crate) fn play_rounds(&mut self, n: u32, seen: &mut Seen) -> Result<(), NoMemory>
         requires { IsInOrder B.shown self.old }
         ensures state { OnOk result (state_of B.shown self.new
             ≡ event.rounds n (state_of B.shown self.old)) }
         ensures order { OnOk result (IsInOrder B.shown self.new) }
+        ensures seen { OnOk result (seen.new
+            ≡ noted seen.old (capture.seen_rounds n (state_of B.shown self.old))) }
     {
         for _ in 0..n {
-            self.play_round()?;
+            self.play_round(seen)?;
         }
         Ok(())
     }
 
     /// One round.
-    #[tactic(auto, unfolding(network_model::specs::Events::one_round))]
-    fn play_round(&mut self) -> Result<(), NoMemory>
+    #[tactic(auto, unfolding(network_model::specs::Events::one_round, network_model::specs::Captured::seen_round))]
+    fn play_round(&mut self, seen: &mut Seen) -> Result<(), NoMemory>
         requires { IsInOrder B.shown self.old }
         ensures state { OnOk result (state_of B.shown self.new
             ≡ event.one_round (state_of B.shown self.old)) }
         ensures order { OnOk result (IsInOrder B.shown self.new) }
+        ensures seen { OnOk result (seen.new
+            ≡ noted seen.old (capture.seen_round (state_of B.shown self.old))) }
     {
         self.tick_all()?;
-        self.serve_all()
+        self.serve_all(seen)
     }
 
     /// The first lane that isn't empty.
@@ -98,17 +111,19 @@ impl<B: Bridge> NetworkOf<B> {
     }
 
     /// At most so many deliveries, each from the first lane that isn't empty.
-    pub(crate) fn play_drain(&mut self, n: u32) -> Result<(), NoMemory>
+    pub(crate) fn play_drain(&mut self, n: u32, seen: &mut Seen) -> Result<(), NoMemory>
         requires { IsInOrder B.shown self.old }
         ensures state { OnOk result (state_of B.shown self.new
             ≡ event.drained n (state_of B.shown self.old)) }
         ensures order { OnOk result (IsInOrder B.shown self.new) }
+        ensures seen { OnOk result (seen.new
+            ≡ noted seen.old (capture.seen_drained n (state_of B.shown self.old))) }
     {
         for _ in 0..n {
             let Some(lane) = self.first_full() else {
                 return Ok(());
             };
-            self.deliver(lane)?;
+            self.deliver(lane, seen)?;
         }
         Ok(())
     }
