@@ -59,7 +59,7 @@ unfolding played
 is_played s script = refl
 
 completes : (v : Voice) {K : Type 0} (holds : K → Option (List ℕ)) (s t : State) (status : Status) (script written : List ℕ) (a b : K) → Does v (to_come s 1 start script) written status t → Appends (holds a) (holds b) written
-    → Completes v holds script status s t a b
+    → Completes holds (said_in v) script status s t a b
 completes v holds s t status script written a b does grown =
     let all : Does v (played s script) written status t = subst (λ (p : Played). Does v p written status t) (sym (is_played s script)) does in
     record { fate = sym all.ends; text = subst (Appends (holds a) (holds b)) (sym all.writes) grown; state = sym all.leaves }
@@ -177,8 +177,8 @@ module _ (v : Voice) {S K : Type 0}
       leaves = follows.leaves ∙ fin.does.leaves;
     }
 
-    pub end_ends : (status : Status) (u : State) (f : K) → IsAtEnd l → Finishes v holds status t u n d b f → IfSome (left old) (λ script. Completes v holds script status s u a f)
-    end_ends status u f end fin = Consumes-whole (left old) l reading.read (λ script. Completes v holds script status s u a f) consumed end
+    pub end_ends : (status : Status) (u : State) (f : K) → IsAtEnd l → Finishes v holds status t u n d b f → IfSome (left old) (λ script. Completes holds (said_in v) script status s u a f)
+    end_ends status u f end fin = Consumes-whole (left old) l reading.read (λ script. Completes holds (said_in v) script status s u a f) consumed end
         (completes v holds s u status reading.read (reading.goes.written ++ fin.written) a f (end_does status u f fin)
         (Appends-trans (holds a) (holds b) (holds f) reading.goes.written fin.written reading.goes.grown fin.grown))
 
@@ -214,8 +214,8 @@ module _ (v : Voice) {S K : Type 0}
       all : Ends v holds (reading.read ++ p) status s u 1 start a f
       all = ends_after v holds reading.read p s t 1 n start d a b refl reading.stands.going reading.goes status u f ends
 
-      pub piece_ends : IfSome (left old) (λ script. Completes v holds script status s u a f)
-      piece_ends = some_whole (left old) l (reading.read ++ p) (λ script. Completes v holds script status s u a f) more_consumed (λ more.
+      pub piece_ends : IfSome (left old) (λ script. Completes holds (said_in v) script status s u a f)
+      piece_ends = some_whole (left old) l (reading.read ++ p) (λ script. Completes holds (said_in v) script status s u a f) more_consumed (λ more.
           completes v holds s u status ((reading.read ++ p) ++ more) all.written a f (all.does more) all.grown)
 
       pub piece_few : u.accepted ≤ s.accepted + most_lines

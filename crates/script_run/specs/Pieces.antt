@@ -11,7 +11,7 @@ use Rattle.script_run.specs.declared.status.Status.{Status}
 use Rattle.script_run.specs.declared.status.Status.TheVariants.{Done, Refused}
 use Rattle.script_run.specs.Output.{AppendsFront}
 use Rattle.script_run.specs.declared.voice.Voice.{Voice}
-use Rattle.script_run.specs.Text.{Played, play, play_lines, said_in, fate_of, end_of}
+use Rattle.script_run.specs.Text.{Played, play, play_lines, fate_of, end_of}
 
 -- ---- bytes
 
@@ -114,16 +114,16 @@ module _ (v : Voice) {K : Type 0} (holds : K → Option (List ℕ)) where
     pub line : (n : ℕ) (why : Refusal) → status ≡ Refused n why → n ≡ number
     pub grown : Appends (holds sink) (holds sink') written
 
-  -- ---- a whole script
-
-  -- this is the script's fate, all of its text is written, and the network's state is that after it
-  pub record Completes (script : List ℕ) (status : Status) (s t : State) (sink sink' : K) : Type 0 where
-    pub fate : status ≡ fate_of s script
-    pub text : Appends (holds sink) (holds sink') (said_in v s script)
-    pub state : t ≡ end_of s script
+-- ---- a whole script
 
 -- where this text is written of a script, from a state on
 module _ {K : Type 0} (holds : K → Option (List ℕ)) (text_in : State → List ℕ → List ℕ) where
+  -- this is the script's fate, all of its text is written, and the network's state is that after it
+  pub record Completes (script : List ℕ) (status : Status) (s t : State) (sink sink' : K) : Type 0 where
+    pub fate : status ≡ fate_of s script
+    pub text : Appends (holds sink) (holds sink') (text_in s script)
+    pub state : t ≡ end_of s script
+
   -- these bytes of a script were read; the whole lines among them are accepted, and just their text is written
   pub record WritesWhole (s : State) (left left' : Option (List ℕ)) (sink sink' : K) : Type 0 where
     pub read : List ℕ

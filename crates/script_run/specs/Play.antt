@@ -1,9 +1,12 @@
 -- What one line of a script does.
-use Rattle.std.specs.Prelude.{ℕ, List, [], ◌∷◌, Option, Some, None, Result, Ok, Err, codes}
+use Rattle.std.specs.Prelude.{ℕ, List, [], ◌∷◌, flat_map, Option, Some, None, Result, Ok, Err, codes}
+use Rattle.frame_capture.specs.Capture.{packet_bytes}
 use Rattle.report.specs.Lines.{error_text}
 use Rattle.scenario.specs.declared.command.Command.{Command}
 use Rattle.scenario.specs.Grammar.{line_of}
 use Rattle.spb_world.specs.declared.reason.Reason.{Reason}
+use Rattle.network_model.specs.declared.delivered.Delivered.{Delivered}
+use Rattle.network_model.specs.Captured.{seen_of}
 use Rattle.network_model.specs.Play.{next_state, answer_of}
 use Rattle.spb_world.specs.Reason.{reason_number, name_of}
 use Rattle.network_model.specs.Refusing.{refusal_of}
@@ -26,7 +29,7 @@ pub record Judged : Type 0 where
 abbrev pub misspelled_text : ℕ → ℕ → List ℕ
 misspelled_text number column = error_text number 1 (codes "Words") (Some column)
 
--- of a line that is refused an answer is written, and no packet
+-- of a line that is refused its `error` line is an answer, and there is no packet
 abbrev pub if_answers : Voice → List ℕ → List ℕ
 if_answers Answers text = text
 if_answers Packets text = []

@@ -1,12 +1,11 @@
 -- What a reply to a line is, and which networks can be played.
-use Rattle.std.specs.Prelude.{◌≡◌, ◌≤◌, false, List, length, Option}
+use Rattle.std.specs.Prelude.{◌≡◌, ◌<◌, ◌^◌, false, List, length, Option}
 use Rattle.std.specs.List.{AllByRecursion}
-use Rattle.shared_frames.specs.declared.delivered.Delivered.{Delivered}
-use Rattle.bridge_laws.specs.Brief.{most_frame_bytes}
 use Rattle.bridge_api.specs.Shown.{Shown}
 use Rattle.spb_network.specs.declared.network.NetworkOf.{NetworkOf}
 use Rattle.spb_network.specs.Applying.{IsReady}
 use Rattle.spb_network.specs.Network.{state_of}
+use Rattle.network_model.specs.declared.delivered.Delivered.{Delivered}
 use Rattle.network_model.specs.Sound.{opening}
 use Rattle.network_model.specs.State.{State}
 use Rattle.script_run.specs.Play.{Judged, packets_of}
@@ -20,15 +19,15 @@ pub record Replies (judgement : Judged) (reply : Reply) (new : State) : Type 0 w
   pub refused : reply.refused ≡ judgement.refused
   pub state : new ≡ judgement.state
 
--- a delivery that can be written: its frame is short
-abbrev pub IsShort : Delivered → Type 0
-IsShort d = length d.frame ≤ most_frame_bytes
+-- a delivery has a packet: the length of its frame has 32 bits
+abbrev pub HasPacket : Delivered → Type 0
+HasPacket d = length d.frame < 2 ^ 32
 
 -- and so, where the deliveries are noted and nothing is answered
 pub record Watched
     (judgement : Judged) (why : Option Refusal) (seen : List Delivered) (new : State) : Type 0 where
   pub packets : packets_of seen ≡ judgement.says Packets
-  pub short : AllByRecursion IsShort seen
+  pub written : AllByRecursion HasPacket seen
   pub refused : why ≡ judgement.refused
   pub state : new ≡ judgement.state
 

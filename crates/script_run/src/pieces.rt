@@ -15,8 +15,8 @@ ghost use Rattle.script_run.specs.Run.{is_written};
 ghost use Rattle.script_run.specs.Replying.{IsAlive};
 ghost use Rattle.script_run.specs.Text.{play_lines, said_in};
 
-use crate::capturing::capture_line;
 use crate::output::write_all;
+use crate::packets::capture_line;
 use crate::play::play_line;
 use crate::voice::Voice;
 use crate::{Refusal, Status, play};
@@ -299,7 +299,7 @@ pub(crate) fn play_script<B: Bridge, S: Source, K: Sink>(
     sink: &mut K,
 ) -> Result<Status, Break>
     requires alive { IsAlive B.shown network.old }
-    ensures ends { IfOk result (λ status. IfSome (S.left source.old) (λ script. Completes voice K.holds script status
+    ensures ends { IfOk result (λ status. IfSome (S.left source.old) (λ script. Completes K.holds (said_in voice) script status
         (state_of B.shown network.old) (state_of B.shown network.new) sink.old sink.new)) }
     ensures own { IfOk result (λ status. IsTrue (is_written status)) }
     ensures ended { result ≡ Ok Status.Done → IsAtEnd (S.left source.new) }
