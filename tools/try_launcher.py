@@ -34,7 +34,7 @@ NO_FORMS = ([], [""], ["-h"], ["--help"], ["--version"], ["RUN"], ["run", "FILE"
             ["run", "--kind", "fast"], ["run --kind swift"], ["run", "--kind", "swift", "FILE"], ["make"],
             ["make", "3"], ["make", "97"], ["make", "04"], ["make", "100"], ["make", "4", "--kind", "plain"], ["try"],
             ["try", "4", "5"], ["try", "4", "--kind"], ["list", "FILE"])
-USAGE = b"Usage: spbsim <run [--kind K] | make N | try N [--kind K] | list>\n"
+USAGE = b"Usage: spbsim <run [--kind K] | make N | try N [--kind K] | capture | list>\n"
 TERMINAL = b"spbsim: the script is read from the terminal; it ends with Ctrl-D on a line of its own\n"
 # the seconds after which a call counts as one that hangs: with stand-ins, and with a checked run
 LONGEST, LONGEST_REAL = 60, 1800
