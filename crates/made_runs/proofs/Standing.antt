@@ -20,7 +20,7 @@ use Rattle.network_model.specs.Restarting.{link_cut, cut_link, cut_from, with_li
 
 -- a network without its bridges and lanes
 abbrev pub bare : State → State
-bare s = record s { views = []; lanes = []; outs = []; accepted = 0 }
+bare s = record s { views = []; lanes = []; outs = []; accepted = 0; ticks = [] }
 
 bare-sent_over : (s : State) (lane : Option LaneId) (x : Frame) → bare (sent_over s lane x) ≡ bare s
 bare-sent_over s None x = refl

@@ -70,7 +70,13 @@ module _ (w : World) (Entered : Isid → List ℕ → Type 0) (apart : ArePairwi
   leaving_fewer s lanes leaving fewer = record { world = leaving.world; attached = leaving.attached; separate = separate_fewer Entered (LeftEntered w Entered) s lanes leaving.separate fewer }
 
   pub leaving_ticked : (s : State) (i : ℕ) → IsLeaving w Entered s → IsLeaving w Entered (ticked s i)
-  leaving_ticked s i leaving = leaving_stepped s i comes.second refl (λ v at. tt) (λ v at isid f brings. absurd brings) leaving
+  leaving_ticked s i leaving =
+      let stepping : IsLeaving w Entered (stepped comes.second s i) = leaving_stepped s i comes.second refl (λ v at. tt) (λ v at isid f brings. absurd brings) leaving in
+      record {
+        world = stepping.world;
+        attached = stepping.attached;
+        separate = record { lanes = stepping.separate.lanes; bridges = stepping.separate.bridges; outs = stepping.separate.outs };
+      }
 
   -- ---- a delivery
 

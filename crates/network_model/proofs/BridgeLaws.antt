@@ -1,9 +1,11 @@
 -- The laws of a step of a bridge, on which what is sound of a network rests.
 use Rattle.itag_frames.proofs.ControlLaws.{control_again}
 use Rattle.bridge_api.specs.Laws.{ConfiguredIsSound, ConfiguredHasNoCarrier, StepsStaySound, StepsKeepBridge, StepsKeepCarrier, StepsKeepNeighbours, SentIsSound, OneHello, HellosAreHeard, UpPortsAreUp, StepsCarryDatabase, ConfiguredHoldsOwn}
+use Rattle.bridge_laws.specs.Brief.{SentIsBrief}
 use Rattle.bridge_laws.specs.Counting.{StepsHoldIds, StepsLearnVersions, StepsAnswer, StepsOriginate, StepsDontSpend, ConfiguredIsFar}
 use Rattle.bridge_api.specs.Time.{SecondsAge}
 use Rattle.bridge_laws.proofs.Answering as answering
+use Rattle.bridge_laws.proofs.Brief as brief
 use Rattle.bridge_api.proofs.Certified as certified
 use Rattle.bridge_api.proofs.Carriers as carriers
 use Rattle.bridge_api.proofs.DataSteps as stored
@@ -36,6 +38,9 @@ steps_keep_carrier = carriers.steps_keep_carrier
 
 pub steps_keep_neighbours : StepsKeepNeighbours
 steps_keep_neighbours = certified.steps_keep_neighbours
+
+pub sent_is_brief : SentIsBrief
+sent_is_brief = brief.sent_is_brief
 
 pub sent_is_sound : SentIsSound
 sent_is_sound = frames.sent_is_sound control_again

@@ -78,7 +78,7 @@ pub record IsFirstOwn (b : DeclaredBridge) (v : BridgeView) : Type 0 where
   pub own : number_of (version_at v.database (own_id v.id.system)) ≤ 1
   pub alone : (id : LspId) → id ≢ own_id v.id.system → get v.database id ≡ None
 
-module _ (s : State) (n : ℕ) (rack : List Spare) (name : List ℕ) (b : DeclaredBridge) (v : BridgeView) (sound : IsSoundState s) (counted : IsCountedBy n s) (new : IsNewBridge s.world b) (first : IsFirstOwn b v) where
+module _ (s : State) (n : ℕ) (rack : List Spare) (ticks : List ℕ) (name : List ℕ) (b : DeclaredBridge) (v : BridgeView) (sound : IsSoundState s) (counted : IsCountedBy n s) (new : IsNewBridge s.world b) (first : IsFirstOwn b v) where
   abbrev bridges : Bridges
   bridges = s.world.bridges ++ (name, b) ∷ []
 
@@ -154,7 +154,7 @@ module _ (s : State) (n : ℕ) (rack : List Spare) (name : List ℕ) (b : Declar
       let link : IsLink s.world.bridges l = All-get (IsLink s.world.bridges) (links_of s) k l sound.world.links at in
       ((λ e. absurd (omega (arith, e, link.a.bridge, sound.fits.bridges))), λ e. absurd (omega (arith, e, link.b.bridge, sound.fits.bridges)))
 
-  pub counted_bridge : IsCountedBy (n + 2) (record s { rack = rack; world = with_bridge s.world name b; views = s.views ++ v ∷ [] })
+  pub counted_bridge : IsCountedBy (n + 2) (record s { rack = rack; world = with_bridge s.world name b; views = s.views ++ v ∷ []; ticks = ticks })
   unfolding with_bridge
   counted_bridge = record {
     fresh = All-push (λ (u : BridgeView). u.spent ≡ false) s.views v counted.fresh first.fresh;
@@ -171,7 +171,7 @@ module _ (s : State) (n : ℕ) (rack : List Spare) (name : List ℕ) (b : Declar
         ];
   }
     where
-      within_old : (i : ℕ) (u : BridgeView) (id : LspId) → slice_get s.views i ≡ Some u → IsOwnNumber u.id.system id → IsWithin (record s { rack = rack; world = record s.world { bridges = bridges }; views = views }) i u id (n + 2)
+      within_old : (i : ℕ) (u : BridgeView) (id : LspId) → slice_get s.views i ≡ Some u → IsOwnNumber u.id.system id → IsWithin (record s { rack = rack; world = record s.world { bridges = bridges }; views = views; ticks = ticks }) i u id (n + 2)
       within_old i u id at own =
           let within = counted.bound i u id at own in
           record {
@@ -180,7 +180,7 @@ module _ (s : State) (n : ℕ) (rack : List Spare) (name : List ℕ) (b : Declar
             room = omega (arith, within.room);
           }
 
-      within_new : (i : ℕ) (u : BridgeView) (id : LspId) → i ≡ length s.views → v ≡ u → IsOwnNumber u.id.system id → IsWithin (record s { rack = rack; world = record s.world { bridges = bridges }; views = views }) i u id (n + 2)
+      within_new : (i : ℕ) (u : BridgeView) (id : LspId) → i ≡ length s.views → v ≡ u → IsOwnNumber u.id.system id → IsWithin (record s { rack = rack; world = record s.world { bridges = bridges }; views = views; ticks = ticks }) i u id (n + 2)
       within_new i u id place is own =
           let owned : IsOwnNumber v.id.system id = subst (λ (x : BridgeView). IsOwnNumber x.id.system id) (sym is) own in
           let none : hellos_to (links_of s) s.lanes i ≤ 0 = subst (λ (j : ℕ). hellos_to (links_of s) s.lanes j ≤ 0) (sym place) (hellos_none (links_of s) s.lanes (length s.views) ends_away) in

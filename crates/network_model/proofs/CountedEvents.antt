@@ -23,7 +23,7 @@ use Rattle.spb_world.specs.declared.declaration.DeclaredLink.{DeclaredLink}
 use Rattle.spb_world.specs.World.{things_of}
 use Rattle.network_model.specs.State.{State, links_of, lane_at, with_frames}
 use Rattle.spb_world.specs.Links.{far_end}
-use Rattle.network_model.specs.Events.{stepped, ticked, heard_over, delivered_front, delivered, lost, doubled}
+use Rattle.network_model.specs.Events.{stepped, with_second, ticked, heard_over, delivered_front, delivered, lost, doubled}
 use Rattle.network_model.specs.Sound.{AreShort}
 use Rattle.network_model.specs.Counted.{IsCopy, is_held, is_said, hellos_in, hellos_to, IsWithin, IsCountedBy}
 use Rattle.spb_world.proofs.BoxLemmas.{All-get}
@@ -70,15 +70,25 @@ step_weak x s n i is_input core are weak low quiet silent no_frame =
 
 -- ---- a tick
 
+-- a second is counted
+own_second : (s : State) (i : ℕ) → AreOwn s → AreOwn (with_second s i)
+own_second s i own = record { fresh = own.fresh; held = own.held; said = own.said }
+
+weak_second : (s : State) (n : ℕ → ℕ) (i : ℕ) → AreWeak n s → AreWeak n (with_second s i)
+weak_second s n i weak j v id at own =
+    let within = weak j v id at own in
+    record { most = within.most; weak = within.weak; room = within.room }
+
 pub tick_weak : (s : State) (n : ℕ → ℕ) (i : ℕ) → IsCore s → AreOwn s → AreWeak n s → AreLow s n → AreOwn (ticked s i) × AreWeak (λ j. n j + gain_at i second j + hello_at i j) (ticked s i)
 tick_weak s n i core are weak low =
     let comes : (p : ℕ) (f : Frame) → second ≡ frame p f → Comes (links_of s) s.lanes i p f = λ p f is. absurd cc in
-    let turn : Turn s (ticked s i) (only i second) = step_turn second s s.lanes i (λ v at. tt) core (alike_itself s) core.short (λ k dir f among. among) comes in
+    let t : State = stepped second s i in
+    let turn : Turn s t (only i second) = step_turn second s s.lanes i (λ v at. tt) core (alike_itself s) core.short (λ k dir f among. among) comes in
     let far : AreFar s (only i second) = far_stepping s n i second core are weak low comes in (
-      own_moved s (ticked s i) (only i second) turn are far,
-      weak_moved s (ticked s i) (only i second) n (gain_at i second) (hello_at i) turn weak (step_raises s i second core far refl) (λ j.
-          let same : hellos_to (links_of (ticked s i)) (ticked s i).lanes j ≡ hellos_to (links_of s) (ticked s i).lanes j = λ k. hellos_to (things_of (stepped_world second s i k).links) (ticked s i).lanes j in
-          omega (arith, same, tick_hellos s i j core)),
+      own_second t i (own_moved s t (only i second) turn are far),
+      weak_second t (λ j. n j + gain_at i second j + hello_at i j) i (weak_moved s t (only i second) n (gain_at i second) (hello_at i) turn weak (step_raises s i second core far refl) (λ j.
+          let same : hellos_to (links_of t) t.lanes j ≡ hellos_to (links_of s) t.lanes j = λ k. hellos_to (things_of (stepped_world second s i k).links) t.lanes j in
+          omega (arith, same, tick_hellos s i j core))),
     )
 
 pub one_each : (i j : ℕ) → gain_at i second j + hello_at i j ≡ 1

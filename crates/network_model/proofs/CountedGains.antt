@@ -31,10 +31,10 @@ use Rattle.network_model.proofs.BridgeLaws.{one_hello, steps_originate}
 use Rattle.network_model.proofs.FitsLemmas.{alike_stepped, link_there}
 use Rattle.network_model.proofs.SentLanes.{stepped_here, stepped_beside}
 use Rattle.network_model.proofs.SoundLane.{moved, moved_same}
-use Rattle.network_model.proofs.SoundMoves.{IsCore, got_mapped, link-apart}
+use Rattle.network_model.proofs.SoundMoves.{IsCore, got_mapped, link-apart, there_is}
 use Rattle.network_model.proofs.SoundSteps.{only, only_here, only_is}
 use Rattle.network_model.proofs.CountedHellos.{is_hello_at, hellos_pushed_all, hellos_at, GainOne, hellos_gain, hellos_itself}
-use Rattle.network_model.proofs.CountedMoves.{Turn, there_is, is_within, length-things, Stems, was, owns, aged, met, stems, weak_after}
+use Rattle.network_model.proofs.CountedMoves.{Turn, is_within, length-things, Stems, was, owns, aged, met, stems, weak_after}
 use Rattle.network_model.proofs.CountedSteps.{AreFar, AreWeak}
 
 -- ---- weakly

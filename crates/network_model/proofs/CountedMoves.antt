@@ -37,7 +37,7 @@ use Rattle.network_model.proofs.BridgeLaws.{sent_is_sound, seconds_age, steps_le
 use Rattle.network_model.proofs.FitsLemmas.{link_there, far_is_port}
 use Rattle.network_model.proofs.SoundLane.{some-is, moved, sent_by, AreInputs, named}
 use Rattle.spb_world.proofs.SoundLaneIds.{turned, LeadsFrom, lane_leads}
-use Rattle.network_model.proofs.SoundMoves.{IsCore, Comes, GoesOut, Moves, got_mapped}
+use Rattle.network_model.proofs.SoundMoves.{IsCore, Comes, GoesOut, Moves, got_mapped, there_is}
 
 -- a move from one state to another, of the same things declared
 pub record Turn (s t : State) (o : ℕ → Option Input) : Type 0 where
@@ -47,11 +47,6 @@ pub record Turn (s t : State) (o : ℕ → Option Input) : Type 0 where
   pub moves : Moves (links_of s) o s.views t.views s.lanes t.lanes
 
 -- ---- which bridge is which
-
-pub there_is : {X : Type 0} (xs : List X) (i : ℕ) → i < length xs → (x : X) × (slice_get xs i ≡ Some x)
-there_is [] i within = absurd (omega (arith, within))
-there_is (x ∷ xs) zero within = (x, refl)
-there_is (x ∷ xs) (suc i) within = there_is xs i (omega (arith, within))
 
 pub is_within : {X : Type 0} (xs : List X) (i : ℕ) (x : X) → slice_get xs i ≡ Some x → i < length xs
 is_within [] i x at = absurd cc

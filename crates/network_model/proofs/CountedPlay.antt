@@ -108,7 +108,7 @@ boxed_counted : (s : State) (n : ℕ) (name : List ℕ) (priority : ℕ) (system
 boxed_counted s n name priority system source ports None sound counted none = counted_more n (n + 2) s (omega arith) counted
 boxed_counted s n name priority system source ports (Some place) sound counted none =
     let b : DeclaredBridge = bridge_of priority system source ports in
-    counted_bridge s n (remove s.rack place) name b (configured (config_of s.world b)) sound counted (bridge_refusal_none s.world name priority system source ports none).new (first_own s.world b)
+    counted_bridge s n (remove s.rack place) (s.ticks ++ 0 ∷ []) name b (configured (config_of s.world b)) sound counted (bridge_refusal_none s.world name priority system source ports none).new (first_own s.world b)
 
 bridge_counted : (s : State) (n : ℕ) (name : List ℕ) (priority : ℕ) (system : Mac) (source : SourceId) (ports : ℕ) → IsSoundState s → IsCountedBy n s → declared_refusal s name priority system source ports ≡ None → IsCountedBy (n + 2) (declared s name (bridge_of priority system source ports))
 unfolding declared_refusal declared

@@ -122,7 +122,9 @@ alike_flushed s k = record { bridges = refl; links = refl; ports = refl; lanes =
 -- ---- the events
 
 pub alike_ticked : (s : State) (i : ℕ) → IsAlike s (ticked s i)
-alike_ticked s i = alike_stepped comes.second s i
+alike_ticked s i =
+    let alike : IsAlike s (stepped comes.second s i) = alike_stepped comes.second s i in
+    record { bridges = alike.bridges; links = alike.links; ports = alike.ports; lanes = alike.lanes }
 
 pub alike_heard_over : (s : State) (dir : Dir) (bytes : Frame) (o : Option DeclaredLink) → IsAlike s (heard_over s dir bytes o)
 alike_heard_over s dir bytes None = alike_itself s

@@ -83,3 +83,4 @@ pub mod OnceEvents
 pub mod OnceTree
 pub mod OnceLaws
 pub mod OnceWitness
+pub mod Brief

@@ -157,7 +157,7 @@ world = record {
 }
 
 abbrev resting : BridgeView → BridgeView → State
-resting v w = record { rule = rule.Plain; rack = []; world = world; views = v ∷ w ∷ []; lanes = no_frames ∷ []; outs = []; rounds = 0; drained = 0; accepted = 5 }
+resting v w = record { rule = rule.Plain; rack = []; world = world; views = v ∷ w ∷ []; lanes = no_frames ∷ []; outs = []; rounds = 0; drained = 0; accepted = 5; ticks = 0 ∷ 0 ∷ [] }
 
 apart : (id : LspId) → id.system ≡ system 1 → id.system ≡ system 2 → ⊥
 apart id first second =

@@ -41,34 +41,37 @@ use Rattle.network_model.proofs.RestartCut.{and_both, either, leads_away, here_i
 use Rattle.network_model.proofs.RestartConfig.{restart_whole}
 use Rattle.network_model.proofs.RestartSound.{world-with_carriers_from}
 
--- ---- the rack
+-- ---- the rack, and the seconds
 
-rack_carrier : (on : Bool) (s : State) (e : LinkEnd) → (with_carrier_at_end on s e).rack ≡ s.rack
-rack_carrier on s e = ap (λ (t : State). t.rack) (stepped_rest (comes.carrier e.port on) s e.bridge)
+abbrev kept : State → List Spare × List ℕ
+kept s = (s.rack, s.ticks)
 
-rack_cut : (s : State) (k : ℕ) (e : LinkEnd) (b : Bool) → (if b then link_cut s k e else s).rack ≡ s.rack
-rack_cut s k e true = rack_carrier true (with_carrier_at_end false (flushed s k) e) e ∙ rack_carrier false (flushed s k) e
-rack_cut s k e false = refl
+kept_carrier : (on : Bool) (s : State) (e : LinkEnd) → kept (with_carrier_at_end on s e) ≡ kept s
+kept_carrier on s e = ap kept (stepped_rest (comes.carrier e.port on) s e.bridge)
 
-rack_cut_link : (s : State) (i k : ℕ) (o : Option DeclaredLink) → (cut_link s i k o).rack ≡ s.rack
-rack_cut_link s i k None = refl
-rack_cut_link s i k (Some l) = rack_cut s k (end_away l i) (ends_here l i)
+kept_cut : (s : State) (k : ℕ) (e : LinkEnd) (b : Bool) → kept (if b then link_cut s k e else s) ≡ kept s
+kept_cut s k e true = kept_carrier true (with_carrier_at_end false (flushed s k) e) e ∙ kept_carrier false (flushed s k) e
+kept_cut s k e false = refl
 
-rack_cut_from : (n k i : ℕ) (s : State) → (cut_from n k i s).rack ≡ s.rack
-rack_cut_from zero k i s = refl
-rack_cut_from (suc n) k i s = rack_cut_from n (k + 1) i (cut_link s i k (slice_get (links_of s) k)) ∙ rack_cut_link s i k (slice_get (links_of s) k)
+kept_cut_link : (s : State) (i k : ℕ) (o : Option DeclaredLink) → kept (cut_link s i k o) ≡ kept s
+kept_cut_link s i k None = refl
+kept_cut_link s i k (Some l) = kept_cut s k (end_away l i) (ends_here l i)
 
-rack_carrier_if : (s : State) (e : LinkEnd) (b : Bool) → (if b then with_carrier_at_end true s e else s).rack ≡ s.rack
-rack_carrier_if s e true = rack_carrier true s e
-rack_carrier_if s e false = refl
+kept_cut_from : (n k i : ℕ) (s : State) → kept (cut_from n k i s) ≡ kept s
+kept_cut_from zero k i s = refl
+kept_cut_from (suc n) k i s = kept_cut_from n (k + 1) i (cut_link s i k (slice_get (links_of s) k)) ∙ kept_cut_link s i k (slice_get (links_of s) k)
 
-rack_link_carrier : (s : State) (i : ℕ) (o : Option DeclaredLink) → (with_link_carrier s i o).rack ≡ s.rack
-rack_link_carrier s i None = refl
-rack_link_carrier s i (Some l) = rack_carrier_if s (end_here l i) (ends_here l i)
+kept_carrier_if : (s : State) (e : LinkEnd) (b : Bool) → kept (if b then with_carrier_at_end true s e else s) ≡ kept s
+kept_carrier_if s e true = kept_carrier true s e
+kept_carrier_if s e false = refl
 
-rack_carriers_from : (n k i : ℕ) (s : State) → (with_carriers_from n k i s).rack ≡ s.rack
-rack_carriers_from zero k i s = refl
-rack_carriers_from (suc n) k i s = rack_carriers_from n (k + 1) i (with_link_carrier s i (slice_get (links_of s) k)) ∙ rack_link_carrier s i (slice_get (links_of s) k)
+kept_link_carrier : (s : State) (i : ℕ) (o : Option DeclaredLink) → kept (with_link_carrier s i o) ≡ kept s
+kept_link_carrier s i None = refl
+kept_link_carrier s i (Some l) = kept_carrier_if s (end_here l i) (ends_here l i)
+
+kept_carriers_from : (n k i : ℕ) (s : State) → kept (with_carriers_from n k i s) ≡ kept s
+kept_carriers_from zero k i s = refl
+kept_carriers_from (suc n) k i s = kept_carriers_from n (k + 1) i (with_link_carrier s i (slice_get (links_of s) k)) ∙ kept_link_carrier s i (slice_get (links_of s) k)
 
 -- ---- the view
 
@@ -185,8 +188,9 @@ new_in : (s : State) (i : ℕ) (b : DeclaredBridge) (place : ℕ) → IsSoundSta
 new_in s i b place sound there = record {
   view = view_with_carriers (links_of s) 0 i u (configured c) from (λ m l at. (link_there s m l sound.world at).apart) (got_at t.views i (configured c) within);
   number = (begun_carriers (links_of s) i (configured c) (begun_new c (restart_whole s i b sound there))).number;
-  rack = rack_carriers_from n 0 i u ∙ ap (λ (rack : List Spare). remove rack place) (rack_cut_from n 0 i s);
+  rack = ap (λ (x : List Spare × List ℕ). x.0) (kept_carriers_from n 0 i u) ∙ ap (λ (x : List Spare × List ℕ). remove x.0 place) (kept_cut_from n 0 i s);
   world = world-with_carriers_from n 0 i u ∙ world;
+  ticks = ap (λ (x : List Spare × List ℕ). x.1) (kept_carriers_from n 0 i u) ∙ ap (λ (x : List Spare × List ℕ). x.1) (kept_cut_from n 0 i s);
 }
   where
     n : ℕ

@@ -57,9 +57,9 @@ pub record IsNewView (w : World) (b : DeclaredBridge) (v : BridgeView) : Type 0 
   pub sound : IsSoundView v
   pub no_carrier : (p : ℕ) → has_carrier_at v p ≡ false
 
-fits_bridge : (s : State) (rack : List Spare) (name : List ℕ) (b : DeclaredBridge) (v : BridgeView) → Fits s → HasPorts v b → Fits (record s { rack = rack; world = with_bridge s.world name b; views = s.views ++ v ∷ [] })
+fits_bridge : (s : State) (rack : List Spare) (ticks : List ℕ) (name : List ℕ) (b : DeclaredBridge) (v : BridgeView) → Fits s → HasPorts v b → Fits (record s { rack = rack; world = with_bridge s.world name b; views = s.views ++ v ∷ []; ticks = ticks })
 unfolding with_bridge
-fits_bridge s rack name b v fits ports = record {
+fits_bridge s rack ticks name b v fits ports = record {
   bridges = omega (arith, length-push s.views v, length-push s.world.bridges (name, b), fits.bridges);
   lanes = fits.lanes;
   ports = λ i u c at declared. each i u c (got_push s.views v i u at) (got_push (things_of s.world.bridges) b i c (sym (ap (λ bs. slice_get bs i) (things_of-push s.world.bridges name b)) ∙ declared));
@@ -136,12 +136,12 @@ agree_bridge : (s : State) (v : BridgeView) → Sound s.world → Fits s → All
 agree_bridge s v sound fits agree k dir l u w at at_u at_w =
     agree k dir l u w at (old_view s.views v (near_end dir l).bridge u (near_within s k dir l sound fits at) at_u) (old_view s.views v (far_end dir l).bridge w (far_within s k dir l sound fits at) at_w)
 
-pub Sound-new_bridge : (s : State) (rack : List Spare) (name : List ℕ) (b : DeclaredBridge) (v : BridgeView) → IsSoundState s → IsNewBridge s.world b → AreDistinct (with_bridge s.world name b) → IsNewView s.world b v → IsSoundState (record s { rack = rack; world = with_bridge s.world name b; views = s.views ++ v ∷ [] })
+pub Sound-new_bridge : (s : State) (rack : List Spare) (ticks : List ℕ) (name : List ℕ) (b : DeclaredBridge) (v : BridgeView) → IsSoundState s → IsNewBridge s.world b → AreDistinct (with_bridge s.world name b) → IsNewView s.world b v → IsSoundState (record s { rack = rack; world = with_bridge s.world name b; views = s.views ++ v ∷ []; ticks = ticks })
 unfolding with_bridge
-Sound-new_bridge s rack name b v sound declared distinct new = record {
+Sound-new_bridge s rack ticks name b v sound declared distinct new = record {
   world = Sound-with_bridge s.world name b sound.world declared;
   distinct = distinct;
-  fits = fits_bridge s rack name b v sound.fits new.ports;
+  fits = fits_bridge s rack ticks name b v sound.fits new.ports;
   shown = shown_bridge s name b v sound.fits sound.shown new.shown;
   views = All-push IsSoundView s.views v sound.views new.sound;
   carriers = carriers_bridge s v sound.world sound.fits sound.carriers new.no_carrier;

@@ -18,7 +18,7 @@ use Rattle.spb_world.specs.Declaring.{with_live}
 use Rattle.spb_types.specs.Places.{changed_at}
 use Rattle.network_model.specs.State.{State, links_of, lane_at, with_frames}
 use Rattle.spb_world.specs.Links.{far_end, is_at, lane_out}
-use Rattle.network_model.specs.Events.{stepped, ticked, heard_over, delivered_front, delivered, lost, doubled, with_carrier_at_end, with_carrier_over, flushed, switched_off, switched_on, ticked_from, delivered_times, lane_served, served_from, one_round, rounds, delivered_over, delivered_first, drained}
+use Rattle.network_model.specs.Events.{stepped, with_second, ticked, heard_over, delivered_front, delivered, lost, doubled, with_carrier_at_end, with_carrier_over, flushed, switched_off, switched_on, ticked_from, delivered_times, lane_served, served_from, one_round, rounds, delivered_over, delivered_first, drained}
 use Rattle.network_model.specs.Sound.{AreShort, ends_live_link, HaveCarrierOfLinks, HaveLinkMetrics, AreAttached, IsSoundState}
 use Rattle.spb_world.proofs.WorldLemmas.{switched-none}
 use Rattle.network_model.proofs.FitsLemmas.{IsAlike, alike_itself, alike_with_frames, alike_flushed, link_there}
@@ -74,8 +74,25 @@ stays_stepped x s lanes i is_input same_carrier same_metric same_attached sound 
     (stepped_with_metric x (record s { lanes = lanes }) i same_metric sound.metrics)
     (stepped_attached x (record s { lanes = lanes }) i same_attached sound.attached)
 
+-- a second is counted
+sound_second : (s : State) (i : ℕ) → IsSoundState s → IsSoundState (with_second s i)
+sound_second s i sound = record {
+  world = sound.world;
+  distinct = sound.distinct;
+  fits = record { bridges = sound.fits.bridges; lanes = sound.fits.lanes; ports = sound.fits.ports };
+  shown = sound.shown;
+  views = sound.views;
+  carriers = sound.carriers;
+  metrics = sound.metrics;
+  attached = sound.attached;
+  short = sound.short;
+  idle = sound.idle;
+  agree = sound.agree;
+}
+
 pub Sound-ticked : (s : State) (i : ℕ) → IsSoundState s → IsSoundState (ticked s i)
-Sound-ticked s i sound = stays_stepped comes.second s s.lanes i (λ v at. tt) refl refl refl sound (alike_itself s) sound.short (λ k dir f among. among) (λ p f is. absurd cc)
+Sound-ticked s i sound =
+    sound_second (stepped comes.second s i) i (stays_stepped comes.second s s.lanes i (λ v at. tt) refl refl refl sound (alike_itself s) sound.short (λ k dir f among. among) (λ p f is. absurd cc))
 
 -- ---- a frame is delivered
 

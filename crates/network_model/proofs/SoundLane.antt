@@ -1,5 +1,5 @@
 -- One direction of a link, while both bridges may step.
-use Rattle.std.proofs.Common.{◌≡◌, ◌⊎◌, inl, inr, ◌≤◌, ℕ, true, true≢false, List, [], ◌∷◌, refl, sym, ap, ◌∙◌, subst, Option, Some, None, arith}
+use Rattle.std.proofs.Common.{◌≡◌, ◌⊎◌, inl, inr, ◌≤◌, ℕ, true, true≢false, List, [], ◌∷◌, length, refl, sym, ap, ◌∙◌, subst, Option, Some, None, arith}
 use Rattle.std.specs.List.{AllByRecursion}
 use Rattle.spb_types.specs.declared.address.BridgeId.{BridgeId}
 use Rattle.spb_types.specs.declared.address.LspId.{LspId}
@@ -18,9 +18,10 @@ use Rattle.bridge_api.specs.Parsing.{Parsed, parsed}
 use Rattle.bridge_api.specs.Parsing as parsing
 use Rattle.bridge_api.specs.Step.{Input, second, frame, carrier, metric, attach, detach, customer, step, sent}
 use Rattle.bridge_api.specs.Laws.{IsInput, IsSoundView, IsHeard, IsSent, IsHelloOf, IsWritten, IsFrameOf, hello_sender, port_of, claims_of}
+use Rattle.bridge_laws.specs.Brief.{most_frame_bytes, IsFrameThatCame}
 use Rattle.bridge_laws.proofs.Frames.{at_most_held}
 use Rattle.network_model.specs.Sound.{end_at, IsHelloTo, IsFrameFrom, IsFloodedOrHeld, LinkAgrees}
-use Rattle.network_model.proofs.BridgeLaws.{steps_keep_bridge, steps_keep_neighbours, steps_stay_sound, sent_is_sound, up_ports_are_up, steps_carry_database}
+use Rattle.network_model.proofs.BridgeLaws.{steps_keep_bridge, steps_keep_neighbours, steps_stay_sound, sent_is_sound, sent_is_brief, up_ports_are_up, steps_carry_database}
 
 pub All-in : (P : Frame → Type 0) (fs : List Frame) (f : Frame) → AllByRecursion P fs → IsIn f fs → P f
 All-in P [] f all among = absurd among
@@ -73,8 +74,8 @@ moved_rises (Some input) v id sound = (steps_carry_database input v sound).rises
 
 -- ---- both ends of a direction in one move
 
--- what comes to bridge v is x, and to bridge w is y. Whatever v hears at its port p was on its way there, and what is on
--- its way from v afterwards was so before, or is sent now
+-- what comes to bridge v is x, and to bridge w is y. Whatever v hears at its port p was on its way there, what is on its
+-- way from v afterwards was so before, or is sent now, and what v hears at any port is brief
 pub record IsMove (v : BridgeView) (p : ℕ) (w : BridgeView) (q : ℕ) (x y : Option Input) (lane back after : List Frame) : Type 0 where
   pub input : AreInputs v x
   pub first : IsSoundView v
@@ -84,6 +85,7 @@ pub record IsMove (v : BridgeView) (p : ℕ) (w : BridgeView) (q : ℕ) (x y : O
   pub towards : AllByRecursion (IsFrameFrom w q v p) back
   pub heard : (f : Frame) → x ≡ Some (frame p f) → IsIn f back
   pub sends : (f : Frame) → IsIn f after → IsIn f lane ⊎ IsSent (sent_by x v) p f
+  pub brief : (r : ℕ) (f : Frame) → x ≡ Some (frame r f) → length f ≤ most_frame_bytes
 
 -- a frame that was heard as a hello is one of the far end
 said_by : (j : Parsed) (from to : End) (n : End) → ((h : HelloValue) (way : ThreeWay) → j ≡ parsing.hello h way → IsHelloTo from to h way) → hello_sender j ≡ Some n → n ≡ from
@@ -135,7 +137,19 @@ still_said v p w q x y f sound was = record {
   hello = λ h way heard. subst (λ (to : End). IsHelloTo (end_at (moved x v) p) to h way) (sym (moved_end y w q)) (subst (λ (from : End). IsHelloTo from (end_at w q) h way) (sym (moved_end x v p)) (was.hello h way heard));
   claims = λ id a claimed. through a (version_at v.database id) (version_at (moved x v).database id) (was.claims id a claimed) (moved_rises x v id sound);
   written = subst (λ (id : BridgeId). IsWritten id.system.mac f) (sym (moved_same x v).id) was.written;
+  brief = was.brief;
 }
+
+-- what is relayed is as brief as what was heard
+brief_by : (i : Input) (f : Frame) → ((r : ℕ) (g : Frame) → i ≡ frame r g → length g ≤ most_frame_bytes) → (length f ≤ most_frame_bytes) ⊎ IsFrameThatCame i f → length f ≤ most_frame_bytes
+brief_by i f heard (inl short) = short
+brief_by second f heard (inr came) = absurd came
+brief_by (frame r g) f heard (inr came) = subst (λ (h : Frame). length h ≤ most_frame_bytes) (sym came) (heard r g refl)
+brief_by (carrier r on) f heard (inr came) = absurd came
+brief_by (metric r m) f heard (inr came) = absurd came
+brief_by (attach a) f heard (inr came) = absurd came
+brief_by (detach r) f heard (inr came) = absurd came
+brief_by (customer r bytes) f heard (inr came) = absurd came
 
 -- what is sent is said
 newly_said : (v : BridgeView) (p : ℕ) (w : BridgeView) (q : ℕ) (x y : Option Input) (lane back after : List Frame) (f : Frame) → IsMove v p w q x y lane back after → IsSent (sent_by x v) p f → IsFrameFrom (moved x v) p (moved y w) q f
@@ -148,6 +162,7 @@ newly_said v p w q (Some input) y lane back after f move some =
       hello = λ h way heard. subst (λ (to : End). IsHelloTo (end_at next p) to h way) (sym (moved_end y w q)) (hello_to next p (end_at w q) h way (own.hello h way heard) keeps);
       claims = λ id a claimed. at_most_held next id a (own.claims id a claimed);
       written = own.written;
+      brief = brief_by input f (λ r g e. move.brief r g (ap (λ (i : Input). Some i) e)) (sent_is_brief input v p f move.input move.first some);
     }
 
 -- whoever is no further behind stays so

@@ -26,7 +26,7 @@ use Rattle.spb_world.specs.Declaring.{is_vid_range, is_new_name, is_new_system, 
 use Rattle.link_model.specs.Lanes.{lane_of}
 use Rattle.network_model.specs.State.{State, next_box}
 use Rattle.spb_world.specs.Links.{is_live, lane_out}
-use Rattle.network_model.specs.Events.{sent_all, stepped, delivered, switched_on}
+use Rattle.network_model.specs.Events.{sent_all, stepped, delivered, switched_on, next_tick, with_second}
 use Rattle.network_model.specs.Refusing.{declared_refusal, frame_refusal, refusal_of}
 use Rattle.spb_world.specs.Naming.{named_link_refusal, unnamed_refusal}
 use Rattle.network_model.specs.Play.{with_vid_more, declared, linked, named_link, at_bridge, at_link, next_count, accepted_once, next_state, played_all}
@@ -108,38 +108,38 @@ world = record {
   attached = [];
 }
 
-abbrev at : BridgeView → BridgeView → List Frame → List Frame → ℕ → State
-at v w ab ba n = record { rule = rule.Plain; rack = []; world = world; views = v ∷ w ∷ []; lanes = record { ab = ab; ba = ba } ∷ []; outs = []; rounds = 0; drained = 0; accepted = n }
+abbrev at : BridgeView → BridgeView → List Frame → List Frame → ℕ → ℕ × ℕ → State
+at v w ab ba n t = record { rule = rule.Plain; rack = []; world = world; views = v ∷ w ∷ []; lanes = record { ab = ab; ba = ba } ∷ []; outs = []; rounds = 0; drained = 0; accepted = n; ticks = t.0 ∷ t.1 ∷ [] }
 
 out_there : lane_out (link ∷ []) 0 1 ≡ Some (record { link = 0; dir = Ab })
 unfolding lane_out
 out_there = refl
 
 -- what each command makes of it
-ticks_first : (v w : BridgeView) (n : ℕ) (bytes : Frame) → sent second v ≡ (1, bytes) ∷ [] → next_state (at v w [] [] n) (command.Tick (97 ∷ [])) ≡ at (step second v) w (bytes ∷ []) [] (next_count n)
+ticks_first : (v w : BridgeView) (n : ℕ) (t : ℕ × ℕ) (bytes : Frame) → sent second v ≡ (1, bytes) ∷ [] → next_state (at v w [] [] n t) (command.Tick (97 ∷ [])) ≡ at (step second v) w (bytes ∷ []) [] (next_count n) (next_tick t.0, t.1)
 unfolding next_state at_bridge stepped lane_out
-ticks_first v w n bytes says = ap (λ (fs : List (ℕ × Frame)). accepted_once (sent_all (at (step second v) w [] [] n) 0 fs)) says
+ticks_first v w n t bytes says = ap (λ (fs : List (ℕ × Frame)). accepted_once (with_second (sent_all (at (step second v) w [] [] n t) 0 fs) 0)) says
 
-delivers_ab : (v w : BridgeView) (n : ℕ) (bytes : Frame) → sent (frame 1 bytes) w ≡ [] → next_state (at v w (bytes ∷ []) [] n) (command.Deliver (108 ∷ []) Ab) ≡ at v (step (frame 1 bytes) w) [] [] (next_count n)
+delivers_ab : (v w : BridgeView) (n : ℕ) (t : ℕ × ℕ) (bytes : Frame) → sent (frame 1 bytes) w ≡ [] → next_state (at v w (bytes ∷ []) [] n t) (command.Deliver (108 ∷ []) Ab) ≡ at v (step (frame 1 bytes) w) [] [] (next_count n) t
 unfolding next_state at_link delivered stepped
-delivers_ab v w n bytes quiet = ap (λ (fs : List (ℕ × Frame)). accepted_once (sent_all (at v (step (frame 1 bytes) w) [] [] n) 1 fs)) quiet
+delivers_ab v w n t bytes quiet = ap (λ (fs : List (ℕ × Frame)). accepted_once (sent_all (at v (step (frame 1 bytes) w) [] [] n t) 1 fs)) quiet
 
-ticks_second : (v w : BridgeView) (n : ℕ) (bytes : Frame) → sent second w ≡ (1, bytes) ∷ [] → next_state (at v w [] [] n) (command.Tick (98 ∷ [])) ≡ at v (step second w) [] (bytes ∷ []) (next_count n)
+ticks_second : (v w : BridgeView) (n : ℕ) (t : ℕ × ℕ) (bytes : Frame) → sent second w ≡ (1, bytes) ∷ [] → next_state (at v w [] [] n t) (command.Tick (98 ∷ [])) ≡ at v (step second w) [] (bytes ∷ []) (next_count n) (t.0, next_tick t.1)
 unfolding next_state at_bridge stepped lane_out
-ticks_second v w n bytes says = ap (λ (fs : List (ℕ × Frame)). accepted_once (sent_all (at v (step second w) [] [] n) 1 fs)) says
+ticks_second v w n t bytes says = ap (λ (fs : List (ℕ × Frame)). accepted_once (with_second (sent_all (at v (step second w) [] [] n t) 1 fs) 1)) says
 
-delivers_ba : (v w : BridgeView) (n : ℕ) (bytes : Frame) → sent (frame 1 bytes) v ≡ [] → next_state (at v w [] (bytes ∷ []) n) (command.Deliver (108 ∷ []) Ba) ≡ at (step (frame 1 bytes) v) w [] [] (next_count n)
+delivers_ba : (v w : BridgeView) (n : ℕ) (t : ℕ × ℕ) (bytes : Frame) → sent (frame 1 bytes) v ≡ [] → next_state (at v w [] (bytes ∷ []) n t) (command.Deliver (108 ∷ []) Ba) ≡ at (step (frame 1 bytes) v) w [] [] (next_count n) t
 unfolding next_state at_link delivered stepped
-delivers_ba v w n bytes quiet = ap (λ (fs : List (ℕ × Frame)). accepted_once (sent_all (at (step (frame 1 bytes) v) w [] [] n) 0 fs)) quiet
+delivers_ba v w n t bytes quiet = ap (λ (fs : List (ℕ × Frame)). accepted_once (sent_all (at (step (frame 1 bytes) v) w [] [] n t) 0 fs)) quiet
 
 -- and none is refused
-tick_none : (v w : BridgeView) (ab ba : List Frame) (n : ℕ) → (refusal_of (at v w ab ba n) (command.Tick (97 ∷ [])) ≡ None) × (refusal_of (at v w ab ba n) (command.Tick (98 ∷ [])) ≡ None)
+tick_none : (v w : BridgeView) (ab ba : List Frame) (n : ℕ) (t : ℕ × ℕ) → (refusal_of (at v w ab ba n t) (command.Tick (97 ∷ [])) ≡ None) × (refusal_of (at v w ab ba n t) (command.Tick (98 ∷ [])) ≡ None)
 unfolding unnamed_refusal reason_unless
-tick_none v w ab ba n = (refl, refl)
+tick_none v w ab ba n t = (refl, refl)
 
-deliver_none : (v w : BridgeView) (bytes : Frame) (n : ℕ) → (refusal_of (at v w (bytes ∷ []) [] n) (command.Deliver (108 ∷ []) Ab) ≡ None) × (refusal_of (at v w [] (bytes ∷ []) n) (command.Deliver (108 ∷ []) Ba) ≡ None)
+deliver_none : (v w : BridgeView) (bytes : Frame) (n : ℕ) (t : ℕ × ℕ) → (refusal_of (at v w (bytes ∷ []) [] n t) (command.Deliver (108 ∷ []) Ab) ≡ None) × (refusal_of (at v w [] (bytes ∷ []) n t) (command.Deliver (108 ∷ []) Ba) ≡ None)
 unfolding frame_refusal reason_unless
-deliver_none v w bytes n = (refl, refl)
+deliver_none v w bytes n t = (refl, refl)
 
 -- ---- commands, one after another
 
@@ -157,11 +157,11 @@ conversation = command.Tick (97 ∷ []) ∷ command.Deliver (108 ∷ []) Ab ∷ 
 
 module _ (v w : BridgeView) (with_first_carrier : HaveFirstCarriers v w) where
   -- the first bridge says what it has to say, when it has met the other
-  meets : (n : ℕ) (z : BridgeView) → HaveMet (next_state (at (met v w with_first_carrier) z [] [] n) (command.Tick (97 ∷ [])))
+  meets : (n : ℕ) (t : ℕ × ℕ) (z : BridgeView) → HaveMet (next_state (at (met v w with_first_carrier) z [] [] n t) (command.Tick (97 ∷ [])))
   unfolding next_state at_bridge
-  meets n z =
+  meets n t z =
       let u : BridgeView = met v w with_first_carrier in
-      let s : State = at u z [] [] n in
+      let s : State = at u z [] [] n t in
       let fs : List (ℕ × Frame) = sent second u in
       let room : 0 + length (frames_at 1 fs) ≤ 1024 = omega (arith, few_frames fs 1, few_sent v w with_first_carrier) in
       let lane : lane_of (stepped second s 0).lanes 0 Ab ≡ pushed_all [] (frames_at 1 fs) =
@@ -192,8 +192,8 @@ module _ (v w : BridgeView) (with_first_carrier : HaveFirstCarriers v w) where
         };
       }
 
-  converse : (n : ℕ) → Leads (at v w [] [] n) conversation
-  converse n =
+  converse : (n : ℕ) (t : ℕ × ℕ) → Leads (at v w [] [] n t) conversation
+  converse n t =
       let h : Frame = first_of (sent second v) in
       let v1 : BridgeView = step second v in
       let w1 : BridgeView = step (frame 1 h) w in
@@ -204,11 +204,13 @@ module _ (v w : BridgeView) (with_first_carrier : HaveFirstCarriers v w) where
       let n2 : ℕ = next_count n1 in
       let n3 : ℕ = next_count n2 in
       let n4 : ℕ = next_count n3 in
-      played_then (at v w [] [] n) (at v1 w (h ∷ []) [] n1) _ _ (tick_none v w [] [] n).0 (ticks_first v w n h (says_first v w with_first_carrier))
-      (played_then (at v1 w (h ∷ []) [] n1) (at v1 w1 [] [] n2) _ _ (deliver_none v1 w h n1).0 (delivers_ab v1 w n1 h (first_quiet v w with_first_carrier w))
-      (played_then (at v1 w1 [] [] n2) (at v1 w2 [] (g ∷ []) n3) _ _ (tick_none v1 w1 [] [] n2).1 (ticks_second v1 w1 n2 g (says_second v w with_first_carrier))
-      (played_then (at v1 w2 [] (g ∷ []) n3) (at v2 w2 [] [] n4) _ _ (deliver_none v1 w2 g n3).1 (delivers_ba v1 w2 n3 g (second_quiet v w with_first_carrier v1))
-      (record { accepted = ((tick_none v2 w2 [] [] n4).0, tt); met = meets n4 w2 }))))
+      let t1 : ℕ × ℕ = (next_tick t.0, t.1) in
+      let t2 : ℕ × ℕ = (t1.0, next_tick t1.1) in
+      played_then (at v w [] [] n t) (at v1 w (h ∷ []) [] n1 t1) _ _ (tick_none v w [] [] n t).0 (ticks_first v w n t h (says_first v w with_first_carrier))
+      (played_then (at v1 w (h ∷ []) [] n1 t1) (at v1 w1 [] [] n2 t1) _ _ (deliver_none v1 w h n1 t1).0 (delivers_ab v1 w n1 t1 h (first_quiet v w with_first_carrier w))
+      (played_then (at v1 w1 [] [] n2 t1) (at v1 w2 [] (g ∷ []) n3 t2) _ _ (tick_none v1 w1 [] [] n2 t1).1 (ticks_second v1 w1 n2 t1 g (says_second v w with_first_carrier))
+      (played_then (at v1 w2 [] (g ∷ []) n3 t2) (at v2 w2 [] [] n4 t2) _ _ (deliver_none v1 w2 g n3 t2).1 (delivers_ba v1 w2 n3 t2 g (second_quiet v w with_first_carrier v1))
+      (record { accepted = ((tick_none v2 w2 [] [] n4 t2).0, tt); met = meets n4 t2 w2 }))))
 
 -- ---- the two bridges, when their link has come up
 
@@ -245,8 +247,8 @@ have_first_carriers =
       metrics = ap metrics_of (first_ports (config 1) 1 10 refl);
     }
 
-all_met : Leads (at (with_first_carrier (config 1) 10) (with_first_carrier (config 2) 10) [] [] 4) conversation
-all_met = converse (with_first_carrier (config 1) 10) (with_first_carrier (config 2) 10) have_first_carriers 4
+all_met : Leads (at (with_first_carrier (config 1) 10) (with_first_carrier (config 2) 10) [] [] 4 (0, 0)) conversation
+all_met = converse (with_first_carrier (config 1) 10) (with_first_carrier (config 2) 10) have_first_carriers 4 (0, 0)
 
 accepted : AreAccepted start (declarations ++ conversation)
 unfolding next_state reason_unless vid_refusal bridge_refusal link_refusal is_vid_range is_new_name is_new_system is_new_source is_bridge_range is_free_port is_link_range is_unlinked with_vid with_bridge with_link with_live next_box lane_out stepped switched_on with_vid_more declared_refusal named_link_refusal declared linked named_link

@@ -1,5 +1,5 @@
 -- A move of the whole network: something may come to each bridge, and frames may be lost or doubled.
-use Rattle.std.proofs.Common.{◌≡◌, ◌≢◌, ◌⊎◌, inl, inr, ℕ, zero, suc, true, true≢false, List, [], ◌∷◌, refl, sym, ap, ◌∙◌, subst, Option, Some, None, slice_get, arith}
+use Rattle.std.proofs.Common.{◌≡◌, ◌≢◌, ◌⊎◌, inl, inr, ◌<◌, ◌≤◌, ℕ, zero, suc, true, true≢false, List, [], ◌∷◌, length, refl, sym, ap, ◌∙◌, subst, Option, Some, None, slice_get, arith}
 use Rattle.std.specs.Option.{option_map}
 use Rattle.std.specs.List.{AllByRecursion}
 use Rattle.link_model.specs.Lane.{Frame, IsIn}
@@ -8,17 +8,18 @@ use Rattle.spb_types.specs.declared.link.Dir.TheVariants.{Ab, Ba}
 use Rattle.bridge_api.specs.View.{BridgeView, IsPort}
 use Rattle.bridge_api.specs.Step.{Input, frame}
 use Rattle.bridge_api.specs.Laws.{IsSoundView, IsSent}
+use Rattle.bridge_laws.specs.Brief.{most_frame_bytes}
 use Rattle.spb_world.specs.declared.declaration.DeclaredLink.{DeclaredLink}
 use Rattle.link_model.specs.declared.lanes.LinkLanes.{LinkLanes}
 use Rattle.link_model.specs.declared.lanes.LaneId.{LaneId}
-use Rattle.spb_world.specs.World.{World, things_of, Sound, AreDistinct}
+use Rattle.spb_world.specs.World.{World, Bridges, things_of, Sound, AreDistinct, IsLink}
 use Rattle.link_model.specs.Lanes.{lane_of}
 use Rattle.network_model.specs.State.{State, links_of, Fits}
 use Rattle.spb_world.specs.Links.{is_live, near_end, far_end, lane_out}
 use Rattle.network_model.specs.Sound.{AreShort, IsShown, AreShown, IsFrameFrom, LinkAgrees, AllAgree, AreIdle}
 use Rattle.spb_world.proofs.BoxLemmas.{All-get}
 use Rattle.network_model.proofs.FitsLemmas.{IsAlike, Fits-alike, link_there, far_is_port}
-use Rattle.network_model.proofs.SoundLane.{some-is, moved, sent_by, moved_same, AreInputs, moved_sound, IsMove, agrees_moved}
+use Rattle.network_model.proofs.SoundLane.{All-in, some-is, moved, sent_by, moved_same, AreInputs, moved_sound, IsMove, agrees_moved}
 use Rattle.spb_world.proofs.SoundLaneIds.{turned, lane_of_end, LeadsFrom, lane_leads}
 
 -- what is sound of a state, but for carrier, which comes and goes at one end of a link after the other
@@ -66,6 +67,11 @@ nothing_in (f ∷ fs) none = absurd (none f (inl refl))
 pub got_mapped : {X Y : Type 0} (f : X → Y) (o : Option X) (y : Y) → option_map f o ≡ Some y → (x : X) × (o ≡ Some x) × (y ≡ f x)
 got_mapped f None y is = absurd cc
 got_mapped f (Some x) y is = (x, refl, sym (some-is (f x) y is))
+
+pub there_is : {X : Type 0} (xs : List X) (i : ℕ) → i < length xs → (x : X) × (slice_get xs i ≡ Some x)
+there_is [] i within = absurd (omega (arith, within))
+there_is (x ∷ xs) zero within = (x, refl)
+there_is (x ∷ xs) (suc i) within = there_is xs i (omega (arith, within))
 
 -- ---- the parts of what is sound
 
@@ -116,6 +122,24 @@ sent_there links o views k dir l v f at at_v new =
     (subst (λ (i : ℕ). IsSent (sent_by (o i) v) new.port f) place
     (subst (λ (u : BridgeView). IsSent (sent_by (o new.place) u) new.port f) view new.sent))
 
+ends_within : (bridges : Bridges) (dir : Dir) (l : DeclaredLink) → IsLink bridges l → ((near_end dir l).bridge < length bridges) × ((far_end dir l).bridge < length bridges)
+ends_within bridges Ab l link = (link.a.bridge, link.b.bridge)
+ends_within bridges Ba l link = (link.b.bridge, link.a.bridge)
+
+-- what is on its way over a link is brief
+pub on_way_brief : (s : State) (k : ℕ) (dir : Dir) (l : DeclaredLink) (f : Frame) → IsCore s → slice_get (links_of s) k ≡ Some l → IsIn f (lane_of s.lanes k dir) → length f ≤ most_frame_bytes
+on_way_brief s k dir l f core at among =
+    let within = ends_within s.world.bridges dir l (link_there s k l core.world at) in
+    let v = there_is s.views (near_end dir l).bridge (omega (arith, within.0, core.fits.bridges)) in
+    let w = there_is s.views (far_end dir l).bridge (omega (arith, within.1, core.fits.bridges)) in
+    (All-in (IsFrameFrom v.0 (near_end dir l).port w.0 (far_end dir l).port) (lane_of s.lanes k dir) f (core.agree k dir l v.0 w.0 at v.1 w.1).said among).brief
+
+-- and so is what a bridge hears
+heard_brief : (s : State) (i p : ℕ) (f : Frame) → IsCore s → Comes (links_of s) s.lanes i p f → length f ≤ most_frame_bytes
+heard_brief s i p f core comes =
+    let leads : LeadsFrom (links_of s) i p comes.lane.link comes.lane.dir = lane_leads (links_of s) i p comes.lane comes.out in
+    on_way_brief s comes.lane.link (turned comes.lane.dir) leads.link f core leads.there comes.among
+
 moves_agree : (s : State) (o : ℕ → Option Input) (views' : List BridgeView) (lanes' : List LinkLanes) → IsCore s → Moves (links_of s) o s.views views' s.lanes lanes' → AllAgree (links_of s) views' lanes'
 moves_agree s o views' lanes' core move k dir l v' w' at at_v at_w =
     let near : ℕ = (near_end dir l).bridge in
@@ -133,6 +157,7 @@ moves_agree s o views' lanes' core move k dir l v' w' at at_v at_w =
       towards = agree_back (links_of s) s.views s.lanes core.agree k dir l was_v.0 was_w.0 at was_v.1 was_w.1;
       heard = λ f is. heard_there s k dir l f core at (move.heard near (near_end dir l).port f is);
       sends = λ f among. sends f was_v.0 was_v.1 (move.frames k dir f among);
+      brief = λ r f is. heard_brief s near r f core (move.heard near r f is);
     } in
     subst (λ (v : BridgeView). LinkAgrees v (near_end dir l).port w' (far_end dir l).port (lane_of lanes' k dir)) (sym was_v.2)
     (subst (λ (w : BridgeView). LinkAgrees (moved (o near) was_v.0) (near_end dir l).port w (far_end dir l).port (lane_of lanes' k dir)) (sym was_w.2)

@@ -143,7 +143,7 @@ boxed_sound : (s : State) (name : List ℕ) (priority : ℕ) (system : Mac) (sou
 boxed_sound s name priority system source ports None sound none = sound
 boxed_sound s name priority system source ports (Some place) sound none =
     let new = bridge_refusal_none s.world name priority system source ports none in
-    Sound-new_bridge s (remove s.rack place) name (bridge_of priority system source ports) (configured (config_of s.world (bridge_of priority system source ports))) sound new.new (distinct_bridge s.world name priority system source ports sound.distinct none) (new_view s.world name priority system source ports sound.world new)
+    Sound-new_bridge s (remove s.rack place) (s.ticks ++ 0 ∷ []) name (bridge_of priority system source ports) (configured (config_of s.world (bridge_of priority system source ports))) sound new.new (distinct_bridge s.world name priority system source ports sound.distinct none) (new_view s.world name priority system source ports sound.world new)
 
 bridge_sound : (s : State) (name : List ℕ) (priority : ℕ) (system : Mac) (source : SourceId) (ports : ℕ) → IsSoundState s → declared_refusal s name priority system source ports ≡ None → IsSoundState (declared s name (bridge_of priority system source ports))
 unfolding declared_refusal declared

@@ -9,6 +9,7 @@ pub mod Restarting
 pub mod Refusing
 pub mod Play
 pub mod Captured
+pub mod Brief
 pub mod Holding
 pub mod SoundLaws
 pub mod Truth

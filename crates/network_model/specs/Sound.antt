@@ -20,6 +20,7 @@ use Rattle.bridge_api.specs.Config.{ArePairwise}
 use Rattle.bridge_api.specs.Parsing.{parsed}
 use Rattle.bridge_api.specs.Parsing as parsing
 use Rattle.bridge_api.specs.Laws.{IsSoundView, IsWritten, claims_said}
+use Rattle.bridge_laws.specs.Brief.{most_frame_bytes}
 use Rattle.spb_world.specs.declared.declaration.DeclaredBridge.{DeclaredBridge}
 use Rattle.spb_world.specs.declared.declaration.DeclaredLink.{DeclaredLink}
 use Rattle.network_model.specs.declared.kind_rule.KindRule.{KindRule}
@@ -84,14 +85,15 @@ pub record IsHelloTo (from to : End) (hello : HelloValue) (way : ThreeWay) : Typ
   pub neighbour : (n : End) → way.neighbour ≡ Some n → n ≡ to
 
 -- a frame that is on its way from port p of a bridge v to port q of a bridge w: if it is heard as a hello, it is one of
--- this sender to this receiver; whatever is claimed in it is at most what the sender holds now; and it is written as
--- the sender writes
+-- this sender to this receiver; whatever is claimed in it is at most what the sender holds now; it is written as the
+-- sender writes; and it has no more bytes than a bridge makes
 pub record IsFrameFrom (v : BridgeView) (p : ℕ) (w : BridgeView) (q : ℕ) (bytes : Frame) : Type 0 where
   pub hello : (h : HelloValue) (way : ThreeWay) → parsed bytes ≡ parsing.hello h way
       → IsHelloTo (end_at v p) (end_at w q) h way
   pub claims : (id : LspId) (a : Version) → IsClaimed (claims_said (parsed bytes)) id a
       → IsAtMost a (version_at v.database id)
   pub written : IsWritten v.id.system.mac bytes
+  pub brief : length bytes ≤ most_frame_bytes
 
 -- the LSP under an id is to be sent at port p of v, or w holds it at least at the version of v
 abbrev pub IsFloodedOrHeld : BridgeView → ℕ → BridgeView → LspId → Type 0

@@ -9,6 +9,7 @@ ghost use Rattle.network_model.specs.Convergence.{CountedQuietIsConverged, Playe
 ghost use Rattle.network_model.specs.MeetingLaws.{SomeBridgesMeet};
 ghost use Rattle.network_model.specs.Quiet.{QuietSays};
 ghost use Rattle.network_model.specs.RestartLaws.{RestartIsNew};
+ghost use Rattle.network_model.specs.Brief.{SeenIsBrief};
 ghost use Rattle.network_model.specs.DeliveryLaws.{FramesAreDelivered, DeliverDelivers};
 ghost use Rattle.network_model.specs.Isolation.{CommandsKeepApart, ServicesStayApart, SomeFrameLeaves};
 ghost use Rattle.network_model.specs.Once.{ExactlyOnce, NetworksDeliverOnce, SomeFramePasses};
@@ -44,6 +45,11 @@ pub fn a_delivery_is_one_step()
 /// its kind; without one nothing changes.
 pub fn a_restart_begins_anew()
     ensures { RestartIsNew }
+{}
+
+/// Each frame that a command delivers in a sound network has at most 2,022 bytes.
+pub fn deliveries_are_brief()
+    ensures { SeenIsBrief }
 {}
 
 /// Some commands lead to a network with a hello on its way over a link; and some lead to one in which a port is Up, and

@@ -1,5 +1,6 @@
 pub mod SendLemmas
 pub mod RoundLemmas
+pub mod SeenLemmas
 pub mod CommandFits
 pub mod Halts
 pub mod RestartLemmas

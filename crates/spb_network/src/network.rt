@@ -115,7 +115,8 @@ impl<B: Bridge> NetworkOf<B> {
     }
 
     /// Applies a command as [`apply`](NetworkOf::apply) does, and appends the frames that it delivers, in order, each
-    /// with the seconds of the bridge to which it comes. Where it answers an error, nothing is appended.
+    /// with the seconds of the bridge to which it comes; none has more than 2,022 bytes. Where it answers an error,
+    /// nothing is appended.
     ///
     /// No frame is copied. `NoMemory` comes also where the list can't grow; the network is then halted, as it is
     /// wherever memory is missing.

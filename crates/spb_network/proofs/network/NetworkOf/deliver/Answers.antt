@@ -1,8 +1,11 @@
 use Rattle.std.proofs.Common.{◌≡◌, ap, sym, subst, ◌∙◌, None, slice_get}
 use Rattle.link_model.specs.Lanes.{rest}
 use Rattle.network_model.specs.State.{State, lane_at, Fits}
+use Rattle.network_model.specs.Captured.{seen_front, seen_at}
 use Rattle.network_model.specs.Events.{delivered, delivered_front}
 use Rattle.spb_network.specs.Network.{state_of}
+use Rattle.spb_network.specs.Watching.{noted}
+use Rattle.spb_network.proofs.Keeping.{on_ok}
 use Rattle.network_model.proofs.FitsLemmas.{Fits-with_frames}
 use Rattle.spb_network.proofs.SendLemmas.{rest-none}
 use Rattle.spb_network.proofs.network.NetworkOf.deliver.Goals as goal
@@ -29,3 +32,16 @@ returns-in-None-clause-order g c =
       made = c.requires.made;
       fits = subst Fits (ap (λ l. record s { lanes = l }) (sym c.pop.ensures.rest)) (Fits-with_frames rest s c.args.lane.link c.args.lane.dir c.requires.fits);
     }
+
+pub returns-in-None-clause-seen : goal.returns-in-None-clause-seen
+unfolding seen_at
+returns-in-None-clause-seen g c =
+    let s : State = state_of g.B.Bridge.shown c.args.self.now in
+    let none : slice_get (lane_at s c.args.lane.link c.args.lane.dir) 0 ≡ None = sym c.pop.ensures.frame ∙ c.in-None.is in
+    ap (λ o. noted c.args.seen.now (seen_front s c.args.lane.link c.args.lane.dir o)) (sym none)
+
+pub returns-in-Some-clause-seen : goal.returns-in-Some-clause-seen
+unfolding seen_at
+returns-in-Some-clause-seen g c =
+    let s : State = state_of g.B.Bridge.shown c.args.self.now in
+    on_ok c.hear_over.result (c.in_ok-note.ensures ∙ ap (λ o. noted c.args.seen.now (seen_front s c.args.lane.link c.args.lane.dir o)) (sym (sym c.pop.ensures.frame ∙ c.in-Some.is)))

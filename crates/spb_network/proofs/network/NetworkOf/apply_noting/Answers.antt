@@ -10,7 +10,7 @@ use Rattle.network_model.proofs.SoundPlay.{commands_keep_sound}
 use Rattle.network_model.proofs.CountedStays.{stays_counted}
 use Rattle.network_model.proofs.Convergence.{next_is_converged}
 use Rattle.spb_network.proofs.Keeping.{counted_conditions}
-use Rattle.spb_network.proofs.network.NetworkOf.apply.Goals as goal
+use Rattle.spb_network.proofs.network.NetworkOf.apply_noting.Goals as goal
 
 pub play-requires-clause-sound : goal.play-requires-clause-sound
 play-requires-clause-sound g c = ⊎_elim (λ h. absurd (true≢false (sym h ∙ c.if-self.false))) (λ n. n) c.requires
