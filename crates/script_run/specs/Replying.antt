@@ -1,11 +1,12 @@
 -- What a reply to a line is, and which networks can be played.
-use Rattle.std.specs.Prelude.{◌≡◌, ◌<◌, ◌^◌, false, List, length, Option}
+use Rattle.std.specs.Prelude.{◌≡◌, false, List, Option}
 use Rattle.std.specs.List.{AllByRecursion}
 use Rattle.bridge_api.specs.Shown.{Shown}
 use Rattle.spb_network.specs.declared.network.NetworkOf.{NetworkOf}
 use Rattle.spb_network.specs.Applying.{IsReady}
 use Rattle.spb_network.specs.Network.{state_of}
 use Rattle.network_model.specs.declared.delivered.Delivered.{Delivered}
+use Rattle.network_model.specs.Brief.{IsBrief}
 use Rattle.network_model.specs.Sound.{opening}
 use Rattle.network_model.specs.State.{State}
 use Rattle.script_run.specs.Play.{Judged, packets_of}
@@ -19,15 +20,11 @@ pub record Replies (judgement : Judged) (reply : Reply) (new : State) : Type 0 w
   pub refused : reply.refused ≡ judgement.refused
   pub state : new ≡ judgement.state
 
--- a delivery has a packet: the length of its frame has 32 bits
-abbrev pub HasPacket : Delivered → Type 0
-HasPacket d = length d.frame < 2 ^ 32
-
 -- and so, where the deliveries are noted and nothing is answered
 pub record Watched
     (judgement : Judged) (why : Option Refusal) (seen : List Delivered) (new : State) : Type 0 where
   pub packets : packets_of seen ≡ judgement.says Packets
-  pub written : AllByRecursion HasPacket seen
+  pub brief : AllByRecursion IsBrief seen
   pub refused : why ≡ judgement.refused
   pub state : new ≡ judgement.state
 

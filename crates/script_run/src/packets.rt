@@ -2,13 +2,14 @@
 ghost use Rattle.std.specs.Prelude.{◌≡◌, ◌≢◌, ◌≤◌, ◌++◌, Err, IfOk, IsErrOf, IsTrue, OnOk, OnErr};
 ghost use Rattle.std.specs.Io.KnownBytes.{Appends};
 ghost use Rattle.std.specs.List.{AllByRecursion};
+ghost use Rattle.network_model.specs.Brief.{IsBrief};
 ghost use Rattle.spb_network.specs.Applying.{IsReady};
 ghost use Rattle.spb_network.specs.Network.{state_of};
 ghost use Rattle.spb_outside.specs.Faults.{Rose};
 ghost use Rattle.script_run.specs.Output.{AppendsFront};
 ghost use Rattle.script_run.specs.Play.{judged, packet_of, packets_of};
 ghost use Rattle.script_run.specs.Puts.{Puts};
-ghost use Rattle.script_run.specs.Replying.{IsAlive, HasPacket};
+ghost use Rattle.script_run.specs.Replying.{IsAlive};
 
 use crate::Refusal;
 use crate::held::make_room;
@@ -27,7 +28,7 @@ fn put_packet<K: Sink>(
     held: &mut Vec<u8>,
     item: &Delivered,
 ) -> Result<(), WriteError>
-    requires { HasPacket item.now }
+    requires { IsBrief item.now }
     ensures all { OnOk result (Puts (K.holds sink.old) (K.holds sink.new)
         held.old.items held.new.items (packet_of item.now)) }
     ensures front { OnErr result (AppendsFront (K.holds sink.old) (K.holds sink.new)
@@ -48,7 +49,7 @@ fn put_packets<K: Sink>(
     held: &mut Vec<u8>,
     seen: &[Delivered],
 ) -> Result<(), WriteError>
-    requires { AllByRecursion HasPacket seen.now }
+    requires { AllByRecursion IsBrief seen.now }
     ensures all { OnOk result (Puts (K.holds sink.old) (K.holds sink.new)
         held.old.items held.new.items (packets_of seen.now)) }
     ensures front { OnErr result (AppendsFront (K.holds sink.old) (K.holds sink.new)
@@ -70,7 +71,7 @@ fn write_packets<K: Sink>(
     seen: &[Delivered],
     sink: &mut K,
 ) -> Result<(), WriteError>
-    requires { AllByRecursion HasPacket seen.now }
+    requires { AllByRecursion IsBrief seen.now }
     ensures all { OnOk result (Appends (K.holds sink.old) (K.holds sink.new) (packets_of seen.now)) }
     ensures front { OnErr result (AppendsFront (K.holds sink.old) (K.holds sink.new) (packets_of seen.now)) }
     ensures count { K.faults sink.old ≤ K.faults sink.new }
