@@ -1,5 +1,5 @@
 -- How long the frames are that a bridge sends.
-use Rattle.std.specs.Prelude.{◌≡◌, ◌⊎◌, ℕ, ◌≤◌, List, length, ⊥}
+use Rattle.std.specs.Prelude.{◌≡◌, ◌⊎◌, ℕ, ◌≤◌, List, length}
 use Rattle.bridge_api.specs.View.{BridgeView}
 use Rattle.bridge_api.specs.Step.{Input, second, frame, carrier, metric, attach, detach, customer, sent}
 use Rattle.bridge_api.specs.Laws.{IsInput, IsSoundView, IsSent}
