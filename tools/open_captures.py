@@ -20,7 +20,7 @@ import failing
 
 EXAMPLES = os.path.join(failing.HERE, "..", "examples")
 # the examples whose customers' frames have a type that no analyser opens, or that have no such frames
-SCRIPTS = ("frames-on-the-wire", "metro-ring", "lost-hellos", "quiet-drill", "link-failure-drill", "restart-drill")
+SCRIPTS = ("frames-on-the-wire", "lost-hellos", "quiet-drill", "link-failure-drill", "restart-drill")
 # the number of a PDU's type, which stands in five bits (ISO/IEC 10589, 9.5 to 9.13)
 PDUS = {17: "hello", 18: "LSP", 24: "CSNP", 26: "PSNP"}
 FIELDS = ("frame.number", "frame.len", "isis.type", "isis.lsp.checksum.status", "ieee8021ah.isid", "_ws.malformed",
