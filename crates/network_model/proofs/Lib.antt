@@ -27,7 +27,7 @@ pub mod Spoken
 pub mod QuietReadLinks
 pub mod Reached
 pub mod SentLanes
-pub mod Delivered
+pub mod DeliveryLemmas
 pub mod SoundMet
 pub mod PortLemmas
 pub mod RowLemmas

@@ -21,7 +21,7 @@ use Rattle.network_model.specs.Isolation.{outs_in}
 use Rattle.network_model.specs.Once.{is_onward, outs_of}
 use Rattle.network_model.specs.UnderWay.{Journey, IsUnderWay}
 use Rattle.network_model.proofs.ApartPlay.{asked_silent}
-use Rattle.network_model.proofs.Delivered.{deliver_delivers}
+use Rattle.network_model.proofs.DeliveryLemmas.{deliver_delivers}
 use Rattle.network_model.proofs.SoundEvents.{Sound-delivered_first}
 use Rattle.network_model.proofs.SoundPlay.{commands_keep_sound}
 use Rattle.network_model.proofs.OnceStep.{IsJourney, with_served, served_next, goes_on}

@@ -39,7 +39,7 @@ use Rattle.network_model.specs.Truth.{AreLinked, IsWalk}
 use Rattle.network_model.specs.Once.{IsReceivingAt, IsRight, left_at}
 use Rattle.network_model.specs.UnderWay.{Journey, carrier_of, leads_over, comes_over, IsTree, IsUnderWay, HasLearned}
 use Rattle.network_model.proofs.ApartOuts.{place_named}
-use Rattle.network_model.proofs.Delivered.{frames_are_delivered}
+use Rattle.network_model.proofs.DeliveryLemmas.{frames_are_delivered}
 use Rattle.network_model.proofs.FitsLemmas.{far_is_port, link_there}
 use Rattle.network_model.proofs.SoundLane.{some-is}
 use Rattle.spb_world.proofs.SoundLaneIds.{turned, near-turned, lane_of_end}

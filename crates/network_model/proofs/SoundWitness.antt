@@ -14,7 +14,7 @@ use Rattle.spb_world.specs.Declaring.{is_vid_range, is_new_name, is_new_system, 
 use Rattle.spb_types.specs.Places.{changed_at}
 use Rattle.network_model.specs.State.{State, Spare, next_box}
 use Rattle.spb_world.specs.Links.{lane_out}
-use Rattle.network_model.specs.Events.{sent_all, stepped, switched_on}
+use Rattle.network_model.specs.Events.{sent_all, stepped, switched_on, with_second}
 use Rattle.network_model.specs.Refusing.{declared_refusal}
 use Rattle.spb_world.specs.Naming.{named_link_refusal, unnamed_refusal}
 use Rattle.network_model.specs.Play.{with_vid_more, declared, linked, named_link, at_bridge, accepted_once, next_state, played_all}
@@ -58,7 +58,7 @@ first = config_of (record { vids = plan_of 100 1 ∷ []; bridges = []; links = [
 
 -- the network after the bridge's second, in which it sent these frames
 abbrev sending : List (ℕ × List ℕ) → State
-sending fs = let s : State = played_all start declarations in accepted_once (sent_all (record s { views = changed_at (step second) s.views 0 }) 0 fs)
+sending fs = let s : State = played_all start declarations in accepted_once (with_second (sent_all (record s { views = changed_at (step second) s.views 0 }) 0 fs) 0)
 
 one_frame : (bytes : List ℕ) → IsHello bytes → IsBusy (sending ((1, bytes) ∷ []))
 unfolding next_state vid_refusal with_vid with_bridge with_link with_live next_box lane_out stepped switched_on with_vid_more declared linked named_link

@@ -13,9 +13,9 @@ pub use conditions::Conditions;
 pub use delivered::Delivered;
 pub use kind_rule::KindRule;
 pub use laws::{
-    a_delivery_is_one_step, a_restart_begins_anew, deliveries_are_brief, events_keep_sound, group_frames_leave_once,
-    networks_are_sound, numbers_stay_bounded, quiet_can_be_relied_on, quiet_is_true,
-    quiet_paths_are_wired, quiet_says_what_it_reads_like, services_stay_apart,
+    a_delivery_is_one_step, a_restart_begins_anew, deliveries_are_brief, events_keep_sound,
+    group_frames_leave_once, networks_are_sound, numbers_stay_bounded, quiet_can_be_relied_on,
+    quiet_is_true, quiet_paths_are_wired, quiet_says_what_it_reads_like, services_stay_apart,
     some_network_is_busy, the_first_reason_is_given, wiring_gives_tables,
 };
 

@@ -1,4 +1,4 @@
-use Rattle.network_model.proofs.Delivered.{frames_are_delivered, deliver_delivers}
+use Rattle.network_model.proofs.DeliveryLemmas.{frames_are_delivered, deliver_delivers}
 use Rattle.network_model.proofs.laws.a_delivery_is_one_step.Goals as goal
 
 pub returns-clause-delivered : goal.returns-clause-delivered
