@@ -23,11 +23,7 @@ use spb_outside::{Sink, WriteError};
 use std::alloc::Global;
 
 /// Puts the packet of a delivery.
-fn put_packet<K: Sink>(
-    sink: &mut K,
-    held: &mut Vec<u8>,
-    item: &Delivered,
-) -> Result<(), WriteError>
+fn put_packet<K: Sink>(sink: &mut K, held: &mut Vec<u8>, item: &Delivered) -> Result<(), WriteError>
     requires { IsBrief item.now }
     ensures all { OnOk result (Puts (K.holds sink.old) (K.holds sink.new)
         held.old.items held.new.items (packet_of item.now)) }
@@ -66,11 +62,7 @@ fn put_packets<K: Sink>(
 }
 
 /// Writes the packets of some deliveries.
-fn write_packets<K: Sink>(
-    alloc: Global,
-    seen: &[Delivered],
-    sink: &mut K,
-) -> Result<(), WriteError>
+fn write_packets<K: Sink>(alloc: Global, seen: &[Delivered], sink: &mut K) -> Result<(), WriteError>
     requires { AllByRecursion IsBrief seen.now }
     ensures all { OnOk result (Appends (K.holds sink.old) (K.holds sink.new) (packets_of seen.now)) }
     ensures front { OnErr result (AppendsFront (K.holds sink.old) (K.holds sink.new) (packets_of seen.now)) }

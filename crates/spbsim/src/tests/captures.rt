@@ -146,7 +146,14 @@ fn the_header_is_written_before_anything_is_read(rt: HostRuntime) {
     let alloc = rt.alloc();
     let source = source(&rt, alloc, TWO, 40, 1);
     let sink = sink(&rt, alloc, 8, 0);
-    check_capture(&rt, alloc, source, sink, Status::ReadFault, &DELIVERED[..24]);
+    check_capture(
+        &rt,
+        alloc,
+        source,
+        sink,
+        Status::ReadFault,
+        &DELIVERED[..24],
+    );
 }
 
 #[test]
@@ -155,5 +162,12 @@ fn a_front_of_a_capture_is_written_where_a_write_fails(rt: HostRuntime) {
     let script = saying_hello(&rt, alloc);
     let source = source(&rt, alloc, script.as_str(), 40, 0);
     let sink = sink(&rt, alloc, 8, 5);
-    check_capture(&rt, alloc, source, sink, Status::WriteFault, &DELIVERED[..32]);
+    check_capture(
+        &rt,
+        alloc,
+        source,
+        sink,
+        Status::WriteFault,
+        &DELIVERED[..32],
+    );
 }
