@@ -1,6 +1,6 @@
 //! The deliveries of a command, noted where they are watched.
 ghost use Rattle.std.specs.Prelude.{◌≡◌, [], ◌∷◌, ◌++◌, true, false, None, Some, slice_get, OnOk, OnErr};
-ghost use Rattle.std.specs.Option.{option_or, is_some};
+ghost use Rattle.std.specs.Option.{unwrap_or, is_some};
 ghost use Rattle.spb_types.specs.Places.{changed_at};
 ghost use Rattle.network_model.specs.Captured as capture;
 ghost use Rattle.network_model.specs.Events as event;
@@ -72,7 +72,7 @@ impl Seen {
 
     /// Moves what was seen behind a list. After `NoMemory` the list is as it was.
     pub fn move_behind(self, list: &mut Vec<Delivered>) -> Result<(), NoMemory>
-        ensures ok { OnOk result (list.new.items ≡ list.old.items ++ option_or self []) }
+        ensures ok { OnOk result (list.new.items ≡ list.old.items ++ unwrap_or self []) }
         ensures err { OnErr result (list.new.items ≡ list.old.items) }
     {
         let mut items = self.items;
