@@ -29,12 +29,12 @@ import failing
 TOP = os.path.dirname(os.path.dirname(os.path.abspath(__file__)))
 EXAMPLE = os.path.join(TOP, "examples", "quiet-drill")
 FORMS = (["run"], ["run", "--kind", "plain"], ["run", "--kind", "swift"], ["run", "--kind", "mixed"], ["make", "4"],
-         ["make", "10"], ["make", "96"], ["try", "9"], ["try", "24", "--kind", "swift"], ["list"])
+         ["make", "10"], ["make", "96"], ["try", "9"], ["try", "24", "--kind", "swift"], ["capture"], ["list"])
 NO_FORMS = ([], [""], ["-h"], ["--help"], ["--version"], ["RUN"], ["run", "FILE"], ["run", ""], ["run", "--kind"],
             ["run", "--kind", "fast"], ["run --kind swift"], ["run", "--kind", "swift", "FILE"], ["make"],
             ["make", "3"], ["make", "97"], ["make", "04"], ["make", "100"], ["make", "4", "--kind", "plain"], ["try"],
-            ["try", "4", "5"], ["try", "4", "--kind"], ["list", "FILE"])
-USAGE = b"Usage: spbsim <run [--kind K] | make N | try N [--kind K] | list>\n"
+            ["try", "4", "5"], ["try", "4", "--kind"], ["capture", "FILE"], ["list", "FILE"])
+USAGE = b"Usage: spbsim <run [--kind K] | make N | try N [--kind K] | capture | list>\n"
 TERMINAL = b"spbsim: the script is read from the terminal; it ends with Ctrl-D on a line of its own\n"
 # the seconds after which a call counts as one that hangs: with stand-ins, and with a checked run
 LONGEST, LONGEST_REAL = 60, 1800
@@ -203,7 +203,7 @@ def forms_are_tried(copy):
         for number, form in enumerate(FORMS):
             copy.forget()
             status = number % 7
-            script = b"a script\r\n\0" if form[0] in ("run", "list") else b""
+            script = b"a script\r\n\0" if form[0] in ("run", "capture", "list") else b""
             ended = call([word, *form], folder, copy.environment(STATUS=str(status)), b"a script\r\n\0")
             what = f"{' '.join(form)} from {place}"
             yield f"{what}: the end", ended, (status, ANSWER, not_proved(build) + WARNING)
@@ -292,7 +292,9 @@ class Terminal:
 
 def terminals_are_told(copy, is_built):
     """A script that is typed at a terminal: it is said how it ends; of `make` nothing is said."""
-    for form, typed in ((["run"], b"state\n\4"), (["run", "--kind", "swift"], b"\4"), (["make", "4"], b"")):
+    typed_lines = b"state\n\4"
+    for form, typed in ((["run"], typed_lines), (["capture"], typed_lines), (["run", "--kind", "swift"], b"\4"),
+                        (["make", "4"], b"")):
         copy.forget()
         terminal = Terminal(["./spbsim", *form], copy.top, copy.environment())
         terminal.type(typed)
@@ -300,7 +302,7 @@ def terminals_are_told(copy, is_built):
         terminal.type(b"\4" if is_built and form[0] == "make" else b"")
         _, output, said = terminal.end()
         wanted = b"" if is_built else not_proved("./build")
-        wanted += TERMINAL if form[0] == "run" else b""
+        wanted += TERMINAL if form[0] in ("run", "capture") else b""
         yield f"{' '.join(form)}", (output, said, copy.input()), (ANSWER, wanted + WARNING, typed[:-1])
     if is_built:
         terminal = Terminal(["./spbsim", "run", "FILE"], copy.top, copy.environment())

@@ -12,7 +12,7 @@ use Rattle.script_run.specs.declared.status.Status.TheVariants.{Done, Refused, U
 use Rattle.script_run.specs.Run.{is_written, is_ended, is_cut}
 use Rattle.capture_list.specs.Listing.{most_listed, Listing, listing}
 use Rattle.capture_list.specs.Lists.{ReadsFew}
-use Rattle.capture_list.proofs.Putting.{Front-nil}
+use Rattle.script_run.proofs.Putting.{Front-nil}
 use Rattle.capture_list.proofs.Telling.{listing_long, frames_are_listed}
 
 -- these bytes were read, and no more than a file may have. The source may have failed, unless it is reliable

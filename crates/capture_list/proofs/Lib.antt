@@ -1,4 +1,3 @@
-pub mod Putting
 pub mod Telling
 pub mod Gathering
 pub mod LinePuts

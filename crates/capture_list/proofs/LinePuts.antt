@@ -3,8 +3,8 @@ use Rattle.std.proofs.Common.{◌≡◌, ℕ, List, [], ◌∷◌, ◌++◌, len
 use Rattle.frame_capture.specs.declared.delivered.Delivered.{Delivered}
 use Rattle.script_run.specs.Output.{AppendsFront}
 use Rattle.capture_list.specs.Listing.{hex_or_dash, frame_line, line_head}
-use Rattle.capture_list.specs.Puts.{Puts}
-use Rattle.capture_list.proofs.Putting.{Puts-more, Front-before, Front-behind}
+use Rattle.script_run.specs.Puts.{Puts}
+use Rattle.script_run.proofs.Putting.{Puts-more, Front-before, Front-behind}
 use Rattle.capture_list.proofs.Telling.{line_is}
 
 module _ (d : Delivered) (head : List ℕ) (is : head ≡ line_head d.tick (length d.frame)) where

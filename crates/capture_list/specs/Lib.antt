@@ -1,4 +1,3 @@
 pub mod Listing
-pub mod Puts
 pub mod Lists
 pub mod Laws

@@ -7,7 +7,6 @@
 pub use laws::frames_are_listed;
 pub use listing::list_capture;
 
-mod held;
 mod laws;
 mod lines;
 mod listing;

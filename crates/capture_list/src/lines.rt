@@ -5,12 +5,11 @@ ghost use Rattle.spb_outside.specs.Faults.{Rose};
 ghost use Rattle.report.specs.Words.{spaced};
 ghost use Rattle.script_run.specs.Output.{AppendsFront};
 ghost use Rattle.capture_list.specs.Listing.{hex_or_dash, frame_line, line_head, refused_line};
-ghost use Rattle.capture_list.specs.Puts.{Puts};
+ghost use Rattle.script_run.specs.Puts.{Puts};
 
-use crate::held::put;
 use itoa::Buffer;
 use report::error_text;
-use script_run::{Refusal, Status};
+use script_run::{Refusal, Status, put};
 use spb_outside::{Sink, WriteError};
 use spb_types::NoMemory;
 use std::alloc::Global;

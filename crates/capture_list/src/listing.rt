@@ -7,7 +7,7 @@ ghost use Rattle.script_run.specs.Output.{AppendsFront};
 ghost use Rattle.script_run.specs.Run as ends;
 ghost use Rattle.capture_list.specs.Listing.{most_listed, told, listing_by, listing};
 ghost use Rattle.capture_list.specs.Lists.{Lists};
-ghost use Rattle.capture_list.specs.Puts.{Puts};
+ghost use Rattle.script_run.specs.Puts.{Puts};
 
 use crate::lines::{put_line, put_refused};
 use crate::reading::{MOST_LISTED, Trouble, read_all};

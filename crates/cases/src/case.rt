@@ -24,6 +24,8 @@ pub(crate) struct Case {
     status: Option<String>,
     /// How many bytes of the answer are written, where it is told.
     front: Option<usize>,
+    /// Whether what is written is a capture, and the answer its listing.
+    pub(crate) is_listed: bool,
     /// The script.
     pub(crate) script: String,
     /// What is answered.
@@ -59,6 +61,7 @@ impl Case {
             failing_write: 0,
             status: None,
             front: None,
+            is_listed: false,
             script: String::new(alloc),
             answer: String::new(alloc),
         })
@@ -116,6 +119,7 @@ impl Case {
             Some(("fails", words)) => self.set_failing(words)?,
             Some(("ends", status)) => self.status = Some(String::from_str(alloc, status)?),
             Some(("front", bytes)) => self.front = Some(number_of(bytes)? as usize),
+            None if setting == "listed" => self.is_listed = true,
             _ => return Err(Trouble::NoSetting),
         }
         Ok(())

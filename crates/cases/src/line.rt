@@ -15,6 +15,8 @@ pub(crate) enum Line<'a> {
     /// `! ends STATUS`: the run ends so. Without, it ends as the last line of its answer says: by an `error` or well.
     ///
     /// `! front N`: only the first N bytes of the answer are written.
+    ///
+    /// `! listed`: what is written is a capture, and the answer is what `list` makes of it.
     Setting(&'a str),
     /// `> TEXT` is a line of the answer.
     Answer(&'a str),

@@ -70,7 +70,26 @@ fn wrong_ending(
     Ok(None)
 }
 
-/// What is wrong with what a run wrote, if anything is.
+/// What is written of some bytes that are listed.
+fn listing(alloc: Global, bytes: &[u8]) -> Result<MemorySink, Trouble> {
+    let words = words_of(alloc, "list")?;
+    let bytes = Vec::from_slice(alloc, bytes)?;
+    let mut source = MemorySource::new(bytes, Vec::new(alloc), 4096);
+    let mut sink = MemorySink::new(alloc, Vec::new(alloc), 4096);
+    played(alloc, words.as_slice(), &mut source, &mut sink)?;
+    Ok(sink)
+}
+
+/// What is wrong with what a run wrote, or with the listing of it, where the case is of that, if anything is.
+fn wrong_output(alloc: Global, case: &Case, sink: &MemorySink) -> Result<Option<String>, Trouble> {
+    if case.is_listed {
+        let listed = listing(alloc, sink.bytes())?;
+        return wrong_text(alloc, case, &listed);
+    }
+    wrong_text(alloc, case, sink)
+}
+
+/// What is wrong with what was written, if anything is.
 fn wrong_text(alloc: Global, case: &Case, sink: &MemorySink) -> Result<Option<String>, Trouble> {
     let wanted = case.written()?;
     if sink.has_taken(wanted.as_bytes()) {
@@ -95,7 +114,7 @@ fn wrong_in_pieces(
     let mut sink = MemorySink::new(alloc, vec![in alloc; case.failing_write]?, piece);
     let status = played(alloc, words.as_slice(), &mut source, &mut sink)?;
     let faults = (source.faults(), sink.faults());
-    match wrong_text(alloc, case, &sink)? {
+    match wrong_output(alloc, case, &sink)? {
         Some(told) => Ok(Some(told)),
         None => wrong_ending(alloc, case, status, faults),
     }

@@ -10,7 +10,7 @@ pub use error::CaptureError;
 pub use laws::{captures_are_listed, listing_goes_on, written_is_listed};
 pub use order::Order;
 pub use reading::{Packet, packet_at, read_header};
-pub use writing::{header, packet, put_packet};
+pub use writing::{header, packet, put_frame, put_packet};
 
 mod delivered;
 mod error;

@@ -36,8 +36,18 @@ pub fn put_packet(out: &mut Vec<u8>, item: &Delivered) -> Result<(), NoMemory>
     ensures ok { OnOk result (out.new.items ≡ out.old.items ++ capture.packet_bytes item.now) }
     ensures err { OnErr result (out.new.items ≡ out.old.items) }
 {
-    let frame = item.frame.as_slice();
-    put_both(out, &packet_head(item.tick, frame.len() as u32), frame)
+    put_frame(out, item.tick, item.frame.as_slice())
+}
+
+/// Appends the packet of a frame of fewer than 2^32 bytes, given by its seconds and its bytes. After `NoMemory` nothing
+/// was appended.
+pub fn put_frame(out: &mut Vec<u8>, seconds: u32, frame: &[u8]) -> Result<(), NoMemory>
+    requires { length frame.now < 2 ^ 32 }
+    ensures ok { OnOk result (out.new.items
+        ≡ out.old.items ++ capture.packet_bytes (record { tick = seconds; frame = frame.now })) }
+    ensures err { OnErr result (out.new.items ≡ out.old.items) }
+{
+    put_both(out, &packet_head(seconds, frame.len() as u32), frame)
 }
 
 /// Appends one piece and then another. After `NoMemory` nothing was appended.

@@ -7,3 +7,5 @@ pub mod Octets
 pub mod Completing
 pub mod Convergence
 pub mod Commands
+pub mod Putting
+pub mod Captured

@@ -10,25 +10,26 @@ use Rattle.network_model.specs.State.{State}
 use Rattle.script_run.specs.declared.refusal.Refusal.{Refusal}
 use Rattle.script_run.specs.declared.status.Status.{Status}
 use Rattle.script_run.specs.declared.status.Status.TheVariants.{Done}
+use Rattle.script_run.specs.declared.voice.Voice.{Voice}
 use Rattle.script_run.specs.Output.{AppendsFront}
-use Rattle.script_run.specs.Pieces.{whole_part, bytes_before, Does, StandsAt, GoesOn, Ends, Breaks, Finishes, Completes, WritesWhole, AnswersSoon, ReadsLittle, most_piece, to_come}
+use Rattle.script_run.specs.Pieces.{whole_part, bytes_before, Does, StandsAt, GoesOn, Ends, Breaks, Finishes, Completes, WritesWhole, WritesSoon, ReadsLittle, most_piece, to_come}
 use Rattle.script_run.specs.Play.{Judged, judged}
 use Rattle.script_run.specs.Run.{is_written}
-use Rattle.script_run.specs.Text.{Played, joined, concluded, play, play_lines, played, text_of}
+use Rattle.script_run.specs.Text.{Played, joined, concluded, play, play_lines, played, said_in}
 use Rattle.script_run.proofs.Counting.{play_few}
 use Rattle.script_run.proofs.Taking.{takes_stands, takes_taken, takes_before, whole_cut, lines_few}
 use Rattle.script_run.proofs.Going.{Follows, goes_more, to_come_follows, ends_after, breaks_after}
 
 -- bytes of a script were read, and each whole line in them was accepted and is answered. The source and the sink may have
 -- failed, unless they are reliable
-pub record Reading {S K : Type 0}
+pub record Reading (v : Voice) {S K : Type 0}
     (left : S → Option (List ℕ)) (source_faults : S → ℕ) (is_reliable_source : S → Bool)
     (holds : K → Option (List ℕ)) (sink_faults : K → ℕ) (is_reliable_sink : K → Bool)
     (s t : State) (n : ℕ) (d : Cuts) (old new : S) (a b : K) (count : ℕ) : Type 0 where
   pub read : List ℕ
   pub consumed : Consumes (left old) (left new) read
   pub counted : count ≡ length read
-  pub goes : GoesOn holds read s t 1 n start d a b
+  pub goes : GoesOn v holds read s t 1 n start d a b
   pub stands : StandsAt d n
   pub source_count : source_faults old ≤ source_faults new
   pub source_reliable : IsTrue (is_reliable_source old) → IsTrue (is_reliable_source new)
@@ -57,14 +58,14 @@ is_played : (s : State) (script : List ℕ) → played s script ≡ to_come s 1 
 unfolding played
 is_played s script = refl
 
-completes : {K : Type 0} (holds : K → Option (List ℕ)) (s t : State) (status : Status) (script written : List ℕ) (a b : K) → Does (to_come s 1 start script) written status t → Appends (holds a) (holds b) written
-    → Completes holds script status s t a b
-completes holds s t status script written a b does grown =
-    let all : Does (played s script) written status t = subst (λ (p : Played). Does p written status t) (sym (is_played s script)) does in
+completes : (v : Voice) {K : Type 0} (holds : K → Option (List ℕ)) (s t : State) (status : Status) (script written : List ℕ) (a b : K) → Does v (to_come s 1 start script) written status t → Appends (holds a) (holds b) written
+    → Completes holds (said_in v) script status s t a b
+completes v holds s t status script written a b does grown =
+    let all : Does v (played s script) written status t = subst (λ (p : Played). Does v p written status t) (sym (is_played s script)) does in
     record { fate = sym all.ends; text = subst (Appends (holds a) (holds b)) (sym all.writes) grown; state = sym all.leaves }
 
-few_accepted : (s t : State) (status : Status) (script written : List ℕ) → Does (to_come s 1 start script) written status t → t.accepted ≤ s.accepted + most_lines
-few_accepted s t status script written does =
+few_accepted : (v : Voice) (s t : State) (status : Status) (script written : List ℕ) → Does v (to_come s 1 start script) written status t → t.accepted ≤ s.accepted + most_lines
+few_accepted v s t status script written does =
     let all : (to_come s 1 start script).state.accepted ≤ s.accepted + length (lines_of start script).0 = play_few s 1 (lines_of start script).0 (lines_of start script).1 in
     let same : (to_come s 1 start script).state.accepted ≡ t.accepted = ap (λ (u : State). u.accepted) does.leaves in
     omega (arith, all, same, lines_few script)
@@ -83,14 +84,14 @@ play_written : (s : State) (n : ℕ) (ls : List (List ℕ)) (end : Option Stop) 
 play_written s n [] end = written_concluded s n end
 play_written s n (l ∷ ls) end = let j : Judged = judged s n l in written_joined n j j.refused (play j.state (n + 1) ls end) (play_written j.state (n + 1) ls end)
 
-own_status : (s t : State) (status : Status) (script written : List ℕ) → Does (to_come s 1 start script) written status t → IsTrue (is_written status)
-own_status s t status script written does = subst (λ (st : Status). IsTrue (is_written st)) does.ends (play_written s 1 (lines_of start script).0 (lines_of start script).1)
+own_status : (v : Voice) (s t : State) (status : Status) (script written : List ℕ) → Does v (to_come s 1 start script) written status t → IsTrue (is_written status)
+own_status v s t status script written does = subst (λ (st : Status). IsTrue (is_written st)) does.ends (play_written s 1 (lines_of start script).0 (lines_of start script).1)
 
-module _ {S K : Type 0}
+module _ (v : Voice) {S K : Type 0}
     (left : S → Option (List ℕ)) (source_faults : S → ℕ) (is_reliable_source : S → Bool)
     (holds : K → Option (List ℕ)) (sink_faults : K → ℕ) (is_reliable_sink : K → Bool)
     (s t : State) (n : ℕ) (d : Cuts) (old new : S) (a b : K) (count : ℕ)
-    (reading : Reading left source_faults is_reliable_source holds sink_faults is_reliable_sink s t n d old new a b count) where
+    (reading : Reading v left source_faults is_reliable_source holds sink_faults is_reliable_sink s t n d old new a b count) where
   taken : length reading.read ≤ most_bytes
   taken = let all : d.taken ≡ 0 + length reading.read = takes_taken start d reading.read reading.goes.whole reading.goes.takes in omega (arith, all, reading.stands.taken)
 
@@ -105,19 +106,19 @@ module _ {S K : Type 0}
 
   -- ---- where nothing more is read
 
-  pub fault_front : IfSome (left old) (λ script. AppendsFront (holds a) (holds b) (text_of s script))
-  fault_front = some_whole (left old) (left new) reading.read (λ script. AppendsFront (holds a) (holds b) (text_of s script)) reading.consumed (λ more.
-      let next = to_come_follows holds reading.read more s t 1 n start d a b refl reading.stands.going reading.goes in
-      subst (λ (p : Played). AppendsFront (holds a) (holds b) p.text) (sym (is_played s (reading.read ++ more)))
-      (record { front = reading.goes.written; rest = (to_come t n d more).text; whole = next.writes; grown = reading.goes.grown }))
+  pub fault_front : IfSome (left old) (λ script. AppendsFront (holds a) (holds b) (said_in v s script))
+  fault_front = some_whole (left old) (left new) reading.read (λ script. AppendsFront (holds a) (holds b) (said_in v s script)) reading.consumed (λ more.
+      let next = to_come_follows v holds reading.read more s t 1 n start d a b refl reading.stands.going reading.goes in
+      subst (λ (p : Played). AppendsFront (holds a) (holds b) (p.says v)) (sym (is_played s (reading.read ++ more)))
+      (record { front = reading.goes.written; rest = (to_come t n d more).says v; whole = next.writes; grown = reading.goes.grown }))
 
   -- the whole lines that were read, as a script of their own
-  whole_does : Does (played s (whole_part reading.read)) reading.goes.written Done t
+  whole_does : Does v (played s (whole_part reading.read)) reading.goes.written Done t
   whole_does =
       let cut = whole_cut d reading.read reading.goes.whole reading.goes.takes in
-      subst (λ (p : Played). Does p reading.goes.written Done t) (sym (is_played s (whole_part reading.read) ∙ ap (play_lines s 1) cut)) reading.goes.accepted
+      subst (λ (p : Played). Does v p reading.goes.written Done t) (sym (is_played s (whole_part reading.read) ∙ ap (play_lines s 1) cut)) reading.goes.accepted
 
-  pub fault_whole : (l : Option (List ℕ)) → Keeps (left new) l → WritesWhole holds s (left old) l a b
+  pub fault_whole : (l : Option (List ℕ)) → Keeps (left new) l → WritesWhole holds (said_in v) s (left old) l a b
   fault_whole l kept = record {
     read = reading.read;
     consumed = Consumes-kept (left old) (left new) l reading.read reading.consumed kept;
@@ -126,8 +127,8 @@ module _ {S K : Type 0}
   }
 
   -- at most a piece more was read, and more may be written
-  answers_soon : (l : Option (List ℕ)) (p more : List ℕ) (f : K) → Consumes (left old) l (reading.read ++ p) → length p ≤ most_piece → Appends (holds b) (holds f) more → AnswersSoon holds s (left old) l a f
-  answers_soon l p more f consumed short grown = record {
+  writes_soon : (l : Option (List ℕ)) (p more : List ℕ) (f : K) → Consumes (left old) l (reading.read ++ p) → length p ≤ most_piece → Appends (holds b) (holds f) more → WritesSoon holds (said_in v) s (left old) l a f
+  writes_soon l p more f consumed short grown = record {
     before = reading.read;
     piece = p;
     rest = more;
@@ -137,11 +138,11 @@ module _ {S K : Type 0}
     text = subst (λ w. Appends (holds a) (holds f) (w ++ more)) (sym whole_does.writes) (Appends-trans (holds a) (holds b) (holds f) reading.goes.written more reading.goes.grown grown);
   }
 
-  pub fault_soon : (l : Option (List ℕ)) → Keeps (left new) l → AnswersSoon holds s (left old) l a b
+  pub fault_soon : (l : Option (List ℕ)) → Keeps (left new) l → WritesSoon holds (said_in v) s (left old) l a b
   fault_soon l kept =
       let all : Consumes (left old) l (reading.read ++ []) =
       subst (Consumes (left old) l) (sym (append-nil reading.read)) (Consumes-kept (left old) (left new) l reading.read reading.consumed kept) in
-      answers_soon l [] [] b all (omega arith) (Appends-nil (holds b))
+      writes_soon l [] [] b all (omega arith) (Appends-nil (holds b))
 
   pub fault_reads : (l : Option (List ℕ)) (R : ℕ → Type 0) → Keeps (left new) l → ((k : ℕ) → R k → ⊥) → ReadsLittle (left old) l R
   fault_reads l R kept none = record {
@@ -157,35 +158,35 @@ module _ {S K : Type 0}
     consumed : Consumes (left old) l reading.read
     consumed = subst (Consumes (left old) l) (ap (λ q. reading.read ++ q) none ∙ append-nil reading.read) (Consumes-trans (left old) (left new) l reading.read p reading.consumed gave)
 
-    follows : Follows reading.goes.written (to_come s 1 start reading.read) (to_come t n d [])
-    follows = subst (λ q. Follows reading.goes.written (to_come s 1 start q) (to_come t n d [])) (append-nil reading.read) (to_come_follows holds reading.read [] s t 1 n start d a b refl reading.stands.going reading.goes)
+    follows : Follows v reading.goes.written (to_come s 1 start reading.read) (to_come t n d [])
+    follows = subst (λ q. Follows v reading.goes.written (to_come s 1 start q) (to_come t n d [])) (append-nil reading.read) (to_come_follows v holds reading.read [] s t 1 n start d a b refl reading.stands.going reading.goes)
 
-    pub end_front : (f : K) → IsAtEnd l → AppendsFront (holds b) (holds f) (to_come t n d []).text → IfSome (left old) (λ script. AppendsFront (holds a) (holds f) (text_of s script))
-    end_front f end front = Consumes-whole (left old) l reading.read (λ script. AppendsFront (holds a) (holds f) (text_of s script)) consumed end
-        (subst (λ (r : Played). AppendsFront (holds a) (holds f) r.text) (sym (is_played s reading.read)) (record {
+    pub end_front : (f : K) → IsAtEnd l → AppendsFront (holds b) (holds f) ((to_come t n d []).says v) → IfSome (left old) (λ script. AppendsFront (holds a) (holds f) (said_in v s script))
+    end_front f end front = Consumes-whole (left old) l reading.read (λ script. AppendsFront (holds a) (holds f) (said_in v s script)) consumed end
+        (subst (λ (r : Played). AppendsFront (holds a) (holds f) (r.says v)) (sym (is_played s reading.read)) (record {
           front = reading.goes.written ++ front.front;
           rest = front.rest;
           whole = follows.writes ∙ ap (λ q. reading.goes.written ++ q) front.whole ∙ sym (append_assoc reading.goes.written front.front front.rest);
           grown = Appends-trans (holds a) (holds b) (holds f) reading.goes.written front.front reading.goes.grown front.grown;
         }))
 
-    end_does : (status : Status) (u : State) (f : K) → (fin : Finishes holds status t u n d b f) → Does (to_come s 1 start reading.read) (reading.goes.written ++ fin.written) status u
+    end_does : (status : Status) (u : State) (f : K) → (fin : Finishes v holds status t u n d b f) → Does v (to_come s 1 start reading.read) (reading.goes.written ++ fin.written) status u
     end_does status u f fin = record {
       writes = follows.writes ∙ ap (λ q. reading.goes.written ++ q) fin.does.writes;
       ends = follows.ends ∙ fin.does.ends;
       leaves = follows.leaves ∙ fin.does.leaves;
     }
 
-    pub end_ends : (status : Status) (u : State) (f : K) → IsAtEnd l → Finishes holds status t u n d b f → IfSome (left old) (λ script. Completes holds script status s u a f)
-    end_ends status u f end fin = Consumes-whole (left old) l reading.read (λ script. Completes holds script status s u a f) consumed end
-        (completes holds s u status reading.read (reading.goes.written ++ fin.written) a f (end_does status u f fin)
+    pub end_ends : (status : Status) (u : State) (f : K) → IsAtEnd l → Finishes v holds status t u n d b f → IfSome (left old) (λ script. Completes holds (said_in v) script status s u a f)
+    end_ends status u f end fin = Consumes-whole (left old) l reading.read (λ script. Completes holds (said_in v) script status s u a f) consumed end
+        (completes v holds s u status reading.read (reading.goes.written ++ fin.written) a f (end_does status u f fin)
         (Appends-trans (holds a) (holds b) (holds f) reading.goes.written fin.written reading.goes.grown fin.grown))
 
-    pub end_few : (status : Status) (u : State) (f : K) → Finishes holds status t u n d b f → u.accepted ≤ s.accepted + most_lines
-    end_few status u f fin = few_accepted s u status reading.read (reading.goes.written ++ fin.written) (end_does status u f fin)
+    pub end_few : (status : Status) (u : State) (f : K) → Finishes v holds status t u n d b f → u.accepted ≤ s.accepted + most_lines
+    end_few status u f fin = few_accepted v s u status reading.read (reading.goes.written ++ fin.written) (end_does status u f fin)
 
-    pub end_own : (status : Status) (u : State) (f : K) → Finishes holds status t u n d b f → IsTrue (is_written status)
-    end_own status u f fin = own_status s u status reading.read (reading.goes.written ++ fin.written) (end_does status u f fin)
+    pub end_own : (status : Status) (u : State) (f : K) → Finishes v holds status t u n d b f → IsTrue (is_written status)
+    end_own status u f fin = own_status v s u status reading.read (reading.goes.written ++ fin.written) (end_does status u f fin)
 
     pub end_reads : (R : ℕ → Type 0) → ((k : ℕ) → R k → k ≡ n) → ReadsLittle (left old) l R
     end_reads R same = record {
@@ -201,27 +202,27 @@ module _ {S K : Type 0}
     more_consumed : Consumes (left old) l (reading.read ++ p)
     more_consumed = Consumes-trans (left old) (left new) l reading.read p reading.consumed gave
 
-    pub piece_soon : (more : List ℕ) (f : K) → length p ≤ most_piece → Appends (holds b) (holds f) more → AnswersSoon holds s (left old) l a f
-    piece_soon more f short grown = answers_soon l p more f more_consumed short grown
+    pub piece_soon : (more : List ℕ) (f : K) → length p ≤ most_piece → Appends (holds b) (holds f) more → WritesSoon holds (said_in v) s (left old) l a f
+    piece_soon more f short grown = writes_soon l p more f more_consumed short grown
 
-    pub piece_front : (f : K) → Breaks holds p t n d b f → IfSome (left old) (λ script. AppendsFront (holds a) (holds f) (text_of s script))
-    piece_front f breaks = some_whole (left old) l (reading.read ++ p) (λ script. AppendsFront (holds a) (holds f) (text_of s script)) more_consumed (λ more.
-        subst (λ (r : Played). AppendsFront (holds a) (holds f) r.text) (sym (is_played s ((reading.read ++ p) ++ more)))
-        (breaks_after holds reading.read p s t 1 n start d a b refl reading.stands.going reading.goes f breaks more))
+    pub piece_front : (f : K) → Breaks v holds p t n d b f → IfSome (left old) (λ script. AppendsFront (holds a) (holds f) (said_in v s script))
+    piece_front f breaks = some_whole (left old) l (reading.read ++ p) (λ script. AppendsFront (holds a) (holds f) (said_in v s script)) more_consumed (λ more.
+        subst (λ (r : Played). AppendsFront (holds a) (holds f) (r.says v)) (sym (is_played s ((reading.read ++ p) ++ more)))
+        (breaks_after v holds reading.read p s t 1 n start d a b refl reading.stands.going reading.goes f breaks more))
 
-    module _ (status : Status) (u : State) (f : K) (ends : Ends holds p status t u n d b f) where
-      all : Ends holds (reading.read ++ p) status s u 1 start a f
-      all = ends_after holds reading.read p s t 1 n start d a b refl reading.stands.going reading.goes status u f ends
+    module _ (status : Status) (u : State) (f : K) (ends : Ends v holds p status t u n d b f) where
+      all : Ends v holds (reading.read ++ p) status s u 1 start a f
+      all = ends_after v holds reading.read p s t 1 n start d a b refl reading.stands.going reading.goes status u f ends
 
-      pub piece_ends : IfSome (left old) (λ script. Completes holds script status s u a f)
-      piece_ends = some_whole (left old) l (reading.read ++ p) (λ script. Completes holds script status s u a f) more_consumed (λ more.
-          completes holds s u status ((reading.read ++ p) ++ more) all.written a f (all.does more) all.grown)
+      pub piece_ends : IfSome (left old) (λ script. Completes holds (said_in v) script status s u a f)
+      piece_ends = some_whole (left old) l (reading.read ++ p) (λ script. Completes holds (said_in v) script status s u a f) more_consumed (λ more.
+          completes v holds s u status ((reading.read ++ p) ++ more) all.written a f (all.does more) all.grown)
 
       pub piece_few : u.accepted ≤ s.accepted + most_lines
-      piece_few = few_accepted s u status ((reading.read ++ p) ++ []) all.written (all.does [])
+      piece_few = few_accepted v s u status ((reading.read ++ p) ++ []) all.written (all.does [])
 
       pub piece_own : IsTrue (is_written status)
-      piece_own = own_status s u status ((reading.read ++ p) ++ []) all.written (all.does [])
+      piece_own = own_status v s u status ((reading.read ++ p) ++ []) all.written (all.does [])
 
     pub piece_reads : (R : ℕ → Type 0) → ((k : ℕ) → R k → n ≤ k) → length p ≤ most_piece → length p + count ≤ most_bytes + 1 → ReadsLittle (left old) l R
     piece_reads R later short fits = record {
@@ -234,14 +235,14 @@ module _ {S K : Type 0}
           omega (arith, behind, begins, short, length-append reading.read p);
     }
 
-    pub piece_reading : (u : State) (m : ℕ) (e : Cuts) (f : K) (next : S) (k : ℕ) → k ≡ count + length p → left next ≡ l → GoesOn holds p t u n m d e b f → source_faults new ≤ source_faults next → (IsTrue (is_reliable_source new) → IsTrue (is_reliable_source next))
+    pub piece_reading : (u : State) (m : ℕ) (e : Cuts) (f : K) (next : S) (k : ℕ) → k ≡ count + length p → left next ≡ l → GoesOn v holds p t u n m d e b f → source_faults new ≤ source_faults next → (IsTrue (is_reliable_source new) → IsTrue (is_reliable_source next))
         → sink_faults b ≤ sink_faults f → (IsTrue (is_reliable_sink b) → IsTrue (is_reliable_sink f))
-        → Reading left source_faults is_reliable_source holds sink_faults is_reliable_sink s u m e old next a f k
+        → Reading v left source_faults is_reliable_source holds sink_faults is_reliable_sink s u m e old next a f k
     piece_reading u m e f next k sum is goes source_count source_reliable sink_count sink_reliable = record {
       read = reading.read ++ p;
       consumed = subst (λ o. Consumes (left old) o (reading.read ++ p)) (sym is) more_consumed;
       counted = omega (arith, sum, reading.counted, length-append reading.read p);
-      goes = goes_more holds reading.read p s t u 1 n m start d e a b f reading.goes goes;
+      goes = goes_more v holds reading.read p s t u 1 n m start d e a b f reading.goes goes;
       stands = subst (StandsAt e) (sym goes.counted) (takes_stands d e p goes.whole n goes.takes reading.stands);
       source_count = omega (arith, reading.source_count, source_count);
       source_reliable = λ h. source_reliable (reading.source_reliable h);

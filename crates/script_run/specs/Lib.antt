@@ -9,3 +9,5 @@ pub mod Break
 pub mod Output
 pub mod Run
 pub mod Running
+pub mod Puts
+pub mod Capturing

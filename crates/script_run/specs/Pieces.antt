@@ -10,7 +10,8 @@ use Rattle.script_run.specs.declared.refusal.Refusal.{Refusal}
 use Rattle.script_run.specs.declared.status.Status.{Status}
 use Rattle.script_run.specs.declared.status.Status.TheVariants.{Done, Refused}
 use Rattle.script_run.specs.Output.{AppendsFront}
-use Rattle.script_run.specs.Text.{Played, play, play_lines, text_of, fate_of, end_of}
+use Rattle.script_run.specs.declared.voice.Voice.{Voice}
+use Rattle.script_run.specs.Text.{Played, play, play_lines, fate_of, end_of}
 
 -- ---- bytes
 
@@ -40,9 +41,9 @@ pub data Takes : Cuts → List ℕ → List (List ℕ) → Cuts → Type 0 where
   takes_line : (c d e : Cuts) (b : ℕ) (bytes : List ℕ) (whole : List (List ℕ)) → is_over c b ≡ false
       → after_byte c b ≡ (Line, d) → Takes d bytes whole e → Takes c (b ∷ bytes) (d.line ∷ whole) e
 
--- what lines do
-pub record Does (p : Played) (text : List ℕ) (status : Status) (state : State) : Type 0 where
-  pub writes : p.text ≡ text
+-- what lines do, with what is written of them
+pub record Does (v : Voice) (p : Played) (text : List ℕ) (status : Status) (state : State) : Type 0 where
+  pub writes : p.says v ≡ text
   pub ends : p.status ≡ status
   pub leaves : p.state ≡ state
 
@@ -63,13 +64,13 @@ pub record StandsAt (c : Cuts) (number : ℕ) : Type 0 where
   pub begun : length c.begun ≤ longest_line + 1
   pub taken : c.taken ≤ most_bytes
 
-module _ {K : Type 0} (holds : K → Option (List ℕ)) where
+module _ (v : Voice) {K : Type 0} (holds : K → Option (List ℕ)) where
   -- these lines are accepted, and they are answered; of the network's state, the number of the line that comes and the
   -- sink there is what each was and what it is now
   pub record Accepts (lines : Lines) (s t : State) (number number' : ℕ) (sink sink' : K) : Type 0 where
     pub written : List ℕ
     pub goes_on : lines.1 ≡ None
-    pub accepted : Does (play s number lines.0 None) written Done t
+    pub accepted : Does v (play s number lines.0 None) written Done t
     pub counted : number' ≡ number + length lines.0
     pub grown : Appends (holds sink) (holds sink') written
 
@@ -77,7 +78,7 @@ module _ {K : Type 0} (holds : K → Option (List ℕ)) where
   pub record Stops (lines : Lines) (status : Status) (s t : State) (number : ℕ) (sink sink' : K) : Type 0 where
     pub written : List ℕ
     pub ends : status ≢ Done
-    pub does : Does (play_lines s number lines) written status t
+    pub does : Does v (play_lines s number lines) written status t
     pub line : (n : ℕ) (why : Refusal) → status ≡ Refused n why → n ≡ number
     pub grown : Appends (holds sink) (holds sink') written
 
@@ -88,7 +89,7 @@ module _ {K : Type 0} (holds : K → Option (List ℕ)) where
     pub whole : List (List ℕ)
     pub written : List ℕ
     pub takes : Takes c bytes whole d
-    pub accepted : Does (play s number whole None) written Done t
+    pub accepted : Does v (play s number whole None) written Done t
     pub counted : number' ≡ number + length whole
     pub grown : Appends (holds sink) (holds sink') written
 
@@ -97,47 +98,49 @@ module _ {K : Type 0} (holds : K → Option (List ℕ)) where
       (bytes : List ℕ) (status : Status) (s t : State) (number : ℕ) (c : Cuts) (sink sink' : K) : Type 0 where
     pub written : List ℕ
     pub stops : status ≢ Done
-    pub does : (more : List ℕ) → Does (to_come s number c (bytes ++ more)) written status t
+    pub does : (more : List ℕ) → Does v (to_come s number c (bytes ++ more)) written status t
     pub line : (n : ℕ) (why : Refusal) → status ≡ Refused n why → number ≤ n
     pub grown : Appends (holds sink) (holds sink') written
 
   -- a front of what the script writes is written, whatever stands behind the next bytes
   abbrev pub Breaks : List ℕ → State → ℕ → Cuts → K → K → Type 0
   Breaks bytes s number c sink sink' = (more : List ℕ)
-      → AppendsFront (holds sink) (holds sink') (to_come s number c (bytes ++ more)).text
+      → AppendsFront (holds sink) (holds sink') ((to_come s number c (bytes ++ more)).says v)
 
   -- the script ended, and all that it writes is written
   pub record Finishes (status : Status) (s t : State) (number : ℕ) (c : Cuts) (sink sink' : K) : Type 0 where
     pub written : List ℕ
-    pub does : Does (to_come s number c []) written status t
+    pub does : Does v (to_come s number c []) written status t
     pub line : (n : ℕ) (why : Refusal) → status ≡ Refused n why → n ≡ number
     pub grown : Appends (holds sink) (holds sink') written
 
-  -- ---- a whole script
+-- ---- a whole script
 
+-- where this text is written of a script, from a state on
+module _ {K : Type 0} (holds : K → Option (List ℕ)) (text_in : State → List ℕ → List ℕ) where
   -- this is the script's fate, all of its text is written, and the network's state is that after it
   pub record Completes (script : List ℕ) (status : Status) (s t : State) (sink sink' : K) : Type 0 where
     pub fate : status ≡ fate_of s script
-    pub text : Appends (holds sink) (holds sink') (text_of s script)
+    pub text : Appends (holds sink) (holds sink') (text_in s script)
     pub state : t ≡ end_of s script
 
-  -- these bytes of a script were read; the whole lines among them are accepted, and just their answers are written
+  -- these bytes of a script were read; the whole lines among them are accepted, and just their text is written
   pub record WritesWhole (s : State) (left left' : Option (List ℕ)) (sink sink' : K) : Type 0 where
     pub read : List ℕ
     pub consumed : Consumes left left' read
     pub accepted : fate_of s (whole_part read) ≡ Done
-    pub text : Appends (holds sink) (holds sink') (text_of s (whole_part read))
+    pub text : Appends (holds sink) (holds sink') (text_in s (whole_part read))
 
   -- these bytes of a script were read, and a piece of at most 8,192 behind them; the whole lines among the first are
-  -- accepted, and what is written begins with the answers to all of them
-  pub record AnswersSoon (s : State) (left left' : Option (List ℕ)) (sink sink' : K) : Type 0 where
+  -- accepted, and what is written begins with the text of all of them
+  pub record WritesSoon (s : State) (left left' : Option (List ℕ)) (sink sink' : K) : Type 0 where
     pub before : List ℕ
     pub piece : List ℕ
     pub rest : List ℕ
     pub consumed : Consumes left left' (before ++ piece)
     pub short : length piece ≤ most_piece
     pub accepted : fate_of s (whole_part before) ≡ Done
-    pub text : Appends (holds sink) (holds sink') (text_of s (whole_part before) ++ rest)
+    pub text : Appends (holds sink) (holds sink') (text_in s (whole_part before) ++ rest)
 
 -- what was read of a script: at most one byte more than a script may have, and where a line is refused, fewer than
 -- 20,000 bytes past the first byte of that line

@@ -1,21 +1,26 @@
 -- What one line of a script does.
-use Rattle.std.specs.Prelude.{ℕ, List, [], ◌∷◌, Option, Some, None, Result, Ok, Err, codes}
+use Rattle.std.specs.Prelude.{ℕ, List, [], ◌∷◌, flat_map, Option, Some, None, Result, Ok, Err, codes}
+use Rattle.frame_capture.specs.Capture.{packet_bytes}
 use Rattle.report.specs.Lines.{error_text}
 use Rattle.scenario.specs.declared.command.Command.{Command}
 use Rattle.scenario.specs.Grammar.{line_of}
 use Rattle.spb_world.specs.declared.reason.Reason.{Reason}
+use Rattle.network_model.specs.declared.delivered.Delivered.{Delivered}
+use Rattle.network_model.specs.Captured.{seen_of}
 use Rattle.network_model.specs.Play.{next_state, answer_of}
 use Rattle.spb_world.specs.Reason.{reason_number, name_of}
 use Rattle.network_model.specs.Refusing.{refusal_of}
 use Rattle.network_model.specs.State.{State}
 use Rattle.script_run.specs.Answer.{text_of_answer}
+use Rattle.script_run.specs.declared.voice.Voice.{Voice}
+use Rattle.script_run.specs.declared.voice.Voice.TheVariants.{Answers, Packets}
 use Rattle.script_run.specs.declared.refusal.Refusal.{Refusal}
 use Rattle.script_run.specs.declared.refusal.Refusal.TheVariants as refusal
 
--- a line judged: the bytes that it writes, why it is refused where it is, the commands that it plays, and the network's
--- state after it
+-- a line judged: the bytes that are written of it, by what is told of the script, why it is refused where it is, the
+-- commands that it plays, and the network's state after it
 pub record Judged : Type 0 where
-  pub text : List ℕ
+  pub says : Voice → List ℕ
   pub refused : Option Refusal
   pub commands : List Command
   pub state : State
@@ -24,26 +29,43 @@ pub record Judged : Type 0 where
 abbrev pub misspelled_text : ℕ → ℕ → List ℕ
 misspelled_text number column = error_text number 1 (codes "Words") (Some column)
 
+-- of a line that is refused its `error` line is an answer, and there is no packet
+abbrev pub if_answers : Voice → List ℕ → List ℕ
+if_answers Answers text = text
+if_answers Packets text = []
+
 -- a line that is outside the grammar at a column
 abbrev pub misspelled : State → ℕ → ℕ → Judged
 misspelled s number column = record {
-  text = misspelled_text number column;
+  says = λ v. if_answers v (misspelled_text number column);
   refused = Some (refusal.Words column);
   commands = [];
   state = s;
 }
 
+-- the packet of a delivery, and those of some deliveries, in order
+abbrev pub packet_of : Delivered → List ℕ
+packet_of d = packet_bytes (record { tick = d.tick; frame = d.frame })
+
+abbrev pub packets_of : List Delivered → List ℕ
+packets_of ds = flat_map packet_of ds
+
+-- what is written of a command that is accepted
+abbrev pub said_of : Voice → State → Command → List ℕ
+said_of Answers s command = text_of_answer (answer_of s command)
+said_of Packets s command = packets_of (seen_of s command)
+
 -- a command, by the reason for which it is refused
 abbrev pub judged_by : State → ℕ → Command → Option Reason → Judged
 judged_by s number command (Some reason) =
     record {
-      text = error_text number (reason_number reason) (name_of reason) None;
+      says = λ v. if_answers v (error_text number (reason_number reason) (name_of reason) None);
       refused = Some (refusal.Command reason);
       commands = [];
       state = s;
     }
 judged_by s number command None = record {
-  text = text_of_answer (answer_of s command);
+  says = λ v. said_of v s command;
   refused = None;
   commands = command ∷ [];
   state = next_state s command;
@@ -52,7 +74,7 @@ judged_by s number command None = record {
 -- a line, by what it was read as
 abbrev pub judged_as : State → ℕ → Result (Option Command) ℕ → Judged
 judged_as s number (Err column) = misspelled s number column
-judged_as s number (Ok None) = record { text = []; refused = None; commands = []; state = s }
+judged_as s number (Ok None) = record { says = λ v. []; refused = None; commands = []; state = s }
 judged_as s number (Ok (Some command)) = judged_by s number command (refusal_of s command)
 
 -- the line of this number, counted from 1, without its end

@@ -9,7 +9,7 @@ use Rattle.script_run.specs.declared.status.Status.{Status}
 use Rattle.script_run.specs.declared.status.Status.TheVariants.{Done, Refused, NoMemory, ReadFault}
 use Rattle.script_run.specs.declared.refusal.Refusal.{Refusal}
 use Rattle.script_run.specs.Output.{AppendsFront}
-use Rattle.script_run.specs.Pieces.{WritesWhole, AnswersSoon, ReadsLittle}
+use Rattle.script_run.specs.Pieces.{WritesWhole, WritesSoon, ReadsLittle}
 use Rattle.script_run.specs.Run.{is_written, is_ended, is_cut}
 use Rattle.script_run.specs.Commands.{AllLeaveEntered, AllDeliverOnce}
 use Rattle.script_run.specs.States.{IsTrusted}
@@ -45,10 +45,10 @@ module _
     pub front : IsTrue (is_cut status) → IfSome (left source) (λ script.
         AppendsFront (holds sink) (holds sink') (text_of s script))
     -- Where a read failed, all whole lines that the source gave are accepted, and just their answers are written.
-    pub whole : status ≡ ReadFault → WritesWhole holds s (left source) (left source') sink sink'
+    pub whole : status ≡ ReadFault → WritesWhole holds text_of s (left source) (left source') sink sink'
     -- However it ended, all whole lines that were read are accepted and answered, but for those that end in the last
     -- 8,192 bytes that were read. Any write may fail, so this much is answered before each.
-    pub prompt : AnswersSoon holds s (left source) (left source') sink sink'
+    pub prompt : WritesSoon holds text_of s (left source) (left source') sink sink'
     -- At most one byte more is read than a script may have, and little behind a line that is refused.
     pub reads : ReadsLittle (left source) (left source') (λ n. (why : Refusal) × (status ≡ Refused n why))
     -- Over a source and a sink that don't fail, only memory can run out.

@@ -9,30 +9,36 @@ use Rattle.script_run.specs.declared.refusal.Refusal.{Refusal}
 use Rattle.script_run.specs.declared.refusal.Refusal.TheVariants.{Words}
 use Rattle.script_run.specs.declared.status.Status.{Status}
 use Rattle.script_run.specs.declared.status.Status.TheVariants.{Done, Refused, TooLong}
-use Rattle.script_run.specs.Play.{Judged, misspelled_text, judged}
+use Rattle.script_run.specs.declared.voice.Voice.{Voice}
+use Rattle.script_run.specs.declared.voice.Voice.TheVariants.{Answers}
+use Rattle.script_run.specs.Play.{Judged, misspelled_text, if_answers, judged}
 
--- what some lines do: the bytes that they write, the status, faults and running out of memory aside, and the network's
+-- what some lines do: the bytes that are written of them, by what is told, the status, faults and running out of memory aside, and the network's
 -- state after those that are accepted
 pub record Played : Type 0 where
-  pub text : List ℕ
+  pub says : Voice → List ℕ
   pub status : Status
   pub state : State
 
 -- a judged line, and the lines behind it, of which none is played where it is refused
 abbrev pub joined : ℕ → Judged → Option Refusal → Played → Played
-joined number line None rest = record { text = line.text ++ rest.text; status = rest.status; state = rest.state }
-joined number line (Some why) rest = record { text = line.text; status = Refused number why; state = line.state }
+joined number line None rest = record {
+  says = λ v. line.says v ++ rest.says v;
+  status = rest.status;
+  state = rest.state;
+}
+joined number line (Some why) rest = record { says = line.says; status = Refused number why; state = line.state }
 
 -- behind the lines of a script. One that is too long is refused, with the number that it has and the column of its
 -- first byte past the limit; where the script is too long, nothing more is written
 abbrev pub concluded : State → ℕ → Option Stop → Played
-concluded s number None = record { text = []; status = Done; state = s }
+concluded s number None = record { says = λ v. []; status = Done; state = s }
 concluded s number (Some stop.Long) = record {
-  text = misspelled_text number (longest_line + 1);
+  says = λ v. if_answers v (misspelled_text number (longest_line + 1));
   status = Refused number (Words (longest_line + 1));
   state = s;
 }
-concluded s number (Some stop.Over) = record { text = []; status = TooLong; state = s }
+concluded s number (Some stop.Over) = record { says = λ v. []; status = TooLong; state = s }
 
 -- lines from a state on, the first of which has this number, and why they end before the script does, if they do
 abbrev pub play : State → ℕ → List (List ℕ) → Option Stop → Played
@@ -65,9 +71,12 @@ lines_played script = (lines_of start script).0
 unfoldable pub played : State → List ℕ → Played
 played s script = play_lines s 1 (lines_of start script)
 
--- the bytes that a script writes
+-- the bytes that are written of a script, and those of the answers
+abbrev pub said_in : Voice → State → List ℕ → List ℕ
+said_in v s script = (played s script).says v
+
 abbrev pub text_of : State → List ℕ → List ℕ
-text_of s script = (played s script).text
+text_of = said_in Answers
 
 -- the status of a script, faults and running out of memory aside
 abbrev pub fate_of : State → List ℕ → Status

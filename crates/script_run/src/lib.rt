@@ -1,7 +1,10 @@
 //! Scripts that are played: each line is spelled, played on a network and answered before the next, from a source that
-//! gives the script in pieces to a sink that takes the answers.
+//! gives the script in pieces to a sink that takes the answers. Or the frames that the lines deliver are captured, and
+//! the sink takes their packets in place of the answers.
 #![tactic(auto)]
 
+pub use capturing::capture_script;
+pub use held::put;
 pub use laws::lines_play_commands;
 pub use output::write_all;
 pub use refusal::Refusal;
@@ -9,11 +12,15 @@ pub use runner::run_script;
 pub use status::Status;
 
 mod answer;
+mod capturing;
+mod held;
 mod laws;
 mod output;
+mod packets;
 mod pieces;
 mod play;
 mod refusal;
 mod reply;
 mod runner;
 mod status;
+mod voice;

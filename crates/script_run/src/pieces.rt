@@ -7,16 +7,18 @@ ghost use Rattle.spb_outside.specs.Faults.{Rose};
 ghost use Rattle.script_run.specs.Output.{AppendsFront};
 ghost use Rattle.script_run.specs.declared.pieces.Break.TheVariants.{Read as ReadBreak};
 ghost use Rattle.script_run.specs.Break.{break_of};
-ghost use Rattle.script_run.specs.Pieces.{Finishes, Completes, WritesWhole, AnswersSoon, ReadsLittle, most_piece, GoesOn, Ends, Breaks, StandsAt, to_come, Accepts, Stops, shown_lines};
+ghost use Rattle.script_run.specs.Pieces.{Finishes, Completes, WritesWhole, WritesSoon, ReadsLittle, most_piece, GoesOn, Ends, Breaks, StandsAt, to_come, Accepts, Stops, shown_lines};
 ghost use Rattle.scenario.specs.Cutting.{longest_line, most_bytes, most_lines, start};
-ghost use Rattle.script_run.specs.Play.{judged, misspelled_text};
+ghost use Rattle.script_run.specs.Play.{judged, misspelled_text, if_answers};
 ghost use Rattle.script_run.specs.declared.refusal.Refusal.{Refusal};
 ghost use Rattle.script_run.specs.Run.{is_written};
 ghost use Rattle.script_run.specs.Replying.{IsAlive};
-ghost use Rattle.script_run.specs.Text.{play_lines, text_of};
+ghost use Rattle.script_run.specs.Text.{play_lines, said_in};
 
 use crate::output::write_all;
+use crate::packets::capture_line;
 use crate::play::play_line;
+use crate::voice::Voice;
 use crate::{Refusal, Status, play};
 use bridge_api::Bridge;
 use scenario::{Cutter, Cutting, LINE_LIMIT, SCRIPT_LIMIT};
@@ -69,7 +71,7 @@ fn answer_line<B: Bridge, K: Sink>(
 ) -> Result<Option<Refusal>, WriteError>
     requires { IsAlive B.shown network.old }
     ensures text { OnOk result (Appends (K.holds sink.old) (K.holds sink.new)
-        (judged (state_of B.shown network.old) number line.now).text) }
+        ((judged (state_of B.shown network.old) number line.now).says Voice.Answers)) }
     ensures refused { IfOk result (λ refused.
         refused ≡ (judged (state_of B.shown network.old) number line.now).refused) }
     ensures state { OnOk result (state_of B.shown network.new
@@ -77,7 +79,7 @@ fn answer_line<B: Bridge, K: Sink>(
     ensures alive { OnOk result (IsAlive B.shown network.new) }
     ensures ready { IsReady B.shown network.new }
     ensures front { OnErr result (AppendsFront (K.holds sink.old) (K.holds sink.new)
-        (judged (state_of B.shown network.old) number line.now).text) }
+        ((judged (state_of B.shown network.old) number line.now).says Voice.Answers)) }
     ensures count { K.faults sink.old ≤ K.faults sink.new }
     ensures failed { IsErrOf result WriteError.Failed → Rose (K.faults sink.old) (K.faults sink.new) }
     ensures reliable { IsTrue (K.is_reliable sink.old) →
@@ -88,8 +90,39 @@ fn answer_line<B: Bridge, K: Sink>(
     Ok(reply.refused)
 }
 
-/// Refuses a line that is too long, at the column of its first byte past the limit.
-fn refuse_long<K: Sink>(alloc: Global, number: u32, sink: &mut K) -> Result<Status, WriteError>
+/// Plays a line and writes what is told of it.
+fn tell_line<B: Bridge, K: Sink>(
+    alloc: Global,
+    network: &mut NetworkOf<B>,
+    voice: Voice,
+    number: u32,
+    line: &[u8],
+    sink: &mut K,
+) -> Result<Option<Refusal>, WriteError>
+    requires { IsAlive B.shown network.old }
+    ensures text { OnOk result (Appends (K.holds sink.old) (K.holds sink.new)
+        ((judged (state_of B.shown network.old) number line.now).says voice)) }
+    ensures refused { IfOk result (λ refused.
+        refused ≡ (judged (state_of B.shown network.old) number line.now).refused) }
+    ensures state { OnOk result (state_of B.shown network.new
+        ≡ (judged (state_of B.shown network.old) number line.now).state) }
+    ensures alive { OnOk result (IsAlive B.shown network.new) }
+    ensures ready { IsReady B.shown network.new }
+    ensures front { OnErr result (AppendsFront (K.holds sink.old) (K.holds sink.new)
+        ((judged (state_of B.shown network.old) number line.now).says voice)) }
+    ensures count { K.faults sink.old ≤ K.faults sink.new }
+    ensures failed { IsErrOf result WriteError.Failed → Rose (K.faults sink.old) (K.faults sink.new) }
+    ensures reliable { IsTrue (K.is_reliable sink.old) →
+        (result ≢ Err WriteError.Failed) × IsTrue (K.is_reliable sink.new) }
+{
+    match voice {
+        Voice::Answers => answer_line(alloc, network, number, line, sink),
+        Voice::Packets => capture_line(alloc, network, number, line, sink),
+    }
+}
+
+/// Answers a line that is too long, at the column of its first byte past the limit.
+fn answer_long<K: Sink>(alloc: Global, number: u32, sink: &mut K) -> Result<Status, WriteError>
     ensures text { OnOk result (Appends (K.holds sink.old) (K.holds sink.new)
         (misspelled_text number (longest_line + 1))) }
     ensures refused { IfOk result (λ status. status ≡ Status.Refused number (Refusal.Words (longest_line + 1))) }
@@ -106,11 +139,35 @@ fn refuse_long<K: Sink>(alloc: Global, number: u32, sink: &mut K) -> Result<Stat
     Ok(Status::Refused(number, Refusal::Words(column)))
 }
 
+/// Refuses a line that is too long, and writes what is told of that.
+fn refuse_long<K: Sink>(
+    alloc: Global,
+    voice: Voice,
+    number: u32,
+    sink: &mut K,
+) -> Result<Status, WriteError>
+    ensures text { OnOk result (Appends (K.holds sink.old) (K.holds sink.new)
+        (if_answers voice (misspelled_text number (longest_line + 1)))) }
+    ensures refused { IfOk result (λ status. status ≡ Status.Refused number (Refusal.Words (longest_line + 1))) }
+    ensures front { OnErr result (AppendsFront (K.holds sink.old) (K.holds sink.new)
+        (if_answers voice (misspelled_text number (longest_line + 1)))) }
+    ensures count { K.faults sink.old ≤ K.faults sink.new }
+    ensures failed { IsErrOf result WriteError.Failed → Rose (K.faults sink.old) (K.faults sink.new) }
+    ensures reliable { IsTrue (K.is_reliable sink.old) →
+        (result ≢ Err WriteError.Failed) × IsTrue (K.is_reliable sink.new) }
+{
+    match voice {
+        Voice::Answers => answer_long(alloc, number, sink),
+        Voice::Packets => Ok(Status::Refused(number, Refusal::Words(LINE_LIMIT + 1))),
+    }
+}
+
 /// Answers what the cutter showed: a line that ends is played, and one that is too long refused. It gives the status
 /// where the script ends there.
 fn answer_cut<B: Bridge, K: Sink>(
     alloc: Global,
     network: &mut NetworkOf<B>,
+    voice: Voice,
     cutter: &Cutter,
     what: Cutting,
     number: &mut u32,
@@ -118,12 +175,12 @@ fn answer_cut<B: Bridge, K: Sink>(
 ) -> Result<Option<Status>, WriteError>
     requires alive { IsAlive B.shown network.old }
     requires few { number.old ≤ most_lines + 1 }
-    ensures goes_on { result ≡ Ok None → Accepts K.holds (shown_lines what cutter.now)
+    ensures goes_on { result ≡ Ok None → Accepts voice K.holds (shown_lines what cutter.now)
         (state_of B.shown network.old) (state_of B.shown network.new) number.old number.new sink.old sink.new }
-    ensures ends { (status : Status) → result ≡ Ok (Some status) → Stops K.holds (shown_lines what cutter.now)
+    ensures ends { (status : Status) → result ≡ Ok (Some status) → Stops voice K.holds (shown_lines what cutter.now)
         status (state_of B.shown network.old) (state_of B.shown network.new) number.old sink.old sink.new }
     ensures front { OnErr result (AppendsFront (K.holds sink.old) (K.holds sink.new)
-        (play_lines (state_of B.shown network.old) number.old (shown_lines what cutter.now)).text) }
+        ((play_lines (state_of B.shown network.old) number.old (shown_lines what cutter.now)).says voice)) }
     ensures alive { OnOk result (IsAlive B.shown network.new) }
     ensures ready { IsReady B.shown network.new }
     ensures count { K.faults sink.old ≤ K.faults sink.new }
@@ -134,9 +191,9 @@ fn answer_cut<B: Bridge, K: Sink>(
     match what {
         Cutting::More => Ok(None),
         Cutting::Over => Ok(Some(Status::TooLong)),
-        Cutting::Long => Ok(Some(refuse_long(alloc, *number, sink)?)),
+        Cutting::Long => Ok(Some(refuse_long(alloc, voice, *number, sink)?)),
         Cutting::Line => {
-            if let Some(why) = answer_line(alloc, network, *number, cutter.line(), sink)? {
+            if let Some(why) = tell_line(alloc, network, voice, *number, cutter.line(), sink)? {
                 return Ok(Some(Status::Refused(*number, why)));
             }
             *number += 1;
@@ -150,6 +207,7 @@ fn answer_cut<B: Bridge, K: Sink>(
 fn play_piece<B: Bridge, K: Sink>(
     alloc: Global,
     network: &mut NetworkOf<B>,
+    voice: Voice,
     cutter: &mut Cutter,
     number: &mut u32,
     piece: &[u8],
@@ -157,12 +215,12 @@ fn play_piece<B: Bridge, K: Sink>(
 ) -> Result<Option<Status>, WriteError>
     requires alive { IsAlive B.shown network.old }
     requires stands { StandsAt cutter.old number.old }
-    ensures goes_on { result ≡ Ok None → GoesOn K.holds piece.now
+    ensures goes_on { result ≡ Ok None → GoesOn voice K.holds piece.now
         (state_of B.shown network.old) (state_of B.shown network.new) number.old number.new
         cutter.old cutter.new sink.old sink.new }
-    ensures ends { (status : Status) → result ≡ Ok (Some status) → Ends K.holds piece.now status
+    ensures ends { (status : Status) → result ≡ Ok (Some status) → Ends voice K.holds piece.now status
         (state_of B.shown network.old) (state_of B.shown network.new) number.old cutter.old sink.old sink.new }
-    ensures breaks { OnErr result (Breaks K.holds piece.now
+    ensures breaks { OnErr result (Breaks voice K.holds piece.now
         (state_of B.shown network.old) number.old cutter.old sink.old sink.new) }
     ensures alive { OnOk result (IsAlive B.shown network.new) }
     ensures ready { IsReady B.shown network.new }
@@ -174,7 +232,7 @@ fn play_piece<B: Bridge, K: Sink>(
     let mut rest = piece;
     while !rest.is_empty() {
         let cut = cutter.feed(rest)?;
-        if let Some(status) = answer_cut(alloc, network, cutter, cut.what, number, sink)? {
+        if let Some(status) = answer_cut(alloc, network, voice, cutter, cut.what, number, sink)? {
             return Ok(Some(status));
         }
         rest = &rest[cut.used..];
@@ -186,16 +244,17 @@ fn play_piece<B: Bridge, K: Sink>(
 fn end_script<B: Bridge, K: Sink>(
     alloc: Global,
     network: &mut NetworkOf<B>,
+    voice: Voice,
     cutter: &mut Cutter,
     number: &mut u32,
     sink: &mut K,
 ) -> Result<Status, WriteError>
     requires alive { IsAlive B.shown network.old }
     requires stands { StandsAt cutter.old number.old }
-    ensures ends { IfOk result (λ status. Finishes K.holds status
+    ensures ends { IfOk result (λ status. Finishes voice K.holds status
         (state_of B.shown network.old) (state_of B.shown network.new) number.old cutter.old sink.old sink.new) }
     ensures front { OnErr result (AppendsFront (K.holds sink.old) (K.holds sink.new)
-        (to_come (state_of B.shown network.old) number.old cutter.old []).text) }
+        ((to_come (state_of B.shown network.old) number.old cutter.old []).says voice)) }
     ensures alive { OnOk result (IsAlive B.shown network.new) }
     ensures ready { IsReady B.shown network.new }
     ensures count { K.faults sink.old ≤ K.faults sink.new }
@@ -204,7 +263,7 @@ fn end_script<B: Bridge, K: Sink>(
         (result ≢ Err WriteError.Failed) × IsTrue (K.is_reliable sink.new) }
 {
     let what = cutter.end();
-    match answer_cut(alloc, network, cutter, what, number, sink)? {
+    match answer_cut(alloc, network, voice, cutter, what, number, sink)? {
         Some(status) => Ok(status),
         None => Ok(Status::Done),
     }
@@ -235,19 +294,20 @@ fn read_piece<S: Source>(source: &mut S, buffer: &mut [u8], read: usize) -> Resu
 pub(crate) fn play_script<B: Bridge, S: Source, K: Sink>(
     alloc: Global,
     network: &mut NetworkOf<B>,
+    voice: Voice,
     source: &mut S,
     sink: &mut K,
 ) -> Result<Status, Break>
     requires alive { IsAlive B.shown network.old }
-    ensures ends { IfOk result (λ status. IfSome (S.left source.old) (λ script. Completes K.holds script status
+    ensures ends { IfOk result (λ status. IfSome (S.left source.old) (λ script. Completes K.holds (said_in voice) script status
         (state_of B.shown network.old) (state_of B.shown network.new) sink.old sink.new)) }
     ensures own { IfOk result (λ status. IsTrue (is_written status)) }
     ensures ended { result ≡ Ok Status.Done → IsAtEnd (S.left source.new) }
     ensures front { OnErr result (IfSome (S.left source.old) (λ script.
-        AppendsFront (K.holds sink.old) (K.holds sink.new) (text_of (state_of B.shown network.old) script))) }
-    ensures whole { result ≡ Err Break.Read → WritesWhole K.holds
+        AppendsFront (K.holds sink.old) (K.holds sink.new) (said_in voice (state_of B.shown network.old) script))) }
+    ensures whole { result ≡ Err Break.Read → WritesWhole K.holds (said_in voice)
         (state_of B.shown network.old) (S.left source.old) (S.left source.new) sink.old sink.new }
-    ensures prompt { AnswersSoon K.holds
+    ensures prompt { WritesSoon K.holds (said_in voice)
         (state_of B.shown network.old) (S.left source.old) (S.left source.new) sink.old sink.new }
     ensures reads { ReadsLittle (S.left source.old) (S.left source.new)
         (λ n. (why : Refusal) × (result ≡ Ok (Status.Refused n why))) }
@@ -267,11 +327,12 @@ pub(crate) fn play_script<B: Bridge, S: Source, K: Sink>(
     loop {
         let count = read_piece(source, &mut buffer, read)?;
         if count == 0 {
-            return Ok(end_script(alloc, network, &mut cutter, &mut number, sink)?);
+            return Ok(end_script(alloc, network, voice, &mut cutter, &mut number, sink)?);
         }
         if let Some(status) = play_piece(
             alloc,
             network,
+            voice,
             &mut cutter,
             &mut number,
             &buffer[..count],

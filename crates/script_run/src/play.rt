@@ -1,12 +1,12 @@
 //! One line of a script: read, judged, played, and answered.
-ghost use Rattle.std.specs.Prelude.{◌≡◌, Some, None, codes, IfOk, OnOk};
+ghost use Rattle.std.specs.Prelude.{◌≡◌, [], Some, None, codes, IfOk, OnOk};
 ghost use Rattle.report.specs.Lines as texts;
 ghost use Rattle.spb_network.specs.Applying.{IsReady};
 ghost use Rattle.spb_network.specs.Network.{state_of};
 ghost use Rattle.spb_world.specs.Reason as reasons;
 ghost use Rattle.network_model.specs.Refusing as refuse;
 ghost use Rattle.script_run.specs.Play as play;
-ghost use Rattle.script_run.specs.Replying.{Replies, IsAlive};
+ghost use Rattle.script_run.specs.Replying.{Replies, Watched, IsAlive};
 ghost use Rattle.script_run.specs.declared.refusal.Refusal.TheVariants as refusal;
 
 use crate::Refusal;
@@ -15,7 +15,7 @@ use crate::reply::Reply;
 use bridge_api::Bridge;
 use report::error_text;
 use scenario::{Command, LineError, parse_line};
-use spb_network::{ApplyError, NetworkOf, Reason};
+use spb_network::{ApplyError, Delivered, NetworkOf, Reason};
 use spb_types::NoMemory;
 use std::alloc::Global;
 
@@ -89,6 +89,54 @@ pub(crate) fn play_line<B: Bridge>(
             refused: None,
         }),
         Err(LineError::Words(column)) => misspelled(alloc, number, column),
+        Err(LineError::NoMemory) => Err(NoMemory),
+    }
+}
+
+/// Plays a command that a line gave, and notes what it delivers, behind nothing. It says why it is refused.
+fn watch_command<B: Bridge>(
+    network: &mut NetworkOf<B>,
+    number: u32,
+    command: &Command,
+    seen: &mut Vec<Delivered>,
+) -> Result<Option<Refusal>, NoMemory>
+    requires alive { IsAlive B.shown network.old }
+    requires none { seen.old.items ≡ [] }
+    ensures ok { IfOk result (λ refused. Watched
+        (play.judged_by (state_of B.shown network.old) number command.now
+        (refuse.refusal_of (state_of B.shown network.old) command.now))
+        refused seen.new.items (state_of B.shown network.new)) }
+    ensures alive { OnOk result (IsAlive B.shown network.new) }
+    ensures ready { IsReady B.shown network.new }
+{
+    match network.apply_watched(command, seen) {
+        Ok(_answer) => Ok(None),
+        Err(ApplyError::Refused(reason)) => Ok(Some(Refusal::Command(reason))),
+        Err(ApplyError::Halted | ApplyError::NoMemory) => Err(NoMemory),
+    }
+}
+
+/// Judges and plays the line of this number, as [`play_line`] does, and notes what it delivers, behind nothing. It says
+/// why it is refused. After NoMemory nothing is said of the network, nor of what was noted.
+#[tactic(auto, unfolding(crate::specs::Play::judged))]
+pub(crate) fn watch_line<B: Bridge>(
+    alloc: Global,
+    network: &mut NetworkOf<B>,
+    number: u32,
+    line: &[u8],
+    seen: &mut Vec<Delivered>,
+) -> Result<Option<Refusal>, NoMemory>
+    requires alive { IsAlive B.shown network.old }
+    requires none { seen.old.items ≡ [] }
+    ensures ok { IfOk result (λ refused. Watched (play.judged (state_of B.shown network.old) number line.now)
+        refused seen.new.items (state_of B.shown network.new)) }
+    ensures alive { OnOk result (IsAlive B.shown network.new) }
+    ensures ready { IsReady B.shown network.new }
+{
+    match parse_line(alloc, line) {
+        Ok(Some(command)) => watch_command(network, number, &command, seen),
+        Ok(None) => Ok(None),
+        Err(LineError::Words(column)) => Ok(Some(Refusal::Words(column))),
         Err(LineError::NoMemory) => Err(NoMemory),
     }
 }

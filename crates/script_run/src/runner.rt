@@ -9,6 +9,7 @@ ghost use Rattle.script_run.specs.Run as ends;
 
 use crate::Status;
 use crate::pieces::{Break, play_script};
+use crate::voice::Voice;
 use bridge_api::Bridge;
 use spb_network::NetworkOf;
 use spb_outside::{Sink, Source};
@@ -33,7 +34,7 @@ pub fn run_script<B: Bridge, S: Source, K: Sink>(
     ensures reliable_source { IsTrue (S.is_reliable source.old) → result ≢ Status.ReadFault }
     ensures reliable_sink { IsTrue (K.is_reliable sink.old) → result ≢ Status.WriteFault }
 {
-    match play_script(alloc, network, source, sink) {
+    match play_script(alloc, network, Voice::Answers, source, sink) {
         Ok(status) => status,
         Err(Break::Read) => Status::ReadFault,
         Err(Break::Write) => Status::WriteFault,

@@ -7,8 +7,8 @@ use Rattle.scenario_maker.proofs.Numbers.{decimal_one, decimal_pair}
 use Rattle.network_model.specs.declared.kind_rule.KindRule.{KindRule}
 use Rattle.network_model.specs.declared.kind_rule.KindRule.TheVariants.{Plain, Swift, Mixed}
 use Rattle.spb_run.specs.declared.words.Form.{Form}
-use Rattle.spb_run.specs.declared.words.Form.TheVariants.{Run, Make, Try, Listing}
-use Rattle.spb_run.specs.Words.{is_digit_from, if_made, bridges_of, name_of_rule, rule_named, rule_told, make_form, try_by, try_form, list_form, form_of, IsForm, Spells, run_alone, run_kind, make_number, try_alone, try_kind, list_alone, FormsAreSpelled}
+use Rattle.spb_run.specs.declared.words.Form.TheVariants.{Run, Make, Try, Listing, Capture}
+use Rattle.spb_run.specs.Words.{is_digit_from, if_made, bridges_of, name_of_rule, rule_named, rule_told, make_form, try_by, try_form, list_form, capture_form, form_of, IsForm, Spells, run_alone, run_kind, make_number, try_alone, try_kind, list_alone, capture_alone, FormsAreSpelled}
 
 -- ---- tests
 
@@ -185,20 +185,29 @@ list_read : (word : List ℕ) (others : List (List ℕ)) (f : Form) → word ≡
 list_read word [] f first e = subst (λ g. Reads g (word ∷ [])) (same_some Listing f e) (tt, subst (λ ws. Spells Listing ws) (sym (ap (λ w. w ∷ []) first)) list_alone)
 list_read word (a ∷ more) f first e = absurd cc
 
-by_first : (word : List ℕ) (others : List (List ℕ)) (f : Form) (a b c d : Bool) → bytes_eq word (codes "run") ≡ a → bytes_eq word (codes "make") ≡ b → bytes_eq word (codes "try") ≡ c → bytes_eq word (codes "list") ≡ d
-    → (if a then option_map Run (rule_told others) else (if b then make_form others else (if c then try_form others else (if d then list_form others else None)))) ≡ Some f → Reads f (word ∷ others)
-by_first word others f true b c d p q r s e =
+capture_read : (word : List ℕ) (others : List (List ℕ)) (f : Form) → word ≡ codes "capture" → capture_form others ≡ Some f → Reads f (word ∷ others)
+capture_read word [] f first e = subst (λ g. Reads g (word ∷ [])) (same_some Capture f e) (tt, subst (λ ws. Spells Capture ws) (sym (ap (λ w. w ∷ []) first)) capture_alone)
+capture_read word (a ∷ more) f first e = absurd cc
+
+by_last : (word : List ℕ) (others : List (List ℕ)) (f : Form) (a b : Bool) → bytes_eq word (codes "list") ≡ a → bytes_eq word (codes "capture") ≡ b
+    → (if a then list_form others else (if b then capture_form others else None)) ≡ Some f → Reads f (word ∷ others)
+by_last word others f true b p q e = list_read word others f ((bytes_eq-Decides word (codes "list")).0 p) e
+by_last word others f false true p q e = capture_read word others f ((bytes_eq-Decides word (codes "capture")).0 q) e
+by_last word others f false false p q e = absurd cc
+
+by_first : (word : List ℕ) (others : List (List ℕ)) (f : Form) (a b c : Bool) → bytes_eq word (codes "run") ≡ a → bytes_eq word (codes "make") ≡ b → bytes_eq word (codes "try") ≡ c
+    → (if a then option_map Run (rule_told others) else (if b then make_form others else (if c then try_form others
+    else (if bytes_eq word (codes "list") then list_form others else (if bytes_eq word (codes "capture") then capture_form others else None))))) ≡ Some f → Reads f (word ∷ others)
+by_first word others f true b c p q r e =
     let m = map_some Run (rule_told others) f e in
     subst (λ g. Reads g (word ∷ others)) (sym m.2) (run_read word others m.0 ((bytes_eq-Decides word (codes "run")).0 p) (told_read others m.0 m.1))
-by_first word others f false true c d p q r s e = make_read word others f ((bytes_eq-Decides word (codes "make")).0 q) e
-by_first word others f false false true d p q r s e = try_read word others f ((bytes_eq-Decides word (codes "try")).0 r) e
-by_first word others f false false false true p q r s e = list_read word others f ((bytes_eq-Decides word (codes "list")).0 s) e
-by_first word others f false false false false p q r s e = absurd cc
+by_first word others f false true c p q r e = make_read word others f ((bytes_eq-Decides word (codes "make")).0 q) e
+by_first word others f false false true p q r e = try_read word others f ((bytes_eq-Decides word (codes "try")).0 r) e
+by_first word others f false false false p q r e = by_last word others f (bytes_eq word (codes "list")) (bytes_eq word (codes "capture")) refl refl e
 
 form_read : (words : List (List ℕ)) (f : Form) → form_of words ≡ Some f → Reads f words
 form_read [] f e = absurd cc
-form_read (word ∷ others) f e =
-    by_first word others f (bytes_eq word (codes "run")) (bytes_eq word (codes "make")) (bytes_eq word (codes "try")) (bytes_eq word (codes "list")) refl refl refl refl e
+form_read (word ∷ others) f e = by_first word others f (bytes_eq word (codes "run")) (bytes_eq word (codes "make")) (bytes_eq word (codes "try")) refl refl refl e
 
 told_spelled : (rule : KindRule) → rule_told (codes "--kind" ∷ name_of_rule rule ∷ []) ≡ Some rule
 told_spelled Plain = refl
@@ -216,6 +225,7 @@ form_spelled f words (make_number n) is = ap (option_map Make) (spelled_by n (na
 form_spelled f words (try_alone n) is = try_spelled n Plain [] is.0 is.1 refl
 form_spelled f words (try_kind n rule) is = try_spelled n rule (codes "--kind" ∷ name_of_rule rule ∷ []) is.0 is.1 (told_spelled rule)
 form_spelled f words list_alone is = refl
+form_spelled f words capture_alone is = refl
 
 pub forms_are_spelled : FormsAreSpelled
 forms_are_spelled words f = (form_read words f, λ s. form_spelled f words s.1 s.0)

@@ -6,7 +6,7 @@ use Rattle.network_model.specs.declared.kind_rule.KindRule.TheVariants.{Plain, S
 use Rattle.capture_list.specs.Listing.{most_listed}
 use Rattle.scenario.specs.Cutting.{most_bytes}
 use Rattle.spb_run.specs.declared.words.Form.{Form}
-use Rattle.spb_run.specs.declared.words.Form.TheVariants.{Run, Make, Try, Listing}
+use Rattle.spb_run.specs.declared.words.Form.TheVariants.{Run, Make, Try, Listing, Capture}
 
 -- whether a byte is a decimal digit from this one on
 abbrev pub is_digit_from : ℕ → ℕ → Bool
@@ -61,13 +61,19 @@ abbrev pub list_form : List (List ℕ) → Option Form
 list_form [] = Some Listing
 list_form _ = None
 
+-- behind `capture`: nothing
+abbrev pub capture_form : List (List ℕ) → Option Form
+capture_form [] = Some Capture
+capture_form _ = None
+
 -- the form that words are, by the first of them
 abbrev pub form_of : List (List ℕ) → Option Form
 form_of (word ∷ others) =
     if bytes_eq word (codes "run") then option_map Run (rule_told others)
     else (if bytes_eq word (codes "make") then make_form others
     else (if bytes_eq word (codes "try") then try_form others
-    else (if bytes_eq word (codes "list") then list_form others else None)))
+    else (if bytes_eq word (codes "list") then list_form others
+    else (if bytes_eq word (codes "capture") then capture_form others else None))))
 form_of [] = None
 
 -- the number of bridges of a form is in range
@@ -76,6 +82,7 @@ IsForm (Run rule) = ⊤
 IsForm (Make n) = (4 ≤ n) × (n ≤ 96)
 IsForm (Try n rule) = (4 ≤ n) × (n ≤ 96)
 IsForm Listing = ⊤
+IsForm Capture = ⊤
 
 -- how many bytes are read for a form at most: one more than a script may have, or a capture that is listed
 abbrev pub most_read : Option Form → ℕ
@@ -83,6 +90,7 @@ most_read (Some (Run rule)) = most_bytes + 1
 most_read (Some (Make n)) = 0
 most_read (Some (Try n rule)) = 0
 most_read (Some Listing) = most_listed + 1
+most_read (Some Capture) = most_bytes + 1
 most_read None = 0
 
 -- how a form is spelled: the rule is told last, by `--kind` and its name, and no word tells that all bridges are plain
@@ -94,6 +102,7 @@ pub data Spells : Form → List (List ℕ) → Type 0 where
   try_kind : (n : ℕ) (rule : KindRule)
       → Spells (Try n rule) (codes "try" ∷ decimal n ∷ codes "--kind" ∷ name_of_rule rule ∷ [])
   list_alone : Spells Listing (codes "list" ∷ [])
+  capture_alone : Spells Capture (codes "capture" ∷ [])
 
 -- words are a form exactly where they spell it
 abbrev pub FormsAreSpelled : Type 0

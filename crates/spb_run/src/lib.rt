@@ -1,5 +1,6 @@
 //! The forms of the program. A script is run: which lines are refused, what is played on the network, and what is
-//! answered. Or one is made for a number of bridges, and written, or played and counted. Or a capture is listed.
+//! answered, or the frames that it delivers are captured. Or one is made for a number of bridges, and written, or played
+//! and counted. Or a capture is listed.
 #![tactic(auto)]
 
 pub use capture_list::frames_are_listed;

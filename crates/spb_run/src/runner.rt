@@ -4,6 +4,7 @@ ghost use Rattle.std.specs.Io.KnownBytes.{Consumes};
 ghost use Rattle.spb_network.specs.Applying.{IsReady};
 ghost use Rattle.spb_network.specs.Network.{state_of};
 ghost use Rattle.spb_outside.specs.Faults.{Rose};
+ghost use Rattle.script_run.specs.Capturing.{Captures};
 ghost use Rattle.script_run.specs.Replying.{IsAlive, IsNew};
 ghost use Rattle.capture_list.specs.Lists.{Lists};
 ghost use Rattle.made_runs.specs.Making.{Makes};
@@ -18,8 +19,8 @@ use crate::{Form, Status};
 use bridge_api::Bridge;
 use capture_list::list_capture;
 use made_runs::{make_script, try_script};
-use script_run::run_script;
-use spb_network::NetworkOf;
+use script_run::{capture_script, run_script};
+use spb_network::{KindRule, NetworkOf};
 use spb_outside::{Sink, Source};
 use std::alloc::Global;
 
@@ -43,6 +44,10 @@ use std::alloc::Global;
 /// For the word `list` it reads a capture from the source, of at most 67,108,864 bytes, plays nothing, and writes a line
 /// for each of its packets, and the `error` line of the first that isn't whole. The file is in memory then, and nothing
 /// is written before it was read.
+///
+/// For the word `capture` it plays the script that the source gives as for `run`, where all bridges take plain boxes, and
+/// writes no answers but a capture of the frames that are delivered: its header before anything is read, and the packets
+/// of each line before the next is played.
 ///
 /// All other words are `Usage`.
 pub fn run<B: Bridge, S: Source, K: Sink>(
@@ -76,6 +81,10 @@ pub fn run<B: Bridge, S: Source, K: Sink>(
     ensures lists { spelled.form_of (map string_bytes words.now) ≡ Some Form.Listing →
         Lists S.left S.is_reliable K.holds K.is_reliable result source.old source.new sink.old sink.new
         × (network.new ≡ network.old) }
+    ensures captures { spelled.form_of (map string_bytes words.now) ≡ Some Form.Capture →
+        Captures S.left S.is_reliable K.holds K.is_reliable result
+        (ruled KindRule.Plain (state_of B.shown network.old)) (state_of B.shown network.new)
+        source.old source.new sink.old sink.new }
 
     // After every run the network is sound, or it has halted, which it hasn't after Done and Refused.
     ensures ready { IsReady B.shown network.new }
@@ -87,8 +96,8 @@ pub fn run<B: Bridge, S: Source, K: Sink>(
     ensures reliable_source { IsTrue (S.is_reliable source.old) → result ≢ Status.ReadFault }
     ensures reliable_sink { IsTrue (K.is_reliable sink.old) → result ≢ Status.WriteFault }
 
-    // Nothing is read for other words than `run` and `list`, and for these at most one byte more than a script may have,
-    // or a capture.
+    // Nothing is read for other words than `run`, `capture` and `list`, and for these at most one byte more than a script
+    // may have, or a capture.
     ensures few { (read : List ℕ) × Consumes (S.left source.old) (S.left source.new) read
         × (length read ≤ spelled.most_read (spelled.form_of (map string_bytes words.now))) }
 {
@@ -103,6 +112,10 @@ pub fn run<B: Bridge, S: Source, K: Sink>(
             try_script(alloc, bridges, network, sink)
         }
         Some(Form::Listing) => list_capture(alloc, source, sink),
+        Some(Form::Capture) => {
+            network.set_rule(KindRule::Plain);
+            capture_script(alloc, network, source, sink)
+        }
         None => Status::Usage,
     }
 }

@@ -16,6 +16,9 @@ pub enum Form {
     Try(u8, KindRule),
     /// `list`: the capture that the source gives is listed.
     Listing,
+    /// `capture`: the script that the source gives is played, where all bridges take plain boxes, and what is delivered
+    /// is captured.
+    Capture,
 }
 
 /// The number, if scripts are made for so many bridges.
@@ -102,6 +105,17 @@ fn list_form(words: &[String]) -> Option<Form>
     }
 }
 
+/// The form that the words behind `capture` are.
+fn capture_form(words: &[String]) -> Option<Form>
+    ensures form { result ≡ spelled.capture_form (map string_bytes words.now) }
+    ensures range { IfSome result spelled.IsForm }
+{
+    match words {
+        [] => Some(Form::Capture),
+        _ => None,
+    }
+}
+
 /// The form that the program's words are, its own name aside. None for all other words: no other spelling is accepted.
 pub(crate) fn form_of(words: &[String]) -> Option<Form>
     ensures form { result ≡ spelled.form_of (map string_bytes words.now) }
@@ -112,6 +126,7 @@ pub(crate) fn form_of(words: &[String]) -> Option<Form>
         [first, others @ ..] if first.as_str() == "make" => make_form(others),
         [first, others @ ..] if first.as_str() == "try" => try_form(others),
         [first, others @ ..] if first.as_str() == "list" => list_form(others),
+        [first, others @ ..] if first.as_str() == "capture" => capture_form(others),
         _ => None,
     }
 }

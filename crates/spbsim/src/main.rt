@@ -1,8 +1,9 @@
 //! `spbsim run` plays a script of a shortest path backbone from standard input, and writes the answers to standard
 //! output. `spbsim make N` writes such a script for N bridges, 4 to 96, to standard output, and `spbsim try N` plays it
 //! and counts what is answered. Behind `run` and `try N`, `--kind plain`, `--kind swift` or `--kind mixed` tells which
-//! boxes the bridges take. `spbsim list` lists the packets of a capture from standard input. The exit status is the
-//! number of the status with which `run` of `spb_run` ends, 0 to 6.
+//! boxes the bridges take. `spbsim capture` plays the script from standard input and writes the frames that are delivered
+//! to standard output, as a capture, and `spbsim list` lists the packets of a capture from standard input. The exit
+//! status is the number of the status with which `run` of `spb_run` ends, 0 to 6.
 //!
 //! All of it is done by `spb_run::run`, over the standard streams: here stand the words, and the rack of boxes that
 //! bridges are taken from.

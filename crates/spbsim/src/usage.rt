@@ -12,9 +12,10 @@ pub(crate) fn usage_line(alloc: Global) -> Result<String, AllocError> {
         .subcommand(Command::new(alloc, "run").arg(kind)?)?
         .subcommand(Command::new(alloc, "make").arg(made)?)?
         .subcommand(Command::new(alloc, "try").arg(tried)?.arg(tried_kind)?)?
+        .subcommand(Command::new(alloc, "capture"))?
         .subcommand(Command::new(alloc, "list"))?
         .subcommand_required(true)
-        .subcommand_value_name("run [--kind K] | make N | try N [--kind K] | list");
+        .subcommand_value_name("run [--kind K] | make N | try N [--kind K] | capture | list");
     let usage = program.render_usage()?;
     let first = usage.as_str().lines().next().unwrap_or("");
     String::from_str(alloc, first)

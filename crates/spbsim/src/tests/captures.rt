@@ -1,6 +1,8 @@
-//! Captures that are listed. What is no capture at all stands in the crate `cases`.
-use super::{check_call, sink, source_of};
+//! Captures that are written, byte for byte, and captures that are listed. Which frames are delivered, and what is no
+//! capture at all, stands in the crate `cases`.
+use super::{TWO, are_equal, check_call, ending, sink, source, source_of, words_of};
 use crate::Status;
+use spb_outside::{MemorySink, MemorySource};
 use spb_run::Refusal;
 use std::alloc::Global;
 use std::process::Abort;
@@ -86,5 +88,86 @@ fn a_front_is_written_where_a_write_fails(rt: HostRuntime) {
         sink,
         Status::WriteFault,
         "f 0 53 0",
+    );
+}
+
+/// A header, and the packet of the first hello of the bridge A.
+const DELIVERED: &[u8] = b"\
+    \xa1\xb2\xc3\xd4\x00\x02\x00\x04\x00\x00\x00\x00\x00\x00\x00\x00\x00\x00\xff\xff\x00\x00\x00\x01\
+    \x00\x00\x00\x00\x00\x00\x00\x00\x00\x00\x00\x35\x00\x00\x00\x35\
+    \x01\x80\xc2\x00\x00\x14\x02\x00\x00\x00\x00\x01\x00\x27\xfe\xfe\x03\
+    \x83\x14\x01\x00\x11\x01\x00\x00\x01\x02\x00\x00\x00\x00\x01\x00\x03\x00\x24\x01\
+    \x01\x04\x03\x49\x00\x01\x81\x01\xc1\xf0\x05\x02\x00\x00\x00\x01";
+
+/// The lines that follow two bridges, of which one says hello.
+const HELLO: &str = "tick A\ndeliver L1 ab\n";
+
+/// Asserts how a script that is captured ends, and which bytes it writes.
+fn check_capture(
+    rt: &impl Abort,
+    alloc: Global,
+    mut source: MemorySource,
+    mut sink: MemorySink,
+    status: Status,
+    bytes: &[u8],
+) {
+    let words = words_of(rt, alloc, "capture");
+    let found = ending(rt, alloc, &words, &mut source, &mut sink);
+    are_equal(rt, &found, &status);
+    assert!(*rt; sink.has_taken(bytes));
+}
+
+/// The script of two bridges, of which one says hello.
+fn saying_hello(rt: &impl Abort, alloc: Global) -> String {
+    let mut script = String::from_str(alloc, TWO).expect(rt, "out of memory");
+    script.push_str(HELLO).expect(rt, "out of memory");
+    script
+}
+
+#[test]
+fn a_frame_that_is_delivered_is_captured(rt: HostRuntime) {
+    let alloc = rt.alloc();
+    let script = saying_hello(&rt, alloc);
+    let source = source(&rt, alloc, script.as_str(), 40, 0);
+    let sink = sink(&rt, alloc, 8, 0);
+    check_capture(&rt, alloc, source, sink, Status::Done, DELIVERED);
+}
+
+#[test]
+fn no_line_leaves_the_header(rt: HostRuntime) {
+    let alloc = rt.alloc();
+    let source = source(&rt, alloc, "", 40, 0);
+    let sink = sink(&rt, alloc, 8, 0);
+    check_capture(&rt, alloc, source, sink, Status::Done, &DELIVERED[..24]);
+}
+
+#[test]
+fn the_header_is_written_before_anything_is_read(rt: HostRuntime) {
+    let alloc = rt.alloc();
+    let source = source(&rt, alloc, TWO, 40, 1);
+    let sink = sink(&rt, alloc, 8, 0);
+    check_capture(
+        &rt,
+        alloc,
+        source,
+        sink,
+        Status::ReadFault,
+        &DELIVERED[..24],
+    );
+}
+
+#[test]
+fn a_front_of_a_capture_is_written_where_a_write_fails(rt: HostRuntime) {
+    let alloc = rt.alloc();
+    let script = saying_hello(&rt, alloc);
+    let source = source(&rt, alloc, script.as_str(), 40, 0);
+    let sink = sink(&rt, alloc, 8, 5);
+    check_capture(
+        &rt,
+        alloc,
+        source,
+        sink,
+        Status::WriteFault,
+        &DELIVERED[..32],
     );
 }

@@ -88,6 +88,6 @@ fn each_status_has_its_number_and_its_message(rt: HostRuntime) {
 #[test]
 fn the_usage_names_each_form(rt: HostRuntime) {
     let line = usage_line(rt.alloc()).expect(&rt, "out of memory");
-    let text = "Usage: spbsim <run [--kind K] | make N | try N [--kind K] | list>";
+    let text = "Usage: spbsim <run [--kind K] | make N | try N [--kind K] | capture | list>";
     are_equal(&rt, &line.as_str(), &text);
 }

@@ -3,7 +3,7 @@ use Rattle.std.proofs.lemmas.Bool.Decides.{nat_tests}
 use Rattle.std.proofs.lemmas.List.{take_rest}
 use Rattle.std.proofs.lemmas.Result.{err_from_is_err_and}
 use Rattle.hex.specs.Hex.{encode_lower}
-use Rattle.capture_list.proofs.Putting.{Putting, Putting-nil, Putting-more, Putting-all, Putting-front, Putting-stopped}
+use Rattle.script_run.proofs.Putting.{Putting, Putting-nil, Putting-more, Putting-all, Putting-front, Putting-stopped}
 use Rattle.capture_list.proofs.Telling.{digits_split, digits_none}
 use Rattle.capture_list.proofs.lines.put_digits.Goals as goal
 

@@ -1,6 +1,6 @@
 use Rattle.std.proofs.Common.{length}
 use Rattle.hex.specs.Hex.{encode_lower}
-use Rattle.capture_list.proofs.Putting.{Putting}
+use Rattle.script_run.proofs.Putting.{Putting}
 use Rattle.capture_list.proofs.lines.put_digits.Given as goal
 
 abbrev pub invariant-loop-rest : goal.invariant-loop-rest

@@ -2,7 +2,7 @@ use Rattle.std.proofs.Common.{◌++◌, ◌∙◌}
 use Rattle.std.proofs.lemmas.Result.{err_from_is_err_and}
 use Rattle.frame_capture.specs.declared.delivered.Delivered.{Delivered}
 use Rattle.capture_list.specs.Listing.{frame_line}
-use Rattle.capture_list.proofs.Putting.{Front-nil}
+use Rattle.script_run.proofs.Putting.{Front-nil}
 use Rattle.capture_list.proofs.LinePuts.{line_put, front_head, front_frame, front_end}
 use Rattle.capture_list.proofs.lines.put_line.Goals as goal
 

@@ -7,8 +7,8 @@ use Rattle.frame_capture.specs.declared.reading.Packet.{Packet}
 use Rattle.script_run.specs.declared.refusal.Refusal.TheVariants.{Capture}
 use Rattle.script_run.specs.declared.status.Status.TheVariants.{Refused}
 use Rattle.capture_list.specs.Listing.{Listing, frame_line, refused_line, told}
-use Rattle.capture_list.specs.Puts.{Puts}
-use Rattle.capture_list.proofs.Putting.{Putting, Putting-nil, Putting-more, Putting-last, Putting-all, Putting-front}
+use Rattle.script_run.specs.Puts.{Puts}
+use Rattle.script_run.proofs.Putting.{Putting, Putting-nil, Putting-more, Putting-last, Putting-all, Putting-front}
 use Rattle.capture_list.proofs.Telling.{goes_on, goes_on_to, nothing_on, cut_off}
 use Rattle.capture_list.proofs.listing.put_packets.Goals as goal
 

@@ -1,7 +1,7 @@
 use Rattle.std.proofs.Common.{◌≡◌, ◌≤◌, ◌-◌, length, drop}
 use Rattle.frame_capture.specs.Capture.{listed}
 use Rattle.capture_list.specs.Listing.{told}
-use Rattle.capture_list.proofs.Putting.{Putting}
+use Rattle.script_run.proofs.Putting.{Putting}
 use Rattle.capture_list.proofs.listing.put_packets.Given as goal
 
 abbrev pub invariant-loop-packet : goal.invariant-loop-packet

@@ -4,8 +4,8 @@ use Rattle.std.proofs.lemmas.Result.{err_from_is_err_and}
 use Rattle.frame_capture.specs.Capture.{header_of}
 use Rattle.script_run.specs.Output.{AppendsFront}
 use Rattle.capture_list.specs.Listing.{listing_by}
-use Rattle.capture_list.specs.Puts.{Puts}
-use Rattle.capture_list.proofs.Putting.{Puts-end, Front-end}
+use Rattle.script_run.specs.Puts.{Puts}
+use Rattle.script_run.proofs.Putting.{Puts-end, Front-end}
 use Rattle.capture_list.proofs.listing.write_listing.Goals as goal
 
 pub returns-in_err-status-clause-front : goal.returns-in_err-status-clause-front

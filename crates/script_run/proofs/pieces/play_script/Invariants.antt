@@ -8,7 +8,7 @@ use Rattle.script_run.proofs.pieces.play_script.Given as goal
 abbrev pub invariant-loop-cutter : goal.invariant-loop-cutter
 invariant-loop-cutter g l =
     let shown = g.B.Bridge.shown in
-    Reading g.S.Source.left g.S.Source.faults g.S.Source.is_reliable g.K.Sink.holds g.K.Sink.faults g.K.Sink.is_reliable
+    Reading l.voice g.S.Source.left g.S.Source.faults g.S.Source.is_reliable g.K.Sink.holds g.K.Sink.faults g.K.Sink.is_reliable
     (state_of shown l.fn.network) (state_of shown l.network) l.number l.cutter l.fn.source l.source l.fn.sink l.sink l.read
     × (most_piece ≤ length l.buffer) × IsAlive shown l.network
 

@@ -5,8 +5,9 @@ use Rattle.network_model.specs.State.{State}
 use Rattle.network_model.proofs.Convergence.{counted_quiet_is_converged}
 use Rattle.script_run.specs.declared.status.Status.{Status}
 use Rattle.script_run.specs.declared.status.Status.TheVariants.{Done, Refused, Usage, NoMemory, ReadFault, WriteFault, TooLong}
+use Rattle.script_run.specs.declared.voice.Voice.TheVariants.{Answers}
 use Rattle.script_run.specs.Run.{is_written, is_cut}
-use Rattle.script_run.specs.Text.{fate_of}
+use Rattle.script_run.specs.Text.{said_in, fate_of}
 use Rattle.script_run.proofs.Commands.{script_apart, script_once}
 use Rattle.script_run.proofs.Completing.{is_fate, is_text, is_end, is_complete}
 use Rattle.script_run.proofs.Convergence.{script_is_converged}
@@ -45,10 +46,10 @@ returns-in-Ok-clause-runs g c =
     let nothing : old.accepted ≡ 0 = ap (λ (s : State). s.accepted) c.requires.opening in
     let counted = sound.counted (omega (arith, nothing, c.in-Ok.ensures.few)) in
     record {
-      fate = λ w. is_fate g.K.Sink.holds left status _ _ _ _ c.in-Ok.ensures.ends;
-      text = λ w. is_text g.K.Sink.holds left status _ _ _ _ c.in-Ok.ensures.ends;
+      fate = λ w. is_fate g.K.Sink.holds (said_in Answers) left status _ _ _ _ c.in-Ok.ensures.ends;
+      text = λ w. is_text g.K.Sink.holds (said_in Answers) left status _ _ _ _ c.in-Ok.ensures.ends;
       ended = λ e. c.play_script.ensures.ended (c.in-Ok.is ∙ ap Ok e);
-      state = λ e. is_end g.K.Sink.holds left status _ _ _ _ c.in-Ok.ensures.ends;
+      state = λ e. is_end g.K.Sink.holds (said_in Answers) left status _ _ _ _ c.in-Ok.ensures.ends;
       sound = λ e. sound.state;
       counted = λ e. counted;
       converged = λ e. counted_quiet_is_converged (state_of g.B.Bridge.shown c.play_script.new.network) sound.state counted;
@@ -59,7 +60,7 @@ returns-in-Ok-clause-runs g c =
       whole = λ failed. read_one status own failed;
       prompt = c.play_script.ensures.prompt;
       reads = record { read = reads.read; consumed = reads.consumed; few = reads.few; soon = λ n w. reads.soon n (w.0, c.in-Ok.is ∙ ap Ok w.1) };
-      complete = λ source sink. is_complete g.K.Sink.holds left status _ _ _ _ c.in-Ok.ensures.ends;
+      complete = λ source sink. is_complete g.K.Sink.holds (said_in Answers) left status _ _ _ _ c.in-Ok.ensures.ends;
     }
 
 pub returns-in-Err-Read-clause-runs : goal.returns-in-Err-Read-clause-runs

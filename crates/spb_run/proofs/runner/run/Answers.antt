@@ -1,13 +1,15 @@
 use Rattle.std.proofs.Common.{◌≡◌, ◌≢◌, ◌≤◌, ◌⊎◌, inl, inr, ℕ, List, length, Option, Some, refl, sym, ap, ◌∙◌, subst, ⊎_elim}
 use Rattle.std.specs.Io.KnownBytes.{Consumes}
 use Rattle.network_model.specs.declared.kind_rule.KindRule.{KindRule}
+use Rattle.network_model.specs.declared.kind_rule.KindRule.TheVariants.{Plain}
 use Rattle.spb_network.specs.Network.{state_of}
 use Rattle.network_model.specs.State.{State}
 use Rattle.script_run.specs.declared.status.Status.{Status}
 use Rattle.script_run.specs.declared.status.Status.TheVariants.{NoMemory, WriteFault}
 use Rattle.spb_run.specs.declared.words.Form.{Form}
-use Rattle.spb_run.specs.declared.words.Form.TheVariants.{Run, Try, Listing}
+use Rattle.spb_run.specs.declared.words.Form.TheVariants.{Run, Try, Listing, Capture}
 use Rattle.spb_run.specs.Words.{most_read}
+use Rattle.script_run.specs.Capturing.{Captures}
 use Rattle.script_run.specs.Running.{Runs}
 use Rattle.script_run.specs.States.{ruled}
 use Rattle.made_runs.specs.Trying.{Tries}
@@ -68,3 +70,16 @@ returns-in-Some-Try-clause-tries g c bridges rule e =
       complete = λ h. unless_written c.try_script.result _ tried.ends (tried.reliable h);
       done = tried.done;
     }))
+
+pub returns-in-Some-Capture-clause-captures : goal.returns-in-Some-Capture-clause-captures
+returns-in-Some-Capture-clause-captures g c e =
+    let state = state_of g.B.Bridge.shown in
+    let begins : state c.set_rule-in-Some-Capture.new.self ≡ ruled Plain (state c.args.network.now) = c.set_rule-in-Some-Capture.ensures.state in
+    subst (λ (s : State). Captures g.S.Source.left g.S.Source.is_reliable g.K.Sink.holds g.K.Sink.is_reliable c.capture_script.result
+    s (state c.capture_script.new.network) c.args.source.now c.capture_script.new.source c.args.sink.now c.capture_script.new.sink) begins c.capture_script.ensures.captures
+
+pub returns-in-Some-Capture-clause-few : goal.returns-in-Some-Capture-clause-few
+returns-in-Some-Capture-clause-few g c =
+    let reads = c.capture_script.ensures.captures.reads in
+    few_read _ Capture (g.S.Source.left c.args.source.now) (g.S.Source.left c.capture_script.new.source) reads.read
+    (sym c.form_of.ensures.form ∙ c.in-Some-Capture.is ∙ ap Some c.in-Some-Capture.field-0-is) reads.consumed reads.few

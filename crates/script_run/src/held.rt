@@ -3,9 +3,9 @@ ghost use Rattle.std.specs.Prelude.{◌≡◌, ◌≢◌, ◌≤◌, ◌++◌, [
 ghost use Rattle.std.specs.Io.KnownBytes.{Appends};
 ghost use Rattle.spb_outside.specs.Faults.{Rose};
 ghost use Rattle.script_run.specs.Output.{AppendsFront};
-ghost use Rattle.capture_list.specs.Puts.{Puts};
+ghost use Rattle.script_run.specs.Puts.{Puts};
 
-use script_run::write_all;
+use crate::output::write_all;
 use spb_outside::{Sink, WriteError};
 
 /// How many bytes are held before they are written.
@@ -27,7 +27,7 @@ fn flush<K: Sink>(sink: &mut K, held: &mut Vec<u8>) -> Result<(), WriteError>
 }
 
 /// Writes the bytes that are held, if they are many.
-fn make_room<K: Sink>(sink: &mut K, held: &mut Vec<u8>) -> Result<(), WriteError>
+pub(crate) fn make_room<K: Sink>(sink: &mut K, held: &mut Vec<u8>) -> Result<(), WriteError>
     ensures all { OnOk result (Puts (K.holds sink.old) (K.holds sink.new) held.old.items held.new.items []) }
     ensures front { OnErr result (AppendsFront (K.holds sink.old) (K.holds sink.new) held.old.items) }
     ensures count { K.faults sink.old ≤ K.faults sink.new }
@@ -43,7 +43,7 @@ fn make_room<K: Sink>(sink: &mut K, held: &mut Vec<u8>) -> Result<(), WriteError
 }
 
 /// Puts bytes behind those that are held. After an error a front of all of them is written.
-pub(crate) fn put<K: Sink>(sink: &mut K, held: &mut Vec<u8>, bytes: &[u8]) -> Result<(), WriteError>
+pub fn put<K: Sink>(sink: &mut K, held: &mut Vec<u8>, bytes: &[u8]) -> Result<(), WriteError>
     ensures all { OnOk result (Puts (K.holds sink.old) (K.holds sink.new) held.old.items held.new.items bytes.now) }
     ensures front { OnErr result (AppendsFront (K.holds sink.old) (K.holds sink.new)
         (held.old.items ++ bytes.now)) }

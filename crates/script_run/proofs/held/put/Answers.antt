@@ -1,7 +1,7 @@
 use Rattle.std.proofs.Common.{◌++◌, refl}
 use Rattle.std.proofs.lemmas.Result.{err_from_is_err_and}
-use Rattle.capture_list.proofs.Putting.{Puts-held, Front-longer, Front-put}
-use Rattle.capture_list.proofs.held.put.Goals as goal
+use Rattle.script_run.proofs.Putting.{Puts-held, Front-longer, Front-put}
+use Rattle.script_run.proofs.held.put.Goals as goal
 
 pub returns-in_err-make_room-clause-front : goal.returns-in_err-make_room-clause-front
 returns-in_err-make_room-clause-front g c =

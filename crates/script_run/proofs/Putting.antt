@@ -3,7 +3,7 @@ use Rattle.std.proofs.Common.{◌≡◌, ℕ, ◌≤◌, Bool, List, [], ◌++�
 use Rattle.std.specs.Io.KnownBytes.{Appends}
 use Rattle.std.proofs.KnownBytes.{Appends-nil, Appends-trans}
 use Rattle.script_run.specs.Output.{AppendsFront}
-use Rattle.capture_list.specs.Puts.{Puts}
+use Rattle.script_run.specs.Puts.{Puts}
 
 pub Puts-nil : (a : Option (List ℕ)) (held : List ℕ) → Puts a a held held []
 Puts-nil a held = record { written = []; whole = append-nil held; grown = Appends-nil a }
