@@ -1,4 +1,4 @@
--- What a machine says of itself, and what originating makes of it.
+-- What a machine says of itself, and what it makes of its own LSPs.
 use Rattle.std.proofs.Common.{◌≡◌, ◌≤◌, ℕ, zero, suc, Bool, List, [], ◌∷◌, map, length, refl, sym, ap, ◌∙◌, subst, Some, None, arith}
 use Rattle.std.specs.Prelude.{slice_get}
 use Rattle.std.specs.Option.{option_and_then}
@@ -9,15 +9,15 @@ use Rattle.flooding.specs.declared.own.Own.{Own}
 use Rattle.flooding.specs.Room.{most_others, others}
 use Rattle.flooding.specs.Hearing.{Holding, HasFewOthers}
 use Rattle.flooding.specs.Placing.{holding}
-use Rattle.flooding.specs.Origination.{originated}
+use Rattle.flooding.specs.Starting.{started_all}
 use Rattle.flooding.specs.Settling.{Test, says, is_new, settled_by, settled, kept_fresh}
 use Rattle.flooding.specs.Own.{HaveBytes, HasFirstNumbers}
-use Rattle.flooding.proofs.Brought.{originated_leaves_own}
+use Rattle.flooding.proofs.Begun.{all_own}
 use Rattle.flooding.proofs.Settled.{settling_leaves_own}
 use Rattle.spb_content.specs.Local.{content_bytes}
 use Rattle.bridge_api.specs.declared.port.BridgePort.{BridgePort}
 use Rattle.bridge_api.specs.View.{BridgeView, up_from, up_ports}
-use Rattle.bridge_api.specs.Own.{neighbours_from, member_of, body_of, own_of, holding_of, with_holding, originating, originated_if_changed}
+use Rattle.bridge_api.specs.Own.{neighbours_from, member_of, body_of, own_of, holding_of, with_holding, after_begin, originated_if_changed}
 use Rattle.bridge_api.specs.Ticking.{refreshed}
 use Rattle.bridge_api.proofs.Changes.{settling}
 use Rattle.bridge_api.proofs.OneNumber.{one_body}
@@ -77,13 +77,13 @@ ready_can m ready = record { few = ready.sound.few; room = ready.sound.database.
 pub after_same : (v w : BridgeView) (m : Machine) → v ≡ w → IsAfter v m → IsAfter w m
 after_same v w m same is = record { view = is.view ∙ same; current = is.current }
 
--- ---- originating
+-- ---- the own LSPs begin
 
-pub originated_after : (m : Machine) (up : PortSet) (db : Lsps) (own : Own) → IsCurrent m → up ≡ up_from 1 m.ports.items → holding db own ≡ originated up 0 (holding m.db m.own) → IsAfter (originating (view_of m)) (record m { db = db; own = own })
-originated_after m up db own current is_up is =
+pub begun_after : (m : Machine) (last : List ℕ) (db : Lsps) (own : Own) → IsCurrent m → holding db own ≡ started_all last 0 (holding m.db m.own) → IsAfter (after_begin last (view_of m)) (record m { db = db; own = own })
+begun_after m last db own current is =
     let v : BridgeView = view_of m in
-    let whole : holding db own ≡ originated (up_ports v) 0 (holding_of v) = is ∙ (λ i. originated (is_up i) 0 (holding m.db (current.own i))) in
-    let leaves = originated_leaves_own up 0 (holding m.db m.own) in
+    let whole : holding db own ≡ started_all last 0 (holding_of v) = is ∙ (λ i. started_all last 0 (holding m.db (current.own i))) in
+    let leaves = all_own last 0 (holding m.db m.own) in
     record {
       view = ap (λ (h : Holding). with_holding h v) whole;
       current = current_with m m.ports db own current (ap (λ (h : Holding). h.own.system) is ∙ leaves.0) (ap (λ (h : Holding). h.own.bodies) is ∙ leaves.1) refl (alike_refl m.id.system 1 m.ports.items);

@@ -1,6 +1,7 @@
 //! What a configured bridge keeps, and its own LSP.
 ghost use Rattle.std.specs.Prelude.{◌≡◌, ◌≤◌, true, false, length, IfOk, OnOk};
 ghost use Rattle.spb_content.specs.Local.{IsLocal, content_bytes};
+ghost use Rattle.flooding.specs.Own.{own_numbers};
 ghost use Rattle.flooding.specs.Room.{most_others, others};
 ghost use Rattle.flooding.specs.Placing.{holding};
 ghost use Rattle.flooding.specs.Settling.{is_said};
@@ -15,7 +16,7 @@ use crate::hello::hellos_of;
 use crate::ports::{attached_members, bare_ports, neighbours_at, up_ports};
 use bridge_api::{BridgeConfig, BridgePort, DropReason, Drops};
 use customer_learning::Learned;
-use flooding::{Own, keep_fresh, originate, settle};
+use flooding::{Own, begin_all, keep_fresh, settle};
 use forwarding::Tenant;
 use lsdb::Database;
 use shared_frames::Frame;
@@ -82,14 +83,14 @@ impl Machine {
         }
     }
 
-    /// The machine of a whole configuration, with no carrier. It has originated its own LSP.
+    /// The machine of a whole configuration, with no carrier. Its own LSPs have begun.
     pub(crate) fn configured(alloc: Global, config: &BridgeConfig) -> Result<Self, NoMemory>
         requires { config_specs.IsWhole config.now }
         ensures { IfOk result (IsAfter (config_specs.configured config.now)) }
     {
         let mut machine = Machine::bare(alloc, config)?;
         machine.renew_body()?;
-        machine.originate()?;
+        machine.begin(config.last.as_slice())?;
         Ok(machine)
     }
 
@@ -203,13 +204,14 @@ impl Machine {
         self.drops.raise(reason);
     }
 
-    /// Originates (ISO/IEC 10589, 7.3.7).
-    pub(crate) fn originate(&mut self) -> Result<(), NoMemory>
+    /// Begins each own LSP above the number that it had in the life before (ISO/IEC 10589, 7.3.16.1).
+    fn begin(&mut self, last: &[u32]) -> Result<(), NoMemory>
+        requires long { length last.now ≡ own_numbers }
         requires room { others self.old.id.system self.old.db ≤ most_others }
         requires current { IsCurrent self.old }
-        ensures { OnOk result (IsAfter (api.originating (view_of self.old)) self.new) }
+        ensures { OnOk result (IsAfter (api.after_begin last.now (view_of self.old)) self.new) }
     {
-        originate(self.alloc, &mut self.db, self.up, &mut self.own, 0)
+        begin_all(self.alloc, &mut self.db, &mut self.own, last)
     }
 
     /// Originates where the own LSP that is held says something else than the bridge.

@@ -3,7 +3,7 @@ ghost use Rattle.std.specs.Prelude.{◌≡◌, ◌≤◌, true, false, length, I
 ghost use Rattle.bridge_api.specs.Config.{IsMetric, IsWhole};
 
 use adjacency::Adjacency;
-use bridge_api::{Bridge, BridgeConfig, Outbox};
+use bridge_api::{Bridge, BridgeConfig, Outbox, first_life};
 use lsdb::Version;
 use spb_types::{Attachment, BridgeId, Isid, Mac, NoMemory, Seq, SourceId, SystemId, Vid, VidPlan};
 use std::alloc::Global;
@@ -29,23 +29,24 @@ pub(crate) use boxed;
 
 /// The configuration of a bridge with one port. Its address ends in this number, which is its source too.
 macro_rules! one_port {
-    ($last:expr, $vids:expr, $metrics:expr, $attached:expr) => {
+    ($number:expr, $vids:expr, $metrics:expr, $attached:expr, $last:expr) => {
         BridgeConfig {
             id: BridgeId {
                 priority: 32768,
                 system: SystemId {
                     mac: Mac {
-                        bytes: [2, 0, 0, 0, 0, $last],
+                        bytes: [2, 0, 0, 0, 0, $number],
                     },
                 },
             },
             source: SourceId {
-                value: u32::from($last),
+                value: u32::from($number),
             },
             ports: 1,
             vids: $vids,
             metrics: $metrics,
             attached: $attached,
+            last: $last,
         }
     };
 }
@@ -57,7 +58,8 @@ fn config(alloc: Global, last: u8) -> Result<BridgeConfig, NoMemory>
 {
     let mut metrics = Seq::new(alloc);
     metrics.push(10)?;
-    let config = one_port!(last, Seq::new(alloc), metrics, Seq::new(alloc));
+    let lives = first_life(alloc)?;
+    let config = one_port!(last, Seq::new(alloc), metrics, Seq::new(alloc), lives);
     Ok(config)
 }
 
@@ -73,7 +75,8 @@ fn config_in_vid_10(alloc: Global, last: u8) -> Result<BridgeConfig, NoMemory>
         vid: Vid { value: 10 },
         ect: 1,
     })?;
-    let config = one_port!(last, vids, metrics, Seq::new(alloc));
+    let lives = first_life(alloc)?;
+    let config = one_port!(last, vids, metrics, Seq::new(alloc), lives);
     Ok(config)
 }
 
@@ -85,7 +88,8 @@ fn config_of_two_ports(alloc: Global, last: u8) -> Result<BridgeConfig, NoMemory
     let mut metrics = Seq::new(alloc);
     metrics.push(10)?;
     metrics.push(10)?;
-    let mut config = one_port!(last, Seq::new(alloc), metrics, Seq::new(alloc));
+    let lives = first_life(alloc)?;
+    let mut config = one_port!(last, Seq::new(alloc), metrics, Seq::new(alloc), lives);
     config.ports = 2;
     Ok(config)
 }
@@ -107,7 +111,8 @@ fn config_of_member(alloc: Global, last: u8) -> Result<BridgeConfig, NoMemory>
         isid: Isid { value: 100 },
         vid,
     })?;
-    let mut config = one_port!(last, vids, metrics, attached);
+    let lives = first_life(alloc)?;
+    let mut config = one_port!(last, vids, metrics, attached, lives);
     config.ports = 2;
     Ok(config)
 }

@@ -1,14 +1,20 @@
 -- The laws of a step of a bridge, on which what is sound of a network rests.
 use Rattle.itag_frames.proofs.ControlLaws.{control_again}
+<<<<<<< HEAD
 use Rattle.bridge_api.specs.Laws.{ConfiguredIsSound, ConfiguredHasNoCarrier, StepsStaySound, StepsKeepBridge, StepsKeepCarrier, StepsKeepNeighbours, SentIsSound, OneHello, HellosAreHeard, UpPortsAreUp, StepsCarryDatabase, ConfiguredHoldsOwn}
 use Rattle.bridge_laws.specs.Brief.{SentIsBrief}
+=======
+use Rattle.bridge_api.specs.Laws.{ConfiguredIsSound, ConfiguredHasNoCarrier, StepsStaySound, StepsKeepBridge, StepsKeepCarrier, StepsKeepNeighbours, SentIsSound, OneHello, HellosAreHeard, UpPortsAreUp, StepsCarryDatabase}
+>>>>>>> b855bcfed9637a3a68987a84bbc6435ca366e4ed
 use Rattle.bridge_laws.specs.Counting.{StepsHoldIds, StepsLearnVersions, StepsAnswer, StepsOriginate, StepsDontSpend, ConfiguredIsFar}
 use Rattle.bridge_api.specs.Time.{SecondsAge}
 use Rattle.bridge_laws.proofs.Answering as answering
 use Rattle.bridge_laws.proofs.Brief as brief
 use Rattle.bridge_api.proofs.Certified as certified
 use Rattle.bridge_api.proofs.Carriers as carriers
-use Rattle.bridge_api.proofs.DataSteps as stored
+use Rattle.bridge_api.specs.declared.config.BridgeConfig.{BridgeConfig}
+use Rattle.bridge_api.specs.Config.{first_life, configured}
+use Rattle.bridge_api.proofs.Configured as begun
 use Rattle.bridge_laws.proofs.Frames as frames
 use Rattle.bridge_laws.proofs.HeldIds as ids
 use Rattle.bridge_api.proofs.Hellos as hellos
@@ -78,5 +84,5 @@ steps_dont_spend = originating.steps_dont_spend
 pub configured_is_far : ConfiguredIsFar
 configured_is_far = originating.configured_is_far
 
-pub configured_holds_own : ConfiguredHoldsOwn
-configured_holds_own = stored.configured_holds_own
+pub configured_holds_own : (c : BridgeConfig) → c.last ≡ first_life → begun.HoldsOwnAlone c (configured c)
+configured_holds_own = begun.configured_holds_own

@@ -99,9 +99,9 @@ first_own w b =
     let c : BridgeConfig = config_of w b in
     record {
       id = (configured_still c).id;
-      fresh = (configured_holds_few c).unspent;
-      own = (configured_holds_few c).number;
-      alone = λ id other. (configured_holds_own c).alone id (λ e. other (e ∙ ap (λ (x : BridgeId). own_id x.system) (sym (configured_still c).id)));
+      fresh = (configured_holds_few c refl).unspent;
+      own = (configured_holds_few c refl).number;
+      alone = λ id other. (configured_holds_own c refl).alone id (λ e. other (e ∙ ap (λ (x : BridgeId). own_id x.system) (sym (configured_still c).id)));
     }
 
 boxed_counted : (s : State) (n : ℕ) (name : List ℕ) (priority : ℕ) (system : Mac) (source : SourceId) (ports : ℕ) (o : Option ℕ) → IsSoundState s → IsCountedBy n s → bridge_refusal s.world name priority system source ports ≡ None → IsCountedBy (n + 2) (boxed s name (bridge_of priority system source ports) o)

@@ -25,7 +25,7 @@ use Rattle.spb_types.specs.declared.link.Dir.TheVariants.{Ab, Ba}
 use Rattle.bridge_api.specs.declared.config.BridgeConfig.{BridgeConfig}
 use Rattle.bridge_api.specs.declared.port.BridgePort.{BridgePort}
 use Rattle.bridge_api.specs.View.{BridgeView, port_in, is_up_in, is_up_at, up_ports, has_flags}
-use Rattle.bridge_api.specs.Config.{port_without_carrier, configured}
+use Rattle.bridge_api.specs.Config.{first_life, port_without_carrier, configured}
 use Rattle.bridge_api.specs.Hearing.{with_carrier_at, with_carrier}
 use Rattle.bridge_api.specs.Step.{Input, carrier, metric, step}
 use Rattle.bridge_api.specs.Laws.{IsSoundView, claims_of}
@@ -57,14 +57,14 @@ record HoldsOwn (x : SystemId) (v : BridgeView) : Type 0 where
   system : v.id.system ≡ x
   held : (id : LspId) (e : Entry) → get v.database id ≡ Some e → id.system ≡ x
 
-configured_own : (c : BridgeConfig) → HoldsOwn c.id.system (configured c)
-configured_own c = record { system = ap (λ (id : BridgeId). id.system) (configured_still c).id; held = held }
+configured_own : (c : BridgeConfig) → c.last ≡ first_life → HoldsOwn c.id.system (configured c)
+configured_own c first = record { system = ap (λ (id : BridgeId). id.system) (configured_still c).id; held = held }
   where
     held : (id : LspId) (e : Entry) → get (configured c).database id ≡ Some e → id.system ≡ c.id.system
     held id e at =
         elim (same_or_not id (own_id c.id.system)) [
           | inl same ↦ ap (λ (y : LspId). y.system) same
-          | inr other ↦ let none : get (configured c).database id ≡ None = (configured_holds_own c).alone id other in absurd cc
+          | inr other ↦ let none : get (configured c).database id ≡ None = (configured_holds_own c first).alone id other in absurd cc
         ]
 
 step_own : (x : SystemId) (input : Input) (v : BridgeView) → ((id : LspId) (a : Version) → IsClaimed (claims_of input) id a → ⊥) → HoldsOwn x v → HoldsOwn x (step input v)
@@ -101,7 +101,7 @@ gone_own : (n : ℕ) → HoldsOwn (config n).id.system (gone n)
 gone_own n =
     step_own (config n).id.system (carrier 1 false) (with_first_carrier (config n) 10) (λ id a none. none)
     (step_own (config n).id.system (carrier 1 true) (step (metric 1 10) (configured (config n))) (λ id a none. none)
-    (step_own (config n).id.system (metric 1 10) (configured (config n)) (λ id a none. none) (configured_own (config n))))
+    (step_own (config n).id.system (metric 1 10) (configured (config n)) (λ id a none. none) (configured_own (config n) refl)))
 
 -- a sound bridge whose only port has no carrier, and that holds LSPs of its own system alone
 record IsAlone (x : SystemId) (v : BridgeView) : Type 0 where

@@ -9,7 +9,8 @@ use Rattle.spb_types.specs.declared.link.Dir.TheVariants.{Ab, Ba}
 use Rattle.link_model.specs.declared.lanes.LaneId.{LaneId}
 use Rattle.bridge_api.specs.declared.config.BridgeConfig.{BridgeConfig}
 use Rattle.bridge_api.specs.View.{BridgeView}
-use Rattle.bridge_api.specs.Config.{IsMetric, IsWhole, configured}
+use Rattle.bridge_api.specs.Config.{IsMetric, IsWhole, first_life, configured}
+use Rattle.bridge_api.proofs.Configured.{first_life_long, first_life_low}
 use Rattle.bridge_api.specs.Laws.{IsSoundView, HasConfig}
 use Rattle.spb_world.specs.declared.declaration.DeclaredBridge.{DeclaredBridge}
 use Rattle.spb_world.specs.declared.declaration.DeclaredLink.{DeclaredLink}
@@ -74,7 +75,7 @@ near_port_metric s k l dir sound at =
 
 pub restart_whole : (s : State) (i : ℕ) (b : DeclaredBridge) → IsSoundState s → slice_get (things_of s.world.bridges) i ≡ Some b → IsWhole (restart_config s i b)
 restart_whole s i b sound at =
-    subst IsWhole (λ k. record { id = shown.id k; source = shown.source k; ports = b.ports; vids = shown.vids k; metrics = metrics; attached = attached k })
+    subst IsWhole (λ k. record { id = shown.id k; source = shown.source k; ports = b.ports; vids = shown.vids k; metrics = metrics; attached = attached k; last = first_life })
     (record {
       ports = All-get (λ (c : DeclaredBridge). c.ports ≤ 32) (things_of s.world.bridges) i b sound.world.ports at;
       metrics = length-port_metrics (links_of s) i b.ports 1;
@@ -88,6 +89,8 @@ restart_whole s i b sound at =
       each_attachment = has.each_attachment;
       attachments_apart = has.attachments_apart;
       few_isids = has.few_isids;
+      last = first_life_long;
+      each_last = first_life_low;
     })
   where
     some : (v : BridgeView) × (slice_get s.views i ≡ Some v) × (v.id ≡ b.bridge.id)

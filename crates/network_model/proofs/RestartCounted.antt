@@ -210,7 +210,7 @@ module _ (s : State) (i : ℕ) (b : DeclaredBridge) (c : BridgeConfig) (place a 
 
   -- it holds the own LSP alone, at number 1 at most
   alone : (id : LspId) → id ≢ own_id new.id.system → get new.database id ≡ None
-  alone id other = (configured_holds_own c).alone id (λ e. other (e ∙ ap (λ (x : BridgeId). own_id x.system) (sym (configured_still c).id)))
+  alone id other = (configured_holds_own c config.last).alone id (λ e. other (e ∙ ap (λ (x : BridgeId). own_id x.system) (sym (configured_still c).id)))
 
   held_new : (id : LspId) (e : Entry) → get new.database id ≡ Some e → IsOwnOf s.world.bridges id
   held_new id e held =
@@ -228,7 +228,7 @@ module _ (s : State) (i : ℕ) (b : DeclaredBridge) (c : BridgeConfig) (place a 
   number_new : (id : LspId) → number_of (version_at new.database id) ≤ 1
   number_new id =
       elim (same_or_not id (own_id new.id.system)) [
-        | inl same ↦ let equal = ap (λ (x : LspId). number_of (version_at new.database x)) same in omega (arith, equal, (configured_holds_few c).number)
+        | inl same ↦ let equal = ap (λ (x : LspId). number_of (version_at new.database x)) same in omega (arith, equal, (configured_holds_few c config.last).number)
         | inr other ↦ let none = ap (λ (o : Option Entry). number_of (version_in o)) (alone id other) in omega (arith, none)
       ]
 
@@ -268,7 +268,7 @@ module _ (s : State) (i : ℕ) (b : DeclaredBridge) (c : BridgeConfig) (place a 
   tracked_replaced = record {
     core = after;
     own = record {
-      fresh = All-set (λ (v : BridgeView). v.spent ≡ false) s.views i new tracked.own.fresh (configured_holds_few c).unspent;
+      fresh = All-set (λ (v : BridgeView). v.spent ≡ false) s.views i new tracked.own.fresh (configured_holds_few c config.last).unspent;
       held = λ j v id e at held.
           elim (got_set s.views i new j v at) [
             | inl here ↦ held_new id e (ap (λ (x : BridgeView). get x.database id) here.1 ∙ held)

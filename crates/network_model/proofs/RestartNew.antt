@@ -14,7 +14,7 @@ use Rattle.flooding.specs.Own.{own_id, IsOwnNumber}
 use Rattle.spb_types.specs.Places.{changed_at}
 use Rattle.bridge_api.specs.declared.config.BridgeConfig.{BridgeConfig}
 use Rattle.bridge_api.specs.View.{BridgeView}
-use Rattle.bridge_api.specs.Config.{IsWhole, configured}
+use Rattle.bridge_api.specs.Config.{first_life, IsWhole, configured}
 use Rattle.bridge_api.specs.Step as comes
 use Rattle.bridge_api.specs.Step.{carrier, step}
 use Rattle.bridge_api.specs.Laws.{IsSoundView}
@@ -175,11 +175,11 @@ begun_carriers : (ls : List DeclaredLink) (i : ℕ) (v : BridgeView) → IsBegun
 begun_carriers [] i v begun = begun
 begun_carriers (l ∷ ls) i v begun = begun_carriers ls i (if ends_here l i then step (carrier (end_here l i).port true) v else v) (begun_if v (end_here l i).port (ends_here l i) begun)
 
-begun_new : (c : BridgeConfig) → IsWhole c → IsBegun (configured c)
-begun_new c whole = record {
+begun_new : (c : BridgeConfig) → IsWhole c → c.last ≡ first_life → IsBegun (configured c)
+begun_new c whole first = record {
   sound = configured_is_sound c whole;
-  fresh = (configured_holds_few c).unspent;
-  number = ap (λ (o : Option Entry). number_of (version_in o)) (configured_holds_own c).own;
+  fresh = (configured_holds_few c first).unspent;
+  number = ap (λ (o : Option Entry). number_of (version_in o)) (configured_holds_own c first).own;
 }
 
 -- ---- the restart
@@ -187,8 +187,13 @@ begun_new c whole = record {
 new_in : (s : State) (i : ℕ) (b : DeclaredBridge) (place : ℕ) → IsSoundState s → slice_get (things_of s.world.bridges) i ≡ Some b → IsNew s (restarted_in s i (restart_config s i b) place) i b place
 new_in s i b place sound there = record {
   view = view_with_carriers (links_of s) 0 i u (configured c) from (λ m l at. (link_there s m l sound.world at).apart) (got_at t.views i (configured c) within);
+<<<<<<< HEAD
   number = (begun_carriers (links_of s) i (configured c) (begun_new c (restart_whole s i b sound there))).number;
   rack = ap (λ (x : List Spare × List ℕ). x.0) (kept_carriers_from n 0 i u) ∙ ap (λ (x : List Spare × List ℕ). remove x.0 place) (kept_cut_from n 0 i s);
+=======
+  number = (begun_carriers (links_of s) i (configured c) (begun_new c (restart_whole s i b sound there) refl)).number;
+  rack = rack_carriers_from n 0 i u ∙ ap (λ (rack : List Spare). remove rack place) (rack_cut_from n 0 i s);
+>>>>>>> b855bcfed9637a3a68987a84bbc6435ca366e4ed
   world = world-with_carriers_from n 0 i u ∙ world;
   ticks = ap (λ (x : List Spare × List ℕ). x.1) (kept_carriers_from n 0 i u) ∙ ap (λ (x : List Spare × List ℕ). x.1) (kept_cut_from n 0 i s);
 }

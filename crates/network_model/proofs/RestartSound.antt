@@ -15,7 +15,7 @@ use Rattle.adjacency.specs.Adjacency.{is_up, kept_in, neighbour_of}
 use Rattle.bridge_api.specs.declared.config.BridgeConfig.{BridgeConfig}
 use Rattle.bridge_api.specs.declared.port.BridgePort.{BridgePort}
 use Rattle.bridge_api.specs.View.{BridgeView, IsPort, port_at, neighbour_at, is_up_in, is_up_at, has_carrier_at}
-use Rattle.bridge_api.specs.Config.{IsWhole, bare, configured}
+use Rattle.bridge_api.specs.Config.{first_life, IsWhole, bare, configured}
 use Rattle.bridge_api.specs.Step as comes
 use Rattle.bridge_api.specs.Laws.{IsSoundView}
 use Rattle.bridge_api.proofs.Places.{got_at, got_beside}
@@ -83,6 +83,7 @@ pub record IsConfigOf (w : World) (i : ℕ) (b : DeclaredBridge) (c : BridgeConf
   pub vids : c.vids ≡ w.vids
   pub ports : c.ports ≡ b.ports
   pub attached : c.attached ≡ attached_at w i
+  pub last : c.last ≡ first_life
 
 far-turned : (dir : Dir) (l : DeclaredLink) → far_end (turned dir) l ≡ near_end dir l
 far-turned Ab l = refl
@@ -375,6 +376,7 @@ config_is s t i b sound world there = record {
   vids = ap (λ (w : World). w.vids) (sym world);
   ports = refl;
   attached = ap (λ (w : World). attached_at w i) (sym world);
+  last = refl;
 }
 
 given_before : (x y : Bool) → (if x then false else y) ≡ true → y ≡ true

@@ -10,7 +10,7 @@ use Rattle.adjacency.specs.Adjacency.{down, neighbour_of}
 use Rattle.bridge_api.specs.declared.config.BridgeConfig.{BridgeConfig}
 use Rattle.bridge_api.specs.declared.port.BridgePort.{BridgePort}
 use Rattle.bridge_api.specs.View.{BridgeView, port_in, neighbour_at, has_carrier_in, has_carrier_at}
-use Rattle.bridge_api.specs.Own.{originated_if_changed, originating}
+use Rattle.bridge_api.specs.Own.{originated_if_changed, after_begin}
 use Rattle.bridge_api.specs.Config.{port_without_carrier, bare, configured}
 use Rattle.bridge_api.specs.Hearing.{with_metric_at, with_metric, with_carrier_at, with_carrier}
 use Rattle.bridge_api.specs.Ticking.{later, expired, counts_lowered, refreshed, readied, hello_frame, sent_from, sent_in_tick}
@@ -22,20 +22,20 @@ use Rattle.network_model.proofs.BridgeLaws.{steps_keep_bridge, steps_keep_neighb
 use Rattle.network_model.proofs.SoundLane.{IsStill}
 
 -- it has the ids and the VIDs of its configuration
-originating_still : (v : BridgeView) → IsStill v (originating v)
-originating_still v = record { id = refl; source = refl; vids = refl }
+begun_still : (last : List ℕ) (v : BridgeView) → IsStill v (after_begin last v)
+begun_still last v = record { id = refl; source = refl; vids = refl }
 
 pub configured_still : (c : BridgeConfig) → IsStill (bare c) (configured c)
 unfolding configured
-configured_still c = originating_still (bare c)
+configured_still c = begun_still c.last (bare c)
 
 -- and has attached what this says
-originating_attached : (v : BridgeView) → (originating v).attached ≡ v.attached
-originating_attached v = refl
+begun_attached : (last : List ℕ) (v : BridgeView) → (after_begin last v).attached ≡ v.attached
+begun_attached last v = refl
 
 pub configured_attached : (c : BridgeConfig) → (configured c).attached ≡ c.attached
 unfolding configured
-configured_attached c = originating_attached (bare c)
+configured_attached c = begun_attached c.last (bare c)
 
 -- ---- the ports
 
@@ -49,10 +49,10 @@ refreshed_ports v = refl
 
 configured_ports : (c : BridgeConfig) → (configured c).ports ≡ map port_without_carrier c.metrics
 unfolding configured
-configured_ports c = originating_ports (bare c)
+configured_ports c = begun_ports c.last (bare c)
   where
-    originating_ports : (v : BridgeView) → (originating v).ports ≡ v.ports
-    originating_ports v = refl
+    begun_ports : (last : List ℕ) (v : BridgeView) → (after_begin last v).ports ≡ v.ports
+    begun_ports last v = refl
 
 -- a port with carrier and without a neighbour
 abbrev pub first_port : ℕ → BridgePort

@@ -11,7 +11,7 @@ use Rattle.spb_types.specs.declared.link.Dir.TheVariants.{Ab, Ba}
 use Rattle.adjacency.specs.Adjacency.{down}
 use Rattle.bridge_api.specs.declared.config.BridgeConfig.{BridgeConfig}
 use Rattle.bridge_api.specs.View.{BridgeView, metrics_of}
-use Rattle.bridge_api.specs.Config.{configured}
+use Rattle.bridge_api.specs.Config.{first_life, configured}
 use Rattle.bridge_api.specs.Parsing.{Parsed}
 use Rattle.bridge_api.specs.Step.{second, frame, carrier, metric, step, sent}
 use Rattle.bridge_api.specs.Laws.{IsSoundView, IsSent, claims_said, first_of}
@@ -217,8 +217,8 @@ module _ (v w : BridgeView) (with_first_carrier : HaveFirstCarriers v w) where
 starts_with_carrier : (c : BridgeConfig) (m n : ℕ) → c.metrics ≡ m ∷ [] → Starts c.id.system (down true) (with_first_carrier c n)
 starts_with_carrier c m n is = record { port = first_port n; rest = []; id = ap (λ (id : BridgeId). id.system) (first_still c n).id; is = first_ports c m n is; adjacency = refl }
 
-few_with_carrier : (c : BridgeConfig) (n : ℕ) → HoldsFew 3 (with_first_carrier c n)
-few_with_carrier c n = steps_hold_few 2 (carrier 1 true) (step (metric 1 n) (configured c)) (omega arith) tt (steps_hold_few 1 (metric 1 n) (configured c) (omega arith) tt (configured_holds_few c))
+few_with_carrier : (c : BridgeConfig) (n : ℕ) → c.last ≡ first_life → HoldsFew 3 (with_first_carrier c n)
+few_with_carrier c n first = steps_hold_few 2 (carrier 1 true) (step (metric 1 n) (configured c)) (omega arith) tt (steps_hold_few 1 (metric 1 n) (configured c) (omega arith) tt (configured_holds_few c first))
 
 abbrev pub config : ℕ → BridgeConfig
 config n = config_of (record { vids = plan_of 100 1 ∷ []; bridges = []; links = []; services = []; attached = [] }) (bridge_of 32768 (system n).mac (source n) 1)
@@ -239,7 +239,7 @@ have_first_carriers =
       other_sound = both_sound.1;
       one = ap length (first_ports (config 1) 1 10 refl);
       other_one = ap length (first_ports (config 2) 1 10 refl);
-      few = few_with_carrier (config 1) 10;
+      few = few_with_carrier (config 1) 10 refl;
       id = first.id;
       source = first.source;
       vids = first.vids;

@@ -2,7 +2,7 @@
 use Rattle.std.specs.Prelude.{ℕ, zero, suc, ◌+◌, List, [], ◌∷◌, length, Bool, true, false, ◌&&◌, ◌||◌, ◌==◌, if◌then◌else◌, remove, Option, Some, None, slice_get, slice_set}
 use Rattle.std.specs.Option.{option_map_or}
 use Rattle.bridge_api.specs.declared.config.BridgeConfig.{BridgeConfig}
-use Rattle.bridge_api.specs.Config.{configured}
+use Rattle.bridge_api.specs.Config.{first_life, configured}
 use Rattle.link_model.specs.declared.lanes.LaneId.{LaneId}
 use Rattle.spb_world.specs.declared.declaration.DeclaredBridge.{DeclaredBridge}
 use Rattle.spb_world.specs.declared.declaration.DeclaredLink.{DeclaredLink}
@@ -14,7 +14,8 @@ use Rattle.network_model.specs.Events.{with_carrier_at_end, flushed}
 
 -- ---- what the blank box is configured with
 
--- the bridge at place i as it was declared, with the present metrics of its links and what is attached to its ports
+-- the bridge at place i as it was declared, in a first life, with the present metrics of its links and what is attached
+-- to its ports
 abbrev pub restart_config : State → ℕ → DeclaredBridge → BridgeConfig
 restart_config s i b = record {
   id = b.bridge.id;
@@ -23,6 +24,7 @@ restart_config s i b = record {
   vids = s.world.vids;
   metrics = port_metrics (links_of s) i b.ports 1;
   attached = attached_at s.world i;
+  last = first_life;
 }
 
 -- ---- its links

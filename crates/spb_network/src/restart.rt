@@ -12,7 +12,7 @@ ghost use Rattle.spb_network.specs.Applying.{IsSoundNetwork};
 
 use crate::rack::{kind_at, next_box};
 use crate::{DeclaredBridge, DeclaredLink, LinkEnd, NetworkOf, Reason, boxes};
-use bridge_api::{Bridge, BridgeConfig};
+use bridge_api::{Bridge, BridgeConfig, first_life};
 use spb_types::{Name, NoMemory, Seq};
 use spb_world::link_ends::{end_away, end_here, ends_here};
 use spb_world::reason_unless;
@@ -59,6 +59,7 @@ impl<B: Bridge> NetworkOf<B> {
         let vids = Vec::from_slice(self.alloc, self.world.vids())?;
         let metrics = self.port_metrics(i, bridge.ports)?;
         let attached = self.world.attached(self.alloc, i)?;
+        let last = first_life(self.alloc)?;
         Ok(BridgeConfig {
             id: bridge.bridge.id,
             source: bridge.bridge.source,
@@ -66,6 +67,7 @@ impl<B: Bridge> NetworkOf<B> {
             vids: Seq::from_vec(vids),
             metrics: Seq::from_vec(metrics),
             attached,
+            last,
         })
     }
 

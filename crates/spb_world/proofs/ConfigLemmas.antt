@@ -7,6 +7,7 @@ use Rattle.spb_types.specs.declared.address.Mac.{Mac}
 use Rattle.spb_types.specs.Service.{AreVidsApart}
 use Rattle.isis_pdu.specs.Grammar.{IsBytes}
 use Rattle.bridge_api.specs.Config.{IsOwnMac, IsMetric, ArePairwise, IsWhole, vids_of}
+use Rattle.bridge_api.proofs.Configured.{first_life_long, first_life_low}
 use Rattle.spb_world.specs.declared.declaration.DeclaredBridge.{DeclaredBridge}
 use Rattle.spb_world.specs.World.{World, Sound}
 use Rattle.spb_world.specs.Declaring.{is_bridge_address, config_of}
@@ -64,4 +65,6 @@ whole-config w b sound ports priority source address = record {
   each_attachment = tt;
   attachments_apart = tt;
   few_isids = omega arith;
+  last = first_life_long;
+  each_last = first_life_low;
 }

@@ -16,6 +16,7 @@ use Rattle.spb_world.specs.Reason.{reason_unless, ◌or◌}
 use Rattle.spb_world.specs.World.{World, Bridges, Links, things_of, place_of, ports_at, is_between, is_at_port}
 use Rattle.spb_types.specs.declared.limits.TheConstants.{GREATEST_ECT, GREATEST_METRIC, GREATEST_VID, MOST_BRIDGES, MOST_LINKS, MOST_PORTS, MOST_VIDS, SOURCE_IDS}
 use Rattle.bridge_api.specs.declared.config.BridgeConfig.{BridgeConfig}
+use Rattle.bridge_api.specs.Config.{first_life}
 
 -- The tests of a declaration. Each reason for a refusal is one of them that fails, and the first that fails counts.
 
@@ -180,7 +181,7 @@ links_with_metric on m (l ∷ ls) (suc k) = l ∷ links_with_metric on m ls k
 unfoldable pub with_end_metric : Side → ℕ → World → ℕ → World
 with_end_metric on m w k = record w { links = links_with_metric on m w.links k }
 
--- what a declared bridge is configured with: no port has a link yet, and none is attached
+-- what a declared bridge is configured with: no port has a link yet, none is attached, and its life is the first
 abbrev pub config_of : World → DeclaredBridge → BridgeConfig
 config_of w b = record {
   id = b.bridge.id;
@@ -189,4 +190,5 @@ config_of w b = record {
   vids = w.vids;
   metrics = replicate b.ports 1;
   attached = [];
+  last = first_life;
 }

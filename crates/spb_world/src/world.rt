@@ -8,7 +8,7 @@ use crate::graph::{graph_bridges, graph_edges, graph_members, place_of_system, s
 use crate::hints::Hints;
 use crate::reason::reason_unless;
 use crate::{DeclaredBridge, DeclaredLink, LinkEnd, Reason, check, link_ends};
-use bridge_api::BridgeConfig;
+use bridge_api::{BridgeConfig, first_life};
 use ect_trees::Roads;
 use fdb_build::{Fabric, tables_of};
 use indexmap::IndexMap;
@@ -365,6 +365,7 @@ impl World {
     {
         let vids = Vec::from_slice(alloc, self.vids.as_slice())?;
         let metrics = vec![in alloc; 1; usize::from(ports)]?;
+        let last = first_life(alloc)?;
         Ok(BridgeConfig {
             id,
             source,
@@ -372,6 +373,7 @@ impl World {
             vids: Seq::from_vec(vids),
             metrics: Seq::from_vec(metrics),
             attached: Seq::new(alloc),
+            last,
         })
     }
 

@@ -9,7 +9,7 @@ use super::asking_box::AskingBox;
 use super::{TWO, are_equal, check_call, sink, source, text_of, words_of};
 use crate::{Status, play_on};
 use adjacency::Adjacency;
-use bridge_api::{Bridge, BridgeConfig};
+use bridge_api::{Bridge, BridgeConfig, first_life};
 use plain_bridge::PlainBridge;
 use scenario::Command;
 use spb_network::{ApplyError, KindRule, NetworkOf, Reason};
@@ -105,7 +105,7 @@ fn each_bridge_and_each_restart_takes_a_box_of_its_kind(rt: HostRuntime) {
 }
 
 /// What a bridge without ports is configured with.
-fn portless(alloc: Global) -> BridgeConfig
+fn portless(rt: &impl Abort, alloc: Global) -> BridgeConfig
     ensures { IsWhole result }
 {
     BridgeConfig {
@@ -122,13 +122,14 @@ fn portless(alloc: Global) -> BridgeConfig
         vids: Seq::new(alloc),
         metrics: Seq::new(alloc),
         attached: Seq::new(alloc),
+        last: first_life(alloc).expect(rt, "out of memory"),
     }
 }
 
 /// A box that is not blank.
 fn used(rt: &impl Abort, alloc: Global) -> Box<PlainBridge> {
     let mut used = PlainBridge::blank(alloc);
-    used.configure(&portless(alloc)).expect(rt, "out of memory");
+    used.configure(&portless(rt, alloc)).expect(rt, "out of memory");
     Box::new(alloc, used).expect(rt, "out of memory")
 }
 

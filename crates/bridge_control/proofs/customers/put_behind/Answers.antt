@@ -1,4 +1,4 @@
-use Rattle.std.proofs.Common.{◌≡◌, length, rules, sym}
+use Rattle.std.proofs.Common.{◌≡◌, length, rules}
 use Rattle.bridge_control.proofs.Wire.{behind_none}
 use Rattle.bridge_control.proofs.customers.put_behind.Goals as goal
 

@@ -1,4 +1,4 @@
-use Rattle.std.proofs.Common.{◌≡◌, ◌∷◌, [], ℕ, List, Bool, Option, Some, sym, ap, subst, ◌∙◌}
+use Rattle.std.proofs.Common.{◌≡◌, ◌∷◌, [], ℕ, List, Bool, Option, sym, ap, subst, ◌∙◌}
 use Rattle.std.specs.Prelude.{true, if◌then◌else◌}
 use Rattle.std.specs.Option.{option_copied}
 use Rattle.spb_types.specs.declared.address.LspId.{LspId}

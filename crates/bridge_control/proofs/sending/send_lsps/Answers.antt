@@ -1,4 +1,4 @@
-use Rattle.std.proofs.Common.{[], ◌∷◌, ◌+◌, ℕ, List, drop, get_or, sym, ◌∙◌, subst}
+use Rattle.std.proofs.Common.{[], ◌+◌, ℕ, List, drop, get_or, sym, ◌∙◌, subst}
 use Rattle.std.specs.FinMap.{entries}
 use Rattle.bridge_control.proofs.Wire.{sent_as, sent_none, on_err}
 use Rattle.bridge_control.proofs.Copies.{made_at}

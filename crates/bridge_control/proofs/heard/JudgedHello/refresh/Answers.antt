@@ -1,9 +1,8 @@
-use Rattle.std.proofs.Common.{◌≡◌, ◌≤◌, [], sym, ap, ◌∙◌, subst}
+use Rattle.std.proofs.Common.{◌≤◌, sym, ap, ◌∙◌, subst}
 use Rattle.std.specs.Prelude.{if◌then◌else◌}
 use Rattle.isis_pdu.specs.Pdu.{HelloValue}
 use Rattle.adjacency.specs.Hearing.{keeps_up}
 use Rattle.adjacency.specs.Adjacency.{after_hello, change_by_hello}
-use Rattle.bridge_control.specs.Heard.{hello_saying}
 use Rattle.bridge_control.proofs.heard.JudgedHello.refresh.Goals as goal
 
 pub refresh-requires-clause-holding : goal.refresh-requires-clause-holding

@@ -1,9 +1,10 @@
-use Rattle.std.proofs.Common.{◌≤◌, sym, subst}
+use Rattle.std.proofs.Common.{◌≤◌, ℕ, List, sym, subst}
 use Rattle.flooding.specs.Room.{most_others, others}
 use Rattle.spb_content.specs.Local.{IsLocal}
 use Rattle.bridge_api.specs.View.{BridgeView}
-use Rattle.bridge_api.specs.Own.{local_of}
+use Rattle.bridge_api.specs.Own.{local_of, after_begin}
 use Rattle.bridge_control.specs.declared.machine.Machine.{Machine}
+use Rattle.bridge_control.specs.Machine.{view_of, IsAfter}
 use Rattle.bridge_control.proofs.Configuring.{bare_local, bare_few, bare_room, configured_after}
 use Rattle.bridge_control.proofs.machine.Machine.configured.Goals as goal
 
@@ -14,11 +15,12 @@ renew_body-requires-clause-few c =
 pub renew_body-requires-clause-local : goal.renew_body-requires-clause-local
 renew_body-requires-clause-local c = subst (λ (v : BridgeView). IsLocal (local_of v)) (sym c.in_ok-machine.ensures.view) (bare_local c.args.config.now c.requires)
 
-pub originate-requires-clause-room : goal.originate-requires-clause-room
-originate-requires-clause-room c =
+pub begin-requires-clause-room : goal.begin-requires-clause-room
+begin-requires-clause-room c =
     let m : Machine = c.in_ok-machine.machine in
     subst (λ (n : Machine). others n.id.system n.db ≤ most_others) (sym c.in_ok-renew_body.ensures) (bare_room c.args.config.now m c.in_ok-machine.ensures.view)
 
 pub returns : goal.returns
 returns c =
-    configured_after c.args.config.now c.in_ok-machine.machine c.renew_body.new.self c.originate.new.self c.in_ok-machine.ensures.view c.in_ok-renew_body.ensures c.in_ok-originate.ensures
+    configured_after c.args.config.now c.in_ok-machine.machine c.renew_body.new.self c.begin.new.self c.in_ok-machine.ensures.view c.in_ok-renew_body.ensures
+    (subst (λ (last : List ℕ). IsAfter (after_begin last (view_of c.renew_body.new.self)) c.begin.new.self) c.as_slice.ensures c.in_ok-begin.ensures)

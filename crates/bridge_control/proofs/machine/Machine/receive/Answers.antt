@@ -9,7 +9,7 @@ use Rattle.adjacency.specs.declared.state.AdjacencyChange.TheVariants as did
 use Rattle.bridge_api.specs.Parsing as parsing
 use Rattle.bridge_api.specs.Hearing.{with_adjacency}
 use Rattle.bridge_control.specs.Heard.{hello_saying}
-use Rattle.bridge_control.specs.Machine.{view_of, hears}
+use Rattle.bridge_control.specs.Machine.{view_of}
 use Rattle.bridge_control.specs.Ports.{with_hold}
 use Rattle.bridge_control.proofs.Anew.{heard_path}
 use Rattle.bridge_control.proofs.Moving.{unmoved, nothing_moved, nothing_gained, unmoved_without_carrier, own_still, ports_tables}
