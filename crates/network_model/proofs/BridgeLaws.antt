@@ -1,11 +1,7 @@
 -- The laws of a step of a bridge, on which what is sound of a network rests.
 use Rattle.itag_frames.proofs.ControlLaws.{control_again}
-<<<<<<< HEAD
-use Rattle.bridge_api.specs.Laws.{ConfiguredIsSound, ConfiguredHasNoCarrier, StepsStaySound, StepsKeepBridge, StepsKeepCarrier, StepsKeepNeighbours, SentIsSound, OneHello, HellosAreHeard, UpPortsAreUp, StepsCarryDatabase, ConfiguredHoldsOwn}
-use Rattle.bridge_laws.specs.Brief.{SentIsBrief}
-=======
 use Rattle.bridge_api.specs.Laws.{ConfiguredIsSound, ConfiguredHasNoCarrier, StepsStaySound, StepsKeepBridge, StepsKeepCarrier, StepsKeepNeighbours, SentIsSound, OneHello, HellosAreHeard, UpPortsAreUp, StepsCarryDatabase}
->>>>>>> b855bcfed9637a3a68987a84bbc6435ca366e4ed
+use Rattle.bridge_laws.specs.Brief.{SentIsBrief}
 use Rattle.bridge_laws.specs.Counting.{StepsHoldIds, StepsLearnVersions, StepsAnswer, StepsOriginate, StepsDontSpend, ConfiguredIsFar}
 use Rattle.bridge_api.specs.Time.{SecondsAge}
 use Rattle.bridge_laws.proofs.Answering as answering

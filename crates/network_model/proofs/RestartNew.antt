@@ -187,13 +187,8 @@ begun_new c whole first = record {
 new_in : (s : State) (i : ℕ) (b : DeclaredBridge) (place : ℕ) → IsSoundState s → slice_get (things_of s.world.bridges) i ≡ Some b → IsNew s (restarted_in s i (restart_config s i b) place) i b place
 new_in s i b place sound there = record {
   view = view_with_carriers (links_of s) 0 i u (configured c) from (λ m l at. (link_there s m l sound.world at).apart) (got_at t.views i (configured c) within);
-<<<<<<< HEAD
-  number = (begun_carriers (links_of s) i (configured c) (begun_new c (restart_whole s i b sound there))).number;
-  rack = ap (λ (x : List Spare × List ℕ). x.0) (kept_carriers_from n 0 i u) ∙ ap (λ (x : List Spare × List ℕ). remove x.0 place) (kept_cut_from n 0 i s);
-=======
   number = (begun_carriers (links_of s) i (configured c) (begun_new c (restart_whole s i b sound there) refl)).number;
-  rack = rack_carriers_from n 0 i u ∙ ap (λ (rack : List Spare). remove rack place) (rack_cut_from n 0 i s);
->>>>>>> b855bcfed9637a3a68987a84bbc6435ca366e4ed
+  rack = ap (λ (x : List Spare × List ℕ). x.0) (kept_carriers_from n 0 i u) ∙ ap (λ (x : List Spare × List ℕ). remove x.0 place) (kept_cut_from n 0 i s);
   world = world-with_carriers_from n 0 i u ∙ world;
   ticks = ap (λ (x : List Spare × List ℕ). x.1) (kept_carriers_from n 0 i u) ∙ ap (λ (x : List Spare × List ℕ). x.1) (kept_cut_from n 0 i s);
 }
