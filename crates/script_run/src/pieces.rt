@@ -316,6 +316,7 @@ pub(crate) fn play_script<B: Bridge, S: Source, K: Sink>(
     ensures alive { OnOk result (IsAlive B.shown network.new) }
     ensures ready { IsReady B.shown network.new }
     ensures read_fault { result ≡ Err Break.Read → Rose (S.faults source.old) (S.faults source.new) }
+    ensures count { K.faults sink.old ≤ K.faults sink.new }
     ensures write_fault { result ≡ Err Break.Write → Rose (K.faults sink.old) (K.faults sink.new) }
     ensures reliable_source { IsTrue (S.is_reliable source.old) → result ≢ Err Break.Read }
     ensures reliable_sink { IsTrue (K.is_reliable sink.old) → result ≢ Err Break.Write }

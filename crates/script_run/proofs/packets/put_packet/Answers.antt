@@ -1,5 +1,6 @@
-use Rattle.std.proofs.Common.{◌++◌, refl}
+use Rattle.std.proofs.Common.{◌++◌, ◌∙◌, List, ℕ, refl, ap}
 use Rattle.std.proofs.lemmas.Result.{err_from_is_err_and}
+use Rattle.frame_capture.specs.Capture.{packet_bytes}
 use Rattle.script_run.specs.Play.{packet_of}
 use Rattle.script_run.proofs.Putting.{Puts-held, Front-longer, Front-put}
 use Rattle.script_run.proofs.packets.put_packet.Goals as goal
@@ -21,5 +22,7 @@ returns-in_err-put_frame-clause-front g c =
 
 pub returns-clause-all : goal.returns-clause-all
 returns-clause-all g c =
-    Puts-held (g.K.Sink.holds c.args.sink.now) (g.K.Sink.holds c.make_room.new.sink) c.args.held.now.items c.make_room.new.held.items
-    c.put_frame.new.out.items (packet_of c.args.item.now) c.in_ok-make_room.ensures.all c.in_ok-put_frame.ensures.ok
+    let held = c.make_room.new.held.items in
+    Puts-held (g.K.Sink.holds c.args.sink.now) (g.K.Sink.holds c.make_room.new.sink) c.args.held.now.items held
+    c.put_frame.new.out.items (packet_of c.args.item.now) c.in_ok-make_room.ensures.all
+    (c.in_ok-put_frame.ensures.ok ∙ ap (λ (f : List ℕ). held ++ packet_bytes (record { tick = c.args.item.now.tick; frame = f })) c.as_slice.ensures)
