@@ -9,4 +9,4 @@ pub returns : goal.returns
 returns c =
     let f = c.in_ok-reading.reading in
     path_read (view_of c.args.self.now) f.graph (mask_of c.args.ect) c.args.to c.path-path.result
-    (ap (λ (x : FabricView). x.graph) c.in_ok-reading.ensures.reading) c.path-path.ensures.path
+    (ap (λ (x : FabricView). x.graph) c.in_ok-reading.ensures.reading) c.path-path.ensures
