@@ -1,4 +1,5 @@
 -- The laws of a step of a bridge, on which what is sound of a network rests.
+use Rattle.std.proofs.Common.{◌≡◌}
 use Rattle.itag_frames.proofs.ControlLaws.{control_again}
 use Rattle.bridge_api.specs.Laws.{ConfiguredIsSound, ConfiguredHasNoCarrier, StepsStaySound, StepsKeepBridge, StepsKeepCarrier, StepsKeepNeighbours, SentIsSound, OneHello, HellosAreHeard, UpPortsAreUp, StepsCarryDatabase}
 use Rattle.bridge_laws.specs.Brief.{SentIsBrief}

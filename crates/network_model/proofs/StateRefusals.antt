@@ -6,7 +6,7 @@ use Rattle.spb_types.specs.declared.service.SourceId.{SourceId}
 use Rattle.spb_world.specs.Declaring.{bridge_refusal}
 use Rattle.network_model.specs.Refusing.{declared_refusal, round_refusal, drain_refusal}
 use Rattle.network_model.specs.State.{State}
-use Rattle.spb_world.proofs.ListLemmas.{and-left, and-right}
+use Rattle.spb_world.proofs.ListLemmas.{and-right}
 use Rattle.spb_world.proofs.RefusalLemmas.{reason_unless-none, or-first, or-second, le-true}
 
 -- a bridge for which there is a box

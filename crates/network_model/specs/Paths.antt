@@ -1,16 +1,12 @@
 -- The question of the path between two bridges: what the first answers by the LSPs that it holds.
-use Rattle.std.specs.Prelude.{ℕ, List, [], ◌==◌, Option, Some, None, find, position, slice_get}
-use Rattle.std.specs.Option.{option_map, option_and_then}
-use Rattle.std.specs.List.{filter_map}
-use Rattle.spb_types.specs.Address.{same_system}
-use Rattle.spb_types.specs.declared.address.SystemId.{SystemId}
+use Rattle.std.specs.Prelude.{ℕ, List, [], Option, Some, None, slice_get}
+use Rattle.std.specs.Option.{option_and_then}
 use Rattle.spb_types.specs.declared.service.Vid.{Vid}
-use Rattle.spb_types.specs.declared.service.VidPlan.{VidPlan}
 use Rattle.spb_types.specs.declared.tables.Path.{Path}
 use Rattle.bridge_api.specs.Graph.{own_path}
 use Rattle.network_model.specs.declared.answer.Answer.{Answer}
 use Rattle.network_model.specs.declared.answer.Answer.TheVariants as answers
-use Rattle.spb_world.specs.World.{Bridges, names_of, things_of, place_of, system_at, declared_vid}
+use Rattle.spb_world.specs.World.{Bridges, place_of, system_at, declared_vid}
 use Rattle.network_model.specs.State.{State}
 use Rattle.spb_world.specs.Systems.{names_on}
 

@@ -1,8 +1,7 @@
 -- What an accepted command makes of a network, and what it answers.
-use Rattle.std.specs.Prelude.{ℕ, ◌+◌, List, [], ◌∷◌, ◌++◌, length, Bool, true, false, if◌then◌else◌, replicate, remove, Option, Some, None}
+use Rattle.std.specs.Prelude.{ℕ, ◌+◌, List, [], ◌∷◌, ◌++◌, length, Bool, true, false, if◌then◌else◌, remove, Option, Some, None}
 use Rattle.scenario.specs.declared.command.Command.{Command}
 use Rattle.scenario.specs.declared.command.Command.TheVariants as command
-use Rattle.bridge_api.specs.declared.config.BridgeConfig.{BridgeConfig}
 use Rattle.bridge_api.specs.Config.{configured}
 pub use Rattle.bridge_api.specs.Drops.{next_count}
 use Rattle.network_model.specs.declared.answer.Answer.{Answer}
@@ -10,7 +9,7 @@ use Rattle.network_model.specs.declared.answer.Answer.TheVariants.{Silent, Outs}
 use Rattle.network_model.specs.declared.answer.Answer.TheVariants as answers
 use Rattle.spb_world.specs.declared.declaration.DeclaredBridge.{DeclaredBridge}
 use Rattle.spb_world.specs.declared.declaration.DeclaredLink.{DeclaredLink}
-use Rattle.spb_world.specs.World.{World, place_of}
+use Rattle.spb_world.specs.World.{place_of}
 use Rattle.spb_world.specs.Declaring.{plan_of, bridge_of, link_of, with_vid, with_bridge, with_link, config_of}
 use Rattle.spb_world.specs.Services.{service_of, with_service}
 use Rattle.link_model.specs.Lanes.{no_frames}

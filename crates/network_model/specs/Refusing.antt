@@ -1,22 +1,20 @@
 -- Why a command is refused: the first of its reasons, in order of number, whose test fails.
-use Rattle.std.specs.Prelude.{ℕ, ◌+◌, List, length, Bool, not, ◌&&◌, nat_lt, nat_le, Option, Some, None, is_some}
+use Rattle.std.specs.Prelude.{ℕ, ◌+◌, List, length, ◌&&◌, nat_lt, nat_le, Option, Some, None, is_some}
 use Rattle.spb_types.specs.declared.address.Mac.{Mac}
 use Rattle.spb_types.specs.declared.service.SourceId.{SourceId}
 use Rattle.scenario.specs.declared.command.Command.{Command}
 use Rattle.scenario.specs.declared.command.Command.TheVariants as command
 use Rattle.spb_types.specs.declared.link.Dir.{Dir}
 use Rattle.spb_world.specs.declared.reason.Reason.{Reason}
-use Rattle.spb_world.specs.declared.reason.Reason.TheVariants.{NoSuchName, Range, TooMany, AlreadyUp, AlreadyDown, NoFrame, RackSpent}
+use Rattle.spb_world.specs.declared.reason.Reason.TheVariants.{Range, TooMany, NoFrame, RackSpent}
 use Rattle.spb_world.specs.Reason.{reason_unless, ◌or◌}
-use Rattle.spb_world.specs.World.{World, things_of, place_of}
-use Rattle.spb_world.specs.Declaring.{has_vid, vid_refusal, bridge_refusal, link_refusal}
+use Rattle.spb_world.specs.World.{World, place_of}
+use Rattle.spb_world.specs.Declaring.{vid_refusal, bridge_refusal}
 use Rattle.spb_world.specs.Services.{isid_refusal}
-use Rattle.spb_world.specs.Attaching.{attach_refusal, detach_refusal, entry_refusal}
 use Rattle.network_model.specs.Questions.{Question, question_of}
 use Rattle.network_model.specs.State.{State, lane_at, kind_at, next_box}
-use Rattle.spb_world.specs.Links.{is_live}
 use Rattle.network_model.specs.Restarting.{box_at}
-use Rattle.spb_types.specs.declared.limits.TheConstants.{GREATEST_METRIC, MOST_DELIVERIES, MOST_DELIVERIES_TOGETHER, MOST_ROUNDS}
+use Rattle.spb_types.specs.declared.limits.TheConstants.{MOST_DELIVERIES, MOST_DELIVERIES_TOGETHER, MOST_ROUNDS}
 use Rattle.spb_world.specs.Naming.{named_link_refusal, unnamed_refusal, refusal_at_found, linked_refusal, down_refusal, up_refusal, metric_refusal, named_attach_refusal, named_detach_refusal, named_entry_refusal, path_refusal}
 
 -- the box that the next declared bridge takes, by place in the rack

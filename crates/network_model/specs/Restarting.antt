@@ -1,15 +1,13 @@
 -- A bridge restarts: a blank box takes the place of its box, which is dropped with all that it held.
-use Rattle.std.specs.Prelude.{ℕ, zero, suc, ◌+◌, List, [], ◌∷◌, length, Bool, true, false, ◌&&◌, ◌||◌, ◌==◌, if◌then◌else◌, remove, Option, Some, None, slice_get, slice_set}
-use Rattle.std.specs.Option.{option_map_or}
+use Rattle.std.specs.Prelude.{ℕ, zero, suc, ◌+◌, length, true, false, if◌then◌else◌, remove, Option, Some, None, slice_get, slice_set}
 use Rattle.bridge_api.specs.declared.config.BridgeConfig.{BridgeConfig}
 use Rattle.bridge_api.specs.Config.{first_life, configured}
-use Rattle.link_model.specs.declared.lanes.LaneId.{LaneId}
 use Rattle.spb_world.specs.declared.declaration.DeclaredBridge.{DeclaredBridge}
 use Rattle.spb_world.specs.declared.declaration.DeclaredLink.{DeclaredLink}
 use Rattle.spb_world.specs.declared.declaration.LinkEnd.{LinkEnd}
 use Rattle.spb_world.specs.World.{things_of, attached_at}
 use Rattle.network_model.specs.State.{State, links_of, kind_at, next_box}
-use Rattle.spb_world.specs.Links.{near_end, lane_out, port_metrics, ends_here, end_here, end_away}
+use Rattle.spb_world.specs.Links.{port_metrics, ends_here, end_here, end_away}
 use Rattle.network_model.specs.Events.{with_carrier_at_end, flushed}
 
 -- ---- what the blank box is configured with

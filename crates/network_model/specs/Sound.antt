@@ -1,5 +1,5 @@
 -- What holds of a network at every moment, whatever came to its bridges and whatever became of the frames on their way.
-use Rattle.std.specs.Prelude.{◌≡◌, ◌≢◌, ◌⊎◌, ℕ, ◌≤◌, List, [], length, map, Bool, true, false, Option, Some, slice_get}
+use Rattle.std.specs.Prelude.{◌≡◌, ◌⊎◌, ℕ, ◌≤◌, List, [], length, Bool, true, false, Option, Some, slice_get}
 use Rattle.std.specs.List.{AllByRecursion}
 use Rattle.std.specs.Option.{option_map, option_map_or}
 use Rattle.std.specs.FinMap.{get}
@@ -16,7 +16,6 @@ use Rattle.lsdb.specs.Certificate.{IsClaimed}
 use Rattle.adjacency.specs.Hearing.{End, sender}
 use Rattle.spb_types.specs.declared.link.Dir.{Dir}
 use Rattle.bridge_api.specs.View.{BridgeView, IsPort, port_at, neighbour_at, is_up_at, has_carrier_at}
-use Rattle.bridge_api.specs.Config.{ArePairwise}
 use Rattle.bridge_api.specs.Parsing.{parsed}
 use Rattle.bridge_api.specs.Parsing as parsing
 use Rattle.bridge_api.specs.Laws.{IsSoundView, IsWritten, claims_said}
@@ -25,7 +24,7 @@ use Rattle.spb_world.specs.declared.declaration.DeclaredBridge.{DeclaredBridge}
 use Rattle.spb_world.specs.declared.declaration.DeclaredLink.{DeclaredLink}
 use Rattle.network_model.specs.declared.kind_rule.KindRule.{KindRule}
 use Rattle.link_model.specs.declared.lanes.LinkLanes.{LinkLanes}
-use Rattle.spb_world.specs.World.{World, names_of, things_of, attached_at, Sound, AreDistinct}
+use Rattle.spb_world.specs.World.{World, things_of, attached_at, Sound, AreDistinct}
 use Rattle.link_model.specs.Lanes.{lane_of}
 use Rattle.network_model.specs.State.{State, Spare, links_of, Fits}
 use Rattle.spb_world.specs.Links.{is_live, near_end, far_end, lane_out}

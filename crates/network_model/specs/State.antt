@@ -1,10 +1,8 @@
 -- The state of a network.
 use Rattle.std.specs.Prelude.{◌≡◌, length, ℕ, ◌+◌, List, [], ◌∷◌, Bool, true, false, ◌&&◌, ◌==◌, ◌%◌, Option, Some, None, slice_get, if◌then◌else◌}
 use Rattle.std.specs.List.{slice_index_or}
-use Rattle.std.specs.Option.{option_map, option_map_or, option_or}
 use Rattle.link_model.specs.Lane.{Frame}
 use Rattle.spb_types.specs.declared.link.Dir.{Dir}
-use Rattle.spb_types.specs.declared.link.Dir.TheVariants.{Ab, Ba}
 use Rattle.bridge_api.specs.declared.kind.Kind.{Kind}
 use Rattle.bridge_api.specs.declared.kind.Kind.TheVariants as kind
 use Rattle.bridge_api.specs.View.{BridgeView, IsPort}
@@ -12,9 +10,7 @@ use Rattle.network_model.specs.declared.answer.Out.{Out}
 use Rattle.network_model.specs.declared.kind_rule.KindRule.{KindRule}
 use Rattle.network_model.specs.declared.kind_rule.KindRule.TheVariants as rule
 use Rattle.spb_world.specs.declared.declaration.DeclaredLink.{DeclaredLink}
-use Rattle.spb_world.specs.declared.declaration.LinkEnd.{LinkEnd}
 use Rattle.link_model.specs.declared.lanes.LinkLanes.{LinkLanes}
-use Rattle.link_model.specs.declared.lanes.LaneId.{LaneId}
 use Rattle.spb_world.specs.World.{World, things_of}
 use Rattle.link_model.specs.Lanes.{lane_of, changed_frames}
 use Rattle.spb_world.specs.declared.declaration.DeclaredBridge.{DeclaredBridge}
