@@ -157,7 +157,11 @@ impl ControlPlane {
         ensures made { self.new.blank ≡ false }
     {
         self.refuse_failed()?;
-        give_back(&mut self.reading, self.shared.as_ref(), self.machine.id.system);
+        give_back(
+            &mut self.reading,
+            self.shared.as_ref(),
+            self.machine.id.system,
+        );
         self.tables = None;
         let ended = self.machine.tick(outbox);
         self.failed = ended.is_err();
@@ -179,7 +183,11 @@ impl ControlPlane {
         ensures still_made { self.new.blank ≡ false }
     {
         self.refuse_failed()?;
-        give_back(&mut self.reading, self.shared.as_ref(), self.machine.id.system);
+        give_back(
+            &mut self.reading,
+            self.shared.as_ref(),
+            self.machine.id.system,
+        );
         let ended = self.machine.receive(port, frame, &mut self.tables, outbox);
         self.failed = ended.is_err();
         ended
@@ -200,7 +208,11 @@ impl ControlPlane {
         ensures still_made { self.new.blank ≡ false }
     {
         self.refuse_failed()?;
-        give_back(&mut self.reading, self.shared.as_ref(), self.machine.id.system);
+        give_back(
+            &mut self.reading,
+            self.shared.as_ref(),
+            self.machine.id.system,
+        );
         let ended = self.machine.customer(port, frame, &mut self.tables, outbox);
         self.failed = ended.is_err();
         ended
@@ -216,7 +228,11 @@ impl ControlPlane {
         ensures still_made { self.new.blank ≡ false }
     {
         self.refuse_failed()?;
-        give_back(&mut self.reading, self.shared.as_ref(), self.machine.id.system);
+        give_back(
+            &mut self.reading,
+            self.shared.as_ref(),
+            self.machine.id.system,
+        );
         self.tables = None;
         let ended = self.machine.carrier(port, on);
         self.failed = ended.is_err();
@@ -234,7 +250,11 @@ impl ControlPlane {
         ensures still_made { self.new.blank ≡ false }
     {
         self.refuse_failed()?;
-        give_back(&mut self.reading, self.shared.as_ref(), self.machine.id.system);
+        give_back(
+            &mut self.reading,
+            self.shared.as_ref(),
+            self.machine.id.system,
+        );
         self.tables = None;
         let ended = self.machine.set_metric(port, metric);
         self.failed = ended.is_err();
@@ -251,7 +271,11 @@ impl ControlPlane {
         ensures still_made { self.new.blank ≡ false }
     {
         self.refuse_failed()?;
-        give_back(&mut self.reading, self.shared.as_ref(), self.machine.id.system);
+        give_back(
+            &mut self.reading,
+            self.shared.as_ref(),
+            self.machine.id.system,
+        );
         self.tables = None;
         let ended = self.machine.attach(Attachment { port, isid, vid });
         self.failed = ended.is_err();
@@ -268,7 +292,11 @@ impl ControlPlane {
         ensures still_made { self.new.blank ≡ false }
     {
         self.refuse_failed()?;
-        give_back(&mut self.reading, self.shared.as_ref(), self.machine.id.system);
+        give_back(
+            &mut self.reading,
+            self.shared.as_ref(),
+            self.machine.id.system,
+        );
         self.tables = None;
         let ended = self.machine.detach(port);
         self.failed = ended.is_err();
@@ -374,7 +402,11 @@ impl ControlPlane {
     pub fn rest(&mut self)
         ensures { self.new ≡ self.old }
     {
-        give_back(&mut self.reading, self.shared.as_ref(), self.machine.id.system);
+        give_back(
+            &mut self.reading,
+            self.shared.as_ref(),
+            self.machine.id.system,
+        );
     }
 
     /// The best path to a system in a base VID over the LSPs that the bridge holds, with its cost. None exactly where

@@ -3,8 +3,8 @@ use Rattle.bridge_control.specs.Machine.{IsReady}
 use Rattle.bridge_control.proofs.OwnTables.{path_shown}
 use Rattle.bridge_control.proofs.control_plane.ControlPlane.path.Goals as goal
 
-pub path-requires : goal.path-requires
-path-requires c =
+pub path-requires-clause-sound : goal.path-requires-clause-sound
+path-requires-clause-sound c =
     let ready : IsReady c.self.inside.machine = search rules in
     ready.sound
 

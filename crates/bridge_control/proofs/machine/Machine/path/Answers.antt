@@ -10,11 +10,11 @@ returns-in-None c = path_none (view_of c.args.self.now) c.args.to c.args.vid (sy
 
 pub path_by-requires-clause-low : goal.path_by-requires-clause-low
 path_by-requires-clause-low c =
-    let tree : IsTree c.in-Some.plan.now = planned_tree c.args.self.now.vids c.args.vid c.in-Some.plan.now c.requires.config.each_vid (sym c.plan.ensures ∙ ap option_copied c.in-Some.is) in tree.ect_low
+    let tree : IsTree c.in-Some.plan.now = planned_tree c.args.self.now.vids c.args.vid c.in-Some.plan.now c.requires.sound.config.each_vid (sym c.plan.ensures ∙ ap option_copied c.in-Some.is) in tree.ect_low
 
 pub path_by-requires-clause-high : goal.path_by-requires-clause-high
 path_by-requires-clause-high c =
-    let tree : IsTree c.in-Some.plan.now = planned_tree c.args.self.now.vids c.args.vid c.in-Some.plan.now c.requires.config.each_vid (sym c.plan.ensures ∙ ap option_copied c.in-Some.is) in tree.ect_high
+    let tree : IsTree c.in-Some.plan.now = planned_tree c.args.self.now.vids c.args.vid c.in-Some.plan.now c.requires.sound.config.each_vid (sym c.plan.ensures ∙ ap option_copied c.in-Some.is) in tree.ect_high
 
 pub returns-in-Some : goal.returns-in-Some
 returns-in-Some c = path_found (view_of c.args.self.now) c.args.to c.args.vid c.in-Some.plan.now c.path_by.result (sym c.plan.ensures ∙ ap option_copied c.in-Some.is) c.path_by.ensures
