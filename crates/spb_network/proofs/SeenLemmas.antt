@@ -1,6 +1,9 @@
--- What many events deliver, one after another, and how it is noted.
-use Rattle.std.proofs.Common.{◌≡◌, ℕ, zero, suc, ◌+◌, ◌-◌, ◌<◌, true, false, true≢false, List, [], ◌∷◌, ◌++◌, Option, Some, None, refl, sym, ap, ◌∙◌, arith}
+-- What many events deliver, one after another, and how it is noted; and how seconds are counted.
+use Rattle.std.proofs.Common.{◌≡◌, ℕ, zero, suc, ◌+◌, ◌-◌, ◌<◌, ◌≤◌, Bool, true, false, true≢false, List, [], ◌∷◌, ◌++◌, length, slice_index_or, slice_set, Option, Some, None, refl, sym, ap, ◌∙◌, arith}
+use Rattle.std.specs.Prelude.{◌==◌, if◌then◌else◌}
 use Rattle.std.proofs.lemmas.List.{append_assoc}
+use Rattle.std.proofs.lemmas.Option.{same_Some}
+use Rattle.spb_types.specs.Places.{changed_at}
 use Rattle.spb_types.specs.declared.link.Dir.{Dir}
 use Rattle.scenario.specs.declared.command.Command.{Command}
 use Rattle.scenario.specs.declared.command.Command.TheVariants as command
@@ -32,6 +35,27 @@ noted-watched before (d ∷ ds) = noted-watched (before ++ d ∷ []) ds ∙ ap S
 pub noted-unwatched : (ds : List Delivered) → noted None ds ≡ None
 noted-unwatched [] = refl
 noted-unwatched (d ∷ ds) = noted-unwatched ds
+
+-- what is kept of them, where they are watched
+pub watched_items : (watched : Bool) (items ds : List Delivered) → (if watched then Some items else None) ≡ Some ds → items ≡ ds
+watched_items true items ds is = same_Some items ds is
+watched_items false items ds is = absurd cc
+
+pub none_there : {X : Type 0} (xs : List X) → true ≡ (length xs == 0) → xs ≡ []
+none_there [] is = refl
+none_there (x ∷ xs) is = absurd cc
+
+-- ---- a second that is counted
+
+pub set_changed : {X : Type 0} (f : X → X) (xs : List X) (i : ℕ) (x y : X) → i < length xs → x ≡ slice_index_or xs i x → y ≡ f x → slice_set xs i y ≡ changed_at f xs i
+set_changed f [] i x y within is to = absurd (omega (arith, within))
+set_changed f (z ∷ zs) zero x y within is to = ap (λ v. v ∷ zs) (to ∙ ap f is)
+set_changed f (z ∷ zs) (suc i) x y within is to = ap (λ l. z ∷ l) (set_changed f zs i x y (omega (arith, within)) is to)
+
+pub past_changed : {X : Type 0} (f : X → X) (xs : List X) (i : ℕ) → length xs ≤ i → xs ≡ changed_at f xs i
+past_changed f [] i past = refl
+past_changed f (z ∷ zs) zero past = absurd (omega (arith, past))
+past_changed f (z ∷ zs) (suc i) past = ap (λ l. z ∷ l) (past_changed f zs i (omega (arith, past)))
 
 -- ---- what is delivered, from a step on
 

@@ -1,7 +1,8 @@
 //! The deliveries of a command, noted where they are watched.
-ghost use Rattle.std.specs.Prelude.{◌≡◌, [], ◌∷◌, ◌++◌, true, false, None, Some, slice_get, OnOk, OnErr};
-ghost use Rattle.std.specs.Option.{unwrap_or, is_some};
+ghost use Rattle.std.specs.Prelude.{◌≡◌, List, [], ◌∷◌, ◌++◌, true, false, None, Some, slice_get, OnOk, OnErr};
+ghost use Rattle.std.specs.Option.{is_some};
 ghost use Rattle.spb_types.specs.Places.{changed_at};
+ghost use Rattle.network_model.specs.declared.delivered.Delivered.{Delivered};
 ghost use Rattle.network_model.specs.Captured as capture;
 ghost use Rattle.network_model.specs.Events as event;
 ghost use Rattle.network_model.specs.State.{links_of, tick_at};
@@ -70,9 +71,9 @@ impl Seen {
         Ok(())
     }
 
-    /// Moves what was seen behind a list. After `NoMemory` the list is as it was.
+    /// Moves what was seen, where it was watched, behind a list. After `NoMemory` the list is as it was.
     pub fn move_behind(self, list: &mut Vec<Delivered>) -> Result<(), NoMemory>
-        ensures ok { OnOk result (list.new.items ≡ list.old.items ++ unwrap_or self []) }
+        ensures ok { OnOk result ((ds : List Delivered) → self ≡ Some ds → list.new.items ≡ list.old.items ++ ds) }
         ensures err { OnErr result (list.new.items ≡ list.old.items) }
     {
         let mut items = self.items;

@@ -40,8 +40,8 @@ returns-in-None-clause-seen g c =
     let none : slice_get (lane_at s c.args.lane.link c.args.lane.dir) 0 ≡ None = sym c.pop.ensures.frame ∙ c.in-None.is in
     ap (λ o. noted c.args.seen.now (seen_front s c.args.lane.link c.args.lane.dir o)) (sym none)
 
-pub returns-in-Some-clause-seen : goal.returns-in-Some-clause-seen
+pub returns-in_ok-note-in-Some-clause-seen : goal.returns-in_ok-note-in-Some-clause-seen
 unfolding seen_at
-returns-in-Some-clause-seen g c =
+returns-in_ok-note-in-Some-clause-seen g c =
     let s : State = state_of g.B.Bridge.shown c.args.self.now in
     on_ok c.hear_over.result (c.in_ok-note.ensures ∙ ap (λ o. noted c.args.seen.now (seen_front s c.args.lane.link c.args.lane.dir o)) (sym (sym c.pop.ensures.frame ∙ c.in-Some.is)))

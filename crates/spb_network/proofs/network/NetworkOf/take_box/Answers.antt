@@ -38,6 +38,7 @@ returns-clause-state g c =
       rack = (ap (map (spare g.B.Bridge.shown)) c.remove-bridge.ensures.items ∙ map-remove (spare g.B.Bridge.shown) c.args.self.now.rack.items c.args.place) i;
       world = e i;
       views = (ap (views_of g.B.Bridge.shown) c.in_ok-push.ensures.items ∙ map-push (view_in g.B.Bridge.shown) c.args.self.now.boxes.items c.configure.new.self ∙ ap (λ v. s.views ++ v ∷ []) (c.in_ok-configure.ensures.view ∙ ap configured c.in_ok-config.ensures.config)) i;
+      ticks = c.in_ok-push-2.ensures.items i;
     }) c.declare_bridge.ensures.ok
 
 pub returns-clause-made : goal.returns-clause-made
