@@ -1,6 +1,6 @@
 -- What many events deliver, one after another, and how it is noted; and how seconds are counted.
 use Rattle.std.proofs.Common.{◌≡◌, ℕ, zero, suc, ◌+◌, ◌-◌, ◌<◌, ◌≤◌, Bool, true, false, true≢false, List, [], ◌∷◌, ◌++◌, length, slice_index_or, slice_set, Option, Some, None, refl, sym, ap, ◌∙◌, arith}
-use Rattle.std.specs.Prelude.{◌==◌, if◌then◌else◌}
+use Rattle.std.specs.Prelude.{if◌then◌else◌}
 use Rattle.std.proofs.lemmas.List.{append_assoc}
 use Rattle.std.proofs.lemmas.Option.{same_Some}
 use Rattle.spb_types.specs.Places.{changed_at}
@@ -41,9 +41,9 @@ pub watched_items : (watched : Bool) (items ds : List Delivered) → (if watched
 watched_items true items ds is = same_Some items ds is
 watched_items false items ds is = absurd cc
 
-pub none_there : {X : Type 0} (xs : List X) → true ≡ (length xs == 0) → xs ≡ []
-none_there [] is = refl
-none_there (x ∷ xs) is = absurd cc
+pub none_there : {X : Type 0} (xs : List X) → length xs ≡ 0 → xs ≡ []
+none_there [] none = refl
+none_there (x ∷ xs) none = absurd (omega (arith, none))
 
 -- ---- a second that is counted
 

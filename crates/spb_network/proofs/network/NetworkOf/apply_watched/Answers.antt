@@ -1,4 +1,4 @@
-use Rattle.std.proofs.Common.{◌≡◌, [], sym, ap, ◌∙◌, true≢false, ⊎_elim}
+use Rattle.std.proofs.Common.{[], sym, ap, ◌∙◌, true≢false, ⊎_elim}
 use Rattle.network_model.specs.State.{State}
 use Rattle.network_model.specs.Sound.{IsSoundState}
 use Rattle.network_model.specs.Captured.{seen_of}

@@ -1,4 +1,4 @@
-use Rattle.std.proofs.Common.{◌≡◌, List, ℕ, ap, arith}
+use Rattle.std.proofs.Common.{List, ℕ, ap, arith}
 use Rattle.network_model.specs.State.{State}
 use Rattle.network_model.specs.Events.{next_tick}
 use Rattle.spb_network.specs.Network.{state_of}

@@ -44,4 +44,4 @@ pub returns-in_ok-note-in-Some-clause-seen : goal.returns-in_ok-note-in-Some-cla
 unfolding seen_at
 returns-in_ok-note-in-Some-clause-seen g c =
     let s : State = state_of g.B.Bridge.shown c.args.self.now in
-    on_ok c.hear_over.result (c.in_ok-note.ensures ∙ ap (λ o. noted c.args.seen.now (seen_front s c.args.lane.link c.args.lane.dir o)) (sym (sym c.pop.ensures.frame ∙ c.in-Some.is)))
+    on_ok c.hear_over.result (c.in_ok-note-in-Some.ensures ∙ ap (λ o. noted c.args.seen.now (seen_front s c.args.lane.link c.args.lane.dir o)) (sym (sym c.pop.ensures.frame ∙ c.in-Some.is)))

@@ -15,9 +15,12 @@ loop-preserved g c =
     let found = drained-found before c.args.n c.loop.counter lane (omega (arith, c.loop-test.true)) (sym c.first_full.ensures.lane ∙ c.in-Some.is) in
     let now = c.in_ok-deliver.ensures.state ∙ ap (λ s. delivered s lane.link lane.dir) c.first_full.ensures.state in
     let seen = seen_drained-found before c.args.n c.loop.counter lane (omega (arith, c.loop-test.true)) (sym c.first_full.ensures.lane ∙ c.in-Some.is) in
-    let noting = c.in_ok-deliver.ensures.seen ∙ ap (λ s. noted c.loop.seen (seen_at s lane.link lane.dir)) c.first_full.ensures.state in
-    (c.in_ok-deliver.ensures.order, omega (arith, c.loop-test.true), ap (drained left) now ∙ (sym found ∙ c.loop.invariant.2),
-    ap (λ t. noted c.deliver.new.seen (seen_drained left t)) now ∙ noted-on c.loop.seen c.deliver.new.seen (seen_at before lane.link lane.dir) _ _ noting seen ∙ c.loop.invariant.3)
+    let noting = c.in_ok-deliver.ensures.seen ∙ ap (λ s. noted c.loop.seen (seen_at s lane.link lane.dir)) c.first_full.ensures.state in (
+      c.in_ok-deliver.ensures.order,
+      omega (arith, c.loop-test.true),
+      ap (drained left) now ∙ (sym found ∙ c.loop.invariant.2),
+      ap (λ t. noted c.deliver.new.seen (seen_drained left t)) now ∙ noted-on c.loop.seen c.deliver.new.seen (seen_at before lane.link lane.dir) _ _ noting seen ∙ c.loop.invariant.3,
+    )
 
 pub returns-in_default-clause-state : goal.returns-in_default-clause-state
 returns-in_default-clause-state g c =

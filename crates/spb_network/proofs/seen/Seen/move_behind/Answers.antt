@@ -1,11 +1,13 @@
-use Rattle.std.proofs.Common.{◌≡◌, ◌++◌, sym, ap, ◌∙◌}
+use Rattle.std.proofs.Common.{◌≡◌, ◌++◌, length, sym, ap, ◌∙◌, arith}
+use Rattle.std.proofs.lemmas.Bool.Decides.{nat_tests}
 use Rattle.spb_network.proofs.SeenLemmas.{watched_items, none_there}
 use Rattle.spb_network.proofs.seen.Seen.move_behind.Goals as goal
 
 pub returns-then-is_empty-clause-ok : goal.returns-then-is_empty-clause-ok
 returns-then-is_empty-clause-ok c =
+    let none : length c.args.list.now.items ≡ 0 = grind (arith, nat_tests, c.is_empty.ensures, c.if-is_empty.true) in
     λ ds is.
-    watched_items c.self.inside.watched c.self.inside.items.items ds (c.self.view_is ∙ is) ∙ ap (λ l. l ++ ds) (sym (none_there c.args.list.now.items c.if-is_empty.ensures))
+    watched_items c.self.inside.watched c.self.inside.items.items ds (c.self.view_is ∙ is) ∙ ap (λ l. l ++ ds) (sym (none_there c.args.list.now.items none))
 
 pub returns-clause-ok : goal.returns-clause-ok
 returns-clause-ok c =
