@@ -14,8 +14,8 @@ use Rattle.flooding.specs.Origination.{next_own}
 use Rattle.flooding.specs.Entries.{AllEntries, AreSendable, HaveFlagsAt}
 use Rattle.flooding.specs.Laws.{HasBodies, IsOwnBody}
 
--- an own LSP that begins above a number: with a body it is live at the next one; without one it is dead at this one, and
--- where no life had it, not held. No port is Up yet, so it is to be sent nowhere
+-- an own LSP that begins above a number: with a body it is live at the next one; without one it is dead at this one,
+-- and where no life had it, not held. No port is Up yet, so it is to be sent nowhere
 abbrev pub started_by : LspId → ℕ → Option (List ℕ) → Option Entry
 started_by id n (Some body) = Some (renewed no_ports id body (n + 1))
 started_by id zero None = None
