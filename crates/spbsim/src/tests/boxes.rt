@@ -129,7 +129,8 @@ fn portless(rt: &impl Abort, alloc: Global) -> BridgeConfig
 /// A box that is not blank.
 fn used(rt: &impl Abort, alloc: Global) -> Box<PlainBridge> {
     let mut used = PlainBridge::blank(alloc);
-    used.configure(&portless(rt, alloc)).expect(rt, "out of memory");
+    used.configure(&portless(rt, alloc))
+        .expect(rt, "out of memory");
     Box::new(alloc, used).expect(rt, "out of memory")
 }
 
