@@ -20,8 +20,8 @@ abbrev pub capture_text : State → List ℕ → List ℕ
 capture_text s script = header_bytes ++ packets_of (captured s (commands_in s 1 (lines_played script)))
 
 -- no more than a front of the header is written, nothing is read, and nothing is played
-pub record BreaksAtHeader {S K : Type 0} (holds : K → Option (List ℕ)) (s t : State) (source source' : S) (sink sink' : K)
-    : Type 0 where
+pub record BreaksAtHeader {S K : Type 0} (holds : K → Option (List ℕ)) (s t : State) (source source' : S)
+    (sink sink' : K) : Type 0 where
   pub header : AppendsFront (holds sink) (holds sink') header_bytes
   pub unread : source' ≡ source
   pub unplayed : t ≡ s
@@ -48,8 +48,8 @@ module _
         AppendsFront (holds sink) (holds sink') (capture_text s script))
     -- Where a read failed, all whole lines that the source gave are accepted, and just their capture is written.
     pub whole : status ≡ ReadFault → WritesWhole holds capture_text s (left source) (left source') sink sink'
-    -- The header is written before anything is read. However the run ended behind it, all whole lines that were read are
-    -- accepted and captured, but for those that end in the last 8,192 bytes that were read.
+    -- The header is written before anything is read. However the run ended behind it, all whole lines that were read
+    -- are accepted and captured, but for those that end in the last 8,192 bytes that were read.
     pub prompt : (IsTrue (is_cut status) × BreaksAtHeader holds s t source source' sink sink')
         ⊎ WritesSoon holds capture_text s (left source) (left source') sink sink'
     -- At most one byte more is read than a script may have, and little behind a line that is refused.

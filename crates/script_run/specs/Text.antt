@@ -13,8 +13,8 @@ use Rattle.script_run.specs.declared.voice.Voice.{Voice}
 use Rattle.script_run.specs.declared.voice.Voice.TheVariants.{Answers}
 use Rattle.script_run.specs.Play.{Judged, misspelled_text, if_answers, judged}
 
--- what some lines do: the bytes that are written of them, by what is told, the status, faults and running out of memory aside, and the network's
--- state after those that are accepted
+-- what some lines do: the bytes that are written of them, by what is told, the status, faults and running out of memory
+-- aside, and the network's state after those that are accepted
 pub record Played : Type 0 where
   pub says : Voice → List ℕ
   pub status : Status
