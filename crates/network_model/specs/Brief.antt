@@ -1,5 +1,5 @@
 -- How long the frames are that come to bridges.
-use Rattle.std.specs.Prelude.{ℕ, ◌≤◌, List, length}
+use Rattle.std.specs.Prelude.{◌≤◌, length}
 use Rattle.std.specs.List.{AllByRecursion}
 use Rattle.scenario.specs.declared.command.Command.{Command}
 use Rattle.bridge_laws.specs.Brief.{most_frame_bytes}
