@@ -1,5 +1,5 @@
 -- Every state that an accepted line leaves tells, where it is quiet.
-use Rattle.std.proofs.Common.{◌≡◌, false, true, ◌≤◌, ◌+◌, ℕ, List, [], ◌∷◌, length, refl, sym, ap, ◌∙◌, true≢false, ⊎_elim, Option, Some, None, IfSome, Result, Ok, Err, arith}
+use Rattle.std.proofs.Common.{◌≡◌, ◌≤◌, ◌+◌, ℕ, List, [], ◌∷◌, length, refl, sym, ap, ◌∙◌, true≢false, ⊎_elim, Option, Some, None, IfSome, Result, Ok, Err, arith}
 use Rattle.scenario.specs.declared.command.Command.{Command}
 use Rattle.scenario.specs.Grammar.{line_of}
 use Rattle.bridge_api.specs.Shown.{Shown}

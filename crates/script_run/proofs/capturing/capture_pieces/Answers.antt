@@ -1,5 +1,4 @@
-use Rattle.std.proofs.Common.{◌≡◌, ◌⊎◌, ◌∙◌, ℕ, List, [], Option, IfSome, Result, Ok, Err, inl, inr, refl, sym, ap, arith}
-use Rattle.std.proofs.KnownBytes.{Consumes-nil}
+use Rattle.std.proofs.Common.{◌≡◌, ◌⊎◌, ◌∙◌, IfSome, Result, Err, inl, inr, sym}
 use Rattle.std.proofs.lemmas.Result.{err_from_is_err_and, IfOk-weaker, on_err_weaker}
 use Rattle.spb_network.specs.Network.{state_of}
 use Rattle.spb_outside.specs.declared.sink.WriteError.{WriteError}
@@ -10,7 +9,6 @@ use Rattle.script_run.specs.declared.status.Status.{Status}
 use Rattle.script_run.specs.declared.voice.Voice.TheVariants.{Packets}
 use Rattle.script_run.specs.Break.{break_of}
 use Rattle.script_run.specs.Capturing.{capture_text}
-use Rattle.script_run.specs.Output.{AppendsFront}
 use Rattle.script_run.specs.Pieces.{Completes}
 use Rattle.script_run.specs.Text.{said_in}
 use Rattle.script_run.proofs.Captured.{front_behind, completes_behind, whole_behind, soon_behind, front_of_header}

@@ -1,9 +1,9 @@
-use Rattle.std.proofs.Common.{◌≡◌, ℕ, ◌+◌, ◌<◌, ◌≤◌, List, [], ◌∷◌, ◌++◌, length, drop, get_or, sym, ap, ◌∙◌, subst}
-use Rattle.std.proofs.lemmas.List.{drop_all, drop_more}
+use Rattle.std.proofs.Common.{◌≡◌, ℕ, ◌+◌, ◌<◌, List, ◌++◌, length, drop, get_or, sym, ap, ◌∙◌, subst}
+use Rattle.std.proofs.lemmas.List.{drop_more}
 use Rattle.std.proofs.lemmas.Result.{err_from_is_err_and}
 use Rattle.network_model.specs.declared.delivered.Delivered.{Delivered}
 use Rattle.script_run.specs.Play.{packet_of, packets_of}
-use Rattle.script_run.proofs.Putting.{Putting, Putting-nil, Putting-more, Putting-all, Putting-front}
+use Rattle.script_run.proofs.Putting.{Putting, Putting-nil, Putting-more, Putting-front}
 use Rattle.script_run.proofs.packets.put_packets.Goals as goal
 
 -- what is left of the packets begins with the next one

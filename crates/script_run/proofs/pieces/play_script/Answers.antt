@@ -1,4 +1,4 @@
-use Rattle.std.proofs.Common.{◌≡◌, ◌≤◌, ◌+◌, ◌-◌, length, take, [], Ok, refl, sym, ap, subst, arith, length-take}
+use Rattle.std.proofs.Common.{◌≡◌, ◌≤◌, ◌+◌, length, take, [], Ok, refl, sym, ap, subst, arith, length-take}
 use Rattle.std.specs.Io.KnownBytes.{IsAtEnd}
 use Rattle.std.proofs.KnownBytes.{Consumes-nil}
 use Rattle.std.proofs.lemmas.Bool.Decides.{nat_tests}

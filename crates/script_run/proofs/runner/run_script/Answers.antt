@@ -1,4 +1,4 @@
-use Rattle.std.proofs.Common.{◌≡◌, Ok, Err, inr, refl, sym, ap, ◌∙◌, true, false, true≢false, ⊎_elim, IsTrue, List, ℕ, Option, Some, None, IfSome, ◌⊎◌, arith}
+use Rattle.std.proofs.Common.{◌≡◌, Ok, Err, inr, refl, sym, ap, ◌∙◌, false, true≢false, ⊎_elim, IsTrue, List, ℕ, Option, Some, None, IfSome, ◌⊎◌, arith}
 use Rattle.spb_network.specs.Applying.{IsSoundNetwork}
 use Rattle.spb_network.specs.Network.{state_of}
 use Rattle.network_model.specs.State.{State}
