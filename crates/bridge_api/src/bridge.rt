@@ -242,8 +242,7 @@ pub trait Bridge: Drop {
     /// Other bridges are asked now, which may use what this one kept. It stays as it is.
     fn rest(&mut self)
         ensures { shown self.new ≡ shown self.old }
-    {
-    }
+    {}
 }
 
 impl Bridge for Box<dyn Bridge> {

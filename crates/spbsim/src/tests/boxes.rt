@@ -60,7 +60,15 @@ fn check_boxes(rt: &impl Abort, alloc: Global, words: &str) {
     let sink = sink(rt, alloc, 100, 0);
     let why = Refusal::Command(Reason::RackSpent);
     let status = Status::Refused(257, why);
-    check_call(rt, alloc, words, source, sink, status, "error 257 12 RackSpent\n");
+    check_call(
+        rt,
+        alloc,
+        words,
+        source,
+        sink,
+        status,
+        "error 257 12 RackSpent\n",
+    );
 }
 
 #[test]
