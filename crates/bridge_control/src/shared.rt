@@ -66,8 +66,20 @@ pub(crate) fn keep_in(shared: Option<&SharedReading>, reading: Reading, user: Sy
     }
 }
 
-/// Gives back what a bridge kept for itself, if it kept anything: to those that share it, if any do.
+/// Gives back what a bridge kept for itself, if it kept anything: to those that share it, if any do. Every call of a
+/// bridge begins so, and mostly there is nothing.
+#[inline(always)]
 pub(crate) fn give_back(kept: &mut Option<Reading>, shared: Option<&SharedReading>, user: SystemId)
+    ensures { kept.new ≡ None }
+{
+    if kept.is_some() {
+        hand_back(kept, shared, user);
+    }
+}
+
+/// The same, where something is kept.
+#[inline(never)]
+fn hand_back(kept: &mut Option<Reading>, shared: Option<&SharedReading>, user: SystemId)
     ensures { kept.new ≡ None }
 {
     if let Some(reading) = kept.take() {

@@ -241,6 +241,7 @@ impl<B: Bridge> NetworkOf<B> {
     }
 
     /// A frame comes to the far end of a lane.
+    #[inline(always)]
     fn hear_over(&mut self, lane: LaneId, frame: &[u8]) -> Result<(), NoMemory>
         requires { IsInOrder B.shown self.old }
         ensures state { OnOk result (state_of B.shown self.new

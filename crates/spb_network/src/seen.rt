@@ -121,6 +121,7 @@ impl<B: Bridge> NetworkOf<B> {
     }
 
     /// Notes that a frame comes to the far end of a lane.
+    #[inline(never)]
     fn note_arrival(&self, lane: LaneId, frame: &Frame, seen: &mut Seen) -> Result<(), NoMemory>
         ensures { OnOk result (seen.new ≡ noted seen.old (capture.seen_over (state_of B.shown self.now) lane.dir
             frame.now (slice_get (links_of (state_of B.shown self.now)) lane.link))) }
