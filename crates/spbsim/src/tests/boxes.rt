@@ -48,7 +48,7 @@ restart B
 
 /// Asserts that the program's own rack has 256 boxes of the kind that these words choose: a bridge takes one, and each
 /// restart of it another.
-fn check_boxes(rt: &impl Abort, alloc: Global, words: &str) {
+fn check_rack(rt: &impl Abort, alloc: Global, words: &str) {
     let mut script = String::new(alloc);
     script
         .push_str("bridge A 32768 020000000001 00001 1\n")
@@ -74,8 +74,8 @@ fn check_boxes(rt: &impl Abort, alloc: Global, words: &str) {
 #[test]
 fn the_program_has_256_boxes_of_each_kind(rt: HostRuntime) {
     let alloc = rt.alloc();
-    check_boxes(&rt, alloc, "run");
-    check_boxes(&rt, alloc, "run --kind swift");
+    check_rack(&rt, alloc, "run");
+    check_rack(&rt, alloc, "run --kind swift");
 }
 
 /// A blank box.
