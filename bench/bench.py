@@ -16,7 +16,7 @@ import random
 import sys
 
 from fabrics import bridges, mesh, wired
-from measuring import BUILT, Script, instructions, measure, need, need_valgrind
+from measuring import BUILT, Script, help_asked, instructions, measure, need, need_valgrind
 
 # after so many rounds each bridge of these networks holds the LSP of every other, and nothing is to be sent any more
 FULL = 10
@@ -82,6 +82,8 @@ def compare_kinds(counts):
 
 
 def main():
+    if help_asked(__doc__):
+        return None
     words = sys.argv[1:]
     counts = "--count" in words
     if counts:

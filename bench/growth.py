@@ -10,7 +10,7 @@ its ratio to the row above, in which half as many of one thing stood.
 import sys
 
 from fabrics import mesh, services, wired
-from measuring import BUILT, Script, instructions, need, need_valgrind
+from measuring import BUILT, Script, help_asked, instructions, need, need_valgrind
 
 # after so many rounds each bridge of these fabrics holds the LSP of every other
 FULL = 60
@@ -46,6 +46,8 @@ def ratio(now, before):
 
 
 def main():
+    if help_asked(__doc__):
+        return
     program = sys.argv[1] if len(sys.argv) > 1 else BUILT
     need([program])
     need_valgrind()

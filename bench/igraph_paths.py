@@ -14,7 +14,7 @@ import sys
 import time
 
 from fabrics import mesh, wired
-from measuring import BUILT, Script, measure, need
+from measuring import BUILT, Script, help_asked, measure, need
 
 try:
     import igraph
@@ -44,6 +44,8 @@ def seconds_by_igraph(paths_from):
 
 
 def main():
+    if help_asked(__doc__):
+        return
     program = sys.argv[1] if len(sys.argv) > 1 else BUILT
     need([program])
     graph = igraph.Graph(n=BRIDGES, edges=[(a - 1, b - 1) for a, b in mesh(BRIDGES, LINKS)])

@@ -11,6 +11,14 @@ HERE = os.path.dirname(os.path.abspath(__file__))
 BUILT = os.path.join(HERE, "..", "crates", "spbsim", "out", "spbsim")
 
 
+def help_asked(text):
+    """Whether the words ask for help, which is then printed."""
+    asked = "--help" in sys.argv[1:] or "-h" in sys.argv[1:]
+    if asked:
+        print(text.strip())
+    return asked
+
+
 def need(programs):
     """Ends with status 2 where one of the programs isn't there, and says which."""
     for program in programs:
