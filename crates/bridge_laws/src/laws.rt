@@ -128,8 +128,8 @@ pub fn neighbours_come_up()
 
 /// Where a bridge holds at most k LSPs, its own at number k at most, and hears hellos alone, it holds at most k + 1
 /// after a step, its own at number k + 1 at most; and in a second it sends at most 3 k + 5 frames for each port. That
-/// is said below the last number, of a bridge whose sequence numbers aren't spent. A configured bridge holds one LSP,
-/// at number 1.
+/// is said below the last number, of a bridge whose sequence numbers aren't spent. A configured bridge in its first life
+/// holds one LSP, at number 1 at most.
 pub fn few_are_held_and_sent()
     ensures configured { ConfiguredHoldsFew }
     ensures steps { StepsHoldFew }
@@ -158,7 +158,7 @@ pub fn silent_lsps_expire()
 
 /// A second after which a sound bridge has the same to say, and its own lifetime is above 300, originates nothing. Each
 /// other originates: the own LSP stands one number further, or past the last one is dead, and then none originates any
-/// more. So a bridge just configured and left to itself originates every 900 seconds.
+/// more. So a bridge just configured, in its first life, and left to itself originates every 900 seconds.
 pub fn own_lsps_are_renewed()
     ensures still { SecondsStandStill }
     ensures renew { SecondsRenew }
@@ -187,7 +187,7 @@ pub fn numbers_rise_by_what_is_heard()
 {}
 
 /// Under an id of a bridge's own system, version and body stay in a step, or the number becomes greater, or the LSP is
-/// dead at a number that isn't lower. So no live version comes to stand there with a second body.
+/// dead at a number that isn't lower. So, while it runs, no live version comes to stand there with a second body.
 pub fn own_lsps_advance()
     ensures { StepsAdvance }
 {}

@@ -146,8 +146,10 @@ pub fn own_lsps_live_1200_seconds()
     ensures { MAX_AGE ≡ 1200 }
 {}
 
-/// A life that begins holds each own LSP above the number of the life before, and no other. What it holds can be sent, its
-/// bodies are those of the system, nothing is to be sent or acknowledged yet, and no other ids come.
+/// A life that held nothing yet begins with its own LSPs alone: one with a body is live one past the number of the life
+/// before; one without is dead at that number, or isn't held where it is 0; and one that was at the last number is dead
+/// there. What is held stays so that it can be sent, flags stay at the ports where they may stand, and no other ids come.
+/// A body is the one that was held, that of the number, or that of a dead LSP.
 pub fn a_life_begins_above_the_one_before()
     ensures alone { StartingIsAlone }
     ensures sendable { StartingKeepsSendable }

@@ -11,14 +11,14 @@ use Rattle.frame_capture.specs.declared.reading.Packet.{Packet}
 
 -- ---- what is written
 
--- the header (section 4): the magic number of microseconds, version 2.4, two reserved fields, frames of at most 65,535
--- bytes, the link type of Ethernet
+-- the header (draft-ietf-opsawg-pcap, section 4): the magic number of microseconds, version 2.4, two reserved fields,
+-- frames of at most 65,535 bytes, the link type of Ethernet
 abbrev pub header_bytes : List ℕ
 header_bytes =
     0xa1 ∷ 0xb2 ∷ 0xc3 ∷ 0xd4 ∷ 0 ∷ 2 ∷ 0 ∷ 4 ∷ 0 ∷ 0 ∷ 0 ∷ 0 ∷ 0 ∷ 0 ∷ 0 ∷ 0 ∷ 0 ∷ 0 ∷ 0xff ∷ 0xff ∷ 0 ∷ 0 ∷ 0 ∷ 1 ∷ []
 
--- what stands before the frame in its packet (section 5): its seconds, no microseconds, its length as captured and as
--- it was
+-- what stands before the frame in its packet (draft-ietf-opsawg-pcap, section 5): its seconds, no microseconds, its
+-- length as captured and as it was
 abbrev pub packet_head : ℕ → ℕ → List ℕ
 packet_head seconds len =
     to_be_bytes w32 seconds ++ (to_be_bytes w32 0 ++ (to_be_bytes w32 len ++ to_be_bytes w32 len))

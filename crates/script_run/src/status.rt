@@ -6,19 +6,20 @@ use crate::Refusal;
 /// How a run ended.
 #[derive(Clone, Copy, Debug, PartialEq, Eq)]
 pub enum Status {
-    /// The script was read to its end, and all answers are written; or the script that was made, or the line of what was
+    /// The script was read to its end, and all answers or packets are written; or the script that was made, or the line of what was
     /// counted of it, is written; or a capture is listed to its end.
     Done,
     /// The line of this number, from 1, or of a script that was made the command, is the first that is refused. The answers
-    /// before it and its `error` line are written; of a script that was made, that line alone. Of a capture it is the
-    /// number of the packet that isn't whole, or 0 for the header, and the packets before it are listed.
+    /// before it and its `error` line are written; of a script that was made, that line alone; by `capture` the packets
+    /// before it, and no `error` line. Of a capture that is listed it is the number of the packet that isn't whole, or 0
+    /// for the header, and the packets before it are listed.
     Refused(u32, Refusal),
     /// The words are no form of the program. Nothing was read or written.
     Usage,
     /// No memory was found. A front of what was to be written is.
     NoMemory,
-    /// A read failed. The answers to the whole lines before it are written, all of which are accepted; of a capture
-    /// nothing is written.
+    /// A read failed. The answers to the whole lines before it are written, all of which are accepted; by `capture` the
+    /// header and the packets of these lines are; of a capture that is listed nothing is written.
     ReadFault,
     /// A write failed. A front of what was to be written is.
     WriteFault,
