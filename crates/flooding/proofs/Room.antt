@@ -98,7 +98,12 @@ few_from s lo (e ∷ es) low sorted from =
         let same = kept (not (is_own_number s e.0)) e (others_among s es) (ap not other) in
         omega (arith, more, same)
 
+pub few_among : (s : SystemId) (es : List (LspId × Entry)) → is_sorted id_cmp es ≡ true → length es ≤ length (others_among s es) + own_numbers
+few_among s es sorted =
+    let all = few_from s 0 es (omega arith) sorted (λ k e at own. omega arith) in
+    omega (arith, all)
+
 pub few_own : FewOwn
 few_own system db =
-    let all = few_from system 0 (entries db) (omega arith) (true_from_T _ (entries_sorted db)) (λ k e at own. omega arith) in
+    let all = few_among system (entries db) (true_from_T _ (entries_sorted db)) in
     omega (arith, all, len-entries db)

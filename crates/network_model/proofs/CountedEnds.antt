@@ -1,33 +1,23 @@
 -- What follows of a network whose numbers are within what is allowed.
 use Rattle.std.proofs.Common.{◌≡◌, inl, inr, ◌≤◌, ◌<◌, ℕ, zero, suc, true, false, not, List, [], ◌∷◌, length, map, refl, sym, ap, ◌∙◌, subst, Option, Some, None, slice_get, arith}
-use Rattle.std.specs.FinMap.{get, entries, entries_sorted, is_sorted, len-entries}
-use Rattle.std.specs.FinMap.Entries.{below_all}
-use Rattle.std.proofs.lemmas.Bool.{and_parts}
-use Rattle.std.proofs.lemmas.List.{length-map}
-use Rattle.spb_types.specs.declared.address.SystemId.{SystemId}
+use Rattle.std.specs.FinMap.{get, entries, entries_sorted, len-entries}
 use Rattle.spb_types.specs.declared.address.LspId.{LspId}
 use Rattle.spb_types.specs.declared.link.Dir.{Dir}
-use Rattle.spb_types.specs.Graph.{IsAmong, IsDistinct, systems_of}
-use Rattle.ect_trees.proofs.Among.{length-within}
 use Rattle.link_model.specs.Lane.{Frame, IsIn}
 use Rattle.link_model.specs.Lanes.{lane_of}
 use Rattle.lsdb.specs.declared.version.Version.{Version}
 use Rattle.lsdb.specs.Entry.{Entry}
 use Rattle.lsdb.specs.Version.{number_of}
-use Rattle.lsdb.specs.Database.{id_cmp, version_in}
-use Rattle.lsdb.proofs.Ids.{tied_same}
-use Rattle.lsdb.proofs.LookupLemmas.{true_from_T, below_at, get_place}
-use Rattle.flooding.specs.Own.{last_number, own_id}
+use Rattle.lsdb.specs.Database.{version_in}
+use Rattle.lsdb.proofs.LookupLemmas.{true_from_T, get_place}
+use Rattle.flooding.specs.Own.{last_number, own_numbers}
 use Rattle.flooding.specs.Hearing.{Holding, lacks_place, is_full}
-use Rattle.flooding.proofs.OwnNumbers.{few_numbers}
 use Rattle.flooding.proofs.Few.{room_below}
 use Rattle.bridge_api.specs.View.{BridgeView}
 use Rattle.bridge_api.specs.Own.{holding_of}
 use Rattle.bridge_api.specs.Step.{frame}
-use Rattle.bridge_laws.proofs.HeldIds.{own_is}
 use Rattle.spb_world.specs.declared.declaration.DeclaredLink.{DeclaredLink}
 use Rattle.spb_world.specs.declared.declaration.LinkEnd.{LinkEnd}
-use Rattle.spb_world.specs.World.{Bridges, graph_bridges}
 use Rattle.network_model.specs.State.{State, links_of}
 use Rattle.spb_world.specs.Links.{far_end, lane_out}
 use Rattle.network_model.specs.Sound.{IsSoundState}
@@ -40,7 +30,7 @@ use Rattle.spb_world.proofs.SoundLaneIds.{turned, near-turned, lane_of_end}
 use Rattle.network_model.proofs.SoundEvents.{core_of, turned-turned}
 use Rattle.network_model.proofs.SoundPlay.{opening_sound, networks_are_sound}
 use Rattle.network_model.proofs.SoundWitness.{busy, few_commands}
-use Rattle.network_model.proofs.CountedMoves.{among_at}
+use Rattle.network_model.proofs.FewIds.{held_by_few, few_times, room_for_all}
 use Rattle.network_model.proofs.CountedPlay.{opening_counted, all_counted}
 use Rattle.network_model.proofs.CountedSteps.{view_of_own, weak_bound, own_from, weak_from, far_from_last}
 
@@ -83,69 +73,16 @@ bridges_stay_far s k dir l v bytes sound counted few at among at_v =
 
 -- ---- nothing is full
 
--- the systems of what is held
-abbrev systems_held : List (LspId × Entry) → List SystemId
-systems_held es = map (λ e. e.0.system) es
-
--- one that is among them, and its place
-record IsFound (x : SystemId) (es : List (LspId × Entry)) : Type 0 where
-  place : ℕ
-  entry : LspId × Entry
-  at : slice_get es place ≡ Some entry
-  is : x ≡ entry.0.system
-
-found : (x : SystemId) (es : List (LspId × Entry)) → IsAmong x (systems_held es) → IsFound x es
-found x [] among = absurd among
-found x (e ∷ es) (inl here) = record { place = 0; entry = e; at = refl; is = here }
-found x (e ∷ es) (inr there) = let more = found x es there in record { place = suc more.place; entry = more.entry; at = more.at; is = more.is }
-
--- each id is the own one of its system
-abbrev AreNumbered : List (LspId × Entry) → Type 0
-AreNumbered es = (k : ℕ) (e : LspId × Entry) → slice_get es k ≡ Some e → e.0 ≡ own_id e.0.system
-
-systems_once : (es : List (LspId × Entry)) → is_sorted id_cmp es ≡ true → AreNumbered es → IsDistinct (systems_held es)
-systems_once [] sorted numbered = tt
-systems_once (e ∷ es) sorted numbered =
-    let parts = and_parts (below_all id_cmp e.0 es) (is_sorted id_cmp es) sorted in
-    (λ among. twice parts.0 (found e.0.system es among), systems_once es parts.1 (λ k d at. numbered (suc k) d at))
-  where
-    twice : below_all id_cmp e.0 es ≡ true → IsFound e.0.system es → ⊥
-    twice below other =
-        let same : e.0 ≡ other.entry.0 = numbered zero e refl ∙ (ap own_id other.is ∙ sym (numbered (suc other.place) other.entry other.at)) in
-        let tied = tied_same e.0 other.entry.0 same in
-        let less = below_at e.0 es other.place other.entry below other.at in
-        absurd cc
-
 -- a bridge holds few LSPs
-pub few_held : (s : State) (i : ℕ) (v : BridgeView) → IsSoundState s → IsCounted s → slice_get s.views i ≡ Some v → length (entries v.database) ≤ 96
+pub few_held : (s : State) (i : ℕ) (v : BridgeView) → IsSoundState s → IsCounted s → slice_get s.views i ≡ Some v → length (entries v.database) ≤ 96 * own_numbers
 few_held s i v sound counted at =
-    let es : List (LspId × Entry) = entries v.database in
-    let once = systems_once es (true_from_T _ (entries_sorted v.database)) (λ k e there. numbered k e there) in
-    let within = length-within (systems_held es) (systems_of (graph_bridges s.world.bridges)) once (λ x among. declared x (found x es among)) in
-    omega (arith, within, sound.world.few, length-map es (λ (e : LspId × Entry). e.0.system), lengths s.world.bridges)
-  where
-    owner : (k : ℕ) (e : LspId × Entry) → slice_get (entries v.database) k ≡ Some e → IsOwnOf s.world.bridges e.0
-    owner k e there = counted.by.held i v e.0 e.1 at (get_place v.database k e there)
+    let held = held_by_few s.world.bridges (entries v.database) (true_from_T _ (entries_sorted v.database)) (λ k e there. counted.by.held i v e.0 e.1 at (get_place v.database k e there)) in
+    let bridges = few_times (length s.world.bridges) sound.world.few in
+    omega (arith, held, bridges)
 
-    numbered : (k : ℕ) (e : LspId × Entry) → slice_get (entries v.database) k ≡ Some e → e.0 ≡ own_id e.0.system
-    numbered k e there =
-        let own = owner k e there in
-        let is : e.0 ≡ own_id own.bridge.bridge.id.system = own_is own.bridge.bridge.id.system e.0 own.own in
-        is ∙ ap own_id (sym (ap (λ (x : LspId). x.system) is))
-
-    declared : (x : SystemId) → IsFound x (entries v.database) → IsAmong x (systems_of (graph_bridges s.world.bridges))
-    declared x other =
-        let own = owner other.place other.entry other.at in
-        let is : x ≡ own.bridge.bridge.id.system = other.is ∙ ap (λ (y : LspId). y.system) (own_is own.bridge.bridge.id.system other.entry.0 own.own) in
-        subst (λ (y : SystemId). IsAmong y (systems_of (graph_bridges s.world.bridges))) (sym is) (among_at s.world.bridges own.place own.bridge own.there)
-
-    lengths : (bs : Bridges) → length (systems_of (graph_bridges bs)) ≡ length bs
-    lengths [] = refl
-    lengths (b ∷ bs) = ap suc (lengths bs)
-
-has_place : (h : Holding) (id : LspId) (o : Option Entry) → length (entries h.db) ≤ 96 → lacks_place h id o ≡ false
+has_place : (h : Holding) (id : LspId) (o : Option Entry) → length (entries h.db) ≤ 96 * own_numbers → lacks_place h id o ≡ false
 has_place h id None few = refl
-has_place h id (Some e) few = ap not (room_below h.own.system h.db id (omega (arith, few, len-entries h.db, few_numbers)))
+has_place h id (Some e) few = ap not (room_below h.own.system h.db id (omega (arith, few, len-entries h.db, room_for_all)))
 
 pub nothing_is_full : NothingIsFull
 unfolding is_full

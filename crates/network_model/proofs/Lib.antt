@@ -48,6 +48,7 @@ pub mod CountedRounds
 pub mod CountedDeclaring
 pub mod CountsKept
 pub mod CountedPlay
+pub mod FewIds
 pub mod CountedEnds
 pub mod CountedStays
 pub mod RestartCut
