@@ -3,6 +3,7 @@ use Rattle.std.proofs.Common.{◌≡◌, ◌≤◌, ℕ, suc, List, [], ◌∷�
 use Rattle.std.specs.List.{AllByRecursion, filter_map, cons_option}
 use Rattle.std.specs.FinMap.{entries}
 use Rattle.spb_types.specs.declared.limits.TheConstants.{MOST_GRAPH_BRIDGES}
+use Rattle.flooding.proofs.OwnNumbers.{few_numbers}
 use Rattle.bridge_api.specs.View.{BridgeView}
 use Rattle.bridge_api.specs.Graph.{contents_of, read_entry}
 use Rattle.network_model.specs.State.{State}
@@ -26,7 +27,7 @@ contents_few : (s : State) (i : ℕ) (v : BridgeView) → IsSoundState s → IsC
 contents_few s i v sound counted at =
     let read = read_few read_entry (entries v.database) in
     let held = few_held s i v sound counted at in
-    omega (arith, read, held)
+    omega (arith, read, held, few_numbers)
 
 all_views : (P : BridgeView → Type 0) (views : List BridgeView) → ((i : ℕ) (v : BridgeView) → slice_get views i ≡ Some v → P v) → AllByRecursion P views
 all_views P [] each = tt
