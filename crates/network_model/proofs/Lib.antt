@@ -51,9 +51,11 @@ pub mod CountedPlay
 pub mod CountedEnds
 pub mod CountedStays
 pub mod RestartCut
+pub mod RestartBegins
 pub mod RestartConfig
 pub mod RestartSound
 pub mod RestartCounted
+pub mod CarrierComes
 pub mod RestartNew
 pub mod QuietLists
 pub mod QuietLaws

@@ -1,8 +1,10 @@
--- The law of restarting: the bridge is one that was just configured, whatever it held before.
-use Rattle.std.specs.Prelude.{◌≡◌, ℕ, List, [], ◌∷◌, true, if◌then◌else◌, remove, Some, None, slice_get}
+-- The law of restarting: the bridge is one that was just configured, whatever it held before but for its own numbers.
+use Rattle.std.specs.Prelude.{◌≡◌, ℕ, ◌+◌, ◌<◌, List, [], ◌∷◌, true, if◌then◌else◌, remove, Some, None, slice_get}
+use Rattle.std.specs.FinMap.{get}
 use Rattle.lsdb.specs.Version.{number_of}
 use Rattle.lsdb.specs.Database.{version_at}
-use Rattle.flooding.specs.Own.{own_id}
+use Rattle.flooding.specs.Own.{last_number, own_id, own_number, own_numbers}
+use Rattle.flooding.specs.Advancing.{Advanced}
 use Rattle.bridge_api.specs.Config.{configured}
 use Rattle.bridge_api.specs.Step.{carrier, step}
 use Rattle.bridge_api.specs.View.{BridgeView}
@@ -28,8 +30,8 @@ number_in v = number_of (version_at v.database (own_id v.id.system))
 -- stands what comes after what stood there
 pub record BeginsAbove (old new : BridgeView) : Type 0 where
   pub number : number_in old < last_number → number_in new ≡ number_in old + 1
-  pub own : (number : ℕ) → number < own_numbers
-      → Advanced (get old.database (own_number old.id.system number)) (get new.database (own_number old.id.system number))
+  pub own : (k : ℕ) → k < own_numbers
+      → Advanced (get old.database (own_number old.id.system k)) (get new.database (own_number old.id.system k))
 
 -- the bridge at place i restarted in the box at a place of the rack: it is what the configuration makes with the
 -- present metrics and attachments, and then carrier; its own LSPs begin above those of the life before; the rack lacks
