@@ -38,6 +38,7 @@ mod customers;
 mod events;
 mod laws;
 mod network;
+mod numbers;
 mod paths;
 mod play;
 mod questions;
