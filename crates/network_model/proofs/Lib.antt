@@ -35,6 +35,7 @@ pub mod DeclaredLemmas
 pub mod Chains
 pub mod Tested
 pub mod Firsts
+pub mod Origins
 pub mod CountedHellos
 pub mod CountedSent
 pub mod CountedMoves
