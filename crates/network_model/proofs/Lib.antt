@@ -39,6 +39,7 @@ pub mod Origins
 pub mod CountedHellos
 pub mod CountedSent
 pub mod CountedMoves
+pub mod OriginMoves
 pub mod CountedSteps
 pub mod CountedGains
 pub mod CountedEvents

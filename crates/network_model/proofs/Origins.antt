@@ -19,7 +19,7 @@ use Rattle.flooding.specs.Hearing.{claim_of}
 use Rattle.flooding.specs.Advancing.{Advanced, stays, advances, ends}
 use Rattle.bridge_api.specs.View.{BridgeView}
 use Rattle.bridge_api.specs.Parsing as parsing
-use Rattle.bridge_api.specs.Parsing.{Parsed}
+use Rattle.bridge_api.specs.Parsing.{Parsed, parsed}
 use Rattle.bridge_api.specs.Laws.{claims_said}
 use Rattle.network_model.specs.State.{State}
 use Rattle.network_model.specs.Copies.{IsCopy, is_held, is_said, IsText, text_held, text_sent, IsOrigin, HaveOrigins}
@@ -46,7 +46,7 @@ lsp_claims p id l a is same version = subst (λ (q : Parsed). IsClaimed (claims_
 
 pub text_copied : (views : List BridgeView) (lanes : List LinkLanes) (id : LspId) (n x : ℕ) (b : List ℕ) → IsText views lanes id n x b → IsCopy views lanes id (Live n x)
 text_copied views lanes id n x b (text_held i v e at held version body) = is_held i v at (ap version_in held ∙ version)
-text_copied views lanes id n x b (text_sent k dir f l among is same version body) = is_said k dir f among (lsp_claims _ id l (Live n x) is same version)
+text_copied views lanes id n x b (text_sent k dir f l among is same version body) = is_said k dir f among (lsp_claims (parsed f) id l (Live n x) is same version)
 
 -- what is held live under an id is so
 pub text_at : (views : List BridgeView) (lanes : List LinkLanes) (id : LspId) (i : ℕ) (v : BridgeView) (n x : ℕ) (b : List ℕ) (o : Option Entry) → slice_get views i ≡ Some v → get v.database id ≡ o → version_in o ≡ Live n x → body_in o ≡ b → IsText views lanes id n x b
@@ -71,8 +71,7 @@ same_own old new n x (ends seq dead least) is low = absurd cc
 
 -- ---- the change
 
-module _ (views after : List BridgeView) (lanes left : List LinkLanes) (i : ℕ) (v : BridgeView) (id : LspId) (new : Option Entry)
-    (at : slice_get views i ≡ Some v) (origin : IsOrigin views lanes id (get v.database id)) (advanced : Advanced (get v.database id) new) where
+module _ (views after : List BridgeView) (lanes left : List LinkLanes) (i : ℕ) (v : BridgeView) (id : LspId) (new : Option Entry) (at : slice_get views i ≡ Some v) (origin : IsOrigin views lanes id (get v.database id)) (advanced : Advanced (get v.database id) new) where
   abbrev pub old : Option Entry
   old = get v.database id
 
