@@ -41,7 +41,7 @@ pub data TextStems (views : List BridgeView) (lanes : List LinkLanes) (id : LspI
 
 -- ---- what has a body is a copy
 
-lsp_claims : (p : Parsed) (id : LspId) (l : LspValue) (a : Version) → p ≡ parsing.lsp l → l.id ≡ id → (claim_of l).version ≡ a → IsClaimed (claims_said p) id a
+pub lsp_claims : (p : Parsed) (id : LspId) (l : LspValue) (a : Version) → p ≡ parsing.lsp l → l.id ≡ id → (claim_of l).version ≡ a → IsClaimed (claims_said p) id a
 lsp_claims p id l a is same version = subst (λ (q : Parsed). IsClaimed (claims_said q) id a) (sym is) (inl (same, version))
 
 pub text_copied : (views : List BridgeView) (lanes : List LinkLanes) (id : LspId) (n x : ℕ) (b : List ℕ) → IsText views lanes id n x b → IsCopy views lanes id (Live n x)
