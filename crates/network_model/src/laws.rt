@@ -81,7 +81,7 @@ pub fn numbers_stay_bounded()
     ensures some { SomeCountedIsBusy }
 {}
 
-/// Each of the four conditions of a quiet network, which are tests, holds exactly where what it reads like does.
+/// Each of the three conditions of a quiet network, which are tests, holds exactly where what it reads like does.
 pub fn quiet_says_what_it_reads_like()
     ensures { QuietSays }
 {}

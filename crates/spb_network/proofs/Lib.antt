@@ -5,6 +5,5 @@ pub mod CommandFits
 pub mod Halts
 pub mod RestartLemmas
 pub mod QuietWalks
-pub mod QuietBodies
 pub mod QuietNumbers
 pub mod Keeping
