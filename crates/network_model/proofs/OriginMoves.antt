@@ -40,7 +40,7 @@ use Rattle.network_model.proofs.BridgeLaws.{seconds_age, steps_learn, steps_adva
 use Rattle.network_model.proofs.SoundLane.{some-is, moved, moved_same}
 use Rattle.network_model.proofs.SoundMoves.{Comes, GoesOut, got_mapped}
 use Rattle.network_model.proofs.Origins.{CopyStems, TextStems, text_was, text_owns, text_at, first_moves}
-use Rattle.network_model.proofs.Origins as from
+use Rattle.network_model.proofs.Origins as stem
 use Rattle.network_model.proofs.CountedMoves.{Turn, Stems, views_apart, frame_sent, stems}
 use Rattle.network_model.proofs.CountedMoves as moves
 
@@ -124,10 +124,10 @@ held_live w l id n x b sound held same version body =
 -- ---- the move
 
 from_stems : (views : List BridgeView) (lanes : List LinkLanes) (id : LspId) (own : Option Entry) (a : Version) → Stems true views lanes id (version_in own) a → CopyStems views lanes id own a
-from_stems views lanes id own a (moves.was copy) = from.was copy
-from_stems views lanes id own a (moves.owns is) = from.owns is
-from_stems views lanes id own a (moves.aged ages b copy is) = from.died b copy is
-from_stems views lanes id own a (moves.met b c copy other apart same is) = from.died b copy is
+from_stems views lanes id own a (moves.was copy) = stem.was copy
+from_stems views lanes id own a (moves.owns is) = stem.owns is
+from_stems views lanes id own a (moves.aged ages b copy is) = stem.died b copy is
+from_stems views lanes id own a (moves.met b c copy other apart same is) = stem.died b copy is
 
 own_advances : (v : BridgeView) (o : Option Input) (id : LspId) → id.system ≡ v.id.system → Advanced (get v.database id) (get (moved o v).database id)
 own_advances v None id mine = advancing.stays refl refl
