@@ -114,7 +114,7 @@ pub record IsHeldLive (w : BridgeView) (id : LspId) (n x : ℕ) (b : List ℕ) :
 held_live : (w : BridgeView) (l : LspValue) (id : LspId) (n x : ℕ) (b : List ℕ) → IsSoundView w → IsHeldLsp w l → l.id ≡ id → (claim_of l).version ≡ Live n x → body_of l ≡ b → IsHeldLive w id n x b
 held_live w l id n x b sound held same version body =
     let e : Entry = held.0 in
-    let got : get w.database id ≡ Some e = ap (get w.database) (sym same) ∙ held.1 in
+    let got : get w.database id ≡ Some e = ap (λ (y : LspId). get w.database y) (sym same) ∙ held.1 in
     let sendable : IsSendable l.id e = sound.database.sendable l.id e held.1 in
     let claim : (claim_of l).version ≡ e.version = ap (λ (m : LspValue). (claim_of m).version) held.2 ∙ ap (λ (c : Claim). c.version) (sent_is_held l.id e sendable) in
     let live : e.version ≡ Live n x = sym claim ∙ version in
