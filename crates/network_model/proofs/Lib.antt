@@ -35,9 +35,11 @@ pub mod DeclaredLemmas
 pub mod Chains
 pub mod Tested
 pub mod Firsts
+pub mod Origins
 pub mod CountedHellos
 pub mod CountedSent
 pub mod CountedMoves
+pub mod OriginMoves
 pub mod CountedSteps
 pub mod CountedGains
 pub mod CountedEvents
