@@ -1,6 +1,6 @@
 -- What a bridge holds when a life begins: each of its own LSPs above the number with which the life before ended.
 use Rattle.std.proofs.Common.{◌≡◌, ◌≤◌, ◌<◌, ◌+◌, ℕ, zero, suc, Bool, true, false, List, [], ◌∷◌, length, refl, sym, ap, ◌∙◌, subst, Option, Some, None, slice_get, arith}
-use Rattle.std.specs.Prelude.{nat_lt, not, ◌×◌, if◌then◌else◌}
+use Rattle.std.specs.Prelude.{nat_lt, not, ◌^◌, if◌then◌else◌}
 use Rattle.std.specs.List.{list_any, AllByRecursion}
 use Rattle.std.specs.FinMap.{get}
 use Rattle.std.proofs.lemmas.Bool.{or_from, lt-ltb}
