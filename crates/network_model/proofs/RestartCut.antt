@@ -28,6 +28,7 @@ use Rattle.spb_world.proofs.SoundLaneIds.{turned, near-turned, at_parts, at_itse
 use Rattle.network_model.proofs.SoundMoves.{IsCore, nothing_in}
 use Rattle.network_model.proofs.SoundSteps.{in_flushed, flushed_lane}
 use Rattle.network_model.proofs.SoundCarrier.{got_changed, HaveCarrier, carriers_by}
+use Rattle.network_model.proofs.SentLanes.{changed_beside}
 use Rattle.network_model.proofs.SoundEvents.{core_of, sound_from, Sound-flushed, core_with_carrier, with_carrier_world, carrier_stands, stepped_with_metric, stepped_attached, stepped_views}
 use Rattle.network_model.proofs.CountedMoves.{is_within}
 use Rattle.network_model.proofs.CountedSent.{silent_lanes}
@@ -170,15 +171,8 @@ world-cut_from (suc n) k i s = world-cut_from n (k + 1) i (cut_link s i k (slice
 
 -- ---- the bridge itself takes no notice
 
-beside : (f : BridgeView → BridgeView) (views : List BridgeView) (j i : ℕ) → j ≢ i → slice_get (changed_at f views j) i ≡ slice_get views i
-beside f [] j i apart = refl
-beside f (v ∷ views) zero zero apart = absurd (apart refl)
-beside f (v ∷ views) zero (suc i) apart = refl
-beside f (v ∷ views) (suc j) zero apart = refl
-beside f (v ∷ views) (suc j) (suc i) apart = beside f views j i (λ e. apart (ap suc e))
-
 view_beside : (on : Bool) (s : State) (e : LinkEnd) (i : ℕ) → e.bridge ≢ i → slice_get (with_carrier_at_end on s e).views i ≡ slice_get s.views i
-view_beside on s e i apart = ap (λ (vs : List BridgeView). slice_get vs i) (stepped_views (comes.carrier e.port on) s e.bridge) ∙ beside (step (carrier e.port on)) s.views e.bridge i apart
+view_beside on s e i apart = ap (λ (vs : List BridgeView). slice_get vs i) (stepped_views (comes.carrier e.port on) s e.bridge) ∙ changed_beside (step (carrier e.port on)) s.views e.bridge i (λ is. apart (sym is))
 
 uncut_if : (s : State) (i k : ℕ) (l : DeclaredLink) (b : Bool) → ends_here l i ≡ b → l.a.bridge ≢ l.b.bridge → slice_get (if b then link_cut s k (end_away l i) else s).views i ≡ slice_get s.views i
 uncut_if s i k l true here apart =
